@@ -1,0 +1,6 @@
+//! The roles that the two ends of a line have.
+#![tactic(auto)]
+
+mod role;
+
+pub use role::Role;
