@@ -1,1 +1,2 @@
 pub mod Role
+pub mod Timers

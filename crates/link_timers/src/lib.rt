@@ -1,6 +1,11 @@
-//! The roles that the two ends of a line have.
+//! The roles that the two ends of a line have, and the timers of an end.
 #![tactic(auto)]
 
 mod role;
+mod timers;
 
 pub use role::Role;
+pub use timers::{TimerId, Timers};
+
+#[cfg(test)]
+mod tests;

@@ -1,0 +1,12 @@
+use Rattle.epochs.proofs.Matching.{match-refl, match-trans, match-grows, match-opens, match-both_open, aligned-match}
+use Rattle.epochs.proofs.match_laws.Goals as goal
+
+pub returns : goal.returns
+returns c = record {
+  reflexive = match-refl;
+  transitive = λ xs ys zs m n. match-trans n xs m;
+  grows = match-grows;
+  opens = match-opens;
+  both_open = match-both_open;
+  aligned = aligned-match;
+}

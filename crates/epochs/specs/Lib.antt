@@ -1,0 +1,5 @@
+pub mod Prefix
+pub mod Item
+pub mod Epoch
+pub mod Match
+pub mod Laws

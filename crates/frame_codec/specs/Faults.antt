@@ -1,0 +1,52 @@
+-- What is wrong with octets that are no form of a frame, and which of several faults is answered.
+use Rattle.std.specs.Prelude.{◌≡◌, ◌≢◌, ℕ, ◌<◌, List, [], length, slice_index}
+use Rattle.link_timers.specs.declared.role.Role.{Role}
+use Rattle.frame_codec.specs.declared.fault.FrameFault.{FrameFault}
+use Rattle.frame_codec.specs.declared.fault.FrameFault.TheVariants.{TooShort, WrongAddress, UnknownControl, InfoNotAllowed, InfoTooLong}
+use Rattle.frame_codec.specs.Frame.{Content, Information, ReceiveReady, ReceiveNotReady, Reject, SetMode, Disconnect, DisconnectedMode, Acknowledgement, FrameReject, FrameValue}
+use Rattle.frame_codec.specs.FrameForm.{IsHead}
+
+-- the frame may not have this information field, whatever the length of what an I frame carries
+abbrev pub IsNotAllowed : Content → List ℕ → Type 0
+IsNotAllowed (Information send receive information) field = ⊥
+IsNotAllowed (ReceiveReady receive) field = field ≢ []
+IsNotAllowed (ReceiveNotReady receive) field = field ≢ []
+IsNotAllowed (Reject receive) field = field ≢ []
+IsNotAllowed SetMode field = field ≢ []
+IsNotAllowed Disconnect field = field ≢ []
+IsNotAllowed DisconnectedMode field = field ≢ []
+IsNotAllowed Acknowledgement field = field ≢ []
+IsNotAllowed (FrameReject report) field = length field ≢ 3
+
+-- an I frame with more than 145 octets of information
+abbrev pub IsTooLong : Content → List ℕ → Type 0
+IsTooLong (Information send receive information) field = 145 < length field
+IsTooLong (ReceiveReady receive) field = ⊥
+IsTooLong (ReceiveNotReady receive) field = ⊥
+IsTooLong (Reject receive) field = ⊥
+IsTooLong SetMode field = ⊥
+IsTooLong Disconnect field = ⊥
+IsTooLong DisconnectedMode field = ⊥
+IsTooLong Acknowledgement field = ⊥
+IsTooLong (FrameReject report) field = ⊥
+
+-- the octets, received at an end of this role, have the fault
+abbrev pub HasFault : FrameFault → Role → List ℕ → Type 0
+HasFault TooShort at bytes = length bytes < 2
+HasFault WrongAddress at bytes = (slice_index bytes 0 ≢ 0x01) × (slice_index bytes 0 ≢ 0x03)
+HasFault UnknownControl at bytes = (f : FrameValue) (field : List ℕ) → IsHead at bytes f field → ⊥
+HasFault InfoNotAllowed at bytes = (f : FrameValue) × (field : List ℕ) × IsHead at bytes f field × IsNotAllowed f.content field
+HasFault InfoTooLong at bytes = (f : FrameValue) × (field : List ℕ) × IsHead at bytes f field × IsTooLong f.content field
+
+-- the place of a fault in the order in which they are tested
+abbrev pub place_of : FrameFault → ℕ
+place_of TooShort = 1
+place_of WrongAddress = 2
+place_of UnknownControl = 3
+place_of InfoNotAllowed = 4
+place_of InfoTooLong = 5
+
+-- the fault is the first that the octets have
+pub record IsFirstFault (fault : FrameFault) (at : Role) (bytes : List ℕ) : Type 0 where
+  pub has : HasFault fault at bytes
+  pub none_before : (other : FrameFault) → place_of other < place_of fault → HasFault other at bytes → ⊥

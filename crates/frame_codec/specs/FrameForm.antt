@@ -1,0 +1,38 @@
+-- The grammar of frames as they are read (ISO 7776 3 and 4): which octets are a form of which frame.
+use Rattle.std.specs.Prelude.{◌≡◌, ℕ, ◌+◌, ◌*◌, ◌<◌, ◌≤◌, List, [], ◌∷◌, length}
+use Rattle.link_timers.specs.declared.role.Role.{Role}
+use Rattle.link_timers.specs.Role.{other_of}
+use Rattle.frame_codec.specs.Frame.{Report, Content, Information, ReceiveReady, ReceiveNotReady, Reject, SetMode, Disconnect, DisconnectedMode, Acknowledgement, FrameReject, FrameValue}
+use Rattle.frame_codec.specs.Spelling.{address_of, control_of, states_of, reasons_of, GoesAs, HasNumbers}
+
+-- three octets are a form of the report: bit 1 of the second and bits 5 to 8 of the third are not looked at
+pub record ReportForm (report : Report) (field : List ℕ) : Type 0 where
+  pub spare : ℕ
+  pub spares : ℕ
+  pub spare_bit : spare < 2
+  pub spare_bits : spares < 16
+  pub octets : field ≡ report.control ∷ (states_of report + spare) ∷ (spares * 16 + reasons_of report) ∷ []
+
+-- the information field is a form of what the frame says there
+abbrev pub FieldForm : Content → List ℕ → Type 0
+FieldForm (Information send receive information) field = (field ≡ information) × (length field ≤ 145)
+FieldForm (ReceiveReady receive) field = field ≡ []
+FieldForm (ReceiveNotReady receive) field = field ≡ []
+FieldForm (Reject receive) field = field ≡ []
+FieldForm SetMode field = field ≡ []
+FieldForm Disconnect field = field ≡ []
+FieldForm DisconnectedMode field = field ≡ []
+FieldForm Acknowledgement field = field ≡ []
+FieldForm (FrameReject report) field = ReportForm report field
+
+-- the text begins with the address and the control octet of a frame that the other end may send, and this field follows
+pub record IsHead (at : Role) (bytes : List ℕ) (f : FrameValue) (field : List ℕ) : Type 0 where
+  pub octets : bytes ≡ address_of (other_of at) f.response ∷ control_of f.content f.poll ∷ field
+  pub goes_as : GoesAs f.content f.response
+  pub numbers : HasNumbers f.content
+
+-- the octets, received at an end of this role, are a form of the frame
+pub record FrameForm (at : Role) (bytes : List ℕ) (f : FrameValue) : Type 0 where
+  pub field : List ℕ
+  pub head : IsHead at bytes f field
+  pub form : FieldForm f.content field

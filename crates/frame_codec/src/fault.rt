@@ -1,0 +1,21 @@
+use thiserror::Error;
+
+/// Why octets are no frame, in the order in which the faults are tested.
+#[derive(Clone, Copy, Debug, PartialEq, Eq, Error)]
+pub enum FrameFault {
+    /// There are fewer than two octets.
+    #[error("too short")]
+    TooShort,
+    /// The address octet is neither 01 nor 03.
+    #[error("wrong address")]
+    WrongAddress,
+    /// The control octet is no frame's, or of a frame that does not go in this direction.
+    #[error("unknown control octet")]
+    UnknownControl,
+    /// There is an information field where the frame has none, or a Frame Reject without exactly three octets.
+    #[error("information not allowed")]
+    InfoNotAllowed,
+    /// The information field of an I frame is longer than 145 octets.
+    #[error("information too long")]
+    InfoTooLong,
+}

@@ -1,0 +1,12 @@
+pub mod Sending
+pub mod Halves
+pub mod Calls
+pub mod Serving
+pub mod Hearing
+pub mod Emitting
+pub mod Keys
+pub mod Nets
+pub mod Promises
+pub mod Glue
+pub mod Refusals
+pub mod RunsMore

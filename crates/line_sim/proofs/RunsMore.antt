@@ -1,0 +1,43 @@
+-- A run and one event more.
+use Rattle.std.proofs.Common.{◌≡◌, ℕ, zero, suc, ◌+◌, ◌<◌, List, [], ◌∷◌, ◌++◌, take, length, get_or, Option, Some, None, Result, Ok, Err, refl, sym, ap, ◌∙◌, subst, inl, inr, arith}
+use Rattle.std.specs.Prelude.{◌⊎◌}
+use Rattle.line_sim.specs.declared.config.Config.{Config}
+use Rattle.line_sim.specs.declared.event.Event.{Event}
+use Rattle.line_sim.specs.declared.event.StepFault.{StepFault}
+use Rattle.line_sim.specs.declared.event.StepFault.TheVariants.{OutOfMemory, NoSuchNode, NoSuchTerminal, NoSuchCall}
+use Rattle.line_sim.specs.declared.event.Answer.{Answer}
+use Rattle.line_sim.specs.NetState.{NetState}
+use Rattle.line_sim.specs.Faults.{step_fault}
+use Rattle.line_sim.specs.Steps.{StepOf}
+use Rattle.line_sim.specs.Plan.{IsMade}
+use Rattle.line_sim.specs.Runs.{Happens, Happened, Ran, HasRun}
+
+-- what was answered, or refused for another reason than want of memory, happened
+pub happened : (F : Type 0) (e : Event) (s : NetState) (r : Result Answer StepFault) (t : NetState) → Happens F e s r t → (r ≡ Err OutOfMemory → ⊥) → Happened F e s (step_fault e s) t
+happened F e s (Ok answer) t h not_memory = let P : Option StepFault → Type 0 = λ o. Happened F e s o t in subst P (sym h.0) (answer, h.1)
+happened F e s (Err fault) t h not_memory =
+    let P : Option StepFault → Type 0 = λ o. Happened F e s o t in
+    elim h.0 [
+    | inl is ↦ subst P (sym is) h.1
+    | inr memory ↦ absurd (not_memory (ap Err memory.1))
+    ]
+
+pub ran-more : (F : Type 0) (es : List Event) (s t : NetState) (e : Event) (u : NetState) → Ran F s es t → Happened F e t (step_fault e t) u → Ran F s (es ++ e ∷ []) u
+ran-more F [] s t e u r h = let P : NetState → Type 0 = λ x. Happened F e x (step_fault e x) u in (u, subst P (sym r) h, refl)
+ran-more F (x ∷ es) s t e u r h = (r.0, r.1, ran-more F es r.0 t e u r.2 h)
+
+take-more : {A : Type 0} (xs : List A) (i : ℕ) (x d : A) → i < length xs → x ≡ get_or xs i d → take (suc i) xs ≡ take i xs ++ x ∷ []
+take-more [] i x d h e = absurd (omega arith)
+take-more (y ∷ ys) zero x d h e = ap (λ z. z ∷ []) (sym e)
+take-more (y ∷ ys) (suc i) x d h e = ap (λ zs. y ∷ zs) (take-more ys i x d (omega arith) e)
+
+pub run-more : (config : Config) (events : List Event) (i : ℕ) (d : Event) (t u : NetState) → i < length events
+    → HasRun config (take i events) t → Happened (Unit {0}) (get_or events i d) t (step_fault (get_or events i d) t) u → HasRun config (take (i + 1) events) u
+run-more config events i d t u h run happens =
+    let e : Event = get_or events i d in
+    let P : List Event → Type 0 = λ es. Ran (Unit {0}) run.start es u in
+    let next : take (i + 1) events ≡ take i events ++ e ∷ [] = (let same : i + 1 ≡ suc i = omega arith in ap (λ n. take n events) same ∙ take-more events i e d h refl) in
+    record {
+      start = run.start; made = run.made;
+      ran = subst P (sym next) (ran-more (Unit {0}) (take i events) run.start t e u run.ran happens)
+    }

@@ -1,0 +1,6 @@
+use Rattle.std.proofs.Common.{take}
+use Rattle.line_sim.specs.Runs.{HasRun}
+use Rattle.line_sim.proofs.running.run.Given as goal
+
+abbrev pub invariant-loop-index : goal.invariant-loop-index
+invariant-loop-index l = HasRun l.config (take l.index l.events) l.net

@@ -1,0 +1,56 @@
+-- What the network promises.
+use Rattle.std.specs.Prelude.{◌≡◌, ◌≢◌, ℕ, ◌<◌, ◌⊎◌, List, [], ◌∷◌, ◌++◌, map, slice_get, Option, Some}
+use Rattle.epochs.specs.Item.{Item, Octet, End, user_items}
+use Rattle.epochs.specs.Epoch.{Epoch, IsEmpty}
+use Rattle.epochs.specs.Match.{Match}
+use Rattle.pad_editing.specs.Edited.{edited}
+use Rattle.line_sim.specs.Records.{RecordValue, PairValue, sent_epochs, taken_epochs}
+use Rattle.line_sim.specs.NetState.{NetState}
+
+-- what one end of a call took, between two resets, began what the other end sent, between two resets of its own, both ways
+pub record PairMatches (caller callee : RecordValue) : Type 0 where
+  pub onward : Match (taken_epochs callee) (sent_epochs caller)
+  pub backward : Match (taken_epochs caller) (sent_epochs callee)
+
+-- the caller's record was made before the callee's, they are the records of the two ends of the line, and the callee's own
+-- address is the caller's far one
+pub record PairIsRight (s : NetState) (caller callee : RecordValue) : Type 0 where
+  pub order : caller.number < callee.number
+  pub caller_node : caller.node ≡ s.pad_place
+  pub callee_node : callee.node ≡ s.host_place
+  pub address : callee.own ≡ caller.far
+
+-- the record of this number is in the pair
+abbrev pub IsIn : PairValue → ℕ → Type 0
+IsIn pair number = (pair.caller ≡ number) ⊎ (pair.callee ≡ number)
+
+-- each epoch that was taken is empty
+abbrev pub TookNothing : List Epoch → Type 0
+TookNothing [] = Unit {0}
+TookNothing (e ∷ es) = IsEmpty e × TookNothing es
+
+-- the items of epochs, one after the other
+abbrev pub items_of_epochs : List Epoch → List Item
+items_of_epochs [] = []
+items_of_epochs (e ∷ es) = e.items ++ items_of_epochs es
+
+-- each block, and an end
+abbrev pub messages : List (List ℕ) → List Item
+messages [] = []
+messages (block ∷ blocks) = map Octet block ++ End ∷ messages blocks
+
+pub record Headline (s : NetState) : Type 0 where
+  -- for each pair, what was taken matches what was sent, both ways, and the pair is right
+  pub pairs_match : (i : ℕ) (pair : PairValue) (caller callee : RecordValue)
+      → slice_get s.pairs i ≡ Some pair → slice_get s.records pair.caller ≡ Some caller → slice_get s.records pair.callee ≡ Some callee
+      → PairMatches caller callee × PairIsRight s caller callee
+  -- the record of each number is at that place
+  pub numbers : (i : ℕ) (r : RecordValue) → slice_get s.records i ≡ Some r → r.number ≡ i
+  -- no record is in two pairs, and each that took anything is in one
+  pub in_one : (i j : ℕ) (p q : PairValue) (number : ℕ)
+      → slice_get s.pairs i ≡ Some p → slice_get s.pairs j ≡ Some q → IsIn p number → IsIn q number → i ≡ j
+  pub took : (n : ℕ) (r : RecordValue) → slice_get s.records n ≡ Some r
+      → TookNothing (taken_epochs r) ⊎ ((i : ℕ) × (p : PairValue) × (slice_get s.pairs i ≡ Some p) × IsIn p n)
+  -- the user items of a PAD's record are, for each block that its editing rules make of the keys, its octets and an end
+  pub typed : (n : ℕ) (r : RecordValue) → slice_get s.records n ≡ Some r → r.node ≡ s.pad_place
+      → user_items (items_of_epochs (sent_epochs r)) ≡ messages (edited r.steps)

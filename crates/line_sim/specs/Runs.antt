@@ -1,0 +1,42 @@
+-- What an event does, refused or not, and what a list of events does.
+use Rattle.std.specs.Prelude.{◌≡◌, ◌<◌, List, [], ◌∷◌, length, ◌⊎◌, Option, Some, None, Result, Ok, Err}
+use Rattle.line_sim.specs.declared.event.Event.{Event}
+use Rattle.line_sim.specs.declared.event.StepFault.{StepFault}
+use Rattle.line_sim.specs.declared.event.StepFault.TheVariants.{OutOfMemory}
+use Rattle.line_sim.specs.declared.event.Answer.{Answer}
+use Rattle.line_sim.specs.declared.config.Config.{Config}
+use Rattle.line_sim.specs.declared.event.MakeFault.TheVariants as make_fault
+use Rattle.line_sim.specs.declared.event.MakeFault.TheVariants.{BadConfig}
+use Rattle.line_sim.specs.declared.event.RunFault.{RunFault}
+use Rattle.line_sim.specs.declared.event.RunFault.TheVariants.{Made, Stopped}
+use Rattle.line_sim.specs.Plan.{plan_of, IsMade}
+use Rattle.line_sim.specs.NetState.{NetState}
+use Rattle.line_sim.specs.Faults.{step_fault}
+use Rattle.line_sim.specs.Steps.{StepOf}
+
+-- the event is answered, or refused with its fault, or where it has none for want of memory; refused, it changes nothing
+abbrev pub Happens : (F : Type 0) → Event → NetState → Result Answer StepFault → NetState → Type 0
+Happens F e s (Ok answer) t = (step_fault e s ≡ None) × StepOf F e s answer t
+Happens F e s (Err fault) t = ((step_fault e s ≡ Some fault) ⊎ (step_fault e s ≡ None) × (fault ≡ OutOfMemory)) × (t ≡ s)
+
+-- the event is answered, or refused with its fault, but not for want of memory
+abbrev pub Happened : (F : Type 0) → Event → NetState → Option StepFault → NetState → Type 0
+Happened F e s None t = (answer : Answer) × StepOf F e s answer t
+Happened F e s (Some fault) t = t ≡ s
+
+-- the events happen, one after the other
+abbrev pub Ran : (F : Type 0) → NetState → List Event → NetState → Type 0
+Ran F s [] t = s ≡ t
+Ran F s (e ∷ es) t = (mid : NetState) × Happened F e s (step_fault e s) mid × Ran F mid es t
+
+-- from a network as it is made by this configuration, on a line in memory, the events lead to this one
+pub record HasRun (config : Config) (events : List Event) (net : NetState) : Type 0 where
+  pub start : NetState
+  pub made : IsMade (Unit {0}) config start
+  pub ran : Ran (Unit {0}) start events net
+
+-- why a run ends early: a configuration that is not served, or want of memory, at the making or at one of the events
+abbrev pub IsRunFault : Config → List Event → RunFault → Type 0
+IsRunFault config events (Made BadConfig) = plan_of config ≡ None
+IsRunFault config events (Made make_fault.OutOfMemory) = Unit {0}
+IsRunFault config events (Stopped index) = index < length events

@@ -1,0 +1,122 @@
+//! The events of a network, and what answers them.
+use crate::line::Direction;
+use crate::packet::Taken;
+use frame_codec::FrameBuf;
+use std::alloc::AllocError;
+use thiserror::Error;
+
+/// An event, which is handled whole before the next one. Nodes and lines go by their place in the network's configuration,
+/// counted from 0.
+#[derive(Clone, Copy, Debug, PartialEq, Eq)]
+pub enum Event {
+    /// A key at a terminal of a PAD.
+    Key {
+        node: usize,
+        terminal: u16,
+        octet: u8,
+    },
+    /// A host takes what waits on a logical channel.
+    Take {
+        node: usize,
+        channel: u16,
+    },
+    /// The first frame in flight in this direction arrives.
+    Deliver {
+        line: usize,
+        direction: Direction,
+    },
+}
+
+/// Whether a PAD took a key, or dropped it since it would end a block and the send queue is full.
+#[derive(Clone, Copy, Debug, PartialEq, Eq)]
+pub enum KeyAnswer {
+    Taken,
+    Dropped,
+}
+
+/// What an event gave, besides frames.
+#[derive(Drop)]
+pub enum Outcome {
+    /// Whether a frame arrived.
+    Delivered(bool),
+    /// What a PAD did with a key.
+    Keyed(KeyAnswer),
+    /// What a host took, if anything waited.
+    Took(Option<Taken>),
+}
+
+/// A frame that was put on a line.
+#[derive(Drop)]
+pub struct Put {
+    pub line: usize,
+    pub direction: Direction,
+    pub octets: FrameBuf,
+}
+
+/// The answer to an event: each frame that was put, in order, and the outcome.
+#[derive(Drop)]
+pub struct Answer {
+    pub frames: Vec<Put>,
+    pub outcome: Outcome,
+}
+
+/// Why an event is refused, in the order in which the faults are tested. A refused event changes nothing.
+#[derive(Clone, Copy, Debug, PartialEq, Eq, Error)]
+pub enum StepFault {
+    /// No node or line has the number, or the node is of another kind.
+    #[error("no such node")]
+    NoSuchNode,
+    /// The PAD has no such terminal.
+    #[error("no such terminal")]
+    NoSuchTerminal,
+    /// The channel is 0 or beyond those of the line.
+    #[error("no such call")]
+    NoSuchCall,
+    /// No memory was left.
+    #[error("out of memory")]
+    OutOfMemory,
+}
+
+impl From<AllocError> for StepFault {
+    ghost use Rattle.std.specs.Prelude.{◌≡◌};
+    ghost use Rattle.line_sim.specs.declared.event.StepFault.TheVariants.{OutOfMemory};
+
+    ghost from_gives = { λ _ fault. fault ≡ OutOfMemory };
+
+    fn from(_: AllocError) -> Self {
+        StepFault::OutOfMemory
+    }
+}
+
+/// Why a network is not made.
+#[derive(Clone, Copy, Debug, PartialEq, Eq, Error)]
+pub enum MakeFault {
+    /// A value is outside its limits, or the network is of a kind that is not served.
+    #[error("bad configuration")]
+    BadConfig,
+    /// No memory was left.
+    #[error("out of memory")]
+    OutOfMemory,
+}
+
+impl From<AllocError> for MakeFault {
+    ghost use Rattle.std.specs.Prelude.{◌≡◌};
+    ghost use Rattle.line_sim.specs.declared.event.MakeFault.TheVariants.{OutOfMemory};
+
+    ghost from_gives = { λ _ fault. fault ≡ OutOfMemory };
+
+    fn from(_: AllocError) -> Self {
+        MakeFault::OutOfMemory
+    }
+}
+
+/// Why a run ends before the last event.
+#[derive(Clone, Copy, Debug, PartialEq, Eq, Error)]
+pub enum RunFault {
+    /// The network is not made.
+    #[error("not made: {0}")]
+    Made(MakeFault),
+    /// Memory ended at the event of this index.
+    #[error("stopped at event {0}")]
+    Stopped(usize),
+}

@@ -1,0 +1,131 @@
+//! Lines: each hands over whole frames or nothing, for each direction in order.
+ghost use Rattle.std.specs.Prelude.{◌≡◌, ◌≢◌, ◌+◌, ◌<◌, ◌≤◌, ◌↔◌, ◌⊎◌, [], ◌∷◌, ◌++◌, length, map, slice_get, IsTrue, IfOk, replicate, vec_len};
+ghost use Rattle.line_sim.specs.Lines.{Flights, no_flights, flying, with_flying, without_first, IsPut};
+
+use circular_buffer::HeapCircularBuffer;
+use frame_codec::FrameBuf;
+use std::alloc::{AllocError, Global};
+use std::marker::Model;
+
+/// How many frames a memory line holds for each direction.
+pub const FRAMES_IN_FLIGHT: usize = 64;
+
+/// The direction of a frame on a line, by the role of the end that sent it.
+#[derive(Clone, Copy, Debug, PartialEq, Eq)]
+pub enum Direction {
+    FromDte,
+    FromDce,
+}
+
+/// A line between two nodes. It is faithful where it hands over, for each direction, the frames that were put, in their
+/// order, without those that it lost, and nothing else.
+pub trait Line: Drop {
+    ghost flights: { Self → Flights };
+
+    ghost faithful: { Type 0 };
+
+    /// Sends a frame: it comes behind those in flight, or is lost.
+    fn put(&mut self, direction: Direction, frame: FrameBuf)
+        ensures { faithful → IsPut direction frame (flights self.old) (flights self.new) };
+
+    /// Takes the first frame in flight, if there is one.
+    fn take(&mut self, direction: Direction) -> Option<FrameBuf>
+        ensures taken { faithful → result ≡ slice_get (flying direction (flights self.old)) 0 }
+        ensures others { faithful → flights self.new ≡ without_first direction (flights self.old) };
+
+    /// Loses all frames in flight, in both directions.
+    fn empty(&mut self)
+        ensures { faithful → flights self.new ≡ no_flights };
+
+    /// Whether a frame is in flight in this direction.
+    fn in_flight(&self, direction: Direction) -> bool
+        ensures { faithful → IsTrue result ↔ (flying direction (flights self.now) ≢ []) };
+}
+
+/// A line in memory, which holds 64 frames for each direction: a frame put beyond these is lost. It is faithful.
+#[derive(Drop)]
+pub struct MemLine {
+    from_dte: HeapCircularBuffer<FrameBuf>,
+    from_dce: HeapCircularBuffer<FrameBuf>,
+}
+
+impl Model for MemLine {
+    ghost use Rattle.std.specs.Prelude.{◌≡◌};
+    ghost use Rattle.line_sim.specs.Lines.{Flights};
+
+    ghost Value = { Flights };
+
+    ghost view = { λ l. record { from_dte = l.from_dte.items; from_dce = l.from_dce.items } };
+
+    ghost invariant = { λ l. (l.from_dte.capacity ≡ 64) × (l.from_dce.capacity ≡ 64) };
+}
+
+impl MemLine {
+    /// An empty line.
+    pub fn new(alloc: Global) -> Result<Self, AllocError>
+        ensures { IfOk result (λ line. line ≡ no_flights) }
+    {
+        let from_dte = HeapCircularBuffer::with_capacity(alloc, FRAMES_IN_FLIGHT)?;
+        let from_dce = HeapCircularBuffer::with_capacity(alloc, FRAMES_IN_FLIGHT)?;
+        Ok(MemLine { from_dte, from_dce })
+    }
+}
+
+impl Line for MemLine {
+    ghost flights = { λ l. l };
+
+    ghost faithful = { Unit {0} };
+
+    fn put(&mut self, direction: Direction, frame: FrameBuf)
+        ensures puts { IsPut direction frame self.old self.new }
+        ensures room { length (flying direction self.old) < 64
+            → self.new ≡ with_flying direction (flying direction self.old ++ frame ∷ []) self.old }
+        ensures beyond { 64 ≤ length (flying direction self.old) → self.new ≡ self.old }
+    {
+        match direction {
+            Direction::FromDte => {
+                let _ = self.from_dte.try_push_back(frame);
+            }
+            Direction::FromDce => {
+                let _ = self.from_dce.try_push_back(frame);
+            }
+        }
+    }
+
+    fn take(&mut self, direction: Direction) -> Option<FrameBuf>
+        ensures taken { result ≡ slice_get (flying direction self.old) 0 }
+        ensures others { self.new ≡ without_first direction self.old }
+    {
+        match direction {
+            Direction::FromDte => self.from_dte.pop_front(),
+            Direction::FromDce => self.from_dce.pop_front(),
+        }
+    }
+
+    fn empty(&mut self)
+        ensures { self.new ≡ no_flights }
+    {
+        self.from_dte.clear();
+        self.from_dce.clear();
+    }
+
+    fn in_flight(&self, direction: Direction) -> bool
+        ensures { IsTrue result ↔ (flying direction self.now ≢ []) }
+    {
+        match direction {
+            Direction::FromDte => !self.from_dte.is_empty(),
+            Direction::FromDce => !self.from_dce.is_empty(),
+        }
+    }
+}
+
+/// Makes `n` empty lines in memory.
+pub fn mem_lines(alloc: Global, n: usize) -> Result<Vec<MemLine>, AllocError>
+    ensures { IfOk result (λ lines. lines.items ≡ replicate n no_flights) }
+{
+    let mut lines = Vec::with_capacity(alloc, n)?;
+    for made in 0..n {
+        lines.push(MemLine::new(alloc)?)?;
+    }
+    Ok(lines)
+}

@@ -1,0 +1,49 @@
+//! A network over memory lines, and a list of events.
+ghost use Rattle.std.specs.Prelude.{IfOk, IfErr};
+ghost use Rattle.line_sim.specs.Headline.{Headline};
+ghost use Rattle.line_sim.specs.Faults.{step_fault};
+ghost use Rattle.line_sim.specs.Runs.{Happened, HasRun, IsRunFault};
+ghost use Rattle.std.specs.Bool.{OnTrue};
+
+use crate::config::Config;
+use crate::event::{Event, MakeFault, RunFault, StepFault};
+use crate::line::{MemLine, mem_lines};
+use crate::net::Net;
+use std::alloc::Global;
+
+/// Makes a network over memory lines and runs the events, each after the one before. An event that is refused for another
+/// reason than want of memory is answered so, and the run goes on.
+pub fn run(alloc: Global, config: &Config, events: &[Event]) -> Result<Net<MemLine>, RunFault>
+    ensures ran { IfOk result (HasRun config.now events.now) }
+    ensures headline { IfOk result Headline }
+    ensures err { IfErr result (IsRunFault config.now events.now) }
+{
+    let Ok(lines) = mem_lines(alloc, config.lines.len()) else {
+        return Err(RunFault::Made(MakeFault::OutOfMemory));
+    };
+    let mut net = match Net::new(alloc, config, lines) {
+        Ok(net) => net,
+        Err(fault) => return Err(RunFault::Made(fault)),
+    };
+    for index in 0..events.len() {
+        if !goes_on(&mut net, &events[index]) {
+            return Err(RunFault::Stopped(index));
+        }
+    }
+    net.keeps();
+    Ok(net)
+}
+
+/// Handles an event, and says whether memory was there.
+#[tactic(auto, using(crate::proofs::RunsMore::happened))]
+fn goes_on(net: &mut Net<MemLine>, event: &Event) -> bool
+    ensures { OnTrue result (Happened (Unit {0}) event.now net.old (step_fault event.now net.old) net.new) }
+{
+    match net.step(event) {
+        Err(StepFault::OutOfMemory) => return false,
+        Err(StepFault::NoSuchNode) => return true,
+        Err(StepFault::NoSuchTerminal) => return true,
+        Err(StepFault::NoSuchCall) => return true,
+        Ok(_) => return true,
+    }
+}

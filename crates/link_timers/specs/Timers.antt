@@ -1,0 +1,100 @@
+-- The timers of an end of a line, as a map from those that run to the ticks that they have left.
+use Rattle.std.specs.Prelude.{◌≡◌, ℕ, zero, suc, ◌+◌, ◌-◌, ◌<◌, ◌≤◌, Bool, true, false, ◌&&◌, List, [], ◌∷◌, map, replicate, Option, Some, None, slice_index_or, slice_set, option_map, nat_le, nat_lt, ◌==◌, if◌then◌else◌}
+use Rattle.link_timers.specs.declared.timers.TimerId.{TimerId}
+use Rattle.link_timers.specs.declared.timers.TimerId.TheVariants.{T1, T10, T20, T11, T12, T13, T21, T22, T23, Idle}
+
+-- the timers' places: in the order in which their names are listed, then by number
+abbrev pub Places : Type 0
+Places = List (Option ℕ)
+
+-- how many places there are
+abbrev pub places : ℕ
+places = 211
+
+abbrev pub place_in : (first lowest highest number : ℕ) → ℕ
+place_in first lowest highest number =
+    if nat_le lowest number && nat_le number highest then first + (number - lowest) else places
+
+-- the place of a timer, past all of them for a channel or a terminal that there is not
+abbrev pub place_of : TimerId → ℕ
+place_of T1 = 0
+place_of T10 = 1
+place_of T20 = 2
+place_of (T11 channel) = place_in 3 1 32 channel
+place_of (T12 channel) = place_in 35 1 32 channel
+place_of (T13 channel) = place_in 67 1 32 channel
+place_of (T21 channel) = place_in 99 1 32 channel
+place_of (T22 channel) = place_in 131 1 32 channel
+place_of (T23 channel) = place_in 163 1 32 channel
+place_of (Idle terminal) = place_in 195 0 15 terminal
+
+-- the timer at a place
+abbrev pub timer_at : ℕ → TimerId
+timer_at place =
+    if nat_lt place 1 then T1
+    else if nat_lt place 2 then T10
+    else if nat_lt place 3 then T20
+    else if nat_lt place 35 then T11 (place - 2)
+    else if nat_lt place 67 then T12 (place - 34)
+    else if nat_lt place 99 then T13 (place - 66)
+    else if nat_lt place 131 then T21 (place - 98)
+    else if nat_lt place 163 then T22 (place - 130)
+    else if nat_lt place 195 then T23 (place - 162)
+    else Idle (place - 195)
+
+-- a timer of a channel from 1 to 32, or of a terminal from 0 to 15
+abbrev pub IsTimer : TimerId → Type 0
+IsTimer T1 = Unit {0}
+IsTimer T10 = Unit {0}
+IsTimer T20 = Unit {0}
+IsTimer (T11 channel) = (1 ≤ channel) × (channel ≤ 32)
+IsTimer (T12 channel) = (1 ≤ channel) × (channel ≤ 32)
+IsTimer (T13 channel) = (1 ≤ channel) × (channel ≤ 32)
+IsTimer (T21 channel) = (1 ≤ channel) × (channel ≤ 32)
+IsTimer (T22 channel) = (1 ≤ channel) × (channel ≤ 32)
+IsTimer (T23 channel) = (1 ≤ channel) × (channel ≤ 32)
+IsTimer (Idle terminal) = terminal ≤ 15
+
+-- the ticks that a timer has left, if it runs
+abbrev pub left_of : Places → TimerId → Option ℕ
+left_of timers id = slice_index_or timers (place_of id) None
+
+-- no timer runs
+abbrev pub none_running : Places
+none_running = replicate places None
+
+-- a timer runs, or runs anew
+abbrev pub started : Places → TimerId → (ticks : ℕ) → Places
+started timers id ticks = slice_set timers (place_of id) (Some ticks)
+
+-- a timer does not run
+abbrev pub stopped : Places → TimerId → Places
+stopped timers id = slice_set timers (place_of id) None
+
+-- ticks pass, for a timer
+abbrev pub lowered : (ticks : ℕ) → Option ℕ → Option ℕ
+lowered ticks None = None
+lowered ticks (Some left) = Some (left - ticks)
+
+-- ticks pass
+abbrev pub after_ticks : Places → (ticks : ℕ) → Places
+after_ticks timers ticks = map (lowered ticks) timers
+
+abbrev pub is_due : Option ℕ → Bool
+is_due None = false
+is_due (Some left) = left == 0
+
+-- those of the places from this one on that have no ticks left
+abbrev pub due_from : (place : ℕ) → Places → List TimerId
+due_from place [] = []
+due_from place (left ∷ others) =
+    if is_due left then timer_at place ∷ due_from (place + 1) others else due_from (place + 1) others
+
+-- the timers that have no ticks left, in order
+abbrev pub due_timers : Places → List TimerId
+due_timers timers = due_from 0 timers
+
+-- the first of them
+abbrev pub first_of : List TimerId → Option TimerId
+first_of [] = None
+first_of (id ∷ ids) = Some id

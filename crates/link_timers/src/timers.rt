@@ -1,0 +1,200 @@
+ghost use Rattle.std.specs.Prelude.{◌≡◌, ◌≢◌, ◌≤◌, ◌<◌, ◌+◌, ◌↔◌, map, length, Some, None, is_some, MatchOption};
+ghost use Rattle.link_timers.specs.declared.timers.TimerId.{TimerId};
+ghost use Rattle.link_timers.specs.Timers.{place_of, place_in, timer_at, IsTimer, left_of, none_running, started, stopped, lowered, after_ticks, is_due, due_from, due_timers, first_of};
+
+use arrayvec::ArrayVec;
+use std::marker::Model;
+
+/// A timer of an end of a line: T1 of the link (X.25 2.4.8.1), those of the packet layer by channel, 1 to 32 (X.25
+/// annex D: T10 to T13 of a DCE, T20 to T23 of a DTE), and the idle timer of a terminal, 0 to 15 (X.3 3.4).
+#[derive(Clone, Copy, Debug, PartialEq, Eq)]
+pub enum TimerId {
+    T1,
+    T10,
+    T20,
+    T11(u8),
+    T12(u8),
+    T13(u8),
+    T21(u8),
+    T22(u8),
+    T23(u8),
+    Idle(u8),
+}
+
+impl Default for TimerId {
+    fn default() -> Self {
+        TimerId::T1
+    }
+}
+
+const CHANNELS: u8 = 32;
+
+const TERMINALS: u8 = 16;
+
+/// Which timers run, and how many ticks each has left. A tick is a twentieth of a second.
+#[derive(Drop)]
+pub struct Timers {
+    left: [Option<u16>; 211],
+}
+
+impl Model for Timers {
+    ghost use Rattle.std.specs.Prelude.{◌≡◌, ℕ, List, Option, length};
+    ghost use Rattle.std.specs.Coded.{coded_list, coded_option, coded_ℕ};
+
+    ghost Value = { List (Option ℕ) };
+
+    ghost coded = { coded_list (coded_option coded_ℕ) };
+
+    ghost view = { λ t. t.left };
+
+    ghost invariant = { λ t. length t.left ≡ 211 };
+}
+
+impl Timers {
+    /// No timer runs.
+    pub fn new() -> Self
+        ensures { result ≡ none_running }
+    {
+        Timers { left: [None; 211] }
+    }
+
+    /// Starts a timer, or starts it anew, with this many ticks left.
+    pub fn start(&mut self, id: TimerId, ticks: u16)
+        requires timer { IsTimer id }
+        requires ticks { 1 ≤ ticks }
+        ensures { self.new ≡ started self.old id ticks }
+    {
+        if let Some(place) = place(id) {
+            self.left[place] = Some(ticks);
+        }
+    }
+
+    /// Stops a timer, if it runs.
+    pub fn stop(&mut self, id: TimerId)
+        ensures { self.new ≡ stopped self.old id }
+    {
+        if let Some(place) = place(id) {
+            self.left[place] = None;
+        }
+    }
+
+    /// Whether a timer runs, also with no tick left.
+    pub fn is_running(&self, id: TimerId) -> bool
+        ensures { result ≡ is_some (left_of self.now id) }
+    {
+        match place(id) {
+            Some(place) => self.left[place].is_some(),
+            None => false,
+        }
+    }
+
+    /// Takes an expiry of a timer: whether it ran, and it is stopped.
+    pub fn fire(&mut self, id: TimerId) -> bool
+        ensures ran { result ≡ is_some (left_of self.old id) }
+        ensures stopped { self.new ≡ stopped self.old id }
+    {
+        let ran = self.is_running(id);
+        self.stop(id);
+        ran
+    }
+
+    /// Lets ticks pass: each timer that runs has so many less, not below 0. Gives those that have none left, in the
+    /// order of [`TimerId`] and then by number. They run until they are fired.
+    pub fn tick(&mut self, ticks: u16) -> ArrayVec<TimerId, 211>
+        ensures left { self.new ≡ after_ticks self.old ticks }
+        ensures due { result.items ≡ due_timers self.new }
+    {
+        lower(&mut self.left, ticks);
+        due_in(&self.left)
+    }
+
+    /// The first timer that has no tick left, in the order of `tick`.
+    pub fn due(&self) -> Option<TimerId>
+        ensures { result ≡ first_of (due_timers self.now) }
+    {
+        due_in(&self.left).as_slice().first().copied()
+    }
+}
+
+fn lower(timers: &mut [Option<u16>], ticks: u16)
+    ensures { timers.new ≡ after_ticks timers.old ticks }
+{
+    for left in timers.iter_mut() {
+        *left = lower_one(*left, ticks);
+    }
+}
+
+fn lower_one(left: Option<u16>, ticks: u16) -> Option<u16>
+    ensures { result ≡ lowered ticks left }
+{
+    Some(left?.saturating_sub(ticks))
+}
+
+fn due_in(timers: &[Option<u16>]) -> ArrayVec<TimerId, 211>
+    requires { length timers.now ≡ 211 }
+    ensures { result.items ≡ due_timers timers.now }
+{
+    let mut due = ArrayVec::new();
+    for (place, left) in timers.iter().enumerate() {
+        if *left == Some(0) {
+            due.push(timer(place));
+        }
+    }
+    due
+}
+
+// The place of a timer, if there is its channel or terminal.
+fn place(id: TimerId) -> Option<usize>
+    ensures { MatchOption result (place_of id ≡ 211) (λ place. (place ≡ place_of id) × (place < 211)) }
+{
+    match id {
+        TimerId::T1 => Some(0),
+        TimerId::T10 => Some(1),
+        TimerId::T20 => Some(2),
+        TimerId::T11(channel) => channel_place(3, channel),
+        TimerId::T12(channel) => channel_place(35, channel),
+        TimerId::T13(channel) => channel_place(67, channel),
+        TimerId::T21(channel) => channel_place(99, channel),
+        TimerId::T22(channel) => channel_place(131, channel),
+        TimerId::T23(channel) => channel_place(163, channel),
+        TimerId::Idle(terminal) => terminal_place(terminal),
+    }
+}
+
+fn channel_place(first: usize, channel: u8) -> Option<usize>
+    requires { first ≤ 163 }
+    ensures { MatchOption result (place_in first 1 32 channel ≡ 211) (λ place. (place ≡ place_in first 1 32 channel) × (place < 211)) }
+{
+    if channel < 1 || channel > CHANNELS {
+        return None;
+    }
+    Some(first + usize::from(channel) - 1)
+}
+
+fn terminal_place(terminal: u8) -> Option<usize>
+    ensures { MatchOption result (place_in 195 0 15 terminal ≡ 211) (λ place. (place ≡ place_in 195 0 15 terminal) × (place < 211)) }
+{
+    if terminal >= TERMINALS {
+        return None;
+    }
+    Some(195 + usize::from(terminal))
+}
+
+// The timer at a place.
+fn timer(place: usize) -> TimerId
+    requires { place < 211 }
+    ensures { result ≡ timer_at place }
+{
+    match place {
+        0 => TimerId::T1,
+        1 => TimerId::T10,
+        2 => TimerId::T20,
+        3..=34 => TimerId::T11((place - 2) as u8),
+        35..=66 => TimerId::T12((place - 34) as u8),
+        67..=98 => TimerId::T13((place - 66) as u8),
+        99..=130 => TimerId::T21((place - 98) as u8),
+        131..=162 => TimerId::T22((place - 130) as u8),
+        163..=194 => TimerId::T23((place - 162) as u8),
+        _ => TimerId::Idle((place - 195) as u8),
+    }
+}

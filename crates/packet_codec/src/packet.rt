@@ -1,0 +1,127 @@
+//! Packets.
+
+use crate::address::Address;
+use crate::packet_type::PacketType;
+use arrayvec::ArrayVec;
+
+/// The most octets that a packet has.
+pub const MAX_PACKET: usize = 145;
+
+/// The most octets of user data in a Data packet.
+pub const MAX_USER_DATA: usize = 128;
+
+/// The most octets of an Interrupt.
+pub const MAX_INTERRUPT: usize = 32;
+
+/// The most octets of the facility field of a call block.
+pub const MAX_FACILITIES: usize = 109;
+
+/// The most octets of call user data.
+pub const MAX_CALL_USER_DATA: usize = 16;
+
+/// The octets of a packet, in place.
+pub type PacketBuf = ArrayVec<u8, MAX_PACKET>;
+
+/// How packets are numbered (X.25 4.4.1).
+#[derive(Clone, Copy, Debug, PartialEq, Eq)]
+pub enum Numbering {
+    /// P(S) and P(R) are counted modulo 8.
+    Modulo8,
+}
+
+/// A packet of the packet layer: its logical channel, 0 to 4,095, and what it says.
+#[derive(Clone, Copy, Debug, PartialEq, Eq)]
+pub struct Packet<'a> {
+    /// The logical channel: 0 for the Restart packets.
+    pub channel: u16,
+    /// The type, with what it carries.
+    pub content: Content<'a>,
+}
+
+/// What a packet says, by its type (X.25 5).
+#[derive(Clone, Copy, Debug, PartialEq, Eq)]
+pub enum Content<'a> {
+    /// Call Request and Incoming Call.
+    CallRequest(CallData<'a>),
+    /// Call Accepted and Call Connected.
+    CallAccepted,
+    /// Clear Request and Clear Indication.
+    ClearRequest { cause: u8, diagnostic: u8 },
+    /// Clear Confirmation.
+    ClearConfirmation,
+    /// Data.
+    Data(DataPacket<'a>),
+    /// Interrupt, with 1 to 32 octets of user data.
+    Interrupt(&'a [u8]),
+    /// Interrupt Confirmation.
+    InterruptConfirmation,
+    /// Receive Ready (RR), with P(R) modulo 8.
+    ReceiveReady(u8),
+    /// Receive Not Ready (RNR), with P(R) modulo 8.
+    ReceiveNotReady(u8),
+    /// Reset Request and Reset Indication.
+    ResetRequest { cause: u8, diagnostic: u8 },
+    /// Reset Confirmation.
+    ResetConfirmation,
+    /// Restart Request and Restart Indication.
+    RestartRequest { cause: u8, diagnostic: u8 },
+    /// Restart Confirmation.
+    RestartConfirmation,
+}
+
+/// The call block of a Call Request and an Incoming Call (X.25 5.2.1).
+#[derive(Clone, Copy, Debug, PartialEq, Eq)]
+pub struct CallData<'a> {
+    /// The address that is called.
+    pub called: Address,
+    /// The address that calls, if it is given.
+    pub calling: Option<Address>,
+    /// The facility field: at most 109 octets.
+    pub facilities: &'a [u8],
+    /// Call user data: at most 16 octets.
+    pub user_data: &'a [u8],
+}
+
+/// A Data packet (X.25 5.3.1).
+#[derive(Clone, Copy, Debug, PartialEq, Eq)]
+pub struct DataPacket<'a> {
+    /// The Q bit: the octets are for the PAD or its partner, and not for its user.
+    pub qualified: bool,
+    /// The D bit: the receiver's user confirms the packet.
+    pub delivery: bool,
+    /// The M bit: the message goes on in the next packet.
+    pub more: bool,
+    /// P(S) modulo 8.
+    pub send: u8,
+    /// P(R) modulo 8.
+    pub receive: u8,
+    /// At most 128 octets.
+    pub user_data: &'a [u8],
+}
+
+impl<'a> Content<'a> {
+    ghost use Rattle.std.specs.Prelude.{◌≡◌};
+    ghost use Rattle.packet_codec.specs.PacketType.{content_type};
+    ghost use Rattle.packet_codec.specs.View.{content_view};
+
+    /// The type of a packet that says this.
+    pub fn packet_type(&self) -> PacketType
+        ensures { result ≡ content_type (content_view self.now) }
+    {
+        match self {
+            Content::CallRequest(_) => PacketType::CallRequest,
+            Content::CallAccepted => PacketType::CallAccepted,
+            Content::ClearRequest { .. } => PacketType::ClearRequest,
+            Content::ClearConfirmation => PacketType::ClearConfirmation,
+            Content::Data(_) => PacketType::Data,
+            Content::Interrupt(_) => PacketType::Interrupt,
+            Content::InterruptConfirmation => PacketType::InterruptConfirmation,
+            Content::ReceiveReady(_) => PacketType::ReceiveReady,
+            Content::ReceiveNotReady(_) => PacketType::ReceiveNotReady,
+            Content::ResetRequest { .. } => PacketType::ResetRequest,
+            Content::ResetConfirmation => PacketType::ResetConfirmation,
+            Content::RestartRequest { .. } => PacketType::RestartRequest,
+            Content::RestartConfirmation => PacketType::RestartConfirmation,
+        }
+    }
+}

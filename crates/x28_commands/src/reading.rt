@@ -1,0 +1,105 @@
+//! Reading commands.
+
+ghost use Rattle.std.specs.Prelude.{◌≡◌, ◌<◌, ◌≤◌, length};
+ghost use Rattle.x28_commands.specs.Reading.{command_of, command_from, number_in, numbers_in, pairs_in};
+ghost use Rattle.x28_commands.specs.Reading as spec;
+
+use crate::command::{Command, ENTRY_LIMIT};
+use crate::fault::CommandFault;
+use crate::keyword::{Keyword, split_keyword};
+use crate::numbers::{TEXT_LIMIT, entries, number_of};
+use crate::selection::read_selection;
+use crate::words::{after_spaces, trimmed};
+use arrayvec::ArrayVec;
+
+/// How many octets a line has at most.
+pub const LINE_LIMIT: usize = 64;
+
+/// Reads a command line, without the octet that ended it (X.28 3.2).
+#[tactic(auto, unfolding(crate::specs::Reading::command_of))]
+pub fn read_command(line: &[u8]) -> Result<Command, CommandFault>
+    ensures exact { result ≡ command_of line.now }
+{
+    if line.len() > LINE_LIMIT {
+        return Err(CommandFault::TooLong);
+    }
+    let text = after_spaces(line);
+    if text.is_empty() {
+        return Ok(Command::Empty);
+    }
+    if text[0].is_ascii_digit() {
+        return Ok(Command::Select(read_selection(text)?));
+    }
+    let (word, rest) = split_keyword(trimmed(text));
+    read_arguments(Keyword::named(word), after_spaces(rest))
+}
+
+/// A keyword's command, by the text that follows the keyword.
+fn read_arguments(keyword: Option<Keyword>, text: &[u8]) -> Result<Command, CommandFault>
+    requires { length text.now < TEXT_LIMIT }
+    ensures { result ≡ command_from keyword text.now }
+{
+    match keyword {
+        Some(Keyword::Status) => alone(Command::Status, text),
+        Some(Keyword::Clear) => alone(Command::Clear, text),
+        Some(Keyword::Interrupt) => alone(Command::Interrupt, text),
+        Some(Keyword::Reset) => alone(Command::Reset, text),
+        Some(Keyword::Profile) => Ok(Command::Profile(number_in(text)?)),
+        Some(Keyword::Read) => Ok(Command::Read(numbers_in(text)?)),
+        Some(Keyword::Set) => Ok(Command::Set(read_pairs(text)?)),
+        Some(Keyword::SetAndRead) => Ok(Command::SetAndRead(read_pairs(text)?)),
+        None => Err(CommandFault::Unknown),
+    }
+}
+
+/// A command that nothing may follow.
+fn alone(command: Command, text: &[u8]) -> Result<Command, CommandFault>
+    ensures { result ≡ spec.alone command text.now }
+{
+    if text.is_empty() {
+        Ok(command)
+    } else {
+        Err(CommandFault::Unknown)
+    }
+}
+
+fn number_in(text: &[u8]) -> Result<u8, CommandFault>
+    ensures { result ≡ number_in text.now }
+{
+    match number_of(text) {
+        Some(number) => Ok(number),
+        None => Err(CommandFault::BadNumber),
+    }
+}
+
+/// The numbers of a text, none for an empty one.
+fn numbers_in(text: &[u8]) -> Result<ArrayVec<u8, ENTRY_LIMIT>, CommandFault>
+    requires { length text.now < TEXT_LIMIT }
+    ensures { result ≡ numbers_in text.now }
+{
+    if text.is_empty() {
+        return Ok(ArrayVec::new());
+    }
+    let Some(numbers) = entries::<u8>(text) else {
+        return Err(CommandFault::BadNumber);
+    };
+    match ArrayVec::try_from(numbers.as_slice()) {
+        Ok(list) => Ok(list),
+        Err(_) => Err(CommandFault::TooLong),
+    }
+}
+
+/// Reads pairs as they stand after `SET`, without spaces about them. A pair that is wrong or missing is `BadNumber`,
+/// more than 18 are `TooLong`. (18 pairs have at most 143 octets.)
+pub fn read_pairs(text: &[u8]) -> Result<ArrayVec<(u8, u8), ENTRY_LIMIT>, CommandFault>
+    requires { length text.now ≤ 143 }
+    ensures { result ≡ pairs_in text.now }
+{
+    let Some(pairs) = entries::<(u8, u8)>(text) else {
+        return Err(CommandFault::BadNumber);
+    };
+    match ArrayVec::try_from(pairs.as_slice()) {
+        Ok(list) => Ok(list),
+        Err(_) => Err(CommandFault::TooLong),
+    }
+}

@@ -1,0 +1,2 @@
+pub mod MessageForm
+pub mod Reading
