@@ -53,7 +53,8 @@ impl Model for Timers {
 impl Timers {
     /// No timer runs.
     pub fn new() -> Self
-        ensures { result ≡ none_running }
+        ensures places { result ≡ none_running }
+        ensures left { (id : TimerId) → left_of result id ≡ None }
     {
         Timers { left: [None; 211] }
     }
@@ -62,7 +63,11 @@ impl Timers {
     pub fn start(&mut self, id: TimerId, ticks: u16)
         requires timer { IsTimer id }
         requires ticks { 1 ≤ ticks }
-        ensures { self.new ≡ started self.old id ticks }
+        ensures places { self.new ≡ started self.old id ticks }
+
+        // The same as a map from timers to the ticks left.
+        ensures left { left_of self.new id ≡ Some ticks }
+        ensures others { (other : TimerId) → other ≢ id → left_of self.new other ≡ left_of self.old other }
     {
         if let Some(place) = place(id) {
             self.left[place] = Some(ticks);
@@ -71,7 +76,9 @@ impl Timers {
 
     /// Stops a timer, if it runs.
     pub fn stop(&mut self, id: TimerId)
-        ensures { self.new ≡ stopped self.old id }
+        ensures places { self.new ≡ stopped self.old id }
+        ensures left { left_of self.new id ≡ None }
+        ensures others { (other : TimerId) → other ≢ id → left_of self.new other ≡ left_of self.old other }
     {
         if let Some(place) = place(id) {
             self.left[place] = None;
@@ -91,7 +98,9 @@ impl Timers {
     /// Takes an expiry of a timer: whether it ran, and it is stopped.
     pub fn fire(&mut self, id: TimerId) -> bool
         ensures ran { result ≡ is_some (left_of self.old id) }
-        ensures stopped { self.new ≡ stopped self.old id }
+        ensures places { self.new ≡ stopped self.old id }
+        ensures left { left_of self.new id ≡ None }
+        ensures others { (other : TimerId) → other ≢ id → left_of self.new other ≡ left_of self.old other }
     {
         let ran = self.is_running(id);
         self.stop(id);
@@ -101,7 +110,8 @@ impl Timers {
     /// Lets ticks pass: each timer that runs has so many less, not below 0. Gives those that have none left, in the
     /// order of [`TimerId`] and then by number. They run until they are fired.
     pub fn tick(&mut self, ticks: u16) -> ArrayVec<TimerId, 211>
-        ensures left { self.new ≡ after_ticks self.old ticks }
+        ensures places { self.new ≡ after_ticks self.old ticks }
+        ensures left { (id : TimerId) → left_of self.new id ≡ lowered ticks (left_of self.old id) }
         ensures due { result.items ≡ due_timers self.new }
     {
         lower(&mut self.left, ticks);

@@ -1,3 +1,10 @@
 pub mod Runs
 pub mod Trims
 pub mod Parts
+pub mod Grammar
+pub mod Arguments
+pub mod Lines
+pub mod Found
+pub mod Starts
+pub mod Only
+pub mod FirstFault

@@ -5,3 +5,5 @@ pub mod Lists
 pub mod Selection
 pub mod Reading
 pub mod Signals
+pub mod CommandForm
+pub mod Faults

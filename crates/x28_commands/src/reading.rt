@@ -1,6 +1,9 @@
 //! Reading commands.
 
-ghost use Rattle.std.specs.Prelude.{◌≡◌, ◌<◌, ◌≤◌, length};
+ghost use Rattle.std.specs.Prelude.{◌≡◌, ◌<◌, ◌≤◌, length, IfOk};
+ghost use Rattle.x28_commands.specs.declared.command.Command.{Command};
+ghost use Rattle.x28_commands.specs.CommandForm.{CommandForm};
+ghost use Rattle.x28_commands.specs.Faults.{fault_in, first_fault};
 ghost use Rattle.x28_commands.specs.Reading.{command_of, command_from, number_in, numbers_in, pairs_in};
 ghost use Rattle.x28_commands.specs.Reading as spec;
 
@@ -16,9 +19,26 @@ use arrayvec::ArrayVec;
 pub const LINE_LIMIT: usize = 64;
 
 /// Reads a command line, without the octet that ended it (X.28 3.2).
-#[tactic(auto, unfolding(crate::specs::Reading::command_of))]
+///
+/// A line of more than 64 octets is `TooLong`. Else one that begins with no keyword, or that has something after a
+/// keyword that stands alone, is `Unknown`; one whose numbers or pairs are wrong or missing is `BadNumber`; a selection
+/// with no address of 1 to 15 digits, or with something else after it than `D` or `P` and graphic characters, is
+/// `BadAddress`; more than 18 entries or 12 octets of user data are `TooLong`.
 pub fn read_command(line: &[u8]) -> Result<Command, CommandFault>
+    // Which answer it is.
     ensures exact { result ≡ command_of line.now }
+    // What is read is in the grammar, and what is in the grammar is read.
+    ensures found { IfOk result (λ command. CommandForm line.now command) }
+    ensures only { (command : Command) → CommandForm line.now command → result ≡ Ok command }
+    // The fault is the first in number that the line has.
+    ensures fault { fault_in result ≡ first_fault line.now }
+{
+    command_in(line)
+}
+
+#[tactic(auto, unfolding(crate::specs::Reading::command_of))]
+fn command_in(line: &[u8]) -> Result<Command, CommandFault>
+    ensures { result ≡ command_of line.now }
 {
     if line.len() > LINE_LIMIT {
         return Err(CommandFault::TooLong);

@@ -1,0 +1,15 @@
+mod Cases
+mod DceSteps
+mod DteSteps
+mod Events
+pub mod Flights
+pub mod Frames
+mod Halves
+pub mod Inv
+pub mod LinkLaw
+pub mod Naming
+pub mod Notes
+pub mod Reach
+pub mod NamedCalls
+mod Rows
+mod Steps

@@ -1,0 +1,40 @@
+-- What N(S) and N(R) name after octets were taken: the laws of frames and of frames that cannot be taken, joined.
+use Rattle.std.proofs.Common.{◌≡◌, refl}
+use Rattle.std.specs.Prelude.{Result, Ok, Err}
+use Rattle.frame_codec.specs.declared.fault.FrameFault.{FrameFault}
+use Rattle.frame_codec.specs.declared.fault.FrameFault.TheVariants.{TooShort, WrongAddress, UnknownControl, InfoNotAllowed, InfoTooLong}
+use Rattle.frame_codec.specs.Frame.{FrameValue, Content, Information, ReceiveReady, ReceiveNotReady, Reject, SetMode, Disconnect, DisconnectedMode, Acknowledgement, FrameReject}
+use Rattle.frame_codec.specs.Spelling.{HasNumbers}
+use Rattle.frame_codec.specs.Reading.{reading}
+use Rattle.frame_codec.proofs.Outcomes.{AreOctets}
+use Rattle.frame_codec.proofs.Grammar.{IsDecided, reading_decided}
+use Rattle.lapb.specs.Machine.{Octets, Link, Defect, UndefinedControl, InformationNotAllowed, InformationTooLong, still}
+use Rattle.lapb.specs.Named.{IsInRange, NamesAfter, Keeps}
+use Rattle.lapb.specs.Octets.{on_fault}
+use Rattle.lapb.specs.NamedOctets.{NamesAfterReading, NamesAfterOctets}
+use Rattle.lapb.proofs.Naming.{named_on_frame, named_on_defect}
+
+in_range : (content : Content) → HasNumbers content → IsInRange content
+in_range (Information send receive packet) numbers = numbers.1
+in_range (ReceiveReady receive) numbers = numbers
+in_range (ReceiveNotReady receive) numbers = numbers
+in_range (Reject receive) numbers = numbers
+in_range SetMode numbers = tt
+in_range Disconnect numbers = tt
+in_range DisconnectedMode numbers = tt
+in_range Acknowledgement numbers = tt
+in_range (FrameReject report) numbers = tt
+
+keeps_on_fault : (l : Link) (fault : FrameFault) (bytes : Octets) → Keeps l (on_fault l fault bytes)
+keeps_on_fault l TooShort bytes = λ s agrees. (agrees, tt)
+keeps_on_fault l WrongAddress bytes = λ s agrees. (agrees, tt)
+keeps_on_fault l UnknownControl bytes = named_on_defect l UndefinedControl _ _
+keeps_on_fault l InfoNotAllowed bytes = named_on_defect l InformationNotAllowed _ _
+keeps_on_fault l InfoTooLong bytes = named_on_defect l InformationTooLong _ _
+
+pub named_on_octets : (l : Link) (bytes : Octets) → AreOctets bytes → NamesAfterOctets l bytes
+named_on_octets l bytes octets = go (reading l.role bytes) (reading_decided l.role bytes octets)
+  where
+    go : (read : Result FrameValue FrameFault) → IsDecided l.role bytes read → NamesAfterReading l bytes read
+    go (Ok frame) form = named_on_frame l frame (in_range frame.content form.head.numbers)
+    go (Err fault) first = keeps_on_fault l fault bytes

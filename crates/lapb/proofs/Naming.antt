@@ -1,0 +1,683 @@
+-- N(S) names the place of a packet among the offered ones and N(R) how many were accepted, in every frame that a link
+-- sends.
+use Rattle.std.specs.Prelude.{
+  ◌≡◌,
+  ℕ,
+  suc,
+  ◌+◌,
+  ◌-◌,
+  ◌%◌,
+  ◌<◌,
+  ◌≤◌,
+  Bool,
+  true,
+  false,
+  not,
+  ◌&&◌,
+  ◌||◌,
+  ◌⊎◌,
+  List,
+  [],
+  ◌∷◌,
+  ◌++◌,
+  length,
+  drop,
+  Option,
+  if◌then◌else◌,
+  ◌==◌,
+  nat_le,
+}
+use Rattle.std.proofs.Common.{
+  refl,
+  sym,
+  ap,
+  ◌∙◌,
+  subst,
+  inl,
+  inr,
+  arith,
+  length-append,
+  length-drop,
+  drop-drop,
+  le-leb,
+  leb-true,
+  leb-false,
+}
+use Rattle.std.proofs.lemmas.List.{drop-append-le}
+use Rattle.link_timers.specs.declared.role.Role.{Role}
+use Rattle.link_timers.specs.declared.role.Role.TheVariants.{Dte, Dce}
+use Rattle.frame_codec.specs.Frame.{FrameValue, Content, Report}
+use Rattle.frame_codec.specs.Frame.Content.{
+  Information,
+  ReceiveReady,
+  ReceiveNotReady,
+  Reject,
+  SetMode,
+  Disconnect,
+  DisconnectedMode,
+  Acknowledgement,
+  FrameReject,
+}
+use Rattle.lapb.specs.declared.phase.Phase.{Phase}
+use Rattle.lapb.specs.declared.note.Note.{Note}
+use Rattle.lapb.specs.Machine.{
+  Octets,
+  Link,
+  Step,
+  Defect,
+  ahead,
+  answers,
+  response,
+  command,
+  numbered,
+  still,
+  sends,
+  set_up,
+  disconnect,
+  relink,
+  relink_as,
+  come_up,
+  take_set_mode,
+  take_disconnect,
+  reject_as,
+  reject_number,
+  report_of,
+  defect_report,
+  control_of,
+  is_valid,
+  acknowledged,
+  on_supervisory,
+  accept,
+  discard,
+  on_information,
+  checked,
+  in_up,
+  in_setting_up,
+  in_down,
+  in_rejecting,
+  in_phase,
+  on_content,
+  on_frame,
+  on_defect,
+  on_defect_in,
+  on_t1,
+  runs,
+  expire_in,
+  poll,
+  send_all,
+  sendable,
+  settle,
+  settle_in,
+  offer,
+  can_offer,
+  is_full,
+  is_same,
+}
+use Rattle.lapb.specs.Named.{
+  Session,
+  begun,
+  Counts,
+  Agrees,
+  IsNamed,
+  AreNamed,
+  with_packet,
+  newly,
+  session_after,
+  after_offer,
+  IsInRange,
+  Keeps,
+  NamesAfter,
+}
+use Rattle.lapb.proofs.Cases.{cond_by, Each}
+use Rattle.lapb.proofs.Halves.{drop-first}
+use Rattle.lapb.proofs.Steps.{is_numbered}
+
+-- ---- frames without numbers, outside sessions
+
+named-plain : (s : Session) (content : Content) → is_numbered content ≡ false → IsNamed s content
+named-plain s (Information send receive packet) e = absurd (cc)
+named-plain s (ReceiveReady receive) e = absurd (cc)
+named-plain s (ReceiveNotReady receive) e = absurd (cc)
+named-plain s (Reject receive) e = absurd (cc)
+named-plain s SetMode e = tt
+named-plain s Disconnect e = tt
+named-plain s DisconnectedMode e = tt
+named-plain s Acknowledgement e = tt
+named-plain s (FrameReject report) e = tt
+
+are_named-plain : (s : Session) (frames : List FrameValue) → Each (λ f. is_numbered f.content ≡ false) frames →
+    AreNamed s frames
+are_named-plain s [] all = tt
+are_named-plain s (f ∷ frames) all = (named-plain s f.content all.0, are_named-plain s frames all.1)
+
+-- a step that leads out of sessions
+record IsOut (step : Step) : Type 0 where
+  off : step.link.phase ≡ Phase.Up → ⊥
+  plain : Each (λ f. is_numbered f.content ≡ false) step.frames
+
+-- ---- what a session becomes, by a count of packets newly acknowledged
+
+abbrev grown : Note → Session → ℕ → Option Octets → Session
+grown Note.Up s count accepted = begun
+grown _ s count accepted = record {
+  offered = s.offered;
+  accepted = with_packet s.accepted accepted;
+  taken = s.taken +
+      count;
+}
+
+grown-is : (note : Note) (s : Session) (l : Link) (content : Content) (accepted : Option Octets) →
+    grown note s (newly l content) accepted ≡ session_after note s l content accepted
+grown-is Note.Up s l content accepted = refl
+grown-is Note.Nothing s l content accepted = refl
+grown-is Note.Down s l content accepted = refl
+
+-- after a step the session agrees, and its frames are named
+abbrev Good : Session → ℕ → Step → Type 0
+Good s count step =
+    Agrees step.link (grown step.note s count step.accepted) × AreNamed (grown step.note s count step.accepted)
+    step.frames
+
+good-out : (s : Session) (count : ℕ) (step : Step) → IsOut step → Good s count step
+good-out s count step out =
+    (λ e. absurd (out.off e), are_named-plain (grown step.note s count step.accepted) step.frames out.plain)
+
+-- ---- a link that is up
+
+counts-acked : (l : Link) (s : Session) (receive : ℕ) → receive < 8 → Counts l s → is_valid l receive ≡ true →
+    Counts (acknowledged l receive) (record s { taken = s.taken + ahead l.oldest receive })
+counts-acked l s receive low c valid =
+    let far : ℕ = ahead l.oldest receive in
+    let within : far ≤ l.top = leb-true far l.top valid in
+    let len : length l.queue ≡ length s.offered - s.taken = ap (λ (q : List Octets). length q) c.queue ∙ length-drop
+    s.taken s.offered in
+    let rest : length (drop far l.queue) ≡ length l.queue - far = length-drop far l.queue in
+    record {
+      oldest = place l.oldest s.taken receive low c.oldest;
+      queue = ap (λ (q : List Octets). drop far q) c.queue ∙ drop-drop far s.taken s.offered;
+      taken = omega (arith, len, within, c.top, c.taken);
+      next = omega (arith, c.next);
+      top = omega (arith, rest, c.top);
+      window = omega (arith, rest, c.window);
+      expected = c.expected;
+    }
+  where
+    place : (oldest taken receive : ℕ) → receive < 8 → oldest ≡ taken % 8 → receive ≡ (taken + (receive + 8 - oldest)
+        % 8) % 8
+    place oldest taken receive low e = omega arith
+
+named-answers : (s : Session) (due : Bool) (receive : ℕ) → receive ≡ length s.accepted % 8 → AreNamed s (answers due
+    receive)
+named-answers s true receive e = (e, tt)
+named-answers s false receive e = tt
+
+back-le : (back : Bool) (next top : ℕ) → next ≤ top → (if back then 0 else next) ≤ top
+back-le true next top le = omega arith
+back-le false next top le = le
+
+good-supervisory : (l : Link) (s : Session) (count : ℕ) (busy back r p : Bool) → Counts l (record s {
+  taken = s.taken
+      + count;
+}) →
+    Good s count (on_supervisory l busy back r p)
+good-supervisory l s count busy back r p c = (
+  λ _. record {
+    oldest = c.oldest;
+    queue = c.queue;
+    taken = c.taken;
+    next = back-le (back || r && p) l.next l.top c.next;
+    top = c.top;
+    window = c.window;
+    expected = c.expected;
+  },
+  named-answers (record s { taken = s.taken + count }) (p && not r) l.expected c.expected,
+)
+
+good-accept : (l : Link) (s : Session) (count : ℕ) (p : Bool) (packet : Octets) → Counts l (record s {
+  taken = s.taken
+      + count;
+}) →
+    Good s count (accept l p packet)
+good-accept l s count p packet c =
+    let longer : length (s.accepted ++ packet ∷ []) ≡ length s.accepted + 1 = length-append s.accepted (packet ∷ [])
+    in
+    let told : (l.expected + 1) % 8 ≡ length (s.accepted ++ packet ∷ []) % 8 = omega (arith, longer, c.expected) in (
+      λ _. record {
+        oldest = c.oldest;
+        queue = c.queue;
+        taken = c.taken;
+        next = c.next;
+        top = c.top;
+        window = c.window;
+        expected = told;
+      },
+      named-answers (record { offered = s.offered; accepted = s.accepted ++ packet ∷ []; taken = s.taken + count }) p
+          ((l.expected + 1) % 8) told,
+    )
+
+named-discarded : (s : Session) (rejecting due : Bool) (receive : ℕ) → receive ≡ length s.accepted % 8 →
+    AreNamed s (if rejecting then answers due receive else response (Reject receive) due ∷ [])
+named-discarded s true due receive e = named-answers s due receive e
+named-discarded s false due receive e = (e, tt)
+
+good-discard : (l : Link) (s : Session) (count : ℕ) (p : Bool) → Counts l (record s { taken = s.taken + count }) →
+    Good s count (discard l p)
+good-discard l s count p c = (
+  λ _. record {
+    oldest = c.oldest;
+    queue = c.queue;
+    taken = c.taken;
+    next = c.next;
+    top = c.top;
+    window = c.window;
+    expected = c.expected;
+  },
+  named-discarded (record s { taken = s.taken + count }) l.rejecting p l.expected c.expected,
+)
+
+good-information : (l : Link) (s : Session) (count send : ℕ) (p : Bool) (packet : Octets) → Counts l (record s {
+  taken
+      = s.taken + count;
+}) →
+    Good s count (on_information l send p packet)
+good-information l s count send p packet c =
+    cond_by (λ b. Good s count (if b then accept l p packet else discard l p)) (send == l.expected)
+    (λ _. good-accept l s count p packet c) (λ _. good-discard l s count p c)
+
+out-reject : (role : Role) (l : Link) (report : Report) (p : Bool) → IsOut (reject_as role l report p)
+out-reject Dte l report p = record { off = λ e. cc; plain = (refl, tt) }
+out-reject Dce l report p = record { off = λ e. cc; plain = (refl, tt) }
+
+good-checked : (l : Link) (s : Session) (content : Content) (r p : Bool) (receive : ℕ) (taken : Step) (anew : Bool) →
+    (is_valid l receive ≡ true → Good s (ahead l.oldest receive) taken) →
+    Good s (if is_valid l receive then ahead l.oldest receive else 0)
+    (if is_valid l receive then record taken { anew = anew } else reject_number l content r p)
+good-checked l s content r p receive taken anew good =
+    cond_by (λ b. Good s (if b then ahead l.oldest receive else 0) (if b then record taken { anew = anew } else
+    reject_number l content r p))
+    (is_valid l receive) (λ e. good e)
+    (λ _. good-out s 0 (reject_number l content r p)
+    (out-reject l.role l (report_of l (control_of content p) r false false false true) (p && not r)))
+
+same-count : (n : ℕ) → n ≡ n + 0
+same-count n = omega arith
+
+good-still : (l : Link) (s : Session) → Counts l s → Good s 0 (still l)
+good-still l s c = (
+  λ _. record {
+    oldest = c.oldest ∙ ap (λ (n : ℕ). n % 8) (same-count s.taken);
+    queue = c.queue ∙ ap (λ (n : ℕ). drop n s.offered) (same-count s.taken);
+    taken = omega (arith, c.taken);
+    next = c.next;
+    top = c.top;
+    window = c.window;
+    expected = c.expected;
+  },
+  tt,
+)
+
+good-in_up : (role : Role) (l : Link) (s : Session) (content : Content) (r p : Bool) → IsInRange content → l.phase ≡
+    Phase.Up → Counts l s →
+    Good s (newly l content) (in_up role l content r p)
+good-in_up role l s (Information send receive packet) r p low up c =
+    good-checked l s (Information send receive packet) r p receive (on_information (acknowledged l receive) send p
+    packet) _
+    (λ valid. good-information (acknowledged l receive) s (ahead l.oldest receive) send p packet (counts-acked l s
+    receive low c valid))
+good-in_up role l s (ReceiveReady receive) r p low up c =
+    good-checked l s (ReceiveReady receive) r p receive (on_supervisory (acknowledged l receive) false false r p) _
+    (λ valid. good-supervisory (acknowledged l receive) s (ahead l.oldest receive) false false r p (counts-acked l s
+    receive low c valid))
+good-in_up role l s (ReceiveNotReady receive) r p low up c =
+    good-checked l s (ReceiveNotReady receive) r p receive (on_supervisory (acknowledged l receive) true false r p) _
+    (λ valid. good-supervisory (acknowledged l receive) s (ahead l.oldest receive) true false r p (counts-acked l s
+    receive low c valid))
+good-in_up role l s (Reject receive) r p low up c =
+    good-checked l s (Reject receive) r p receive (on_supervisory (acknowledged l receive) false true r p) _
+    (λ valid. good-supervisory (acknowledged l receive) s (ahead l.oldest receive) false true r p (counts-acked l s
+    receive low c valid))
+good-in_up role l s Disconnect r p low up c = good-out s 0 (take_disconnect l p) (record {
+  off = λ e. cc;
+  plain =
+      (refl, tt);
+})
+good-in_up role l s Acknowledgement r p low up c = good-still l s c
+good-in_up Dte l s SetMode r p low up c = good-out s 0 (set_up l) (record { off = λ e. cc; plain = (refl, tt) })
+good-in_up Dte l s DisconnectedMode r p low up c = good-out s 0 (set_up l) (record {
+  off = λ e. cc;
+  plain = (refl, tt);
+})
+good-in_up Dte l s (FrameReject report) r p low up c = good-out s 0 (set_up l) (record {
+  off = λ e. cc;
+  plain = (
+    refl,
+    tt,
+  );
+})
+good-in_up Dce l s SetMode r p low up c = good-still l s c
+good-in_up Dce l s DisconnectedMode r p low up c = good-still l s c
+good-in_up Dce l s (FrameReject report) r p low up c = good-out s 0 (disconnect l) (record {
+  off = λ e. cc;
+  plain =
+      (refl, tt);
+})
+
+-- ---- the other phases
+
+out-still : (l : Link) → (l.phase ≡ Phase.Up → ⊥) → IsOut (still l)
+out-still l off = record { off = off; plain = tt }
+
+not_down : (l : Link) → l.phase ≡ Phase.Down → l.phase ≡ Phase.Up → ⊥
+not_down l e f = let x : Phase.Down ≡ Phase.Up = sym e ∙ f in cc
+
+not_setting : (l : Link) → l.phase ≡ Phase.SettingUp → l.phase ≡ Phase.Up → ⊥
+not_setting l e f = let x : Phase.SettingUp ≡ Phase.Up = sym e ∙ f in cc
+
+not_rejecting : (l : Link) → l.phase ≡ Phase.Rejecting → l.phase ≡ Phase.Up → ⊥
+not_rejecting l e f = let x : Phase.Rejecting ≡ Phase.Up = sym e ∙ f in cc
+
+out-polite : (l : Link) (due : Bool) → l.phase ≡ Phase.Down → IsOut (if due then sends l (response DisconnectedMode
+    true) else still l)
+out-polite l true e = record { off = not_down l e; plain = (refl, tt) }
+out-polite l false e = out-still l (not_down l e)
+
+out-in_down : (role : Role) (l : Link) (content : Content) (r p : Bool) → l.phase ≡ Phase.Down → IsOut (in_down role l
+    content r p)
+out-in_down Dte l SetMode r p e = record { off = λ f. cc; plain = (refl, tt) }
+out-in_down Dte l DisconnectedMode r p e = record { off = λ f. cc; plain = (refl, tt) }
+out-in_down Dte l Disconnect r p e = record { off = not_down l e; plain = (refl, tt) }
+out-in_down Dte l (Information send receive packet) r p e = out-polite l (p && not r) e
+out-in_down Dte l (ReceiveReady receive) r p e = out-polite l (p && not r) e
+out-in_down Dte l (ReceiveNotReady receive) r p e = out-polite l (p && not r) e
+out-in_down Dte l (Reject receive) r p e = out-polite l (p && not r) e
+out-in_down Dte l Acknowledgement r p e = out-polite l (p && not r) e
+out-in_down Dte l (FrameReject report) r p e = out-polite l (p && not r) e
+out-in_down Dce l SetMode r p e = out-polite l (p && not r) e
+out-in_down Dce l DisconnectedMode r p e = out-polite l (p && not r) e
+out-in_down Dce l Disconnect r p e = record { off = not_down l e; plain = (refl, tt) }
+out-in_down Dce l (Information send receive packet) r p e = out-polite l (p && not r) e
+out-in_down Dce l (ReceiveReady receive) r p e = out-polite l (p && not r) e
+out-in_down Dce l (ReceiveNotReady receive) r p e = out-polite l (p && not r) e
+out-in_down Dce l (Reject receive) r p e = out-polite l (p && not r) e
+out-in_down Dce l Acknowledgement r p e = out-polite l (p && not r) e
+out-in_down Dce l (FrameReject report) r p e = out-polite l (p && not r) e
+
+-- a session that begins
+counts-begun : (l : Link) → l.oldest ≡ 0 → l.next ≡ 0 → l.top ≡ 0 → l.expected ≡ 0 → l.queue ≡ [] → Counts l begun
+counts-begun l a b c d e =
+    let none : length l.queue ≡ 0 = ap (λ (q : List Octets). length q) e in
+    record {
+      oldest = a;
+      queue = e;
+      taken = omega arith;
+      next = omega (arith, b, c);
+      top = omega (arith, c);
+      window = omega (arith, none);
+      expected = d;
+    }
+
+good-come_up : (l : Link) (s : Session) → Good s 0 (come_up l)
+good-come_up l s = (λ _. counts-begun (come_up l).link refl refl refl refl refl, (refl, tt))
+
+good-in_setting_up : (l : Link) (s : Session) (content : Content) (r p : Bool) → l.phase ≡ Phase.SettingUp →
+    Good s (newly l content) (in_setting_up l content r p)
+good-in_setting_up l s Acknowledgement r p e =
+    cond_by (λ b. Good s 0 (if b then come_up l else still l)) (is_same p l.bit) (λ _. good-come_up l s)
+    (λ _. good-out s 0 (still l) (out-still l (not_setting l e)))
+good-in_setting_up l s Disconnect r p e = good-out s 0 (sends l (response DisconnectedMode p)) (record {
+  off =
+      not_setting l e;
+  plain = (refl, tt);
+})
+good-in_setting_up l s SetMode r p e = good-out s 0 (still l) (out-still l (not_setting l e))
+good-in_setting_up l s DisconnectedMode r p e = good-out s 0 (still l) (out-still l (not_setting l e))
+good-in_setting_up l s (FrameReject report) r p e = good-out s 0 (still l) (out-still l (not_setting l e))
+good-in_setting_up l s (Information send receive packet) r p e =
+    good-out s (newly l (Information send receive packet)) (still l) (out-still l (not_setting l e))
+good-in_setting_up l s (ReceiveReady receive) r p e = good-out s (newly l (ReceiveReady receive)) (still l) (out-still
+    l (not_setting l e))
+good-in_setting_up l s (ReceiveNotReady receive) r p e = good-out s (newly l (ReceiveNotReady receive)) (still l)
+    (out-still l (not_setting l e))
+good-in_setting_up l s (Reject receive) r p e = good-out s (newly l (Reject receive)) (still l) (out-still l
+    (not_setting l e))
+
+out-again : (l : Link) (r p : Bool) → l.phase ≡ Phase.Rejecting → IsOut (if r then still l else sends l (response
+    (FrameReject l.report) p))
+out-again l true p e = out-still l (not_rejecting l e)
+out-again l false p e = record { off = not_rejecting l e; plain = (refl, tt) }
+
+out-in_rejecting : (l : Link) (content : Content) (r p : Bool) → l.phase ≡ Phase.Rejecting → IsOut (in_rejecting l
+    content r p)
+out-in_rejecting l Disconnect r p e = record { off = λ f. cc; plain = (refl, tt) }
+out-in_rejecting l SetMode r p e = out-again l r p e
+out-in_rejecting l DisconnectedMode r p e = out-again l r p e
+out-in_rejecting l Acknowledgement r p e = out-again l r p e
+out-in_rejecting l (FrameReject report) r p e = out-again l r p e
+out-in_rejecting l (Information send receive packet) r p e = out-again l r p e
+out-in_rejecting l (ReceiveReady receive) r p e = out-again l r p e
+out-in_rejecting l (ReceiveNotReady receive) r p e = out-again l r p e
+out-in_rejecting l (Reject receive) r p e = out-again l r p e
+
+good-in_phase : (phase : Phase) (role : Role) (l : Link) (s : Session) (content : Content) (r p : Bool) → IsInRange
+    content → l.phase ≡ phase →
+    Agrees l s → Good s (newly l content) (in_phase phase role l content r p)
+good-in_phase Phase.Down role l s content r p low e c = good-out s (newly l content) (in_down role l content r p)
+    (out-in_down role l content r p e)
+good-in_phase Phase.SettingUp role l s content r p low e c = good-in_setting_up l s content r p e
+good-in_phase Phase.Up role l s content r p low e c = good-in_up role l s content r p low e (c e)
+good-in_phase Phase.Rejecting role l s content r p low e c =
+    good-out s (newly l content) (in_rejecting l content r p) (out-in_rejecting l content r p e)
+
+good-take_set_mode : (l : Link) (s : Session) (p : Bool) → Good s 0 (take_set_mode l p)
+good-take_set_mode l s p = (λ _. counts-begun (take_set_mode l p).link refl refl refl refl refl, (tt, tt))
+
+good-on_content : (l : Link) (s : Session) (content : Content) (role : Role) (r p : Bool) → IsInRange content → Agrees
+    l s →
+    Good s (newly l content) (on_content content role l r p)
+good-on_content l s SetMode Dce r p low c = good-take_set_mode l s p
+good-on_content l s SetMode Dte r p low c = good-in_phase l.phase Dte l s SetMode r p low refl c
+good-on_content l s (Information send receive packet) role r p low c = good-in_phase l.phase role l s (Information
+    send receive packet) r p low refl c
+good-on_content l s (ReceiveReady receive) role r p low c = good-in_phase l.phase role l s (ReceiveReady receive) r p
+    low refl c
+good-on_content l s (ReceiveNotReady receive) role r p low c = good-in_phase l.phase role l s (ReceiveNotReady
+    receive) r p low refl c
+good-on_content l s (Reject receive) role r p low c = good-in_phase l.phase role l s (Reject receive) r p low refl c
+good-on_content l s Disconnect role r p low c = good-in_phase l.phase role l s Disconnect r p low refl c
+good-on_content l s DisconnectedMode role r p low c = good-in_phase l.phase role l s DisconnectedMode r p low refl c
+good-on_content l s Acknowledgement role r p low c = good-in_phase l.phase role l s Acknowledgement r p low refl c
+good-on_content l s (FrameReject report) role r p low c = good-in_phase l.phase role l s (FrameReject report) r p low
+    refl c
+
+-- ---- what the calls make of a session
+
+-- a received frame
+pub named_on_frame : (l : Link) (frame : FrameValue) → IsInRange frame.content → NamesAfter l frame
+named_on_frame l frame low s c =
+    let step : Step = on_frame l frame in
+    subst (λ (t : Session). Agrees step.link t × AreNamed t step.frames) (grown-is step.note s l frame.content
+    step.accepted)
+    (good-on_content l s frame.content l.role frame.response frame.poll low c)
+
+keeps-out : (l : Link) (step : Step) → IsOut step → Keeps l step
+keeps-out l step out s c = (λ e. absurd (out.off e), are_named-plain s step.frames out.plain)
+
+keeps-still : (l : Link) → Keeps l (still l)
+keeps-still l s c = (c, tt)
+
+out-relink_as : (role : Role) (phase : Phase) (l : Link) → l.phase ≡ phase → IsOut (relink_as role phase l)
+out-relink_as Dte Phase.SettingUp l e = out-still l (not_setting l e)
+out-relink_as Dte Phase.Down l e = record { off = λ f. cc; plain = (refl, tt) }
+out-relink_as Dte Phase.Up l e = record { off = λ f. cc; plain = (refl, tt) }
+out-relink_as Dte Phase.Rejecting l e = record { off = λ f. cc; plain = (refl, tt) }
+out-relink_as Dce Phase.SettingUp l e = record { off = λ f. cc; plain = (refl, tt) }
+out-relink_as Dce Phase.Down l e = record { off = λ f. cc; plain = (refl, tt) }
+out-relink_as Dce Phase.Up l e = record { off = λ f. cc; plain = (refl, tt) }
+out-relink_as Dce Phase.Rejecting l e = record { off = λ f. cc; plain = (refl, tt) }
+
+-- a start or relink
+pub named_relink : (l : Link) → Keeps l (relink l)
+named_relink l = keeps-out l (relink l) (out-relink_as l.role l.phase l refl)
+
+keeps-poll : (l : Link) → l.phase ≡ Phase.Up → Keeps l (poll l)
+keeps-poll l up s c =
+    let d = c up in (
+      λ _. record {
+        oldest = d.oldest;
+        queue = d.queue;
+        taken = d.taken;
+        next = d.next;
+        top = d.top;
+        window = d.window;
+        expected = d.expected;
+      },
+      (d.expected, tt),
+    )
+
+keeps-expire_in : (phase : Phase) (l : Link) → l.phase ≡ phase → Keeps l (expire_in phase l)
+keeps-expire_in Phase.Down l e = keeps-out l (expire_in Phase.Down l) (record {
+  off = not_down l e;
+  plain = (refl, tt);
+})
+keeps-expire_in Phase.SettingUp l e = keeps-out l (expire_in Phase.SettingUp l) (record {
+  off = not_setting l e;
+  plain
+      = (refl, tt);
+})
+keeps-expire_in Phase.Up l e =
+    cond_by (λ b. Keeps l (if b then relink l else poll l)) (nat_le l.n2 l.polls) (λ _. named_relink l) (λ _.
+    keeps-poll l e)
+keeps-expire_in Phase.Rejecting l e = keeps-out l (expire_in Phase.Rejecting l) (record {
+  off = not_rejecting l e;
+  plain = (refl, tt);
+})
+
+-- an expiry of T1
+pub named_on_t1 : (l : Link) → Keeps l (on_t1 l)
+named_on_t1 l =
+    cond_by (λ b. Keeps l (if b then expire_in l.phase l else still l)) (runs l)
+    (λ _. keeps-expire_in l.phase l refl) (λ _. keeps-still l)
+
+-- a frame that could not be read
+keeps-on_defect_in : (phase : Phase) (l : Link) (defect : Defect) (control : ℕ) (r : Bool) → Keeps l (on_defect_in
+    phase l defect control r)
+keeps-on_defect_in Phase.Down l defect control r = keeps-still l
+keeps-on_defect_in Phase.SettingUp l defect control r = keeps-still l
+keeps-on_defect_in Phase.Up l defect control r =
+    keeps-out l (on_defect_in Phase.Up l defect control r) (out-reject l.role l (defect_report l defect control r) _)
+keeps-on_defect_in Phase.Rejecting l defect control r = keeps-still l
+
+pub named_on_defect : (l : Link) (defect : Defect) (control : ℕ) (r : Bool) → Keeps l (on_defect l defect control r)
+named_on_defect l defect control r = keeps-on_defect_in l.phase l defect control r
+
+-- ---- the end of an event
+
+named-owed : (s : Session) (due : Bool) (receive : ℕ) → receive ≡ length s.accepted % 8 →
+    AreNamed s (if due then response (ReceiveReady receive) false ∷ [] else [])
+named-owed s true receive e = (e, tt)
+named-owed s false receive e = tt
+
+named-numbered : (s : Session) (receive start place : ℕ) (packets : List Octets) → drop place s.offered ≡ packets →
+    length s.offered ≤ s.taken + 7 → s.taken ≤ place → start % 8 ≡ place % 8 → receive ≡ length s.accepted % 8 →
+    AreNamed s (numbered start receive packets)
+named-numbered s receive start place [] e few from same told = tt
+named-numbered s receive start place (packet ∷ packets) e few from same told =
+    let first = drop-first s.offered place packet packets e in (
+      ((place, same, from, omega (arith, first.2), first.0), told),
+      named-numbered s receive (start + 1) (suc place) packets first.1 few (omega arith) (omega (arith, same)) told,
+    )
+
+keeps-send_all : (l : Link) (packets : List Octets) → packets ≡ [] ⊎ (packets ≡ drop l.next l.queue) → l.phase ≡
+    Phase.Up → Keeps l (send_all l packets)
+keeps-send_all l [] which up s c =
+    let d = c up in (
+      λ _. record {
+        oldest = d.oldest;
+        queue = d.queue;
+        taken = d.taken;
+        next = d.next;
+        top = d.top;
+        window = d.window;
+        expected = d.expected;
+      },
+      named-owed s l.owed l.expected d.expected,
+    )
+keeps-send_all l (packet ∷ packets) which up s c =
+    let d = c up in
+    let all_of_them : packet ∷ packets ≡ drop l.next l.queue = elim which [ inl e ↦ absurd (cc) | inr e ↦ e ] in
+    let len : length l.queue ≡ length s.offered - s.taken = ap (λ (q : List Octets). length q) d.queue ∙ length-drop
+    s.taken s.offered in
+    let rest : drop (s.taken + l.next) s.offered ≡ packet ∷ packets =
+    sym (drop-drop l.next s.taken s.offered) ∙ ap (λ (q : List Octets). drop l.next q) (sym d.queue) ∙ sym all_of_them
+    in
+    let top : (if nat_le l.top (length l.queue) then length l.queue else l.top) ≡ length l.queue =
+    ap (λ b. if b then length l.queue else l.top) (le-leb l.top (length l.queue) d.top) in (
+      λ _. record {
+        oldest = d.oldest;
+        queue = d.queue;
+        taken = d.taken;
+        next = subst (λ (n : ℕ). length l.queue ≤ n) (sym top) (omega arith);
+        top = subst (λ (n : ℕ). n ≤ length l.queue) (sym top) (omega arith);
+        window = d.window;
+        expected = d.expected;
+      },
+      named-numbered s l.expected (l.oldest + l.next) (s.taken + l.next) (packet ∷ packets) rest (omega (
+        arith,
+        len,
+        d.window,
+        d.taken,
+      ))
+          (omega arith) (omega (arith, d.oldest)) d.expected,
+    )
+
+keeps-settle_in : (phase : Phase) (l : Link) → l.phase ≡ phase → Keeps l (settle_in phase l)
+keeps-settle_in Phase.Down l e = keeps-still l
+keeps-settle_in Phase.SettingUp l e = keeps-still l
+keeps-settle_in Phase.Up l e =
+    cond_by (λ b. Keeps l (send_all l (if b then drop l.next l.queue else []))) (l.heard && not l.polling && not
+    l.busy)
+    (λ _. keeps-send_all l (drop l.next l.queue) (inr refl) e) (λ _. keeps-send_all l [] (inl refl) e)
+keeps-settle_in Phase.Rejecting l e = keeps-still l
+
+pub named_settle : (l : Link) → Keeps l (settle l)
+named_settle l = keeps-settle_in l.phase l refl
+
+-- ---- an offer
+
+pub named_offer : (l : Link) (packet : Octets) (s : Session) → l.k ≤ 7 → Agrees l s → Agrees (offer l packet)
+    (after_offer l packet s)
+named_offer l packet s few c up =
+    let d = c up in
+    cond_by (λ b. (b ≡ true → length l.queue ≤ 6) →
+    Counts (record l { queue = if b then l.queue ++ packet ∷ [] else l.queue })
+    (record s { offered = if b then s.offered ++ packet ∷ [] else s.offered })) (can_offer l)
+    (λ _ room.
+    let short : length l.queue ≤ 6 = room refl in
+    let longer : length (l.queue ++ packet ∷ []) ≡ length l.queue + 1 = length-append l.queue (packet ∷ []) in
+    let grown : length (s.offered ++ packet ∷ []) ≡ length s.offered + 1 = length-append s.offered (packet ∷ []) in
+    record {
+      oldest = d.oldest;
+      queue = ap (λ (q : List Octets). q ++ packet ∷ []) d.queue ∙ sym (drop-append-le s.taken s.offered (packet ∷ [])
+          d.taken);
+      taken = omega (arith, grown, d.taken);
+      next = d.next;
+      top = omega (arith, longer, d.top);
+      window = omega (arith, longer, short);
+      expected = d.expected;
+    })
+    (λ _ _. d) (λ e. has_room l few up e)
+  where
+    has_room : (l : Link) → l.k ≤ 7 → l.phase ≡ Phase.Up → can_offer l ≡ true → length l.queue ≤ 6
+    has_room l few up e =
+        cond_by (λ b. is_full l ≡ b → can_offer l ≡ true → length l.queue ≤ 6) (is_full l)
+        (λ _ full e. absurd (contradiction l full e))
+        (λ _ free e. let less = leb-false l.k (length l.queue) free in omega arith) refl e
+      where
+        contradiction : (l : Link) → is_full l ≡ true → can_offer l ≡ true → ⊥
+        contradiction l full e = go (Rattle.lapb.specs.Machine.is_up l.phase) (is_full l) full e
+          where
+            go : (a b : Bool) → b ≡ true → a && not b ≡ true → ⊥
+            go true true e f = cc
+            go true false e f = cc
+            go false true e f = cc
+            go false false e f = cc

@@ -1,0 +1,15 @@
+use Rattle.lapb.proofs.LinkLaw.{in_order, comes_up, begins_fresh}
+use Rattle.lapb.proofs.Rows.{may_carry}
+use Rattle.lapb.proofs.law.link_law.Goals as goal
+
+pub returns-clause-in_order : goal.returns-clause-in_order
+returns-clause-in_order c = in_order
+
+pub returns-clause-comes_up : goal.returns-clause-comes_up
+returns-clause-comes_up c = comes_up
+
+pub returns-clause-begins_fresh : goal.returns-clause-begins_fresh
+returns-clause-begins_fresh c = begins_fresh
+
+pub returns-clause-may_carry : goal.returns-clause-may_carry
+returns-clause-may_carry c = may_carry

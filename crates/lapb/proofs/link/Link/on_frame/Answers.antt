@@ -1,0 +1,6 @@
+use Rattle.std.proofs.Common.{arith}
+use Rattle.lapb.proofs.NamedCalls.{named_on_octets}
+use Rattle.lapb.proofs.link.Link.on_frame.Goals as goal
+
+pub returns-clause-named : goal.returns-clause-named
+returns-clause-named c = named_on_octets c.args.self.now c.args.bytes.now (λ i. omega (arith, c.type_inv.bytes i))

@@ -1,0 +1,13 @@
+pub mod Machine
+pub mod Named
+pub mod Reach
+pub mod World
+pub mod Out
+pub mod Octets
+pub mod Defects
+pub mod Offers
+pub mod Params
+pub mod EffectView
+pub mod OutView
+pub mod LinkView
+pub mod NamedOctets

@@ -1,0 +1,46 @@
+-- What contracts see of the code's link, and what always holds of it.
+use Rattle.std.specs.Prelude.{◌≡◌, ℕ, ◌<◌, ◌≤◌, List, length}
+use Rattle.link_timers.specs.declared.role.Role.{Role}
+use Rattle.frame_codec.specs.declared.frame.Rejection.{Rejection}
+use Rattle.frame_codec.specs.Views.{report_of}
+use Rattle.lapb.specs.declared.phase.Phase.{Phase}
+use Rattle.lapb.specs.declared.link.Link.TheInside.{Inside}
+use Rattle.lapb.specs.Machine as machine
+
+abbrev pub link_of : Inside → machine.Link
+link_of a = record {
+  role = a.role;
+  phase = a.phase;
+  k = a.window.size;
+  n2 = a.n2;
+  oldest = a.window.oldest;
+  next = a.window.next;
+  top = a.window.top;
+  expected = a.receive;
+  queue = a.queue;
+  heard = a.heard;
+  owed = a.owed;
+  rejecting = a.rejecting;
+  busy = a.busy;
+  polling = a.polling;
+  polls = a.polls;
+  bit = a.bit;
+  repeats = a.repeats;
+  report = report_of a.report;
+}
+
+-- the report repeats an octet and two numbers modulo 8
+pub record IsReport (report : Rejection) : Type 0 where
+  pub control : report.control < 256
+  pub send : report.vs < 8
+  pub receive : report.vr < 8
+
+pub record IsLink (a : Inside) : Type 0 where
+  pub sent : a.window.top ≤ length a.queue
+  pub unacknowledged : length a.queue ≤ a.window.size
+  pub k_least : 1 ≤ a.window.size
+  pub k_most : a.window.size ≤ 7
+  pub polls : a.polls ≤ a.n2
+  pub n2_least : 1 ≤ a.n2
+  pub n2_most : a.n2 ≤ 20
+  pub report : IsReport a.report

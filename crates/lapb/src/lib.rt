@@ -1,0 +1,19 @@
+//! The link of one line, in either role (LAPB, X.25 2.4; ISO 7776).
+#![tactic(auto)]
+
+mod effect;
+mod law;
+mod link;
+mod note;
+mod out;
+mod packet;
+mod phase;
+
+pub use law::link_law;
+pub use link::{BadParams, Link, LinkParams, OfferFault};
+pub use note::{Note, Timing};
+pub use out::LinkOut;
+pub use phase::Phase;
+
+#[cfg(test)]
+mod tests;

@@ -1,0 +1,119 @@
+ghost use Rattle.std.specs.Prelude.{◌≡◌, ◌≤◌, MatchResult};
+ghost use Rattle.lapb.specs.Machine as machine;
+ghost use Rattle.lapb.specs.Params.{AreParams};
+
+mod calls;
+mod defects;
+mod information;
+mod phases;
+mod sending;
+mod setting;
+
+use crate::packet::Queue;
+use crate::phase::Phase;
+use flow_window::{Mod8, RecvWindow, SendWindow};
+use frame_codec::Rejection;
+use link_timers::Role;
+use std::marker::Model;
+use thiserror::Error;
+
+/// How a link is to be made.
+#[derive(Clone, Copy, Debug, PartialEq, Eq)]
+pub struct LinkParams {
+    /// How many packets may be unacknowledged, from 1 to 7 (X.25 2.4.8.6).
+    pub k: u8,
+    /// How many polls are sent without an answer before the link is set up again, from 1 to 20 (X.25 2.4.8.4).
+    pub n2: u8,
+    /// Whether the line stands from the beginning on: the link is up.
+    pub standing: bool,
+}
+
+/// A parameter of a link is out of its range.
+#[derive(Clone, Copy, Debug, PartialEq, Eq, Error)]
+#[error("bad link parameters")]
+pub struct BadParams;
+
+/// Why a packet was not taken, in the order in which the faults are tested.
+#[derive(Clone, Copy, Debug, PartialEq, Eq, Error)]
+pub enum OfferFault {
+    /// The link is not up.
+    #[error("link down")]
+    Down,
+    /// As many packets are unacknowledged as may be.
+    #[error("link full")]
+    Full,
+}
+
+/// One end of a link (X.25 2.4).
+#[derive(Drop)]
+pub struct Link {
+    role: Role,
+    phase: Phase,
+    window: SendWindow<Mod8>,
+    receive: RecvWindow<Mod8>,
+    queue: Queue,
+    n2: u8,
+    polls: u8,
+    heard: bool,
+    owed: bool,
+    rejecting: bool,
+    busy: bool,
+    polling: bool,
+    bit: bool,
+    repeats: bool,
+    report: Rejection,
+}
+
+impl Model for Link {
+    ghost use Rattle.lapb.specs.Machine as machine;
+
+    ghost Value = { machine.Link };
+
+    ghost use Rattle.lapb.specs.LinkView.{link_of, IsLink};
+
+    ghost view = { link_of };
+
+    ghost invariant = { IsLink };
+}
+
+impl Link {
+    /// A link that was never set up, or on a standing line one that is up.
+    ///
+    /// `BadParams` comes where `k` is not from 1 to 7 or `n2` not from 1 to 20.
+    pub fn new(role: Role, params: LinkParams) -> Result<Link, BadParams>
+        ensures { MatchResult result
+            (λ link. AreParams params.k params.n2 × (link ≡ machine.new role params.k params.n2 params.standing))
+            (λ _. AreParams params.k params.n2 → ⊥) }
+    {
+        let LinkParams { k, n2, standing } = params;
+        if k < 1 || k > 7 || n2 < 1 || n2 > 20 {
+            return Err(BadParams);
+        }
+        Ok(Link {
+            role,
+            phase: if standing { Phase::Up } else { Phase::Down },
+            window: SendWindow::new(k),
+            receive: RecvWindow::new(),
+            queue: Queue::new(),
+            n2,
+            polls: 0,
+            heard: standing,
+            owed: false,
+            rejecting: false,
+            busy: false,
+            polling: false,
+            bit: false,
+            repeats: false,
+            report: Rejection {
+                control: 0,
+                vs: 0,
+                vr: 0,
+                response: false,
+                w: false,
+                x: false,
+                y: false,
+                z: false,
+            },
+        })
+    }
+}

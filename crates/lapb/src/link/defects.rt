@@ -1,0 +1,103 @@
+//! Octets that are no frame (X.25 2.4.6, 2.4.7.3).
+ghost use Rattle.std.specs.Prelude.{◌≡◌, ◌<◌, length, true};
+ghost use Rattle.link_timers.specs.Role.{other_of};
+ghost use Rattle.frame_codec.specs.Spelling.{address_of};
+ghost use Rattle.frame_codec.specs.Views.{report_of};
+ghost use Rattle.lapb.specs.Machine as machine;
+ghost use Rattle.lapb.specs.Octets.{on_fault, on_octets};
+ghost use Rattle.lapb.specs.Defects.{defect_of};
+ghost use Rattle.lapb.specs.Out.{effect_of};
+
+use crate::effect::Effect;
+use crate::link::Link;
+use crate::link::setting::Reason;
+use crate::phase::Phase;
+use frame_codec::{FrameFault, Rejection, read_frame};
+use link_timers::Role;
+
+/// Why a frame of this line could not be read.
+#[derive(Clone, Copy)]
+pub(crate) enum Defect {
+    UndefinedControl,
+    InformationNotAllowed,
+    InformationTooLong,
+}
+
+impl Link {
+    ghost use Rattle.lapb.specs.LinkView.{IsReport};
+
+    pub(crate) fn take_octets<'a>(&mut self, bytes: &'a [u8]) -> Effect<'a>
+        ensures link { self.new ≡ (on_octets self.old bytes.now).link }
+        ensures effect { result ≡ effect_of (on_octets self.old bytes.now) }
+    {
+        match read_frame(bytes, self.role) {
+            Ok(frame) => return self.take_frame(&frame),
+            Err(fault) => self.take_fault(fault, bytes),
+        }
+    }
+
+    fn take_fault(&mut self, fault: FrameFault, bytes: &[u8]) -> Effect<'static>
+        requires { length bytes.now < 2 → fault ≡ FrameFault.TooShort }
+        ensures link { self.new ≡ (on_fault self.old fault bytes.now).link }
+        ensures effect { result ≡ effect_of (on_fault self.old fault bytes.now) }
+    {
+        let [address, control, ..] = bytes else {
+            return Effect::nothing();
+        };
+        let is_response = *address == self.response_address();
+        match fault {
+            FrameFault::TooShort | FrameFault::WrongAddress => Effect::nothing(),
+            FrameFault::UnknownControl => self.take_defect(
+                Defect::UndefinedControl,
+                *control,
+                is_response,
+            ),
+            FrameFault::InfoNotAllowed => self.take_defect(
+                Defect::InformationNotAllowed,
+                *control,
+                is_response,
+            ),
+            FrameFault::InfoTooLong => self.take_defect(
+                Defect::InformationTooLong,
+                *control,
+                is_response,
+            ),
+        }
+    }
+
+    // The address octet of the responses that this end receives.
+    fn response_address(&self) -> u8
+        ensures { result ≡ address_of (other_of self.now.role) true }
+    {
+        match self.role {
+            Role::Dte => 0x01,
+            Role::Dce => 0x03,
+        }
+    }
+
+    // A frame whose control octet or information field cannot be taken.
+    fn take_defect(&mut self, defect: Defect, control: u8, is_response: bool) -> Effect<'static>
+        ensures link { self.new ≡ (machine.on_defect self.old (defect_of defect) control is_response).link }
+        ensures effect { result ≡ effect_of (machine.on_defect self.old (defect_of defect) control is_response) }
+    {
+        match self.phase {
+            Phase::Up => {
+                let report = self.defect_report(defect, control, is_response);
+                self.reject(report, control >> 4 & 1 == 1 && !is_response)
+            }
+            Phase::Down | Phase::SettingUp | Phase::Rejecting => Effect::nothing(),
+        }
+    }
+
+    fn defect_report(&self, defect: Defect, control: u8, is_response: bool) -> Rejection
+        ensures value { report_of result ≡ machine.defect_report self.now (defect_of defect) control is_response }
+        ensures valid { IsReport result }
+    {
+        let (w, x, y) = match defect {
+            Defect::UndefinedControl => (true, false, false),
+            Defect::InformationNotAllowed => (true, true, false),
+            Defect::InformationTooLong => (false, false, true),
+        };
+        self.report_on(control, is_response, Reason { w, x, y, z: false })
+    }
+}

@@ -1,0 +1,21 @@
+/// What a call tells the packet layer of the link.
+#[derive(Clone, Copy, Debug, PartialEq, Eq)]
+pub enum Note {
+    /// The link stands where it stood.
+    Nothing,
+    /// A new session has begun, also where the link was up before.
+    Up,
+    /// The link has left the information transfer phase.
+    Down,
+}
+
+/// What becomes of T1 (X.25 2.4.8.1).
+#[derive(Clone, Copy, Debug, PartialEq, Eq)]
+pub enum Timing {
+    /// It goes on as it is, running or not.
+    Keep,
+    /// It starts anew, whether it runs or not.
+    Start,
+    /// It stops, where it runs.
+    Stop,
+}

@@ -1,0 +1,158 @@
+ghost use Rattle.std.specs.Prelude.{◌≡◌, ◌∷◌, ◌++◌, [], length, map, false, ◌≤◌};
+ghost use Rattle.frame_codec.specs.Spelling.{spelling, HasSpelling};
+ghost use Rattle.frame_codec.specs.Views.{value_of};
+ghost use Rattle.lapb.specs.Out.{no_out, with_frames, with_effect, timing_by, AreSpelt};
+ghost use Rattle.lapb.specs.EffectView.{frames_value};
+ghost use Rattle.lapb.specs.Machine.{timing_after};
+
+use crate::effect::Effect;
+use crate::note::{Note, Timing};
+use arrayvec::ArrayVec;
+use frame_codec::{Frame, FrameBuf, write_frame};
+use link_timers::Role;
+use std::marker::Model;
+
+/// What the calls of a link give: up to nine frames in order, the note and whether a packet was accepted by the last
+/// call, and what becomes of T1.
+///
+/// The packet that is accepted is the information field of the I frame that was taken: its octets from the third on.
+#[derive(Drop)]
+pub struct LinkOut {
+    frames: ArrayVec<FrameBuf, 9>,
+    note: Note,
+    accepted: bool,
+    timer: Timing,
+}
+
+impl Model for LinkOut {
+    ghost use Rattle.lapb.specs.Out as out;
+
+    ghost Value = { out.Out };
+
+    ghost use Rattle.std.specs.Prelude.{◌≤◌, length};
+    ghost use Rattle.lapb.specs.OutView.{out_of};
+
+    ghost view = { out_of };
+
+    ghost invariant = { λ a. length a.frames.items ≤ 9 };
+}
+
+impl LinkOut {
+    /// Nothing is to be done.
+    pub fn new() -> Self
+        ensures { result ≡ no_out }
+    {
+        LinkOut {
+            frames: ArrayVec::new(),
+            note: Note::Nothing,
+            accepted: false,
+            timer: Timing::Keep,
+        }
+    }
+
+    /// Forgets all, before the next event.
+    pub fn clear(&mut self)
+        ensures { self.new ≡ no_out }
+    {
+        self.frames.clear();
+        self.note = Note::Nothing;
+        self.accepted = false;
+        self.timer = Timing::Keep;
+    }
+
+    /// The frames that are to be sent, in order.
+    pub fn frames(&self) -> &[FrameBuf]
+        ensures value { result.now ≡ self.now.frames }
+        ensures most { length result.now ≤ 9 }
+    {
+        self.frames.as_slice()
+    }
+
+    /// What the last call tells of the link.
+    pub fn note(&self) -> Note
+        ensures { result ≡ self.now.note }
+    {
+        self.note
+    }
+
+    /// Whether the information field of the frame that the last call took is the next packet.
+    pub fn accepted(&self) -> bool
+        ensures { result ≡ self.now.accepted }
+    {
+        self.accepted
+    }
+
+    /// What becomes of T1 by all calls since the last clearing.
+    pub fn timer(&self) -> Timing
+        ensures { result ≡ self.now.timer }
+    {
+        self.timer
+    }
+
+    /// Adds what a rule did at an end of this role. T1 ran before it, and is to run now.
+    pub(crate) fn add(&mut self, role: Role, ran: bool, runs: bool, effect: Effect<'_>)
+        ensures { self.new ≡ with_effect self.old role ran runs effect.entry }
+    {
+        let Effect {
+            frame,
+            note,
+            accepted,
+            anew,
+        } = effect;
+        self.put_any(role, frame);
+        self.note = note;
+        self.accepted = accepted.is_some();
+        self.set_timer(ran, runs, anew);
+    }
+
+    fn put_any(&mut self, role: Role, frame: Option<Frame<'static>>)
+        requires { AreSpelt (frames_value frame) }
+        ensures { self.new ≡ record self.old { frames = with_frames self.old.frames (map (spelling role) (frames_value frame.entry)) } }
+    {
+        match frame {
+            Some(frame) => self.put(role, &frame),
+            None => self.put_none(),
+        }
+    }
+
+    /// Appends no frame.
+    pub(crate) fn put_none(&self)
+        ensures { with_frames self.now.frames [] ≡ self.now.frames }
+    {
+        let _ = self.frames.len();
+    }
+
+    /// Ends a call that tells nothing of the link. T1 ran before it, and is to run now.
+    pub(crate) fn end(&mut self, ran: bool, runs: bool)
+        ensures { self.new ≡ record self.old { note = Note.Nothing; accepted = false; timer = timing_after self.old.timer (timing_by ran runs false) } }
+    {
+        self.note = Note::Nothing;
+        self.accepted = false;
+        self.set_timer(ran, runs, false);
+    }
+
+    /// What becomes of T1, which ran before or not and is to run now or not, perhaps anew.
+    pub(crate) fn set_timer(&mut self, ran: bool, runs: bool, anew: bool)
+        ensures { self.new ≡ record self.old { timer = timing_after self.old.timer (timing_by ran runs anew) } }
+    {
+        if !runs {
+            self.timer = Timing::Stop;
+        } else if anew || !ran {
+            self.timer = Timing::Start;
+        }
+    }
+
+    /// Appends a frame. A tenth one is dropped, as a lost frame.
+    pub(crate) fn put(&mut self, role: Role, frame: &Frame<'_>)
+        requires { HasSpelling (value_of frame.now) }
+        ensures out { self.new ≡ record self.old { frames = with_frames self.old.frames (spelling role (value_of frame.now) ∷ []) } }
+        ensures most { length self.new.frames ≤ 9 }
+    {
+        if self.frames.is_full() {
+            return;
+        }
+        let mut octets = FrameBuf::new();
+        write_frame(frame, role, &mut octets);
+        self.frames.push(octets);
+    }
+}

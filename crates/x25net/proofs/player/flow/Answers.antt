@@ -1,0 +1,17 @@
+use Rattle.std.proofs.Common.{arith, ◌≤◌, ◌<◌, ◌≡◌, sym}
+use Rattle.x25net.specs.Playing.Flows.{last}
+use Rattle.x25net.proofs.Turns.{writes_append}
+use Rattle.x25net.proofs.Deliveries.{flow_onward}
+use Rattle.x25net.proofs.player.flow.Goals as goal
+
+pub returns-then-still_left-left : goal.returns-then-still_left-left
+returns-then-still_left-left g c =
+    writes_append _ _ _ (λ told text onward passed. onward text _ (last passed c.if-still_left-left.true))
+    c.loop-still_left.invariant c.in_ok-still_left.ensures.passes
+
+pub loop-still_left-preserved : goal.loop-still_left-preserved
+loop-still_left-preserved g c =
+    let at_most : c.in_ok-still_left.still_left ≤ c.loop-still_left.left = c.in_ok-still_left.ensures.at_most in
+    let fewer : c.in_ok-still_left.still_left < c.loop-still_left.left = omega arith in
+    writes_append _ _ _ (λ told text onward passed. flow_onward told text onward passed fewer)
+    c.loop-still_left.invariant c.in_ok-still_left.ensures.passes

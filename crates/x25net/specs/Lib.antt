@@ -1,0 +1,4 @@
+pub mod Answers
+pub mod InTurn
+pub mod Playing
+pub mod Cuts

@@ -1,0 +1,103 @@
+-- What a script makes of a network, and what is printed.
+use Rattle.std.specs.Prelude.{◌≡◌, ◌≢◌, ℕ, zero, suc, ◌+◌, ◌<◌, Bool, true, false, List, [], ◌∷◌, ◌++◌, Option, Result, Ok, Err, codes}
+use Rattle.line_sim.specs.declared.line.Direction.TheVariants.{FromDte, FromDce}
+use Rattle.line_sim.specs.declared.event.Event.{Event}
+use Rattle.line_sim.specs.declared.event.Event.TheVariants.{Deliver}
+use Rattle.line_sim.specs.declared.event.Outcome.{Outcome}
+use Rattle.line_sim.specs.declared.event.Outcome.TheVariants.{Delivered}
+use Rattle.line_sim.specs.declared.event.Answer.{Answer}
+use Rattle.line_sim.specs.declared.event.StepFault.{StepFault}
+use Rattle.line_sim.specs.declared.event.StepFault.TheVariants.{OutOfMemory}
+use Rattle.line_sim.specs.declared.config.Config.{Config}
+use Rattle.line_sim.specs.Plan.{IsMade}
+use Rattle.line_sim.specs.NetState.{NetState, net_rests}
+use Rattle.line_sim.specs.Runs.{Happens}
+use Rattle.x25net.specs.declared.script.Command.{Command}
+use Rattle.x25net.specs.declared.script.Command.TheVariants.{Events, Flow}
+use Rattle.x25net.specs.declared.script.Script.{Script}
+use Rattle.x25net.specs.Answers.{Names, answer_text}
+use Rattle.x25net.specs.InTurn.{InTurn, Writes}
+
+-- whether a frame arrived
+abbrev pub has_arrived : Outcome → Bool
+has_arrived (Delivered arrived) = arrived
+has_arrived o = false
+
+abbrev pub brought_frame : Result Answer StepFault → Bool
+brought_frame (Ok answer) = has_arrived answer.outcome
+brought_frame (Err refusal) = false
+
+-- the event happens, not refused for want of memory, this is the text of its answer, and it brought a frame or not
+pub record Tells (F : Type 0) (names : Names) (arrived : Bool) (e : Event)
+    (s : NetState) (text : List ℕ) (t : NetState) : Type 0 where
+  pub answer : Result Answer StepFault
+  pub happens : Happens F e s answer t
+  pub had_memory : answer ≢ Err OutOfMemory
+  pub told : text ≡ answer_text names e answer
+  pub came : arrived ≡ brought_frame answer
+
+-- the same, whether it brought a frame or not
+pub record TellsEvent (F : Type 0) (names : Names) (e : Event) (s : NetState) (text : List ℕ) (t : NetState) : Type 0 where
+  pub arrived : Bool
+  pub tells : Tells F names arrived e s text t
+
+-- a network in a flow, and how many frames may still be delivered
+pub record Flowing : Type 0 where
+  pub left : ℕ
+  pub net : NetState
+
+-- a delivery in a flow: none where no more may be delivered, and one that brings a frame counts
+pub data Delivers (F : Type 0) (names : Names) : Event → Flowing → List ℕ → Flowing → Type 0 where
+  at_limit : {e : Event} {s : NetState}
+      → Delivers F names e (record { left = 0; net = s }) [] (record { left = 0; net = s })
+  arrives : {e : Event} {left : ℕ} {s t : NetState} {text : List ℕ}
+      → Tells F names true e s text t
+      → Delivers F names e (record { left = suc left; net = s }) text (record { left = left; net = t })
+  finds_none : {e : Event} {left : ℕ} {s t : NetState} {text : List ℕ}
+      → Tells F names false e s text t
+      → Delivers F names e (record { left = suc left; net = s }) text (record { left = suc left; net = t })
+
+-- deliveries on a number of lines, from this one on: on each line one from the DTE and one from the DCE
+abbrev pub deliveries_from : ℕ → ℕ → List Event
+deliveries_from line zero = []
+deliveries_from line (suc lines) = Deliver line FromDte ∷ Deliver line FromDce ∷ deliveries_from (line + 1) lines
+
+-- a pass over the lines in order
+abbrev pub Passes : (F : Type 0) → Names → (lines : ℕ) → Flowing → List ℕ → Flowing → Type 0
+Passes F names lines s text t = InTurn Event Flowing (Delivers F names) (deliveries_from 0 lines) s text t
+
+-- passes, until one brings no frame
+pub data Flows (F : Type 0) (names : Names) (lines : ℕ) : Flowing → List ℕ → NetState → Type 0 where
+  last : {s t : Flowing} {text : List ℕ}
+      → Passes F names lines s text t → t.left ≡ s.left → Flows F names lines s text t.net
+  again : {s mid : Flowing} {first rest : List ℕ} {t : NetState}
+      → Passes F names lines s first mid → mid.left < s.left → Flows F names lines mid rest t
+      → Flows F names lines s (first ++ rest) t
+
+-- what a command does: its events happen in order, or at most 100,000 frames flow
+abbrev pub DoesCommand : (F : Type 0) → Names → (lines : ℕ) → Command → NetState → List ℕ → NetState → Type 0
+DoesCommand F names lines (Events events) s text t = InTurn Event NetState (TellsEvent F names) events.items s text t
+DoesCommand F names lines Flow s text t = Flows F names lines (record { left = 100000; net = s }) text t
+
+-- the last line
+abbrev pub end_line : (at_rest : Bool) → List ℕ
+end_line true = codes "end rest" ++ 10 ∷ []
+end_line false = codes "end busy" ++ 10 ∷ []
+
+-- the commands are done in order, and then comes the last line
+pub record Plays (F : Type 0) (script : Script) (s : NetState) (text : List ℕ) (t : NetState) : Type 0 where
+  pub told : List ℕ
+  pub at_rest : Bool
+  pub commands :
+      InTurn Command NetState (DoesCommand F script.names.items script.lines) script.commands.items s told t
+  pub rest : F → at_rest ≡ net_rests t
+  pub whole : text ≡ told ++ end_line at_rest
+
+-- a network was made, on faithful lines, a script played on it, and its text written behind what was known to be written
+pub record PlaysSome (before after : Option (List ℕ)) : Type 0 where
+  pub config : Config
+  pub start : NetState
+  pub made : IsMade (Unit {0}) config start
+  pub script : Script
+  pub ended : NetState
+  pub writes : Writes before after (λ text. Plays (Unit {0}) script start text ended)

@@ -1,0 +1,42 @@
+//! An X.25 network of PADs, hosts and switches, driven by a script.
+#![tactic(auto)]
+
+mod answer;
+mod fault;
+mod network;
+mod player;
+mod program;
+mod script;
+mod settings;
+#[cfg(test)]
+mod tests;
+mod words;
+
+use std::process::ExitCode;
+use std::{env, io};
+
+fn main(rt: HostRuntime) -> ExitCode {
+    let words = match read_arguments(&rt) {
+        Ok(words) => words,
+        Err(_) => return ExitCode::from(2),
+    };
+    let mut out = io::writer(&rt);
+    let mut err = rt.stderr();
+    let status = program::perform(
+        rt.alloc(),
+        words.as_slice(),
+        &mut rt.reader(),
+        &mut out,
+        &mut err,
+    );
+    ExitCode::from(status)
+}
+
+/// The command words, without the program's name.
+fn read_arguments(rt: &HostRuntime) -> io::Result<Vec<String>> {
+    let mut words = Vec::new(rt.alloc());
+    for word in env::args(rt)?.skip(1) {
+        words.push(word)?;
+    }
+    Ok(words)
+}

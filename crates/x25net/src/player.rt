@@ -1,0 +1,191 @@
+//! The player: does what a script says, and prints the answers.
+ghost use Rattle.std.specs.Prelude.{◌≡◌, ◌≤◌, OnOk, IfOk};
+ghost use Rattle.std.specs.Io.KnownBytes.{Appends};
+ghost use Rattle.line_sim.specs.declared.event.Event.{Event};
+ghost use Rattle.line_sim.specs.NetState.{NetState};
+ghost use Rattle.x25net.specs.InTurn.{InTurn, Writes};
+ghost use Rattle.x25net.specs.Playing.{has_arrived, Tells, TellsEvent, Delivers, Passes, Flows};
+ghost use Rattle.x25net.specs.Playing.{DoesCommand, Plays, end_line};
+
+use crate::answer::{outcome_text, refusal_text};
+use crate::fault::ProgFault;
+use crate::script::{Command, Script};
+use line_sim::{Direction, Event, Line, Net, Outcome, StepFault};
+use std::alloc::Global;
+use std::io::Write;
+
+/// How many frames a `flow` delivers at most.
+const FLOW_LIMIT: u32 = 100_000;
+
+/// Plays a script on a network, and prints the answer to each event, and at the end whether the network is at rest.
+pub fn play<L: Line, W: Write>(
+    alloc: Global,
+    net: &mut Net<L>,
+    script: &Script,
+    out: &mut W,
+) -> Result<(), ProgFault>
+    ensures { OnOk result (Writes (W.contents out.old) (W.contents out.new)
+        (λ text. Plays L.faithful script.now net.old text net.new)) }
+{
+    for command in &script.commands {
+        play_command(alloc, net, script, command, out)?;
+    }
+    write(out, end_line(net.at_rest()))?;
+    Ok(())
+}
+
+/// The last line.
+fn end_line(at_rest: bool) -> &'static str
+    ensures { result.now ≡ end_line at_rest }
+{
+    if at_rest { "end rest\n" } else { "end busy\n" }
+}
+
+fn play_command<L: Line, W: Write>(
+    alloc: Global,
+    net: &mut Net<L>,
+    script: &Script,
+    command: &Command,
+    out: &mut W,
+) -> Result<(), ProgFault>
+    ensures { OnOk result (Writes (W.contents out.old) (W.contents out.new)
+        (λ text. DoesCommand L.faithful script.now.names.items script.now.lines command.now net.old text net.new)) }
+{
+    let names = script.names.as_slice();
+    match command {
+        Command::Events(events) => play_events(alloc, net, names, events.as_slice(), out),
+        Command::Flow => flow(alloc, net, names, script.lines, out),
+    }
+}
+
+fn play_events<L: Line, W: Write>(
+    alloc: Global,
+    net: &mut Net<L>,
+    names: &[String],
+    events: &[Event],
+    out: &mut W,
+) -> Result<(), ProgFault>
+    ensures { OnOk result (Writes (W.contents out.old) (W.contents out.new)
+        (λ text. InTurn Event NetState (TellsEvent L.faithful names.now) events.now net.old text net.new)) }
+{
+    for event in events {
+        play_event(alloc, net, names, event, out)?;
+    }
+    Ok(())
+}
+
+/// Delivers frames, pass after pass over the lines, until a pass brings none.
+fn flow<L: Line, W: Write>(
+    alloc: Global,
+    net: &mut Net<L>,
+    names: &[String],
+    lines: usize,
+    out: &mut W,
+) -> Result<(), ProgFault>
+    ensures { OnOk result (Writes (W.contents out.old) (W.contents out.new)
+        (λ text. Flows L.faithful names.now lines (record { left = 100000; net = net.old }) text net.new)) }
+{
+    let mut left = FLOW_LIMIT;
+    loop {
+        let still_left = pass(alloc, net, names, lines, left, out)?;
+        if still_left == left {
+            return Ok(());
+        }
+        left = still_left;
+    }
+}
+
+/// Delivers at most one frame from each end of each line, in order, and gives how many may then still be delivered.
+fn pass<L: Line, W: Write>(
+    alloc: Global,
+    net: &mut Net<L>,
+    names: &[String],
+    lines: usize,
+    left: u32,
+    out: &mut W,
+) -> Result<u32, ProgFault>
+    ensures passes { IfOk result (λ still_left. Writes (W.contents out.old) (W.contents out.new)
+        (λ text. Passes L.faithful names.now lines
+        (record { left = left; net = net.old }) text (record { left = still_left; net = net.new }))) }
+    ensures at_most { IfOk result (λ still_left. still_left ≤ left) }
+{
+    let mut still_left = left;
+    for line in 0..lines {
+        let from_dte = Event::Deliver {
+            line,
+            direction: Direction::FromDte,
+        };
+        still_left = deliver(alloc, net, names, &from_dte, still_left, out)?;
+        let from_dce = Event::Deliver {
+            line,
+            direction: Direction::FromDce,
+        };
+        still_left = deliver(alloc, net, names, &from_dce, still_left, out)?;
+    }
+    Ok(still_left)
+}
+
+/// Delivers a frame where there is one and it may still be delivered, and gives how many may then still be.
+fn deliver<L: Line, W: Write>(
+    alloc: Global,
+    net: &mut Net<L>,
+    names: &[String],
+    delivery: &Event,
+    left: u32,
+    out: &mut W,
+) -> Result<u32, ProgFault>
+    ensures delivers { IfOk result (λ still_left. Writes (W.contents out.old) (W.contents out.new)
+        (λ text. Delivers L.faithful names.now delivery.now
+        (record { left = left; net = net.old }) text (record { left = still_left; net = net.new }))) }
+    ensures at_most { IfOk result (λ still_left. still_left ≤ left) }
+{
+    if left == 0 {
+        return Ok(0);
+    }
+    if play_event(alloc, net, names, delivery, out)? {
+        Ok(left - 1)
+    } else {
+        Ok(left)
+    }
+}
+
+/// One event: prints its answer, and gives whether a frame arrived.
+fn play_event<L: Line, W: Write>(
+    alloc: Global,
+    net: &mut Net<L>,
+    names: &[String],
+    event: &Event,
+    out: &mut W,
+) -> Result<bool, ProgFault>
+    ensures { IfOk result (λ arrived. Writes (W.contents out.old) (W.contents out.new)
+        (λ text. Tells L.faithful names.now arrived event.now net.old text net.new)) }
+{
+    match net.step(event) {
+        Ok(answer) => {
+            let text = outcome_text(alloc, names, event, &answer.outcome)?;
+            write(out, text.as_str())?;
+            Ok(has_arrived(&answer.outcome))
+        }
+        Err(StepFault::OutOfMemory) => Err(ProgFault::OutOfMemory),
+        Err(fault) => {
+            write(out, refusal_text(fault))?;
+            Ok(false)
+        }
+    }
+}
+
+/// Whether a frame arrived.
+fn has_arrived(outcome: &Outcome) -> bool
+    ensures { result ≡ has_arrived outcome.now }
+{
+    matches!(outcome, Outcome::Delivered(true))
+}
+
+fn write<W: Write>(out: &mut W, text: &str) -> Result<(), ProgFault>
+    ensures { OnOk result (Appends (W.contents out.old) (W.contents out.new) text.now) }
+{
+    match out.write_all(text.as_bytes()) {
+        Ok(()) => Ok(()),
+        Err(_) => Err(ProgFault::Write),
+    }
+}

@@ -1,0 +1,71 @@
+//! The program.
+ghost use Rattle.std.specs.Prelude.{◌≡◌, ◌≢◌, ◌↔◌, [], OnOk};
+ghost use Rattle.x25net.specs.Playing.{PlaysSome};
+
+use crate::fault::ProgFault;
+use crate::network::{FIRST, read_net};
+use crate::player::play;
+use crate::script::read_script;
+use line_sim::{Net, mem_lines};
+use std::alloc::Global;
+use std::io;
+use std::io::{Read, Write};
+
+/// How many octets a script has at most.
+const TEXT_OCTETS: u64 = 1_048_576;
+
+/// The status of a run that went to its end, of one that a fault ended, and of one with bad words.
+const DONE: u8 = 0;
+
+const FAULT: u8 = 1;
+
+const BAD_WORDS: u8 = 2;
+
+/// The program, on these command words, which must be none: plays the script that the input has on the built-in
+/// network, and gives the status to end with. A fault, and that the words are bad, is told on `err`.
+pub fn perform<R: Read, W: Write, E: Write>(
+    alloc: Global,
+    words: &[String],
+    input: &mut R,
+    out: &mut W,
+    err: &mut E,
+) -> u8
+    ensures words { (result ≡ BAD_WORDS) ↔ (words.now ≢ []) }
+    ensures done { result ≡ DONE → PlaysSome (W.contents out.old) (W.contents out.new) }
+    ensures unread { words.now ≢ [] → W.contents out.new ≡ W.contents out.old }
+{
+    if !words.is_empty() {
+        let _ = writeln!(err, "bad words");
+        return BAD_WORDS;
+    }
+    match run(alloc, input, out) {
+        Ok(()) => DONE,
+        Err(fault) => {
+            let _ = writeln!(err, "{fault}");
+            FAULT
+        }
+    }
+}
+
+/// Reads the script, makes the network and plays.
+fn run<R: Read, W: Write>(alloc: Global, input: &mut R, out: &mut W) -> Result<(), ProgFault>
+    ensures { OnOk result (PlaysSome (W.contents out.old) (W.contents out.new)) }
+{
+    let config = read_net(alloc, FIRST)?;
+    let text = read_all(alloc, input)?;
+    let script = read_script(alloc, text.as_slice(), &config)?;
+    let lines = mem_lines(alloc, config.lines.len())?;
+    let mut net = Net::new(alloc, &config, lines)?;
+    play(alloc, &mut net, &script, out)?;
+    Ok(())
+}
+
+/// Reads all of the input, of at most 1,048,576 octets.
+fn read_all<R: Read>(alloc: Global, input: &mut R) -> Result<Vec<u8>, ProgFault> {
+    let mut text = Vec::new(alloc);
+    match input.by_ref().take(TEXT_OCTETS + 1).read_to_end(&mut text) {
+        Ok(count) if count as u64 <= TEXT_OCTETS => Ok(text),
+        Err(error) if error.kind() == io::ErrorKind::OutOfMemory => Err(ProgFault::OutOfMemory),
+        _ => Err(ProgFault::File),
+    }
+}

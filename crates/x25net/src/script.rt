@@ -1,0 +1,123 @@
+//! Scripts: a text of one command a line, read for a network.
+ghost use Rattle.std.specs.Prelude.{◌≡◌, IfOk, vec_len};
+
+use crate::fault::ProgFault;
+use crate::words::{LineFault, Words, cut, read_text};
+use line_sim::{Config, Direction, Event};
+use std::alloc::{AllocError, Global};
+
+/// What a line of a script asks for.
+#[derive(Drop)]
+pub enum Command {
+    /// These events, one after the other.
+    Events(Vec<Event>),
+    /// Frames are delivered, line after line, until none is in flight.
+    Flow,
+}
+
+/// A script, read for a network: the names of the network's nodes, how many lines it has, and the commands.
+#[derive(Drop)]
+pub struct Script {
+    pub names: Vec<String>,
+    pub lines: usize,
+    pub commands: Vec<Command>,
+}
+
+/// Reads a script for a network: a command a line, of words that one space parts. Empty lines are skipped.
+///
+/// `Script` with the number of the first line that is no command, counted from 1: the word is unknown, words are missing
+/// or too many, a node has no such name, a number is not 0 to 65,535, or a text has a backslash that begins no octet.
+/// What a number means, as of a terminal or a channel, is tested when the event comes.
+pub fn read_script(alloc: Global, text: &[u8], config: &Config) -> Result<Script, ProgFault>
+    ensures lines { IfOk result (λ script. script.lines ≡ vec_len config.now.lines) }
+{
+    let names = names_of(alloc, config)?;
+    let mut commands = Vec::new(alloc);
+    let mut rest = Some(text);
+    let mut number = 0usize;
+    while let Some(lines) = rest {
+        let (line, others) = cut(lines, b'\n');
+        number += 1;
+        if !line.is_empty() {
+            match read_line(alloc, line, names.as_slice()) {
+                Ok(command) => commands.push(command)?,
+                Err(LineFault::NotACommand) => return Err(ProgFault::Script(number)),
+                Err(LineFault::OutOfMemory) => return Err(ProgFault::OutOfMemory),
+            }
+        }
+        rest = others;
+    }
+    Ok(Script {
+        names,
+        lines: config.lines.len(),
+        commands,
+    })
+}
+
+/// The names of a network's nodes.
+fn names_of(alloc: Global, config: &Config) -> Result<Vec<String>, AllocError> {
+    let mut names = Vec::new(alloc);
+    for node in &config.nodes {
+        names.push(node.name.clone()?)?;
+    }
+    Ok(names)
+}
+
+fn read_line(alloc: Global, line: &[u8], names: &[String]) -> Result<Command, LineFault> {
+    let mut words = Words::new(line);
+    match words.next_word()? {
+        b"key" => read_keys(alloc, words, names),
+        b"take" => {
+            let event = read_take(words, names)?;
+            Ok(Command::Events(vec![in alloc; event]?))
+        }
+        b"deliver" => {
+            let event = read_delivery(words)?;
+            Ok(Command::Events(vec![in alloc; event]?))
+        }
+        b"flow" => {
+            words.end()?;
+            Ok(Command::Flow)
+        }
+        _ => Err(LineFault::NotACommand),
+    }
+}
+
+/// `key NODE TERM TEXT`: a key for each octet of the text.
+fn read_keys(alloc: Global, words: Words<'_>, names: &[String]) -> Result<Command, LineFault> {
+    let mut words = words;
+    let node = words.node(names)?;
+    let terminal = words.number()?;
+    let text = read_text(alloc, words.text())?;
+    let mut events = Vec::new(alloc);
+    for octet in &text {
+        events.push(Event::Key {
+            node,
+            terminal,
+            octet: *octet,
+        })?;
+    }
+    Ok(Command::Events(events))
+}
+
+/// `take NODE CH`.
+fn read_take(words: Words<'_>, names: &[String]) -> Result<Event, LineFault> {
+    let mut words = words;
+    let node = words.node(names)?;
+    let channel = words.number()?;
+    words.end()?;
+    Ok(Event::Take { node, channel })
+}
+
+/// `deliver LINE >` or `deliver LINE <`.
+fn read_delivery(words: Words<'_>) -> Result<Event, LineFault> {
+    let mut words = words;
+    let line = usize::from(words.number()?);
+    let direction = match words.next_word()? {
+        b">" => Direction::FromDte,
+        b"<" => Direction::FromDce,
+        _ => return Err(LineFault::NotACommand),
+    };
+    words.end()?;
+    Ok(Event::Deliver { line, direction })
+}
