@@ -24,8 +24,8 @@ pub data Events : Type 0 where
   Packets : List PacketType → Events
   AnyOtherPacket : Events
 
--- a row: the role that has it, or none where both have it; states, events; new state, packet owed, note, and whether the
--- event is a procedure error
+-- a row: the role that has it, or none where both have it; states, events; new state, packet owed, note, and whether
+-- the event is a procedure error
 pub record Row : Type 0 where
   pub only : Option Role
   pub states : List Place

@@ -1,7 +1,7 @@
 //! The state table of call set-up and clearing.
 
 ghost use Rattle.std.specs.Prelude.{◌≡◌, ◌↔◌, IsTrue, IsSome};
-ghost use Rattle.call_states.specs.Places.{state_of};
+ghost use Rattle.call_states.specs.Places.{place_of, state_of};
 ghost use Rattle.call_states.specs.Places.Place.{Ready, OwnWaiting, FarWaiting, DataTransfer, CallCollision, OwnClear};
 ghost use Rattle.call_states.specs.Table.{call_step, diagnostic_of, step_at, step_of};
 
@@ -68,23 +68,11 @@ impl CallState {
     /// Annex C, table C-3).
     pub fn step(role: Role, state: CallState, event: CallEvent) -> CallStep
         requires { IsSome (step_of role state event) }
-        ensures { step_of role state event ≡ Some result }
+        ensures row { step_of role state event ≡ Some result }
+        // The state in which the other end clears is never entered.
+        ensures kept { IsSome (place_of role result.state) }
     {
-        match (role, state) {
-            (_, CallState::Ready) => in_ready(role, event),
-            (Role::Dte, CallState::DteWaiting) | (Role::Dce, CallState::DceWaiting) => {
-                in_own_waiting(role, event)
-            }
-            (Role::Dte, CallState::DceWaiting) | (Role::Dce, CallState::DteWaiting) => {
-                in_far_waiting(role, event)
-            }
-            (_, CallState::DataTransfer) => in_data_transfer(role, event),
-            (_, CallState::CallCollision) => in_collision(role, event),
-            (Role::Dte, CallState::DteClear) | (Role::Dce, CallState::DceClear) => {
-                in_own_clear(role, event)
-            }
-            (Role::Dte, CallState::DceClear) | (Role::Dce, CallState::DteClear) => unreachable!(),
-        }
+        met(role, state, event)
     }
 
     /// Whether the user of this end may call, accept or clear in this state: whether the table has a row for it.
@@ -104,6 +92,28 @@ impl CallState {
                     || self == CallState::CallCollision
             }
         }
+    }
+}
+
+// The step of the row that the event meets.
+fn met(role: Role, state: CallState, event: CallEvent) -> CallStep
+    requires { IsSome (step_of role state event) }
+    ensures { step_of role state event ≡ Some result }
+{
+    match (role, state) {
+        (_, CallState::Ready) => in_ready(role, event),
+        (Role::Dte, CallState::DteWaiting) | (Role::Dce, CallState::DceWaiting) => {
+            in_own_waiting(role, event)
+        }
+        (Role::Dte, CallState::DceWaiting) | (Role::Dce, CallState::DteWaiting) => {
+            in_far_waiting(role, event)
+        }
+        (_, CallState::DataTransfer) => in_data_transfer(role, event),
+        (_, CallState::CallCollision) => in_collision(role, event),
+        (Role::Dte, CallState::DteClear) | (Role::Dce, CallState::DceClear) => {
+            in_own_clear(role, event)
+        }
+        (Role::Dte, CallState::DceClear) | (Role::Dce, CallState::DteClear) => unreachable!(),
     }
 }
 

@@ -11,5 +11,4 @@ pub fn match_laws()
     ensures opens { IsKeptByOpening }
     ensures both_open { IsKeptByBothOpening }
     ensures aligned { AlignedListsMatch }
-{
-}
+{}

@@ -19,4 +19,5 @@ pub record Shows (modulus : ℕ) (w : Window) (oldest next highest : ℕ) : Type
 -- a number names at most one count of a window that is smaller than the modulus
 abbrev pub NamesOne : (modulus : ℕ) → Type 0
 NamesOne modulus =
-    (oldest highest number first second : ℕ) → highest < oldest + modulus → Names modulus oldest highest number first → Names modulus oldest highest number second → first ≡ second
+    (oldest highest number first second : ℕ) → highest < oldest + modulus → Names modulus oldest highest number
+    first → Names modulus oldest highest number second → first ≡ second

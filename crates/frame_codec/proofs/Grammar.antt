@@ -1,15 +1,72 @@
--- The grammar of frames: a text is a form of at most one frame, what is written reads back, and a text is a form of no frame
+-- The grammar of frames: a text is a form of at most one frame, what is written reads back, and a text is a form
+-- of no frame
 -- exactly where it has a fault.
-use Rattle.std.proofs.Common.{◌≡◌, ◌≢◌, ℕ, zero, suc, ◌+◌, ◌*◌, ◌/◌, ◌%◌, ◌<◌, ◌≤◌, Bool, true, false, List, [], ◌∷◌, length, refl, sym, ◌∙◌, ap, subst, arith}
+use Rattle.std.proofs.Common.{
+  ◌≡◌,
+  ◌≢◌,
+  ℕ,
+  zero,
+  suc,
+  ◌+◌,
+  ◌*◌,
+  ◌/◌,
+  ◌%◌,
+  ◌<◌,
+  ◌≤◌,
+  Bool,
+  true,
+  false,
+  List,
+  [],
+  ◌∷◌,
+  length,
+  refl,
+  sym,
+  ◌∙◌,
+  ap,
+  subst,
+  arith,
+}
 use Rattle.std.specs.Prelude.{Result, Ok, Err, nat_le, nat_eq, slice_index, if◌then◌else◌}
 use borrow.Author.Tests.{eqb-true, eqb-false, leb-true, leb-false, le-leb, lt-leb}
 use Rattle.link_timers.specs.declared.role.Role.{Role}
 use Rattle.link_timers.specs.declared.role.Role.TheVariants.{Dte, Dce}
 use Rattle.link_timers.specs.Role.{other_of}
 use Rattle.frame_codec.specs.declared.fault.FrameFault.{FrameFault}
-use Rattle.frame_codec.specs.declared.fault.FrameFault.TheVariants.{TooShort, WrongAddress, UnknownControl, InfoNotAllowed, InfoTooLong}
-use Rattle.frame_codec.specs.Frame.{Report, Content, Information, ReceiveReady, ReceiveNotReady, Reject, SetMode, Disconnect, DisconnectedMode, Acknowledgement, FrameReject, FrameValue}
-use Rattle.frame_codec.specs.Spelling.{bit_of, address_of, control_of, field_of, states_of, reasons_of, spelling, GoesAs, HasNumbers, FitsField, HasSpelling}
+use Rattle.frame_codec.specs.declared.fault.FrameFault.TheVariants.{
+  TooShort,
+  WrongAddress,
+  UnknownControl,
+  InfoNotAllowed,
+  InfoTooLong,
+}
+use Rattle.frame_codec.specs.Frame.{
+  Report,
+  Content,
+  Information,
+  ReceiveReady,
+  ReceiveNotReady,
+  Reject,
+  SetMode,
+  Disconnect,
+  DisconnectedMode,
+  Acknowledgement,
+  FrameReject,
+  FrameValue,
+}
+use Rattle.frame_codec.specs.Spelling.{
+  bit_of,
+  address_of,
+  control_of,
+  field_of,
+  states_of,
+  reasons_of,
+  spelling,
+  GoesAs,
+  HasNumbers,
+  FitsField,
+  HasSpelling,
+}
 use Rattle.frame_codec.specs.FrameForm.{ReportForm, FieldForm, IsHead, FrameForm}
 use Rattle.frame_codec.specs.Faults.{IsNotAllowed, IsTooLong, HasFault, place_of, IsFirstFault}
 use Rattle.frame_codec.specs.Reading.{has_bit, bare, report_read, content_read, with_head, reading}
@@ -38,11 +95,20 @@ reason_bits w x y z spares =
     let b = bit_of_below x in
     let c = bit_of_below y in
     let d = bit_of_below z in
-    let first : (spares * 16 + (bit_of z * 8 + bit_of y * 4 + bit_of x * 2 + bit_of w)) / 1 % 2 ≡ bit_of w = omega arith in
-    let second : (spares * 16 + (bit_of z * 8 + bit_of y * 4 + bit_of x * 2 + bit_of w)) / 2 % 2 ≡ bit_of x = omega arith in
-    let third : (spares * 16 + (bit_of z * 8 + bit_of y * 4 + bit_of x * 2 + bit_of w)) / 4 % 2 ≡ bit_of y = omega arith in
-    let fourth : (spares * 16 + (bit_of z * 8 + bit_of y * 4 + bit_of x * 2 + bit_of w)) / 8 % 2 ≡ bit_of z = omega arith in
-    (ap (λ k. nat_eq k 1) first ∙ tested w, ap (λ k. nat_eq k 1) second ∙ tested x, ap (λ k. nat_eq k 1) third ∙ tested y, ap (λ k. nat_eq k 1) fourth ∙ tested z)
+    let first : (spares * 16 + (bit_of z * 8 + bit_of y * 4 + bit_of x * 2 + bit_of w)) / 1 % 2 ≡ bit_of w = omega
+    arith in
+    let second : (spares * 16 + (bit_of z * 8 + bit_of y * 4 + bit_of x * 2 + bit_of w)) / 2 % 2 ≡ bit_of x = omega
+    arith in
+    let third : (spares * 16 + (bit_of z * 8 + bit_of y * 4 + bit_of x * 2 + bit_of w)) / 4 % 2 ≡ bit_of y = omega
+    arith in
+    let fourth : (spares * 16 + (bit_of z * 8 + bit_of y * 4 + bit_of x * 2 + bit_of w)) / 8 % 2 ≡ bit_of z = omega
+    arith in (
+      ap (λ k. nat_eq k 1) first ∙ tested w,
+      ap (λ k. nat_eq k 1) second ∙ tested x,
+      ap (λ k. nat_eq k 1) third ∙
+          tested y,
+      ap (λ k. nat_eq k 1) fourth ∙ tested z,
+    )
 
 -- the numbers of the second octet of a report
 report_states : (r : Bool) (send receive spare : ℕ) → send < 8 → spare < 2 →
@@ -54,7 +120,8 @@ report_states r send receive spare below low =
     let middle : (receive * 32 + bit_of r * 16 + send * 2 + spare) / 16 % 2 ≡ bit_of r = omega arith in
     (omega arith, omega arith, ap (λ k. nat_eq k 1) middle ∙ tested r)
 
-report_reads : (report : Report) (field : List ℕ) → report.send < 8 → ReportForm report field → report_read field ≡ Ok (FrameReject report)
+report_reads : (report : Report) (field : List ℕ) → report.send < 8 → ReportForm report field → report_read field ≡
+    Ok (FrameReject report)
 report_reads report field below form =
     let states = report_states report.response report.send report.receive form.spare below form.spare_bit in
     let reasons = reason_bits report.w report.x report.y report.z form.spares in
@@ -71,7 +138,8 @@ report_reads report field below form =
     })))
 
 -- a form of the information field is read as what the frame says there
-form_reads : (content : Content) (field : List ℕ) → HasNumbers content → FieldForm content field → field_read content field ≡ Ok content
+form_reads : (content : Content) (field : List ℕ) → HasNumbers content → FieldForm content field → field_read
+    content field ≡ Ok content
 form_reads (Information send receive information) field numbers form =
     rw (le-leb (length field) 145 form.1) (ap (λ octets. Ok (Information send receive octets)) form.0)
 form_reads (ReceiveReady receive) field numbers form = ap (bare (ReceiveReady receive)) form
@@ -86,7 +154,8 @@ form_reads (FrameReject report) field numbers form = report_reads report field n
 -- a form of a frame is read as that frame
 pub reading_form : (at : Role) (bytes : List ℕ) (f : FrameValue) → FrameForm at bytes f → reading at bytes ≡ Ok f
 reading_form at bytes f form =
-    reading_at_head at bytes f form.field form.head ∙ ap (with_head f.response f.poll) (form_reads f.content form.field form.head.numbers form.form)
+    reading_at_head at bytes f form.field form.head ∙ ap (with_head f.response f.poll) (form_reads f.content
+    form.field form.head.numbers form.form)
 
 -- an information field that the frame may not have
 bare_refused : (content : Content) (field : List ℕ) → field ≢ [] → bare content field ≡ Err InfoNotAllowed
@@ -100,7 +169,8 @@ report_refused (a ∷ b ∷ []) other = refl
 report_refused (a ∷ b ∷ c ∷ []) other = absurd (other refl)
 report_refused (a ∷ b ∷ c ∷ d ∷ field) other = refl
 
-refused : (content : Content) (field : List ℕ) → IsNotAllowed content field → field_read content field ≡ Err InfoNotAllowed
+refused : (content : Content) (field : List ℕ) → IsNotAllowed content field → field_read content field ≡ Err
+    InfoNotAllowed
 refused (Information send receive information) field fault = absurd fault
 refused (ReceiveReady receive) field fault = bare_refused (ReceiveReady receive) field fault
 refused (ReceiveNotReady receive) field fault = bare_refused (ReceiveNotReady receive) field fault
@@ -124,23 +194,28 @@ overlong Acknowledgement field fault = absurd fault
 overlong (FrameReject report) field fault = absurd fault
 
 -- the control octet of a frame is known
-bare_known : (response poll : Bool) (content : Content) (field : List ℕ) → with_head response poll (bare content field) ≡ Err UnknownControl → ⊥
+bare_known : (response poll : Bool) (content : Content) (field : List ℕ) → with_head response poll (bare content
+    field) ≡ Err UnknownControl → ⊥
 bare_known response poll content [] e = absurd (cc)
 bare_known response poll content (octet ∷ octets) e = absurd (cc)
 
-report_known : (response poll : Bool) (field : List ℕ) → with_head response poll (report_read field) ≡ Err UnknownControl → ⊥
+report_known : (response poll : Bool) (field : List ℕ) → with_head response poll (report_read field) ≡ Err
+    UnknownControl → ⊥
 report_known response poll [] e = absurd (cc)
 report_known response poll (a ∷ []) e = absurd (cc)
 report_known response poll (a ∷ b ∷ []) e = absurd (cc)
 report_known response poll (a ∷ b ∷ c ∷ []) e = absurd (cc)
 report_known response poll (a ∷ b ∷ c ∷ d ∷ field) e = absurd (cc)
 
-information_known : (response poll short : Bool) (content : Content) → with_head response poll (if short then Ok content else Err InfoTooLong) ≡ Err UnknownControl → ⊥
+information_known : (response poll short : Bool) (content : Content) → with_head response poll (if short then Ok
+    content else Err InfoTooLong) ≡ Err UnknownControl → ⊥
 information_known response poll true content e = absurd (cc)
 information_known response poll false content e = absurd (cc)
 
-known : (response poll : Bool) (content : Content) (field : List ℕ) → with_head response poll (field_read content field) ≡ Err UnknownControl → ⊥
-known response poll (Information send receive information) field e = information_known response poll (nat_le (length field) 145) (Information send receive field) e
+known : (response poll : Bool) (content : Content) (field : List ℕ) → with_head response poll (field_read content
+    field) ≡ Err UnknownControl → ⊥
+known response poll (Information send receive information) field e = information_known response poll (nat_le
+    (length field) 145) (Information send receive field) e
 known response poll (ReceiveReady receive) field e = bare_known response poll (ReceiveReady receive) field e
 known response poll (ReceiveNotReady receive) field e = bare_known response poll (ReceiveNotReady receive) field e
 known response poll (Reject receive) field e = bare_known response poll (Reject receive) field e
@@ -151,7 +226,8 @@ known response poll Acknowledgement field e = bare_known response poll Acknowled
 known response poll (FrameReject report) field e = report_known response poll field e
 
 -- the two address octets
-address_known : (from : Role) (response : Bool) (octet : ℕ) → octet ≡ address_of from response → octet ≢ 0x01 → octet ≢ 0x03 → ⊥
+address_known : (from : Role) (response : Bool) (octet : ℕ) → octet ≡ address_of from response → octet ≢ 0x01 →
+    octet ≢ 0x03 → ⊥
 address_known Dte true octet e one three = three e
 address_known Dte false octet e one three = one e
 address_known Dce true octet e one three = one e
@@ -166,7 +242,8 @@ overlong_is : (at : Role) (bytes : List ℕ) → HasFault InfoTooLong at bytes �
 overlong_is at bytes (f, field, head, fault) =
     reading_at_head at bytes f field head ∙ ap (with_head f.response f.poll) (overlong f.content field fault)
 
-refused_read : (at : Role) (bytes : List ℕ) → HasFault InfoNotAllowed at bytes → reading at bytes ≡ Err InfoTooLong → ⊥
+refused_read : (at : Role) (bytes : List ℕ) → HasFault InfoNotAllowed at bytes → reading at bytes ≡ Err InfoTooLong
+    → ⊥
 refused_read at bytes fault e = let f = refused_is at bytes fault in absurd (cc)
 
 -- what a text is read as: a frame of which it is a form, or the first fault that it has
@@ -182,7 +259,8 @@ before_2 P a UnknownControl less fault = omega arith
 before_2 P a InfoNotAllowed less fault = omega arith
 before_2 P a InfoTooLong less fault = omega arith
 
-before_5 : (P : FrameFault → Type 0) (n : ℕ) → n ≤ 5 → (P TooShort → ⊥) → (P WrongAddress → ⊥) → (3 < n → P UnknownControl → ⊥) → (4 < n → P InfoNotAllowed → ⊥) → (other : FrameFault) → place_of other < n → P other → ⊥
+before_5 : (P : FrameFault → Type 0) (n : ℕ) → n ≤ 5 → (P TooShort → ⊥) → (P WrongAddress → ⊥) → (3 < n → P
+    UnknownControl → ⊥) → (4 < n → P InfoNotAllowed → ⊥) → (other : FrameFault) → place_of other < n → P other → ⊥
 before_5 P n most a b c d TooShort less fault = a fault
 before_5 P n most a b c d WrongAddress less fault = b fault
 before_5 P n most a b c d UnknownControl less fault = c less fault
@@ -197,13 +275,20 @@ before_1 P InfoNotAllowed less fault = omega arith
 before_1 P InfoTooLong less fault = omega arith
 
 -- a text with one of the two addresses
-framed_decided : (at : Role) (response : Bool) (address control : ℕ) (field : List ℕ) → address ≡ address_of (other_of at) response → control < 256 → AreOctets field →
-    reading at (address ∷ control ∷ field) ≡ with_head response (has_bit control 16) (content_read response control field) →
-    IsDecided at (address ∷ control ∷ field) (with_head response (has_bit control 16) (content_read response control field))
+framed_decided : (at : Role) (response : Bool) (address control : ℕ) (field : List ℕ) → address ≡ address_of
+    (other_of at) response → control < 256 → AreOctets field →
+    reading at (address ∷ control ∷ field) ≡ with_head response (has_bit control 16) (content_read response control
+    field) →
+    IsDecided at (address ∷ control ∷ field) (with_head response (has_bit control 16) (content_read response
+    control field))
 framed_decided at response address control field sent octet octets is_read =
     go (content_read response control field) refl (content_outcome response control field octet octets)
   where
-    head : (content : Content) → IsNamed response control content → IsHead at (address ∷ control ∷ field) (record { content = content; response = response; poll = has_bit control 16 }) field
+    head : (content : Content) → IsNamed response control content → IsHead at (address ∷ control ∷ field) (record {
+      content = content;
+      response = response;
+      poll = has_bit control 16;
+    }) field
     head content named = record {
       octets = λ i. sent i ∷ named.control_is i ∷ field;
       goes_as = named.goes_as;
@@ -216,53 +301,94 @@ framed_decided at response address control field sent octet octets is_read =
     wrong : HasFault WrongAddress at (address ∷ control ∷ field) → ⊥
     wrong fault = address_known (other_of at) response address sent fault.0 fault.1
 
-    go : (r : Result Content FrameFault) → content_read response control field ≡ r → Outcome response control field r → IsDecided at (address ∷ control ∷ field) (with_head response (has_bit control 16) r)
+    go : (r : Result Content FrameFault) → content_read response control field ≡ r → Outcome response control field
+        r → IsDecided at (address ∷ control ∷ field) (with_head response (has_bit control 16) r)
     go (Ok content) e outcome = record { field = field; head = head content outcome.0; form = outcome.1 }
     go (Err TooShort) e outcome = absurd outcome
     go (Err WrongAddress) e outcome = absurd outcome
     go (Err UnknownControl) e outcome = record {
-      has = λ f rest h. known f.response f.poll f.content rest (sym (reading_at_head at (address ∷ control ∷ field) f rest h) ∙ is_read ∙ ap (with_head response (has_bit control 16)) e);
-      none_before = before_5 (λ other. HasFault other at (address ∷ control ∷ field)) 3 (omega arith) short wrong (λ less. absurd (omega arith)) (λ less. absurd (omega arith));
+      has = λ f rest h. known f.response f.poll f.content rest (sym (reading_at_head at (address ∷ control ∷ field)
+          f rest h) ∙ is_read ∙ ap (with_head response (has_bit control 16)) e);
+      none_before = before_5 (λ other. HasFault other at (address ∷ control ∷ field)) 3 (omega arith) short wrong
+          (λ less. absurd (omega arith)) (λ less. absurd (omega arith));
     }
     go (Err InfoNotAllowed) e outcome = record {
-      has = (record { content = outcome.0; response = response; poll = has_bit control 16 }, field, head outcome.0 outcome.1, outcome.2);
-      none_before = before_5 (λ other. HasFault other at (address ∷ control ∷ field)) 4 (omega arith) short wrong (λ less fault. fault (record { content = outcome.0; response = response; poll = has_bit control 16 }) field (head outcome.0 outcome.1)) (λ less. absurd (omega arith));
+      has = (
+        record { content = outcome.0; response = response; poll = has_bit control 16 },
+        field,
+        head outcome.0
+            outcome.1,
+        outcome.2,
+      );
+      none_before = before_5 (λ other. HasFault other at (address ∷ control ∷ field)) 4 (omega arith) short wrong
+          (λ less fault. fault (record { content = outcome.0; response = response; poll = has_bit control 16 })
+          field (head outcome.0 outcome.1)) (λ less. absurd (omega arith));
     }
     go (Err InfoTooLong) e outcome = record {
-      has = (record { content = outcome.0; response = response; poll = has_bit control 16 }, field, head outcome.0 outcome.1, outcome.2);
+      has = (
+        record { content = outcome.0; response = response; poll = has_bit control 16 },
+        field,
+        head outcome.0
+            outcome.1,
+        outcome.2,
+      );
       none_before = before_5 (λ other. HasFault other at (address ∷ control ∷ field)) 5 (omega arith) short wrong
-          (λ less fault. fault (record { content = outcome.0; response = response; poll = has_bit control 16 }) field (head outcome.0 outcome.1))
-          (λ less fault. refused_read at (address ∷ control ∷ field) fault (is_read ∙ ap (with_head response (has_bit control 16)) e));
+          (λ less fault. fault (record { content = outcome.0; response = response; poll = has_bit control 16 })
+          field (head outcome.0 outcome.1))
+          (λ less fault. refused_read at (address ∷ control ∷ field) fault (is_read ∙ ap (with_head response
+          (has_bit control 16)) e));
     }
 
 -- the two addresses that an end does not know
-other_address : (at : Role) (address : ℕ) → nat_eq address (address_of (other_of at) false) ≡ false → nat_eq address (address_of (other_of at) true) ≡ false → (address ≢ 0x01) × (address ≢ 0x03)
+other_address : (at : Role) (address : ℕ) → nat_eq address (address_of (other_of at) false) ≡ false → nat_eq
+    address (address_of (other_of at) true) ≡ false → (address ≢ 0x01) × (address ≢ 0x03)
 other_address Dte address command response = (eqb-false address 0x01 response, eqb-false address 0x03 command)
 other_address Dce address command response = (eqb-false address 0x01 command, eqb-false address 0x03 response)
 
-read_by : (at : Role) (address control : ℕ) (field : List ℕ) (response : Bool) → address ≡ address_of (other_of at) response → reading at (address ∷ control ∷ field) ≡ with_head response (has_bit control 16) (content_read response control field)
-read_by at address control field response e = ap (λ a. reading at (a ∷ control ∷ field)) e ∙ reading-address_of at response control field
+read_by : (at : Role) (address control : ℕ) (field : List ℕ) (response : Bool) → address ≡ address_of (other_of at)
+    response → reading at (address ∷ control ∷ field) ≡ with_head response (has_bit control 16) (content_read
+    response control field)
+read_by at address control field response e = ap (λ a. reading at (a ∷ control ∷ field)) e ∙ reading-address_of at
+    response control field
 
 -- every text is decided
 pub reading_decided : (at : Role) (bytes : List ℕ) → AreOctets bytes → IsDecided at bytes (reading at bytes)
 reading_decided at [] octets = record { has = omega arith; none_before = before_1 (λ other. HasFault other at []) }
-reading_decided at (address ∷ []) octets = record { has = omega arith; none_before = before_1 (λ other. HasFault other at (address ∷ [])) }
+reading_decided at (address ∷ []) octets = record {
+  has = omega arith;
+  none_before = before_1 (λ other. HasFault
+      other at (address ∷ []));
+}
 reading_decided at (address ∷ control ∷ field) octets =
     let control_is : control < 256 = octets 1 in
     let rest : AreOctets field = octets_after address control field octets in
-    cond_by (λ b. IsDecided at (address ∷ control ∷ field) (if b then with_head false (has_bit control 16) (content_read false control field) else if nat_eq address (address_of (other_of at) true) then with_head true (has_bit control 16) (content_read true control field) else Err WrongAddress)) (nat_eq address (address_of (other_of at) false))
-    (λ is. let e = eqb-true address (address_of (other_of at) false) is in framed_decided at false address control field e control_is rest (read_by at address control field false e))
-    (λ isnt. cond_by (λ b. IsDecided at (address ∷ control ∷ field) (if b then with_head true (has_bit control 16) (content_read true control field) else Err WrongAddress)) (nat_eq address (address_of (other_of at) true))
-    (λ is. let e = eqb-true address (address_of (other_of at) true) is in framed_decided at true address control field e control_is rest (read_by at address control field true e))
-    (λ neither. record { has = other_address at address isnt neither; none_before = before_2 (λ other. HasFault other at (address ∷ control ∷ field)) (λ less. omega arith) }))
+    cond_by (λ b. IsDecided at (address ∷ control ∷ field) (if b then with_head false (has_bit control 16)
+    (content_read false control field) else if nat_eq address (address_of (other_of at) true) then with_head
+    true (has_bit control 16) (content_read true control field) else Err WrongAddress)) (nat_eq address
+    (address_of (other_of at) false))
+    (λ is. let e = eqb-true address (address_of (other_of at) false) is in framed_decided at false address control
+    field e control_is rest (read_by at address control field false e))
+    (λ isnt. cond_by (λ b. IsDecided at (address ∷ control ∷ field) (if b then with_head true (has_bit control 16)
+    (content_read true control field) else Err WrongAddress)) (nat_eq address (address_of (other_of at) true))
+    (λ is. let e = eqb-true address (address_of (other_of at) true) is in framed_decided at true address control
+    field e control_is rest (read_by at address control field true e))
+    (λ neither. record {
+      has = other_address at address isnt neither;
+      none_before = before_2 (λ other. HasFault
+          other at (address ∷ control ∷ field)) (λ less. omega arith);
+    }))
 
 -- a text with a fault is a form of no frame
-pub fault_no_form : (fault : FrameFault) (at : Role) (bytes : List ℕ) (f : FrameValue) → HasFault fault at bytes → FrameForm at bytes f → ⊥
+pub fault_no_form : (fault : FrameFault) (at : Role) (bytes : List ℕ) (f : FrameValue) → HasFault fault at bytes →
+    FrameForm at bytes f → ⊥
 fault_no_form TooShort at bytes f fault form = let e = ap length form.head.octets in omega arith
-fault_no_form WrongAddress at bytes f fault form = address_known (other_of at) f.response (slice_index bytes 0) (ap (λ octets. slice_index octets 0) form.head.octets) fault.0 fault.1
+fault_no_form WrongAddress at bytes f fault form = address_known (other_of at) f.response (slice_index bytes 0) (ap
+    (λ octets. slice_index octets 0) form.head.octets) fault.0 fault.1
 fault_no_form UnknownControl at bytes f fault form = fault f form.field form.head
-fault_no_form InfoNotAllowed at bytes f fault form = let a = refused_is at bytes fault in let b = reading_form at bytes f form in absurd (cc)
-fault_no_form InfoTooLong at bytes f fault form = let a = overlong_is at bytes fault in let b = reading_form at bytes f form in absurd (cc)
+fault_no_form InfoNotAllowed at bytes f fault form = let a = refused_is at bytes fault in let b = reading_form at
+    bytes f form in absurd (cc)
+fault_no_form InfoTooLong at bytes f fault form = let a = overlong_is at bytes fault in let b = reading_form at
+    bytes f form in absurd (cc)
 
 -- no two faults stand at one place
 same_place : (a b : FrameFault) → place_of a ≡ place_of b → a ≡ b
@@ -292,11 +418,14 @@ same_place InfoTooLong UnknownControl e = absurd (omega arith)
 same_place InfoTooLong InfoNotAllowed e = absurd (omega arith)
 same_place InfoTooLong InfoTooLong e = refl
 
-first_is_one : (a b : FrameFault) (at : Role) (bytes : List ℕ) → IsFirstFault a at bytes → IsFirstFault b at bytes → a ≡ b
-first_is_one a b at bytes p q = same_place a b (not_apart (place_of a) (place_of b) (λ less. q.none_before a less p.has) (λ less. p.none_before b less q.has))
+first_is_one : (a b : FrameFault) (at : Role) (bytes : List ℕ) → IsFirstFault a at bytes → IsFirstFault b at bytes
+    → a ≡ b
+first_is_one a b at bytes p q = same_place a b (not_apart (place_of a) (place_of b) (λ less. q.none_before a less
+    p.has) (λ less. p.none_before b less q.has))
 
 -- the first fault of a text is what it is read as
-pub reading_fault : (fault : FrameFault) (at : Role) (bytes : List ℕ) → AreOctets bytes → IsFirstFault fault at bytes → reading at bytes ≡ Err fault
+pub reading_fault : (fault : FrameFault) (at : Role) (bytes : List ℕ) → AreOctets bytes → IsFirstFault fault at
+    bytes → reading at bytes ≡ Err fault
 reading_fault fault at bytes octets first = go (reading at bytes) (reading_decided at bytes octets)
   where
     go : (r : Result FrameValue FrameFault) → IsDecided at bytes r → r ≡ Err fault
@@ -304,7 +433,8 @@ reading_fault fault at bytes octets first = go (reading at bytes) (reading_decid
     go (Err other) second = ap (λ e. Err e) (first_is_one other fault at bytes second first)
 
 -- a text is a form of at most one frame
-pub form_unique : (at : Role) (bytes : List ℕ) (f g : FrameValue) → FrameForm at bytes f → FrameForm at bytes g → f ≡ g
+pub form_unique : (at : Role) (bytes : List ℕ) (f g : FrameValue) → FrameForm at bytes f → FrameForm at bytes g → f
+    ≡ g
 form_unique at bytes f g p q = let a = reading_form at bytes f p in let b = reading_form at bytes g q in cc
 
 -- what is written is a form of what was meant, at the other end
@@ -335,7 +465,8 @@ pub spelling_form : (from : Role) (f : FrameValue) → HasSpelling f → FrameFo
 spelling_form from f spelt = record {
   field = field_of f.content;
   head = record {
-    octets = ap (λ role. address_of role f.response ∷ control_of f.content f.poll ∷ field_of f.content) (sym (other_other from));
+    octets = ap (λ role. address_of role f.response ∷ control_of f.content f.poll ∷ field_of f.content) (sym
+        (other_other from));
     goes_as = spelt.goes_as;
     numbers = spelt.numbers;
   };
@@ -343,11 +474,14 @@ spelling_form from f spelt = record {
 }
 
 -- and is read back
-pub reading-spelling : (from : Role) (f : FrameValue) → HasSpelling f → reading (other_of from) (spelling from f) ≡ Ok f
+pub reading-spelling : (from : Role) (f : FrameValue) → HasSpelling f → reading (other_of from) (spelling from f) ≡
+    Ok f
 reading-spelling from f spelt = reading_form (other_of from) (spelling from f) f (spelling_form from f spelt)
 
-pub spelled_form : (from : Role) (f : FrameValue) (bytes : List ℕ) → HasSpelling f → bytes ≡ spelling from f → FrameForm (other_of from) bytes f
-spelled_form from f bytes spelt e = subst (λ octets. FrameForm (other_of from) octets f) (sym e) (spelling_form from f spelt)
+pub spelled_form : (from : Role) (f : FrameValue) (bytes : List ℕ) → HasSpelling f → bytes ≡ spelling from f →
+    FrameForm (other_of from) bytes f
+spelled_form from f bytes spelt e = subst (λ octets. FrameForm (other_of from) octets f) (sym e) (spelling_form
+    from f spelt)
 
 -- what octets are a form of has a spelling
 fits_form : (content : Content) (field : List ℕ) → FieldForm content field → FitsField content

@@ -1,5 +1,26 @@
 -- What an address and a control octet of a frame are read as: the frame, up to what its information field decides.
-use Rattle.std.proofs.Common.{◌≡◌, ℕ, ◌+◌, ◌*◌, ◌/◌, ◌%◌, ◌<◌, Bool, true, false, List, [], ◌∷◌, length, refl, sym, ◌∙◌, ap, subst, arith}
+use Rattle.std.proofs.Common.{
+  ◌≡◌,
+  ℕ,
+  ◌+◌,
+  ◌*◌,
+  ◌/◌,
+  ◌%◌,
+  ◌<◌,
+  Bool,
+  true,
+  false,
+  List,
+  [],
+  ◌∷◌,
+  length,
+  refl,
+  sym,
+  ◌∙◌,
+  ap,
+  subst,
+  arith,
+}
 use Rattle.std.specs.Prelude.{Result, Ok, Err, nat_le, nat_eq, if◌then◌else◌}
 use borrow.Author.Tests.{ne_eqb, eq-eqb}
 use Rattle.link_timers.specs.declared.role.Role.{Role}
@@ -7,10 +28,33 @@ use Rattle.link_timers.specs.declared.role.Role.TheVariants.{Dte, Dce}
 use Rattle.link_timers.specs.Role.{other_of}
 use Rattle.frame_codec.specs.declared.fault.FrameFault.{FrameFault}
 use Rattle.frame_codec.specs.declared.fault.FrameFault.TheVariants.{InfoTooLong}
-use Rattle.frame_codec.specs.Frame.{Report, Content, Information, ReceiveReady, ReceiveNotReady, Reject, SetMode, Disconnect, DisconnectedMode, Acknowledgement, FrameReject, FrameValue}
+use Rattle.frame_codec.specs.Frame.{
+  Report,
+  Content,
+  Information,
+  ReceiveReady,
+  ReceiveNotReady,
+  Reject,
+  SetMode,
+  Disconnect,
+  DisconnectedMode,
+  Acknowledgement,
+  FrameReject,
+  FrameValue,
+}
 use Rattle.frame_codec.specs.Spelling.{bit_of, address_of, control_of, GoesAs, HasNumbers}
 use Rattle.frame_codec.specs.FrameForm.{IsHead}
-use Rattle.frame_codec.specs.Reading.{has_bit, bare, report_read, information_read, command_read, response_read, content_read, with_head, reading}
+use Rattle.frame_codec.specs.Reading.{
+  has_bit,
+  bare,
+  report_read,
+  information_read,
+  command_read,
+  response_read,
+  content_read,
+  with_head,
+  reading,
+}
 
 -- what the information field makes of a frame with this control octet
 abbrev pub field_read : Content → List ℕ → Result Content FrameFault
@@ -43,17 +87,21 @@ has_bit_16 b high low below =
     ap (λ n. nat_eq n 1) middle ∙ tested b
 
 -- the supervisory frames, by the low half of their control octet
-ready : (response : Bool) (control receive : ℕ) (field : List ℕ) → control % 16 ≡ 1 → control / 32 ≡ receive → content_read response control field ≡ bare (ReceiveReady receive) field
+ready : (response : Bool) (control receive : ℕ) (field : List ℕ) → control % 16 ≡ 1 → control / 32 ≡ receive →
+    content_read response control field ≡ bare (ReceiveReady receive) field
 ready response control receive field low high = rw (low, high) refl
 
-not_ready : (response : Bool) (control receive : ℕ) (field : List ℕ) → control % 16 ≡ 5 → control / 32 ≡ receive → content_read response control field ≡ bare (ReceiveNotReady receive) field
+not_ready : (response : Bool) (control receive : ℕ) (field : List ℕ) → control % 16 ≡ 5 → control / 32 ≡ receive →
+    content_read response control field ≡ bare (ReceiveNotReady receive) field
 not_ready response control receive field low high = rw (low, high) refl
 
-rejects : (response : Bool) (control receive : ℕ) (field : List ℕ) → control % 16 ≡ 9 → control / 32 ≡ receive → content_read response control field ≡ bare (Reject receive) field
+rejects : (response : Bool) (control receive : ℕ) (field : List ℕ) → control % 16 ≡ 9 → control / 32 ≡ receive →
+    content_read response control field ≡ bare (Reject receive) field
 rejects response control receive field low high = rw (low, high) refl
 
 -- an I frame, by the lowest bit of its control octet
-informs : (control send receive : ℕ) (field : List ℕ) → control % 2 ≡ 0 → control / 2 % 8 ≡ send → control / 32 ≡ receive → content_read false control field ≡ field_read (Information send receive field) field
+informs : (control send receive : ℕ) (field : List ℕ) → control % 2 ≡ 0 → control / 2 % 8 ≡ send → control / 32 ≡
+    receive → content_read false control field ≡ field_read (Information send receive field) field
 informs control send receive field even low high =
     let one : nat_eq (control % 16) 1 ≡ false = ne_eqb (control % 16) 1 (λ e. omega arith) in
     let five : nat_eq (control % 16) 5 ≡ false = ne_eqb (control % 16) 5 (λ e. omega arith) in
@@ -61,17 +109,25 @@ informs control send receive field even low high =
     rw (one, five, nine, even, low, high) refl
 
 -- the control octet of a frame, read in its direction
-pub content_read-control_of : (content : Content) (response poll : Bool) (field : List ℕ) → GoesAs content response → HasNumbers content → content_read response (control_of content poll) field ≡ field_read content field
+pub content_read-control_of : (content : Content) (response poll : Bool) (field : List ℕ) → GoesAs content response
+    → HasNumbers content → content_read response (control_of content poll) field ≡ field_read content field
 content_read-control_of (Information send receive information) response poll field goes numbers =
     let bound = bit_of_below poll in
-    subst (λ b. content_read b (receive * 32 + bit_of poll * 16 + send * 2) field ≡ field_read (Information send receive information) field) (sym goes)
-    (informs (receive * 32 + bit_of poll * 16 + send * 2) send receive field (omega arith) (omega (arith, numbers.0)) (omega (arith, numbers.0)))
+    subst (λ b. content_read b (receive * 32 + bit_of poll * 16 + send * 2) field ≡ field_read (Information send
+    receive information) field) (sym goes)
+    (informs (receive * 32 + bit_of poll * 16 + send * 2) send receive field (omega arith) (omega (
+      arith,
+      numbers.0,
+    )) (omega (arith, numbers.0)))
 content_read-control_of (ReceiveReady receive) response poll field goes numbers =
-    let bound = bit_of_below poll in ready response (receive * 32 + bit_of poll * 16 + 0x01) receive field (omega arith) (omega arith)
+    let bound = bit_of_below poll in ready response (receive * 32 + bit_of poll * 16 + 0x01) receive field (omega
+    arith) (omega arith)
 content_read-control_of (ReceiveNotReady receive) response poll field goes numbers =
-    let bound = bit_of_below poll in not_ready response (receive * 32 + bit_of poll * 16 + 0x05) receive field (omega arith) (omega arith)
+    let bound = bit_of_below poll in not_ready response (receive * 32 + bit_of poll * 16 + 0x05) receive field
+    (omega arith) (omega arith)
 content_read-control_of (Reject receive) response poll field goes numbers =
-    let bound = bit_of_below poll in rejects response (receive * 32 + bit_of poll * 16 + 0x09) receive field (omega arith) (omega arith)
+    let bound = bit_of_below poll in rejects response (receive * 32 + bit_of poll * 16 + 0x09) receive field (omega
+    arith) (omega arith)
 content_read-control_of SetMode true poll field goes numbers = absurd (cc)
 content_read-control_of SetMode false true field goes numbers = refl
 content_read-control_of SetMode false false field goes numbers = refl
@@ -89,8 +145,10 @@ content_read-control_of (FrameReject report) true true field goes numbers = refl
 content_read-control_of (FrameReject report) true false field goes numbers = refl
 
 -- and its poll or final bit
-pub has_bit-control_of : (content : Content) (poll : Bool) → HasNumbers content → has_bit (control_of content poll) 16 ≡ poll
-has_bit-control_of (Information send receive information) poll numbers = has_bit_16 poll receive (send * 2) (omega (arith, numbers.0))
+pub has_bit-control_of : (content : Content) (poll : Bool) → HasNumbers content → has_bit (control_of content poll)
+    16 ≡ poll
+has_bit-control_of (Information send receive information) poll numbers = has_bit_16 poll receive (send * 2) (omega
+    (arith, numbers.0))
 has_bit-control_of (ReceiveReady receive) poll numbers = has_bit_16 poll receive 1 (omega arith)
 has_bit-control_of (ReceiveNotReady receive) poll numbers = has_bit_16 poll receive 5 (omega arith)
 has_bit-control_of (Reject receive) poll numbers = has_bit_16 poll receive 9 (omega arith)
@@ -106,16 +164,21 @@ has_bit-control_of (FrameReject report) true numbers = refl
 has_bit-control_of (FrameReject report) false numbers = refl
 
 -- the address octet tells commands from responses
-pub reading-address_of : (at : Role) (response : Bool) (control : ℕ) (field : List ℕ) → reading at (address_of (other_of at) response ∷ control ∷ field) ≡ with_head response (has_bit control 16) (content_read response control field)
+pub reading-address_of : (at : Role) (response : Bool) (control : ℕ) (field : List ℕ) → reading at (address_of
+    (other_of at) response ∷ control ∷ field) ≡ with_head response (has_bit control 16) (content_read response
+    control field)
 reading-address_of Dte true control field = refl
 reading-address_of Dte false control field = refl
 reading-address_of Dce true control field = refl
 reading-address_of Dce false control field = refl
 
 -- what a text is read as that begins with the head of a frame
-pub reading_at_head : (at : Role) (bytes : List ℕ) (f : FrameValue) (field : List ℕ) → IsHead at bytes f field → reading at bytes ≡ with_head f.response f.poll (field_read f.content field)
+pub reading_at_head : (at : Role) (bytes : List ℕ) (f : FrameValue) (field : List ℕ) → IsHead at bytes f field →
+    reading at bytes ≡ with_head f.response f.poll (field_read f.content field)
 reading_at_head at bytes f field head =
     ap (reading at) head.octets
     ∙ reading-address_of at f.response (control_of f.content f.poll) field
-    ∙ ap (λ poll. with_head f.response poll (content_read f.response (control_of f.content f.poll) field)) (has_bit-control_of f.content f.poll head.numbers)
-    ∙ ap (with_head f.response f.poll) (content_read-control_of f.content f.response f.poll field head.goes_as head.numbers)
+    ∙ ap (λ poll. with_head f.response poll (content_read f.response (control_of f.content f.poll) field))
+    (has_bit-control_of f.content f.poll head.numbers)
+    ∙ ap (with_head f.response f.poll) (content_read-control_of f.content f.response f.poll field head.goes_as
+    head.numbers)

@@ -1,14 +1,67 @@
 -- What a control octet and an information field are read as is what the table of frames says of them.
-use Rattle.std.proofs.Common.{◌≡◌, ◌≢◌, ℕ, zero, suc, ◌+◌, ◌*◌, ◌/◌, ◌%◌, ◌<◌, ◌≤◌, Bool, true, false, ◌||◌, List, [], ◌∷◌, length, refl, sym, ◌∙◌, ap, subst, arith}
+use Rattle.std.proofs.Common.{
+  ◌≡◌,
+  ◌≢◌,
+  ℕ,
+  zero,
+  suc,
+  ◌+◌,
+  ◌*◌,
+  ◌/◌,
+  ◌%◌,
+  ◌<◌,
+  ◌≤◌,
+  Bool,
+  true,
+  false,
+  ◌||◌,
+  List,
+  [],
+  ◌∷◌,
+  length,
+  refl,
+  sym,
+  ◌∙◌,
+  ap,
+  subst,
+  arith,
+}
 use Rattle.std.specs.Prelude.{Result, Ok, Err, nat_le, nat_eq, slice_index, if◌then◌else◌}
 use borrow.Author.Tests.{eqb-true, eqb-false, leb-true, leb-false}
 use Rattle.frame_codec.specs.declared.fault.FrameFault.{FrameFault}
-use Rattle.frame_codec.specs.declared.fault.FrameFault.TheVariants.{TooShort, WrongAddress, UnknownControl, InfoNotAllowed, InfoTooLong}
-use Rattle.frame_codec.specs.Frame.{Report, Content, Information, ReceiveReady, ReceiveNotReady, Reject, SetMode, Disconnect, DisconnectedMode, Acknowledgement, FrameReject, FrameValue}
+use Rattle.frame_codec.specs.declared.fault.FrameFault.TheVariants.{
+  TooShort,
+  WrongAddress,
+  UnknownControl,
+  InfoNotAllowed,
+  InfoTooLong,
+}
+use Rattle.frame_codec.specs.Frame.{
+  Report,
+  Content,
+  Information,
+  ReceiveReady,
+  ReceiveNotReady,
+  Reject,
+  SetMode,
+  Disconnect,
+  DisconnectedMode,
+  Acknowledgement,
+  FrameReject,
+  FrameValue,
+}
 use Rattle.frame_codec.specs.Spelling.{bit_of, control_of, states_of, reasons_of, GoesAs, HasNumbers}
 use Rattle.frame_codec.specs.FrameForm.{ReportForm, FieldForm}
 use Rattle.frame_codec.specs.Faults.{IsNotAllowed, IsTooLong}
-use Rattle.frame_codec.specs.Reading.{has_bit, bare, report_read, information_read, command_read, response_read, content_read}
+use Rattle.frame_codec.specs.Reading.{
+  has_bit,
+  bare,
+  report_read,
+  information_read,
+  command_read,
+  response_read,
+  content_read,
+}
 
 -- every item is an octet
 abbrev pub AreOctets : List ℕ → Type 0
@@ -26,8 +79,10 @@ Outcome response control field (Ok content) = IsNamed response control content �
 Outcome response control field (Err TooShort) = ⊥
 Outcome response control field (Err WrongAddress) = ⊥
 Outcome response control field (Err UnknownControl) = Unit {0}
-Outcome response control field (Err InfoNotAllowed) = (content : Content) × IsNamed response control content × IsNotAllowed content field
-Outcome response control field (Err InfoTooLong) = (content : Content) × IsNamed response control content × IsTooLong content field
+Outcome response control field (Err InfoNotAllowed) = (content : Content) × IsNamed response control content ×
+    IsNotAllowed content field
+Outcome response control field (Err InfoTooLong) = (content : Content) × IsNamed response control content ×
+    IsTooLong content field
 
 cond_by : (P : Bool → Type 0) (b : Bool) → (b ≡ true → P true) → (b ≡ false → P false) → P b
 cond_by P true holds fails = holds refl
@@ -43,29 +98,53 @@ pub bit_of-has_bit : (octet power : ℕ) → bit_of (has_bit octet power) ≡ oc
 bit_of-has_bit octet power = bit_of_test (octet / power % 2) (omega arith)
 
 -- a frame without an information field
-bare_outcome : (response : Bool) (control : ℕ) (content : Content) (field : List ℕ) → IsNamed response control content → (field ≡ [] → FieldForm content field) → (field ≢ [] → IsNotAllowed content field) → Outcome response control field (bare content field)
+bare_outcome : (response : Bool) (control : ℕ) (content : Content) (field : List ℕ) → IsNamed response control
+    content → (field ≡ [] → FieldForm content field) → (field ≢ [] → IsNotAllowed content field) → Outcome response
+    control field (bare content field)
 bare_outcome response control content [] named form fault = (named, form refl)
 bare_outcome response control content (octet ∷ octets) named form fault = (content, named, fault (λ e. absurd (cc)))
 
 -- an I frame
-information_outcome : (control : ℕ) (field : List ℕ) → control < 256 → control % 2 ≡ 0 → Outcome false control field (information_read control field)
+information_outcome : (control : ℕ) (field : List ℕ) → control < 256 → control % 2 ≡ 0 → Outcome false control
+    field (information_read control field)
 information_outcome control field octet even =
     let named : IsNamed false control (Information (control / 2 % 8) (control / 32) field) = record {
       control_is = omega (arith, bit_of-has_bit control 16);
       goes_as = refl;
       numbers = (omega arith, omega arith);
     } in
-    cond_by (λ b. Outcome false control field (if b then Ok (Information (control / 2 % 8) (control / 32) field) else Err InfoTooLong)) (nat_le (length field) 145)
+    cond_by (λ b. Outcome false control field (if b then Ok (Information (control / 2 % 8) (control / 32) field)
+    else Err InfoTooLong)) (nat_le (length field) 145)
     (λ is. (named, (refl, leb-true (length field) 145 is)))
     (λ isnt. (Information (control / 2 % 8) (control / 32) field, named, leb-false (length field) 145 isnt))
 
 -- the octets of a report
 report_form : (control states reasons : ℕ) → states < 256 → reasons < 256 →
-    ReportForm (record { control = control; send = states / 2 % 8; receive = states / 32; response = has_bit states 16; w = has_bit reasons 1; x = has_bit reasons 2; y = has_bit reasons 4; z = has_bit reasons 8 }) (control ∷ states ∷ reasons ∷ [])
+    ReportForm (record {
+      control = control;
+      send = states / 2 % 8;
+      receive = states / 32;
+      response = has_bit states
+          16;
+      w = has_bit reasons 1;
+      x = has_bit reasons 2;
+      y = has_bit reasons 4;
+      z = has_bit reasons 8;
+    }) (control
+    ∷ states ∷ reasons ∷ [])
 report_form control states reasons s r =
-    let second : states ≡ states / 32 * 32 + bit_of (has_bit states 16) * 16 + states / 2 % 8 * 2 + states % 2 = omega (arith, bit_of-has_bit states 16) in
-    let third : reasons ≡ reasons / 16 * 16 + (bit_of (has_bit reasons 8) * 8 + bit_of (has_bit reasons 4) * 4 + bit_of (has_bit reasons 2) * 2 + bit_of (has_bit reasons 1)) =
-    omega (arith, bit_of-has_bit reasons 1, bit_of-has_bit reasons 2, bit_of-has_bit reasons 4, bit_of-has_bit reasons 8) in
+    let second : states ≡ states / 32 * 32 + bit_of (has_bit states 16) * 16 + states / 2 % 8 * 2 + states % 2 =
+    omega (arith, bit_of-has_bit states 16) in
+    let third : reasons ≡ reasons / 16 * 16 + (bit_of (has_bit reasons 8) * 8 + bit_of (has_bit reasons 4) * 4 +
+    bit_of (has_bit reasons 2) * 2 + bit_of (has_bit reasons 1)) =
+    omega (
+      arith,
+      bit_of-has_bit reasons 1,
+      bit_of-has_bit reasons 2,
+      bit_of-has_bit reasons 4,
+      bit_of-has_bit
+          reasons 8,
+    ) in
     record {
       spare = states % 2;
       spares = reasons / 16;
@@ -76,65 +155,155 @@ report_form control states reasons s r =
 
 -- an empty report, for a Frame Reject whose information field is none
 abbrev no_report : Report
-no_report = record { control = 0; send = 0; receive = 0; response = false; w = false; x = false; y = false; z = false }
+no_report = record {
+  control = 0;
+  send = 0;
+  receive = 0;
+  response = false;
+  w = false;
+  x = false;
+  y = false;
+  z =
+      false;
+}
 
-reject_outcome : (control : ℕ) (field : List ℕ) → AreOctets field → control ≡ bit_of (has_bit control 16) * 16 + 0x87 → Outcome true control field (report_read field)
-reject_outcome control [] octets is = (FrameReject no_report, record { control_is = is; goes_as = refl; numbers = (omega arith, omega arith, omega arith) }, λ e. omega arith)
-reject_outcome control (a ∷ []) octets is = (FrameReject no_report, record { control_is = is; goes_as = refl; numbers = (omega arith, omega arith, omega arith) }, λ e. omega arith)
-reject_outcome control (a ∷ b ∷ []) octets is = (FrameReject no_report, record { control_is = is; goes_as = refl; numbers = (omega arith, omega arith, omega arith) }, λ e. omega arith)
+reject_outcome : (control : ℕ) (field : List ℕ) → AreOctets field → control ≡ bit_of (has_bit control 16) * 16 +
+    0x87 → Outcome true control field (report_read field)
+reject_outcome control [] octets is = (
+  FrameReject no_report,
+  record {
+    control_is = is;
+    goes_as = refl;
+    numbers =
+        (omega arith, omega arith, omega arith);
+  },
+  λ e. omega arith,
+)
+reject_outcome control (a ∷ []) octets is = (
+  FrameReject no_report,
+  record {
+    control_is = is;
+    goes_as = refl;
+    numbers = (omega arith, omega arith, omega arith);
+  },
+  λ e. omega arith,
+)
+reject_outcome control (a ∷ b ∷ []) octets is = (
+  FrameReject no_report,
+  record {
+    control_is = is;
+    goes_as = refl;
+    numbers = (omega arith, omega arith, omega arith);
+  },
+  λ e. omega arith,
+)
 reject_outcome control (a ∷ b ∷ c ∷ []) octets is =
     let first : a < 256 = octets 0 in
     let second : b < 256 = octets 1 in
-    let third : c < 256 = octets 2 in
-    (record { control_is = is; goes_as = refl; numbers = (first, omega arith, omega arith) }, report_form a b c second third)
-reject_outcome control (a ∷ b ∷ c ∷ d ∷ field) octets is = (FrameReject no_report, record { control_is = is; goes_as = refl; numbers = (omega arith, omega arith, omega arith) }, λ e. omega arith)
+    let third : c < 256 = octets 2 in (
+      record { control_is = is; goes_as = refl; numbers = (first, omega arith, omega arith) },
+      report_form a b c
+          second third,
+    )
+reject_outcome control (a ∷ b ∷ c ∷ d ∷ field) octets is = (
+  FrameReject no_report,
+  record {
+    control_is = is;
+    goes_as = refl;
+    numbers = (omega arith, omega arith, omega arith);
+  },
+  λ e. omega arith,
+)
 
 -- a control octet that is one of two
-either_by : (P : Bool → Type 0) (n a b : ℕ) → (n ≡ a → P true) → (n ≡ b → P true) → P false → P (nat_eq n a || nat_eq n b)
+either_by : (P : Bool → Type 0) (n a b : ℕ) → (n ≡ a → P true) → (n ≡ b → P true) → P false → P (nat_eq n a ||
+    nat_eq n b)
 either_by P n a b first second neither =
     cond_by (λ t. P (t || nat_eq n b)) (nat_eq n a) (λ is. first (eqb-true n a is))
     (λ _. cond_by P (nat_eq n b) (λ is. second (eqb-true n b is)) (λ _. neither))
 
-named_at : (response : Bool) (control n : ℕ) (content : Content) → control ≡ n → n ≡ control_of content (has_bit n 16) → GoesAs content response → HasNumbers content → IsNamed response control content
+named_at : (response : Bool) (control n : ℕ) (content : Content) → control ≡ n → n ≡ control_of content (has_bit n
+    16) → GoesAs content response → HasNumbers content → IsNamed response control content
 named_at response control n content e is goes numbers =
-    record { control_is = subst (λ m. m ≡ control_of content (has_bit m 16)) (sym e) is; goes_as = goes; numbers = numbers }
+    record {
+      control_is = subst (λ m. m ≡ control_of content (has_bit m 16)) (sym e) is;
+      goes_as = goes;
+      numbers =
+          numbers;
+    }
 
-command_outcome : (control : ℕ) (field : List ℕ) → control < 256 → Outcome false control field (command_read control field)
+command_outcome : (control : ℕ) (field : List ℕ) → control < 256 → Outcome false control field (command_read
+    control field)
 command_outcome control field octet =
-    cond_by (λ b. Outcome false control field (if b then information_read control field else if nat_eq control 0x2F || nat_eq control 0x3F then bare SetMode field else if nat_eq control 0x43 || nat_eq control 0x53 then bare Disconnect field else Err UnknownControl)) (nat_eq (control % 2) 0)
+    cond_by (λ b. Outcome false control field (if b then information_read control field else if nat_eq control 0x2F
+    || nat_eq control 0x3F then bare SetMode field else if nat_eq control 0x43 || nat_eq control 0x53 then bare
+    Disconnect field else Err UnknownControl)) (nat_eq (control % 2) 0)
     (λ is. information_outcome control field octet (eqb-true (control % 2) 0 is))
-    (λ _. either_by (λ b. Outcome false control field (if b then bare SetMode field else if nat_eq control 0x43 || nat_eq control 0x53 then bare Disconnect field else Err UnknownControl)) control 0x2F 0x3F
-    (λ e. bare_outcome false control SetMode field (named_at false control 0x2F SetMode e refl refl tt) (λ p. p) (λ p. p))
-    (λ e. bare_outcome false control SetMode field (named_at false control 0x3F SetMode e refl refl tt) (λ p. p) (λ p. p))
-    (either_by (λ b. Outcome false control field (if b then bare Disconnect field else Err UnknownControl)) control 0x43 0x53
-    (λ e. bare_outcome false control Disconnect field (named_at false control 0x43 Disconnect e refl refl tt) (λ p. p) (λ p. p))
-    (λ e. bare_outcome false control Disconnect field (named_at false control 0x53 Disconnect e refl refl tt) (λ p. p) (λ p. p))
+    (λ _. either_by (λ b. Outcome false control field (if b then bare SetMode field else if nat_eq control 0x43 ||
+    nat_eq control 0x53 then bare Disconnect field else Err UnknownControl)) control 0x2F 0x3F
+    (λ e. bare_outcome false control SetMode field (named_at false control 0x2F SetMode e refl refl tt) (λ p. p) (λ
+    p. p))
+    (λ e. bare_outcome false control SetMode field (named_at false control 0x3F SetMode e refl refl tt) (λ p. p) (λ
+    p. p))
+    (either_by (λ b. Outcome false control field (if b then bare Disconnect field else Err UnknownControl)) control
+    0x43 0x53
+    (λ e. bare_outcome false control Disconnect field (named_at false control 0x43 Disconnect e refl refl tt) (λ p.
+    p) (λ p. p))
+    (λ e. bare_outcome false control Disconnect field (named_at false control 0x53 Disconnect e refl refl tt) (λ p.
+    p) (λ p. p))
     tt))
 
-response_outcome : (control : ℕ) (field : List ℕ) → AreOctets field → Outcome true control field (response_read control field)
+response_outcome : (control : ℕ) (field : List ℕ) → AreOctets field → Outcome true control field (response_read
+    control field)
 response_outcome control field octets =
-    either_by (λ b. Outcome true control field (if b then bare DisconnectedMode field else if nat_eq control 0x63 || nat_eq control 0x73 then bare Acknowledgement field else if nat_eq control 0x87 || nat_eq control 0x97 then report_read field else Err UnknownControl)) control 0x0F 0x1F
-    (λ e. bare_outcome true control DisconnectedMode field (named_at true control 0x0F DisconnectedMode e refl refl tt) (λ p. p) (λ p. p))
-    (λ e. bare_outcome true control DisconnectedMode field (named_at true control 0x1F DisconnectedMode e refl refl tt) (λ p. p) (λ p. p))
-    (either_by (λ b. Outcome true control field (if b then bare Acknowledgement field else if nat_eq control 0x87 || nat_eq control 0x97 then report_read field else Err UnknownControl)) control 0x63 0x73
-    (λ e. bare_outcome true control Acknowledgement field (named_at true control 0x63 Acknowledgement e refl refl tt) (λ p. p) (λ p. p))
-    (λ e. bare_outcome true control Acknowledgement field (named_at true control 0x73 Acknowledgement e refl refl tt) (λ p. p) (λ p. p))
-    (either_by (λ b. Outcome true control field (if b then report_read field else Err UnknownControl)) control 0x87 0x97
+    either_by (λ b. Outcome true control field (if b then bare DisconnectedMode field else if nat_eq control 0x63
+    || nat_eq control 0x73 then bare Acknowledgement field else if nat_eq control 0x87 || nat_eq control 0x97
+    then report_read field else Err UnknownControl)) control 0x0F 0x1F
+    (λ e. bare_outcome true control DisconnectedMode field (named_at true control 0x0F DisconnectedMode e refl refl
+    tt) (λ p. p) (λ p. p))
+    (λ e. bare_outcome true control DisconnectedMode field (named_at true control 0x1F DisconnectedMode e refl refl
+    tt) (λ p. p) (λ p. p))
+    (either_by (λ b. Outcome true control field (if b then bare Acknowledgement field else if nat_eq control 0x87
+    || nat_eq control 0x97 then report_read field else Err UnknownControl)) control 0x63 0x73
+    (λ e. bare_outcome true control Acknowledgement field (named_at true control 0x63 Acknowledgement e refl refl
+    tt) (λ p. p) (λ p. p))
+    (λ e. bare_outcome true control Acknowledgement field (named_at true control 0x73 Acknowledgement e refl refl
+    tt) (λ p. p) (λ p. p))
+    (either_by (λ b. Outcome true control field (if b then report_read field else Err UnknownControl)) control 0x87
+    0x97
     (λ e. reject_outcome control field octets (subst (λ n. n ≡ bit_of (has_bit n 16) * 16 + 0x87) (sym e) refl))
     (λ e. reject_outcome control field octets (subst (λ n. n ≡ bit_of (has_bit n 16) * 16 + 0x87) (sym e) refl))
     tt))
 
 -- a supervisory frame
-supervisory_named : (response : Bool) (control low : ℕ) (content : Content) → control_of content (has_bit control 16) ≡ control / 32 * 32 + bit_of (has_bit control 16) * 16 + low → control % 16 ≡ low → GoesAs content response → HasNumbers content → IsNamed response control content
+supervisory_named : (response : Bool) (control low : ℕ) (content : Content) → control_of content (has_bit control
+    16) ≡ control / 32 * 32 + bit_of (has_bit control 16) * 16 + low → control % 16 ≡ low → GoesAs content response
+    → HasNumbers content → IsNamed response control content
 supervisory_named response control low content spelt is goes numbers =
     record { control_is = omega (arith, bit_of-has_bit control 16, spelt); goes_as = goes; numbers = numbers }
 
-pub content_outcome : (response : Bool) (control : ℕ) (field : List ℕ) → control < 256 → AreOctets field → Outcome response control field (content_read response control field)
+pub content_outcome : (response : Bool) (control : ℕ) (field : List ℕ) → control < 256 → AreOctets field → Outcome
+    response control field (content_read response control field)
 content_outcome response control field octet octets =
-    cond_by (λ b. Outcome response control field (if b then bare (ReceiveReady (control / 32)) field else if nat_eq (control % 16) 0x05 then bare (ReceiveNotReady (control / 32)) field else if nat_eq (control % 16) 0x09 then bare (Reject (control / 32)) field else if response then response_read control field else command_read control field)) (nat_eq (control % 16) 0x01)
-    (λ is. bare_outcome response control (ReceiveReady (control / 32)) field (supervisory_named response control 0x01 (ReceiveReady (control / 32)) refl (eqb-true (control % 16) 0x01 is) tt (omega arith)) (λ p. p) (λ p. p))
-    (λ _. cond_by (λ b. Outcome response control field (if b then bare (ReceiveNotReady (control / 32)) field else if nat_eq (control % 16) 0x09 then bare (Reject (control / 32)) field else if response then response_read control field else command_read control field)) (nat_eq (control % 16) 0x05)
-    (λ is. bare_outcome response control (ReceiveNotReady (control / 32)) field (supervisory_named response control 0x05 (ReceiveNotReady (control / 32)) refl (eqb-true (control % 16) 0x05 is) tt (omega arith)) (λ p. p) (λ p. p))
-    (λ _. cond_by (λ b. Outcome response control field (if b then bare (Reject (control / 32)) field else if response then response_read control field else command_read control field)) (nat_eq (control % 16) 0x09)
-    (λ is. bare_outcome response control (Reject (control / 32)) field (supervisory_named response control 0x09 (Reject (control / 32)) refl (eqb-true (control % 16) 0x09 is) tt (omega arith)) (λ p. p) (λ p. p))
-    (λ _. elim response as (λ b. Outcome b control field (if b then response_read control field else command_read control field)) [ true ↦ response_outcome control field octets | false ↦ command_outcome control field octet ])))
+    cond_by (λ b. Outcome response control field (if b then bare (ReceiveReady (control / 32)) field else if nat_eq
+    (control % 16) 0x05 then bare (ReceiveNotReady (control / 32)) field else if nat_eq (control % 16) 0x09
+    then bare (Reject (control / 32)) field else if response then response_read control field else command_read
+    control field)) (nat_eq (control % 16) 0x01)
+    (λ is. bare_outcome response control (ReceiveReady (control / 32)) field (supervisory_named response control
+    0x01 (ReceiveReady (control / 32)) refl (eqb-true (control % 16) 0x01 is) tt (omega arith)) (λ p. p) (λ p. p))
+    (λ _. cond_by (λ b. Outcome response control field (if b then bare (ReceiveNotReady (control / 32)) field else
+    if nat_eq (control % 16) 0x09 then bare (Reject (control / 32)) field else if response then response_read
+    control field else command_read control field)) (nat_eq (control % 16) 0x05)
+    (λ is. bare_outcome response control (ReceiveNotReady (control / 32)) field (supervisory_named response control
+    0x05 (ReceiveNotReady (control / 32)) refl (eqb-true (control % 16) 0x05 is) tt (omega arith)) (λ p. p) (λ
+    p. p))
+    (λ _. cond_by (λ b. Outcome response control field (if b then bare (Reject (control / 32)) field else if
+    response then response_read control field else command_read control field)) (nat_eq (control % 16) 0x09)
+    (λ is. bare_outcome response control (Reject (control / 32)) field (supervisory_named response control 0x09
+    (Reject (control / 32)) refl (eqb-true (control % 16) 0x09 is) tt (omega arith)) (λ p. p) (λ p. p))
+    (λ _. elim response as (λ b. Outcome b control field (if b then response_read control field else command_read
+    control field)) [
+      | true ↦ response_outcome control field octets
+      | false ↦ command_outcome control field
+          octet
+    ])))

@@ -2,8 +2,26 @@
 use Rattle.std.specs.Prelude.{◌≡◌, ◌≢◌, ℕ, ◌<◌, List, [], length, slice_index}
 use Rattle.link_timers.specs.declared.role.Role.{Role}
 use Rattle.frame_codec.specs.declared.fault.FrameFault.{FrameFault}
-use Rattle.frame_codec.specs.declared.fault.FrameFault.TheVariants.{TooShort, WrongAddress, UnknownControl, InfoNotAllowed, InfoTooLong}
-use Rattle.frame_codec.specs.Frame.{Content, Information, ReceiveReady, ReceiveNotReady, Reject, SetMode, Disconnect, DisconnectedMode, Acknowledgement, FrameReject, FrameValue}
+use Rattle.frame_codec.specs.declared.fault.FrameFault.TheVariants.{
+  TooShort,
+  WrongAddress,
+  UnknownControl,
+  InfoNotAllowed,
+  InfoTooLong,
+}
+use Rattle.frame_codec.specs.Frame.{
+  Content,
+  Information,
+  ReceiveReady,
+  ReceiveNotReady,
+  Reject,
+  SetMode,
+  Disconnect,
+  DisconnectedMode,
+  Acknowledgement,
+  FrameReject,
+  FrameValue,
+}
 use Rattle.frame_codec.specs.FrameForm.{IsHead}
 
 -- the frame may not have this information field, whatever the length of what an I frame carries
@@ -35,8 +53,10 @@ abbrev pub HasFault : FrameFault → Role → List ℕ → Type 0
 HasFault TooShort at bytes = length bytes < 2
 HasFault WrongAddress at bytes = (slice_index bytes 0 ≢ 0x01) × (slice_index bytes 0 ≢ 0x03)
 HasFault UnknownControl at bytes = (f : FrameValue) (field : List ℕ) → IsHead at bytes f field → ⊥
-HasFault InfoNotAllowed at bytes = (f : FrameValue) × (field : List ℕ) × IsHead at bytes f field × IsNotAllowed f.content field
-HasFault InfoTooLong at bytes = (f : FrameValue) × (field : List ℕ) × IsHead at bytes f field × IsTooLong f.content field
+HasFault InfoNotAllowed at bytes = (f : FrameValue) × (field : List ℕ) × IsHead at bytes f field × IsNotAllowed
+    f.content field
+HasFault InfoTooLong at bytes = (f : FrameValue) × (field : List ℕ) × IsHead at bytes f field × IsTooLong f.content
+    field
 
 -- the place of a fault in the order in which they are tested
 abbrev pub place_of : FrameFault → ℕ

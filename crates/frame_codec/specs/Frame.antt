@@ -1,7 +1,8 @@
 -- What a frame says, apart from its octets (ISO 7776 4 and 5).
 use Rattle.std.specs.Prelude.{ℕ, Bool, List}
 
--- what a Frame Reject tells of the frame that it rejects: its control octet, the sender's V(S) and V(R), whether it was a
+-- what a Frame Reject tells of the frame that it rejects: its control octet, the sender's V(S) and V(R), whether
+-- it was a
 -- response, and why: W invalid control field, X information not allowed, Y information too long, Z invalid N(R)
 pub record Report : Type 0 where
   pub control : ℕ

@@ -2,7 +2,20 @@
 use Rattle.std.specs.Prelude.{◌≡◌, ℕ, ◌+◌, ◌*◌, ◌<◌, ◌≤◌, List, [], ◌∷◌, length}
 use Rattle.link_timers.specs.declared.role.Role.{Role}
 use Rattle.link_timers.specs.Role.{other_of}
-use Rattle.frame_codec.specs.Frame.{Report, Content, Information, ReceiveReady, ReceiveNotReady, Reject, SetMode, Disconnect, DisconnectedMode, Acknowledgement, FrameReject, FrameValue}
+use Rattle.frame_codec.specs.Frame.{
+  Report,
+  Content,
+  Information,
+  ReceiveReady,
+  ReceiveNotReady,
+  Reject,
+  SetMode,
+  Disconnect,
+  DisconnectedMode,
+  Acknowledgement,
+  FrameReject,
+  FrameValue,
+}
 use Rattle.frame_codec.specs.Spelling.{address_of, control_of, states_of, reasons_of, GoesAs, HasNumbers}
 
 -- three octets are a form of the report: bit 1 of the second and bits 5 to 8 of the third are not looked at
@@ -25,7 +38,8 @@ FieldForm DisconnectedMode field = field ≡ []
 FieldForm Acknowledgement field = field ≡ []
 FieldForm (FrameReject report) field = ReportForm report field
 
--- the text begins with the address and the control octet of a frame that the other end may send, and this field follows
+-- the text begins with the address and the control octet of a frame that the other end may send, and this field
+-- follows
 pub record IsHead (at : Role) (bytes : List ℕ) (f : FrameValue) (field : List ℕ) : Type 0 where
   pub octets : bytes ≡ address_of (other_of at) f.response ∷ control_of f.content f.poll ∷ field
   pub goes_as : GoesAs f.content f.response

@@ -1,10 +1,47 @@
 -- Reading a frame as a function of its octets: the frame, or the first fault.
-use Rattle.std.specs.Prelude.{ℕ, ◌/◌, ◌%◌, ◌==◌, ◌||◌, Bool, true, false, List, [], ◌∷◌, length, Result, Ok, Err, nat_le, if◌then◌else◌}
+use Rattle.std.specs.Prelude.{
+  ℕ,
+  ◌/◌,
+  ◌%◌,
+  ◌==◌,
+  ◌||◌,
+  Bool,
+  true,
+  false,
+  List,
+  [],
+  ◌∷◌,
+  length,
+  Result,
+  Ok,
+  Err,
+  nat_le,
+  if◌then◌else◌,
+}
 use Rattle.link_timers.specs.declared.role.Role.{Role}
 use Rattle.link_timers.specs.Role.{other_of}
 use Rattle.frame_codec.specs.declared.fault.FrameFault.{FrameFault}
-use Rattle.frame_codec.specs.declared.fault.FrameFault.TheVariants.{TooShort, WrongAddress, UnknownControl, InfoNotAllowed, InfoTooLong}
-use Rattle.frame_codec.specs.Frame.{Report, Content, Information, ReceiveReady, ReceiveNotReady, Reject, SetMode, Disconnect, DisconnectedMode, Acknowledgement, FrameReject, FrameValue}
+use Rattle.frame_codec.specs.declared.fault.FrameFault.TheVariants.{
+  TooShort,
+  WrongAddress,
+  UnknownControl,
+  InfoNotAllowed,
+  InfoTooLong,
+}
+use Rattle.frame_codec.specs.Frame.{
+  Report,
+  Content,
+  Information,
+  ReceiveReady,
+  ReceiveNotReady,
+  Reject,
+  SetMode,
+  Disconnect,
+  DisconnectedMode,
+  Acknowledgement,
+  FrameReject,
+  FrameValue,
+}
 use Rattle.frame_codec.specs.Spelling.{address_of}
 
 -- whether the bit is set that stands for this power of two
@@ -71,6 +108,8 @@ abbrev pub reading : Role → List ℕ → Result FrameValue FrameFault
 reading at [] = Err TooShort
 reading at (address ∷ []) = Err TooShort
 reading at (address ∷ control ∷ field) =
-    if address == address_of (other_of at) false then with_head false (has_bit control 16) (content_read false control field)
-    else if address == address_of (other_of at) true then with_head true (has_bit control 16) (content_read true control field)
+    if address == address_of (other_of at) false then with_head false (has_bit control 16) (content_read false
+    control field)
+    else if address == address_of (other_of at) true then with_head true (has_bit control 16) (content_read true
+    control field)
     else Err WrongAddress

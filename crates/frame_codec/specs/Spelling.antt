@@ -2,14 +2,28 @@
 use Rattle.std.specs.Prelude.{◌≡◌, ℕ, ◌+◌, ◌*◌, ◌<◌, ◌≤◌, Bool, true, false, List, [], ◌∷◌, length}
 use Rattle.link_timers.specs.declared.role.Role.{Role}
 use Rattle.link_timers.specs.declared.role.Role.TheVariants.{Dte, Dce}
-use Rattle.frame_codec.specs.Frame.{Report, Content, Information, ReceiveReady, ReceiveNotReady, Reject, SetMode, Disconnect, DisconnectedMode, Acknowledgement, FrameReject, FrameValue}
+use Rattle.frame_codec.specs.Frame.{
+  Report,
+  Content,
+  Information,
+  ReceiveReady,
+  ReceiveNotReady,
+  Reject,
+  SetMode,
+  Disconnect,
+  DisconnectedMode,
+  Acknowledgement,
+  FrameReject,
+  FrameValue,
+}
 
 -- a bit as a number
 abbrev pub bit_of : Bool → ℕ
 bit_of true = 1
 bit_of false = 0
 
--- the address octet of a frame that an end of this role sends: A is 03 and B is 01, the DCE sends its commands with A and
+-- the address octet of a frame that an end of this role sends: A is 03 and B is 01, the DCE sends its commands
+-- with A and
 -- its responses with B, and the DTE the other way round (ISO 7776 4.2)
 abbrev pub address_of : Role → (response : Bool) → ℕ
 address_of Dce false = 0x03
@@ -17,7 +31,8 @@ address_of Dce true = 0x01
 address_of Dte false = 0x01
 address_of Dte true = 0x03
 
--- the control octet: N(R) in bits 6 to 8, the poll or final bit in bit 5 and N(S) in bits 2 to 4 of an I frame; N(R) and the
+-- the control octet: N(R) in bits 6 to 8, the poll or final bit in bit 5 and N(S) in bits 2 to 4 of an I frame;
+-- N(R) and the
 -- poll or final bit in a supervisory frame; the poll or final bit alone in all else (ISO 7776 4.3, table 1)
 abbrev pub control_of : Content → (poll : Bool) → ℕ
 control_of (Information send receive information) poll = receive * 32 + bit_of poll * 16 + send * 2

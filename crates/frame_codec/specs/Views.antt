@@ -5,10 +5,33 @@ use Rattle.frame_codec.specs.declared.frame.Frame.{Frame}
 use Rattle.frame_codec.specs.declared.frame.FrameKind.{FrameKind}
 use Rattle.frame_codec.specs.declared.frame.FrameKind.TheVariants as kinds
 use Rattle.frame_codec.specs.declared.frame.Rejection.{Rejection}
-use Rattle.frame_codec.specs.Frame.{Report, Content, Information, ReceiveReady, ReceiveNotReady, Reject, SetMode, Disconnect, DisconnectedMode, Acknowledgement, FrameReject, FrameValue}
+use Rattle.frame_codec.specs.Frame.{
+  Report,
+  Content,
+  Information,
+  ReceiveReady,
+  ReceiveNotReady,
+  Reject,
+  SetMode,
+  Disconnect,
+  DisconnectedMode,
+  Acknowledgement,
+  FrameReject,
+  FrameValue,
+}
 
 abbrev pub report_of : Rejection → Report
-report_of r = record { control = r.control; send = r.vs; receive = r.vr; response = r.response; w = r.w; x = r.x; y = r.y; z = r.z }
+report_of r = record {
+  control = r.control;
+  send = r.vs;
+  receive = r.vr;
+  response = r.response;
+  w = r.w;
+  x = r.x;
+  y
+      = r.y;
+  z = r.z;
+}
 
 abbrev pub content_of : FrameKind → Content
 content_of (kinds.I ns nr information) = Information ns nr information.now

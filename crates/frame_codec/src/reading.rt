@@ -4,7 +4,17 @@ ghost use Rattle.frame_codec.specs.Frame.{FrameValue};
 ghost use Rattle.frame_codec.specs.FrameForm.{FrameForm};
 ghost use Rattle.frame_codec.specs.Faults.{IsFirstFault};
 ghost use Rattle.frame_codec.specs.Views.{content_of, kind_read, value_of, frame_read};
-ghost use Rattle.frame_codec.specs.Reading.{bare, information_read, report_read, command_read, response_read, content_read, has_bit, with_head, reading};
+ghost use Rattle.frame_codec.specs.Reading.{
+  bare,
+  information_read,
+  report_read,
+  command_read,
+  response_read,
+  content_read,
+  has_bit,
+  with_head,
+  reading,
+};
 
 use crate::fault::FrameFault;
 use crate::fields::{address_octet, is_set, receive_number, send_number};

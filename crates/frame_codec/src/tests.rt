@@ -1,226 +1,102 @@
 use super::*;
 use link_timers::Role;
 
-#[test]
-fn reads_and_writes(rt: HostRuntime) {
-    use FrameKind::*;
-    let report = Rejection {
-        control: 0xFF,
-        vs: 0,
-        vr: 0,
+fn command(kind: FrameKind<'static>, pf: bool) -> Frame<'static> {
+    Frame {
+        kind,
         response: false,
-        w: true,
-        x: false,
-        y: false,
-        z: false,
-    };
-    let full = Rejection {
-        control: 0x21,
-        vs: 5,
-        vr: 3,
+        pf,
+    }
+}
+
+fn response(kind: FrameKind<'static>, pf: bool) -> Frame<'static> {
+    Frame {
+        kind,
         response: true,
+        pf,
+    }
+}
+
+// What a report tells of a frame with this control octet, V(S) and V(R), with all or only the first of W, X, Y and Z.
+fn report(control: u8, vs: u8, vr: u8, all: bool) -> FrameKind<'static> {
+    FrameKind::Frmr(Rejection {
+        control,
+        vs,
+        vr,
+        response: all,
         w: true,
-        x: true,
-        y: true,
-        z: true,
-    };
-    let packet: &'static [u8] = &[0x10, 0x01];
-    let table: [(&[u8], Role, Frame<'static>); 20] = [
-        (
-            &[0x01, 0x3F],
-            Role::Dce,
-            Frame {
-                kind: Sabm,
-                response: false,
-                pf: true,
-            },
-        ),
-        (
-            &[0x03, 0x2F],
-            Role::Dte,
-            Frame {
-                kind: Sabm,
-                response: false,
-                pf: false,
-            },
-        ),
-        (
-            &[0x01, 0x43],
-            Role::Dce,
-            Frame {
-                kind: Disc,
-                response: false,
-                pf: false,
-            },
-        ),
-        (
-            &[0x03, 0x53],
-            Role::Dte,
-            Frame {
-                kind: Disc,
-                response: false,
-                pf: true,
-            },
-        ),
-        (
-            &[0x01, 0x0F],
-            Role::Dte,
-            Frame {
-                kind: Dm,
-                response: true,
-                pf: false,
-            },
-        ),
-        (
-            &[0x03, 0x1F],
-            Role::Dce,
-            Frame {
-                kind: Dm,
-                response: true,
-                pf: true,
-            },
-        ),
-        (
-            &[0x01, 0x73],
-            Role::Dte,
-            Frame {
-                kind: Ua,
-                response: true,
-                pf: true,
-            },
-        ),
-        (
-            &[0x03, 0x63],
-            Role::Dce,
-            Frame {
-                kind: Ua,
-                response: true,
-                pf: false,
-            },
-        ),
-        (
-            &[0x01, 0x11],
-            Role::Dce,
-            Frame {
-                kind: Rr { nr: 0 },
-                response: false,
-                pf: true,
-            },
-        ),
-        (
-            &[0x01, 0x11],
-            Role::Dte,
-            Frame {
-                kind: Rr { nr: 0 },
-                response: true,
-                pf: true,
-            },
-        ),
-        (
-            &[0x01, 0xF1],
-            Role::Dte,
-            Frame {
-                kind: Rr { nr: 7 },
-                response: true,
-                pf: true,
-            },
-        ),
-        (
-            &[0x03, 0x61],
-            Role::Dte,
-            Frame {
-                kind: Rr { nr: 3 },
-                response: false,
-                pf: false,
-            },
-        ),
-        (
-            &[0x03, 0x25],
-            Role::Dce,
-            Frame {
-                kind: Rnr { nr: 1 },
-                response: true,
-                pf: false,
-            },
-        ),
-        (
-            &[0x01, 0x09],
-            Role::Dte,
-            Frame {
-                kind: Rej { nr: 0 },
-                response: true,
-                pf: false,
-            },
-        ),
-        (
-            &[0x01, 0x0E, 0x10, 0x01],
-            Role::Dce,
-            Frame {
-                kind: I {
-                    ns: 7,
-                    nr: 0,
-                    information: packet,
-                },
-                response: false,
-                pf: false,
-            },
-        ),
-        (
-            &[0x01, 0x74],
-            Role::Dce,
-            Frame {
-                kind: I {
-                    ns: 2,
-                    nr: 3,
-                    information: &[],
-                },
-                response: false,
-                pf: true,
-            },
-        ),
+        x: all,
+        y: all,
+        z: all,
+    })
+}
+
+fn information(ns: u8, nr: u8, information: &'static [u8]) -> FrameKind<'static> {
+    FrameKind::I {
+        ns,
+        nr,
+        information,
+    }
+}
+
+#[test]
+fn reads_and_writes_unnumbered_frames(rt: HostRuntime) {
+    use FrameKind::*;
+    let table: [(&[u8], Role, Frame<'static>); 10] = [
+        (&[0x01, 0x3F], Role::Dce, command(Sabm, true)),
+        (&[0x03, 0x2F], Role::Dte, command(Sabm, false)),
+        (&[0x01, 0x43], Role::Dce, command(Disc, false)),
+        (&[0x03, 0x53], Role::Dte, command(Disc, true)),
+        (&[0x01, 0x0F], Role::Dte, response(Dm, false)),
+        (&[0x03, 0x1F], Role::Dce, response(Dm, true)),
+        (&[0x01, 0x73], Role::Dte, response(Ua, true)),
+        (&[0x03, 0x63], Role::Dce, response(Ua, false)),
         (
             &[0x01, 0x97, 0xFF, 0x00, 0x01],
             Role::Dte,
-            Frame {
-                kind: Frmr(report),
-                response: true,
-                pf: true,
-            },
+            response(report(0xFF, 0, 0, false), true),
         ),
         (
             &[0x03, 0x87, 0x21, 0x7A, 0x0F],
             Role::Dce,
-            Frame {
-                kind: Frmr(full),
-                response: true,
-                pf: false,
-            },
+            response(report(0x21, 5, 3, true), false),
+        ),
+    ];
+    for (octets, at, frame) in table {
+        assert_eq!(rt; read_frame(octets, at), Ok(frame));
+        assert!(rt; is_written_back(octets, at));
+    }
+}
+
+#[test]
+fn reads_and_writes_numbered_frames(rt: HostRuntime) {
+    use FrameKind::*;
+    let table: [(&[u8], Role, Frame<'static>); 10] = [
+        (&[0x01, 0x11], Role::Dce, command(Rr { nr: 0 }, true)),
+        (&[0x01, 0x11], Role::Dte, response(Rr { nr: 0 }, true)),
+        (&[0x01, 0xF1], Role::Dte, response(Rr { nr: 7 }, true)),
+        (&[0x03, 0x61], Role::Dte, command(Rr { nr: 3 }, false)),
+        (&[0x03, 0x25], Role::Dce, response(Rnr { nr: 1 }, false)),
+        (&[0x01, 0x09], Role::Dte, response(Rej { nr: 0 }, false)),
+        (
+            &[0x01, 0x0E, 0x10, 0x01],
+            Role::Dce,
+            command(information(7, 0, &[0x10, 0x01]), false),
+        ),
+        (
+            &[0x01, 0x74],
+            Role::Dce,
+            command(information(2, 3, &[]), true),
         ),
         (
             &[0x01, 0x02],
             Role::Dce,
-            Frame {
-                kind: I {
-                    ns: 1,
-                    nr: 0,
-                    information: &[],
-                },
-                response: false,
-                pf: false,
-            },
+            command(information(1, 0, &[]), false),
         ),
         (
             &[0x03, 0x44],
             Role::Dte,
-            Frame {
-                kind: I {
-                    ns: 2,
-                    nr: 2,
-                    information: &[],
-                },
-                response: false,
-                pf: false,
-            },
+            command(information(2, 2, &[]), false),
         ),
     ];
     for (octets, at, frame) in table {

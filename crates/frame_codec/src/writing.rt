@@ -2,7 +2,15 @@ ghost use Rattle.std.specs.Prelude.{◌≡◌, ◌<◌};
 ghost use Rattle.link_timers.specs.Role.{other_of};
 ghost use Rattle.frame_codec.specs.FrameForm.{FrameForm};
 ghost use Rattle.frame_codec.specs.Views.{report_of, content_of, value_of};
-ghost use Rattle.frame_codec.specs.Spelling.{control_of, states_of, reasons_of, field_of, spelling, HasNumbers, HasSpelling};
+ghost use Rattle.frame_codec.specs.Spelling.{
+  control_of,
+  states_of,
+  reasons_of,
+  field_of,
+  spelling,
+  HasNumbers,
+  HasSpelling,
+};
 
 use crate::buffer::FrameBuf;
 use crate::fields::{address_octet, octet_of};

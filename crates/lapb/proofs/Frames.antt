@@ -1,5 +1,33 @@
 -- At most nine frames are kept, and the packets that may go are sent in order.
-use Rattle.std.proofs.Common.{◌≡◌, ℕ, zero, suc, ◌+◌, ◌%◌, ◌<◌, ◌≤◌, List, [], ◌∷◌, ◌++◌, length, take, drop, map, refl, sym, ◌∙◌, ap, arith, add-one, max, Bool, true, false, length-drop}
+use Rattle.std.proofs.Common.{
+  ◌≡◌,
+  ℕ,
+  zero,
+  suc,
+  ◌+◌,
+  ◌%◌,
+  ◌<◌,
+  ◌≤◌,
+  List,
+  [],
+  ◌∷◌,
+  ◌++◌,
+  length,
+  take,
+  drop,
+  map,
+  refl,
+  sym,
+  ◌∙◌,
+  ap,
+  arith,
+  add-one,
+  max,
+  Bool,
+  true,
+  false,
+  length-drop,
+}
 use Rattle.std.specs.Prelude.{Option, Some, None, slice_get, nat_le, if◌then◌else◌}
 use Rattle.std.proofs.lemmas.Bool.{leb-true, leb-false}
 use Rattle.flow_window.specs.Window.{Window, taken}
@@ -30,36 +58,56 @@ take_short zero (x ∷ xs) e = absurd (omega arith)
 take_short (suc n) [] e = refl
 take_short (suc n) (x ∷ xs) e = ap (λ zs. x ∷ zs) (take_short n xs (omega arith))
 
-take_again : {X : Type 0} (n : ℕ) (xs : List X) (x : X) (ys : List X) → take n (take n (xs ++ x ∷ []) ++ ys) ≡ take n (xs ++ x ∷ ys)
+take_again : {X : Type 0} (n : ℕ) (xs : List X) (x : X) (ys : List X) → take n (take n (xs ++ x ∷ []) ++ ys) ≡ take
+    n (xs ++ x ∷ ys)
 take_again zero xs x ys = refl
 take_again {X = X} (suc n) [] x ys = ap (λ zs. x ∷ take n (zs ++ ys)) (take_none X n)
 take_again (suc n) (y ∷ xs) x ys = ap (λ zs. y ∷ zs) (take_again n xs x ys)
 
 -- the packet at a place, and those after it
-pub drop-slice_get : {X : Type 0} (place : ℕ) (xs : List X) (x : X) → slice_get xs place ≡ Some x → drop place xs ≡ x ∷ drop (suc place) xs
+pub drop-slice_get : {X : Type 0} (place : ℕ) (xs : List X) (x : X) → slice_get xs place ≡ Some x → drop place xs ≡
+    x ∷ drop (suc place) xs
 drop-slice_get zero [] x e = absurd (cc)
 drop-slice_get zero (y ∷ xs) x e = let same : y ≡ x = cc in ap (λ z. z ∷ xs) same
 drop-slice_get (suc place) [] x e = absurd (cc)
 drop-slice_get (suc place) (y ∷ xs) x e = drop-slice_get place xs x e
 
 -- one I frame more, and those after it
-pub sent_one_more : (role : Role) (oldest nr place : ℕ) (queue : List Octets) (packet : Octets) (frames : List Octets) → slice_get queue place ≡ Some packet →
-    with_frames (with_frames frames (spelling role (command (Information ((oldest + place) % 8) nr packet) false) ∷ [])) (map (spelling role) (numbered (oldest + (place + 1)) nr (drop (place + 1) queue)))
+pub sent_one_more : (role : Role) (oldest nr place : ℕ) (queue : List Octets) (packet : Octets) (frames : List
+    Octets) → slice_get queue place ≡ Some packet →
+    with_frames (with_frames frames (spelling role (command (Information ((oldest + place) % 8) nr packet) false) ∷
+    [])) (map (spelling role) (numbered (oldest + (place + 1)) nr (drop (place + 1) queue)))
     ≡ with_frames frames (map (spelling role) (numbered (oldest + place) nr (drop place queue)))
 sent_one_more role oldest nr place queue packet frames at =
     let next : oldest + place + 1 ≡ oldest + (place + 1) = omega arith in
     let rest : drop place queue ≡ packet ∷ drop (place + 1) queue = rw add-one (drop-slice_get place queue packet at) in
-    take_again 9 frames (spelling role (command (Information ((oldest + place) % 8) nr packet) false)) (map (spelling role) (numbered (oldest + (place + 1)) nr (drop (place + 1) queue)))
-    ∙ ap (λ n. with_frames frames (map (spelling role) (command (Information ((oldest + place) % 8) nr packet) false ∷ numbered n nr (drop (place + 1) queue)))) (sym next)
+    take_again 9 frames (spelling role (command (Information ((oldest + place) % 8) nr packet) false)) (map
+    (spelling role) (numbered (oldest + (place + 1)) nr (drop (place + 1) queue)))
+    ∙ ap (λ n. with_frames frames (map (spelling role) (command (Information ((oldest + place) % 8) nr packet)
+    false ∷ numbered n nr (drop (place + 1) queue)))) (sym next)
     ∙ ap (λ ps. with_frames frames (map (spelling role) (numbered (oldest + place) nr ps))) (sym rest)
 
 -- frames were appended twice, and nothing else was changed
-pub frames_alone : (first middle last : Out) (frames : List Octets) → middle ≡ record first { frames = middle.frames } → last ≡ record middle { frames = frames } → last ≡ record first { frames = last.frames }
+pub frames_alone : (first middle last : Out) (frames : List Octets) → middle ≡ record first {
+  frames =
+      middle.frames;
+} → last ≡ record middle { frames = frames } → last ≡ record first { frames = last.frames }
 frames_alone first middle last frames once again =
-    again ∙ (λ i. record (once i) { frames = frames }) ∙ (λ i. record first { frames = (ap (λ (o : Out). o.frames) (sym again)) i })
+    again ∙ (λ i. record (once i) { frames = frames }) ∙ (λ i. record first {
+      frames = (ap (λ (o : Out). o.frames)
+          (sym again)) i;
+    })
 
 -- one number more is used
-pub one_more_used : (place : ℕ) (first middle last : Window) → middle ≡ record first { next = place; top = max first.top place } → last ≡ taken middle → last ≡ record first { next = place + 1; top = max first.top (place + 1) }
+pub one_more_used : (place : ℕ) (first middle last : Window) → middle ≡ record first {
+  next = place;
+  top = max
+      first.top place;
+} → last ≡ taken middle → last ≡ record first {
+  next = place + 1;
+  top = max first.top (place +
+      1);
+}
 one_more_used place first middle last once again =
     let highest : max (max first.top place) (place + 1) ≡ max first.top (place + 1) = omega arith in
     again ∙ ap taken once ∙ (λ i. record first { next = place + 1; top = highest i })
@@ -69,9 +117,24 @@ max_by a b true e = let less = leb-true a b e in omega arith
 max_by a b false e = let more = leb-false a b e in omega arith
 
 -- the link after its packets were sent
-pub sent_link : (l : Link) → l.next < length l.queue → record l { next = length l.queue; top = max l.top (length l.queue); owed = false } ≡ (send_all l (drop l.next l.queue)).link
+pub sent_link : (l : Link) → l.next < length l.queue → record l {
+  next = length l.queue;
+  top = max l.top (length
+      l.queue);
+  owed = false;
+} ≡ (send_all l (drop l.next l.queue)).link
 sent_link l some = go (drop l.next l.queue) (omega (arith, length-drop l.next l.queue))
   where
-    go : (packets : List Octets) → 0 < length packets → record l { next = length l.queue; top = max l.top (length l.queue); owed = false } ≡ (send_all l packets).link
+    go : (packets : List Octets) → 0 < length packets → record l {
+      next = length l.queue;
+      top = max l.top (length
+          l.queue);
+      owed = false;
+    } ≡ (send_all l packets).link
     go [] none = absurd (omega arith)
-    go (packet ∷ packets) _ = λ i. record l { next = length l.queue; top = (max_by l.top (length l.queue) (nat_le l.top (length l.queue)) refl) i; owed = false }
+    go (packet ∷ packets) _ = λ i. record l {
+      next = length l.queue;
+      top = (max_by l.top (length l.queue) (nat_le
+          l.top (length l.queue)) refl) i;
+      owed = false;
+    }

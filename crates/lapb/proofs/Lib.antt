@@ -1,3 +1,4 @@
+pub mod AcceptedPacket
 mod Cases
 mod DceSteps
 mod DteSteps
@@ -13,3 +14,6 @@ pub mod Reach
 pub mod NamedCalls
 mod Rows
 mod Steps
+pub mod Fitting
+pub mod Lines
+pub mod Sessions

@@ -2,8 +2,26 @@
 use Rattle.std.proofs.Common.{◌≡◌, refl}
 use Rattle.std.specs.Prelude.{Result, Ok, Err}
 use Rattle.frame_codec.specs.declared.fault.FrameFault.{FrameFault}
-use Rattle.frame_codec.specs.declared.fault.FrameFault.TheVariants.{TooShort, WrongAddress, UnknownControl, InfoNotAllowed, InfoTooLong}
-use Rattle.frame_codec.specs.Frame.{FrameValue, Content, Information, ReceiveReady, ReceiveNotReady, Reject, SetMode, Disconnect, DisconnectedMode, Acknowledgement, FrameReject}
+use Rattle.frame_codec.specs.declared.fault.FrameFault.TheVariants.{
+  TooShort,
+  WrongAddress,
+  UnknownControl,
+  InfoNotAllowed,
+  InfoTooLong,
+}
+use Rattle.frame_codec.specs.Frame.{
+  FrameValue,
+  Content,
+  Information,
+  ReceiveReady,
+  ReceiveNotReady,
+  Reject,
+  SetMode,
+  Disconnect,
+  DisconnectedMode,
+  Acknowledgement,
+  FrameReject,
+}
 use Rattle.frame_codec.specs.Spelling.{HasNumbers}
 use Rattle.frame_codec.specs.Reading.{reading}
 use Rattle.frame_codec.proofs.Outcomes.{AreOctets}

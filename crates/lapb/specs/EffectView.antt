@@ -16,7 +16,13 @@ packet_value None = None
 packet_value (Some packet) = Some packet.now
 
 abbrev pub effect_view : Inside → Effect
-effect_view a = record { frames = frames_value a.frame; note = a.note; accepted = packet_value a.accepted; anew = a.anew }
+effect_view a = record {
+  frames = frames_value a.frame;
+  note = a.note;
+  accepted = packet_value a.accepted;
+  anew =
+      a.anew;
+}
 
 -- what is sent has a spelling
 abbrev pub IsEffect : Inside → Type 0

@@ -11,3 +11,5 @@ pub mod EffectView
 pub mod OutView
 pub mod LinkView
 pub mod NamedOctets
+pub mod Fits
+pub mod Line

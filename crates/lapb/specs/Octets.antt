@@ -3,11 +3,28 @@ use Rattle.std.specs.Prelude.{ℕ, Bool, true, List, Result, Ok, Err, slice_inde
 use Rattle.link_timers.specs.declared.role.Role.{Role}
 use Rattle.link_timers.specs.Role.{other_of}
 use Rattle.frame_codec.specs.declared.fault.FrameFault.{FrameFault}
-use Rattle.frame_codec.specs.declared.fault.FrameFault.TheVariants.{TooShort, WrongAddress, UnknownControl, InfoNotAllowed, InfoTooLong}
+use Rattle.frame_codec.specs.declared.fault.FrameFault.TheVariants.{
+  TooShort,
+  WrongAddress,
+  UnknownControl,
+  InfoNotAllowed,
+  InfoTooLong,
+}
 use Rattle.frame_codec.specs.Frame.{FrameValue}
 use Rattle.frame_codec.specs.Spelling.{address_of}
 use Rattle.frame_codec.specs.Reading.{reading}
-use Rattle.lapb.specs.Machine.{Octets, Link, Step, Defect, UndefinedControl, InformationNotAllowed, InformationTooLong, still, on_defect, on_frame}
+use Rattle.lapb.specs.Machine.{
+  Octets,
+  Link,
+  Step,
+  Defect,
+  UndefinedControl,
+  InformationNotAllowed,
+  InformationTooLong,
+  still,
+  on_defect,
+  on_frame,
+}
 
 -- whether the octets are those of a response
 abbrev pub is_response : Role → Octets → Bool

@@ -1,11 +1,48 @@
 -- What a link's calls give: the frames to be sent, as octets, and what the node is told.
-use Rattle.std.specs.Prelude.{◌≡◌, ℕ, Bool, true, false, not, ◌&&◌, ◌||◌, List, [], ◌∷◌, ◌++◌, map, take, Option, Some, None, is_some, if◌then◌else◌}
+use Rattle.std.specs.Prelude.{
+  nat_lt,
+  ◌+◌,
+  ◌*◌,
+  ◌≡◌,
+  ℕ,
+  Bool,
+  true,
+  false,
+  not,
+  ◌&&◌,
+  ◌||◌,
+  List,
+  [],
+  ◌∷◌,
+  ◌++◌,
+  map,
+  take,
+  Option,
+  Some,
+  None,
+  is_some,
+  if◌then◌else◌,
+}
 use Rattle.link_timers.specs.declared.role.Role.{Role}
 use Rattle.frame_codec.specs.Frame.{FrameValue}
 use Rattle.frame_codec.specs.Spelling.{spelling, HasSpelling}
 use Rattle.lapb.specs.declared.note.Note.{Note}
 use Rattle.lapb.specs.declared.note.Timing.{Timing}
-use Rattle.lapb.specs.Machine.{Octets, Link, Step, runs, answers, reject_as, report_of, timing_after}
+use Rattle.lapb.specs.Machine.{
+  Octets,
+  Link,
+  Step,
+  runs,
+  answers,
+  reject_as,
+  report_of,
+  is_valid,
+  on_supervisory,
+  acknowledged,
+  ahead,
+  bit_of,
+  timing_after,
+}
 
 pub record Out : Type 0 where
   pub frames : List Octets  -- to be sent, in order
@@ -71,3 +108,11 @@ answered due receive = record no_effect { frames = answers due receive }
 abbrev pub number_rejected : Link → (control : ℕ) → (is_response poll : Bool) → Step
 number_rejected l control is_response poll =
     reject_as l.role l (report_of l control is_response false false false true) (poll && not is_response)
+
+-- RR, RNR and REJ: the first makes the partner not busy, the second busy, the third sets V(S) back to N(R)
+abbrev pub supervisory_taken : Link → (receive low : ℕ) → (busy back is_response poll : Bool) → Step
+supervisory_taken l receive low busy back is_response poll =
+    if is_valid l receive then record (on_supervisory (acknowledged l receive) busy back is_response poll) {
+      anew = nat_lt 0 (ahead l.oldest receive);
+    }
+    else number_rejected l (receive * 32 + bit_of poll + low) is_response poll

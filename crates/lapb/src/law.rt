@@ -1,7 +1,8 @@
 ghost use Rattle.lapb.specs.World.{Always, InOrder, ComesUp, BeginsFresh, MayCarry};
 
 /// The law of two links, one of each role, on a line that loses frames and neither changes, reorders nor repeats them:
-/// for every list of offers, deliveries, losses, frames dropped on sending, expiries of T1, starts, relinks and restarts.
+/// for every list of offers, deliveries, losses, frames dropped on sending, expiries of T1, starts, relinks and
+/// restarts.
 /// Sessions are numbered by the set-up acts of the DTE (X.25 2.4.4, 2.4.5).
 pub fn link_law()
     // In each session what an end accepted is a prefix of what the other end offered, and no FRMR is sent.

@@ -107,7 +107,10 @@ impl LinkOut {
 
     fn put_any(&mut self, role: Role, frame: Option<Frame<'static>>)
         requires { AreSpelt (frames_value frame) }
-        ensures { self.new ≡ record self.old { frames = with_frames self.old.frames (map (spelling role) (frames_value frame.entry)) } }
+        ensures { self.new ≡ record self.old {
+          frames = with_frames self.old.frames (map (spelling role)
+              (frames_value frame.entry));
+        } }
     {
         match frame {
             Some(frame) => self.put(role, &frame),
@@ -124,7 +127,12 @@ impl LinkOut {
 
     /// Ends a call that tells nothing of the link. T1 ran before it, and is to run now.
     pub(crate) fn end(&mut self, ran: bool, runs: bool)
-        ensures { self.new ≡ record self.old { note = Note.Nothing; accepted = false; timer = timing_after self.old.timer (timing_by ran runs false) } }
+        ensures { self.new ≡ record self.old {
+          note = Note.Nothing;
+          accepted = false;
+          timer = timing_after
+              self.old.timer (timing_by ran runs false);
+        } }
     {
         self.note = Note::Nothing;
         self.accepted = false;
@@ -145,7 +153,10 @@ impl LinkOut {
     /// Appends a frame. A tenth one is dropped, as a lost frame.
     pub(crate) fn put(&mut self, role: Role, frame: &Frame<'_>)
         requires { HasSpelling (value_of frame.now) }
-        ensures out { self.new ≡ record self.old { frames = with_frames self.old.frames (spelling role (value_of frame.now) ∷ []) } }
+        ensures out { self.new ≡ record self.old {
+          frames = with_frames self.old.frames (spelling role (value_of
+              frame.now) ∷ []);
+        } }
         ensures most { length self.new.frames ≤ 9 }
     {
         if self.frames.is_full() {

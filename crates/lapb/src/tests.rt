@@ -23,7 +23,8 @@ fn are_sent(out: &LinkOut, expected: &[&[u8]]) -> bool {
     same
 }
 
-// Whether a link gives this note and sends these frames, and the end of the event sends no more, when it is set up anew.
+// Whether a link gives this note and sends these frames, and the end of the event sends no more, when it is set up
+// anew.
 fn relinks(link: &mut Link, note: Note, expected: &[&[u8]]) -> bool {
     let mut out = LinkOut::new();
     link.relink(&mut out);

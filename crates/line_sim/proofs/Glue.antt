@@ -47,7 +47,7 @@ key-step F octet s records r new answer pad line e at k = record {
     is_there = ap (λ (l : List RecordValue). slice_get l 0) e ∙ at_place records 0 r at;
     changed = map-set shown records 0 new ∙ ap (λ x. set (map shown records) 0 x) k.record_is ∙ ap (λ (l : List RecordValue). set l 0 (with_key (pad_key octet s.pad) (shown r))) (sym e);
   };
-  others = refl
+  others = refl;
 }
 
 pub take-step : (F : Type 0) (s : NetState) (records : List Record) (r new : Record) (answer : Answer) (host : HostState) (line : Flights)
@@ -61,7 +61,7 @@ take-step F s records r new answer host line e at k = record {
     is_there = ap (λ (l : List RecordValue). slice_get l 1) e ∙ at_place records 1 r at;
     changed = map-set shown records 1 new ∙ ap (λ x. set (map shown records) 1 x) k.record_is ∙ ap (λ (l : List RecordValue). set l 1 (with_any_taken (host_gives s.host) (shown r))) (sym e);
   };
-  others = refl
+  others = refl;
 }
 
 set-get : {A : Type 0} (xs : List A) (i : ℕ) (x : A) → slice_get xs i ≡ Some x → set xs i x ≡ xs
@@ -93,10 +93,9 @@ take_fault is_host is_zero is_beyond = if is_host then (if is_zero || is_beyond 
 pub key-happens : (F : Type 0) (node terminal octet : ℕ) (s : NetState) (answer : Answer) (t : NetState) → node ≡ s.pad_place → terminal < s.terminals → terminal ≡ 0
     → KeyStep F (pad_key octet s.pad) s answer t → Happens F (Key node terminal octet) s (Ok answer) t
 key-happens F node terminal octet s answer t e lt z k =
-    let P : Bool → Type 0 = λ b. MatchBool b (KeyStep F (pad_key octet s.pad) s answer t) (IdleKeyStep s answer t) in
-    (
+    let P : Bool → Type 0 = λ b. MatchBool b (KeyStep F (pad_key octet s.pad) s answer t) (IdleKeyStep s answer t) in (
       ap (λ b. key_fault b (nat_lt terminal s.terminals)) (eq-eqb node s.pad_place e) ∙ ap (key_fault true) (lt-ltb terminal s.terminals lt),
-      subst P (sym (eq-eqb terminal 0 z)) k
+      subst P (sym (eq-eqb terminal 0 z)) k,
     )
 
 pub take-happens : (F : Type 0) (node channel : ℕ) (s : NetState) (answer : Answer) (t : NetState) → node ≡ s.host_place → channel ≤ s.channels → channel ≡ 1
@@ -104,20 +103,22 @@ pub take-happens : (F : Type 0) (node channel : ℕ) (s : NetState) (answer : An
 take-happens F node channel s answer t e le z k =
     let P : Bool → Type 0 = λ b. MatchBool b (TakeStep F s answer t) (IdleTakeStep s answer t) in
     let not_zero : nat_eq channel 0 ≡ false = ne_eqb channel 0 (λ h. let no : ⊥ = omega arith in no) in
-    let not_beyond : nat_lt s.channels channel ≡ false = le-ltb s.channels channel le in
-    (
+    let not_beyond : nat_lt s.channels channel ≡ false = le-ltb s.channels channel le in (
       ap (λ b. take_fault b (nat_eq channel 0) (nat_lt s.channels channel)) (eq-eqb node s.host_place e)
-      ∙ ap (λ b. take_fault true b (nat_lt s.channels channel)) not_zero ∙ ap (take_fault true false) not_beyond,
-      subst P (sym (eq-eqb channel 1 z)) k
+          ∙ ap (λ b. take_fault true b (nat_lt s.channels channel)) not_zero ∙ ap (take_fault true false) not_beyond,
+      subst P (sym (eq-eqb channel 1 z)) k,
     )
 
 -- a delivery of nothing, to the host, and to the PAD
 pub empty-step : (F : Type 0) (d : Direction) (s : NetState) (line : Flights) (came : Option (List ℕ)) (answer : Answer) → came ≡ None
     → (F → came ≡ slice_get (flying d s.line) 0) → (F → line ≡ without_first d s.line) → answer.frames.items ≡ [] → answer.outcome ≡ Delivered false → DeliverStep F d s answer (record s { line = line })
 empty-step F d s line came answer is_none first rest frames outcome = record {
-  came = None; line = line; first = λ f. sym is_none ∙ first f; rest = rest;
+  came = None;
+  line = line;
+  first = λ f. sym is_none ∙ first f;
+  rest = rest;
   heard = record { frames = frames; others = refl };
-  outcome = outcome
+  outcome = outcome;
 }
 
 pub host-step : (F : Type 0) (d : Direction) (s : NetState) (octets : List ℕ) (line after : Flights) (host : HostState) (answer : Answer) → d ≡ FromDte
@@ -142,9 +143,9 @@ pad-step F d s records r new octets line after pad answer e are at changed first
       records = record {
         record_there = shown r;
         is_there = ap (λ (l : List RecordValue). slice_get l 0) are ∙ at_place records 0 r at;
-        changed = map-set shown records 0 new ∙ ap (λ x. set (map shown records) 0 x) changed ∙ ap (λ (l : List RecordValue). set l 0 (with_covered (pad_hears octets s.pad).covers (shown r))) (sym are)
+        changed = map-set shown records 0 new ∙ ap (λ x. set (map shown records) 0 x) changed ∙ ap (λ (l : List RecordValue). set l 0 (with_covered (pad_hears octets s.pad).covers (shown r))) (sym are);
       };
-      others = refl
+      others = refl;
     } in
     record { came = Some octets; line = line; first = first; rest = rest; heard = subst D (sym e) heard; outcome = outcome }
 
@@ -174,23 +175,41 @@ pub opening-net : (F : Type 0) (s : NetState) (params : List ℕ) (window size :
     → s.records ≡ standing_record 0 s.pad_place ∷ standing_record 1 s.host_place ∷ [] → s.pairs ≡ standing_pair ∷ [] → IsNet F s
 opening-net F s params window size w z apart pad host line records pairs = record {
   stands = record {
-    sent = []; covered = 0; steps = []; taken = []; blocks = []; apart = apart;
-    records_are = records; pairs_are = pairs;
+    sent = [];
+    covered = 0;
+    steps = [];
+    taken = [];
+    blocks = [];
+    apart = apart;
+    records_are = records;
+    pairs_are = pairs;
     edited = λ i. record { held = sym (ap (λ (p : PadState). p.held) pad) i; blocks = [] };
     messages = refl;
     held_short = (let P : PadState → Type 0 = λ p. length p.held < 128 in subst P (sym pad) (omega arith));
-    counted = (let P : PadState → Type 0 = λ p. 0 + p.outstanding + length p.queue ≡ 0 in subst P (sym pad) (omega arith))
+    counted = (let P : PadState → Type 0 = λ p. 0 + p.outstanding + length p.queue ≡ 0 in subst P (sym pad) (omega arith));
   };
   served = λ f.
-    let P : PadState → Type 0 = λ p. IsServed p s.host s.line [] [] 0 in
-    let H : HostState → Type 0 = λ h. IsServed (new_pad params window size) h s.line [] [] 0 in
-    let L : Flights → Type 0 = λ l. IsServed (new_pad params window size) (new_host window size) l [] [] 0 in
-    let half : HalfLink size 0 0 0 0 [] [] [] = record { told = 0; size_le = z; acked_is = refl; sent_is = omega arith; sent_le = omega arith; expected_is = refl; flying = none; telling = omega arith } in
-    let now : L no_flights = record {
-      going = []; ready = []; arrived = 0; up = []; down = []; up_is = refl; down_is = refl; up_spelled = tt; down_spelled = tt;
-      sent_is = refl; going_short = tt; queue_short = tt;
-      numbers = record { window_le = w; same_window = refl; within = omega arith; covered_is = refl; outstanding_is = omega arith; expected_is = refl; released_is = refl };
-      covering = omega arith; onward = half; backward = half
-    } in
-    subst P (sym pad) (subst H (sym host) (subst L (sym (line f)) now))
+      let P : PadState → Type 0 = λ p. IsServed p s.host s.line [] [] 0 in
+      let H : HostState → Type 0 = λ h. IsServed (new_pad params window size) h s.line [] [] 0 in
+      let L : Flights → Type 0 = λ l. IsServed (new_pad params window size) (new_host window size) l [] [] 0 in
+      let half : HalfLink size 0 0 0 0 [] [] [] = record { told = 0; size_le = z; acked_is = refl; sent_is = omega arith; sent_le = omega arith; expected_is = refl; flying = none; telling = omega arith } in
+      let now : L no_flights = record {
+        going = [];
+        ready = [];
+        arrived = 0;
+        up = [];
+        down = [];
+        up_is = refl;
+        down_is = refl;
+        up_spelled = tt;
+        down_spelled = tt;
+        sent_is = refl;
+        going_short = tt;
+        queue_short = tt;
+        numbers = record { window_le = w; same_window = refl; within = omega arith; covered_is = refl; outstanding_is = omega arith; expected_is = refl; released_is = refl };
+        covering = omega arith;
+        onward = half;
+        backward = half;
+      } in
+      subst P (sym pad) (subst H (sym host) (subst L (sym (line f)) now));
 }

@@ -11,7 +11,7 @@ use Rattle.epochs.proofs.Matching.{aligned-match}
 use Rattle.pad_editing.specs.Edited.{Step, Edit, edit_of, edited}
 use Rattle.line_sim.specs.Records.{RecordValue, PairValue, sent_epochs, taken_epochs}
 use Rattle.line_sim.specs.NetState.{NetState}
-use Rattle.line_sim.specs.Headline.{PairMatches, PairIsRight, IsIn, TookNothing, items_of_epochs, messages, Headline}
+use Rattle.line_sim.specs.Headline.{PairMatches, PairIsRight, PairHolds, IsIn, TookNothing, items_of_epochs, messages, Headline}
 use Rattle.line_sim.specs.IsNet.{caller_record, callee_record, standing_pair, Stands, IsNet}
 use Rattle.line_sim.specs.Served.{IsServed}
 use Rattle.line_sim.proofs.Calls.{covering-within}
@@ -46,12 +46,6 @@ record_at s v i r e = of_two _ _ r i (ap (λ (l : List RecordValue). slice_get l
 pair_at : (s : NetState) (v : Stands s) (i : ℕ) (p : PairValue) → slice_get s.pairs i ≡ Some p → (i ≡ 0) × (p ≡ standing_pair)
 pair_at s v i p e = of_one standing_pair p i (ap (λ (l : List PairValue). slice_get l i) (sym v.pairs_are) ∙ e)
 
-at_zero : (s : NetState) (v : Stands s) (r : RecordValue) → slice_get s.records 0 ≡ Some r → r ≡ caller_record s.pad_place v.sent v.covered v.steps
-at_zero s v r e = let same : Some (caller_record s.pad_place v.sent v.covered v.steps) ≡ Some r = ap (λ (l : List RecordValue). slice_get l 0) (sym v.records_are) ∙ e in cc
-
-at_one : (s : NetState) (v : Stands s) (r : RecordValue) → slice_get s.records 1 ≡ Some r → r ≡ callee_record s.host_place v.taken
-at_one s v r e = let same : Some (callee_record s.host_place v.taken) ≡ Some r = ap (λ (l : List RecordValue). slice_get l 1) (sym v.records_are) ∙ e in cc
-
 -- what was taken begins what was sent
 onward : (s : NetState) (v : Stands s) → IsServed s.pad s.host s.line v.sent v.taken v.covered
     → PairMatches (caller_record s.pad_place v.sent v.covered v.steps) (callee_record s.host_place v.taken)
@@ -71,7 +65,7 @@ onward s v i =
     }
 
 right : (s : NetState) (v : Stands s) → PairIsRight s (caller_record s.pad_place v.sent v.covered v.steps) (callee_record s.host_place v.taken)
-right s v = record { order = omega arith; caller_node = refl; callee_node = refl; address = refl }
+right s v = record { order = omega arith; caller_node = refl; callee_node = refl; address = refl; far = refl; standing_own = refl; standing_far = refl }
 
 typed_messages : (s : NetState) (v : Stands s) → user_items (items_of_epochs (sent_epochs (caller_record s.pad_place v.sent v.covered v.steps))) ≡ messages (edited v.steps)
 typed_messages s v =
@@ -80,16 +74,17 @@ typed_messages s v =
 
 pub promises : (F : Type 0) (s : NetState) → IsNet F s → F → Headline s
 promises F s n f = record {
-  pairs_match = λ i pair a b at_pair at_a at_b.
+  pairs_hold = λ i pair at_pair.
       let v = n.stands in
-      let p = pair_at s v i pair at_pair in
-      let A : ℕ → Type 0 = λ k. slice_get s.records k ≡ Some a in
-      let B : ℕ → Type 0 = λ k. slice_get s.records k ≡ Some b in
-      let ea : caller_record s.pad_place v.sent v.covered v.steps ≡ a = sym (at_zero s v a (subst A (ap (λ (x : PairValue). x.caller) p.1) at_a)) in
-      let eb : callee_record s.host_place v.taken ≡ b = sym (at_one s v b (subst B (ap (λ (x : PairValue). x.callee) p.1) at_b)) in
-      let P : RecordValue → Type 0 = λ x. PairMatches x (callee_record s.host_place v.taken) × PairIsRight s x (callee_record s.host_place v.taken) in
-      let Q : RecordValue → Type 0 = λ y. PairMatches a y × PairIsRight s a y in
-      subst Q eb (subst P ea (onward s v (n.served f), right s v));
+      let P : PairValue → Type 0 = λ x. PairHolds s x in
+      subst P (sym (pair_at s v i pair at_pair).1) (record {
+        caller = caller_record s.pad_place v.sent v.covered v.steps;
+        callee = callee_record s.host_place v.taken;
+        caller_there = ap (λ (l : List RecordValue). slice_get l 0) v.records_are;
+        callee_there = ap (λ (l : List RecordValue). slice_get l 1) v.records_are;
+        matches = onward s v (n.served f);
+        is_right = right s v;
+      });
   numbers = λ i r e. elim (record_at s n.stands i r e).which [ inl h ↦ ap (λ (x : RecordValue). x.number) h.1 ∙ sym h.0 | inr h ↦ ap (λ (x : RecordValue). x.number) h.1 ∙ sym h.0 ];
   in_one = λ i j p q number ep eq a b. (pair_at s n.stands i p ep).0 ∙ sym (pair_at s n.stands j q eq).0;
   took = λ i r e. inr (0, standing_pair, ap (λ (l : List PairValue). slice_get l 0) n.stands.pairs_are, elim (record_at s n.stands i r e).which [ inl h ↦ inl (sym h.0) | inr h ↦ inr (sym h.0) ]);

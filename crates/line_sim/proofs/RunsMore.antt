@@ -1,8 +1,10 @@
 -- A run and one event more.
-use Rattle.std.proofs.Common.{◌≡◌, ℕ, zero, suc, ◌+◌, ◌<◌, List, [], ◌∷◌, ◌++◌, take, length, get_or, Option, Some, None, Result, Ok, Err, refl, sym, ap, ◌∙◌, subst, inl, inr, arith}
-use Rattle.std.specs.Prelude.{◌⊎◌}
+use Rattle.std.proofs.Common.{◌≡◌, Bool, ℕ, zero, suc, ◌+◌, ◌<◌, List, [], ◌∷◌, ◌++◌, take, length, get_or, Option, Some, None, Result, Ok, Err, refl, sym, ap, ◌∙◌, subst, inl, inr, arith}
+use Rattle.std.specs.Prelude.{◌⊎◌, ◌==◌, ◌||◌, nat_lt, slice_get, true, false, if◌then◌else◌}
+use Rattle.std.proofs.lemmas.Option.{slice_get-get_or}
 use Rattle.line_sim.specs.declared.config.Config.{Config}
 use Rattle.line_sim.specs.declared.event.Event.{Event}
+use Rattle.line_sim.specs.declared.event.Event.TheVariants.{Key, Take, Deliver}
 use Rattle.line_sim.specs.declared.event.StepFault.{StepFault}
 use Rattle.line_sim.specs.declared.event.StepFault.TheVariants.{OutOfMemory, NoSuchNode, NoSuchTerminal, NoSuchCall}
 use Rattle.line_sim.specs.declared.event.Answer.{Answer}
@@ -10,7 +12,7 @@ use Rattle.line_sim.specs.NetState.{NetState}
 use Rattle.line_sim.specs.Faults.{step_fault}
 use Rattle.line_sim.specs.Steps.{StepOf}
 use Rattle.line_sim.specs.Plan.{IsMade}
-use Rattle.line_sim.specs.Runs.{Happens, Happened, Ran, HasRun}
+use Rattle.line_sim.specs.Runs.{Happens, Happened, Ran, HasRun, HasStopped}
 
 -- what was answered, or refused for another reason than want of memory, happened
 pub happened : (F : Type 0) (e : Event) (s : NetState) (r : Result Answer StepFault) (t : NetState) → Happens F e s r t → (r ≡ Err OutOfMemory → ⊥) → Happened F e s (step_fault e s) t
@@ -18,8 +20,8 @@ happened F e s (Ok answer) t h not_memory = let P : Option StepFault → Type 0 
 happened F e s (Err fault) t h not_memory =
     let P : Option StepFault → Type 0 = λ o. Happened F e s o t in
     elim h.0 [
-    | inl is ↦ subst P (sym is) h.1
-    | inr memory ↦ absurd (not_memory (ap Err memory.1))
+      | inl is ↦ subst P (sym is) h.1
+      | inr memory ↦ absurd (not_memory (ap Err memory.1))
     ]
 
 pub ran-more : (F : Type 0) (es : List Event) (s t : NetState) (e : Event) (u : NetState) → Ran F s es t → Happened F e t (step_fault e t) u → Ran F s (es ++ e ∷ []) u
@@ -38,6 +40,38 @@ run-more config events i d t u h run happens =
     let P : List Event → Type 0 = λ es. Ran (Unit {0}) run.start es u in
     let next : take (i + 1) events ≡ take i events ++ e ∷ [] = (let same : i + 1 ≡ suc i = omega arith in ap (λ n. take n events) same ∙ take-more events i e d h refl) in
     record {
-      start = run.start; made = run.made;
-      ran = subst P (sym next) (ran-more (Unit {0}) (take i events) run.start t e u run.ran happens)
+      start = run.start;
+      made = run.made;
+      ran = subst P (sym next) (ran-more (Unit {0}) (take i events) run.start t e u run.ran happens);
     }
+
+-- want of memory is no fault of an event
+not-memory : (e : Event) (s : NetState) → step_fault e s ≡ Some OutOfMemory → ⊥
+not-memory (Key node terminal octet) s e = by (node == s.pad_place) (nat_lt terminal s.terminals) e where
+  by : (a b : Bool) → (if a then (if b then None else Some NoSuchTerminal) else Some NoSuchNode) ≡ Some OutOfMemory → ⊥
+  by true true e = absurd (cc)
+  by true false e = absurd (cc)
+  by false b e = absurd (cc)
+not-memory (Take node channel) s e = by (node == s.host_place) ((channel == 0) || nat_lt s.channels channel) e where
+  by : (a b : Bool) → (if a then (if b then Some NoSuchCall else None) else Some NoSuchNode) ≡ Some OutOfMemory → ⊥
+  by true true e = absurd (cc)
+  by true false e = absurd (cc)
+  by false b e = absurd (cc)
+not-memory (Deliver line direction) s e = by (line == 0) e where
+  by : (a : Bool) → (if a then None else Some NoSuchNode) ≡ Some OutOfMemory → ⊥
+  by true e = absurd (cc)
+  by false e = absurd (cc)
+
+-- where memory was wanting, the event has no fault
+pub wanting : (F : Type 0) (e : Event) (s : NetState) (r : Result Answer StepFault) (t : NetState) → Happens F e s r t → r ≡ Err OutOfMemory → step_fault e s ≡ None
+wanting F e s (Ok answer) t h memory = absurd (cc)
+wanting F e s (Err fault) t h memory =
+    elim h.0 [
+      | inl is ↦ absurd (not-memory e s (let same : fault ≡ OutOfMemory = cc in is ∙ ap Some same))
+      | inr o ↦ o.0
+    ]
+
+pub stops : (config : Config) (events : List Event) (i : ℕ) (d : Event) (t : NetState) → i < length events
+    → HasRun config (take i events) t → step_fault (get_or events i d) t ≡ None → HasStopped config events i
+stops config events i d t h run none =
+    record { net = t; event = get_or events i d; before = run; is_next = slice_get-get_or events i d h; no_fault = none }

@@ -1,5 +1,5 @@
 -- What the network promises.
-use Rattle.std.specs.Prelude.{◌≡◌, ◌≢◌, ℕ, ◌<◌, ◌⊎◌, List, [], ◌∷◌, ◌++◌, map, slice_get, Option, Some}
+use Rattle.std.specs.Prelude.{◌≡◌, ◌≢◌, ℕ, ◌<◌, ◌⊎◌, List, [], ◌∷◌, ◌++◌, map, slice_get, Some, None}
 use Rattle.epochs.specs.Item.{Item, Octet, End, user_items}
 use Rattle.epochs.specs.Epoch.{Epoch, IsEmpty}
 use Rattle.epochs.specs.Match.{Match}
@@ -13,12 +13,24 @@ pub record PairMatches (caller callee : RecordValue) : Type 0 where
   pub backward : Match (taken_epochs caller) (sent_epochs callee)
 
 -- the caller's record was made before the callee's, they are the records of the two ends of the line, and the callee's own
--- address is the caller's far one
+-- address is the caller's far one; on a line without a switch the callee has no far address, and a standing call none at all
 pub record PairIsRight (s : NetState) (caller callee : RecordValue) : Type 0 where
   pub order : caller.number < callee.number
   pub caller_node : caller.node ≡ s.pad_place
   pub callee_node : callee.node ≡ s.host_place
   pub address : callee.own ≡ caller.far
+  pub far : callee.far ≡ None
+  pub standing_own : caller.own ≡ None
+  pub standing_far : caller.far ≡ None
+
+-- the two records of a pair are there, what was taken matches what was sent, both ways, and the pair is right
+pub record PairHolds (s : NetState) (pair : PairValue) : Type 0 where
+  pub caller : RecordValue
+  pub callee : RecordValue
+  pub caller_there : slice_get s.records pair.caller ≡ Some caller
+  pub callee_there : slice_get s.records pair.callee ≡ Some callee
+  pub matches : PairMatches caller callee
+  pub is_right : PairIsRight s caller callee
 
 -- the record of this number is in the pair
 abbrev pub IsIn : PairValue → ℕ → Type 0
@@ -40,10 +52,8 @@ messages [] = []
 messages (block ∷ blocks) = map Octet block ++ End ∷ messages blocks
 
 pub record Headline (s : NetState) : Type 0 where
-  -- for each pair, what was taken matches what was sent, both ways, and the pair is right
-  pub pairs_match : (i : ℕ) (pair : PairValue) (caller callee : RecordValue)
-      → slice_get s.pairs i ≡ Some pair → slice_get s.records pair.caller ≡ Some caller → slice_get s.records pair.callee ≡ Some callee
-      → PairMatches caller callee × PairIsRight s caller callee
+  -- each pair holds
+  pub pairs_hold : (i : ℕ) (pair : PairValue) → slice_get s.pairs i ≡ Some pair → PairHolds s pair
   -- the record of each number is at that place
   pub numbers : (i : ℕ) (r : RecordValue) → slice_get s.records i ≡ Some r → r.number ≡ i
   -- no record is in two pairs, and each that took anything is in one

@@ -1,5 +1,5 @@
 -- What an event does, refused or not, and what a list of events does.
-use Rattle.std.specs.Prelude.{◌≡◌, ◌<◌, List, [], ◌∷◌, length, ◌⊎◌, Option, Some, None, Result, Ok, Err}
+use Rattle.std.specs.Prelude.{◌≡◌, ◌≢◌, ℕ, List, [], ◌∷◌, take, slice_get, ◌⊎◌, Option, Some, None, Result, Ok, Err}
 use Rattle.line_sim.specs.declared.event.Event.{Event}
 use Rattle.line_sim.specs.declared.event.StepFault.{StepFault}
 use Rattle.line_sim.specs.declared.event.StepFault.TheVariants.{OutOfMemory}
@@ -35,8 +35,16 @@ pub record HasRun (config : Config) (events : List Event) (net : NetState) : Typ
   pub made : IsMade (Unit {0}) config start
   pub ran : Ran (Unit {0}) start events net
 
+-- the events before this index happened, and that of this index, which has no fault of its own, found no memory
+pub record HasStopped (config : Config) (events : List Event) (index : ℕ) : Type 0 where
+  pub net : NetState
+  pub event : Event
+  pub before : HasRun config (take index events) net
+  pub is_next : slice_get events index ≡ Some event
+  pub no_fault : step_fault event net ≡ None
+
 -- why a run ends early: a configuration that is not served, or want of memory, at the making or at one of the events
 abbrev pub IsRunFault : Config → List Event → RunFault → Type 0
 IsRunFault config events (Made BadConfig) = plan_of config ≡ None
-IsRunFault config events (Made make_fault.OutOfMemory) = Unit {0}
-IsRunFault config events (Stopped index) = index < length events
+IsRunFault config events (Made make_fault.OutOfMemory) = plan_of config ≢ None
+IsRunFault config events (Stopped index) = HasStopped config events index

@@ -21,5 +21,5 @@ pub use event::{Answer, Event, KeyAnswer, MakeFault, Outcome, Put, RunFault, Ste
 pub use line::{Direction, FRAMES_IN_FLIGHT, Line, MemLine, mem_lines};
 pub use net::Net;
 pub use packet::{Interrupt, Taken, USER_DATA_OCTETS, UserPacket};
-pub use running::run;
 pub use record::{EditStep, Pair, Record, SentEpoch, TakenEpoch};
+pub use running::run;

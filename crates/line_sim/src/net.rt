@@ -214,7 +214,7 @@ impl<L: Line> Net<L> {
     pub(crate) fn keeps(&self)
         ensures { L.faithful → Headline self.now }
     {
-        let _ = &self.pairs;
+        let _ = &self.line;
     }
 
     /// Handles an event. Refusals come in the order of [`StepFault`]: where no node or line has the number or the node is of

@@ -85,19 +85,20 @@ impl UserPacket {
     pub fn copied(&self) -> Self
         ensures { result ≡ self.now }
     {
-        UserPacket::new(
-            self.octets.as_slice(),
-            self.more,
-            self.qualified,
-            self.confirm,
-        )
+        let UserPacket {
+            octets,
+            more,
+            qualified,
+            confirm,
+        } = self;
+        UserPacket::new(octets.as_slice(), *more, *qualified, *confirm)
     }
 }
 
 /// The user data of an interrupt, at most 32 octets (X.25 4.3.4).
 #[derive(Drop)]
 pub struct Interrupt {
-    octets: ArrayVec<u8, 32>,
+    user_data: ArrayVec<u8, 32>,
 }
 
 impl Model for Interrupt {
@@ -108,7 +109,7 @@ impl Model for Interrupt {
 
     ghost coded = { coded_list coded_ℕ };
 
-    ghost view = { λ i. i.octets.items };
+    ghost view = { λ i. i.user_data.items };
 }
 
 impl Interrupt {
@@ -116,7 +117,7 @@ impl Interrupt {
     pub fn octets(&self) -> &[u8]
         ensures { result.now ≡ self.now }
     {
-        self.octets.as_slice()
+        self.user_data.as_slice()
     }
 }
 

@@ -1,23 +1,32 @@
 //! A network over memory lines, and a list of events.
-ghost use Rattle.std.specs.Prelude.{IfOk, IfErr};
+ghost use Rattle.std.specs.Prelude.{◌≡◌, None, Err, IfOk, IfErr};
+ghost use Rattle.line_sim.specs.declared.event.MakeFault.TheVariants.{BadConfig};
+ghost use Rattle.line_sim.specs.declared.event.RunFault.TheVariants.{Made};
+ghost use Rattle.line_sim.specs.Plan.{plan_of};
 ghost use Rattle.line_sim.specs.Headline.{Headline};
 ghost use Rattle.line_sim.specs.Faults.{step_fault};
 ghost use Rattle.line_sim.specs.Runs.{Happened, HasRun, IsRunFault};
-ghost use Rattle.std.specs.Bool.{OnTrue};
+ghost use Rattle.std.specs.Bool.{OnTrue, OnFalse};
 
 use crate::config::Config;
 use crate::event::{Event, MakeFault, RunFault, StepFault};
 use crate::line::{MemLine, mem_lines};
 use crate::net::Net;
+use crate::plan::plan_of;
 use std::alloc::Global;
 
 /// Makes a network over memory lines and runs the events, each after the one before. An event that is refused for another
-/// reason than want of memory is answered so, and the run goes on.
+/// reason than want of memory is answered so, and the run goes on. It ends early, in this order, where the network is not made,
+/// or with the index of the event at which memory ended.
 pub fn run(alloc: Global, config: &Config, events: &[Event]) -> Result<Net<MemLine>, RunFault>
     ensures ran { IfOk result (HasRun config.now events.now) }
     ensures headline { IfOk result Headline }
+    ensures bad { plan_of config.now ≡ None → result ≡ Err (Made BadConfig) }
     ensures err { IfErr result (IsRunFault config.now events.now) }
 {
+    if plan_of(config).is_none() {
+        return Err(RunFault::Made(MakeFault::BadConfig));
+    }
     let Ok(lines) = mem_lines(alloc, config.lines.len()) else {
         return Err(RunFault::Made(MakeFault::OutOfMemory));
     };
@@ -34,10 +43,11 @@ pub fn run(alloc: Global, config: &Config, events: &[Event]) -> Result<Net<MemLi
     Ok(net)
 }
 
-/// Handles an event, and says whether memory was there.
-#[tactic(auto, using(crate::proofs::RunsMore::happened))]
+/// Handles an event, and says whether memory was there. Where it was not, the event has no other fault.
+#[tactic(auto, using(crate::proofs::RunsMore::happened, crate::proofs::RunsMore::wanting))]
 fn goes_on(net: &mut Net<MemLine>, event: &Event) -> bool
-    ensures { OnTrue result (Happened (Unit {0}) event.now net.old (step_fault event.now net.old) net.new) }
+    ensures handled { OnTrue result (Happened (Unit {0}) event.now net.old (step_fault event.now net.old) net.new) }
+    ensures wanting { OnFalse result (step_fault event.now net.old ≡ None) }
 {
     match net.step(event) {
         Err(StepFault::OutOfMemory) => return false,

@@ -1,39 +1,144 @@
 -- Each timer has a place of its own, so the places are a map from timers.
-use Rattle.std.proofs.Common.{◌≡◌, ◌≢◌, ℕ, zero, suc, ◌+◌, ◌-◌, ◌<◌, ◌≤◌, Bool, true, false, ◌&&◌, List, [], ◌∷◌, length, get_or, set, map, replicate, refl, sym, ◌∙◌, ap, subst, arith}
+use Rattle.std.proofs.Common.{
+  ◌≡◌,
+  ◌≢◌,
+  ℕ,
+  zero,
+  suc,
+  ◌+◌,
+  ◌-◌,
+  ◌<◌,
+  ◌≤◌,
+  Bool,
+  true,
+  false,
+  ◌&&◌,
+  List,
+  [],
+  ◌∷◌,
+  length,
+  get_or,
+  set,
+  map,
+  replicate,
+  refl,
+  sym,
+  ◌∙◌,
+  ap,
+  subst,
+  arith,
+}
 use Rattle.std.specs.Prelude.{◌↔◌, ◌⊎◌, Option, Some, None, nat_le, if◌then◌else◌}
 use Rattle.std.proofs.Common.{inl, inr, get_or-set_other, get_or-set_same}
 use borrow.Author.Tests.{lt-ltb, le-ltb, le-leb, lt-leb, leb-true, leb-false}
 use Rattle.link_timers.specs.declared.timers.TimerId.{TimerId}
 use Rattle.link_timers.specs.declared.timers.TimerId.TheVariants.{T1, T10, T20, T11, T12, T13, T21, T22, T23, Idle}
-use Rattle.link_timers.specs.Timers.{Places, place_in, place_of, timer_at, IsTimer, left_of, started, stopped, lowered, after_ticks}
+use Rattle.link_timers.specs.Timers.{
+  Places,
+  place_in,
+  place_of,
+  timer_at,
+  IsTimer,
+  left_of,
+  started,
+  stopped,
+  lowered,
+  after_ticks,
+}
 
 at_T11 : (place : ℕ) → 3 ≤ place → place < 35 → timer_at place ≡ T11 (place - 2)
-at_T11 place least most = rw (le-ltb place 1 (omega arith), le-ltb place 2 (omega arith), le-ltb place 3 (omega arith), lt-ltb place 35 most) refl
+at_T11 place least most = rw (
+  le-ltb place 1 (omega arith),
+  le-ltb place 2 (omega arith),
+  le-ltb place 3 (omega
+      arith),
+  lt-ltb place 35 most,
+) refl
 
 at_T12 : (place : ℕ) → 35 ≤ place → place < 67 → timer_at place ≡ T12 (place - 34)
-at_T12 place least most = rw (le-ltb place 1 (omega arith), le-ltb place 2 (omega arith), le-ltb place 3 (omega arith), le-ltb place 35 (omega arith), lt-ltb place 67 most) refl
+at_T12 place least most = rw (
+  le-ltb place 1 (omega arith),
+  le-ltb place 2 (omega arith),
+  le-ltb place 3 (omega
+      arith),
+  le-ltb place 35 (omega arith),
+  lt-ltb place 67 most,
+) refl
 
 at_T13 : (place : ℕ) → 67 ≤ place → place < 99 → timer_at place ≡ T13 (place - 66)
-at_T13 place least most = rw (le-ltb place 1 (omega arith), le-ltb place 2 (omega arith), le-ltb place 3 (omega arith), le-ltb place 35 (omega arith), le-ltb place 67 (omega arith), lt-ltb place 99 most) refl
+at_T13 place least most = rw (
+  le-ltb place 1 (omega arith),
+  le-ltb place 2 (omega arith),
+  le-ltb place 3 (omega
+      arith),
+  le-ltb place 35 (omega arith),
+  le-ltb place 67 (omega arith),
+  lt-ltb place 99 most,
+) refl
 
 at_T21 : (place : ℕ) → 99 ≤ place → place < 131 → timer_at place ≡ T21 (place - 98)
-at_T21 place least most = rw (le-ltb place 1 (omega arith), le-ltb place 2 (omega arith), le-ltb place 3 (omega arith), le-ltb place 35 (omega arith), le-ltb place 67 (omega arith), le-ltb place 99 (omega arith), lt-ltb place 131 most) refl
+at_T21 place least most = rw (
+  le-ltb place 1 (omega arith),
+  le-ltb place 2 (omega arith),
+  le-ltb place 3 (omega
+      arith),
+  le-ltb place 35 (omega arith),
+  le-ltb place 67 (omega arith),
+  le-ltb place 99 (omega arith),
+  lt-ltb
+      place 131 most,
+) refl
 
 at_T22 : (place : ℕ) → 131 ≤ place → place < 163 → timer_at place ≡ T22 (place - 130)
-at_T22 place least most = rw (le-ltb place 1 (omega arith), le-ltb place 2 (omega arith), le-ltb place 3 (omega arith), le-ltb place 35 (omega arith), le-ltb place 67 (omega arith), le-ltb place 99 (omega arith), le-ltb place 131 (omega arith), lt-ltb place 163 most) refl
+at_T22 place least most = rw (
+  le-ltb place 1 (omega arith),
+  le-ltb place 2 (omega arith),
+  le-ltb place 3 (omega
+      arith),
+  le-ltb place 35 (omega arith),
+  le-ltb place 67 (omega arith),
+  le-ltb place 99 (omega arith),
+  le-ltb
+      place 131 (omega arith),
+  lt-ltb place 163 most,
+) refl
 
 at_T23 : (place : ℕ) → 163 ≤ place → place < 195 → timer_at place ≡ T23 (place - 162)
-at_T23 place least most = rw (le-ltb place 1 (omega arith), le-ltb place 2 (omega arith), le-ltb place 3 (omega arith), le-ltb place 35 (omega arith), le-ltb place 67 (omega arith), le-ltb place 99 (omega arith), le-ltb place 131 (omega arith), le-ltb place 163 (omega arith), lt-ltb place 195 most) refl
+at_T23 place least most = rw (
+  le-ltb place 1 (omega arith),
+  le-ltb place 2 (omega arith),
+  le-ltb place 3 (omega
+      arith),
+  le-ltb place 35 (omega arith),
+  le-ltb place 67 (omega arith),
+  le-ltb place 99 (omega arith),
+  le-ltb
+      place 131 (omega arith),
+  le-ltb place 163 (omega arith),
+  lt-ltb place 195 most,
+) refl
 
 at_Idle : (place : ℕ) → 195 ≤ place → timer_at place ≡ Idle (place - 195)
-at_Idle place least = rw (le-ltb place 1 (omega arith), le-ltb place 2 (omega arith), le-ltb place 3 (omega arith), le-ltb place 35 (omega arith), le-ltb place 67 (omega arith), le-ltb place 99 (omega arith), le-ltb place 131 (omega arith), le-ltb place 163 (omega arith), le-ltb place 195 (omega arith)) refl
+at_Idle place least = rw (
+  le-ltb place 1 (omega arith),
+  le-ltb place 2 (omega arith),
+  le-ltb place 3 (omega arith),
+  le-ltb place 35 (omega arith),
+  le-ltb place 67 (omega arith),
+  le-ltb place 99 (omega arith),
+  le-ltb place 131
+      (omega arith),
+  le-ltb place 163 (omega arith),
+  le-ltb place 195 (omega arith),
+) refl
 
 -- the place of a timer that there is
 pub record HasPlace (id : TimerId) : Type 0 where
   pub below : place_of id < 211
   pub back : timer_at (place_of id) ≡ id
 
-place_within : (first lowest highest number : ℕ) → lowest ≤ number → number ≤ highest → place_in first lowest highest number ≡ first + (number - lowest)
+place_within : (first lowest highest number : ℕ) → lowest ≤ number → number ≤ highest → place_in first lowest
+    highest number ≡ first + (number - lowest)
 place_within first lowest highest number least most = rw (le-leb lowest number least, le-leb number highest most) refl
 
 pub has_place : (id : TimerId) → IsTimer id → HasPlace id
@@ -43,40 +148,70 @@ has_place T20 is = record { below = omega arith; back = refl }
 has_place (T11 channel) is =
     let place : place_in 3 1 32 channel ≡ 3 + (channel - 1) = place_within 3 1 32 channel is.0 is.1 in
     let number : 3 + (channel - 1) - 2 ≡ channel = omega (arith, is.0) in
-    record { below = omega (arith, is.1); back = ap timer_at place ∙ at_T11 (3 + (channel - 1)) (omega arith) (omega (arith, is.1)) ∙ ap (λ n. T11 n) number }
+    record {
+      below = omega (arith, is.1);
+      back = ap timer_at place ∙ at_T11 (3 + (channel - 1)) (omega arith)
+          (omega (arith, is.1)) ∙ ap (λ n. T11 n) number;
+    }
 has_place (T12 channel) is =
     let place : place_in 35 1 32 channel ≡ 35 + (channel - 1) = place_within 35 1 32 channel is.0 is.1 in
     let number : 35 + (channel - 1) - 34 ≡ channel = omega (arith, is.0) in
-    record { below = omega (arith, is.1); back = ap timer_at place ∙ at_T12 (35 + (channel - 1)) (omega arith) (omega (arith, is.1)) ∙ ap (λ n. T12 n) number }
+    record {
+      below = omega (arith, is.1);
+      back = ap timer_at place ∙ at_T12 (35 + (channel - 1)) (omega arith)
+          (omega (arith, is.1)) ∙ ap (λ n. T12 n) number;
+    }
 has_place (T13 channel) is =
     let place : place_in 67 1 32 channel ≡ 67 + (channel - 1) = place_within 67 1 32 channel is.0 is.1 in
     let number : 67 + (channel - 1) - 66 ≡ channel = omega (arith, is.0) in
-    record { below = omega (arith, is.1); back = ap timer_at place ∙ at_T13 (67 + (channel - 1)) (omega arith) (omega (arith, is.1)) ∙ ap (λ n. T13 n) number }
+    record {
+      below = omega (arith, is.1);
+      back = ap timer_at place ∙ at_T13 (67 + (channel - 1)) (omega arith)
+          (omega (arith, is.1)) ∙ ap (λ n. T13 n) number;
+    }
 has_place (T21 channel) is =
     let place : place_in 99 1 32 channel ≡ 99 + (channel - 1) = place_within 99 1 32 channel is.0 is.1 in
     let number : 99 + (channel - 1) - 98 ≡ channel = omega (arith, is.0) in
-    record { below = omega (arith, is.1); back = ap timer_at place ∙ at_T21 (99 + (channel - 1)) (omega arith) (omega (arith, is.1)) ∙ ap (λ n. T21 n) number }
+    record {
+      below = omega (arith, is.1);
+      back = ap timer_at place ∙ at_T21 (99 + (channel - 1)) (omega arith)
+          (omega (arith, is.1)) ∙ ap (λ n. T21 n) number;
+    }
 has_place (T22 channel) is =
     let place : place_in 131 1 32 channel ≡ 131 + (channel - 1) = place_within 131 1 32 channel is.0 is.1 in
     let number : 131 + (channel - 1) - 130 ≡ channel = omega (arith, is.0) in
-    record { below = omega (arith, is.1); back = ap timer_at place ∙ at_T22 (131 + (channel - 1)) (omega arith) (omega (arith, is.1)) ∙ ap (λ n. T22 n) number }
+    record {
+      below = omega (arith, is.1);
+      back = ap timer_at place ∙ at_T22 (131 + (channel - 1)) (omega arith)
+          (omega (arith, is.1)) ∙ ap (λ n. T22 n) number;
+    }
 has_place (T23 channel) is =
     let place : place_in 163 1 32 channel ≡ 163 + (channel - 1) = place_within 163 1 32 channel is.0 is.1 in
     let number : 163 + (channel - 1) - 162 ≡ channel = omega (arith, is.0) in
-    record { below = omega (arith, is.1); back = ap timer_at place ∙ at_T23 (163 + (channel - 1)) (omega arith) (omega (arith, is.1)) ∙ ap (λ n. T23 n) number }
+    record {
+      below = omega (arith, is.1);
+      back = ap timer_at place ∙ at_T23 (163 + (channel - 1)) (omega arith)
+          (omega (arith, is.1)) ∙ ap (λ n. T23 n) number;
+    }
 has_place (Idle terminal) is =
     let place : place_in 195 0 15 terminal ≡ 195 + (terminal - 0) = place_within 195 0 15 terminal (omega arith) is in
     let number : 195 + (terminal - 0) - 195 ≡ terminal = omega arith in
-    record { below = omega arith; back = ap timer_at place ∙ at_Idle (195 + (terminal - 0)) (omega arith) ∙ ap (λ n. Idle n) number }
+    record {
+      below = omega arith;
+      back = ap timer_at place ∙ at_Idle (195 + (terminal - 0)) (omega arith) ∙ ap (λ
+          n. Idle n) number;
+    }
 
 -- two timers at one place are one
 pub one_place : (a b : TimerId) → IsTimer a → IsTimer b → place_of a ≡ place_of b → a ≡ b
 one_place a b is_a is_b e = sym (has_place a is_a).back ∙ ap timer_at e ∙ (has_place b is_b).back
 
-place_outside : (first number : ℕ) → first + 31 < 211 → (place_in first 1 32 number ≡ 211) ⊎ ((1 ≤ number) × (number ≤ 32))
+place_outside : (first number : ℕ) → first + 31 < 211 → (place_in first 1 32 number ≡ 211) ⊎ ((1 ≤ number) ×
+    (number ≤ 32))
 place_outside first number fits = go (nat_le 1 number) (nat_le number 32) refl refl
   where
-    go : (a b : Bool) → nat_le 1 number ≡ a → nat_le number 32 ≡ b → (place_in first 1 32 number ≡ 211) ⊎ ((1 ≤ number) × (number ≤ 32))
+    go : (a b : Bool) → nat_le 1 number ≡ a → nat_le number 32 ≡ b → (place_in first 1 32 number ≡ 211) ⊎ ((1 ≤
+        number) × (number ≤ 32))
     go true true p q = inr (leb-true 1 number p, leb-true number 32 q)
     go true false p q = inl (rw (p, q) refl)
     go false b p q = inl (rw p refl)
@@ -113,12 +248,18 @@ length_set (x ∷ timers) zero left = refl
 length_set (x ∷ timers) (suc place) left = ap suc (length_set timers place left)
 
 -- another timer keeps its ticks
-pub others_left : (timers : Places) (id other : TimerId) (left : Option ℕ) → length timers ≡ 211 → other ≢ id → left_of (set timers (place_of id) left) other ≡ left_of timers other
+pub others_left : (timers : Places) (id other : TimerId) (left : Option ℕ) → length timers ≡ 211 → other ≢ id →
+    left_of (set timers (place_of id) left) other ≡ left_of timers other
 others_left timers id other left whole apart = go (timer_or_none id) (timer_or_none other)
   where
-    go : (place_of id ≡ 211) ⊎ IsTimer id → (place_of other ≡ 211) ⊎ IsTimer other → left_of (set timers (place_of id) left) other ≡ left_of timers other
+    go : (place_of id ≡ 211) ⊎ IsTimer id → (place_of other ≡ 211) ⊎ IsTimer other → left_of (set timers (place_of
+        id) left) other ≡ left_of timers other
     go is_id (inl none) =
-        past_end (set timers (place_of id) left) (place_of other) (omega (arith, length_set timers (place_of id) left))
+        past_end (set timers (place_of id) left) (place_of other) (omega (
+          arith,
+          length_set timers (place_of id)
+              left,
+        ))
         ∙ sym (past_end timers (place_of other) (omega arith))
     go (inl none) (inr is_other) =
         let below = (has_place other is_other).below in
@@ -129,26 +270,34 @@ others_left timers id other left whole apart = go (timer_or_none id) (timer_or_n
         rw get_or-set_other refl
 
 -- the timer itself has these
-pub own_left : (timers : Places) (id : TimerId) (left : Option ℕ) → length timers ≡ 211 → IsTimer id → left_of (set timers (place_of id) left) id ≡ left
+pub own_left : (timers : Places) (id : TimerId) (left : Option ℕ) → length timers ≡ 211 → IsTimer id → left_of (set
+    timers (place_of id) left) id ≡ left
 own_left timers id left whole is =
     let lt : place_of id < length timers = omega (arith, (has_place id is).below) in
     rw get_or-set_same refl
 
 -- none, where it does not run
-pub own_none : (timers : Places) (id : TimerId) → length timers ≡ 211 → left_of (set timers (place_of id) None) id ≡ None
+pub own_none : (timers : Places) (id : TimerId) → length timers ≡ 211 → left_of (set timers (place_of id) None) id
+    ≡ None
 own_none timers id whole = go (timer_or_none id)
   where
     go : (place_of id ≡ 211) ⊎ IsTimer id → left_of (set timers (place_of id) None) id ≡ None
-    go (inl none) = past_end (set timers (place_of id) None) (place_of id) (omega (arith, length_set timers (place_of id) None))
+    go (inl none) = past_end (set timers (place_of id) None) (place_of id) (omega (
+      arith,
+      length_set timers
+          (place_of id) None,
+    ))
     go (inr is) = own_left timers id None whole is
 
 -- ticks pass for each
-lowered_at : (timers : Places) (place ticks : ℕ) → get_or (map (lowered ticks) timers) place None ≡ lowered ticks (get_or timers place None)
+lowered_at : (timers : Places) (place ticks : ℕ) → get_or (map (lowered ticks) timers) place None ≡ lowered ticks
+    (get_or timers place None)
 lowered_at [] place ticks = refl
 lowered_at (left ∷ timers) zero ticks = refl
 lowered_at (left ∷ timers) (suc place) ticks = lowered_at timers place ticks
 
-pub left_after_ticks : (timers : Places) (id : TimerId) (ticks : ℕ) → left_of (after_ticks timers ticks) id ≡ lowered ticks (left_of timers id)
+pub left_after_ticks : (timers : Places) (id : TimerId) (ticks : ℕ) → left_of (after_ticks timers ticks) id ≡
+    lowered ticks (left_of timers id)
 left_after_ticks timers id ticks = lowered_at timers (place_of id) ticks
 
 none_at : (count place : ℕ) → get_or (replicate count (let none : Option ℕ = None in none)) place None ≡ None
@@ -160,14 +309,21 @@ pub none_left : (id : TimerId) → left_of (replicate 211 None) id ≡ None
 none_left id = none_at 211 (place_of id)
 
 -- the same of the places that a call leaves
-pub set_own : (old new : Places) (id : TimerId) (left : Option ℕ) → new ≡ set old (place_of id) left → length old ≡ 211 → IsTimer id → left_of new id ≡ left
-set_own old new id left is whole timer = subst (λ timers. left_of timers id ≡ left) (sym is) (own_left old id left whole timer)
+pub set_own : (old new : Places) (id : TimerId) (left : Option ℕ) → new ≡ set old (place_of id) left → length old ≡
+    211 → IsTimer id → left_of new id ≡ left
+set_own old new id left is whole timer = subst (λ timers. left_of timers id ≡ left) (sym is) (own_left old id left
+    whole timer)
 
-pub set_none : (old new : Places) (id : TimerId) → new ≡ set old (place_of id) None → length old ≡ 211 → left_of new id ≡ None
+pub set_none : (old new : Places) (id : TimerId) → new ≡ set old (place_of id) None → length old ≡ 211 → left_of
+    new id ≡ None
 set_none old new id is whole = subst (λ timers. left_of timers id ≡ None) (sym is) (own_none old id whole)
 
-pub set_others : (old new : Places) (id : TimerId) (left : Option ℕ) → new ≡ set old (place_of id) left → length old ≡ 211 → (other : TimerId) → other ≢ id → left_of new other ≡ left_of old other
-set_others old new id left is whole other apart = subst (λ timers. left_of timers other ≡ left_of old other) (sym is) (others_left old id other left whole apart)
+pub set_others : (old new : Places) (id : TimerId) (left : Option ℕ) → new ≡ set old (place_of id) left → length
+    old ≡ 211 → (other : TimerId) → other ≢ id → left_of new other ≡ left_of old other
+set_others old new id left is whole other apart = subst (λ timers. left_of timers other ≡ left_of old other) (sym
+    is) (others_left old id other left whole apart)
 
-pub ticked : (old new : Places) (ticks : ℕ) → new ≡ after_ticks old ticks → (id : TimerId) → left_of new id ≡ lowered ticks (left_of old id)
-ticked old new ticks is id = subst (λ timers. left_of timers id ≡ lowered ticks (left_of old id)) (sym is) (left_after_ticks old id ticks)
+pub ticked : (old new : Places) (ticks : ℕ) → new ≡ after_ticks old ticks → (id : TimerId) → left_of new id ≡
+    lowered ticks (left_of old id)
+ticked old new ticks is id = subst (λ timers. left_of timers id ≡ lowered ticks (left_of old id)) (sym is)
+    (left_after_ticks old id ticks)

@@ -1,5 +1,31 @@
 -- Loops over the places of the timers.
-use Rattle.std.proofs.Common.{◌≡◌, ℕ, zero, suc, ◌+◌, ◌<◌, ◌≤◌, List, [], ◌∷◌, ◌++◌, length, get_or, set, take, drop, map, refl, sym, ◌∙◌, ap, ap₂, subst, arith, append_assoc}
+use Rattle.std.proofs.Common.{
+  ◌≡◌,
+  ℕ,
+  zero,
+  suc,
+  ◌+◌,
+  ◌<◌,
+  ◌≤◌,
+  List,
+  [],
+  ◌∷◌,
+  ◌++◌,
+  length,
+  get_or,
+  set,
+  take,
+  drop,
+  map,
+  refl,
+  sym,
+  ◌∙◌,
+  ap,
+  ap₂,
+  subst,
+  arith,
+  append_assoc,
+}
 use Rattle.std.specs.Prelude.{Option, Some, None, true, false, Bool}
 use Rattle.link_timers.specs.declared.timers.TimerId.{TimerId}
 use Rattle.link_timers.specs.Timers.{is_due, timer_at, due_from}
@@ -9,7 +35,8 @@ pub record IsMappedTo {X : Type 0} (f : X → X) (old now : List X) (i : ℕ) : 
   pub done : take i now ≡ map f (take i old)
   pub others : drop i now ≡ drop i old
 
-pub mapped_one_more : {X : Type 0} (f : X → X) (i : ℕ) (old now : List X) (d : X) → i < length now → IsMappedTo f old now i → IsMappedTo f old (set now i (f (get_or now i d))) (suc i)
+pub mapped_one_more : {X : Type 0} (f : X → X) (i : ℕ) (old now : List X) (d : X) → i < length now → IsMappedTo f
+    old now i → IsMappedTo f old (set now i (f (get_or now i d))) (suc i)
 mapped_one_more {X = X} f zero [] [] d within walk = absurd (omega arith)
 mapped_one_more {X = X} f zero (y ∷ old) [] d within walk = absurd (omega arith)
 mapped_one_more {X = X} f zero [] (x ∷ now) d within walk = let e = walk.others in absurd (cc)

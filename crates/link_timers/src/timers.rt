@@ -1,6 +1,21 @@
 ghost use Rattle.std.specs.Prelude.{◌≡◌, ◌≢◌, ◌≤◌, ◌<◌, ◌+◌, ◌↔◌, map, length, Some, None, is_some, MatchOption};
 ghost use Rattle.link_timers.specs.declared.timers.TimerId.{TimerId};
-ghost use Rattle.link_timers.specs.Timers.{place_of, place_in, timer_at, IsTimer, left_of, none_running, started, stopped, lowered, after_ticks, is_due, due_from, due_timers, first_of};
+ghost use Rattle.link_timers.specs.Timers.{
+  place_of,
+  place_in,
+  timer_at,
+  IsTimer,
+  left_of,
+  none_running,
+  started,
+  stopped,
+  lowered,
+  after_ticks,
+  is_due,
+  due_from,
+  due_timers,
+  first_of,
+};
 
 use arrayvec::ArrayVec;
 use std::marker::Model;
@@ -173,7 +188,8 @@ fn place(id: TimerId) -> Option<usize>
 
 fn channel_place(first: usize, channel: u8) -> Option<usize>
     requires { first ≤ 163 }
-    ensures { MatchOption result (place_in first 1 32 channel ≡ 211) (λ place. (place ≡ place_in first 1 32 channel) × (place < 211)) }
+    ensures { MatchOption result (place_in first 1 32 channel ≡ 211) (λ place. (place ≡ place_in first 1 32
+        channel) × (place < 211)) }
 {
     if channel < 1 || channel > CHANNELS {
         return None;
@@ -182,7 +198,8 @@ fn channel_place(first: usize, channel: u8) -> Option<usize>
 }
 
 fn terminal_place(terminal: u8) -> Option<usize>
-    ensures { MatchOption result (place_in 195 0 15 terminal ≡ 211) (λ place. (place ≡ place_in 195 0 15 terminal) × (place < 211)) }
+    ensures { MatchOption result (place_in 195 0 15 terminal ≡ 211) (λ place. (place ≡ place_in 195 0 15 terminal)
+        × (place < 211)) }
 {
     if terminal >= TERMINALS {
         return None;

@@ -11,8 +11,8 @@ use arrayvec::ArrayVec;
 
 /// Writes the packet's octets in place of what the buffer has (X.25 5).
 ///
-/// The packet has a spelling: it is on channel 0 if it is a Restart or its confirmation and on a channel from 1 to 4,095
-/// otherwise, its numbers are below 8, and it has no more octets than its type may have.
+/// The packet has a spelling: it is on channel 0 if it is a Restart or its confirmation and on a channel from 1 to
+/// 4,095 otherwise, its numbers are below 8, and it has no more octets than its type may have.
 pub fn write_packet(packet: &Packet, buf: &mut PacketBuf)
     requires { IsPacket (view packet.now) }
     ensures octets { buf.new.items ≡ spelling (view packet.now) }

@@ -1,5 +1,5 @@
 -- The edit of one step more.
-use Rattle.std.proofs.Common.{◌≡◌, ◌≢◌, ℕ, ◌+◌, ◌-◌, ◌<◌, ◌≤◌, Bool, true, false, not, ◌&&◌, ◌||◌, ◌==◌, List, [], ◌∷◌, ◌++◌, length, take, Option, Some, None, refl, IfSome, arith, lit<, length-append, if◌then◌else◌, nat_lt}
+use Rattle.std.proofs.Common.{◌≡◌, ◌≢◌, ℕ, ◌+◌, ◌-◌, ◌<◌, ◌≤◌, Bool, true, false, not, ◌&&◌, ◌||◌, ◌==◌, List, [], ◌∷◌, ◌++◌, length, Option, Some, None, refl, IfSome, arith, lit<, length-append, if◌then◌else◌, nat_lt}
 use Rattle.std.proofs.Math.ListN.{length-take}
 use borrow.Author.Tests.{eqb-false, ltb-true}
 use Rattle.x3_params.specs.Values.{value}

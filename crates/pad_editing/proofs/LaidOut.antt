@@ -1,5 +1,5 @@
 -- The layout of octets: one octet after another, and one NUL after another.
-use Rattle.std.proofs.Common.{◌≡◌, ℕ, ◌+◌, ◌<◌, ◌≤◌, Bool, List, [], ◌∷◌, ◌++◌, length, drop, replicate, get_or, refl, ap, sym, ◌∙◌, append_assoc, add-one, drop-cons, arith}
+use Rattle.std.proofs.Common.{◌≡◌, ℕ, ◌+◌, ◌<◌, ◌≤◌, Bool, List, [], ◌∷◌, ◌++◌, length, drop, replicate, get_or, refl, ap, sym, ◌∙◌, append_assoc, add-one, drop-cons}
 use Rattle.std.proofs.lemmas.List.{replicate-append-replicate, drop_all, append-nil}
 use Rattle.pad_editing.specs.Shown.{Shown, shows, shown, shown_octet}
 
@@ -11,8 +11,8 @@ padding_more xs o n =
 shown_cons : (o : ℕ) (os : List ℕ) (echo : Bool) (p : List ℕ) (column : ℕ) →
     shown (o ∷ os) echo p column
     ≡ shows
-        ((shown_octet o echo p column).text ++ (shown os echo p (shown_octet o echo p column).column).text)
-        (shown os echo p (shown_octet o echo p column).column).column
+    ((shown_octet o echo p column).text ++ (shown os echo p (shown_octet o echo p column).column).text)
+    (shown os echo p (shown_octet o echo p column).column).column
 unfolding shown
 shown_cons o os echo p column = refl
 
@@ -20,8 +20,8 @@ shown_cons o os echo p column = refl
 pub shown_more : (os : List ℕ) (echo : Bool) (p : List ℕ) (column i : ℕ) → i < length os →
     shown (drop i os) echo p column
     ≡ shows
-        ((shown_octet (get_or os i 0) echo p column).text ++ (shown (drop (i + 1) os) echo p (shown_octet (get_or os i 0) echo p column).column).text)
-        (shown (drop (i + 1) os) echo p (shown_octet (get_or os i 0) echo p column).column).column
+    ((shown_octet (get_or os i 0) echo p column).text ++ (shown (drop (i + 1) os) echo p (shown_octet (get_or os i 0) echo p column).column).text)
+    (shown (drop (i + 1) os) echo p (shown_octet (get_or os i 0) echo p column).column).column
 shown_more os echo p column i lt =
     let here : drop i os ≡ get_or os i 0 ∷ drop (i + 1) os = rw (add-one, drop-cons os i 0) refl in
     ap (λ xs. shown xs echo p column) here ∙ shown_cons (get_or os i 0) (drop (i + 1) os) echo p column
@@ -60,6 +60,7 @@ pub lays_out_all : (start out os : List ℕ) (echo : Bool) (p : List ℕ) (colum
     (out ≡ start ++ all.text) × (column ≡ all.column)
 lays_out_all start out os echo p column i all le h =
     let none : drop i os ≡ [] = drop_all i os le in
-    let here : shown (drop i os) echo p column ≡ shows [] column = ap (λ xs. shown xs echo p column) none ∙ shown_none echo p column in
-    (sym (append-nil out) ∙ sym (ap (λ (s : Shown). out ++ s.text) here) ∙ h.text,
-     sym (ap (λ (s : Shown). s.column) here) ∙ h.column)
+    let here : shown (drop i os) echo p column ≡ shows [] column = ap (λ xs. shown xs echo p column) none ∙ shown_none echo p column in (
+      sym (append-nil out) ∙ sym (ap (λ (s : Shown). out ++ s.text) here) ∙ h.text,
+      sym (ap (λ (s : Shown). s.column) here) ∙ h.column,
+    )

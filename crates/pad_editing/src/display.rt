@@ -17,7 +17,13 @@ impl Display {
     /// the NULs of parameters 9 and 14 after them, and a carriage return a line feed where parameter 13 asks for it,
     /// in output or in echo. The column counts graphic characters since the carriage return, up to 65,535; a
     /// backspace takes one back.
-    pub fn text<const N: usize>(octets: &[u8], echo: bool, params: &Params, column: u16, out: &mut ArrayVec<u8, N>) -> u16
+    pub fn text<const N: usize>(
+        octets: &[u8],
+        echo: bool,
+        params: &Params,
+        column: u16,
+        out: &mut ArrayVec<u8, N>,
+    ) -> u16
         requires { array_vec_len out.old + 17 * length octets.now ≤ N }
         ensures text { out.new.items ≡ out.old.items ++ (spec.shown octets.now echo params.now column).text }
         ensures column { result ≡ (spec.shown octets.now echo params.now column).column }
@@ -32,7 +38,13 @@ impl Display {
 }
 
 /// Lays one octet out.
-fn show<const N: usize>(octet: u8, echo: bool, params: &Params, column: u16, out: &mut ArrayVec<u8, N>) -> u16
+fn show<const N: usize>(
+    octet: u8,
+    echo: bool,
+    params: &Params,
+    column: u16,
+    out: &mut ArrayVec<u8, N>,
+) -> u16
     requires { array_vec_len out.old + 17 ≤ N }
     ensures text { out.new.items ≡ out.old.items ++ (spec.shown_octet octet echo params.now column).text }
     ensures column { result ≡ (spec.shown_octet octet echo params.now column).column }
@@ -56,7 +68,13 @@ fn ends_line(octet: u8, params: &Params, column: u16) -> bool
 }
 
 /// Shows the octet itself.
-fn place<const N: usize>(octet: u8, echo: bool, params: &Params, column: u16, out: &mut ArrayVec<u8, N>) -> u16
+fn place<const N: usize>(
+    octet: u8,
+    echo: bool,
+    params: &Params,
+    column: u16,
+    out: &mut ArrayVec<u8, N>,
+) -> u16
     requires { array_vec_len out.old + 16 ≤ N }
     ensures text { out.new.items ≡ out.old.items ++ (spec.placed octet echo params.now column).text }
     ensures column { result ≡ (spec.placed octet echo params.now column).column }

@@ -77,7 +77,7 @@ impl Editor {
                 None
             }
             Some(EditingFunction::LineDelete) => {
-                self.held.clear();
+                self.discard();
                 None
             }
             Some(EditingFunction::LineDisplay) => None,
@@ -122,7 +122,7 @@ impl Editor {
             return Echo::none();
         }
         match function_of(octet, params) {
-            Some(function) => Echo::of_function(function, self.held.as_slice()),
+            Some(function) => Echo::of_function(function, self.held()),
             None => Echo::of_octet(octet),
         }
     }

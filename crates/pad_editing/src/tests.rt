@@ -21,7 +21,14 @@ fn octets_of(block: &Option<Block>) -> &[u8] {
 }
 
 /// Types one key, and looks at its echo and its block, which is empty for none.
-fn types(rt: &impl Abort, editor: &mut Editor, params: &Params, octet: u8, echo: &[u8], block: &[u8]) {
+fn types(
+    rt: &impl Abort,
+    editor: &mut Editor,
+    params: &Params,
+    octet: u8,
+    echo: &[u8],
+    block: &[u8],
+) {
     let forwards = editor.forwards(octet, params);
     let out = editor.key(octet, params);
     assert_eq!(rt; out.echo.as_slice(), echo);
@@ -74,7 +81,14 @@ fn inserts_a_line_feed_where_it_fits(rt: HostRuntime) {
         assert_eq!(rt; octets.len(), 128);
         assert_eq!(rt; octets[126], if letters == 126 { b'\r' } else { b'A' });
         assert_eq!(rt; octets[127], if letters == 126 { b'\n' } else { b'\r' });
-        assert_eq!(rt; editor.held(), if letters == 126 { b"".as_slice() } else { b"\n".as_slice() });
+        assert_eq!(rt;
+            editor.held(),
+            if letters == 126 {
+                b"".as_slice()
+            } else {
+                b"\n".as_slice()
+            }
+        );
         editor.discard();
     }
 }
@@ -94,7 +108,10 @@ fn forwards_at_the_end_of_the_idle_time(rt: HostRuntime) {
 /// Lays octets out as output from column 0, and looks at the text and the column.
 fn shows(rt: &impl Abort, params: &Params, octets: &[u8; 5], text: &[u8], column: u16) {
     let mut out = ArrayVec::<u8, 85>::new();
-    assert_eq!(rt; Display::text(octets.as_slice(), false, params, 0, &mut out), column);
+    assert_eq!(rt;
+        Display::text(octets.as_slice(), false, params, 0, &mut out),
+        column
+    );
     assert_eq!(rt; out.as_slice(), text);
 }
 

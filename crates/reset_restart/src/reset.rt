@@ -1,7 +1,7 @@
 //! The states of reset, within data transfer.
 
 ghost use Rattle.std.specs.Prelude.{◌≡◌, IsSome};
-ghost use Rattle.reset_restart.specs.Reset.{own_reset, reset_step, step_at};
+ghost use Rattle.reset_restart.specs.Reset.{own_reset, place_of, reset_step, step_at};
 ghost use Rattle.reset_restart.specs.Reset.Place.{Ready, OwnReset};
 
 use link_timers::Role;
@@ -68,15 +68,25 @@ impl ResetState {
     /// Annex C, table C-4).
     pub fn step(role: Role, state: ResetState, event: ResetEvent) -> ResetStep
         requires { IsSome (reset_step role state event) }
-        ensures { reset_step role state event ≡ Some result }
+        ensures row { reset_step role state event ≡ Some result }
+        // The state that the other end begins is never entered.
+        ensures kept { IsSome (place_of role result.state) }
     {
-        match (role, state) {
-            (_, ResetState::FlowControlReady) => in_flow_control_ready(role, event),
-            (Role::Dte, ResetState::DteReset) | (Role::Dce, ResetState::DceReset) => {
-                in_own_reset(role, event)
-            }
-            (Role::Dte, ResetState::DceReset) | (Role::Dce, ResetState::DteReset) => unreachable!(),
+        met(role, state, event)
+    }
+}
+
+// The step of the row that the event meets.
+fn met(role: Role, state: ResetState, event: ResetEvent) -> ResetStep
+    requires { IsSome (reset_step role state event) }
+    ensures { reset_step role state event ≡ Some result }
+{
+    match (role, state) {
+        (_, ResetState::FlowControlReady) => in_flow_control_ready(role, event),
+        (Role::Dte, ResetState::DteReset) | (Role::Dce, ResetState::DceReset) => {
+            in_own_reset(role, event)
         }
+        (Role::Dte, ResetState::DceReset) | (Role::Dce, ResetState::DteReset) => unreachable!(),
     }
 }
 

@@ -1,7 +1,7 @@
 //! The states of restart.
 
 ghost use Rattle.std.specs.Prelude.{◌≡◌, IsSome};
-ghost use Rattle.reset_restart.specs.Restart.{own_restart, restart_step, step_at};
+ghost use Rattle.reset_restart.specs.Restart.{own_restart, place_of, restart_step, step_at};
 ghost use Rattle.reset_restart.specs.Restart.Place.{Ready, OwnRestart};
 
 use link_timers::Role;
@@ -57,16 +57,26 @@ impl RestartState {
     /// the type (X.25 Annex C, table C-2).
     pub fn step(role: Role, state: RestartState, event: PacketType) -> RestartStep
         requires { IsSome (restart_step role state event) }
-        ensures { restart_step role state event ≡ Some result }
+        ensures row { restart_step role state event ≡ Some result }
+        // The state that the other end begins is never entered.
+        ensures kept { IsSome (place_of role result.state) }
     {
-        match (role, state) {
-            (_, RestartState::PacketLayerReady) => in_packet_layer_ready(role, event),
-            (Role::Dte, RestartState::DteRestart) | (Role::Dce, RestartState::DceRestart) => {
-                in_own_restart(role, event)
-            }
-            (Role::Dte, RestartState::DceRestart) | (Role::Dce, RestartState::DteRestart) => {
-                unreachable!()
-            }
+        met(role, state, event)
+    }
+}
+
+// The step of the row that the event meets.
+fn met(role: Role, state: RestartState, event: PacketType) -> RestartStep
+    requires { IsSome (restart_step role state event) }
+    ensures { restart_step role state event ≡ Some result }
+{
+    match (role, state) {
+        (_, RestartState::PacketLayerReady) => in_packet_layer_ready(role, event),
+        (Role::Dte, RestartState::DteRestart) | (Role::Dce, RestartState::DceRestart) => {
+            in_own_restart(role, event)
+        }
+        (Role::Dte, RestartState::DceRestart) | (Role::Dce, RestartState::DteRestart) => {
+            unreachable!()
         }
     }
 }

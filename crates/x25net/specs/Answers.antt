@@ -8,7 +8,7 @@ use Rattle.line_sim.specs.declared.event.Event.{Event}
 use Rattle.line_sim.specs.declared.event.Event.TheVariants.{Take}
 use Rattle.line_sim.specs.declared.event.KeyAnswer.TheVariants.{Dropped}
 use Rattle.line_sim.specs.declared.event.Outcome.{Outcome}
-use Rattle.line_sim.specs.declared.event.Outcome.TheVariants.{Delivered, Keyed, Took}
+use Rattle.line_sim.specs.declared.event.Outcome.TheVariants.{Keyed, Took}
 use Rattle.line_sim.specs.declared.event.Answer.{Answer}
 use Rattle.line_sim.specs.declared.event.StepFault.{StepFault}
 use Rattle.line_sim.specs.declared.event.StepFault.TheVariants as fault

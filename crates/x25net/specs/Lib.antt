@@ -2,3 +2,4 @@ pub mod Answers
 pub mod InTurn
 pub mod Playing
 pub mod Cuts
+pub mod Scripts

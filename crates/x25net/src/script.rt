@@ -1,5 +1,6 @@
 //! Scripts: a text of one command a line, read for a network.
-ghost use Rattle.std.specs.Prelude.{◌≡◌, IfOk, vec_len};
+ghost use Rattle.std.specs.Prelude.{◌≡◌, IfOk, IfErr, vec_len};
+ghost use Rattle.x25net.specs.Scripts.{AreNamesOf, IsScriptFault};
 
 use crate::fault::ProgFault;
 use crate::words::{LineFault, Words, cut, read_text};
@@ -29,7 +30,9 @@ pub struct Script {
 /// or too many, a node has no such name, a number is not 0 to 65,535, or a text has a backslash that begins no octet.
 /// What a number means, as of a terminal or a channel, is tested when the event comes.
 pub fn read_script(alloc: Global, text: &[u8], config: &Config) -> Result<Script, ProgFault>
+    ensures names { IfOk result (λ script. AreNamesOf config.now.nodes.items script.names.items) }
     ensures lines { IfOk result (λ script. script.lines ≡ vec_len config.now.lines) }
+    ensures faults { IfErr result (IsScriptFault text.now) }
 {
     let names = names_of(alloc, config)?;
     let mut commands = Vec::new(alloc);
@@ -55,7 +58,9 @@ pub fn read_script(alloc: Global, text: &[u8], config: &Config) -> Result<Script
 }
 
 /// The names of a network's nodes.
-fn names_of(alloc: Global, config: &Config) -> Result<Vec<String>, AllocError> {
+fn names_of(alloc: Global, config: &Config) -> Result<Vec<String>, AllocError>
+    ensures { IfOk result (λ names. AreNamesOf config.now.nodes.items names.items) }
+{
     let mut names = Vec::new(alloc);
     for node in &config.nodes {
         names.push(node.name.clone()?)?;

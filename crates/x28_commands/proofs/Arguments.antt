@@ -1,13 +1,13 @@
 -- Keywords and what follows them: what is read is in the grammar, and what is in the grammar is read.
-use Rattle.std.proofs.Common.{◌≡◌, ℕ, ◌+◌, ◌<◌, ◌≤◌, Bool, true, false, cond, ◌&&◌, ◌==◌, nat_lt, List, [], ◌∷◌, ◌++◌, length, map, Option, Some, None, Result, Ok, Err, refl, ap, sym, subst, ◌∙◌, arith, if◌then◌else◌}
+use Rattle.std.proofs.Common.{◌≡◌, ℕ, ◌≤◌, Bool, true, false, cond, ◌&&◌, ◌==◌, nat_lt, List, [], ◌∷◌, length, map, Option, Some, None, Result, Ok, Err, refl, ap, sym, subst, ◌∙◌, if◌then◌else◌}
 use Rattle.std.specs.Prelude.{codes}
 use Rattle.std.specs.Option.{option_map_or}
 use Rattle.std.specs.Char.{to_ascii_uppercase}
 use borrow.Author.Tests.{eqb-true, ltb-false, le-ltb}
 use Rattle.arrayvec.specs.ArrayVec.{ArrayVec}
 use Rattle.x28_commands.specs.Keywords.{spells, keyword_named}
-use Rattle.x28_commands.specs.Numbers.{IsNumber, IsPair, IsList, number_of, pair_of, entries}
-use Rattle.x28_commands.specs.Reading.{Answer, alone, with, number_in, limited, numbers_in, pairs_in, command_from}
+use Rattle.x28_commands.specs.Numbers.{IsNumber, IsPair, number_of, pair_of, entries}
+use Rattle.x28_commands.specs.Reading.{alone, with, number_in, limited, numbers_in, pairs_in, command_from}
 use Rattle.x28_commands.specs.CommandForm.{name_of, IsShortList, ArgumentsForm}
 use Rattle.x28_commands.specs.CommandForm.ArgumentsForm.{status, clear, interrupt, reset, profile, read_all, read, set, set_and_read}
 use Rattle.x28_commands.specs.declared.command.Command.{Command}
@@ -15,7 +15,7 @@ use Rattle.x28_commands.specs.declared.command.Command.TheVariants as command
 use Rattle.x28_commands.specs.declared.keyword.Keyword.{Keyword}
 use Rattle.x28_commands.specs.declared.keyword.Keyword.TheVariants as keyword
 use Rattle.x28_commands.specs.declared.fault.CommandFault.{CommandFault}
-use Rattle.x28_commands.specs.declared.fault.CommandFault.TheVariants.{Unknown, BadNumber, BadAddress, TooLong}
+use Rattle.x28_commands.specs.declared.fault.CommandFault.TheVariants.{BadNumber, TooLong}
 use Rattle.x28_commands.proofs.Grammar.{number_found, number_only, number_plain, pair_found, pair_only, pair_plain, list_found, list_only, both_true}
 
 -- ---- keywords
@@ -56,8 +56,16 @@ keyword_by name =
 named_by : (word : List ℕ) → keyword_named word ≡ keyword_by (map to_ascii_uppercase word)
 unfolding keyword_by pick
 named_by word =
-    rw (spells_same word (codes "STAT"), spells_same word (codes "CLR"), spells_same word (codes "INT"), spells_same word (codes "RESET"),
-        spells_same word (codes "PROF"), spells_same word (codes "PAR?"), spells_same word (codes "SET"), spells_same word (codes "SET?")) refl
+    rw (
+      spells_same word (codes "STAT"),
+      spells_same word (codes "CLR"),
+      spells_same word (codes "INT"),
+      spells_same word (codes "RESET"),
+      spells_same word (codes "PROF"),
+      spells_same word (codes "PAR?"),
+      spells_same word (codes "SET"),
+      spells_same word (codes "SET?"),
+    ) refl
 
 picked : (b : Bool) (name : List ℕ) (j : Keyword) (rest : Option Keyword) (k : Keyword) → same name (name_of j) ≡ b →
     (rest ≡ Some k → name ≡ name_of k) → cond b (Some j) rest ≡ Some k → name ≡ name_of k

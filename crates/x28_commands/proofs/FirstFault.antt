@@ -1,5 +1,5 @@
 -- The fault of a line is the first in number that it has.
-use Rattle.std.proofs.Common.{◌≡◌, ◌≢◌, ℕ, suc, ◌+◌, ◌<◌, ◌≤◌, Bool, true, false, not, cond, ◌&&◌, ◌||◌, ◌==◌, nat_lt, List, [], ◌∷◌, length, drop, Option, Some, None, Result, Ok, Err, refl, ap, sym, ◌∙◌, arith}
+use Rattle.std.proofs.Common.{◌≡◌, ℕ, suc, Bool, true, false, not, cond, ◌&&◌, ◌||◌, ◌==◌, nat_lt, List, [], ◌∷◌, length, drop, Option, Some, None, Result, Ok, Err, refl, arith}
 use Rattle.std.specs.Prelude.{find, is_none}
 use Rattle.std.specs.Option.{option_map_or}
 use Rattle.std.specs.Char.{is_ascii_digit}
@@ -11,7 +11,7 @@ use Rattle.x28_commands.specs.Words.{is_blank, after_spaces, trimmed}
 use Rattle.x28_commands.specs.Keywords.{keyword_of, arguments_of}
 use Rattle.x28_commands.specs.Numbers.{number_of, pair_of, entries}
 use Rattle.x28_commands.specs.Selection.{digits_of, after_digits, has_user_data, selection, selection_with, selection_of}
-use Rattle.x28_commands.specs.Reading.{Answer, alone, with, limited, numbers_in, command_from, command_in, command_of}
+use Rattle.x28_commands.specs.Reading.{alone, with, limited, numbers_in, command_from, command_in, command_of}
 use Rattle.x28_commands.specs.Faults.{is_unknown, lacks_numbers, has_many, is_long, is_no_address, is_bad_selection, has_long_data, has_fault, first_fault, fault_in}
 use Rattle.x28_commands.specs.declared.command.Command.{Command}
 use Rattle.x28_commands.specs.declared.command.Command.TheVariants as command
@@ -74,7 +74,7 @@ selection_fault (Ok a) rest = go (is_blank rest) (has_user_data rest) (nat_lt 12
   where
     go : (blank marked long : Bool) →
         fault_in (with command.Select (cond blank (Ok (selection a []))
-            (cond marked (cond long (Err TooLong) (Ok (selection a (drop 1 rest)))) (Err BadAddress))))
+        (cond marked (cond long (Err TooLong) (Ok (selection a (drop 1 rest)))) (Err BadAddress))))
         ≡ in_order false false (false || not (blank || marked)) (false || (not blank && marked && long))
     go true marked long = refl
     go false true true = refl
@@ -84,10 +84,10 @@ selection_fault (Ok a) rest = go (is_blank rest) (has_user_data rest) (nat_lt 12
 by_tests : (digit none : Bool) (text : List ℕ) → none ≡ false →
     fault_in (cond digit (with command.Select (selection_of text)) (command_from (keyword_of (trimmed text)) (arguments_of (trimmed text))))
     ≡ in_order
-        ((not digit && not none) && is_unknown (keyword_of (trimmed text)) (arguments_of (trimmed text)))
-        ((not digit && not none) && lacks_numbers (keyword_of (trimmed text)) (arguments_of (trimmed text)))
-        (digit && is_bad_selection (digits_of text) (after_digits text))
-        (((not digit && not none) && has_many (keyword_of (trimmed text)) (arguments_of (trimmed text))) || (digit && has_long_data (after_digits text)))
+    ((not digit && not none) && is_unknown (keyword_of (trimmed text)) (arguments_of (trimmed text)))
+    ((not digit && not none) && lacks_numbers (keyword_of (trimmed text)) (arguments_of (trimmed text)))
+    (digit && is_bad_selection (digits_of text) (after_digits text))
+    (((not digit && not none) && has_many (keyword_of (trimmed text)) (arguments_of (trimmed text))) || (digit && has_long_data (after_digits text)))
 unfolding selection_of
 by_tests true none text h = selection_fault (address_of (digits_of text)) (after_digits text)
 by_tests false true text h = cc

@@ -1,24 +1,23 @@
 -- What is read is in the grammar.
-use Rattle.std.proofs.Common.{◌≡◌, ℕ, ◌+◌, ◌<◌, ◌≤◌, ◌⊎◌, inl, inr, Bool, true, false, not, cond, ◌&&◌, ◌||◌, ◌==◌, nat_lt, List, [], ◌∷◌, ◌++◌, length, take, drop, get_or, Option, Some, None, Result, Ok, Err, IfOk, refl, ap, sym, subst, ◌∙◌, append_assoc}
+use Rattle.std.proofs.Common.{◌≡◌, ℕ, ◌≤◌, ◌⊎◌, inl, inr, Bool, true, false, cond, ◌||◌, ◌==◌, nat_lt, List, [], ◌∷◌, ◌++◌, length, take, drop, Option, Some, None, Result, Ok, Err, IfOk, refl, ap, sym, subst, ◌∙◌, append_assoc}
 use Rattle.std.specs.List.{list_all}
 use Rattle.std.specs.Char.{is_ascii_digit}
 use Rattle.std.proofs.lemmas.List.{take-append-drop, append-nil}
 use borrow.Author.Tests.{eqb-true, ltb-false}
 use Rattle.packet_codec.specs.Address.{address_of}
 use Rattle.packet_codec.specs.declared.address.AddressFault.{AddressFault}
-use Rattle.x28_commands.specs.Words.{is_space, is_blank, is_graphic, run, after_spaces, trimmed, first}
-use Rattle.x28_commands.specs.Keywords.{keyword_length, keyword_named, keyword_of, arguments_of}
+use Rattle.x28_commands.specs.Words.{is_space, is_blank, is_graphic, run, after_spaces, trimmed}
+use Rattle.x28_commands.specs.Keywords.{keyword_length, keyword_of, arguments_of}
 use Rattle.x28_commands.specs.Selection.{digits_of, after_digits, has_user_data, selection, selection_with, selection_of}
 use Rattle.x28_commands.specs.Reading.{Answer, with, command_from, command_in, command_of, line_limit}
-use Rattle.x28_commands.specs.CommandForm.{name_of, Worded, UserData, Selects, ArgumentsForm, CommandForm}
+use Rattle.x28_commands.specs.CommandForm.{Worded, UserData, Selects, CommandForm}
 use Rattle.x28_commands.specs.CommandForm.UserData.{none, some}
 use Rattle.x28_commands.specs.CommandForm.CommandForm.{empty, selects, worded}
 use Rattle.x28_commands.specs.declared.command.Command.{Command}
 use Rattle.x28_commands.specs.declared.command.Command.TheVariants as command
 use Rattle.x28_commands.specs.declared.command.Selection.{Selection}
 use Rattle.x28_commands.specs.declared.keyword.Keyword.{Keyword}
-use Rattle.x28_commands.specs.declared.fault.CommandFault.{CommandFault}
-use Rattle.x28_commands.specs.declared.fault.CommandFault.TheVariants.{Unknown, BadNumber, BadAddress, TooLong}
+use Rattle.x28_commands.specs.declared.fault.CommandFault.TheVariants.{BadAddress, TooLong}
 use Rattle.x28_commands.proofs.Grammar.{both_true}
 use Rattle.x28_commands.proofs.Arguments.{keyword_found, arguments_found, with_ok}
 use Rattle.x28_commands.proofs.Lines.{run_passes, spaces_whole, trimmed_whole}
@@ -52,11 +51,13 @@ selection_found (Ok a) rest s h = blank (is_blank rest) refl h
         let is : selection a (drop 1 rest) ≡ s = cc in
         let P : Selection → Type 0 = λ x. Said (Ok a) rest x in
         subst P is (refl, user_data_found rest marks (ltb-false _ _ few))
+
     data_in : (b : Bool) → has_user_data rest ≡ b →
         cond b (cond (nat_lt 12 (length (drop 1 rest))) (Err TooLong) (Ok (selection a (drop 1 rest)))) (Err BadAddress) ≡ Ok s →
         Said (Ok a) rest s
     data_in true marks g = long (nat_lt 12 (length (drop 1 rest))) refl marks g
     data_in false marks g = cc
+
     blank : (b : Bool) → is_blank rest ≡ b →
         cond b (Ok (selection a [])) (cond (has_user_data rest) (cond (nat_lt 12 (length (drop 1 rest))) (Err TooLong) (Ok (selection a (drop 1 rest)))) (Err BadAddress)) ≡ Ok s →
         Said (Ok a) rest s
@@ -91,10 +92,10 @@ worded_found line body k whole h =
     let gap : List ℕ = take (run is_space after) after in
     let tail = trimmed_whole body in
     let split : t ≡ word ++ (gap ++ arguments_of t) =
-        sym (take-append-drop (keyword_length t) t) ∙ ap (λ (xs : List ℕ). word ++ xs) (spaces_whole after) in
+    sym (take-append-drop (keyword_length t) t) ∙ ap (λ (xs : List ℕ). word ++ xs) (spaces_whole after) in
     let all : body ≡ word ++ (gap ++ (arguments_of t ++ tail.0)) =
-        tail.2 ∙ ap (λ (xs : List ℕ). xs ++ tail.0) split ∙ append_assoc word (gap ++ arguments_of t) tail.0
-        ∙ ap (λ (xs : List ℕ). word ++ xs) (append_assoc gap (arguments_of t) tail.0) in
+    tail.2 ∙ ap (λ (xs : List ℕ). xs ++ tail.0) split ∙ append_assoc word (gap ++ arguments_of t) tail.0
+    ∙ ap (λ (xs : List ℕ). word ++ xs) (append_assoc gap (arguments_of t) tail.0) in
     record {
       lead = take (run is_space line) line;
       word = word;
@@ -118,7 +119,7 @@ body_form : (line body : List ℕ) (c : Command) → length line ≤ 64 → line
 body_form line [] c fits whole h =
     let is : command.Empty ≡ c = cc in
     let blank : is_blank line ≡ true =
-        ap (λ (xs : List ℕ). is_blank xs) (whole ∙ append-nil (take (run is_space line) line)) ∙ run_passes is_space line in
+    ap (λ (xs : List ℕ). is_blank xs) (whole ∙ append-nil (take (run is_space line) line)) ∙ run_passes is_space line in
     let P : Command → Type 0 = λ x. CommandForm line x in
     subst P is (empty fits blank)
 body_form line (o ∷ os) c fits whole h = go (is_ascii_digit o) h

@@ -1,15 +1,14 @@
 -- Numbers, pairs, lists and what follows a keyword: what is read is in the grammar, and what is in the grammar is read.
-use Rattle.std.proofs.Common.{◌≡◌, ◌≢◌, ℕ, zero, suc, ◌+◌, ◌-◌, ◌<◌, ◌≤◌, ◌⊎◌, inl, inr, Bool, true, false, not, cond, ◌&&◌, ◌||◌, ◌==◌, nat_lt, nat_le, List, [], ◌∷◌, ◌++◌, length, map, take, drop, Option, Some, None, Result, Ok, Err, refl, ap, sym, subst, ◌∙◌, arith, get_or, add-one, drop-cons, length-append, lit<}
-use Rattle.std.specs.Prelude.{position, IsTrue}
+use Rattle.std.proofs.Common.{◌≡◌, ◌≢◌, ℕ, suc, ◌+◌, ◌<◌, ◌≤◌, Bool, true, false, not, cond, ◌&&◌, ◌==◌, nat_lt, List, [], ◌∷◌, ◌++◌, length, map, take, drop, Option, Some, None, refl, ap, sym, subst, ◌∙◌, arith, get_or, add-one, drop-cons, length-append, lit<}
+use Rattle.std.specs.Prelude.{position}
 use Rattle.std.specs.List.{list_all, onto_first, prefix_len, slice_split, join_with_byte, position_or_len}
 use Rattle.std.specs.Char.{is_ascii_digit}
 use Rattle.std.proofs.lemmas.List.Splits.{join_with_byte-slice_split}
-use borrow.Author.Tests.{eqb-true, eqb-false, ltb-true, ltb-false, leb-true, le-leb, le-ltb, lt-ltb, eq-eqb, ne_eqb, not-true}
+use borrow.Author.Tests.{eqb-true, leb-true, le-leb, lt-ltb, ne_eqb, not-true}
 use Rattle.std.proofs.lemmas.List.Folds.{list_all-append}
 use Rattle.std.proofs.lemmas.List.{take-append-drop}
 use Rattle.std.proofs.Math.Seq.{take-append_seam}
 use Rattle.std.proofs.lemmas.List.Quantifiers.{position-Some}
-use Rattle.arrayvec.specs.ArrayVec.{ArrayVec}
 use Rattle.x28_commands.specs.Numbers.{IsNumber, IsPair, IsList, decimal, number_of, pair_of, pair_at, both, all_of, with_first, entries}
 use Rattle.x28_commands.specs.Numbers.IsList.{last, more}
 
@@ -128,10 +127,15 @@ pub pair_only : (text : List ℕ) (p : ℕ × ℕ) → IsPair text p → pair_of
 unfolding pair_of
 pair_only text p is =
     let here : position (λ o. o == 0x3A) (is.left ++ 0x3A ∷ is.right) ≡ Some (length is.left) =
-        position_here (λ o. o == 0x3A) is.left 0x3A is.right (digits_without 0x3A is.left (lit< tt) is.number.digits) refl in
+    position_here (λ o. o == 0x3A) is.left 0x3A is.right (digits_without 0x3A is.left (lit< tt) is.number.digits) refl in
     ap (λ (xs : List ℕ). pair_at (position (λ o. o == 0x3A) xs) xs) is.whole
-    ∙ rw (here, take-append_seam is.left (0x3A ∷ is.right), drop_past is.left 0x3A is.right,
-          number_only is.left p.0 is.number, number_only is.right p.1 is.value) refl
+    ∙ rw (
+      here,
+      take-append_seam is.left (0x3A ∷ is.right),
+      drop_past is.left 0x3A is.right,
+      number_only is.left p.0 is.number,
+      number_only is.right p.1 is.value,
+    ) refl
 
 -- ---- lists
 
@@ -185,7 +189,7 @@ list_found {A} Entry read sound text xs h =
     let shape = split_shape (λ o. o == 0x2C) text in
     let here = rw shape.2 at h in
     let whole : join_with_byte 0x2C (shape.0 ∷ shape.1) ≡ text =
-        ap (λ (ps : List (List ℕ)). join_with_byte 0x2C ps) (sym shape.2) ∙ join_with_byte-slice_split 0x2C text in
+    ap (λ (ps : List (List ℕ)). join_with_byte 0x2C ps) (sym shape.2) ∙ join_with_byte-slice_split 0x2C text in
     let P : List ℕ → Type 0 = λ t. IsList A Entry t xs in
     subst P whole (list_said Entry read sound shape.0 shape.1 xs here)
 

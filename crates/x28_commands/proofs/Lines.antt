@@ -1,16 +1,10 @@
 -- Command lines: what is read is in the grammar, and what is in the grammar is read.
-use Rattle.std.proofs.Common.{◌≡◌, ◌≢◌, ℕ, suc, ◌+◌, ◌-◌, ◌<◌, ◌≤◌, ◌⊎◌, inl, inr, Bool, true, false, not, cond, ◌&&◌, ◌||◌, ◌==◌, nat_lt, nat_le, List, [], ◌∷◌, ◌++◌, length, map, take, drop, get_or, Option, Some, None, Result, Ok, Err, refl, ap, sym, subst, ◌∙◌, arith, append_assoc, add-one, lit<}
-use Rattle.std.specs.Prelude.{IsTrue}
-use Rattle.std.specs.List.{list_all, prefix_len, position_or_len}
-use Rattle.std.specs.Char.{is_ascii_digit, is_ascii_alphabetic, to_ascii_uppercase}
+use Rattle.std.proofs.Common.{◌≡◌, ℕ, suc, Bool, true, false, not, List, [], ◌∷◌, ◌++◌, length, take, drop, refl, ap, sym, ◌∙◌, arith, append_assoc}
+use Rattle.std.specs.List.{list_all}
 use Rattle.std.proofs.lemmas.List.{take-append-drop, append-nil}
-use Rattle.std.proofs.lemmas.List.Folds.{list_all-append}
-use Rattle.std.proofs.Math.Seq.{take-append_seam, drop-append_seam}
-use borrow.Author.Tests.{eqb-true, ltb-false, leb-true, le-ltb, lt-leb, ne_eqb, not-true}
-use Rattle.packet_codec.specs.Address.{address_of}
-use Rattle.x28_commands.specs.Words.{is_space, is_blank, is_graphic, run, after_spaces, trimmed, before_trimmed, first}
-use Rattle.x28_commands.specs.Keywords.{keyword_length, keyword_named, keyword_of, arguments_of}
-use Rattle.x28_commands.proofs.Grammar.{both_true, digit_bounds}
+use borrow.Author.Tests.{not-true}
+use Rattle.x28_commands.specs.Words.{is_space, is_blank, run, after_spaces, trimmed, before_trimmed}
+use Rattle.x28_commands.proofs.Grammar.{both_true}
 use Rattle.x28_commands.proofs.Trims.{trimmed_space}
 
 -- ---- runs at the front

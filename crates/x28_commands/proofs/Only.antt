@@ -1,20 +1,19 @@
 -- What is in the grammar is read.
-use Rattle.std.proofs.Common.{◌≡◌, ◌≢◌, ℕ, zero, suc, ◌+◌, ◌-◌, ◌<◌, ◌≤◌, ◌⊎◌, inl, inr, Bool, true, false, not, cond, ◌&&◌, ◌||◌, ◌==◌, nat_lt, nat_le, List, [], ◌∷◌, ◌++◌, length, map, take, drop, get_or, Option, Some, None, Result, Ok, Err, refl, ap, sym, subst, ◌∙◌, arith, append_assoc, length-append, lit<, if◌then◌else◌}
+use Rattle.std.proofs.Common.{◌≡◌, ◌≢◌, ℕ, suc, ◌+◌, ◌-◌, ◌<◌, ◌≤◌, ◌⊎◌, inl, inr, Bool, true, false, not, cond, ◌&&◌, ◌||◌, ◌==◌, nat_lt, nat_le, List, [], ◌∷◌, ◌++◌, length, map, take, drop, get_or, Option, Some, Result, Ok, Err, refl, ap, sym, subst, ◌∙◌, arith, append_assoc, length-append, lit<}
 use Rattle.std.specs.List.{list_all}
 use Rattle.std.specs.Char.{is_ascii_digit, is_ascii_alphabetic, to_ascii_uppercase, is_ascii_uppercase}
 use Rattle.std.specs.Prelude.{codes}
 use Rattle.std.proofs.lemmas.List.{append-nil}
 use Rattle.std.proofs.lemmas.List.Folds.{list_all-append}
 use Rattle.std.proofs.Math.Seq.{take-append_seam, drop-append_seam}
-use Rattle.std.proofs.lemmas.Grind.{common_steps}
-use borrow.Author.Tests.{eqb-true, eqb-false, ltb-true, ltb-false, leb-true, le-leb, lt-leb, le-ltb, ne_eqb, not-true}
-use Rattle.packet_codec.specs.Address.{address_of, are_digits, digit_values}
+use borrow.Author.Tests.{eqb-true, eqb-false, ltb-true, ltb-false, leb-true, le-leb, lt-leb, le-ltb, ne_eqb}
+use Rattle.packet_codec.specs.Address.{address_of, are_digits}
 use Rattle.packet_codec.specs.declared.address.AddressFault.{AddressFault}
 use Rattle.packet_codec.specs.declared.address.AddressFault.TheVariants as address
-use Rattle.x28_commands.specs.Words.{is_space, is_blank, is_graphic, run, after_spaces, trimmed, first}
+use Rattle.x28_commands.specs.Words.{is_space, is_blank, run, after_spaces, trimmed}
 use Rattle.x28_commands.specs.Keywords.{keyword_length, keyword_named, keyword_of, arguments_of}
-use Rattle.x28_commands.specs.Selection.{digits_of, after_digits, has_user_data, selection, selection_with, selection_of}
-use Rattle.x28_commands.specs.Reading.{Answer, with, command_from, command_in, command_of, line_limit}
+use Rattle.x28_commands.specs.Selection.{digits_of, after_digits, selection, selection_with, selection_of}
+use Rattle.x28_commands.specs.Reading.{with, command_from, command_in, command_of}
 use Rattle.x28_commands.specs.CommandForm.{name_of, Worded, UserData, Selects, ArgumentsForm, CommandForm}
 use Rattle.x28_commands.specs.CommandForm.UserData.{none as nothing, some as marked}
 use Rattle.x28_commands.specs.CommandForm.CommandForm.{empty, selects, worded}
@@ -24,7 +23,6 @@ use Rattle.x28_commands.specs.declared.command.Selection.{Selection}
 use Rattle.x28_commands.specs.declared.keyword.Keyword.{Keyword}
 use Rattle.x28_commands.specs.declared.keyword.Keyword.TheVariants as keyword
 use Rattle.x28_commands.specs.declared.fault.CommandFault.{CommandFault}
-use Rattle.x28_commands.specs.declared.fault.CommandFault.TheVariants.{Unknown, BadNumber, BadAddress, TooLong}
 use Rattle.x28_commands.proofs.Grammar.{both_true, digit_bounds, apart, all_implied}
 use Rattle.x28_commands.proofs.Arguments.{keyword_only, arguments_only}
 use Rattle.x28_commands.proofs.Lines.{Stops, run_all, after_blank, after_none, trimmed_blank, trimmed_solid, trimmed_ends}
@@ -156,7 +154,7 @@ keyword_measured : (letters mark rest : List ℕ) → list_all is_ascii_alphabet
 keyword_measured letters mark rest h (inl none) stops other =
     let letters_run : run is_ascii_alphabetic (letters ++ rest) ≡ length letters = run_all is_ascii_alphabetic letters rest h stops in
     let after : (get_or (letters ++ rest) (length letters) 0 == 0x3F) ≡ false =
-        ap (λ o. o == 0x3F) (index_past letters rest) ∙ front_other rest other in
+    ap (λ o. o == 0x3F) (index_past letters rest) ∙ front_other rest other in
     let there : keyword_length (letters ++ rest) ≡ length letters = rw (letters_run, after) refl in
     rw (none, append-nil letters) there
 keyword_measured letters mark rest h (inr one) stops other =
@@ -245,19 +243,19 @@ line_text : (word gap text trail : List ℕ) → IsWord word → is_blank gap �
 line_text word gap text trail w gaps trails (inl none) =
     let spaces : is_blank (gap ++ trail) ≡ true = list_all-append is_space gap trail ∙ rw (gaps, trails) refl in
     let there : trimmed (word ++ (gap ++ trail)) ≡ word ++ [] =
-        trimmed_blank (gap ++ trail) word spaces ∙ trimmed_solid word (word_solid word w) ∙ sym (append-nil word) in
+    trimmed_blank (gap ++ trail) word spaces ∙ trimmed_solid word (word_solid word w) ∙ sym (append-nil word) in
     record { rest = []; trim = rw none there; stops = tt; other = tt; after = sym none }
 line_text word gap text trail w gaps trails (inr s) =
     let whole : word ++ (gap ++ (text ++ trail)) ≡ ((word ++ gap) ++ text) ++ trail =
-        sym (append_assoc word gap (text ++ trail)) ∙ sym (append_assoc (word ++ gap) text trail) in
+    sym (append_assoc word gap (text ++ trail)) ∙ sym (append_assoc (word ++ gap) text trail) in
     record {
       rest = gap ++ text;
       trim = ap trimmed whole ∙ trimmed_blank trail ((word ++ gap) ++ text) trails
-        ∙ trimmed_ends (word ++ gap) text s.digit s.rest s.whole (trimmed_solid text s.solid) ∙ append_assoc word gap text;
+          ∙ trimmed_ends (word ++ gap) text s.digit s.rest s.whole (trimmed_solid text s.solid) ∙ append_assoc word gap text;
       stops = rest_stops is_ascii_alphabetic gap text gaps s refl digit_no_letter;
       other = rest_stops is_mark gap text gaps s refl digit_no_mark;
       after = after_blank gap text gaps ∙ after_none text
-        (let P : List ℕ → Type 0 = λ xs. Stops is_space xs in subst P (sym s.whole) (digit_no_space s.digit s.is_digit));
+          (let P : List ℕ → Type 0 = λ xs. Stops is_space xs in subst P (sym s.whole) (digit_no_space s.digit s.is_digit));
     }
 
 word_stops_by : (letters mark more : List ℕ) → list_all is_ascii_alphabetic letters ≡ true → 0 < length letters →
@@ -280,9 +278,10 @@ command_worded body x xs e h =
 from_rest : (k : Keyword) (word rest text : List ℕ) → IsWord word → map to_ascii_uppercase word ≡ name_of k → Stops is_ascii_alphabetic rest →
     Stops is_mark rest → after_spaces rest ≡ text → (keyword_of (word ++ rest) ≡ Some k) × (arguments_of (word ++ rest) ≡ text)
 from_rest k word rest text w spelled stops other after =
-    let count : keyword_length (word ++ rest) ≡ length word = keyword_here word rest w stops other in
-    (ap (λ n. keyword_named (take n (word ++ rest))) count ∙ ap (λ (xs : List ℕ). keyword_named xs) (take-append_seam word rest) ∙ keyword_only word k spelled,
-     ap (λ n. after_spaces (drop n (word ++ rest))) count ∙ ap (λ (xs : List ℕ). after_spaces xs) (drop-append_seam word rest) ∙ after)
+    let count : keyword_length (word ++ rest) ≡ length word = keyword_here word rest w stops other in (
+      ap (λ n. keyword_named (take n (word ++ rest))) count ∙ ap (λ (xs : List ℕ). keyword_named xs) (take-append_seam word rest) ∙ keyword_only word k spelled,
+      ap (λ n. after_spaces (drop n (word ++ rest))) count ∙ ap (λ (xs : List ℕ). after_spaces xs) (drop-append_seam word rest) ∙ after,
+    )
 
 within : (line : List ℕ) → length line ≤ 64 → command_of line ≡ command_in (after_spaces line)
 unfolding command_of

@@ -1,10 +1,10 @@
 -- The parts of a text between separators, and lists of entries.
-use Rattle.std.proofs.Common.{◌≡◌, ℕ, suc, ◌+◌, ◌<◌, ◌≤◌, Bool, true, false, cond, not, List, [], ◌∷◌, ◌++◌, length, take, drop, map, Option, Some, None, refl, ap, sym, ◌∙◌, subst, arith, append_assoc, ◌==◌}
+use Rattle.std.proofs.Common.{◌≡◌, ℕ, suc, ◌+◌, ◌≤◌, Bool, true, false, cond, List, [], ◌∷◌, ◌++◌, length, take, drop, Option, Some, None, refl, ap, sym, ◌∙◌, subst, arith, append_assoc, ◌==◌}
 use Rattle.std.specs.Prelude.{position, nat_lt}
-use Rattle.std.specs.List.{slice_split, onto_first, position_or_len, before_first, after_first}
+use Rattle.std.specs.List.{slice_split, position_or_len}
 use Rattle.std.proofs.lemmas.List.Splits.{slice_split_first}
 use borrow.Author.Tests.{ltb-true, ltb-false}
-use Rattle.x28_commands.specs.Numbers.{all_of, with_first, entries}
+use Rattle.x28_commands.specs.Numbers.{with_first, entries}
 use Rattle.x28_commands.specs.Lists.{Cuts}
 use denote.Ref.{Bor}
 

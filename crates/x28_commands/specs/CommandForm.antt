@@ -43,7 +43,7 @@ pub record IsShortList (A : Type 0) (Entry : List ℕ → A → Type 0) (text : 
 pub data UserData : List ℕ → List ℕ → Type 0 where
   none : {rest : List ℕ} → IsTrue (is_blank rest) → UserData rest []
   some : {octets : List ℕ} → (mark : ℕ) → (mark ≡ 0x44) ⊎ (mark ≡ 0x50) → IsTrue (list_all is_graphic octets) → length octets ≤ 12 →
-    UserData (mark ∷ octets) octets
+      UserData (mark ∷ octets) octets
 
 -- the line is spaces, the digits of the address, and user data
 pub record Selects (line : List ℕ) (selection : Selection) : Type 0 where
@@ -66,11 +66,11 @@ pub data ArgumentsForm : Keyword → List ℕ → Command → Type 0 where
   read : {text ns : List ℕ} → IsShortList ℕ IsNumber text ns → ArgumentsForm keyword.Read text (Read (record { items = ns }))
   set : {text : List ℕ} {ps : List (ℕ × ℕ)} → IsShortList (ℕ × ℕ) IsPair text ps → ArgumentsForm keyword.Set text (Set (record { items = ps }))
   set_and_read : {text : List ℕ} {ps : List (ℕ × ℕ)} → IsShortList (ℕ × ℕ) IsPair text ps →
-    ArgumentsForm keyword.SetAndRead text (SetAndRead (record { items = ps }))
+      ArgumentsForm keyword.SetAndRead text (SetAndRead (record { items = ps }))
 
 -- the line, of at most 64 octets, says the command
 pub data CommandForm : List ℕ → Command → Type 0 where
   empty : {line : List ℕ} → length line ≤ 64 → IsTrue (is_blank line) → CommandForm line Empty
   selects : {line : List ℕ} {selection : Selection} → length line ≤ 64 → Selects line selection → CommandForm line (Select selection)
   worded : {line : List ℕ} (k : Keyword) (text : List ℕ) {c : Command} → length line ≤ 64 → Worded line k text → ArgumentsForm k text c →
-    CommandForm line c
+      CommandForm line c

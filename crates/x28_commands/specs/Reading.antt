@@ -1,9 +1,9 @@
 -- Reading a command line (X.28 3.2): the command that it says, or its fault.
-use Rattle.std.specs.Prelude.{ℕ, Bool, ◌==◌, nat_lt, if◌then◌else◌, List, [], ◌∷◌, length, Option, Some, None, Result, Ok, Err}
+use Rattle.std.specs.Prelude.{ℕ, nat_lt, if◌then◌else◌, List, [], ◌∷◌, length, Option, Some, None, Result, Ok, Err}
 use Rattle.std.specs.Option.{option_map_or}
 use Rattle.arrayvec.specs.ArrayVec.{ArrayVec}
 use Rattle.std.specs.Char.{is_ascii_digit}
-use Rattle.x28_commands.specs.Words.{after_spaces, trimmed, first}
+use Rattle.x28_commands.specs.Words.{after_spaces, trimmed}
 use Rattle.x28_commands.specs.Keywords.{keyword_of, arguments_of}
 use Rattle.x28_commands.specs.Numbers.{number_of, pair_of, entries}
 use Rattle.x28_commands.specs.Selection.{selection_of}
@@ -12,7 +12,7 @@ use Rattle.x28_commands.specs.declared.command.Command.TheVariants as command
 use Rattle.x28_commands.specs.declared.keyword.Keyword.{Keyword}
 use Rattle.x28_commands.specs.declared.keyword.Keyword.TheVariants as keyword
 use Rattle.x28_commands.specs.declared.fault.CommandFault.{CommandFault}
-use Rattle.x28_commands.specs.declared.fault.CommandFault.TheVariants.{Unknown, BadNumber, BadAddress, TooLong}
+use Rattle.x28_commands.specs.declared.fault.CommandFault.TheVariants.{Unknown, BadNumber, TooLong}
 
 abbrev pub Answer : Type 0
 Answer = Result Command CommandFault

@@ -1,5 +1,5 @@
 -- The parts of a command line (X.28 3.2.1): spaces, letters, digits.
-use Rattle.std.specs.Prelude.{ℕ, ◌+◌, Bool, not, ◌&&◌, ◌||◌, ◌==◌, nat_le, if◌then◌else◌, List, [], ◌∷◌, length, take, drop, slice_index}
+use Rattle.std.specs.Prelude.{ℕ, Bool, not, ◌&&◌, ◌==◌, nat_le, if◌then◌else◌, List, [], ◌∷◌, drop, slice_index}
 use Rattle.std.specs.List.{list_all, position_or_len}
 
 abbrev pub is_space : ℕ → Bool

@@ -1,4 +1,7 @@
-use crate::{Command, CommandFault, ParameterValue, Signal, hides_echo, read_command, read_pairs, write_signal};
+use crate::{
+    Command, CommandFault, ParameterValue, Signal, hides_echo, read_command, read_pairs,
+    write_signal,
+};
 use arrayvec::ArrayVec;
 use std::process::Abort;
 
@@ -19,11 +22,17 @@ fn refuses_lines_by_their_first_fault(rt: HostRuntime) {
     assert_eq!(rt; fault_of(b"SET"), Some(CommandFault::BadNumber));
     assert_eq!(rt; fault_of(b"20X1"), Some(CommandFault::BadAddress));
     assert_eq!(rt; fault_of(b"2001 D"), Some(CommandFault::BadAddress));
-    assert_eq!(rt; fault_of(b"2001D1234567890123"), Some(CommandFault::TooLong));
+    assert_eq!(rt;
+        fault_of(b"2001D1234567890123"),
+        Some(CommandFault::TooLong)
+    );
     assert_eq!(rt; fault_of(&[b' '; 65]), Some(CommandFault::TooLong));
     assert_eq!(rt; fault_of(&[b' '; 64]), None);
     assert_eq!(rt; fault_of(b"par?1,2,3,4,5,6,7,8,9,1,2,3,4,5,6,7,8,9"), None);
-    assert_eq!(rt; fault_of(b"par?1,2,3,4,5,6,7,8,9,1,2,3,4,5,6,7,8,9,1"), Some(CommandFault::TooLong));
+    assert_eq!(rt;
+        fault_of(b"par?1,2,3,4,5,6,7,8,9,1,2,3,4,5,6,7,8,9,1"),
+        Some(CommandFault::TooLong)
+    );
 }
 
 #[test]

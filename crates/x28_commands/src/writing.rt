@@ -133,7 +133,11 @@ fn write_number<const N: usize>(number: u8, out: &mut ArrayVec<u8, N>)
     ensures text { out.new.items ≡ out.old.items ++ spec.numeral number }
     ensures room { array_vec_len out.new ≤ array_vec_len out.old + 3 }
 {
-    let (hundreds, tens, ones) = (b'0' + number / 100, b'0' + number / 10 % 10, b'0' + number % 10);
+    let (hundreds, tens, ones) = (
+        b'0' + number / 100,
+        b'0' + number / 10 % 10,
+        b'0' + number % 10,
+    );
     if number < 10 {
         append(&[ones], out);
     } else if number < 100 {

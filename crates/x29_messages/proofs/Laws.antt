@@ -129,8 +129,15 @@ error_form (kind ∷ code ∷ o ∷ os) m h = cc
 
 unknown : (code : ℕ) (rest : List ℕ) → 6 < code → message_in code rest ≡ Err UnknownCode
 unknown code rest lt =
-    rw (ne_false code 0 (omega arith), ne_false code 1 (omega arith), ne_false code 2 (omega arith), ne_false code 3 (omega arith),
-        ne_false code 4 (omega arith), ne_false code 5 (omega arith), ne_false code 6 (omega arith)) refl
+    rw (
+      ne_false code 0 (omega arith),
+      ne_false code 1 (omega arith),
+      ne_false code 2 (omega arith),
+      ne_false code 3 (omega arith),
+      ne_false code 4 (omega arith),
+      ne_false code 5 (omega arith),
+      ne_false code 6 (omega arith),
+    ) refl
 
 -- what is read is in the grammar
 pub message_found : (octets : List ℕ) (m : Message) → message_of octets ≡ Ok m → MessageForm octets m
@@ -207,8 +214,11 @@ error_fault [] = refl
 error_fault (kind ∷ []) = refl
 error_fault (kind ∷ code ∷ []) = refl
 error_fault (kind ∷ code ∷ o ∷ os) =
-    rw (nonempty (suc (suc (suc (length os)))), ne_false (suc (suc (suc (length os)))) 1 (omega arith),
-        ne_false (suc (suc (suc (length os)))) 2 (omega arith)) refl
+    rw (
+      nonempty (suc (suc (suc (length os)))),
+      ne_false (suc (suc (suc (length os)))) 1 (omega arith),
+      ne_false (suc (suc (suc (length os)))) 2 (omega arith),
+    ) refl
 
 -- the fault is the first that the octets have
 pub message_fault : (octets : List ℕ) → fault_in (message_of octets) ≡ first_fault octets

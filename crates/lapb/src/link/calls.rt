@@ -1,5 +1,5 @@
 //! The calls of a link that take frames, packets and expiries.
-ghost use Rattle.std.specs.Prelude.{◌≡◌, ◌≤◌, ◌<◌, length, IsOk, MatchOption, Err};
+ghost use Rattle.std.specs.Prelude.{◌≡◌, ◌≤◌, ◌<◌, length, drop, Some, IsOk, MatchOption, Err};
 ghost use Rattle.lapb.specs.Machine as machine;
 ghost use Rattle.lapb.specs.Octets.{on_octets};
 ghost use Rattle.lapb.specs.Named.{Session, Agrees, Keeps, after_offer};
@@ -49,6 +49,10 @@ impl Link {
 
         // For every session that agrees with the link.
         ensures named { NamesAfterOctets self.old bytes.now }
+
+        // The packet that is accepted stands behind the control octet.
+        ensures packet { (packet : machine.Octets) → (on_octets self.old bytes.now).accepted ≡ Some packet
+            → packet ≡ drop 2 bytes.now }
     {
         let (role, ran) = (self.role, self.runs());
         let effect = self.take_octets(bytes);

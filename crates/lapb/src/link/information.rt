@@ -4,7 +4,7 @@ ghost use Rattle.frame_codec.specs.Frame as spec;
 ghost use Rattle.frame_codec.specs.Views.{content_of};
 ghost use Rattle.frame_codec.specs.Spelling.{HasNumbers};
 ghost use Rattle.lapb.specs.Machine as machine;
-ghost use Rattle.lapb.specs.Out.{effect_of, answered, number_rejected};
+ghost use Rattle.lapb.specs.Out.{effect_of, answered, number_rejected, supervisory_taken};
 
 use crate::effect::{Effect, response};
 use crate::link::Link;
@@ -154,8 +154,10 @@ impl Link {
     ) -> Effect<'a>
         requires ns { ns < 8 }
         requires nr { nr < 8 }
-        ensures link { self.new ≡ (machine.in_up self.old.role self.old (spec.Information ns nr packet.now) is_response pf).link }
-        ensures effect { result ≡ effect_of (machine.in_up self.old.role self.old (spec.Information ns nr packet.now) is_response pf) }
+        ensures link { self.new ≡ (machine.in_up self.old.role self.old (spec.Information ns nr packet.now)
+            is_response pf).link }
+        ensures effect { result ≡ effect_of (machine.in_up self.old.role self.old (spec.Information ns nr
+            packet.now) is_response pf) }
     {
         let Some(newly) = self.acknowledge(nr) else {
             return self.reject_number(control_octet(nr, pf, ns * 2), is_response, pf);
@@ -166,52 +168,35 @@ impl Link {
         }
     }
 
-    fn take_ready(&mut self, nr: u8, is_response: bool, pf: bool) -> Effect<'static>
-        requires { nr < 8 }
-        ensures link { self.new ≡ (machine.in_up self.old.role self.old (spec.ReceiveReady nr) is_response pf).link }
-        ensures effect { result ≡ effect_of (machine.in_up self.old.role self.old (spec.ReceiveReady nr) is_response pf) }
+    // RR, RNR or REJ, by the low half of its control octet.
+    fn take_supervisory(
+        &mut self,
+        nr: u8,
+        rule: Supervisory,
+        is_response: bool,
+        pf: bool,
+    ) -> Effect<'static>
+        requires nr { nr < 8 }
+        requires low { rule.low < 16 }
+        ensures link { self.new ≡ (supervisory_taken self.old nr rule.low rule.busy rule.back is_response pf).link }
+        ensures effect { result ≡ effect_of (supervisory_taken self.old nr rule.low rule.busy rule.back is_response
+            pf) }
     {
         match self.acknowledge(nr) {
             Some(newly) => Effect {
                 anew: newly > 0,
-                ..self.on_supervisory(false, false, is_response, pf)
+                ..self.on_supervisory(rule.busy, rule.back, is_response, pf)
             },
-            None => self.reject_number(control_octet(nr, pf, 0x01), is_response, pf),
-        }
-    }
-
-    fn take_not_ready(&mut self, nr: u8, is_response: bool, pf: bool) -> Effect<'static>
-        requires { nr < 8 }
-        ensures link { self.new ≡ (machine.in_up self.old.role self.old (spec.ReceiveNotReady nr) is_response pf).link }
-        ensures effect { result ≡ effect_of (machine.in_up self.old.role self.old (spec.ReceiveNotReady nr) is_response pf) }
-    {
-        match self.acknowledge(nr) {
-            Some(newly) => Effect {
-                anew: newly > 0,
-                ..self.on_supervisory(true, false, is_response, pf)
-            },
-            None => self.reject_number(control_octet(nr, pf, 0x05), is_response, pf),
-        }
-    }
-
-    fn take_reject(&mut self, nr: u8, is_response: bool, pf: bool) -> Effect<'static>
-        requires { nr < 8 }
-        ensures link { self.new ≡ (machine.in_up self.old.role self.old (spec.Reject nr) is_response pf).link }
-        ensures effect { result ≡ effect_of (machine.in_up self.old.role self.old (spec.Reject nr) is_response pf) }
-    {
-        match self.acknowledge(nr) {
-            Some(newly) => Effect {
-                anew: newly > 0,
-                ..self.on_supervisory(false, true, is_response, pf)
-            },
-            None => self.reject_number(control_octet(nr, pf, 0x09), is_response, pf),
+            None => self.reject_number(control_octet(nr, pf, rule.low), is_response, pf),
         }
     }
 
     pub(crate) fn in_up<'a>(&mut self, frame: &Frame<'a>) -> Effect<'a>
         requires { HasNumbers (content_of frame.now.kind) }
-        ensures link { self.new ≡ (machine.in_up self.old.role self.old (content_of frame.now.kind) frame.now.response frame.now.pf).link }
-        ensures effect { result ≡ effect_of (machine.in_up self.old.role self.old (content_of frame.now.kind) frame.now.response frame.now.pf) }
+        ensures link { self.new ≡ (machine.in_up self.old.role self.old (content_of frame.now.kind)
+            frame.now.response frame.now.pf).link }
+        ensures effect { result ≡ effect_of (machine.in_up self.old.role self.old (content_of frame.now.kind)
+            frame.now.response frame.now.pf) }
     {
         let (is_response, pf) = (frame.response, frame.pf);
         match frame.kind {
@@ -222,9 +207,9 @@ impl Link {
             } => {
                 return self.take_information(ns, nr, information, is_response, pf);
             }
-            FrameKind::Rr { nr } => self.take_ready(nr, is_response, pf),
-            FrameKind::Rnr { nr } => self.take_not_ready(nr, is_response, pf),
-            FrameKind::Rej { nr } => self.take_reject(nr, is_response, pf),
+            FrameKind::Rr { nr } => self.take_supervisory(nr, READY, is_response, pf),
+            FrameKind::Rnr { nr } => self.take_supervisory(nr, NOT_READY, is_response, pf),
+            FrameKind::Rej { nr } => self.take_supervisory(nr, REJECT, is_response, pf),
             FrameKind::Disc => self.take_disconnect(pf),
             FrameKind::Ua => Effect::nothing(),
             FrameKind::Sabm | FrameKind::Dm => match self.role {
@@ -238,6 +223,34 @@ impl Link {
         }
     }
 }
+
+/// The low half of the control octet of a supervisory frame, and what the frame does: it makes the partner busy, or
+/// sets
+/// V(S) back to N(R).
+#[derive(Clone, Copy)]
+struct Supervisory {
+    low: u8,
+    busy: bool,
+    back: bool,
+}
+
+const READY: Supervisory = Supervisory {
+    low: 0x01,
+    busy: false,
+    back: false,
+};
+
+const NOT_READY: Supervisory = Supervisory {
+    low: 0x05,
+    busy: true,
+    back: false,
+};
+
+const REJECT: Supervisory = Supervisory {
+    low: 0x09,
+    busy: false,
+    back: true,
+};
 
 // The control octet of a frame that carries N(R).
 fn control_octet(nr: u8, pf: bool, low: u8) -> u8

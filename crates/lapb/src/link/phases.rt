@@ -36,8 +36,10 @@ impl Link {
 
     fn in_phase<'a>(&mut self, frame: &Frame<'a>) -> Effect<'a>
         requires { HasNumbers (content_of frame.now.kind) }
-        ensures link { self.new ≡ (machine.in_phase self.old.phase self.old.role self.old (content_of frame.now.kind) frame.now.response frame.now.pf).link }
-        ensures effect { result ≡ effect_of (machine.in_phase self.old.phase self.old.role self.old (content_of frame.now.kind) frame.now.response frame.now.pf) }
+        ensures link { self.new ≡ (machine.in_phase self.old.phase self.old.role self.old (content_of
+            frame.now.kind) frame.now.response frame.now.pf).link }
+        ensures effect { result ≡ effect_of (machine.in_phase self.old.phase self.old.role self.old (content_of
+            frame.now.kind) frame.now.response frame.now.pf) }
     {
         match self.phase {
             Phase::Up => return self.in_up(frame),
@@ -49,8 +51,10 @@ impl Link {
 
     // DISC and a command with P = 1 are answered by DM; DM or SABM begins an act at a DTE.
     fn in_down(&mut self, frame: &Frame<'_>) -> Effect<'static>
-        ensures link { self.new ≡ (machine.in_down self.old.role self.old (content_of frame.now.kind) frame.now.response frame.now.pf).link }
-        ensures effect { result ≡ effect_of (machine.in_down self.old.role self.old (content_of frame.now.kind) frame.now.response frame.now.pf) }
+        ensures link { self.new ≡ (machine.in_down self.old.role self.old (content_of frame.now.kind)
+            frame.now.response frame.now.pf).link }
+        ensures effect { result ≡ effect_of (machine.in_down self.old.role self.old (content_of frame.now.kind)
+            frame.now.response frame.now.pf) }
     {
         match (self.role, frame.kind) {
             (Role::Dte, FrameKind::Sabm | FrameKind::Dm) => self.set_up(),
@@ -72,8 +76,10 @@ impl Link {
     }
 
     fn in_setting_up(&mut self, frame: &Frame<'_>) -> Effect<'static>
-        ensures link { self.new ≡ (machine.in_setting_up self.old (content_of frame.now.kind) frame.now.response frame.now.pf).link }
-        ensures effect { result ≡ effect_of (machine.in_setting_up self.old (content_of frame.now.kind) frame.now.response frame.now.pf) }
+        ensures link { self.new ≡ (machine.in_setting_up self.old (content_of frame.now.kind) frame.now.response
+            frame.now.pf).link }
+        ensures effect { result ≡ effect_of (machine.in_setting_up self.old (content_of frame.now.kind)
+            frame.now.response frame.now.pf) }
     {
         match frame.kind {
             FrameKind::Ua => {
@@ -96,8 +102,10 @@ impl Link {
 
     // A DCE that sent FRMR sends it again at each command.
     fn in_rejecting(&mut self, frame: &Frame<'_>) -> Effect<'static>
-        ensures link { self.new ≡ (machine.in_rejecting self.old (content_of frame.now.kind) frame.now.response frame.now.pf).link }
-        ensures effect { result ≡ effect_of (machine.in_rejecting self.old (content_of frame.now.kind) frame.now.response frame.now.pf) }
+        ensures link { self.new ≡ (machine.in_rejecting self.old (content_of frame.now.kind) frame.now.response
+            frame.now.pf).link }
+        ensures effect { result ≡ effect_of (machine.in_rejecting self.old (content_of frame.now.kind)
+            frame.now.response frame.now.pf) }
     {
         match frame.kind {
             FrameKind::Disc => self.take_disconnect(frame.pf),

@@ -30,7 +30,10 @@ impl Link {
 
     fn send(&mut self, out: &mut LinkOut)
         ensures link { self.new ≡ (machine.settle self.old).link }
-        ensures out { out.new ≡ record out.old { frames = with_frames out.old.frames (map (spelling self.old.role) (machine.settle self.old).frames) } }
+        ensures out { out.new ≡ record out.old {
+          frames = with_frames out.old.frames (map (spelling self.old.role)
+              (machine.settle self.old).frames);
+        } }
     {
         match self.phase {
             Phase::Up => self.send_up(out),
@@ -91,10 +94,15 @@ fn send_from(window: &mut SendWindow<Mod8>, queue: &Queue, nr: u8, role: Role, o
     requires nr { nr < 8 }
     requires next { window.old.next < length queue.now }
     requires size { length queue.now ≤ window.old.size }
-    ensures window { window.new ≡ record window.old { next = length queue.now; top = max window.old.top (length queue.now) } }
+    ensures window { window.new ≡ record window.old {
+      next = length queue.now;
+      top = max window.old.top (length
+          queue.now);
+    } }
     ensures out { out.new ≡ record out.old {
       frames = with_frames out.old.frames
-          (map (spelling role) (machine.numbered (window.old.oldest + window.old.next) nr (drop window.old.next queue.now)));
+          (map (spelling role) (machine.numbered (window.old.oldest + window.old.next) nr (drop window.old.next
+          queue.now)));
     } }
 {
     for place in window.unacknowledged()..queue.len() {

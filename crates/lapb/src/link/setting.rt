@@ -143,7 +143,8 @@ impl Link {
 
     // What a Frame Reject is to tell of a frame.
     pub(crate) fn report_on(&self, control: u8, response: bool, reason: Reason) -> Rejection
-        ensures value { report_of result ≡ machine.report_of self.now control response reason.w reason.x reason.y reason.z }
+        ensures value { report_of result ≡ machine.report_of self.now control response reason.w reason.x reason.y
+            reason.z }
         ensures valid { IsReport result }
     {
         Rejection {

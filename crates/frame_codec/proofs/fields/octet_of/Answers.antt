@@ -6,14 +6,16 @@ use Rattle.std.proofs.lemmas.Nat.{or_shifted}
 use Rattle.frame_codec.proofs.fields.octet_of.Goals as goal
 
 -- three numbers that share no bit
-joined : (r f s : ℕ) → r < 8 → f < 2 → s < 8 → bit_or (bit_or (r * 32 % 256) (f * 16 % 256)) (s * 2 % 256) ≡ r * 32 + f * 16 + s * 2
+joined : (r f s : ℕ) → r < 8 → f < 2 → s < 8 → bit_or (bit_or (r * 32 % 256) (f * 16 % 256)) (s * 2 % 256) ≡ r * 32
+    + f * 16 + s * 2
 joined r f s high middle low =
     let rs : r * 32 % 256 ≡ r * 32 = omega arith in
     let fs : f * 16 % 256 ≡ f * 16 = omega arith in
     let ss : s * 2 % 256 ≡ s * 2 = omega arith in
     let first : bit_or (r * 32) (f * 16) ≡ r * 32 + f * 16 = or_shifted r 5 (f * 16) (omega arith) in
     let one : r * 32 + f * 16 ≡ (r * 2 + f) * 16 = omega arith in
-    let second : bit_or ((r * 2 + f) * 16) (s * 2) ≡ (r * 2 + f) * 16 + s * 2 = or_shifted (r * 2 + f) 4 (s * 2) (omega arith) in
+    let second : bit_or ((r * 2 + f) * 16) (s * 2) ≡ (r * 2 + f) * 16 + s * 2 = or_shifted (r * 2 + f) 4 (s * 2)
+    (omega arith) in
     cc
 
 below_two : (b : Bool) → bit_of b < 2

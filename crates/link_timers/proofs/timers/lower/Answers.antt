@@ -5,4 +5,5 @@ use Rattle.link_timers.proofs.timers.lower.Goals as goal
 
 pub loop-left-preserved : goal.loop-left-preserved
 loop-left-preserved c =
-    rw (add-one, c.lower_one.ensures) (mapped_one_more (lowered c.args.ticks) c.loop-left.left-index c.args.timers.now c.loop-left.timers _ (omega arith) c.loop-left.invariant)
+    rw (add-one, c.lower_one.ensures) (mapped_one_more (lowered c.args.ticks) c.loop-left.left-index
+    c.args.timers.now c.loop-left.timers _ (omega arith) c.loop-left.invariant)

@@ -1,5 +1,4 @@
-use Rattle.std.proofs.Common.{List, ℕ, ◌<◌, arith, subst, refl}
-use Rattle.x25net.specs.InTurn.{Writes}
+use Rattle.std.proofs.Common.{◌<◌, arith}
 use Rattle.x25net.proofs.Turns.{writes_nothing, writes_as}
 use Rattle.x25net.proofs.Deliveries.{delivers_at_limit, delivers_one, delivers_none}
 use Rattle.x25net.proofs.player.deliver.Goals as goal

@@ -1,4 +1,4 @@
-use Rattle.std.proofs.Common.{arith, ◌≤◌, ◌<◌, ◌≡◌, sym}
+use Rattle.std.proofs.Common.{arith, ◌≤◌, ◌<◌}
 use Rattle.x25net.specs.Playing.Flows.{last}
 use Rattle.x25net.proofs.Turns.{writes_append}
 use Rattle.x25net.proofs.Deliveries.{flow_onward}

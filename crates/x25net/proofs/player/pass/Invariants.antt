@@ -1,5 +1,5 @@
 use Rattle.std.proofs.Common.{◌≤◌, List, ℕ}
-use Rattle.x25net.specs.InTurn.{InTurn, Writes}
+use Rattle.x25net.specs.InTurn.{Writes}
 use Rattle.x25net.specs.Playing.{Passes}
 use Rattle.x25net.proofs.player.pass.Given as goal
 

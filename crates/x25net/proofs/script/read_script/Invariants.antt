@@ -1,4 +1,4 @@
-use Rattle.std.proofs.Common.{◌≡◌, ◌+◌, ◌≤◌, length, vec_len}
+use Rattle.std.proofs.Common.{◌+◌, ◌≤◌, length}
 use Rattle.std.specs.Option.{option_map}
 use Rattle.x25net.specs.Cuts.{length_left}
 use Rattle.x25net.proofs.script.read_script.Given as goal

@@ -6,4 +6,5 @@ use Rattle.lapb.proofs.link.Link.send_packets.Goals as goal
 
 pub returns-clause-link : goal.returns-clause-link
 returns-clause-link c =
-    rw (c.send_from.ensures.window, ← c.self.view_is) (sent_link (link_of c.self.inside) (subst (λ (l : Link). l.next < length l.queue) (sym c.self.view_is) c.requires))
+    rw (c.send_from.ensures.window, ← c.self.view_is) (sent_link (link_of c.self.inside) (subst (λ (l : Link).
+    l.next < length l.queue) (sym c.self.view_is) c.requires))

@@ -12,13 +12,19 @@ loop-place-preserved c =
     let number : c.take_number-ns.result ≡ (c.args.window.now.oldest + c.loop-place.place) % 8 =
     c.take_number-ns.ensures.number ∙ ap (λ (w : Window). (w.oldest + w.next) % 8) c.loop-place.invariant.window in
     record {
-      window = one_more_used c.loop-place.place c.args.window.now c.loop-place.window _ c.loop-place.invariant.window c.take_number-ns.ensures.window;
+      window = one_more_used c.loop-place.place c.args.window.now c.loop-place.window _
+          c.loop-place.invariant.window c.take_number-ns.ensures.window;
       others = frames_alone c.args.out.now c.loop-place.out _ _ c.loop-place.invariant.others c.put.ensures.out;
       most = λ _. c.put.ensures.most;
       frames =
-          ap (λ (o : Out). with_frames o.frames (map (spelling c.args.role) (numbered (c.args.window.now.oldest + (c.loop-place.place + 1)) c.args.nr (drop (c.loop-place.place + 1) c.args.queue.now)))) c.put.ensures.out
-          ∙ ap (λ n. with_frames (with_frames c.loop-place.out.frames (spelling c.args.role (command (Information n c.args.nr c.packet-information.result.now) false) ∷ []))
-          (map (spelling c.args.role) (numbered (c.args.window.now.oldest + (c.loop-place.place + 1)) c.args.nr (drop (c.loop-place.place + 1) c.args.queue.now)))) number
-          ∙ sent_one_more c.args.role c.args.window.now.oldest c.args.nr c.loop-place.place c.args.queue.now c.packet-information.result.now c.loop-place.out.frames c.packet-information.ensures.value
+          ap (λ (o : Out). with_frames o.frames (map (spelling c.args.role) (numbered (c.args.window.now.oldest +
+          (c.loop-place.place + 1)) c.args.nr (drop (c.loop-place.place + 1) c.args.queue.now))))
+          c.put.ensures.out
+          ∙ ap (λ n. with_frames (with_frames c.loop-place.out.frames (spelling c.args.role (command (Information n
+          c.args.nr c.packet-information.result.now) false) ∷ []))
+          (map (spelling c.args.role) (numbered (c.args.window.now.oldest + (c.loop-place.place + 1)) c.args.nr
+          (drop (c.loop-place.place + 1) c.args.queue.now)))) number
+          ∙ sent_one_more c.args.role c.args.window.now.oldest c.args.nr c.loop-place.place c.args.queue.now
+          c.packet-information.result.now c.loop-place.out.frames c.packet-information.ensures.value
           ∙ c.loop-place.invariant.frames;
     }

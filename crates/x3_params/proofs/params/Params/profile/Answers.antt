@@ -7,5 +7,6 @@ use Rattle.x3_params.proofs.params.Params.profile.Goals.{in-Simple, in-Transpare
 pub invariant_of-result : goal.invariant_of-result
 invariant_of-result c =
     elim c.match-profile.branch [
-      in-Simple w ↦ rw w.values-is (profile_allowed Simple c.args.speed c.ranges.speed.fits)
-    | in-Transparent w ↦ rw w.values-is (profile_allowed Transparent c.args.speed c.ranges.speed.fits) ]
+      | in-Simple w ↦ rw w.values-is (profile_allowed Simple c.args.speed c.ranges.speed.fits)
+      | in-Transparent w ↦ rw w.values-is (profile_allowed Transparent c.args.speed c.ranges.speed.fits)
+    ]

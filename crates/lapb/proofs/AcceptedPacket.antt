@@ -1,0 +1,251 @@
+-- The packet that is accepted is what follows the control octet of the frame.
+use Rattle.std.proofs.Common.{◌≡◌, ℕ, Bool, true, false, List, [], ◌∷◌, drop, refl, sym, ◌∙◌, ap}
+use Rattle.std.specs.Prelude.{Option, Some, None, Result, Ok, Err, not, ◌&&◌, ◌==◌, if◌then◌else◌, nat_lt}
+use Rattle.link_timers.specs.declared.role.Role.{Role}
+use Rattle.link_timers.specs.declared.role.Role.TheVariants.{Dte, Dce}
+use Rattle.frame_codec.specs.declared.fault.FrameFault.{FrameFault}
+use Rattle.frame_codec.specs.declared.fault.FrameFault.TheVariants.{
+  TooShort,
+  WrongAddress,
+  UnknownControl,
+  InfoNotAllowed,
+  InfoTooLong,
+}
+use Rattle.frame_codec.specs.Frame.{
+  FrameValue,
+  Content,
+  Report,
+  Information,
+  ReceiveReady,
+  ReceiveNotReady,
+  Reject,
+  SetMode,
+  Disconnect,
+  DisconnectedMode,
+  Acknowledgement,
+  FrameReject,
+}
+use Rattle.frame_codec.specs.FrameForm.{FrameForm, FieldForm}
+use Rattle.frame_codec.specs.Reading.{reading}
+use Rattle.frame_codec.proofs.Outcomes.{AreOctets}
+use Rattle.frame_codec.proofs.Grammar.{IsDecided, reading_decided}
+use Rattle.lapb.specs.declared.phase.Phase.{Phase}
+use Rattle.lapb.specs.Machine.{
+  Octets,
+  Link,
+  Step,
+  Defect,
+  UndefinedControl,
+  InformationNotAllowed,
+  InformationTooLong,
+  is_same,
+  is_valid,
+  ahead,
+  acknowledged,
+  accept,
+  discard,
+  on_information,
+  on_supervisory,
+  reject_as,
+  reject_number,
+  report_of,
+  control_of,
+  checked,
+  in_up,
+  in_setting_up,
+  in_down,
+  in_rejecting,
+  in_phase,
+  on_content,
+  on_frame,
+  on_defect,
+  on_defect_in,
+  defect_report,
+  has_bit,
+  come_up,
+  still,
+  sends,
+  response,
+}
+use Rattle.lapb.specs.Octets.{on_fault, on_reading, on_octets}
+
+cond_by : (P : Bool → Type 0) (b : Bool) → (b ≡ true → P true) → (b ≡ false → P false) → P b
+cond_by P true holds fails = holds refl
+cond_by P false holds fails = fails refl
+
+-- the packet that a frame carries
+abbrev pub packet_in : Content → Option Octets
+packet_in (Information send receive packet) = Some packet
+packet_in (ReceiveReady receive) = None
+packet_in (ReceiveNotReady receive) = None
+packet_in (Reject receive) = None
+packet_in SetMode = None
+packet_in Disconnect = None
+packet_in DisconnectedMode = None
+packet_in Acknowledgement = None
+packet_in (FrameReject report) = None
+
+-- what is accepted is what the frame carries
+abbrev Accepts : Option Octets → Step → Type 0
+Accepts carried step = (packet : Octets) → step.accepted ≡ Some packet → carried ≡ Some packet
+
+nothing_accepted : (carried : Option Octets) (step : Step) → step.accepted ≡ None → Accepts carried step
+nothing_accepted carried step none = λ packet e. let both : ◌≡◌ {A = Option Octets} None (Some packet) = sym none ∙
+    e in absurd (cc)
+
+rejects : (carried : Option Octets) (role : Role) (l : Link) (report : Report) (poll : Bool) → Accepts carried
+    (reject_as role l report poll)
+rejects carried Dte l report poll = nothing_accepted carried (reject_as Dte l report poll) refl
+rejects carried Dce l report poll = nothing_accepted carried (reject_as Dce l report poll) refl
+
+checks : (carried : Option Octets) (l : Link) (content : Content) (r p : Bool) (receive : ℕ) (taken : Step) →
+    Accepts carried taken → Accepts carried (checked l content r p receive taken)
+checks carried l content r p receive taken of =
+    cond_by (λ b. Accepts carried (if b then record taken { anew = nat_lt 0 (ahead l.oldest receive) } else
+    reject_number l content r p)) (is_valid l receive)
+    (λ _. of) (λ _. rejects carried l.role l _ _)
+
+informs : (l : Link) (send : ℕ) (p : Bool) (packet : Octets) → Accepts (Some packet) (on_information l send p packet)
+informs l send p packet =
+    cond_by (λ b. Accepts (Some packet) (if b then accept l p packet else discard l p)) (send == l.expected)
+    (λ _ other e. e) (λ _. nothing_accepted (Some packet) (discard l p) refl)
+
+up_accepts : (role : Role) (l : Link) (content : Content) (r p : Bool) → Accepts (packet_in content) (in_up role l
+    content r p)
+up_accepts role l (Information send receive packet) r p = checks (Some packet) l (Information send receive packet)
+    r p receive (on_information (acknowledged l receive) send p packet) (informs (acknowledged l receive) send p
+    packet)
+up_accepts role l (ReceiveReady receive) r p = checks None l (ReceiveReady receive) r p receive (on_supervisory
+    (acknowledged l receive) false false r p) (nothing_accepted None (on_supervisory (acknowledged l receive) false
+    false r p) refl)
+up_accepts role l (ReceiveNotReady receive) r p = checks None l (ReceiveNotReady receive) r p receive
+    (on_supervisory (acknowledged l receive) true false r p) (nothing_accepted None (on_supervisory (acknowledged l
+    receive) true false r p) refl)
+up_accepts role l (Reject receive) r p = checks None l (Reject receive) r p receive (on_supervisory (acknowledged l
+    receive) false true r p) (nothing_accepted None (on_supervisory (acknowledged l receive) false true r p) refl)
+up_accepts role l Disconnect r p = nothing_accepted None (in_up role l Disconnect r p) refl
+up_accepts role l Acknowledgement r p = nothing_accepted None (in_up role l Acknowledgement r p) refl
+up_accepts Dte l SetMode r p = nothing_accepted None (in_up Dte l SetMode r p) refl
+up_accepts Dce l SetMode r p = nothing_accepted None (in_up Dce l SetMode r p) refl
+up_accepts Dte l DisconnectedMode r p = nothing_accepted None (in_up Dte l DisconnectedMode r p) refl
+up_accepts Dce l DisconnectedMode r p = nothing_accepted None (in_up Dce l DisconnectedMode r p) refl
+up_accepts Dte l (FrameReject report) r p = nothing_accepted None (in_up Dte l (FrameReject report) r p) refl
+up_accepts Dce l (FrameReject report) r p = nothing_accepted None (in_up Dce l (FrameReject report) r p) refl
+
+setting_up_accepts : (l : Link) (content : Content) (r p : Bool) → (in_setting_up l content r p).accepted ≡ None
+setting_up_accepts l Acknowledgement r p = cond_by (λ b. ◌≡◌ {A = Option Octets} (if b then come_up l else still
+    l).accepted None) (is_same p l.bit) (λ _. refl) (λ _. refl)
+setting_up_accepts l (Information send receive packet) r p = refl
+setting_up_accepts l (ReceiveReady receive) r p = refl
+setting_up_accepts l (ReceiveNotReady receive) r p = refl
+setting_up_accepts l (Reject receive) r p = refl
+setting_up_accepts l SetMode r p = refl
+setting_up_accepts l Disconnect r p = refl
+setting_up_accepts l DisconnectedMode r p = refl
+setting_up_accepts l (FrameReject report) r p = refl
+
+asked : (l : Link) (frame : FrameValue) (due : Bool) → ◌≡◌ {A = Option Octets} (if due then sends l frame else
+    still l).accepted None
+asked l frame true = refl
+asked l frame false = refl
+
+down_accepts : (role : Role) (l : Link) (content : Content) (r p : Bool) → (in_down role l content r p).accepted ≡ None
+down_accepts Dte l SetMode r p = refl
+down_accepts Dte l DisconnectedMode r p = refl
+down_accepts Dce l SetMode r p = asked l _ (p && not r)
+down_accepts Dce l DisconnectedMode r p = asked l _ (p && not r)
+down_accepts Dte l Disconnect r p = refl
+down_accepts Dce l Disconnect r p = refl
+down_accepts Dte l (Information send receive packet) r p = asked l _ (p && not r)
+down_accepts Dce l (Information send receive packet) r p = asked l _ (p && not r)
+down_accepts Dte l (ReceiveReady receive) r p = asked l _ (p && not r)
+down_accepts Dce l (ReceiveReady receive) r p = asked l _ (p && not r)
+down_accepts Dte l (ReceiveNotReady receive) r p = asked l _ (p && not r)
+down_accepts Dce l (ReceiveNotReady receive) r p = asked l _ (p && not r)
+down_accepts Dte l (Reject receive) r p = asked l _ (p && not r)
+down_accepts Dce l (Reject receive) r p = asked l _ (p && not r)
+down_accepts Dte l Acknowledgement r p = asked l _ (p && not r)
+down_accepts Dce l Acknowledgement r p = asked l _ (p && not r)
+down_accepts Dte l (FrameReject report) r p = asked l _ (p && not r)
+down_accepts Dce l (FrameReject report) r p = asked l _ (p && not r)
+
+repeated : (l : Link) (frame : FrameValue) (due : Bool) → ◌≡◌ {A = Option Octets} (if due then still l else sends l
+    frame).accepted None
+repeated l frame true = refl
+repeated l frame false = refl
+
+rejecting_accepts : (l : Link) (content : Content) (r p : Bool) → (in_rejecting l content r p).accepted ≡ None
+rejecting_accepts l Disconnect r p = refl
+rejecting_accepts l (Information send receive packet) r p = repeated l _ r
+rejecting_accepts l (ReceiveReady receive) r p = repeated l _ r
+rejecting_accepts l (ReceiveNotReady receive) r p = repeated l _ r
+rejecting_accepts l (Reject receive) r p = repeated l _ r
+rejecting_accepts l SetMode r p = repeated l _ r
+rejecting_accepts l DisconnectedMode r p = repeated l _ r
+rejecting_accepts l Acknowledgement r p = repeated l _ r
+rejecting_accepts l (FrameReject report) r p = repeated l _ r
+
+phase_accepts : (phase : Phase) (role : Role) (l : Link) (content : Content) (r p : Bool) → Accepts (packet_in
+    content) (in_phase phase role l content r p)
+phase_accepts Phase.Down role l content r p = nothing_accepted (packet_in content) (in_down role l content r p)
+    (down_accepts role l content r p)
+phase_accepts Phase.SettingUp role l content r p = nothing_accepted (packet_in content) (in_setting_up l content r
+    p) (setting_up_accepts l content r p)
+phase_accepts Phase.Up role l content r p = up_accepts role l content r p
+phase_accepts Phase.Rejecting role l content r p = nothing_accepted (packet_in content) (in_rejecting l content r
+    p) (rejecting_accepts l content r p)
+
+content_accepts : (content : Content) (role : Role) (l : Link) (r p : Bool) → Accepts (packet_in content)
+    (on_content content role l r p)
+content_accepts SetMode Dce l r p = nothing_accepted None (on_content SetMode Dce l r p) refl
+content_accepts SetMode Dte l r p = phase_accepts l.phase Dte l SetMode r p
+content_accepts (Information send receive packet) role l r p = phase_accepts l.phase role l (Information send
+    receive packet) r p
+content_accepts (ReceiveReady receive) role l r p = phase_accepts l.phase role l (ReceiveReady receive) r p
+content_accepts (ReceiveNotReady receive) role l r p = phase_accepts l.phase role l (ReceiveNotReady receive) r p
+content_accepts (Reject receive) role l r p = phase_accepts l.phase role l (Reject receive) r p
+content_accepts Disconnect role l r p = phase_accepts l.phase role l Disconnect r p
+content_accepts DisconnectedMode role l r p = phase_accepts l.phase role l DisconnectedMode r p
+content_accepts Acknowledgement role l r p = phase_accepts l.phase role l Acknowledgement r p
+content_accepts (FrameReject report) role l r p = phase_accepts l.phase role l (FrameReject report) r p
+
+defect_accepts : (phase : Phase) (l : Link) (defect : Defect) (control : ℕ) (r : Bool) → Accepts None (on_defect_in
+    phase l defect control r)
+defect_accepts Phase.Down l defect control r = nothing_accepted None (still l) refl
+defect_accepts Phase.SettingUp l defect control r = nothing_accepted None (still l) refl
+defect_accepts Phase.Up l defect control r = rejects None l.role l _ _
+defect_accepts Phase.Rejecting l defect control r = nothing_accepted None (still l) refl
+
+fault_accepts : (l : Link) (fault : FrameFault) (bytes : Octets) → Accepts None (on_fault l fault bytes)
+fault_accepts l TooShort bytes = nothing_accepted None (still l) refl
+fault_accepts l WrongAddress bytes = nothing_accepted None (still l) refl
+fault_accepts l UnknownControl bytes = defect_accepts l.phase l UndefinedControl _ _
+fault_accepts l InfoNotAllowed bytes = defect_accepts l.phase l InformationNotAllowed _ _
+fault_accepts l InfoTooLong bytes = defect_accepts l.phase l InformationTooLong _ _
+
+-- the packet of an I frame stands behind its control octet
+packet_is : (at : Role) (bytes : Octets) (f : FrameValue) → FrameForm at bytes f → (packet : Octets) → packet_in
+    f.content ≡ Some packet → packet ≡ drop 2 bytes
+packet_is at bytes f form packet e = go f.content form.form e ∙ sym (ap (drop 2) form.head.octets)
+  where
+    go : (content : Content) → FieldForm content form.field → packet_in content ≡ Some packet → packet ≡ form.field
+    go (Information send receive other) field e = let same : other ≡ packet = cc in sym same ∙ sym field.0
+    go (ReceiveReady receive) field e = absurd (cc)
+    go (ReceiveNotReady receive) field e = absurd (cc)
+    go (Reject receive) field e = absurd (cc)
+    go SetMode field e = absurd (cc)
+    go Disconnect field e = absurd (cc)
+    go DisconnectedMode field e = absurd (cc)
+    go Acknowledgement field e = absurd (cc)
+    go (FrameReject report) field e = absurd (cc)
+
+pub accepted_is : (l : Link) (bytes : Octets) → AreOctets bytes → (packet : Octets) → (on_octets l bytes).accepted
+    ≡ Some packet → packet ≡ drop 2 bytes
+accepted_is l bytes octets packet e = go (reading l.role bytes) (reading_decided l.role bytes octets) e
+  where
+    go : (read : Result FrameValue FrameFault) → IsDecided l.role bytes read → (on_reading l bytes read).accepted ≡
+        Some packet → packet ≡ drop 2 bytes
+    go (Ok frame) form accepted = packet_is l.role bytes frame form packet (content_accepts frame.content l.role l
+        frame.response frame.poll packet accepted)
+    go (Err fault) first accepted = let none : ◌≡◌ {A = Option Octets} None (Some packet) = fault_accepts l fault
+        bytes packet accepted in absurd (cc)

@@ -1,0 +1,26 @@
+mod Rows
+pub mod Handshake
+pub mod Walks
+pub mod Stack
+pub mod SetUp
+pub mod SettingUp
+pub mod OneEpoch
+pub mod Pipes
+pub mod Asking
+pub mod Saying
+pub mod Hearing
+pub mod Nest
+pub mod Face
+pub mod Agreement
+pub mod Acts
+pub mod Lines
+pub mod Outcomes
+pub mod Moves
+pub mod Offering
+pub mod Arriving
+pub mod Beginning
+pub mod Resting
+pub mod Calling
+pub mod Consequences
+pub mod LineHolds
+pub mod Naming

@@ -1,0 +1,256 @@
+-- One logical channel: the state tables of call set-up, clearing and reset (X.25 tables C-1 to C-4, 4.1, 4.4.3), seen from
+-- one end: "own" is what this end began, "far" what the other end did.
+use Rattle.std.specs.Prelude.{ℕ, ◌+◌, Bool, true, false, cond, not, ◌&&◌, ◌||◌, ◌==◌, nat_lt, nat_le, List, [], ◌∷◌, length, Option, Some, None}
+use Rattle.link_timers.specs.declared.role.Role.{Role}
+use Rattle.link_timers.specs.declared.role.Role.TheVariants.{Dte, Dce}
+use Rattle.packet_layer.specs.Packets.{CallParts, Datum, Body, Note}
+use Rattle.packet_layer.specs.Packets.Body.{Call, Accepted, Clear, ClearConfirmation, Data, Interrupt, InterruptConfirmation, ReceiveReady, ReceiveNotReady, Reset, ResetConfirmation}
+use Rattle.packet_layer.specs.Packets.Note.{Incoming, Connected, Closed, WasReset, InterruptConfirmed, Covered}
+use Rattle.packet_layer.specs.Packets.Reason.{FarEnd, LocalFault, Cancelled}
+use Rattle.packet_layer.specs.Traffic.{Traffic, Heard, fresh, queue, queue_interrupt, interrupt_pending, stopping, taking, may_release, releasing, confirming, hears}
+use Rattle.packet_layer.specs.Traffic.Heard.{Keeps, Confirms, Wrong}
+
+-- p1; p2 of a DTE or p3 of a DCE; p3 of a DTE or p2 of a DCE; p4; p5; p6 of a DTE or p7 of a DCE
+pub data CallState : Type 0 where
+  Ready : CallState
+  OwnWaiting : CallState
+  FarWaiting : CallState
+  Transfer : CallState
+  Collision : CallState
+  OwnClear : CallState
+
+-- the number of the state p1 to p7
+abbrev pub p_number : Role → CallState → ℕ
+p_number role Ready = 1
+p_number Dte OwnWaiting = 2
+p_number Dce OwnWaiting = 3
+p_number Dte FarWaiting = 3
+p_number Dce FarWaiting = 2
+p_number role Transfer = 4
+p_number role Collision = 5
+p_number Dte OwnClear = 6
+p_number Dce OwnClear = 7
+
+-- a channel: in p4, resetting says d2 of a DTE or d3 of a DCE, and not resetting d1; owed are the control packets not yet
+-- handed to the link
+pub record Channel : Type 0 where
+  pub state : CallState
+  pub resetting : Bool
+  pub owed : List Body
+  pub traffic : Traffic
+
+abbrev pub closed_channel : Channel
+closed_channel = record { state = Ready; resetting = false; owed = []; traffic = fresh }
+
+-- what a step makes of a channel: the channel, the control packet that it owes further, and what is noted
+pub record Step : Type 0 where
+  pub channel : Channel
+  pub owes : Option Body
+  pub notes : List Note
+
+abbrev pub quiet : Channel → Step
+quiet ch = record { channel = ch; owes = None; notes = [] }
+
+-- causes of procedure errors: 19 (clear), 5 (reset), 1 (restart) are a DCE's; a DTE sends 0
+abbrev pub error_cause : Role → ℕ → ℕ
+error_cause Dte cause = 0
+error_cause Dce cause = cause
+
+abbrev pub entered : CallState → Channel → Channel
+entered s ch = record ch { state = s }
+
+-- a call's end drops the traffic
+abbrev pub ended : CallState → Channel → Channel
+ended s ch = record ch { state = s; resetting = false; traffic = fresh }
+
+-- so does a reset, begun or learnt
+abbrev pub renewed : Bool → Channel → Channel
+renewed b ch = record ch { resetting = b; traffic = fresh }
+
+abbrev pub moved : Traffic → Channel → Channel
+moved t ch = record ch { traffic = t }
+
+-- ---- procedure errors
+
+abbrev pub clear_error : Role → ℕ → ℕ → Bool → Channel → Step
+clear_error role c diagnostic had_call ch = record { channel = ended OwnClear ch; owes = Some (Clear (error_cause role 19) diagnostic); notes = cond had_call (Closed c 19 diagnostic LocalFault ∷ []) [] }
+
+abbrev pub reset_error : Role → ℕ → ℕ → Channel → Step
+reset_error role c diagnostic ch = record { channel = renewed true ch; owes = Some (Reset (error_cause role 5) diagnostic); notes = WasReset c 5 diagnostic LocalFault ∷ [] }
+
+-- a packet that the state does not allow
+abbrev pub not_allowed : Role → ℕ → Channel → Step
+not_allowed role c ch = clear_error role c (19 + p_number role ch.state) true ch
+
+-- ---- packets received in d1 and in the own reset
+
+abbrev pub far_cleared : ℕ → ℕ → ℕ → Channel → Step
+far_cleared c cause diagnostic ch = record { channel = ended Ready ch; owes = Some ClearConfirmation; notes = Closed c cause diagnostic FarEnd ∷ [] }
+
+abbrev pub covered_note : ℕ → ℕ → List Note
+covered_note c n = cond (n == 0) [] (Covered c n ∷ [])
+
+abbrev pub after_heard : Role → ℕ → Channel → Heard → Step
+after_heard role c ch (Keeps n t) = record { channel = moved t ch; owes = None; notes = covered_note c n }
+after_heard role c ch (Confirms t) = record { channel = moved t ch; owes = None; notes = InterruptConfirmed c ∷ [] }
+after_heard role c ch (Wrong diagnostic) = reset_error role c diagnostic ch
+
+abbrev pub in_flow_ready : Role → ℕ → ℕ → Channel → Body → Step
+in_flow_ready role window c ch (Clear cause diagnostic) = far_cleared c cause diagnostic ch
+in_flow_ready role window c ch (Reset cause diagnostic) = record { channel = renewed false ch; owes = Some ResetConfirmation; notes = WasReset c cause diagnostic FarEnd ∷ [] }
+in_flow_ready role window c ch ResetConfirmation = reset_error role c 27 ch
+in_flow_ready role window c ch (Data send receive d) = after_heard role c ch (hears window ch.traffic (Data send receive d))
+in_flow_ready role window c ch (ReceiveReady receive) = after_heard role c ch (hears window ch.traffic (ReceiveReady receive))
+in_flow_ready role window c ch (ReceiveNotReady receive) = after_heard role c ch (hears window ch.traffic (ReceiveNotReady receive))
+in_flow_ready role window c ch (Interrupt octets) = after_heard role c ch (hears window ch.traffic (Interrupt octets))
+in_flow_ready role window c ch InterruptConfirmation = after_heard role c ch (hears window ch.traffic InterruptConfirmation)
+in_flow_ready role window c ch _ = not_allowed role c ch
+
+abbrev pub in_own_reset : Role → ℕ → Channel → Body → Step
+in_own_reset role c ch (Clear cause diagnostic) = far_cleared c cause diagnostic ch
+in_own_reset role c ch (Reset cause diagnostic) = quiet (record ch { resetting = false })
+in_own_reset role c ch ResetConfirmation = quiet (record ch { resetting = false })
+in_own_reset role c ch (Data send receive d) = quiet ch
+in_own_reset role c ch (ReceiveReady receive) = quiet ch
+in_own_reset role c ch (ReceiveNotReady receive) = quiet ch
+in_own_reset role c ch (Interrupt octets) = quiet ch
+in_own_reset role c ch InterruptConfirmation = quiet ch
+in_own_reset role c ch _ = not_allowed role c ch
+
+-- ---- packets received, by the call's state
+
+abbrev pub in_ready : Role → ℕ → Channel → Body → Step
+in_ready role c ch (Call parts) = record { channel = entered FarWaiting ch; owes = None; notes = Incoming c parts ∷ [] }
+in_ready role c ch (Clear cause diagnostic) = record { channel = ch; owes = Some ClearConfirmation; notes = [] }
+in_ready role c ch _ = clear_error role c 20 false ch
+
+-- in a call collision the DCE's own call is cancelled
+abbrev pub collision_notes : Role → ℕ → CallParts → List Note
+collision_notes Dte c parts = []
+collision_notes Dce c parts = Closed c 1 0 Cancelled ∷ Incoming c parts ∷ []
+
+abbrev pub in_own_waiting : Role → ℕ → Channel → Body → Step
+in_own_waiting role c ch Accepted = record { channel = entered Transfer ch; owes = None; notes = Connected c ∷ [] }
+in_own_waiting role c ch (Call parts) = record { channel = entered Collision ch; owes = None; notes = collision_notes role c parts }
+in_own_waiting role c ch (Clear cause diagnostic) = far_cleared c cause diagnostic ch
+in_own_waiting role c ch _ = not_allowed role c ch
+
+abbrev pub in_far_waiting : Role → ℕ → Channel → Body → Step
+in_far_waiting role c ch (Clear cause diagnostic) = far_cleared c cause diagnostic ch
+in_far_waiting role c ch _ = not_allowed role c ch
+
+abbrev pub in_collision : Role → ℕ → Channel → Body → Step
+in_collision Dte c ch Accepted = record { channel = entered Transfer ch; owes = None; notes = Connected c ∷ [] }
+in_collision role c ch (Clear cause diagnostic) = far_cleared c cause diagnostic ch
+in_collision role c ch _ = not_allowed role c ch
+
+abbrev pub in_own_clear : Channel → Body → Step
+in_own_clear ch (Clear cause diagnostic) = quiet (entered Ready ch)
+in_own_clear ch ClearConfirmation = quiet (entered Ready ch)
+in_own_clear ch _ = quiet ch
+
+abbrev pub received_in : CallState → Role → ℕ → ℕ → Channel → Body → Step
+received_in Ready role window c ch body = in_ready role c ch body
+received_in OwnWaiting role window c ch body = in_own_waiting role c ch body
+received_in FarWaiting role window c ch body = in_far_waiting role c ch body
+received_in Transfer role window c ch body = cond ch.resetting (in_own_reset role c ch body) (in_flow_ready role window c ch body)
+received_in Collision role window c ch body = in_collision role c ch body
+received_in OwnClear role window c ch body = in_own_clear ch body
+
+abbrev pub received : Role → ℕ → ℕ → Channel → Body → Step
+received role window c ch body = received_in ch.state role window c ch body
+
+-- an unreadable packet counts as one that the state does not allow: in d1 a reset with 27, else a clear with the state's
+-- number; where its fault is not an unknown type, with diagnostic 0
+abbrev pub unreadable_in : CallState → Role → ℕ → Bool → Channel → Step
+unreadable_in Ready role c unknown ch = clear_error role c (cond unknown 20 0) false ch
+unreadable_in OwnClear role c unknown ch = quiet ch
+unreadable_in Transfer role c unknown ch = cond ch.resetting (clear_error role c (cond unknown 23 0) true ch) (reset_error role c (cond unknown 27 0) ch)
+unreadable_in s role c unknown ch = clear_error role c (cond unknown (19 + p_number role s) 0) true ch
+
+abbrev pub unreadable : Role → ℕ → Bool → Channel → Step
+unreadable role c unknown ch = unreadable_in ch.state role c unknown ch
+
+-- ---- what the user asks of a channel
+
+pub data Request : Type 0 where
+  Accept : Request
+  Clearing : (cause diagnostic : ℕ) → Request
+  Resetting : (cause diagnostic : ℕ) → Request
+  Sending : Datum → Request
+  Interrupting : List ℕ → Request
+  Stopping : Bool → Request
+  Taking : Request
+  Releasing : ℕ → Request
+  Confirming : Request
+
+-- the refusals, in the order of their numbers
+pub data Refusal : Type 0 where
+  NotReady : Refusal
+  NoChannel : Refusal
+  NoCall : Refusal
+  IsResetting : Refusal
+  QueueFull : Refusal
+  TooLong : Refusal
+  InterruptPending : Refusal
+
+abbrev pub may_accept : Role → CallState → Bool
+may_accept role FarWaiting = true
+may_accept Dce Collision = true
+may_accept role _ = false
+
+abbrev pub may_clear : CallState → Bool
+may_clear Ready = false
+may_clear OwnClear = false
+may_clear _ = true
+
+abbrev pub in_transfer : CallState → Bool
+in_transfer Transfer = true
+in_transfer _ = false
+
+abbrev pub refused_if : Bool → Refusal → Option Refusal → Option Refusal
+refused_if true r other = Some r
+refused_if false r other = other
+
+abbrev pub refusal : Role → Channel → Request → Option Refusal
+refusal role ch Accept = refused_if (not (may_accept role ch.state)) Refusal.NoCall None
+refusal role ch (Clearing cause diagnostic) = refused_if (not (may_clear ch.state)) Refusal.NoCall None
+refusal role ch (Resetting cause diagnostic) = refused_if (not (in_transfer ch.state)) Refusal.NoCall (refused_if ch.resetting Refusal.IsResetting None)
+refusal role ch (Sending d) = refused_if (not (in_transfer ch.state)) Refusal.NoCall (refused_if ch.resetting Refusal.IsResetting (refused_if (nat_le 8 (length ch.traffic.waiting)) Refusal.QueueFull (refused_if (nat_lt 128 (length d.octets)) Refusal.TooLong None)))
+refusal role ch (Interrupting octets) = refused_if (not (in_transfer ch.state)) Refusal.NoCall (refused_if ch.resetting Refusal.IsResetting (refused_if ((length octets == 0) || nat_lt 32 (length octets)) Refusal.TooLong (refused_if (interrupt_pending ch.traffic) Refusal.InterruptPending None)))
+refusal role ch (Stopping b) = refused_if (not (in_transfer ch.state)) Refusal.NoCall None
+-- (nothing can be taken, released or confirmed outside a call)
+refusal role ch _ = refused_if (not (in_transfer ch.state)) Refusal.NoCall None
+
+-- what a request in a call that is not refused makes of its traffic
+abbrev pub traffic_after : Request → Traffic → Traffic
+traffic_after (Request.Sending d) t = queue d t
+traffic_after (Request.Interrupting octets) t = queue_interrupt octets t
+traffic_after (Request.Stopping b) t = stopping b t
+traffic_after Request.Taking t = taking t
+traffic_after (Request.Releasing n) t = cond (may_release n t) (releasing n t) t
+traffic_after Request.Confirming t = cond t.interrupt_taken (confirming t) t
+traffic_after _ t = t
+
+-- what a request that is not refused makes of the channel
+abbrev pub carried_out : Channel → Request → Step
+carried_out ch Accept = record { channel = entered Transfer ch; owes = Some Accepted; notes = [] }
+carried_out ch (Clearing cause diagnostic) = record { channel = ended OwnClear ch; owes = Some (Clear cause diagnostic); notes = [] }
+carried_out ch (Resetting cause diagnostic) = record { channel = renewed true ch; owes = Some (Reset cause diagnostic); notes = [] }
+carried_out ch (Sending d) = quiet (moved (queue d ch.traffic) ch)
+carried_out ch (Interrupting octets) = quiet (moved (queue_interrupt octets ch.traffic) ch)
+carried_out ch (Stopping b) = quiet (moved (stopping b ch.traffic) ch)
+carried_out ch Taking = quiet (moved (taking ch.traffic) ch)
+carried_out ch (Releasing n) = quiet (moved (cond (may_release n ch.traffic) (releasing n ch.traffic) ch.traffic) ch)
+carried_out ch Confirming = quiet (moved (cond ch.traffic.interrupt_taken (confirming ch.traffic) ch.traffic) ch)
+
+abbrev pub unless : Option Refusal → Step → Channel → Step
+unless None done ch = done
+unless (Some r) done ch = quiet ch
+
+abbrev pub requested : Role → Channel → Request → Step
+requested role ch r = unless (refusal role ch r) (carried_out ch r) ch
+
+-- `room`: free places of the send queue, 0 where `send` answers NoCall or Resetting
+abbrev pub has_flow : Channel → Bool
+has_flow ch = in_transfer ch.state && not ch.resetting

@@ -1,0 +1,144 @@
+-- What the two ends of a line did on a channel, epoch by epoch, which no node stores: the laws speak of it.
+use Rattle.std.specs.Prelude.{ℕ, ◌+◌, Bool, false, cond, ◌&&◌, ◌==◌, List, [], ◌∷◌, ◌++◌, Option, Some, None}
+use Rattle.link_timers.specs.declared.role.Role.{Role}
+use Rattle.packet_layer.specs.Packets.{CallParts, Datum, Body, Packet}
+use Rattle.packet_layer.specs.Packets.Body.{Clear, ClearConfirmation, Reset, ResetConfirmation, Restart, RestartConfirmation}
+use Rattle.packet_layer.specs.Traffic.{Traffic, Taken, Heard, front, may_release, hears}
+use Rattle.packet_layer.specs.Traffic.Taken.{TakenInterrupt, TakenPacket}
+use Rattle.packet_layer.specs.Traffic.Heard.{Keeps, Wrong}
+use Rattle.packet_layer.specs.Channel.{CallState, Channel, Request, Refusal, received, requested, refusal}
+use Rattle.packet_layer.specs.Channel.CallState.{Transfer}
+use Rattle.packet_layer.specs.Channel.Request.{Sending, Interrupting, Taking, Releasing}
+use Rattle.packet_layer.specs.Layer.{Phase, Layer, Timer, channel_of, runs, unread}
+use Rattle.packet_layer.specs.Layer.Phase.{PacketReady}
+use Rattle.packet_layer.specs.Layer.Timer.{RestartTimer, CallTimer, ResetTimer, ClearTimer}
+
+-- one epoch of one end: the packets that `send` accepted and `take` gave, the interrupts likewise, how many of the packets
+-- sent a received P(R) covered, and how many of those taken were released
+pub record Epoch : Type 0 where
+  pub sent : List Datum
+  pub taken : List Datum
+  pub interrupts_sent : List (List ℕ)
+  pub interrupts_taken : List (List ℕ)
+  pub covered : ℕ
+  pub released : ℕ
+  -- the call that this end placed in this use of the channel, if it did
+  pub called : Option CallParts
+
+abbrev pub empty_epoch : Epoch
+empty_epoch = record { sent = []; taken = []; interrupts_sent = []; interrupts_taken = []; covered = 0; released = 0; called = None }
+
+-- how an epoch grows: by a request that was not refused, by a packet heard in d1
+abbrev pub with_taken : Option Taken → Epoch → Epoch
+with_taken None e = e
+with_taken (Some (TakenInterrupt octets)) e = record e { interrupts_taken = e.interrupts_taken ++ octets ∷ [] }
+with_taken (Some (TakenPacket d)) e = record e { taken = e.taken ++ d ∷ [] }
+
+abbrev pub logged : Traffic → Request → Epoch → Epoch
+logged t (Sending d) e = record e { sent = e.sent ++ d ∷ [] }
+logged t (Interrupting octets) e = record e { interrupts_sent = e.interrupts_sent ++ octets ∷ [] }
+logged t Taking e = with_taken (front t) e
+logged t (Releasing n) e = cond (may_release n t) (record e { released = e.released + n }) e
+logged t _ e = e
+
+abbrev pub logged_heard : Heard → Epoch → Epoch
+logged_heard (Keeps n t) e = record e { covered = e.covered + n }
+logged_heard _ e = e
+
+-- the epochs of a channel in one session of the link, by three numbers: of the restart, of the use of the channel since it,
+-- of the reset in that use. A restart, clear or reset that the end begins or learns of (it owes the packet or its
+-- confirmation) begins the next restart, use or epoch; one that only confirms the end's own begins none
+pub record Story : Type 0 where
+  pub restart : ℕ
+  pub use_ : ℕ
+  pub epoch : ℕ
+  pub epochs : ℕ → ℕ → ℕ → Epoch
+
+abbrev pub new_story : Story
+new_story = record { restart = 0; use_ = 0; epoch = 0; epochs = λ r u g. empty_epoch }
+
+abbrev pub is_now : Story → ℕ → ℕ → ℕ → Bool
+is_now st r u g = (r == st.restart) && ((u == st.use_) && (g == st.epoch))
+
+abbrev pub grown : (Epoch → Epoch) → Story → Story
+grown f st = record st { epochs = λ r u g. cond (is_now st r u g) (f (st.epochs r u g)) (st.epochs r u g) }
+
+-- a call placed is known in the whole use
+abbrev pub is_use : Story → ℕ → ℕ → Bool
+is_use st r u = (r == st.restart) && (u == st.use_)
+
+abbrev pub with_call : CallParts → Epoch → Epoch
+with_call parts e = record e { called = Some parts }
+
+abbrev pub placed : CallParts → Story → Story
+placed parts st =
+    record st { epochs = λ r u g. cond (is_use st r u) (with_call parts (st.epochs r u g)) (st.epochs r u g) }
+
+abbrev pub next_restart_of : Story → Story
+next_restart_of st = record st { restart = st.restart + 1; use_ = 0; epoch = 0 }
+
+abbrev pub next_use_of : Story → Story
+next_use_of st = record st { use_ = st.use_ + 1; epoch = 0 }
+
+abbrev pub next_epoch_of : Story → Story
+next_epoch_of st = record st { epoch = st.epoch + 1 }
+
+abbrev pub opened : Option Body → Story → Story
+opened (Some (Restart cause diagnostic)) st = next_restart_of st
+opened (Some RestartConfirmation) st = next_restart_of st
+opened (Some (Clear cause diagnostic)) st = next_use_of st
+opened (Some ClearConfirmation) st = next_use_of st
+opened (Some (Reset cause diagnostic)) st = next_epoch_of st
+opened (Some ResetConfirmation) st = next_epoch_of st
+opened _ st = st
+
+-- ---- the story of channel c over what happens to the layer
+
+abbrev pub grown_unless : Option Refusal → (Epoch → Epoch) → Story → Story
+grown_unless None f st = grown f st
+grown_unless (Some r) f st = st
+
+abbrev pub requested_story : Role → Channel → Request → Story → Story
+requested_story role ch r st = opened (requested role ch r).owes (grown_unless (refusal role ch r) (λ e. logged ch.traffic r e) st)
+
+abbrev pub heard_story : CallState → Bool → Heard → Story → Story
+heard_story Transfer false (Wrong diagnostic) st = st
+heard_story Transfer false h st = grown (λ e. logged_heard h e) st
+heard_story s b h st = st
+
+abbrev pub received_story : Role → ℕ → ℕ → Channel → Body → Story → Story
+received_story role window c ch body st = opened (received role window c ch body).owes (heard_story ch.state ch.resetting (hears window ch.traffic body) st)
+
+abbrev pub found_story : Option Channel → (Channel → Story → Story) → Story → Story
+found_story None f st = st
+found_story (Some ch) f st = f ch st
+
+abbrev pub request_story : Layer → ℕ → Request → ℕ → Story → Story
+request_story l d r c st = cond (c == d) (found_story (channel_of l d) (λ ch s. requested_story l.role ch r s) st) st
+
+abbrev pub call_story : CallParts → Option ℕ → ℕ → Story → Story
+call_story parts None c st = st
+call_story parts (Some d) c st = cond (c == d) (placed parts st) st
+
+abbrev pub restart_story : Phase → Body → Story → Story
+restart_story PacketReady (Restart cause diagnostic) st = next_restart_of st
+restart_story PacketReady RestartConfirmation st = next_restart_of st
+restart_story phase body st = st
+
+abbrev pub channel_story : Phase → Option Channel → (Channel → Story → Story) → Story → Story
+channel_story PacketReady found f st = found_story found f st
+channel_story phase found f st = st
+
+abbrev pub packet_story : Layer → Packet → ℕ → Story → Story
+packet_story l p c st =
+    cond (p.channel == 0) (restart_story l.phase p.body st)
+    (cond (c == p.channel) (channel_story l.phase (channel_of l p.channel) (λ ch s. received_story l.role l.window p.channel ch p.body s) st) st)
+
+abbrev pub expired_story : Timer → ℕ → Story → Story
+expired_story RestartTimer c st = st
+expired_story (CallTimer d) c st = cond (c == d) (next_use_of st) st
+expired_story (ResetTimer d) c st = cond (c == d) (next_use_of st) st
+expired_story (ClearTimer d) c st = next_restart_of st
+
+abbrev pub timer_story : Layer → Timer → ℕ → Story → Story
+timer_story l t c st = cond (runs (unread l) t) (expired_story t c st) st

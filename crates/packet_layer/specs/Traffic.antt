@@ -1,0 +1,183 @@
+-- Data transfer on a channel from one reset to the next (X.25 4.3 and 4.4): queues, P(S) and P(R), the window, busy states,
+-- interrupts.
+use Rattle.std.specs.Prelude.{ℕ, ◌+◌, ◌-◌, ◌%◌, Bool, true, false, cond, not, ◌&&◌, ◌||◌, ◌==◌, nat_lt, nat_le, List, [], ◌∷◌, ◌++◌, length, Option, Some, None, is_some}
+use Rattle.packet_layer.specs.Packets.{Datum, Body}
+use Rattle.packet_layer.specs.Packets.Body.{Data, Interrupt, InterruptConfirmation, ReceiveReady, ReceiveNotReady}
+
+pub record Traffic : Type 0 where
+  -- packets waiting to be sent, the P(S) of the next one, and the P(R) received last (both modulo 8)
+  pub waiting : List Datum
+  pub send_number : ℕ
+  pub covered : ℕ
+  -- how many of the packets not yet covered, the oldest first, have to be covered until all with D = 1 are
+  pub undelivered : ℕ
+  -- packets to be taken, the P(S) expected, the P(R) that may be sent, and the one sent last (modulo 8)
+  pub arrived : List Datum
+  pub receive_number : ℕ
+  pub released : ℕ
+  pub told : ℕ
+  -- the partner sent RNR; this end is to say RNR; it did
+  pub partner_busy : Bool
+  pub stopped : Bool
+  pub told_stopped : Bool
+  -- the interrupt to be sent, whether one is sent and unconfirmed; the one to be taken, whether one is taken and
+  -- unconfirmed, whether its confirmation is to be sent
+  pub interrupt_waiting : Option (List ℕ)
+  pub interrupt_unconfirmed : Bool
+  pub interrupt_arrived : Option (List ℕ)
+  pub interrupt_taken : Bool
+  pub confirmation_due : Bool
+
+-- as a call or a reset begins it
+abbrev pub fresh : Traffic
+fresh = record {
+  waiting = [];
+  send_number = 0;
+  covered = 0;
+  undelivered = 0;
+  arrived = [];
+  receive_number = 0;
+  released = 0;
+  told = 0;
+  partner_busy = false;
+  stopped = false;
+  told_stopped = false;
+  interrupt_waiting = None;
+  interrupt_unconfirmed = false;
+  interrupt_arrived = None;
+  interrupt_taken = false;
+  confirmation_due = false;
+}
+
+-- the counts that numbers modulo 8 stand for, since no window is above 7: packets sent and not covered, packets accepted and
+-- not released
+abbrev pub distance : ℕ → ℕ → ℕ
+distance from to = (to + 8 - from) % 8
+
+abbrev pub in_flight : Traffic → ℕ
+in_flight t = distance t.covered t.send_number
+
+abbrev pub unreleased : Traffic → ℕ
+unreleased t = distance t.released t.receive_number
+
+abbrev pub interrupt_pending : Traffic → Bool
+interrupt_pending t = is_some t.interrupt_waiting || t.interrupt_unconfirmed
+
+-- ---- what the user does
+
+abbrev pub queue : Datum → Traffic → Traffic
+queue d t = record t { waiting = t.waiting ++ d ∷ []; undelivered = cond d.delivery (in_flight t + length t.waiting + 1) t.undelivered }
+
+abbrev pub queue_interrupt : List ℕ → Traffic → Traffic
+queue_interrupt octets t = record t { interrupt_waiting = Some octets }
+
+abbrev pub stopping : Bool → Traffic → Traffic
+stopping b t = record t { stopped = b }
+
+-- what `take` gives: an interrupt before all packets
+pub data Taken : Type 0 where
+  TakenInterrupt : List ℕ → Taken
+  TakenPacket : Datum → Taken
+
+abbrev pub front_of : Option (List ℕ) → List Datum → Option Taken
+front_of (Some octets) ds = Some (Taken.TakenInterrupt octets)
+front_of None [] = None
+front_of None (d ∷ ds) = Some (Taken.TakenPacket d)
+
+abbrev pub front : Traffic → Option Taken
+front t = front_of t.interrupt_arrived t.arrived
+
+abbrev pub taking_of : Option (List ℕ) → List Datum → Traffic → Traffic
+taking_of (Some octets) ds t = record t { interrupt_arrived = None; interrupt_taken = true }
+taking_of None [] t = t
+taking_of None (d ∷ ds) t = record t { arrived = ds }
+
+abbrev pub taking : Traffic → Traffic
+taking t = taking_of t.interrupt_arrived t.arrived t
+
+-- P(R) may pass n more of the packets that were taken
+abbrev pub may_release : ℕ → Traffic → Bool
+may_release n t = nat_le (n + length t.arrived) (unreleased t)
+
+abbrev pub releasing : ℕ → Traffic → Traffic
+releasing n t = record t { released = (t.released + n) % 8 }
+
+abbrev pub confirming : Traffic → Traffic
+confirming t = record t { interrupt_taken = false; confirmation_due = true }
+
+-- ---- what goes to the link: the interrupt confirmation, the interrupt, data within the window, RR or RNR where P(R) or the
+-- stop state was not told
+
+pub record Said : Type 0 where
+  pub traffic : Traffic
+  pub body : Option Body
+
+abbrev pub ready_or_not : Bool → ℕ → Body
+ready_or_not true n = ReceiveNotReady n
+ready_or_not false n = ReceiveReady n
+
+abbrev pub same_flag : Bool → Bool → Bool
+same_flag true b = b
+same_flag false b = not b
+
+abbrev pub flow_told : Traffic → Bool
+flow_told t = (t.told == t.released) && same_flag t.told_stopped t.stopped
+
+abbrev pub says_flow : Traffic → Said
+says_flow t = cond (flow_told t) (record { traffic = t; body = None }) (record { traffic = record t { told = t.released; told_stopped = t.stopped }; body = Some (ready_or_not t.stopped t.released) })
+
+abbrev pub window_open : ℕ → Traffic → Bool
+window_open window t = nat_lt (in_flight t) window && not t.partner_busy
+
+abbrev pub says_data : ℕ → List Datum → Traffic → Said
+says_data window [] t = says_flow t
+says_data window (d ∷ ds) t =
+    cond (window_open window t)
+    (record { traffic = record t { waiting = ds; send_number = (t.send_number + 1) % 8; told = t.released }; body = Some (Data t.send_number t.released d) })
+    (says_flow t)
+
+abbrev pub says_interrupt : ℕ → Option (List ℕ) → Traffic → Said
+says_interrupt window (Some octets) t = record { traffic = record t { interrupt_waiting = None; interrupt_unconfirmed = true }; body = Some (Interrupt octets) }
+says_interrupt window None t = says_data window t.waiting t
+
+abbrev pub says : ℕ → Traffic → Said
+says window t = cond t.confirmation_due (record { traffic = record t { confirmation_due = false }; body = Some InterruptConfirmation }) (says_interrupt window t.interrupt_waiting t)
+
+-- ---- what comes from the link
+
+-- what came is kept and covers some packets, confirms the interrupt, or is a procedure error with its diagnostic
+pub data Heard : Type 0 where
+  Keeps : (newly : ℕ) → Traffic → Heard
+  Confirms : Traffic → Heard
+  Wrong : (diagnostic : ℕ) → Heard
+
+-- a P(R) has to lie from the last one to the next P(S)
+abbrev pub covers : ℕ → Traffic → Heard
+covers receive t =
+    cond (nat_le (distance t.covered receive) (in_flight t))
+    (Heard.Keeps (distance t.covered receive) (record t { covered = receive; undelivered = t.undelivered - distance t.covered receive }))
+    (Heard.Wrong 2)
+
+abbrev pub keeps : (Traffic → Traffic) → Heard → Heard
+keeps f (Heard.Keeps n t) = Heard.Keeps n (f t)
+keeps f (Heard.Confirms t) = Heard.Confirms t
+keeps f (Heard.Wrong d) = Heard.Wrong d
+
+abbrev pub arrives : Datum → Traffic → Traffic
+arrives d t = record t { arrived = t.arrived ++ d ∷ []; receive_number = (t.receive_number + 1) % 8 }
+
+abbrev pub partner_says : Bool → Traffic → Traffic
+partner_says b t = record t { partner_busy = b }
+
+-- an interrupt before the confirmation of the last one went to the link
+abbrev pub interrupted : Traffic → Bool
+interrupted t = is_some t.interrupt_arrived || (t.interrupt_taken || t.confirmation_due)
+
+-- a Data packet must have the expected P(S) with fewer than window packets unreleased, then a valid P(R)
+abbrev pub hears : ℕ → Traffic → Body → Heard
+hears window t (Data send receive d) = cond ((send == t.receive_number) && nat_lt (unreleased t) window) (keeps (λ u. arrives d u) (covers receive t)) (Heard.Wrong 1)
+hears window t (ReceiveReady receive) = keeps (λ u. partner_says false u) (covers receive t)
+hears window t (ReceiveNotReady receive) = keeps (λ u. partner_says true u) (covers receive t)
+hears window t (Interrupt octets) = cond (interrupted t) (Heard.Wrong 0) (Heard.Keeps 0 (record t { interrupt_arrived = Some octets }))
+hears window t InterruptConfirmation = cond t.interrupt_unconfirmed (Heard.Confirms (record t { interrupt_unconfirmed = false })) (Heard.Wrong 0)
+hears window t _ = Heard.Wrong 0

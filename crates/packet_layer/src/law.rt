@@ -1,0 +1,16 @@
+ghost use Rattle.packet_layer.specs.Counts.{CountsLaw};
+ghost use Rattle.packet_layer.specs.Law.{LineLaw};
+
+/// The law of a line, over the definitions of the layer alone: whatever is called at its two ends, whatever timers expire and
+/// however its link's sessions begin and end, what an end takes in an epoch of a call is a prefix of what the other end sent
+/// in that same epoch, what a P(R) covered was released at the other end, the epochs of the two ends stay in step, and no
+/// packet that arrives is a procedure error.
+pub fn line_law()
+    ensures { LineLaw }
+{}
+
+/// What the numbers of data transfer name, at one end and whatever its partner does: a Data packet carries the packet whose
+/// place in the epoch its P(S) names, and a P(R) names how many packets were released (X.25 4.4.1).
+pub fn counts_law()
+    ensures { CountsLaw }
+{}

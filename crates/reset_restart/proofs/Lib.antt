@@ -1,0 +1,2 @@
+pub mod ResetRows
+pub mod RestartRows
