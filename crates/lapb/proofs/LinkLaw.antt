@@ -1,5 +1,5 @@
 -- The law of the link: it holds as the line is made, each event keeps it, and it says what is promised.
-use Rattle.std.specs.Prelude.{◌≡◌, ℕ, ◌+◌, ◌<◌, ◌≤◌, Bool, true, false, not, ◌&&◌, List, [], ◌∷◌, if◌then◌else◌, ◌==◌}
+use Rattle.std.specs.Prelude.{◌≡◌, ℕ, ◌+◌, ◌<◌, ◌≤◌, Bool, true, false, not, ◌&&◌, List, [], ◌∷◌, ◌++◌, if◌then◌else◌, ◌==◌}
 use Rattle.std.proofs.Common.{refl, sym, ap, ◌∙◌, subst, inl, inr, arith, eqb-true}
 use Rattle.std.proofs.lemmas.Bool.{eqb-false}
 use Rattle.link_timers.specs.declared.role.Role.TheVariants.{Dte, Dce}
@@ -19,10 +19,11 @@ use Rattle.lapb.specs.declared.phase.Phase.{Phase}
 use Rattle.lapb.specs.declared.note.Note.{Note}
 use Rattle.lapb.specs.Machine.{
   Octets,
-  response,
+  Link,
   send_all,
   sendable,
   settle,
+  settle_in,
   on_frame,
   still,
   first_phase,
@@ -57,6 +58,7 @@ use Rattle.lapb.specs.World.{
   IsQuiet,
   AllQuiet,
   AreUp,
+  answer_to,
   ComesUp,
   BeginsFresh,
 }
@@ -166,27 +168,35 @@ fresh_at_dce w s rest i is =
     less : (t c : ℕ) → c ≤ t → (t ≡ c → ⊥) → c < t
     less t c le other = grind arith
 
--- a UA of the DTE's act comes from the DCE that stands in it
-ua-act : (n c : ℕ) (p : Bool) (t : ℕ) (final : Bool) → c ≤ n → t ≤ c → OfDown n p t Acknowledgement final → final ≡ p
-    → n ≡ c
-ua-act n c p t final reached le o same =
-    elim o [ inl e ↦ (let x = e.0 in omega arith) | inr e ↦ absurd (other final p same e.1) ]
-  where
-    other : (a b : Bool) → a ≡ b → a ≡ not b → ⊥
-    other true true e f = absurd (cc)
-    other true false e f = absurd (cc)
-    other false true e f = absurd (cc)
-    other false false e f = absurd (cc)
+-- a bit is not also the other one
+not_other : (a b : Bool) → a ≡ b → a ≡ not b → ⊥
+not_other true true e f = absurd (cc)
+not_other true false e f = absurd (cc)
+not_other false true e f = absurd (cc)
+not_other false false e f = absurd (cc)
+
+-- a UA with the bit of the DTE's act is of that act
+ua-act : (n : ℕ) (p : Bool) (t : ℕ) (final : Bool) → OfDown n p t Acknowledgement final → final ≡ p → t ≡ n
+ua-act n p t final o same = elim o [ inl e ↦ e.0 | inr e ↦ absurd (not_other final p same e.1) ]
+
+-- the UA that brings the DTE up is of its act
+act_at_dte : (w : World) (s : Sent) (rest : List Sent) → Inv (record w { down = s ∷ rest }) → (on_frame w.dte
+    s.frame).note ≡ Note.Up → s.act ≡ w.act
+act_at_dte w s rest i up =
+    let b = dte_begins w.dte s.frame i.dte_role i.dte_phase up in
+    let head : OfDown w.act w.dte.bit s.act Acknowledgement s.frame.poll =
+    subst (λ (x : Content). OfDown w.act w.dte.bit s.act x s.frame.poll) b.1 i.downs.2 in
+    ua-act w.act w.dte.bit s.act s.frame.poll head (same_is s.frame.poll w.dte.bit b.2)
 
 fresh_at_dte : (w : World) (s : Sent) (rest : List Sent) → Inv (record w { down = s ∷ rest }) → (on_frame w.dte
     s.frame).note ≡ Note.Up →
     (w.dte_accepted w.act ≡ []) × (w.dce_accepted w.act ≡ []) × (w.dte_offered w.act ≡ [])
 fresh_at_dte w s rest i up =
     let b = dte_begins w.dte s.frame i.dte_role i.dte_phase up in
-    let head : OfDown w.act w.dte.bit s.act Acknowledgement s.frame.poll =
-    subst (λ (x : Content). OfDown w.act w.dte.bit s.act x s.frame.poll) b.1 i.downs.2 in
-    let act_is : w.act ≡ w.session = ua-act w.act w.session w.dte.bit s.act s.frame.poll i.reached i.downs.1 head
-    (same_is s.frame.poll w.dte.bit b.2) in
+    let of_act = act_at_dte w s rest i up in
+    let le : s.act ≤ w.session = i.downs.1 in
+    let reached : w.session ≤ w.act = i.reached in
+    let act_is : w.act ≡ w.session = omega arith in
     let j = i.setting b.0 act_is in (
       ap w.dte_accepted act_is ∙ j.fresh.dte_none,
       ap w.dce_accepted act_is ∙ j.fresh.dce_none,
@@ -197,6 +207,7 @@ fresh_at_dte w s rest i up =
 pub inv-begins_fresh : (w : World) → Inv w → BeginsFresh w
 inv-begins_fresh w i = record {
   dce = λ s rest e is. fresh_at_dce w s rest (subst (λ (flow : List Sent). Inv (record w { up = flow })) e i) is;
+  of_act = λ s rest e up. act_at_dte w s rest (subst (λ (flow : List Sent). Inv (record w { down = flow })) e i) up;
   dte = λ s rest e up. fresh_at_dte w s rest (subst (λ (flow : List Sent). Inv (record w { down = flow })) e i) up;
 }
 
@@ -206,14 +217,12 @@ begins_fresh standing dte dce few few' events =
 
 -- ---- both come up
 
--- the UA of act n is all that is on the way to the DTE, and the DCE, in that act, has heard nothing
-record Pending (n : ℕ) (s : Sent) (w : World) : Type 0 where
+-- both ends are in act n, and the DCE is up
+record Pending (n : ℕ) (w : World) : Type 0 where
   inv : Inv w
   act_is : w.act ≡ n
   session_is : w.session ≡ n
   dce_up : w.dce.phase ≡ Phase.Up
-  unheard : w.dce.heard ≡ false
-  down_is : w.down ≡ s ∷ []
 
 -- the DTE's settle begins no act
 settle-act : (w : World) → w.dte.role ≡ Dte → act_after w (settle w.dte) ≡ w.act
@@ -227,90 +236,90 @@ settle-act w role =
     sent_phase v up (packet ∷ packets) = ap (λ p. if is_setting_up p && not (is_setting_up v.dte.phase) then v.act + 1
         else v.act) up
 
--- what the DCE's settle leaves as it was
-record Unmoved (before after : World) : Type 0 where
-  phase : after.dce.phase ≡ before.dce.phase
-  heard : after.dce.heard ≡ before.dce.heard
-  down : after.down ≡ before.down
+-- a link that is up stays so at the end of an event
+settle-phase : (l : Link) → l.phase ≡ Phase.Up → (settle l).link.phase ≡ Phase.Up
+settle-phase l up = subst (λ p. (settle_in p l).link.phase ≡ Phase.Up) (sym up) (sent_phase (sendable l) ∙ up)
+  where
+    sent_phase : (packets : List Octets) → (send_all l packets).link.phase ≡ l.phase
+    sent_phase [] = refl
+    sent_phase (packet ∷ packets) = refl
 
-settle-unmoved : (w : World) (kept : List Bool) → w.dce.phase ≡ Phase.Up → w.dce.heard ≡ false → w.dce.owed ≡ false →
-    Unmoved w (dce_does w kept (settle w.dce))
-settle-unmoved w kept up unheard free =
-    let deaf : World = record w { dce = record w.dce { phase = Phase.Up; heard = false; owed = false } } in
-    let a : Phase.Up ≡ w.dce.phase = sym up in
-    let b : false ≡ w.dce.heard = sym unheard in
-    let c : false ≡ w.dce.owed = sym free in
-    let same : deaf ≡ w = λ k. record w { dce = record w.dce { phase = a k; heard = b k; owed = c k } } in
-    subst (λ (v : World). Unmoved v (dce_does v kept (settle v.dce))) same
-    (record { phase = refl; heard = refl; down = sym (nothing_sent w.down w.session kept) })
-
-pending-quiet : (n : ℕ) (s : Sent) (w : World) (event : Event) → IsQuiet event → Pending n s w → Pending n s (happens
-    w event)
-pending-quiet n s w (Offer Dte packet) q p = record {
+pending-quiet : (n : ℕ) (w : World) (event : Event) → IsQuiet event → Pending n w → Pending n (happens w event)
+pending-quiet n w (Offer Dte packet) q p = record {
   inv = happens-keeps w (Offer Dte packet) p.inv;
   act_is = p.act_is;
   session_is = p.session_is;
   dce_up = p.dce_up;
-  unheard = p.unheard;
-  down_is = p.down_is;
 }
-pending-quiet n s w (Offer Dce packet) q p = record {
+pending-quiet n w (Offer Dce packet) q p = record {
   inv = happens-keeps w (Offer Dce packet) p.inv;
   act_is = p.act_is;
   session_is = p.session_is;
   dce_up = p.dce_up;
-  unheard = p.unheard;
-  down_is = p.down_is;
 }
-pending-quiet n s w (Settle Dte kept) q p = record {
+pending-quiet n w (Settle Dte kept) q p = record {
   inv = happens-keeps w (Settle Dte kept) p.inv;
   act_is = settle-act w p.inv.dte_role ∙ p.act_is;
   session_is = p.session_is;
   dce_up = p.dce_up;
-  unheard = p.unheard;
-  down_is = p.down_is;
 }
-pending-quiet n s w (Settle Dce kept) q p =
-    let u = settle-unmoved w kept p.dce_up p.unheard (p.inv.mute p.dce_up p.unheard).not_owed in record {
-      inv = happens-keeps w (Settle Dce kept) p.inv;
-      act_is = p.act_is;
-      session_is = p.session_is;
-      dce_up = u.phase ∙ p.dce_up;
-      unheard = u.heard ∙ p.unheard;
-      down_is = u.down ∙ p.down_is;
-    }
-pending-quiet n s w (Deliver to kept) q p = absurd q
-pending-quiet n s w (Lose to) q p = absurd q
-pending-quiet n s w (Expire at kept) q p = absurd q
-pending-quiet n s w (Relink at kept) q p = absurd q
-pending-quiet n s w (Restart at) q p = absurd q
+pending-quiet n w (Settle Dce kept) q p = record {
+  inv = happens-keeps w (Settle Dce kept) p.inv;
+  act_is = p.act_is;
+  session_is = p.session_is;
+  dce_up = settle-phase w.dce p.dce_up;
+}
+pending-quiet n w (Lose Dte) q p = record {
+  inv = happens-keeps w (Lose Dte) p.inv;
+  act_is = p.act_is;
+  session_is = p.session_is;
+  dce_up = p.dce_up;
+}
+pending-quiet n w (Lose Dce) q p = record {
+  inv = happens-keeps w (Lose Dce) p.inv;
+  act_is = p.act_is;
+  session_is = p.session_is;
+  dce_up = p.dce_up;
+}
+pending-quiet n w (Deliver to kept) q p = absurd q
+pending-quiet n w (Expire at kept) q p = absurd q
+pending-quiet n w (Relink at kept) q p = absurd q
+pending-quiet n w (Restart at) q p = absurd q
 
-pending-run : (n : ℕ) (s : Sent) (events : List Event) (w : World) → AllQuiet events → Pending n s w → Pending n s
-    (run events w)
-pending-run n s [] w q p = p
-pending-run n s (event ∷ events) w q p = pending-run n s events (happens w event) q.1 (pending-quiet n s w event q.0
-    p)
+pending-run : (n : ℕ) (events : List Event) (w : World) → AllQuiet events → Pending n w → Pending n (run events w)
+pending-run n [] w q p = p
+pending-run n (event ∷ events) w q p = pending-run n events (happens w event) q.1 (pending-quiet n w event q.0 p)
+
+acknowledgement_is : (x : Content) → is_acknowledgement x ≡ true → x ≡ Acknowledgement
+acknowledgement_is Acknowledgement e = refl
+acknowledgement_is SetMode e = absurd (cc)
+acknowledgement_is (Information send receive packet) e = absurd (cc)
+acknowledgement_is (ReceiveReady receive) e = absurd (cc)
+acknowledgement_is (ReceiveNotReady receive) e = absurd (cc)
+acknowledgement_is (Reject receive) e = absurd (cc)
+acknowledgement_is Disconnect e = absurd (cc)
+acknowledgement_is DisconnectedMode e = absurd (cc)
+acknowledgement_is (FrameReject report) e = absurd (cc)
 
 -- the DTE takes the UA, or is up already
-are_up : (n : ℕ) (s : Sent) (w : World) (kept : List Bool) → s.frame.content ≡ Acknowledgement → s.act ≡ n → Pending n
-    s w →
-    AreUp (happens w (Deliver Dte kept))
-are_up n s w kept is at p =
-    subst (λ (flow : List Sent). AreUp (to_dte w kept flow)) (sym p.down_is)
-    (taken (subst (λ (flow : List Sent). Inv (record w { down = flow })) p.down_is p.inv))
+are_up : (n : ℕ) (s : Sent) (rest : List Sent) (w : World) (kept : List Bool) → s.frame.content ≡ Acknowledgement →
+    s.act ≡ n → w.down ≡ s ∷ rest → Pending n w → AreUp (happens w (Deliver Dte kept))
+are_up n s rest w kept is at front p =
+    subst (λ (flow : List Sent). AreUp (to_dte w kept flow)) (sym front)
+    (taken (subst (λ (flow : List Sent). Inv (record w { down = flow })) front p.inv))
   where
     -- by the phase of the DTE, the UA's content written out
-    at_phase : (v : World) → v.dte.role ≡ Dte → Inv (record v { down = s ∷ [] }) → v.dce.phase ≡ Phase.Up → v.act ≡ n
+    at_phase : (v : World) → v.dte.role ≡ Dte → Inv (record v { down = s ∷ rest }) → v.dce.phase ≡ Phase.Up → v.act ≡ n
         → v.session ≡ n →
-        AreUp (dte_does (record v { down = [] }) kept (on_frame v.dte (record {
+        AreUp (dte_does (record v { down = rest }) kept (on_frame v.dte (record {
           content = Acknowledgement;
           response =
               s.frame.response;
           poll = s.frame.poll;
         })))
     at_phase v role =
-        by_dte (λ u. Inv (record u { down = s ∷ [] }) → u.dce.phase ≡ Phase.Up → u.act ≡ n → u.session ≡ n →
-        AreUp (dte_does (record u { down = [] }) kept (on_frame u.dte (record {
+        by_dte (λ u. Inv (record u { down = s ∷ rest }) → u.dce.phase ≡ Phase.Up → u.act ≡ n → u.session ≡ n →
+        AreUp (dte_does (record u { down = rest }) kept (on_frame u.dte (record {
           content = Acknowledgement;
           response =
               s.frame.response;
@@ -326,7 +335,7 @@ are_up n s w kept is at p =
           | inl e ↦ e.1
           | inr e ↦ absurd (let less = e.0 in omega arith)
         ] in
-        subst (λ b. AreUp (dte_does (record (dte_in v Phase.SettingUp) { down = [] }) kept
+        subst (λ b. AreUp (dte_does (record (dte_in v Phase.SettingUp) { down = rest }) kept
         (if b then come_up (dte_in v Phase.SettingUp).dte else still (dte_in v Phase.SettingUp).dte)))
         (sym (same_bits s.frame.poll v.dte.bit bit))
         (record { dte = refl; dce = up; own = refl; session = session ∙ sym act }))
@@ -341,85 +350,32 @@ are_up n s w kept is at p =
         same_bits false true e = absurd (cc)
         same_bits false false e = refl
 
-    taken : Inv (record w { down = s ∷ [] }) → AreUp (to_dte w kept (s ∷ []))
+    taken : Inv (record w { down = s ∷ rest }) → AreUp (to_dte w kept (s ∷ rest))
     taken i =
-        subst (λ (x : Content). AreUp (dte_does (record w { down = [] }) kept
+        subst (λ (x : Content). AreUp (dte_does (record w { down = rest }) kept
         (on_frame w.dte (record { content = x; response = s.frame.response; poll = s.frame.poll })))) (sym is)
         (at_phase w p.inv.dte_role i p.dce_up p.act_is p.session_is)
 
 -- the DCE takes the SABM
-pending-first : (w : World) (s : Sent) (rest : List Sent) → Inv (record w { up = s ∷ rest; down = [] }) → is_set_mode
-    s.frame.content ≡ true →
-    s.act ≡ w.act →
-    Pending w.act (record { frame = response Acknowledgement s.frame.poll; act = s.act }) (to_dce (record w {
-      up = s ∷
-          rest;
-      down = [];
-    }) [] (s ∷ rest))
-pending-first w s rest i is at = by_content s.frame.content s.frame.response s.frame.poll s.act at is i
+pending-first : (w : World) (s : Sent) (rest : List Sent) (sent : List Bool) → Inv (record w { up = s ∷ rest }) →
+    is_set_mode s.frame.content ≡ true → s.act ≡ w.act →
+    Pending w.act (to_dce (record w { up = s ∷ rest }) sent (s ∷ rest))
+pending-first w s rest sent i is at = by_content s.frame.content s.frame.response s.frame.poll s.act at is i
   where
+    as_sent : (content : Content) (r p : Bool) (t : ℕ) → Sent
+    as_sent content r p t = record { frame = record { content = content; response = r; poll = p }; act = t }
+
     by_content : (content : Content) (r p : Bool) (t : ℕ) → t ≡ w.act → is_set_mode content ≡ true →
-        Inv (record w {
-          up = record { frame = record { content = content; response = r; poll = p }; act = t } ∷ rest;
-          down = [];
-        }) →
-        Pending w.act (record { frame = response Acknowledgement p; act = t })
-        (to_dce (record w {
-          up = record { frame = record { content = content; response = r; poll = p }; act = t } ∷
-              rest;
-          down = [];
-        }) []
-        (record { frame = record { content = content; response = r; poll = p }; act = t } ∷ rest))
+        Inv (record w { up = as_sent content r p t ∷ rest }) →
+        Pending w.act (to_dce (record w { up = as_sent content r p t ∷ rest }) sent (as_sent content r p t ∷ rest))
     by_content SetMode r p t at is i =
-        by_dce (λ v. Inv (record v {
-          up = record {
-            frame = record { content = SetMode; response = r; poll = p };
-            act =
-                t;
-          } ∷ rest;
-          down = [];
-        }) →
-        t ≡ v.act →
-        Pending v.act (record { frame = response Acknowledgement p; act = t })
-        (to_dce (record v {
-          up = record { frame = record { content = SetMode; response = r; poll = p }; act = t } ∷
-              rest;
-          down = [];
-        }) []
-        (record { frame = record { content = SetMode; response = r; poll = p }; act = t } ∷ rest)))
+        by_dce (λ v. Inv (record v { up = as_sent SetMode r p t ∷ rest }) → t ≡ v.act →
+        Pending v.act (to_dce (record v { up = as_sent SetMode r p t ∷ rest }) sent (as_sent SetMode r p t ∷ rest)))
         w i.dce_role
-        (λ j e. record {
-          inv = happens-keeps _ (Deliver Dce []) j;
-          act_is = refl;
-          session_is = e;
-          dce_up = refl;
-          unheard = refl;
-          down_is = refl;
-        })
-        (λ j e. record {
-          inv = happens-keeps _ (Deliver Dce []) j;
-          act_is = refl;
-          session_is = e;
-          dce_up = refl;
-          unheard = refl;
-          down_is = refl;
-        })
-        (λ j e. record {
-          inv = happens-keeps _ (Deliver Dce []) j;
-          act_is = refl;
-          session_is = e;
-          dce_up = refl;
-          unheard = refl;
-          down_is = refl;
-        })
-        (λ j e. record {
-          inv = happens-keeps _ (Deliver Dce []) j;
-          act_is = refl;
-          session_is = e;
-          dce_up = refl;
-          unheard = refl;
-          down_is = refl;
-        })
+        (λ j e. record { inv = happens-keeps _ (Deliver Dce sent) j; act_is = refl; session_is = e; dce_up = refl })
+        (λ j e. record { inv = happens-keeps _ (Deliver Dce sent) j; act_is = refl; session_is = e; dce_up = refl })
+        (λ j e. record { inv = happens-keeps _ (Deliver Dce sent) j; act_is = refl; session_is = e; dce_up = refl })
+        (λ j e. record { inv = happens-keeps _ (Deliver Dce sent) j; act_is = refl; session_is = e; dce_up = refl })
         i at
     by_content (Information send receive packet) r p t at is i = absurd (cc)
     by_content (ReceiveReady receive) r p t at is i = absurd (cc)
@@ -430,28 +386,45 @@ pending-first w s rest i is at = by_content s.frame.content s.frame.response s.f
     by_content Acknowledgement r p t at is i = absurd (cc)
     by_content (FrameReject report) r p t at is i = absurd (cc)
 
-comes_up_from : (w : World) (s : Sent) (rest : List Sent) → Inv (record w { up = s ∷ rest; down = [] }) → is_set_mode
-    s.frame.content ≡ true →
-    s.act ≡ w.act → (kept : List Bool) (between : List Event) → AllQuiet between →
-    AreUp (happens (run between (happens (record w { up = s ∷ rest; down = [] }) (Deliver Dce []))) (Deliver Dte
-    kept))
-comes_up_from w s rest i is at kept between quiet =
-    let answer : Sent = record { frame = response Acknowledgement s.frame.poll; act = s.act } in
-    let first = pending-first w s rest i is at in
-    let last = pending-run w.act answer between (happens (record w { up = s ∷ rest; down = [] }) (Deliver Dce []))
-    quiet first in
-    are_up w.act answer (run between (happens (record w { up = s ∷ rest; down = [] }) (Deliver Dce []))) kept refl at
-    last
+-- and answers it
+answered_by : (w : World) (s : Sent) (rest : List Sent) → w.dce.role ≡ Dce → is_set_mode s.frame.content ≡ true →
+    (to_dce (record w { up = s ∷ rest }) [] (s ∷ rest)).down ≡ w.down ++ answer_to s ∷ []
+answered_by w s rest role is = by_content s.frame.content s.frame.response s.frame.poll s.act is
+  where
+    as_sent : (content : Content) (r p : Bool) (t : ℕ) → Sent
+    as_sent content r p t = record { frame = record { content = content; response = r; poll = p }; act = t }
+
+    by_content : (content : Content) (r p : Bool) (t : ℕ) → is_set_mode content ≡ true →
+        (to_dce (record w { up = as_sent content r p t ∷ rest }) [] (as_sent content r p t ∷ rest)).down
+        ≡ w.down ++ answer_to (as_sent content r p t) ∷ []
+    by_content SetMode r p t is =
+        by_dce (λ v. (to_dce (record v { up = as_sent SetMode r p t ∷ rest }) [] (as_sent SetMode r p t ∷ rest)).down
+        ≡ v.down ++ answer_to (as_sent SetMode r p t) ∷ []) w role refl refl refl refl
+    by_content (Information send receive packet) r p t is = absurd (cc)
+    by_content (ReceiveReady receive) r p t is = absurd (cc)
+    by_content (ReceiveNotReady receive) r p t is = absurd (cc)
+    by_content (Reject receive) r p t is = absurd (cc)
+    by_content Disconnect r p t is = absurd (cc)
+    by_content DisconnectedMode r p t is = absurd (cc)
+    by_content Acknowledgement r p t is = absurd (cc)
+    by_content (FrameReject report) r p t is = absurd (cc)
 
 pub inv-comes_up : (w : World) → Inv w → ComesUp w
-inv-comes_up w i s rest up is at down kept between quiet =
-    let Q : World → Type 0 = λ v. Inv v → AreUp (happens (run between (happens v (Deliver Dce []))) (Deliver Dte
-    kept)) in
-    let back_up : s ∷ rest ≡ w.up = sym up in
-    let back_down : ◌≡◌ {A = List Sent} [] w.down = sym down in
-    let same : record w { up = s ∷ rest; down = [] } ≡ w = λ k. record w { up = back_up k; down = back_down k } in
-    let q : Q w = subst Q same (λ j. comes_up_from w s rest j is at kept between quiet) in
-    q i
+inv-comes_up w i = record {
+  answers = λ s rest up is at.
+      let back : s ∷ rest ≡ w.up = sym up in
+      let same : record w { up = s ∷ rest } ≡ w = λ k. record w { up = back k } in
+      subst (λ (v : World). (happens v (Deliver Dce [])).down ≡ v.down ++ answer_to s ∷ []) same
+      (answered_by w s rest i.dce_role is);
+  both_up = λ s rest up is at sent between quiet answer behind front ack stamp kept.
+      let back : s ∷ rest ≡ w.up = sym up in
+      let same : record w { up = s ∷ rest } ≡ w = λ k. record w { up = back k } in
+      let Q : World → Type 0 = λ v. Inv v → Pending v.act (happens v (Deliver Dce sent)) in
+      let q : Q w = subst Q same (λ j. pending-first w s rest sent j is at) in
+      are_up w.act answer behind (run between (happens w (Deliver Dce sent))) kept
+      (acknowledgement_is answer.frame.content ack) stamp front
+      (pending-run w.act between (happens w (Deliver Dce sent)) quiet (q i));
+}
 
 pub comes_up : Always ComesUp
 comes_up standing dte dce few few' events =

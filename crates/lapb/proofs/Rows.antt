@@ -49,6 +49,8 @@ use Rattle.lapb.specs.World.{
   opening,
   is_set_mode,
   AllQuiet,
+  happens,
+  answer_to,
   MayCarry,
 }
 
@@ -299,44 +301,21 @@ may_carry p q = (
   },
 )
 
--- the premises of coming up are met, with packets and ends of events between
-abbrev asked : World
-asked = run (at_end Dte (Relink Dte [])) first
+-- the premises of coming up are met: as the SABM comes, a DM is on the way to the DTE; it is lost, while packets are offered and
+-- events end
+abbrev asked : Sent
+asked = record { frame = command SetMode true; act = 1 }
 
-met : (s : Sent) × (rest : List Sent) × (asked.up ≡ s ∷ rest) × (is_set_mode s.frame.content ≡ true) × (s.act ≡
-    asked.act) × (asked.down ≡ []) ×
-    AllQuiet (Settle Dce [] ∷ offers Dce letters)
-met = (
-  record { frame = command SetMode true; act = 1 },
-  [],
-  refl,
-  refl,
-  refl,
-  refl,
-  (
-    tt,
-    (
-      tt,
-      (
-        tt,
-        (
-          tt,
-          (
-            tt,
-            (
-              tt,
-              (tt, (tt, (tt, tt))),
-            ),
-          ),
-        ),
-      ),
-    ),
-  ),
-)
+abbrev between : List Event
+between = Settle Dce [] ∷ Lose Dte ∷ offers Dce letters
+
+met : (started.up ≡ asked ∷ []) × (is_set_mode asked.frame.content ≡ true) × (asked.act ≡ started.act) × AllQuiet between ×
+    ((run between (happens started (Deliver Dce []))).down ≡ answer_to asked ∷ [])
+met = (refl, refl, refl, (tt, (tt, (tt, (tt, (tt, (tt, (tt, (tt, (tt, (tt, tt)))))))))), refl)
 
 -- and those of a fresh beginning, at both ends
 begun_dce : is_set_mode (command SetMode true).content ≡ true
 begun_dce = refl
 
-begun_dte : (on_frame asked.dte (response Acknowledgement true)).note ≡ Note.Up
+begun_dte : (on_frame started.dte (response Acknowledgement true)).note ≡ Note.Up
 begun_dte = refl

@@ -25,7 +25,7 @@ use Rattle.frame_codec.specs.Frame.{FrameValue, Content}
 use Rattle.frame_codec.specs.Frame.Content.{SetMode, Acknowledgement, FrameReject}
 use Rattle.lapb.specs.declared.phase.Phase.{Phase}
 use Rattle.lapb.specs.declared.note.Note.{Note}
-use Rattle.lapb.specs.Machine.{Octets, Link, Step, on_frame, on_t1, relink, settle, offer, can_offer, new}
+use Rattle.lapb.specs.Machine.{Octets, Link, Step, response, on_frame, on_t1, relink, settle, offer, can_offer, new}
 
 -- a frame on the line, with the act in which its sender stood
 pub record Sent : Type 0 where
@@ -217,10 +217,11 @@ pub record InOrder (w : World) : Type 0 where
   pub none_up : NoFrameReject w.up
   pub none_down : NoFrameReject w.down
 
--- an offer, or the end of a node's event
+-- an offer, the end of a node's event, or a loss on the line
 abbrev pub IsQuiet : Event → Type 0
 IsQuiet (Offer at packet) = Unit {0}
 IsQuiet (Settle at kept) = Unit {0}
+IsQuiet (Lose to) = Unit {0}
 IsQuiet _ = ⊥
 
 abbrev pub AllQuiet : List Event → Type 0
@@ -234,19 +235,27 @@ pub record AreUp (w : World) : Type 0 where
   pub own : w.own ≡ w.act
   pub session : w.session ≡ w.act
 
--- Where the DCE takes a SABM of the DTE's last act and the DTE then takes the UA that answers it, with nothing but
--- offers at the two links between, both are up in that session.
-abbrev pub ComesUp : World → Type 0
-ComesUp w = (s : Sent) (rest : List Sent) → w.up ≡ s ∷ rest → is_set_mode s.frame.content ≡ true → s.act ≡ w.act →
-    w.down ≡ [] → (kept : List Bool) (between : List Event) → AllQuiet between →
-    AreUp (happens (run between (happens w (Deliver Dce []))) (Deliver Dte kept))
+-- the UA by which a DCE answers this SABM, in the act of the SABM
+abbrev pub answer_to : Sent → Sent
+answer_to s = record { frame = response Acknowledgement s.frame.poll; act = s.act }
 
--- Where the DCE takes a SABM, neither end has accepted anything in the session of that act; where the DTE takes the
--- UA
--- of its act, neither has in that session, and the DTE has offered nothing in it.
+-- Where the DCE takes a SABM of the DTE's last act, it sends the UA that answers it and nothing else; and where the DTE then takes
+-- a UA of that act, with nothing but offers at the two links and losses on the line between, both are up in that session.
+pub record ComesUp (w : World) : Type 0 where
+  pub answers : (s : Sent) (rest : List Sent) → w.up ≡ s ∷ rest → is_set_mode s.frame.content ≡ true → s.act ≡ w.act →
+      (happens w (Deliver Dce [])).down ≡ w.down ++ answer_to s ∷ []
+  pub both_up : (s : Sent) (rest : List Sent) → w.up ≡ s ∷ rest → is_set_mode s.frame.content ≡ true → s.act ≡ w.act →
+      (sent : List Bool) (between : List Event) → AllQuiet between → (answer : Sent) (behind : List Sent) →
+      (run between (happens w (Deliver Dce sent))).down ≡ answer ∷ behind → is_acknowledgement answer.frame.content ≡ true →
+      answer.act ≡ w.act → (kept : List Bool) →
+      AreUp (happens (run between (happens w (Deliver Dce sent))) (Deliver Dte kept))
+
+-- Where the DCE takes a SABM, neither end has accepted anything in the session of that act. Where the DTE takes the UA that brings
+-- it up, that UA is of its last act, neither end has accepted anything in that session, and the DTE has offered nothing in it.
 pub record BeginsFresh (w : World) : Type 0 where
   pub dce : (s : Sent) (rest : List Sent) → w.up ≡ s ∷ rest → is_set_mode s.frame.content ≡ true →
       (w.dte_accepted s.act ≡ []) × (w.dce_accepted s.act ≡ [])
+  pub of_act : (s : Sent) (rest : List Sent) → w.down ≡ s ∷ rest → (on_frame w.dte s.frame).note ≡ Note.Up → s.act ≡ w.act
   pub dte : (s : Sent) (rest : List Sent) → w.down ≡ s ∷ rest → (on_frame w.dte s.frame).note ≡ Note.Up →
       (w.dte_accepted w.act ≡ []) × (w.dce_accepted w.act ≡ []) × (w.dte_offered w.act ≡ [])
 
