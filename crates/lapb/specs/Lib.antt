@@ -10,6 +10,7 @@ pub mod Params
 pub mod EffectView
 pub mod OutView
 pub mod LinkView
+pub mod Ring
 pub mod NamedOctets
 pub mod Fits
 pub mod Line

@@ -4,6 +4,9 @@ ghost use Rattle.lapb.specs.Machine.{is_empty};
 use arrayvec::ArrayVec;
 use std::marker::Model;
 
+// The places of a ring.
+const PLACES: u8 = 8;
+
 /// A packet that lies in place: at most 145 octets.
 #[derive(Drop)]
 pub(crate) struct Packet {
@@ -61,21 +64,26 @@ impl Default for Packet {
     }
 }
 
-/// Up to seven packets in order.
+/// Up to seven packets in order, in a ring of eight places.
 #[derive(Drop)]
 pub(crate) struct Queue {
-    packets: ArrayVec<Packet, 7>,
+    places: [Packet; 8],
+    front: u8,
+    len: u8,
 }
 
 impl Model for Queue {
     ghost use Rattle.std.specs.Prelude.{List, ℕ};
     ghost use Rattle.std.specs.Coded.{coded_list, coded_ℕ};
+    ghost use Rattle.lapb.specs.Ring.{ring, IsRing};
 
     ghost Value = { List (List ℕ) };
 
     ghost coded = { coded_list (coded_list coded_ℕ) };
 
-    ghost view = { λ q. q.packets.items };
+    ghost view = { λ q. ring q.places q.front q.len };
+
+    ghost invariant = { λ q. IsRing q.places q.front q.len };
 }
 
 impl Queue {
@@ -83,57 +91,71 @@ impl Queue {
         ensures { result ≡ [] }
     {
         Queue {
-            packets: ArrayVec::new(),
+            places: [
+                Packet::default(),
+                Packet::default(),
+                Packet::default(),
+                Packet::default(),
+                Packet::default(),
+                Packet::default(),
+                Packet::default(),
+                Packet::default(),
+            ],
+            front: 0,
+            len: 0,
         }
     }
 
+    #[tactic(auto, using(crate::proofs::Rings::ring_length))]
     pub(crate) fn len(&self) -> u8
         ensures value { result ≡ length self.now }
         ensures fits { result ≤ 7 }
     {
-        self.packets.len() as u8
+        self.len
     }
 
     pub(crate) fn is_empty(&self) -> bool
         ensures { result ≡ is_empty self.now }
     {
-        match self.packets.as_slice() {
-            [] => true,
-            [_, ..] => false,
-        }
+        self.len == 0
     }
 
     /// Appends a packet.
+    #[tactic(auto, using(crate::proofs::Rings::ring_length, crate::proofs::Rings::ring_push))]
     pub(crate) fn push(&mut self, octets: &[u8])
         requires room { length self.old < 7 }
         requires fits { length octets.now ≤ 145 }
         ensures { self.new ≡ self.old ++ octets.now ∷ [] }
     {
-        self.packets.push(Packet::new(octets));
+        let place = (self.front + self.len) % PLACES;
+        self.places[usize::from(place)].set(octets);
+        self.len += 1;
     }
 
     /// The packet at a place.
+    #[tactic(auto, using(crate::proofs::Rings::ring_length, crate::proofs::Rings::ring_get))]
     pub(crate) fn packet(&self, place: u8) -> &[u8]
         requires { place < length self.now }
         ensures value { slice_get self.now place ≡ Some result.now }
         ensures fits { length result.now ≤ 145 }
     {
-        self.packets.as_slice()[usize::from(place)].as_slice()
+        let place = (self.front + place) % PLACES;
+        self.places[usize::from(place)].as_slice()
     }
 
     /// Takes the first packets away.
+    #[tactic(auto, using(crate::proofs::Rings::ring_length, crate::proofs::Rings::ring_drop))]
     pub(crate) fn drop_front(&mut self, count: u8)
         requires { count ≤ length self.old }
         ensures { self.new ≡ drop count self.old }
     {
-        for _taken in 0..count {
-            self.packets.remove(0);
-        }
+        self.front = (self.front + count) % PLACES;
+        self.len -= count;
     }
 
     pub(crate) fn clear(&mut self)
         ensures { self.new ≡ [] }
     {
-        self.packets.clear();
+        self.len = 0;
     }
 }
