@@ -1,5 +1,5 @@
 -- The packet that is accepted is what follows the control octet of the frame.
-use Rattle.std.proofs.Common.{◌≡◌, ℕ, Bool, true, false, List, [], ◌∷◌, drop, refl, sym, ◌∙◌, ap}
+use Rattle.std.proofs.Common.{◌≡◌, ℕ, Bool, true, false, drop, refl, sym, ◌∙◌, ap}
 use Rattle.std.specs.Prelude.{Option, Some, None, Result, Ok, Err, not, ◌&&◌, ◌==◌, if◌then◌else◌, nat_lt}
 use Rattle.link_timers.specs.declared.role.Role.{Role}
 use Rattle.link_timers.specs.declared.role.Role.TheVariants.{Dte, Dce}
@@ -30,43 +30,7 @@ use Rattle.frame_codec.specs.Reading.{reading}
 use Rattle.frame_codec.proofs.Outcomes.{AreOctets}
 use Rattle.frame_codec.proofs.Grammar.{IsDecided, reading_decided}
 use Rattle.lapb.specs.declared.phase.Phase.{Phase}
-use Rattle.lapb.specs.Machine.{
-  Octets,
-  Link,
-  Step,
-  Defect,
-  UndefinedControl,
-  InformationNotAllowed,
-  InformationTooLong,
-  is_same,
-  is_valid,
-  ahead,
-  acknowledged,
-  accept,
-  discard,
-  on_information,
-  on_supervisory,
-  reject_as,
-  reject_number,
-  report_of,
-  control_of,
-  checked,
-  in_up,
-  in_setting_up,
-  in_down,
-  in_rejecting,
-  in_phase,
-  on_content,
-  on_frame,
-  on_defect,
-  on_defect_in,
-  defect_report,
-  has_bit,
-  come_up,
-  still,
-  sends,
-  response,
-}
+use Rattle.lapb.specs.Machine.{Octets, Link, Step, Defect, UndefinedControl, InformationNotAllowed, InformationTooLong, is_same, is_valid, ahead, acknowledged, accept, discard, on_information, on_supervisory, reject_as, reject_number, checked, in_up, in_setting_up, in_down, in_rejecting, in_phase, on_content, on_defect_in, come_up, still, sends}
 use Rattle.lapb.specs.Octets.{on_fault, on_reading, on_octets}
 
 cond_by : (P : Bool → Type 0) (b : Bool) → (b ≡ true → P true) → (b ≡ false → P false) → P b

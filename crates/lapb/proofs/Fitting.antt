@@ -42,7 +42,7 @@ use Rattle.frame_codec.specs.Frame.{
   Acknowledgement,
   FrameReject,
 }
-use Rattle.frame_codec.specs.Spelling.{spelling, HasSpelling, HasNumbers}
+use Rattle.frame_codec.specs.Spelling.{spelling, HasSpelling, HasNumbers, control_of}
 use Rattle.frame_codec.specs.Reading.{reading}
 use Rattle.frame_codec.proofs.Grammar.{reading-spelling}
 use Rattle.lapb.specs.declared.phase.Phase.{Phase}
@@ -54,7 +54,6 @@ use Rattle.lapb.specs.Machine.{
   UndefinedControl,
   InformationNotAllowed,
   InformationTooLong,
-  control_of,
   ahead,
   answers,
   response,
@@ -258,11 +257,16 @@ control-below (ReceiveNotReady receive) true n = omega (arith, n)
 control-below (ReceiveNotReady receive) false n = omega (arith, n)
 control-below (Reject receive) true n = omega (arith, n)
 control-below (Reject receive) false n = omega (arith, n)
-control-below SetMode p n = omega arith
-control-below Disconnect p n = omega arith
-control-below DisconnectedMode p n = omega arith
-control-below Acknowledgement p n = omega arith
-control-below (FrameReject report) p n = omega arith
+control-below SetMode true n = omega arith
+control-below SetMode false n = omega arith
+control-below Disconnect true n = omega arith
+control-below Disconnect false n = omega arith
+control-below DisconnectedMode true n = omega arith
+control-below DisconnectedMode false n = omega arith
+control-below Acknowledgement true n = omega arith
+control-below Acknowledgement false n = omega arith
+control-below (FrameReject report) true n = omega arith
+control-below (FrameReject report) false n = omega arith
 
 -- ---- a link that is up
 

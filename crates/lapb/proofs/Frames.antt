@@ -28,7 +28,7 @@ use Rattle.std.proofs.Common.{
   false,
   length-drop,
 }
-use Rattle.std.specs.Prelude.{Option, Some, None, slice_get, nat_le, if◌then◌else◌}
+use Rattle.std.specs.Prelude.{Some, slice_get, nat_le, if◌then◌else◌}
 use Rattle.std.proofs.lemmas.Bool.{leb-true, leb-false}
 use Rattle.flow_window.specs.Window.{Window, taken}
 use Rattle.link_timers.specs.declared.role.Role.{Role}

@@ -30,41 +30,10 @@ use Rattle.lapb.specs.Machine.{
   is_same,
   come_up,
 }
-use Rattle.lapb.specs.World.{
-  Sent,
-  World,
-  Params,
-  Event,
-  Offer,
-  Deliver,
-  Lose,
-  Expire,
-  Relink,
-  Settle,
-  Restart,
-  dte_does,
-  dce_does,
-  to_dte,
-  to_dce,
-  act_after,
-  is_setting_up,
-  is_set_mode,
-  is_acknowledgement,
-  happens,
-  run,
-  opening,
-  Always,
-  InOrder,
-  IsQuiet,
-  AllQuiet,
-  AreUp,
-  answer_to,
-  ComesUp,
-  BeginsFresh,
-}
+use Rattle.lapb.specs.World.{Sent, World, Params, Event, Offer, Deliver, Lose, Expire, Relink, Settle, Restart, dte_does, to_dte, to_dce, act_after, is_setting_up, is_set_mode, is_acknowledgement, happens, run, opening, Always, InOrder, IsQuiet, AllQuiet, AreUp, answer_to, ComesUp, BeginsFresh}
 use Rattle.lapb.proofs.Cases.{cond_by, prefix-refl}
 use Rattle.lapb.proofs.Flights.{OfDown, ups-no_reject, downs-no_reject}
-use Rattle.lapb.proofs.Inv.{IsFresh, Inv, dte_in, by_dte, by_dce, nothing_sent}
+use Rattle.lapb.proofs.Inv.{IsFresh, Inv, dte_in, by_dte, by_dce}
 use Rattle.lapb.proofs.Events.{happens-keeps, run-keeps, same_is}
 use Rattle.lapb.proofs.Notes.{dte_begins}
 

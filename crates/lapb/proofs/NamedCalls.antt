@@ -1,5 +1,4 @@
 -- What N(S) and N(R) name after octets were taken: the laws of frames and of frames that cannot be taken, joined.
-use Rattle.std.proofs.Common.{◌≡◌, refl}
 use Rattle.std.specs.Prelude.{Result, Ok, Err}
 use Rattle.frame_codec.specs.declared.fault.FrameFault.{FrameFault}
 use Rattle.frame_codec.specs.declared.fault.FrameFault.TheVariants.{
@@ -26,8 +25,8 @@ use Rattle.frame_codec.specs.Spelling.{HasNumbers}
 use Rattle.frame_codec.specs.Reading.{reading}
 use Rattle.frame_codec.proofs.Outcomes.{AreOctets}
 use Rattle.frame_codec.proofs.Grammar.{IsDecided, reading_decided}
-use Rattle.lapb.specs.Machine.{Octets, Link, Defect, UndefinedControl, InformationNotAllowed, InformationTooLong, still}
-use Rattle.lapb.specs.Named.{IsInRange, NamesAfter, Keeps}
+use Rattle.lapb.specs.Machine.{Octets, Link, UndefinedControl, InformationNotAllowed, InformationTooLong}
+use Rattle.lapb.specs.Named.{IsInRange, Keeps}
 use Rattle.lapb.specs.Octets.{on_fault}
 use Rattle.lapb.specs.NamedOctets.{NamesAfterReading, NamesAfterOctets}
 use Rattle.lapb.proofs.Naming.{named_on_frame, named_on_defect}

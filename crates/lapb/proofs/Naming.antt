@@ -46,6 +46,7 @@ use Rattle.std.proofs.Common.{
 use Rattle.std.proofs.lemmas.List.{drop-append-le}
 use Rattle.link_timers.specs.declared.role.Role.{Role}
 use Rattle.link_timers.specs.declared.role.Role.TheVariants.{Dte, Dce}
+use Rattle.frame_codec.specs.Spelling.{control_of}
 use Rattle.frame_codec.specs.Frame.{FrameValue, Content, Report}
 use Rattle.frame_codec.specs.Frame.Content.{
   Information,
@@ -83,7 +84,6 @@ use Rattle.lapb.specs.Machine.{
   reject_number,
   report_of,
   defect_report,
-  control_of,
   is_valid,
   acknowledged,
   on_supervisory,

@@ -1,17 +1,10 @@
 -- Whole runs of two links, computed: set-up, stale answers, full windows, losses, polls without an answer, FRMR.
-use Rattle.std.specs.Prelude.{◌≡◌, ℕ, ◌+◌, Bool, true, false, List, [], ◌∷◌, ◌++◌, replicate}
+use Rattle.std.specs.Prelude.{◌≡◌, ℕ, true, false, List, [], ◌∷◌, ◌++◌, replicate}
 use Rattle.std.proofs.Common.{refl, sym, ap, ◌∙◌}
 use Rattle.link_timers.specs.declared.role.Role.{Role}
 use Rattle.link_timers.specs.declared.role.Role.TheVariants.{Dte, Dce}
-use Rattle.frame_codec.specs.Frame.{Content}
-use Rattle.frame_codec.specs.Frame.Content.{
-  ReceiveReady,
-  SetMode,
-  Disconnect,
-  DisconnectedMode,
-  Acknowledgement,
-  FrameReject,
-}
+use Rattle.frame_codec.specs.Spelling.{control_of}
+use Rattle.frame_codec.specs.Frame.Content.{ReceiveReady, SetMode, Acknowledgement, FrameReject}
 use Rattle.lapb.specs.declared.phase.Phase.{Phase}
 use Rattle.lapb.specs.declared.note.Note.{Note}
 use Rattle.lapb.specs.declared.note.Timing.{Timing}
@@ -22,8 +15,6 @@ use Rattle.lapb.specs.Machine.{
   UndefinedControl,
   InformationNotAllowed,
   InformationTooLong,
-  bit_of,
-  control_of,
   no_report,
   command,
   response,
@@ -54,18 +45,9 @@ use Rattle.lapb.specs.World.{
   MayCarry,
 }
 
--- the control octet of a frame
-abbrev octet_of : Content → Bool → ℕ
-octet_of SetMode p = 0x2F + bit_of p
-octet_of Disconnect p = 0x43 + bit_of p
-octet_of DisconnectedMode p = 0x0F + bit_of p
-octet_of Acknowledgement p = 0x63 + bit_of p
-octet_of (FrameReject report) p = 0x87 + bit_of p
-octet_of content p = control_of content p
-
 abbrev controls : List Sent → List ℕ
 controls [] = []
-controls (s ∷ rest) = octet_of s.frame.content s.frame.poll ∷ controls rest
+controls (s ∷ rest) = control_of s.frame.content s.frame.poll ∷ controls rest
 
 -- an event at a link, with the end of its node's event
 abbrev at_end : Role → Event → List Event

@@ -1,9 +1,7 @@
 -- What contracts see of the code's link, and what always holds of it.
-use Rattle.std.specs.Prelude.{◌≡◌, ℕ, ◌<◌, ◌≤◌, List, length}
-use Rattle.link_timers.specs.declared.role.Role.{Role}
+use Rattle.std.specs.Prelude.{◌<◌, ◌≤◌, length}
 use Rattle.frame_codec.specs.declared.frame.Rejection.{Rejection}
 use Rattle.frame_codec.specs.Views.{report_of}
-use Rattle.lapb.specs.declared.phase.Phase.{Phase}
 use Rattle.lapb.specs.declared.link.Link.TheInside.{Inside}
 use Rattle.lapb.specs.Machine as machine
 

@@ -1,31 +1,5 @@
 -- One end of a link of X.25 2.4 (LAPB, ISO 7776): its state, and what each call makes of it.
-use Rattle.std.specs.Prelude.{
-  ℕ,
-  ◌+◌,
-  ◌-◌,
-  ◌*◌,
-  ◌/◌,
-  ◌%◌,
-  Bool,
-  true,
-  false,
-  not,
-  ◌&&◌,
-  ◌||◌,
-  List,
-  [],
-  ◌∷◌,
-  ◌++◌,
-  length,
-  drop,
-  Option,
-  Some,
-  None,
-  if◌then◌else◌,
-  ◌==◌,
-  nat_lt,
-  nat_le,
-}
+use Rattle.std.specs.Prelude.{ℕ, ◌+◌, ◌-◌, ◌/◌, ◌%◌, Bool, true, false, not, ◌&&◌, ◌||◌, List, [], ◌∷◌, ◌++◌, length, drop, Option, Some, None, if◌then◌else◌, ◌==◌, nat_lt, nat_le}
 use Rattle.link_timers.specs.declared.role.Role.{Role}
 use Rattle.link_timers.specs.declared.role.Role.TheVariants.{Dte, Dce}
 use Rattle.frame_codec.specs.Frame.{FrameValue, Content, Report}
@@ -40,6 +14,7 @@ use Rattle.frame_codec.specs.Frame.Content.{
   Acknowledgement,
   FrameReject,
 }
+use Rattle.frame_codec.specs.Spelling.{control_of}
 use Rattle.lapb.specs.declared.phase.Phase.{Phase}
 use Rattle.lapb.specs.declared.note.Note.{Note}
 use Rattle.lapb.specs.declared.note.Timing.{Timing}
@@ -92,18 +67,6 @@ command content poll = record { content = content; response = false; poll = poll
 
 abbrev pub response : Content → Bool → FrameValue
 response content final = record { content = content; response = true; poll = final }
-
-abbrev pub bit_of : Bool → ℕ
-bit_of true = 16
-bit_of false = 0
-
--- the control octet of a frame that carries N(R) (X.25 2.3.2.1)
-abbrev pub control_of : Content → Bool → ℕ
-control_of (Information send receive packet) poll = receive * 32 + bit_of poll + send * 2
-control_of (ReceiveReady receive) poll = receive * 32 + bit_of poll + 1
-control_of (ReceiveNotReady receive) poll = receive * 32 + bit_of poll + 5
-control_of (Reject receive) poll = receive * 32 + bit_of poll + 9
-control_of _ poll = 0
 
 -- V(S) modulo 8
 abbrev pub send_number : Link → ℕ

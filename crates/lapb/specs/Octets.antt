@@ -1,5 +1,5 @@
 -- A link takes octets: a frame, or a frame that cannot be taken.
-use Rattle.std.specs.Prelude.{ℕ, Bool, true, List, Result, Ok, Err, slice_index, ◌==◌}
+use Rattle.std.specs.Prelude.{Bool, true, Result, Ok, Err, slice_index, ◌==◌}
 use Rattle.link_timers.specs.declared.role.Role.{Role}
 use Rattle.link_timers.specs.Role.{other_of}
 use Rattle.frame_codec.specs.declared.fault.FrameFault.{FrameFault}
@@ -13,18 +13,7 @@ use Rattle.frame_codec.specs.declared.fault.FrameFault.TheVariants.{
 use Rattle.frame_codec.specs.Frame.{FrameValue}
 use Rattle.frame_codec.specs.Spelling.{address_of}
 use Rattle.frame_codec.specs.Reading.{reading}
-use Rattle.lapb.specs.Machine.{
-  Octets,
-  Link,
-  Step,
-  Defect,
-  UndefinedControl,
-  InformationNotAllowed,
-  InformationTooLong,
-  still,
-  on_defect,
-  on_frame,
-}
+use Rattle.lapb.specs.Machine.{Octets, Link, Step, UndefinedControl, InformationNotAllowed, InformationTooLong, still, on_defect, on_frame}
 
 -- whether the octets are those of a response
 abbrev pub is_response : Role → Octets → Bool

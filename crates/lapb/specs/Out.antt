@@ -1,31 +1,8 @@
 -- What a link's calls give: the frames to be sent, as octets, and what the node is told.
-use Rattle.std.specs.Prelude.{
-  nat_lt,
-  ◌+◌,
-  ◌*◌,
-  ◌≡◌,
-  ℕ,
-  Bool,
-  true,
-  false,
-  not,
-  ◌&&◌,
-  ◌||◌,
-  List,
-  [],
-  ◌∷◌,
-  ◌++◌,
-  map,
-  take,
-  Option,
-  Some,
-  None,
-  is_some,
-  if◌then◌else◌,
-}
+use Rattle.std.specs.Prelude.{nat_lt, ◌+◌, ◌*◌, ℕ, Bool, true, false, not, ◌&&◌, ◌||◌, List, [], ◌∷◌, ◌++◌, map, take, Option, None, is_some, if◌then◌else◌}
 use Rattle.link_timers.specs.declared.role.Role.{Role}
 use Rattle.frame_codec.specs.Frame.{FrameValue}
-use Rattle.frame_codec.specs.Spelling.{spelling, HasSpelling}
+use Rattle.frame_codec.specs.Spelling.{spelling, HasSpelling, bit_of}
 use Rattle.lapb.specs.declared.note.Note.{Note}
 use Rattle.lapb.specs.declared.note.Timing.{Timing}
 use Rattle.lapb.specs.Machine.{
@@ -40,7 +17,6 @@ use Rattle.lapb.specs.Machine.{
   on_supervisory,
   acknowledged,
   ahead,
-  bit_of,
   timing_after,
 }
 
@@ -115,4 +91,4 @@ supervisory_taken l receive low busy back is_response poll =
     if is_valid l receive then record (on_supervisory (acknowledged l receive) busy back is_response poll) {
       anew = nat_lt 0 (ahead l.oldest receive);
     }
-    else number_rejected l (receive * 32 + bit_of poll + low) is_response poll
+    else number_rejected l (receive * 32 + bit_of poll * 16 + low) is_response poll

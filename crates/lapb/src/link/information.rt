@@ -2,7 +2,7 @@
 ghost use Rattle.std.specs.Prelude.{◌≡◌, ◌<◌, ◌+◌, ◌*◌, true, false, MatchOption};
 ghost use Rattle.frame_codec.specs.Frame as spec;
 ghost use Rattle.frame_codec.specs.Views.{content_of};
-ghost use Rattle.frame_codec.specs.Spelling.{HasNumbers};
+ghost use Rattle.frame_codec.specs.Spelling.{HasNumbers, bit_of};
 ghost use Rattle.lapb.specs.Machine as machine;
 ghost use Rattle.lapb.specs.Out.{effect_of, answered, number_rejected, supervisory_taken};
 
@@ -256,7 +256,7 @@ const REJECT: Supervisory = Supervisory {
 fn control_octet(nr: u8, pf: bool, low: u8) -> u8
     requires nr { nr < 8 }
     requires low { low < 16 }
-    ensures { result ≡ nr * 32 + machine.bit_of pf + low }
+    ensures { result ≡ nr * 32 + bit_of pf * 16 + low }
 {
     let poll = if pf { 0x10 } else { 0 };
     nr * 32 + poll + low

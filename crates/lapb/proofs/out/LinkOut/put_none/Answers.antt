@@ -1,4 +1,3 @@
-use Rattle.std.proofs.Common.{sym, arith}
 use Rattle.lapb.proofs.Frames.{take_short}
 use Rattle.lapb.proofs.out.LinkOut.put_none.Goals as goal
 
