@@ -128,7 +128,7 @@ fn moves(state: CallState, owed: Option<PacketType>, note: CallNote) -> CallStep
     }
 }
 
-// A packet that the state does not allow: this end clears.
+// A packet that has no place in the state: this end clears.
 fn refuses(role: Role, state: CallState, note: CallNote) -> CallStep
     ensures { result
         ≡ call_step (state_of role OwnClear) (Some PacketType.ClearRequest) note (Some (diagnostic_of state)) }

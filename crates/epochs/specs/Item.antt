@@ -1,7 +1,7 @@
 -- What the user of a call sends, item by item, and the Data packets that carry it (X.25 4.3.2, 4.3.3, 4.3.5).
 use Rattle.std.specs.Prelude.{ℕ, Bool, false, List, [], ◌∷◌, ◌++◌, map, if◌then◌else◌}
 
--- a user octet, the end of a user message, and the same two of a qualified message
+-- an octet of a message, its end, and the same two where the message is qualified
 pub data Item : Type 0 where
   Octet : ℕ → Item
   End : Item
@@ -15,7 +15,7 @@ pub record DataPacket : Type 0 where
   pub qualified : Bool
   pub confirm : Bool
 
--- the items of a packet: its octets and, with M = 0, the end; the Q bit says of which kind, the D bit is no part of them
+-- the items of a packet: each of its octets, then, where M = 0, an end; the Q bit says of which kind they are, and the D bit is left out
 abbrev pub items_of : DataPacket → List Item
 items_of p =
     if p.qualified

@@ -2,8 +2,8 @@
 use Rattle.std.specs.Prelude.{List, [], ◌∷◌}
 use Rattle.epochs.specs.Epoch.{Epoch, IsEmpty, IsPrefixOf}
 
--- Taken epochs match sent ones. No taken epochs match any list. An empty taken epoch may be dropped. Where the first taken
--- epoch is a prefix of the first sent one, both may be removed. The first sent epoch may be skipped. So epochs in which
+-- Taken epochs match sent ones, front by front. Nothing taken matches anything; an empty taken epoch need not come of any sent one;
+-- a taken epoch may come of the sent one at the front, if it begins it; a sent epoch may be passed over. So epochs in which
 -- anything was taken come of sent ones in rising order, and never two of one.
 pub data Match : List Epoch → List Epoch → Type 0 where
   nothing : {sent : List Epoch} → Match [] sent

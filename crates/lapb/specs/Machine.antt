@@ -440,7 +440,7 @@ can_offer l = is_up l.phase && not (is_full l)
 abbrev pub offer : Link → Octets → Link
 offer l packet = record l { queue = if can_offer l then l.queue ++ packet ∷ [] else l.queue }
 
--- up, with nothing unacknowledged, no poll outstanding and no acknowledgement owed
+-- up, every packet acknowledged, every poll answered, every accepted packet told of
 abbrev pub at_rest : Link → Bool
 at_rest l = is_up l.phase && is_empty l.queue && not l.polling && not l.owed
 

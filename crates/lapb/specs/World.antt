@@ -32,9 +32,8 @@ pub record Sent : Type 0 where
   pub frame : FrameValue
   pub act : ℕ
 
--- Sessions are numbered by the set-up acts of the DTE since the line was made, over restarts too. The DTE stands in
--- the
--- act whose UA it took last, the DCE in the act of the SABM it took last; a standing line is in session 0.
+-- Sessions have the numbers of the DTE's set-up acts, counted from the making of the line on and through restarts. An end is in
+-- the session of the act that it heard of last: the DTE by a UA, the DCE by a SABM; a standing line is in session 0.
 pub record World : Type 0 where
   pub dte : Link
   pub dce : Link
@@ -48,9 +47,8 @@ pub record World : Type 0 where
   pub dce_offered : ℕ → List Octets
   pub dce_accepted : ℕ → List Octets
 
--- What may happen. An end is named by its role. Of the frames that a link sends, `kept` says in order which go onto
--- the
--- line and which are dropped; those that it does not speak of go. A start is a relink.
+-- What may happen. An end is named by its role. Of the frames that a link sends, `kept` says in order which go onto the line and
+-- which are dropped; those that it does not speak of go. A start is a relink.
 pub data Event : Type 0 where
   Offer : (at : Role) → Octets → Event
   Deliver : (to : Role) → (kept : List Bool) → Event
@@ -210,7 +208,7 @@ abbrev pub NoFrameReject : List Sent → Type 0
 NoFrameReject [] = Unit {0}
 NoFrameReject (s ∷ rest) = (is_frame_reject s.frame.content ≡ false) × NoFrameReject rest
 
--- in each session what an end accepted is a prefix of what the other end offered, and no FRMR is sent
+-- in each session the accepted packets of an end begin the list of those offered at the other one, and no FRMR is sent
 pub record InOrder (w : World) : Type 0 where
   pub at_dce : (session : ℕ) → IsPrefix (w.dce_accepted session) (w.dte_offered session)
   pub at_dte : (session : ℕ) → IsPrefix (w.dte_accepted session) (w.dce_offered session)
@@ -239,8 +237,8 @@ pub record AreUp (w : World) : Type 0 where
 abbrev pub answer_to : Sent → Sent
 answer_to s = record { frame = response Acknowledgement s.frame.poll; act = s.act }
 
--- Where the DCE takes a SABM of the DTE's last act, it sends the UA that answers it and nothing else; and where the DTE then takes
--- a UA of that act, with nothing but offers at the two links and losses on the line between, both are up in that session.
+-- A SABM of the DTE's last act that comes to the DCE is answered by its UA and nothing else; and if a UA of that act is what comes
+-- to the DTE next, while packets are offered, events end and frames are lost, both ends are up in that session.
 pub record ComesUp (w : World) : Type 0 where
   pub answers : (s : Sent) (rest : List Sent) → w.up ≡ s ∷ rest → is_set_mode s.frame.content ≡ true → s.act ≡ w.act →
       (happens w (Deliver Dce [])).down ≡ w.down ++ answer_to s ∷ []

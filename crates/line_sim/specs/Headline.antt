@@ -7,13 +7,13 @@ use Rattle.pad_editing.specs.Edited.{edited}
 use Rattle.line_sim.specs.Records.{RecordValue, PairValue, sent_epochs, taken_epochs}
 use Rattle.line_sim.specs.NetState.{NetState}
 
--- what one end of a call took, between two resets, began what the other end sent, between two resets of its own, both ways
+-- the epochs that one end of a call took match those that the other end sent, both ways
 pub record PairMatches (caller callee : RecordValue) : Type 0 where
   pub onward : Match (taken_epochs callee) (sent_epochs caller)
   pub backward : Match (taken_epochs caller) (sent_epochs callee)
 
--- the caller's record was made before the callee's, they are the records of the two ends of the line, and the callee's own
--- address is the caller's far one; on a line without a switch the callee has no far address, and a standing call none at all
+-- the caller's record was made first, the two are those of the line's ends, and the callee is where the caller called; a callee
+-- that no switch joined knows no far address, and a standing call has no address
 pub record PairIsRight (s : NetState) (caller callee : RecordValue) : Type 0 where
   pub order : caller.number < callee.number
   pub caller_node : caller.node ≡ s.pad_place

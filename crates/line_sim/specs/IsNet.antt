@@ -40,7 +40,7 @@ callee_record node taken = record {
 abbrev pub standing_pair : PairValue
 standing_pair = record { caller = 0; callee = 1 }
 
--- On any line: one call stands. What the PAD sent is, block for block, what its editing rules make of the keys, and is covered,
+-- On any line: one call stands. The PAD's packets are the blocks into which the editing rules cut its keys, and each is covered,
 -- outstanding or waiting.
 pub record Stands (s : NetState) : Type 0 where
   pub sent : List DataPacket

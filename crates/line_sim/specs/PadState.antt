@@ -64,7 +64,7 @@ typed p octet e = record {
 abbrev pub ends_block : Effect → Bool
 ends_block e = is_some e.block
 
--- a key is dropped where a block would be due and the send queue is full
+-- a key that would end a block is dropped while no further packet can wait
 abbrev pub pad_key : ℕ → PadState → KeyEffect
 pad_key octet p =
     if does_nothing octet
@@ -78,7 +78,7 @@ pub record PadHears : Type 0 where
   pub node : PadState
   pub covers : ℕ
 
--- a P(R) from the last one to the next P(S) covers the packets before it; all else is ignored
+-- a P(R) that names a packet outstanding, or the next one, covers those before it; all else is ignored
 abbrev pub pad_packet : PadState → Heard → PadHears
 pad_packet p (Ready receive) =
     if nat_le (ahead p.covered receive) p.outstanding

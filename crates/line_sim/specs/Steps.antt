@@ -1,5 +1,4 @@
--- What an event that is not refused makes of the network: its one node call, all of whose frames are put in order, its line
--- move, or both.
+-- What an event without a fault does to nodes, line and records.
 use Rattle.std.specs.Prelude.{◌≡◌, ℕ, ◌+◌, ◌==◌, Bool, true, false, List, [], ◌∷◌, ◌++◌, length, slice_get, slice_set, Option, Some, None, is_some, Result, Ok, Err, MatchOption, MatchBool}
 use Rattle.std.specs.Option.{option_to_list}
 use Rattle.epochs.specs.Item.{DataPacket}

@@ -46,7 +46,7 @@ const CHANNELS: u8 = 32;
 
 const TERMINALS: u8 = 16;
 
-/// Which timers run, and how many ticks each has left. A tick is a twentieth of a second.
+/// Which timers run, and how many ticks each has left. Twenty ticks are a second.
 #[derive(Drop)]
 pub struct Timers {
     left: [Option<u16>; 211],

@@ -56,7 +56,7 @@ names_asked t e _ n = n
 -- ---- said
 
 abbrev Named : Epoch → Said → Type 0
-Named e s = NamesCounts s.traffic e × NamesPlace e s.body
+Named e s = NamesCounts s.traffic e × NamesPlace e s.traffic.waiting s.body
 
 named_ready : (stop : Bool) (t : Traffic) (e : Epoch) → NamesCounts t e → Named e (record { traffic = record t { told = t.released; told_stopped = t.stopped }; body = Some (ready_or_not stop t.released) })
 named_ready true t e n = (record { gone = n.gone; sent = n.sent; send = n.send; covered = n.covered; expected = n.expected; released = n.released }, n.released)
@@ -79,7 +79,7 @@ named_datum d ds t e w n =
         expected = n.expected;
         released = n.released;
       },
-      ((n.gone, ds, (whole, n.send)), n.released),
+      ((n.gone, (whole, n.send)), n.released),
     )
 
 named_data : (window : ℕ) (ds : List Datum) (t : Traffic) (e : Epoch) → t.waiting ≡ ds → NamesCounts t e → Named e (says_data window ds t)
@@ -90,7 +90,7 @@ named_interrupt : (window : ℕ) (q : Option (List ℕ)) (t : Traffic) (e : Epoc
 named_interrupt window (Some octets) t e n = (record { gone = n.gone; sent = n.sent; send = n.send; covered = n.covered; expected = n.expected; released = n.released }, tt)
 named_interrupt window None t e n = named_data window t.waiting t e refl n
 
-names_said : (window : ℕ) (t : Traffic) (e : Epoch) → NamesCounts t e → NamesCounts (says window t).traffic e × NamesPlace e (says window t).body
+names_said : (window : ℕ) (t : Traffic) (e : Epoch) → NamesCounts t e → NamesCounts (says window t).traffic e × NamesPlace e (says window t).traffic.waiting (says window t).body
 names_said window t e n =
     by_cond (λ (s : Said). Named e s) t.confirmation_due _ _
     (λ h. (record { gone = n.gone; sent = n.sent; send = n.send; covered = n.covered; expected = n.expected; released = n.released }, tt))

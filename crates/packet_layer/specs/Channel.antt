@@ -78,7 +78,7 @@ clear_error role c diagnostic had_call ch = record { channel = ended OwnClear ch
 abbrev pub reset_error : Role → ℕ → ℕ → Channel → Step
 reset_error role c diagnostic ch = record { channel = renewed true ch; owes = Some (Reset (error_cause role 5) diagnostic); notes = WasReset c 5 diagnostic LocalFault ∷ [] }
 
--- a packet that the state does not allow
+-- a packet that has no place in this state
 abbrev pub not_allowed : Role → ℕ → Channel → Step
 not_allowed role c ch = clear_error role c (19 + p_number role ch.state) true ch
 
@@ -251,6 +251,6 @@ unless (Some r) done ch = quiet ch
 abbrev pub requested : Role → Channel → Request → Step
 requested role ch r = unless (refusal role ch r) (carried_out ch r) ch
 
--- `room`: free places of the send queue, 0 where `send` answers NoCall or Resetting
+-- data may be queued: a call in p4 without a reset of the own end unconfirmed
 abbrev pub has_flow : Channel → Bool
 has_flow ch = in_transfer ch.state && not ch.resetting

@@ -18,12 +18,13 @@ pub record NamesCounts (t : Traffic) (e : Epoch) : Type 0 where
   pub expected : t.receive_number ≡ (length e.taken + length t.arrived) % 8
   pub released : t.released ≡ e.released % 8
 
--- a Data packet said carries the packet whose place its P(S) names; each P(R) said names how many were released
-abbrev pub NamesPlace : Epoch → Option Body → Type 0
-NamesPlace e (Some (Data send receive d)) = ((before : List Datum) × (after : List Datum) × ((before ++ d ∷ after ≡ e.sent) × (send ≡ length before % 8))) × (receive ≡ e.released % 8)
-NamesPlace e (Some (ReceiveReady receive)) = receive ≡ e.released % 8
-NamesPlace e (Some (ReceiveNotReady receive)) = receive ≡ e.released % 8
-NamesPlace e o = Unit {0}
+-- a Data packet that goes to the link, leaving some to wait, is the one before these in the list of those sent, and P(S) names its
+-- place; each P(R) names how many were released
+abbrev pub NamesPlace : Epoch → (waiting : List Datum) → Option Body → Type 0
+NamesPlace e waiting (Some (Data send receive d)) = ((before : List Datum) × ((before ++ d ∷ waiting ≡ e.sent) × (send ≡ length before % 8))) × (receive ≡ e.released % 8)
+NamesPlace e waiting (Some (ReceiveReady receive)) = receive ≡ e.released % 8
+NamesPlace e waiting (Some (ReceiveNotReady receive)) = receive ≡ e.released % 8
+NamesPlace e waiting o = Unit {0}
 
 -- numbers read from a packet are below 8
 abbrev pub IsNumbered : Body → Type 0
@@ -41,5 +42,5 @@ NamesAfter (Wrong d) old e = Unit {0}
 pub record CountsLaw : Type 0 where
   pub begins : NamesCounts Rattle.packet_layer.specs.Traffic.fresh empty_epoch
   pub asked : (t : Traffic) (e : Epoch) (r : Request) → NamesCounts t e → NamesCounts (traffic_after r t) (logged t r e)
-  pub said : (window : ℕ) (t : Traffic) (e : Epoch) → NamesCounts t e → NamesCounts (says window t).traffic e × NamesPlace e (says window t).body
+  pub said : (window : ℕ) (t : Traffic) (e : Epoch) → NamesCounts t e → NamesCounts (says window t).traffic e × NamesPlace e (says window t).traffic.waiting (says window t).body
   pub heard : (window : ℕ) (t : Traffic) (e : Epoch) (b : Body) → IsNumbered b → NamesCounts t e → NamesAfter (hears window t b) t e

@@ -46,8 +46,8 @@ logged_heard (Keeps n t) e = record e { covered = e.covered + n }
 logged_heard _ e = e
 
 -- the epochs of a channel in one session of the link, by three numbers: of the restart, of the use of the channel since it,
--- of the reset in that use. A restart, clear or reset that the end begins or learns of (it owes the packet or its
--- confirmation) begins the next restart, use or epoch; one that only confirms the end's own begins none
+-- of the reset in that use. The next restart, use or epoch begins where the end owes the packet that asks for it or the one that
+-- confirms it; a packet that answers the end's own request begins none
 pub record Story : Type 0 where
   pub restart : ℕ
   pub use_ : ℕ

@@ -196,8 +196,8 @@ expired l (ClearTimer c) = restarting (error_cause l.role 1) 0 (all_closed Local
 abbrev pub on_timer : Layer → Timer → Layer
 on_timer l t = cond (runs (unread l) t) (expired (unread l) t) (unread l)
 
--- ---- what goes to the link: restart packets first, then from the channel after the one served last, in rising order and
--- round, of the first channel that has anything its control packets, then what its traffic says
+-- ---- what goes to the link: restart packets before all others; then the channels take turns, beginning behind the one that had
+-- the last turn, and the first with anything gives a control packet or, owing none, what its traffic says
 
 pub record Next : Type 0 where
   pub layer : Layer
@@ -250,7 +250,7 @@ next_packet l = next_in l.phase l.relink l
 
 -- ---- calls of the user
 
--- a channel is free in p1 with nothing owed; the DTE takes the highest, the DCE the lowest
+-- a channel can be given to a new call in p1, once all its control packets went; a DTE looks from the top, a DCE from below
 abbrev pub is_ready : CallState → Bool
 is_ready Ready = true
 is_ready _ = false
@@ -301,8 +301,7 @@ abbrev pub call_refusal : Layer → Phase → Option Refusal
 call_refusal l PacketReady = cond (is_some (free_channel l.role l.channels)) None (Some Refusal.NoChannel)
 call_refusal l phase = Some Refusal.NotReady
 
--- `accept`, `clear`, `reset`, `send`, `interrupt`, `stop`, `go`, `take`, `release`, `confirm_interrupt` on a channel; a refused
--- one changes nothing
+-- a request on a channel; a refused one changes nothing
 abbrev pub request : Layer → ℕ → Request → Layer
 request l c r = on_found l c (λ ch. requested l.role ch r) (channel_of l c)
 
@@ -315,7 +314,7 @@ request_refusal l c r = refusal_at l.role r (channel_of l c)
 
 -- ---- questions
 
--- `room`: free places of the send queue, 0 where `send` answers NoCall or Resetting
+-- how many more packets can wait to be sent: none where nothing can be queued
 abbrev pub room_at : Option Channel → ℕ
 room_at None = 0
 room_at (Some ch) = cond (has_flow ch) (8 - length ch.traffic.waiting) 0
@@ -331,7 +330,7 @@ front_at (Some ch) = front ch.traffic
 abbrev pub front_on : Layer → ℕ → Option Taken
 front_on l c = front_at (channel_of l c)
 
--- there is a call, and each packet sent with D = 1 since the last reset is covered by a received P(R)
+-- in a call, every packet with D = 1 of the present epoch was covered
 abbrev pub confirmed_at : Option Channel → Bool
 confirmed_at None = false
 confirmed_at (Some ch) = in_transfer ch.state && (ch.traffic.undelivered == 0)

@@ -105,8 +105,8 @@ releasing n t = record t { released = (t.released + n) % 8 }
 abbrev pub confirming : Traffic → Traffic
 confirming t = record t { interrupt_taken = false; confirmation_due = true }
 
--- ---- what goes to the link: the interrupt confirmation, the interrupt, data within the window, RR or RNR where P(R) or the
--- stop state was not told
+-- ---- what goes to the link: the interrupt confirmation, the interrupt, data within the window, and RR or RNR where the partner does
+-- not know the present P(R) or whether this end is stopped
 
 pub record Said : Type 0 where
   pub traffic : Traffic
@@ -151,7 +151,7 @@ pub data Heard : Type 0 where
   Confirms : Traffic → Heard
   Wrong : (diagnostic : ℕ) → Heard
 
--- a P(R) has to lie from the last one to the next P(S)
+-- a P(R) is valid if it names a packet that is not covered yet, or the next one to be sent
 abbrev pub covers : ℕ → Traffic → Heard
 covers receive t =
     cond (nat_le (distance t.covered receive) (in_flight t))
@@ -173,7 +173,7 @@ partner_says b t = record t { partner_busy = b }
 abbrev pub interrupted : Traffic → Bool
 interrupted t = is_some t.interrupt_arrived || (t.interrupt_taken || t.confirmation_due)
 
--- a Data packet must have the expected P(S) with fewer than window packets unreleased, then a valid P(R)
+-- a Data packet needs the expected P(S), room in the window of what is not released, and then a valid P(R)
 abbrev pub hears : ℕ → Traffic → Body → Heard
 hears window t (Data send receive d) = cond ((send == t.receive_number) && nat_lt (unreleased t) window) (keeps (λ u. arrives d u) (covers receive t)) (Heard.Wrong 1)
 hears window t (ReceiveReady receive) = keeps (λ u. partner_says false u) (covers receive t)

@@ -2,8 +2,8 @@ ghost use Rattle.packet_layer.specs.Counts.{CountsLaw};
 ghost use Rattle.packet_layer.specs.Law.{LineLaw};
 
 /// The law of a line, over the definitions of the layer alone: whatever is called at its two ends, whatever timers expire and
-/// however its link's sessions begin and end, what an end takes in an epoch of a call is a prefix of what the other end sent
-/// in that same epoch, what a P(R) covered was released at the other end, the epochs of the two ends stay in step, and no
+/// however its link's sessions begin and end, what an end takes in an epoch of a call begins the other end's list of what it
+/// sent in that same epoch, what a P(R) covered was released at the other end, the epochs of the two ends stay in step, and no
 /// packet that arrives is a procedure error.
 pub fn line_law()
     ensures { LineLaw }

@@ -1,5 +1,5 @@
 -- What a script makes of a network, and what is printed.
-use Rattle.std.specs.Prelude.{◌≡◌, ◌≢◌, ℕ, zero, suc, ◌+◌, ◌<◌, Bool, true, false, List, [], ◌∷◌, ◌++◌, Option, Result, Ok, Err, codes}
+use Rattle.std.specs.Prelude.{◌≡◌, ◌≢◌, ◌⊎◌, ℕ, zero, suc, ◌+◌, ◌<◌, Bool, true, false, List, [], ◌∷◌, ◌++◌, Option, Result, Ok, Err, codes}
 use Rattle.line_sim.specs.declared.line.Direction.TheVariants.{FromDte, FromDce}
 use Rattle.line_sim.specs.declared.event.Event.{Event}
 use Rattle.line_sim.specs.declared.event.Event.TheVariants.{Deliver}
@@ -12,6 +12,7 @@ use Rattle.line_sim.specs.declared.config.Config.{Config}
 use Rattle.line_sim.specs.Plan.{IsMade}
 use Rattle.line_sim.specs.NetState.{NetState, net_rests}
 use Rattle.line_sim.specs.Runs.{Happens}
+use Rattle.x25net.specs.declared.fault.ProgFault.{ProgFault}
 use Rattle.x25net.specs.declared.script.Command.{Command}
 use Rattle.x25net.specs.declared.script.Command.TheVariants.{Events, Flow}
 use Rattle.x25net.specs.declared.script.Script.{Script}
@@ -78,6 +79,10 @@ pub data Flows (F : Type 0) (names : Names) (lines : ℕ) : Flowing → List ℕ
 abbrev pub DoesCommand : (F : Type 0) → Names → (lines : ℕ) → Command → NetState → List ℕ → NetState → Type 0
 DoesCommand F names lines (Events events) s text t = InTurn Event NetState (TellsEvent F names) events.items s text t
 DoesCommand F names lines Flow s text t = Flows F names lines (record { left = 100000; net = s }) text t
+
+-- a script stops for want of memory, or where its text cannot be written
+abbrev pub IsPlayFault : ProgFault → Type 0
+IsPlayFault fault = (fault ≡ ProgFault.OutOfMemory) ⊎ (fault ≡ ProgFault.Write)
 
 -- the last line
 abbrev pub end_line : (at_rest : Bool) → List ℕ

@@ -1,11 +1,12 @@
 //! The player: does what a script says, and prints the answers.
-ghost use Rattle.std.specs.Prelude.{◌≡◌, ◌≤◌, OnOk, IfOk};
+ghost use Rattle.std.specs.Prelude.{◌≡◌, ◌≤◌, OnOk, IfOk, IfErr};
 ghost use Rattle.std.specs.Io.KnownBytes.{Appends};
 ghost use Rattle.line_sim.specs.declared.event.Event.{Event};
 ghost use Rattle.line_sim.specs.NetState.{NetState};
 ghost use Rattle.x25net.specs.InTurn.{InTurn, Writes};
 ghost use Rattle.x25net.specs.Playing.{has_arrived, Tells, TellsEvent, Delivers, Passes, Flows};
-ghost use Rattle.x25net.specs.Playing.{DoesCommand, Plays, end_line};
+ghost use Rattle.x25net.specs.Playing.{DoesCommand, Plays, end_line, IsPlayFault};
+ghost use Rattle.x25net.specs.declared.fault.ProgFault.{ProgFault};
 
 use crate::answer::{outcome_text, refusal_text};
 use crate::fault::ProgFault;
@@ -18,14 +19,18 @@ use std::io::Write;
 const FLOW_LIMIT: u32 = 100_000;
 
 /// Plays a script on a network, and prints the answer to each event, and at the end whether the network is at rest.
+///
+/// `OutOfMemory` comes where memory is wanted and `Write` where the output cannot be written; what was done and printed
+/// until then stays.
 pub fn play<L: Line, W: Write>(
     alloc: Global,
     net: &mut Net<L>,
     script: &Script,
     out: &mut W,
 ) -> Result<(), ProgFault>
-    ensures { OnOk result (Writes (W.contents out.old) (W.contents out.new)
+    ensures writes { OnOk result (Writes (W.contents out.old) (W.contents out.new)
         (λ text. Plays L.faithful script.now net.old text net.new)) }
+    ensures faults { IfErr result IsPlayFault }
 {
     for command in &script.commands {
         play_command(alloc, net, script, command, out)?;
@@ -48,8 +53,9 @@ fn play_command<L: Line, W: Write>(
     command: &Command,
     out: &mut W,
 ) -> Result<(), ProgFault>
-    ensures { OnOk result (Writes (W.contents out.old) (W.contents out.new)
+    ensures writes { OnOk result (Writes (W.contents out.old) (W.contents out.new)
         (λ text. DoesCommand L.faithful script.now.names.items script.now.lines command.now net.old text net.new)) }
+    ensures faults { IfErr result IsPlayFault }
 {
     let names = script.names.as_slice();
     match command {
@@ -65,8 +71,9 @@ fn play_events<L: Line, W: Write>(
     events: &[Event],
     out: &mut W,
 ) -> Result<(), ProgFault>
-    ensures { OnOk result (Writes (W.contents out.old) (W.contents out.new)
+    ensures writes { OnOk result (Writes (W.contents out.old) (W.contents out.new)
         (λ text. InTurn Event NetState (TellsEvent L.faithful names.now) events.now net.old text net.new)) }
+    ensures faults { IfErr result IsPlayFault }
 {
     for event in events {
         play_event(alloc, net, names, event, out)?;
@@ -82,8 +89,9 @@ fn flow<L: Line, W: Write>(
     lines: usize,
     out: &mut W,
 ) -> Result<(), ProgFault>
-    ensures { OnOk result (Writes (W.contents out.old) (W.contents out.new)
+    ensures writes { OnOk result (Writes (W.contents out.old) (W.contents out.new)
         (λ text. Flows L.faithful names.now lines (record { left = 100000; net = net.old }) text net.new)) }
+    ensures faults { IfErr result IsPlayFault }
 {
     let mut left = FLOW_LIMIT;
     loop {
@@ -108,6 +116,7 @@ fn pass<L: Line, W: Write>(
         (λ text. Passes L.faithful names.now lines
         (record { left = left; net = net.old }) text (record { left = still_left; net = net.new }))) }
     ensures at_most { IfOk result (λ still_left. still_left ≤ left) }
+    ensures faults { IfErr result IsPlayFault }
 {
     let mut still_left = left;
     for line in 0..lines {
@@ -138,6 +147,7 @@ fn deliver<L: Line, W: Write>(
         (λ text. Delivers L.faithful names.now delivery.now
         (record { left = left; net = net.old }) text (record { left = still_left; net = net.new }))) }
     ensures at_most { IfOk result (λ still_left. still_left ≤ left) }
+    ensures faults { IfErr result IsPlayFault }
 {
     if left == 0 {
         return Ok(0);
@@ -157,8 +167,9 @@ fn play_event<L: Line, W: Write>(
     event: &Event,
     out: &mut W,
 ) -> Result<bool, ProgFault>
-    ensures { IfOk result (λ arrived. Writes (W.contents out.old) (W.contents out.new)
+    ensures tells { IfOk result (λ arrived. Writes (W.contents out.old) (W.contents out.new)
         (λ text. Tells L.faithful names.now arrived event.now net.old text net.new)) }
+    ensures faults { IfErr result IsPlayFault }
 {
     match net.step(event) {
         Ok(answer) => {
@@ -182,7 +193,8 @@ fn has_arrived(outcome: &Outcome) -> bool
 }
 
 fn write<W: Write>(out: &mut W, text: &str) -> Result<(), ProgFault>
-    ensures { OnOk result (Appends (W.contents out.old) (W.contents out.new) text.now) }
+    ensures writes { OnOk result (Appends (W.contents out.old) (W.contents out.new) text.now) }
+    ensures fault { IfErr result (λ fault. fault ≡ ProgFault.Write) }
 {
     match out.write_all(text.as_bytes()) {
         Ok(()) => Ok(()),

@@ -1,5 +1,5 @@
 //! The program.
-ghost use Rattle.std.specs.Prelude.{◌≡◌, ◌≢◌, ◌↔◌, [], OnOk};
+ghost use Rattle.std.specs.Prelude.{◌≡◌, ◌≢◌, ◌≤◌, ◌↔◌, [], OnOk};
 ghost use Rattle.x25net.specs.Playing.{PlaysSome};
 
 use crate::fault::ProgFault;
@@ -31,6 +31,7 @@ pub fn perform<R: Read, W: Write, E: Write>(
     err: &mut E,
 ) -> u8
     ensures words { (result ≡ BAD_WORDS) ↔ (words.now ≢ []) }
+    ensures status { result ≤ BAD_WORDS }
     ensures done { result ≡ DONE → PlaysSome (W.contents out.old) (W.contents out.new) }
     ensures unread { words.now ≢ [] → W.contents out.new ≡ W.contents out.old }
 {

@@ -174,7 +174,8 @@ impl Link {
         self.phase
     }
 
-    /// Whether the link is up, with nothing unacknowledged, no poll outstanding and no acknowledgement owed.
+    /// Whether the link is up and has nothing to wait for or to tell: every packet is acknowledged, every poll answered,
+    /// and every accepted packet told of.
     pub fn at_rest(&self) -> bool
         ensures { result ≡ machine.at_rest self.now }
     {

@@ -15,7 +15,7 @@ use frame_codec::{Frame, FrameKind};
 use link_timers::Role;
 
 impl Link {
-    /// Ends a node's event: sends the I frames that may go, in order; if none goes and an acknowledgement is owed, RR.
+    /// Ends a node's event: all I frames that may go are sent in order. Where there are none, an RR is, if it is owed.
     pub fn settle(&mut self, out: &mut LinkOut)
         ensures link { self.new ≡ (machine.settle self.old).link }
         ensures out { out.new ≡ gathered out.old self.old (machine.settle self.old) }

@@ -9,9 +9,9 @@ returns-then-left-eq0-clause-delivers g c = writes_nothing _ (delivers_at_limit 
 pub returns-then-branch-clause-delivers : goal.returns-then-branch-clause-delivers
 returns-then-branch-clause-delivers g c =
     let some : 0 < c.args.left = omega arith in
-    writes_as (λ text tells. delivers_one c.args.left some tells) (rw c.if-branch.true at c.in_ok-play_event.ensures)
+    writes_as (λ text tells. delivers_one c.args.left some tells) (rw c.if-branch.true at c.in_ok-play_event.ensures.tells)
 
 pub returns-else-branch-clause-delivers : goal.returns-else-branch-clause-delivers
 returns-else-branch-clause-delivers g c =
     let some : 0 < c.args.left = omega arith in
-    writes_as (λ text tells. delivers_none c.args.left some tells) (rw c.if-branch.false at c.in_ok-play_event.ensures)
+    writes_as (λ text tells. delivers_none c.args.left some tells) (rw c.if-branch.false at c.in_ok-play_event.ensures.tells)

@@ -4,8 +4,8 @@ use Rattle.x25net.proofs.Turns.{writes_append}
 use Rattle.x25net.proofs.Deliveries.{flow_onward}
 use Rattle.x25net.proofs.player.flow.Goals as goal
 
-pub returns-then-still_left-left : goal.returns-then-still_left-left
-returns-then-still_left-left g c =
+pub returns-then-still_left-left-clause-writes : goal.returns-then-still_left-left-clause-writes
+returns-then-still_left-left-clause-writes g c =
     writes_append _ _ _ (λ told text onward passed. onward text _ (last passed c.if-still_left-left.true))
     c.loop-still_left.invariant c.in_ok-still_left.ensures.passes
 

@@ -15,10 +15,10 @@ loop-command-preserved g c =
     let there : c.command-item.result ≡ get_or commands at c.command-item.result =
     rw c.deref-command-items.ensures.value at c.command-item.is in
     writes_append _ _ _ (λ a b done does. in_turn_next commands at c.command-item.result within there done does)
-    c.loop-command.invariant c.in_ok-play_command.ensures
+    c.loop-command.invariant c.in_ok-play_command.ensures.writes
 
-pub returns : goal.returns
-returns g c =
+pub returns-clause-writes : goal.returns-clause-writes
+returns-clause-writes g c =
     let commands : List Command = c.args.script.now.commands.items in
     let ended : length commands ≤ c.loop-command.command-index = omega arith in
     writes_then c.end_line.result.now (λ told done. record {
@@ -27,4 +27,4 @@ returns g c =
       rest = c.at_rest.ensures;
       commands = in_turn_all commands _ ended done;
       whole = ap (λ w. told ++ w) c.end_line.ensures;
-    }) c.loop-command.invariant c.in_ok-write.ensures
+    }) c.loop-command.invariant c.in_ok-write.ensures.writes

@@ -11,4 +11,4 @@ loop-event-preserved g c =
     let within : c.loop-event.event-index < length c.args.events.now = omega arith in
     writes_append _ _ _ (λ a b done tells.
     in_turn_more c.args.events.now c.loop-event.event-index _ within done (record { arrived = _; tells = tells }))
-    c.loop-event.invariant c.in_ok-play_event.ensures
+    c.loop-event.invariant c.in_ok-play_event.ensures.tells

@@ -7,5 +7,5 @@ returns g c = record {
   made = c.in_ok-net.ensures.ok;
   script = _;
   ended = _;
-  writes = c.in_ok-play.ensures;
+  writes = c.in_ok-play.ensures.writes;
 }
