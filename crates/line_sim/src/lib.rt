@@ -23,3 +23,6 @@ pub use net::Net;
 pub use packet::{Interrupt, Taken, USER_DATA_OCTETS, UserPacket};
 pub use record::{EditStep, Pair, Record, SentEpoch, TakenEpoch};
 pub use running::run;
+
+#[cfg(test)]
+mod tests;
