@@ -118,7 +118,7 @@ expired_same l c (ResetTimer d) = found_same l c d (λ ch. clear_error l.role d 
 expired_same l c (ClearTimer d) = (refl, refl, λ t. (closed_channel, nth_map l.channels c t.0 closed_channel t.1), map_length l.channels)
 
 pub timer_same : (l : Layer) (c : ℕ) (t : Timer) → SameLine l (on_timer l t) c
-timer_same l c t = by_cond (λ (k : Layer). SameLine l k c) (runs (unread l) t) (expired (unread l) t) (unread l) (λ e. expired_same (unread l) c t) (λ e. (refl, refl, λ q. q, refl))
+timer_same l c t = by_cond (λ (k : Layer). SameLine l k c) (runs l t) (expired (unread l) t) l (λ e. expired_same (unread l) c t) (λ e. (refl, refl, λ q. q, refl))
 
 pub pick : {X : Type 0} → (b : Bool) (x : X) → x ≡ cond b x x
 pick true x = refl

@@ -58,7 +58,7 @@ names_asked t e _ n = n
 abbrev Named : Epoch → Said → Type 0
 Named e s = NamesCounts s.traffic e × NamesPlace e s.traffic.waiting s.body
 
-named_ready : (stop : Bool) (t : Traffic) (e : Epoch) → NamesCounts t e → Named e (record { traffic = record t { told = t.released; told_stopped = t.stopped }; body = Some (ready_or_not stop t.released) })
+named_ready : (stop : Bool) (t : Traffic) (e : Epoch) → NamesCounts t e → Named e (record { traffic = record t { untold = false; told_stopped = t.stopped }; body = Some (ready_or_not stop t.released) })
 named_ready true t e n = (record { gone = n.gone; sent = n.sent; send = n.send; covered = n.covered; expected = n.expected; released = n.released }, n.released)
 named_ready false t e n = (record { gone = n.gone; sent = n.sent; send = n.send; covered = n.covered; expected = n.expected; released = n.released }, n.released)
 
@@ -66,7 +66,7 @@ named_flow : (t : Traffic) (e : Epoch) → NamesCounts t e → Named e (says_flo
 named_flow t e n = by_cond (λ (s : Said). Named e s) (flow_told t) _ _ (λ h. (n, tt)) (λ h. named_ready t.stopped t e n)
 
 named_datum : (d : Datum) (ds : List Datum) (t : Traffic) (e : Epoch) → t.waiting ≡ d ∷ ds → NamesCounts t e
-    → Named e (record { traffic = record t { waiting = ds; send_number = (t.send_number + 1) % 8; told = t.released }; body = Some (Data t.send_number t.released d) })
+    → Named e (record { traffic = record t { waiting = ds; send_number = (t.send_number + 1) % 8; untold = false }; body = Some (Data t.send_number t.released d) })
 named_datum d ds t e w n =
     let whole : n.gone ++ (d ∷ ds) ≡ e.sent = ap (λ (l : List Datum). n.gone ++ l) (sym w) ∙ n.sent in
     let len = length-append n.gone (d ∷ []) in

@@ -296,12 +296,20 @@ expired_outcome window role x y link b rest l c (ClearTimer d) run g s p =
     restart_outcome window role x y link b rest l c (error_cause l.role 1) 0 Reason.LocalFault
     (ready_phase x.own (sym p.phase_is ∙ (runs_found (λ ch. waits_for_clear ch.state) l.phase (channel_of l d) run).0)) g p
 
+runs_unread : (l : Layer) (t : Timer) → runs (unread l) t ≡ runs l t
+runs_unread l RestartTimer = refl
+runs_unread l (CallTimer c) = refl
+runs_unread l (ResetTimer c) = refl
+runs_unread l (ClearTimer c) = refl
+
 timer_at : (window : ℕ) (role : Role) (x y : Whole) (link b rest : List Body) (l : Layer) (c : ℕ) (t : Timer) (v : Bool) → runs l t ≡ v
-    → GoodWhole window role (record { me = x; you = y; out = link ++ rest; back = b }) → Settled x → Present l c x rest → Outcome window role x y link b (cond v (expired l t) l) c (λ st. cond v (expired_story t c st) st)
-timer_at window role x y link b rest l c t true e g s p = expired_outcome window role x y link b rest l c t e g s p
+    → GoodWhole window role (record { me = x; you = y; out = link ++ rest; back = b }) → Settled x → Present l c x rest → Outcome window role x y link b (cond v (expired (unread l) t) l) c (λ st. cond v (expired_story t c st) st)
+timer_at window role x y link b rest l c t true e g s p =
+    expired_outcome window role x y link b rest (unread l) c t (runs_unread l t ∙ e) g s
+    (record { phase_is = p.phase_is; owed = p.owed; channel_is = p.channel_is; plain = p.plain; restarts = p.restarts; rest_is = p.rest_is })
 timer_at window role x y link b rest l c t false e g s p = same_outcome window role x y link b rest l l c (λ st. st) (λ st. refl) refl refl refl (λ h. h) g s p
 
 pub timer_outcome : (window : ℕ) (role : Role) (x y : Whole) (link b rest : List Body) (l : Layer) (c : ℕ) (t : Timer)
     → GoodWhole window role (record { me = x; you = y; out = link ++ rest; back = b }) → Settled x → Present l c x rest → Outcome window role x y link b (on_timer l t) c (λ st. timer_story l t c st)
 timer_outcome window role x y link b rest l c t g s p =
-    timer_at window role x y link b rest (unread l) c t (runs (unread l) t) refl g s (record { phase_is = p.phase_is; owed = p.owed; channel_is = p.channel_is; plain = p.plain; restarts = p.restarts; rest_is = p.rest_is })
+    timer_at window role x y link b rest l c t (runs l t) refl g s p

@@ -110,7 +110,7 @@ says_an_interrupt window octets x y o b w i =
     }
 
 says_ready : (window : ℕ) (stop : Bool) (x y : Inner) (o b : List Body) → Epochs_agree window (pair_of x y o b)
-    → After window x y o b (record { traffic = record x.traffic { told = x.traffic.released; told_stopped = x.traffic.stopped }; body = Some (ready_or_not stop x.traffic.released) })
+    → After window x y o b (record { traffic = record x.traffic { untold = false; told_stopped = x.traffic.stopped }; body = Some (ready_or_not stop x.traffic.released) })
 says_ready window true x y o b i =
     let t : Body = ReceiveNotReady x.traffic.released in
     let f = quiet_forth window x y o b t (datas_append o (t ∷ []) ∙ append-nil (datas o)) (interrupts_append o (t ∷ []) ∙ append-nil (interrupts o)) (λ k. tt) i.forth in
@@ -146,7 +146,7 @@ move_waiting : (t a d w : List Datum) (x : Datum) → t ++ (a ++ ((d ++ x ∷ []
 move_waiting t a d w x = ap (λ (l : List Datum). t ++ (a ++ l)) (append_assoc d (x ∷ []) w)
 
 says_a_datum : (window : ℕ) (d : Datum) (ds : List Datum) (x y : Inner) (o b : List Body) → x.traffic.waiting ≡ d ∷ ds → window_open window x.traffic ≡ true → Epochs_agree window (pair_of x y o b)
-    → After window x y o b (record { traffic = record x.traffic { waiting = ds; send_number = (x.traffic.send_number + 1) % 8; told = x.traffic.released }; body = Some (Data x.traffic.send_number x.traffic.released d) })
+    → After window x y o b (record { traffic = record x.traffic { waiting = ds; send_number = (x.traffic.send_number + 1) % 8; untold = false }; body = Some (Data x.traffic.send_number x.traffic.released d) })
 says_a_datum window d ds x y o b w is_open i =
     let t : Body = Data x.traffic.send_number x.traffic.released d in
     let s = i.forth.stream in let a = i.forth.acking in let v = i.forth.urgent in

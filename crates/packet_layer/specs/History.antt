@@ -141,4 +141,4 @@ expired_story (ResetTimer d) c st = cond (c == d) (next_use_of st) st
 expired_story (ClearTimer d) c st = next_restart_of st
 
 abbrev pub timer_story : Layer → Timer → ℕ → Story → Story
-timer_story l t c st = cond (runs (unread l) t) (expired_story t c st) st
+timer_story l t c st = cond (runs l t) (expired_story t c st) st

@@ -110,7 +110,7 @@ all_closed reason l = record l { channels = map (λ ch. closed_channel) l.channe
 abbrev pub restarting : ℕ → ℕ → Layer → Layer
 restarting cause diagnostic l = owes_restart (Some (Restart cause diagnostic)) (record l { phase = OwnRestart; served_last = 0 })
 
--- what was noted and not read is dropped by the next event
+-- what was noted and not read is dropped by what changes the layer next: a packet, an expiry, the link
 abbrev pub unread : Layer → Layer
 unread l = record l { notes = [] }
 
@@ -194,7 +194,7 @@ expired l (ResetTimer c) = on_found l c (λ ch. clear_error l.role c 0 true ch) 
 expired l (ClearTimer c) = restarting (error_cause l.role 1) 0 (all_closed LocalFault l)
 
 abbrev pub on_timer : Layer → Timer → Layer
-on_timer l t = cond (runs (unread l) t) (expired (unread l) t) (unread l)
+on_timer l t = cond (runs l t) (expired (unread l) t) l
 
 -- ---- what goes to the link: restart packets before all others; then the channels take turns, beginning behind the one that had
 -- the last turn, and the first with anything gives a control packet or, owing none, what its traffic says

@@ -11,11 +11,11 @@ pub record Traffic : Type 0 where
   pub covered : ℕ
   -- how many of the packets not yet covered, the oldest first, have to be covered until all with D = 1 are
   pub undelivered : ℕ
-  -- packets to be taken, the P(S) expected, the P(R) that may be sent, and the one sent last (modulo 8)
+  -- packets to be taken, the P(S) expected, the P(R) that may be sent (modulo 8), and whether the partner has to be told of it
   pub arrived : List Datum
   pub receive_number : ℕ
   pub released : ℕ
-  pub told : ℕ
+  pub untold : Bool
   -- the partner sent RNR; this end is to say RNR; it did
   pub partner_busy : Bool
   pub stopped : Bool
@@ -38,7 +38,7 @@ fresh = record {
   arrived = [];
   receive_number = 0;
   released = 0;
-  told = 0;
+  untold = false;
   partner_busy = false;
   stopped = false;
   told_stopped = false;
@@ -100,7 +100,7 @@ abbrev pub may_release : ℕ → Traffic → Bool
 may_release n t = nat_le (n + length t.arrived) (unreleased t)
 
 abbrev pub releasing : ℕ → Traffic → Traffic
-releasing n t = record t { released = (t.released + n) % 8 }
+releasing n t = record t { released = (t.released + n) % 8; untold = t.untold || nat_lt 0 n }
 
 abbrev pub confirming : Traffic → Traffic
 confirming t = record t { interrupt_taken = false; confirmation_due = true }
@@ -121,10 +121,10 @@ same_flag true b = b
 same_flag false b = not b
 
 abbrev pub flow_told : Traffic → Bool
-flow_told t = (t.told == t.released) && same_flag t.told_stopped t.stopped
+flow_told t = not t.untold && same_flag t.told_stopped t.stopped
 
 abbrev pub says_flow : Traffic → Said
-says_flow t = cond (flow_told t) (record { traffic = t; body = None }) (record { traffic = record t { told = t.released; told_stopped = t.stopped }; body = Some (ready_or_not t.stopped t.released) })
+says_flow t = cond (flow_told t) (record { traffic = t; body = None }) (record { traffic = record t { untold = false; told_stopped = t.stopped }; body = Some (ready_or_not t.stopped t.released) })
 
 abbrev pub window_open : ℕ → Traffic → Bool
 window_open window t = nat_lt (in_flight t) window && not t.partner_busy
@@ -133,7 +133,7 @@ abbrev pub says_data : ℕ → List Datum → Traffic → Said
 says_data window [] t = says_flow t
 says_data window (d ∷ ds) t =
     cond (window_open window t)
-    (record { traffic = record t { waiting = ds; send_number = (t.send_number + 1) % 8; told = t.released }; body = Some (Data t.send_number t.released d) })
+    (record { traffic = record t { waiting = ds; send_number = (t.send_number + 1) % 8; untold = false }; body = Some (Data t.send_number t.released d) })
     (says_flow t)
 
 abbrev pub says_interrupt : ℕ → Option (List ℕ) → Traffic → Said
