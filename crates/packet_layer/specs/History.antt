@@ -9,7 +9,7 @@ use Rattle.packet_layer.specs.Traffic.Heard.{Keeps, Wrong}
 use Rattle.packet_layer.specs.Channel.{CallState, Channel, Request, Refusal, received, requested, refusal}
 use Rattle.packet_layer.specs.Channel.CallState.{Transfer}
 use Rattle.packet_layer.specs.Channel.Request.{Sending, Interrupting, Taking, Releasing}
-use Rattle.packet_layer.specs.Layer.{Phase, Layer, Timer, channel_of, runs, unread}
+use Rattle.packet_layer.specs.Layer.{Phase, Layer, Timer, channel_of, runs}
 use Rattle.packet_layer.specs.Layer.Phase.{PacketReady}
 use Rattle.packet_layer.specs.Layer.Timer.{RestartTimer, CallTimer, ResetTimer, ClearTimer}
 

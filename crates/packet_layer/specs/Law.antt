@@ -100,7 +100,7 @@ pub record AtRest (w : Line) (s c : ℕ) (a b : Channel) : Type 0 where
   pub forth : NothingMissing (epoch_now (w.me.stories s c)) (epoch_now (w.you.stories s c)) a b
   pub back : NothingMissing (epoch_now (w.you.stories s c)) (epoch_now (w.me.stories s c)) b a
 
--- a Call is about to arrive at `me` on channel c in session s, and makes an Incoming Call there
+-- a Call is about to arrive at `me` on channel c in session s, where the channel is free or meets the end's own call
 abbrev pub TakesCall : CallState → Type 0
 TakesCall Ready = Unit {0}
 TakesCall OwnWaiting = Unit {0}
