@@ -23,7 +23,7 @@ use Rattle.lapb.specs.declared.note.Timing.{Timing}
 abbrev pub Octets : Type 0
 Octets = List ℕ
 
--- The state. V(S) and V(M), one past the highest number sent, are kept as what they are ahead of V(A).
+-- The state. V(S) and V(M), which follows the highest N(S) used, are kept as what they are ahead of V(A).
 pub record Link : Type 0 where
   pub role : Role
   pub phase : Phase

@@ -7,7 +7,7 @@ pub fn link_law()
     // In each session the accepted packets of an end begin the list of those offered at the other one; no FRMR is sent.
     ensures in_order { Always InOrder }
 
-    // Where the DCE takes a SABM of the last act and the DTE then a UA of it, both ends are up in the session of that act.
+    // Where a SABM of the last act is taken and then a UA of it, both ends are up in the session of that act.
     ensures comes_up { Always ComesUp }
 
     // Where an end comes to stand in a session, nothing of it was accepted before; a DTE comes up in its last act.
