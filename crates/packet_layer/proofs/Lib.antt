@@ -24,3 +24,7 @@ pub mod Calling
 pub mod Consequences
 pub mod LineHolds
 pub mod Naming
+pub mod Counting
+pub mod Desk
+pub mod Fitting
+pub mod Loosening
