@@ -28,3 +28,4 @@ pub mod Counting
 pub mod Desk
 pub mod Fitting
 pub mod Loosening
+pub mod Barred
