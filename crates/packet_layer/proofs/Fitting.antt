@@ -143,3 +143,46 @@ received_comes role window c Transfer false o tr InterruptConfirmation rest e h 
 received_comes role window c Transfer false o tr (ReceiveReady n) rest e h = heard_after role c o tr (hears window tr (ReceiveReady n)) rest e h
 received_comes role window c Transfer false o tr (ReceiveNotReady n) rest e h = heard_after role c o tr (hears window tr (ReceiveNotReady n)) rest e h
 received_comes role window c Transfer false o tr _ rest e h = absurd h
+
+heard_back : (role : Role) (c : ℕ) (o : List Body) (tr : Traffic) (h : Heard) (rest : CallState → Bool → List Body → Type 0) → is_request (after_heard role c (desk Transfer false o tr) h).owes ≡ false
+    → After (after_heard role c (desk Transfer false o tr) h) rest → rest Transfer false o
+heard_back role c o tr (Keeps n t) rest e h = h
+heard_back role c o tr (Confirms t) rest e h = h
+heard_back role c o tr (Wrong d) rest e h = absurd (true≢false e)
+
+-- and what holds after the layer's step holds after the packet
+pub received_back : (role : Role) (window c : ℕ) (s : CallState) (rs : Bool) (o : List Body) (tr : Traffic) (b : Body) (rest rest2 : CallState → Bool → List Body → Type 0) → is_request (received role window c (desk s rs o tr) b).owes ≡ false
+    → Comes role s rs o b rest → After (received role window c (desk s rs o tr) b) rest2 → Comes role s rs o b rest2
+received_back role window c Ready rs o tr (Call p) rest rest2 e h k = (h.0, k)
+received_back role window c Ready rs o tr (Clear x y) rest rest2 e h k = (h.0, k)
+received_back role window c Ready rs o tr _ rest rest2 e h k = absurd h
+received_back role window c OwnWaiting rs o tr (Call p) rest rest2 e h k = k
+received_back role window c OwnWaiting rs o tr Accepted rest rest2 e h k = k
+received_back role window c OwnWaiting rs o tr (Clear x y) rest rest2 e h k = k
+received_back role window c OwnWaiting rs o tr _ rest rest2 e h k = absurd h
+received_back role window c FarWaiting rs o tr (Clear x y) rest rest2 e h k = k
+received_back role window c FarWaiting rs o tr _ rest rest2 e h k = absurd h
+received_back Dte window c Collision rs o tr Accepted rest rest2 e h k = k
+received_back Dce window c Collision rs o tr Accepted rest rest2 e h k = absurd h
+received_back role window c Collision rs o tr (Clear x y) rest rest2 e h k = k
+received_back role window c Collision rs o tr _ rest rest2 e h k = absurd h
+received_back role window c OwnClear rs o tr (Clear x y) rest rest2 e h k = k
+received_back role window c OwnClear rs o tr ClearConfirmation rest rest2 e h k = k
+received_back role window c OwnClear rs o tr _ rest rest2 e h k = k
+received_back role window c Transfer true o tr (Clear x y) rest rest2 e h k = k
+received_back role window c Transfer true o tr (Reset x y) rest rest2 e h k = (h.0, h.1, k)
+received_back role window c Transfer true o tr ResetConfirmation rest rest2 e h k = (h.0, h.1, k)
+received_back role window c Transfer true o tr (Data s n d) rest rest2 e h k = k
+received_back role window c Transfer true o tr (Interrupt q) rest rest2 e h k = k
+received_back role window c Transfer true o tr InterruptConfirmation rest rest2 e h k = k
+received_back role window c Transfer true o tr (ReceiveReady n) rest rest2 e h k = k
+received_back role window c Transfer true o tr (ReceiveNotReady n) rest rest2 e h k = k
+received_back role window c Transfer true o tr _ rest rest2 e h k = absurd h
+received_back role window c Transfer false o tr (Clear x y) rest rest2 e h k = k
+received_back role window c Transfer false o tr (Reset x y) rest rest2 e h k = (h.0, h.1, k)
+received_back role window c Transfer false o tr (Data s n d) rest rest2 e h k = heard_back role c o tr (hears window tr (Data s n d)) rest2 e k
+received_back role window c Transfer false o tr (Interrupt q) rest rest2 e h k = heard_back role c o tr (hears window tr (Interrupt q)) rest2 e k
+received_back role window c Transfer false o tr InterruptConfirmation rest rest2 e h k = heard_back role c o tr (hears window tr InterruptConfirmation) rest2 e k
+received_back role window c Transfer false o tr (ReceiveReady n) rest rest2 e h k = heard_back role c o tr (hears window tr (ReceiveReady n)) rest2 e k
+received_back role window c Transfer false o tr (ReceiveNotReady n) rest rest2 e h k = heard_back role c o tr (hears window tr (ReceiveNotReady n)) rest2 e k
+received_back role window c Transfer false o tr _ rest rest2 e h k = absurd h

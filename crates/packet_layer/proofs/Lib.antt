@@ -29,3 +29,4 @@ pub mod Desk
 pub mod Fitting
 pub mod Loosening
 pub mod Barred
+pub mod Draining
