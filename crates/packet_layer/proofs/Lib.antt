@@ -30,3 +30,4 @@ pub mod Fitting
 pub mod Loosening
 pub mod Barred
 pub mod Draining
+pub mod Turning
