@@ -31,3 +31,4 @@ pub mod Loosening
 pub mod Barred
 pub mod Draining
 pub mod Turning
+pub mod Growing
