@@ -32,3 +32,4 @@ pub mod Barred
 pub mod Draining
 pub mod Turning
 pub mod Growing
+pub mod Receiving
