@@ -33,3 +33,4 @@ pub mod Draining
 pub mod Turning
 pub mod Growing
 pub mod Receiving
+pub mod Handing

@@ -170,7 +170,7 @@ there_turned role l false p c ch ts F ne f found = there_found (channel_of l p.c
 unread_turned : (role : Role) (l l' : Layer) (c : ℕ) (ch : Channel) (before after : List Body) → Turned role (unread l) l' c ch before after → Turned role l l' c ch before after
 unread_turned role l l' c ch before after t = record { next = t.next; found = t.found; fits = t.fits; comes = t.comes; grown = t.grown }
 
-abbrev NoFaultAt : Phase → Layer → Packet → Bool → Type 0
+abbrev pub NoFaultAt : Phase → Layer → Packet → Bool → Type 0
 NoFaultAt ph l p true = is_restart_fault ph p.body ≡ false
 NoFaultAt ph l p false = is_channel_fault ph l p ≡ false
 
@@ -184,6 +184,21 @@ arrives_at role l own p c ch ts false true e0 e1 well e fault f few found h =
     (here_turned role l own p ch ts well e fault f (subst (λ (k : ℕ). channel_of l k ≡ Some ch) (sym here) found) h)
 arrives_at role l own p c ch ts false false e0 e1 well e fault f few found h = there_turned role l own p c ch ts (λ q. heard_step role l p q) (λ q. eqb-false p.channel c e1 (sym q)) f found
 
+fault_again_on : (l : Layer) (p : Packet) (o : Option Channel) → is_fault_on l p o ≡ false → is_fault_on (record (unread l) { role = l.role }) p o ≡ false
+fault_again_on l p None q = q
+fault_again_on l p (Some ch) q = q
+
+fault_again : (l : Layer) (p : Packet) (ph : Phase) → is_channel_fault ph l p ≡ false → is_channel_fault ph (record (unread l) { role = l.role }) p ≡ false
+fault_again l p PacketReady q = fault_again_on l p (channel_of l p.channel) q
+fault_again l p OwnRestart q = q
+fault_again l p NoSession q = q
+
+fault_role : (role : Role) (l : Layer) (own : Bool) (p : Packet) (v : Bool) → l.role ≡ role → l.phase ≡ phase_of own → NoFaultAt l.phase l p v → NoFaultAt (phase_of own) (record (unread l) { role = role }) p v
+fault_role role l own p true is e q = subst (λ (ph : Phase). is_restart_fault ph p.body ≡ false) e q
+fault_role role l own p false is e q =
+    subst (λ (ph : Phase). is_channel_fault ph (record (unread l) { role = role }) p ≡ false) e
+    (subst (λ (r : Role). is_channel_fault l.phase (record (unread l) { role = r }) p ≡ false) is (fault_again l p l.phase q))
+
 pub arrival_turned : (role : Role) (l : Layer) (own : Bool) (p : Packet) (c : ℕ) (ch : Channel) (ts : List Body) → l.role ≡ role → WellOf (p.channel == 0) (p.channel == c) p.body → l.phase ≡ phase_of own → NoFaultAt l.phase l p (p.channel == 0)
     → FitsAt l.phase ch → length l.owed ≤ 2 → channel_of l c ≡ Some ch → ComesTo role l.phase ch (cond ((p.channel == 0) || (p.channel == c)) (p.body ∷ ts) ts)
     → Turned role l (on_packet l (Received.Whole p)) c ch (cond ((p.channel == 0) || (p.channel == c)) (p.body ∷ ts) ts) ts
@@ -191,32 +206,37 @@ arrival_turned role l own p c ch ts is well e fault f few found h =
     unread_turned role l (on_packet l (Received.Whole p)) c ch (cond ((p.channel == 0) || (p.channel == c)) (p.body ∷ ts) ts) ts
     (subst (λ (r : Role). Turned role (unread l) (cond (p.channel == 0) (restart_packet l.phase p.body (unread l)) (on_channel l.phase (unread l) p.channel (λ q. received r l.window p.channel q p.body))) c ch (cond ((p.channel == 0) || (p.channel == c)) (p.body ∷ ts) ts) ts) (sym is)
     (subst (λ (ph : Phase). Turned role (unread l) (cond (p.channel == 0) (restart_packet ph p.body (unread l)) (on_channel ph (unread l) p.channel (λ q. received role l.window p.channel q p.body))) c ch (cond ((p.channel == 0) || (p.channel == c)) (p.body ∷ ts) ts) ts) (sym e)
-    (arrives_at role (unread l) own p c ch ts (p.channel == 0) (p.channel == c) refl refl well e (fault_role (p.channel == 0) fault) f few found h)))
-  where
-    fault_role : (v : Bool) → NoFaultAt l.phase l p v → NoFaultAt (phase_of own) (record (unread l) { role = role }) p v
-    fault_role true q = subst (λ (ph : Phase). is_restart_fault ph p.body ≡ false) e q
-    fault_role false q =
-        subst (λ (ph : Phase). is_channel_fault ph (record (unread l) { role = role }) p ≡ false) e
-        (subst (λ (r : Role). is_channel_fault l.phase (record (unread l) { role = r }) p ≡ false) is (again l.phase q))
-      where
-        again : (ph : Phase) → is_channel_fault ph l p ≡ false → is_channel_fault ph (record (unread l) { role = l.role }) p ≡ false
-        again PacketReady q = again_on (channel_of l p.channel) q
-          where
-            again_on : (o : Option Channel) → is_fault_on l p o ≡ false → is_fault_on (record (unread l) { role = l.role }) p o ≡ false
-            again_on None q = q
-            again_on (Some ch) q = q
-        again OwnRestart q = q
-        again NoSession q = q
+    (arrives_at role (unread l) own p c ch ts (p.channel == 0) (p.channel == c) refl refl well e (fault_role role l own p (p.channel == 0) is e fault) f few found h)))
 
 -- ---- the limit is not passed
 
-channel_quiet : (role : Role) (l : Layer) (own : Bool) (p : Packet) (o : Option Channel) → channel_of l p.channel ≡ o → restart_kind p.body ≡ Payload → l.phase ≡ phase_of own → is_channel_fault (phase_of own) (record l { role = role }) p ≡ false → l.relink ≡ false
-    → ((ch : Channel) → channel_of l p.channel ≡ Some ch → FitsAt l.phase ch × ((ts : List Body) × ComesTo role l.phase ch (p.body ∷ ts)))
+channel_quiet : (role : Role) (l : Layer) (own : Bool) (p : Packet) (o : Option Channel) → channel_of l p.channel ≡ o → l.phase ≡ phase_of own → is_channel_fault (phase_of own) (record l { role = role }) p ≡ false → l.relink ≡ false
+    → ((ch : Channel) → channel_of l p.channel ≡ Some ch → (restart_kind p.body ≡ Payload) × (FitsAt l.phase ch × ((ts : List Body) × ComesTo role l.phase ch (p.body ∷ ts))))
     → (on_channel (phase_of own) l p.channel (λ q. heard_step role l p q)).relink ≡ false
-channel_quiet role l true p o found plain e fault rl h = rl
-channel_quiet role l false p None found plain e fault rl h = subst (λ (q : Option Channel). (on_found l p.channel (λ z. heard_step role l p z) q).relink ≡ false) (sym found) rl
-channel_quiet role l false p (Some ch) found plain e fault rl h =
+channel_quiet role l true p o found e fault rl h = rl
+channel_quiet role l false p None found e fault rl h = subst (λ (q : Option Channel). (on_found l p.channel (λ z. heard_step role l p z) q).relink ≡ false) (sym found) rl
+channel_quiet role l false p (Some ch) found e fault rl h =
     let q = h ch found in
-    let a = here_acts role l p ch q.1.0 plain e fault q.0 found q.1.1 in
+    let a = here_acts role l p ch q.1.1.0 q.0 e fault q.1.0 found q.1.1.1 in
     subst (λ (z : Option Channel). (on_found l p.channel (λ v. heard_step role l p v) z).relink ≡ false) (sym found)
-    (ap (λ (v : Bool). set_if v l.relink) (acts_limit role l.phase ch (heard_step role l p ch) (p.body ∷ q.1.0) q.1.0 a) ∙ rl)
+    (ap (λ (v : Bool). set_if v l.relink) (acts_limit role l.phase ch (heard_step role l p ch) (p.body ∷ q.1.1.0) q.1.1.0 a) ∙ rl)
+
+-- what is known of the packet: a restart packet, or one of a channel to which it may come
+abbrev pub Known : Role → Layer → Packet → Bool → Type 0
+Known role l p true = IsRestart p.body
+Known role l p false = (ch : Channel) → channel_of l p.channel ≡ Some ch → (restart_kind p.body ≡ Payload) × (FitsAt l.phase ch × ((ts : List Body) × ComesTo role l.phase ch (p.body ∷ ts)))
+
+quiet_at : (role : Role) (l : Layer) (own : Bool) (p : Packet) (v : Bool) → l.phase ≡ phase_of own → NoFaultAt (phase_of own) (record l { role = role }) p v → l.relink ≡ false → length l.owed ≤ 2 → Known role l p v
+    → (cond v (restart_packet (phase_of own) p.body l) (on_channel (phase_of own) l p.channel (λ q. heard_step role l p q))).relink ≡ false
+quiet_at role l own p true e fault rl few k = restart_quiet l own p.body k fault rl few
+quiet_at role l own p false e fault rl few k = channel_quiet role l own p (channel_of l p.channel) refl e fault rl k
+
+known_unread : (role : Role) (l : Layer) (p : Packet) (v : Bool) → Known role l p v → Known role (unread l) p v
+known_unread role l p true k = k
+known_unread role l p false k = k
+
+pub arrival_quiet : (role : Role) (l : Layer) (own : Bool) (p : Packet) → l.role ≡ role → l.phase ≡ phase_of own → NoFaultAt l.phase l p (p.channel == 0) → l.relink ≡ false → length l.owed ≤ 2 → Known role l p (p.channel == 0) → (on_packet l (Received.Whole p)).relink ≡ false
+arrival_quiet role l own p is e fault rl few k =
+    subst (λ (r : Role). (cond (p.channel == 0) (restart_packet l.phase p.body (unread l)) (on_channel l.phase (unread l) p.channel (λ q. received r l.window p.channel q p.body))).relink ≡ false) (sym is)
+    (subst (λ (ph : Phase). (cond (p.channel == 0) (restart_packet ph p.body (unread l)) (on_channel ph (unread l) p.channel (λ q. received role l.window p.channel q p.body))).relink ≡ false) (sym e)
+    (quiet_at role (unread l) own p (p.channel == 0) e (fault_role role l own p (p.channel == 0) is e fault) rl few (known_unread role l p (p.channel == 0) k)))
