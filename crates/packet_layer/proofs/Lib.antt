@@ -34,3 +34,4 @@ pub mod Turning
 pub mod Growing
 pub mod Receiving
 pub mod Handing
+pub mod Calm

@@ -32,7 +32,7 @@ pub on_c_append : (c : ℕ) (xs ys : List Packet) → on_c c (xs ++ ys) ≡ on_c
 on_c_append c [] ys = refl
 on_c_append c (x ∷ xs) ys = joined (belongs c x) x.body (on_c c xs) (on_c c ys) (on_c c (xs ++ ys)) (on_c_append c xs ys)
 
-link_push : (c a : ℕ) (ps : List Packet) (p : Packet) → a ≤ length ps → on_c c (drop a (ps ++ p ∷ [])) ≡ on_c c (drop a ps) ++ on_c c (p ∷ [])
+pub link_push : (c a : ℕ) (ps : List Packet) (p : Packet) → a ≤ length ps → on_c c (drop a (ps ++ p ∷ [])) ≡ on_c c (drop a ps) ++ on_c c (p ∷ [])
 link_push c a ps p le = ap (λ (l : List Packet). on_c c l) (drop-append-le a ps (p ∷ []) le) ∙ on_c_append c (drop a ps) (p ∷ [])
 
 well_push : (c : ℕ) (ps : List Packet) (p : Packet) → AllWell c ps → Well c p → AllWell c (ps ++ p ∷ [])
@@ -100,7 +100,7 @@ pub next_same : (l : Layer) (c : ℕ) → SameLine l (next_packet l).layer c
 next_same l c = next_every (λ (n : Next). SameLine l n.layer c) l (refl, refl, λ t. t, refl) (λ q qs e f. (refl, refl, λ t. t, refl))
     (λ e f d ch q g h. (refl, refl, λ t. nth_there l.channels c d (next_of l.window ch).channel t, nth_length l.channels d (next_of l.window ch).channel))
 
-handed_other : (k s : ℕ) (o : Option Packet) (off : ℕ → List Packet) → (s == k) ≡ false → handed_over k o off s ≡ off s
+pub handed_other : (k s : ℕ) (o : Option Packet) (off : ℕ → List Packet) → (s == k) ≡ false → handed_over k o off s ≡ off s
 handed_other k s None off e = refl
 handed_other k s (Some p) off e = ap (λ (v : Bool). cond v (off s ++ p ∷ []) (off s)) e
 
