@@ -338,7 +338,7 @@ arrives_now w s c p ses got t =
       });
     }
 
-arrives_some : (window : ℕ) (role : Role) (w : Line) (k s c : ℕ) (p : Packet) → w.me.session ≡ Some k → next_of_session w k ≡ Some p → Tied window role w s c → Tied window role (record w { me = accepts k (Some p) w.me }) s c
+pub arrives_some : (window : ℕ) (role : Role) (w : Line) (k s c : ℕ) (p : Packet) → w.me.session ≡ Some k → next_of_session w k ≡ Some p → Tied window role w s c → Tied window role (record w { me = accepts k (Some p) w.me }) s c
 arrives_some window role w k s c p ses got t =
     elim (cases_eq s k) [
       | inl e ↦

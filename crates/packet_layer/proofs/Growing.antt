@@ -68,7 +68,7 @@ pub record Grown (p q : List Body) : Type 0 where
   pub before : p ≡ keep ++ cut
   pub after : q ≡ keep ++ said pushed []
 
-pub same_grown : (p : List Body) → Grown p p
+abbrev pub same_grown : (p : List Body) → Grown p p
 same_grown p = record { keep = p; cut = []; pushed = None; before = sym (append-nil p); after = sym (append-nil p) }
 
 pub record Turned (role : Role) (l l' : Layer) (c : ℕ) (ch : Channel) (before after : List Body) : Type 0 where

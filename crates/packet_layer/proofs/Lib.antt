@@ -35,3 +35,4 @@ pub mod Growing
 pub mod Receiving
 pub mod Handing
 pub mod Calm
+pub mod Calming
