@@ -36,3 +36,5 @@ pub mod Receiving
 pub mod Handing
 pub mod Calm
 pub mod Calming
+pub mod Relinking
+pub mod OwedHolds
