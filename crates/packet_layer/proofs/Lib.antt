@@ -1,4 +1,5 @@
 mod Rows
+mod OwedRows
 pub mod Handshake
 pub mod Walks
 pub mod Stack

@@ -1,5 +1,6 @@
 ghost use Rattle.packet_layer.specs.Counts.{CountsLaw};
 ghost use Rattle.packet_layer.specs.Law.{LineLaw};
+ghost use Rattle.packet_layer.specs.Owed.{OwedLaw};
 
 /// The law of a line, over the definitions of the layer alone: whatever is called at its two ends, whatever timers expire and
 /// however its link's sessions begin and end, what an end takes in an epoch of a call is a prefix of what the other end sent
@@ -13,4 +14,12 @@ pub fn line_law()
 /// place in the epoch its P(S) names, and a P(R) names how many packets were released (X.25 4.4.1).
 pub fn counts_law()
     ensures { CountsLaw }
+{}
+
+/// What is owed between two ends of a line, over the definitions of the layer alone: whatever is called at its two ends,
+/// whatever timers expire and however its link's sessions begin and end, an end owes at most 2 restart packets, and on a
+/// channel at most 4 control packets, at most 3 of them while there is a call. So no end comes to owe a fifth packet: of all
+/// events only an expiry of the restart timer makes a layer ask for a relink, unless its partner is a stranger.
+pub fn owed_law()
+    ensures { OwedLaw }
 {}
