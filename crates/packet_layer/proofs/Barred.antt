@@ -1,5 +1,5 @@
 -- The last packet on its way to an end may come to it: what the other end would have to hear first is not owed any more.
-use Rattle.std.proofs.Common.{◌≡◌, ℕ, ◌+◌, ◌≤◌, ◌⊎◌, Bool, true, false, ◌||◌, List, [], ◌∷◌, ◌++◌, Option, Some, None, refl, sym, ap, subst, ◌∙◌, append-nil, arith, true≢false, inl, inr}
+use Rattle.std.proofs.Common.{◌≡◌, ℕ, ◌+◌, ◌≤◌, Bool, true, false, ◌||◌, List, [], ◌∷◌, ◌++◌, Some, None, refl, sym, ap, subst, ◌∙◌, append-nil, arith, true≢false, inl, inr}
 use Rattle.link_timers.specs.declared.role.Role.{Role}
 use Rattle.link_timers.specs.declared.role.Role.TheVariants.{Dte, Dce}
 use Rattle.link_timers.specs.Role.{other_of}
@@ -7,17 +7,17 @@ use Rattle.packet_layer.specs.Packets.{CallParts, Body}
 use Rattle.packet_layer.specs.Packets.Body.{Call, Accepted, Clear, ClearConfirmation, Data, Interrupt, InterruptConfirmation, ReceiveReady, ReceiveNotReady, Reset, ResetConfirmation, Restart, RestartConfirmation}
 use Rattle.packet_layer.specs.Channel.{CallState}
 use Rattle.packet_layer.specs.Channel.CallState.{Transfer}
-use Rattle.packet_layer.proofs.Handshake.{Kind, Two, AllPayload}
+use Rattle.packet_layer.proofs.Handshake.{Kind, AllPayload}
 use Rattle.packet_layer.proofs.Handshake.Kind.{Payload, Request, Confirmation}
-use Rattle.packet_layer.proofs.SetUp.{Stage, Sort, sort, Pair, Passes, Path, Idle, flows, kept_flow}
+use Rattle.packet_layer.proofs.SetUp.{Stage, Sort, sort, Pair, Passes, Path, Idle, flows}
 use Rattle.packet_layer.proofs.SetUp.Stage.{Free, Placed, Waiting, Collided, Open}
 use Rattle.packet_layer.proofs.SetUp.Sort.{Calling, Accepting, Flowing}
 use Rattle.packet_layer.proofs.OneEpoch.{one, Inner, begun_epoch, Epochs_agree}
-use Rattle.packet_layer.proofs.Nest.{restart_kind, clear_kind, reset_kind, Epochs, CallUse, Uses, Whole, first_epoch, first_call, first_use, GoodEpochs, GoodCall, GoodUses, GoodWhole, whole_ok, whole_heard}
+use Rattle.packet_layer.proofs.Nest.{restart_kind, clear_kind, reset_kind, Epochs, CallUse, Uses, Whole, first_epoch, first_call, first_use, GoodCall, GoodUses, GoodWhole, whole_ok, whole_heard}
 use Rattle.packet_layer.proofs.Face.{face, Settled, SettledUses, SettledWhole}
 use Rattle.packet_layer.proofs.Agreement.{in_state}
-use Rattle.packet_layer.proofs.Counting.{counted, shakes, shakes_append, on_the_way, payload_none, inside}
-use Rattle.packet_layer.proofs.Desk.{is_accepted, has_accepted, resets, Comes, Ended, Fits, ended_none, one_small}
+use Rattle.packet_layer.proofs.Counting.{counted, shakes, shakes_append, on_the_way, inside}
+use Rattle.packet_layer.proofs.Desk.{is_accepted, has_accepted, resets, Comes, Fits, ended_none, one_small}
 
 -- ---- lists
 

@@ -1,25 +1,23 @@
 -- A line at whose ends nobody asks for a relink: what is on the way to each end, with what the other end owes, may all come to it.
-use Rattle.std.proofs.Common.{◌≡◌, ℕ, zero, suc, ◌+◌, ◌<◌, ◌≤◌, Bool, true, false, cond, not, ◌||◌, ◌==◌, List, [], ◌∷◌, ◌++◌, length, drop, slice_get, Option, Some, None, refl, sym, ap, subst, ◌∙◌, append_assoc, append-nil, arith, length-append, true≢false, inl, inr}
+use Rattle.std.proofs.Common.{◌≡◌, ℕ, ◌≤◌, Bool, true, false, cond, not, List, [], ◌∷◌, ◌++◌, length, drop, Option, Some, None, refl, sym, ap, subst, ◌∙◌, append_assoc, append-nil, arith, inl, inr}
 use Rattle.link_timers.specs.declared.role.Role.{Role}
 use Rattle.link_timers.specs.Role.{other_of}
-use Rattle.packet_layer.specs.Packets.{Body, Packet}
+use Rattle.packet_layer.specs.Packets.{Body}
 use Rattle.packet_layer.specs.Packets.Body.{Restart, RestartConfirmation}
 use Rattle.packet_layer.specs.Channel.{CallState, Channel}
 use Rattle.packet_layer.specs.Channel.CallState.{Ready}
-use Rattle.packet_layer.specs.Layer.{Phase, Layer, nth_channel, channel_of}
-use Rattle.packet_layer.specs.Layer.Phase.{NoSession, OwnRestart, PacketReady}
+use Rattle.packet_layer.specs.Layer.{Phase, channel_of}
+use Rattle.packet_layer.specs.Layer.Phase.{NoSession}
 use Rattle.packet_layer.specs.Line.{End, Line, turned, is_session}
 use Rattle.packet_layer.proofs.Handshake.{Kind, Seen, Walk, said}
 use Rattle.packet_layer.proofs.Handshake.Kind.{Payload, Request, Confirmation}
 use Rattle.packet_layer.proofs.Stack.{same}
 use Rattle.packet_layer.proofs.Walks.{walk_reach}
-use Rattle.packet_layer.proofs.OneEpoch.{one}
-use Rattle.packet_layer.proofs.Nest.{restart_kind, Uses, Whole, first_use, begun_whole, GoodUses, GoodWhole}
+use Rattle.packet_layer.proofs.Nest.{restart_kind, Uses, Whole, first_use, GoodUses, GoodWhole}
 use Rattle.packet_layer.proofs.Face.{face, phase_of, shown}
-use Rattle.packet_layer.proofs.Lines.{on_c, IsRestart, AllRestart, Present, EndTie, Tied, There, none_some}
+use Rattle.packet_layer.proofs.Lines.{on_c, IsRestart, AllRestart, EndTie, Tied}
 use Rattle.packet_layer.proofs.Moves.{session_is}
 use Rattle.packet_layer.proofs.Outcomes.{some_same}
-use Rattle.packet_layer.proofs.Consequences.{turned_tied}
 use Rattle.packet_layer.proofs.LineHolds.{Counts}
 use Rattle.packet_layer.proofs.Counting.{counted, shakes, shakes_append, on_the_way}
 use Rattle.packet_layer.proofs.Desk.{Hears, AllCome, all_front, one_small}

@@ -1,5 +1,5 @@
 -- Every event but the expiry of the restart timer keeps a calm line calm.
-use Rattle.std.proofs.Common.{◌≡◌, ℕ, zero, suc, ◌+◌, ◌<◌, ◌≤◌, Bool, true, false, cond, not, ◌&&◌, ◌||◌, ◌==◌, List, [], ◌∷◌, ◌++◌, length, drop, map, slice_get, Option, Some, None, refl, sym, ap, subst, ◌∙◌, append_assoc, append-nil, arith, true≢false, inl, inr}
+use Rattle.std.proofs.Common.{◌≡◌, ℕ, zero, suc, ◌+◌, ◌<◌, ◌≤◌, Bool, true, false, cond, not, ◌||◌, ◌==◌, List, [], ◌∷◌, ◌++◌, length, drop, map, slice_get, Option, Some, None, refl, sym, ap, subst, ◌∙◌, append_assoc, append-nil, arith, true≢false, inl, inr}
 use Rattle.std.proofs.lemmas.Bool.{eq-eqb, eqb-true, ne_eqb, cases_eq}
 use Rattle.std.proofs.lemmas.Option.{slice_get_within}
 use Rattle.link_timers.specs.declared.role.Role.{Role}
@@ -7,8 +7,8 @@ use Rattle.link_timers.specs.Role.{other_of}
 use Rattle.packet_layer.specs.Packets.{CallParts, Body, Packet, Received}
 use Rattle.packet_layer.specs.Packets.Body.{Restart}
 use Rattle.packet_layer.specs.Channel.{CallState, Channel, Request, closed_channel}
-use Rattle.packet_layer.specs.Layer.{Phase, Layer, Next, Timer, nth_channel, channel_of, call, request, on_timer, on_packet, next_packet, link_up, link_down, channel_given, start_cause}
-use Rattle.packet_layer.specs.Layer.Phase.{NoSession, OwnRestart, PacketReady}
+use Rattle.packet_layer.specs.Layer.{Phase, Layer, Next, Timer, nth_channel, channel_of, call, request, on_timer, on_packet, next_packet, link_down, channel_given, start_cause}
+use Rattle.packet_layer.specs.Layer.Phase.{NoSession, OwnRestart}
 use Rattle.packet_layer.specs.History.{Story, call_story, request_story, timer_story}
 use Rattle.packet_layer.specs.Line.{End, Line, Event, turned, happens, told, with_layer, begun, may_begin, is_session, handed_over, offers, accepts, arrives_in, next_of_session}
 use Rattle.packet_layer.specs.Line.Event.{Up, Down, Calls, Requests, Expires, Offers, Arrives}
@@ -16,7 +16,7 @@ use Rattle.packet_layer.specs.Law.{is_restart_fault, is_channel_fault}
 use Rattle.packet_layer.proofs.Handshake.{Walk, said}
 use Rattle.packet_layer.proofs.Stack.{same}
 use Rattle.packet_layer.proofs.Saying.{and_parts, by_cond}
-use Rattle.packet_layer.proofs.Nest.{restart_kind, Whole, begun_whole}
+use Rattle.packet_layer.proofs.Nest.{restart_kind, Whole}
 use Rattle.packet_layer.proofs.Face.{phase_of}
 use Rattle.packet_layer.proofs.Lines.{on_c, WellOf, Tied, There, nth_map, none_some}
 use Rattle.packet_layer.proofs.Moves.{session_is, map_length}
@@ -24,12 +24,12 @@ use Rattle.packet_layer.proofs.Outcomes.{some_same}
 use Rattle.packet_layer.proofs.Offering.{next_same, handed_other, link_push}
 use Rattle.packet_layer.proofs.Arriving.{packet_same, arrives_some, well_get, drop_packet, cond_append}
 use Rattle.packet_layer.proofs.Consequences.{turned_tied}
-use Rattle.packet_layer.proofs.LineHolds.{Counts, happens_tied, happens_count, nth_within, faultless}
+use Rattle.packet_layer.proofs.LineHolds.{happens_tied, happens_count, nth_within, faultless}
 use Rattle.packet_layer.proofs.Desk.{AllCome, all_front}
 use Rattle.packet_layer.proofs.Draining.{FitsIn}
-use Rattle.packet_layer.proofs.Growing.{is_r1, FitsAt, ComesTo, AllFit, Grown, Turned, LayerEvent, OtherTimer, same_grown, call_event, request_event, timer_event}
+use Rattle.packet_layer.proofs.Growing.{is_r1, FitsAt, ComesTo, Grown, Turned, LayerEvent, OtherTimer, same_grown, call_event, request_event, timer_event}
 use Rattle.packet_layer.proofs.Receiving.{NoFaultAt, Known, arrival_turned, arrival_quiet}
-use Rattle.packet_layer.proofs.Handing.{Handed, given, handed}
+use Rattle.packet_layer.proofs.Handing.{given, handed}
 use Rattle.packet_layer.proofs.Calm.{owed_at, pending, linked, way, EndOk, Calm, few_restarts, way_front, InSession, Pushed, way_pushed, begun_comes}
 
 -- ---- channels
@@ -380,9 +380,13 @@ arrives_at channels window role w k p ses0 got m =
     (λ e. subst (λ (v : Bool). WellOf v (p.channel == 1) p.body) e (well 1 (omega arith) m.some))
     (λ e ch found.
     let r = range p.channel ch found in
-    let c : ℕ = p.channel in
-    (subst (λ (v : Bool). WellOf false v p.body) (same c) (subst (λ (v : Bool). WellOf v (c == c) p.body) e (well c r.0 r.1)), (m.me.fits c ch found,
-    (next_way w k c, subst (λ (v : Bool). ComesTo role l.phase ch (cond v (p.body ∷ next_way w k c) (next_way w k c))) (ap (λ (v : Bool). v || (c == c)) e ∙ same c) (came c ch found))))) in
+    let c : ℕ = p.channel in (
+      subst (λ (v : Bool). WellOf false v p.body) (same c) (subst (λ (v : Bool). WellOf v (c == c) p.body) e (well c r.0 r.1)),
+      (
+        m.me.fits c ch found,
+        (next_way w k c, subst (λ (v : Bool). ComesTo role l.phase ch (cond v (p.body ∷ next_way w k c) (next_way w k c))) (ap (λ (v : Bool). v || (c == c)) e ∙ same c) (came c ch found)),
+      ),
+    )) in
     let quiet : l'.relink ≡ false = arrival_quiet role l own p is phase fault m.me.quiet m.me.few known in
     let acc : cond (k == k) (a + 1) a ≡ suc a = ap (λ (v : Bool). cond v (a + 1) a) (same k) ∙ (omega arith) in
     let way' : (c : ℕ) → way (record w { me = e' }) k c ≡ next_way w k c = λ c. ap (λ (j : ℕ). on_c c (drop j (w.you.offered k)) ++ pending w.you k c) acc in

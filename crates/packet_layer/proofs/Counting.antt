@@ -1,9 +1,9 @@
 -- How many packets of a handshake are on their way: as many as ends wait for the other's. And what of a pipe belongs to the present
 -- number.
-use Rattle.std.proofs.Common.{◌≡◌, ℕ, suc, ◌+◌, ◌≤◌, Bool, true, false, cond, ◌==◌, List, [], ◌∷◌, ◌++◌, length, drop, slice_get, Some, refl, sym, ap, subst, ◌∙◌, arith}
+use Rattle.std.proofs.Common.{◌≡◌, ℕ, suc, ◌+◌, ◌≤◌, Bool, true, false, cond, List, [], ◌∷◌, ◌++◌, length, drop, slice_get, Some, refl, sym, ap, subst, ◌∙◌, arith}
 use Rattle.std.proofs.lemmas.Bool.{eq-eqb}
 use Rattle.packet_layer.specs.Packets.{Body}
-use Rattle.packet_layer.proofs.Handshake.{Kind, Side, Two, at, inner, Meets, Seen, Walk, Inv, AllPayload}
+use Rattle.packet_layer.proofs.Handshake.{Kind, Side, Two, at, Meets, Seen, Walk, Inv, AllPayload}
 use Rattle.packet_layer.proofs.Handshake.Kind.{Payload, Request, Confirmation}
 use Rattle.packet_layer.proofs.Walks.{walk_reach}
 use Rattle.packet_layer.proofs.Stack.{drop_get}
@@ -108,8 +108,10 @@ inside kind I start Good x y ks ts b i ready plain all =
     let e : x.number ≡ y.number = omega arith in
     let back : drop (x.came x.number) (y.put x.number) ≡ b ∷ [] = plain_tail kind y.put y.number (b ∷ []) x.number (x.came x.number) (plain, tt) e walk in
     let t = walk_tail kind x.put x.number ks ts y.own y.number (y.came y.number) all (sym e) i.fore.walk in
-    let out : drop (y.came x.number) (x.put x.number) ≡ t.0 ++ ts = ap (λ (k : ℕ). drop (y.came k) (x.put k)) e ∙ t.1 in
-    (t.0, subst (λ (l : List Body). Good (record { me = x.now; you = y.now; out = t.0 ++ ts; back = l })) back
-    (subst (λ (l : List Body). Good (record { me = x.now; you = y.now; out = l; back = drop (x.came x.number) (y.put x.number) })) out
-    (subst (λ (v : I). Good (record { me = x.now; you = v; out = drop (y.came x.number) (x.put x.number); back = drop (x.came x.number) (y.put x.number) })) (at_now y x.number e)
-    (subst (λ (v : I). Good (record { me = v; you = at y x.number; out = drop (y.came x.number) (x.put x.number); back = drop (x.came x.number) (y.put x.number) })) (at_now x x.number refl) (i.inners x.number)))))
+    let out : drop (y.came x.number) (x.put x.number) ≡ t.0 ++ ts = ap (λ (k : ℕ). drop (y.came k) (x.put k)) e ∙ t.1 in (
+      t.0,
+      subst (λ (l : List Body). Good (record { me = x.now; you = y.now; out = t.0 ++ ts; back = l })) back
+          (subst (λ (l : List Body). Good (record { me = x.now; you = y.now; out = l; back = drop (x.came x.number) (y.put x.number) })) out
+          (subst (λ (v : I). Good (record { me = x.now; you = v; out = drop (y.came x.number) (x.put x.number); back = drop (x.came x.number) (y.put x.number) })) (at_now y x.number e)
+          (subst (λ (v : I). Good (record { me = v; you = at y x.number; out = drop (y.came x.number) (x.put x.number); back = drop (x.came x.number) (y.put x.number) })) (at_now x x.number refl) (i.inners x.number)))),
+    )

@@ -1,13 +1,13 @@
 -- A packet put last into the pipe to an end may come to it in its turn: the end, with all packets before it heard, has nothing owed
 -- that bars it.
-use Rattle.std.proofs.Common.{◌≡◌, ℕ, ◌≤◌, Bool, true, false, not, List, [], ◌∷◌, ◌++◌, Option, Some, None, refl, sym, ap, subst, ◌∙◌, append-nil, arith}
+use Rattle.std.proofs.Common.{◌≡◌, ℕ, Bool, true, false, not, List, [], ◌∷◌, ◌++◌, Option, Some, None, refl, sym, subst, append-nil, arith}
 use Rattle.link_timers.specs.declared.role.Role.{Role}
 use Rattle.packet_layer.specs.Packets.{Body}
 use Rattle.packet_layer.specs.Packets.Body.{Restart, RestartConfirmation}
 use Rattle.packet_layer.specs.Channel.{CallState, Channel, Step, received}
 use Rattle.packet_layer.specs.Channel.CallState.{Ready}
-use Rattle.packet_layer.proofs.Handshake.{Kind, said, advanced, confirmed_side, AllPayload, SaysPayload}
-use Rattle.packet_layer.proofs.Handshake.Kind.{Payload, Request, Confirmation}
+use Rattle.packet_layer.proofs.Handshake.{said, advanced, confirmed_side, AllPayload, SaysPayload}
+use Rattle.packet_layer.proofs.Handshake.Kind.{Payload}
 use Rattle.packet_layer.proofs.Nest.{restart_kind, Uses, Whole, first_use, GoodWhole, whole_hears, whole_heard, whole_learns}
 use Rattle.packet_layer.proofs.Face.{face, face_whole, shown, Settled, SettledWhole}
 use Rattle.packet_layer.proofs.Lines.{IsRestart, payload_append, said_append}

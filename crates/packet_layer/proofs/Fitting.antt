@@ -1,17 +1,16 @@
 -- What is owed on a channel keeps its form, whatever comes and whatever the user asks.
-use Rattle.std.proofs.Common.{◌≡◌, ℕ, ◌+◌, ◌≤◌, ◌⊎◌, Bool, true, false, ◌||◌, List, [], ◌∷◌, ◌++◌, length, Option, Some, None, refl, sym, ap, subst, ◌∙◌, arith, true≢false, inl, inr}
+use Rattle.std.proofs.Common.{◌≡◌, ℕ, ◌≤◌, Bool, true, false, ◌||◌, List, [], ◌∷◌, ◌++◌, length, refl, sym, ap, ◌∙◌, arith, true≢false, inl, inr}
 use Rattle.link_timers.specs.declared.role.Role.{Role}
 use Rattle.link_timers.specs.declared.role.Role.TheVariants.{Dte, Dce}
 use Rattle.packet_layer.specs.Packets.{Body}
-use Rattle.packet_layer.specs.Packets.Body.{Call, Accepted, Clear, ClearConfirmation, Data, Interrupt, InterruptConfirmation, ReceiveReady, ReceiveNotReady, Reset, ResetConfirmation, Restart, RestartConfirmation}
+use Rattle.packet_layer.specs.Packets.Body.{Call, Accepted, Clear, ClearConfirmation, Data, Interrupt, InterruptConfirmation, ReceiveReady, ReceiveNotReady, Reset, ResetConfirmation}
 use Rattle.packet_layer.specs.Traffic.{Traffic, Heard, hears}
 use Rattle.packet_layer.specs.Traffic.Heard.{Keeps, Confirms, Wrong}
 use Rattle.packet_layer.specs.Channel.{CallState, Channel, Step, received, after_heard}
 use Rattle.packet_layer.specs.Channel.CallState.{Ready, OwnWaiting, FarWaiting, Transfer, Collision, OwnClear}
 use Rattle.packet_layer.specs.Law.{is_request}
 use Rattle.packet_layer.proofs.Handshake.{said}
-use Rattle.packet_layer.proofs.OneEpoch.{one}
-use Rattle.packet_layer.proofs.Desk.{is_accepted, has_accepted, resets, Comes, IsClear, Ended, AfterAccepted, Resetting, Accepting, Placing, Fits, ended_last, ended_tail, longer_by, none_in, resets_push, comes_map, few_three}
+use Rattle.packet_layer.proofs.Desk.{is_accepted, has_accepted, resets, Comes, IsClear, Ended, Resetting, Placing, Fits, ended_last, longer_by, none_in, resets_push, few_three}
 
 either_true : (v : Bool) → (v || true) ≡ true
 either_true true = refl

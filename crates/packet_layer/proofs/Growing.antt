@@ -1,20 +1,19 @@
 -- What an event of a layer makes of what it owes, and of what may come to it.
-use Rattle.std.proofs.Common.{◌≡◌, ℕ, suc, ◌+◌, ◌≤◌, Bool, true, false, cond, ◌&&◌, ◌==◌, List, [], ◌∷◌, ◌++◌, length, Option, Some, None, refl, sym, ap, subst, ◌∙◌, append_assoc, append-nil, arith, leb-true, true≢false, inl, inr}
+use Rattle.std.proofs.Common.{◌≡◌, ℕ, ◌≤◌, Bool, true, false, ◌&&◌, ◌==◌, List, [], ◌∷◌, ◌++◌, length, Option, Some, None, refl, sym, ap, subst, ◌∙◌, append-nil, arith, leb-true, true≢false, inl, inr}
 use Rattle.std.proofs.lemmas.Bool.{eqb-true, cases_eq}
 use Rattle.link_timers.specs.declared.role.Role.{Role}
 use Rattle.link_timers.specs.declared.role.Role.TheVariants.{Dte, Dce}
 use Rattle.packet_layer.specs.Packets.{CallParts, Body, Reason}
-use Rattle.packet_layer.specs.Packets.Body.{Restart, RestartConfirmation}
+use Rattle.packet_layer.specs.Packets.Body.{Restart}
 use Rattle.packet_layer.specs.Channel.{CallState, Channel, Step, Request, requested, clear_error, closed_channel, in_transfer, error_cause}
 use Rattle.packet_layer.specs.Channel.CallState.{Ready, OwnWaiting, FarWaiting, Transfer, Collision, OwnClear}
 use Rattle.packet_layer.specs.Layer.{Phase, Layer, Timer, channel_of, after_step, owing, on_found, with_owed, passes_limit, set_if, is_full, unread, restarting, all_closed, placing, placed_on, call, channel_given, is_free, is_ready, request, runs, runs_at, expired, on_timer, waits_for_call, waits_for_clear}
-use Rattle.packet_layer.specs.Layer.Phase.{NoSession, OwnRestart, PacketReady}
+use Rattle.packet_layer.specs.Layer.Phase.{NoSession, PacketReady}
 use Rattle.packet_layer.specs.Layer.Timer.{RestartTimer, CallTimer, ResetTimer, ClearTimer}
 use Rattle.packet_layer.proofs.Handshake.{said}
 use Rattle.packet_layer.proofs.Saying.{and_parts, by_cond}
 use Rattle.packet_layer.proofs.Lines.{nth_same, nth_other, nth_map, owed_said, said_append}
 use Rattle.packet_layer.proofs.Outcomes.{Freed, free_is, given_ready, runs_found, some_same}
-use Rattle.packet_layer.proofs.OneEpoch.{one}
 use Rattle.packet_layer.proofs.Desk.{AllCome, Fits, few_three, longer_by}
 use Rattle.packet_layer.proofs.Draining.{FitsIn}
 use Rattle.packet_layer.proofs.Loosening.{all_restarted}

@@ -1,25 +1,22 @@
 -- What is handed to the link was owed, or is traffic where nothing is owed.
-use Rattle.std.proofs.Common.{◌≡◌, ℕ, suc, ◌+◌, ◌≤◌, ◌⊎◌, Bool, true, false, cond, ◌||◌, ◌==◌, List, [], ◌∷◌, ◌++◌, length, Option, Some, None, refl, sym, ap, subst, ◌∙◌, append-nil, arith, true≢false, inl, inr}
+use Rattle.std.proofs.Common.{◌≡◌, ℕ, ◌≤◌, Bool, true, false, cond, ◌||◌, ◌==◌, List, [], ◌∷◌, ◌++◌, length, Option, Some, None, refl, sym, ap, subst, ◌∙◌, arith, true≢false, inl, inr}
 use Rattle.std.proofs.lemmas.Bool.{ne_eqb, cases_eq}
 use Rattle.link_timers.specs.declared.role.Role.{Role}
 use Rattle.packet_layer.specs.Packets.{Body, Packet}
-use Rattle.packet_layer.specs.Packets.Body.{Accepted}
 use Rattle.packet_layer.specs.Traffic.{says}
 use Rattle.packet_layer.specs.Channel.{CallState, Channel, has_flow, moved}
 use Rattle.packet_layer.specs.Channel.CallState.{Ready, OwnWaiting, FarWaiting, Transfer, Collision, OwnClear}
-use Rattle.packet_layer.specs.Layer.{Phase, Layer, Next, ChannelNext, channel_of, with_nth, next_packet, next_of, next_owed, packet_of}
-use Rattle.packet_layer.proofs.Handshake.{Kind, said}
+use Rattle.packet_layer.specs.Layer.{Layer, Next, ChannelNext, channel_of, with_nth, next_packet, next_of, next_owed, packet_of}
+use Rattle.packet_layer.proofs.Handshake.{Kind}
 use Rattle.packet_layer.proofs.Handshake.Kind.{Payload, Request, Confirmation}
-use Rattle.packet_layer.proofs.OneEpoch.{one}
 use Rattle.packet_layer.proofs.Nest.{reset_kind}
-use Rattle.packet_layer.proofs.Saying.{by_cond}
 use Rattle.packet_layer.proofs.Lines.{belongs, on_c, nth_same, nth_other}
 use Rattle.packet_layer.proofs.Outcomes.{some_same}
 use Rattle.packet_layer.proofs.Offering.{Found, next_every, not_restart_channel, one_packet}
 use Rattle.packet_layer.proofs.Counting.{counted}
-use Rattle.packet_layer.proofs.Desk.{is_accepted, has_accepted, resets, AllCome, Ended, AfterAccepted, Placing, Fits, ended_tail, one_small}
+use Rattle.packet_layer.proofs.Desk.{is_accepted, has_accepted, AllCome, AfterAccepted, Placing, Fits, ended_tail}
 use Rattle.packet_layer.proofs.Draining.{FitsIn}
-use Rattle.packet_layer.proofs.Loosening.{NoMore, Emptier, Looser, all_looser}
+use Rattle.packet_layer.proofs.Loosening.{NoMore, Looser, all_looser}
 use Rattle.packet_layer.proofs.Growing.{is_r1, FitsAt, ComesTo, Grown, same_grown}
 
 -- ---- the first packet owed goes

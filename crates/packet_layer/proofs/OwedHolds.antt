@@ -1,30 +1,28 @@
 -- Between two ends of this project the limit on owed packets is never passed.
-use Rattle.std.proofs.Common.{◌≡◌, ℕ, zero, suc, ◌+◌, ◌≤◌, ◌⊎◌, Bool, true, false, cond, ◌==◌, List, [], ◌∷◌, ◌++◌, length, drop, slice_get, replicate, Option, Some, None, refl, sym, ap, subst, ◌∙◌, append-nil, arith, true≢false, inl, inr}
+use Rattle.std.proofs.Common.{◌≡◌, ℕ, zero, suc, ◌≤◌, ◌⊎◌, Bool, true, false, cond, List, [], ◌∷◌, length, slice_get, replicate, Option, Some, None, refl, sym, ap, subst, ◌∙◌, arith, true≢false, inl, inr}
 use Rattle.link_timers.specs.declared.role.Role.{Role}
 use Rattle.link_timers.specs.declared.role.Role.TheVariants.{Dte, Dce}
 use Rattle.link_timers.specs.Role.{other_of}
 use Rattle.packet_layer.specs.Packets.{Body, Packet}
 use Rattle.packet_layer.specs.Channel.{CallState, Channel, closed_channel, entered}
 use Rattle.packet_layer.specs.Channel.CallState.{Ready, OwnWaiting, FarWaiting, Transfer, Collision, OwnClear}
-use Rattle.packet_layer.specs.Layer.{Phase, Layer, Timer, nth_channel, channel_of, next_packet, standing_channels, start_phase}
+use Rattle.packet_layer.specs.Layer.{Layer, nth_channel, standing_channels, start_phase}
 use Rattle.packet_layer.specs.Layer.Timer.{RestartTimer, CallTimer, ResetTimer, ClearTimer}
-use Rattle.packet_layer.specs.Layer.Phase.{NoSession, OwnRestart, PacketReady}
-use Rattle.packet_layer.specs.History.{Story, new_story}
-use Rattle.packet_layer.specs.Line.{End, Line, Event, Happening, turned, happens, after_one, after, start_line, start_end, start_session, is_session, may_begin, begun, offers, accepts, arrives_in, next_of_session}
+use Rattle.packet_layer.specs.Layer.Phase.{NoSession}
+use Rattle.packet_layer.specs.History.{Story}
+use Rattle.packet_layer.specs.Line.{Line, Event, Happening, turned, happens, after_one, after, start_line, start_end, start_session, is_session, may_begin, begun, offers, accepts, arrives_in, next_of_session}
 use Rattle.packet_layer.specs.Line.Event.{Up, Down, Calls, Requests, Expires, Offers, Arrives}
 use Rattle.packet_layer.specs.Line.Happening.{Here, There}
 use Rattle.packet_layer.specs.Owed.{most_owed, is_restart_expiry, unasked, asks, WithinLimit, OwedLaw}
-use Rattle.packet_layer.proofs.Lines.{Tied, none_some}
 use Rattle.packet_layer.proofs.Beginning.{starts_tied}
 use Rattle.packet_layer.proofs.Consequences.{turned_tied}
-use Rattle.packet_layer.proofs.LineHolds.{Counts, start_count}
-use Rattle.packet_layer.proofs.OneEpoch.{one}
+use Rattle.packet_layer.proofs.LineHolds.{start_count}
 use Rattle.packet_layer.proofs.Desk.{Fits, one_small}
 use Rattle.packet_layer.proofs.Draining.{FitsIn}
-use Rattle.packet_layer.proofs.Growing.{is_r1, FitsAt, ComesTo, AllFit, OtherTimer}
-use Rattle.packet_layer.proofs.Calm.{owed_at, pending, linked, way, EndOk, Calm}
+use Rattle.packet_layer.proofs.Growing.{is_r1, FitsAt, ComesTo}
+use Rattle.packet_layer.proofs.Calm.{owed_at, way, EndOk, Calm}
 use Rattle.packet_layer.proofs.Calming.{OtherEvent, happens_calm}
-use Rattle.packet_layer.proofs.Relinking.{bare, settled_bare, retold, Again, instead, happens_again}
+use Rattle.packet_layer.proofs.Relinking.{settled_bare, retold, instead, happens_again}
 
 -- ---- the beginning
 

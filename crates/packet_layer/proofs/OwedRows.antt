@@ -2,12 +2,12 @@
 use Rattle.std.proofs.Common.{◌≡◌, ℕ, zero, suc, true, false, List, [], ◌∷◌, ◌++◌, Option, Some, refl}
 use Rattle.link_timers.specs.declared.role.Role.TheVariants.{Dce}
 use Rattle.packet_layer.specs.Packets.{CallParts, Body, Received}
-use Rattle.packet_layer.specs.Packets.Body.{Call, Accepted, Clear, Reset, ResetConfirmation, Restart, RestartConfirmation}
+use Rattle.packet_layer.specs.Packets.Body.{Call, Accepted, Clear, Reset, Restart}
 use Rattle.packet_layer.specs.Channel.{Channel, CallState}
 use Rattle.packet_layer.specs.Channel.Request.{Accept, Clearing, Resetting}
 use Rattle.packet_layer.specs.Layer.{Layer, channel_of, made, link_up, on_packet}
 use Rattle.packet_layer.specs.Layer.Timer.{RestartTimer, ClearTimer}
-use Rattle.packet_layer.specs.Line.{Line, End, Happening, start_line, after}
+use Rattle.packet_layer.specs.Line.{Line, Happening, start_line, after}
 use Rattle.packet_layer.specs.Line.Happening.{Here, There}
 use Rattle.packet_layer.specs.Line.Event.{Up, Calls, Requests, Expires, Offers, Arrives}
 use Rattle.packet_layer.specs.Owed.{asks}

@@ -1,5 +1,5 @@
 -- What an arriving packet makes of what a layer owes, and of what may come to it next.
-use Rattle.std.proofs.Common.{◌≡◌, ℕ, suc, ◌+◌, ◌≤◌, Bool, true, false, cond, ◌||◌, ◌==◌, List, [], ◌∷◌, ◌++◌, length, Option, Some, None, refl, sym, ap, subst, ◌∙◌, append-nil, arith, true≢false, inl, inr}
+use Rattle.std.proofs.Common.{◌≡◌, ℕ, ◌≤◌, Bool, true, false, cond, ◌||◌, ◌==◌, List, [], ◌∷◌, ◌++◌, length, Option, Some, None, refl, sym, ap, subst, ◌∙◌, arith, true≢false}
 use Rattle.std.proofs.lemmas.Bool.{eqb-true, eqb-false}
 use Rattle.link_timers.specs.declared.role.Role.{Role}
 use Rattle.link_timers.specs.declared.role.Role.TheVariants.{Dte, Dce}
@@ -9,7 +9,7 @@ use Rattle.packet_layer.specs.Traffic.{Traffic, Heard, hears}
 use Rattle.packet_layer.specs.Traffic.Heard.{Keeps, Confirms, Wrong}
 use Rattle.packet_layer.specs.Channel.{CallState, Channel, Step, received, after_heard, closed_channel}
 use Rattle.packet_layer.specs.Channel.CallState.{Ready, OwnWaiting, FarWaiting, Transfer, Collision, OwnClear}
-use Rattle.packet_layer.specs.Layer.{Phase, Layer, channel_of, after_step, on_found, on_channel, restart_packet, on_packet, unread, with_owed, passes_limit, set_if, owes_restart, all_closed}
+use Rattle.packet_layer.specs.Layer.{Phase, Layer, channel_of, on_found, on_channel, restart_packet, on_packet, unread, set_if, owes_restart, all_closed}
 use Rattle.packet_layer.specs.Layer.Phase.{NoSession, OwnRestart, PacketReady}
 use Rattle.packet_layer.specs.Law.{is_request, is_fault_on, is_channel_fault, is_restart_fault}
 use Rattle.packet_layer.proofs.Handshake.{Kind, said}
@@ -17,11 +17,10 @@ use Rattle.packet_layer.proofs.Handshake.Kind.{Payload, Request, Confirmation}
 use Rattle.packet_layer.proofs.Nest.{restart_kind}
 use Rattle.packet_layer.proofs.Face.{phase_of}
 use Rattle.packet_layer.proofs.Lines.{IsRestart, WellOf, nth_map}
-use Rattle.packet_layer.proofs.Outcomes.{some_same}
 use Rattle.packet_layer.proofs.Desk.{Comes, Hears, AllCome, Fits}
 use Rattle.packet_layer.proofs.Fitting.{desk, After, fits_comes, received_comes}
 use Rattle.packet_layer.proofs.Draining.{FitsIn}
-use Rattle.packet_layer.proofs.Growing.{is_r1, FitsAt, ComesTo, Turned, AllFit, ActsAt, same_turned, same_grown, other_turned, act_turned, acts_limit, closed_grown, not_full}
+use Rattle.packet_layer.proofs.Growing.{FitsAt, ComesTo, Turned, ActsAt, same_turned, same_grown, other_turned, act_turned, acts_limit, closed_grown, not_full}
 
 -- ---- a packet of the channel
 

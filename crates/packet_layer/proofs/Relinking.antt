@@ -1,6 +1,6 @@
 -- A line of which the requests for a relink are taken back: what happens to a line happens to it too, as long as only the restart
 -- timer asks for a relink, or nothing does. Stories may differ, which no event reads.
-use Rattle.std.proofs.Common.{◌≡◌, ℕ, Bool, true, false, cond, ◌&&◌, ◌==◌, List, [], ◌∷◌, ◌++◌, Option, Some, None, refl, sym, ap, subst, ◌∙◌, true≢false}
+use Rattle.std.proofs.Common.{◌≡◌, ℕ, Bool, true, false, cond, ◌==◌, Option, Some, None, refl, sym, ap, subst, ◌∙◌}
 use Rattle.packet_layer.specs.Packets.{CallParts, Body, Packet, Received}
 use Rattle.packet_layer.specs.Packets.Body.{Restart, RestartConfirmation}
 use Rattle.packet_layer.specs.Channel.{Channel, Step, Request, requested, received, clear_error}
@@ -8,7 +8,7 @@ use Rattle.packet_layer.specs.Layer.{Phase, Layer, Next, Timer, channel_of, call
 use Rattle.packet_layer.specs.Layer.Phase.{NoSession, OwnRestart, PacketReady}
 use Rattle.packet_layer.specs.Layer.Timer.{RestartTimer, CallTimer, ResetTimer, ClearTimer}
 use Rattle.packet_layer.specs.History.{Story}
-use Rattle.packet_layer.specs.Line.{End, Line, Event, turned, happens, told, with_layer, begun, may_begin, handed_over, offers, accepts, arrives_in, next_of_session}
+use Rattle.packet_layer.specs.Line.{End, Line, Event, happens, begun, may_begin, handed_over, offers, accepts, arrives_in, next_of_session}
 use Rattle.packet_layer.specs.Line.Event.{Up, Down, Calls, Requests, Expires, Offers, Arrives}
 
 -- ---- a layer that does not ask
@@ -111,9 +111,11 @@ offers_again P quiet f g w (Some k) true e before p =
 offers_again P quiet f g w (Some k) false e before p =
     let w0 : Line = retold f g w in
     let n0 : Next = next_packet (bare w.me.layer) in
-    let same : n0 ≡ next_packet w.me.layer = ap (λ (l : Layer). next_packet l) (sym (settled_bare w.me.layer e)) in
-    (f, subst (λ (n : Next). P (retold f g (record w { me = handing w.me k n }))) same
-    (subst (λ (l : Layer). P (record w0 { me = record w0.me { layer = l; offered = handed_over k n0.packet w0.me.offered } })) (settled_bare n0.layer (quiet _ p)) p))
+    let same : n0 ≡ next_packet w.me.layer = ap (λ (l : Layer). next_packet l) (sym (settled_bare w.me.layer e)) in (
+      f,
+      subst (λ (n : Next). P (retold f g (record w { me = handing w.me k n }))) same
+          (subst (λ (l : Layer). P (record w0 { me = record w0.me { layer = l; offered = handed_over k n0.packet w0.me.offered } })) (settled_bare n0.layer (quiet _ p)) p),
+    )
 
 arrives_again : (P : Line → Type 0) → ((w : Line) → P w → w.me.layer.relink ≡ false) → (f g : ℕ → ℕ → Story) (w : Line) (k : ℕ) (o : Option Packet) → P (record (retold f g w) { me = accepts k o (retold f g w).me }) → Again P g (record w { me = accepts k o w.me })
 arrives_again P quiet f g w k None p = (f, p)

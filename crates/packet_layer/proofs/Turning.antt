@@ -1,16 +1,16 @@
 -- What the user asks of a channel, and the expiry of its timers: the form of what is owed is kept, and what may come before may come.
-use Rattle.std.proofs.Common.{◌≡◌, ℕ, ◌+◌, ◌≤◌, ◌⊎◌, Bool, true, false, List, [], ◌∷◌, ◌++◌, length, Option, Some, None, refl, sym, ap, subst, ◌∙◌, arith, true≢false, inl, inr}
+use Rattle.std.proofs.Common.{◌≡◌, ℕ, ◌+◌, ◌≤◌, ◌⊎◌, Bool, true, false, List, [], ◌∷◌, ◌++◌, length, Option, Some, None, refl, sym, ap, subst, arith, inl, inr}
 use Rattle.link_timers.specs.declared.role.Role.{Role}
 use Rattle.link_timers.specs.declared.role.Role.TheVariants.{Dte, Dce}
 use Rattle.packet_layer.specs.Packets.{CallParts, Body}
 use Rattle.packet_layer.specs.Packets.Body.{Call, Accepted, Clear, Reset}
 use Rattle.packet_layer.specs.Traffic.{Traffic}
-use Rattle.packet_layer.specs.Channel.{CallState, Channel, Step, Request, Refusal, requested, refusal, unless, quiet, moved, clear_error}
+use Rattle.packet_layer.specs.Channel.{CallState, Step, Request, Refusal, requested, refusal, unless, quiet, moved, clear_error}
 use Rattle.packet_layer.specs.Channel.CallState.{Ready, OwnWaiting, FarWaiting, Transfer, Collision, OwnClear}
 use Rattle.packet_layer.specs.Channel.Request.{Accept, Clearing, Resetting, Sending, Interrupting, Stopping, Taking, Releasing, Confirming}
 use Rattle.packet_layer.specs.Layer.{placing}
 use Rattle.packet_layer.proofs.Handshake.{said}
-use Rattle.packet_layer.proofs.Desk.{has_accepted, resets, AllCome, AfterAccepted, Placing, Fits, few_three, longer_by, none_in, resets_push}
+use Rattle.packet_layer.proofs.Desk.{resets, AllCome, Placing, Fits, few_three, longer_by, none_in, resets_push}
 use Rattle.packet_layer.proofs.Fitting.{desk, closing}
 use Rattle.packet_layer.proofs.Loosening.{all_looser, Looser}
 use Rattle.packet_layer.proofs.Draining.{FitsIn}
