@@ -89,7 +89,7 @@ present_pending window role e a s c n o t quiet ses =
     p.rest_is quiet ∙ sym (ap (λ (q : Option Channel). e.layer.owed ++ owed_at q) p.channel_is) ∙ sym (ap (λ (v : Bool). cond v (e.layer.owed ++ owed_at (channel_of e.layer c)) []) here)
 
 -- with the other end up, all of it; else a front of it
-pub way_up : (window : ℕ) (role : Role) (w : Line) (s c : ℕ) (t : Tied window role w s c) → w.you.layer.relink ≡ false → w.you.session ≡ Some s → t.b ≡ way w s c
+way_up : (window : ℕ) (role : Role) (w : Line) (s c : ℕ) (t : Tied window role w s c) → w.you.layer.relink ≡ false → w.you.session ≡ Some s → t.b ≡ way w s c
 way_up window role w s c t quiet ses = t.yours.out_is ∙ ap (λ (q : List Body). linked w s c ++ q) (present_pending window (other_of role) w.you (w.me.accepted s) s c t.y t.b t.yours quiet ses)
 
 pub way_front : (window : ℕ) (role : Role) (w : Line) (s c : ℕ) (t : Tied window role w s c) → w.you.layer.relink ≡ false → (more : List Body) × (t.b ≡ way w s c ++ more)
@@ -109,7 +109,7 @@ not_twice : (v : Bool) → v ≡ not (not v)
 not_twice true = refl
 not_twice false = refl
 
-pub tied_push : (window : ℕ) (role : Role) (w : Line) (s c : ℕ) (ch : Channel) (keep : List Body) (b : Body) → Tied window role w s c → w.me.session ≡ Some s → w.you.session ≡ Some s → w.me.layer.relink ≡ false → w.you.layer.relink ≡ false
+tied_push : (window : ℕ) (role : Role) (w : Line) (s c : ℕ) (ch : Channel) (keep : List Body) (b : Body) → Tied window role w s c → w.me.session ≡ Some s → w.you.session ≡ Some s → w.me.layer.relink ≡ false → w.you.layer.relink ≡ false
     → channel_of w.me.layer c ≡ Some ch → FitsAt w.me.layer.phase ch → way w s c ≡ keep ++ b ∷ [] → ComesTo role w.me.layer.phase ch keep → ComesTo role w.me.layer.phase ch (keep ++ b ∷ [])
 tied_push window role w s c ch keep b t here there quiet_me quiet_you found f way_is h =
     let p = t.mine.present here in

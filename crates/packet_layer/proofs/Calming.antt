@@ -39,11 +39,11 @@ slice_some [] i h = let no : ⊥ = omega arith in absurd no
 slice_some (x ∷ xs) zero h = (x, refl)
 slice_some (x ∷ xs) (suc i) h = slice_some xs i (omega arith)
 
-pub there_back : (chs chs' : List Channel) (c : ℕ) (ch : Channel) → length chs' ≡ length chs → nth_channel chs' c ≡ Some ch → (x : Channel) × (nth_channel chs c ≡ Some x)
+there_back : (chs chs' : List Channel) (c : ℕ) (ch : Channel) → length chs' ≡ length chs → nth_channel chs' c ≡ Some ch → (x : Channel) × (nth_channel chs c ≡ Some x)
 there_back chs chs' zero ch e h = absurd cc
 there_back chs chs' (suc i) ch e h = let q = slice_get_within chs' i ch h in slice_some chs i (omega arith)
 
-pub from_one : (chs : List Channel) (c : ℕ) (ch : Channel) → nth_channel chs c ≡ Some ch → 1 ≤ c
+from_one : (chs : List Channel) (c : ℕ) (ch : Channel) → nth_channel chs c ≡ Some ch → 1 ≤ c
 from_one chs zero ch h = absurd cc
 from_one chs (suc i) ch h = omega arith
 

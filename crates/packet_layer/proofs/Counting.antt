@@ -36,7 +36,7 @@ seen_count Request false m c t p n left rest f s = let h = f false (suc m) 0 s i
 seen_count Confirmation true m c t p n left rest f s = let h = f false m c s in omega arith
 seen_count Confirmation false m c t p n left rest f s = absurd s
 
-pub walk_count : (kind : Body → Kind) (p : ℕ → List Body) (n : ℕ) (ts : List Body) (own : Bool) (m c : ℕ) → Walk kind p n own m c ts → m + shakes kind ts ≡ n + one own
+walk_count : (kind : Body → Kind) (p : ℕ → List Body) (n : ℕ) (ts : List Body) (own : Bool) (m c : ℕ) → Walk kind p n own m c ts → m + shakes kind ts ≡ n + one own
 walk_count kind p n [] own m c h = meets_count p n own m c h
 walk_count kind p n (t ∷ ts) own m c h = seen_count (kind t) own m c t p n (shakes kind ts) (λ o i j. Walk kind p n o i j ts) (λ o i j h'. walk_count kind p n ts o i j h') h
 
@@ -55,7 +55,7 @@ drop_all [] c e = ap (λ (k : ℕ). drop {A = Body} k []) e
 drop_all (x ∷ xs) c e = ap (λ (k : ℕ). drop k (x ∷ xs)) e ∙ drop_all xs (length xs) refl
 
 -- heard by an end that does not wait, it is what the sender put and has not come
-pub plain_tail : (kind : Body → Kind) (p : ℕ → List Body) (n : ℕ) (ts : List Body) (m c : ℕ) → AllPayload kind ts → m ≡ n → Walk kind p n false m c ts → drop c (p m) ≡ ts
+plain_tail : (kind : Body → Kind) (p : ℕ → List Body) (n : ℕ) (ts : List Body) (m c : ℕ) → AllPayload kind ts → m ≡ n → Walk kind p n false m c ts → drop c (p m) ≡ ts
 plain_tail kind p n [] m c all e h = drop_all (p m) c (h.1 ∙ ap (λ (k : ℕ). length (p k)) (sym e))
 plain_tail kind p n (t ∷ ts) m c all e h =
     let s = subst (λ (k : Kind). Seen k false m c t p (λ o i j. Walk kind p n o i j ts)) all.0 h in
@@ -65,7 +65,7 @@ plain_tail kind p n (t ∷ ts) m c all e h =
 abbrev pub Tail : List Body → List Body → Type 0
 Tail whole tail = (keep : List Body) × (whole ≡ keep ++ tail)
 
-pub payload_none : (kind : Body → Kind) (ts : List Body) → AllPayload kind ts → shakes kind ts ≡ 0
+payload_none : (kind : Body → Kind) (ts : List Body) → AllPayload kind ts → shakes kind ts ≡ 0
 payload_none kind [] all = refl
 payload_none kind (t ∷ ts) all = let a = ap (λ (k : Kind). counted k) all.0 in let b = payload_none kind ts all.1 in omega arith
 
@@ -89,7 +89,7 @@ seen_tail Confirmation true m c t p n ts rest f g e s = f false c s
 seen_tail Confirmation false m c t p n ts rest f g e s = absurd s
 
 -- a tail of payload, to an end that is in the sender's number, is of that number
-pub walk_tail : (kind : Body → Kind) (p : ℕ → List Body) (n : ℕ) (ks ts : List Body) (own : Bool) (m c : ℕ) → AllPayload kind ts → m ≡ n → Walk kind p n own m c (ks ++ ts) → Tail (drop c (p m)) ts
+walk_tail : (kind : Body → Kind) (p : ℕ → List Body) (n : ℕ) (ks ts : List Body) (own : Bool) (m c : ℕ) → AllPayload kind ts → m ≡ n → Walk kind p n own m c (ks ++ ts) → Tail (drop c (p m)) ts
 walk_tail kind p n [] ts own m c all e h = plain_end kind p n ts own m c all e h
 walk_tail kind p n (k ∷ ks) ts own m c all e h =
     seen_tail (kind k) own m c k p n ts (λ o i j. Walk kind p n o i j (ks ++ ts)) (λ o j h'. walk_tail kind p n ks ts o m j all e h') (λ h'. walk_reach kind p n (ks ++ ts) (suc m) 0 h') e h

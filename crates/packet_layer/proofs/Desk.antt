@@ -151,7 +151,7 @@ resets_push o b = let h = shakes_append reset_kind o (b ∷ []) in omega arith
 
 -- ---- what comes, with another claim after it
 
-pub comes_map : (r : Role) (s : CallState) (rs : Bool) (o : List Body) (t : Body) (rest rest' : CallState → Bool → List Body → Type 0) → ((s' : CallState) (rs' : Bool) (o' : List Body) → rest s' rs' o' → rest' s' rs' o')
+comes_map : (r : Role) (s : CallState) (rs : Bool) (o : List Body) (t : Body) (rest rest' : CallState → Bool → List Body → Type 0) → ((s' : CallState) (rs' : Bool) (o' : List Body) → rest s' rs' o' → rest' s' rs' o')
     → Comes r s rs o t rest → Comes r s rs o t rest'
 comes_map r Ready rs o (Call p) rest rest' f h = (h.0, f FarWaiting rs o h.1)
 comes_map r Ready rs o (Clear x y) rest rest' f h = (h.0, f Ready rs (o ++ ClearConfirmation ∷ []) h.1)
@@ -211,7 +211,7 @@ comes_some X r Transfer rs o (ReceiveNotReady n) rest f h = f Transfer rs o h
 comes_some X r Transfer false o _ rest f h = absurd h
 comes_some X r Transfer true o _ rest f h = absurd h
 
-pub hears_map : (r : Role) (k : Kind) (ready : Bool) (s : CallState) (rs : Bool) (o : List Body) (t : Body) (rest rest' : Bool → CallState → Bool → List Body → Type 0)
+hears_map : (r : Role) (k : Kind) (ready : Bool) (s : CallState) (rs : Bool) (o : List Body) (t : Body) (rest rest' : Bool → CallState → Bool → List Body → Type 0)
     → ((q : Bool) (s' : CallState) (rs' : Bool) (o' : List Body) → rest q s' rs' o' → rest' q s' rs' o') → Hears r k ready s rs o t rest → Hears r k ready s rs o t rest'
 hears_map r Payload true s rs o t rest rest' f h = comes_map r s rs o t (λ s' rs' o'. rest true s' rs' o') (λ s' rs' o'. rest' true s' rs' o') (λ s' rs' o' q. f true s' rs' o' q) h
 hears_map r Payload false s rs o t rest rest' f h = f false s rs o h

@@ -16,10 +16,7 @@ either_true : (v : Bool) → (v || true) ≡ true
 either_true true = refl
 either_true false = refl
 
-accepted_is : (o : List Body) (v : Bool) → has_accepted o ≡ v → has_accepted o ≡ false → v ≡ false
-accepted_is o v e f = sym e ∙ f
-
-pub not_accepting : (rs : Bool) (o : List Body) → Fits Transfer rs o → has_accepted o ≡ false → Resetting rs o
+not_accepting : (rs : Bool) (o : List Body) → Fits Transfer rs o → has_accepted o ≡ false → Resetting rs o
 not_accepting rs o (inl h) e = h
 not_accepting rs o (inr (t, (h, inl q))) e = absurd (true≢false (sym (ap (λ (l : List Body). has_accepted l) q) ∙ e))
 not_accepting rs o (inr (t, (h, inr q))) e = absurd (true≢false (sym (ap (λ (l : List Body). has_accepted l) q.1 ∙ either_true (is_accepted q.0)) ∙ e))
@@ -46,9 +43,6 @@ reset_learnt o f e z =
 
 reset_over : (o : List Body) → Fits Transfer true o → has_accepted o ≡ false → resets o ≤ 1 → Fits Transfer false o
 reset_over o f e z = let g = not_accepting true o f e in let a = g.short in inl (record { no_acceptance = e; short = a; few = omega arith })
-
-not_ready : {X : Type 0} → (s : CallState) → (s ≡ Ready → ⊥) → s ≡ Ready → X
-not_ready s f e = absurd (f e)
 
 few_own : (o : List Body) → Placing o → length o ≤ 3
 few_own o h = let a = h.short in omega arith

@@ -21,7 +21,7 @@ use Rattle.packet_layer.proofs.Turning.{Acts, MayEnd, request_acts, clear_acts, 
 
 -- ---- how much is owed
 
-pub fits_four : (ready : Bool) (s : CallState) (rs : Bool) (o : List Body) → FitsIn ready s rs o → length o ≤ 4
+fits_four : (ready : Bool) (s : CallState) (rs : Bool) (o : List Body) → FitsIn ready s rs o → length o ≤ 4
 fits_four false s rs o f = let l = ap (λ (q : List Body). length q) f.2 in omega arith
 fits_four true Ready false o f = f.0
 fits_four true OwnClear false o f = f.0
@@ -95,7 +95,7 @@ same_turned role l l' c ch ts ph ow found f = record {
   grown = subst (λ (q : List Body). Grown (l.owed ++ ch.owed) (q ++ ch.owed)) (sym ow) (same_grown (l.owed ++ ch.owed));
 }
 
-pub same_event : (role : Role) (l : Layer) → l.relink ≡ false → AllFit l → LayerEvent role l l
+same_event : (role : Role) (l : Layer) → l.relink ≡ false → AllFit l → LayerEvent role l l
 same_event role l rl fits = record { quiet = rl; idle = λ e. (e, refl); turned = λ c ch ts found. same_turned role l l c ch ts refl refl found (fits c ch found) }
 
 -- ---- a step of a channel
@@ -146,7 +146,7 @@ found_at role l d F (Some ch) rl fits e acts = record {
   turned = λ c q ts found. step_turned role l d ch (F ch) fits e (λ us. acts ch e us) c q ts found;
 }
 
-pub found_event : (role : Role) (l : Layer) (d : ℕ) (F : Channel → Step) → l.relink ≡ false → AllFit l → ((ch : Channel) → channel_of l d ≡ Some ch → (ts : List Body) → ActsAt role l.phase ch (F ch) ts ts) → LayerEvent role l (on_found l d F (channel_of l d))
+found_event : (role : Role) (l : Layer) (d : ℕ) (F : Channel → Step) → l.relink ≡ false → AllFit l → ((ch : Channel) → channel_of l d ≡ Some ch → (ts : List Body) → ActsAt role l.phase ch (F ch) ts ts) → LayerEvent role l (on_found l d F (channel_of l d))
 found_event role l d F rl fits acts = found_at role l d F (channel_of l d) rl fits refl acts
 
 -- ---- a request, a call
@@ -200,7 +200,7 @@ closed_grown owed owed_c b few = record {
   after = append-nil (with_owed owed (Some b)) ∙ owed_said owed (Some b) (not_full owed (omega arith));
 }
 
-pub restart_event : (role : Role) (l : Layer) (cause diagnostic : ℕ) (reason : Reason) → l.phase ≡ PacketReady → l.relink ≡ false → length l.owed ≤ 2 → LayerEvent role l (restarting cause diagnostic (all_closed reason l))
+restart_event : (role : Role) (l : Layer) (cause diagnostic : ℕ) (reason : Reason) → l.phase ≡ PacketReady → l.relink ≡ false → length l.owed ≤ 2 → LayerEvent role l (restarting cause diagnostic (all_closed reason l))
 restart_event role l cause diagnostic reason ready rl few = record {
   quiet = ap (λ (v : Bool). set_if v l.relink) (not_full l.owed (omega arith)) ∙ rl;
   idle = λ h. absurd (apart (sym ready ∙ h));

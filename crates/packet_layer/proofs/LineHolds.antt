@@ -98,7 +98,7 @@ pub nth_within : (chs : List Channel) (d : ℕ) (ch : Channel) → nth_channel c
 nth_within chs zero ch e = omega arith
 nth_within chs (suc i) ch e = let h = slice_get_within chs i ch e in omega arith
 
-pub not_zero : (d : ℕ) → (d == 0) ≡ false → 1 ≤ d
+not_zero : (d : ℕ) → (d == 0) ≡ false → 1 ≤ d
 not_zero zero e = absurd (true≢false e)
 not_zero (suc d) e = omega arith
 

@@ -194,19 +194,6 @@ all_looser r s rs o s' rs' o' [] l h = tt
 all_looser r s rs o s' rs' o' (t ∷ ts) l h =
     loose_hears r (restart_kind t) s rs o s' rs' o' t (λ q a b c. AllCome r q a b c ts) (λ q a b c. AllCome r q a b c ts) (λ a b c a' b' c' l' h'. all_looser r a b c a' b' c' ts l' h') (λ h'. h') l h
 
--- ---- an end that is not in r1
-
-outside_hears : (r : Role) (q : Kind) (s : CallState) (rs : Bool) (o : List Body) (s' : CallState) (rs' : Bool) (o' : List Body) (t : Body) (rest : Bool → CallState → Bool → List Body → Type 0)
-    → (rest false s rs o → rest false s' rs' o') → Hears r q false s rs o t rest → Hears r q false s' rs' o' t rest
-outside_hears r Payload s rs o s' rs' o' t rest f h = f h
-outside_hears r Request s rs o s' rs' o' t rest f h = h
-outside_hears r Confirmation s rs o s' rs' o' t rest f h = h
-
--- its desk does not matter
-pub all_outside : (r : Role) (s : CallState) (rs : Bool) (o : List Body) (s' : CallState) (rs' : Bool) (o' ts : List Body) → AllCome r false s rs o ts → AllCome r false s' rs' o' ts
-all_outside r s rs o s' rs' o' [] h = tt
-all_outside r s rs o s' rs' o' (t ∷ ts) h = outside_hears r (restart_kind t) s rs o s' rs' o' t (λ q a b c. AllCome r q a b c ts) (λ h'. all_outside r s rs o s' rs' o' ts h') h
-
 restarted_hears : (r : Role) (q : Kind) (s : CallState) (rs : Bool) (o : List Body) (t : Body) (rest : Bool → CallState → Bool → List Body → Type 0)
     → ((a : CallState) (b : Bool) (c : List Body) → rest true a b c → rest false Ready false []) → Hears r q true s rs o t rest → Hears r q false Ready false [] t rest
 restarted_hears r Payload s rs o t rest f h = comes_some (rest false Ready false []) r s rs o t (λ a b c. rest true a b c) f h
