@@ -26,6 +26,9 @@ Owes _ state owed = ⊥
 abbrev set_up : List Happening
 set_up = Here (Up 1) ∷ There (Up 1) ∷ Here Offers ∷ There Offers ∷ Here Arrives ∷ There Arrives ∷ []
 
+placed : Owes (channel_of (run (set_up ++ Here (Calls (parts (1 ∷ []))) ∷ [])).me.layer 1) CallState.OwnWaiting (Call (parts (1 ∷ [])) ∷ [])
+placed = (refl, refl)
+
 -- two calls collide at the DCE before it hands over its own, it accepts the DTE's, resets and clears
 abbrev collided : List Happening
 collided = set_up ++ Here (Calls (parts (1 ∷ []))) ∷ There (Calls (parts (2 ∷ []))) ∷ Here Offers ∷ There Arrives ∷ []

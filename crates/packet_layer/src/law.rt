@@ -16,10 +16,11 @@ pub fn counts_law()
     ensures { CountsLaw }
 {}
 
-/// What is owed between two ends of a line, over the definitions of the layer alone: whatever is called at its two ends,
-/// whatever timers expire and however its link's sessions begin and end, an end owes at most 2 restart packets, and on a
-/// channel at most 4 control packets, at most 3 of them while there is a call. So no end comes to owe a fifth packet: of all
-/// events only an expiry of the restart timer makes a layer ask for a relink, unless its partner is a stranger.
+/// How much is owed between two ends of a line, over the definitions of the layer alone: whatever is called at its two ends,
+/// whatever timers expire and however its link's sessions begin and end, an end owes at most 2 restart packets, and on each
+/// channel at most 4 control packets: 3 in a call, 1 where it placed a call that is not answered. So the limit of 4 is never
+/// passed, and of all events only an expiry of the restart timer makes an end ask for a relink: a fifth owed packet is for
+/// strangers.
 pub fn owed_law()
     ensures { OwedLaw }
 {}
