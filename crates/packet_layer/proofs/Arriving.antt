@@ -37,7 +37,7 @@ own_path x v e = ap (λ (o : Bool). record x { own = o }) e
 
 -- ---- a restart packet
 
-confirm_good : (window : ℕ) (role : Role) (x y : Whole) (o ts : List Body) (t : Body) → IsRestart t → x.own ≡ true → GoodWhole window role (record { me = x; you = y; out = o; back = t ∷ ts })
+pub confirm_good : (window : ℕ) (role : Role) (x y : Whole) (o ts : List Body) (t : Body) → IsRestart t → x.own ≡ true → GoodWhole window role (record { me = x; you = y; out = o; back = t ∷ ts })
     → GoodWhole window role (record { me = confirmed_side x; you = y; out = o; back = ts })
 confirm_good window role x y o ts (Restart a d) r e g =
     subst (λ (v : Bool). GoodWhole window role (does (record { me = x; you = y; out = o; back = ts }) (side_hears RestartConfirmation first_use (λ s t. uses_hear window role s t) Request v x (Restart a d)))) e
@@ -47,7 +47,7 @@ confirm_good window role x y o ts RestartConfirmation r e g =
     (whole_heard window role (record { me = x; you = y; out = o; back = [] }) RestartConfirmation ts g).1
 confirm_good window role x y o ts _ r e g = absurd r
 
-settled_first : (s : Uses) → s ≡ first_use → SettledWhole false s
+pub settled_first : (s : Uses) → s ≡ first_use → SettledWhole false s
 settled_first s e = subst (λ (v : Uses). SettledWhole false v) (sym e) tt
 
 confirms_restart : (window : ℕ) (role : Role) (x y : Whole) (link b ts rest : List Body) (l : Layer) (c : ℕ) (t : Body) → IsRestart t → x.own ≡ true
@@ -128,7 +128,7 @@ restart_arrives window role x y link ts rest l c _ own r e g s p = absurd r
 
 -- ---- a packet of the channel
 
-discard_good : (window : ℕ) (role : Role) (x y : Whole) (o ts : List Body) (t : Body) → restart_kind t ≡ Payload → x.own ≡ true → GoodWhole window role (record { me = x; you = y; out = o; back = t ∷ ts })
+pub discard_good : (window : ℕ) (role : Role) (x y : Whole) (o ts : List Body) (t : Body) → restart_kind t ≡ Payload → x.own ≡ true → GoodWhole window role (record { me = x; you = y; out = o; back = t ∷ ts })
     → GoodWhole window role (record { me = x; you = y; out = o; back = ts })
 discard_good window role x y o ts t k e g =
     subst (λ (v : Bool). GoodWhole window role (does (record { me = x; you = y; out = o; back = ts }) (side_hears RestartConfirmation first_use (λ s t. uses_hear window role s t) Payload v x t))) e
@@ -139,7 +139,7 @@ says_payload : (window : ℕ) (role : Role) (own : Bool) (x : Whole) (t : Body) 
 says_payload window role true x t = tt
 says_payload window role false x t = uses_say (λ o. handshake.SaysPayload restart_kind o) tt refl refl window role x.now t
 
-says_plain : (window : ℕ) (role : Role) (x : Whole) (t : Body) → restart_kind t ≡ Payload → handshake.SaysPayload restart_kind (whole_hears window role x t).says
+pub says_plain : (window : ℕ) (role : Role) (x : Whole) (t : Body) → restart_kind t ≡ Payload → handshake.SaysPayload restart_kind (whole_hears window role x t).says
 says_plain window role x t k = subst (λ (q : Kind). handshake.SaysPayload restart_kind (side_hears RestartConfirmation first_use (λ s b. uses_hear window role s b) q x.own x t).says) (sym k) (says_payload window role x.own x t)
 
 pub ties_of : (window : ℕ) (role : Role) (x y : Whole) (o ts : List Body) (c : ℕ) (owed : List Body) (t : Body) → restart_kind t ≡ Payload → x.own ≡ false → Settled x
@@ -338,7 +338,7 @@ arrives_now w s c p ses got t =
       });
     }
 
-arrives_some : (window : ℕ) (role : Role) (w : Line) (k s c : ℕ) (p : Packet) → w.me.session ≡ Some k → next_of_session w k ≡ Some p → Tied window role w s c → Tied window role (record w { me = accepts k (Some p) w.me }) s c
+pub arrives_some : (window : ℕ) (role : Role) (w : Line) (k s c : ℕ) (p : Packet) → w.me.session ≡ Some k → next_of_session w k ≡ Some p → Tied window role w s c → Tied window role (record w { me = accepts k (Some p) w.me }) s c
 arrives_some window role w k s c p ses got t =
     elim (cases_eq s k) [
       | inl e ↦

@@ -1,4 +1,5 @@
 mod Rows
+mod OwedRows
 pub mod Handshake
 pub mod Walks
 pub mod Stack
@@ -24,3 +25,17 @@ pub mod Calling
 pub mod Consequences
 pub mod LineHolds
 pub mod Naming
+pub mod Counting
+pub mod Desk
+pub mod Fitting
+pub mod Loosening
+pub mod Barred
+pub mod Draining
+pub mod Turning
+pub mod Growing
+pub mod Receiving
+pub mod Handing
+pub mod Calm
+pub mod Calming
+pub mod Relinking
+pub mod OwedHolds

@@ -22,7 +22,7 @@ use Rattle.packet_layer.proofs.Consequences.{turned_tied, tied_holds, restart_fa
 
 -- ---- every event keeps the ties
 
-happens_tied : (window : ℕ) (role : Role) (e : Event) (w : Line) (s c : ℕ) → Tied window role w s c → Tied window role (happens e w) s c
+pub happens_tied : (window : ℕ) (role : Role) (e : Event) (w : Line) (s c : ℕ) → Tied window role w s c → Tied window role (happens e w) s c
 happens_tied window role (Up k) w s c t = up_tied window role w k s c t
 happens_tied window role Down w s c t = down_tied window role w s c t
 happens_tied window role (Calls parts) w s c t = calls_tied window role w s c parts t
@@ -47,7 +47,7 @@ all_tied window role (h ∷ hs) w s c t = all_tied window role hs (after_one h w
 
 -- ---- the number of channels stays
 
-abbrev Counts : ℕ → Line → Type 0
+abbrev pub Counts : ℕ → Line → Type 0
 Counts n w = (length w.me.layer.channels ≡ n) × (length w.you.layer.channels ≡ n)
 
 offers_count : (o : Option ℕ) (e : End) → length (offers o e).layer.channels ≡ length e.layer.channels
@@ -62,7 +62,7 @@ arrives_count : (n : ℕ) (o : Option ℕ) (w : Line) → Counts n w → Counts 
 arrives_count n None w h = h
 arrives_count n (Some s) w h = (accepts_count s (next_of_session w s) w.me ∙ h.0, h.1)
 
-happens_count : (n : ℕ) (e : Event) (w : Line) → Counts n w → Counts n (happens e w)
+pub happens_count : (n : ℕ) (e : Event) (w : Line) → Counts n w → Counts n (happens e w)
 happens_count n (Up k) w h = by_cond (λ (v : Line). Counts n v) (may_begin k w) (record w { me = begun k w.me }) w (λ e. (map_length w.me.layer.channels ∙ h.0, h.1)) (λ e. h)
 happens_count n Down w h = (map_length w.me.layer.channels ∙ h.0, h.1)
 happens_count n (Calls parts) w h = ((placed_same w.me.layer 0 parts (channel_given w.me.layer w.me.layer.phase)).3 ∙ h.0, h.1)
@@ -88,13 +88,13 @@ standing_length true [] = refl
 standing_length true (x ∷ chs) = refl
 standing_length false chs = refl
 
-start_count : (channels window : ℕ) (standing : Bool) → Counts channels (start_line channels window standing)
+pub start_count : (channels window : ℕ) (standing : Bool) → Counts channels (start_line channels window standing)
 start_count channels window standing =
     let e = standing_length standing (replicate channels closed_channel) ∙ replicate_length channels in (e, e)
 
 -- ---- the law
 
-nth_within : (chs : List Channel) (d : ℕ) (ch : Channel) → nth_channel chs d ≡ Some ch → d ≤ length chs
+pub nth_within : (chs : List Channel) (d : ℕ) (ch : Channel) → nth_channel chs d ≡ Some ch → d ≤ length chs
 nth_within chs zero ch e = omega arith
 nth_within chs (suc i) ch e = let h = slice_get_within chs i ch e in omega arith
 
@@ -111,7 +111,7 @@ none_fault : (l : Layer) (p : Packet) (found : Option Channel) → ((ch : Channe
 none_fault l p (Some ch) h e = h ch refl
 none_fault l p None h e = no_channel l p e l.phase
 
-faultless : (channels window : ℕ) (role : Role) (w : Line) → 1 ≤ channels → length w.me.layer.channels ≡ channels → ((s c : ℕ) → 1 ≤ c → c ≤ channels → Tied window role w s c) → NoFault w
+pub faultless : (channels window : ℕ) (role : Role) (w : Line) → 1 ≤ channels → length w.me.layer.channels ≡ channels → ((s c : ℕ) → 1 ≤ c → c ≤ channels → Tied window role w s c) → NoFault w
 faultless channels window role w some count tied s p ses got =
     fault_at (p.channel == 0) refl
   where

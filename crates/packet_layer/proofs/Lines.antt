@@ -140,7 +140,7 @@ pub said_append : (xs ys : List Body) (o : Option Body) → said o (xs ++ ys) �
 said_append xs ys None = refl
 said_append xs ys (Some b) = append_assoc xs ys (b ∷ [])
 
-payload_append : (xs : List Body) (b : Body) → AllPayload restart_kind xs → restart_kind b ≡ Rattle.packet_layer.proofs.Handshake.Kind.Payload → AllPayload restart_kind (xs ++ b ∷ [])
+pub payload_append : (xs : List Body) (b : Body) → AllPayload restart_kind xs → restart_kind b ≡ Rattle.packet_layer.proofs.Handshake.Kind.Payload → AllPayload restart_kind (xs ++ b ∷ [])
 payload_append [] b a e = (e, tt)
 payload_append (x ∷ xs) b a e = (a.0, payload_append xs b a.1 e)
 

@@ -32,7 +32,7 @@ pub on_c_append : (c : ℕ) (xs ys : List Packet) → on_c c (xs ++ ys) ≡ on_c
 on_c_append c [] ys = refl
 on_c_append c (x ∷ xs) ys = joined (belongs c x) x.body (on_c c xs) (on_c c ys) (on_c c (xs ++ ys)) (on_c_append c xs ys)
 
-link_push : (c a : ℕ) (ps : List Packet) (p : Packet) → a ≤ length ps → on_c c (drop a (ps ++ p ∷ [])) ≡ on_c c (drop a ps) ++ on_c c (p ∷ [])
+pub link_push : (c a : ℕ) (ps : List Packet) (p : Packet) → a ≤ length ps → on_c c (drop a (ps ++ p ∷ [])) ≡ on_c c (drop a ps) ++ on_c c (p ∷ [])
 link_push c a ps p le = ap (λ (l : List Packet). on_c c l) (drop-append-le a ps (p ∷ []) le) ∙ on_c_append c (drop a ps) (p ∷ [])
 
 well_push : (c : ℕ) (ps : List Packet) (p : Packet) → AllWell c ps → Well c p → AllWell c (ps ++ p ∷ [])
@@ -47,7 +47,7 @@ within_push a ps p le = let e = length-append ps (p ∷ []) in omega arith
 abbrev Becomes : Line → ℕ → Next → Line
 Becomes w k n = record w { me = record w.me { layer = n.layer; offered = handed_over k n.packet w.me.offered } }
 
-abbrev Found : (Next → Type 0) → Layer → Type 0
+abbrev pub Found : (Next → Type 0) → Layer → Type 0
 Found P l = (d : ℕ) (ch : Channel) (q : Body) → channel_of l d ≡ Some ch → (next_of l.window ch).body ≡ Some q → P (record { layer = record l { channels = with_nth l.channels d (next_of l.window ch).channel; served_last = d }; packet = packet_of d (next_of l.window ch).body })
 
 has_body : (o : Option Body) → is_some o ≡ true → (q : Body) × (o ≡ Some q)
@@ -88,7 +88,7 @@ next_all P l PacketReady false [] e f none restart some = serve_all P l none (so
 next_all P l OwnRestart false (q ∷ qs) e f none restart some = restart q qs e f
 next_all P l PacketReady false (q ∷ qs) e f none restart some = restart q qs e f
 
-next_every : (P : Next → Type 0) (l : Layer) → P (record { layer = l; packet = None })
+pub next_every : (P : Next → Type 0) (l : Layer) → P (record { layer = l; packet = None })
     → ((q : Body) (qs : List Body) → l.relink ≡ false → l.owed ≡ q ∷ qs → P (record { layer = record l { owed = qs }; packet = packet_of 0 (Some q) }))
     → (l.relink ≡ false → l.owed ≡ [] → Found P l)
     → P (next_packet l)
@@ -100,7 +100,7 @@ pub next_same : (l : Layer) (c : ℕ) → SameLine l (next_packet l).layer c
 next_same l c = next_every (λ (n : Next). SameLine l n.layer c) l (refl, refl, λ t. t, refl) (λ q qs e f. (refl, refl, λ t. t, refl))
     (λ e f d ch q g h. (refl, refl, λ t. nth_there l.channels c d (next_of l.window ch).channel t, nth_length l.channels d (next_of l.window ch).channel))
 
-handed_other : (k s : ℕ) (o : Option Packet) (off : ℕ → List Packet) → (s == k) ≡ false → handed_over k o off s ≡ off s
+pub handed_other : (k s : ℕ) (o : Option Packet) (off : ℕ → List Packet) → (s == k) ≡ false → handed_over k o off s ≡ off s
 handed_other k s None off e = refl
 handed_other k s (Some p) off e = ap (λ (v : Bool). cond v (off s ++ p ∷ []) (off s)) e
 
@@ -151,7 +151,7 @@ offers_restart window role w s c t pr q qs e f =
     t.mine.settled t.mine.story t.mine.still
     (record { phase_is = pr.phase_is; owed = pr.owed; channel_is = pr.channel_is; plain = pr.plain; restarts = restarts.1; rest_is = λ h. refl })
 
-not_restart_channel : (l : Layer) (d : ℕ) (ch : Channel) → channel_of l d ≡ Some ch → (d == 0) ≡ false
+pub not_restart_channel : (l : Layer) (d : ℕ) (ch : Channel) → channel_of l d ≡ Some ch → (d == 0) ≡ false
 not_restart_channel l zero ch e = absurd cc
 not_restart_channel l (suc d) ch e = ne_eqb (suc d) 0 (λ h. omega arith)
 
@@ -171,7 +171,7 @@ offers_other window role w s c t pr d ch' q nz ne =
     t.mine.settled t.mine.story t.mine.still
     (record { phase_is = pr.phase_is; owed = pr.owed; channel_is = nth_other l.channels c d ch' ne ∙ pr.channel_is; plain = pr.plain; restarts = pr.restarts; rest_is = pr.rest_is })
 
-one_packet : (c : ℕ) (q : Body) → on_c c (record { channel = c; body = q } ∷ []) ≡ q ∷ []
+pub one_packet : (c : ℕ) (q : Body) → on_c c (record { channel = c; body = q } ∷ []) ≡ q ∷ []
 one_packet c q = ap (λ (v : Bool). cond v (q ∷ []) []) (either_same (c == 0))
   where
     either_same : (v : Bool) → (v || (c == c)) ≡ true

@@ -136,7 +136,7 @@ restart_outcome window role x y link b rest l c cause diagnostic reason ready g 
 
 -- ---- a call placed
 
-abbrev Freed : List Channel → ℕ → Type 0
+abbrev pub Freed : List Channel → ℕ → Type 0
 Freed chs d = (ch : Channel) × ((nth_channel chs d ≡ Some ch) × (is_free ch ≡ true))
 
 freed_up : (x : Channel) (xs : List Channel) (d : ℕ) → Freed xs d → Freed (x ∷ xs) (suc d)
@@ -166,7 +166,7 @@ highest_is : (chs : List Channel) (d : ℕ) → highest_free chs ≡ Some d → 
 highest_is [] d e = absurd cc
 highest_is (x ∷ xs) d e = either_split (raised (highest_free xs)) (itself_if (is_free x)) d (λ h. freed_raised x xs (highest_free xs) d (λ k q. highest_is xs k q) h) (λ h. freed_first x xs (is_free x) d refl h) e
 
-free_is : (role : Role) (chs : List Channel) (d : ℕ) → free_channel role chs ≡ Some d → Freed chs d
+pub free_is : (role : Role) (chs : List Channel) (d : ℕ) → free_channel role chs ≡ Some d → Freed chs d
 free_is Dte chs d e = highest_is chs d e
 free_is Dce chs d e = lowest_is chs d e
 
@@ -182,7 +182,7 @@ pub ready_phase : (own : Bool) → phase_of own ≡ PacketReady → own ≡ fals
 ready_phase true e = absurd cc
 ready_phase false e = refl
 
-given_ready : (l : Layer) (ph : Phase) (d : ℕ) → channel_given l ph ≡ Some d → (ph ≡ PacketReady) × (free_channel l.role l.channels ≡ Some d)
+pub given_ready : (l : Layer) (ph : Phase) (d : ℕ) → channel_given l ph ≡ Some d → (ph ≡ PacketReady) × (free_channel l.role l.channels ≡ Some d)
 given_ready l PacketReady d e = (refl, e)
 given_ready l OwnRestart d e = absurd cc
 given_ready l NoSession d e = absurd cc
@@ -247,7 +247,7 @@ clear_any window role true own s rs n owed cause diagnostic test r never e l = a
 clear_any window role false true s rs n owed cause diagnostic test r never e l = absurd (true≢false (sym e ∙ never))
 clear_any window role false false s rs n owed cause diagnostic test r never e l = clear_act window role s rs n owed cause diagnostic l
 
-runs_found : (test : Channel → Bool) (ph : Phase) (found : Option Channel) → runs_at test ph found ≡ true → (ph ≡ PacketReady) × ((ch : Channel) × ((found ≡ Some ch) × (test ch ≡ true)))
+pub runs_found : (test : Channel → Bool) (ph : Phase) (found : Option Channel) → runs_at test ph found ≡ true → (ph ≡ PacketReady) × ((ch : Channel) × ((found ≡ Some ch) × (test ch ≡ true)))
 runs_found test PacketReady (Some ch) e = (refl, (ch, (refl, e)))
 runs_found test PacketReady None e = absurd (true≢false (sym e))
 runs_found test OwnRestart found e = absurd (true≢false (sym e))

@@ -6,3 +6,4 @@ pub mod History
 pub mod Counts
 pub mod Line
 pub mod Law
+pub mod Owed

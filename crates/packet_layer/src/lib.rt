@@ -4,4 +4,4 @@
 
 mod law;
 
-pub use law::{counts_law, line_law};
+pub use law::{counts_law, line_law, owed_law};
