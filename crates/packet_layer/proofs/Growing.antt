@@ -13,7 +13,7 @@ use Rattle.packet_layer.specs.Layer.Timer.{RestartTimer, CallTimer, ResetTimer, 
 use Rattle.packet_layer.proofs.Handshake.{said}
 use Rattle.packet_layer.proofs.Saying.{and_parts, by_cond}
 use Rattle.packet_layer.proofs.Lines.{nth_same, nth_other, nth_map, owed_said, said_append}
-use Rattle.packet_layer.proofs.Outcomes.{Freed, free_is, given_ready, runs_found, some_same}
+use Rattle.packet_layer.proofs.Outcomes.{Freed, free_is, given_ready, runs_found, runs_unread, some_same}
 use Rattle.packet_layer.proofs.Desk.{AllCome, Fits, few_three, longer_by}
 use Rattle.packet_layer.proofs.Draining.{FitsIn}
 use Rattle.packet_layer.proofs.Loosening.{all_restarted}
@@ -269,6 +269,5 @@ expired_event role l (ClearTimer d) other run is rl fits few =
 
 pub timer_event : (role : Role) (l : Layer) (t : Timer) → OtherTimer t → l.role ≡ role → l.relink ≡ false → AllFit l → length l.owed ≤ 2 → LayerEvent role l (on_timer l t)
 timer_event role l t other is rl fits few =
-    unread_event role l (on_timer l t)
-    (by_cond (λ (k : Layer). LayerEvent role (unread l) k) (runs (unread l) t) (expired (unread l) t) (unread l)
-    (λ e. expired_event role (unread l) t other e is rl fits few) (λ e. same_event role (unread l) rl fits))
+    by_cond (λ (k : Layer). LayerEvent role l k) (runs l t) (expired (unread l) t) l
+    (λ e. unread_event role l (expired (unread l) t) (expired_event role (unread l) t other (runs_unread l t ∙ e) is rl fits few)) (λ e. same_event role l rl fits)

@@ -296,7 +296,7 @@ expired_outcome window role x y link b rest l c (ClearTimer d) run g s p =
     restart_outcome window role x y link b rest l c (error_cause l.role 1) 0 Reason.LocalFault
     (ready_phase x.own (sym p.phase_is ∙ (runs_found (λ ch. waits_for_clear ch.state) l.phase (channel_of l d) run).0)) g p
 
-runs_unread : (l : Layer) (t : Timer) → runs (unread l) t ≡ runs l t
+pub runs_unread : (l : Layer) (t : Timer) → runs (unread l) t ≡ runs l t
 runs_unread l RestartTimer = refl
 runs_unread l (CallTimer c) = refl
 runs_unread l (ResetTimer c) = refl

@@ -3,10 +3,10 @@ use Rattle.std.proofs.Common.{◌≡◌, ℕ, zero, suc, ◌≤◌, ◌⊎◌, B
 use Rattle.link_timers.specs.declared.role.Role.{Role}
 use Rattle.link_timers.specs.declared.role.Role.TheVariants.{Dte, Dce}
 use Rattle.link_timers.specs.Role.{other_of}
-use Rattle.packet_layer.specs.Packets.{Body, Packet}
-use Rattle.packet_layer.specs.Channel.{CallState, Channel, closed_channel, entered}
+use Rattle.packet_layer.specs.Packets.{CallParts, Body, Packet, Note}
+use Rattle.packet_layer.specs.Channel.{CallState, Channel, Step, closed_channel, entered, requested}
 use Rattle.packet_layer.specs.Channel.CallState.{Ready, OwnWaiting, FarWaiting, Transfer, Collision, OwnClear}
-use Rattle.packet_layer.specs.Layer.{Layer, nth_channel, standing_channels, start_phase}
+use Rattle.packet_layer.specs.Layer.{Layer, Timer, Next, nth_channel, channel_of, standing_channels, start_phase, set_if, passes_limit, runs, on_timer, on_found, channel_given, placed_on, placing, next_packet}
 use Rattle.packet_layer.specs.Layer.Timer.{RestartTimer, CallTimer, ResetTimer, ClearTimer}
 use Rattle.packet_layer.specs.Layer.Phase.{NoSession}
 use Rattle.packet_layer.specs.History.{Story}
@@ -22,7 +22,7 @@ use Rattle.packet_layer.proofs.Draining.{FitsIn}
 use Rattle.packet_layer.proofs.Growing.{is_r1, FitsAt, ComesTo}
 use Rattle.packet_layer.proofs.Calm.{owed_at, way, EndOk, Calm}
 use Rattle.packet_layer.proofs.Calming.{OtherEvent, happens_calm}
-use Rattle.packet_layer.proofs.Relinking.{settled_bare, retold, instead, happens_again}
+use Rattle.packet_layer.proofs.Relinking.{bare, settled_bare, next_renoted, retold, instead, happens_again}
 
 -- ---- the beginning
 
@@ -110,10 +110,10 @@ turned_calm channels window role w k = record {
 
 -- a line that is calm but for its requests for a relink
 abbrev Calmed : ℕ → ℕ → Role → Line → Type 0
-Calmed channels window role w = (f : ℕ → ℕ → Story) × ((g : ℕ → ℕ → Story) × Calm channels window role (retold f g w))
+Calmed channels window role w = (f : ℕ → ℕ → Story) × ((g : ℕ → ℕ → Story) × ((n : List Note) × ((m : List Note) × Calm channels window role (retold f g n m w))))
 
 turned_calmed : (channels window : ℕ) (role : Role) (w : Line) → Calmed channels window role w → Calmed channels window (other_of role) (turned w)
-turned_calmed channels window role w m = (m.1.0, (m.0, turned_calm channels window role (retold m.0 m.1.0 w) m.1.1))
+turned_calmed channels window role w m = (m.1.0, (m.0, (m.1.1.1.0, (m.1.1.0, turned_calm channels window role (retold m.0 m.1.0 m.1.1.0 m.1.1.1.0 w) m.1.1.1.1))))
 
 other_instead : (event : Event) → OtherEvent (instead event)
 other_instead (Expires RestartTimer) = tt
@@ -129,8 +129,10 @@ other_instead Arrives = tt
 
 happens_calmed : (channels window : ℕ) (role : Role) (event : Event) (w : Line) → Calmed channels window role w → Calmed channels window role (happens event w)
 happens_calmed channels window role event w m =
-    let r = happens_again (λ v. Calm channels window role v) (λ v k. k.me.quiet) m.0 m.1.0 event w m.1.1 (happens_calm channels window role (instead event) (retold m.0 m.1.0 w) (other_instead event) m.1.1) in
-    (r.0, (m.1.0, r.1))
+    let other : List Note = m.1.1.1.0 in
+    let line : Line = retold m.0 m.1.0 m.1.1.0 other w in
+    let r = happens_again (λ v. Calm channels window role v) (λ v k. k.me.quiet) m.0 m.1.0 m.1.1.0 other event w m.1.1.1.1 (happens_calm channels window role (instead event) line (other_instead event) m.1.1.1.1) in
+    (r.0, (m.1.0, (r.1.0, (other, r.1.1))))
 
 one_calmed : (channels window : ℕ) (role : Role) (h : Happening) (w : Line) → Calmed channels window role w → Calmed channels window role (after_one h w)
 one_calmed channels window role (Here e) w m = happens_calmed channels window role e w m
@@ -175,31 +177,54 @@ other_event (Requests d r) e = tt
 other_event Offers e = tt
 other_event Arrives e = tt
 
--- no event reads the stories
-up_asks : (f g : ℕ → ℕ → Story) (w : Line) (k : ℕ) (v : Bool) → (cond v (record (retold f g w) { me = begun k (retold f g w).me }) (retold f g w)).me.layer.relink ≡ (cond v (record (unasked w) { me = begun k (unasked w).me }) (unasked w)).me.layer.relink
-up_asks f g w k true = refl
-up_asks f g w k false = refl
+-- no event reads the stories or the notes
+up_asks : (f g : ℕ → ℕ → Story) (n m : List Note) (w : Line) (k : ℕ) (v : Bool) → (cond v (record (retold f g n m w) { me = begun k (retold f g n m w).me }) (retold f g n m w)).me.layer.relink ≡ (cond v (record (unasked w) { me = begun k (unasked w).me }) (unasked w)).me.layer.relink
+up_asks f g n m w k true = refl
+up_asks f g n m w k false = refl
 
-offers_asks : (f g : ℕ → ℕ → Story) (w : Line) (o : Option ℕ) → (offers o (retold f g w).me).layer.relink ≡ (offers o (unasked w).me).layer.relink
-offers_asks f g w None = refl
-offers_asks f g w (Some k) = refl
+next_relink : (n : List Note) (l : Layer) → (next_packet (bare n l)).layer.relink ≡ (next_packet (record l { relink = false })).layer.relink
+next_relink n l =
+    let quiet : Layer = record l { relink = false } in
+    ap (λ (x : Next). x.layer.relink) (next_renoted n quiet refl) ∙ sym (ap (λ (x : Next). x.layer.relink) (next_renoted l.notes quiet refl))
 
-accepts_asks : (f g : ℕ → ℕ → Story) (w : Line) (k : ℕ) (o : Option Packet) → (accepts k o (retold f g w).me).layer.relink ≡ (accepts k o (unasked w).me).layer.relink
-accepts_asks f g w k None = refl
-accepts_asks f g w k (Some p) = refl
+offers_asks : (f g : ℕ → ℕ → Story) (n m : List Note) (w : Line) (o : Option ℕ) → (offers o (retold f g n m w).me).layer.relink ≡ (offers o (unasked w).me).layer.relink
+offers_asks f g n m w None = refl
+offers_asks f g n m w (Some k) = next_relink n w.me.layer
 
-arrives_asks : (f g : ℕ → ℕ → Story) (w : Line) (o : Option ℕ) → (arrives_in o (retold f g w)).me.layer.relink ≡ (arrives_in o (unasked w)).me.layer.relink
-arrives_asks f g w None = refl
-arrives_asks f g w (Some k) = accepts_asks f g w k (next_of_session w k)
+accepts_asks : (f g : ℕ → ℕ → Story) (n m : List Note) (w : Line) (k : ℕ) (o : Option Packet) → (accepts k o (retold f g n m w).me).layer.relink ≡ (accepts k o (unasked w).me).layer.relink
+accepts_asks f g n m w k None = refl
+accepts_asks f g n m w k (Some p) = refl
 
-asks_same : (f g : ℕ → ℕ → Story) (event : Event) (w : Line) → (happens event (retold f g w)).me.layer.relink ≡ asks event w
-asks_same f g (Up k) w = up_asks f g w k (may_begin k w)
-asks_same f g Down w = refl
-asks_same f g (Calls parts) w = refl
-asks_same f g (Requests d r) w = refl
-asks_same f g (Expires t) w = refl
-asks_same f g Offers w = offers_asks f g w w.me.session
-asks_same f g Arrives w = arrives_asks f g w w.me.session
+arrives_asks : (f g : ℕ → ℕ → Story) (n m : List Note) (w : Line) (o : Option ℕ) → (arrives_in o (retold f g n m w)).me.layer.relink ≡ (arrives_in o (unasked w)).me.layer.relink
+arrives_asks f g n m w None = refl
+arrives_asks f g n m w (Some k) = accepts_asks f g n m w k (next_of_session w k)
+
+found_asks : (a b : Layer) (d : ℕ) (F : Channel → Step) (found : Option Channel) → a.relink ≡ b.relink → (on_found a d F found).relink ≡ (on_found b d F found).relink
+found_asks a b d F None e = e
+found_asks a b d F (Some ch) e = ap (λ (v : Bool). set_if (passes_limit (F ch).channel.owed (F ch).owes) v) e
+
+call_relink : (n : List Note) (l : Layer) (parts : CallParts) (o : Option ℕ) → (placed_on (bare n l) parts o).relink ≡ (placed_on (record l { relink = false }) parts o).relink
+call_relink n l parts None = refl
+call_relink n l parts (Some d) = found_asks (bare n l) (record l { relink = false }) d (λ ch. placing parts ch) (channel_of l d) refl
+
+cond_asks : (v : Bool) (a b c d : Layer) → a.relink ≡ c.relink → b.relink ≡ d.relink → (cond v a b).relink ≡ (cond v c d).relink
+cond_asks true a b c d p q = p
+cond_asks false a b c d p q = q
+
+timer_asks : (n : List Note) (l : Layer) (t : Timer) → (on_timer (bare n l) t).relink ≡ (on_timer (record l { relink = false }) t).relink
+timer_asks n l RestartTimer = cond_asks (runs l RestartTimer) _ _ _ _ refl refl
+timer_asks n l (CallTimer d) = cond_asks (runs l (CallTimer d)) _ _ _ _ refl refl
+timer_asks n l (ResetTimer d) = cond_asks (runs l (ResetTimer d)) _ _ _ _ refl refl
+timer_asks n l (ClearTimer d) = cond_asks (runs l (ClearTimer d)) _ _ _ _ refl refl
+
+asks_same : (f g : ℕ → ℕ → Story) (n m : List Note) (event : Event) (w : Line) → (happens event (retold f g n m w)).me.layer.relink ≡ asks event w
+asks_same f g n m (Up k) w = up_asks f g n m w k (may_begin k w)
+asks_same f g n m Down w = refl
+asks_same f g n m (Calls parts) w = call_relink n w.me.layer parts (channel_given w.me.layer w.me.layer.phase)
+asks_same f g n m (Requests d r) w = found_asks (bare n w.me.layer) (record w.me.layer { relink = false }) d (λ ch. requested w.me.layer.role ch r) (channel_of w.me.layer d) refl
+asks_same f g n m (Expires t) w = timer_asks n w.me.layer t
+asks_same f g n m Offers w = offers_asks f g n m w w.me.session
+asks_same f g n m Arrives w = arrives_asks f g n m w w.me.session
 
 asked : (event : Event) (w : Line) (v : Bool) → w.me.layer.relink ≡ v → asks event w ≡ false → (happens event w).me.layer.relink ≡ true → w.me.layer.relink ≡ true
 asked event w true e none h = e
@@ -210,10 +235,10 @@ asked event w false e none h =
 within_limit : (channels window : ℕ) (role : Role) (w : Line) → Calmed channels window role w → WithinLimit w
 within_limit channels window role w m =
     let none : (event : Event) → is_restart_expiry event ≡ false → asks event w ≡ false = λ event e.
-    sym (asks_same m.0 m.1.0 event w) ∙ (happens_calm channels window role event (retold m.0 m.1.0 w) (other_event event e) m.1.1).me.quiet in
+    sym (asks_same m.0 m.1.0 m.1.1.0 m.1.1.1.0 event w) ∙ (happens_calm channels window role event (retold m.0 m.1.0 m.1.1.0 m.1.1.1.0 w) (other_event event e) m.1.1.1.1).me.quiet in
     record {
-      restarts = m.1.1.me.few;
-      controls = λ c ch found. fits_in_most (is_r1 w.me.layer.phase) ch.state ch.resetting ch.owed (m.1.1.me.fits c ch found);
+      restarts = m.1.1.1.1.me.few;
+      controls = λ c ch found. fits_in_most (is_r1 w.me.layer.phase) ch.state ch.resetting ch.owed (m.1.1.1.1.me.fits c ch found);
       no_limit_passed = none;
       asked_before = λ event e h. asked event w w.me.layer.relink refl (none event e) h;
     }
@@ -222,5 +247,5 @@ pub owed_holds : OwedLaw
 owed_holds channels window standing some small hs =
     let w : Line = after hs (start_line channels window standing) in
     let m = all_calmed channels window Dte hs (start_line channels window standing)
-    ((start_line channels window standing).me.stories, ((start_line channels window standing).you.stories, start_calm channels window standing some small)) in
+    ((start_line channels window standing).me.stories, ((start_line channels window standing).you.stories, ([], ([], start_calm channels window standing some small)))) in
     (within_limit channels window Dte w m, within_limit channels window Dce (turned w) (turned_calmed channels window Dte w m))
