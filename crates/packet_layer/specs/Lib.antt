@@ -6,3 +6,9 @@ pub mod History
 pub mod Counts
 pub mod Line
 pub mod Law
+pub mod Octets
+pub mod TakenView
+pub mod TrafficView
+pub mod HeardView
+pub mod ControlView
+pub mod NoteView

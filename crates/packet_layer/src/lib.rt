@@ -2,6 +2,16 @@
 //! (X.25 sections 3 to 5).
 #![tactic(auto)]
 
+mod control;
+mod heard;
 mod law;
+mod note;
+mod taken;
+mod traffic;
+mod user_data;
+mod write;
 
 pub use law::{counts_law, line_law};
+pub use note::{LayerNote, Reason};
+pub use taken::{Front, Taken};
+pub use user_data::{InterruptData, UserData};
