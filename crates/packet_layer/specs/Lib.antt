@@ -12,3 +12,9 @@ pub mod TrafficView
 pub mod HeardView
 pub mod ControlView
 pub mod NoteView
+pub mod StateView
+pub mod Effects
+pub mod EffectView
+pub mod ChannelView
+pub mod RequestView
+pub mod Answers

@@ -2,15 +2,20 @@
 //! (X.25 sections 3 to 5).
 #![tactic(auto)]
 
+mod channel;
 mod control;
+mod effect;
+mod fault;
 mod heard;
 mod law;
 mod note;
+mod state;
 mod taken;
 mod traffic;
 mod user_data;
 mod write;
 
+pub use fault::{CallFault, ChannelFault, MakeFault};
 pub use law::{counts_law, line_law};
 pub use note::{LayerNote, Reason};
 pub use taken::{Front, Taken};
