@@ -1,5 +1,5 @@
 //! Packets from the link, by the state of the call (X.25 tables C-3 and C-4).
-ghost use Rattle.std.specs.Prelude.{◌≡◌, ◌≤◌, true};
+ghost use Rattle.std.specs.Prelude.{◌≡◌, ◌≤◌, true, false};
 ghost use Rattle.packet_codec.specs.Packet.{IsPacket};
 ghost use Rattle.packet_codec.specs.View.{view, content_view};
 ghost use Rattle.packet_layer.specs.Packets.{Body as body};
@@ -46,10 +46,10 @@ impl Channel {
         ensures effect { result ≡ effect_of (machine.in_ready end.role end.channel self.old
             (body_of (content_view packet.now.content))) }
     {
-        match packet.content {
+        match &packet.content {
             Content::CallRequest(call) => {
                 self.state = CallState::FarWaiting;
-                Effect::noting(LayerNote::Incoming(end.channel, CallBuf::new(&call)))
+                Effect::noting(LayerNote::Incoming(end.channel, CallBuf::new(call)))
             }
             Content::ClearRequest { .. } => Effect::owing(Control::ClearConfirmation),
             _ => self.clear_error(end, 20, false),
@@ -65,7 +65,7 @@ impl Channel {
         ensures effect { result ≡ effect_of (machine.in_own_waiting end.role end.channel self.old
             (body_of (content_view packet.now.content))) }
     {
-        match packet.content {
+        match &packet.content {
             Content::CallAccepted => {
                 self.state = CallState::Transfer;
                 Effect::noting(LayerNote::Connected(end.channel))
@@ -82,11 +82,13 @@ impl Channel {
                             diagnostic: 0,
                             reason: Reason::Cancelled,
                         }),
-                        second: Some(LayerNote::Incoming(end.channel, CallBuf::new(&call))),
+                        second: Some(LayerNote::Incoming(end.channel, CallBuf::new(call))),
                     },
                 }
             }
-            Content::ClearRequest { cause, diagnostic } => self.far_cleared(end, cause, diagnostic),
+            Content::ClearRequest { cause, diagnostic } => {
+                self.far_cleared(end, *cause, *diagnostic)
+            }
             _ => self.not_allowed(end),
         }
     }
@@ -109,14 +111,15 @@ impl Channel {
         ensures effect { result ≡ effect_of (machine.in_collision end.role end.channel self.old
             (body_of (content_view packet.now.content))) }
     {
-        match (packet.content, end.role) {
-            (Content::CallAccepted, Role::Dte) => {
-                self.state = CallState::Transfer;
-                Effect::noting(LayerNote::Connected(end.channel))
-            }
-            (Content::ClearRequest { cause, diagnostic }, _) => {
-                self.far_cleared(end, cause, diagnostic)
-            }
+        match packet.content {
+            Content::CallAccepted => match end.role {
+                Role::Dte => {
+                    self.state = CallState::Transfer;
+                    Effect::noting(LayerNote::Connected(end.channel))
+                }
+                Role::Dce => self.not_allowed(end),
+            },
+            Content::ClearRequest { cause, diagnostic } => self.far_cleared(end, cause, diagnostic),
             _ => self.not_allowed(end),
         }
     }
