@@ -18,3 +18,9 @@ pub mod EffectView
 pub mod ChannelView
 pub mod RequestView
 pub mod Answers
+pub mod Params
+pub mod RestartView
+pub mod LayerView
+pub mod Events
+pub mod TimerView
+pub mod Free

@@ -1,7 +1,7 @@
 -- Packets and their octets: what the layer hears of received octets, and the octets in which a packet goes to the link.
-use Rattle.std.specs.Prelude.{ℕ, List, Option, Some, None, Result, Ok, Err}
+use Rattle.std.specs.Prelude.{ℕ, Bool, true, false, List, Option, Some, None, Result, Ok, Err}
 use Rattle.packet_codec.specs.declared.fault.PacketFault.{PacketFault}
-use Rattle.packet_codec.specs.declared.fault.PacketFault.TheVariants.{TooShort, BadFormatId, UnknownType}
+use Rattle.packet_codec.specs.declared.fault.PacketFault.TheVariants.{TooShort, BadFormatId, UnknownType, BadLength, BadAddress, DataTooLong}
 use Rattle.packet_codec.specs.Packet.{PacketValue, ContentValue, CallValue, DataValue, spelling}
 use Rattle.packet_codec.specs.Packet.{ContentValue as content}
 use Rattle.packet_codec.specs.Reading.{reading, named_channel}
@@ -62,16 +62,19 @@ written channel (Some b) old = spelling (record { channel = channel; content = c
 -- ---- octets from the link. Too few octets and another format are ignored; an unknown type and the other faults count as a
 -- packet that the state of the channel does not allow
 
-abbrev pub unreadable_on : (ℕ → Received) → Option ℕ → Option Received
-unreadable_on f None = None
-unreadable_on f (Some channel) = Some (f channel)
+abbrev pub unreadable_as : Bool → Option ℕ → Option Received
+unreadable_as unknown None = None
+unreadable_as true (Some channel) = Some (Received.Unknown channel)
+unreadable_as false (Some channel) = Some (Received.Faulty channel)
 
 abbrev pub heard_by : List ℕ → Result PacketValue PacketFault → Option Received
 heard_by octets (Ok p) = Some (Received.Whole (record { channel = p.channel; body = body_of p.content }))
 heard_by octets (Err TooShort) = None
 heard_by octets (Err BadFormatId) = None
-heard_by octets (Err UnknownType) = unreadable_on Received.Unknown (named_channel octets)
-heard_by octets (Err _) = unreadable_on Received.Faulty (named_channel octets)
+heard_by octets (Err UnknownType) = unreadable_as true (named_channel octets)
+heard_by octets (Err BadLength) = unreadable_as false (named_channel octets)
+heard_by octets (Err BadAddress) = unreadable_as false (named_channel octets)
+heard_by octets (Err DataTooLong) = unreadable_as false (named_channel octets)
 
 abbrev pub heard : List ℕ → Option Received
 heard octets = heard_by octets (reading octets)

@@ -2,6 +2,8 @@
 use Rattle.packet_layer.specs.Channel as spec
 use Rattle.packet_layer.specs.declared.channel.requests.Request.{Request}
 use Rattle.packet_layer.specs.declared.channel.requests.Request.TheVariants as request
+use Rattle.packet_layer.specs.declared.fault.CallFault.{CallFault}
+use Rattle.packet_layer.specs.declared.fault.CallFault.TheVariants as call_fault
 use Rattle.packet_layer.specs.declared.fault.ChannelFault.{ChannelFault}
 use Rattle.packet_layer.specs.declared.fault.ChannelFault.TheVariants as fault
 
@@ -21,3 +23,7 @@ refusal_of fault.Resetting = spec.Refusal.IsResetting
 refusal_of fault.QueueFull = spec.Refusal.QueueFull
 refusal_of fault.TooLong = spec.Refusal.TooLong
 refusal_of fault.InterruptPending = spec.Refusal.InterruptPending
+
+abbrev pub call_refusal_of : CallFault → spec.Refusal
+call_refusal_of call_fault.NotReady = spec.Refusal.NotReady
+call_refusal_of call_fault.NoChannel = spec.Refusal.NoChannel

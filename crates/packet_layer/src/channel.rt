@@ -46,6 +46,7 @@ impl Model for Channel {
 }
 
 impl Channel {
+    ghost use Rattle.link_timers.specs.declared.role.Role.{Role};
     ghost use Rattle.packet_layer.specs.Traffic as traffic;
     ghost use Rattle.packet_layer.specs.TakenView.{maybe_taken, maybe_front};
     ghost use Rattle.packet_layer.specs.Effects.{outcome_of};
@@ -129,8 +130,11 @@ impl Channel {
     /// Takes the interrupt that waits, or else the first packet.
     pub(crate) fn take(&mut self) -> Option<Taken>
         ensures taken { maybe_taken result ≡ traffic.front self.old.traffic }
-        ensures channel { self.new ≡ machine.moved (traffic.taking self.old.traffic) self.old }
+        ensures channel { (role : Role) → self.new ≡ layer.owing (machine.requested role self.old machine.Request.Taking) }
     {
+        if !self.state.in_transfer() {
+            return None;
+        }
         self.traffic.take()
     }
 
