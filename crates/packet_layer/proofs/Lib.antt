@@ -24,3 +24,7 @@ pub mod Calling
 pub mod Consequences
 pub mod LineHolds
 pub mod Naming
+pub mod Places
+pub mod FreeChannels
+pub mod Closed
+pub mod Serving

@@ -1,4 +1,5 @@
 //! One logical channel (X.25 4, tables C-1 to C-4).
+ghost use Rattle.std.specs.Bool.{OnFalse};
 ghost use Rattle.std.specs.Prelude.{◌≡◌, ◌<◌, ◌≤◌, IfOk, Some, is_some, ◌-◌, ◌==◌, ◌&&◌, true, if◌then◌else◌, length};
 ghost use Rattle.packet_layer.specs.Channel as machine;
 ghost use Rattle.packet_layer.specs.Layer as layer;
@@ -152,6 +153,7 @@ impl Channel {
         ensures channel { self.new ≡ (layer.next_of window self.old).channel }
         ensures said { result ≡ is_some (layer.next_of window self.old).body }
         ensures octets { buf.new.items ≡ written channel (layer.next_of window self.old).body buf.old.items }
+        ensures same { OnFalse result (self.new ≡ self.old) }
     {
         if self.owed.next_packet(channel, buf) {
             return true;

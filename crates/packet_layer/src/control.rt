@@ -1,4 +1,5 @@
 //! Control packets that are owed to the link.
+ghost use Rattle.std.specs.Bool.{OnFalse};
 ghost use Rattle.std.specs.Prelude.{◌≡◌, ◌<◌, [], ◌==◌, length, is_some};
 ghost use Rattle.packet_layer.specs.Layer.{with_owed, passes_limit};
 ghost use Rattle.packet_layer.specs.Octets.{written};
@@ -102,6 +103,7 @@ impl Owed {
         ensures said { result ≡ is_some (first_of self.old) }
         ensures owed { self.new ≡ rest_of self.old }
         ensures octets { buf.new.items ≡ written channel (first_of self.old) buf.old.items }
+        ensures same { OnFalse result (self.new ≡ self.old) }
     {
         if self.packets.is_empty() {
             return false;

@@ -1,5 +1,5 @@
 //! What a user asks of the calls of a line (X.25 4.1 to 4.4).
-ghost use Rattle.std.specs.Prelude.{◌≡◌, ◌<◌, ◌≤◌, ◌+◌, true, Some, None, MatchResult, MatchOption, length};
+ghost use Rattle.std.specs.Prelude.{◌≡◌, ◌<◌, ◌≤◌, ◌+◌, true, false, Some, None, MatchResult, MatchOption, length};
 ghost use Rattle.packet_codec.specs.Packet.{IsCallValue};
 ghost use Rattle.packet_codec.specs.View.{call_view};
 ghost use Rattle.packet_layer.specs.Channel.{Request as asked};
@@ -90,10 +90,15 @@ impl Layer {
         };
         let role = self.role;
         let channel = &mut self.channels[place];
-        if channel.request(role, request)? {
-            self.relink = true;
+        match channel.request(role, request) {
+            Ok(relink) => {
+                if relink {
+                    self.relink = true;
+                }
+                Ok(())
+            }
+            Err(fault) => Err(fault),
         }
-        Ok(())
     }
 
     /// Accepts the call that came in on the channel (X.25 4.1.5).

@@ -1,5 +1,6 @@
 //! What goes to the link in data transfer: the interrupt confirmation, the interrupt, data within the window, RR or RNR where
 //! P(R) or the stop state was not told (X.25 4.3, 4.4).
+ghost use Rattle.std.specs.Bool.{OnFalse};
 ghost use Rattle.std.specs.Prelude.{◌≡◌, ◌<◌, ◌≤◌, is_some};
 ghost use Rattle.packet_layer.specs.Traffic as machine;
 ghost use Rattle.packet_layer.specs.Octets.{written};
@@ -16,6 +17,7 @@ impl Traffic {
         ensures traffic { self.new ≡ (machine.says window self.old).traffic }
         ensures said { result ≡ is_some (machine.says window self.old).body }
         ensures octets { buf.new.items ≡ written channel (machine.says window self.old).body buf.old.items }
+        ensures same { OnFalse result (self.new ≡ self.old) }
     {
         if !self.confirmation_due {
             return self.next_interrupt(window, channel, buf);
@@ -31,6 +33,7 @@ impl Traffic {
         ensures traffic { self.new ≡ (machine.says_interrupt window self.old.interrupt_waiting self.old).traffic }
         ensures said { result ≡ is_some (machine.says_interrupt window self.old.interrupt_waiting self.old).body }
         ensures octets { buf.new.items ≡ written channel (machine.says_interrupt window self.old.interrupt_waiting self.old).body buf.old.items }
+        ensures same { OnFalse result (self.new ≡ self.old) }
     {
         let Some(interrupt) = &self.interrupt_waiting else {
             return self.next_data(window, channel, buf);
@@ -47,6 +50,7 @@ impl Traffic {
         ensures traffic { self.new ≡ (machine.says_data window self.old.waiting self.old).traffic }
         ensures said { result ≡ is_some (machine.says_data window self.old.waiting self.old).body }
         ensures octets { buf.new.items ≡ written channel (machine.says_data window self.old.waiting self.old).body buf.old.items }
+        ensures same { OnFalse result (self.new ≡ self.old) }
     {
         if self.send.unacknowledged() >= window || self.partner_busy {
             return self.next_flow(channel, buf);
@@ -74,6 +78,7 @@ impl Traffic {
         ensures traffic { self.new ≡ (machine.says_flow self.old).traffic }
         ensures said { result ≡ is_some (machine.says_flow self.old).body }
         ensures octets { buf.new.items ≡ written channel (machine.says_flow self.old).body buf.old.items }
+        ensures same { OnFalse result (self.new ≡ self.old) }
     {
         let receive = self.released.number();
         if self.told == receive && self.told_stopped == self.stopped {
