@@ -1,11 +1,13 @@
 -- What goes to the link: the channels one by one, round.
 use Rattle.std.proofs.Common.{◌≡◌, ℕ, zero, suc, ◌+◌, ◌-◌, ◌<◌, ◌≤◌, Bool, true, false, cond, List, [], ◌∷◌, length, set, refl, sym, ap, ◌∙◌, arith}
-use Rattle.std.specs.Prelude.{Option, Some, None, is_some, slice_get}
-use Rattle.packet_layer.specs.Packets.{Body, Packet}
+use Rattle.std.specs.Prelude.{Option, Some, None, Result, Ok, is_some, slice_get}
+use Rattle.packet_layer.specs.Packets.{Body, Packet, Received}
 use Rattle.packet_layer.specs.Channel.{Channel}
 use Rattle.packet_layer.specs.Layer.{Layer, Next, ChannelNext, channel_of, next_of, next_number, packet_of, serve, serve_found, served}
-use Rattle.packet_layer.specs.Octets.{written}
-use Rattle.packet_layer.specs.Events.{written_packet}
+use Rattle.packet_codec.specs.Packet.{PacketValue}
+use Rattle.packet_codec.specs.declared.fault.PacketFault.{PacketFault}
+use Rattle.packet_layer.specs.Octets.{written, ReadsAs, body_of, content_of, heard_by}
+use Rattle.packet_layer.specs.Events.{written_packet, ReadsBack, IsHeard}
 use Rattle.packet_layer.proofs.Places.{channel_at}
 
 abbrev pub nothing : Layer → Next
@@ -83,3 +85,28 @@ written_of (Some b) c old = refl
 pub said_of : (b : Option Body) (c : ℕ) → is_some (packet_of c b) ≡ is_some b
 said_of None c = refl
 said_of (Some b) c = refl
+
+-- what is written of a channel's packet reads back
+pub reads_of : (b : Option Body) (c : ℕ) (octets : List ℕ) → ReadsAs c b octets → ReadsBack (packet_of c b) octets
+reads_of None c octets h = h
+reads_of (Some b) c octets h = h
+
+same_body : (b : Body) → body_of (content_of b) ≡ b
+same_body (Body.Call parts) = refl
+same_body Body.Accepted = refl
+same_body (Body.Clear cause diagnostic) = refl
+same_body Body.ClearConfirmation = refl
+same_body (Body.Data send receive d) = refl
+same_body (Body.Interrupt octets) = refl
+same_body Body.InterruptConfirmation = refl
+same_body (Body.ReceiveReady receive) = refl
+same_body (Body.ReceiveNotReady receive) = refl
+same_body (Body.Reset cause diagnostic) = refl
+same_body Body.ResetConfirmation = refl
+same_body (Body.Restart cause diagnostic) = refl
+same_body Body.RestartConfirmation = refl
+
+-- what reads back is what the far end hears
+pub heard_of_reading : (p : Option Packet) (octets : List ℕ) → ReadsBack p octets → IsHeard p octets
+heard_of_reading None octets h = h
+heard_of_reading (Some p) octets h = ap (λ (r : Result PacketValue PacketFault). heard_by octets r) h ∙ ap (λ (b : Body). Some (Received.Whole (record { channel = p.channel; body = b }))) (same_body p.body)

@@ -1,10 +1,11 @@
 -- What comes to a packet layer and what it gives, in octets and by the names of timers.
-use Rattle.std.specs.Prelude.{ℕ, Bool, false, List, Option, Some, None}
+use Rattle.std.specs.Prelude.{◌≡◌, ℕ, Bool, false, List, Option, Some, None, Ok}
 use Rattle.link_timers.specs.declared.role.Role.{Role}
 use Rattle.link_timers.specs.declared.role.Role.TheVariants.{Dte, Dce}
 use Rattle.link_timers.specs.declared.timers.TimerId.{TimerId}
 use Rattle.link_timers.specs.declared.timers.TimerId.TheVariants.{T10, T20, T11, T12, T13, T21, T22, T23}
 use Rattle.packet_codec.specs.Packet.{spelling}
+use Rattle.packet_codec.specs.Reading.{reading}
 use Rattle.packet_layer.specs.Packets.{Packet, Received}
 use Rattle.packet_layer.specs.Layer.{Layer, Timer, unread, on_received, on_timer, runs}
 use Rattle.packet_layer.specs.Octets.{content_of, heard}
@@ -23,6 +24,15 @@ on_octets l octets = after_hearing (unread l) (heard octets)
 abbrev pub written_packet : Option Packet → List ℕ → List ℕ
 written_packet None old = old
 written_packet (Some p) old = spelling (record { channel = p.channel; content = content_of p.body })
+
+abbrev pub ReadsBack : Option Packet → List ℕ → Type 0
+ReadsBack None octets = Unit {0}
+ReadsBack (Some p) octets = reading octets ≡ Ok (record { channel = p.channel; content = content_of p.body })
+
+-- the far end hears that packet in the octets
+abbrev pub IsHeard : Option Packet → List ℕ → Type 0
+IsHeard None octets = Unit {0}
+IsHeard (Some p) octets = heard octets ≡ Some (Received.Whole p)
 
 -- ---- timers: T20 to T23 are a DTE's, T10 to T13 a DCE's
 

@@ -1,5 +1,5 @@
 -- Packets and their octets: what the layer hears of received octets, and the octets in which a packet goes to the link.
-use Rattle.std.specs.Prelude.{ℕ, Bool, true, false, List, Option, Some, None, Result, Ok, Err}
+use Rattle.std.specs.Prelude.{◌≡◌, ℕ, Bool, true, false, List, Option, Some, None, Result, Ok, Err}
 use Rattle.packet_codec.specs.declared.fault.PacketFault.{PacketFault}
 use Rattle.packet_codec.specs.declared.fault.PacketFault.TheVariants.{TooShort, BadFormatId, UnknownType, BadLength, BadAddress, DataTooLong}
 use Rattle.packet_codec.specs.Packet.{PacketValue, ContentValue, CallValue, DataValue, spelling}
@@ -58,6 +58,11 @@ content_of body.RestartConfirmation = content.RestartConfirmation
 abbrev pub written : ℕ → Option Body → List ℕ → List ℕ
 written channel None old = old
 written channel (Some b) old = spelling (record { channel = channel; content = content_of b })
+
+-- they read back as that packet
+abbrev pub ReadsAs : ℕ → Option Body → List ℕ → Type 0
+ReadsAs channel None octets = Unit {0}
+ReadsAs channel (Some b) octets = reading octets ≡ Ok (record { channel = channel; content = content_of b })
 
 -- ---- octets from the link. Too few octets and another format are ignored; an unknown type and the other faults count as a
 -- packet that the state of the channel does not allow

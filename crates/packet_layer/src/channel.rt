@@ -4,7 +4,7 @@ ghost use Rattle.std.specs.Prelude.{◌≡◌, ◌<◌, ◌≤◌, IfOk, Some, i
 ghost use Rattle.packet_layer.specs.Channel as machine;
 ghost use Rattle.packet_layer.specs.Layer as layer;
 ghost use Rattle.packet_layer.specs.StateView.{state_of};
-ghost use Rattle.packet_layer.specs.Octets.{body_of, parts_of, written};
+ghost use Rattle.packet_layer.specs.Octets.{body_of, parts_of, written, ReadsAs};
 ghost use Rattle.packet_layer.specs.Packets.{Body as body};
 ghost use Rattle.packet_codec.specs.Packet.{IsPacket};
 ghost use Rattle.packet_codec.specs.View.{view, content_view};
@@ -153,6 +153,7 @@ impl Channel {
         ensures channel { self.new ≡ (layer.next_of window self.old).channel }
         ensures said { result ≡ is_some (layer.next_of window self.old).body }
         ensures octets { buf.new.items ≡ written channel (layer.next_of window self.old).body buf.old.items }
+        ensures reads_back { ReadsAs channel (layer.next_of window self.old).body buf.new.items }
         ensures same { OnFalse result (self.new ≡ self.old) }
     {
         if self.owed.next_packet(channel, buf) {

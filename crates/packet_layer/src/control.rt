@@ -2,7 +2,7 @@
 ghost use Rattle.std.specs.Bool.{OnFalse};
 ghost use Rattle.std.specs.Prelude.{◌≡◌, ◌<◌, [], ◌==◌, length, is_some};
 ghost use Rattle.packet_layer.specs.Layer.{with_owed, passes_limit};
-ghost use Rattle.packet_layer.specs.Octets.{written};
+ghost use Rattle.packet_layer.specs.Octets.{written, ReadsAs};
 ghost use Rattle.packet_layer.specs.ControlView.{maybe_body, first_of, rest_of};
 
 use crate::write::{
@@ -32,7 +32,8 @@ impl Default for Control {
 
 fn write_control(channel: u8, control: &Control, buf: &mut PacketBuf)
     requires { 0 < channel }
-    ensures { buf.new.items ≡ written channel (maybe_body (Some control.now)) buf.old.items }
+    ensures octets { buf.new.items ≡ written channel (maybe_body (Some control.now)) buf.old.items }
+    ensures reads_back { ReadsAs channel (maybe_body (Some control.now)) buf.new.items }
 {
     match control {
         Control::Call(call) => write_call(channel, call, buf),
@@ -103,6 +104,7 @@ impl Owed {
         ensures said { result ≡ is_some (first_of self.old) }
         ensures owed { self.new ≡ rest_of self.old }
         ensures octets { buf.new.items ≡ written channel (first_of self.old) buf.old.items }
+        ensures reads_back { ReadsAs channel (first_of self.old) buf.new.items }
         ensures same { OnFalse result (self.new ≡ self.old) }
     {
         if self.packets.is_empty() {

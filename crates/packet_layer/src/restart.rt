@@ -1,7 +1,7 @@
 //! The restart packets that a packet layer owes to the link.
 ghost use Rattle.std.specs.Prelude.{◌≡◌, [], is_some, Some};
 ghost use Rattle.packet_layer.specs.Layer.{with_owed, passes_limit};
-ghost use Rattle.packet_layer.specs.Octets.{written};
+ghost use Rattle.packet_layer.specs.Octets.{written, ReadsAs};
 ghost use Rattle.packet_layer.specs.ControlView.{first_of, rest_of};
 ghost use Rattle.packet_layer.specs.RestartView.{restart_body};
 
@@ -83,6 +83,7 @@ impl OwedRestarts {
         ensures said { result ≡ is_some (first_of self.old) }
         ensures owed { self.new ≡ rest_of self.old }
         ensures octets { buf.new.items ≡ written 0 (first_of self.old) buf.old.items }
+        ensures reads_back { ReadsAs 0 (first_of self.old) buf.new.items }
     {
         if self.packets.is_empty() {
             return false;

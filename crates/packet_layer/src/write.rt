@@ -4,13 +4,14 @@ ghost use Rattle.packet_codec.specs.Packet.{IsDataValue};
 ghost use Rattle.packet_codec.specs.View.{data_view};
 ghost use Rattle.packet_layer.specs.Packets.{Body as body};
 ghost use Rattle.packet_layer.specs.Traffic.{ready_or_not};
-ghost use Rattle.packet_layer.specs.Octets.{datum_of, parts_of, written};
+ghost use Rattle.packet_layer.specs.Octets.{datum_of, parts_of, written, ReadsAs};
 
 use packet_codec::{CallBuf, Content, DataPacket, Packet, PacketBuf, write_packet};
 
 pub(crate) fn write_call(channel: u8, call: &CallBuf, buf: &mut PacketBuf)
     requires { 0 < channel }
-    ensures { buf.new.items ≡ written channel (Some (body.Call (parts_of call.now))) buf.old.items }
+    ensures octets { buf.new.items ≡ written channel (Some (body.Call (parts_of call.now))) buf.old.items }
+    ensures reads_back { ReadsAs channel (Some (body.Call (parts_of call.now))) buf.new.items }
 {
     let packet = Packet {
         channel: u16::from(channel),
@@ -21,7 +22,8 @@ pub(crate) fn write_call(channel: u8, call: &CallBuf, buf: &mut PacketBuf)
 
 pub(crate) fn write_accepted(channel: u8, buf: &mut PacketBuf)
     requires { 0 < channel }
-    ensures { buf.new.items ≡ written channel (Some body.Accepted) buf.old.items }
+    ensures octets { buf.new.items ≡ written channel (Some body.Accepted) buf.old.items }
+    ensures reads_back { ReadsAs channel (Some body.Accepted) buf.new.items }
 {
     let packet = Packet {
         channel: u16::from(channel),
@@ -32,7 +34,8 @@ pub(crate) fn write_accepted(channel: u8, buf: &mut PacketBuf)
 
 pub(crate) fn write_clear(channel: u8, cause: u8, diagnostic: u8, buf: &mut PacketBuf)
     requires { 0 < channel }
-    ensures { buf.new.items ≡ written channel (Some (body.Clear cause diagnostic)) buf.old.items }
+    ensures octets { buf.new.items ≡ written channel (Some (body.Clear cause diagnostic)) buf.old.items }
+    ensures reads_back { ReadsAs channel (Some (body.Clear cause diagnostic)) buf.new.items }
 {
     let packet = Packet {
         channel: u16::from(channel),
@@ -43,7 +46,8 @@ pub(crate) fn write_clear(channel: u8, cause: u8, diagnostic: u8, buf: &mut Pack
 
 pub(crate) fn write_clear_confirmation(channel: u8, buf: &mut PacketBuf)
     requires { 0 < channel }
-    ensures { buf.new.items ≡ written channel (Some body.ClearConfirmation) buf.old.items }
+    ensures octets { buf.new.items ≡ written channel (Some body.ClearConfirmation) buf.old.items }
+    ensures reads_back { ReadsAs channel (Some body.ClearConfirmation) buf.new.items }
 {
     let packet = Packet {
         channel: u16::from(channel),
@@ -55,8 +59,8 @@ pub(crate) fn write_clear_confirmation(channel: u8, buf: &mut PacketBuf)
 pub(crate) fn write_data(channel: u8, packet: DataPacket<'_>, buf: &mut PacketBuf)
     requires channel { 0 < channel }
     requires fits { IsDataValue (data_view packet) }
-    ensures { buf.new.items ≡ written channel
-        (Some (body.Data packet.entry.send packet.entry.receive (datum_of (data_view packet.entry)))) buf.old.items }
+    ensures octets { buf.new.items ≡ written channel (Some (body.Data packet.entry.send packet.entry.receive (datum_of (data_view packet.entry)))) buf.old.items }
+    ensures reads_back { ReadsAs channel (Some (body.Data packet.entry.send packet.entry.receive (datum_of (data_view packet.entry)))) buf.new.items }
 {
     let packet = Packet {
         channel: u16::from(channel),
@@ -69,7 +73,8 @@ pub(crate) fn write_interrupt(channel: u8, octets: &[u8], buf: &mut PacketBuf)
     requires channel { 0 < channel }
     requires least { 1 ≤ length octets.now }
     requires most { length octets.now ≤ 32 }
-    ensures { buf.new.items ≡ written channel (Some (body.Interrupt octets.now)) buf.old.items }
+    ensures octets { buf.new.items ≡ written channel (Some (body.Interrupt octets.now)) buf.old.items }
+    ensures reads_back { ReadsAs channel (Some (body.Interrupt octets.now)) buf.new.items }
 {
     let packet = Packet {
         channel: u16::from(channel),
@@ -80,7 +85,8 @@ pub(crate) fn write_interrupt(channel: u8, octets: &[u8], buf: &mut PacketBuf)
 
 pub(crate) fn write_interrupt_confirmation(channel: u8, buf: &mut PacketBuf)
     requires { 0 < channel }
-    ensures { buf.new.items ≡ written channel (Some body.InterruptConfirmation) buf.old.items }
+    ensures octets { buf.new.items ≡ written channel (Some body.InterruptConfirmation) buf.old.items }
+    ensures reads_back { ReadsAs channel (Some body.InterruptConfirmation) buf.new.items }
 {
     let packet = Packet {
         channel: u16::from(channel),
@@ -93,7 +99,8 @@ pub(crate) fn write_interrupt_confirmation(channel: u8, buf: &mut PacketBuf)
 pub(crate) fn write_ready(channel: u8, stopped: bool, receive: u8, buf: &mut PacketBuf)
     requires channel { 0 < channel }
     requires number { receive < 8 }
-    ensures { buf.new.items ≡ written channel (Some (ready_or_not stopped receive)) buf.old.items }
+    ensures octets { buf.new.items ≡ written channel (Some (ready_or_not stopped receive)) buf.old.items }
+    ensures reads_back { ReadsAs channel (Some (ready_or_not stopped receive)) buf.new.items }
 {
     if stopped {
         let packet = Packet {
@@ -112,7 +119,8 @@ pub(crate) fn write_ready(channel: u8, stopped: bool, receive: u8, buf: &mut Pac
 
 pub(crate) fn write_reset(channel: u8, cause: u8, diagnostic: u8, buf: &mut PacketBuf)
     requires { 0 < channel }
-    ensures { buf.new.items ≡ written channel (Some (body.Reset cause diagnostic)) buf.old.items }
+    ensures octets { buf.new.items ≡ written channel (Some (body.Reset cause diagnostic)) buf.old.items }
+    ensures reads_back { ReadsAs channel (Some (body.Reset cause diagnostic)) buf.new.items }
 {
     let packet = Packet {
         channel: u16::from(channel),
@@ -123,7 +131,8 @@ pub(crate) fn write_reset(channel: u8, cause: u8, diagnostic: u8, buf: &mut Pack
 
 pub(crate) fn write_reset_confirmation(channel: u8, buf: &mut PacketBuf)
     requires { 0 < channel }
-    ensures { buf.new.items ≡ written channel (Some body.ResetConfirmation) buf.old.items }
+    ensures octets { buf.new.items ≡ written channel (Some body.ResetConfirmation) buf.old.items }
+    ensures reads_back { ReadsAs channel (Some body.ResetConfirmation) buf.new.items }
 {
     let packet = Packet {
         channel: u16::from(channel),
@@ -133,7 +142,8 @@ pub(crate) fn write_reset_confirmation(channel: u8, buf: &mut PacketBuf)
 }
 
 pub(crate) fn write_restart(cause: u8, diagnostic: u8, buf: &mut PacketBuf)
-    ensures { buf.new.items ≡ written 0 (Some (body.Restart cause diagnostic)) buf.old.items }
+    ensures octets { buf.new.items ≡ written 0 (Some (body.Restart cause diagnostic)) buf.old.items }
+    ensures reads_back { ReadsAs 0 (Some (body.Restart cause diagnostic)) buf.new.items }
 {
     let packet = Packet {
         channel: 0,
@@ -143,7 +153,8 @@ pub(crate) fn write_restart(cause: u8, diagnostic: u8, buf: &mut PacketBuf)
 }
 
 pub(crate) fn write_restart_confirmation(buf: &mut PacketBuf)
-    ensures { buf.new.items ≡ written 0 (Some body.RestartConfirmation) buf.old.items }
+    ensures octets { buf.new.items ≡ written 0 (Some body.RestartConfirmation) buf.old.items }
+    ensures reads_back { ReadsAs 0 (Some body.RestartConfirmation) buf.new.items }
 {
     let packet = Packet {
         channel: 0,

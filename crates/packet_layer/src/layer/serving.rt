@@ -1,7 +1,7 @@
 //! What goes to the link.
 ghost use Rattle.std.specs.Prelude.{◌≡◌, ◌<◌, ◌≤◌, length, is_some};
 ghost use Rattle.packet_layer.specs.Layer as machine;
-ghost use Rattle.packet_layer.specs.Events.{written_packet};
+ghost use Rattle.packet_layer.specs.Events.{written_packet, ReadsBack, IsHeard};
 
 use crate::layer::Layer;
 use crate::restart::Phase;
@@ -16,6 +16,8 @@ impl Layer {
         ensures layer { self.new ≡ (machine.next_packet self.old).layer }
         ensures said { result ≡ is_some (machine.next_packet self.old).packet }
         ensures octets { buf.new.items ≡ written_packet (machine.next_packet self.old).packet buf.old.items }
+        // The far end hears that packet in them.
+        ensures heard { IsHeard (machine.next_packet self.old).packet buf.new.items }
     {
         if matches!(self.phase, Phase::NoSession) || self.relink {
             return false;
@@ -31,6 +33,7 @@ impl Layer {
         ensures layer { self.new ≡ (machine.serve (length self.old.channels) self.old (machine.next_number self.old self.old.served_last)).layer }
         ensures said { result ≡ is_some (machine.serve (length self.old.channels) self.old (machine.next_number self.old self.old.served_last)).packet }
         ensures octets { buf.new.items ≡ written_packet (machine.serve (length self.old.channels) self.old (machine.next_number self.old self.old.served_last)).packet buf.old.items }
+        ensures reads_back { ReadsBack (machine.serve (length self.old.channels) self.old (machine.next_number self.old self.old.served_last)).packet buf.new.items }
     {
         let count = self.channels.len();
         let mut number = self.next_number(self.served_last);
@@ -61,6 +64,7 @@ impl Layer {
         ensures layer { self.new ≡ (machine.serve 1 self.old number).layer }
         ensures said { result ≡ is_some (machine.serve 1 self.old number).packet }
         ensures octets { buf.new.items ≡ written_packet (machine.serve 1 self.old number).packet buf.old.items }
+        ensures reads_back { ReadsBack (machine.serve 1 self.old number).packet buf.new.items }
     {
         let Some(place) = self.place(u16::from(number)) else {
             return false;

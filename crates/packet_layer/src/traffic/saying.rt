@@ -3,7 +3,7 @@
 ghost use Rattle.std.specs.Bool.{OnFalse};
 ghost use Rattle.std.specs.Prelude.{◌≡◌, ◌<◌, ◌≤◌, is_some};
 ghost use Rattle.packet_layer.specs.Traffic as machine;
-ghost use Rattle.packet_layer.specs.Octets.{written};
+ghost use Rattle.packet_layer.specs.Octets.{written, ReadsAs};
 
 use crate::traffic::Traffic;
 use crate::write::{write_data, write_interrupt, write_interrupt_confirmation, write_ready};
@@ -17,6 +17,7 @@ impl Traffic {
         ensures traffic { self.new ≡ (machine.says window self.old).traffic }
         ensures said { result ≡ is_some (machine.says window self.old).body }
         ensures octets { buf.new.items ≡ written channel (machine.says window self.old).body buf.old.items }
+        ensures reads_back { ReadsAs channel (machine.says window self.old).body buf.new.items }
         ensures same { OnFalse result (self.new ≡ self.old) }
     {
         if !self.confirmation_due {
@@ -33,6 +34,7 @@ impl Traffic {
         ensures traffic { self.new ≡ (machine.says_interrupt window self.old.interrupt_waiting self.old).traffic }
         ensures said { result ≡ is_some (machine.says_interrupt window self.old.interrupt_waiting self.old).body }
         ensures octets { buf.new.items ≡ written channel (machine.says_interrupt window self.old.interrupt_waiting self.old).body buf.old.items }
+        ensures reads_back { ReadsAs channel (machine.says_interrupt window self.old.interrupt_waiting self.old).body buf.new.items }
         ensures same { OnFalse result (self.new ≡ self.old) }
     {
         let Some(interrupt) = &self.interrupt_waiting else {
@@ -50,6 +52,7 @@ impl Traffic {
         ensures traffic { self.new ≡ (machine.says_data window self.old.waiting self.old).traffic }
         ensures said { result ≡ is_some (machine.says_data window self.old.waiting self.old).body }
         ensures octets { buf.new.items ≡ written channel (machine.says_data window self.old.waiting self.old).body buf.old.items }
+        ensures reads_back { ReadsAs channel (machine.says_data window self.old.waiting self.old).body buf.new.items }
         ensures same { OnFalse result (self.new ≡ self.old) }
     {
         if self.send.unacknowledged() >= window || self.partner_busy {
@@ -78,6 +81,7 @@ impl Traffic {
         ensures traffic { self.new ≡ (machine.says_flow self.old).traffic }
         ensures said { result ≡ is_some (machine.says_flow self.old).body }
         ensures octets { buf.new.items ≡ written channel (machine.says_flow self.old).body buf.old.items }
+        ensures reads_back { ReadsAs channel (machine.says_flow self.old).body buf.new.items }
         ensures same { OnFalse result (self.new ≡ self.old) }
     {
         let receive = self.released.number();

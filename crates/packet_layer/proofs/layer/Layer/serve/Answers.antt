@@ -1,8 +1,8 @@
-use Rattle.std.proofs.Common.{◌≡◌, ◌∙◌, ◌+◌, ◌-◌, ap, sym, length, List, ℕ, Option}
+use Rattle.std.proofs.Common.{◌≡◌, ◌∙◌, ◌+◌, ◌-◌, ap, sym, subst, length, List, ℕ, Option}
 use Rattle.std.specs.Prelude.{is_some, true, false}
 use Rattle.packet_layer.specs.Packets.{Packet}
 use Rattle.packet_layer.specs.Layer.{Layer, Next, serve, next_number}
-use Rattle.packet_layer.specs.Events.{written_packet}
+use Rattle.packet_layer.specs.Events.{written_packet, ReadsBack}
 use Rattle.packet_layer.proofs.Serving.{goes_on, stops, silent_same}
 use Rattle.packet_layer.proofs.layer.Layer.serve.Goals as goal
 
@@ -39,3 +39,10 @@ loop-preserved c =
       least = c.next_number-number-in-loop.ensures.least;
       rest = ap (λ (n : ℕ). serve (c.len-count.result - (c.loop.counter + 1)) c.args.self.now n) number ∙ goes_on c.len-count.result c.loop.counter c.args.self.now c.loop.number c.loop-test.true silent ∙ c.loop.invariant.rest;
     }
+
+pub returns-then-serve_channel-clause-reads_back : goal.returns-then-serve_channel-clause-reads_back
+returns-then-serve_channel-clause-reads_back c =
+    let says : is_some (serve 1 c.args.self.now c.loop.number).packet ≡ true = sym (c.serve_channel.ensures.said ∙ ap (λ (x : Layer). is_some (serve 1 x c.loop.number).packet) c.loop.invariant.same) ∙ c.if-serve_channel.true in
+    subst (λ (n : Next). ReadsBack n.packet c.serve_channel.new.buf.items)
+    (sym (stops c.len-count.result c.loop.counter c.args.self.now c.loop.number c.loop-test.true says) ∙ c.loop.invariant.rest)
+    (subst (λ (x : Layer). ReadsBack (serve 1 x c.loop.number).packet c.serve_channel.new.buf.items) c.loop.invariant.same c.serve_channel.ensures.reads_back)
