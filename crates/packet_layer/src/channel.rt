@@ -19,10 +19,9 @@ use crate::state::{CallState, End};
 use crate::taken::{Front, Taken};
 use crate::traffic::Traffic;
 use packet_codec::{CallBuf, Packet, PacketBuf};
+pub(crate) use requests::Request;
 use std::alloc::{AllocError, Global};
 use std::marker::Model;
-
-pub(crate) use requests::Request;
 
 /// A logical channel: the state of its call, in p4 whether the own reset is not confirmed, the control packets that are owed to
 /// the link, and what is in transfer.

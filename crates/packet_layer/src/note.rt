@@ -24,7 +24,7 @@ pub enum Reason {
 /// A change on a logical channel, numbered from 1, that its user did not make.
 #[derive(Drop)]
 pub enum LayerNote {
-    /// A call came in, with what its Call packet says (X.25 4.1.4).
+    /// A call came in, with what its Call packet says (X.25 4.1.3).
     Incoming(u8, CallBuf),
     /// The far end accepted the call (X.25 4.1.5).
     Connected(u8),
@@ -44,8 +44,11 @@ pub enum LayerNote {
     },
     /// The far end confirmed the interrupt (X.25 4.3.7).
     InterruptConfirmed(u8),
-    /// A P(R) newly covered so many of the packets sent (X.25 4.4.1.4).
-    Covered { channel: u8, count: u8 },
+    /// A P(R) newly covered so many of the packets sent (X.25 4.4.1.3).
+    Covered {
+        channel: u8,
+        count: u8,
+    },
 }
 
 /// The most notes that one event gives: each of 32 calls closes, and one more.

@@ -9,6 +9,7 @@ use std::alloc::Global;
 use std::test::Fail;
 
 const RESTART_OF_DTE: &[u8] = &[0x10, 0x00, 0xfb, 0x00, 0x00];
+
 const RESTART_OF_DCE: &[u8] = &[0x10, 0x00, 0xfb, 0x07, 0x00];
 
 fn params(channels: u8, window: u8, standing: bool) -> LayerParams {
@@ -63,24 +64,28 @@ fn is_incoming(note: Option<LayerNote>, expected: u8) -> bool {
 
 fn is_closed(note: Option<LayerNote>, numbers: (u8, u8, u8), why: Reason) -> bool {
     match note {
-        Some(LayerNote::Closed {
-            channel,
-            cause,
-            diagnostic,
-            reason,
-        }) => (channel, cause, diagnostic) == numbers && reason == why,
+        Some(
+            LayerNote::Closed {
+                channel,
+                cause,
+                diagnostic,
+                reason,
+            },
+        ) => (channel, cause, diagnostic) == numbers && reason == why,
         _ => false,
     }
 }
 
 fn is_reset(note: Option<LayerNote>, numbers: (u8, u8, u8), why: Reason) -> bool {
     match note {
-        Some(LayerNote::Reset {
-            channel,
-            cause,
-            diagnostic,
-            reason,
-        }) => (channel, cause, diagnostic) == numbers && reason == why,
+        Some(
+            LayerNote::Reset {
+                channel,
+                cause,
+                diagnostic,
+                reason,
+            },
+        ) => (channel, cause, diagnostic) == numbers && reason == why,
         _ => false,
     }
 }
@@ -155,13 +160,22 @@ fn a_call_is_set_up_and_cleared(rt: HostRuntime) -> Result<(), Fail> {
     let (mut dte, mut dce) = ready(rt.alloc(), 4)?;
     assert_eq!(rt; call_2001(&mut dte), Ok(4));
     assert!(rt; dte.runs(TimerId::T21(4)));
-    assert!(rt; delivers(&mut dte, &mut dce, &[0x10, 0x04, 0x0b, 0x04, 0x20, 0x01, 0x00]));
+    assert!(rt;
+        delivers(
+            &mut dte,
+            &mut dce,
+            &[0x10, 0x04, 0x0b, 0x04, 0x20, 0x01, 0x00]
+        )
+    );
     assert!(rt; is_incoming(dce.notes(), 4));
     assert_eq!(rt; dce.accept(4), Ok(()));
     assert!(rt; delivers(&mut dce, &mut dte, &[0x10, 0x04, 0x0f]));
     assert!(rt; is_connected(dte.notes(), 4) && dte.notes().is_none());
     assert_eq!(rt; dte.clear(4, 0, 0), Ok(()));
-    assert_eq!(rt; dte.send(4, b"X", false, false, false), Err(ChannelFault::NoCall));
+    assert_eq!(rt;
+        dte.send(4, b"X", false, false, false),
+        Err(ChannelFault::NoCall)
+    );
     assert!(rt; delivers(&mut dte, &mut dce, &[0x10, 0x04, 0x13, 0x00, 0x00]));
     assert!(rt; is_closed(dce.notes(), (4, 0, 0), Reason::FarEnd));
     assert!(rt; delivers(&mut dce, &mut dte, &[0x10, 0x04, 0x17]));
@@ -224,8 +238,14 @@ fn the_send_queue_has_eight_places(rt: HostRuntime) -> Result<(), Fail> {
     }
     assert!(rt; is_silent(&mut dte));
     assert_eq!(rt; dte.room(1), 0);
-    assert_eq!(rt; dte.send(1, b"X", false, false, false), Err(ChannelFault::QueueFull));
-    assert_eq!(rt; dte.send(2, b"X", false, false, false), Err(ChannelFault::NoCall));
+    assert_eq!(rt;
+        dte.send(1, b"X", false, false, false),
+        Err(ChannelFault::QueueFull)
+    );
+    assert_eq!(rt;
+        dte.send(2, b"X", false, false, false),
+        Err(ChannelFault::NoCall)
+    );
     dte.on_packet(&[0x10, 0x01, 0x21]);
     match dte.notes() {
         Some(LayerNote::Covered { channel, count }) => assert!(rt; channel == 1 && count == 1),
@@ -234,7 +254,10 @@ fn the_send_queue_has_eight_places(rt: HostRuntime) -> Result<(), Fail> {
     assert!(rt; says(&mut dte, &[0x10, 0x01, 0x04, 0x58]) && is_silent(&mut dte));
     dte.on_packet(&[0x10, 0x01, 0x65]);
     assert!(rt; is_silent(&mut dte));
-    assert_eq!(rt; dte.send(1, &[0; 129], false, false, false), Err(ChannelFault::TooLong));
+    assert_eq!(rt;
+        dte.send(1, &[0; 129], false, false, false),
+        Err(ChannelFault::TooLong)
+    );
     Ok(())
 }
 
@@ -253,7 +276,9 @@ fn delivery_is_confirmed_by_the_release(rt: HostRuntime) -> Result<(), Fail> {
     };
     assert_eq!(rt; dte.front(1), Some(waiting));
     match dte.take(1) {
-        Some(Taken::Data(data)) => assert!(rt; data.octets() == b"HI".as_slice() && data.delivery()),
+        Some(Taken::Data(data)) => assert!(rt;
+            data.octets() == b"HI".as_slice() && data.delivery()
+        ),
         _ => assert!(rt; false, "a packet waits"),
     }
     assert!(rt; dte.take(1).is_none() && is_silent(&mut dte) && !dce.confirmed(1));

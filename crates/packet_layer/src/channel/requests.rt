@@ -38,7 +38,11 @@ pub(crate) enum Request<'a> {
 
 impl Channel {
     /// Does what is asked, if it is not refused, and answers whether one control packet too many is owed.
-    pub(crate) fn request(&mut self, role: Role, request: &Request<'_>) -> Result<bool, ChannelFault>
+    pub(crate) fn request(
+        &mut self,
+        role: Role,
+        request: &Request<'_>,
+    ) -> Result<bool, ChannelFault>
         ensures { Answers role self.old (request_of request.now) result self.new }
     {
         match request {
@@ -92,7 +96,14 @@ impl Channel {
         Ok(self.owed.owe(Some(Control::Reset { cause, diagnostic })))
     }
 
-    fn send(&mut self, role: Role, octets: &[u8], more: bool, qualified: bool, delivery: bool) -> Result<bool, ChannelFault>
+    fn send(
+        &mut self,
+        role: Role,
+        octets: &[u8],
+        more: bool,
+        qualified: bool,
+        delivery: bool,
+    ) -> Result<bool, ChannelFault>
         ensures { Answers role self.old (machine.Request.Sending (record { octets = octets.now; more = more; qualified = qualified; delivery = delivery })) result self.new }
     {
         if !self.state.in_transfer() {
@@ -107,7 +118,8 @@ impl Channel {
         if octets.len() > MAX_USER_DATA {
             return Err(ChannelFault::TooLong);
         }
-        self.traffic.queue(UserData::new(octets, more, qualified, delivery));
+        self.traffic
+            .queue(UserData::new(octets, more, qualified, delivery));
         Ok(false)
     }
 

@@ -101,7 +101,7 @@ impl Layer {
         }
     }
 
-    /// Accepts the call that came in on the channel (X.25 4.1.5).
+    /// Accepts the call that came in on the channel (X.25 4.1.4).
     ///
     /// `NoCall` comes where none waits for it: no call came in, or a DTE's own call collided with it.
     pub fn accept(&mut self, channel: u8) -> Result<(), ChannelFault>
@@ -178,7 +178,7 @@ impl Layer {
         self.request(channel, &Request::Interrupt(octets))
     }
 
-    /// Asks the far end by RNR to send no more data on the channel (X.25 4.4.1.4).
+    /// Asks the far end by RNR to send no more data on the channel (X.25 4.4.1.6).
     ///
     /// `NoCall` comes where no call is in data transfer.
     pub fn stop(&mut self, channel: u8) -> Result<(), ChannelFault>
@@ -190,7 +190,7 @@ impl Layer {
         self.request(channel, &Request::Stop(true))
     }
 
-    /// Ends by RR what `stop` asked (X.25 4.4.1.3).
+    /// Ends by RR what `stop` asked (X.25 4.4.1.5).
     ///
     /// `NoCall` comes where no call is in data transfer.
     pub fn go(&mut self, channel: u8) -> Result<(), ChannelFault>
@@ -212,7 +212,7 @@ impl Layer {
         channel.take()
     }
 
-    /// Lets P(R) pass `count` more of the packets that were taken on the channel (X.25 4.4.1.4). Nothing happens where fewer are
+    /// Lets P(R) pass `count` more of the packets that were taken on the channel (X.25 4.4.1.3). Nothing happens where fewer are
     /// taken and not released.
     pub fn release(&mut self, channel: u8, count: u8)
         ensures { self.new ≡ machine.request self.old channel (asked.Releasing count) }

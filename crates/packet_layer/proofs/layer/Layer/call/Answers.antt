@@ -29,5 +29,6 @@ returns-clause-layer c =
     let placed : c.place_call.new.self ≡ owing (placing parts ch) = c.place_call.ensures.channel ∙ ap (λ (v : CallValue). owing (placing (parts_of v) ch)) c.new-call.ensures in
     let done : kept l c.in-Some.place c.place_call.new.self c.place_call.result ≡ Rattle.packet_layer.specs.Layer.call c.args.self.now parts = rw (← c.self.view_is) (call_done l c.in-Some.place ch c.place_call.new.self parts c.place_call.result (ap phase_of c.in-PacketReady.is) free found placed c.place_call.ensures.passes) in
     elim c.if-place_call.branch [
-    then-place_call w ↦ w.self-is ∙ ap (λ (b : Bool). kept l c.in-Some.place c.place_call.new.self b) (sym w.if-place_call.true) ∙ done
-    | else-place_call w ↦ w.self-is ∙ ap (λ (b : Bool). kept l c.in-Some.place c.place_call.new.self b) (sym w.if-place_call.false) ∙ done ]
+      | then-place_call w ↦ w.self-is ∙ ap (λ (b : Bool). kept l c.in-Some.place c.place_call.new.self b) (sym w.if-place_call.true) ∙ done
+      | else-place_call w ↦ w.self-is ∙ ap (λ (b : Bool). kept l c.in-Some.place c.place_call.new.self b) (sym w.if-place_call.false) ∙ done
+    ]

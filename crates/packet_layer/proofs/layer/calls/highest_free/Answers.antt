@@ -26,5 +26,6 @@ loop-place-preserved c =
     let ch = c.index-channels-place.result in
     let found : slice_get chs i ≡ Some ch = at_place chs i ch (omega arith) c.index-channels-place.is in
     elim c.if-is_free.branch [
-    then-is_free w ↦ subst (λ (o : Option ℕ). Found chs (i + 1) o) (sym w.found-is) (now_found chs i ch (omega arith) found (sym c.is_free.ensures ∙ w.if-is_free.true))
-    | else-is_free w ↦ subst (λ (o : Option ℕ). Found chs (i + 1) o) (sym w.found-is) (same_found chs i (i + 1) c.loop-place.found (highest_goes_on chs i ch found (sym c.is_free.ensures ∙ w.if-is_free.false)) c.loop-place.invariant) ]
+      | then-is_free w ↦ subst (λ (o : Option ℕ). Found chs (i + 1) o) (sym w.found-is) (now_found chs i ch (omega arith) found (sym c.is_free.ensures ∙ w.if-is_free.true))
+      | else-is_free w ↦ subst (λ (o : Option ℕ). Found chs (i + 1) o) (sym w.found-is) (same_found chs i (i + 1) c.loop-place.found (highest_goes_on chs i ch found (sym c.is_free.ensures ∙ w.if-is_free.false)) c.loop-place.invariant)
+    ]

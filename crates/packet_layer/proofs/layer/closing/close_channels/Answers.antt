@@ -20,7 +20,8 @@ loop-place-preserved c =
     record {
       channels = ap (λ (x : Channel). Rattle.std.proofs.Common.set c.loop-place.channels i x) c.close.ensures ∙ closed_more c.args.channels.now c.loop-place.channels i (omega arith) c.loop-place.invariant.channels;
       notes = elim c.if-has_call.branch [
-        then-has_call w ↦ ap (λ (ns : List Note). ns ++ closing_notes (i + 1 + 1) (reason_of c.args.reason) (drop (i + 1) c.args.channels.now)) (w.notes-is ∙ w.add.ensures) ∙ notes_with_call c.args.channels.now i ch (reason_of c.args.reason) c.loop-place.notes old (sym had ∙ w.if-has_call.true) ∙ c.loop-place.invariant.notes
-        | else-has_call w ↦ ap (λ (ns : List Note). ns ++ closing_notes (i + 1 + 1) (reason_of c.args.reason) (drop (i + 1) c.args.channels.now)) w.notes-is ∙ notes_without_call c.args.channels.now i ch (reason_of c.args.reason) c.loop-place.notes old (sym had ∙ w.if-has_call.false) ∙ c.loop-place.invariant.notes ];
+        | then-has_call w ↦ ap (λ (ns : List Note). ns ++ closing_notes (i + 1 + 1) (reason_of c.args.reason) (drop (i + 1) c.args.channels.now)) (w.notes-is ∙ w.add.ensures) ∙ notes_with_call c.args.channels.now i ch (reason_of c.args.reason) c.loop-place.notes old (sym had ∙ w.if-has_call.true) ∙ c.loop-place.invariant.notes
+        | else-has_call w ↦ ap (λ (ns : List Note). ns ++ closing_notes (i + 1 + 1) (reason_of c.args.reason) (drop (i + 1) c.args.channels.now)) w.notes-is ∙ notes_without_call c.args.channels.now i ch (reason_of c.args.reason) c.loop-place.notes old (sym had ∙ w.if-has_call.false) ∙ c.loop-place.invariant.notes
+      ];
       most = elim c.if-has_call.branch [ then-has_call w ↦ omega (arith, ap (λ (ns : List Note). length ns) (w.notes-is ∙ w.add.ensures) ∙ length_more c.loop-place.notes (Closed (i + 1) 9 0 (reason_of c.args.reason)), c.loop-place.invariant.most) | else-has_call w ↦ omega (arith, ap (λ (ns : List Note). length ns) w.notes-is, c.loop-place.invariant.most) ];
     }
