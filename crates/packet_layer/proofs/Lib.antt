@@ -39,3 +39,7 @@ pub mod Calm
 pub mod Calming
 pub mod Relinking
 pub mod OwedHolds
+pub mod Places
+pub mod FreeChannels
+pub mod Closed
+pub mod Serving

@@ -1,0 +1,135 @@
+-- Channels by their places: what a step of the channel at a place makes of the layer.
+use Rattle.std.proofs.Common.{◌≡◌, ℕ, zero, suc, ◌+◌, ◌<◌, ◌≤◌, Bool, true, false, List, [], ◌∷◌, ◌++◌, length, set, get_or, refl, sym, ap, ◌∙◌, arith}
+use Rattle.std.specs.Prelude.{Option, Some, None, slice_get, ◌&&◌, ◌==◌}
+use Rattle.std.proofs.lemmas.List.{append-nil}
+use Rattle.link_timers.specs.declared.role.Role.{Role}
+use Rattle.packet_layer.specs.Packets.{Body, CallParts, Call}
+use Rattle.packet_layer.specs.Channel.CallState.{Ready, OwnWaiting, FarWaiting, Transfer, Collision, OwnClear}
+use Rattle.packet_layer.specs.Channel.{CallState, Channel, Step, Request, Refusal, unless, quiet, refusal, requested, carried_out, received}
+use Rattle.packet_layer.specs.Channel.Request.{Accept, Clearing, Resetting, Sending, Interrupting, Stopping, Taking, Releasing, Confirming}
+use Rattle.packet_layer.specs.Layer as machine
+use Rattle.packet_layer.specs.Effects.{Outcome, outcome_of}
+use Rattle.packet_layer.specs.Layer.Phase.{PacketReady}
+use Rattle.packet_layer.specs.Layer.{Layer, Phase, on_channel, is_ready, is_free, free_channel, placing, nth_channel, channel_of, on_found, owing, passes_limit, set_if, with_owed}
+use Rattle.packet_layer.specs.Answers.{CarriedOut, Refused}
+use Rattle.packet_layer.specs.RequestView.{refusal_of}
+use Rattle.packet_layer.specs.declared.fault.ChannelFault.{ChannelFault}
+
+pub channel_at : (chs : List Channel) (c place : ℕ) → place + 1 ≡ c → nth_channel chs c ≡ slice_get chs place
+channel_at chs zero place e = absurd (omega arith)
+channel_at chs (suc i) place e = let same : i ≡ place = omega arith in ap (λ (n : ℕ). slice_get chs n) same
+
+pub step_at : (l : Layer) (c place : ℕ) (ch : Channel) (f : Channel → Step) → place + 1 ≡ c → slice_get l.channels place ≡ Some ch → on_found l c f (channel_of l c) ≡ record l { channels = set l.channels place (owing (f ch)); relink = set_if (passes_limit (f ch).channel.owed (f ch).owes) l.relink; notes = l.notes ++ (f ch).notes }
+step_at l zero place ch f e h = absurd (omega arith)
+step_at l (suc i) place ch f e h = let same : i ≡ place = omega arith in rw (same, h) refl
+
+-- what is written back unchanged changes nothing
+pub set_same : {X : Type 0} (xs : List X) (i : ℕ) (x : X) → slice_get xs i ≡ Some x → set xs i x ≡ xs
+set_same [] i x h = refl
+set_same (y ∷ ys) zero x h = let e : y ≡ x = cc in ap (λ w. w ∷ ys) (sym e)
+set_same (y ∷ ys) (suc i) x h = ap (λ zs. y ∷ zs) (set_same ys i x h)
+
+no_notes : (ch : Channel) (r : Request) → (carried_out ch r).notes ≡ []
+no_notes ch Accept = refl
+no_notes ch (Clearing cause diagnostic) = refl
+no_notes ch (Resetting cause diagnostic) = refl
+no_notes ch (Sending d) = refl
+no_notes ch (Interrupting octets) = refl
+no_notes ch (Stopping b) = refl
+no_notes ch Taking = refl
+no_notes ch (Releasing n) = refl
+no_notes ch Confirming = refl
+
+same_owed : (ch : Channel) (r : Request) → (carried_out ch r).channel.owed ≡ ch.owed
+same_owed ch Accept = refl
+same_owed ch (Clearing cause diagnostic) = refl
+same_owed ch (Resetting cause diagnostic) = refl
+same_owed ch (Sending d) = refl
+same_owed ch (Interrupting octets) = refl
+same_owed ch (Stopping b) = refl
+same_owed ch Taking = refl
+same_owed ch (Releasing n) = refl
+same_owed ch Confirming = refl
+
+-- what a request comes to, as the layer keeps it
+abbrev pub kept : Layer → ℕ → Channel → Bool → Layer
+kept l place new relink = record l { channels = set l.channels place new; relink = set_if relink l.relink }
+
+step_done : (l : Layer) (place : ℕ) (ch : Channel) (st : Step) (new : Channel) (relink : Bool) → st.notes ≡ [] → st.channel.owed ≡ ch.owed → new ≡ owing st → relink ≡ passes_limit ch.owed st.owes → record l { channels = set l.channels place (owing st); relink = set_if (passes_limit st.channel.owed st.owes) l.relink; notes = l.notes ++ st.notes } ≡ kept l place new relink
+step_done l place ch st new relink n o e p = rw (e, p, n, o, append-nil l.notes) refl
+
+pub request_done : (l : Layer) (c place : ℕ) (ch new : Channel) (r : Request) (relink : Bool) → place + 1 ≡ c → slice_get l.channels place ≡ Some ch → CarriedOut l.role ch r relink new → kept l place new relink ≡ machine.request l c r
+request_done l c place ch new r relink e h done =
+    sym (step_at l c place ch (λ x. requested l.role x r) e h
+    ∙ ap (λ (o : Option Refusal). let st = unless o (carried_out ch r) ch in record l { channels = set l.channels place (owing st); relink = set_if (passes_limit st.channel.owed st.owes) l.relink; notes = l.notes ++ st.notes }) done.allowed
+    ∙ step_done l place ch (carried_out ch r) new relink (no_notes ch r) (same_owed ch r) done.channel done.passes)
+
+pub request_refused : (l : Layer) (c place : ℕ) (ch new : Channel) (r : Request) (fault : ChannelFault) → place + 1 ≡ c → slice_get l.channels place ≡ Some ch → Refused l.role ch r fault new → record l { channels = set l.channels place new } ≡ machine.request l c r
+request_refused l c place ch new r fault e h refused =
+    sym (step_at l c place ch (λ x. requested l.role x r) e h
+    ∙ ap (λ (o : Option Refusal). let st = unless o (carried_out ch r) ch in record l { channels = set l.channels place (owing st); relink = set_if (passes_limit st.channel.owed st.owes) l.relink; notes = l.notes ++ st.notes }) refused.first
+    ∙ rw (append-nil l.notes, refused.same) refl)
+
+pub refused_at : (l : Layer) (c place : ℕ) (ch : Channel) (r : Request) → place + 1 ≡ c → slice_get l.channels place ≡ Some ch → machine.request_refusal l c r ≡ refusal l.role ch r
+refused_at l c place ch r e h = rw (channel_at l.channels c place e, h) refl
+
+pub request_nowhere : (l : Layer) (c : ℕ) (r : Request) → channel_of l c ≡ None → machine.request l c r ≡ l
+request_nowhere l c r e = rw e refl
+
+-- an element of a list, by its place
+pub at_place : {X : Type 0} (xs : List X) (i : ℕ) (x : X) → i < length xs → x ≡ get_or xs i x → slice_get xs i ≡ Some x
+at_place [] i x h e = absurd (omega arith)
+at_place (y ∷ ys) zero x h e = ap Some (sym e)
+at_place (y ∷ ys) (suc i) x h e = at_place ys i x (omega arith) e
+
+-- a packet that comes on a channel
+pub packet_taken : (l : Layer) (c place : ℕ) (ch new : Channel) (b : Body) (o : Outcome) (role : Role) (window channel : ℕ) → l.phase ≡ PacketReady → place + 1 ≡ c → slice_get l.channels place ≡ Some ch → role ≡ l.role → window ≡ l.window → channel ≡ place + 1 → new ≡ owing (received role window channel ch b) → o ≡ outcome_of (received role window channel ch b) → record l { channels = set l.channels place new; relink = set_if o.relink l.relink; notes = l.notes ++ o.notes } ≡ on_channel l.phase l c (λ x. received l.role l.window c x b)
+packet_taken l c place ch new b o role window channel ready e h same_role same_window same_channel is_new is_outcome =
+    let as_end : received role window channel ch b ≡ received l.role l.window c ch b = ap (λ (r : Role). received r window channel ch b) same_role ∙ ap (λ (w : ℕ). received l.role w channel ch b) same_window ∙ ap (λ (n : ℕ). received l.role l.window n ch b) (same_channel ∙ e) in
+    let channel_is : new ≡ owing (received l.role l.window c ch b) = is_new ∙ ap owing as_end in
+    let outcome_is : o ≡ outcome_of (received l.role l.window c ch b) = is_outcome ∙ ap outcome_of as_end in
+    ap (λ (x : Channel). record l { channels = set l.channels place x; relink = set_if o.relink l.relink; notes = l.notes ++ o.notes }) channel_is
+    ∙ ap (λ (x : Outcome). record l { channels = set l.channels place (owing (received l.role l.window c ch b)); relink = set_if x.relink l.relink; notes = l.notes ++ x.notes }) outcome_is
+    ∙ sym (step_at l c place ch (λ x. received l.role l.window c x b) e h)
+    ∙ ap (λ (p : Phase). on_channel p l c (λ x. received l.role l.window c x b)) (sym ready)
+
+-- a channel that is left as it is
+pub unchanged : (l : Layer) (place : ℕ) (ch new : Channel) → slice_get l.channels place ≡ Some ch → new ≡ ch → record l { channels = set l.channels place new } ≡ l
+unchanged l place ch new h e = rw (e, set_same l.channels place ch h) refl
+
+-- what is taken owes nothing
+step_of_taking : (role : Role) (ch : Channel) → ((requested role ch Taking).notes ≡ []) × (((requested role ch Taking).owes ≡ None) × ((requested role ch Taking).channel.owed ≡ ch.owed))
+step_of_taking role ch = taken_by (refusal role ch Taking) where
+  taken_by : (o : Option Refusal) → let st = unless o (carried_out ch Taking) ch in (st.notes ≡ []) × ((st.owes ≡ None) × (st.channel.owed ≡ ch.owed))
+  taken_by None = (refl, (refl, refl))
+  taken_by (Some r) = (refl, (refl, refl))
+
+pub taking_done : (l : Layer) (c place : ℕ) (ch new : Channel) → place + 1 ≡ c → slice_get l.channels place ≡ Some ch → new ≡ owing (requested l.role ch Taking) → record l { channels = set l.channels place new } ≡ machine.request l c Taking
+taking_done l c place ch new e h is_new =
+    let facts = step_of_taking l.role ch in
+    sym (step_at l c place ch (λ x. requested l.role x Taking) e h
+    ∙ rw (is_new, facts.0, facts.1.0, append-nil l.notes) refl)
+
+-- an element that the code borrows
+pub item_at : (xs : List Channel) (i : ℕ) (x : Channel) → i < length xs → x ≡ get_or xs i x → slice_get xs i ≡ Some x
+item_at xs i x h e = at_place xs i x h e
+
+ready_of : (s : CallState) (b : Bool) → is_ready s && b ≡ true → s ≡ Ready
+ready_of Ready b h = refl
+ready_of OwnWaiting b h = absurd (cc)
+ready_of FarWaiting b h = absurd (cc)
+ready_of Transfer b h = absurd (cc)
+ready_of Collision b h = absurd (cc)
+ready_of OwnClear b h = absurd (cc)
+
+pub free_ready : (ch : Channel) → is_free ch ≡ true → ch.state ≡ Ready
+free_ready ch h = ready_of ch.state (length ch.owed == 0) h
+
+call_given : (l : Layer) (parts : CallParts) (c : ℕ) → l.phase ≡ PacketReady → free_channel l.role l.channels ≡ Some c → machine.call l parts ≡ on_found l c (λ x. placing parts x) (channel_of l c)
+call_given l parts c ready free = rw (ready, free) refl
+
+pub call_done : (l : Layer) (place : ℕ) (ch new : Channel) (parts : CallParts) (relink : Bool) → l.phase ≡ PacketReady → free_channel l.role l.channels ≡ Some (place + 1) → slice_get l.channels place ≡ Some ch → new ≡ owing (placing parts ch) → relink ≡ passes_limit ch.owed (Some (Call parts)) → kept l place new relink ≡ machine.call l parts
+call_done l place ch new parts relink ready free h e p =
+    sym (call_given l parts (place + 1) ready free
+    ∙ step_at l (place + 1) place ch (λ x. placing parts x) refl h
+    ∙ step_done l place ch (placing parts ch) new relink refl refl e p)

@@ -1,0 +1,7 @@
+use Rattle.std.proofs.Common.{◌≡◌}
+use Rattle.std.specs.Prelude.{replicate}
+use Rattle.packet_layer.specs.Channel.{closed_channel}
+use Rattle.packet_layer.proofs.layer.closed_channels.Given as goal
+
+abbrev pub invariant-loop : goal.invariant-loop
+invariant-loop l = l.channels.items ≡ replicate l.counter closed_channel

@@ -1,0 +1,30 @@
+-- Control packets that are owed, as the code has them.
+use Rattle.std.specs.Prelude.{ℕ, List, [], ◌∷◌, map, Option, Some, None}
+use Rattle.packet_layer.specs.Packets.{Body}
+use Rattle.packet_layer.specs.Octets.{parts_of}
+use Rattle.packet_layer.specs.declared.control.Control.{Control}
+use Rattle.packet_layer.specs.declared.control.Control.TheVariants as control
+
+abbrev pub control_body : Control → Body
+control_body (control.Call call) = Body.Call (parts_of call)
+control_body control.Accepted = Body.Accepted
+control_body (control.Clear cause diagnostic) = Body.Clear cause diagnostic
+control_body control.ClearConfirmation = Body.ClearConfirmation
+control_body (control.Reset cause diagnostic) = Body.Reset cause diagnostic
+control_body control.ResetConfirmation = Body.ResetConfirmation
+
+abbrev pub bodies_of : List Control → List Body
+bodies_of packets = map control_body packets
+
+abbrev pub maybe_body : Option Control → Option Body
+maybe_body None = None
+maybe_body (Some packet) = Some (control_body packet)
+
+-- the packet that is owed first, and those after it
+abbrev pub first_of : List Body → Option Body
+first_of [] = None
+first_of (b ∷ bs) = Some b
+
+abbrev pub rest_of : List Body → List Body
+rest_of [] = []
+rest_of (b ∷ bs) = bs

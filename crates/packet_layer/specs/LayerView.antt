@@ -1,0 +1,23 @@
+-- What contracts see of the code's packet layer, and what always holds of it.
+use Rattle.std.specs.Prelude.{◌≤◌, length}
+use Rattle.packet_layer.specs.Layer.{Layer}
+use Rattle.packet_layer.specs.RestartView.{phase_of}
+use Rattle.packet_layer.specs.declared.layer.Layer.TheInside.{Inside}
+
+abbrev pub layer_of : Inside → Layer
+layer_of a = record {
+  role = a.role;
+  window = a.window;
+  channels = a.channels.items;
+  phase = phase_of a.phase;
+  owed = a.owed;
+  served_last = a.served_last;
+  relink = a.relink;
+  notes = a.notes;
+}
+
+-- the window is one modulo 8, there are at most 32 channels, and at most so many notes are not read
+pub record IsLayer (a : Inside) : Type 0 where
+  pub window : a.window ≤ 7
+  pub channels : length a.channels.items ≤ 32
+  pub notes : length a.notes ≤ 32

@@ -1,0 +1,36 @@
+-- What contracts see of the code's traffic, and what always holds of it.
+use Rattle.std.specs.Prelude.{◌≡◌, ℕ, ◌+◌, ◌%◌, ◌<◌, ◌≤◌, length}
+use Rattle.packet_layer.specs.Traffic.{Traffic, Heard, distance}
+use Rattle.packet_layer.specs.declared.traffic.Traffic.TheInside.{Inside}
+
+abbrev pub traffic_of : Inside → Traffic
+traffic_of a = record {
+  waiting = a.waiting.items;
+  send_number = (a.send.oldest + a.send.next) % 8;
+  covered = a.send.oldest;
+  undelivered = a.undelivered;
+  arrived = a.arrived.items;
+  receive_number = a.expected;
+  released = a.released;
+  untold = a.untold;
+  partner_busy = a.partner_busy;
+  stopped = a.stopped;
+  told_stopped = a.told_stopped;
+  interrupt_waiting = a.interrupt_waiting;
+  interrupt_unconfirmed = a.interrupt_unconfirmed;
+  interrupt_arrived = a.interrupt_arrived;
+  interrupt_taken = a.interrupt_taken;
+  confirmation_due = a.confirmation_due;
+}
+
+-- both queues have 8 places; numbers are modulo 8 and none is sent again; what waits to be taken is not released
+pub record IsTraffic (a : Inside) : Type 0 where
+  pub waiting_places : a.waiting.capacity ≡ 8
+  pub arrived_places : a.arrived.capacity ≡ 8
+  pub size : a.send.size ≡ 7
+  pub oldest : a.send.oldest < 8
+  pub next : a.send.next ≤ 7
+  pub top : a.send.top ≡ a.send.next
+  pub expected : a.expected < 8
+  pub released : a.released < 8
+  pub arrived : length a.arrived.items ≤ distance a.released a.expected

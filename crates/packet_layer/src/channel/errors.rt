@@ -1,0 +1,115 @@
+//! Procedure errors (X.25 tables C-3 and C-4).
+ghost use Rattle.std.specs.Prelude.{◌≡◌, true};
+ghost use Rattle.packet_layer.specs.Channel as machine;
+ghost use Rattle.packet_layer.specs.StateView.{state_of};
+ghost use Rattle.packet_layer.specs.Effects.{effect_of};
+
+use crate::channel::Channel;
+use crate::control::Control;
+use crate::effect::Effect;
+use crate::note::{LayerNote, Reason};
+use crate::state::{CallState, End, error_cause};
+
+impl Channel {
+    /// Ends the call and what is in transfer.
+    pub(crate) fn end_call(&mut self, state: CallState)
+        ensures { self.new ≡ machine.ended (state_of state) self.old }
+    {
+        self.state = state;
+        self.resetting = false;
+        self.traffic.clear();
+    }
+
+    /// Clears the call for a fault that was found here.
+    pub(crate) fn clear_error(&mut self, end: End, diagnostic: u8, had_call: bool) -> Effect
+        ensures channel { self.new ≡ (machine.clear_error end.role end.channel diagnostic had_call self.old).channel }
+        ensures effect { result ≡ effect_of (machine.clear_error end.role end.channel diagnostic had_call self.old) }
+    {
+        self.end_call(CallState::OwnClear);
+        let clear = Control::Clear {
+            cause: error_cause(end.role, 19),
+            diagnostic,
+        };
+        if !had_call {
+            return Effect::owing(clear);
+        }
+        Effect::both(
+            clear,
+            LayerNote::Closed {
+                channel: end.channel,
+                cause: 19,
+                diagnostic,
+                reason: Reason::LocalFault,
+            },
+        )
+    }
+
+    /// Resets the call for a fault that was found here.
+    pub(crate) fn reset_error(&mut self, end: End, diagnostic: u8) -> Effect
+        requires { machine.in_transfer self.old.state ≡ true }
+        ensures channel { self.new ≡ (machine.reset_error end.role end.channel diagnostic self.old).channel }
+        ensures effect { result ≡ effect_of (machine.reset_error end.role end.channel diagnostic self.old) }
+    {
+        self.resetting = true;
+        self.traffic.clear();
+        Effect::both(
+            Control::Reset {
+                cause: error_cause(end.role, 5),
+                diagnostic,
+            },
+            LayerNote::Reset {
+                channel: end.channel,
+                cause: 5,
+                diagnostic,
+                reason: Reason::LocalFault,
+            },
+        )
+    }
+
+    /// Clears the call for a packet that the state does not allow.
+    pub(crate) fn not_allowed(&mut self, end: End) -> Effect
+        ensures channel { self.new ≡ (machine.not_allowed end.role end.channel self.old).channel }
+        ensures effect { result ≡ effect_of (machine.not_allowed end.role end.channel self.old) }
+    {
+        let number = self.state.number(end.role);
+        self.clear_error(end, 19 + number, true)
+    }
+
+    /// The far end clears the call.
+    pub(crate) fn far_cleared(&mut self, end: End, cause: u8, diagnostic: u8) -> Effect
+        ensures channel { self.new ≡ (machine.far_cleared end.channel cause diagnostic self.old).channel }
+        ensures effect { result ≡ effect_of (machine.far_cleared end.channel cause diagnostic self.old) }
+    {
+        self.end_call(CallState::Ready);
+        Effect::both(
+            Control::ClearConfirmation,
+            LayerNote::Closed {
+                channel: end.channel,
+                cause,
+                diagnostic,
+                reason: Reason::FarEnd,
+            },
+        )
+    }
+
+    /// A packet of the channel that cannot be read counts as one that the state does not allow; where its fault is not an
+    /// unknown type, with diagnostic 0.
+    pub(crate) fn unreadable(&mut self, end: End, unknown: bool) -> Effect
+        ensures channel { self.new ≡ (machine.unreadable end.role end.channel unknown self.old).channel }
+        ensures effect { result ≡ effect_of (machine.unreadable end.role end.channel unknown self.old) }
+    {
+        let number = self.state.number(end.role);
+        let diagnostic = if unknown { 19 + number } else { 0 };
+        match self.state {
+            CallState::Ready => self.clear_error(end, diagnostic, false),
+            CallState::OwnClear => Effect::nothing(),
+            CallState::Transfer if !self.resetting => {
+                self.reset_error(end, if unknown { 27 } else { 0 })
+            }
+            CallState::Transfer
+            | CallState::OwnWaiting
+            | CallState::FarWaiting
+            | CallState::Collision => self.clear_error(end, diagnostic, true),
+        }
+    }
+}

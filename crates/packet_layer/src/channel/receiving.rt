@@ -1,0 +1,235 @@
+//! Packets from the link, by the state of the call (X.25 tables C-3 and C-4).
+ghost use Rattle.std.specs.Prelude.{◌≡◌, ◌≤◌, true, false};
+ghost use Rattle.packet_codec.specs.Packet.{IsPacket};
+ghost use Rattle.packet_codec.specs.View.{view, content_view};
+ghost use Rattle.packet_layer.specs.Packets.{Body as body};
+ghost use Rattle.packet_layer.specs.Channel as machine;
+ghost use Rattle.packet_layer.specs.Octets.{body_of};
+ghost use Rattle.packet_layer.specs.HeardView.{heard_of};
+ghost use Rattle.packet_layer.specs.Effects.{effect_of};
+
+use crate::channel::Channel;
+use crate::control::Control;
+use crate::effect::Effect;
+use crate::heard::Heard;
+use crate::note::{LayerNote, Reason};
+use crate::state::{CallState, End};
+use link_timers::Role;
+use packet_codec::{CallBuf, Content, Packet};
+
+impl Channel {
+    /// Takes a packet of the channel.
+    pub(crate) fn receive(&mut self, end: End, packet: &Packet<'_>) -> Effect
+        requires window { end.window ≤ 7 }
+        requires fits { IsPacket (view packet.now) }
+        ensures channel { self.new ≡ (machine.received end.role end.window end.channel self.old
+            (body_of (content_view packet.now.content))).channel }
+        ensures effect { result ≡ effect_of (machine.received end.role end.window end.channel self.old
+            (body_of (content_view packet.now.content))) }
+    {
+        match self.state {
+            CallState::Ready => self.in_ready(end, packet),
+            CallState::OwnWaiting => self.in_own_waiting(end, packet),
+            CallState::FarWaiting => self.in_far_waiting(end, packet),
+            CallState::Transfer if self.resetting => self.in_own_reset(end, packet),
+            CallState::Transfer => self.in_flow_ready(end, packet),
+            CallState::Collision => self.in_collision(end, packet),
+            CallState::OwnClear => self.in_own_clear(packet),
+        }
+    }
+
+    fn in_ready(&mut self, end: End, packet: &Packet<'_>) -> Effect
+        requires state { self.old.state ≡ machine.CallState.Ready }
+        requires fits { IsPacket (view packet.now) }
+        ensures channel { self.new ≡ (machine.in_ready end.role end.channel self.old
+            (body_of (content_view packet.now.content))).channel }
+        ensures effect { result ≡ effect_of (machine.in_ready end.role end.channel self.old
+            (body_of (content_view packet.now.content))) }
+    {
+        match &packet.content {
+            Content::CallRequest(call) => {
+                self.state = CallState::FarWaiting;
+                Effect::noting(LayerNote::Incoming(end.channel, CallBuf::new(call)))
+            }
+            Content::ClearRequest { .. } => Effect::owing(Control::ClearConfirmation),
+            _ => self.clear_error(end, 20, false),
+        }
+    }
+
+    // In a call collision the DCE's own call is cancelled.
+    fn in_own_waiting(&mut self, end: End, packet: &Packet<'_>) -> Effect
+        requires state { self.old.state ≡ machine.CallState.OwnWaiting }
+        requires fits { IsPacket (view packet.now) }
+        ensures channel { self.new ≡ (machine.in_own_waiting end.role end.channel self.old
+            (body_of (content_view packet.now.content))).channel }
+        ensures effect { result ≡ effect_of (machine.in_own_waiting end.role end.channel self.old
+            (body_of (content_view packet.now.content))) }
+    {
+        match &packet.content {
+            Content::CallAccepted => {
+                self.state = CallState::Transfer;
+                Effect::noting(LayerNote::Connected(end.channel))
+            }
+            Content::CallRequest(call) => {
+                self.state = CallState::Collision;
+                match end.role {
+                    Role::Dte => Effect::nothing(),
+                    Role::Dce => Effect {
+                        owes: None,
+                        first: Some(LayerNote::Closed {
+                            channel: end.channel,
+                            cause: 1,
+                            diagnostic: 0,
+                            reason: Reason::Cancelled,
+                        }),
+                        second: Some(LayerNote::Incoming(end.channel, CallBuf::new(call))),
+                    },
+                }
+            }
+            Content::ClearRequest { cause, diagnostic } => {
+                self.far_cleared(end, *cause, *diagnostic)
+            }
+            _ => self.not_allowed(end),
+        }
+    }
+
+    fn in_far_waiting(&mut self, end: End, packet: &Packet<'_>) -> Effect
+        ensures channel { self.new ≡ (machine.in_far_waiting end.role end.channel self.old
+            (body_of (content_view packet.now.content))).channel }
+        ensures effect { result ≡ effect_of (machine.in_far_waiting end.role end.channel self.old
+            (body_of (content_view packet.now.content))) }
+    {
+        match packet.content {
+            Content::ClearRequest { cause, diagnostic } => self.far_cleared(end, cause, diagnostic),
+            _ => self.not_allowed(end),
+        }
+    }
+
+    fn in_collision(&mut self, end: End, packet: &Packet<'_>) -> Effect
+        ensures channel { self.new ≡ (machine.in_collision end.role end.channel self.old
+            (body_of (content_view packet.now.content))).channel }
+        ensures effect { result ≡ effect_of (machine.in_collision end.role end.channel self.old
+            (body_of (content_view packet.now.content))) }
+    {
+        match packet.content {
+            Content::CallAccepted => match end.role {
+                Role::Dte => {
+                    self.state = CallState::Transfer;
+                    Effect::noting(LayerNote::Connected(end.channel))
+                }
+                Role::Dce => self.not_allowed(end),
+            },
+            Content::ClearRequest { cause, diagnostic } => self.far_cleared(end, cause, diagnostic),
+            _ => self.not_allowed(end),
+        }
+    }
+
+    fn in_own_clear(&mut self, packet: &Packet<'_>) -> Effect
+        requires { self.old.state ≡ machine.CallState.OwnClear }
+        ensures channel { self.new ≡ (machine.in_own_clear self.old (body_of (content_view packet.now.content))).channel }
+        ensures effect { result ≡ effect_of (machine.in_own_clear self.old (body_of (content_view packet.now.content))) }
+    {
+        match packet.content {
+            Content::ClearRequest { .. } | Content::ClearConfirmation => {
+                self.state = CallState::Ready;
+                Effect::nothing()
+            }
+            _ => Effect::nothing(),
+        }
+    }
+
+    fn in_own_reset(&mut self, end: End, packet: &Packet<'_>) -> Effect
+        requires { self.old.state ≡ machine.CallState.Transfer }
+        ensures channel { self.new ≡ (machine.in_own_reset end.role end.channel self.old
+            (body_of (content_view packet.now.content))).channel }
+        ensures effect { result ≡ effect_of (machine.in_own_reset end.role end.channel self.old
+            (body_of (content_view packet.now.content))) }
+    {
+        match packet.content {
+            Content::ClearRequest { cause, diagnostic } => self.far_cleared(end, cause, diagnostic),
+            Content::ResetRequest { .. } | Content::ResetConfirmation => {
+                self.resetting = false;
+                Effect::nothing()
+            }
+            Content::Data(_)
+            | Content::ReceiveReady(_)
+            | Content::ReceiveNotReady(_)
+            | Content::Interrupt(_)
+            | Content::InterruptConfirmation => Effect::nothing(),
+            _ => self.not_allowed(end),
+        }
+    }
+
+    fn in_flow_ready(&mut self, end: End, packet: &Packet<'_>) -> Effect
+        requires window { end.window ≤ 7 }
+        requires fits { IsPacket (view packet.now) }
+        requires state { self.old.state ≡ machine.CallState.Transfer }
+        ensures channel { self.new ≡ (machine.in_flow_ready end.role end.window end.channel self.old
+            (body_of (content_view packet.now.content))).channel }
+        ensures effect { result ≡ effect_of (machine.in_flow_ready end.role end.window end.channel self.old
+            (body_of (content_view packet.now.content))) }
+    {
+        match packet.content {
+            Content::ClearRequest { cause, diagnostic } => self.far_cleared(end, cause, diagnostic),
+            Content::ResetRequest { cause, diagnostic } => self.far_reset(end, cause, diagnostic),
+            Content::ResetConfirmation => self.reset_error(end, 27),
+            Content::Data(packet) => {
+                let heard = self.traffic.hear_data(end.window, &packet);
+                self.after_heard(end, heard)
+            }
+            Content::ReceiveReady(receive) => {
+                let heard = self.traffic.hear_ready(receive, false);
+                self.after_heard(end, heard)
+            }
+            Content::ReceiveNotReady(receive) => {
+                let heard = self.traffic.hear_ready(receive, true);
+                self.after_heard(end, heard)
+            }
+            Content::Interrupt(octets) => {
+                let heard = self.traffic.hear_interrupt(end.window, octets);
+                self.after_heard(end, heard)
+            }
+            Content::InterruptConfirmation => {
+                let heard = self.traffic.hear_interrupt_confirmation(end.window);
+                self.after_heard(end, heard)
+            }
+            _ => self.not_allowed(end),
+        }
+    }
+
+    // The far end resets the call.
+    fn far_reset(&mut self, end: End, cause: u8, diagnostic: u8) -> Effect
+        requires { self.old.state ≡ machine.CallState.Transfer }
+        ensures channel { self.new ≡ machine.renewed false self.old }
+        ensures effect { result ≡ effect_of (machine.in_flow_ready end.role end.window end.channel self.old (body.Reset cause diagnostic)) }
+    {
+        self.resetting = false;
+        self.traffic.clear();
+        Effect::both(
+            Control::ResetConfirmation,
+            LayerNote::Reset {
+                channel: end.channel,
+                cause,
+                diagnostic,
+                reason: Reason::FarEnd,
+            },
+        )
+    }
+
+    // What a packet of data transfer does besides what it does to the traffic.
+    fn after_heard(&mut self, end: End, heard: Heard) -> Effect
+        requires { machine.in_transfer self.old.state ≡ true }
+        ensures channel { self.new ≡ (machine.after_heard end.role end.channel self.old (heard_of heard self.old.traffic)).channel }
+        ensures effect { result ≡ effect_of (machine.after_heard end.role end.channel self.old (heard_of heard self.old.traffic)) }
+    {
+        match heard {
+            Heard::Keeps(0) => Effect::nothing(),
+            Heard::Keeps(count) => Effect::noting(LayerNote::Covered {
+                channel: end.channel,
+                count,
+            }),
+            Heard::Confirms => Effect::noting(LayerNote::InterruptConfirmed(end.channel)),
+            Heard::Wrong(diagnostic) => self.reset_error(end, diagnostic),
+        }
+    }
+}

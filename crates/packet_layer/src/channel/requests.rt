@@ -1,0 +1,174 @@
+//! What the user asks of a channel (X.25 4.1 to 4.4).
+ghost use Rattle.packet_layer.specs.Channel as machine;
+ghost use Rattle.packet_layer.specs.Answers.{Answers};
+ghost use Rattle.packet_layer.specs.RequestView.{request_of};
+
+use crate::channel::Channel;
+use crate::control::Control;
+use crate::fault::ChannelFault;
+use crate::state::CallState;
+use crate::traffic::SEND_QUEUE;
+use crate::user_data::{InterruptData, UserData};
+use link_timers::Role;
+use packet_codec::{MAX_INTERRUPT, MAX_USER_DATA};
+
+/// What a user asks of the call on a channel.
+#[derive(Clone, Copy)]
+pub(crate) enum Request<'a> {
+    Accept,
+    Clear {
+        cause: u8,
+        diagnostic: u8,
+    },
+    Reset {
+        cause: u8,
+        diagnostic: u8,
+    },
+    Send {
+        octets: &'a [u8],
+        more: bool,
+        qualified: bool,
+        delivery: bool,
+    },
+    Interrupt(&'a [u8]),
+    Stop(bool),
+    Release(u8),
+    ConfirmInterrupt,
+}
+
+impl Channel {
+    /// Does what is asked, if it is not refused, and answers whether one control packet too many is owed.
+    pub(crate) fn request(
+        &mut self,
+        role: Role,
+        request: &Request<'_>,
+    ) -> Result<bool, ChannelFault>
+        ensures { Answers role self.old (request_of request.now) result self.new }
+    {
+        match request {
+            Request::Accept => self.accept(role),
+            Request::Clear { cause, diagnostic } => self.clear(role, *cause, *diagnostic),
+            Request::Reset { cause, diagnostic } => self.reset(role, *cause, *diagnostic),
+            Request::Send {
+                octets,
+                more,
+                qualified,
+                delivery,
+            } => self.send(role, octets, *more, *qualified, *delivery),
+            Request::Interrupt(octets) => self.interrupt(role, octets),
+            Request::Stop(stopped) => self.stop(role, *stopped),
+            Request::Release(count) => self.release(role, *count),
+            Request::ConfirmInterrupt => self.confirm_interrupt(role),
+        }
+    }
+
+    fn accept(&mut self, role: Role) -> Result<bool, ChannelFault>
+        ensures { Answers role self.old machine.Request.Accept result self.new }
+    {
+        if !self.state.may_accept(role) {
+            return Err(ChannelFault::NoCall);
+        }
+        self.state = CallState::Transfer;
+        Ok(self.owed.owe(Some(Control::Accepted)))
+    }
+
+    fn clear(&mut self, role: Role, cause: u8, diagnostic: u8) -> Result<bool, ChannelFault>
+        ensures { Answers role self.old (machine.Request.Clearing cause diagnostic) result self.new }
+    {
+        if !self.state.has_call() {
+            return Err(ChannelFault::NoCall);
+        }
+        self.end_call(CallState::OwnClear);
+        Ok(self.owed.owe(Some(Control::Clear { cause, diagnostic })))
+    }
+
+    fn reset(&mut self, role: Role, cause: u8, diagnostic: u8) -> Result<bool, ChannelFault>
+        ensures { Answers role self.old (machine.Request.Resetting cause diagnostic) result self.new }
+    {
+        if !self.state.in_transfer() {
+            return Err(ChannelFault::NoCall);
+        }
+        if self.resetting {
+            return Err(ChannelFault::Resetting);
+        }
+        self.resetting = true;
+        self.traffic.clear();
+        Ok(self.owed.owe(Some(Control::Reset { cause, diagnostic })))
+    }
+
+    fn send(
+        &mut self,
+        role: Role,
+        octets: &[u8],
+        more: bool,
+        qualified: bool,
+        delivery: bool,
+    ) -> Result<bool, ChannelFault>
+        ensures { Answers role self.old (machine.Request.Sending (record { octets = octets.now; more = more; qualified = qualified; delivery = delivery })) result self.new }
+    {
+        if !self.state.in_transfer() {
+            return Err(ChannelFault::NoCall);
+        }
+        if self.resetting {
+            return Err(ChannelFault::Resetting);
+        }
+        if usize::from(self.traffic.waiting()) >= SEND_QUEUE {
+            return Err(ChannelFault::QueueFull);
+        }
+        if octets.len() > MAX_USER_DATA {
+            return Err(ChannelFault::TooLong);
+        }
+        self.traffic
+            .queue(UserData::new(octets, more, qualified, delivery));
+        Ok(false)
+    }
+
+    fn interrupt(&mut self, role: Role, octets: &[u8]) -> Result<bool, ChannelFault>
+        ensures { Answers role self.old (machine.Request.Interrupting octets.now) result self.new }
+    {
+        if !self.state.in_transfer() {
+            return Err(ChannelFault::NoCall);
+        }
+        if self.resetting {
+            return Err(ChannelFault::Resetting);
+        }
+        if octets.is_empty() || octets.len() > MAX_INTERRUPT {
+            return Err(ChannelFault::TooLong);
+        }
+        if self.traffic.interrupt_pending() {
+            return Err(ChannelFault::InterruptPending);
+        }
+        self.traffic.queue_interrupt(InterruptData::new(octets));
+        Ok(false)
+    }
+
+    fn stop(&mut self, role: Role, stopped: bool) -> Result<bool, ChannelFault>
+        ensures { Answers role self.old (machine.Request.Stopping stopped) result self.new }
+    {
+        if !self.state.in_transfer() {
+            return Err(ChannelFault::NoCall);
+        }
+        self.traffic.stop(stopped);
+        Ok(false)
+    }
+
+    fn release(&mut self, role: Role, count: u8) -> Result<bool, ChannelFault>
+        ensures { Answers role self.old (machine.Request.Releasing count) result self.new }
+    {
+        if !self.state.in_transfer() {
+            return Err(ChannelFault::NoCall);
+        }
+        self.traffic.release(count);
+        Ok(false)
+    }
+
+    fn confirm_interrupt(&mut self, role: Role) -> Result<bool, ChannelFault>
+        ensures { Answers role self.old machine.Request.Confirming result self.new }
+    {
+        if !self.state.in_transfer() {
+            return Err(ChannelFault::NoCall);
+        }
+        self.traffic.confirm_interrupt();
+        Ok(false)
+    }
+}

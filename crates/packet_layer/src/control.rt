@@ -1,0 +1,117 @@
+//! Control packets that are owed to the link.
+ghost use Rattle.std.specs.Bool.{OnFalse};
+ghost use Rattle.std.specs.Prelude.{◌≡◌, ◌<◌, [], ◌==◌, length, is_some};
+ghost use Rattle.packet_layer.specs.Layer.{with_owed, passes_limit};
+ghost use Rattle.packet_layer.specs.Octets.{written, ReadsAs};
+ghost use Rattle.packet_layer.specs.ControlView.{maybe_body, first_of, rest_of};
+
+use crate::write::{
+    write_accepted, write_call, write_clear, write_clear_confirmation, write_reset,
+    write_reset_confirmation,
+};
+use arrayvec::ArrayVec;
+use packet_codec::{CallBuf, PacketBuf};
+use std::marker::Model;
+
+/// A packet of call set-up, clearing or reset (X.25 5.2, 5.4.3).
+#[derive(Drop)]
+pub(crate) enum Control {
+    Call(CallBuf),
+    Accepted,
+    Clear { cause: u8, diagnostic: u8 },
+    ClearConfirmation,
+    Reset { cause: u8, diagnostic: u8 },
+    ResetConfirmation,
+}
+
+impl Default for Control {
+    fn default() -> Self {
+        Control::Accepted
+    }
+}
+
+fn write_control(channel: u8, control: &Control, buf: &mut PacketBuf)
+    requires { 0 < channel }
+    ensures octets { buf.new.items ≡ written channel (maybe_body (Some control.now)) buf.old.items }
+    ensures reads_back { ReadsAs channel (maybe_body (Some control.now)) buf.new.items }
+{
+    match control {
+        Control::Call(call) => write_call(channel, call, buf),
+        Control::Accepted => write_accepted(channel, buf),
+        Control::Clear { cause, diagnostic } => write_clear(channel, *cause, *diagnostic, buf),
+        Control::ClearConfirmation => write_clear_confirmation(channel, buf),
+        Control::Reset { cause, diagnostic } => write_reset(channel, *cause, *diagnostic, buf),
+        Control::ResetConfirmation => write_reset_confirmation(channel, buf),
+    }
+}
+
+/// The control packets that a channel owes, in order: at most four.
+#[derive(Drop)]
+pub(crate) struct Owed {
+    packets: ArrayVec<Control, 4>,
+}
+
+impl Model for Owed {
+    ghost use Rattle.std.specs.Prelude.{List, ◌≤◌, length};
+    ghost use Rattle.packet_layer.specs.Packets.{Body};
+
+    ghost Value = { List Body };
+
+    ghost use Rattle.packet_layer.specs.ControlView.{bodies_of};
+
+    ghost view = { λ o. bodies_of o.packets.items };
+}
+
+impl Owed {
+    pub(crate) fn new() -> Self
+        ensures { result ≡ [] }
+    {
+        Owed {
+            packets: ArrayVec::new(),
+        }
+    }
+
+    pub(crate) fn is_empty(&self) -> bool
+        ensures { result ≡ (length self.now == 0) }
+    {
+        self.packets.is_empty()
+    }
+
+    pub(crate) fn clear(&mut self)
+        ensures { self.new ≡ [] }
+    {
+        self.packets.clear();
+    }
+
+    /// Owes a packet more, if there is one, and answers whether it is one too many. That one is not kept.
+    pub(crate) fn owe(&mut self, packet: Option<Control>) -> bool
+        ensures owed { self.new ≡ with_owed self.old (maybe_body packet) }
+        ensures passes { result ≡ passes_limit self.old (maybe_body packet) }
+    {
+        let Some(packet) = packet else {
+            return false;
+        };
+        if self.packets.is_full() {
+            return true;
+        }
+        self.packets.push(packet);
+        false
+    }
+
+    /// Writes the first packet, if there is one, which is then owed no more.
+    pub(crate) fn next_packet(&mut self, channel: u8, buf: &mut PacketBuf) -> bool
+        requires { 0 < channel }
+        ensures said { result ≡ is_some (first_of self.old) }
+        ensures owed { self.new ≡ rest_of self.old }
+        ensures octets { buf.new.items ≡ written channel (first_of self.old) buf.old.items }
+        ensures reads_back { ReadsAs channel (first_of self.old) buf.new.items }
+        ensures same { OnFalse result (self.new ≡ self.old) }
+    {
+        if self.packets.is_empty() {
+            return false;
+        }
+        let control = self.packets.remove(0);
+        write_control(channel, &control, buf);
+        true
+    }
+}

@@ -1,0 +1,57 @@
+//! Why a call of a layer is refused.
+
+use std::alloc::AllocError;
+use thiserror::Error;
+
+/// Why a layer was not made, in the order in which the faults are tested.
+#[derive(Clone, Copy, Debug, PartialEq, Eq, Error)]
+pub enum MakeFault {
+    /// A parameter is out of its range.
+    #[error("bad packet layer parameters")]
+    BadParams,
+    /// Memory was refused.
+    #[error("out of memory")]
+    OutOfMemory,
+}
+
+impl From<AllocError> for MakeFault {
+    ghost use Rattle.std.specs.Prelude.{◌≡◌};
+    ghost use Rattle.packet_layer.specs.declared.fault.MakeFault.TheVariants.{OutOfMemory};
+
+    ghost from_gives = { λ _ fault. fault ≡ OutOfMemory };
+
+    fn from(_: AllocError) -> Self {
+        MakeFault::OutOfMemory
+    }
+}
+
+/// Why a call was not placed, in the order in which the faults are tested.
+#[derive(Clone, Copy, Debug, PartialEq, Eq, Error)]
+pub enum CallFault {
+    /// The restart procedure is not done.
+    #[error("packet layer not ready")]
+    NotReady,
+    /// No channel is free.
+    #[error("no free channel")]
+    NoChannel,
+}
+
+/// Why a request on a channel was refused, in the order in which the faults are tested.
+#[derive(Clone, Copy, Debug, PartialEq, Eq, Error)]
+pub enum ChannelFault {
+    /// There is no call for which it could be asked.
+    #[error("no call")]
+    NoCall,
+    /// The own reset is not confirmed.
+    #[error("resetting")]
+    Resetting,
+    /// The send queue has no place.
+    #[error("send queue full")]
+    QueueFull,
+    /// The octets are too many, or for an interrupt none.
+    #[error("too long")]
+    TooLong,
+    /// An interrupt is not yet confirmed.
+    #[error("interrupt pending")]
+    InterruptPending,
+}

@@ -1,0 +1,176 @@
+//! The packet layer of one line (X.25 3 to 5).
+ghost use Rattle.std.specs.Prelude.{◌≡◌, ◌<◌, ◌≤◌, ◌+◌, ◌++◌, MatchResult, MatchOption, IfOk, None, false, Bool, [], length, drop, replicate, slice_get};
+ghost use Rattle.packet_layer.specs.Channel.{Channel as ChannelValue, closed_channel};
+ghost use Rattle.packet_layer.specs.Layer as machine;
+ghost use Rattle.packet_layer.specs.Params.{AreParams, MadeNot};
+
+mod calls;
+mod closing;
+mod packets;
+mod questions;
+mod serving;
+mod sessions;
+mod timers;
+
+use crate::channel::Channel;
+use crate::effect::Outcome;
+use crate::fault::MakeFault;
+use crate::note::{LayerNote, Notes};
+use crate::params::LayerParams;
+use crate::restart::{OwedRestarts, Phase};
+use crate::state::End;
+use link_timers::Role;
+use std::alloc::{AllocError, Global};
+use std::marker::Model;
+
+/// One end of a line at the packet layer: its logical channels, the restart procedure, and what it owes to the link.
+#[derive(Drop)]
+pub struct Layer {
+    role: Role,
+    window: u8,
+    channels: Vec<Channel>,
+    phase: Phase,
+    owed: OwedRestarts,
+    served_last: u8,
+    relink: bool,
+    notes: Notes,
+}
+
+impl Model for Layer {
+    ghost use Rattle.packet_layer.specs.Layer as machine;
+
+    ghost Value = { machine.Layer };
+
+    ghost use Rattle.packet_layer.specs.LayerView.{layer_of, IsLayer};
+
+    ghost view = { layer_of };
+
+    ghost invariant = { IsLayer };
+}
+
+fn closed_channels(alloc: Global, count: u8) -> Result<Vec<Channel>, AllocError>
+    ensures { IfOk result (λ channels. channels.items ≡ replicate count closed_channel) }
+{
+    let mut channels = Vec::new(alloc);
+    for _ in 0..count {
+        channels.push(Channel::new(alloc)?)?;
+    }
+    Ok(channels)
+}
+
+impl Layer {
+    ghost use Rattle.packet_layer.specs.NoteView.{maybe_note};
+
+    /// A packet layer without a session of the link, or on a standing line one in data transfer on channel 1. It takes all the
+    /// memory that it ever uses.
+    ///
+    /// `BadParams` comes where the channels are not 1 to 32 or the window not 1 to 7, and then `OutOfMemory` for want of memory.
+    pub fn new(alloc: Global, role: Role, params: LayerParams) -> Result<Layer, MakeFault>
+        ensures { MatchResult result
+            (λ layer. AreParams params.channels params.window
+            × (layer ≡ machine.made role params.channels params.window params.standing))
+            (λ fault. MadeNot params.channels params.window fault) }
+    {
+        let LayerParams {
+            channels,
+            window,
+            standing,
+        } = params;
+        if channels < 1 || channels > 32 || window < 1 || window > 7 {
+            return Err(MakeFault::BadParams);
+        }
+        let mut channels = closed_channels(alloc, channels)?;
+        let notes = Notes::new(alloc)?;
+        if standing {
+            let first = &mut channels[0];
+            first.stand();
+        }
+        Ok(Layer {
+            role,
+            window,
+            channels,
+            phase: if standing {
+                Phase::PacketReady
+            } else {
+                Phase::NoSession
+            },
+            owed: OwedRestarts::new(),
+            served_last: 0,
+            relink: false,
+            notes,
+        })
+    }
+
+    /// Takes the first note that is not read, if any. Notes that are not read are dropped by the next `link_up`, `link_down`,
+    /// `on_packet` or `on_timer`.
+    pub fn notes(&mut self) -> Option<LayerNote>
+        ensures value { maybe_note result ≡ slice_get self.old.notes 0 }
+        ensures layer { self.new ≡ record self.old { notes = drop 1 self.old.notes } }
+    {
+        self.notes.take()
+    }
+
+    /// Whether the link has to be set up anew: from when a rule asks for it until `link_down` or `link_up`.
+    pub fn must_relink(&self) -> bool
+        ensures { result ≡ self.now.relink }
+    {
+        self.relink
+    }
+
+    // The place of a channel among those of the line.
+    fn place(&self, channel: u16) -> Option<usize>
+        ensures { MatchOption result (machine.channel_of self.now channel ≡ None)
+            (λ place. (place + 1 ≡ channel) × (place < length self.now.channels)) }
+    {
+        let place = usize::from(channel).checked_sub(1)?;
+        if place < self.channels.len() {
+            Some(place)
+        } else {
+            None
+        }
+    }
+
+    // The place of a channel of the line, where the restart procedure is done.
+    fn ready_place(&self, channel: u16) -> Option<usize>
+        ensures { MatchOption result
+            ((test : ChannelValue → Bool) → machine.runs_at test self.now.phase (machine.channel_of self.now channel) ≡ false)
+            (λ place. (self.now.phase ≡ machine.Phase.PacketReady) × (place + 1 ≡ channel) × (place < length self.now.channels)) }
+    {
+        match self.phase {
+            Phase::PacketReady => self.place(channel),
+            Phase::NoSession | Phase::OwnRestart => None,
+        }
+    }
+
+    // The end at which the channel with this place is seen.
+    fn end(&self, place: usize) -> End
+        requires { place < length self.now.channels }
+        ensures role { result.role ≡ self.now.role }
+        ensures window { result.window ≡ self.now.window }
+        ensures most { result.window ≤ 7 }
+        ensures channel { result.channel ≡ place + 1 }
+    {
+        End {
+            role: self.role,
+            window: self.window,
+            channel: place as u8 + 1,
+        }
+    }
+
+    // Keeps what a step of a channel tells.
+    fn report(&mut self, outcome: Outcome)
+        requires { self.old.notes ≡ [] }
+        ensures { self.new ≡ record self.old { relink = machine.set_if outcome.relink self.old.relink; notes = self.old.notes ++ outcome.notes } }
+    {
+        let Outcome {
+            relink,
+            first,
+            second,
+        } = outcome;
+        if relink {
+            self.relink = true;
+        }
+        self.notes.add(first);
+        self.notes.add(second);
+    }
+}

@@ -1,0 +1,230 @@
+//! What a user asks of the calls of a line (X.25 4.1 to 4.4).
+ghost use Rattle.std.specs.Prelude.{◌≡◌, ◌<◌, ◌≤◌, ◌+◌, true, false, Some, None, MatchResult, MatchOption, length};
+ghost use Rattle.packet_codec.specs.Packet.{IsCallValue};
+ghost use Rattle.packet_codec.specs.View.{call_view};
+ghost use Rattle.packet_layer.specs.Channel.{Request as asked};
+ghost use Rattle.packet_layer.specs.Layer as machine;
+ghost use Rattle.packet_layer.specs.Octets.{parts_of};
+ghost use Rattle.packet_layer.specs.RequestView.{request_of, refusal_of, call_refusal_of};
+ghost use Rattle.packet_layer.specs.TakenView.{maybe_taken};
+ghost use Rattle.packet_layer.specs.Free.{IsFreeAt};
+
+use crate::channel::{Channel, Request};
+use crate::fault::{CallFault, ChannelFault};
+use crate::layer::Layer;
+use crate::restart::Phase;
+use crate::taken::Taken;
+use link_timers::Role;
+use packet_codec::{CallBuf, CallData};
+
+fn lowest_free(channels: &[Channel]) -> Option<usize>
+    ensures { MatchOption result (machine.lowest_free channels.now ≡ None)
+        (λ place. (machine.lowest_free channels.now ≡ Some (place + 1)) × IsFreeAt channels.now place) }
+{
+    for (place, channel) in channels.iter().enumerate() {
+        if channel.is_free() {
+            return Some(place);
+        }
+    }
+    None
+}
+
+fn highest_free(channels: &[Channel]) -> Option<usize>
+    ensures { MatchOption result (machine.highest_free channels.now ≡ None)
+        (λ place. (machine.highest_free channels.now ≡ Some (place + 1)) × IsFreeAt channels.now place) }
+{
+    let mut found = None;
+    for (place, channel) in channels.iter().enumerate() {
+        if channel.is_free() {
+            found = Some(place);
+        }
+    }
+    found
+}
+
+impl Layer {
+    /// Places a call on a free channel, a DTE on the highest one and a DCE on the lowest (X.25 4.1.2), and answers the channel.
+    /// The facilities have at most 109 octets and the user data at most 16.
+    ///
+    /// `NotReady` comes where the restart procedure is not done, then `NoChannel` where no channel is free. A call that is
+    /// refused changes nothing.
+    pub fn call(&mut self, call: &CallData<'_>) -> Result<u8, CallFault>
+        requires { IsCallValue (call_view call.now) }
+        ensures answer { MatchResult result
+            (λ channel. machine.channel_given self.old self.old.phase ≡ Some channel)
+            (λ fault. machine.call_refusal self.old self.old.phase ≡ Some (call_refusal_of fault)) }
+        ensures layer { self.new ≡ machine.call self.old (parts_of (call_view call.now)) }
+    {
+        let Phase::PacketReady = self.phase else {
+            return Err(CallFault::NotReady);
+        };
+        let Some(place) = self.free_place() else {
+            return Err(CallFault::NoChannel);
+        };
+        let call = CallBuf::new(call);
+        let channel = &mut self.channels[place];
+        if channel.place_call(call) {
+            self.relink = true;
+        }
+        Ok(place as u8 + 1)
+    }
+
+    fn free_place(&self) -> Option<usize>
+        ensures { MatchOption result (machine.free_channel self.now.role self.now.channels ≡ None)
+            (λ place. (machine.free_channel self.now.role self.now.channels ≡ Some (place + 1)) × IsFreeAt self.now.channels place) }
+    {
+        match self.role {
+            Role::Dte => highest_free(self.channels.as_slice()),
+            Role::Dce => lowest_free(self.channels.as_slice()),
+        }
+    }
+
+    fn request(&mut self, channel: u8, request: &Request<'_>) -> Result<(), ChannelFault>
+        ensures answer { MatchResult result
+            (λ _. machine.request_refusal self.old channel (request_of request.now) ≡ None)
+            (λ fault. machine.request_refusal self.old channel (request_of request.now) ≡ Some (refusal_of fault)) }
+        ensures layer { self.new ≡ machine.request self.old channel (request_of request.now) }
+    {
+        let Some(place) = self.place(u16::from(channel)) else {
+            return Err(ChannelFault::NoCall);
+        };
+        let role = self.role;
+        let channel = &mut self.channels[place];
+        match channel.request(role, request) {
+            Ok(relink) => {
+                if relink {
+                    self.relink = true;
+                }
+                Ok(())
+            }
+            Err(fault) => Err(fault),
+        }
+    }
+
+    /// Accepts the call that came in on the channel (X.25 4.1.4).
+    ///
+    /// `NoCall` comes where none waits for it: no call came in, or a DTE's own call collided with it.
+    pub fn accept(&mut self, channel: u8) -> Result<(), ChannelFault>
+        ensures answer { MatchResult result
+            (λ _. machine.request_refusal self.old channel asked.Accept ≡ None)
+            (λ fault. machine.request_refusal self.old channel asked.Accept ≡ Some (refusal_of fault)) }
+        ensures layer { self.new ≡ machine.request self.old channel asked.Accept }
+    {
+        self.request(channel, &Request::Accept)
+    }
+
+    /// Clears the call on the channel, also one that is being set up, with a cause and a diagnostic (X.25 4.1.7).
+    ///
+    /// `NoCall` comes where there is none.
+    pub fn clear(&mut self, channel: u8, cause: u8, diagnostic: u8) -> Result<(), ChannelFault>
+        ensures answer { MatchResult result
+            (λ _. machine.request_refusal self.old channel (asked.Clearing cause diagnostic) ≡ None)
+            (λ fault. machine.request_refusal self.old channel (asked.Clearing cause diagnostic) ≡ Some (refusal_of fault)) }
+        ensures layer { self.new ≡ machine.request self.old channel (asked.Clearing cause diagnostic) }
+    {
+        self.request(channel, &Request::Clear { cause, diagnostic })
+    }
+
+    /// Resets the call on the channel with a cause and a diagnostic: what waits in both directions is dropped (X.25 4.4.3).
+    ///
+    /// `NoCall` comes where no call is in data transfer, `Resetting` while the last own reset is not confirmed.
+    pub fn reset(&mut self, channel: u8, cause: u8, diagnostic: u8) -> Result<(), ChannelFault>
+        ensures answer { MatchResult result
+            (λ _. machine.request_refusal self.old channel (asked.Resetting cause diagnostic) ≡ None)
+            (λ fault. machine.request_refusal self.old channel (asked.Resetting cause diagnostic) ≡ Some (refusal_of fault)) }
+        ensures layer { self.new ≡ machine.request self.old channel (asked.Resetting cause diagnostic) }
+    {
+        self.request(channel, &Request::Reset { cause, diagnostic })
+    }
+
+    /// Puts a Data packet with its bits M, Q and D into the send queue of the channel (X.25 4.3).
+    ///
+    /// `NoCall` comes where no call is in data transfer, then `Resetting` while the own reset is not confirmed, `QueueFull`
+    /// where 8 packets wait, `TooLong` for more than 128 octets. A packet that is refused changes nothing.
+    pub fn send(
+        &mut self,
+        channel: u8,
+        octets: &[u8],
+        more: bool,
+        qualified: bool,
+        delivery: bool,
+    ) -> Result<(), ChannelFault>
+        ensures answer { let asks = asked.Sending (record { octets = octets.now; more = more; qualified = qualified; delivery = delivery }) in MatchResult result
+            (λ _. machine.request_refusal self.old channel asks ≡ None)
+            (λ fault. machine.request_refusal self.old channel asks ≡ Some (refusal_of fault)) }
+        ensures layer { self.new ≡ machine.request self.old channel (asked.Sending (record { octets = octets.now; more = more; qualified = qualified; delivery = delivery })) }
+    {
+        self.request(
+            channel,
+            &Request::Send {
+                octets,
+                more,
+                qualified,
+                delivery,
+            },
+        )
+    }
+
+    /// Sends an interrupt of 1 to 32 octets on the channel (X.25 4.3.7).
+    ///
+    /// `NoCall` comes where no call is in data transfer, then `Resetting` while the own reset is not confirmed, `TooLong` for
+    /// no octets or more than 32, `InterruptPending` while the last interrupt is not confirmed.
+    pub fn interrupt(&mut self, channel: u8, octets: &[u8]) -> Result<(), ChannelFault>
+        ensures answer { MatchResult result
+            (λ _. machine.request_refusal self.old channel (asked.Interrupting octets.now) ≡ None)
+            (λ fault. machine.request_refusal self.old channel (asked.Interrupting octets.now) ≡ Some (refusal_of fault)) }
+        ensures layer { self.new ≡ machine.request self.old channel (asked.Interrupting octets.now) }
+    {
+        self.request(channel, &Request::Interrupt(octets))
+    }
+
+    /// Asks the far end by RNR to send no more data on the channel (X.25 4.4.1.6).
+    ///
+    /// `NoCall` comes where no call is in data transfer.
+    pub fn stop(&mut self, channel: u8) -> Result<(), ChannelFault>
+        ensures answer { MatchResult result
+            (λ _. machine.request_refusal self.old channel (asked.Stopping true) ≡ None)
+            (λ fault. machine.request_refusal self.old channel (asked.Stopping true) ≡ Some (refusal_of fault)) }
+        ensures layer { self.new ≡ machine.request self.old channel (asked.Stopping true) }
+    {
+        self.request(channel, &Request::Stop(true))
+    }
+
+    /// Ends by RR what `stop` asked (X.25 4.4.1.5).
+    ///
+    /// `NoCall` comes where no call is in data transfer.
+    pub fn go(&mut self, channel: u8) -> Result<(), ChannelFault>
+        ensures answer { MatchResult result
+            (λ _. machine.request_refusal self.old channel (asked.Stopping false) ≡ None)
+            (λ fault. machine.request_refusal self.old channel (asked.Stopping false) ≡ Some (refusal_of fault)) }
+        ensures layer { self.new ≡ machine.request self.old channel (asked.Stopping false) }
+    {
+        self.request(channel, &Request::Stop(false))
+    }
+
+    /// Takes what comes next on the channel, if anything: an interrupt before all packets.
+    pub fn take(&mut self, channel: u8) -> Option<Taken>
+        ensures taken { maybe_taken result ≡ machine.front_on self.old channel }
+        ensures layer { self.new ≡ machine.request self.old channel asked.Taking }
+    {
+        let place = self.place(u16::from(channel))?;
+        let channel = &mut self.channels[place];
+        channel.take()
+    }
+
+    /// Lets P(R) pass `count` more of the packets that were taken on the channel (X.25 4.4.1.3). Nothing happens where fewer are
+    /// taken and not released.
+    pub fn release(&mut self, channel: u8, count: u8)
+        ensures { self.new ≡ machine.request self.old channel (asked.Releasing count) }
+    {
+        let _ = self.request(channel, &Request::Release(count));
+    }
+
+    /// Owes the confirmation of the interrupt that was taken on the channel (X.25 4.3.7). Nothing happens where none is
+    /// unconfirmed.
+    pub fn confirm_interrupt(&mut self, channel: u8)
+        ensures { self.new ≡ machine.request self.old channel asked.Confirming }
+    {
+        let _ = self.request(channel, &Request::ConfirmInterrupt);
+    }
+}

@@ -1,0 +1,64 @@
+//! The sessions of the link, and the restart procedure (X.25 3).
+ghost use Rattle.std.specs.Prelude.{◌≡◌, [], Some};
+ghost use Rattle.packet_layer.specs.Layer as machine;
+ghost use Rattle.packet_layer.specs.NoteView.{reason_of};
+ghost use Rattle.packet_layer.specs.RestartView.{restart_body};
+
+use crate::layer::Layer;
+use crate::layer::closing::close_channels;
+use crate::note::Reason;
+use crate::restart::{Phase, RestartPacket};
+use link_timers::Role;
+
+impl Layer {
+    /// A session of the link begins: all calls close, and this end restarts the packet layer, a DTE with cause 0 and a DCE with
+    /// cause 7 (X.25 3.3).
+    pub fn link_up(&mut self)
+        ensures { self.new ≡ machine.link_up self.old }
+    {
+        self.notes.clear();
+        self.close_all(Reason::LinkLost);
+        self.owed.clear();
+        self.relink = false;
+        let cause = match self.role {
+            Role::Dte => 0,
+            Role::Dce => 7,
+        };
+        self.restart(cause, 0);
+    }
+
+    /// The session of the link has ended: all calls close, and nothing goes to the link or is taken from it until `link_up`.
+    pub fn link_down(&mut self)
+        ensures { self.new ≡ machine.link_down self.old }
+    {
+        self.notes.clear();
+        self.close_all(Reason::LinkLost);
+        self.phase = Phase::NoSession;
+        self.owed.clear();
+        self.relink = false;
+    }
+
+    pub(crate) fn close_all(&mut self, reason: Reason)
+        requires { self.old.notes ≡ [] }
+        ensures { self.new ≡ machine.all_closed (reason_of reason) self.old }
+    {
+        close_channels(&mut self.channels, &mut self.notes, reason);
+    }
+
+    // Begins a restart of this end.
+    pub(crate) fn restart(&mut self, cause: u8, diagnostic: u8)
+        ensures { self.new ≡ machine.restarting cause diagnostic self.old }
+    {
+        self.phase = Phase::OwnRestart;
+        self.served_last = 0;
+        self.owe_restart(RestartPacket::Restart { cause, diagnostic });
+    }
+
+    pub(crate) fn owe_restart(&mut self, packet: RestartPacket)
+        ensures { self.new ≡ machine.owes_restart (Some (restart_body packet)) self.old }
+    {
+        if self.owed.owe(packet) {
+            self.relink = true;
+        }
+    }
+}

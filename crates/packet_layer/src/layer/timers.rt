@@ -1,0 +1,114 @@
+//! The timers of a packet layer (X.25 annex D).
+ghost use Rattle.std.specs.Prelude.{◌≡◌, []};
+ghost use Rattle.packet_layer.specs.Layer as machine;
+ghost use Rattle.packet_layer.specs.Events.{timer_named, runs_named, on_named};
+ghost use Rattle.packet_layer.specs.TimerView.{maybe_timer, timer_of};
+
+use crate::layer::Layer;
+use crate::note::Reason;
+use crate::restart::Phase;
+use crate::state::error_cause;
+use link_timers::{Role, TimerId};
+
+/// A timer of the packet layer: of the own restart, or by channel of the own call, the own reset or the own clear.
+#[derive(Clone, Copy)]
+pub(crate) enum Timer {
+    Restart,
+    Call(u8),
+    Reset(u8),
+    Clear(u8),
+}
+
+// The timer of this end that the name means. T20 to T23 are a DTE's, T10 to T13 a DCE's.
+fn own_timer(role: Role, id: TimerId) -> Option<Timer>
+    ensures { maybe_timer result ≡ timer_named role id }
+{
+    match (role, id) {
+        (Role::Dte, TimerId::T20) | (Role::Dce, TimerId::T10) => Some(Timer::Restart),
+        (Role::Dte, TimerId::T21(channel)) | (Role::Dce, TimerId::T11(channel)) => {
+            Some(Timer::Call(channel))
+        }
+        (Role::Dte, TimerId::T22(channel)) | (Role::Dce, TimerId::T12(channel)) => {
+            Some(Timer::Reset(channel))
+        }
+        (Role::Dte, TimerId::T23(channel)) | (Role::Dce, TimerId::T13(channel)) => {
+            Some(Timer::Clear(channel))
+        }
+        _ => None,
+    }
+}
+
+impl Layer {
+    /// Whether the timer is to run: T20 of a DTE or T10 of a DCE while its restart is not confirmed, and by channel T21 or T11
+    /// while its call is not answered, T22 or T12 while its reset and T23 or T13 while its clear is not confirmed. No other
+    /// timer is one of the layer's.
+    pub fn runs(&self, id: TimerId) -> bool
+        ensures { result ≡ runs_named self.now (timer_named self.now.role id) }
+    {
+        match own_timer(self.role, id) {
+            Some(timer) => self.runs_own(timer),
+            None => false,
+        }
+    }
+
+    fn runs_own(&self, timer: Timer) -> bool
+        ensures { result ≡ machine.runs self.now (timer_of timer) }
+    {
+        match timer {
+            Timer::Restart => matches!(self.phase, Phase::OwnRestart),
+            Timer::Call(channel) => match self.ready_place(u16::from(channel)) {
+                Some(place) => self.channels[place].state().waits_for_call(self.role),
+                None => false,
+            },
+            Timer::Reset(channel) => match self.ready_place(u16::from(channel)) {
+                Some(place) => self.channels[place].waits_for_reset(),
+                None => false,
+            },
+            Timer::Clear(channel) => match self.ready_place(u16::from(channel)) {
+                Some(place) => self.channels[place].state().waits_for_clear(),
+                None => false,
+            },
+        }
+    }
+
+    /// Takes an expiry of a timer: that of a call or a reset clears the call, that of a clear restarts the packet layer, and
+    /// that of a restart asks for a relink. Where the timer does not run nothing happens.
+    pub fn on_timer(&mut self, id: TimerId)
+        ensures { self.new ≡ on_named self.old (timer_named self.old.role id) }
+    {
+        let Some(timer) = own_timer(self.role, id) else {
+            return;
+        };
+        if self.runs_own(timer) {
+            self.notes.clear();
+            self.expire(timer);
+        }
+    }
+
+    fn expire(&mut self, timer: Timer)
+        requires { self.old.notes ≡ [] }
+        ensures { self.new ≡ machine.expired self.old (timer_of timer) }
+    {
+        match timer {
+            Timer::Restart => self.relink = true,
+            Timer::Call(channel) | Timer::Reset(channel) => self.clear_expired(channel),
+            Timer::Clear(_) => {
+                self.close_all(Reason::LocalFault);
+                self.restart(error_cause(self.role, 1), 0);
+            }
+        }
+    }
+
+    fn clear_expired(&mut self, channel: u8)
+        requires { self.old.notes ≡ [] }
+        ensures { self.new ≡ machine.expired self.old (machine.Timer.CallTimer channel) }
+    {
+        let Some(place) = self.place(u16::from(channel)) else {
+            return;
+        };
+        let end = self.end(place);
+        let channel = &mut self.channels[place];
+        let outcome = channel.expire(end);
+        self.report(outcome);
+    }
+}

@@ -1,0 +1,142 @@
+//! Where a logical channel stands in call set-up and clearing (X.25 tables C-1 and C-2), seen from one end.
+ghost use Rattle.std.specs.Prelude.{◌≡◌, ◌≤◌};
+ghost use Rattle.packet_layer.specs.Channel as machine;
+ghost use Rattle.packet_layer.specs.Layer as layer;
+ghost use Rattle.packet_layer.specs.StateView.{state_of};
+
+use link_timers::Role;
+
+/// The states p1 to p7 of a channel. "Own" is what this end began, "far" what the other end did.
+#[derive(Clone, Copy, Debug, PartialEq, Eq)]
+pub(crate) enum CallState {
+    /// p1.
+    Ready,
+    /// p2 of a DTE, p3 of a DCE.
+    OwnWaiting,
+    /// p3 of a DTE, p2 of a DCE.
+    FarWaiting,
+    /// p4.
+    Transfer,
+    /// p5.
+    Collision,
+    /// p6 of a DTE, p7 of a DCE.
+    OwnClear,
+}
+
+impl CallState {
+    /// The number of the state, 1 to 7.
+    pub(crate) fn number(self, role: Role) -> u8
+        ensures value { result ≡ machine.p_number role (state_of self) }
+        ensures most { result ≤ 7 }
+    {
+        match (self, role) {
+            (CallState::Ready, _) => 1,
+            (CallState::OwnWaiting, Role::Dte) | (CallState::FarWaiting, Role::Dce) => 2,
+            (CallState::OwnWaiting, Role::Dce) | (CallState::FarWaiting, Role::Dte) => 3,
+            (CallState::Transfer, _) => 4,
+            (CallState::Collision, _) => 5,
+            (CallState::OwnClear, Role::Dte) => 6,
+            (CallState::OwnClear, Role::Dce) => 7,
+        }
+    }
+
+    /// Whether the user may accept a call.
+    pub(crate) fn may_accept(self, role: Role) -> bool
+        ensures { result ≡ machine.may_accept role (state_of self) }
+    {
+        match (self, role) {
+            (CallState::FarWaiting, _) | (CallState::Collision, Role::Dce) => true,
+            (CallState::Collision, Role::Dte)
+            | (CallState::Ready, _)
+            | (CallState::OwnWaiting, _)
+            | (CallState::Transfer, _)
+            | (CallState::OwnClear, _) => false,
+        }
+    }
+
+    /// Whether there is a call, being set up or in data transfer.
+    pub(crate) fn has_call(self) -> bool
+        ensures clears { result ≡ machine.may_clear (state_of self) }
+        ensures had { result ≡ layer.had_call (state_of self) }
+    {
+        match self {
+            CallState::Ready | CallState::OwnClear => false,
+            CallState::OwnWaiting
+            | CallState::FarWaiting
+            | CallState::Transfer
+            | CallState::Collision => true,
+        }
+    }
+
+    pub(crate) fn in_transfer(self) -> bool
+        ensures { result ≡ machine.in_transfer (state_of self) }
+    {
+        match self {
+            CallState::Transfer => true,
+            CallState::Ready
+            | CallState::OwnWaiting
+            | CallState::FarWaiting
+            | CallState::Collision
+            | CallState::OwnClear => false,
+        }
+    }
+
+    pub(crate) fn is_ready(self) -> bool
+        ensures { result ≡ layer.is_ready (state_of self) }
+    {
+        match self {
+            CallState::Ready => true,
+            CallState::OwnWaiting
+            | CallState::FarWaiting
+            | CallState::Transfer
+            | CallState::Collision
+            | CallState::OwnClear => false,
+        }
+    }
+
+    /// Whether the own call waits for its answer.
+    pub(crate) fn waits_for_call(self, role: Role) -> bool
+        ensures { result ≡ layer.waits_for_call role (state_of self) }
+    {
+        match (self, role) {
+            (CallState::OwnWaiting, _) | (CallState::Collision, Role::Dte) => true,
+            (CallState::Collision, Role::Dce)
+            | (CallState::Ready, _)
+            | (CallState::FarWaiting, _)
+            | (CallState::Transfer, _)
+            | (CallState::OwnClear, _) => false,
+        }
+    }
+
+    /// Whether the own clear waits for its confirmation.
+    pub(crate) fn waits_for_clear(self) -> bool
+        ensures { result ≡ layer.waits_for_clear (state_of self) }
+    {
+        match self {
+            CallState::OwnClear => true,
+            CallState::Ready
+            | CallState::OwnWaiting
+            | CallState::FarWaiting
+            | CallState::Transfer
+            | CallState::Collision => false,
+        }
+    }
+}
+
+/// The end of a line at which a channel is seen: its role, the window of the line, at most 7, and the channel's number.
+#[derive(Clone, Copy)]
+pub(crate) struct End {
+    pub(crate) role: Role,
+    pub(crate) window: u8,
+    pub(crate) channel: u8,
+}
+
+/// The cause of a procedure error: a DTE sends 0 (X.25 5.2.3, 5.4.3, 5.5.1).
+pub(crate) fn error_cause(role: Role, cause: u8) -> u8
+    ensures { result ≡ machine.error_cause role cause }
+{
+    match role {
+        Role::Dte => 0,
+        Role::Dce => cause,
+    }
+}

@@ -1,0 +1,381 @@
+//! Worked examples: two packet layers on one line, by the octets of their packets.
+
+use crate::{
+    CallFault, ChannelFault, Front, Layer, LayerNote, LayerParams, MakeFault, Reason, Taken,
+};
+use link_timers::{Role, TimerId};
+use packet_codec::{Address, CallData, PacketBuf};
+use std::alloc::Global;
+use std::test::Fail;
+
+const RESTART_OF_DTE: &[u8] = &[0x10, 0x00, 0xfb, 0x00, 0x00];
+
+const RESTART_OF_DCE: &[u8] = &[0x10, 0x00, 0xfb, 0x07, 0x00];
+
+fn params(channels: u8, window: u8, standing: bool) -> LayerParams {
+    LayerParams {
+        channels,
+        window,
+        standing,
+    }
+}
+
+// Whether these octets and no others go to the link next.
+fn says(layer: &mut Layer, octets: &[u8]) -> bool {
+    let mut buf = PacketBuf::new();
+    layer.next_packet(&mut buf) && buf.as_slice() == octets
+}
+
+fn is_silent(layer: &mut Layer) -> bool {
+    let mut buf = PacketBuf::new();
+    !layer.next_packet(&mut buf)
+}
+
+// Takes the next packet over the line, and answers whether it has these octets.
+fn delivers(from: &mut Layer, to: &mut Layer, octets: &[u8]) -> bool {
+    let mut buf = PacketBuf::new();
+    if !from.next_packet(&mut buf) {
+        return false;
+    }
+    to.on_packet(buf.as_slice());
+    buf.as_slice() == octets
+}
+
+fn is_connected(note: Option<LayerNote>, expected: u8) -> bool {
+    match note {
+        Some(LayerNote::Connected(channel)) => channel == expected,
+        _ => false,
+    }
+}
+
+// Whether a call came in on the channel, to address 2001 and with no user data.
+fn is_incoming(note: Option<LayerNote>, expected: u8) -> bool {
+    match note {
+        Some(LayerNote::Incoming(channel, call)) => {
+            let call = call.data();
+            channel == expected
+                && call.called.digits() == [2, 0, 0, 1].as_slice()
+                && call.calling.is_none()
+                && call.user_data.is_empty()
+        }
+        _ => false,
+    }
+}
+
+fn is_closed(note: Option<LayerNote>, numbers: (u8, u8, u8), why: Reason) -> bool {
+    match note {
+        Some(
+            LayerNote::Closed {
+                channel,
+                cause,
+                diagnostic,
+                reason,
+            },
+        ) => (channel, cause, diagnostic) == numbers && reason == why,
+        _ => false,
+    }
+}
+
+fn is_reset(note: Option<LayerNote>, numbers: (u8, u8, u8), why: Reason) -> bool {
+    match note {
+        Some(
+            LayerNote::Reset {
+                channel,
+                cause,
+                diagnostic,
+                reason,
+            },
+        ) => (channel, cause, diagnostic) == numbers && reason == why,
+        _ => false,
+    }
+}
+
+fn call_2001(layer: &mut Layer) -> Result<u8, CallFault> {
+    layer.call(&CallData {
+        called: Address::new(&[2, 0, 0, 1]),
+        calling: None,
+        facilities: &[],
+        user_data: &[],
+    })
+}
+
+// A DTE and a DCE in r1.
+fn ready(alloc: Global, channels: u8) -> Result<(Layer, Layer), MakeFault> {
+    let mut dte = Layer::new(alloc, Role::Dte, params(channels, 2, false))?;
+    let mut dce = Layer::new(alloc, Role::Dce, params(channels, 2, false))?;
+    dte.link_up();
+    dce.link_up();
+    let _ = delivers(&mut dte, &mut dce, RESTART_OF_DTE);
+    let _ = delivers(&mut dce, &mut dte, RESTART_OF_DCE);
+    Ok((dte, dce))
+}
+
+// The same with a call on channel 1.
+fn connected(alloc: Global) -> Result<(Layer, Layer), MakeFault> {
+    let dte = Layer::new(alloc, Role::Dte, params(4, 2, true))?;
+    let dce = Layer::new(alloc, Role::Dce, params(4, 2, true))?;
+    Ok((dte, dce))
+}
+
+#[test]
+fn parameters_have_ranges(rt: HostRuntime) {
+    let alloc = rt.alloc();
+    for bad in [
+        params(4, 0, false),
+        params(4, 8, false),
+        params(0, 2, false),
+        params(33, 2, false),
+    ] {
+        match Layer::new(alloc, Role::Dte, bad) {
+            Ok(_) => assert!(rt; false, "{bad:?}"),
+            Err(fault) => assert_eq!(rt; fault, MakeFault::BadParams),
+        }
+    }
+}
+
+#[test]
+fn a_session_begins_with_a_restart(rt: HostRuntime) -> Result<(), Fail> {
+    let alloc = rt.alloc();
+    let mut dte = Layer::new(alloc, Role::Dte, params(4, 2, false))?;
+    let mut dce = Layer::new(alloc, Role::Dce, params(4, 2, false))?;
+    assert!(rt; is_silent(&mut dte));
+    assert_eq!(rt; call_2001(&mut dte), Err(CallFault::NotReady));
+    dte.link_up();
+    dce.link_up();
+    assert!(rt; dte.runs(TimerId::T20) && !dte.runs(TimerId::T10) && dce.runs(TimerId::T10));
+    assert!(rt; delivers(&mut dte, &mut dce, RESTART_OF_DTE));
+    assert!(rt; delivers(&mut dce, &mut dte, RESTART_OF_DCE));
+    assert!(rt; is_silent(&mut dte) && is_silent(&mut dce));
+    assert!(rt; !dte.runs(TimerId::T20) && !dce.runs(TimerId::T10));
+    dte.link_up();
+    dte.on_timer(TimerId::T20);
+    assert!(rt; dte.must_relink() && is_silent(&mut dte));
+    dte.link_down();
+    assert!(rt; !dte.must_relink() && is_silent(&mut dte));
+    Ok(())
+}
+
+#[test]
+fn a_call_is_set_up_and_cleared(rt: HostRuntime) -> Result<(), Fail> {
+    let (mut dte, mut dce) = ready(rt.alloc(), 4)?;
+    assert_eq!(rt; call_2001(&mut dte), Ok(4));
+    assert!(rt; dte.runs(TimerId::T21(4)));
+    assert!(rt;
+        delivers(
+            &mut dte,
+            &mut dce,
+            &[0x10, 0x04, 0x0b, 0x04, 0x20, 0x01, 0x00]
+        )
+    );
+    assert!(rt; is_incoming(dce.notes(), 4));
+    assert_eq!(rt; dce.accept(4), Ok(()));
+    assert!(rt; delivers(&mut dce, &mut dte, &[0x10, 0x04, 0x0f]));
+    assert!(rt; is_connected(dte.notes(), 4) && dte.notes().is_none());
+    assert_eq!(rt; dte.clear(4, 0, 0), Ok(()));
+    assert_eq!(rt;
+        dte.send(4, b"X", false, false, false),
+        Err(ChannelFault::NoCall)
+    );
+    assert!(rt; delivers(&mut dte, &mut dce, &[0x10, 0x04, 0x13, 0x00, 0x00]));
+    assert!(rt; is_closed(dce.notes(), (4, 0, 0), Reason::FarEnd));
+    assert!(rt; delivers(&mut dce, &mut dte, &[0x10, 0x04, 0x17]));
+    assert!(rt; dte.notes().is_none());
+    assert_eq!(rt; call_2001(&mut dce), Ok(1));
+    assert_eq!(rt; call_2001(&mut dte), Ok(4));
+    Ok(())
+}
+
+#[test]
+fn resets_cross(rt: HostRuntime) -> Result<(), Fail> {
+    let (mut dte, mut dce) = connected(rt.alloc())?;
+    let reset: &[u8] = &[0x10, 0x01, 0x1b, 0x00, 0x00];
+    assert_eq!(rt; dte.reset(1, 0, 0), Ok(()));
+    assert_eq!(rt; dte.reset(1, 0, 0), Err(ChannelFault::Resetting));
+    assert_eq!(rt; dce.reset(1, 0, 0), Ok(()));
+    assert!(rt; dte.runs(TimerId::T22(1)) && dce.runs(TimerId::T12(1)));
+    assert!(rt; says(&mut dte, reset) && says(&mut dce, reset));
+    dte.on_packet(reset);
+    dce.on_packet(reset);
+    assert!(rt; dte.notes().is_none() && dce.notes().is_none());
+    assert!(rt; is_silent(&mut dte) && is_silent(&mut dce));
+    assert_eq!(rt; dte.send(1, b"X", false, false, false), Ok(()));
+    assert!(rt; delivers(&mut dte, &mut dce, &[0x10, 0x01, 0x00, 0x58]));
+    Ok(())
+}
+
+#[test]
+fn calls_collide(rt: HostRuntime) -> Result<(), Fail> {
+    let (mut dte, mut dce) = ready(rt.alloc(), 1)?;
+    let call: &[u8] = &[0x10, 0x01, 0x0b, 0x04, 0x20, 0x01, 0x00];
+    assert_eq!(rt; call_2001(&mut dte), Ok(1));
+    assert_eq!(rt; call_2001(&mut dce), Ok(1));
+    assert_eq!(rt; call_2001(&mut dce), Err(CallFault::NoChannel));
+    assert!(rt; says(&mut dte, call) && says(&mut dce, call));
+    dte.on_packet(call);
+    assert!(rt; dte.notes().is_none());
+    assert_eq!(rt; dte.accept(1), Err(ChannelFault::NoCall));
+    dce.on_packet(call);
+    assert!(rt; is_closed(dce.notes(), (1, 1, 0), Reason::Cancelled));
+    assert!(rt; is_incoming(dce.notes(), 1) && dce.notes().is_none());
+    assert_eq!(rt; dce.accept(1), Ok(()));
+    assert!(rt; delivers(&mut dce, &mut dte, &[0x10, 0x01, 0x0f]));
+    assert!(rt; is_connected(dte.notes(), 1));
+    Ok(())
+}
+
+#[test]
+fn the_send_queue_has_eight_places(rt: HostRuntime) -> Result<(), Fail> {
+    let (mut dte, _) = connected(rt.alloc())?;
+    assert_eq!(rt; dte.room(1), 8);
+    assert_eq!(rt; dte.room(2), 0);
+    for _ in 0..2 {
+        assert_eq!(rt; dte.send(1, b"X", false, false, false), Ok(()));
+    }
+    assert!(rt; says(&mut dte, &[0x10, 0x01, 0x00, 0x58]));
+    assert!(rt; says(&mut dte, &[0x10, 0x01, 0x02, 0x58]));
+    for _ in 0..8 {
+        assert_eq!(rt; dte.send(1, b"X", false, false, false), Ok(()));
+    }
+    assert!(rt; is_silent(&mut dte));
+    assert_eq!(rt; dte.room(1), 0);
+    assert_eq!(rt;
+        dte.send(1, b"X", false, false, false),
+        Err(ChannelFault::QueueFull)
+    );
+    assert_eq!(rt;
+        dte.send(2, b"X", false, false, false),
+        Err(ChannelFault::NoCall)
+    );
+    dte.on_packet(&[0x10, 0x01, 0x21]);
+    match dte.notes() {
+        Some(LayerNote::Covered { channel, count }) => assert!(rt; channel == 1 && count == 1),
+        _ => assert!(rt; false, "a packet is covered"),
+    }
+    assert!(rt; says(&mut dte, &[0x10, 0x01, 0x04, 0x58]) && is_silent(&mut dte));
+    dte.on_packet(&[0x10, 0x01, 0x65]);
+    assert!(rt; is_silent(&mut dte));
+    assert_eq!(rt;
+        dte.send(1, &[0; 129], false, false, false),
+        Err(ChannelFault::TooLong)
+    );
+    Ok(())
+}
+
+#[test]
+fn delivery_is_confirmed_by_the_release(rt: HostRuntime) -> Result<(), Fail> {
+    let (mut dte, mut dce) = connected(rt.alloc())?;
+    assert!(rt; dce.confirmed(1) && !dce.confirmed(2));
+    assert_eq!(rt; dce.send(1, b"HI", false, false, true), Ok(()));
+    assert!(rt; !dce.confirmed(1));
+    assert!(rt; delivers(&mut dce, &mut dte, &[0x50, 0x01, 0x00, 0x48, 0x49]));
+    let waiting = Front::Data {
+        length: 2,
+        more: false,
+        qualified: false,
+        delivery: true,
+    };
+    assert_eq!(rt; dte.front(1), Some(waiting));
+    match dte.take(1) {
+        Some(Taken::Data(data)) => assert!(rt;
+            data.octets() == b"HI".as_slice() && data.delivery()
+        ),
+        _ => assert!(rt; false, "a packet waits"),
+    }
+    assert!(rt; dte.take(1).is_none() && is_silent(&mut dte) && !dce.confirmed(1));
+    dte.release(1, 1);
+    assert!(rt; delivers(&mut dte, &mut dce, &[0x10, 0x01, 0x21]));
+    assert!(rt; dce.confirmed(1) && is_silent(&mut dte));
+    dte.release(1, 1);
+    assert!(rt; is_silent(&mut dte));
+    Ok(())
+}
+
+#[test]
+fn interrupts_are_confirmed(rt: HostRuntime) -> Result<(), Fail> {
+    let (mut dte, mut dce) = connected(rt.alloc())?;
+    assert_eq!(rt; dte.interrupt(1, &[]), Err(ChannelFault::TooLong));
+    assert_eq!(rt; dte.interrupt(1, &[1]), Ok(()));
+    assert_eq!(rt; dte.interrupt(1, &[1]), Err(ChannelFault::InterruptPending));
+    assert!(rt; delivers(&mut dte, &mut dce, &[0x10, 0x01, 0x23, 0x01]));
+    assert_eq!(rt; dce.front(1), Some(Front::Interrupt));
+    match dce.take(1) {
+        Some(Taken::Interrupt(data)) => assert!(rt; data.octets() == [1].as_slice()),
+        _ => assert!(rt; false, "an interrupt waits"),
+    }
+    assert!(rt; is_silent(&mut dce));
+    dce.confirm_interrupt(1);
+    assert!(rt; delivers(&mut dce, &mut dte, &[0x10, 0x01, 0x27]));
+    match dte.notes() {
+        Some(LayerNote::InterruptConfirmed(channel)) => assert_eq!(rt; channel, 1),
+        _ => assert!(rt; false, "the interrupt is confirmed"),
+    }
+    Ok(())
+}
+
+#[test]
+fn an_end_stops_its_partner(rt: HostRuntime) -> Result<(), Fail> {
+    let (mut dte, mut dce) = connected(rt.alloc())?;
+    assert_eq!(rt; dte.stop(1), Ok(()));
+    assert!(rt; delivers(&mut dte, &mut dce, &[0x10, 0x01, 0x05]));
+    assert_eq!(rt; dce.send(1, b"X", false, false, false), Ok(()));
+    assert!(rt; is_silent(&mut dce));
+    assert_eq!(rt; dte.go(1), Ok(()));
+    assert!(rt; delivers(&mut dte, &mut dce, &[0x10, 0x01, 0x01]));
+    assert!(rt; says(&mut dce, &[0x10, 0x01, 0x00, 0x58]));
+    assert_eq!(rt; dte.go(3), Err(ChannelFault::NoCall));
+    Ok(())
+}
+
+#[test]
+fn errors_are_answered_or_ignored(rt: HostRuntime) -> Result<(), Fail> {
+    let (mut dte, _) = connected(rt.alloc())?;
+    let ignored: [&[u8]; 5] = [
+        &[0x10, 0x05, 0x0b, 0x04, 0x20, 0x01, 0x00],
+        &[0x10],
+        &[0x20, 0x01, 0x00],
+        &[0x10, 0x00, 0xf1],
+        &[0x10, 0x05, 0xf1],
+    ];
+    for octets in ignored {
+        dte.on_packet(octets);
+        assert!(rt; dte.notes().is_none() && is_silent(&mut dte), "{octets:?}");
+    }
+    dte.on_packet(&[0x10, 0x01, 0xf1]);
+    assert!(rt; is_reset(dte.notes(), (1, 5, 27), Reason::LocalFault));
+    assert!(rt; says(&mut dte, &[0x10, 0x01, 0x1b, 0x00, 0x1b]));
+    dte.on_packet(&[0x10, 0x01, 0x0f, 0x01]);
+    assert!(rt; is_closed(dte.notes(), (1, 19, 0), Reason::LocalFault));
+    assert!(rt; says(&mut dte, &[0x10, 0x01, 0x13, 0x00, 0x00]));
+    dte.on_timer(TimerId::T23(1));
+    assert!(rt; says(&mut dte, RESTART_OF_DTE) && dte.notes().is_none());
+    Ok(())
+}
+
+#[test]
+fn a_fifth_owed_packet_asks_for_a_relink(rt: HostRuntime) -> Result<(), Fail> {
+    let (_, mut dce) = ready(rt.alloc(), 1)?;
+    for _ in 0..4 {
+        dce.on_packet(&[0x10, 0x01, 0x13, 0x00, 0x00]);
+        assert!(rt; !dce.must_relink());
+    }
+    assert_eq!(rt; call_2001(&mut dce), Err(CallFault::NoChannel));
+    dce.on_packet(&[0x10, 0x01, 0x13, 0x00, 0x00]);
+    assert!(rt; dce.must_relink() && is_silent(&mut dce));
+    dce.link_up();
+    assert!(rt; !dce.must_relink() && says(&mut dce, RESTART_OF_DCE));
+    Ok(())
+}
+
+#[test]
+fn a_session_that_ends_closes_all_calls(rt: HostRuntime) -> Result<(), Fail> {
+    let (mut dte, mut dce) = connected(rt.alloc())?;
+    assert_eq!(rt; call_2001(&mut dte), Ok(4));
+    dte.link_down();
+    assert!(rt; is_closed(dte.notes(), (1, 9, 0), Reason::LinkLost));
+    assert!(rt; is_closed(dte.notes(), (4, 9, 0), Reason::LinkLost));
+    assert!(rt; dte.notes().is_none());
+    dce.on_packet(RESTART_OF_DTE);
+    assert!(rt; is_closed(dce.notes(), (1, 9, 0), Reason::FarRestart));
+    assert!(rt; says(&mut dce, &[0x10, 0x00, 0xff]));
+    Ok(())
+}

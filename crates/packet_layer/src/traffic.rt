@@ -1,0 +1,209 @@
+//! Data transfer on a channel from one reset to the next (X.25 4.3, 4.4).
+ghost use Rattle.std.specs.Prelude.{◌≡◌, ◌<◌, ◌≤◌, IfOk, length, ◌==◌, if◌then◌else◌};
+ghost use Rattle.packet_layer.specs.Traffic as machine;
+
+mod hearing;
+mod saying;
+
+use crate::taken::{Front, Taken};
+use crate::user_data::{InterruptData, UserData};
+use circular_buffer::HeapCircularBuffer;
+use flow_window::{Mod8, SendWindow, Seq};
+use std::alloc::{AllocError, Global};
+use std::marker::Model;
+
+/// How many packets of a call may wait to be sent.
+pub(crate) const SEND_QUEUE: usize = 8;
+
+/// How many packets of a call may wait to be taken: no window is larger.
+const RECEIVE_QUEUE: usize = 8;
+
+/// The most that may be unacknowledged by numbers modulo 8. The window of the line is no larger.
+const LARGEST_WINDOW: u8 = 7;
+
+/// The queues, numbers, busy states and interrupts of a call since its last reset.
+#[derive(Drop)]
+pub(crate) struct Traffic {
+    waiting: HeapCircularBuffer<UserData>,
+    send: SendWindow<Mod8>,
+    // how many of the packets not yet covered have to be covered until all with D = 1 are
+    undelivered: u8,
+    arrived: HeapCircularBuffer<UserData>,
+    expected: Seq<Mod8>,
+    released: Seq<Mod8>,
+    // P(R) went on since the partner was told
+    untold: bool,
+    partner_busy: bool,
+    stopped: bool,
+    told_stopped: bool,
+    interrupt_waiting: Option<InterruptData>,
+    interrupt_unconfirmed: bool,
+    interrupt_arrived: Option<InterruptData>,
+    interrupt_taken: bool,
+    confirmation_due: bool,
+}
+
+impl Model for Traffic {
+    ghost use Rattle.packet_layer.specs.Traffic as machine;
+
+    ghost Value = { machine.Traffic };
+
+    ghost use Rattle.packet_layer.specs.TrafficView.{traffic_of, IsTraffic};
+
+    ghost view = { traffic_of };
+
+    ghost invariant = { IsTraffic };
+}
+
+impl Traffic {
+    ghost use Rattle.packet_layer.specs.TakenView.{maybe_taken, maybe_front};
+
+    /// As a call begins it.
+    pub(crate) fn new(alloc: Global) -> Result<Self, AllocError>
+        ensures { IfOk result (λ t. t ≡ machine.fresh) }
+    {
+        let waiting = HeapCircularBuffer::with_capacity(alloc, SEND_QUEUE)?;
+        let arrived = HeapCircularBuffer::with_capacity(alloc, RECEIVE_QUEUE)?;
+        Ok(Traffic {
+            waiting,
+            send: SendWindow::new(LARGEST_WINDOW),
+            undelivered: 0,
+            arrived,
+            expected: Seq::zero(),
+            released: Seq::zero(),
+            untold: false,
+            partner_busy: false,
+            stopped: false,
+            told_stopped: false,
+            interrupt_waiting: None,
+            interrupt_unconfirmed: false,
+            interrupt_arrived: None,
+            interrupt_taken: false,
+            confirmation_due: false,
+        })
+    }
+
+    /// Begins anew, as a call or a reset does.
+    pub(crate) fn clear(&mut self)
+        ensures { self.new ≡ machine.fresh }
+    {
+        self.waiting.clear();
+        self.send.clear();
+        self.undelivered = 0;
+        self.arrived.clear();
+        self.expected = Seq::zero();
+        self.released = Seq::zero();
+        self.untold = false;
+        self.partner_busy = false;
+        self.stopped = false;
+        self.told_stopped = false;
+        self.interrupt_waiting = None;
+        self.interrupt_unconfirmed = false;
+        self.interrupt_arrived = None;
+        self.interrupt_taken = false;
+        self.confirmation_due = false;
+    }
+
+    /// How many packets wait to be sent.
+    pub(crate) fn waiting(&self) -> u8
+        ensures value { result ≡ length self.now.waiting }
+        ensures most { result ≤ 8 }
+    {
+        self.waiting.len() as u8
+    }
+
+    /// Puts a packet into the send queue.
+    pub(crate) fn queue(&mut self, packet: UserData)
+        requires { length self.old.waiting < 8 }
+        ensures { self.new ≡ machine.queue packet self.old }
+    {
+        if packet.delivery() {
+            self.undelivered = self.send.unacknowledged() + self.waiting.len() as u8 + 1;
+        }
+        let _ = self.waiting.try_push_back(packet);
+    }
+
+    /// Whether an interrupt is to be sent, or is not confirmed.
+    pub(crate) fn interrupt_pending(&self) -> bool
+        ensures { result ≡ machine.interrupt_pending self.now }
+    {
+        self.interrupt_waiting.is_some() || self.interrupt_unconfirmed
+    }
+
+    pub(crate) fn queue_interrupt(&mut self, interrupt: InterruptData)
+        ensures { self.new ≡ machine.queue_interrupt interrupt self.old }
+    {
+        self.interrupt_waiting = Some(interrupt);
+    }
+
+    /// Sets the state that RNR and RR tell.
+    pub(crate) fn stop(&mut self, stopped: bool)
+        ensures { self.new ≡ machine.stopping stopped self.old }
+    {
+        self.stopped = stopped;
+    }
+
+    /// What `take` would give.
+    pub(crate) fn front(&self) -> Option<Front>
+        ensures { result ≡ maybe_front (machine.front self.now) }
+    {
+        if self.interrupt_arrived.is_some() {
+            return Some(Front::Interrupt);
+        }
+        let data = self.arrived.front()?;
+        Some(Front::Data {
+            length: data.octets().len() as u8,
+            more: data.more(),
+            qualified: data.qualified(),
+            delivery: data.delivery(),
+        })
+    }
+
+    /// Takes the interrupt that waits, or else the first packet.
+    pub(crate) fn take(&mut self) -> Option<Taken>
+        ensures taken { maybe_taken result ≡ machine.front self.old }
+        ensures traffic { self.new ≡ machine.taking self.old }
+    {
+        if let Some(interrupt) = self.interrupt_arrived.take() {
+            self.interrupt_taken = true;
+            return Some(Taken::Interrupt(interrupt));
+        }
+        let data = self.arrived.pop_front()?;
+        Some(Taken::Data(data))
+    }
+
+    /// Lets P(R) pass so many more of the packets that were taken. Nothing happens where fewer are taken and not released.
+    pub(crate) fn release(&mut self, count: u8)
+        ensures { self.new ≡ (if machine.may_release count self.old then machine.releasing count self.old else self.old) }
+    {
+        if usize::from(count) + self.arrived.len() <= usize::from(self.unreleased()) {
+            self.released = self.released.after(count);
+            self.untold = self.untold || count > 0;
+        }
+    }
+
+    /// How many packets came and are not released.
+    pub(crate) fn unreleased(&self) -> u8
+        ensures value { result ≡ machine.unreleased self.now }
+        ensures most { result < 8 }
+    {
+        self.expected.ahead_of(&self.released)
+    }
+
+    /// Owes the confirmation of the interrupt that was taken. Nothing happens where none is.
+    pub(crate) fn confirm_interrupt(&mut self)
+        ensures { self.new ≡ (if self.old.interrupt_taken then machine.confirming self.old else self.old) }
+    {
+        if self.interrupt_taken {
+            self.interrupt_taken = false;
+            self.confirmation_due = true;
+        }
+    }
+
+    /// Whether each packet with D = 1 is covered by a P(R).
+    pub(crate) fn is_delivered(&self) -> bool
+        ensures { result ≡ (self.now.undelivered == 0) }
+    {
+        self.undelivered == 0
+    }
+}

@@ -1,0 +1,77 @@
+//! What comes from the link in data transfer (X.25 4.3, 4.4).
+ghost use Rattle.std.specs.Prelude.{◌≡◌, ◌<◌, ◌≤◌, length};
+ghost use Rattle.packet_codec.specs.Packet.{IsDataValue};
+ghost use Rattle.packet_codec.specs.View.{data_view};
+ghost use Rattle.packet_layer.specs.Packets.{Body as body};
+ghost use Rattle.packet_layer.specs.Traffic as machine;
+ghost use Rattle.packet_layer.specs.Octets.{datum_of};
+ghost use Rattle.packet_layer.specs.HeardView.{heard_of};
+
+use crate::heard::Heard;
+use crate::traffic::Traffic;
+use crate::user_data::{InterruptData, UserData};
+use packet_codec::DataPacket;
+
+impl Traffic {
+    /// Takes a Data packet, with a window of at most 7.
+    pub(crate) fn hear_data(&mut self, window: u8, packet: &DataPacket<'_>) -> Heard
+        requires window { window ≤ 7 }
+        requires fits { IsDataValue (data_view packet.now) }
+        ensures { heard_of result self.new ≡ machine.hears window self.old
+            (body.Data packet.now.send packet.now.receive (datum_of (data_view packet.now))) }
+    {
+        if packet.send != self.expected.number() || self.unreleased() >= window {
+            return Heard::Wrong(1);
+        }
+        let Ok(newly) = self.send.ack(packet.receive) else {
+            return Heard::Wrong(2);
+        };
+        self.undelivered = self.undelivered.saturating_sub(newly);
+        self.expected = self.expected.next();
+        let data = UserData::new(
+            packet.user_data,
+            packet.more,
+            packet.qualified,
+            packet.delivery,
+        );
+        let _ = self.arrived.try_push_back(data);
+        Heard::Keeps(newly)
+    }
+
+    /// Takes RR, or RNR where the partner is busy.
+    pub(crate) fn hear_ready(&mut self, receive: u8, busy: bool) -> Heard
+        requires { receive < 8 }
+        ensures { heard_of result self.new ≡ machine.keeps (λ u. machine.partner_says busy u) (machine.covers receive self.old) }
+    {
+        let Ok(newly) = self.send.ack(receive) else {
+            return Heard::Wrong(2);
+        };
+        self.undelivered = self.undelivered.saturating_sub(newly);
+        self.partner_busy = busy;
+        Heard::Keeps(newly)
+    }
+
+    /// Takes an interrupt.
+    pub(crate) fn hear_interrupt(&mut self, window: u8, octets: &[u8]) -> Heard
+        requires least { 1 ≤ length octets.now }
+        requires most { length octets.now ≤ 32 }
+        ensures { heard_of result self.new ≡ machine.hears window self.old (body.Interrupt octets.now) }
+    {
+        if self.interrupt_arrived.is_some() || self.interrupt_taken || self.confirmation_due {
+            return Heard::Wrong(0);
+        }
+        self.interrupt_arrived = Some(InterruptData::new(octets));
+        Heard::Keeps(0)
+    }
+
+    /// Takes the confirmation of an interrupt.
+    pub(crate) fn hear_interrupt_confirmation(&mut self, window: u8) -> Heard
+        ensures { heard_of result self.new ≡ machine.hears window self.old body.InterruptConfirmation }
+    {
+        if !self.interrupt_unconfirmed {
+            return Heard::Wrong(0);
+        }
+        self.interrupt_unconfirmed = false;
+        Heard::Confirms
+    }
+}

@@ -1,0 +1,95 @@
+//! What goes to the link in data transfer: the interrupt confirmation, the interrupt, data within the window, RR or RNR where
+//! the partner does not know the present P(R) or whether this end is stopped (X.25 4.3, 4.4).
+ghost use Rattle.std.specs.Bool.{OnFalse};
+ghost use Rattle.std.specs.Prelude.{◌≡◌, ◌<◌, ◌≤◌, is_some};
+ghost use Rattle.packet_layer.specs.Traffic as machine;
+ghost use Rattle.packet_layer.specs.Octets.{written, ReadsAs};
+
+use crate::traffic::Traffic;
+use crate::write::{write_data, write_interrupt, write_interrupt_confirmation, write_ready};
+use packet_codec::{DataPacket, PacketBuf};
+
+impl Traffic {
+    /// Writes the next packet, if there is one, with a window of at most 7.
+    pub(crate) fn next_packet(&mut self, window: u8, channel: u8, buf: &mut PacketBuf) -> bool
+        requires window { window ≤ 7 }
+        requires channel { 0 < channel }
+        ensures traffic { self.new ≡ (machine.says window self.old).traffic }
+        ensures said { result ≡ is_some (machine.says window self.old).body }
+        ensures octets { buf.new.items ≡ written channel (machine.says window self.old).body buf.old.items }
+        ensures reads_back { ReadsAs channel (machine.says window self.old).body buf.new.items }
+        ensures same { OnFalse result (self.new ≡ self.old) }
+    {
+        if !self.confirmation_due {
+            return self.next_interrupt(window, channel, buf);
+        }
+        write_interrupt_confirmation(channel, buf);
+        self.confirmation_due = false;
+        true
+    }
+
+    fn next_interrupt(&mut self, window: u8, channel: u8, buf: &mut PacketBuf) -> bool
+        requires window { window ≤ 7 }
+        requires channel { 0 < channel }
+        ensures traffic { self.new ≡ (machine.says_interrupt window self.old.interrupt_waiting self.old).traffic }
+        ensures said { result ≡ is_some (machine.says_interrupt window self.old.interrupt_waiting self.old).body }
+        ensures octets { buf.new.items ≡ written channel (machine.says_interrupt window self.old.interrupt_waiting self.old).body buf.old.items }
+        ensures reads_back { ReadsAs channel (machine.says_interrupt window self.old.interrupt_waiting self.old).body buf.new.items }
+        ensures same { OnFalse result (self.new ≡ self.old) }
+    {
+        let Some(interrupt) = &self.interrupt_waiting else {
+            return self.next_data(window, channel, buf);
+        };
+        write_interrupt(channel, interrupt.octets(), buf);
+        self.interrupt_waiting = None;
+        self.interrupt_unconfirmed = true;
+        true
+    }
+
+    fn next_data(&mut self, window: u8, channel: u8, buf: &mut PacketBuf) -> bool
+        requires window { window ≤ 7 }
+        requires channel { 0 < channel }
+        ensures traffic { self.new ≡ (machine.says_data window self.old.waiting self.old).traffic }
+        ensures said { result ≡ is_some (machine.says_data window self.old.waiting self.old).body }
+        ensures octets { buf.new.items ≡ written channel (machine.says_data window self.old.waiting self.old).body buf.old.items }
+        ensures reads_back { ReadsAs channel (machine.says_data window self.old.waiting self.old).body buf.new.items }
+        ensures same { OnFalse result (self.new ≡ self.old) }
+    {
+        if self.send.unacknowledged() >= window || self.partner_busy {
+            return self.next_flow(channel, buf);
+        }
+        let Some(data) = self.waiting.front() else {
+            return self.next_flow(channel, buf);
+        };
+        let packet = DataPacket {
+            qualified: data.qualified(),
+            delivery: data.delivery(),
+            more: data.more(),
+            send: self.send.next_number(),
+            receive: self.released.number(),
+            user_data: data.octets(),
+        };
+        write_data(channel, packet, buf);
+        let _ = self.send.take_number();
+        let _ = self.waiting.pop_front();
+        self.untold = false;
+        true
+    }
+
+    fn next_flow(&mut self, channel: u8, buf: &mut PacketBuf) -> bool
+        requires { 0 < channel }
+        ensures traffic { self.new ≡ (machine.says_flow self.old).traffic }
+        ensures said { result ≡ is_some (machine.says_flow self.old).body }
+        ensures octets { buf.new.items ≡ written channel (machine.says_flow self.old).body buf.old.items }
+        ensures reads_back { ReadsAs channel (machine.says_flow self.old).body buf.new.items }
+        ensures same { OnFalse result (self.new ≡ self.old) }
+    {
+        if !self.untold && self.told_stopped == self.stopped {
+            return false;
+        }
+        write_ready(channel, self.stopped, self.released.number(), buf);
+        self.untold = false;
+        self.told_stopped = self.stopped;
+        true
+    }
+}
