@@ -1,52 +1,13 @@
 -- Each timer has a place of its own, so the places are a map from timers.
-use Rattle.std.proofs.Common.{
-  ◌≡◌,
-  ◌≢◌,
-  ℕ,
-  zero,
-  suc,
-  ◌+◌,
-  ◌-◌,
-  ◌<◌,
-  ◌≤◌,
-  Bool,
-  true,
-  false,
-  ◌&&◌,
-  List,
-  [],
-  ◌∷◌,
-  length,
-  get_or,
-  set,
-  map,
-  replicate,
-  refl,
-  sym,
-  ◌∙◌,
-  ap,
-  subst,
-  arith,
-}
-use Rattle.std.specs.Prelude.{◌↔◌, ◌⊎◌, Option, Some, None, nat_le, if◌then◌else◌}
+use Rattle.std.proofs.Common.{◌≡◌, ◌≢◌, ℕ, zero, suc, ◌+◌, ◌-◌, ◌<◌, ◌≤◌, Bool, true, false, [], ◌∷◌, length, get_or, set, map, replicate, refl, sym, ◌∙◌, ap, subst, arith}
+use Rattle.std.specs.Prelude.{◌⊎◌, Option, None, nat_le}
 use Rattle.std.proofs.Common.{inl, inr, get_or-set_other, get_or-set_same}
-use borrow.Author.Tests.{lt-ltb, le-ltb, le-leb, lt-leb, leb-true, leb-false}
+use borrow.Author.Tests.{lt-ltb, le-ltb, le-leb, leb-true}
 use Rattle.link_timers.specs.declared.timers.TimerId.{TimerId}
 use Rattle.link_timers.specs.declared.timers.TimerId.TheVariants.{T1, T10, T20, T11, T12, T13, T21, T22, T23, Idle}
-use Rattle.link_timers.specs.Timers.{
-  Places,
-  place_in,
-  place_of,
-  timer_at,
-  IsTimer,
-  left_of,
-  started,
-  stopped,
-  lowered,
-  after_ticks,
-}
+use Rattle.link_timers.specs.Timers.{Places, place_in, place_of, timer_at, IsTimer, left_of, lowered, after_ticks}
 
-at_T11 : (place : ℕ) → 3 ≤ place → place < 35 → timer_at place ≡ T11 (place - 2)
+pub at_T11 : (place : ℕ) → 3 ≤ place → place < 35 → timer_at place ≡ T11 (place - 2)
 at_T11 place least most = rw (
   le-ltb place 1 (omega arith),
   le-ltb place 2 (omega arith),
@@ -55,7 +16,7 @@ at_T11 place least most = rw (
   lt-ltb place 35 most,
 ) refl
 
-at_T12 : (place : ℕ) → 35 ≤ place → place < 67 → timer_at place ≡ T12 (place - 34)
+pub at_T12 : (place : ℕ) → 35 ≤ place → place < 67 → timer_at place ≡ T12 (place - 34)
 at_T12 place least most = rw (
   le-ltb place 1 (omega arith),
   le-ltb place 2 (omega arith),
@@ -65,7 +26,7 @@ at_T12 place least most = rw (
   lt-ltb place 67 most,
 ) refl
 
-at_T13 : (place : ℕ) → 67 ≤ place → place < 99 → timer_at place ≡ T13 (place - 66)
+pub at_T13 : (place : ℕ) → 67 ≤ place → place < 99 → timer_at place ≡ T13 (place - 66)
 at_T13 place least most = rw (
   le-ltb place 1 (omega arith),
   le-ltb place 2 (omega arith),
@@ -76,7 +37,7 @@ at_T13 place least most = rw (
   lt-ltb place 99 most,
 ) refl
 
-at_T21 : (place : ℕ) → 99 ≤ place → place < 131 → timer_at place ≡ T21 (place - 98)
+pub at_T21 : (place : ℕ) → 99 ≤ place → place < 131 → timer_at place ≡ T21 (place - 98)
 at_T21 place least most = rw (
   le-ltb place 1 (omega arith),
   le-ltb place 2 (omega arith),
@@ -89,7 +50,7 @@ at_T21 place least most = rw (
       place 131 most,
 ) refl
 
-at_T22 : (place : ℕ) → 131 ≤ place → place < 163 → timer_at place ≡ T22 (place - 130)
+pub at_T22 : (place : ℕ) → 131 ≤ place → place < 163 → timer_at place ≡ T22 (place - 130)
 at_T22 place least most = rw (
   le-ltb place 1 (omega arith),
   le-ltb place 2 (omega arith),
@@ -103,7 +64,7 @@ at_T22 place least most = rw (
   lt-ltb place 163 most,
 ) refl
 
-at_T23 : (place : ℕ) → 163 ≤ place → place < 195 → timer_at place ≡ T23 (place - 162)
+pub at_T23 : (place : ℕ) → 163 ≤ place → place < 195 → timer_at place ≡ T23 (place - 162)
 at_T23 place least most = rw (
   le-ltb place 1 (omega arith),
   le-ltb place 2 (omega arith),
@@ -118,7 +79,7 @@ at_T23 place least most = rw (
   lt-ltb place 195 most,
 ) refl
 
-at_Idle : (place : ℕ) → 195 ≤ place → timer_at place ≡ Idle (place - 195)
+pub at_Idle : (place : ℕ) → 195 ≤ place → timer_at place ≡ Idle (place - 195)
 at_Idle place least = rw (
   le-ltb place 1 (omega arith),
   le-ltb place 2 (omega arith),
@@ -137,7 +98,7 @@ pub record HasPlace (id : TimerId) : Type 0 where
   pub below : place_of id < 211
   pub back : timer_at (place_of id) ≡ id
 
-place_within : (first lowest highest number : ℕ) → lowest ≤ number → number ≤ highest → place_in first lowest
+pub place_within : (first lowest highest number : ℕ) → lowest ≤ number → number ≤ highest → place_in first lowest
     highest number ≡ first + (number - lowest)
 place_within first lowest highest number least most = rw (le-leb lowest number least, le-leb number highest most) refl
 
@@ -237,7 +198,7 @@ timer_or_none (T23 channel) = place_outside 163 channel (omega arith)
 timer_or_none (Idle terminal) = terminal_outside terminal
 
 -- past the end there is nothing
-past_end : (timers : Places) (place : ℕ) → length timers ≤ place → get_or timers place None ≡ None
+pub past_end : (timers : Places) (place : ℕ) → length timers ≤ place → get_or timers place None ≡ None
 past_end [] place beyond = refl
 past_end (left ∷ timers) zero beyond = absurd (omega arith)
 past_end (left ∷ timers) (suc place) beyond = past_end timers place (omega arith)

@@ -1,34 +1,5 @@
 -- Loops over the places of the timers.
-use Rattle.std.proofs.Common.{
-  ◌≡◌,
-  ℕ,
-  zero,
-  suc,
-  ◌+◌,
-  ◌<◌,
-  ◌≤◌,
-  List,
-  [],
-  ◌∷◌,
-  ◌++◌,
-  length,
-  get_or,
-  set,
-  take,
-  drop,
-  map,
-  refl,
-  sym,
-  ◌∙◌,
-  ap,
-  ap₂,
-  subst,
-  arith,
-  append_assoc,
-}
-use Rattle.std.specs.Prelude.{Option, Some, None, true, false, Bool}
-use Rattle.link_timers.specs.declared.timers.TimerId.{TimerId}
-use Rattle.link_timers.specs.Timers.{is_due, timer_at, due_from}
+use Rattle.std.proofs.Common.{◌≡◌, ℕ, zero, suc, ◌<◌, List, [], ◌∷◌, length, get_or, set, take, drop, map, ap, ap₂, arith}
 
 -- a list whose first items are those of an older one under f, and whose others are as they were
 pub record IsMappedTo {X : Type 0} (f : X → X) (old now : List X) (i : ℕ) : Type 0 where

@@ -1,4 +1,4 @@
-ghost use Rattle.std.specs.Prelude.{◌≡◌, ◌≢◌, ◌≤◌, ◌<◌, ◌+◌, ◌↔◌, map, length, Some, None, is_some, MatchOption};
+ghost use Rattle.std.specs.Prelude.{◌≡◌, ◌≢◌, ◌≤◌, ◌<◌, ◌+◌, ◌↔◌, map, length, Some, None, is_some, MatchOption, Contains};
 ghost use Rattle.link_timers.specs.declared.timers.TimerId.{TimerId};
 ghost use Rattle.link_timers.specs.Timers.{
   place_of,
@@ -37,6 +37,11 @@ pub enum TimerId {
 }
 
 impl Default for TimerId {
+    ghost use Rattle.std.specs.Prelude.{◌≡◌};
+    ghost use Rattle.link_timers.specs.declared.timers.TimerId.TheVariants.{T1};
+
+    ghost is_default = { λ id. id ≡ T1 };
+
     fn default() -> Self {
         TimerId::T1
     }
@@ -124,18 +129,27 @@ impl Timers {
 
     /// Lets ticks pass: each timer that runs has so many less, not below 0. Gives those that have none left, in the
     /// order of [`TimerId`] and then by number. They run until they are fired.
+    #[tactic(auto, using(crate::proofs::DueLaws::due_members))]
     pub fn tick(&mut self, ticks: u16) -> ArrayVec<TimerId, 211>
         ensures places { self.new ≡ after_ticks self.old ticks }
         ensures left { (id : TimerId) → left_of self.new id ≡ lowered ticks (left_of self.old id) }
         ensures due { result.items ≡ due_timers self.new }
+
+        // It gives exactly the timers that run and have no tick left.
+        ensures members { (id : TimerId) → Contains result.items id ↔ (left_of self.new id ≡ Some 0) }
     {
         lower(&mut self.left, ticks);
         due_in(&self.left)
     }
 
     /// The first timer that has no tick left, in the order of `tick`.
+    #[tactic(auto, using(crate::proofs::DueLaws::first_due))]
     pub fn due(&self) -> Option<TimerId>
-        ensures { result ≡ first_of (due_timers self.now) }
+        ensures first { result ≡ first_of (due_timers self.now) }
+
+        // It runs and has no tick left; where there is none, no timer that runs has no tick left.
+        ensures member { MatchOption result ((id : TimerId) → left_of self.now id ≢ Some 0)
+            (λ id. left_of self.now id ≡ Some 0) }
     {
         due_in(&self.left).as_slice().first().copied()
     }

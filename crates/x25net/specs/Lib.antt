@@ -3,3 +3,4 @@ pub mod InTurn
 pub mod Playing
 pub mod Cuts
 pub mod Scripts
+pub mod Digits

@@ -1,5 +1,6 @@
 //! The words of a line of a script.
-ghost use Rattle.std.specs.Prelude.{◌≡◌, ◌<◌, ◌≤◌, ◌==◌, IfOk, length, position};
+ghost use Rattle.std.specs.Prelude.{◌≡◌, ◌<◌, ◌≤◌, ◌==◌, IfOk, MatchOption, length, position};
+ghost use Rattle.x25net.specs.Digits.{hex_value};
 ghost use Rattle.std.specs.Option.{option_map};
 ghost use Rattle.x25net.specs.Cuts.{before, behind, length_left};
 
@@ -154,7 +155,8 @@ pub(crate) fn read_text(alloc: Global, text: &[u8]) -> Result<Vec<u8>, LineFault
 
 /// The value of a hexadecimal digit.
 fn hex_value(digit: u8) -> Result<u8, LineFault>
-    ensures { IfOk result (λ value. value < 16) }
+    ensures value { MatchOption (hex_value digit) (result ≡ Err LineFault.NotACommand) (λ value. result ≡ Ok value) }
+    ensures small { IfOk result (λ value. value < 16) }
 {
     match digit {
         b'0'..=b'9' => Ok(digit - b'0'),

@@ -1,0 +1,194 @@
+-- Which timers are among those that have no ticks left.
+use Rattle.std.proofs.Common.{
+  ◌≡◌,
+  ◌≢◌,
+  ℕ,
+  zero,
+  suc,
+  ◌+◌,
+  ◌-◌,
+  ◌<◌,
+  ◌≤◌,
+  ◌⊎◌,
+  ◌↔◌,
+  List,
+  [],
+  ◌∷◌,
+  length,
+  get_or,
+  refl,
+  sym,
+  ◌∙◌,
+  ap,
+  subst,
+  arith,
+  Contains,
+  inl,
+  inr,
+  ne_eqb,
+  nat_eq,
+  false,
+}
+use Rattle.std.specs.Prelude.{Option, Some, None, MatchOption}
+use Rattle.std.proofs.lemmas.Bool.{cases_lt}
+use Rattle.link_timers.specs.declared.timers.TimerId.{TimerId}
+use Rattle.link_timers.specs.Timers.{Places, place_of, timer_at, IsTimer, left_of, due_from, due_timers, first_of}
+use Rattle.link_timers.proofs.PlaceLaws.{has_place, timer_or_none, past_end, place_within, at_T11, at_T12, at_T13, at_T21, at_T22, at_T23, at_Idle}
+
+-- the place of the timer at a place
+place_back : (place : ℕ) → place < 211 → place_of (timer_at place) ≡ place
+place_back place below = first (cases_lt place 3) (cases_lt place 35) (cases_lt place 67) (cases_lt place 99) (cases_lt place 131)
+    (cases_lt place 163) (cases_lt place 195)
+  where
+    early : (p : ℕ) → p < 3 → place_of (timer_at p) ≡ p
+    early zero within = refl
+    early (suc zero) within = refl
+    early (suc (suc zero)) within = refl
+    early (suc (suc (suc p))) within = absurd (omega arith)
+
+    first : (place < 3) ⊎ (3 ≤ place) → (place < 35) ⊎ (35 ≤ place) → (place < 67) ⊎ (67 ≤ place) → (place < 99) ⊎
+        (99 ≤ place) → (place < 131) ⊎ (131 ≤ place) → (place < 163) ⊎ (163 ≤ place) → (place < 195) ⊎ (195 ≤
+        place) → place_of (timer_at place) ≡ place
+    first (inl few) b c d e f g = early place few
+    first (inr least) (inl most) c d e f g =
+        ap place_of (at_T11 place least most) ∙ place_within 3 1 32 (place - 2) (omega arith) (omega arith)
+        ∙ omega arith
+    first (inr a) (inr least) (inl most) d e f g =
+        ap place_of (at_T12 place least most) ∙ place_within 35 1 32 (place - 34) (omega arith) (omega arith)
+        ∙ omega arith
+    first (inr a) (inr b) (inr least) (inl most) e f g =
+        ap place_of (at_T13 place least most) ∙ place_within 67 1 32 (place - 66) (omega arith) (omega arith)
+        ∙ omega arith
+    first (inr a) (inr b) (inr c) (inr least) (inl most) f g =
+        ap place_of (at_T21 place least most) ∙ place_within 99 1 32 (place - 98) (omega arith) (omega arith)
+        ∙ omega arith
+    first (inr a) (inr b) (inr c) (inr d) (inr least) (inl most) g =
+        ap place_of (at_T22 place least most) ∙ place_within 131 1 32 (place - 130) (omega arith) (omega arith)
+        ∙ omega arith
+    first (inr a) (inr b) (inr c) (inr d) (inr e) (inr least) (inl most) =
+        ap place_of (at_T23 place least most) ∙ place_within 163 1 32 (place - 162) (omega arith) (omega arith)
+        ∙ omega arith
+    first (inr a) (inr b) (inr c) (inr d) (inr e) (inr f) (inr least) =
+        ap place_of (at_Idle place least) ∙ place_within 195 0 15 (place - 195) (omega arith) (omega arith)
+        ∙ omega arith
+
+-- a timer that has some left is passed over
+passed : (place n : ℕ) (timers : Places) → due_from place (Some (suc n) ∷ timers) ≡ due_from (place + 1) timers
+passed place n timers = let more : nat_eq (suc n) 0 ≡ false = ne_eqb (suc n) 0 (λ e. omega arith) in rw more refl
+
+-- a place at which a timer has none left
+record IsDueAt (place : ℕ) (timers : Places) (id : TimerId) : Type 0 where
+  pub at : ℕ
+  pub within : at < length timers
+  pub none_left : get_or timers at None ≡ Some 0
+  pub is : timer_at (place + at) ≡ id
+
+one_later : (place : ℕ) (left : Option ℕ) (timers : Places) (id : TimerId) → IsDueAt (place + 1) timers id →
+    IsDueAt place (left ∷ timers) id
+one_later place left timers id due =
+    let same : place + 1 + due.at ≡ place + suc due.at = omega arith in
+    record {
+      at = suc due.at;
+      within = omega (arith, due.within);
+      none_left = due.none_left;
+      is = subst (λ p. timer_at p ≡ id) same due.is;
+    }
+
+here : (place : ℕ) (timers : Places) (id : TimerId) → timer_at place ≡ id → IsDueAt place (Some 0 ∷ timers) id
+here place timers id is =
+    let same : place ≡ place + 0 = omega arith in
+    record { at = 0; within = omega arith; none_left = refl; is = subst (λ p. timer_at p ≡ id) same is }
+
+-- the first of a list, or one of the others
+first_or_later : (place : ℕ) (timers : Places) (id : TimerId) (k : ℕ) → (Contains (due_from (place + 1) timers) id →
+    IsDueAt (place + 1) timers id) → k < length (timer_at place ∷ due_from (place + 1) timers) → get_or (timer_at
+    place ∷ due_from (place + 1) timers) k id ≡ id → IsDueAt place (Some 0 ∷ timers) id
+first_or_later place timers id zero later within is = here place timers id is
+first_or_later place timers id (suc k) later within is =
+    one_later place (Some 0) timers id (later (k, omega (arith, within), is))
+
+due_of_list : (place : ℕ) (timers : Places) (id : TimerId) → Contains (due_from place timers) id → IsDueAt place
+    timers id
+due_of_list place [] id h = absurd (omega (arith, h.1))
+due_of_list place (None ∷ timers) id h = one_later place None timers id (due_of_list (place + 1) timers id h)
+due_of_list place (Some (suc n) ∷ timers) id h =
+    one_later place (Some (suc n)) timers id (due_of_list (place + 1) timers id (subst (λ ids. Contains ids id)
+    (passed place n timers) h))
+due_of_list place (Some zero ∷ timers) id h =
+    first_or_later place timers id h.0 (λ g. due_of_list (place + 1) timers id g) h.1 h.2
+
+list_of_due : (place : ℕ) (timers : Places) (k : ℕ) → k < length timers → get_or timers k None ≡ Some 0 →
+    Contains (due_from place timers) (timer_at (place + k))
+list_of_due place [] k within left = absurd (omega arith)
+list_of_due place (None ∷ timers) zero within left = absurd (cc)
+list_of_due place (Some (suc n) ∷ timers) zero within left = absurd (cc)
+list_of_due place (Some zero ∷ timers) zero within left =
+    let same : place ≡ place + 0 = omega arith in
+    (0, omega arith, ap timer_at same)
+list_of_due place (None ∷ timers) (suc k) within left =
+    let same : place + 1 + k ≡ place + suc k = omega arith in
+    subst (λ p. Contains (due_from (place + 1) timers) (timer_at p)) same (list_of_due (place + 1) timers k (omega
+    arith) left)
+list_of_due place (Some (suc n) ∷ timers) (suc k) within left =
+    let same : place + 1 + k ≡ place + suc k = omega arith in
+    let later : Contains (due_from (place + 1) timers) (timer_at (place + suc k)) =
+    subst (λ p. Contains (due_from (place + 1) timers) (timer_at p)) same (list_of_due (place + 1) timers k
+    (omega arith) left)
+    in
+    subst (λ ids. Contains ids (timer_at (place + suc k))) (sym (passed place n timers)) later
+list_of_due place (Some zero ∷ timers) (suc k) within left =
+    let same : place + 1 + k ≡ place + suc k = omega arith in
+    let later : Contains (due_from (place + 1) timers) (timer_at (place + suc k)) =
+    subst (λ p. Contains (due_from (place + 1) timers) (timer_at p)) same (list_of_due (place + 1) timers k
+    (omega arith) left)
+    in
+    (suc later.0, omega (arith, later.1), later.2)
+
+member_of_list : (timers : Places) (id : TimerId) → length timers ≡ 211 → Contains (due_timers timers) id →
+    left_of timers id ≡ Some 0
+member_of_list timers id whole h =
+    let due = due_of_list 0 timers id h in
+    let same : 0 + due.at ≡ due.at = omega arith in
+    let is : timer_at due.at ≡ id = subst (λ p. timer_at p ≡ id) same due.is in
+    let at_id : place_of id ≡ due.at = ap place_of (sym is) ∙ place_back due.at (omega (arith, due.within)) in
+    ap (λ p. get_or timers p None) at_id ∙ due.none_left
+
+list_of_member : (timers : Places) (id : TimerId) → length timers ≡ 211 → left_of timers id ≡ Some 0 → Contains
+    (due_timers timers) id
+list_of_member timers id whole left = go (timer_or_none id)
+  where
+    go : (place_of id ≡ 211) ⊎ IsTimer id → Contains (due_timers timers) id
+    go (inl none) = let past = past_end timers (place_of id) (omega arith) in absurd (cc)
+    go (inr is) =
+        let has = has_place id is in
+        let same : 0 + place_of id ≡ place_of id = omega arith in
+        subst (λ t. Contains (due_timers timers) t) (ap timer_at same ∙ has.back) (list_of_due 0 timers (place_of
+        id) (omega (arith, has.below)) left)
+
+-- the list has exactly the timers with none left
+pub due_members : (timers : Places) (due : List TimerId) → due ≡ due_timers timers → length timers ≡ 211 → (id :
+    TimerId) → Contains due id ↔ (left_of timers id ≡ Some 0)
+due_members timers due is whole id = (
+  λ h. member_of_list timers id whole (subst (λ ids. Contains ids id) is h),
+  λ left. subst (λ ids. Contains ids id) (sym is) (list_of_member timers id whole left),
+)
+
+nothing : (ids : List TimerId) (id : TimerId) → ids ≡ [] → Contains ids id → ⊥
+nothing [] id e h = absurd (omega (arith, h.1))
+nothing (x ∷ ids) id e h = absurd (cc)
+
+-- the first of them has none left, and where there is no first one no timer has
+pub first_due : (timers : Places) (first : Option TimerId) → first ≡ first_of (due_timers timers) → length timers ≡
+    211 → MatchOption first ((id : TimerId) → left_of timers id ≢ Some 0) (λ id. left_of timers id ≡ Some 0)
+first_due timers first is whole = go first (due_timers timers) is refl
+  where
+    go : (chosen : Option TimerId) (ids : List TimerId) → chosen ≡ first_of ids → due_timers timers ≡ ids →
+        MatchOption chosen ((id : TimerId) → left_of timers id ≢ Some 0) (λ id. left_of timers id ≡ Some 0)
+    go None [] e all =
+        λ id left. nothing (due_timers timers) id all (list_of_member timers id whole left)
+    go None (x ∷ ids) e all = absurd (cc)
+    go (Some id) [] e all = absurd (cc)
+    go (Some id) (x ∷ ids) e all =
+        let same : x ≡ id = cc in
+        let at : Contains (x ∷ ids) id = (0, omega arith, same) in
+        member_of_list timers id whole (subst (λ l. Contains l id) (sym all) at)
