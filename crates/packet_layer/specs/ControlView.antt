@@ -1,5 +1,5 @@
 -- Control packets that are owed, as the code has them.
-use Rattle.std.specs.Prelude.{ℕ, List, [], ◌∷◌, map, Option, Some, None}
+use Rattle.std.specs.Prelude.{List, [], ◌∷◌, map, Option, Some, None}
 use Rattle.packet_layer.specs.Packets.{Body}
 use Rattle.packet_layer.specs.Octets.{parts_of}
 use Rattle.packet_layer.specs.declared.control.Control.{Control}

@@ -1,6 +1,5 @@
 -- What is taken, as the code has it.
 use Rattle.std.specs.Prelude.{Option, Some, None, length}
-use Rattle.packet_layer.specs.Packets.{Datum}
 use Rattle.packet_layer.specs.Traffic as spec
 use Rattle.packet_layer.specs.declared.taken.Taken.{Taken}
 use Rattle.packet_layer.specs.declared.taken.Taken.TheVariants.{Interrupt, «Data»}

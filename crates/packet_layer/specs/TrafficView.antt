@@ -1,6 +1,6 @@
 -- What contracts see of the code's traffic, and what always holds of it.
-use Rattle.std.specs.Prelude.{◌≡◌, ℕ, ◌+◌, ◌%◌, ◌<◌, ◌≤◌, length}
-use Rattle.packet_layer.specs.Traffic.{Traffic, Heard, distance}
+use Rattle.std.specs.Prelude.{◌≡◌, ◌+◌, ◌%◌, ◌<◌, ◌≤◌, length}
+use Rattle.packet_layer.specs.Traffic.{Traffic, distance}
 use Rattle.packet_layer.specs.declared.traffic.Traffic.TheInside.{Inside}
 
 abbrev pub traffic_of : Inside → Traffic

@@ -110,13 +110,6 @@ impl Layer {
         self.notes.take()
     }
 
-    /// Whether the link has to be set up anew: from when a rule asks for it until `link_down` or `link_up`.
-    pub fn must_relink(&self) -> bool
-        ensures { result ≡ self.now.relink }
-    {
-        self.relink
-    }
-
     // The place of a channel among those of the line.
     fn place(&self, channel: u16) -> Option<usize>
         ensures { MatchOption result (machine.channel_of self.now channel ≡ None)

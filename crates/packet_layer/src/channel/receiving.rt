@@ -186,11 +186,11 @@ impl Channel {
                 self.after_heard(end, heard)
             }
             Content::Interrupt(octets) => {
-                let heard = self.traffic.hear_interrupt(end.window, octets);
+                let heard = self.traffic.hear_interrupt(octets);
                 self.after_heard(end, heard)
             }
             Content::InterruptConfirmation => {
-                let heard = self.traffic.hear_interrupt_confirmation(end.window);
+                let heard = self.traffic.hear_interrupt_confirmation();
                 self.after_heard(end, heard)
             }
             _ => self.not_allowed(end),

@@ -1,4 +1,5 @@
 //! What the user asks of a channel (X.25 4.1 to 4.4).
+ghost use Rattle.link_timers.specs.declared.role.Role.{Role as RoleValue};
 ghost use Rattle.packet_layer.specs.Channel as machine;
 ghost use Rattle.packet_layer.specs.Answers.{Answers};
 ghost use Rattle.packet_layer.specs.RequestView.{request_of};
@@ -47,18 +48,18 @@ impl Channel {
     {
         match request {
             Request::Accept => self.accept(role),
-            Request::Clear { cause, diagnostic } => self.clear(role, *cause, *diagnostic),
-            Request::Reset { cause, diagnostic } => self.reset(role, *cause, *diagnostic),
+            Request::Clear { cause, diagnostic } => self.clear(*cause, *diagnostic),
+            Request::Reset { cause, diagnostic } => self.reset(*cause, *diagnostic),
             Request::Send {
                 octets,
                 more,
                 qualified,
                 delivery,
-            } => self.send(role, octets, *more, *qualified, *delivery),
-            Request::Interrupt(octets) => self.interrupt(role, octets),
-            Request::Stop(stopped) => self.stop(role, *stopped),
-            Request::Release(count) => self.release(role, *count),
-            Request::ConfirmInterrupt => self.confirm_interrupt(role),
+            } => self.send(octets, *more, *qualified, *delivery),
+            Request::Interrupt(octets) => self.interrupt(octets),
+            Request::Stop(stopped) => self.stop(*stopped),
+            Request::Release(count) => self.release(*count),
+            Request::ConfirmInterrupt => self.confirm_interrupt(),
         }
     }
 
@@ -72,8 +73,8 @@ impl Channel {
         Ok(self.owed.owe(Some(Control::Accepted)))
     }
 
-    fn clear(&mut self, role: Role, cause: u8, diagnostic: u8) -> Result<bool, ChannelFault>
-        ensures { Answers role self.old (machine.Request.Clearing cause diagnostic) result self.new }
+    fn clear(&mut self, cause: u8, diagnostic: u8) -> Result<bool, ChannelFault>
+        ensures { (role : RoleValue) → Answers role self.old (machine.Request.Clearing cause diagnostic) result self.new }
     {
         if !self.state.has_call() {
             return Err(ChannelFault::NoCall);
@@ -82,8 +83,8 @@ impl Channel {
         Ok(self.owed.owe(Some(Control::Clear { cause, diagnostic })))
     }
 
-    fn reset(&mut self, role: Role, cause: u8, diagnostic: u8) -> Result<bool, ChannelFault>
-        ensures { Answers role self.old (machine.Request.Resetting cause diagnostic) result self.new }
+    fn reset(&mut self, cause: u8, diagnostic: u8) -> Result<bool, ChannelFault>
+        ensures { (role : RoleValue) → Answers role self.old (machine.Request.Resetting cause diagnostic) result self.new }
     {
         if !self.state.in_transfer() {
             return Err(ChannelFault::NoCall);
@@ -98,13 +99,12 @@ impl Channel {
 
     fn send(
         &mut self,
-        role: Role,
         octets: &[u8],
         more: bool,
         qualified: bool,
         delivery: bool,
     ) -> Result<bool, ChannelFault>
-        ensures { Answers role self.old (machine.Request.Sending (record { octets = octets.now; more = more; qualified = qualified; delivery = delivery })) result self.new }
+        ensures { (role : RoleValue) → Answers role self.old (machine.Request.Sending (record { octets = octets.now; more = more; qualified = qualified; delivery = delivery })) result self.new }
     {
         if !self.state.in_transfer() {
             return Err(ChannelFault::NoCall);
@@ -123,8 +123,8 @@ impl Channel {
         Ok(false)
     }
 
-    fn interrupt(&mut self, role: Role, octets: &[u8]) -> Result<bool, ChannelFault>
-        ensures { Answers role self.old (machine.Request.Interrupting octets.now) result self.new }
+    fn interrupt(&mut self, octets: &[u8]) -> Result<bool, ChannelFault>
+        ensures { (role : RoleValue) → Answers role self.old (machine.Request.Interrupting octets.now) result self.new }
     {
         if !self.state.in_transfer() {
             return Err(ChannelFault::NoCall);
@@ -142,8 +142,8 @@ impl Channel {
         Ok(false)
     }
 
-    fn stop(&mut self, role: Role, stopped: bool) -> Result<bool, ChannelFault>
-        ensures { Answers role self.old (machine.Request.Stopping stopped) result self.new }
+    fn stop(&mut self, stopped: bool) -> Result<bool, ChannelFault>
+        ensures { (role : RoleValue) → Answers role self.old (machine.Request.Stopping stopped) result self.new }
     {
         if !self.state.in_transfer() {
             return Err(ChannelFault::NoCall);
@@ -152,8 +152,8 @@ impl Channel {
         Ok(false)
     }
 
-    fn release(&mut self, role: Role, count: u8) -> Result<bool, ChannelFault>
-        ensures { Answers role self.old (machine.Request.Releasing count) result self.new }
+    fn release(&mut self, count: u8) -> Result<bool, ChannelFault>
+        ensures { (role : RoleValue) → Answers role self.old (machine.Request.Releasing count) result self.new }
     {
         if !self.state.in_transfer() {
             return Err(ChannelFault::NoCall);
@@ -162,8 +162,8 @@ impl Channel {
         Ok(false)
     }
 
-    fn confirm_interrupt(&mut self, role: Role) -> Result<bool, ChannelFault>
-        ensures { Answers role self.old machine.Request.Confirming result self.new }
+    fn confirm_interrupt(&mut self) -> Result<bool, ChannelFault>
+        ensures { (role : RoleValue) → Answers role self.old machine.Request.Confirming result self.new }
     {
         if !self.state.in_transfer() {
             return Err(ChannelFault::NoCall);

@@ -1,4 +1,4 @@
-//! What a user may ask of a channel without changing anything.
+//! What a user may ask of a layer without changing anything.
 ghost use Rattle.std.specs.Prelude.{◌≡◌};
 ghost use Rattle.packet_layer.specs.Layer as machine;
 ghost use Rattle.packet_layer.specs.TakenView.{maybe_front};
@@ -34,5 +34,12 @@ impl Layer {
             Some(place) => self.channels[place].is_confirmed(),
             None => false,
         }
+    }
+
+    /// Whether the link has to be set up anew: from when a rule asks for it until `link_down` or `link_up`.
+    pub fn must_relink(&self) -> bool
+        ensures { result ≡ self.now.relink }
+    {
+        self.relink
     }
 }

@@ -51,11 +51,11 @@ impl Traffic {
         Heard::Keeps(newly)
     }
 
-    /// Takes an interrupt.
-    pub(crate) fn hear_interrupt(&mut self, window: u8, octets: &[u8]) -> Heard
+    /// Takes an interrupt, whatever the window.
+    pub(crate) fn hear_interrupt(&mut self, octets: &[u8]) -> Heard
         requires least { 1 ≤ length octets.now }
         requires most { length octets.now ≤ 32 }
-        ensures { heard_of result self.new ≡ machine.hears window self.old (body.Interrupt octets.now) }
+        ensures { heard_of result self.new ≡ machine.hears 0 self.old (body.Interrupt octets.now) }
     {
         if self.interrupt_arrived.is_some() || self.interrupt_taken || self.confirmation_due {
             return Heard::Wrong(0);
@@ -64,9 +64,9 @@ impl Traffic {
         Heard::Keeps(0)
     }
 
-    /// Takes the confirmation of an interrupt.
-    pub(crate) fn hear_interrupt_confirmation(&mut self, window: u8) -> Heard
-        ensures { heard_of result self.new ≡ machine.hears window self.old body.InterruptConfirmation }
+    /// Takes the confirmation of an interrupt, whatever the window.
+    pub(crate) fn hear_interrupt_confirmation(&mut self) -> Heard
+        ensures { heard_of result self.new ≡ machine.hears 0 self.old body.InterruptConfirmation }
     {
         if !self.interrupt_unconfirmed {
             return Heard::Wrong(0);

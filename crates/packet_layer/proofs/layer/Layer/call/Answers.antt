@@ -1,5 +1,5 @@
 use Rattle.std.proofs.Common.{◌≡◌, ◌∙◌, ◌+◌, ap, sym, subst, Some, ◌<◌, length}
-use Rattle.std.specs.Prelude.{slice_get, is_some, true, false, Bool}
+use Rattle.std.specs.Prelude.{slice_get, Bool}
 use Rattle.packet_layer.specs.Layer.{Layer, free_channel, owing, placing}
 use Rattle.packet_layer.specs.LayerView.{layer_of}
 use Rattle.packet_codec.specs.Packet.{CallValue}

@@ -1,6 +1,6 @@
 use Rattle.std.proofs.Common.{◌≡◌, ◌∙◌, ap, sym, subst, Some, ◌<◌, length}
-use Rattle.std.specs.Prelude.{slice_get, is_some, true, false, Bool}
-use Rattle.packet_layer.specs.Layer.{Layer, Next, next_of}
+use Rattle.std.specs.Prelude.{slice_get, Bool}
+use Rattle.packet_layer.specs.Layer.{Layer}
 use Rattle.packet_layer.specs.LayerView.{layer_of}
 use Rattle.packet_layer.specs.RequestView.{request_of}
 use Rattle.packet_layer.proofs.Places.{item_at, kept, request_done, request_refused, refused_at}

@@ -1,6 +1,5 @@
-use Rattle.std.proofs.Common.{◌≡◌, ◌∙◌, ◌+◌, ◌-◌, ap, sym, subst, length, List, ℕ, Option}
+use Rattle.std.proofs.Common.{◌≡◌, ◌∙◌, ◌+◌, ◌-◌, ap, sym, subst, length, List, ℕ}
 use Rattle.std.specs.Prelude.{is_some, true, false}
-use Rattle.packet_layer.specs.Packets.{Packet}
 use Rattle.packet_layer.specs.Layer.{Layer, Next, serve, next_number}
 use Rattle.packet_layer.specs.Events.{written_packet, ReadsBack}
 use Rattle.packet_layer.proofs.Serving.{goes_on, stops, silent_same}

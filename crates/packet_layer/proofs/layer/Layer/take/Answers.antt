@@ -1,6 +1,6 @@
-use Rattle.std.proofs.Common.{◌≡◌, ◌∙◌, ap, sym, subst, Some, ◌<◌, length}
-use Rattle.std.specs.Prelude.{slice_get, is_some, true, false, Bool}
-use Rattle.packet_layer.specs.Layer.{Layer, Next, next_of}
+use Rattle.std.proofs.Common.{◌≡◌, ◌∙◌, sym, subst, Some, ◌<◌, length}
+use Rattle.std.specs.Prelude.{slice_get}
+use Rattle.packet_layer.specs.Layer.{Layer}
 use Rattle.packet_layer.specs.LayerView.{layer_of}
 use Rattle.packet_layer.proofs.Places.{item_at, taking_done}
 use Rattle.packet_layer.proofs.layer.Layer.take.Goals as goal

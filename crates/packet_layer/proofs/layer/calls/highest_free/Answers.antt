@@ -1,5 +1,5 @@
-use Rattle.std.proofs.Common.{◌≡◌, ◌∙◌, ◌+◌, ◌<◌, ap, sym, Some, None, Option, ℕ, List, take, length, arith, subst}
-use Rattle.std.specs.Prelude.{slice_get, true, false, MatchOption}
+use Rattle.std.proofs.Common.{◌≡◌, ◌∙◌, ◌+◌, ◌<◌, sym, Some, None, Option, ℕ, List, take, length, arith, subst}
+use Rattle.std.specs.Prelude.{slice_get, true, MatchOption}
 use Rattle.packet_layer.specs.Channel.{Channel}
 use Rattle.packet_layer.specs.Layer.{is_free, highest_free}
 use Rattle.packet_layer.specs.Free.{IsFreeAt}

@@ -1,5 +1,5 @@
-use Rattle.std.proofs.Common.{◌≡◌, ◌∙◌, ap, sym, Some, length, arith}
-use Rattle.std.specs.Prelude.{slice_get, true, false}
+use Rattle.std.proofs.Common.{◌≡◌, ◌∙◌, sym, Some, arith}
+use Rattle.std.specs.Prelude.{slice_get, true}
 use Rattle.packet_layer.specs.Layer.{is_free}
 use Rattle.packet_layer.proofs.Places.{at_place}
 use Rattle.packet_layer.proofs.FreeChannels.{lowest_found, lowest_goes_on}

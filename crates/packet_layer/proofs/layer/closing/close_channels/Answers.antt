@@ -1,7 +1,7 @@
 use Rattle.std.proofs.Common.{◌≡◌, ◌∙◌, ◌+◌, ◌≤◌, ◌++◌, ◌<◌, [], ◌∷◌, List, ap, sym, subst, Some, length, take, drop, map, arith}
-use Rattle.std.specs.Prelude.{slice_get, true, false}
+use Rattle.std.specs.Prelude.{slice_get}
 use Rattle.packet_layer.specs.Packets.{Note, Closed}
-use Rattle.packet_layer.specs.Channel.{Channel, CallState, closed_channel}
+use Rattle.packet_layer.specs.Channel.{Channel}
 use Rattle.packet_layer.specs.Layer.{closing_notes, had_call}
 use Rattle.packet_layer.specs.NoteView.{reason_of}
 use Rattle.packet_layer.proofs.Places.{item_at}
