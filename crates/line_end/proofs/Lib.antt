@@ -1,0 +1,4 @@
+pub mod Steps
+pub mod Frames
+pub mod Timing
+pub mod Calls
