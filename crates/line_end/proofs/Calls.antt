@@ -9,14 +9,14 @@ use Rattle.link_timers.specs.declared.timers.TimerId.TheVariants.{T1}
 use Rattle.link_timers.specs.Timers.{Places, left_of}
 use Rattle.frame_codec.specs.Spelling.{spelling}
 use Rattle.lapb.specs.declared.note.Timing.{Timing as Change}
-use Rattle.lapb.specs.Machine.{Octets, Link, Step, runs, timing, on_t1, settle}
+use Rattle.lapb.specs.Machine.{Octets, Link, Step, runs, timing, on_t1}
 use Rattle.lapb.specs.Octets.{on_octets}
 use Rattle.lapb.specs.Out.{Out, no_out, with_frames, gathered}
 use Rattle.line_end.specs.declared.end.LineEnd.TheInside.{Inside}
-use Rattle.line_end.specs.End.{End, timed, runs_then, did, settled}
+use Rattle.line_end.specs.End.{End, timed, runs_then, did, SendsUpTo}
 use Rattle.line_end.specs.EndView.{IsEnd}
 use Rattle.line_end.proofs.Frames.{with_frames-again, with_frames-fit}
-use Rattle.line_end.proofs.Steps.{Keeps, settles}
+use Rattle.line_end.proofs.Steps.{Keeps, sends_on_t1}
 use Rattle.line_end.proofs.Timing.{timing_after-keep, runs_after, runs_after_expiry}
 
 change-is : (l : Link) (step : Step) (out : Out) → out ≡ gathered no_out l step → out.timer ≡ timing l step
@@ -67,12 +67,17 @@ accepted_long l [] packet e = let none : ◌≡◌ {A = Option Octets} None (Som
 accepted_long l (address ∷ []) packet e = let none : ◌≡◌ {A = Option Octets} None (Some packet) = e in absurd (cc)
 accepted_long l (address ∷ control ∷ field) packet e = omega arith
 
--- at the end of an event no frame is dropped where at most two wait
-pub settled_frames : (e : End) → length e.link.queue ≤ 7 → length e.frames ≤ 2 → (settled e).frames ≡ e.frames ++ map
-    (spelling e.link.role) (settle e.link).frames
-settled_frames e short few =
-    with_frames-fit e.frames (map (spelling e.link.role) (settle e.link).frames)
-    (omega (arith, few, length-map (settle e.link).frames (spelling e.link.role), (settles e.link).few 7 short (omega arith)))
+-- no frame is dropped where there is room
+pub sends_up_to : (most : ℕ) (e : End) (step : Step) → length step.frames ≤ most → SendsUpTo most e step
+sends_up_to most e step few = record {
+  few = few;
+  all = λ room. with_frames-fit e.frames (map (spelling e.link.role) step.frames)
+      (omega (arith, few, room, length-map step.frames (spelling e.link.role)));
+}
+
+-- an expiry of T1 sends one frame at most
+pub expiry_sends : (e : End) → SendsUpTo 1 e (on_t1 e.link)
+expiry_sends e = sends_up_to 1 e (on_t1 e.link) (sends_on_t1 e.link).few
 
 -- the information field of the frame is the packet that was accepted
 pub packet-is : (octets : Octets) (accepted : Option Octets) (got : Option (Bor Octets)) → ((packet : Octets) → accepted ≡ Some packet →

@@ -1,5 +1,5 @@
 -- The end of a line: its link, its timers and the frames that go out, and what each call makes of them.
-use Rattle.std.specs.Prelude.{ℕ, ◌+◌, Bool, true, false, List, [], ◌∷◌, map, drop, Option, Some, None, is_some, if◌then◌else◌}
+use Rattle.std.specs.Prelude.{◌≡◌, ℕ, ◌+◌, ◌≤◌, Bool, true, false, List, [], ◌++◌, length, map, drop, Option, Some, None, is_some, if◌then◌else◌}
 use Rattle.link_timers.specs.declared.role.Role.{Role}
 use Rattle.link_timers.specs.declared.timers.TimerId.{TimerId}
 use Rattle.link_timers.specs.declared.timers.TimerId.TheVariants.{T1}
@@ -41,6 +41,11 @@ did e step = record {
   timers = timed (timing e.link step) e.timers;
   frames = with_frames e.frames (map (spelling e.link.role) step.frames);
 }
+
+-- a step that sends at most so many frames, of which none is dropped where there is room for so many
+pub record SendsUpTo (most : ℕ) (e : End) (step : Step) : Type 0 where
+  pub few : length step.frames ≤ most
+  pub all : length e.frames + most ≤ 9 → (did e step).frames ≡ e.frames ++ map (spelling e.link.role) step.frames
 
 -- the frames that were not taken are dropped, as lost
 abbrev pub without_frames : End → End

@@ -1,13 +1,12 @@
-ghost use Rattle.std.specs.Prelude.{◌≡◌, ◌≤◌, [], ◌∷◌, ◌++◌, length, map, MatchOption, MatchResult, IsOk, Err, Some, None, is_some, option_copied};
+ghost use Rattle.std.specs.Prelude.{◌≡◌, ◌≤◌, [], ◌∷◌, length, MatchOption, MatchResult, IsOk, Err, Some, None, is_some, option_copied};
 ghost use Rattle.std.specs.Bool.{OnTrue, OnFalse};
 ghost use Rattle.link_timers.specs.Timers.{left_of, due_timers, first_of};
-ghost use Rattle.frame_codec.specs.Spelling.{spelling};
 ghost use Rattle.lapb.specs.Machine as machine;
 ghost use Rattle.lapb.specs.Octets.{on_octets};
 ghost use Rattle.lapb.specs.Offers.{refusal};
 ghost use Rattle.lapb.specs.Out.{with_frames};
 ghost use Rattle.lapb.specs.Params.{AreParams};
-ghost use Rattle.line_end.specs.End.{timed, runs_then, made, without_frames, received, after_timer, timer_note, relinked, restarted, offered, settled, without_first, elapsed};
+ghost use Rattle.line_end.specs.End.{timed, runs_then, made, without_frames, received, after_timer, timer_note, relinked, restarted, offered, settled, without_first, elapsed, SendsUpTo};
 
 use arrayvec::ArrayVec;
 use frame_codec::FrameBuf;
@@ -92,6 +91,7 @@ impl LineEnd {
     /// Takes the octets of a received frame (X.25 2.4.4 to 2.4.7).
     pub fn on_frame<'a>(&mut self, octets: &'a [u8]) -> Received<'a>
         ensures end { self.new ≡ received self.old octets.now }
+        ensures frames { SendsUpTo 1 self.old (on_octets self.old.link octets.now) }
         ensures note { result.note ≡ (on_octets self.old.link octets.now).note }
         ensures packet { option_copied result.packet ≡ (on_octets self.old.link octets.now).accepted }
     {
@@ -107,6 +107,7 @@ impl LineEnd {
     /// Takes an expiry of a timer: what it tells of the link, or `None` where the timer does not run, which changes nothing.
     pub fn on_timer(&mut self, id: TimerId) -> Option<Note>
         ensures end { self.new ≡ after_timer self.old id }
+        ensures frames { SendsUpTo 1 self.old (machine.on_t1 self.old.link) }
         ensures note { result ≡ timer_note self.old id }
     {
         if !self.timers.fire(id) {
@@ -124,6 +125,7 @@ impl LineEnd {
     /// Gives the link up and sets it up again (X.25 2.4.4.1, 2.4.7). A DTE that is setting it up goes on.
     pub fn relink(&mut self) -> Note
         ensures end { self.new ≡ relinked self.old }
+        ensures frames { SendsUpTo 1 self.old (machine.relink self.old.link) }
         ensures note { result ≡ (machine.relink self.old.link).note }
     {
         let mut out = LinkOut::new();
@@ -156,10 +158,7 @@ impl LineEnd {
     /// Ends an event of the node: the I frames that may go go out, in order; where none goes, RR if an acknowledgement is owed.
     pub fn settle(&mut self)
         ensures end { self.new ≡ settled self.old }
-
-        // No frame is dropped where at most two wait.
-        ensures frames { length self.old.frames ≤ 2 → self.new.frames ≡ self.old.frames ++ map
-            (spelling self.old.link.role) (machine.settle self.old.link).frames }
+        ensures frames { SendsUpTo 7 self.old (machine.settle self.old.link) }
     {
         let mut out = LinkOut::new();
         self.link.settle(&mut out);

@@ -6,7 +6,7 @@ use Rattle.lapb.specs.Out.{Out, gathered}
 use Rattle.line_end.specs.End.{End, received}
 use Rattle.line_end.specs.EndView.{end_of}
 use Rattle.line_end.proofs.Steps.{sends_on_octets}
-use Rattle.line_end.proofs.Calls.{did-is, t1-is, still_end, accepted_long, packet-is, none_of}
+use Rattle.line_end.proofs.Calls.{did-is, t1-is, still_end, accepted_long, packet-is, none_of, sends_up_to}
 use Rattle.line_end.proofs.end.LineEnd.on_frame.Goals as goal
 use Rattle.line_end.proofs.end.LineEnd.on_frame.Goals.{then-accepted, else-accepted}
 
@@ -40,3 +40,6 @@ returns-clause-packet c =
       | else-accepted w ↦ ap option_copied w.result-is ∙ sym (none_of step.accepted (sym accepted ∙ w.if-accepted.false))
     ] in
     packet ∙ ap (λ (e : End). (on_octets e.link c.args.octets.now).accepted) c.self.view_is
+
+pub returns-clause-frames : goal.returns-clause-frames
+returns-clause-frames c = sends_up_to 1 c.args.self.now _ (sends_on_octets c.args.self.now.link c.args.octets.now).few

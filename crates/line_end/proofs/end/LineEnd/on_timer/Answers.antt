@@ -6,7 +6,7 @@ use Rattle.link_timers.specs.Timers.{left_of}
 use Rattle.lapb.specs.Machine as machine
 use Rattle.lapb.specs.Out.{Out, gathered}
 use Rattle.line_end.proofs.Steps.{sends_on_t1}
-use Rattle.line_end.proofs.Calls.{t1_expired-is, still_end}
+use Rattle.line_end.proofs.Calls.{t1_expired-is, still_end, expiry_sends}
 use Rattle.line_end.proofs.end.LineEnd.on_timer.Goals as goal
 
 pub invariant_of-self-2 : goal.invariant_of-self-2
@@ -21,3 +21,12 @@ invariant_of-self-2 c =
     rw c.on_t1.ensures.link (still_end c.self.inside step.link c.carry_out.new.timers c.carry_out.new.frames c.self.invariant
     (sends_on_t1 c.self.inside.link).keeps
     (t1_expired-is c.self.inside.link c.on_t1.new.out _ _ out c.carry_out.ensures.t1 fired (sym c.self.invariant.t1 ∙ ran)))
+
+pub returns-then-not-fire-clause-frames : goal.returns-then-not-fire-clause-frames
+returns-then-not-fire-clause-frames c = expiry_sends c.args.self.now
+
+pub returns-then-ne-clause-frames : goal.returns-then-ne-clause-frames
+returns-then-ne-clause-frames c = expiry_sends c.args.self.now
+
+pub returns-clause-frames : goal.returns-clause-frames
+returns-clause-frames c = expiry_sends c.args.self.now

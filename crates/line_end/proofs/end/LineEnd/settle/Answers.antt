@@ -1,11 +1,10 @@
-use Rattle.std.proofs.Common.{◌≡◌, ◌≤◌, ◌++◌, length, map, ap, ◌∙◌, sym, arith, subst}
-use Rattle.frame_codec.specs.Spelling.{spelling}
+use Rattle.std.proofs.Common.{◌≤◌, length, ap, ◌∙◌, arith}
 use Rattle.lapb.specs.Machine as machine
 use Rattle.lapb.specs.Out.{Out, gathered}
-use Rattle.line_end.specs.End.{End, settled}
+use Rattle.line_end.specs.End.{settled}
 use Rattle.line_end.specs.EndView.{end_of}
 use Rattle.line_end.proofs.Steps.{settles}
-use Rattle.line_end.proofs.Calls.{did-is, t1-is, still_end, settled_frames}
+use Rattle.line_end.proofs.Calls.{did-is, t1-is, still_end, sends_up_to}
 use Rattle.line_end.proofs.end.LineEnd.settle.Goals as goal
 
 pub invariant_of-self : goal.invariant_of-self
@@ -26,12 +25,6 @@ returns-clause-end c =
     ∙ ap settled c.self.view_is
 
 pub returns-clause-frames : goal.returns-clause-frames
-returns-clause-frames c few =
-    let step = machine.settle c.self.inside.link in
-    let out = c.settle.ensures.out ∙ ap (λ (o : Out). gathered o c.self.inside.link step) c.new-out.ensures in
-    let end = did-is (end_of c.self.inside) step c.settle.new.out c.carry_out.new.timers c.carry_out.new.frames.items out
-    c.carry_out.ensures.timers c.carry_out.ensures.frames in
+returns-clause-frames c =
     let short : length c.self.inside.link.queue ≤ 7 = omega (arith, c.self.invariant.queue, c.self.invariant.k, c.self.invariant.params.k_most) in
-    let few_inside = subst (λ (e : End). length e.frames ≤ 2) (sym c.self.view_is) few in
-    ap (λ (e : End). e.frames) end ∙ settled_frames (end_of c.self.inside) short few_inside
-    ∙ ap (λ (e : End). e.frames ++ map (spelling e.link.role) (machine.settle e.link).frames) c.self.view_is
+    rw (← c.self.view_is) (sends_up_to 7 (end_of c.self.inside) (machine.settle c.self.inside.link) ((settles c.self.inside.link).few 7 short (omega arith)))
