@@ -87,8 +87,7 @@ module _ (e : End) (dce : Link) (up down : List Octets) where
       let more = map (spelling Dte) (call e.link).frames in
       let parts = parted kept e.frames more in
       let before = stands parts.before in
-      let after = event before.0 (up ++ chosen parts.before e.frames) parts.behind before.1 in
-      (
+      let after = event before.0 (up ++ chosen parts.before e.frames) parts.behind before.1 in (
         after.0,
         subst (λ (r : Role). StandsIn after.0 (call e.link).link dce
             (up ++ chosen kept (with_frames e.frames (map (spelling r) (call e.link).frames))) to) (sym (dte_role stands))
@@ -111,8 +110,7 @@ module _ (e : End) (dce : Link) (up down : List Octets) where
   -- a packet that is refused changes nothing
   pub dte_stands_offered : (packet : Octets) → length packet ≤ 145 → DteStands e dce up down → DteStands (offered e packet) dce up down
   dte_stands_offered packet short stands = λ kept.
-      let before = stands kept in
-      (
+      let before = stands kept in (
         happens before.0 (Offer Dte packet),
         stands_offer_dte before.0 e.link dce (up ++ chosen kept e.frames) down packet short before.1,
       )
@@ -173,8 +171,7 @@ module _ (dte : Link) (e : End) (up down : List Octets) where
       let more = map (spelling Dce) (call e.link).frames in
       let parts = parted kept e.frames more in
       let before = stands parts.before in
-      let after = event before.0 (down ++ chosen parts.before e.frames) parts.behind before.1 in
-      (
+      let after = event before.0 (down ++ chosen parts.before e.frames) parts.behind before.1 in (
         after.0,
         subst (λ (r : Role). StandsIn after.0 dte (call e.link).link to
             (down ++ chosen kept (with_frames e.frames (map (spelling r) (call e.link).frames)))) (sym (dce_role stands))
@@ -197,8 +194,7 @@ module _ (dte : Link) (e : End) (up down : List Octets) where
   -- a packet that is refused changes nothing
   pub dce_stands_offered : (packet : Octets) → length packet ≤ 145 → DceStands dte e up down → DceStands dte (offered e packet) up down
   dce_stands_offered packet short stands = λ kept.
-      let before = stands kept in
-      (
+      let before = stands kept in (
         happens before.0 (Offer Dce packet),
         stands_offer_dce before.0 dte e.link up (down ++ chosen kept e.frames) packet short before.1,
       )

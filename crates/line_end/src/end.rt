@@ -1,4 +1,4 @@
-ghost use Rattle.std.specs.Prelude.{◌≡◌, ◌≤◌, [], ◌∷◌, length, MatchOption, MatchResult, IsOk, Err, Some, None, is_some, option_copied};
+ghost use Rattle.std.specs.Prelude.{◌≡◌, ◌≤◌, [], ◌∷◌, length, MatchOption, MatchResult, IsOk, is_ok, Err, Some, None, is_some, option_copied};
 ghost use Rattle.std.specs.Bool.{OnTrue, OnFalse};
 ghost use Rattle.link_timers.specs.Timers.{left_of, due_timers, first_of};
 ghost use Rattle.lapb.specs.Machine as machine;
@@ -100,7 +100,11 @@ impl LineEnd {
         carry_out(&out, &mut self.timers, &mut self.frames);
         Received {
             note: out.note(),
-            packet: if out.accepted() { octets.get(2..) } else { None },
+            packet: if out.accepted() {
+                octets.get(2..)
+            } else {
+                None
+            },
         }
     }
 
@@ -150,6 +154,7 @@ impl LineEnd {
     pub fn offer(&mut self, packet: &[u8]) -> Result<(), OfferFault>
         requires { length packet.now ≤ 145 }
         ensures answer { MatchOption (refusal self.old.link) (IsOk result) (λ fault. result ≡ Err fault) }
+        ensures taken { is_ok result ≡ machine.can_offer self.old.link }
         ensures end { self.new ≡ offered self.old packet.now }
     {
         self.link.offer(packet)

@@ -5,5 +5,5 @@ mod end;
 
 pub use end::{LineEnd, Received};
 
-
-
+#[cfg(test)]
+mod tests;

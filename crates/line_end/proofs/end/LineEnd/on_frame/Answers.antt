@@ -33,10 +33,10 @@ returns-clause-packet c =
     let accepted : c.accepted.result ≡ is_some step.accepted = c.accepted.ensures ∙ ap (λ (o : Out). o.accepted) c.on_frame.ensures.out in
     let packet : option_copied c.if-accepted.result ≡ step.accepted =
     elim c.if-accepted.branch [
-      then-accepted w ↦
-      ap option_copied w.result-is ∙ packet-is c.args.octets.now step.accepted w.get.result
-      (accepted_long c.self.inside.link c.args.octets.now) c.on_frame.ensures.packet (sym accepted ∙ w.if-accepted.true)
-      w.get.ensures.lookup.0
+      | then-accepted w ↦
+          ap option_copied w.result-is ∙ packet-is c.args.octets.now step.accepted w.get.result
+          (accepted_long c.self.inside.link c.args.octets.now) c.on_frame.ensures.packet (sym accepted ∙ w.if-accepted.true)
+          w.get.ensures.lookup.0
       | else-accepted w ↦ ap option_copied w.result-is ∙ sym (none_of step.accepted (sym accepted ∙ w.if-accepted.false))
     ] in
     packet ∙ ap (λ (e : End). (on_octets e.link c.args.octets.now).accepted) c.self.view_is
