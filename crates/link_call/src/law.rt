@@ -1,0 +1,3 @@
+/// Scratch.
+pub fn standing_call_law()
+{}
