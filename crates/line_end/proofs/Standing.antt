@@ -7,13 +7,13 @@ use Rattle.link_timers.specs.declared.role.Role.{Role}
 use Rattle.link_timers.specs.declared.role.Role.TheVariants.{Dte, Dce}
 use Rattle.link_timers.specs.declared.timers.TimerId.{TimerId}
 use Rattle.link_timers.specs.declared.timers.TimerId.TheVariants.{T1, T10, T20, T11, T12, T13, T21, T22, T23, Idle}
-use Rattle.link_timers.specs.Timers.{left_of, stopped}
+use Rattle.link_timers.specs.Timers.{left_of}
 use Rattle.frame_codec.specs.Spelling.{spelling}
 use Rattle.lapb.specs.Machine as machine
 use Rattle.lapb.specs.Machine.{Octets, Link, Step, new}
 use Rattle.lapb.specs.Octets.{on_octets}
 use Rattle.lapb.specs.Out.{with_frames}
-use Rattle.lapb.specs.World.{World, Deliver, Expire, Relink, Settle, Offer, Restart, Params, opening, happens, remade}
+use Rattle.lapb.specs.World.{World, Deliver, Expire, Relink, Settle, Offer, Restart, Params, opening, happens}
 use Rattle.lapb.specs.Line.{chosen, StandsIn}
 use Rattle.lapb.proofs.Reach.{reached_inv}
 use Rattle.lapb.proofs.Lines.{chosen-append, stands_opening, stands_offer_dte, stands_offer_dce, stands_t1_dte, stands_t1_dce, stands_relink_dte, stands_relink_dce, stands_settle_dte, stands_settle_dce, stands_restart_dte, stands_restart_dce, stands_frame_dte, stands_frame_dce}

@@ -11,7 +11,7 @@ use Rattle.frame_codec.specs.Frame.{FrameValue, Content, Report}
 use Rattle.frame_codec.specs.Frame.Content.{Information, ReceiveReady, ReceiveNotReady, Reject, SetMode, Disconnect, DisconnectedMode, Acknowledgement, FrameReject}
 use Rattle.frame_codec.specs.Reading.{reading}
 use Rattle.lapb.specs.declared.phase.Phase.{Phase}
-use Rattle.lapb.specs.Machine.{Octets, Link, Step, Defect, UndefinedControl, InformationNotAllowed, InformationTooLong, response, answers, still, sends, set_up, relink, relink_as, come_up, reject_as, reject_number, is_same, is_valid, ahead, acknowledged, on_supervisory, accept, discard, on_information, checked, in_up, in_setting_up, in_down, in_rejecting, in_phase, on_content, on_frame, on_defect_in, on_t1, runs, expire_in, poll, numbered, sendable, send_all, settle_in, settle, offer, can_offer, is_full, is_up}
+use Rattle.lapb.specs.Machine.{Octets, Link, Step, Defect, UndefinedControl, InformationNotAllowed, InformationTooLong, response, answers, still, sends, set_up, relink, relink_as, come_up, reject_as, reject_number, is_same, is_valid, ahead, acknowledged, on_supervisory, accept, discard, on_information, checked, in_up, in_setting_up, in_down, in_rejecting, in_phase, on_content, on_defect_in, on_t1, runs, expire_in, poll, numbered, send_all, settle_in, settle, offer, is_full, is_up}
 use Rattle.lapb.specs.Octets.{on_fault, on_reading, on_octets}
 
 cond_by : (P : Bool → Type 0) (b : Bool) → (b ≡ true → P true) → (b ≡ false → P false) → P b

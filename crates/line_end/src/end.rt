@@ -113,6 +113,9 @@ impl LineEnd {
         ensures end { self.new ≡ after_timer self.old id }
         ensures frames { SendsUpTo 1 self.old (machine.on_t1 self.old.link) }
         ensures note { result ≡ timer_note self.old id }
+
+        // T1 runs exactly where the link needs it.
+        ensures t1 { is_some (left_of self.old.timers TimerId.T1) ≡ machine.runs self.old.link }
     {
         if !self.timers.fire(id) {
             return None;
