@@ -18,7 +18,7 @@ use std::marker::Model;
 const T1_TICKS: u16 = 60;
 
 /// How many frames may wait to go out. One event of a node sends fewer.
-const MOST_FRAMES: usize = 9;
+pub const MOST_FRAMES: usize = 9;
 
 /// What a received frame tells the packet layer.
 #[derive(Drop)]
@@ -199,6 +199,21 @@ impl LineEnd {
         ensures { result ≡ first_of (due_timers self.now.timers) }
     {
         self.timers.due()
+    }
+
+    /// The role of this end of the line.
+    pub fn role(&self) -> Role
+        ensures { result ≡ self.now.link.role }
+    {
+        self.role
+    }
+
+    /// How many frames wait to be taken.
+    pub fn waiting(&self) -> usize
+        ensures count { result ≡ length self.now.frames }
+        ensures most { result ≤ MOST_FRAMES }
+    {
+        self.frames.len()
     }
 
     /// Whether the link is up.

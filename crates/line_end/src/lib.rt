@@ -3,7 +3,7 @@
 
 mod end;
 
-pub use end::{LineEnd, Received};
+pub use end::{LineEnd, MOST_FRAMES, Received};
 
 #[cfg(test)]
 mod tests;

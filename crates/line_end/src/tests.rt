@@ -74,6 +74,7 @@ fn a_packet_crosses(rt: HostRuntime) {
 #[test]
 fn timer_1_runs_for_three_seconds(rt: HostRuntime) {
     let mut dte = end(&rt, Role::Dte, PARAMS);
+    assert!(rt; dte.role() == Role::Dte && dte.waiting() == 1);
     assert_eq!(rt; dte.due(), None);
     dte.elapse(59);
     assert_eq!(rt; dte.due(), None);
