@@ -1,215 +1,137 @@
 -- From what was served at one node, its line and its record to the step of the network.
-use Rattle.std.proofs.Common.{◌≡◌, ◌≢◌, ℕ, zero, suc, ◌+◌, ◌<◌, ◌≤◌, List, [], ◌∷◌, map, length, get_or, set, Bool, true, false, Result, Ok, Err, Option, Some, None, refl, sym, ap, ◌∙◌, subst, arith}
-use Rattle.std.specs.Prelude.{slice_get, slice_set, option_map, nat_eq, nat_lt, ◌||◌, if◌then◌else◌, MatchBool}
+use Rattle.std.proofs.Common.{◌≡◌, ◌≢◌, ℕ, zero, suc, ◌+◌, ◌<◌, ◌≤◌, List, [], ◌∷◌, map, length, get_or, set, Bool, true, false, Result, Ok, Err, Option, Some, None, refl, sym, ap, ◌∙◌, subst, arith, vec_len}
+use Rattle.std.specs.Prelude.{slice_get, slice_set, nat_eq, nat_lt, ◌==◌, ◌&&◌, ◌||◌, not, if◌then◌else◌, MatchBool}
 use Rattle.std.proofs.lemmas.Bool.{eq-eqb, ne_eqb, lt-ltb, le-ltb}
-use Rattle.std.proofs.lemmas.List.{map-set}
-use Rattle.std.proofs.lemmas.Option.{slice_get-map}
+use Rattle.pad_editing.specs.Edited.{Step}
+use Rattle.epochs.specs.Item.{DataPacket}
 use Rattle.line_sim.specs.declared.event.Answer.{Answer}
-use Rattle.line_sim.specs.declared.record.Record.{Record}
-use Rattle.line_sim.specs.declared.record.Pair.{Pair}
-use Rattle.line_sim.specs.declared.line.Direction.TheVariants.{FromDte, FromDce}
-use Rattle.line_sim.specs.Lines.{Flights, no_flights}
-use Rattle.line_sim.specs.PadState.{PadState, new_pad, pad_key}
-use Rattle.line_sim.specs.HostState.{HostState, new_host, host_gives}
-use Rattle.line_sim.specs.Records.{RecordValue, PairValue, standing_record}
-use Rattle.line_sim.specs.RecordView.{shown, pair_of}
-use Rattle.line_sim.specs.NetState.{NetState}
-use Rattle.line_sim.specs.declared.event.Event.TheVariants.{Key, Take, Deliver}
+use Rattle.line_sim.specs.declared.event.Put.{Put}
+use Rattle.line_sim.specs.declared.event.HostNote.{HostNote}
+use Rattle.line_sim.specs.declared.event.Event.TheVariants.{Key, Take, Deliver, Lose, Expire, Relink, Restart}
+use Rattle.line_sim.specs.declared.event.Outcome.TheVariants.{Delivered, Done, Keyed, Took}
+use Rattle.line_sim.specs.declared.event.KeyAnswer.TheVariants as key_answer
 use Rattle.line_sim.specs.declared.event.StepFault.{StepFault}
 use Rattle.line_sim.specs.declared.event.StepFault.TheVariants.{NoSuchNode, NoSuchTerminal, NoSuchCall}
-use Rattle.line_sim.specs.Runs.{Happens}
-use Rattle.line_sim.specs.Records.{with_covered}
-use Rattle.line_sim.specs.Sends.{SendsAll}
-use Rattle.line_sim.specs.PadState.{pad_hears, pad_out}
-use Rattle.line_sim.specs.HostState.{host_hears, host_out}
-use Rattle.line_sim.specs.Lines.{flying, without_first}
+use Rattle.line_sim.specs.declared.record.Record.{Record}
 use Rattle.line_sim.specs.declared.line.Direction.{Direction}
-use Rattle.line_sim.specs.declared.event.Outcome.TheVariants.{Delivered}
-use Rattle.line_sim.proofs.Nets.{pad-counts}
-use Rattle.line_sim.specs.Steps.{Changes, with_key, with_any_taken, KeyStep, IdleKeyStep, TakeStep, IdleTakeStep, Hears, DeliverStep}
-use Rattle.line_sim.specs.ServedBy.{KeyServed, TakeServed}
-use Rattle.line_sim.specs.IsNet.{caller_record, callee_record, standing_pair, Stands, IsNet}
-use Rattle.line_sim.specs.Served.{IsServed}
-use Rattle.line_sim.specs.HalfLink.{HalfLink}
-use Rattle.line_sim.specs.HalfLink.Flying.{none}
+use Rattle.line_sim.specs.declared.line.Direction.TheVariants.{FromDte, FromDce}
+use Rattle.line_sim.specs.Lines.{Flights, no_flights, flying, without_first}
+use Rattle.line_sim.specs.Turn as turn
+use Rattle.line_sim.specs.Turn.{NodeCall}
+use Rattle.line_sim.specs.PadState.{PadState, pad_key, pad_call}
+use Rattle.line_sim.specs.HostState.{HostState, host_call, host_gives}
+use Rattle.line_sim.specs.NodeState.{NodeState, Pad, Host, node_call}
+use Rattle.line_sim.specs.Records.{RecordValue, with_turn, changed_at}
+use Rattle.line_sim.specs.RecordView.{shown, CoversFit}
+use Rattle.line_sim.specs.NetState.{NetState}
+use Rattle.line_sim.specs.Faults.{step_fault, is_host_at, is_node}
+use Rattle.line_sim.specs.Runs.{Happens}
+use Rattle.line_sim.specs.Steps.{with_key, with_any_taken, KeyStep, KeyOf, IdleStep, TakeStep, TakeOf, DteStep, DceStep, NodeStep, HearsOf, DeliverStep, RestartStep}
+use Rattle.line_sim.specs.ServedBy.{KeyServed, TakeServed, DteServed, DceServed}
+use Rattle.line_sim.specs.IsNet.{caller_record, callee_record, Stands, IsIdle, HasNoCall, Calls, stands, none, IsNet}
+use Rattle.line_sim.proofs.Keeping.{PadKeeps, pad-keeps, host-keeps}
+use Rattle.line_sim.proofs.Noting.{changed-some}
 
-at_place : (records : List Record) (i : ℕ) (r : Record) → slice_get records i ≡ Some r → slice_get (map shown records) i ≡ Some (shown r)
-at_place records i r e = slice_get-map shown records i ∙ ap (option_map shown) e
+-- ---- what is there
 
-pub key-step : (F : Type 0) (octet : ℕ) (s : NetState) (records : List Record) (r new : Record) (answer : Answer) (pad : PadState) (line : Flights)
-    → s.records ≡ map shown records → slice_get records 0 ≡ Some r → KeyServed F (pad_key octet s.pad) s.line (shown r) answer pad line (shown new)
-    → KeyStep F (pad_key octet s.pad) s answer (record s { pad = pad; line = line; records = map shown (slice_set records 0 new) })
-key-step F octet s records r new answer pad line e at k = record {
-  sends = k.sends;
-  outcome = k.outcome;
-  records = record {
-    record_there = shown r;
-    is_there = ap (λ (l : List RecordValue). slice_get l 0) e ∙ at_place records 0 r at;
-    changed = map-set shown records 0 new ∙ ap (λ x. set (map shown records) 0 x) k.record_is ∙ ap (λ (l : List RecordValue). set l 0 (with_key (pad_key octet s.pad) (shown r))) (sym e);
-  };
-  others = refl;
-}
+-- where the call of an end stands, there are two records
+pub two-records : (F : Type 0) (s : NetState) (p : PadState) → IsNet F s → s.dte ≡ Pad p → p.stands ≡ true → length s.records ≡ 2
+two-records F s p n e up = by n.call
+  where
+    by : Calls s → length s.records ≡ 2
+    by (stands v) = ap length v.records_are
+    by (none v) = (let I : NodeState → Type 0 = IsIdle in let i : IsIdle (Pad p) = subst I e v.dte in let no : true ≡ false = sym up ∙ i.0 in absurd (cc))
+
+pub host-records : (F : Type 0) (s : NetState) → IsNet F s → s.dce.stands ≡ true → length s.records ≡ 2
+host-records F s n up = by n.call
+  where
+    by : Calls s → length s.records ≡ 2
+    by (stands v) = ap length v.records_are
+    by (none v) = (let no : true ≡ false = sym up ∙ v.dce.0 in absurd (cc))
+
+pub length-shown : (records : List Record) → length (map shown records) ≡ length records
+length-shown [] = refl
+length-shown (r ∷ records) = ap suc (length-shown records)
+
+-- what is covered fits the records
+fits-caller : (records : List Record) (node : ℕ) (sent : List DataPacket) (covered n : ℕ) (steps : List Step) (closed : Bool) (other : RecordValue)
+    → map shown records ≡ caller_record node sent covered steps closed ∷ other ∷ [] → covered + n ≤ length sent → CoversFit 0 n records
+fits-caller [] node sent covered n steps closed other e le = absurd (cc)
+fits-caller (r ∷ records) node sent covered n steps closed other e le =
+    let same : shown r ≡ caller_record node sent covered steps closed = cc in
+    let c : r.sent.covered ≡ covered = ap (λ (x : RecordValue). x.sent.covered) same in
+    let l : length r.sent.packets.items ≡ length sent = ap (λ (x : RecordValue). length x.sent.packets) same in
+    let ok = r.sent.packets.ok in
+    omega (arith, ok.0)
+
+fits-callee : (records : List Record) (node : ℕ) (taken : List DataPacket) (n : ℕ) (closed : Bool) (other : RecordValue)
+    → map shown records ≡ other ∷ callee_record node taken closed ∷ [] → n ≡ 0 → CoversFit 1 n records
+fits-callee [] node taken n closed other e z = absurd (cc)
+fits-callee (r ∷ []) node taken n closed other e z = absurd (cc)
+fits-callee (r ∷ q ∷ records) node taken n closed other e z =
+    let same : shown q ≡ callee_record node taken closed = cc in
+    let c : q.sent.covered ≡ 0 = ap (λ (x : RecordValue). x.sent.covered) same in
+    let l : length q.sent.packets.items ≡ 0 = ap (λ (x : RecordValue). length x.sent.packets) same in
+    let ok = q.sent.packets.ok in
+    omega (arith, ok.0)
+
+fits-none : (records : List Record) (place n : ℕ) → map shown records ≡ [] → CoversFit place n records
+fits-none [] place n e = tt
+fits-none (r ∷ records) place n e = absurd (cc)
+
+pub fits-dte : (F : Type 0) (s : NetState) (call : NodeCall) (records : List Record) → IsNet F s → s.records ≡ map shown records → CoversFit 0 (node_call call s.dte).covers records
+fits-dte F s call records n e = by n.call
+  where
+    by : Calls s → CoversFit 0 (node_call call s.dte).covers records
+    by (none v) = fits-none records 0 (node_call call s.dte).covers (sym e ∙ v.records_are)
+    by (stands v) =
+        let k : PadKeeps v.pad (pad_call call v.pad) = pad-keeps call v.pad in
+        let C : NodeState → Type 0 = λ x. CoversFit 0 (node_call call x).covers records in
+        let there : C (Pad v.pad) = fits-caller records s.dte_place v.sent v.covered (pad_call call v.pad).covers v.steps v.closed (callee_record s.dce_place v.taken v.host_closed) (sym e ∙ v.records_are) (room v.pad.stands refl k) in
+        subst C (sym v.is_pad) there
+      where
+        room : (b : Bool) → v.pad.stands ≡ b → PadKeeps v.pad (pad_call call v.pad) → v.covered + (pad_call call v.pad).covers ≤ length v.sent
+        room true up k = let c = v.counted up in let f = k.few in omega arith
+        room false down k = let z = k.none down in let c = v.covered_le in omega arith
+
+pub fits-dce : (F : Type 0) (s : NetState) (call : NodeCall) (records : List Record) → IsNet F s → s.records ≡ map shown records → CoversFit 1 (host_call call s.dce).covers records
+fits-dce F s call records n e = by n.call
+  where
+    by : Calls s → CoversFit 1 (host_call call s.dce).covers records
+    by (none v) = fits-none records 1 (host_call call s.dce).covers (sym e ∙ v.records_are)
+    by (stands v) =
+        fits-callee records s.dce_place v.taken (host_call call s.dce).covers v.host_closed (caller_record s.dte_place v.sent v.covered v.steps v.closed) (sym e ∙ v.records_are) (host-keeps call s.dce).covers
+
+-- ---- steps
+
+pub key-step : (F : Type 0) (octet : ℕ) (s : NetState) (p : PadState) (records : List Record) (r new : Record) (answer : Answer) (pad : PadState) (line : Flights)
+    → s.records ≡ map shown records → 0 < length records → r ≡ get_or records 0 r → KeyServed F (pad_key octet p) s.line (shown r) answer pad line (shown new)
+    → KeyStep F (pad_key octet p) s answer (record s { dte = Pad pad; line = line; records = map shown (slice_set records 0 new) })
+key-step F octet s p records r new answer pad line e lt at k =
+    let changed : map shown (slice_set records 0 new) ≡ changed_at 0 (with_key (pad_key octet p)) s.records =
+    changed-some records 0 r new (with_key (pad_key octet p)) lt at k.record_is ∙ ap (λ l. changed_at 0 (with_key (pad_key octet p)) l) (sym e) in
+    let same = k.pad_is in
+    record { sends = k.sends; notes = k.notes; answered = k.outcome; others = λ i. record s { dte = Pad (same i); line = line; records = changed i } }
 
 pub take-step : (F : Type 0) (s : NetState) (records : List Record) (r new : Record) (answer : Answer) (host : HostState) (line : Flights)
-    → s.records ≡ map shown records → slice_get records 1 ≡ Some r → TakeServed F s.host s.line (shown r) answer host line (shown new)
-    → TakeStep F s answer (record s { host = host; line = line; records = map shown (slice_set records 1 new) })
-take-step F s records r new answer host line e at k = record {
-  sends = k.sends;
-  outcome = k.outcome;
-  records = record {
-    record_there = shown r;
-    is_there = ap (λ (l : List RecordValue). slice_get l 1) e ∙ at_place records 1 r at;
-    changed = map-set shown records 1 new ∙ ap (λ x. set (map shown records) 1 x) k.record_is ∙ ap (λ (l : List RecordValue). set l 1 (with_any_taken (host_gives s.host) (shown r))) (sym e);
-  };
-  others = refl;
-}
+    → s.records ≡ map shown records → 1 < length records → r ≡ get_or records 1 r → TakeServed F s.dce s.line (shown r) answer host line (shown new)
+    → TakeStep F s answer (record s { dce = host; line = line; records = map shown (slice_set records 1 new) })
+take-step F s records r new answer host line e lt at k =
+    let changed : map shown (slice_set records 1 new) ≡ changed_at 1 (with_any_taken (host_gives s.dce)) s.records =
+    changed-some records 1 r new (with_any_taken (host_gives s.dce)) lt at k.record_is ∙ ap (λ l. changed_at 1 (with_any_taken (host_gives s.dce)) l) (sym e) in
+    let same = k.host_is in
+    record { sends = k.sends; notes = k.notes; answered = k.outcome; others = λ i. record s { dce = same i; line = line; records = changed i } }
 
-set-get : {A : Type 0} (xs : List A) (i : ℕ) (x : A) → slice_get xs i ≡ Some x → set xs i x ≡ xs
-set-get [] i x e = refl
-set-get (y ∷ ys) zero x e = let same : x ≡ y = cc in ap (λ z. z ∷ ys) same
-set-get (y ∷ ys) (suc i) x e = ap (λ zs. y ∷ zs) (set-get ys i x e)
+pub dte-step : (F : Type 0) (call : NodeCall) (line after : Flights) (s : NetState) (answer : Answer) (new : NodeState) (records changed : List RecordValue)
+    → s.records ≡ records → DteServed F call s.dte line records answer.frames.items new after changed → answer.notes.items ≡ [] → DteStep F call line s answer (record s { dte = new; line = after; records = changed })
+dte-step F call line after s answer new records changed e k notes =
+    let same = k.node_is in
+    let is = k.records_are ∙ ap (λ l. changed_at 0 (with_turn (node_call call s.dte).covers (node_call call s.dte).closes) l) (sym e) in
+    record { sends = k.sends; notes = notes; others = λ i. record s { dte = same i; line = after; records = is i } }
 
--- a record that shows the same leaves what the records show
-pub records-same : (records : List Record) (i : ℕ) (r new : Record) → slice_get records i ≡ Some r → shown new ≡ shown r → map shown (slice_set records i new) ≡ map shown records
-records-same records i r new at same =
-    map-set shown records i new ∙ ap (λ x. set (map shown records) i x) same ∙ set-get (map shown records) i (shown r) (at_place records i r at)
-
--- the place of a record that was read, where the records show two
-pub located : (records : List Record) (i : ℕ) (r : Record) (a b : RecordValue) → i < 2 → map shown records ≡ a ∷ b ∷ [] → r ≡ get_or records i r → slice_get records i ≡ Some r
-located [] i r a b h e g = absurd (cc)
-located (x ∷ records) zero r a b h e g = ap Some (sym g)
-located (x ∷ []) (suc i) r a b h e g = absurd (cc)
-located (x ∷ y ∷ records) (suc zero) r a b h e g = ap Some (sym g)
-located (x ∷ y ∷ records) (suc (suc i)) r a b h e g = absurd (omega arith)
-
--- the fault of a key, and of a take, by its tests
-abbrev key_fault : Bool → Bool → Option StepFault
-key_fault is_pad is_terminal = if is_pad then (if is_terminal then None else Some NoSuchTerminal) else Some NoSuchNode
-
-abbrev take_fault : Bool → Bool → Bool → Option StepFault
-take_fault is_host is_zero is_beyond = if is_host then (if is_zero || is_beyond then Some NoSuchCall else None) else Some NoSuchNode
-
--- an event that is not refused happens
-pub key-happens : (F : Type 0) (node terminal octet : ℕ) (s : NetState) (answer : Answer) (t : NetState) → node ≡ s.pad_place → terminal < s.terminals → terminal ≡ 0
-    → KeyStep F (pad_key octet s.pad) s answer t → Happens F (Key node terminal octet) s (Ok answer) t
-key-happens F node terminal octet s answer t e lt z k =
-    let P : Bool → Type 0 = λ b. MatchBool b (KeyStep F (pad_key octet s.pad) s answer t) (IdleKeyStep s answer t) in (
-      ap (λ b. key_fault b (nat_lt terminal s.terminals)) (eq-eqb node s.pad_place e) ∙ ap (key_fault true) (lt-ltb terminal s.terminals lt),
-      subst P (sym (eq-eqb terminal 0 z)) k,
-    )
-
-pub take-happens : (F : Type 0) (node channel : ℕ) (s : NetState) (answer : Answer) (t : NetState) → node ≡ s.host_place → channel ≤ s.channels → channel ≡ 1
-    → TakeStep F s answer t → Happens F (Take node channel) s (Ok answer) t
-take-happens F node channel s answer t e le z k =
-    let P : Bool → Type 0 = λ b. MatchBool b (TakeStep F s answer t) (IdleTakeStep s answer t) in
-    let not_zero : nat_eq channel 0 ≡ false = ne_eqb channel 0 (λ h. let no : ⊥ = omega arith in no) in
-    let not_beyond : nat_lt s.channels channel ≡ false = le-ltb s.channels channel le in (
-      ap (λ b. take_fault b (nat_eq channel 0) (nat_lt s.channels channel)) (eq-eqb node s.host_place e)
-          ∙ ap (λ b. take_fault true b (nat_lt s.channels channel)) not_zero ∙ ap (take_fault true false) not_beyond,
-      subst P (sym (eq-eqb channel 1 z)) k,
-    )
-
--- a delivery of nothing, to the host, and to the PAD
-pub empty-step : (F : Type 0) (d : Direction) (s : NetState) (line : Flights) (came : Option (List ℕ)) (answer : Answer) → came ≡ None
-    → (F → came ≡ slice_get (flying d s.line) 0) → (F → line ≡ without_first d s.line) → answer.frames.items ≡ [] → answer.outcome ≡ Delivered false → DeliverStep F d s answer (record s { line = line })
-empty-step F d s line came answer is_none first rest frames outcome = record {
-  came = None;
-  line = line;
-  first = λ f. sym is_none ∙ first f;
-  rest = rest;
-  heard = record { frames = frames; others = refl };
-  outcome = outcome;
-}
-
-pub host-step : (F : Type 0) (d : Direction) (s : NetState) (octets : List ℕ) (line after : Flights) (host : HostState) (answer : Answer) → d ≡ FromDte
-    → (F → Some octets ≡ slice_get (flying d s.line) 0) → (F → line ≡ without_first d s.line)
-    → SendsAll F host_out FromDce 0 (host_hears octets s.host) line answer.frames.items host after → answer.outcome ≡ Delivered true
-    → DeliverStep F d s answer (record s { host = host; line = after })
-host-step F d s octets line after host answer e first rest sends outcome =
-    let D : Direction → Type 0 = λ x. Hears x F octets line s answer (record s { host = host; line = after }) in
-    let heard : D FromDte = record { sends = sends; others = refl } in
-    record { came = Some octets; line = line; first = first; rest = rest; heard = subst D (sym e) heard; outcome = outcome }
-
-pub pad-step : (F : Type 0) (d : Direction) (s : NetState) (records : List Record) (r new : Record) (octets : List ℕ) (line after : Flights) (pad : PadState) (answer : Answer) → d ≡ FromDce
-    → s.records ≡ map shown records → slice_get records 0 ≡ Some r → shown new ≡ with_covered (pad_hears octets s.pad).covers (shown r)
-    → (F → Some octets ≡ slice_get (flying d s.line) 0) → (F → line ≡ without_first d s.line)
-    → SendsAll F pad_out FromDte 0 (pad_hears octets s.pad).node line answer.frames.items pad after → answer.outcome ≡ Delivered true
-    → DeliverStep F d s answer (record s { pad = pad; line = after; records = map shown (slice_set records 0 new) })
-pad-step F d s records r new octets line after pad answer e are at changed first rest sends outcome =
-    let t : NetState = record s { pad = pad; line = after; records = map shown (slice_set records 0 new) } in
-    let D : Direction → Type 0 = λ x. Hears x F octets line s answer t in
-    let heard : D FromDce = record {
-      sends = sends;
-      records = record {
-        record_there = shown r;
-        is_there = ap (λ (l : List RecordValue). slice_get l 0) are ∙ at_place records 0 r at;
-        changed = map-set shown records 0 new ∙ ap (λ x. set (map shown records) 0 x) changed ∙ ap (λ (l : List RecordValue). set l 0 (with_covered (pad_hears octets s.pad).covers (shown r))) (sym are);
-      };
-      others = refl;
-    } in
-    record { came = Some octets; line = line; first = first; rest = rest; heard = subst D (sym e) heard; outcome = outcome }
-
-abbrev line_fault : Bool → Option StepFault
-line_fault is_line = if is_line then None else Some NoSuchNode
-
-pub deliver-happens : (F : Type 0) (line : ℕ) (d : Direction) (s : NetState) (answer : Answer) (t : NetState) → line ≡ 0 → DeliverStep F d s answer t → Happens F (Deliver line d) s (Ok answer) t
-deliver-happens F line d s answer t z k =
-    (ap line_fault (eq-eqb line 0 z), k)
-
--- there is something left to cover
-pub covers-fit : (s : NetState) (v : Stands s) (records : List Record) (r : Record) (octets : List ℕ) → s.records ≡ map shown records → slice_get records 0 ≡ Some r
-    → r.sent.covered + (pad_hears octets s.pad).covers ≤ length r.sent.packets.items
-covers-fit s v records r octets are at =
-    let same : Some (caller_record s.pad_place v.sent v.covered v.steps) ≡ Some (shown r) = ap (λ (l : List RecordValue). slice_get l 0) (sym v.records_are) ∙ ap (λ (l : List RecordValue). slice_get l 0) are ∙ at_place records 0 r at in
-    let is : caller_record s.pad_place v.sent v.covered v.steps ≡ shown r = cc in
-    let covered : v.covered ≡ r.sent.covered = ap (λ (x : RecordValue). x.sent.covered) is in
-    let packets : length v.sent ≡ length r.sent.packets.items = ap (λ (x : RecordValue). length x.sent.packets) is in
-    let d = pad-counts octets s.pad in
-    let c = v.counted in
-    let k = d.count in
-    omega arith
-
--- the network at the making
-pub opening-net : (F : Type 0) (s : NetState) (params : List ℕ) (window size : ℕ) → window ≤ 7 → size ≤ 7 → s.pad_place ≢ s.host_place
-    → s.pad ≡ new_pad params window size → s.host ≡ new_host window size → (F → s.line ≡ no_flights)
-    → s.records ≡ standing_record 0 s.pad_place ∷ standing_record 1 s.host_place ∷ [] → s.pairs ≡ standing_pair ∷ [] → IsNet F s
-opening-net F s params window size w z apart pad host line records pairs = record {
-  stands = record {
-    sent = [];
-    covered = 0;
-    steps = [];
-    taken = [];
-    blocks = [];
-    apart = apart;
-    records_are = records;
-    pairs_are = pairs;
-    edited = λ i. record { held = sym (ap (λ (p : PadState). p.held) pad) i; blocks = [] };
-    messages = refl;
-    held_short = (let P : PadState → Type 0 = λ p. length p.held < 128 in subst P (sym pad) (omega arith));
-    counted = (let P : PadState → Type 0 = λ p. 0 + p.outstanding + length p.queue ≡ 0 in subst P (sym pad) (omega arith));
-  };
-  served = λ f.
-      let P : PadState → Type 0 = λ p. IsServed p s.host s.line [] [] 0 in
-      let H : HostState → Type 0 = λ h. IsServed (new_pad params window size) h s.line [] [] 0 in
-      let L : Flights → Type 0 = λ l. IsServed (new_pad params window size) (new_host window size) l [] [] 0 in
-      let half : HalfLink size 0 0 0 0 [] [] [] = record { told = 0; size_le = z; acked_is = refl; sent_is = omega arith; sent_le = omega arith; expected_is = refl; flying = none; telling = omega arith } in
-      let now : L no_flights = record {
-        going = [];
-        ready = [];
-        arrived = 0;
-        up = [];
-        down = [];
-        up_is = refl;
-        down_is = refl;
-        up_spelled = tt;
-        down_spelled = tt;
-        sent_is = refl;
-        going_short = tt;
-        queue_short = tt;
-        numbers = record { window_le = w; same_window = refl; within = omega arith; covered_is = refl; outstanding_is = omega arith; expected_is = refl; released_is = refl };
-        covering = omega arith;
-        onward = half;
-        backward = half;
-      } in
-      subst P (sym pad) (subst H (sym host) (subst L (sym (line f)) now));
-}
+pub dce-step : (F : Type 0) (call : NodeCall) (line after : Flights) (s : NetState) (answer : Answer) (new : HostState) (records changed : List RecordValue)
+    → s.records ≡ records → DceServed F s.dce_place call s.dce line records answer.frames.items answer.notes.items new after changed → DceStep F call line s answer (record s { dce = new; line = after; records = changed })
+dce-step F call line after s answer new records changed e k =
+    let same = k.host_is in
+    let is = k.records_are ∙ ap (λ l. changed_at 1 (with_turn (host_call call s.dce).covers (host_call call s.dce).closes) l) (sym e) in
+    record { sends = k.sends; notes = k.notes_are; others = λ i. record s { dce = same i; line = after; records = is i } }

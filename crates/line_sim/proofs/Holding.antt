@@ -16,10 +16,10 @@ use Rattle.lapb.specs.Octets.{on_octets}
 use Rattle.lapb.specs.Line.{chosen}
 use Rattle.lapb.proofs.Lines.{chosen-append}
 use Rattle.lapb.proofs.Reach.{reached_inv}
-use Rattle.link_call.specs.End.{End, did, without_frames, untouched, restarted, received, after_timer, expired, relinked, settled, offered}
-use Rattle.link_call.specs.Linked.{Logs, HasLinks, dte_offers, dce_offers, TakenAtDte, TakenAtDce}
-use Rattle.link_call.proofs.Linking.{linked-t1-dte, linked-t1-dce, linked-relink-dte, linked-relink-dce, linked-settle-dte, linked-settle-dce, linked-offer-dte, linked-offer-dce, linked-restart-dte, linked-restart-dce}
-use Rattle.link_call.proofs.Taking.{linked-frame-dte, linked-frame-dce}
+use Rattle.line_end.specs.End.{End, did, without_frames, untouched, restarted, received, after_timer, expired, relinked, settled, offered}
+use Rattle.line_sim.specs.Linked.{Logs, HasLinks, dte_offers, dce_offers, TakenAtDte, TakenAtDce}
+use Rattle.line_sim.proofs.Linking.{linked-t1-dte, linked-t1-dce, linked-relink-dte, linked-relink-dce, linked-settle-dte, linked-settle-dce, linked-offer-dte, linked-offer-dce, linked-restart-dte, linked-restart-dce}
+use Rattle.line_sim.proofs.Taking.{linked-frame-dte, linked-frame-dce}
 
 abbrev pub HeldDte : (Logs → Type 0) → End → Link → (up down : List Octets) → Type 0
 HeldDte P e dce up down = (kept : List Bool) → (g : Logs) × HasLinks e.link dce (up ++ chosen kept e.frames) down g × P g

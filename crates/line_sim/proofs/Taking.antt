@@ -18,8 +18,8 @@ use Rattle.lapb.proofs.Notes.{dte_begins}
 use Rattle.lapb.proofs.Fitting.{octets_taken}
 use Rattle.lapb.proofs.Sessions.{TakenAtDte, TakenAtDce, taken_at_dte, taken_at_dce}
 use Rattle.lapb.proofs.Reach.{reached_inv, reached_in_order}
-use Rattle.link_call.specs.Linked.{Logs, logs_of, HasLinks, TakenAtDte as DteTakes, TakenAtDce as DceTakes}
-use Rattle.link_call.proofs.Linking.{begun-after, logged-at}
+use Rattle.line_sim.specs.Linked.{Logs, logs_of, HasLinks, TakenAtDte as DteTakes, TakenAtDce as DceTakes}
+use Rattle.line_sim.proofs.Linking.{begun-after, logged-at}
 
 begun-taken : (w : World) (kept : List Bool) (flow : List Sent) → (is_setting_up w.dte.phase ≡ true → 1 ≤ w.act)
     → is_setting_up (to_dte w kept flow).dte.phase ≡ true → 1 ≤ (to_dte w kept flow).act

@@ -14,23 +14,23 @@ use Rattle.lapb.specs.World as world
 use Rattle.lapb.specs.World.{is_up_note}
 use Rattle.lapb.specs.Octets.{on_octets}
 use Rattle.epochs.specs.Item.{DataPacket}
-use Rattle.link_call.specs.End.{End, without_frames, received, after_timer, timer_note, expiry_note, relinked, restarted, offered, settled}
-use Rattle.link_call.specs.Linked.{Logs, HasLinks, dte_offers, dce_offers, TakenAtDce}
-use Rattle.link_call.specs.Packets.{Heard, Data, Ready, Nothing, data_octets, ready_octets, restart_octets, restart_cause, heard_packet}
-use Rattle.link_call.specs.Turn.{Turn, NodeCall, Hears, Expires, Relinks, Restarts}
-use Rattle.link_call.specs.PadState.{PadState, KeyEffect, edited_by, pad_key, pad_begins, next_packet_number, lets_go, goes, pad_offers_of, pad_offers, pad_settles, pad_ends, pad_closes, pad_noted, pad_packet, pad_accepts, pad_told, pad_turn_ends, pad_hears, pad_expires, pad_relinks, pad_anew, pad_called, pad_call}
-use Rattle.link_call.specs.HostState.{HostState, host_gives, host_begins, is_due, host_offers, host_settles, host_ends, host_closes, host_noted, host_packet, host_accepts, host_told, host_turn_ends, host_hears, host_expires, host_relinks, host_anew, host_called, host_call, host_takes_of, host_takes}
-use Rattle.link_call.specs.Joined.{AreShort, PadPart, pad_part, HostPart, host_part, Agrees}
-use Rattle.link_call.proofs.Calls.{data-fits, ready-fits}
-use Rattle.link_call.proofs.Keys.{KeyDoes, key-does}
-use Rattle.link_call.proofs.Linking.{plain-relink, plain-t1}
-use Rattle.link_call.proofs.Joining.{agrees-pad_gone, agrees-host_gone, agrees-pad_closes, agrees-host_closes, agrees-dte_closes, agrees-dte_silent, agrees-dte_ready, agrees-goes, agrees-dte_offers, agrees-host_offers, agrees-dce_silent, agrees-dce_data, agrees-takes, agrees-pad_accepts}
-use Rattle.link_call.proofs.Holding.{HeldDte, HeldDce, begins-dte, begins-dce, received-dte, received-dce, relinked-dte, relinked-dce, settled-dte, settled-dce, timed-dte, timed-dce, offered-dte, offered-dce, restarted-dte, restarted-dce, weaken-dte, weaken-dce}
+use Rattle.line_end.specs.End.{End, without_frames, received, after_timer, timer_note, expiry_note, relinked, restarted, offered, settled}
+use Rattle.line_sim.specs.Linked.{Logs, HasLinks, dte_offers, dce_offers, TakenAtDce}
+use Rattle.line_sim.specs.Packets.{Heard, Data, Ready, Nothing, data_octets, ready_octets, restart_octets, restart_cause, heard_packet}
+use Rattle.line_sim.specs.Turn.{Turn, NodeCall, Hears, Expires, Relinks, Restarts}
+use Rattle.line_sim.specs.PadState.{PadState, KeyEffect, edited_by, pad_key, pad_begins, next_packet_number, lets_go, goes, pad_offers_of, pad_offers, pad_settles, pad_ends, pad_closes, pad_noted, pad_packet, pad_accepts, pad_told, pad_turn_ends, pad_hears, pad_expires, pad_relinks, pad_anew, pad_called, pad_call}
+use Rattle.line_sim.specs.HostState.{HostState, host_gives, host_begins, is_due, host_offers, host_settles, host_ends, host_closes, host_noted, host_packet, host_accepts, host_told, host_turn_ends, host_hears, host_expires, host_relinks, host_anew, host_called, host_call, host_takes_of, host_takes}
+use Rattle.line_sim.specs.Joined.{AreShort, PadPart, pad_part, HostPart, host_part, Agrees}
+use Rattle.line_sim.proofs.Calls.{data-fits, ready-fits}
+use Rattle.line_sim.proofs.Keys.{KeyDoes, key-does}
+use Rattle.line_sim.proofs.Linking.{plain-relink, plain-t1}
+use Rattle.line_sim.proofs.Joining.{agrees-pad_gone, agrees-host_gone, agrees-pad_closes, agrees-host_closes, agrees-dte_closes, agrees-dte_silent, agrees-dte_ready, agrees-goes, agrees-dte_offers, agrees-host_offers, agrees-dce_silent, agrees-dce_data, agrees-takes, agrees-pad_accepts}
+use Rattle.line_sim.proofs.Holding.{HeldDte, HeldDce, begins-dte, begins-dce, received-dte, received-dce, relinked-dte, relinked-dce, settled-dte, settled-dce, timed-dte, timed-dce, offered-dte, offered-dce, restarted-dte, restarted-dce, weaken-dte, weaken-dce}
 
 true-not_false : {A : Type 0} (b : Bool) → b ≡ true → b ≡ false → A
 true-not_false b e f = absurd (let x : true ≡ false = sym e ∙ f in cc)
 
-restart-fits : (cause : ℕ) → length (restart_octets cause) ≤ 145
+pub restart-fits : (cause : ℕ) → length (restart_octets cause) ≤ 145
 restart-fits cause = omega arith
 
 both-of : (a b : Bool) → (a && b) ≡ true → (a ≡ true) × (b ≡ true)
@@ -264,7 +264,7 @@ abbrev at_line : HostState → End
 at_line h = h.line
 
 -- what a packet says changes nothing at the line
-host_line : (h : HostState) (x : Heard) → (host_packet h x).line ≡ h.line
+pub host_line : (h : HostState) (x : Heard) → (host_packet h x).line ≡ h.line
 host_line h (Ready receive) = refl
 host_line h Nothing = refl
 host_line h (Data send packet) = pick ((send == h.expected) && nat_lt (length h.waiting) h.window)

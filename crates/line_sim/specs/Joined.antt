@@ -3,10 +3,10 @@
 use Rattle.std.specs.Prelude.{◌≡◌, ℕ, suc, ◌+◌, ◌%◌, ◌<◌, ◌≤◌, Bool, true, false, List, [], ◌∷◌, ◌++◌, length}
 use Rattle.lapb.specs.Machine.{Octets}
 use Rattle.epochs.specs.Item.{DataPacket}
-use Rattle.link_call.specs.Packets.{data_octets, ready_octets}
-use Rattle.link_call.specs.PadState.{PadState}
-use Rattle.link_call.specs.HostState.{HostState}
-use Rattle.link_call.specs.Linked.{Logs}
+use Rattle.line_sim.specs.Packets.{data_octets, ready_octets}
+use Rattle.line_sim.specs.PadState.{PadState}
+use Rattle.line_sim.specs.HostState.{HostState}
+use Rattle.line_sim.specs.Linked.{Logs}
 
 -- packets as Data packets whose P(S) count on from n, modulo 8
 abbrev pub numbered : ℕ → List DataPacket → List Octets

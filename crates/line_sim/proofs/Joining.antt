@@ -7,14 +7,14 @@ use Rattle.lapb.specs.Machine.{Octets, Link, Step, ahead, can_offer}
 use Rattle.lapb.specs.World as world
 use Rattle.lapb.specs.World.{is_up_note}
 use Rattle.epochs.specs.Item.{DataPacket}
-use Rattle.link_call.specs.End.{End}
-use Rattle.link_call.specs.Linked.{Logs, added, dte_offers, dce_offers, TakenAtDte, TakenAtDce}
-use Rattle.link_call.specs.Packets.{data_octets, ready_octets, Heard, Data, Ready, heard_packet}
-use Rattle.link_call.specs.Turn.{Turn}
-use Rattle.link_call.specs.PadState.{PadState, pad_closes, pad_packet, pad_accepts, next_packet_number, goes}
-use Rattle.link_call.specs.HostState.{HostState, host_closes, host_packet, host_accepts}
-use Rattle.link_call.specs.Joined.{numbered, AreShort, Covering, PadPart, pad_part, HostPart, host_part, PadJoins, Joins, Agrees}
-use Rattle.link_call.proofs.Calls.{numbered-push, short-append, covering-push, covering-grow, covering-within, heard-data, heard-ready}
+use Rattle.line_end.specs.End.{End}
+use Rattle.line_sim.specs.Linked.{Logs, added, dte_offers, dce_offers, TakenAtDte, TakenAtDce}
+use Rattle.line_sim.specs.Packets.{data_octets, ready_octets, Heard, Data, Ready, heard_packet}
+use Rattle.line_sim.specs.Turn.{Turn}
+use Rattle.line_sim.specs.PadState.{PadState, pad_closes, pad_packet, pad_accepts, next_packet_number, goes}
+use Rattle.line_sim.specs.HostState.{HostState, host_closes, host_packet, host_accepts}
+use Rattle.line_sim.specs.Joined.{numbered, AreShort, Covering, PadPart, pad_part, HostPart, host_part, PadJoins, Joins, Agrees}
+use Rattle.line_sim.proofs.Calls.{numbered-push, short-append, covering-push, covering-grow, covering-within, heard-data, heard-ready}
 
 true-not_false : {A : Type 0} (b : Bool) → b ≡ true → b ≡ false → A
 true-not_false b e f = absurd (let x : true ≡ false = sym e ∙ f in cc)

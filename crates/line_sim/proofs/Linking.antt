@@ -16,7 +16,7 @@ use Rattle.lapb.proofs.Lines.{stands_opening, stands_offer_dte, stands_offer_dce
 use Rattle.lapb.proofs.Notes.{Says, says_on_t1, says_relink, says_settle}
 use Rattle.lapb.proofs.Sessions.{TakenAtDte, TakenAtDce, taken_at_dte, taken_at_dce}
 use Rattle.lapb.proofs.Reach.{reached_in_order}
-use Rattle.link_call.specs.Linked.{Logs, logs_of, HasLinks, added, dte_offers, dce_offers, TakenAtDte as DteTakes, TakenAtDce as DceTakes}
+use Rattle.line_sim.specs.Linked.{Logs, logs_of, HasLinks, added, dte_offers, dce_offers, TakenAtDte as DteTakes, TakenAtDce as DceTakes}
 
 -- ---- calls that begin no session and accept nothing
 

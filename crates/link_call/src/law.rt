@@ -1,3 +1,0 @@
-/// Scratch.
-pub fn standing_call_law()
-{}
