@@ -20,7 +20,9 @@ use Rattle.line_sim.specs.Turn as turn
 use Rattle.line_sim.specs.Turn.{NodeCall}
 use Rattle.line_sim.specs.PadState.{PadState, pad_key, pad_call}
 use Rattle.line_sim.specs.HostState.{HostState, host_call, host_gives}
-use Rattle.line_sim.specs.NodeState.{NodeState, Pad, Host, node_call}
+use Rattle.link_timers.specs.declared.timers.TimerId.{TimerId}
+use Rattle.line_sim.specs.NodeState.{NodeState, Pad, Host, node_call, frames_of, is_pad}
+use Rattle.line_sim.specs.Sends.{Sends}
 use Rattle.line_sim.specs.Records.{RecordValue, with_turn, changed_at}
 use Rattle.line_sim.specs.RecordView.{shown, CoversFit}
 use Rattle.line_sim.specs.NetState.{NetState}
@@ -122,16 +124,135 @@ take-step F s records r new answer host line e lt at k =
     let same = k.host_is in
     record { sends = k.sends; notes = k.notes; answered = k.outcome; others = λ i. record s { dce = same i; line = line; records = changed i } }
 
-pub dte-step : (F : Type 0) (call : NodeCall) (line after : Flights) (s : NetState) (answer : Answer) (new : NodeState) (records changed : List RecordValue)
-    → s.records ≡ records → DteServed F call s.dte line records answer.frames.items new after changed → answer.notes.items ≡ [] → DteStep F call line s answer (record s { dte = new; line = after; records = changed })
-dte-step F call line after s answer new records changed e k notes =
+pub dte-step : (F : Type 0) (call : NodeCall) (line after : Flights) (s : NetState) (answer : Answer) (new : NodeState) (records changed : List RecordValue) (puts : List Put)
+    → answer.frames.items ≡ puts → answer.notes.items ≡ [] → s.records ≡ records → DteServed F call s.dte line records puts new after changed
+    → DteStep F call line s answer (record s { dte = new; line = after; records = changed })
+dte-step F call line after s answer new records changed puts frames notes e k =
     let same = k.node_is in
     let is = k.records_are ∙ ap (λ l. changed_at 0 (with_turn (node_call call s.dte).covers (node_call call s.dte).closes) l) (sym e) in
-    record { sends = k.sends; notes = notes; others = λ i. record s { dte = same i; line = after; records = is i } }
+    let P : List Put → Type 0 = λ x. Sends F FromDte (frames_of (node_call call s.dte).node) line x after in
+    record { sends = subst P (sym frames) k.sends; notes = notes; others = λ i. record s { dte = same i; line = after; records = is i } }
 
-pub dce-step : (F : Type 0) (call : NodeCall) (line after : Flights) (s : NetState) (answer : Answer) (new : HostState) (records changed : List RecordValue)
-    → s.records ≡ records → DceServed F s.dce_place call s.dce line records answer.frames.items answer.notes.items new after changed → DceStep F call line s answer (record s { dce = new; line = after; records = changed })
-dce-step F call line after s answer new records changed e k =
+pub dce-step : (F : Type 0) (call : NodeCall) (line after : Flights) (s : NetState) (answer : Answer) (new : HostState) (records changed : List RecordValue) (puts : List Put) (noted : List HostNote)
+    → answer.frames.items ≡ puts → answer.notes.items ≡ noted → s.records ≡ records → DceServed F s.dce_place call s.dce line records puts noted new after changed
+    → DceStep F call line s answer (record s { dce = new; line = after; records = changed })
+dce-step F call line after s answer new records changed puts noted frames notes e k =
     let same = k.host_is in
     let is = k.records_are ∙ ap (λ l. changed_at 1 (with_turn (host_call call s.dce).covers (host_call call s.dce).closes) l) (sym e) in
-    record { sends = k.sends; notes = k.notes_are; others = λ i. record s { dce = same i; line = after; records = is i } }
+    let P : List Put → Type 0 = λ x. Sends F FromDce (host_call call s.dce).node.line.frames line x after in
+    record { sends = subst P (sym frames) k.sends; notes = notes ∙ k.notes_are; others = λ i. record s { dce = same i; line = after; records = is i } }
+
+pub node-dte : (F : Type 0) (node : ℕ) (call : NodeCall) (line : Flights) (s : NetState) (answer : Answer) (t : NetState) → node ≡ s.dte_place → answer.outcome ≡ Done
+    → DteStep F call line s answer t → NodeStep F node call line s answer t
+node-dte F node call line s answer t e done k =
+    let P : Bool → Type 0 = λ b. MatchBool b (DteStep F call line s answer t) (DceStep F call line s answer t) in
+    (done, subst P (sym (eq-eqb node s.dte_place e)) k)
+
+pub node-dce : (F : Type 0) (node : ℕ) (call : NodeCall) (line : Flights) (s : NetState) (answer : Answer) (t : NetState) → node ≢ s.dte_place → answer.outcome ≡ Done
+    → DceStep F call line s answer t → NodeStep F node call line s answer t
+node-dce F node call line s answer t e done k =
+    let P : Bool → Type 0 = λ b. MatchBool b (DteStep F call line s answer t) (DceStep F call line s answer t) in
+    (done, subst P (sym (ne_eqb node s.dte_place e)) k)
+
+-- a delivery of nothing, and to each end
+pub empty-step : (F : Type 0) (d : Direction) (s : NetState) (line : Flights) (came : Option (List ℕ)) (answer : Answer) → came ≡ None
+    → (F → came ≡ slice_get (flying d s.line) 0) → (F → line ≡ without_first d s.line) → answer.frames.items ≡ [] → answer.notes.items ≡ [] → answer.outcome ≡ Delivered false
+    → DeliverStep F d s answer (record s { line = line })
+empty-step F d s line came answer is_none first rest frames notes outcome = record {
+  came = None;
+  line = line;
+  first = λ f. sym is_none ∙ first f;
+  rest = rest;
+  heard = record { frames = frames; notes = notes; others = refl };
+  answered = outcome;
+}
+
+pub heard-dce : (F : Type 0) (d : Direction) (s : NetState) (octets : List ℕ) (line : Flights) (answer : Answer) (t : NetState) → d ≡ FromDte
+    → (F → Some octets ≡ slice_get (flying d s.line) 0) → (F → line ≡ without_first d s.line) → answer.outcome ≡ Delivered true
+    → DceStep F (turn.Hears octets) line s answer t → DeliverStep F d s answer t
+heard-dce F d s octets line answer t e first rest outcome k =
+    let D : Direction → Type 0 = λ x. HearsOf x F octets line s answer t in
+    record { came = Some octets; line = line; first = first; rest = rest; heard = subst D (sym e) k; answered = outcome }
+
+pub heard-dte : (F : Type 0) (d : Direction) (s : NetState) (octets : List ℕ) (line : Flights) (answer : Answer) (t : NetState) → d ≡ FromDce
+    → (F → Some octets ≡ slice_get (flying d s.line) 0) → (F → line ≡ without_first d s.line) → answer.outcome ≡ Delivered true
+    → DteStep F (turn.Hears octets) line s answer t → DeliverStep F d s answer t
+heard-dte F d s octets line answer t e first rest outcome k =
+    let D : Direction → Type 0 = λ x. HearsOf x F octets line s answer t in
+    record { came = Some octets; line = line; first = first; rest = rest; heard = subst D (sym e) k; answered = outcome }
+
+-- ---- an event that is not refused happens
+
+abbrev no_node : Bool → Option StepFault
+no_node there = if there then None else Some NoSuchNode
+
+pub deliver-happens : (F : Type 0) (line : ℕ) (d : Direction) (s : NetState) (answer : Answer) (t : NetState) → line ≡ 0 → DeliverStep F d s answer t → Happens F (Deliver line d) s (Ok answer) t
+deliver-happens F line d s answer t z k = (ap no_node (eq-eqb line 0 z), k)
+
+pub relink-happens : (F : Type 0) (line : ℕ) (s : NetState) (answer : Answer) (t : NetState) → line ≡ 0 → answer.outcome ≡ Done → DteStep F turn.Relinks s.line s answer t → Happens F (Relink line) s (Ok answer) t
+relink-happens F line s answer t z done k = (ap no_node (eq-eqb line 0 z), (done, k))
+
+pub expire-happens : (F : Type 0) (node line : ℕ) (timer : TimerId) (s : NetState) (answer : Answer) (t : NetState) → is_node node s ≡ true → line ≡ 0
+    → NodeStep F node (turn.Expires timer) s.line s answer t → Happens F (Expire node line timer) s (Ok answer) t
+expire-happens F node line timer s answer t there z k =
+    (ap (λ b. no_node (b && (line == 0))) there ∙ ap (λ b. no_node (true && b)) (eq-eqb line 0 z), k)
+
+pub restart-happens : (F : Type 0) (node : ℕ) (s : NetState) (answer : Answer) (t : NetState) → is_node node s ≡ true → RestartStep F node s answer t → Happens F (Restart node) s (Ok answer) t
+restart-happens F node s answer t there k = (ap no_node there, k)
+
+abbrev key_fault : Bool → Bool → Bool → Option StepFault
+key_fault here is_pad is_terminal = if here && is_pad then (if is_terminal then None else Some NoSuchTerminal) else Some NoSuchNode
+
+pub key-happens : (F : Type 0) (node terminal octet : ℕ) (s : NetState) (p : PadState) (answer : Answer) (t : NetState) → node ≡ s.dte_place → s.dte ≡ Pad p → terminal < s.terminals
+    → MatchBool ((terminal == 0) && p.stands) (KeyStep F (pad_key octet p) s answer t) (IdleStep (Keyed key_answer.Taken) s answer t)
+    → Happens F (Key node terminal octet) s (Ok answer) t
+key-happens F node terminal octet s p answer t e pad lt k =
+    let K : NodeState → Type 0 = λ n. KeyOf F terminal octet n s answer t in (
+      ap (λ b. key_fault b (is_pad s.dte) (nat_lt terminal s.terminals)) (eq-eqb node s.dte_place e)
+          ∙ ap (λ (n : NodeState). key_fault true (is_pad n) (nat_lt terminal s.terminals)) pad
+          ∙ ap (key_fault true true) (lt-ltb terminal s.terminals lt),
+      subst K (sym pad) k,
+    )
+
+pub key-now : (F : Type 0) (terminal octet : ℕ) (s : NetState) (p : PadState) (answer : Answer) (t : NetState) → terminal ≡ 0 → p.stands ≡ true
+    → KeyStep F (pad_key octet p) s answer t → MatchBool ((terminal == 0) && p.stands) (KeyStep F (pad_key octet p) s answer t) (IdleStep (Keyed key_answer.Taken) s answer t)
+key-now F terminal octet s p answer t z up k =
+    let P : Bool → Type 0 = λ b. MatchBool b (KeyStep F (pad_key octet p) s answer t) (IdleStep (Keyed key_answer.Taken) s answer t) in
+    subst P (sym (ap (λ b. b && p.stands) (eq-eqb terminal 0 z) ∙ up)) k
+
+abbrev take_fault : Bool → Bool → Bool → Option StepFault
+take_fault is_host is_zero is_beyond = if is_host then (if is_zero || is_beyond then Some NoSuchCall else None) else Some NoSuchNode
+
+pub take-happens : (F : Type 0) (node channel : ℕ) (s : NetState) (answer : Answer) (t : NetState) → is_host_at node s ≡ true → channel ≢ 0 → channel ≤ s.channels
+    → TakeOf F node channel s answer t → Happens F (Take node channel) s (Ok answer) t
+take-happens F node channel s answer t host some le k = (
+  ap (λ b. take_fault b (nat_eq channel 0) (nat_lt s.channels channel)) host
+      ∙ ap (λ b. take_fault true b (nat_lt s.channels channel)) (ne_eqb channel 0 some) ∙ ap (take_fault true false) (le-ltb s.channels channel le),
+  k,
+)
+
+pub take-now : (F : Type 0) (node channel : ℕ) (s : NetState) (answer : Answer) (t : NetState) → node ≡ s.dce_place → channel ≡ 1 → s.dce.stands ≡ true
+    → TakeStep F s answer t → TakeOf F node channel s answer t
+take-now F node channel s answer t e z up k =
+    let P : Bool → Type 0 = λ b. MatchBool b (TakeStep F s answer t) (IdleStep (Took None) s answer t) in
+    subst P (sym (ap (λ b. b && (channel == 1) && s.dce.stands) (eq-eqb node s.dce_place e) ∙ ap (λ b. b && s.dce.stands) (eq-eqb channel 1 z) ∙ up)) k
+
+-- ---- what was not served
+
+changed-id : (l : List RecordValue) (i : ℕ) → changed_at i (λ r. r) l ≡ l
+changed-id [] i = refl
+changed-id (x ∷ l) zero = refl
+changed-id (x ∷ l) (suc i) = ap (λ ys. x ∷ ys) (changed-id l i)
+
+pub records-same : (records : List Record) (i : ℕ) (r new : Record) → i < length records → r ≡ get_or records i r → shown new ≡ shown r → map shown (slice_set records i new) ≡ map shown records
+records-same records i r new lt at same = changed-some records i r new (λ x. x) lt at same ∙ changed-id (map shown records) i
+
+pub same-dte : (F : Type 0) (s : NetState) (n : NodeState) (l : Flights) (rs : List RecordValue) → n ≡ s.dte → l ≡ s.line → rs ≡ s.records → IsNet F s → IsNet F (record s { dte = n; line = l; records = rs })
+same-dte F s n l rs a b c net =
+    let same : s ≡ record s { dte = n; line = l; records = rs } = (λ i. record s { dte = sym a i; line = sym b i; records = sym c i }) in
+    subst (IsNet F) same net
+
+pub same-dce : (F : Type 0) (s : NetState) (h : HostState) (l : Flights) (rs : List RecordValue) → h ≡ s.dce → l ≡ s.line → rs ≡ s.records → IsNet F s → IsNet F (record s { dce = h; line = l; records = rs })
+same-dce F s h l rs a b c net =
+    let same : s ≡ record s { dce = h; line = l; records = rs } = (λ i. record s { dce = sym a i; line = sym b i; records = sym c i }) in
+    subst (IsNet F) same net

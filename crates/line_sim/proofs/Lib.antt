@@ -11,6 +11,8 @@ pub mod Sending
 pub mod Noting
 pub mod Writing
 pub mod Nets
+pub mod Glue
+pub mod Openings
 pub mod Promises
 pub mod Refusals
 pub mod RunsMore

@@ -181,6 +181,7 @@ covers-idle call (Host h) i = (host-keeps call h).covers
 
 pub dte_kept : (F : Type 0) (call : NodeCall) (s : NetState) (mid after : Flights) → (F → ReadyDte call s.line mid)
     → (F → ArePut FromDte (frames_of (node_call call s.dte).node) mid after) → IsNet F s → IsNet F (after_dte call s after)
+unfolding stands-dte
 dte_kept F call s mid after ready put n = by n.call n.served
   where
     by : (c : Calls s) → (F → IsServed s.dte s.dce s.line (sent_of s c) (taken_of s c) (covered_of s c)) → IsNet F (after_dte call s after)
@@ -228,6 +229,7 @@ stands-dce call s line v = record {
 
 pub dce_kept : (F : Type 0) (call : NodeCall) (s : NetState) (mid after : Flights) → (F → ReadyDce call s.line mid)
     → (F → ArePut FromDce (host_call call s.dce).node.line.frames mid after) → IsNet F s → IsNet F (after_dce call s after)
+unfolding stands-dce
 dce_kept F call s mid after ready put n = by n.call n.served
   where
     by : (c : Calls s) → (F → IsServed s.dte s.dce s.line (sent_of s c) (taken_of s c) (covered_of s c)) → IsNet F (after_dce call s after)

@@ -93,16 +93,20 @@ promised s v apart served = record {
 
 -- without one there are no records and no pairs
 no_record : (s : NetState) → HasNoCall s → (i : ℕ) (r : RecordValue) → slice_get s.records i ≡ Some r → ⊥
-no_record s v i r e = empty i (ap (λ (l : List RecordValue). slice_get l i) (sym v.records_are) ∙ e)
+no_record s v i r e = empty s.records v.records_are i e
   where
-    empty : (i : ℕ) → slice_get {A = RecordValue} [] i ≡ Some r → ⊥
-    empty i e = let x : ◌≡◌ {A = Option RecordValue} None (Some r) = e in cc
+    empty : (l : List RecordValue) → l ≡ [] → (i : ℕ) → slice_get l i ≡ Some r → ⊥
+    empty [] z zero e = absurd (cc)
+    empty [] z (suc i) e = absurd (cc)
+    empty (x ∷ xs) z i e = absurd (cc)
 
 no_pair : (s : NetState) → HasNoCall s → (i : ℕ) (p : PairValue) → slice_get s.pairs i ≡ Some p → ⊥
-no_pair s v i p e = empty i (ap (λ (l : List PairValue). slice_get l i) (sym v.pairs_are) ∙ e)
+no_pair s v i p e = empty s.pairs v.pairs_are i e
   where
-    empty : (i : ℕ) → slice_get {A = PairValue} [] i ≡ Some p → ⊥
-    empty i e = let x : ◌≡◌ {A = Option PairValue} None (Some p) = e in cc
+    empty : (l : List PairValue) → l ≡ [] → (i : ℕ) → slice_get l i ≡ Some p → ⊥
+    empty [] z zero e = absurd (cc)
+    empty [] z (suc i) e = absurd (cc)
+    empty (x ∷ xs) z i e = absurd (cc)
 
 nothing_promised : (s : NetState) → HasNoCall s → Headline s
 nothing_promised s v = record {

@@ -5,6 +5,7 @@ use Rattle.std.proofs.lemmas.Bool.{le-ltb}
 use Rattle.std.proofs.lemmas.List.{append-nil}
 use Rattle.lapb.specs.Machine.{Octets, can_offer}
 use Rattle.epochs.specs.Item.{DataPacket}
+use Rattle.line_end.specs.End.{End, without_first}
 use Rattle.line_sim.specs.declared.line.Direction.{Direction}
 use Rattle.line_sim.specs.declared.event.Put.{Put}
 use Rattle.line_sim.specs.Lines.{Flights, IsPut}
@@ -20,7 +21,7 @@ offers-none p e = by p.queue
     by (d ∷ ds) = ap (λ b. if b then pad_offers_of ds (goes p d ds) else p) e
 
 pub no-window : (p : PadState) → p.window ≤ p.outstanding → pad_offers p ≡ p
-no-window p le = offers-none p (ap (λ b. b && can_offer p.line.link) (le-ltb p.window p.outstanding le))
+no-window p le = offers-none p (ap (λ b. b && can_offer p.line.link) (le-ltb p.outstanding p.window le))
 
 pub no-room : (p : PadState) → can_offer p.line.link ≡ false → pad_offers p ≡ p
 no-room p e = offers-none p (ap (λ b. nat_lt p.outstanding p.window && b) e ∙ both (nat_lt p.outstanding p.window))
@@ -76,3 +77,8 @@ putting-ends F d start before puts left now w e =
     let P : List Octets → Type 0 = λ l. ArePutsOf d 0 l puts in
     let Q : List Octets → Type 0 = λ l. F → ArePut d l before now in
     record { puts_are = subst P (sym all) w.listed; put = subst Q (sym all) w.put }
+
+-- the end of a line from which a frame was taken
+pub end-kept : (a b c : End) → b ≡ record a { frames = b.frames } → c ≡ without_first b → c ≡ record a { frames = c.frames }
+end-kept a b c e f =
+    f ∙ ap (λ (l : List Octets). record b { frames = l }) (sym (ap (λ (x : End). x.frames) f)) ∙ ap (λ (x : End). record x { frames = c.frames }) e
