@@ -18,7 +18,7 @@ pub invariant_of-self-2 : goal.invariant_of-self-2
 invariant_of-self-2 g c = restart_net g.L.Line.faithful c.args.node _ c.answer-2.result _ c.self.invariant (record { line = (g.L.Line.flights c.empty.new.self); emptied = c.empty.ensures; begins = node-dce g.L.Line.faithful c.args.node Restarts (g.L.Line.flights c.empty.new.self) _ c.answer-2.result _ c.if-node-self.false c.answer-2.ensures.outcome (dce-step g.L.Line.faithful (Restarts) (g.L.Line.flights c.empty.new.self) (g.L.Line.flights c.serve_dce-room.new.line) _ c.answer-2.result c.serve_dce-room.new.host _ _ _ _ c.answer-2.ensures.frames c.answer-2.ensures.notes refl c.serve_dce-room.ensures) })
 
 pub returns-then-node-self : goal.returns-then-node-self
-returns-then-node-self g c = rw (← c.self.view_is) (restart-happens g.L.Line.faithful c.args.node _ c.answer.result _ (here c.self.view_is c.is_node.ensures c.if-not-is_node.false) (record { line = (g.L.Line.flights c.empty.new.self); emptied = c.empty.ensures; begins = node-dte g.L.Line.faithful c.args.node Restarts (g.L.Line.flights c.empty.new.self) _ c.answer.result _ c.if-node-self.true c.answer.ensures.outcome (dte-step g.L.Line.faithful (Restarts) (g.L.Line.flights c.empty.new.self) (g.L.Line.flights c.serve_dte-room.new.line) _ c.answer.result (node_of c.serve_dte-room.new.node) _ _ _ c.answer.ensures.frames (c.answer.ensures.notes ∙ c.serve_dte-room.ensures.notes ∙ c.in_ok-room.ensures.1) refl c.serve_dte-room.ensures.served) }))
+returns-then-node-self g c = rw (← c.self.view_is) (restart-happens g.L.Line.faithful c.args.node _ c.answer.result _ (rw (← c.self.view_is) at (sym c.is_node.ensures ∙ c.if-not-is_node.false)) (record { line = (g.L.Line.flights c.empty.new.self); emptied = c.empty.ensures; begins = node-dte g.L.Line.faithful c.args.node Restarts (g.L.Line.flights c.empty.new.self) _ c.answer.result _ c.if-node-self.true c.answer.ensures.outcome (dte-step g.L.Line.faithful (Restarts) (g.L.Line.flights c.empty.new.self) (g.L.Line.flights c.serve_dte-room.new.line) _ c.answer.result (node_of c.serve_dte-room.new.node) _ _ _ c.answer.ensures.frames (c.answer.ensures.notes ∙ c.serve_dte-room.ensures.notes ∙ c.in_ok-room.ensures.1) refl c.serve_dte-room.ensures.served) }))
 
 pub returns : goal.returns
-returns g c = rw (← c.self.view_is) (restart-happens g.L.Line.faithful c.args.node _ c.answer-2.result _ (here c.self.view_is c.is_node.ensures c.if-not-is_node.false) (record { line = (g.L.Line.flights c.empty.new.self); emptied = c.empty.ensures; begins = node-dce g.L.Line.faithful c.args.node Restarts (g.L.Line.flights c.empty.new.self) _ c.answer-2.result _ c.if-node-self.false c.answer-2.ensures.outcome (dce-step g.L.Line.faithful (Restarts) (g.L.Line.flights c.empty.new.self) (g.L.Line.flights c.serve_dce-room.new.line) _ c.answer-2.result c.serve_dce-room.new.host _ _ _ _ c.answer-2.ensures.frames c.answer-2.ensures.notes refl c.serve_dce-room.ensures) }))
+returns g c = rw (← c.self.view_is) (restart-happens g.L.Line.faithful c.args.node _ c.answer-2.result _ (rw (← c.self.view_is) at (sym c.is_node.ensures ∙ c.if-not-is_node.false)) (record { line = (g.L.Line.flights c.empty.new.self); emptied = c.empty.ensures; begins = node-dce g.L.Line.faithful c.args.node Restarts (g.L.Line.flights c.empty.new.self) _ c.answer-2.result _ c.if-node-self.false c.answer-2.ensures.outcome (dce-step g.L.Line.faithful (Restarts) (g.L.Line.flights c.empty.new.self) (g.L.Line.flights c.serve_dce-room.new.line) _ c.answer-2.result c.serve_dce-room.new.host _ _ _ _ c.answer-2.ensures.frames c.answer-2.ensures.notes refl c.serve_dce-room.ensures) }))
