@@ -256,3 +256,7 @@ pub same-dce : (F : Type 0) (s : NetState) (h : HostState) (l : Flights) (rs : L
 same-dce F s h l rs a b c net =
     let same : s ≡ record s { dce = h; line = l; records = rs } = (λ i. record s { dce = sym a i; line = sym b i; records = sym c i }) in
     subst (IsNet F) same net
+
+pub key-of : (F : Type 0) (terminal octet : ℕ) (s : NetState) (p : PadState) (answer : Answer) (t : NetState) → s.dte ≡ Pad p
+    → MatchBool ((terminal == 0) && p.stands) (KeyStep F (pad_key octet p) s answer t) (IdleStep (Keyed key_answer.Taken) s answer t) → KeyOf F terminal octet s.dte s answer t
+key-of F terminal octet s p answer t pad k = let K : NodeState → Type 0 = λ n. KeyOf F terminal octet n s answer t in subst K (sym pad) k
