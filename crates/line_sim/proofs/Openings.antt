@@ -8,7 +8,11 @@ use Rattle.lapb.specs.World.{opening as opening_world}
 use Rattle.line_end.specs.End.{End, made, untouched}
 use Rattle.epochs.specs.Item.{DataPacket}
 use Rattle.line_sim.specs.declared.line.Direction.TheVariants.{FromDte, FromDce}
-use Rattle.line_sim.specs.Sends.{ArePut}
+use Rattle.line_sim.specs.declared.event.Put.{Put}
+use Rattle.line_sim.specs.declared.plan.DtePlan.{DtePlan as DteCode}
+use Rattle.line_sim.specs.declared.plan.DtePlan.TheVariants as dte_is
+use Rattle.line_sim.specs.PlanView.{dte_value, CanStand}
+use Rattle.line_sim.specs.Sends.{ArePut, Sends}
 use Rattle.line_sim.specs.Lines.{Flights, no_flights}
 use Rattle.line_sim.specs.Linked.{Logs, logs_of, HasLinks}
 use Rattle.line_sim.specs.Joined.{AreShort, PadPart, HostPart, host_part, Agrees}
@@ -17,7 +21,7 @@ use Rattle.line_sim.specs.HostState.{HostState, new_host, host_begins}
 use Rattle.line_sim.specs.NodeState.{NodeState, Pad, Host, frames_of, drained}
 use Rattle.line_sim.specs.Records.{RecordValue, PairValue, standing_record, standing_pair}
 use Rattle.line_sim.specs.NetState.{NetState}
-use Rattle.line_sim.specs.Plan.{Plan, DtePlan, PadPlan, HostPlan, dte_of, new_dte, new_dce, opening, IsBegun}
+use Rattle.line_sim.specs.Plan.{Plan, DtePlan, PadPlan, HostPlan, dte_of, new_dte, new_dce, terminals_of, first_records, first_pairs, opening, IsBegun}
 use Rattle.line_sim.specs.IsNet.{Stands, IsIdle, HasNoCall, Calls, stands, none, part_of, link_of, IsServed, IsNet}
 use Rattle.line_sim.proofs.Linking.{linked-opening}
 use Rattle.line_sim.proofs.Holding.{HeldDte, HeldDce, begins-dte, begins-dce, relinked-dte, relinked-dce}
@@ -159,3 +163,37 @@ opening-net F plan line apart few wide may begun = by plan.standing refl plan.dt
             at : (y : DtePlan) → IsIdle (drained (dte_of y plan.window plan.k plan.n2 plan.standing))
             at (PadPlan terminals params) = (s, refl)
             at HostPlan = (s, refl)
+
+-- a network whose parts are those of the opening is one
+pub made-net : (F : Type 0) (plan : Plan) (s : NetState) (dte : NodeState) (dce : HostState) (start mid : Flights) (a b : List Put)
+    → plan.dte_place ≢ plan.dce_place → plan.k ≤ 7 → plan.window ≤ 7 → MayStand plan.dte plan.standing
+    → s.dte_place ≡ plan.dte_place → s.dce_place ≡ plan.dce_place → s.terminals ≡ terminals_of plan.dte → s.channels ≡ plan.channels
+    → s.dte ≡ drained dte → dte ≡ new_dte plan → s.dce ≡ host_begins dce → dce ≡ new_dce plan → s.records ≡ first_records plan → s.pairs ≡ first_pairs plan
+    → (F → start ≡ no_flights) → Sends F FromDte (frames_of dte) start a mid → Sends F FromDce dce.line.frames mid b s.line → IsNet F s
+made-net F plan s dte dce start mid a b apart few wide may e1 e2 e3 e4 e5 m5 e6 m6 e7 e8 empty up down =
+    let d = e5 ∙ ap drained m5 in
+    let h = e6 ∙ ap host_begins m6 in
+    let same : record (opening plan) { line = s.line } ≡ s =
+    (λ i. record {
+      dte_place = sym e1 i;
+      dce_place = sym e2 i;
+      terminals = sym e3 i;
+      channels = sym e4 i;
+      dte = sym d i;
+      dce = sym h i;
+      line = s.line;
+      records = sym e7 i;
+      pairs = sym e8 i;
+    }) in
+    subst (IsNet F) same (opening-net F plan s.line apart few wide may (λ f. record {
+      between = mid;
+      dte =
+          let P : Flights → Type 0 = λ l. ArePut FromDte (frames_of (new_dte plan)) l mid in
+          let Q : NodeState → Type 0 = λ n. ArePut FromDte (frames_of n) start mid in
+          subst P (empty f) (subst Q m5 (up.put f));
+      dce = let Q : HostState → Type 0 = λ k. ArePut FromDce k.line.frames mid s.line in subst Q m6 (down.put f);
+    }))
+
+pub may-stand : (d : DteCode) (standing : Bool) → CanStand d standing → MayStand (dte_value d) standing
+may-stand (dte_is.Pad terminals params) standing can = tt
+may-stand dte_is.Host standing can = can
