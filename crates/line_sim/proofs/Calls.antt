@@ -1,15 +1,12 @@
 -- Lists of packets on the way: numbered Data packets, and RR packets.
 use Rattle.std.proofs.Common.{◌≡◌, ℕ, suc, ◌+◌, ◌%◌, ◌<◌, ◌≤◌, true, List, [], ◌∷◌, ◌++◌, length, map, Result, Ok, Err, refl, sym, ap, ◌∙◌, subst, arith, length-append}
-use Rattle.frame_codec.specs.Frame.{FrameValue}
-use Rattle.frame_codec.specs.Spelling.{HasSpelling}
 use Rattle.epochs.specs.Item.{DataPacket}
 use Rattle.packet_codec.specs.Packet.{PacketValue}
 use Rattle.packet_codec.specs.Reading.{reading}
 use Rattle.packet_codec.specs.declared.fault.PacketFault.{PacketFault}
 use Rattle.packet_codec.proofs.Spellings.{reading-spelling}
 use Rattle.line_sim.specs.Packets.{data_value, data_octets, ready_value, ready_octets, Heard, Data, Ready, heard_value, heard_packet}
-use Rattle.line_sim.specs.HalfLink.{AreSpelled}
-use Rattle.line_sim.specs.Served.{numbered, AreShort, Covering}
+use Rattle.line_sim.specs.Joined.{numbered, AreShort, Covering}
 
 pub numbered-push : (n : ℕ) (ps : List DataPacket) (p : DataPacket) (m : ℕ) → m ≡ (n + length ps) % 8 → numbered n ps ++ data_octets m p ∷ [] ≡ numbered n (ps ++ p ∷ [])
 numbered-push n [] p m e = let same : m ≡ n % 8 = omega arith in ap (λ k. data_octets k p ∷ []) same
@@ -22,10 +19,6 @@ length-numbered n (p ∷ ps) = ap suc (length-numbered (suc n) ps)
 pub short-append : (ps qs : List DataPacket) → AreShort ps → AreShort qs → AreShort (ps ++ qs)
 short-append [] qs a b = b
 short-append (p ∷ ps) qs a b = (a.0, short-append ps qs a.1 b)
-
-pub spelled-push : (fs : List FrameValue) (f : FrameValue) → AreSpelled fs → HasSpelling f → AreSpelled (fs ++ f ∷ [])
-spelled-push [] f a b = (b, tt)
-spelled-push (g ∷ fs) f a b = (a.0, spelled-push fs f a.1 b)
 
 pub covering-push : (top low : ℕ) (ps : List (List ℕ)) → Covering top low ps → Covering top low (ps ++ ready_octets (top % 8) ∷ [])
 covering-push top low [] c = (top, c, refl, omega arith)

@@ -1,4 +1,4 @@
--- What a key makes of a PAD, and of its record.
+-- What a key makes of a PAD.
 use Rattle.std.proofs.Common.{◌≡◌, ℕ, suc, ◌+◌, ◌<◌, ◌≤◌, Bool, true, false, List, [], ◌∷◌, ◌++◌, length, map, Option, Some, None, IfSome, refl, sym, ap, ◌∙◌, subst, arith, append_assoc, length-append}
 use Rattle.std.specs.Prelude.{is_some, ◌&&◌, nat_eq, if◌then◌else◌}
 use Rattle.std.specs.Option.{option_to_list}
@@ -6,11 +6,8 @@ use Rattle.std.proofs.lemmas.List.{append-nil}
 use Rattle.epochs.specs.Item.{DataPacket, message}
 use Rattle.pad_editing.specs.Edited.{Step, Edit, Effect, key, after_key, edit_of, one_more}
 use Rattle.pad_editing.proofs.Edits.{edit_of_more, effect_of_bounds, AreBounded}
-use Rattle.line_sim.specs.PadState.{PadState, KeyEffect, does_nothing, typed, queue_is_full, ends_block, pad_key}
-use Rattle.line_sim.specs.Records.{RecordValue, with_step, with_sent, with_covered, with_taken}
-use Rattle.line_sim.specs.Steps.{with_steps, with_all_sent, with_key, with_any_taken}
-use Rattle.line_sim.specs.IsNet.{caller_record, callee_record}
-use Rattle.line_sim.specs.Served.{AreShort}
+use Rattle.line_sim.specs.PadState.{PadState, KeyEffect, does_nothing, typed, queue_is_full, ends_block, edited_by}
+use Rattle.line_sim.specs.Joined.{AreShort}
 
 -- the packets that a key made are messages of blocks, and so the editing rules have it
 pub record KeyDoes (p : PadState) (e : KeyEffect) : Type 0 where
@@ -47,29 +44,9 @@ typed_does p octet lt =
       edited = λ steps before e. edit_of_more steps (key octet p.params) ∙ ap (λ x. one_more x (key octet p.params)) e;
     }
 
-pub key-does : (octet : ℕ) (p : PadState) → length p.held < 128 → KeyDoes p (pad_key octet p)
-key-does octet p lt = by (does_nothing octet) (ends_block (after_key p.params octet p.held) && queue_is_full p) where
+pub key-does : (octet : ℕ) (p : PadState) → length p.held < 128 → KeyDoes p (edited_by octet p)
+key-does octet p lt = by (does_nothing p.params octet) (ends_block (after_key p.params octet p.held) && queue_is_full p) where
   by : (a b : Bool) → KeyDoes p (if a then record { node = p; dropped = false; steps = []; sent = [] } else if b then record { node = p; dropped = true; steps = []; sent = [] } else typed p octet (after_key p.params octet p.held))
   by true b = no_step p false lt
   by false true = no_step p true lt
   by false false = typed_does p octet lt
-
--- the records
-with_steps-caller : (node : ℕ) (sent : List DataPacket) (covered : ℕ) (steps more : List Step) → with_steps more (caller_record node sent covered steps) ≡ caller_record node sent covered (steps ++ more)
-with_steps-caller node sent covered steps [] = ap (caller_record node sent covered) (sym (append-nil steps))
-with_steps-caller node sent covered steps (s ∷ more) =
-    with_steps-caller node sent covered (steps ++ s ∷ []) more ∙ ap (caller_record node sent covered) (append_assoc {A = Step} steps (s ∷ []) more)
-
-with_sent-caller : (node : ℕ) (sent more : List DataPacket) (covered : ℕ) (steps : List Step) → with_all_sent more (caller_record node sent covered steps) ≡ caller_record node (sent ++ more) covered steps
-with_sent-caller node sent [] covered steps = ap (λ l. caller_record node l covered steps) (sym (append-nil sent))
-with_sent-caller node sent (p ∷ more) covered steps =
-    with_sent-caller node (sent ++ p ∷ []) more covered steps ∙ ap (λ l. caller_record node l covered steps) (append_assoc {A = DataPacket} sent (p ∷ []) more)
-
-pub with_key-caller : (e : KeyEffect) (node : ℕ) (sent : List DataPacket) (covered : ℕ) (steps : List Step) → with_key e (caller_record node sent covered steps) ≡ caller_record node (sent ++ e.sent) covered (steps ++ e.steps)
-with_key-caller e node sent covered steps =
-    ap (with_all_sent e.sent) (with_steps-caller node sent covered steps e.steps) ∙ with_sent-caller node sent e.sent covered (steps ++ e.steps)
-
-pub with_taken-callee : (node : ℕ) (taken : List DataPacket) (packet : DataPacket) → with_any_taken (Some packet) (callee_record node taken) ≡ callee_record node (taken ++ packet ∷ [])
-with_taken-callee node taken packet =
-    let same : length taken + 1 ≡ length (taken ++ packet ∷ []) = sym (length-append taken (packet ∷ [])) in
-    λ i. record (callee_record node (taken ++ packet ∷ [])) { taken = record { packets = taken ++ packet ∷ []; interrupts = []; released = same i } }

@@ -12,9 +12,8 @@ use Rattle.pad_editing.specs.Edited.{Step, Edit, edit_of, edited}
 use Rattle.line_sim.specs.Records.{RecordValue, PairValue, sent_epochs, taken_epochs}
 use Rattle.line_sim.specs.NetState.{NetState}
 use Rattle.line_sim.specs.Headline.{PairMatches, PairIsRight, PairHolds, IsIn, TookNothing, items_of_epochs, messages, Headline}
-use Rattle.line_sim.specs.IsNet.{caller_record, callee_record, standing_pair, Stands, IsNet}
-use Rattle.line_sim.specs.Served.{IsServed}
-use Rattle.line_sim.proofs.Calls.{covering-within}
+use Rattle.line_sim.specs.Records.{standing_pair}
+use Rattle.line_sim.specs.IsNet.{caller_record, callee_record, Stands, HasNoCall, Calls, stands, none, sent_of, taken_of, covered_of, IsServed, IsNet}
 
 -- the user items of messages, and of nothing
 user-octets : (octets : List ℕ) (rest : List Item) → user_items (map Octet octets ++ rest) ≡ map Octet octets ++ user_items rest
@@ -40,58 +39,87 @@ of_one : {A : Type 0} (a x : A) (i : ℕ) → slice_get (a ∷ []) i ≡ Some x 
 of_one a x zero e = let same : x ≡ a = cc in (refl, same)
 of_one a x (suc i) e = absurd (cc)
 
-record_at : (s : NetState) (v : Stands s) (i : ℕ) (r : RecordValue) → slice_get s.records i ≡ Some r → AtPlace RecordValue (caller_record s.pad_place v.sent v.covered v.steps) (callee_record s.host_place v.taken) r i
+abbrev caller_of : (s : NetState) → Stands s → RecordValue
+caller_of s v = caller_record s.dte_place v.sent v.covered v.steps v.closed
+
+abbrev callee_of : (s : NetState) → Stands s → RecordValue
+callee_of s v = callee_record s.dce_place v.taken v.host_closed
+
+record_at : (s : NetState) (v : Stands s) (i : ℕ) (r : RecordValue) → slice_get s.records i ≡ Some r → AtPlace RecordValue (caller_of s v) (callee_of s v) r i
 record_at s v i r e = of_two _ _ r i (ap (λ (l : List RecordValue). slice_get l i) (sym v.records_are) ∙ e)
 
 pair_at : (s : NetState) (v : Stands s) (i : ℕ) (p : PairValue) → slice_get s.pairs i ≡ Some p → (i ≡ 0) × (p ≡ standing_pair)
 pair_at s v i p e = of_one standing_pair p i (ap (λ (l : List PairValue). slice_get l i) (sym v.pairs_are) ∙ e)
 
 -- what was taken begins what was sent
-onward : (s : NetState) (v : Stands s) → IsServed s.pad s.host s.line v.sent v.taken v.covered
-    → PairMatches (caller_record s.pad_place v.sent v.covered v.steps) (callee_record s.host_place v.taken)
+onward : (s : NetState) (v : Stands s) → IsServed s.dte s.dce s.line v.sent v.taken v.covered → PairMatches (caller_of s v) (callee_of s v)
 onward s v i =
-    let a : IsListPrefix DataPacket v.taken v.sent = record {
-      rest = s.host.waiting ++ (i.going ++ s.pad.queue);
-      whole =
-          sym (append_assoc {A = DataPacket} v.taken s.host.waiting (i.going ++ s.pad.queue))
-          ∙ sym (append_assoc {A = DataPacket} (v.taken ++ s.host.waiting) i.going s.pad.queue) ∙ sym i.sent_is;
-    } in
-    let c = covering-within (length v.taken) v.covered i.ready i.covering in
+    let a : IsListPrefix DataPacket v.taken v.sent = record { rest = i.agrees.left; whole = sym i.agrees.prefix } in
     record {
-      onward = aligned-match (record { packets = v.sent; interrupts = []; covered = v.covered } ∷ []) (record { packets = v.taken; interrupts = []; released = length v.taken } ∷ [])
-          (record { packets = a; interrupts = record { rest = []; whole = refl }; covered = c; released = omega arith }, tt);
+      onward = aligned-match (record { packets = v.sent; interrupts = []; covered = 0 } ∷ []) (record { packets = v.taken; interrupts = []; released = length v.taken } ∷ [])
+          (record { packets = a; interrupts = record { rest = []; whole = refl }; covered = omega arith; released = omega arith }, tt);
       backward = aligned-match (nothing_sent ∷ []) (nothing_taken ∷ [])
           (record { packets = record { rest = []; whole = refl }; interrupts = record { rest = []; whole = refl }; covered = omega arith; released = omega arith }, tt);
     }
 
-right : (s : NetState) (v : Stands s) → PairIsRight s (caller_record s.pad_place v.sent v.covered v.steps) (callee_record s.host_place v.taken)
+right : (s : NetState) (v : Stands s) → PairIsRight s (caller_of s v) (callee_of s v)
 right s v = record { order = omega arith; caller_node = refl; callee_node = refl; address = refl; far = refl; standing_own = refl; standing_far = refl }
 
-typed_messages : (s : NetState) (v : Stands s) → user_items (items_of_epochs (sent_epochs (caller_record s.pad_place v.sent v.covered v.steps))) ≡ messages (edited v.steps)
-typed_messages s v =
-    ap user_items (append-nil (all_items v.sent)) ∙ ap (λ l. user_items (all_items l)) v.messages ∙ user-messages v.blocks
-    ∙ ap (λ (e : Edit). messages e.blocks) (sym v.edited)
+typed_messages : (s : NetState) (v : Stands s) → user_items (items_of_epochs (sent_epochs (caller_of s v))) ≡ messages (edited v.steps)
+typed_messages s v = ap user_items (append-nil (all_items v.sent)) ∙ ap (λ l. user_items (all_items l)) v.messages ∙ user-messages (edit_of v.steps).blocks
 
-pub promises : (F : Type 0) (s : NetState) → IsNet F s → F → Headline s
-promises F s n f = record {
+-- with a call
+promised : (s : NetState) (v : Stands s) → s.dte_place ≢ s.dce_place → IsServed s.dte s.dce s.line v.sent v.taken v.covered → Headline s
+promised s v apart served = record {
   pairs_hold = λ i pair at_pair.
-      let v = n.stands in
       let P : PairValue → Type 0 = λ x. PairHolds s x in
       subst P (sym (pair_at s v i pair at_pair).1) (record {
-        caller = caller_record s.pad_place v.sent v.covered v.steps;
-        callee = callee_record s.host_place v.taken;
+        caller = caller_of s v;
+        callee = callee_of s v;
         caller_there = ap (λ (l : List RecordValue). slice_get l 0) v.records_are;
         callee_there = ap (λ (l : List RecordValue). slice_get l 1) v.records_are;
-        matches = onward s v (n.served f);
+        matches = onward s v served;
         is_right = right s v;
       });
-  numbers = λ i r e. elim (record_at s n.stands i r e).which [ inl h ↦ ap (λ (x : RecordValue). x.number) h.1 ∙ sym h.0 | inr h ↦ ap (λ (x : RecordValue). x.number) h.1 ∙ sym h.0 ];
-  in_one = λ i j p q number ep eq a b. (pair_at s n.stands i p ep).0 ∙ sym (pair_at s n.stands j q eq).0;
-  took = λ i r e. inr (0, standing_pair, ap (λ (l : List PairValue). slice_get l 0) n.stands.pairs_are, elim (record_at s n.stands i r e).which [ inl h ↦ inl (sym h.0) | inr h ↦ inr (sym h.0) ]);
+  numbers = λ i r e. elim (record_at s v i r e).which [ inl h ↦ ap (λ (x : RecordValue). x.number) h.1 ∙ sym h.0 | inr h ↦ ap (λ (x : RecordValue). x.number) h.1 ∙ sym h.0 ];
+  in_one = λ i j p q number ep eq a b. (pair_at s v i p ep).0 ∙ sym (pair_at s v j q eq).0;
+  took = λ i r e. inr (0, standing_pair, ap (λ (l : List PairValue). slice_get l 0) v.pairs_are, elim (record_at s v i r e).which [ inl h ↦ inl (sym h.0) | inr h ↦ inr (sym h.0) ]);
   typed = λ i r e at.
-      let v = n.stands in
       elim (record_at s v i r e).which [
         | inl h ↦ (let T : RecordValue → Type 0 = λ x. user_items (items_of_epochs (sent_epochs x)) ≡ messages (edited x.steps) in subst T (sym h.1) (typed_messages s v))
-        | inr h ↦ absurd (v.apart (sym at ∙ ap (λ (x : RecordValue). x.node) h.1))
+        | inr h ↦ absurd (apart (sym at ∙ ap (λ (x : RecordValue). x.node) h.1))
       ];
 }
+
+-- without one there are no records and no pairs
+no_record : (s : NetState) → HasNoCall s → (i : ℕ) (r : RecordValue) → slice_get s.records i ≡ Some r → ⊥
+no_record s v i r e = empty s.records v.records_are i e
+  where
+    empty : (l : List RecordValue) → l ≡ [] → (i : ℕ) → slice_get l i ≡ Some r → ⊥
+    empty [] z zero e = absurd (cc)
+    empty [] z (suc i) e = absurd (cc)
+    empty (x ∷ xs) z i e = absurd (cc)
+
+no_pair : (s : NetState) → HasNoCall s → (i : ℕ) (p : PairValue) → slice_get s.pairs i ≡ Some p → ⊥
+no_pair s v i p e = empty s.pairs v.pairs_are i e
+  where
+    empty : (l : List PairValue) → l ≡ [] → (i : ℕ) → slice_get l i ≡ Some p → ⊥
+    empty [] z zero e = absurd (cc)
+    empty [] z (suc i) e = absurd (cc)
+    empty (x ∷ xs) z i e = absurd (cc)
+
+nothing_promised : (s : NetState) → HasNoCall s → Headline s
+nothing_promised s v = record {
+  pairs_hold = λ i pair at_pair. absurd (no_pair s v i pair at_pair);
+  numbers = λ i r e. absurd (no_record s v i r e);
+  in_one = λ i j p q number ep eq a b. absurd (no_pair s v i p ep);
+  took = λ i r e. absurd (no_record s v i r e);
+  typed = λ i r e at. absurd (no_record s v i r e);
+}
+
+pub promises : (F : Type 0) (s : NetState) → IsNet F s → F → Headline s
+promises F s n f = by n.call (n.served f)
+  where
+    by : (c : Calls s) → IsServed s.dte s.dce s.line (sent_of s c) (taken_of s c) (covered_of s c) → Headline s
+    by (stands v) served = promised s v n.apart served
+    by (none v) served = nothing_promised s v

@@ -1,15 +1,16 @@
 -- A run and one event more.
 use Rattle.std.proofs.Common.{◌≡◌, Bool, ℕ, zero, suc, ◌+◌, ◌<◌, List, [], ◌∷◌, ◌++◌, take, length, get_or, Option, Some, None, Result, Ok, Err, refl, sym, ap, ◌∙◌, subst, inl, inr, arith}
-use Rattle.std.specs.Prelude.{◌⊎◌, ◌==◌, ◌||◌, nat_lt, slice_get, true, false, if◌then◌else◌}
+use Rattle.std.specs.Prelude.{◌&&◌, ◌⊎◌, ◌==◌, ◌||◌, nat_lt, slice_get, true, false, if◌then◌else◌}
 use Rattle.std.proofs.lemmas.Option.{slice_get-get_or}
 use Rattle.line_sim.specs.declared.config.Config.{Config}
 use Rattle.line_sim.specs.declared.event.Event.{Event}
-use Rattle.line_sim.specs.declared.event.Event.TheVariants.{Key, Take, Deliver}
+use Rattle.line_sim.specs.declared.event.Event.TheVariants.{Key, Take, Deliver, Lose, Expire, Relink, Restart}
 use Rattle.line_sim.specs.declared.event.StepFault.{StepFault}
 use Rattle.line_sim.specs.declared.event.StepFault.TheVariants.{OutOfMemory, NoSuchNode, NoSuchTerminal, NoSuchCall}
 use Rattle.line_sim.specs.declared.event.Answer.{Answer}
 use Rattle.line_sim.specs.NetState.{NetState}
-use Rattle.line_sim.specs.Faults.{step_fault}
+use Rattle.line_sim.specs.Faults.{step_fault, is_host_at, is_node}
+use Rattle.line_sim.specs.NodeState.{is_pad}
 use Rattle.line_sim.specs.Steps.{StepOf}
 use Rattle.line_sim.specs.Plan.{IsMade}
 use Rattle.line_sim.specs.Runs.{Happens, Happened, Ran, HasRun, HasStopped}
@@ -45,22 +46,27 @@ run-more config events i d t u h run happens =
       ran = subst P (sym next) (ran-more (Unit {0}) (take i events) run.start t e u run.ran happens);
     }
 
+no-such : (a : Bool) → ◌≡◌ {A = Option StepFault} (if a then None else Some NoSuchNode) (Some OutOfMemory) → ⊥
+no-such true e = absurd (cc)
+no-such false e = absurd (cc)
+
 -- want of memory is no fault of an event
 not-memory : (e : Event) (s : NetState) → step_fault e s ≡ Some OutOfMemory → ⊥
-not-memory (Key node terminal octet) s e = by (node == s.pad_place) (nat_lt terminal s.terminals) e where
+not-memory (Key node terminal octet) s e = by ((node == s.dte_place) && is_pad s.dte) (nat_lt terminal s.terminals) e where
   by : (a b : Bool) → (if a then (if b then None else Some NoSuchTerminal) else Some NoSuchNode) ≡ Some OutOfMemory → ⊥
   by true true e = absurd (cc)
   by true false e = absurd (cc)
   by false b e = absurd (cc)
-not-memory (Take node channel) s e = by (node == s.host_place) ((channel == 0) || nat_lt s.channels channel) e where
+not-memory (Take node channel) s e = by (is_host_at node s) ((channel == 0) || nat_lt s.channels channel) e where
   by : (a b : Bool) → (if a then (if b then Some NoSuchCall else None) else Some NoSuchNode) ≡ Some OutOfMemory → ⊥
   by true true e = absurd (cc)
   by true false e = absurd (cc)
   by false b e = absurd (cc)
-not-memory (Deliver line direction) s e = by (line == 0) e where
-  by : (a : Bool) → (if a then None else Some NoSuchNode) ≡ Some OutOfMemory → ⊥
-  by true e = absurd (cc)
-  by false e = absurd (cc)
+not-memory (Deliver line direction) s e = no-such (line == 0) e
+not-memory (Lose line direction) s e = no-such (line == 0) e
+not-memory (Expire node line timer) s e = no-such (is_node node s && (line == 0)) e
+not-memory (Relink line) s e = no-such (line == 0) e
+not-memory (Restart node) s e = no-such (is_node node s) e
 
 -- where memory was wanting, the event has no fault
 pub wanting : (F : Type 0) (e : Event) (s : NetState) (r : Result Answer StepFault) (t : NetState) → Happens F e s r t → r ≡ Err OutOfMemory → step_fault e s ≡ None

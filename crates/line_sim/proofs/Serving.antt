@@ -1,305 +1,152 @@
--- A call that stands on a faithful line is kept by each thing that happens to it.
-use Rattle.std.proofs.Common.{◌≡◌, ◌≢◌, ℕ, zero, suc, ◌+◌, ◌-◌, ◌%◌, ◌<◌, ◌≤◌, Bool, true, false, List, [], ◌∷◌, ◌++◌, length, map, take, drop, Option, Some, None, Result, Ok, Err, refl, sym, ap, ◌∙◌, subst, inl, inr, arith, length-append, append_assoc}
-use Rattle.std.specs.Prelude.{◌⊎◌, nat_le, nat_lt, nat_eq, not, ◌&&◌, if◌then◌else◌, slice_get}
-use Rattle.std.proofs.lemmas.Bool.{le-leb, eq-eqb, ne_eqb}
-use Rattle.link_timers.specs.declared.role.Role.TheVariants.{Dte, Dce}
-use Rattle.frame_codec.specs.Frame.{FrameValue}
-use Rattle.frame_codec.specs.Spelling.{spelling, HasSpelling}
-use Rattle.frame_codec.specs.Reading.{reading}
-use Rattle.frame_codec.proofs.Grammar.{reading-spelling}
+-- A call of a node at its line, and what it puts there, keep the line with its two links and the call.
+use Rattle.std.proofs.Common.{◌≡◌, ℕ, zero, suc, ◌+◌, ◌<◌, ◌≤◌, Bool, true, false, List, [], ◌∷◌, ◌++◌, length, map, drop, Option, Some, None, refl, sym, ap, ◌∙◌, subst, inl, inr, arith, append_assoc}
+use Rattle.std.specs.Prelude.{◌⊎◌, ◌&&◌, ◌==◌, not, ◌%◌, nat_lt, if◌then◌else◌, slice_get}
+use Rattle.std.specs.Option.{option_to_list}
+use Rattle.std.proofs.lemmas.List.{append-nil}
+use Rattle.link_timers.specs.declared.timers.TimerId.{TimerId}
+use Rattle.lapb.specs.declared.note.Note.{Note}
+use Rattle.lapb.specs.Machine as machine
+use Rattle.lapb.specs.Machine.{Octets, Link, can_offer}
+use Rattle.lapb.specs.World as world
+use Rattle.lapb.specs.Octets.{on_octets}
+use Rattle.lapb.specs.Line.{chosen}
+use Rattle.line_end.specs.End.{End, without_frames, received, after_timer, timer_note, relinked, restarted, offered, settled}
 use Rattle.epochs.specs.Item.{DataPacket}
+use Rattle.line_sim.specs.declared.line.Direction.{Direction}
 use Rattle.line_sim.specs.declared.line.Direction.TheVariants.{FromDte, FromDce}
-use Rattle.line_sim.specs.Lines.{Flights, flying, with_flying, without_first, IsPut}
-use Rattle.line_sim.specs.Packets.{data_octets, ready_octets, Heard, Data, Ready, heard_packet}
-use Rattle.line_sim.specs.PlainLink.{PlainLink, Received, ahead, on_content, information, informed, acknowledgement, acknowledging, next_number}
-use Rattle.line_sim.specs.Gives.{Gives}
-use Rattle.line_sim.specs.PadState.{PadState, PadHears, pad_packet, pad_accepts, pad_receives, pad_frame, pad_hears, next_packet_number, pad_acknowledges, pad_out_of, pad_out}
-use Rattle.line_sim.specs.HostState.{HostState, host_packet, host_accepts, host_receives, host_frame, host_hears, host_takes, host_takes_of, host_gives, host_out}
-use Rattle.line_sim.specs.HalfLink.{HalfLink, AreSpelled, information_frame, ready_frame}
-use Rattle.line_sim.specs.Served.{numbered, AreShort, Covering, PacketNumbers, IsServed}
-use Rattle.line_sim.proofs.Halves.{hears, Hears, Takes, informs, informs_lost, acknowledges, tells, ahead-named}
-use Rattle.line_sim.proofs.Halves.Takes.{takes_none, takes_next}
-use Rattle.line_sim.proofs.Calls.{numbered-push, length-numbered, short-append, spelled-push, covering-push, covering-grow, covering-within, heard-data, heard-ready, data-fits, ready-fits, map-push}
+use Rattle.line_sim.specs.Lines.{Flights, flying, with_flying, IsPut}
+use Rattle.line_sim.specs.Sends.{ArePut}
+use Rattle.line_sim.specs.Linked.{Logs, HasLinks}
+use Rattle.line_sim.specs.Packets.{Heard, Data, Ready, Nothing, ready_octets, restart_octets, restart_cause, heard_packet}
+use Rattle.line_sim.specs.Turn.{NodeCall, Hears, Expires, Relinks, Restarts, Turn}
+use Rattle.line_sim.specs.PadState.{PadState, pad_call}
+use Rattle.line_sim.specs.HostState.{HostState, host_begins, is_due, host_offers, host_ends, host_closes, host_packet, host_accepts, host_told, host_expires, host_anew, host_call}
+use Rattle.line_sim.specs.Joined.{pad_part, host_part, Agrees}
+use Rattle.line_sim.proofs.Calls.{ready-fits}
+use Rattle.line_sim.proofs.Holding.{HeldDte, HeldDce, begins-dte, received-dte, relinked-dte, settled-dte, timed-dte, offered-dte, restarted-dte}
+use Rattle.line_sim.proofs.Calling.{TurnHeld, HostHeld, restart-fits, host_line, call-pad-hears, call-pad-expires, call-pad-relinks, call-pad-restarts, call-host-hears, call-host-expires, call-host-relinks, call-host-restarts}
 
--- the PAD accepts packets to be sent
-pub served-accepts : (p : PadState) (held : List ℕ) (h : HostState) (line : Flights) (sent taken more : List DataPacket) (covered : ℕ)
-    → AreShort more → IsServed p h line sent taken covered → IsServed (record p { held = held; queue = p.queue ++ more }) h line (sent ++ more) taken covered
-served-accepts p held h line sent taken more covered short i = record {
-  going = i.going;
-  ready = i.ready;
-  arrived = i.arrived;
-  up = i.up;
-  down = i.down;
-  up_is = i.up_is;
-  down_is = i.down_is;
-  up_spelled = i.up_spelled;
-  down_spelled = i.down_spelled;
-  sent_is = ap (λ l. l ++ more) i.sent_is ∙ append_assoc {A = DataPacket} ((taken ++ h.waiting) ++ i.going) p.queue more;
-  going_short = i.going_short;
-  queue_short = short-append p.queue more i.queue_short short;
-  numbers = i.numbers;
-  covering = i.covering;
-  onward = i.onward;
-  backward = i.backward;
-}
+-- ---- frames that are put
 
--- the host takes a packet
-pub served-takes : (p : PadState) (h : HostState) (line : Flights) (sent taken : List DataPacket) (covered : ℕ) (d : DataPacket) (ds : List DataPacket)
-    → h.waiting ≡ d ∷ ds → IsServed p h line sent taken covered
-    → IsServed p (record h { waiting = ds; released = (h.released + 1) % 8 }) line sent (taken ++ d ∷ []) covered
-served-takes p h line sent taken covered d ds e i =
-    let len : length (taken ++ d ∷ []) ≡ length taken + 1 = length-append taken (d ∷ []) in
-    let held : length h.waiting ≡ suc (length ds) = ap length e in
-    let same : length taken + length h.waiting ≡ length (taken ++ d ∷ []) + length ds = omega arith in
-    let n = i.numbers in
-    let a = n.outstanding_is in
-    let b = n.expected_is in
-    let c = n.released_is in
-    let P : ℕ → Type 0 = λ m. HalfLink p.link.size p.link.acked p.link.sent h.link.expected m (numbered m i.going) i.up i.down in
-    let moved : taken ++ h.waiting ≡ (taken ++ d ∷ []) ++ ds = ap (λ l. taken ++ l) e ∙ sym (append_assoc {A = DataPacket} taken (d ∷ []) ds) in
-    record {
-      going = i.going;
-      ready = i.ready;
-      arrived = i.arrived;
-      up = i.up;
-      down = i.down;
-      up_is = i.up_is;
-      down_is = i.down_is;
-      up_spelled = i.up_spelled;
-      down_spelled = i.down_spelled;
-      sent_is = i.sent_is ∙ ap (λ l. (l ++ i.going) ++ p.queue) moved;
-      going_short = i.going_short;
-      queue_short = i.queue_short;
-      numbers = record {
-        window_le = n.window_le;
-        same_window = n.same_window;
-        within = n.within;
-        covered_is = n.covered_is;
-        outstanding_is = omega arith;
-        expected_is = omega arith;
-        released_is = omega arith;
-      };
-      covering = covering-grow (length taken) (length (taken ++ d ∷ [])) covered i.ready (omega arith) i.covering;
-      onward = subst P same i.onward;
-      backward = i.backward;
-    }
-
--- A frame of the PAD is put: it flies behind the others, or is lost.
-pub served-pad-informs : (p : PadState) (h : HostState) (line line' : Flights) (sent taken : List DataPacket) (covered : ℕ) (d : DataPacket) (ds : List DataPacket)
-    → p.queue ≡ d ∷ ds → p.outstanding < p.window → p.link.sent < p.link.size
-    → IsPut FromDte (spelling Dte (information p.link (data_octets (next_packet_number p) d))) line line'
-    → IsServed p h line sent taken covered
-    → IsServed (record p { queue = ds; outstanding = p.outstanding + 1; link = informed p.link }) h line' sent taken covered
-served-pad-informs p h line line' sent taken covered d ds e window room put i =
-    let n = i.numbers in
-    let a = n.outstanding_is in
-    let b = n.covered_is in
-    let f : FrameValue = information p.link (data_octets (next_packet_number p) d) in
-    let short : AreShort (d ∷ ds) = (let P : List DataPacket → Type 0 = AreShort in subst P e i.queue_short) in
-    let len : length (i.going ++ d ∷ []) ≡ length i.going + 1 = length-append i.going (d ∷ []) in
-    let t : ℕ = length taken + length h.waiting in
-    let number : (p.covered + p.outstanding) % 8 ≡ (t + length i.going) % 8 = omega arith in
-    let pushed : numbered t i.going ++ data_octets (next_packet_number p) d ∷ [] ≡ numbered t (i.going ++ d ∷ []) = numbered-push t i.going d (next_packet_number p) number in
-    let expected = i.backward.expected_is in
-    let spelled : HasSpelling f = record { goes_as = refl; numbers = (omega arith, omega arith); fits = data-fits (next_packet_number p) d short.0 } in
-    let moved : sent ≡ ((taken ++ h.waiting) ++ i.going ++ d ∷ []) ++ ds =
-    i.sent_is ∙ ap (λ l. ((taken ++ h.waiting) ++ i.going) ++ l) e ∙ sym (append_assoc {A = DataPacket} ((taken ++ h.waiting) ++ i.going) (d ∷ []) ds) in
-    let regroup : ((taken ++ h.waiting) ++ i.going) ++ d ∷ [] ≡ (taken ++ h.waiting) ++ (i.going ++ d ∷ []) = append_assoc {A = DataPacket} (taken ++ h.waiting) i.going (d ∷ []) in
-    let numbers' : PacketNumbers p.window p.covered (p.outstanding + 1) h.window h.expected h.released covered (length taken) (length h.waiting) (length (i.going ++ d ∷ [])) = record {
-      window_le = n.window_le;
-      same_window = n.same_window;
-      within = omega arith;
-      covered_is = n.covered_is;
-      outstanding_is = omega arith;
-      expected_is = n.expected_is;
-      released_is = n.released_is;
-    } in
-    elim put [
-      | inl flies ↦
-          let P : List (List ℕ) → Type 0 = λ cs. HalfLink p.link.size p.link.acked (p.link.sent + 1) h.link.expected t cs (i.up ++ f ∷ []) i.down in
-          record {
-            going = i.going ++ d ∷ [];
-            ready = i.ready;
-            arrived = i.arrived;
-            up = i.up ++ f ∷ [];
-            down = i.down;
-            up_is = ap (λ (l : Flights). l.from_dte) flies ∙ ap (λ l. l ++ spelling Dte f ∷ []) i.up_is ∙ sym (map-push (spelling Dte) i.up f);
-            down_is = ap (λ (l : Flights). l.from_dce) flies ∙ i.down_is;
-            up_spelled = spelled-push i.up f i.up_spelled spelled;
-            down_spelled = i.down_spelled;
-            sent_is = moved ∙ ap (λ l. l ++ ds) regroup;
-            going_short = short-append i.going (d ∷ []) i.going_short (short.0, tt);
-            queue_short = short.1;
-            numbers = numbers';
-            covering = i.covering;
-            onward = subst P pushed (informs (data_octets (next_packet_number p) d) p.link.expected room i.onward);
-            backward = tells f refl i.backward;
-          }
-      | inr lost ↦
-          let P : List (List ℕ) → Type 0 = λ cs. HalfLink p.link.size p.link.acked (p.link.sent + 1) h.link.expected t cs i.up i.down in
-          record {
-            going = i.going ++ d ∷ [];
-            ready = i.ready;
-            arrived = i.arrived;
-            up = i.up;
-            down = i.down;
-            up_is = ap (λ (l : Flights). l.from_dte) lost ∙ i.up_is;
-            down_is = ap (λ (l : Flights). l.from_dce) lost ∙ i.down_is;
-            up_spelled = i.up_spelled;
-            down_spelled = i.down_spelled;
-            sent_is = moved ∙ ap (λ l. l ++ ds) regroup;
-            going_short = short-append i.going (d ∷ []) i.going_short (short.0, tt);
-            queue_short = short.1;
-            numbers = numbers';
-            covering = i.covering;
-            onward = subst P pushed (informs_lost (data_octets (next_packet_number p) d) room i.onward);
-            backward = i.backward;
-          }
+pub put-up : (frames : List Octets) (old new : Flights) → ArePut FromDte frames old new → (kept : List Bool) × (new.from_dte ≡ old.from_dte ++ chosen kept frames) × (new.from_dce ≡ old.from_dce)
+put-up [] old new e = ([], ap (λ (l : Flights). l.from_dte) e ∙ sym (append-nil old.from_dte), ap (λ (l : Flights). l.from_dce) e)
+put-up (x ∷ xs) old new e =
+    let r = put-up xs e.0 new e.2 in
+    elim e.1 [
+      | inl flies ↦ (
+        true ∷ r.0,
+        r.1 ∙ ap (λ (l : Flights). l.from_dte ++ chosen r.0 xs) flies ∙ append_assoc {A = Octets} old.from_dte (x ∷ []) (chosen r.0 xs),
+        r.2 ∙ ap (λ (l : Flights). l.from_dce) flies,
+      )
+      | inr lost ↦ (false ∷ r.0, r.1 ∙ ap (λ (l : Flights). l.from_dte ++ chosen r.0 xs) lost, r.2 ∙ ap (λ (l : Flights). l.from_dce) lost)
     ]
 
-pub served-pad-acknowledges : (p : PadState) (h : HostState) (line line' : Flights) (sent taken : List DataPacket) (covered : ℕ)
-    → IsPut FromDte (spelling Dte (acknowledgement p.link)) line line'
-    → IsServed p h line sent taken covered
-    → IsServed (record p { link = acknowledging p.link }) h line' sent taken covered
-served-pad-acknowledges p h line line' sent taken covered put i =
-    let f : FrameValue = acknowledgement p.link in
-    let expected = i.backward.expected_is in
-    let spelled : HasSpelling f = record { goes_as = tt; numbers = omega arith; fits = tt } in
-    elim put [
-      | inl flies ↦ record {
-        going = i.going;
-        ready = i.ready;
-        arrived = i.arrived;
-        up = i.up ++ f ∷ [];
-        down = i.down;
-        up_is = ap (λ (l : Flights). l.from_dte) flies ∙ ap (λ l. l ++ spelling Dte f ∷ []) i.up_is ∙ sym (map-push (spelling Dte) i.up f);
-        down_is = ap (λ (l : Flights). l.from_dce) flies ∙ i.down_is;
-        up_spelled = spelled-push i.up f i.up_spelled spelled;
-        down_spelled = i.down_spelled;
-        sent_is = i.sent_is;
-        going_short = i.going_short;
-        queue_short = i.queue_short;
-        numbers = i.numbers;
-        covering = i.covering;
-        onward = acknowledges p.link.expected i.onward;
-        backward = tells f refl i.backward;
-      }
-      | inr lost ↦ record {
-        going = i.going;
-        ready = i.ready;
-        arrived = i.arrived;
-        up = i.up;
-        down = i.down;
-        up_is = ap (λ (l : Flights). l.from_dte) lost ∙ i.up_is;
-        down_is = ap (λ (l : Flights). l.from_dce) lost ∙ i.down_is;
-        up_spelled = i.up_spelled;
-        down_spelled = i.down_spelled;
-        sent_is = i.sent_is;
-        going_short = i.going_short;
-        queue_short = i.queue_short;
-        numbers = i.numbers;
-        covering = i.covering;
-        onward = i.onward;
-        backward = i.backward;
-      }
+pub put-down : (frames : List Octets) (old new : Flights) → ArePut FromDce frames old new → (kept : List Bool) × (new.from_dce ≡ old.from_dce ++ chosen kept frames) × (new.from_dte ≡ old.from_dte)
+put-down [] old new e = ([], ap (λ (l : Flights). l.from_dce) e ∙ sym (append-nil old.from_dce), ap (λ (l : Flights). l.from_dte) e)
+put-down (x ∷ xs) old new e =
+    let r = put-down xs e.0 new e.2 in
+    elim e.1 [
+      | inl flies ↦ (
+        true ∷ r.0,
+        r.1 ∙ ap (λ (l : Flights). l.from_dce ++ chosen r.0 xs) flies ∙ append_assoc {A = Octets} old.from_dce (x ∷ []) (chosen r.0 xs),
+        r.2 ∙ ap (λ (l : Flights). l.from_dte) flies,
+      )
+      | inr lost ↦ (false ∷ r.0, r.1 ∙ ap (λ (l : Flights). l.from_dce ++ chosen r.0 xs) lost, r.2 ∙ ap (λ (l : Flights). l.from_dte) lost)
     ]
 
--- A frame of the host is put.
-pub served-host-informs : (p : PadState) (h : HostState) (line line' : Flights) (sent taken : List DataPacket) (covered : ℕ)
-    → h.link.sent < h.link.size
-    → IsPut FromDce (spelling Dce (information h.link (ready_octets h.released))) line line'
-    → IsServed p h line sent taken covered
-    → IsServed p (record h { told = h.released; link = informed h.link }) line' sent taken covered
-served-host-informs p h line line' sent taken covered room put i =
-    let n = i.numbers in
-    let r = n.released_is in
-    let f : FrameValue = information h.link (ready_octets h.released) in
-    let expected = i.onward.expected_is in
-    let spelled : HasSpelling f = record { goes_as = refl; numbers = (omega arith, omega arith); fits = ready-fits h.released } in
-    let Q : ℕ → Type 0 = λ k. Covering (length taken) covered (i.ready ++ ready_octets k ∷ []) in
-    let more : Covering (length taken) covered (i.ready ++ ready_octets h.released ∷ []) = subst Q (sym r) (covering-push (length taken) covered i.ready i.covering) in
-    elim put [
-      | inl flies ↦ record {
-        going = i.going;
-        ready = i.ready ++ ready_octets h.released ∷ [];
-        arrived = i.arrived;
-        up = i.up;
-        down = i.down ++ f ∷ [];
-        up_is = ap (λ (l : Flights). l.from_dte) flies ∙ i.up_is;
-        down_is = ap (λ (l : Flights). l.from_dce) flies ∙ ap (λ l. l ++ spelling Dce f ∷ []) i.down_is ∙ sym (map-push (spelling Dce) i.down f);
-        up_spelled = i.up_spelled;
-        down_spelled = spelled-push i.down f i.down_spelled spelled;
-        sent_is = i.sent_is;
-        going_short = i.going_short;
-        queue_short = i.queue_short;
-        numbers = i.numbers;
-        covering = more;
-        onward = tells f refl i.onward;
-        backward = informs (ready_octets h.released) h.link.expected room i.backward;
-      }
-      | inr lost ↦ record {
-        going = i.going;
-        ready = i.ready ++ ready_octets h.released ∷ [];
-        arrived = i.arrived;
-        up = i.up;
-        down = i.down;
-        up_is = ap (λ (l : Flights). l.from_dte) lost ∙ i.up_is;
-        down_is = ap (λ (l : Flights). l.from_dce) lost ∙ i.down_is;
-        up_spelled = i.up_spelled;
-        down_spelled = i.down_spelled;
-        sent_is = i.sent_is;
-        going_short = i.going_short;
-        queue_short = i.queue_short;
-        numbers = i.numbers;
-        covering = more;
-        onward = i.onward;
-        backward = informs_lost (ready_octets h.released) room i.backward;
-      }
-    ]
+pub put-dte : (P : Logs → Type 0) (e : End) (dce : Link) (before after : Flights) → ArePut FromDte e.frames before after → HeldDte P e dce before.from_dte before.from_dce
+    → (g : Logs) × HasLinks e.link dce after.from_dte after.from_dce g × P g
+put-dte P e dce before after puts held =
+    let k = put-up e.frames before after puts in
+    let x = held k.0 in
+    let U : List Octets → Type 0 = λ u. HasLinks e.link dce u before.from_dce x.0 in
+    let D : List Octets → Type 0 = λ d. HasLinks e.link dce after.from_dte d x.0 in
+    (x.0, subst D (sym k.2) (subst U (sym k.1) x.1), x.2)
 
-pub served-host-acknowledges : (p : PadState) (h : HostState) (line line' : Flights) (sent taken : List DataPacket) (covered : ℕ)
-    → IsPut FromDce (spelling Dce (acknowledgement h.link)) line line'
-    → IsServed p h line sent taken covered
-    → IsServed p (record h { link = acknowledging h.link }) line' sent taken covered
-served-host-acknowledges p h line line' sent taken covered put i =
-    let f : FrameValue = acknowledgement h.link in
-    let expected = i.onward.expected_is in
-    let spelled : HasSpelling f = record { goes_as = tt; numbers = omega arith; fits = tt } in
-    elim put [
-      | inl flies ↦ record {
-        going = i.going;
-        ready = i.ready;
-        arrived = i.arrived;
-        up = i.up;
-        down = i.down ++ f ∷ [];
-        up_is = ap (λ (l : Flights). l.from_dte) flies ∙ i.up_is;
-        down_is = ap (λ (l : Flights). l.from_dce) flies ∙ ap (λ l. l ++ spelling Dce f ∷ []) i.down_is ∙ sym (map-push (spelling Dce) i.down f);
-        up_spelled = i.up_spelled;
-        down_spelled = spelled-push i.down f i.down_spelled spelled;
-        sent_is = i.sent_is;
-        going_short = i.going_short;
-        queue_short = i.queue_short;
-        numbers = i.numbers;
-        covering = i.covering;
-        onward = tells f refl i.onward;
-        backward = acknowledges h.link.expected i.backward;
-      }
-      | inr lost ↦ record {
-        going = i.going;
-        ready = i.ready;
-        arrived = i.arrived;
-        up = i.up;
-        down = i.down;
-        up_is = ap (λ (l : Flights). l.from_dte) lost ∙ i.up_is;
-        down_is = ap (λ (l : Flights). l.from_dce) lost ∙ i.down_is;
-        up_spelled = i.up_spelled;
-        down_spelled = i.down_spelled;
-        sent_is = i.sent_is;
-        going_short = i.going_short;
-        queue_short = i.queue_short;
-        numbers = i.numbers;
-        covering = i.covering;
-        onward = i.onward;
-        backward = i.backward;
-      }
-    ]
+pub put-dce : (P : Logs → Type 0) (e : End) (dte : Link) (before after : Flights) → ArePut FromDce e.frames before after → HeldDce P e dte before.from_dte before.from_dce
+    → (g : Logs) × HasLinks dte e.link after.from_dte after.from_dce g × P g
+put-dce P e dte before after puts held =
+    let k = put-down e.frames before after puts in
+    let x = held k.0 in
+    let D : List Octets → Type 0 = λ d. HasLinks dte e.link before.from_dte d x.0 in
+    let U : List Octets → Type 0 = λ u. HasLinks dte e.link u after.from_dce x.0 in
+    (x.0, subst U (sym k.2) (subst D (sym k.1) x.1), x.2)
+
+-- ---- any call
+
+-- what is on the way to a node before a call, and on the way in a direction after it
+abbrev pub before_call : NodeCall → List Octets → List Octets
+before_call (Hears octets) flow = octets ∷ flow
+before_call call flow = flow
+
+abbrev pub left_by : NodeCall → List Octets → List Octets
+left_by Restarts flow = []
+left_by call flow = flow
+
+pub held-pad_call : (call : NodeCall) (p : PadState) (h : HostState) (dce : Link) (sent taken : List DataPacket) (covered : ℕ) (up down : List Octets) (g : Logs)
+    → Agrees g (pad_part p) (host_part h) sent taken covered → HasLinks p.line.link dce up (before_call call down) g
+    → TurnHeld (host_part h) dce sent taken covered (pad_call call p) (left_by call up) (left_by call down)
+held-pad_call (Hears octets) p h dce sent taken covered up down g a i = call-pad-hears p h dce sent taken covered up down g a octets i
+held-pad_call (Expires id) p h dce sent taken covered up down g a i = call-pad-expires p h dce sent taken covered up down g a id i
+held-pad_call Relinks p h dce sent taken covered up down g a i = call-pad-relinks p h dce sent taken covered up down g a i
+held-pad_call Restarts p h dce sent taken covered up down g a i = call-pad-restarts p h dce sent taken covered up down g a i
+
+pub held-host_call : (call : NodeCall) (p : PadState) (h : HostState) (dte : Link) (sent taken : List DataPacket) (covered : ℕ) (up down : List Octets) (g : Logs)
+    → Agrees g (pad_part p) (host_part h) sent taken covered → HasLinks dte h.line.link (before_call call up) down g
+    → HostHeld (pad_part p) dte sent taken covered (left_by call up) (left_by call down) (host_call call h).node
+held-host_call (Hears octets) p h dte sent taken covered up down g a i = call-host-hears p h dte sent taken covered up down g a octets i
+held-host_call (Expires id) p h dte sent taken covered up down g a i = call-host-expires p h dte sent taken covered up down g a id i
+held-host_call Relinks p h dte sent taken covered up down g a i = call-host-relinks p h dte sent taken covered up down g a i
+held-host_call Restarts p h dte sent taken covered up down g a i = call-host-restarts p h dte sent taken covered up down g a i
+
+abbrev line_in : HostState → End
+line_in h = h.line
+
+abbrev turn_line : Turn HostState → End
+turn_line t = t.node.line
+
+-- ---- a host at the DTE, on a line without a call: P holds of all lists
+module _ (P : Logs → Type 0) (all : (g f : Logs) → P g → P f) (dce : Link) (up : List Octets) where
+  free-offers : (h : HostState) (down : List Octets) → HeldDte P h.line dce up down → HeldDte P (host_offers h).line dce up down
+  free-offers h down held = by (is_due h && can_offer h.line.link)
+    where
+      by : (b : Bool) → HeldDte P (line_in (if b then record h { told = h.released; line = offered h.line (ready_octets h.released) } else h)) dce up down
+      by true = offered-dte h.line dce up P P down (ready_octets h.released) (ready-fits h.released) (λ g a. all g _ a) held
+      by false = held
+
+  free-ends : (h : HostState) (down : List Octets) → HeldDte P h.line dce up down → HeldDte P (host_ends h).line dce up down
+  free-ends h down held = settled-dte (host_offers h).line dce up P down (free-offers h down held)
+
+  free-told : (n : Note) (o : Option Octets) (h : HostState) (down : List Octets) → HeldDte P h.line dce up down → HeldDte P (host_told n o h).node.line dce up down
+  free-told Note.Nothing None h down held = held
+  free-told Note.Nothing (Some packet) h down held = by h.stands
+    where
+      by : (b : Bool) → HeldDte P (line_in (if b then host_packet h (heard_packet packet) else h)) dce up down
+      by true = let L : End → Type 0 = λ l. HeldDte P l dce up down in subst L (sym (host_line h (heard_packet packet))) held
+      by false = held
+  free-told Note.Down o h down held = held
+  free-told Note.Up o h down held =
+      offered-dte h.line dce up P P down (restart_octets (restart_cause h.line.link.role)) (restart-fits (restart_cause h.line.link.role)) (λ g a. all g _ a) held
+
+pub held-free_call : (call : NodeCall) (P : Logs → Type 0) → ((g f : Logs) → P g → P f) → (h : HostState) (dce : Link) (up down : List Octets) (g : Logs)
+    → P g → HasLinks h.line.link dce up (before_call call down) g
+    → HeldDte P (host_call call h).node.line dce (left_by call up) (left_by call down)
+held-free_call (Hears octets) P all h dce up down g a i =
+    free-ends P all dce up (host_told (on_octets h.line.link octets).note (on_octets h.line.link octets).accepted (record h { line = received (host_begins h).line octets })).node down
+    (free-told P all dce up (on_octets h.line.link octets).note (on_octets h.line.link octets).accepted (record h { line = received (host_begins h).line octets }) down
+    (received-dte (host_begins h).line dce up P P down octets (λ g f t a. all g f a) (begins-dte h.line dce up P (octets ∷ down) g i a)))
+held-free_call (Expires id) P all h dce up down g a i = by (timer_note (host_begins h).line id)
+  where
+    by : (n : Option Note) → HeldDte P (turn_line (host_expires id n (host_begins h))) dce up down
+    by None = begins-dte h.line dce up P down g i a
+    by (Some n) =
+        free-ends P all dce up (host_told n None (record h { line = after_timer (host_begins h).line id })).node down
+        (free-told P all dce up n None (record h { line = after_timer (host_begins h).line id }) down
+        (timed-dte (host_begins h).line dce up P down id (begins-dte h.line dce up P down g i a)))
+held-free_call Relinks P all h dce up down g a i =
+    free-ends P all dce up (host_told (machine.relink h.line.link).note None (record h { line = relinked (host_begins h).line })).node down
+    (free-told P all dce up (machine.relink h.line.link).note None (record h { line = relinked (host_begins h).line }) down
+    (relinked-dte (host_begins h).line dce up P down (begins-dte h.line dce up P down g i a)))
+held-free_call Restarts P all h dce up down g a i =
+    free-ends P all dce [] (host_anew (host_begins h)) []
+    (restarted-dte P (host_begins h).line dce up down (begins-dte h.line dce up P down g i a))

@@ -16,8 +16,8 @@ pub record PairMatches (caller callee : RecordValue) : Type 0 where
 -- that no switch joined knows no far address, and a standing call has no address
 pub record PairIsRight (s : NetState) (caller callee : RecordValue) : Type 0 where
   pub order : caller.number < callee.number
-  pub caller_node : caller.node ≡ s.pad_place
-  pub callee_node : callee.node ≡ s.host_place
+  pub caller_node : caller.node ≡ s.dte_place
+  pub callee_node : callee.node ≡ s.dce_place
   pub address : callee.own ≡ caller.far
   pub far : callee.far ≡ None
   pub standing_own : caller.own ≡ None
@@ -62,5 +62,5 @@ pub record Headline (s : NetState) : Type 0 where
   pub took : (n : ℕ) (r : RecordValue) → slice_get s.records n ≡ Some r
       → TookNothing (taken_epochs r) ⊎ ((i : ℕ) × (p : PairValue) × (slice_get s.pairs i ≡ Some p) × IsIn p n)
   -- the user items of a PAD's record are, for each block that its editing rules make of the keys, its octets and an end
-  pub typed : (n : ℕ) (r : RecordValue) → slice_get s.records n ≡ Some r → r.node ≡ s.pad_place
+  pub typed : (n : ℕ) (r : RecordValue) → slice_get s.records n ≡ Some r → r.node ≡ s.dte_place
       → user_items (items_of_epochs (sent_epochs r)) ≡ messages (edited r.steps)

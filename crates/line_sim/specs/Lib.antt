@@ -1,14 +1,10 @@
 pub mod Lines
 pub mod Packets
 pub mod HeardView
-pub mod PlainLink
-pub mod PlainLinkView
-pub mod HalfLink
-pub mod Served
-pub mod IsNet
-pub mod Gives
+pub mod Turn
 pub mod PadState
 pub mod HostState
+pub mod NodeState
 pub mod NodeViews
 pub mod KeyResultView
 pub mod Sends
@@ -21,4 +17,7 @@ pub mod Runs
 pub mod Headline
 pub mod Plan
 pub mod PlanView
+pub mod Linked
+pub mod Joined
+pub mod IsNet
 pub mod ServedBy

@@ -2,7 +2,9 @@
 use Rattle.std.specs.Prelude.{ℕ, ◌<◌, ◌==◌, List, Result, Ok, Err, if◌then◌else◌}
 use Rattle.epochs.specs.Item.{DataPacket}
 use Rattle.packet_codec.specs.declared.fault.PacketFault.{PacketFault}
-use Rattle.packet_codec.specs.Packet.{PacketValue, ContentValue, Data as DataContent, ReceiveReady, DataValue, spelling}
+use Rattle.link_timers.specs.declared.role.Role.{Role}
+use Rattle.link_timers.specs.declared.role.Role.TheVariants.{Dte, Dce}
+use Rattle.packet_codec.specs.Packet.{PacketValue, ContentValue, Data as DataContent, ReceiveReady, RestartRequest, DataValue, spelling}
 use Rattle.packet_codec.specs.Reading.{reading}
 
 -- a Data packet with this P(S); the PAD takes no packets, so that its P(R) is 0
@@ -28,6 +30,17 @@ ready_value receive = record { channel = 1; content = ReceiveReady receive }
 
 abbrev pub ready_octets : ℕ → List ℕ
 ready_octets receive = spelling (ready_value receive)
+
+-- Restart Request and Indication, with diagnostic 0: a DTE sends cause 0, a DCE cause 7
+abbrev pub restart_value : (cause : ℕ) → PacketValue
+restart_value cause = record { channel = 0; content = RestartRequest cause 0 }
+
+abbrev pub restart_octets : (cause : ℕ) → List ℕ
+restart_octets cause = spelling (restart_value cause)
+
+abbrev pub restart_cause : Role → ℕ
+restart_cause Dte = 0
+restart_cause Dce = 7
 
 -- what a packet that came says to a private node: a Data packet with its P(S), RR with its P(R), or nothing
 pub data Heard : Type 0 where

@@ -1,5 +1,5 @@
--- Which networks are served: one PAD, one host, and between them one line on which a call stands.
-use Rattle.std.specs.Prelude.{◌≡◌, ℕ, ◌==◌, ◌&&◌, not, Bool, List, [], ◌∷◌, length, Option, Some, None, option_and_then, nat_le, nat_eq, if◌then◌else◌, string_bytes}
+-- Which networks are served: one line between a PAD or a host, as DTE, and a host, as DCE; a call may stand on the line of a PAD.
+use Rattle.std.specs.Prelude.{true, false, ◌≡◌, ℕ, ◌==◌, ◌&&◌, not, Bool, List, [], ◌∷◌, length, Option, Some, None, option_and_then, nat_le, nat_eq, if◌then◌else◌, string_bytes}
 use Rattle.std.specs.Cmp.Lexicographic.{pointwise}
 use Rattle.x3_params.specs.Table.{profile_values}
 use Rattle.x3_params.specs.Values.{fault_of, with_value}
@@ -13,43 +13,47 @@ use Rattle.line_sim.specs.declared.config.LineConfig.{LineConfig}
 use Rattle.line_sim.specs.declared.config.RouteConfig.{RouteConfig}
 use Rattle.line_sim.specs.declared.config.Setting.{Setting}
 use Rattle.line_sim.specs.Lines.{Flights, no_flights}
-use Rattle.line_sim.specs.Records.{standing_record}
-use Rattle.line_sim.specs.PadState.{new_pad}
-use Rattle.line_sim.specs.HostState.{new_host}
+use Rattle.line_sim.specs.Records.{RecordValue, PairValue, standing_record, standing_pair}
+use Rattle.link_timers.specs.declared.role.Role.TheVariants.{Dte, Dce}
+use Rattle.line_sim.specs.declared.line.Direction.TheVariants.{FromDte, FromDce}
+use Rattle.line_sim.specs.PadState.{new_pad, pad_begins}
+use Rattle.line_sim.specs.HostState.{HostState, new_host, host_begins}
+use Rattle.line_sim.specs.NodeState.{NodeState, Pad, Host, frames_of, drained}
+use Rattle.line_sim.specs.Sends.{ArePut}
 use Rattle.line_sim.specs.NetState.{NetState}
-use Rattle.line_sim.specs.IsNet.{standing_pair}
 
--- what a network is made with: the places of its nodes, how many terminals and channels there are, the initial parameters, the
--- window size and k
+-- what the DTE is made with: a PAD with so many terminals and these initial parameters, or a host
+pub data DtePlan : Type 0 where
+  PadPlan : (terminals : ℕ) → (params : List ℕ) → DtePlan
+  HostPlan : DtePlan
+
+-- what a network is made with: the places of its nodes, the DTE, how many channels there are, the window size, the link's k and
+-- n2, and whether the call stands
 pub record Plan : Type 0 where
-  pub pad_place : ℕ
-  pub host_place : ℕ
-  pub terminals : ℕ
+  pub dte_place : ℕ
+  pub dce_place : ℕ
+  pub dte : DtePlan
   pub channels : ℕ
-  pub params : List ℕ
   pub window : ℕ
-  pub size : ℕ
+  pub k : ℕ
+  pub n2 : ℕ
+  pub standing : Bool
 
 abbrev pub is_from : ℕ → ℕ → ℕ → Bool
 is_from a b n = nat_le a n && nat_le n b
 
--- the limits: 1 to 16 terminals, 1 to 32 channels, a window of 1 to 7, k of 1 to 7 and n2 of 1 to 20
-abbrev pub is_within : PadConfig → LineConfig → Bool
-is_within p l =
-    is_from 1 16 p.terminals && is_from 1 32 l.channels && is_from 1 7 l.window && is_from 1 7 l.k && is_from 1 20 l.n2
-
--- a call stands on the line, which has no address
-abbrev pub is_standing : LineConfig → Bool
-is_standing l = l.standing && (length (string_bytes l.address) == 0)
+-- the limits: 1 to 32 channels, a window of 1 to 7, k of 1 to 7 and n2 of 1 to 20; no address
+abbrev pub is_within : LineConfig → Bool
+is_within l =
+    is_from 1 32 l.channels && is_from 1 7 l.window && is_from 1 7 l.k && is_from 1 20 l.n2 && (length (string_bytes l.address) == 0)
 
 -- two texts are the same
 abbrev pub same_text : List ℕ → List ℕ → Bool
 same_text = pointwise nat_eq
 
--- the line joins the PAD of this name, as DTE, and the host of another name
-abbrev pub joins : LineConfig → (pad host : List ℕ) → Bool
-joins l pad host =
-    not (same_text pad host) && same_text (string_bytes l.dte) pad && same_text (string_bytes l.dce) host
+-- the line joins a node of this name, as DTE, and one of another name
+abbrev pub joins : LineConfig → (dte dce : List ℕ) → Bool
+joins l dte dce = not (same_text dte dce) && same_text (string_bytes l.dte) dte && same_text (string_bytes l.dce) dce
 
 -- the parameters with one more set, unless it is refused
 abbrev pub set_one : Option ParamFault → List ℕ → Setting → Option (List ℕ)
@@ -65,55 +69,96 @@ set_all params (s ∷ settings) = option_and_then (λ more. set_all more setting
 abbrev pub params_of : PadConfig → Option (List ℕ)
 params_of p = if nat_le p.speed 255 then set_all (profile_values p.profile p.speed) p.settings.items else None
 
-abbrev pub planned : (pad_place host_place : ℕ) → PadConfig → LineConfig → List ℕ → Plan
-planned pad_place host_place p l params = record {
-  pad_place = pad_place;
-  host_place = host_place;
-  terminals = p.terminals;
+-- what the DTE is made with: a PAD of 1 to 16 terminals, or a host, whose line has no standing call
+abbrev pub plan_dte : (standing : Bool) → NodeKind → Option DtePlan
+plan_dte standing (node_kind.Pad p) =
+    if is_from 1 16 p.terminals then option_and_then (λ params. Some (PadPlan p.terminals params)) (params_of p) else None
+plan_dte standing node_kind.Host = if standing then None else Some HostPlan
+plan_dte standing node_kind.Switch = None
+
+abbrev pub is_host : NodeKind → Bool
+is_host node_kind.Host = true
+is_host _ = false
+
+abbrev pub planned : (dte_place dce_place : ℕ) → LineConfig → DtePlan → Plan
+planned dte_place dce_place l dte = record {
+  dte_place = dte_place;
+  dce_place = dce_place;
+  dte = dte;
   channels = l.channels;
-  params = params;
   window = l.window;
-  size = l.k;
+  k = l.k;
+  n2 = l.n2;
+  standing = l.standing;
 }
 
-abbrev pub plan_line : (pad_place host_place : ℕ) → (pad host : List ℕ) → PadConfig → LineConfig → Option Plan
-plan_line pad_place host_place pad host p l =
-    if joins l pad host && is_standing l && is_within p l
-    then option_and_then (λ params. Some (planned pad_place host_place p l params)) (params_of p)
+abbrev pub plan_line : (dte_place dce_place : ℕ) → (dte dce : NodeKind) → LineConfig → Option Plan
+plan_line dte_place dce_place dte dce l =
+    if is_host dce && is_within l
+    then option_and_then (λ end. Some (planned dte_place dce_place l end)) (plan_dte l.standing dte)
     else None
 
--- the PAD and the host may stand in either order
-abbrev pub plan_nodes : NodeConfig → NodeConfig → NodeKind → NodeKind → LineConfig → Option Plan
-plan_nodes a b (node_kind.Pad p) node_kind.Host l = plan_line 0 1 (string_bytes a.name) (string_bytes b.name) p l
-plan_nodes a b node_kind.Host (node_kind.Pad p) l = plan_line 1 0 (string_bytes b.name) (string_bytes a.name) p l
-plan_nodes a b _ _ l = None
+-- the DTE and the DCE may stand in either order
+abbrev pub plan_nodes : NodeConfig → NodeConfig → LineConfig → Option Plan
+plan_nodes a b l =
+    if joins l (string_bytes a.name) (string_bytes b.name) then plan_line 0 1 a.kind b.kind l
+    else if joins l (string_bytes b.name) (string_bytes a.name) then plan_line 1 0 b.kind a.kind l
+    else None
 
 abbrev pub plan_lists : List NodeConfig → List LineConfig → List RouteConfig → Option Plan
-plan_lists (a ∷ b ∷ []) (l ∷ []) [] = plan_nodes a b a.kind b.kind l
+plan_lists (a ∷ b ∷ []) (l ∷ []) [] = plan_nodes a b l
 plan_lists _ _ _ = None
 
 -- what the network is made with, if it is served
 abbrev pub plan_of : Config → Option Plan
 plan_of c = plan_lists c.nodes.items c.lines.items c.routes.items
 
--- the network at the making
+abbrev pub terminals_of : DtePlan → ℕ
+terminals_of (PadPlan terminals params) = terminals
+terminals_of HostPlan = 0
+
+-- the nodes as they are made, with the frames that they have to send
+abbrev pub dte_of : DtePlan → (window k n2 : ℕ) → (standing : Bool) → NodeState
+dte_of (PadPlan terminals params) window k n2 standing = Pad (new_pad params window k n2 standing)
+dte_of HostPlan window k n2 standing = Host (new_host Dte window k n2 standing)
+
+abbrev pub new_dte : Plan → NodeState
+new_dte plan = dte_of plan.dte plan.window plan.k plan.n2 plan.standing
+
+abbrev pub new_dce : Plan → HostState
+new_dce plan = new_host Dce plan.window plan.k plan.n2 plan.standing
+
+-- the records and the pair of a standing call
+abbrev pub first_records : Plan → List RecordValue
+first_records plan = if plan.standing then standing_record 0 plan.dte_place ∷ standing_record 1 plan.dce_place ∷ [] else []
+
+abbrev pub first_pairs : Plan → List PairValue
+first_pairs plan = if plan.standing then standing_pair ∷ [] else []
+
+-- the network at the making, whose line is empty
 abbrev pub opening : Plan → NetState
 opening plan = record {
-  pad_place = plan.pad_place;
-  host_place = plan.host_place;
-  terminals = plan.terminals;
+  dte_place = plan.dte_place;
+  dce_place = plan.dce_place;
+  terminals = terminals_of plan.dte;
   channels = plan.channels;
-  pad = new_pad plan.params plan.window plan.size;
-  host = new_host plan.window plan.size;
+  dte = drained (new_dte plan);
+  dce = host_begins (new_dce plan);
   line = no_flights;
-  records = standing_record 0 plan.pad_place ∷ standing_record 1 plan.host_place ∷ [];
-  pairs = standing_pair ∷ [];
+  records = first_records plan;
+  pairs = first_pairs plan;
 }
 
--- the network is one as it is made by this configuration; a faithful line is empty then
+-- the frames with which the ends begin are put on an empty line, first those of the DTE
+pub record IsBegun (plan : Plan) (line : Flights) : Type 0 where
+  pub between : Flights
+  pub dte : ArePut FromDte (frames_of (new_dte plan)) no_flights between
+  pub dce : ArePut FromDce (new_dce plan).line.frames between line
+
+-- the network is one as it is made by this configuration
 pub record IsMade (F : Type 0) (config : Config) (net : NetState) : Type 0 where
   pub plan : Plan
   pub line : Flights
   pub planned_so : plan_of config ≡ Some plan
   pub state : net ≡ record (opening plan) { line = line }
-  pub empty : F → line ≡ no_flights
+  pub begun : F → IsBegun plan line

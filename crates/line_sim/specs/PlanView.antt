@@ -1,21 +1,35 @@
 -- What the code's plan is in the rules.
-use Rattle.std.specs.Prelude.{◌≢◌, ℕ, ◌≤◌}
-use Rattle.line_sim.specs.Plan.{Plan}
+use Rattle.std.specs.Prelude.{◌≢◌, ℕ, ◌≤◌, Bool, false, ◌≡◌}
+use Rattle.lapb.specs.Params.{AreParams}
+use Rattle.line_sim.specs.Plan as plan
 use Rattle.line_sim.specs.declared.plan.Plan.{Plan as PlanCode}
+use Rattle.line_sim.specs.declared.plan.DtePlan.{DtePlan as DteCode}
+use Rattle.line_sim.specs.declared.plan.DtePlan.TheVariants as dte_is
 
-abbrev pub plan_value : PlanCode → Plan
+abbrev pub dte_value : DteCode → plan.DtePlan
+dte_value (dte_is.Pad terminals params) = plan.PadPlan terminals params
+dte_value dte_is.Host = plan.HostPlan
+
+abbrev pub plan_value : PlanCode → plan.Plan
 plan_value p = record {
-  pad_place = p.pad_place;
-  host_place = p.host_place;
-  terminals = p.terminals;
+  dte_place = p.dte_place;
+  dce_place = p.dce_place;
+  dte = dte_value p.dte;
   channels = p.channels;
-  params = p.params;
   window = p.window;
-  size = p.k;
+  k = p.link.k;
+  n2 = p.link.n2;
+  standing = p.link.standing;
 }
 
--- the window size and k are at most 7, and the nodes stand at two places
+-- the call of a host at the DTE does not stand
+abbrev pub CanStand : DteCode → (standing : Bool) → Type 0
+CanStand (dte_is.Pad terminals params) standing = Unit {0}
+CanStand dte_is.Host standing = standing ≡ false
+
+-- the window size is at most 7, k and n2 are in their ranges, and the nodes stand at two places
 pub record IsLimited (p : PlanCode) : Type 0 where
   pub window : p.window ≤ 7
-  pub k : p.k ≤ 7
-  pub apart : p.pad_place ≢ p.host_place
+  pub params : AreParams p.link.k p.link.n2
+  pub apart : p.dte_place ≢ p.dce_place
+  pub stands : CanStand p.dte p.link.standing

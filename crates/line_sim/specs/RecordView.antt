@@ -1,5 +1,5 @@
 -- What the code's records show.
-use Rattle.std.specs.Prelude.{ℕ, ◌<◌, List, map, vec_len, vec_capacity}
+use Rattle.std.specs.Prelude.{ℕ, zero, suc, ◌+◌, ◌≤◌, ◌<◌, List, [], ◌∷◌, map, vec_len, vec_capacity}
 use Rattle.epochs.specs.Epoch.{SentEpoch as Sent, TakenEpoch as Taken}
 use Rattle.pad_editing.specs.Edited.{Step, key}
 use Rattle.line_sim.specs.Records.{RecordValue, PairValue}
@@ -45,3 +45,9 @@ pub record HasSendRoom (r : Record) : Type 0 where
 
 pub record HasTakeRoom (r : Record) : Type 0 where
   pub room : vec_len r.taken.packets < vec_capacity r.taken.packets
+
+-- so many packets more can be covered in the record at this place, if there is one
+abbrev pub CoversFit : (place covers : ℕ) → List Record → Type 0
+CoversFit place covers [] = Unit {0}
+CoversFit zero covers (r ∷ rs) = r.sent.covered + covers ≤ vec_len r.sent.packets
+CoversFit (suc place) covers (r ∷ rs) = CoversFit place covers rs

@@ -1,5 +1,5 @@
 -- What the network keeps of each end's part in a call, and which two of these make a call.
-use Rattle.std.specs.Prelude.{ℕ, ◌+◌, Bool, false, List, [], ◌∷◌, ◌++◌, map, Option, None}
+use Rattle.std.specs.Prelude.{ℕ, zero, suc, ◌+◌, ◌||◌, Bool, false, List, [], ◌∷◌, ◌++◌, map, Option, None}
 use Rattle.epochs.specs.Item.{DataPacket}
 use Rattle.epochs.specs.Epoch.{nothing_sent, nothing_taken, Epoch, SentEpoch, TakenEpoch, sent_epoch, taken_epoch}
 use Rattle.pad_editing.specs.Edited.{Step}
@@ -45,6 +45,10 @@ standing_record number node = record {
   steps = [];
 }
 
+-- the pair of a standing call
+abbrev pub standing_pair : PairValue
+standing_pair = record { caller = 0; callee = 1 }
+
 -- with a step of editing, with a packet accepted to be sent, with a packet taken and released, and with n packets more covered
 abbrev pub with_step : Step → RecordValue → RecordValue
 with_step step r = record r { steps = r.steps ++ step ∷ [] }
@@ -59,3 +63,17 @@ with_taken packet r = record r {
 
 abbrev pub with_covered : ℕ → RecordValue → RecordValue
 with_covered n r = record r { sent = record r.sent { covered = r.sent.covered + n } }
+
+-- closed, where the call is over for this end
+abbrev pub with_closed : Bool → RecordValue → RecordValue
+with_closed closes r = record r { closed = r.closed || closes }
+
+-- with what a call of its node covered and closed
+abbrev pub with_turn : (covers : ℕ) → (closes : Bool) → RecordValue → RecordValue
+with_turn covers closes r = with_closed closes (with_covered covers r)
+
+-- the records with a change at a place, if there is a record
+abbrev pub changed_at : ℕ → (RecordValue → RecordValue) → List RecordValue → List RecordValue
+changed_at place change [] = []
+changed_at zero change (r ∷ rs) = change r ∷ rs
+changed_at (suc place) change (r ∷ rs) = r ∷ changed_at place change rs

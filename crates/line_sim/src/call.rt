@@ -1,9 +1,14 @@
-//! The packets of a standing call, as the private nodes write and read them.
-ghost use Rattle.std.specs.Prelude.{◌≡◌, ◌<◌, ◌≤◌, length};
-ghost use Rattle.line_sim.specs.Packets.{data_octets, ready_octets, heard_packet, HasLowNumber};
+//! The packets of a standing call, as the private nodes write and read them, and the Restart that begins a session.
+ghost use Rattle.std.specs.Prelude.{◌≡◌, ◌<◌, ◌≤◌, length, true, false};
+ghost use Rattle.std.specs.Bool.{OnTrue, OnFalse};
+ghost use Rattle.lapb.specs.Machine.{can_offer};
+ghost use Rattle.line_end.specs.End.{offered};
+ghost use Rattle.line_sim.specs.Packets.{data_octets, ready_octets, restart_octets, restart_cause, heard_packet, HasLowNumber};
 ghost use Rattle.line_sim.specs.HeardView.{heard_of};
 
 use crate::packet::UserPacket;
+use line_end::LineEnd;
+use link_timers::Role;
 use packet_codec::{Content, DataPacket, Numbering, Packet, PacketBuf, read_packet, write_packet};
 
 /// The logical channel of the standing call.
@@ -51,6 +56,36 @@ pub(crate) fn write_ready(receive: u8, out: &mut PacketBuf)
     };
     write_packet(&written, out);
     let _ = out.as_slice();
+}
+
+/// Writes the Restart of an end of this role (X.25 5.5.1).
+pub(crate) fn write_restart(role: Role, out: &mut PacketBuf)
+    ensures octets { out.new.items ≡ restart_octets (restart_cause role) }
+    ensures fits { length out.new.items ≤ 145 }
+{
+    let cause = match role {
+        Role::Dte => 0,
+        Role::Dce => 7,
+    };
+    let written = Packet {
+        channel: 0,
+        content: Content::RestartRequest {
+            cause,
+            diagnostic: 0,
+        },
+    };
+    write_packet(&written, out);
+    let _ = out.as_slice();
+}
+
+/// Offers a packet to the link, and says whether it took it.
+pub(crate) fn offer_packet(line: &mut LineEnd, packet: &[u8]) -> bool
+    requires { length packet.now ≤ 145 }
+    ensures line { line.new ≡ offered line.old packet.now }
+    ensures result { result ≡ can_offer line.old.link }
+    ensures same { OnFalse result (line.new ≡ line.old) }
+{
+    line.offer(packet).is_ok()
 }
 
 /// Reads a packet that came.

@@ -2,6 +2,7 @@
 use crate::line::Direction;
 use crate::packet::Taken;
 use frame_codec::FrameBuf;
+use link_timers::TimerId;
 use std::alloc::AllocError;
 use thiserror::Error;
 
@@ -25,6 +26,25 @@ pub enum Event {
         line: usize,
         direction: Direction,
     },
+    /// The first frame in flight in this direction is lost.
+    Lose {
+        line: usize,
+        direction: Direction,
+    },
+    /// A timer of a node's end of a line expires. Where it does not run nothing happens.
+    Expire {
+        node: usize,
+        line: usize,
+        timer: TimerId,
+    },
+    /// The DTE gives the link of a line up and sets it up again.
+    Relink {
+        line: usize,
+    },
+    /// A node begins anew, and its lines lose all frames in flight.
+    Restart {
+        node: usize,
+    },
 }
 
 /// Whether a PAD took a key, or dropped it since it would end a block and the send queue is full.
@@ -43,6 +63,8 @@ pub enum Outcome {
     Keyed(KeyAnswer),
     /// What a host took, if anything waited.
     Took(Option<Taken>),
+    /// Nothing besides frames and notes.
+    Done,
 }
 
 /// A frame that was put on a line.
@@ -53,10 +75,23 @@ pub struct Put {
     pub octets: FrameBuf,
 }
 
-/// The answer to an event: each frame that was put, in order, and the outcome.
+/// What a host notes of a call.
+#[derive(Clone, Copy, Debug, PartialEq, Eq)]
+pub enum HostNote {
+    /// The call is over, for this cause and diagnostic (X.25 5.2.4).
+    Cleared {
+        node: usize,
+        channel: u16,
+        cause: u8,
+        diagnostic: u8,
+    },
+}
+
+/// The answer to an event: each frame that was put, in order, what a host noted, and the outcome.
 #[derive(Drop)]
 pub struct Answer {
     pub frames: Vec<Put>,
+    pub notes: Vec<HostNote>,
     pub outcome: Outcome,
 }
 

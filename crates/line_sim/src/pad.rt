@@ -1,21 +1,26 @@
 //! The private PAD of a standing call: keys become blocks, and each block a Data packet.
-ghost use Rattle.std.specs.Prelude.{◌≡◌, ◌+◌, ◌<◌, ◌≤◌, Some, None, is_some, IfOk, true, [], length};
+ghost use Rattle.line_sim.specs.Sends.{Sends};
+ghost use Rattle.std.specs.Prelude.{vec_capacity, ◌≡◌, ◌+◌, ◌<◌, ◌≤◌, Some, None, is_some, IfOk, true, [], length, option_copied};
 ghost use Rattle.std.specs.Bool.{OnTrue, OnFalse};
 ghost use Rattle.line_sim.specs.HeardView.{heard_of};
-ghost use Rattle.line_sim.specs.PadState.{new_pad, pad_rests, pad_key, pad_hears, pad_packet, pad_out, next_packet_number, does_nothing, typed, pad_frames_left};
+ghost use Rattle.line_sim.specs.Packets.{HasLowNumber};
+ghost use Rattle.lapb.specs.Machine.{ahead};
+ghost use Rattle.line_sim.specs.NodeViews.{call_of};
+ghost use Rattle.line_sim.specs.PadState.{PadState, pad_begins, pad_offers, pad_ends, edited_by, pad_key, does_nothing, is_character, typed, pad_closes, pad_noted, pad_packet, pad_accepts, pad_told, pad_hears, pad_expires, pad_relinks, pad_turn_ends, pad_anew, pad_called, pad_call, pad_rests};
 ghost use Rattle.line_sim.specs.KeyResultView.{IsKeyResult};
-ghost use Rattle.line_sim.specs.Packets.{data_octets, HasLowNumber};
+ghost use Rattle.line_end.specs.End.{timer_note};
 ghost use Rattle.pad_editing.specs.Edited.{after_key};
-ghost use Rattle.line_sim.specs.PlainLink.{information, informed};
-ghost use Rattle.frame_codec.specs.Spelling.{spelling};
-ghost use Rattle.link_timers.specs.declared.role.Role.TheVariants.{Dte};
 
-use crate::call::{Heard, hear_packet, write_data};
+use crate::call::{Heard, hear_packet, offer_packet, write_data, write_restart};
+use crate::event::Put;
+use crate::line::{Direction, Line};
 use crate::packet::UserPacket;
-use crate::plain_link::{PlainLink, ahead};
+use crate::send::{MOST_FRAMES, put_frames};
+use crate::turn::{Happened, NodeCall};
 use circular_buffer::HeapCircularBuffer;
-use frame_codec::{FrameBuf, read_frame};
-use link_timers::Role;
+use lapb::Note;
+use line_end::{LineEnd, Received};
+use link_timers::{Role, TimerId};
 use packet_codec::PacketBuf;
 use pad_editing::Editor;
 use std::alloc::{AllocError, Global};
@@ -25,11 +30,31 @@ use x3_params::Params;
 /// The places of the send queue.
 const SEND_QUEUE: usize = 8;
 
-/// Whether a key does nothing: DLE, DC1 and DC3.
-fn does_nothing(octet: u8) -> bool
-    ensures { result ≡ does_nothing octet }
+/// Whether a key does nothing: DLE, DC1, DC3 and the recall character.
+fn does_nothing(params: &Params, octet: u8) -> bool
+    ensures { result ≡ does_nothing params.now octet }
 {
-    octet == 0x10 || octet == 0x11 || octet == 0x13
+    octet == 0x10 || octet == 0x11 || octet == 0x13 || is_character(params.recall_character(), octet)
+}
+
+/// Whether the octet is this character, if there is one.
+fn is_character(character: Option<u8>, octet: u8) -> bool
+    ensures { result ≡ is_character character octet }
+{
+    match character {
+        Some(character) => octet == character,
+        None => false,
+    }
+}
+
+/// From a number on to another, modulo 8.
+fn ahead(from: u8, to: u8) -> u8
+    requires from { from < 8 }
+    requires to { to < 8 }
+    ensures value { result ≡ ahead from to }
+    ensures low { result < 8 }
+{
+    (to + 8 - from) % 8
 }
 
 /// What a PAD did with a key: dropped it, left it without effect, or edited with it, which may end a block.
@@ -44,11 +69,13 @@ pub(crate) enum KeyResult {
 pub(crate) struct Pad {
     editor: Editor,
     params: Params,
+    initial: Params,
+    stands: bool,
     queue: HeapCircularBuffer<UserPacket>,
     covered: u8,
     outstanding: u8,
     window: u8,
-    link: PlainLink,
+    line: LineEnd,
 }
 
 impl Model for Pad {
@@ -64,21 +91,28 @@ impl Model for Pad {
 }
 
 impl Pad {
-    /// A PAD whose call and link stand, with these parameters, window size and k.
-    pub(crate) fn new(alloc: Global, params: Params, window: u8, k: u8) -> Result<Self, AllocError>
-        requires window { window ≤ 7 }
-        requires k { k ≤ 7 }
-        ensures { IfOk result (λ pad. pad ≡ new_pad params window k) }
+    /// A PAD with these parameters and window size at this end of a line, whose call stands or not.
+    pub(crate) fn new(
+        alloc: Global,
+        params: Params,
+        stands: bool,
+        window: u8,
+        line: LineEnd,
+    ) -> Result<Self, AllocError>
+        requires { window ≤ 7 }
+        ensures { IfOk result (λ pad. pad ≡ record { held = []; params = params; initial = params; stands = stands; queue = []; covered = 0; outstanding = 0; window = window; line = line }) }
     {
         let queue = HeapCircularBuffer::with_capacity(alloc, SEND_QUEUE)?;
         Ok(Pad {
             editor: Editor::new(),
             params,
+            initial: params,
+            stands,
             queue,
             covered: 0,
             outstanding: 0,
             window,
-            link: PlainLink::new(k),
+            line,
         })
     }
 
@@ -89,12 +123,29 @@ impl Pad {
         self.params
     }
 
+    /// Whether the call stands.
+    pub(crate) fn stands(&self) -> bool
+        ensures { result ≡ self.now.stands }
+    {
+        self.stands
+    }
+
     /// Takes a key at the terminal of the call.
     pub(crate) fn on_key(&mut self, octet: u8) -> KeyResult
         ensures pad { self.new ≡ (pad_key octet self.old).node }
         ensures result { IsKeyResult octet self.old.params result (pad_key octet self.old) }
     {
-        if does_nothing(octet) {
+        self.line.drop_frames();
+        let result = self.edit_by(octet);
+        self.finish();
+        result
+    }
+
+    fn edit_by(&mut self, octet: u8) -> KeyResult
+        ensures pad { self.new ≡ (edited_by octet self.old).node }
+        ensures result { IsKeyResult octet self.old.params result (edited_by octet self.old) }
+    {
+        if does_nothing(&self.params, octet) {
             return KeyResult::NoStep;
         }
         if self.queue.len() < SEND_QUEUE {
@@ -122,17 +173,113 @@ impl Pad {
         }
     }
 
-    /// Takes the octets of a frame that arrives, and gives how many Data packets are newly covered.
-    pub(crate) fn on_frame(&mut self, octets: &[u8]) -> u8
-        ensures pad { self.new ≡ (pad_hears octets.now self.old).node }
-        ensures covers { result ≡ (pad_hears octets.now self.old).covers }
+    /// Takes what comes at the line.
+    pub(crate) fn call(&mut self, call: NodeCall<'_>) -> Happened
+        ensures pad { self.new ≡ (pad_call (call_of call.entry) self.old).node }
+        ensures covers { result.covers ≡ (pad_call (call_of call.entry) self.old).covers }
+        ensures closes { result.closes ≡ (pad_call (call_of call.entry) self.old).closes }
     {
-        let Ok(frame) = read_frame(octets, Role::Dte) else {
-            return 0;
+        self.line.drop_frames();
+        match call {
+            NodeCall::Hears(octets) => self.hear(octets),
+            NodeCall::Expires(id) => self.expire(id),
+            NodeCall::Relinks => self.relink(),
+            NodeCall::Restarts => self.restart(),
+        }
+    }
+
+    fn hear(&mut self, octets: &[u8]) -> Happened
+        ensures pad { self.new ≡ (pad_hears octets.now self.old).node }
+        ensures covers { result.covers ≡ (pad_hears octets.now self.old).covers }
+        ensures closes { result.closes ≡ (pad_hears octets.now self.old).closes }
+    {
+        let Received { note, packet } = self.line.on_frame(octets);
+        let happened = self.told(note, packet);
+        self.finish();
+        happened
+    }
+
+    fn expire(&mut self, id: TimerId) -> Happened
+        ensures pad { self.new ≡ (pad_expires id (timer_note self.old.line id) self.old).node }
+        ensures covers { result.covers ≡ (pad_expires id (timer_note self.old.line id) self.old).covers }
+        ensures closes { result.closes ≡ (pad_expires id (timer_note self.old.line id) self.old).closes }
+    {
+        let Some(note) = self.line.on_timer(id) else {
+            return Happened::NOTHING;
         };
-        match self.link.hear(&frame.kind) {
-            Some(packet) => self.on_packet(&hear_packet(packet)),
-            None => 0,
+        let happened = self.told(note, None);
+        self.finish();
+        happened
+    }
+
+    fn relink(&mut self) -> Happened
+        ensures pad { self.new ≡ (pad_relinks self.old).node }
+        ensures covers { result.covers ≡ (pad_relinks self.old).covers }
+        ensures closes { result.closes ≡ (pad_relinks self.old).closes }
+    {
+        let note = self.line.relink();
+        let happened = self.told(note, None);
+        self.finish();
+        happened
+    }
+
+    fn restart(&mut self) -> Happened
+        ensures pad { self.new ≡ pad_ends (pad_anew self.old) }
+        ensures covers { result.covers ≡ 0 }
+        ensures closes { result.closes ≡ self.old.stands }
+    {
+        let happened = self.close();
+        self.params = self.initial;
+        self.covered = 0;
+        self.outstanding = 0;
+        self.line.restart();
+        self.finish();
+        happened
+    }
+
+    /// Takes what the link says, and the packet that it accepts.
+    fn told(&mut self, note: Note, packet: Option<&[u8]>) -> Happened
+        ensures pad { self.new ≡ (pad_told note (option_copied packet.entry) self.old).node }
+        ensures covers { result.covers ≡ (pad_told note (option_copied packet.entry) self.old).covers }
+        ensures closes { result.closes ≡ (pad_told note (option_copied packet.entry) self.old).closes }
+    {
+        match note {
+            Note::Nothing => Happened {
+                covers: self.accept(packet),
+                closes: false,
+            },
+            Note::Down => self.close(),
+            Note::Up => {
+                let happened = self.close();
+                let mut restart = PacketBuf::new();
+                write_restart(Role::Dte, &mut restart);
+                offer_packet(&mut self.line, restart.as_slice());
+                happened
+            }
+        }
+    }
+
+    /// Closes the call, and drops what is held and waits.
+    fn close(&mut self) -> Happened
+        ensures pad { self.new ≡ pad_closes self.old }
+        ensures covers { result.covers ≡ 0 }
+        ensures closes { result.closes ≡ self.old.stands }
+    {
+        let closes = self.stands;
+        self.editor.discard();
+        self.queue.clear();
+        self.stands = false;
+        Happened { covers: 0, closes }
+    }
+
+    /// Takes a packet that the link accepts, and gives how many Data packets are newly covered.
+    fn accept(&mut self, packet: Option<&[u8]>) -> u8
+        ensures pad { self.new ≡ (pad_accepts self.old (option_copied packet.entry)).node }
+        ensures covers { result ≡ (pad_accepts self.old (option_copied packet.entry)).covers }
+    {
+        match packet {
+            Some(octets) if self.stands => self.on_packet(&hear_packet(octets)),
+            _ => 0,
         }
     }
 
@@ -153,51 +300,62 @@ impl Pad {
         count
     }
 
-    /// Writes the next frame that the PAD has to send, if any.
-    pub(crate) fn out(&mut self, frame: &mut FrameBuf) -> bool
-        ensures frame { OnTrue result
-            (pad_out self.old ≡ Some (record { octets = frame.new; node = self.new })) }
-        ensures nothing { OnFalse result (pad_out self.old ≡ None) }
-        ensures same { OnFalse result (self.new ≡ self.old) }
-        ensures fewer { OnTrue result (pad_frames_left self.new < pad_frames_left self.old) }
+    /// Ends an event: the packets that may go are offered, and the link sends what it has to.
+    fn finish(&mut self)
+        ensures { self.new ≡ pad_ends self.old }
     {
-        if self.outstanding < self.window && self.link.has_room() {
-            if let Some(packet) = self.queue.pop_front() {
-                self.send(&packet, frame);
-                return true;
-            }
-        }
-        if self.link.owes() {
-            self.link.acknowledge(Role::Dte, frame);
-            return true;
-        }
-        false
+        self.offer_all();
+        self.line.settle();
     }
 
-    /// At most how many frames the PAD has to send.
-    pub(crate) fn frames_left(&self) -> usize
-        ensures value { result ≡ pad_frames_left self.now }
-        ensures bound { result ≤ 9 }
+    fn offer_all(&mut self)
+        ensures { self.new ≡ pad_offers self.old }
     {
-        self.queue.len() + usize::from(self.link.owes())
+        'offers: while self.offer_next() {}
+    }
+
+    /// Offers the first packet that waits, where the window and the link let it go.
+    fn offer_next(&mut self) -> bool
+        ensures goes { OnTrue result (pad_offers self.old ≡ pad_offers self.new) }
+        ensures fewer { OnTrue result (length self.new.queue < length self.old.queue) }
+        ensures none { OnFalse result (pad_offers self.old ≡ self.old) }
+        ensures same { OnFalse result (self.new ≡ self.old) }
+    {
+        if self.outstanding >= self.window {
+            return false;
+        }
+        let Some(packet) = self.queue.front() else {
+            return false;
+        };
+        let mut octets = PacketBuf::new();
+        write_data((self.covered + self.outstanding) % 8, packet, &mut octets);
+        if !offer_packet(&mut self.line, octets.as_slice()) {
+            return false;
+        }
+        let _ = self.queue.pop_front();
+        self.outstanding += 1;
+        true
+    }
+
+    /// Puts the frames that wait on the line, and lists them.
+    pub(crate) fn put_frames<L: Line>(
+        &mut self,
+        line: &mut L,
+        direction: Direction,
+        puts: &mut Vec<Put>,
+    )
+        requires empty { puts.old.items ≡ [] }
+        requires room { MOST_FRAMES ≤ vec_capacity puts.old }
+        ensures pad { self.new ≡ pad_begins self.old }
+        ensures puts { Sends L.faithful direction self.old.line.frames (L.flights line.old) puts.new.items (L.flights line.new) }
+    {
+        put_frames(&mut self.line, line, direction, puts);
     }
 
     /// Whether nothing waits or is not acknowledged.
     pub(crate) fn is_at_rest(&self) -> bool
         ensures { result ≡ pad_rests self.now }
     {
-        self.queue.is_empty() && self.link.is_at_rest()
-    }
-
-    fn send(&mut self, packet: &UserPacket, frame: &mut FrameBuf)
-        requires window { self.old.outstanding < self.old.window }
-        requires room { self.old.link.sent < self.old.link.size }
-        ensures pad { self.new ≡ record self.old { outstanding = self.old.outstanding + 1; link = informed self.old.link } }
-        ensures frame { frame.new ≡ spelling Dte (information self.old.link (data_octets (next_packet_number self.old) packet.now)) }
-    {
-        let mut octets = PacketBuf::new();
-        write_data((self.covered + self.outstanding) % 8, packet, &mut octets);
-        self.outstanding += 1;
-        self.link.inform(Role::Dte, octets.as_slice(), frame);
+        self.queue.is_empty() && self.line.at_rest()
     }
 }

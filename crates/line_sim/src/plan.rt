@@ -1,23 +1,30 @@
 //! Which networks are served, and what they are made with.
 ghost use Rattle.std.specs.Prelude.{◌≡◌, ◌≢◌, ◌≤◌, ◌&&◌, Option, Some, None, IfSome, option_and_then, option_map, string_bytes};
-ghost use Rattle.line_sim.specs.Plan.{plan_of, plan_line, plan_nodes, is_from, is_within, is_standing, joins, same_text, params_of, set_all};
-ghost use Rattle.line_sim.specs.PlanView.{plan_value, IsLimited};
+ghost use Rattle.line_sim.specs.Plan.{plan_of, plan_line, plan_nodes, plan_dte, is_host, is_from, is_within, joins, same_text, params_of, set_all};
+ghost use Rattle.line_sim.specs.PlanView.{dte_value, plan_value, CanStand, IsLimited};
 ghost use Rattle.x3_params.specs.Table.{profile_values};
 
 use crate::config::{Config, LineConfig, NodeConfig, NodeKind, PadConfig, Setting};
+use lapb::LinkParams;
 use x3_params::Params;
 
-/// What a network is made with: the places of its nodes in the configuration, how many terminals and channels there are, the
-/// initial parameters, the window size and k.
+/// What the DTE is made with: a PAD with so many terminals and these initial parameters, or a host.
+#[derive(Drop)]
+pub(crate) enum DtePlan {
+    Pad { terminals: u16, params: Params },
+    Host,
+}
+
+/// What a network is made with: the places of its nodes in the configuration, the DTE, how many channels there are, the window
+/// size, and the links' parameters, which say whether the call stands.
 #[derive(Drop)]
 pub(crate) struct Plan {
-    pub(crate) pad_place: usize,
-    pub(crate) host_place: usize,
-    pub(crate) terminals: u16,
+    pub(crate) dte_place: usize,
+    pub(crate) dce_place: usize,
+    pub(crate) dte: DtePlan,
     pub(crate) channels: u16,
-    pub(crate) params: Params,
     pub(crate) window: u8,
-    pub(crate) k: u8,
+    pub(crate) link: LinkParams,
 }
 
 fn is_from(least: u16, most: u16, value: u16) -> bool
@@ -26,26 +33,20 @@ fn is_from(least: u16, most: u16, value: u16) -> bool
     least <= value && value <= most
 }
 
-fn is_within(pad: &PadConfig, line: &LineConfig) -> bool
-    ensures { result ≡ is_within pad.now line.now }
+fn is_within(line: &LineConfig) -> bool
+    ensures { result ≡ is_within line.now }
 {
-    is_from(1, 16, pad.terminals)
-        && is_from(1, 32, line.channels)
+    is_from(1, 32, line.channels)
         && is_from(1, 7, line.window)
         && is_from(1, 7, line.k)
         && is_from(1, 20, line.n2)
+        && line.address.is_empty()
 }
 
-fn is_standing(line: &LineConfig) -> bool
-    ensures { result ≡ is_standing line.now }
+fn joins(line: &LineConfig, dte: &str, dce: &str) -> bool
+    ensures { result ≡ joins line.now dte.now dce.now }
 {
-    line.standing && line.address.is_empty()
-}
-
-fn joins(line: &LineConfig, pad: &str, host: &str) -> bool
-    ensures { result ≡ joins line.now pad.now host.now }
-{
-    pad != host && line.dte.as_str() == pad && line.dce.as_str() == host
+    dte != dce && line.dte.as_str() == dte && line.dce.as_str() == dce
 }
 
 /// The parameters with all settings made in order, unless one is refused.
@@ -72,32 +73,87 @@ fn params_of(pad: &PadConfig) -> Option<Params>
     set_all(Params::profile(pad.profile, pad.speed as u8), &pad.settings)
 }
 
-/// The plan of a network whose PAD and host stand at these places and have these names.
+/// What the DTE is made with: a PAD of 1 to 16 terminals, or a host, on whose line no call stands.
+fn plan_dte(standing: bool, kind: &NodeKind) -> Option<DtePlan>
+    ensures value { option_map dte_value result ≡ plan_dte standing kind.now }
+    ensures stands { IfSome result (λ dte. CanStand dte standing) }
+{
+    match kind {
+        NodeKind::Pad(pad) => {
+            if !is_from(1, 16, pad.terminals) {
+                return None;
+            }
+            let params = params_of(pad)?;
+            Some(DtePlan::Pad {
+                terminals: pad.terminals,
+                params,
+            })
+        }
+        NodeKind::Host => {
+            if standing {
+                return None;
+            }
+            Some(DtePlan::Host)
+        }
+        NodeKind::Switch => None,
+    }
+}
+
+fn is_host(kind: &NodeKind) -> bool
+    ensures { result ≡ is_host kind.now }
+{
+    match kind {
+        NodeKind::Host => true,
+        NodeKind::Pad(_) => false,
+        NodeKind::Switch => false,
+    }
+}
+
+/// The plan of a network whose ends stand at these places.
 fn plan_line(
-    pad_place: usize,
-    host_place: usize,
-    pad_name: &str,
-    host_name: &str,
-    pad: &PadConfig,
+    dte_place: usize,
+    dce_place: usize,
+    dte: &NodeKind,
+    dce: &NodeKind,
     line: &LineConfig,
 ) -> Option<Plan>
-    requires { pad_place ≢ host_place }
-    ensures value { option_map plan_value result ≡ plan_line pad_place host_place pad_name.now host_name.now pad.now line.now }
+    requires { dte_place ≢ dce_place }
+    ensures value { option_map plan_value result ≡ plan_line dte_place dce_place dte.now dce.now line.now }
     ensures limits { IfSome result IsLimited }
 {
-    if !joins(line, pad_name, host_name) || !is_standing(line) || !is_within(pad, line) {
+    if !is_host(dce) {
         return None;
     }
-    let params = params_of(pad)?;
+    if !is_within(line) {
+        return None;
+    }
+    let dte = plan_dte(line.standing, dte)?;
     Some(Plan {
-        pad_place,
-        host_place,
-        terminals: pad.terminals,
+        dte_place,
+        dce_place,
+        dte,
         channels: line.channels,
-        params,
         window: line.window as u8,
-        k: line.k as u8,
+        link: LinkParams {
+            k: line.k as u8,
+            n2: line.n2 as u8,
+            standing: line.standing,
+        },
     })
+}
+
+/// The plan of a network of two nodes, in either order.
+fn plan_nodes(first: &NodeConfig, second: &NodeConfig, line: &LineConfig) -> Option<Plan>
+    ensures value { option_map plan_value result ≡ plan_nodes first.now second.now line.now }
+    ensures limits { IfSome result IsLimited }
+{
+    if joins(line, &first.name, &second.name) {
+        return plan_line(0, 1, &first.kind, &second.kind, line);
+    }
+    if joins(line, &second.name, &first.name) {
+        return plan_line(1, 0, &second.kind, &first.kind, line);
+    }
+    None
 }
 
 /// The plan of a network, if it is served.
@@ -112,23 +168,5 @@ pub(crate) fn plan_of(config: &Config) -> Option<Plan>
     ) else {
         return None;
     };
-    match (&first.kind, &second.kind) {
-        (NodeKind::Pad(pad), NodeKind::Host) => plan_line(
-            0,
-            1,
-            first.name.as_str(),
-            second.name.as_str(),
-            pad,
-            line,
-        ),
-        (NodeKind::Host, NodeKind::Pad(pad)) => plan_line(
-            1,
-            0,
-            second.name.as_str(),
-            first.name.as_str(),
-            pad,
-            line,
-        ),
-        _ => None,
-    }
+    plan_nodes(first, second, line)
 }

@@ -1,9 +1,10 @@
 //! What a network keeps of each end's part in a call, and which two of these make a call.
 ghost use Rattle.std.specs.Prelude.{◌≡◌, ◌+◌, ◌≤◌, OnOk, vec_len};
 ghost use Rattle.line_sim.specs.RecordView.{shown, step_of, HasStepRoom, HasSendRoom, HasTakeRoom};
-ghost use Rattle.line_sim.specs.Records.{standing_record, with_step, with_sent, with_taken, with_covered};
+ghost use Rattle.line_sim.specs.Records.{standing_record, with_step, with_sent, with_taken, with_covered, with_turn};
 
 use crate::packet::{Interrupt, UserPacket};
+use crate::turn::Happened;
 use packet_codec::Address;
 use std::alloc::{AllocError, Global};
 use x3_params::Params;
@@ -141,5 +142,14 @@ impl Record {
         ensures { shown self.new ≡ with_covered count (shown self.old) }
     {
         self.sent.covered += usize::from(count);
+    }
+
+    /// Writes down what a call of the node covered, and whether it closed the standing call.
+    pub(crate) fn note_turn(&mut self, happened: Happened)
+        requires { self.old.sent.covered + happened.covers ≤ vec_len self.old.sent.packets }
+        ensures { shown self.new ≡ with_turn happened.covers happened.closes (shown self.old) }
+    {
+        self.cover(happened.covers);
+        self.closed = self.closed || happened.closes;
     }
 }

@@ -4,6 +4,11 @@ use Rattle.std.specs.Option.{option_map}
 use Rattle.std.specs.List.{flat_map}
 use Rattle.std.specs.declared.alloc.Global.{Global}
 use Rattle.epochs.specs.Item.{DataPacket}
+use Rattle.line_sim.specs.declared.line.Direction.{Direction}
+use Rattle.line_sim.specs.declared.line.Direction.TheVariants.{FromDte, FromDce}
+use Rattle.line_sim.specs.declared.event.Put.{Put}
+use Rattle.line_sim.specs.declared.event.HostNote.{HostNote}
+use Rattle.line_sim.specs.declared.event.HostNote.TheVariants.{Cleared}
 use Rattle.line_sim.specs.declared.event.Event.{Event}
 use Rattle.line_sim.specs.declared.event.Event.TheVariants.{Take}
 use Rattle.line_sim.specs.declared.event.KeyAnswer.TheVariants.{Dropped}
@@ -64,6 +69,29 @@ outcome_text names (Take node channel) (Took taken) =
 outcome_text names e (Keyed Dropped) = codes "dropped" ++ 10 ∷ []
 outcome_text names e o = []
 
+-- the sign of a direction
+abbrev pub way_of : Direction → List ℕ
+way_of FromDte = codes ">"
+way_of FromDce = codes "<"
+
+-- an octet in hexadecimal, behind a space (32)
+abbrev pub spaced : ℕ → List ℕ
+spaced octet = 32 ∷ hex_digit (octet / 16) ∷ hex_digit (octet % 16) ∷ []
+
+-- the line of a frame that was put: its line, its direction and its octets
+abbrev pub frame_text : Put → List ℕ
+frame_text put = decimal put.line ++ (32 ∷ way_of put.direction ++ (flat_map spaced put.octets ++ 10 ∷ []))
+
+-- the line of what a host noted
+abbrev pub note_text : Names → HostNote → List ℕ
+note_text names (Cleared node channel cause diagnostic) =
+    name_of names node ++ (47 ∷ decimal channel ++ (codes " cleared " ++ (decimal cause ++ (32 ∷ decimal diagnostic ++ 10 ∷ []))))
+
+-- the lines of the frames, if they are traced, and of the notes
+abbrev pub frames_text : (traces : Bool) → List Put → List ℕ
+frames_text true puts = flat_map frame_text puts
+frames_text false puts = []
+
 -- the line of a refusal: its number and name
 abbrev pub refusal_text : StepFault → List ℕ
 refusal_text fault.NoSuchNode = codes "refused 1 NoSuchNode" ++ 10 ∷ []
@@ -72,6 +100,7 @@ refusal_text fault.NoSuchCall = codes "refused 3 NoSuchCall" ++ 10 ∷ []
 refusal_text fault.OutOfMemory = codes "refused 5 OutOfMemory" ++ 10 ∷ []
 
 -- the text of an answer or a refusal
-abbrev pub answer_text : Names → Event → Result Answer StepFault → List ℕ
-answer_text names e (Ok answer) = outcome_text names e answer.outcome
-answer_text names e (Err refusal) = refusal_text refusal
+abbrev pub answer_text : Names → (traces : Bool) → Event → Result Answer StepFault → List ℕ
+answer_text names traces e (Ok answer) =
+    frames_text traces answer.frames.items ++ (flat_map (note_text names) answer.notes.items ++ outcome_text names e answer.outcome)
+answer_text names traces e (Err refusal) = refusal_text refusal

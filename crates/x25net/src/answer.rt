@@ -3,9 +3,9 @@ ghost use Rattle.std.specs.Prelude.{◌≡◌, ◌<◌, Some, IfOk, string_bytes
 ghost use Rattle.std.specs.List.{flat_map};
 ghost use Rattle.std.specs.Fmt.{WritesOnOk};
 ghost use Rattle.x25net.specs.Answers.{quoted, shown, hex_digit, flags_of, taken_text};
-ghost use Rattle.x25net.specs.Answers.{name_of, outcome_text, refusal_text};
+ghost use Rattle.x25net.specs.Answers.{name_of, outcome_text, refusal_text, way_of, spaced, frame_text, note_text};
 
-use line_sim::{Event, KeyAnswer, Outcome, StepFault, Taken, UserPacket};
+use line_sim::{Direction, Event, HostNote, KeyAnswer, Outcome, Put, StepFault, Taken, UserPacket};
 use std::alloc::{AllocError, Global};
 use std::fmt;
 
@@ -27,6 +27,74 @@ pub(crate) fn outcome_text(
         (_, Outcome::Keyed(KeyAnswer::Dropped)) => String::from_str(alloc, "dropped\n"),
         _ => Ok(String::new(alloc)),
     }
+}
+
+/// The line of a frame that was put: its line, its direction and its octets.
+pub(crate) fn frame_text(alloc: Global, put: &Put) -> Result<String, AllocError>
+    ensures { IfOk result (λ text. string_bytes text ≡ frame_text put.now) }
+{
+    let line = put.line;
+    let way = way_of(put.direction);
+    let octets = Octets(put.octets.as_slice());
+    format!(in alloc; "{line} {way}{octets}\n")
+}
+
+/// The sign of a direction.
+fn way_of(direction: Direction) -> &'static str
+    ensures { result.now ≡ way_of direction }
+{
+    match direction {
+        Direction::FromDte => ">",
+        Direction::FromDce => "<",
+    }
+}
+
+/// The line of what a host noted.
+pub(crate) fn note_text(alloc: Global, names: &[String], note: &HostNote) -> Result<String, AllocError>
+    ensures { IfOk result (λ text. string_bytes text ≡ note_text names.now note.now) }
+{
+    match *note {
+        HostNote::Cleared {
+            node,
+            channel,
+            cause,
+            diagnostic,
+        } => {
+            let name = node_name(names, node);
+            format!(in alloc; "{name}/{channel} cleared {cause} {diagnostic}\n")
+        }
+    }
+}
+
+/// Octets in hexadecimal, each behind a space.
+#[derive(Clone, Copy)]
+struct Octets<'a>(&'a [u8]);
+
+impl fmt::Display for Octets<'_> {
+    ghost output = { λ o. Some (flat_map spaced o.0.now) };
+
+    fn fmt<W: fmt::Write>(&self, f: &mut fmt::Formatter<W>) -> fmt::Result {
+        write_spaced(f, self.0)
+    }
+}
+
+/// Writes octets in hexadecimal, each behind a space.
+fn write_spaced<W: fmt::Write>(f: &mut fmt::Formatter<W>, octets: &[u8]) -> fmt::Result
+    ensures { WritesOnOk W.write_str_gives f.old result (flat_map spaced octets.now) f.new }
+{
+    for octet in octets {
+        write_hex(f, *octet)?;
+    }
+    Ok(())
+}
+
+/// Writes an octet in hexadecimal, behind a space.
+fn write_hex<W: fmt::Write>(f: &mut fmt::Formatter<W>, octet: u8) -> fmt::Result
+    ensures { WritesOnOk W.write_str_gives f.old result (spaced octet) f.new }
+{
+    f.write_char(' ')?;
+    f.write_char(hex_digit(octet / 16))?;
+    f.write_char(hex_digit(octet % 16))
 }
 
 /// The line of a refusal: its number and name.

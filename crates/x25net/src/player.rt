@@ -1,6 +1,8 @@
 //! The player: does what a script says, and prints the answers.
 ghost use Rattle.std.specs.Prelude.{◌≡◌, ◌≤◌, OnOk, IfOk, IfErr};
 ghost use Rattle.std.specs.Io.KnownBytes.{Appends};
+ghost use Rattle.std.specs.List.{flat_map};
+ghost use Rattle.x25net.specs.Answers.{frame_text, note_text};
 ghost use Rattle.line_sim.specs.declared.event.Event.{Event};
 ghost use Rattle.line_sim.specs.NetState.{NetState};
 ghost use Rattle.x25net.specs.InTurn.{InTurn, Writes};
@@ -8,10 +10,10 @@ ghost use Rattle.x25net.specs.Playing.{has_arrived, Tells, TellsEvent, Delivers,
 ghost use Rattle.x25net.specs.Playing.{DoesCommand, Plays, end_line, IsPlayFault};
 ghost use Rattle.x25net.specs.declared.fault.ProgFault.{ProgFault};
 
-use crate::answer::{outcome_text, refusal_text};
+use crate::answer::{frame_text, note_text, outcome_text, refusal_text};
 use crate::fault::ProgFault;
 use crate::script::{Command, Script};
-use line_sim::{Direction, Event, Line, Net, Outcome, StepFault};
+use line_sim::{Direction, Event, HostNote, Line, Net, Outcome, Put, StepFault};
 use std::alloc::Global;
 use std::io::Write;
 
@@ -32,8 +34,9 @@ pub fn play<L: Line, W: Write>(
         (λ text. Plays L.faithful script.now net.old text net.new)) }
     ensures faults { IfErr result IsPlayFault }
 {
+    let mut traces = false;
     for command in &script.commands {
-        play_command(alloc, net, script, command, out)?;
+        traces = play_command(alloc, net, script, traces, command, out)?;
     }
     write(out, end_line(net.at_rest()))?;
     Ok(())
@@ -46,21 +49,31 @@ fn end_line(at_rest: bool) -> &'static str
     if at_rest { "end rest\n" } else { "end busy\n" }
 }
 
+/// Does a command, and gives whether frames are traced from then on.
 fn play_command<L: Line, W: Write>(
     alloc: Global,
     net: &mut Net<L>,
     script: &Script,
+    traces: bool,
     command: &Command,
     out: &mut W,
-) -> Result<(), ProgFault>
-    ensures writes { OnOk result (Writes (W.contents out.old) (W.contents out.new)
-        (λ text. DoesCommand L.faithful script.now.names.items script.now.lines command.now net.old text net.new)) }
+) -> Result<bool, ProgFault>
+    ensures writes { IfOk result (λ after. Writes (W.contents out.old) (W.contents out.new)
+        (λ text. DoesCommand L.faithful script.now.names.items script.now.lines command.now
+        (record { net = net.old; traces = traces }) text (record { net = net.new; traces = after }))) }
     ensures faults { IfErr result IsPlayFault }
 {
     let names = script.names.as_slice();
     match command {
-        Command::Events(events) => play_events(alloc, net, names, events.as_slice(), out),
-        Command::Flow => flow(alloc, net, names, script.lines, out),
+        Command::Events(events) => {
+            play_events(alloc, net, names, traces, events.as_slice(), out)?;
+            Ok(traces)
+        }
+        Command::Flow => {
+            flow(alloc, net, names, traces, script.lines, out)?;
+            Ok(traces)
+        }
+        Command::Trace(on) => Ok(*on),
     }
 }
 
@@ -68,15 +81,16 @@ fn play_events<L: Line, W: Write>(
     alloc: Global,
     net: &mut Net<L>,
     names: &[String],
+    traces: bool,
     events: &[Event],
     out: &mut W,
 ) -> Result<(), ProgFault>
     ensures writes { OnOk result (Writes (W.contents out.old) (W.contents out.new)
-        (λ text. InTurn Event NetState (TellsEvent L.faithful names.now) events.now net.old text net.new)) }
+        (λ text. InTurn Event NetState (TellsEvent L.faithful names.now traces) events.now net.old text net.new)) }
     ensures faults { IfErr result IsPlayFault }
 {
     for event in events {
-        play_event(alloc, net, names, event, out)?;
+        play_event(alloc, net, names, traces, event, out)?;
     }
     Ok(())
 }
@@ -86,16 +100,17 @@ fn flow<L: Line, W: Write>(
     alloc: Global,
     net: &mut Net<L>,
     names: &[String],
+    traces: bool,
     lines: usize,
     out: &mut W,
 ) -> Result<(), ProgFault>
     ensures writes { OnOk result (Writes (W.contents out.old) (W.contents out.new)
-        (λ text. Flows L.faithful names.now lines (record { left = 100000; net = net.old }) text net.new)) }
+        (λ text. Flows L.faithful names.now traces lines (record { left = 100000; net = net.old }) text net.new)) }
     ensures faults { IfErr result IsPlayFault }
 {
     let mut left = FLOW_LIMIT;
     loop {
-        let still_left = pass(alloc, net, names, lines, left, out)?;
+        let still_left = pass(alloc, net, names, traces, lines, left, out)?;
         if still_left == left {
             return Ok(());
         }
@@ -108,12 +123,13 @@ fn pass<L: Line, W: Write>(
     alloc: Global,
     net: &mut Net<L>,
     names: &[String],
+    traces: bool,
     lines: usize,
     left: u32,
     out: &mut W,
 ) -> Result<u32, ProgFault>
     ensures passes { IfOk result (λ still_left. Writes (W.contents out.old) (W.contents out.new)
-        (λ text. Passes L.faithful names.now lines
+        (λ text. Passes L.faithful names.now traces lines
         (record { left = left; net = net.old }) text (record { left = still_left; net = net.new }))) }
     ensures at_most { IfOk result (λ still_left. still_left ≤ left) }
     ensures faults { IfErr result IsPlayFault }
@@ -124,12 +140,12 @@ fn pass<L: Line, W: Write>(
             line,
             direction: Direction::FromDte,
         };
-        still_left = deliver(alloc, net, names, &from_dte, still_left, out)?;
+        still_left = deliver(alloc, net, names, traces, &from_dte, still_left, out)?;
         let from_dce = Event::Deliver {
             line,
             direction: Direction::FromDce,
         };
-        still_left = deliver(alloc, net, names, &from_dce, still_left, out)?;
+        still_left = deliver(alloc, net, names, traces, &from_dce, still_left, out)?;
     }
     Ok(still_left)
 }
@@ -139,12 +155,13 @@ fn deliver<L: Line, W: Write>(
     alloc: Global,
     net: &mut Net<L>,
     names: &[String],
+    traces: bool,
     delivery: &Event,
     left: u32,
     out: &mut W,
 ) -> Result<u32, ProgFault>
     ensures delivers { IfOk result (λ still_left. Writes (W.contents out.old) (W.contents out.new)
-        (λ text. Delivers L.faithful names.now delivery.now
+        (λ text. Delivers L.faithful names.now traces delivery.now
         (record { left = left; net = net.old }) text (record { left = still_left; net = net.new }))) }
     ensures at_most { IfOk result (λ still_left. still_left ≤ left) }
     ensures faults { IfErr result IsPlayFault }
@@ -152,7 +169,7 @@ fn deliver<L: Line, W: Write>(
     if left == 0 {
         return Ok(0);
     }
-    if play_event(alloc, net, names, delivery, out)? {
+    if play_event(alloc, net, names, traces, delivery, out)? {
         Ok(left - 1)
     } else {
         Ok(left)
@@ -164,15 +181,20 @@ fn play_event<L: Line, W: Write>(
     alloc: Global,
     net: &mut Net<L>,
     names: &[String],
+    traces: bool,
     event: &Event,
     out: &mut W,
 ) -> Result<bool, ProgFault>
     ensures tells { IfOk result (λ arrived. Writes (W.contents out.old) (W.contents out.new)
-        (λ text. Tells L.faithful names.now arrived event.now net.old text net.new)) }
+        (λ text. Tells L.faithful names.now traces arrived event.now net.old text net.new)) }
     ensures faults { IfErr result IsPlayFault }
 {
     match net.step(event) {
         Ok(answer) => {
+            if traces {
+                write_frames(alloc, answer.frames.as_slice(), out)?;
+            }
+            write_notes(alloc, names, answer.notes.as_slice(), out)?;
             let text = outcome_text(alloc, names, event, &answer.outcome)?;
             write(out, text.as_str())?;
             Ok(has_arrived(&answer.outcome))
@@ -183,6 +205,33 @@ fn play_event<L: Line, W: Write>(
             Ok(false)
         }
     }
+}
+
+/// Prints the frames that were put.
+fn write_frames<W: Write>(alloc: Global, puts: &[Put], out: &mut W) -> Result<(), ProgFault>
+    ensures { OnOk result (Appends (W.contents out.old) (W.contents out.new) (flat_map frame_text puts.now)) }
+{
+    for put in puts {
+        let text = frame_text(alloc, put)?;
+        write(out, text.as_str())?;
+    }
+    Ok(())
+}
+
+/// Prints what a host noted.
+fn write_notes<W: Write>(
+    alloc: Global,
+    names: &[String],
+    notes: &[HostNote],
+    out: &mut W,
+) -> Result<(), ProgFault>
+    ensures { OnOk result (Appends (W.contents out.old) (W.contents out.new) (flat_map (note_text names.now) notes.now)) }
+{
+    for note in notes {
+        let text = note_text(alloc, names, note)?;
+        write(out, text.as_str())?;
+    }
+    Ok(())
 }
 
 /// Whether a frame arrived.

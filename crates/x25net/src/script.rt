@@ -5,6 +5,7 @@ ghost use Rattle.x25net.specs.Scripts.{AreNamesOf, IsScriptFault};
 use crate::fault::ProgFault;
 use crate::words::{LineFault, Words, cut, read_text};
 use line_sim::{Config, Direction, Event};
+use link_timers::TimerId;
 use std::alloc::{AllocError, Global};
 
 /// What a line of a script asks for.
@@ -14,6 +15,8 @@ pub enum Command {
     Events(Vec<Event>),
     /// Frames are delivered, line after line, until none is in flight.
     Flow,
+    /// From here on each frame that is put is printed, or none is.
+    Trace(bool),
 }
 
 /// A script, read for a network: the names of the network's nodes, how many lines it has, and the commands.
@@ -77,9 +80,32 @@ fn read_line(alloc: Global, line: &[u8], names: &[String]) -> Result<Command, Li
             Ok(Command::Events(vec![in alloc; event]?))
         }
         b"deliver" => {
-            let event = read_delivery(words)?;
+            let (line, direction) = read_direction(words)?;
+            let event = Event::Deliver { line, direction };
             Ok(Command::Events(vec![in alloc; event]?))
         }
+        b"lose" => {
+            let (line, direction) = read_direction(words)?;
+            let event = Event::Lose { line, direction };
+            Ok(Command::Events(vec![in alloc; event]?))
+        }
+        b"expire" => {
+            let event = read_expiry(words, names)?;
+            Ok(Command::Events(vec![in alloc; event]?))
+        }
+        b"relink" => {
+            let line = usize::from(words.number()?);
+            words.end()?;
+            let event = Event::Relink { line };
+            Ok(Command::Events(vec![in alloc; event]?))
+        }
+        b"restart" => {
+            let node = words.node(names)?;
+            words.end()?;
+            let event = Event::Restart { node };
+            Ok(Command::Events(vec![in alloc; event]?))
+        }
+        b"trace" => read_trace(words),
         b"flow" => {
             words.end()?;
             Ok(Command::Flow)
@@ -114,8 +140,8 @@ fn read_take(words: Words<'_>, names: &[String]) -> Result<Event, LineFault> {
     Ok(Event::Take { node, channel })
 }
 
-/// `deliver LINE >` or `deliver LINE <`.
-fn read_delivery(words: Words<'_>) -> Result<Event, LineFault> {
+/// `LINE >` or `LINE <`, at the end.
+fn read_direction(words: Words<'_>) -> Result<(usize, Direction), LineFault> {
     let mut words = words;
     let line = usize::from(words.number()?);
     let direction = match words.next_word()? {
@@ -124,5 +150,30 @@ fn read_delivery(words: Words<'_>) -> Result<Event, LineFault> {
         _ => return Err(LineFault::NotACommand),
     };
     words.end()?;
-    Ok(Event::Deliver { line, direction })
+    Ok((line, direction))
+}
+
+/// `expire NODE LINE T1`.
+fn read_expiry(words: Words<'_>, names: &[String]) -> Result<Event, LineFault> {
+    let mut words = words;
+    let node = words.node(names)?;
+    let line = usize::from(words.number()?);
+    let timer = match words.next_word()? {
+        b"T1" => TimerId::T1,
+        _ => return Err(LineFault::NotACommand),
+    };
+    words.end()?;
+    Ok(Event::Expire { node, line, timer })
+}
+
+/// `trace on` or `trace off`.
+fn read_trace(words: Words<'_>) -> Result<Command, LineFault> {
+    let mut words = words;
+    let traces = match words.next_word()? {
+        b"on" => true,
+        b"off" => false,
+        _ => return Err(LineFault::NotACommand),
+    };
+    words.end()?;
+    Ok(Command::Trace(traces))
 }

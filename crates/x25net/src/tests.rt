@@ -12,7 +12,7 @@ use x3_params::Profile;
 /// A script of the input, what is printed for it, and what is told of a fault.
 type Run = (&'static [u8], &'static [u8], &'static [u8]);
 
-const PLAYED: [Run; 24] = [
+const PLAYED: [Run; 25] = [
     (b"", b"end rest\n", b""),
     (b"\n\n\n", b"end rest\n", b""),
     (b"flow", b"end rest\n", b""),
@@ -85,7 +85,58 @@ const PLAYED: [Run; 24] = [
     (b"flow\n   \nflow\n", b"", b"fault 2 line 2\n"),
     (b"flow\n\r\n", b"", b"fault 2 line 2\n"),
     (b"stop host 1\n", b"", b"fault 2 line 1\n"),
+    (
+        b"key pad 0 A\\0D\nlose 0 >\nexpire pad 0 T1\nflow\ntake host 1\nflow\n",
+        b"host/1 data - \"A\\0D\"\nend rest\n",
+        b"",
+    ),
 ];
+
+/// A PAD and a host on a line on which no call stands.
+const DIRECT: &str = r#"
+[[node]]
+name = "pad"
+kind = "pad"
+
+[[node]]
+name = "host"
+kind = "host"
+
+[[line]]
+dte = "pad"
+dce = "host"
+"#;
+
+/// Plays a script on a network, and gives what is printed.
+fn played(rt: &HostRuntime, network: &str, script: &[u8]) -> Result<Vec<u8>, Fail> {
+    let config = read_net(rt.alloc(), network)?;
+    let script = read_script(rt.alloc(), script, &config)?;
+    let lines = mem_lines(rt.alloc(), config.lines.len())?;
+    let mut net = Net::new(rt.alloc(), &config, lines)?;
+    let mut out = Vec::new(rt.alloc());
+    play(rt.alloc(), &mut net, &script, &mut out)?;
+    Ok(out)
+}
+
+#[test]
+fn a_link_is_set_up_and_begins_with_restarts(rt: HostRuntime) -> Result<(), Fail> {
+    let printed = played(&rt, DIRECT, b"trace on\nflow\n")?;
+    let expected: &[u8] = b"0 < 01 73\n0 > 01 11\n0 < 01 11\n0 < 03 00 10 00 FB 07 00\n0 > 01 00 10 00 FB 00 00\n0 < 01 21\n0 > 03 21\nend rest\n";
+    assert_eq!(rt; printed.as_slice(), expected);
+    Ok(())
+}
+
+#[test]
+fn a_lost_link_closes_the_call(rt: HostRuntime) -> Result<(), Fail> {
+    let printed = played(
+        &rt,
+        FIRST,
+        b"key pad 0 OLD\\0D\nrelink 0\nflow\nkey pad 0 NEW\\0D\ntake host 1\nrestart host\nflow\n",
+    )?;
+    let expected: &[u8] = b"host/1 cleared 9 0\nhost/1 none\nend rest\n";
+    assert_eq!(rt; printed.as_slice(), expected);
+    Ok(())
+}
 
 #[test]
 fn scripts_are_played(rt: HostRuntime) -> Result<(), Fail> {
@@ -102,7 +153,7 @@ fn scripts_are_played(rt: HostRuntime) -> Result<(), Fail> {
 }
 
 /// Lines that are no commands.
-const NO_COMMANDS: [&[u8]; 36] = [
+const NO_COMMANDS: [&[u8]; 35] = [
     b"FLOW",
     b" ",
     b" flow",
@@ -138,7 +189,6 @@ const NO_COMMANDS: [&[u8]; 36] = [
     b"deliver 0 ^",
     b"deliver 0 ><",
     b"deliver > 0",
-    b"trace on",
 ];
 
 #[test]
@@ -157,6 +207,7 @@ fn scripts_are_read(rt: HostRuntime) -> Result<(), Fail> {
     for command in &script.commands {
         match command {
             Command::Flow => events.push(None)?,
+            Command::Trace(_) => events.push(None)?,
             Command::Events(some) => {
                 for event in some {
                     events.push(Some(*event))?;

@@ -25,6 +25,7 @@ returns-clause-writes g c =
       told = told;
       at_rest = c.at_rest.result;
       rest = c.at_rest.ensures;
+      traces = _;
       commands = in_turn_all commands _ ended done;
       whole = ap (λ w. told ++ w) c.end_line.ensures;
     }) c.loop-command.invariant c.in_ok-write.ensures.writes

@@ -1,11 +1,16 @@
-use Rattle.std.proofs.Common.{◌≡◌, ℕ, List, [], ◌∷◌, ◌++◌, map, refl, sym, subst, ap, ◌∙◌}
-use Rattle.line_sim.specs.RecordView.{shown, pair_of}
-use Rattle.line_sim.proofs.Glue.{opening-net}
+use Rattle.std.proofs.Common.{◌≡◌, [], refl, sym, ap, ◌∙◌}
+use Rattle.line_end.specs.End.{End}
+use Rattle.line_sim.specs.HostState.{HostState, new_host}
+use Rattle.line_sim.specs.NodeViews.{node_of}
+use Rattle.line_sim.specs.PlanView.{plan_value}
+use Rattle.line_sim.proofs.Openings.{made-net, may-stand}
 use Rattle.line_sim.proofs.net.Net.new.Goals as goal
 
 pub invariant_of-result : goal.invariant_of-result
 invariant_of-result g c =
-    opening-net g.L.Line.faithful _ c.in-Some.plan.params c.in-Some.plan.window c.in-Some.plan.k c.in-Some.ensures.limits.window c.in-Some.ensures.limits.k c.in-Some.ensures.limits.apart
-    c.in_ok-pad.ensures c.in_ok-host.ensures c.empty.ensures
-    (ap (map shown) (c.push_reserved-2.ensures.items ∙ ap (λ l. l ++ c.standing-2.result ∷ []) (c.push_reserved.ensures.items ∙ ap (λ l. l ++ c.standing.result ∷ []) c.in_ok-records.ensures.items)) ∙ (λ i. c.standing.ensures i ∷ c.standing-2.ensures i ∷ []))
-    (ap (map pair_of) (c.push_reserved-3.ensures.items ∙ ap (λ l. l ++ record { caller = 0; callee = 1 } ∷ []) c.in_ok-pairs.ensures.items))
+    let l = c.in-Some.ensures.limits in
+    let with_line : End → HostState = λ (e : End). record { stands = c.in-Some.plan.link.standing; waiting = []; expected = 0; released = 0; told = 0; window = c.in-Some.plan.window; line = e } in
+    made-net g.L.Line.faithful (plan_value c.in-Some.plan) _ (node_of c.in_ok-dte.dte) c.in_ok-dce.dce _ _ _ _ l.apart l.params.k_most l.window (may-stand c.in-Some.plan.dte c.in-Some.plan.link.standing l.stands)
+    refl refl c.terminals_of.ensures refl c.put_frames.ensures.node c.in_ok-dte.ensures c.put_frames-2.ensures.host
+    (c.in_ok-dce.ensures ∙ ap with_line c.line_end.ensures)
+    c.in_ok-records.ensures c.in_ok-pairs.ensures c.empty.ensures c.put_frames.ensures.puts c.put_frames-2.ensures.puts

@@ -1,0 +1,5 @@
+pub mod Steps
+pub mod Frames
+pub mod Timing
+pub mod Calls
+pub mod Standing

@@ -1,0 +1,113 @@
+-- The end of a line: its link, its timers and the frames that go out, and what each call makes of them.
+use Rattle.std.specs.Prelude.{◌≡◌, ℕ, ◌+◌, ◌≤◌, Bool, true, false, List, [], ◌++◌, length, map, drop, Option, Some, None, is_some, if◌then◌else◌}
+use Rattle.link_timers.specs.declared.role.Role.{Role}
+use Rattle.link_timers.specs.declared.timers.TimerId.{TimerId}
+use Rattle.link_timers.specs.declared.timers.TimerId.TheVariants.{T1}
+use Rattle.link_timers.specs.Timers.{Places, left_of, none_running, started, stopped, after_ticks}
+use Rattle.frame_codec.specs.Spelling.{spelling}
+use Rattle.lapb.specs.declared.note.Note.{Note}
+use Rattle.lapb.specs.declared.note.Timing.{Timing}
+use Rattle.lapb.specs.Machine as machine
+use Rattle.lapb.specs.Machine.{Octets, Link, Step, timing}
+use Rattle.lapb.specs.Octets.{on_octets}
+use Rattle.lapb.specs.Out.{with_frames}
+
+pub record End : Type 0 where
+  pub link : Link
+  pub timers : Places
+  pub frames : List Octets  -- that go out, in order
+
+-- how long T1 runs
+abbrev pub t1_ticks : ℕ
+t1_ticks = 60
+
+-- what becomes of T1
+abbrev pub timed : Timing → Places → Places
+timed Timing.Keep timers = timers
+timed Timing.Start timers = started timers T1 t1_ticks
+timed Timing.Stop timers = stopped timers T1
+
+-- whether T1 runs then, which ran before or not
+abbrev pub runs_then : Timing → (ran : Bool) → Bool
+runs_then Timing.Keep ran = ran
+runs_then Timing.Start ran = true
+runs_then Timing.Stop ran = false
+
+-- A step of the link: its frames go out behind those that were not taken yet, of which a tenth and more are dropped, as lost,
+-- and T1 does what the step asks for.
+abbrev pub did : End → Step → End
+did e step = record {
+  link = step.link;
+  timers = timed (timing e.link step) e.timers;
+  frames = with_frames e.frames (map (spelling e.link.role) step.frames);
+}
+
+-- a step that sends at most so many frames, of which none is dropped where there is room for so many
+pub record SendsUpTo (most : ℕ) (e : End) (step : Step) : Type 0 where
+  pub few : length step.frames ≤ most
+  pub all : length e.frames + most ≤ 9 → (did e step).frames ≡ e.frames ++ map (spelling e.link.role) step.frames
+
+-- the frames that were not taken are dropped, as lost
+abbrev pub without_frames : End → End
+without_frames e = record e { frames = [] }
+
+-- ---- the calls
+
+-- the link is given up and set up again
+abbrev pub relinked : End → End
+relinked e = did e (machine.relink e.link)
+
+-- an end with a link that nothing happened to yet
+abbrev pub untouched : Role → (k n2 : ℕ) → (standing : Bool) → End
+untouched role k n2 standing = record {
+  link = machine.new role k n2 standing;
+  timers = none_running;
+  frames = [];
+}
+
+-- an end as it is made: the link of a line that does not stand is started
+abbrev pub made : Role → (k n2 : ℕ) → (standing : Bool) → End
+made role k n2 true = untouched role k n2 true
+made role k n2 false = relinked (untouched role k n2 false)
+
+-- a restarted end is as one made for a line that does not stand
+abbrev pub restarted : End → End
+restarted e = made e.link.role e.link.k e.link.n2 false
+
+-- the octets of a frame arrive
+abbrev pub received : End → Octets → End
+received e octets = did e (on_octets e.link octets)
+
+-- a timer that runs expires
+abbrev pub expired : TimerId → End → End
+expired T1 e = did (record e { timers = stopped e.timers T1 }) (machine.on_t1 e.link)
+expired id e = record e { timers = stopped e.timers id }
+
+-- an expiry of a timer, which changes nothing where the timer does not run
+abbrev pub after_timer : End → TimerId → End
+after_timer e id = if is_some (left_of e.timers id) then expired id e else e
+
+-- what the expiry of a timer that runs tells of the link
+abbrev pub expiry_note : TimerId → Link → Note
+expiry_note T1 link = (machine.on_t1 link).note
+expiry_note id link = Note.Nothing
+
+-- the same, if the timer runs
+abbrev pub timer_note : End → TimerId → Option Note
+timer_note e id = if is_some (left_of e.timers id) then Some (expiry_note id e.link) else None
+
+-- a packet is offered to the link; a refused one changes nothing
+abbrev pub offered : End → Octets → End
+offered e packet = record e { link = machine.offer e.link packet }
+
+-- the end of a node's event: the I frames that may go, or the acknowledgement that is owed, go out
+abbrev pub settled : End → End
+settled e = did e (machine.settle e.link)
+
+-- the first frame is taken
+abbrev pub without_first : End → End
+without_first e = record e { frames = drop 1 e.frames }
+
+-- ticks pass
+abbrev pub elapsed : End → (ticks : ℕ) → End
+elapsed e ticks = record e { timers = after_ticks e.timers ticks }

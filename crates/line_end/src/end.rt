@@ -1,0 +1,266 @@
+ghost use Rattle.std.specs.Prelude.{◌≡◌, ◌≤◌, [], ◌∷◌, length, MatchOption, MatchResult, IsOk, is_ok, Err, Some, None, is_some, option_copied};
+ghost use Rattle.std.specs.Bool.{OnTrue, OnFalse};
+ghost use Rattle.link_timers.specs.Timers.{left_of, due_timers, first_of};
+ghost use Rattle.lapb.specs.Machine as machine;
+ghost use Rattle.lapb.specs.Octets.{on_octets};
+ghost use Rattle.lapb.specs.Offers.{refusal};
+ghost use Rattle.lapb.specs.Out.{with_frames};
+ghost use Rattle.lapb.specs.Params.{AreParams};
+ghost use Rattle.line_end.specs.End.{timed, runs_then, made, without_frames, received, after_timer, timer_note, relinked, restarted, offered, settled, without_first, elapsed, SendsUpTo};
+
+use arrayvec::ArrayVec;
+use frame_codec::FrameBuf;
+use lapb::{BadParams, Link, LinkOut, LinkParams, Note, OfferFault, Phase, Timing};
+use link_timers::{Role, TimerId, Timers};
+use std::marker::Model;
+
+/// How long T1 runs, in ticks of a twentieth of a second (X.25 2.4.8.1).
+const T1_TICKS: u16 = 60;
+
+/// How many frames may wait to go out. One event of a node sends fewer.
+pub const MOST_FRAMES: usize = 9;
+
+/// What a received frame tells the packet layer.
+#[derive(Drop)]
+pub struct Received<'a> {
+    /// What becomes of the link.
+    pub note: Note,
+    /// The next packet of the session, if the frame brought it.
+    pub packet: Option<&'a [u8]>,
+}
+
+/// The end of a line: the link (X.25 2.4), the timers, and the frames that go out.
+///
+/// A node calls it in this order in each of its events: `drop_frames`, what happens at this line (a frame, an expiry, a
+/// relink), an offer of each packet that may go, `settle`; then it takes the frames by `out`. Up to nine frames wait to be
+/// taken; a tenth is dropped, as a lost frame, which no event with at most two calls before `settle` comes to.
+#[derive(Drop)]
+pub struct LineEnd {
+    role: Role,
+    params: LinkParams,
+    link: Link,
+    timers: Timers,
+    frames: ArrayVec<FrameBuf, MOST_FRAMES>,
+}
+
+impl Model for LineEnd {
+    ghost use Rattle.line_end.specs.End as end;
+
+    ghost Value = { end.End };
+
+    ghost use Rattle.line_end.specs.EndView.{end_of, IsEnd};
+
+    ghost view = { end_of };
+
+    ghost invariant = { IsEnd };
+}
+
+impl LineEnd {
+    /// The end of this role of a line. Where the line stands the link is up; else it is started: a DTE sends SABM, a DCE asks for
+    /// it by DM (X.25 2.4.4.1).
+    ///
+    /// `BadParams` comes where `k` is not from 1 to 7 or `n2` not from 1 to 20.
+    pub fn new(role: Role, params: LinkParams) -> Result<LineEnd, BadParams>
+        ensures { MatchResult result
+            (λ end. AreParams params.k params.n2 × (end ≡ made role params.k params.n2 params.standing))
+            (λ _. AreParams params.k params.n2 → ⊥) }
+    {
+        let mut end = LineEnd {
+            role,
+            params: LinkParams {
+                standing: false,
+                ..params
+            },
+            link: Link::new(role, params)?,
+            timers: Timers::new(),
+            frames: ArrayVec::new(),
+        };
+        if !params.standing {
+            end.relink();
+        }
+        Ok(end)
+    }
+
+    /// Begins an event of the node: drops the frames that were not taken, as lost.
+    pub fn drop_frames(&mut self)
+        ensures { self.new ≡ without_frames self.old }
+    {
+        self.frames.clear();
+    }
+
+    /// Takes the octets of a received frame (X.25 2.4.4 to 2.4.7).
+    pub fn on_frame<'a>(&mut self, octets: &'a [u8]) -> Received<'a>
+        ensures end { self.new ≡ received self.old octets.now }
+        ensures frames { SendsUpTo 1 self.old (on_octets self.old.link octets.now) }
+        ensures note { result.note ≡ (on_octets self.old.link octets.now).note }
+        ensures packet { option_copied result.packet ≡ (on_octets self.old.link octets.now).accepted }
+    {
+        let mut out = LinkOut::new();
+        self.link.on_frame(octets, &mut out);
+        carry_out(&out, &mut self.timers, &mut self.frames);
+        Received {
+            note: out.note(),
+            packet: if out.accepted() {
+                octets.get(2..)
+            } else {
+                None
+            },
+        }
+    }
+
+    /// Takes an expiry of a timer: what it tells of the link, or `None` where the timer does not run, which changes nothing.
+    pub fn on_timer(&mut self, id: TimerId) -> Option<Note>
+        ensures end { self.new ≡ after_timer self.old id }
+        ensures frames { SendsUpTo 1 self.old (machine.on_t1 self.old.link) }
+        ensures note { result ≡ timer_note self.old id }
+
+        // T1 runs exactly where the link needs it.
+        ensures t1 { is_some (left_of self.old.timers TimerId.T1) ≡ machine.runs self.old.link }
+    {
+        if !self.timers.fire(id) {
+            return None;
+        }
+        if id != TimerId::T1 {
+            return Some(Note::Nothing);
+        }
+        let mut out = LinkOut::new();
+        self.link.on_t1(&mut out);
+        carry_out(&out, &mut self.timers, &mut self.frames);
+        Some(out.note())
+    }
+
+    /// Gives the link up and sets it up again (X.25 2.4.4.1, 2.4.7). A DTE that is setting it up goes on.
+    pub fn relink(&mut self) -> Note
+        ensures end { self.new ≡ relinked self.old }
+        ensures frames { SendsUpTo 1 self.old (machine.relink self.old.link) }
+        ensures note { result ≡ (machine.relink self.old.link).note }
+    {
+        let mut out = LinkOut::new();
+        self.link.relink(&mut out);
+        carry_out(&out, &mut self.timers, &mut self.frames);
+        out.note()
+    }
+
+    /// Begins anew after a restart of the node, as on a line that does not stand. What went before is forgotten, also the frames
+    /// that were not taken.
+    pub fn restart(&mut self)
+        ensures { self.new ≡ restarted self.old }
+    {
+        if let Ok(end) = LineEnd::new(self.role, self.params) {
+            *self = end;
+        }
+    }
+
+    /// Offers a packet of at most 145 octets to the link. It goes out in an I frame by a later `settle`.
+    ///
+    /// `Down` comes where the link is not up, `Full` where k packets are unacknowledged. A packet that is refused changes nothing.
+    pub fn offer(&mut self, packet: &[u8]) -> Result<(), OfferFault>
+        requires { length packet.now ≤ 145 }
+        ensures answer { MatchOption (refusal self.old.link) (IsOk result) (λ fault. result ≡ Err fault) }
+        ensures taken { is_ok result ≡ machine.can_offer self.old.link }
+        ensures end { self.new ≡ offered self.old packet.now }
+    {
+        self.link.offer(packet)
+    }
+
+    /// Ends an event of the node: the I frames that may go go out, in order; where none goes, RR if an acknowledgement is owed.
+    pub fn settle(&mut self)
+        ensures end { self.new ≡ settled self.old }
+        ensures frames { SendsUpTo 7 self.old (machine.settle self.old.link) }
+    {
+        let mut out = LinkOut::new();
+        self.link.settle(&mut out);
+        carry_out(&out, &mut self.timers, &mut self.frames);
+    }
+
+    /// Takes the next frame that goes out, if there is one. Where there is none `frame` stays.
+    pub fn out(&mut self, frame: &mut FrameBuf) -> bool
+        ensures frame { OnTrue result (self.old.frames ≡ frame.new ∷ self.new.frames) }
+        ensures nothing { OnFalse result (self.old.frames ≡ []) }
+        ensures same { OnFalse result (frame.new ≡ frame.old) }
+        ensures end { self.new ≡ without_first self.old }
+    {
+        if self.frames.is_empty() {
+            return false;
+        }
+        *frame = self.frames.remove(0);
+        true
+    }
+
+    /// Lets ticks pass, each a twentieth of a second: each timer that runs has so many less, not below 0.
+    pub fn elapse(&mut self, ticks: u16)
+        ensures { self.new ≡ elapsed self.old ticks }
+    {
+        self.timers.tick(ticks);
+    }
+
+    /// The first timer that runs with no tick left.
+    pub fn due(&self) -> Option<TimerId>
+        ensures { result ≡ first_of (due_timers self.now.timers) }
+    {
+        self.timers.due()
+    }
+
+    /// The role of this end of the line.
+    pub fn role(&self) -> Role
+        ensures { result ≡ self.now.link.role }
+    {
+        self.role
+    }
+
+    /// How many frames wait to be taken.
+    pub fn waiting(&self) -> usize
+        ensures count { result ≡ length self.now.frames }
+        ensures most { result ≤ MOST_FRAMES }
+    {
+        self.frames.len()
+    }
+
+    /// Whether the link is up.
+    pub fn is_up(&self) -> bool
+        ensures { result ≡ machine.is_up self.now.link.phase }
+    {
+        self.link.phase() == Phase::Up
+    }
+
+    /// Whether the link is up, with nothing unacknowledged, no poll outstanding and no acknowledgement owed.
+    pub fn at_rest(&self) -> bool
+        ensures { result ≡ machine.at_rest self.now.link }
+    {
+        self.link.at_rest()
+    }
+}
+
+// Does what a call of the link asks for: T1 and the frames that go out.
+fn carry_out(out: &LinkOut, timers: &mut Timers, frames: &mut ArrayVec<FrameBuf, MOST_FRAMES>)
+    ensures timers { timers.new ≡ timed out.now.timer timers.old }
+    ensures t1 { is_some (left_of timers.new TimerId.T1) ≡ runs_then out.now.timer (is_some (left_of timers.old TimerId.T1)) }
+    ensures frames { frames.new.items ≡ with_frames frames.old.items out.now.frames }
+{
+    match out.timer() {
+        Timing::Keep => {}
+        Timing::Start => timers.start(TimerId::T1, T1_TICKS),
+        Timing::Stop => timers.stop(TimerId::T1),
+    }
+    append(out.frames(), frames);
+}
+
+// Appends frames as long as there is room.
+fn append(more: &[FrameBuf], frames: &mut ArrayVec<FrameBuf, MOST_FRAMES>)
+    ensures { frames.new.items ≡ with_frames frames.old.items more.now }
+{
+    let _ = frames.len();
+    for frame in more {
+        if !frames.is_full() {
+            frames.push(copy_of(frame));
+        }
+    }
+}
+
+fn copy_of(frame: &FrameBuf) -> FrameBuf
+    ensures { result ≡ frame.now }
+{
+    let mut copy = FrameBuf::new();
+    copy.extend(frame.as_slice());
+    copy
+}

@@ -1,0 +1,9 @@
+//! The end of a line: the link, its timers and the frames that go out, for every kind of node.
+#![tactic(auto)]
+
+mod end;
+
+pub use end::{LineEnd, MOST_FRAMES, Received};
+
+#[cfg(test)]
+mod tests;
