@@ -173,7 +173,6 @@ module _ (p : PadState) (h : HostState) (dce : Link) (sent taken : List DataPack
             t.enters (ap is_up_note is),
           )) held)
 
-
 -- ---- the calls of a PAD
 
 module _ (p : PadState) (h : HostState) (dce : Link) (sent taken : List DataPacket) (covered : ℕ) (up down : List Octets) (g : Logs) (a : Agrees g (pad_part p) (host_part h) sent taken covered) where
@@ -216,8 +215,8 @@ module _ (p : PadState) (h : HostState) (dce : Link) (sent taken : List DataPack
       let B : PadState → Type 0 = λ q. PadHeld (host_part h) dce (sent ++ e.sent) taken covered q up down in
       let typed_in : B (record (pad_begins p) { held = e.node.held; queue = p.queue ++ e.sent }) =
       weaken-dte (λ f. Agrees f (pad_part p) (host_part h) sent taken covered)
-          (λ f. Agrees f (pad_part (record (pad_begins p) { held = e.node.held; queue = p.queue ++ e.sent })) (host_part h) (sent ++ e.sent) taken covered) (pad_begins p).line dce up down
-          (λ f b. agrees-pad_accepts f (pad_begins p) h sent taken covered e.node.held e.sent stands d.short b) (started down i) in
+      (λ f. Agrees f (pad_part (record (pad_begins p) { held = e.node.held; queue = p.queue ++ e.sent })) (host_part h) (sent ++ e.sent) taken covered) (pad_begins p).line dce up down
+      (λ f b. agrees-pad_accepts f (pad_begins p) h sent taken covered e.node.held e.sent stands d.short b) (started down i) in
       held-pad_ends h dce (sent ++ e.sent) taken covered up down e.node (subst B (sym d.node) typed_in)
 
 pub call-pad-restarts : (p : PadState) (h : HostState) (dce : Link) (sent taken : List DataPacket) (covered : ℕ) (up down : List Octets) (g : Logs)
@@ -294,8 +293,8 @@ module _ (p : PadState) (h : HostState) (dte : Link) (sent taken : List DataPack
           stand true s =
               let now : HeldDce (λ g. Agrees g (pad_part p) (host_part (host_packet (record h { line = received h.line octets }) (heard_packet packet))) sent taken covered) (received h.line octets) dte up down =
               received-dce h.line dte down (λ g. Agrees g (pad_part p) (host_part h) sent taken covered)
-                  (λ g. Agrees g (pad_part p) (host_part (host_packet (record h { line = received h.line octets }) (heard_packet packet))) sent taken covered) up octets
-                  (λ g f t a. agrees-dce_data g f p (record h { line = received h.line octets }) sent taken covered (on_octets h.line.link octets) t packet some (ap is_up_note is) s a) held in
+              (λ g. Agrees g (pad_part p) (host_part (host_packet (record h { line = received h.line octets }) (heard_packet packet))) sent taken covered) up octets
+              (λ g f t a. agrees-dce_data g f p (record h { line = received h.line octets }) sent taken covered (on_octets h.line.link octets) t packet some (ap is_up_note is) s a) held in
               let L : End → Type 0 = λ l. HeldDce (λ g. Agrees g (pad_part p) (host_part (host_packet (record h { line = received h.line octets }) (heard_packet packet))) sent taken covered) l dte up down in
               subst L (sym (host_line (record h { line = received h.line octets }) (heard_packet packet))) now
           stand false s =

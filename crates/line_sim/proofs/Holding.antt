@@ -83,7 +83,7 @@ module _ (e : End) (dce : Link) (up : List Octets) where
 
   did-dte : (P Q : Logs → Type 0) (d d' : List Octets) (step : Step)
       → ((u : List Octets) (kept : List Bool) (g : Logs) → HasLinks e.link dce u d g → P g
-          → (h : Logs) × HasLinks step.link dce (u ++ chosen kept (map (spelling Dte) step.frames)) d' h × Q h)
+      → (h : Logs) × HasLinks step.link dce (u ++ chosen kept (map (spelling Dte) step.frames)) d' h × Q h)
       → HeldDte P e dce up d → HeldDte Q (did e step) dce up d'
   did-dte P Q d d' step turn held kept =
       let new : List Octets = map (spelling Dte) step.frames in
@@ -157,7 +157,7 @@ module _ (e : End) (dte : Link) (down : List Octets) where
 
   did-dce : (P Q : Logs → Type 0) (u u' : List Octets) (step : Step)
       → ((d : List Octets) (kept : List Bool) (g : Logs) → HasLinks dte e.link u d g → P g
-          → (h : Logs) × HasLinks dte step.link u' (d ++ chosen kept (map (spelling Dce) step.frames)) h × Q h)
+      → (h : Logs) × HasLinks dte step.link u' (d ++ chosen kept (map (spelling Dce) step.frames)) h × Q h)
       → HeldDce P e dte u down → HeldDce Q (did e step) dte u' down
   did-dce P Q u u' step turn held kept =
       let new : List Octets = map (spelling Dce) step.frames in

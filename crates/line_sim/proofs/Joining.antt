@@ -157,21 +157,21 @@ module _ (g f : Logs) (p : PadState) (h : HostState) (sent taken : List DataPack
     host_closed = a.host_closed;
     joins = λ up. joins-next (pad_part p) n (a.joins up)
         (λ e. let j = a.joins up in let k = j.pad e in let r = ready-left k.own k.ready k.backward in
-            let left : k.ready ≡ r.0 = r.1 ∙ ap (λ (o : Option Octets). option_to_list o ++ r.0) (none e) in
-            let C : List Octets → Type 0 = λ xs. Covering (length taken) covered xs in
-            let N : ℕ → Type 0 = λ m. PadJoins f (pad_part p) h.window j.rest m (length taken) (length h.waiting) (length j.going) in
-            let now : N covered = record {
-              own = t.stays quiet ∙ k.own;
-              rest_is = k.rest_is;
-              same_window = k.same_window;
-              within = k.within;
-              covered_is = k.covered_is;
-              outstanding_is = k.outstanding_is;
-              ready = r.0;
-              backward = r.2;
-              covering = subst C left k.covering;
-            } in
-            subst N (sym same) now);
+        let left : k.ready ≡ r.0 = r.1 ∙ ap (λ (o : Option Octets). option_to_list o ++ r.0) (none e) in
+        let C : List Octets → Type 0 = λ xs. Covering (length taken) covered xs in
+        let N : ℕ → Type 0 = λ m. PadJoins f (pad_part p) h.window j.rest m (length taken) (length h.waiting) (length j.going) in
+        let now : N covered = record {
+          own = t.stays quiet ∙ k.own;
+          rest_is = k.rest_is;
+          same_window = k.same_window;
+          within = k.within;
+          covered_is = k.covered_is;
+          outstanding_is = k.outstanding_is;
+          ready = r.0;
+          backward = r.2;
+          covering = subst C left k.covering;
+        } in
+        subst N (sym same) now);
   }
 
   -- an RR packet was accepted

@@ -25,7 +25,9 @@ use crate::node::Node;
 use crate::pad::Pad;
 use crate::plan::{DtePlan, Plan, plan_of};
 use crate::record::{Pair, Record};
-use crate::serve::{CALLEE, CALLER, Room, bare_answer, serve_dce, serve_dte, serve_key, serve_take};
+use crate::serve::{
+    CALLEE, CALLER, Room, bare_answer, serve_dce, serve_dte, serve_key, serve_take,
+};
 use crate::turn::NodeCall;
 use lapb::LinkParams;
 use line_end::LineEnd;
@@ -75,20 +77,22 @@ fn line_end(role: Role, params: LinkParams) -> LineEnd
 }
 
 /// The node at the DTE.
-fn new_dte(alloc: Global, plan: &DtePlan, window: u8, params: LinkParams) -> Result<Node, AllocError>
+fn new_dte(
+    alloc: Global,
+    plan: &DtePlan,
+    window: u8,
+    params: LinkParams,
+) -> Result<Node, AllocError>
     requires window { window ≤ 7 }
     requires params { AreParams params.k params.n2 }
     ensures { IfOk result (λ node. node_of node ≡ dte_of (dte_value plan.now) window params.k params.n2 params.standing) }
 {
     let end = line_end(Role::Dte, params);
     match *plan {
-        DtePlan::Pad { params: initial, .. } => Ok(Node::Pad(Pad::new(
-            alloc,
-            initial,
-            params.standing,
-            window,
-            end,
-        )?)),
+        DtePlan::Pad {
+            params: initial,
+            ..
+        } => Ok(Node::Pad(Pad::new(alloc, initial, params.standing, window, end)?)),
         DtePlan::Host => Ok(Node::Host(Host::new(alloc, params.standing, window, end)?)),
     }
 }
@@ -265,13 +269,7 @@ impl<L: Line> Net<L> {
                 Ok(room.answer(Outcome::Delivered(true)))
             }
             Direction::FromDce => {
-                let room = serve_dte(
-                    &mut self.dte,
-                    &mut self.line,
-                    &mut self.records,
-                    call,
-                    room,
-                );
+                let room = serve_dte(&mut self.dte, &mut self.line, &mut self.records, call, room);
                 Ok(room.answer(Outcome::Delivered(true)))
             }
         }

@@ -34,7 +34,10 @@ const SEND_QUEUE: usize = 8;
 fn does_nothing(params: &Params, octet: u8) -> bool
     ensures { result ≡ does_nothing params.now octet }
 {
-    octet == 0x10 || octet == 0x11 || octet == 0x13 || is_character(params.recall_character(), octet)
+    octet == 0x10
+        || octet == 0x11
+        || octet == 0x13
+        || is_character(params.recall_character(), octet)
 }
 
 /// Whether the octet is this character, if there is one.

@@ -56,7 +56,7 @@ pub pass_more : {F : Type 0} {names : Names} {traces : Bool} {s m n t : Flowing}
     → Writes a b (λ text. Passes F names traces line s text m)
     → Writes b c (λ text. Delivers F names traces (Deliver line FromDte) m text n)
     → Writes c d (λ text. Delivers F names traces (Deliver line FromDce) n text t)
-    → Writes a d (λ text. Passes F names (line + 1) s text t)
+    → Writes a d (λ text. Passes F names traces (line + 1) s text t)
 pass_more {F} {names} {traces} {s} {m} {n} {t} line a b c d passed from_dte from_dce =
     let both : Writes b d (λ text. InTurn Event Flowing (Delivers F names traces) (deliveries_on line) m text t) =
     writes_append b c d (λ x y p q. in_turn_append (in_turn_one p) _ _ _ (in_turn_one q)) from_dte from_dce in
@@ -72,7 +72,7 @@ pass_more {F} {names} {traces} {s} {m} {n} {t} line a b c d passed from_dte from
 
     joined : (x y : List ℕ)
         → InTurn Event Flowing (Delivers F names traces) (deliveries_from 0 line ++ deliveries_on line) s (x ++ y) t
-        → Passes F names (line + 1) s (x ++ y) t
+        → Passes F names traces (line + 1) s (x ++ y) t
     joined x y h =
         let P : List Event → Type 0 = λ es. InTurn Event Flowing (Delivers F names traces) es s (x ++ y) t in
         subst P (sym more) h

@@ -50,7 +50,11 @@ fn way_of(direction: Direction) -> &'static str
 }
 
 /// The line of what a host noted.
-pub(crate) fn note_text(alloc: Global, names: &[String], note: &HostNote) -> Result<String, AllocError>
+pub(crate) fn note_text(
+    alloc: Global,
+    names: &[String],
+    note: &HostNote,
+) -> Result<String, AllocError>
     ensures { IfOk result (λ text. string_bytes text ≡ note_text names.now note.now) }
 {
     match *note {

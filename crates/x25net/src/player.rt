@@ -1,8 +1,8 @@
 //! The player: does what a script says, and prints the answers.
-ghost use Rattle.std.specs.Prelude.{◌≡◌, ◌≤◌, OnOk, IfOk, IfErr};
+ghost use Rattle.std.specs.Prelude.{◌≡◌, ◌≤◌, Ok, OnOk, IfOk, IfErr};
 ghost use Rattle.std.specs.Io.KnownBytes.{Appends};
 ghost use Rattle.std.specs.List.{flat_map};
-ghost use Rattle.x25net.specs.Answers.{frame_text, note_text};
+ghost use Rattle.x25net.specs.Answers.{frame_text, note_text, frames_text, answer_text};
 ghost use Rattle.line_sim.specs.declared.event.Event.{Event};
 ghost use Rattle.line_sim.specs.NetState.{NetState};
 ghost use Rattle.x25net.specs.InTurn.{InTurn, Writes};
@@ -13,7 +13,7 @@ ghost use Rattle.x25net.specs.declared.fault.ProgFault.{ProgFault};
 use crate::answer::{frame_text, note_text, outcome_text, refusal_text};
 use crate::fault::ProgFault;
 use crate::script::{Command, Script};
-use line_sim::{Direction, Event, HostNote, Line, Net, Outcome, Put, StepFault};
+use line_sim::{Answer, Direction, Event, HostNote, Line, Net, Outcome, Put, StepFault};
 use std::alloc::Global;
 use std::io::Write;
 
@@ -191,12 +191,7 @@ fn play_event<L: Line, W: Write>(
 {
     match net.step(event) {
         Ok(answer) => {
-            if traces {
-                write_frames(alloc, answer.frames.as_slice(), out)?;
-            }
-            write_notes(alloc, names, answer.notes.as_slice(), out)?;
-            let text = outcome_text(alloc, names, event, &answer.outcome)?;
-            write(out, text.as_str())?;
+            write_answer(alloc, names, traces, event, &answer, out)?;
             Ok(has_arrived(&answer.outcome))
         }
         Err(StepFault::OutOfMemory) => Err(ProgFault::OutOfMemory),
@@ -207,9 +202,46 @@ fn play_event<L: Line, W: Write>(
     }
 }
 
+/// Prints an answer: the frames, if they are traced, what a host noted, and the outcome.
+fn write_answer<W: Write>(
+    alloc: Global,
+    names: &[String],
+    traces: bool,
+    event: &Event,
+    answer: &Answer,
+    out: &mut W,
+) -> Result<(), ProgFault>
+    ensures writes { OnOk result (Appends (W.contents out.old) (W.contents out.new) (answer_text names.now traces event.now (Ok answer.now))) }
+    ensures faults { IfErr result IsPlayFault }
+{
+    write_traced(alloc, traces, answer.frames.as_slice(), out)?;
+    write_notes(alloc, names, answer.notes.as_slice(), out)?;
+    let text = outcome_text(alloc, names, event, &answer.outcome)?;
+    write(out, text.as_str())?;
+    Ok(())
+}
+
+/// Prints the frames that were put, if they are traced.
+#[tactic(auto, using(crate::proofs::Turns::appends_nothing))]
+fn write_traced<W: Write>(
+    alloc: Global,
+    traces: bool,
+    puts: &[Put],
+    out: &mut W,
+) -> Result<(), ProgFault>
+    ensures writes { OnOk result (Appends (W.contents out.old) (W.contents out.new) (frames_text traces puts.now)) }
+    ensures faults { IfErr result IsPlayFault }
+{
+    if !traces {
+        return Ok(());
+    }
+    write_frames(alloc, puts, out)
+}
+
 /// Prints the frames that were put.
 fn write_frames<W: Write>(alloc: Global, puts: &[Put], out: &mut W) -> Result<(), ProgFault>
-    ensures { OnOk result (Appends (W.contents out.old) (W.contents out.new) (flat_map frame_text puts.now)) }
+    ensures writes { OnOk result (Appends (W.contents out.old) (W.contents out.new) (flat_map frame_text puts.now)) }
+    ensures faults { IfErr result IsPlayFault }
 {
     for put in puts {
         let text = frame_text(alloc, put)?;
@@ -225,7 +257,8 @@ fn write_notes<W: Write>(
     notes: &[HostNote],
     out: &mut W,
 ) -> Result<(), ProgFault>
-    ensures { OnOk result (Appends (W.contents out.old) (W.contents out.new) (flat_map (note_text names.now) notes.now)) }
+    ensures writes { OnOk result (Appends (W.contents out.old) (W.contents out.new) (flat_map (note_text names.now) notes.now)) }
+    ensures faults { IfErr result IsPlayFault }
 {
     for note in notes {
         let text = note_text(alloc, names, note)?;

@@ -3,7 +3,7 @@ use crate::network::{FIRST, read_net};
 use crate::player::play;
 use crate::program::perform;
 use crate::script::{Command, read_script};
-use line_sim::{Direction, Event, Net, NodeKind, mem_lines};
+use line_sim::{Direction, Event, MakeFault, Net, NodeKind, mem_lines};
 use std::io;
 use std::io::{Read, Write};
 use std::test::Fail;
@@ -121,8 +121,19 @@ fn played(rt: &HostRuntime, network: &str, script: &[u8]) -> Result<Vec<u8>, Fai
 #[test]
 fn a_link_is_set_up_and_begins_with_restarts(rt: HostRuntime) -> Result<(), Fail> {
     let printed = played(&rt, DIRECT, b"trace on\nflow\n")?;
-    let expected: &[u8] = b"0 < 01 73\n0 > 01 11\n0 < 01 11\n0 < 03 00 10 00 FB 07 00\n0 > 01 00 10 00 FB 00 00\n0 < 01 21\n0 > 03 21\nend rest\n";
+    let expected: &[u8] =
+        b"0 < 01 73\n0 > 01 11\n0 < 01 11\n0 < 03 00 10 00 FB 07 00\n0 > 01 00 10 00 FB 00 00\n0 < 01 21\n0 > 03 21\nend rest\n";
     assert_eq!(rt; printed.as_slice(), expected);
+    Ok(())
+}
+
+#[test]
+fn a_link_window_of_eight_is_refused(rt: HostRuntime) -> Result<(), Fail> {
+    let text = format!(in rt.alloc(); "{DIRECT}k = 8\n")?;
+    let config = read_net(rt.alloc(), text.as_str())?;
+    let lines = mem_lines(rt.alloc(), config.lines.len())?;
+    let fault = Net::new(rt.alloc(), &config, lines).err();
+    assert_eq!(rt; fault, Some(MakeFault::BadConfig));
     Ok(())
 }
 

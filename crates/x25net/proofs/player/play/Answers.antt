@@ -15,7 +15,7 @@ loop-command-preserved g c =
     let there : c.command-item.result ≡ get_or commands at c.command-item.result =
     rw c.deref-command-items.ensures.value at c.command-item.is in
     writes_append _ _ _ (λ a b done does. in_turn_next commands at c.command-item.result within there done does)
-    c.loop-command.invariant c.in_ok-play_command.ensures.writes
+    c.loop-command.invariant c.in_ok-traces.ensures.writes
 
 pub returns-clause-writes : goal.returns-clause-writes
 returns-clause-writes g c =
