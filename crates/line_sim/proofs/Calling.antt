@@ -1,7 +1,7 @@
 -- The calls of a PAD at a DTE, and of a host at either end, keep the line and the call.
-use Rattle.std.proofs.Common.{◌≡◌, ℕ, zero, suc, ◌+◌, ◌<◌, ◌≤◌, Bool, true, false, List, [], ◌∷◌, ◌++◌, length, map, Option, Some, None, refl, sym, ap, ◌∙◌, subst, arith}
+use Rattle.std.proofs.Common.{◌≡◌, ℕ, ◌+◌, ◌<◌, ◌≤◌, Bool, true, false, List, [], ◌∷◌, ◌++◌, length, Option, Some, None, refl, sym, ap, ◌∙◌, subst, arith}
 use Rattle.std.proofs.lemmas.List.{append-nil}
-use Rattle.std.specs.Prelude.{◌-◌, ◌%◌, slice_get, nat_le, nat_lt, nat_eq, not, ◌&&◌, ◌==◌, if◌then◌else◌, is_some}
+use Rattle.std.specs.Prelude.{◌-◌, ◌%◌, slice_get, nat_le, nat_lt, ◌&&◌, ◌==◌, if◌then◌else◌, is_some}
 use Rattle.std.specs.Option.{option_to_list}
 use Rattle.std.proofs.lemmas.Bool.{ltb-true}
 use Rattle.link_timers.specs.declared.timers.TimerId.{TimerId}
@@ -14,17 +14,17 @@ use Rattle.lapb.specs.World as world
 use Rattle.lapb.specs.World.{is_up_note}
 use Rattle.lapb.specs.Octets.{on_octets}
 use Rattle.epochs.specs.Item.{DataPacket}
-use Rattle.line_end.specs.End.{End, without_frames, received, after_timer, timer_note, expiry_note, relinked, restarted, offered, settled}
-use Rattle.line_sim.specs.Linked.{Logs, HasLinks, dte_offers, dce_offers, TakenAtDce}
+use Rattle.line_end.specs.End.{End, received, after_timer, timer_note, expiry_note, relinked, restarted, offered}
+use Rattle.line_sim.specs.Linked.{Logs, HasLinks, dce_offers, TakenAtDce}
 use Rattle.line_sim.specs.Packets.{Heard, Data, Ready, Nothing, data_octets, ready_octets, restart_octets, restart_cause, heard_packet}
-use Rattle.line_sim.specs.Turn.{Turn, NodeCall, Hears, Expires, Relinks, Restarts}
-use Rattle.line_sim.specs.PadState.{PadState, KeyEffect, edited_by, pad_key, pad_begins, next_packet_number, lets_go, goes, pad_offers_of, pad_offers, pad_settles, pad_ends, pad_closes, pad_noted, pad_packet, pad_accepts, pad_told, pad_turn_ends, pad_hears, pad_expires, pad_relinks, pad_anew, pad_called, pad_call}
-use Rattle.line_sim.specs.HostState.{HostState, host_gives, host_begins, is_due, host_offers, host_settles, host_ends, host_closes, host_noted, host_packet, host_accepts, host_told, host_turn_ends, host_hears, host_expires, host_relinks, host_anew, host_called, host_call, host_takes_of, host_takes}
+use Rattle.line_sim.specs.Turn.{Turn, Hears, Expires, Relinks, Restarts}
+use Rattle.line_sim.specs.PadState.{PadState, KeyEffect, edited_by, pad_key, pad_begins, next_packet_number, lets_go, goes, pad_offers_of, pad_offers, pad_ends, pad_closes, pad_packet, pad_told, pad_turn_ends, pad_expires, pad_anew, pad_call}
+use Rattle.line_sim.specs.HostState.{HostState, host_gives, host_begins, is_due, host_offers, host_ends, host_closes, host_packet, host_told, host_expires, host_anew, host_call, host_takes_of, host_takes}
 use Rattle.line_sim.specs.Joined.{AreShort, PadPart, pad_part, HostPart, host_part, Agrees}
 use Rattle.line_sim.proofs.Calls.{data-fits, ready-fits}
 use Rattle.line_sim.proofs.Keys.{KeyDoes, key-does}
 use Rattle.line_sim.proofs.Linking.{plain-relink, plain-t1}
-use Rattle.line_sim.proofs.Joining.{agrees-pad_gone, agrees-host_gone, agrees-pad_closes, agrees-host_closes, agrees-dte_closes, agrees-dte_silent, agrees-dte_ready, agrees-goes, agrees-dte_offers, agrees-host_offers, agrees-dce_silent, agrees-dce_data, agrees-takes, agrees-pad_accepts}
+use Rattle.line_sim.proofs.Joining.{agrees-pad_gone, agrees-host_gone, agrees-host_closes, agrees-dte_closes, agrees-dte_silent, agrees-dte_ready, agrees-goes, agrees-dte_offers, agrees-host_offers, agrees-dce_silent, agrees-dce_data, agrees-takes, agrees-pad_accepts}
 use Rattle.line_sim.proofs.Holding.{HeldDte, HeldDce, begins-dte, begins-dce, received-dte, received-dce, relinked-dte, relinked-dce, settled-dte, settled-dce, timed-dte, timed-dce, offered-dte, offered-dce, restarted-dte, restarted-dce, weaken-dte, weaken-dce}
 
 true-not_false : {A : Type 0} (b : Bool) → b ≡ true → b ≡ false → A

@@ -1,11 +1,8 @@
 -- Lists of packets on the way: numbered Data packets, and RR packets.
-use Rattle.std.proofs.Common.{◌≡◌, ℕ, suc, ◌+◌, ◌%◌, ◌<◌, ◌≤◌, true, List, [], ◌∷◌, ◌++◌, length, map, Result, Ok, Err, refl, sym, ap, ◌∙◌, subst, arith, length-append}
+use Rattle.std.proofs.Common.{◌≡◌, ℕ, suc, ◌+◌, ◌%◌, ◌<◌, ◌≤◌, List, [], ◌∷◌, ◌++◌, length, map, refl, ap, arith}
 use Rattle.epochs.specs.Item.{DataPacket}
-use Rattle.packet_codec.specs.Packet.{PacketValue}
-use Rattle.packet_codec.specs.Reading.{reading}
-use Rattle.packet_codec.specs.declared.fault.PacketFault.{PacketFault}
 use Rattle.packet_codec.proofs.Spellings.{reading-spelling}
-use Rattle.line_sim.specs.Packets.{data_value, data_octets, ready_value, ready_octets, Heard, Data, Ready, heard_value, heard_packet}
+use Rattle.line_sim.specs.Packets.{data_value, data_octets, ready_value, ready_octets, Data, Ready, heard_value, heard_packet}
 use Rattle.line_sim.specs.Joined.{numbered, AreShort, Covering}
 
 pub numbered-push : (n : ℕ) (ps : List DataPacket) (p : DataPacket) (m : ℕ) → m ≡ (n + length ps) % 8 → numbered n ps ++ data_octets m p ∷ [] ≡ numbered n (ps ++ p ∷ [])

@@ -1,13 +1,13 @@
 -- From what was served at one node, its line and its record to the step of the network.
-use Rattle.std.proofs.Common.{◌≡◌, ◌≢◌, ℕ, zero, suc, ◌+◌, ◌<◌, ◌≤◌, List, [], ◌∷◌, map, length, get_or, set, Bool, true, false, Result, Ok, Err, Option, Some, None, refl, sym, ap, ◌∙◌, subst, arith, vec_len}
-use Rattle.std.specs.Prelude.{slice_get, slice_set, nat_eq, nat_lt, ◌==◌, ◌&&◌, ◌||◌, not, if◌then◌else◌, MatchBool}
+use Rattle.std.proofs.Common.{◌≡◌, ◌≢◌, ℕ, zero, suc, ◌+◌, ◌<◌, ◌≤◌, List, [], ◌∷◌, map, length, get_or, Bool, true, false, Ok, Option, Some, None, refl, sym, ap, ◌∙◌, subst, arith}
+use Rattle.std.specs.Prelude.{slice_get, slice_set, nat_eq, nat_lt, ◌==◌, ◌&&◌, ◌||◌, if◌then◌else◌, MatchBool}
 use Rattle.std.proofs.lemmas.Bool.{eq-eqb, ne_eqb, lt-ltb, le-ltb}
 use Rattle.pad_editing.specs.Edited.{Step}
 use Rattle.epochs.specs.Item.{DataPacket}
 use Rattle.line_sim.specs.declared.event.Answer.{Answer}
 use Rattle.line_sim.specs.declared.event.Put.{Put}
 use Rattle.line_sim.specs.declared.event.HostNote.{HostNote}
-use Rattle.line_sim.specs.declared.event.Event.TheVariants.{Key, Take, Deliver, Lose, Expire, Relink, Restart}
+use Rattle.line_sim.specs.declared.event.Event.TheVariants.{Key, Take, Deliver, Expire, Relink, Restart}
 use Rattle.line_sim.specs.declared.event.Outcome.TheVariants.{Delivered, Done, Keyed, Took}
 use Rattle.line_sim.specs.declared.event.KeyAnswer.TheVariants as key_answer
 use Rattle.line_sim.specs.declared.event.StepFault.{StepFault}
@@ -15,22 +15,22 @@ use Rattle.line_sim.specs.declared.event.StepFault.TheVariants.{NoSuchNode, NoSu
 use Rattle.line_sim.specs.declared.record.Record.{Record}
 use Rattle.line_sim.specs.declared.line.Direction.{Direction}
 use Rattle.line_sim.specs.declared.line.Direction.TheVariants.{FromDte, FromDce}
-use Rattle.line_sim.specs.Lines.{Flights, no_flights, flying, without_first}
+use Rattle.line_sim.specs.Lines.{Flights, flying, without_first}
 use Rattle.line_sim.specs.Turn as turn
 use Rattle.line_sim.specs.Turn.{NodeCall}
 use Rattle.line_sim.specs.PadState.{PadState, pad_key, pad_call}
 use Rattle.line_sim.specs.HostState.{HostState, host_call, host_gives}
 use Rattle.link_timers.specs.declared.timers.TimerId.{TimerId}
-use Rattle.line_sim.specs.NodeState.{NodeState, Pad, Host, node_call, frames_of, is_pad}
+use Rattle.line_sim.specs.NodeState.{NodeState, Pad, node_call, frames_of, is_pad}
 use Rattle.line_sim.specs.Sends.{Sends}
 use Rattle.line_sim.specs.Records.{RecordValue, with_turn, changed_at}
 use Rattle.line_sim.specs.RecordView.{shown, CoversFit}
 use Rattle.line_sim.specs.NetState.{NetState}
-use Rattle.line_sim.specs.Faults.{step_fault, is_host_at, is_node}
+use Rattle.line_sim.specs.Faults.{is_host_at, is_node}
 use Rattle.line_sim.specs.Runs.{Happens}
 use Rattle.line_sim.specs.Steps.{with_key, with_any_taken, KeyStep, KeyOf, IdleStep, TakeStep, TakeOf, DteStep, DceStep, NodeStep, HearsOf, DeliverStep, RestartStep}
 use Rattle.line_sim.specs.ServedBy.{KeyServed, TakeServed, DteServed, DceServed}
-use Rattle.line_sim.specs.IsNet.{caller_record, callee_record, Stands, IsIdle, HasNoCall, Calls, stands, none, IsNet}
+use Rattle.line_sim.specs.IsNet.{caller_record, callee_record, IsIdle, Calls, stands, none, IsNet}
 use Rattle.line_sim.proofs.Keeping.{PadKeeps, pad-keeps, host-keeps}
 use Rattle.line_sim.proofs.Noting.{changed-some}
 

@@ -1,18 +1,17 @@
 -- What each thing that happens at an end makes of a standing call.
-use Rattle.std.proofs.Common.{◌≡◌, ◌≢◌, ℕ, zero, suc, ◌+◌, ◌-◌, ◌%◌, ◌<◌, ◌≤◌, Bool, true, false, List, [], ◌∷◌, ◌++◌, length, map, Option, Some, None, refl, sym, ap, ◌∙◌, subst, arith, length-append, append_assoc}
-use Rattle.std.specs.Prelude.{nat_le, nat_lt, nat_eq, not, ◌&&◌, ◌==◌, if◌then◌else◌}
+use Rattle.std.proofs.Common.{◌≡◌, ℕ, suc, ◌+◌, ◌-◌, ◌%◌, ◌<◌, ◌≤◌, Bool, true, false, List, [], ◌∷◌, ◌++◌, length, Option, Some, None, refl, sym, ap, ◌∙◌, subst, arith, length-append, append_assoc}
+use Rattle.std.specs.Prelude.{nat_le, nat_lt, nat_eq, ◌&&◌, ◌==◌, if◌then◌else◌}
 use Rattle.std.specs.Option.{option_to_list}
-use Rattle.std.proofs.lemmas.Bool.{le-leb, lt-ltb, ltb-true, eq-eqb, ne_eqb}
+use Rattle.std.proofs.lemmas.Bool.{le-leb, lt-ltb, eq-eqb, ne_eqb}
 use Rattle.lapb.specs.Machine.{Octets, Link, Step, ahead, can_offer}
 use Rattle.lapb.specs.World as world
 use Rattle.lapb.specs.World.{is_up_note}
 use Rattle.epochs.specs.Item.{DataPacket}
-use Rattle.line_end.specs.End.{End}
 use Rattle.line_sim.specs.Linked.{Logs, added, dte_offers, dce_offers, TakenAtDte, TakenAtDce}
 use Rattle.line_sim.specs.Packets.{data_octets, ready_octets, Heard, Data, Ready, heard_packet}
 use Rattle.line_sim.specs.Turn.{Turn}
-use Rattle.line_sim.specs.PadState.{PadState, pad_closes, pad_packet, pad_accepts, next_packet_number, goes}
-use Rattle.line_sim.specs.HostState.{HostState, host_closes, host_packet, host_accepts}
+use Rattle.line_sim.specs.PadState.{PadState, pad_closes, pad_packet, next_packet_number, goes}
+use Rattle.line_sim.specs.HostState.{HostState, host_closes, host_packet}
 use Rattle.line_sim.specs.Joined.{numbered, AreShort, Covering, PadPart, pad_part, HostPart, host_part, PadJoins, Joins, Agrees}
 use Rattle.line_sim.proofs.Calls.{numbered-push, short-append, covering-push, covering-grow, covering-within, heard-data, heard-ready}
 

@@ -1,6 +1,6 @@
 -- What a call of a node keeps, on any line: of the text that is held, the numbers of the packets, and a call that is closed.
-use Rattle.std.proofs.Common.{◌≡◌, ℕ, zero, suc, ◌+◌, ◌-◌, ◌<◌, ◌≤◌, Bool, true, false, List, [], ◌∷◌, ◌++◌, length, Option, Some, None, refl, sym, ap, ◌∙◌, subst, arith}
-use Rattle.std.specs.Prelude.{nat_le, nat_lt, ◌&&◌, not, ◌==◌, if◌then◌else◌}
+use Rattle.std.proofs.Common.{◌≡◌, ℕ, suc, ◌+◌, ◌-◌, ◌<◌, ◌≤◌, Bool, true, false, List, [], ◌∷◌, length, Option, Some, None, refl, sym, ap, ◌∙◌, subst, arith}
+use Rattle.std.specs.Prelude.{nat_le, ◌&&◌, if◌then◌else◌}
 use Rattle.std.proofs.lemmas.Bool.{leb-true}
 use Rattle.lapb.specs.declared.note.Note.{Note}
 use Rattle.lapb.specs.Machine as machine
@@ -10,8 +10,8 @@ use Rattle.line_end.specs.End.{End, received, after_timer, timer_note, relinked,
 use Rattle.epochs.specs.Item.{DataPacket}
 use Rattle.line_sim.specs.Packets.{Heard, Data, Ready, Nothing, heard_packet, ready_octets}
 use Rattle.line_sim.specs.Turn.{NodeCall, Hears, Expires, Relinks, Restarts, Turn}
-use Rattle.line_sim.specs.PadState.{PadState, pad_begins, lets_go, goes, pad_offers_of, pad_offers, pad_ends, pad_turn_ends, pad_closes, pad_packet, pad_accepts, pad_told, pad_expires, pad_anew, pad_call}
-use Rattle.line_sim.specs.HostState.{HostState, host_begins, is_due, host_offers, host_ends, host_turn_ends, host_closes, host_packet, host_accepts, host_told, host_expires, host_anew, host_call}
+use Rattle.line_sim.specs.PadState.{PadState, pad_begins, lets_go, goes, pad_offers_of, pad_ends, pad_turn_ends, pad_packet, pad_told, pad_expires, pad_anew, pad_call}
+use Rattle.line_sim.specs.HostState.{HostState, host_begins, is_due, host_turn_ends, host_packet, host_told, host_expires, host_anew, host_call}
 
 true-not_false : {A : Type 0} (b : Bool) → b ≡ true → b ≡ false → A
 true-not_false b e f = absurd (let x : true ≡ false = sym e ∙ f in cc)

@@ -1,11 +1,11 @@
 -- What a key makes of a PAD.
-use Rattle.std.proofs.Common.{◌≡◌, ℕ, suc, ◌+◌, ◌<◌, ◌≤◌, Bool, true, false, List, [], ◌∷◌, ◌++◌, length, map, Option, Some, None, IfSome, refl, sym, ap, ◌∙◌, subst, arith, append_assoc, length-append}
-use Rattle.std.specs.Prelude.{is_some, ◌&&◌, nat_eq, if◌then◌else◌}
+use Rattle.std.proofs.Common.{◌≡◌, ℕ, ◌<◌, ◌≤◌, Bool, true, false, List, [], ◌++◌, length, map, Option, Some, None, IfSome, refl, sym, ap, ◌∙◌}
+use Rattle.std.specs.Prelude.{◌&&◌, if◌then◌else◌}
 use Rattle.std.specs.Option.{option_to_list}
 use Rattle.std.proofs.lemmas.List.{append-nil}
-use Rattle.epochs.specs.Item.{DataPacket, message}
-use Rattle.pad_editing.specs.Edited.{Step, Edit, Effect, key, after_key, edit_of, one_more}
-use Rattle.pad_editing.proofs.Edits.{edit_of_more, effect_of_bounds, AreBounded}
+use Rattle.epochs.specs.Item.{message}
+use Rattle.pad_editing.specs.Edited.{Step, key, after_key, edit_of, one_more}
+use Rattle.pad_editing.proofs.Edits.{edit_of_more, effect_of_bounds}
 use Rattle.line_sim.specs.PadState.{PadState, KeyEffect, does_nothing, typed, queue_is_full, ends_block, edited_by}
 use Rattle.line_sim.specs.Joined.{AreShort}
 

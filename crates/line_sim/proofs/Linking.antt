@@ -1,22 +1,16 @@
 -- What each event of two links makes of a line, and of the lists of session 0.
-use Rattle.std.proofs.Common.{◌≡◌, ℕ, suc, ◌+◌, ◌≤◌, Bool, true, false, List, [], ◌∷◌, ◌++◌, length, map, drop, Option, Some, None, refl, sym, ap, ◌∙◌, subst, arith}
-use Rattle.std.specs.Prelude.{if◌then◌else◌, not, ◌&&◌, ◌||◌, nat_le, nat_lt, ◌==◌}
+use Rattle.std.proofs.Common.{◌≡◌, ℕ, ◌+◌, ◌≤◌, Bool, true, false, List, [], ◌∷◌, ◌++◌, length, map, Option, Some, None, refl, sym, ap, ◌∙◌, arith}
+use Rattle.std.specs.Prelude.{if◌then◌else◌, not, ◌&&◌, nat_le, ◌==◌}
 use Rattle.std.specs.Option.{option_to_list}
 use Rattle.link_timers.specs.declared.role.Role.{Role}
 use Rattle.link_timers.specs.declared.role.Role.TheVariants.{Dte, Dce}
 use Rattle.frame_codec.specs.Spelling.{spelling}
 use Rattle.lapb.specs.declared.phase.Phase.{Phase}
-use Rattle.lapb.specs.declared.note.Note.{Note}
-use Rattle.lapb.specs.Machine.{left, first_phase, Octets, Link, Step, on_t1, relink, relink_as, expire_in, poll, runs, still, settle, settle_in, send_all, sendable, offer, can_offer, new}
-use Rattle.lapb.specs.World.{Sent, World, Offer, Deliver, Lose, Expire, Relink, Settle, Restart, Params, opening, happens, logged, emptied, offered, remade, is_setting_up, is_up_note, act_after, dte_does, dce_does, to_dte, to_dce, InOrder, IsPrefix}
-use Rattle.lapb.specs.Octets.{on_octets}
-use Rattle.lapb.specs.Fits.{octets_of}
-use Rattle.lapb.specs.Line.{StandsIn, chosen}
-use Rattle.lapb.proofs.Lines.{stands_opening, stands_offer_dte, stands_offer_dce, stands_t1_dte, stands_t1_dce, stands_relink_dte, stands_relink_dce, stands_settle_dte, stands_settle_dce, stands_restart_dte, stands_restart_dce, stands_lose_up, stands_lose_down, stands_frame_dte, stands_frame_dce}
-use Rattle.lapb.proofs.Notes.{Says, says_on_t1, says_relink, says_settle}
-use Rattle.lapb.proofs.Sessions.{TakenAtDte, TakenAtDce, taken_at_dte, taken_at_dce}
-use Rattle.lapb.proofs.Reach.{reached_in_order}
-use Rattle.line_sim.specs.Linked.{Logs, logs_of, HasLinks, added, dte_offers, dce_offers, TakenAtDte as DteTakes, TakenAtDce as DceTakes}
+use Rattle.lapb.specs.Machine.{left, first_phase, Octets, Link, Step, on_t1, relink, relink_as, expire_in, poll, runs, still, settle, settle_in, send_all, sendable, offer, new}
+use Rattle.lapb.specs.World.{World, Offer, Lose, Expire, Relink, Settle, Restart, Params, opening, happens, logged, offered, remade, is_setting_up, is_up_note, dte_does, dce_does}
+use Rattle.lapb.specs.Line.{chosen}
+use Rattle.lapb.proofs.Lines.{stands_opening, stands_offer_dte, stands_offer_dce, stands_t1_dte, stands_t1_dce, stands_relink_dte, stands_relink_dce, stands_settle_dte, stands_settle_dce, stands_restart_dte, stands_restart_dce, stands_lose_up, stands_lose_down}
+use Rattle.line_sim.specs.Linked.{Logs, logs_of, HasLinks, added, dte_offers, dce_offers}
 
 -- ---- calls that begin no session and accept nothing
 

@@ -1,11 +1,9 @@
 -- Each event keeps what holds of a network between its events.
-use Rattle.std.proofs.Common.{◌≡◌, ◌≢◌, ℕ, zero, suc, ◌+◌, ◌<◌, ◌≤◌, Bool, true, false, List, [], ◌∷◌, ◌++◌, length, map, drop, Option, Some, None, refl, sym, ap, ◌∙◌, subst, arith, length-append}
-use Rattle.std.specs.Prelude.{slice_get, MatchOption, MatchBool, ◌==◌, ◌&&◌, ◌||◌, if◌then◌else◌}
+use Rattle.std.proofs.Common.{◌≡◌, ℕ, ◌+◌, ◌<◌, ◌≤◌, Bool, true, false, List, [], ◌∷◌, ◌++◌, length, map, drop, Option, Some, None, refl, sym, ap, ◌∙◌, subst, arith, length-append}
+use Rattle.std.specs.Prelude.{slice_get, MatchOption, MatchBool, ◌==◌, ◌&&◌, ◌||◌}
 use Rattle.std.specs.Option.{option_to_list}
-use Rattle.std.proofs.lemmas.List.{append-nil}
 use Rattle.epochs.specs.Item.{DataPacket, message}
-use Rattle.epochs.specs.Epoch.{nothing_sent}
-use Rattle.pad_editing.specs.Edited.{Step, Edit, edit_of}
+use Rattle.pad_editing.specs.Edited.{Edit, edit_of}
 use Rattle.lapb.specs.Machine.{Octets, Link}
 use Rattle.line_sim.specs.declared.line.Direction.{Direction}
 use Rattle.line_sim.specs.declared.line.Direction.TheVariants.{FromDte, FromDce}
@@ -17,10 +15,10 @@ use Rattle.line_sim.specs.Linked.{Logs, HasLinks}
 use Rattle.line_sim.specs.Joined.{PadPart, pad_part, host_part, Agrees}
 use Rattle.line_sim.specs.Turn as turn
 use Rattle.line_sim.specs.Turn.{NodeCall, Turn}
-use Rattle.line_sim.specs.PadState.{PadState, KeyEffect, pad_begins, pad_call, pad_key, edited_by, pad_ends, new_pad}
+use Rattle.line_sim.specs.PadState.{PadState, KeyEffect, pad_begins, pad_call, pad_key, edited_by, new_pad}
 use Rattle.line_sim.specs.HostState.{HostState, host_begins, host_call, host_takes, host_gives}
 use Rattle.line_sim.specs.NodeState.{NodeState, Pad, Host, node_call, frames_of, drained}
-use Rattle.line_sim.specs.Records.{RecordValue, with_turn, with_covered, with_closed, changed_at}
+use Rattle.line_sim.specs.Records.{RecordValue, with_turn, changed_at}
 use Rattle.line_sim.specs.NetState.{NetState}
 use Rattle.line_sim.specs.Sends.{ArePut}
 use Rattle.line_sim.specs.Steps.{with_key, with_any_taken, KeyStep, KeyOf, IdleStep, TakeOf, TakeStep, DteStep, DceStep, NodeStep, EmptyDelivery, HearsOf, DeliverStep, LoseStep, RestartStep, StepOf}
@@ -35,7 +33,7 @@ use Rattle.line_sim.proofs.Linking.{linked-lose-up, linked-lose-down}
 use Rattle.line_sim.proofs.Holding.{HeldDte, HeldDce}
 use Rattle.line_sim.proofs.Calling.{call-pad-key, call-host-takes}
 use Rattle.line_sim.proofs.Serving.{put-dte, put-dce, before_call, left_by, held-pad_call, held-host_call, held-free_call}
-use Rattle.line_sim.proofs.Keeping.{PadKeeps, pad-keeps, HostKeeps, host-keeps, ends-keep}
+use Rattle.line_sim.proofs.Keeping.{PadKeeps, pad-keeps, host-keeps, ends-keep}
 
 -- ---- what is on the line before a call of a node, and while it puts its frames
 

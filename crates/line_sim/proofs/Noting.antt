@@ -1,6 +1,6 @@
 -- A change of one of the code's records, as the records show it.
-use Rattle.std.proofs.Common.{◌≡◌, ℕ, zero, suc, ◌+◌, ◌<◌, ◌≤◌, List, [], ◌∷◌, map, length, get_or, set, Option, Some, None, refl, sym, ap, ◌∙◌, arith, vec_len}
-use Rattle.std.specs.Prelude.{slice_get, slice_set}
+use Rattle.std.proofs.Common.{◌≡◌, ℕ, zero, suc, ◌+◌, ◌<◌, ◌≤◌, List, [], ◌∷◌, map, length, get_or, refl, ap, ◌∙◌, arith, vec_len}
+use Rattle.std.specs.Prelude.{slice_set}
 use Rattle.line_sim.specs.declared.record.Record.{Record}
 use Rattle.line_sim.specs.Records.{RecordValue, changed_at}
 use Rattle.line_sim.specs.RecordView.{shown, CoversFit}

@@ -1,5 +1,5 @@
 -- A network as it is made has what holds of a network between its events.
-use Rattle.std.proofs.Common.{◌≡◌, ◌≢◌, ℕ, zero, suc, ◌+◌, ◌<◌, ◌≤◌, Bool, true, false, List, [], ◌∷◌, ◌++◌, length, refl, sym, ap, ◌∙◌, subst, arith}
+use Rattle.std.proofs.Common.{◌≡◌, ◌≢◌, ℕ, ◌≤◌, Bool, true, false, List, [], ◌∷◌, ◌++◌, length, refl, sym, ap, ◌∙◌, subst, arith}
 use Rattle.std.specs.Prelude.{if◌then◌else◌}
 use Rattle.link_timers.specs.declared.role.Role.TheVariants.{Dte, Dce}
 use Rattle.lapb.specs.Machine as machine
@@ -16,13 +16,13 @@ use Rattle.line_sim.specs.Sends.{ArePut, Sends}
 use Rattle.line_sim.specs.Lines.{Flights, no_flights}
 use Rattle.line_sim.specs.Linked.{Logs, logs_of, HasLinks}
 use Rattle.line_sim.specs.Joined.{AreShort, PadPart, HostPart, host_part, Agrees}
-use Rattle.line_sim.specs.PadState.{PadState, new_pad, pad_begins}
+use Rattle.line_sim.specs.PadState.{new_pad, pad_begins}
 use Rattle.line_sim.specs.HostState.{HostState, new_host, host_begins}
-use Rattle.line_sim.specs.NodeState.{NodeState, Pad, Host, frames_of, drained}
-use Rattle.line_sim.specs.Records.{RecordValue, PairValue, standing_record, standing_pair}
+use Rattle.line_sim.specs.NodeState.{NodeState, frames_of, drained}
+use Rattle.line_sim.specs.Records.{standing_record, standing_pair}
 use Rattle.line_sim.specs.NetState.{NetState}
 use Rattle.line_sim.specs.Plan.{Plan, DtePlan, PadPlan, HostPlan, dte_of, new_dte, new_dce, terminals_of, first_records, first_pairs, opening, IsBegun}
-use Rattle.line_sim.specs.IsNet.{Stands, IsIdle, HasNoCall, Calls, stands, none, part_of, link_of, IsServed, IsNet}
+use Rattle.line_sim.specs.IsNet.{IsIdle, stands, none, part_of, IsServed, IsNet}
 use Rattle.line_sim.proofs.Linking.{linked-opening}
 use Rattle.line_sim.proofs.Holding.{HeldDte, HeldDce, begins-dte, begins-dce, relinked-dte, relinked-dce}
 use Rattle.line_sim.proofs.Serving.{put-dte, put-dce}

@@ -1,17 +1,15 @@
 -- What holds of a network on a faithful line between its events has all that the network promises.
-use Rattle.std.proofs.Common.{◌≡◌, ◌≢◌, ℕ, zero, suc, ◌+◌, ◌<◌, ◌≤◌, List, [], ◌∷◌, ◌++◌, length, map, Option, Some, None, refl, sym, ap, ◌∙◌, subst, inl, inr, arith, append_assoc}
+use Rattle.std.proofs.Common.{◌≡◌, ◌≢◌, ℕ, zero, suc, List, [], ◌∷◌, ◌++◌, length, map, Some, refl, sym, ap, ◌∙◌, subst, inl, inr, arith, append_assoc}
 use Rattle.std.specs.Prelude.{slice_get, ◌⊎◌}
 use Rattle.std.proofs.lemmas.List.{append-nil}
-use Rattle.epochs.specs.Item.{Item, Octet, End, DataPacket, message, items_of, all_items, user_items}
+use Rattle.epochs.specs.Item.{Item, Octet, End, DataPacket, message, all_items, user_items}
 use Rattle.epochs.specs.Prefix.{IsListPrefix}
-use Rattle.epochs.specs.Epoch.{Epoch, IsEmpty, nothing_sent, nothing_taken, sent_epoch, taken_epoch, IsAligned}
-use Rattle.epochs.specs.Match.{Match}
-use Rattle.epochs.proofs.Prefixes.{longer-list}
+use Rattle.epochs.specs.Epoch.{nothing_sent, nothing_taken}
 use Rattle.epochs.proofs.Matching.{aligned-match}
-use Rattle.pad_editing.specs.Edited.{Step, Edit, edit_of, edited}
-use Rattle.line_sim.specs.Records.{RecordValue, PairValue, sent_epochs, taken_epochs}
+use Rattle.pad_editing.specs.Edited.{edit_of, edited}
+use Rattle.line_sim.specs.Records.{RecordValue, PairValue, sent_epochs}
 use Rattle.line_sim.specs.NetState.{NetState}
-use Rattle.line_sim.specs.Headline.{PairMatches, PairIsRight, PairHolds, IsIn, TookNothing, items_of_epochs, messages, Headline}
+use Rattle.line_sim.specs.Headline.{PairMatches, PairIsRight, PairHolds, items_of_epochs, messages, Headline}
 use Rattle.line_sim.specs.Records.{standing_pair}
 use Rattle.line_sim.specs.IsNet.{caller_record, callee_record, Stands, HasNoCall, Calls, stands, none, sent_of, taken_of, covered_of, IsServed, IsNet}
 

@@ -1,6 +1,6 @@
 -- A run and one event more.
 use Rattle.std.proofs.Common.{◌≡◌, Bool, ℕ, zero, suc, ◌+◌, ◌<◌, List, [], ◌∷◌, ◌++◌, take, length, get_or, Option, Some, None, Result, Ok, Err, refl, sym, ap, ◌∙◌, subst, inl, inr, arith}
-use Rattle.std.specs.Prelude.{◌&&◌, ◌⊎◌, ◌==◌, ◌||◌, nat_lt, slice_get, true, false, if◌then◌else◌}
+use Rattle.std.specs.Prelude.{◌&&◌, ◌==◌, ◌||◌, nat_lt, true, false, if◌then◌else◌}
 use Rattle.std.proofs.lemmas.Option.{slice_get-get_or}
 use Rattle.line_sim.specs.declared.config.Config.{Config}
 use Rattle.line_sim.specs.declared.event.Event.{Event}
@@ -11,8 +11,6 @@ use Rattle.line_sim.specs.declared.event.Answer.{Answer}
 use Rattle.line_sim.specs.NetState.{NetState}
 use Rattle.line_sim.specs.Faults.{step_fault, is_host_at, is_node}
 use Rattle.line_sim.specs.NodeState.{is_pad}
-use Rattle.line_sim.specs.Steps.{StepOf}
-use Rattle.line_sim.specs.Plan.{IsMade}
 use Rattle.line_sim.specs.Runs.{Happens, Happened, Ran, HasRun, HasStopped}
 
 -- what was answered, or refused for another reason than want of memory, happened

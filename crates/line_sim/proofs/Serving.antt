@@ -1,26 +1,22 @@
 -- A call of a node at its line, and what it puts there, keep the line with its two links and the call.
-use Rattle.std.proofs.Common.{◌≡◌, ℕ, zero, suc, ◌+◌, ◌<◌, ◌≤◌, Bool, true, false, List, [], ◌∷◌, ◌++◌, length, map, drop, Option, Some, None, refl, sym, ap, ◌∙◌, subst, inl, inr, arith, append_assoc}
-use Rattle.std.specs.Prelude.{◌⊎◌, ◌&&◌, ◌==◌, not, ◌%◌, nat_lt, if◌then◌else◌, slice_get}
-use Rattle.std.specs.Option.{option_to_list}
+use Rattle.std.proofs.Common.{◌≡◌, ℕ, Bool, true, false, List, [], ◌∷◌, ◌++◌, Option, Some, None, sym, ap, ◌∙◌, subst, inl, inr, append_assoc}
+use Rattle.std.specs.Prelude.{◌&&◌, if◌then◌else◌}
 use Rattle.std.proofs.lemmas.List.{append-nil}
-use Rattle.link_timers.specs.declared.timers.TimerId.{TimerId}
 use Rattle.lapb.specs.declared.note.Note.{Note}
 use Rattle.lapb.specs.Machine as machine
 use Rattle.lapb.specs.Machine.{Octets, Link, can_offer}
-use Rattle.lapb.specs.World as world
 use Rattle.lapb.specs.Octets.{on_octets}
 use Rattle.lapb.specs.Line.{chosen}
-use Rattle.line_end.specs.End.{End, without_frames, received, after_timer, timer_note, relinked, restarted, offered, settled}
+use Rattle.line_end.specs.End.{End, received, after_timer, timer_note, relinked, offered}
 use Rattle.epochs.specs.Item.{DataPacket}
-use Rattle.line_sim.specs.declared.line.Direction.{Direction}
 use Rattle.line_sim.specs.declared.line.Direction.TheVariants.{FromDte, FromDce}
-use Rattle.line_sim.specs.Lines.{Flights, flying, with_flying, IsPut}
+use Rattle.line_sim.specs.Lines.{Flights}
 use Rattle.line_sim.specs.Sends.{ArePut}
 use Rattle.line_sim.specs.Linked.{Logs, HasLinks}
-use Rattle.line_sim.specs.Packets.{Heard, Data, Ready, Nothing, ready_octets, restart_octets, restart_cause, heard_packet}
+use Rattle.line_sim.specs.Packets.{ready_octets, restart_octets, restart_cause, heard_packet}
 use Rattle.line_sim.specs.Turn.{NodeCall, Hears, Expires, Relinks, Restarts, Turn}
 use Rattle.line_sim.specs.PadState.{PadState, pad_call}
-use Rattle.line_sim.specs.HostState.{HostState, host_begins, is_due, host_offers, host_ends, host_closes, host_packet, host_accepts, host_told, host_expires, host_anew, host_call}
+use Rattle.line_sim.specs.HostState.{HostState, host_begins, is_due, host_offers, host_ends, host_packet, host_told, host_expires, host_anew, host_call}
 use Rattle.line_sim.specs.Joined.{pad_part, host_part, Agrees}
 use Rattle.line_sim.proofs.Calls.{ready-fits}
 use Rattle.line_sim.proofs.Holding.{HeldDte, HeldDce, begins-dte, received-dte, relinked-dte, settled-dte, timed-dte, offered-dte, restarted-dte}

@@ -1,14 +1,12 @@
 -- What a frame that is taken makes of a line, and of the lists of session 0.
-use Rattle.std.proofs.Common.{◌≡◌, ℕ, suc, ◌+◌, ◌≤◌, Bool, true, false, List, [], ◌∷◌, ◌++◌, length, map, drop, Option, Some, None, refl, sym, ap, ◌∙◌, subst, arith}
-use Rattle.std.specs.Prelude.{if◌then◌else◌, not, ◌&&◌}
+use Rattle.std.proofs.Common.{◌≡◌, ℕ, ◌≤◌, Bool, true, List, [], ◌∷◌, ◌++◌, map, refl, sym, ap, ◌∙◌, subst}
+use Rattle.std.specs.Prelude.{if◌then◌else◌}
 use Rattle.std.specs.Option.{option_to_list}
-use Rattle.link_timers.specs.declared.role.Role.{Role}
 use Rattle.link_timers.specs.declared.role.Role.TheVariants.{Dte, Dce}
 use Rattle.frame_codec.specs.Spelling.{spelling}
-use Rattle.lapb.specs.declared.phase.Phase.{Phase}
 use Rattle.lapb.specs.declared.note.Note.{Note}
 use Rattle.lapb.specs.Machine.{Octets, Link, Step, on_frame}
-use Rattle.lapb.specs.World.{Sent, World, Deliver, happens, logged, emptied, is_setting_up, is_up_note, to_dte, to_dce, InOrder, IsPrefix}
+use Rattle.lapb.specs.World.{Sent, World, Deliver, happens, emptied, is_setting_up, is_up_note, to_dte, to_dce}
 use Rattle.lapb.specs.Octets.{on_octets}
 use Rattle.lapb.specs.Fits.{AllSpelt, octets_of}
 use Rattle.lapb.specs.Line.{StandsIn, chosen}

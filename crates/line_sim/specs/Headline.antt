@@ -1,5 +1,5 @@
 -- What the network promises.
-use Rattle.std.specs.Prelude.{◌≡◌, ◌≢◌, ℕ, ◌<◌, ◌⊎◌, List, [], ◌∷◌, ◌++◌, map, slice_get, Some, None}
+use Rattle.std.specs.Prelude.{◌≡◌, ℕ, ◌<◌, ◌⊎◌, List, [], ◌∷◌, ◌++◌, map, slice_get, Some, None}
 use Rattle.epochs.specs.Item.{Item, Octet, End, user_items}
 use Rattle.epochs.specs.Epoch.{Epoch, IsEmpty}
 use Rattle.epochs.specs.Match.{Match}

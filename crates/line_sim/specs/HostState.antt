@@ -1,6 +1,6 @@
 -- The private host: it takes what comes on the standing call, and tells by P(R) what it took (X.25 4.4.1); a new session of the
 -- link closes the call and begins with a Restart (X.25 4.5).
-use Rattle.std.specs.Prelude.{ℕ, ◌+◌, ◌%◌, ◌==◌, ◌&&◌, ◌||◌, not, Bool, true, false, List, [], ◌∷◌, ◌++◌, length, slice_get, Option, Some, None, nat_lt, if◌then◌else◌}
+use Rattle.std.specs.Prelude.{ℕ, ◌+◌, ◌%◌, ◌==◌, ◌&&◌, not, Bool, false, List, [], ◌∷◌, ◌++◌, length, slice_get, Option, Some, None, nat_lt, if◌then◌else◌}
 use Rattle.link_timers.specs.declared.role.Role.{Role}
 use Rattle.link_timers.specs.declared.timers.TimerId.{TimerId}
 use Rattle.lapb.specs.declared.note.Note.{Note}

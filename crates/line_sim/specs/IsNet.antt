@@ -1,16 +1,16 @@
 -- What holds of a network between its events.
-use Rattle.std.specs.Prelude.{◌≡◌, ◌≢◌, ℕ, zero, ◌+◌, ◌<◌, ◌≤◌, Bool, true, false, List, [], ◌∷◌, length, map, None}
+use Rattle.std.specs.Prelude.{◌≡◌, ◌≢◌, ℕ, ◌+◌, ◌<◌, ◌≤◌, Bool, true, false, List, [], ◌∷◌, length, map, None}
 use Rattle.lapb.specs.Machine.{Link}
 use Rattle.epochs.specs.Item.{DataPacket, message}
 use Rattle.epochs.specs.Epoch.{nothing_sent, nothing_taken}
-use Rattle.pad_editing.specs.Edited.{Step, Edit, edit_of}
+use Rattle.pad_editing.specs.Edited.{Step, edit_of}
 use Rattle.line_sim.specs.Linked.{Logs, HasLinks}
 use Rattle.line_sim.specs.Joined.{PadPart, pad_part, host_part, Agrees}
 use Rattle.line_sim.specs.PadState.{PadState}
 use Rattle.line_sim.specs.Lines.{Flights}
 use Rattle.line_sim.specs.HostState.{HostState}
 use Rattle.line_sim.specs.NodeState.{NodeState, Pad, Host}
-use Rattle.line_sim.specs.Records.{RecordValue, PairValue, standing_pair}
+use Rattle.line_sim.specs.Records.{RecordValue, standing_pair}
 use Rattle.line_sim.specs.NetState.{NetState}
 
 -- the record of the PAD, which sent these packets, of which some are covered, with these steps of editing

@@ -1,6 +1,6 @@
 -- A standing call over two links: what was taken, what waits at the host, what is on the way and what waits at the PAD are, one
 -- after the other, what was sent.
-use Rattle.std.specs.Prelude.{◌≡◌, ℕ, suc, ◌+◌, ◌%◌, ◌<◌, ◌≤◌, Bool, true, false, List, [], ◌∷◌, ◌++◌, length}
+use Rattle.std.specs.Prelude.{◌≡◌, ℕ, suc, ◌+◌, ◌%◌, ◌≤◌, Bool, true, false, List, [], ◌∷◌, ◌++◌, length}
 use Rattle.lapb.specs.Machine.{Octets}
 use Rattle.epochs.specs.Item.{DataPacket}
 use Rattle.line_sim.specs.Packets.{data_octets, ready_octets}

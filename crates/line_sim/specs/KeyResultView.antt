@@ -1,5 +1,5 @@
 -- What the code says of a key, in the rules.
-use Rattle.std.specs.Prelude.{◌≡◌, ℕ, true, false, List, [], ◌∷◌, Option}
+use Rattle.std.specs.Prelude.{◌≡◌, ℕ, true, false, List, [], ◌∷◌}
 use Rattle.std.specs.Option.{option_to_list}
 use Rattle.pad_editing.specs.Edited.{key}
 use Rattle.line_sim.specs.PadState.{KeyEffect}

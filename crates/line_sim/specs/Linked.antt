@@ -1,6 +1,6 @@
 -- A line with its two links, in a state that events of two links lead to, and what the ends offered and accepted in session 0,
 -- in which a standing call lives.
-use Rattle.std.specs.Prelude.{◌≡◌, ℕ, ◌≤◌, ◌==◌, Bool, true, false, List, [], ◌∷◌, ◌++◌, Option, Some, None, if◌then◌else◌}
+use Rattle.std.specs.Prelude.{◌≡◌, ℕ, ◌≤◌, ◌==◌, true, false, List, [], ◌∷◌, ◌++◌, Option, Some, None, if◌then◌else◌}
 use Rattle.std.specs.Option.{option_to_list}
 use Rattle.lapb.specs.Machine.{Octets, Link, Step}
 use Rattle.lapb.specs.World.{World, IsPrefix, is_setting_up, is_up_note}

@@ -1,7 +1,6 @@
 -- A node at a line: a PAD or a host.
-use Rattle.std.specs.Prelude.{ℕ, ◌&&◌, Bool, true, false, List, []}
+use Rattle.std.specs.Prelude.{Bool, true, false, List}
 use Rattle.lapb.specs.Machine.{Octets}
-use Rattle.line_end.specs.End.{End, without_frames}
 use Rattle.line_sim.specs.Turn.{NodeCall, Turn}
 use Rattle.line_sim.specs.PadState.{PadState, pad_begins, pad_call, pad_rests}
 use Rattle.line_sim.specs.HostState.{HostState, host_begins, host_call, host_rests}

@@ -1,5 +1,5 @@
 -- What the code's private nodes are in the rules.
-use Rattle.std.specs.Prelude.{◌≡◌, ℕ, ◌<◌, ◌≤◌, Bool, length}
+use Rattle.std.specs.Prelude.{◌≡◌, ◌<◌, ◌≤◌, length}
 use Rattle.line_sim.specs.Turn as turn
 use Rattle.line_sim.specs.PadState.{PadState}
 use Rattle.line_sim.specs.HostState.{HostState}

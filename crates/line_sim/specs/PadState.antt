@@ -13,7 +13,7 @@ use Rattle.x3_params.specs.Settings.{recall_character}
 use Rattle.pad_editing.specs.Edited.{Step, key, Effect, after_key}
 use Rattle.line_end.specs.End.{End, made, without_frames, received, after_timer, timer_note, relinked, restarted, offered, settled}
 use Rattle.line_sim.specs.Packets.{Heard, Data, Ready, Nothing, heard_packet, data_octets, restart_octets}
-use Rattle.line_sim.specs.Turn.{NodeCall, Hears, Expires, Relinks, Restarts, Turn, closes_by}
+use Rattle.line_sim.specs.Turn.{NodeCall, Hears, Expires, Relinks, Restarts, Turn}
 
 -- the held text, the parameters in force and the initial ones; whether the call stands; the packets that wait to be sent; the
 -- P(R) received last, modulo 8, and how many Data packets went since the ones that it covers; the window size; the line's end

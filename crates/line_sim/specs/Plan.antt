@@ -16,7 +16,7 @@ use Rattle.line_sim.specs.Lines.{Flights, no_flights}
 use Rattle.line_sim.specs.Records.{RecordValue, PairValue, standing_record, standing_pair}
 use Rattle.link_timers.specs.declared.role.Role.TheVariants.{Dte, Dce}
 use Rattle.line_sim.specs.declared.line.Direction.TheVariants.{FromDte, FromDce}
-use Rattle.line_sim.specs.PadState.{new_pad, pad_begins}
+use Rattle.line_sim.specs.PadState.{new_pad}
 use Rattle.line_sim.specs.HostState.{HostState, new_host, host_begins}
 use Rattle.line_sim.specs.NodeState.{NodeState, Pad, Host, frames_of, drained}
 use Rattle.line_sim.specs.Sends.{ArePut}

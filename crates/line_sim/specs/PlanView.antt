@@ -1,5 +1,5 @@
 -- What the code's plan is in the rules.
-use Rattle.std.specs.Prelude.{◌≢◌, ℕ, ◌≤◌, Bool, false, ◌≡◌}
+use Rattle.std.specs.Prelude.{◌≢◌, ◌≤◌, Bool, false, ◌≡◌}
 use Rattle.lapb.specs.Params.{AreParams}
 use Rattle.line_sim.specs.Plan as plan
 use Rattle.line_sim.specs.declared.plan.Plan.{Plan as PlanCode}

@@ -1,5 +1,5 @@
 -- What serving an event does to one node, its line and its record.
-use Rattle.std.specs.Prelude.{◌≡◌, ℕ, List, [], ◌∷◌}
+use Rattle.std.specs.Prelude.{◌≡◌, ℕ, List, []}
 use Rattle.line_sim.specs.declared.line.Direction.TheVariants.{FromDte, FromDce}
 use Rattle.line_sim.specs.declared.event.Answer.{Answer}
 use Rattle.line_sim.specs.declared.event.Put.{Put}

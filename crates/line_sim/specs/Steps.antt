@@ -18,8 +18,8 @@ use Rattle.line_sim.specs.declared.packet.Taken.TheVariants.{Packet}
 use Rattle.line_sim.specs.Lines.{Flights, no_flights, flying, without_first}
 use Rattle.line_sim.specs.Turn as turn
 use Rattle.line_sim.specs.Turn.{NodeCall, Turn}
-use Rattle.line_sim.specs.PadState.{PadState, KeyEffect, pad_begins, pad_key}
-use Rattle.line_sim.specs.HostState.{HostState, host_begins, host_call, host_takes, host_gives}
+use Rattle.line_sim.specs.PadState.{KeyEffect, pad_begins, pad_key}
+use Rattle.line_sim.specs.HostState.{host_begins, host_call, host_takes, host_gives}
 use Rattle.line_sim.specs.NodeState.{NodeState, Pad, Host, node_call, frames_of, drained}
 use Rattle.line_sim.specs.Records.{RecordValue, with_step, with_sent, with_taken, with_turn, changed_at}
 use Rattle.line_sim.specs.NetState.{NetState}

@@ -1,5 +1,5 @@
 -- What may come to a node at its line, and what a node makes of it.
-use Rattle.std.specs.Prelude.{ℕ, Bool, true, false, List}
+use Rattle.std.specs.Prelude.{ℕ, Bool, false, List}
 use Rattle.link_timers.specs.declared.timers.TimerId.{TimerId}
 use Rattle.lapb.specs.declared.note.Note.{Note}
 

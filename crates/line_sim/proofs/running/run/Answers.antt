@@ -1,4 +1,4 @@
-use Rattle.line_sim.proofs.RunsMore.{run-more, stops}
+use Rattle.line_sim.proofs.RunsMore.{run-more}
 use Rattle.line_sim.proofs.running.run.Goals as goal
 
 pub loop-index-preserved : goal.loop-index-preserved

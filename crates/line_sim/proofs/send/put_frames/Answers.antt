@@ -1,4 +1,4 @@
-use Rattle.std.proofs.Common.{◌≡◌, ◌+◌, ◌≤◌, ℕ, suc, List, length, refl, ap, subst, arith, vec_len, vec_capacity}
+use Rattle.std.proofs.Common.{◌≡◌, ℕ, suc, List, length, refl, ap, subst, arith}
 use Rattle.line_sim.specs.Lines.{IsPut}
 use Rattle.line_sim.proofs.Sending.{putting-more, end-kept}
 use Rattle.line_sim.proofs.send.put_frames.Goals as goal

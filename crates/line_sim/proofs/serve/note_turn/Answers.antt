@@ -1,4 +1,4 @@
-use Rattle.std.proofs.Common.{◌≡◌, ◌<◌, ◌≤◌, ℕ, length, sym, arith}
+use Rattle.std.proofs.Common.{sym, arith}
 use Rattle.line_sim.proofs.Noting.{covers-at, changed-some, changed-none}
 use Rattle.line_sim.proofs.serve.note_turn.Goals as goal
 

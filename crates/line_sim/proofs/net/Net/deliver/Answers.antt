@@ -1,4 +1,4 @@
-use Rattle.std.proofs.Common.{◌≡◌, Some, None, refl, sym, ap, ◌∙◌}
+use Rattle.std.proofs.Common.{Some, refl, ap, ◌∙◌}
 use Rattle.line_sim.specs.Turn.{Hears}
 use Rattle.line_sim.specs.NodeViews.{node_of}
 use Rattle.line_sim.proofs.Glue.{empty-step, heard-dce, heard-dte, dce-step, dte-step, deliver-happens, fits-dce, fits-dte}

@@ -1,8 +1,8 @@
-use Rattle.std.proofs.Common.{◌≡◌, refl, sym, ap, ◌∙◌}
-use Rattle.line_sim.specs.Turn.{Expires, Relinks, Restarts}
+use Rattle.std.proofs.Common.{refl, ◌∙◌}
+use Rattle.line_sim.specs.Turn.{Expires}
 use Rattle.line_sim.specs.NodeViews.{node_of}
-use Rattle.line_sim.proofs.Glue.{dce-step, dte-step, node-dte, node-dce, relink-happens, expire-happens, restart-happens, fits-dce, fits-dte}
-use Rattle.line_sim.proofs.Nets.{expire_net, relink_net, restart_net}
+use Rattle.line_sim.proofs.Glue.{dce-step, dte-step, node-dte, node-dce, fits-dce, fits-dte}
+use Rattle.line_sim.proofs.Nets.{expire_net}
 use Rattle.line_sim.proofs.net.Net.expire.Goals as goal
 
 pub serve_dte-room-requires-clause-covered : goal.serve_dte-room-requires-clause-covered

@@ -1,4 +1,4 @@
-use Rattle.std.proofs.Common.{◌≡◌, ◌<◌, ℕ, length, true, refl, sym, ap, ◌∙◌, arith}
+use Rattle.std.proofs.Common.{◌≡◌, ◌<◌, length, refl, sym, ap, ◌∙◌, arith}
 use Rattle.line_sim.specs.NodeState.{Pad}
 use Rattle.line_sim.specs.NodeViews.{node_of}
 use Rattle.line_sim.proofs.Glue.{two-records, length-shown, key-step, key-now, key-of}

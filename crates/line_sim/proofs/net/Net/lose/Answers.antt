@@ -1,5 +1,4 @@
-use Rattle.std.proofs.Common.{◌≡◌, refl}
-use Rattle.line_sim.specs.declared.event.Outcome.TheVariants.{Done}
+use Rattle.std.proofs.Common.{refl}
 use Rattle.line_sim.proofs.Nets.{lose_net}
 use Rattle.line_sim.proofs.net.Net.lose.Goals as goal
 

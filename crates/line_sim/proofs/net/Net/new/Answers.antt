@@ -1,6 +1,6 @@
-use Rattle.std.proofs.Common.{◌≡◌, [], refl, sym, ap, ◌∙◌}
+use Rattle.std.proofs.Common.{[], refl, ap, ◌∙◌}
 use Rattle.line_end.specs.End.{End}
-use Rattle.line_sim.specs.HostState.{HostState, new_host}
+use Rattle.line_sim.specs.HostState.{HostState}
 use Rattle.line_sim.specs.NodeViews.{node_of}
 use Rattle.line_sim.specs.PlanView.{plan_value}
 use Rattle.line_sim.proofs.Openings.{made-net, may-stand}

@@ -1,4 +1,4 @@
-use Rattle.std.proofs.Common.{◌≡◌, ◌<◌, ℕ, length, true, refl, sym, ap, ◌∙◌, arith}
+use Rattle.std.proofs.Common.{◌<◌, length, refl, sym, ap, ◌∙◌, arith}
 use Rattle.line_sim.proofs.Glue.{host-records, length-shown, take-step, take-now, records-same, same-dce}
 use Rattle.line_sim.proofs.Nets.{take_net}
 use Rattle.line_sim.proofs.net.Net.take.Goals as goal

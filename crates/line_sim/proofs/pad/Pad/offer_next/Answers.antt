@@ -1,4 +1,4 @@
-use Rattle.std.proofs.Common.{◌≡◌, ◌≤◌, false, None, sym, ap, ◌∙◌, arith}
+use Rattle.std.proofs.Common.{sym, ap, ◌∙◌}
 use Rattle.std.specs.Option.{option_copied}
 use Rattle.line_sim.proofs.Sending.{no-window, no-packet, no-room}
 use Rattle.line_sim.proofs.pad.Pad.offer_next.Goals as goal
