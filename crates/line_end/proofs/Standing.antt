@@ -131,7 +131,7 @@ module _ (e : End) (dce : Link) (up down : List Octets) where
   dte_stands_expired (T23 channel) stands = stands
   dte_stands_expired (Idle terminal) stands = stands
 
-  -- a timer that does not run changes nothing
+  -- where the timer does not run, nothing happens
   pub dte_stands_timer : (id : TimerId) → DteStands e dce up down → DteStands (after_timer e id) dce up down
   dte_stands_timer id stands = go (is_some (left_of e.timers id))
     where
@@ -215,7 +215,7 @@ module _ (dte : Link) (e : End) (up down : List Octets) where
   dce_stands_expired (T23 channel) stands = stands
   dce_stands_expired (Idle terminal) stands = stands
 
-  -- a timer that does not run changes nothing
+  -- where the timer does not run, nothing happens
   pub dce_stands_timer : (id : TimerId) → DceStands dte e up down → DceStands dte (after_timer e id) up down
   dce_stands_timer id stands = go (is_some (left_of e.timers id))
     where

@@ -223,7 +223,7 @@ impl LineEnd {
         self.link.phase() == Phase::Up
     }
 
-    /// Whether the link is up, with nothing unacknowledged, no poll outstanding and no acknowledgement owed.
+    /// Whether the link is up and has nothing to wait for or to tell.
     pub fn at_rest(&self) -> bool
         ensures { result ≡ machine.at_rest self.now.link }
     {

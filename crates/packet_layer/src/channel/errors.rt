@@ -66,7 +66,7 @@ impl Channel {
         )
     }
 
-    /// Clears the call for a packet that the state does not allow.
+    /// Clears the call for a packet that has no place in its state.
     pub(crate) fn not_allowed(&mut self, end: End) -> Effect
         ensures channel { self.new ≡ (machine.not_allowed end.role end.channel self.old).channel }
         ensures effect { result ≡ effect_of (machine.not_allowed end.role end.channel self.old) }

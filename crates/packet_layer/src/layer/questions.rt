@@ -25,8 +25,7 @@ impl Layer {
         self.channels[place].front()
     }
 
-    /// Whether there is a call on the channel, and each packet sent with D = 1 since the last reset is covered by a received
-    /// P(R) (X.25 4.3.3).
+    /// Whether a call stands on the channel in which every packet with D = 1 since the last reset was covered (X.25 4.3.3).
     pub fn confirmed(&self, channel: u8) -> bool
         ensures { result ≡ machine.confirmed self.now channel }
     {
