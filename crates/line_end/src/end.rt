@@ -216,6 +216,21 @@ impl LineEnd {
         self.frames.len()
     }
 
+    /// Whether `offer` takes a packet: the link is up, and fewer than k packets are unacknowledged.
+    pub fn has_room(&self) -> bool
+        ensures room { result ≡ machine.can_offer self.now.link }
+        ensures most { self.now.link.k ≤ 7 }
+    {
+        self.link.can_offer()
+    }
+
+    /// Whether a timer runs, also with no tick left.
+    pub fn is_running(&self, id: TimerId) -> bool
+        ensures { result ≡ is_some (left_of self.now.timers id) }
+    {
+        self.timers.is_running(id)
+    }
+
     /// Whether the link is up.
     pub fn is_up(&self) -> bool
         ensures { result ≡ machine.is_up self.now.link.phase }

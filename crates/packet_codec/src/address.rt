@@ -83,7 +83,8 @@ impl Address {
 
     /// The digits, each 0 to 9.
     pub fn digits(&self) -> &[u8]
-        ensures { result.now ≡ self.now }
+        ensures value { result.now ≡ self.now }
+        ensures fits { AreDigits self.now }
     {
         &self.digits[..self.len as usize]
     }

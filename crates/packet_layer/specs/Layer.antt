@@ -1,5 +1,5 @@
 -- The packet layer of one line: its logical channels, the restart procedure (X.25 3 and table C-1), timers, what is owed to the link.
-use Rattle.std.specs.Prelude.{ℕ, zero, suc, ◌-◌, Bool, true, false, cond, ◌&&◌, ◌==◌, nat_le, List, [], ◌∷◌, ◌++◌, length, map, set, slice_get, replicate, Option, Some, None, is_some}
+use Rattle.std.specs.Prelude.{ℕ, zero, suc, ◌-◌, Bool, true, false, cond, ◌&&◌, ◌==◌, nat_le, List, [], ◌∷◌, ◌++◌, length, map, set, slice_get, replicate, Option, Some, None, is_some, not}
 use Rattle.link_timers.specs.declared.role.Role.{Role}
 use Rattle.link_timers.specs.declared.role.Role.TheVariants.{Dte, Dce}
 use Rattle.packet_layer.specs.Packets.{CallParts, Body, Packet, Received, Note, Reason}
@@ -8,7 +8,7 @@ use Rattle.packet_layer.specs.Packets.Received.{Whole, Unknown, Faulty}
 use Rattle.packet_layer.specs.Packets.Note.{Closed}
 use Rattle.packet_layer.specs.Packets.Reason.{LinkLost, FarRestart, LocalFault}
 use Rattle.packet_layer.specs.Traffic.{Taken, says, front}
-use Rattle.packet_layer.specs.Channel.{CallState, Channel, Step, Request, Refusal, closed_channel, entered, moved, error_cause, clear_error, received, unreadable, requested, refusal, has_flow, in_transfer}
+use Rattle.packet_layer.specs.Channel.{CallState, Channel, Step, Request, Refusal, closed_channel, entered, moved, error_cause, clear_error, received, unreadable, requested, refusal, has_flow, in_transfer, refused_if, may_accept}
 use Rattle.packet_layer.specs.Channel.CallState.{Ready, OwnWaiting, Transfer, Collision, OwnClear}
 
 -- no session of the link; r2 of a DTE or r3 of a DCE; r1
@@ -313,6 +313,23 @@ abbrev pub request_refusal : Layer → ℕ → Request → Option Refusal
 request_refusal l c r = refusal_at l.role r (channel_of l c)
 
 -- ---- questions
+
+-- whether a call that came in can be accepted
+abbrev pub can_accept_at : Role → Option Channel → Bool
+can_accept_at role None = false
+can_accept_at role (Some ch) = may_accept role ch.state
+
+abbrev pub can_accept : Layer → ℕ → Bool
+can_accept l c = can_accept_at l.role (channel_of l c)
+
+-- why data may not be queued, however much waits
+abbrev pub flow_refusal_at : Option Channel → Option Refusal
+flow_refusal_at None = Some Refusal.NoCall
+flow_refusal_at (Some ch) =
+    refused_if (not (in_transfer ch.state)) Refusal.NoCall (refused_if ch.resetting Refusal.IsResetting None)
+
+abbrev pub flow_refusal : Layer → ℕ → Option Refusal
+flow_refusal l c = flow_refusal_at (channel_of l c)
 
 -- how many more packets can wait to be sent: none where nothing can be queued
 abbrev pub room_at : Option Channel → ℕ

@@ -110,6 +110,14 @@ impl Layer {
         self.notes.take()
     }
 
+    /// How many notes are not read.
+    pub fn unread_notes(&self) -> usize
+        ensures count { result ≡ length self.now.notes }
+        ensures most { result ≤ 32 }
+    {
+        self.notes.len()
+    }
+
     // The place of a channel among those of the line.
     fn place(&self, channel: u16) -> Option<usize>
         ensures { MatchOption result (machine.channel_of self.now channel ≡ None)

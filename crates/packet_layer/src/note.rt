@@ -89,6 +89,12 @@ impl Notes {
         self.notes.clear();
     }
 
+    pub(crate) fn len(&self) -> usize
+        ensures { result ≡ length self.now }
+    {
+        self.notes.len()
+    }
+
     /// Adds a note, if there is one.
     pub(crate) fn add(&mut self, note: Option<LayerNote>)
         requires { length self.old < 33 }

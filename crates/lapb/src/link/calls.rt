@@ -156,6 +156,16 @@ impl Link {
         Ok(())
     }
 
+    /// Whether `offer` takes a packet: the link is up, and fewer than k packets are unacknowledged.
+    pub fn can_offer(&self) -> bool
+        ensures { result ≡ machine.can_offer self.now }
+    {
+        match self.phase {
+            Phase::Up => self.queue.len() < self.window.size(),
+            Phase::Down | Phase::SettingUp | Phase::Rejecting => false,
+        }
+    }
+
     /// Whether T1 is to run (X.25 2.4.8.1).
     pub fn runs(&self) -> bool
         ensures { result ≡ machine.runs self.now }

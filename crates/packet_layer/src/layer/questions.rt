@@ -1,12 +1,44 @@
 //! What a user may ask of a layer without changing anything.
-ghost use Rattle.std.specs.Prelude.{◌≡◌};
+ghost use Rattle.std.specs.Prelude.{◌≡◌, Some, None, MatchResult};
 ghost use Rattle.packet_layer.specs.Layer as machine;
+ghost use Rattle.packet_layer.specs.RequestView.{refusal_of};
 ghost use Rattle.packet_layer.specs.TakenView.{maybe_front};
 
+use crate::fault::ChannelFault;
 use crate::layer::Layer;
 use crate::taken::Front;
 
 impl Layer {
+    /// Whether `accept` takes a call on the channel: one came in and is not answered.
+    pub fn can_accept(&self, channel: u8) -> bool
+        ensures { result ≡ machine.can_accept self.now channel }
+    {
+        match self.place(u16::from(channel)) {
+            Some(place) => self.channels[place].state().may_accept(self.role),
+            None => false,
+        }
+    }
+
+    /// Whether data may be queued on the channel, however much waits there: `NoCall` comes where no call is in data transfer, then
+    /// `Resetting` while the own reset is not confirmed.
+    pub fn may_send(&self, channel: u8) -> Result<(), ChannelFault>
+        ensures { MatchResult result
+            (λ _. machine.flow_refusal self.now channel ≡ None)
+            (λ fault. machine.flow_refusal self.now channel ≡ Some (refusal_of fault)) }
+    {
+        let Some(place) = self.place(u16::from(channel)) else {
+            return Err(ChannelFault::NoCall);
+        };
+        let channel = &self.channels[place];
+        if !channel.state().in_transfer() {
+            return Err(ChannelFault::NoCall);
+        }
+        if channel.waits_for_reset() {
+            return Err(ChannelFault::Resetting);
+        }
+        Ok(())
+    }
+
     /// How many packets `send` would take on the channel, 0 to 8: none where it would answer `NoCall` or `Resetting`.
     pub fn room(&self, channel: u8) -> u8
         ensures { result ≡ machine.room self.now channel }

@@ -1,0 +1,116 @@
+-- Packets that go from the packet layer to the link: one at a time, and none is kept back.
+use Rattle.std.proofs.Common.{◌≡◌, ℕ, zero, suc, ◌+◌, ◌-◌, ◌<◌, ◌≤◌, Bool, true, false, cond, List, [], ◌∷◌, ◌++◌, length, refl, sym, ap, ◌∙◌, arith, inl, inr, length-append}
+use borrow.Author.Tests.{le-leb}
+use Rattle.std.specs.Prelude.{Option, Some, None, is_some, ◌&&◌, not, nat_le, ◌⊎◌, if◌then◌else◌}
+use Rattle.lapb.specs.declared.phase.Phase.{Phase}
+use Rattle.lapb.specs.Machine.{Octets, Link, can_offer, is_up, settle, settle_in, send_all, sendable, offer}
+use Rattle.packet_layer.specs.Packets.{Body, Packet}
+use Rattle.packet_layer.specs.Channel.{Channel}
+use Rattle.packet_layer.specs.Layer.{Layer, Next, ChannelNext, channel_of, next_of, next_number, packet_of, serve, serve_found, served, next_restart, next_in, next_packet}
+use Rattle.packet_layer.specs.Layer as machine
+use Rattle.packet_layer.specs.Events.{written_packet}
+use Rattle.packet_end.specs.PacketEnd.{PacketEnd, offered, with_next, settled, KeepsNothingBack}
+
+-- ---- a layer that has no packet stays as it is
+
+served_none : (l : Layer) (c : ℕ) (ch : Channel) (b : Option Body) (others : Next) → (is_some others.packet ≡ false → others.layer ≡ l) →
+    is_some (served l c (record { channel = ch; body = b }) others).packet ≡ false →
+    (served l c (record { channel = ch; body = b }) others).layer ≡ l
+served_none l c ch None others rest silent = rest silent
+served_none l c ch (Some b) others rest silent = absurd (cc)
+
+found_none : (l : Layer) (c : ℕ) (found : Option Channel) (others : Next) → (is_some others.packet ≡ false → others.layer ≡ l) →
+    is_some (serve_found l c found others).packet ≡ false → (serve_found l c found others).layer ≡ l
+found_none l c None others rest silent = rest silent
+found_none l c (Some ch) others rest silent =
+    served_none l c (next_of l.window ch).channel (next_of l.window ch).body others rest silent
+
+serve_none : (count : ℕ) (l : Layer) (c : ℕ) → is_some (serve count l c).packet ≡ false → (serve count l c).layer ≡ l
+serve_none zero l c silent = refl
+serve_none (suc count) l c silent =
+    found_none l c (channel_of l c) (serve count l (next_number l c)) (serve_none count l (next_number l c)) silent
+
+restart_none : (owed : List Body) (l : Layer) → is_some (next_restart owed l).packet ≡ false → (next_restart owed l).layer ≡ l
+restart_none (b ∷ bs) l silent = absurd (cc)
+restart_none [] l silent = serve_none (length l.channels) l (next_number l l.served_last) silent
+
+in_none : (phase : machine.Phase) (relink : Bool) (l : Layer) → is_some (next_in phase relink l).packet ≡ false →
+    (next_in phase relink l).layer ≡ l
+in_none machine.Phase.NoSession relink l silent = refl
+in_none machine.Phase.OwnRestart true l silent = refl
+in_none machine.Phase.OwnRestart false l silent = restart_none l.owed l silent
+in_none machine.Phase.PacketReady true l silent = refl
+in_none machine.Phase.PacketReady false l silent = restart_none l.owed l silent
+
+pub next_none : (l : Layer) → is_some (next_packet l).packet ≡ false → (next_packet l).layer ≡ l
+next_none l silent = in_none l.phase l.relink l silent
+
+-- ---- one packet more
+
+pub written_same : (packet : Option Packet) (old : Octets) → is_some packet ≡ true → written_packet packet old ≡ written_packet packet []
+written_same None old says = absurd (cc)
+written_same (Some packet) old says = refl
+
+cond_same : (b : Bool) (e : PacketEnd) → cond b e e ≡ e
+cond_same true e = refl
+cond_same false e = refl
+
+pub no_room : (most : ℕ) (e : PacketEnd) → can_offer e.line.link ≡ false → offered most e ≡ e
+no_room zero e room = refl
+no_room (suc most) e room = rw room refl
+
+pub no_packet : (most : ℕ) (e : PacketEnd) → is_some (next_packet e.layer).packet ≡ false → offered most e ≡ e
+no_packet zero e silent = refl
+no_packet (suc most) e silent = rw silent (cond_same (can_offer e.line.link) e)
+
+both : (room says : Bool) (next e : PacketEnd) → room ≡ true → says ≡ true → cond room (cond says next e) e ≡ next
+both true true next e room_is says_is = refl
+both true false next e room_is says_is = absurd (cc)
+both false says next e room_is says_is = absurd (cc)
+
+one_more : (most left : ℕ) (e : PacketEnd) → most ≡ suc left → can_offer e.line.link ≡ true → is_some (next_packet e.layer).packet ≡ true →
+    offered most e ≡ offered left (with_next e (next_packet e.layer))
+one_more zero left e is room says = absurd (omega arith)
+one_more (suc most) left e is room says =
+    let same : most ≡ left = omega arith in
+    both (can_offer e.line.link) (is_some (next_packet e.layer).packet) (offered most (with_next e (next_packet e.layer))) e room says
+    ∙ ap (λ n. offered n (with_next e (next_packet e.layer))) same
+
+pub one_offered : (most count : ℕ) (e : PacketEnd) → count < most → can_offer e.line.link ≡ true →
+    is_some (next_packet e.layer).packet ≡ true →
+    offered (most - (count + 1)) (with_next e (next_packet e.layer)) ≡ offered (most - count) e
+one_offered most count e within room says = sym (one_more (most - count) (most - (count + 1)) e (omega arith) room says)
+
+-- ---- nothing is kept back
+
+and_false : (b : Bool) → (b && false) ≡ false
+and_false true = refl
+and_false false = refl
+
+pub takes_none : (l : Link) → l.k ≤ length l.queue → can_offer l ≡ false
+takes_none l full = rw (le-leb l.k (length l.queue) full) (and_false (is_up l.phase))
+
+pub longer : (l : Link) (packet : Octets) (count : ℕ) → can_offer l ≡ true → count ≤ length l.queue → count + 1 ≤ length (offer l packet).queue
+longer l packet count room within = rw room (omega (arith, length-append l.queue (packet ∷ []), within))
+
+no_packet-is : (packet : Option Packet) → is_some packet ≡ false → packet ≡ None
+no_packet-is None h = refl
+no_packet-is (Some packet) h = absurd (cc)
+
+pub silent_keeps_nothing : (e : PacketEnd) → is_some (next_packet e.layer).packet ≡ false → KeepsNothingBack e
+silent_keeps_nothing e silent = inr (no_packet-is (next_packet e.layer).packet silent)
+
+sent_same : (l : Link) (packets : List Octets) → can_offer (send_all l packets).link ≡ can_offer l
+sent_same l [] = refl
+sent_same l (packet ∷ packets) = refl
+
+settle_same : (phase : Phase) (l : Link) → can_offer (settle_in phase l).link ≡ can_offer l
+settle_same Phase.Down l = refl
+settle_same Phase.SettingUp l = refl
+settle_same Phase.Up l = sent_same l (sendable l)
+settle_same Phase.Rejecting l = refl
+
+-- settling changes neither what the link takes nor what the layer has
+pub settled_keeps_nothing : (e : PacketEnd) → KeepsNothingBack e → KeepsNothingBack (settled e)
+settled_keeps_nothing e (inl room) = inl (settle_same e.line.link.phase e.line.link ∙ room)
+settled_keeps_nothing e (inr silent) = inr silent

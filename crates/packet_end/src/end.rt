@@ -1,0 +1,255 @@
+//! One end of a line with its packet layer.
+ghost use Rattle.std.specs.Prelude.{◌≡◌, ◌≤◌, ◌+◌, [], ◌∷◌, length, MatchResult, slice_get};
+ghost use Rattle.std.specs.Bool.{OnTrue, OnFalse};
+ghost use Rattle.packet_end.specs.Params.{AreParams, MadeNot};
+ghost use Rattle.packet_end.specs.PacketEnd.{made, begun, gathered, heeded, received, runs_at, after_timer, relinked, relinked_if_due, restarted, KeepsNothingBack, settled, finished, elapsed, due, without_first_frame, without_first_note};
+
+mod asking;
+mod offering;
+
+use crate::fault::EndFault;
+use crate::notes::NoteQueue;
+use crate::params::EndParams;
+use crate::timing::bring_into_line;
+use frame_codec::FrameBuf;
+use lapb::{LinkParams, Note};
+use line_end::LineEnd;
+use link_timers::{Role, TimerId, Timers};
+use packet_layer::{Layer, LayerNote, LayerParams};
+use std::alloc::Global;
+use std::marker::Model;
+
+/// One end of a line with its packet layer: the link with the frames that go out, the logical channels, the timers of both, and
+/// what is told of the calls.
+///
+/// An event of a node is, for each of its lines: `begin`, then what happens at this line (`on_frame`, `on_timer`, `relink` or what
+/// a user asks of a call), `relink_if_due`, `offer_packets` and `settle`; a node with one line ends it by `finish`. Then the frames
+/// are taken by `out` and the notes by `notes`.
+#[derive(Drop)]
+pub struct PacketEnd {
+    line: LineEnd,
+    layer: Layer,
+    timers: Timers,
+    notes: NoteQueue,
+}
+
+impl Model for PacketEnd {
+    ghost use Rattle.packet_end.specs.PacketEnd as end;
+
+    ghost Value = { end.PacketEnd };
+
+    ghost use Rattle.packet_end.specs.EndView.{end_of};
+
+    ghost view = { end_of };
+}
+
+impl PacketEnd {
+    ghost use Rattle.packet_layer.specs.NoteView.{maybe_note};
+
+    /// The end of this role of a line: its link is as `LineEnd::new` makes it, its packet layer as `Layer::new`. It takes all the
+    /// memory that it ever uses.
+    ///
+    /// `BadParams` comes where a parameter is out of its range, and then `OutOfMemory` for want of memory.
+    pub fn new(alloc: Global, role: Role, params: EndParams) -> Result<PacketEnd, EndFault>
+        ensures { MatchResult result
+            (λ end. AreParams params × (end ≡ made role params))
+            (λ fault. MadeNot params fault) }
+    {
+        let EndParams {
+            k,
+            n2,
+            channels,
+            window,
+            standing,
+        } = params;
+        let line = LineEnd::new(role, LinkParams { k, n2, standing })?;
+        let layer = Layer::new(
+            alloc,
+            role,
+            LayerParams {
+                channels,
+                window,
+                standing,
+            },
+        )?;
+        Ok(PacketEnd {
+            line,
+            layer,
+            timers: Timers::new(),
+            notes: NoteQueue::new(alloc)?,
+        })
+    }
+
+    /// Begins an event of the node: drops the frames, as lost, and the notes that were not taken.
+    pub fn begin(&mut self)
+        ensures { self.new ≡ begun self.old }
+    {
+        self.line.drop_frames();
+        self.notes.clear();
+    }
+
+    /// Takes the octets of a received frame, and hands what it tells to the packet layer (X.25 2.4, 3 to 5).
+    pub fn on_frame(&mut self, octets: &[u8])
+        requires { self.old.notes ≡ [] }
+        ensures end { self.new ≡ received self.old octets.now }
+        ensures notes { length self.new.notes ≤ 64 }
+    {
+        let received = self.line.on_frame(octets);
+        self.heed(received.note);
+        if let Some(packet) = received.packet {
+            self.layer.on_packet(packet);
+            self.gather();
+        }
+    }
+
+    /// Whether a timer runs, also with no tick left.
+    pub fn is_running(&self, id: TimerId) -> bool
+        ensures { result ≡ runs_at self.now id }
+    {
+        match id {
+            TimerId::T1 => self.line.is_running(id),
+            _ => self.timers.is_running(id),
+        }
+    }
+
+    /// Takes an expiry of a timer. Where the timer does not run nothing happens.
+    pub fn on_timer(&mut self, id: TimerId)
+        requires { self.old.notes ≡ [] }
+        ensures end { self.new ≡ after_timer self.old id }
+        ensures notes { length self.new.notes ≤ 64 }
+    {
+        if let TimerId::T1 = id {
+            if let Some(note) = self.line.on_timer(id) {
+                self.heed(note);
+            }
+        } else if self.timers.fire(id) {
+            self.layer.on_timer(id);
+            self.gather();
+        }
+    }
+
+    /// Gives the link up and sets it up again: all calls close.
+    pub fn relink(&mut self)
+        requires { length self.old.notes ≤ 64 }
+        ensures end { self.new ≡ relinked self.old }
+        ensures notes { length self.new.notes ≤ length self.old.notes + 32 }
+    {
+        self.line.relink();
+        self.layer.link_down();
+        self.timers = Timers::new();
+        self.gather();
+    }
+
+    /// Does so where the packet layer asks for it.
+    pub fn relink_if_due(&mut self)
+        requires { length self.old.notes ≤ 64 }
+        ensures { self.new ≡ relinked_if_due self.old }
+    {
+        if self.layer.must_relink() {
+            self.relink();
+        }
+    }
+
+    /// Begins anew after a restart of the node, as on a line that does not stand. What went before is forgotten, also frames and
+    /// notes.
+    pub fn restart(&mut self)
+        ensures { self.new ≡ restarted self.old }
+    {
+        self.notes.clear();
+        self.line.restart();
+        self.layer.link_down();
+        self.timers = Timers::new();
+        self.gather();
+        self.notes.clear();
+    }
+
+    /// Ends an event: the timers run as the packet layer wants them, and the link sends what may go.
+    pub fn settle(&mut self)
+        ensures { self.new ≡ settled self.old }
+    {
+        bring_into_line(&mut self.timers, &self.layer, self.line.role());
+        self.line.settle();
+    }
+
+    /// Ends an event of a node with one line: a relink where it is due, all packets that may go, and `settle`.
+    pub fn finish(&mut self)
+        requires { length self.old.notes ≤ 64 }
+        ensures end { self.new ≡ finished self.old }
+        ensures nothing_kept_back { KeepsNothingBack self.new }
+    {
+        self.relink_if_due();
+        self.offer_packets();
+        self.settle();
+    }
+
+    /// Takes the next frame that goes out, if there is one. Where there is none `frame` stays.
+    pub fn out(&mut self, frame: &mut FrameBuf) -> bool
+        ensures frame { OnTrue result (self.old.line.frames ≡ frame.new ∷ self.new.line.frames) }
+        ensures nothing { OnFalse result (self.old.line.frames ≡ []) }
+        ensures same { OnFalse result (frame.new ≡ frame.old) }
+        ensures end { self.new ≡ without_first_frame self.old }
+    {
+        self.line.out(frame)
+    }
+
+    /// Takes the next note, if there is one.
+    pub fn notes(&mut self) -> Option<LayerNote>
+        ensures note { maybe_note result ≡ slice_get self.old.notes 0 }
+        ensures end { self.new ≡ without_first_note self.old }
+    {
+        self.notes.take()
+    }
+
+    /// Lets ticks pass, each a twentieth of a second: each timer that runs has so many less, not below 0.
+    pub fn elapse(&mut self, ticks: u16)
+        ensures { self.new ≡ elapsed self.old ticks }
+    {
+        self.line.elapse(ticks);
+        self.timers.tick(ticks);
+    }
+
+    /// The first timer that runs with no tick left, in the order of [`TimerId`] and then by number.
+    pub fn due(&self) -> Option<TimerId>
+        ensures { result ≡ due self.now }
+    {
+        match self.line.due() {
+            Some(id) => Some(id),
+            None => self.timers.due(),
+        }
+    }
+
+    /// The role of this end of the line.
+    pub fn role(&self) -> Role
+        ensures { result ≡ self.now.line.link.role }
+    {
+        self.line.role()
+    }
+
+    // What a note of the link is for the packet layer.
+    fn heed(&mut self, note: Note)
+        requires { length self.old.notes ≤ 64 }
+        ensures end { self.new ≡ heeded note self.old }
+        ensures notes { length self.new.notes ≤ length self.old.notes + 32 }
+    {
+        match note {
+            Note::Nothing => return,
+            Note::Up => self.layer.link_up(),
+            Note::Down => self.layer.link_down(),
+        }
+        self.timers = Timers::new();
+        self.gather();
+    }
+
+    // Takes the notes of the packet layer over.
+    fn gather(&mut self)
+        requires { length self.old.notes ≤ 64 }
+        ensures end { self.new ≡ gathered self.old }
+        ensures notes { length self.new.notes ≤ length self.old.notes + 32 }
+    {
+        for _ in 0..self.layer.unread_notes() {
+            if let Some(note) = self.layer.notes() {
+                self.notes.add(note);
+            }
+        }
+    }
+}

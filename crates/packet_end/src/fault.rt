@@ -1,0 +1,53 @@
+//! Why an end of a line is not made.
+
+use lapb::BadParams;
+use packet_layer::MakeFault;
+use std::alloc::AllocError;
+use thiserror::Error;
+
+/// Why an end of a line was not made, in the order in which the faults are tested.
+#[derive(Clone, Copy, Debug, PartialEq, Eq, Error)]
+pub enum EndFault {
+    /// A parameter is out of its range.
+    #[error("bad parameters of a line")]
+    BadParams,
+    /// Memory was refused.
+    #[error("out of memory")]
+    OutOfMemory,
+}
+
+impl From<BadParams> for EndFault {
+    ghost use Rattle.std.specs.Prelude.{◌≡◌};
+    ghost use Rattle.packet_end.specs.declared.fault.EndFault.TheVariants as fault;
+
+    ghost from_gives = { λ _ made. made ≡ fault.BadParams };
+
+    fn from(_: BadParams) -> Self {
+        EndFault::BadParams
+    }
+}
+
+impl From<MakeFault> for EndFault {
+    ghost use Rattle.std.specs.Prelude.{◌≡◌};
+    ghost use Rattle.packet_end.specs.Params.{end_fault};
+
+    ghost from_gives = { λ fault made. made ≡ end_fault fault };
+
+    fn from(fault: MakeFault) -> Self {
+        match fault {
+            MakeFault::BadParams => EndFault::BadParams,
+            MakeFault::OutOfMemory => EndFault::OutOfMemory,
+        }
+    }
+}
+
+impl From<AllocError> for EndFault {
+    ghost use Rattle.std.specs.Prelude.{◌≡◌};
+    ghost use Rattle.packet_end.specs.declared.fault.EndFault.TheVariants as fault;
+
+    ghost from_gives = { λ _ made. made ≡ fault.OutOfMemory };
+
+    fn from(_: AllocError) -> Self {
+        EndFault::OutOfMemory
+    }
+}

@@ -1,0 +1,14 @@
+/// How one end of a line is to be made.
+#[derive(Clone, Copy, Debug, PartialEq, Eq)]
+pub struct EndParams {
+    /// How many packets the link may have unacknowledged, from 1 to 7 (X.25 2.4.8.6, parameter k).
+    pub k: u8,
+    /// How many polls the link sends without an answer, from 1 to 20 (X.25 2.4.8.4, parameter N2).
+    pub n2: u8,
+    /// How many logical channels the line has, from 1 to 32: they are numbered from 1.
+    pub channels: u8,
+    /// How many Data packets of a call may be unacknowledged in each direction, from 1 to 7 (X.25 4.4.1.2).
+    pub window: u8,
+    /// Whether the line stands from the beginning on: the link is up, and a call stands on channel 1.
+    pub standing: bool,
+}

@@ -1,0 +1,125 @@
+-- What is refused changes nothing.
+use Rattle.std.proofs.Common.{◌≡◌, ℕ, zero, suc, Bool, true, false, cond, List, [], ◌∷◌, ◌++◌, set, refl, sym, ap, ◌∙◌}
+use Rattle.std.specs.Prelude.{Option, Some, None, is_some, not}
+use Rattle.std.proofs.lemmas.List.{append-nil}
+use Rattle.link_timers.specs.declared.role.Role.{Role}
+use Rattle.link_timers.specs.declared.role.Role.TheVariants.{Dte, Dce}
+use Rattle.packet_layer.specs.Packets.{CallParts, Datum}
+use Rattle.packet_layer.specs.Traffic.{Taken, Traffic, front_of, taking_of}
+use Rattle.packet_layer.specs.Channel.{CallState, Channel, Request, Refusal, Step, unless, quiet, refusal, requested, carried_out, may_accept, may_clear, refused_if}
+use Rattle.packet_layer.specs.Layer.{Layer, Phase, nth_channel, with_nth, channel_of, on_found, after_step, request_refusal, refusal_at, call_refusal, free_channel, placed_on, can_accept, can_accept_at, front_on, front_at}
+use Rattle.packet_layer.specs.Layer as machine
+use Rattle.packet_layer.proofs.Places.{set_same}
+use Rattle.packet_end.specs.PacketEnd.{PacketEnd, asked, called}
+use Rattle.packet_host.specs.Host.{ended, unless_refused, after_request, after_call, after_refuse, after_take, taken_as}
+
+with_same : (chs : List Channel) (c : ℕ) (ch : Channel) → nth_channel chs c ≡ Some ch → with_nth chs c ch ≡ chs
+with_same chs zero ch at = refl
+with_same chs (suc i) ch at = set_same chs i ch at
+
+pub quiet_same : (l : Layer) (c : ℕ) (ch : Channel) → channel_of l c ≡ Some ch → after_step l c (quiet ch) ≡ l
+quiet_same l c ch at =
+    λ i. record l { channels = with_same l.channels c ch at i; notes = append-nil l.notes i }
+
+found_refused : (l : Layer) (c : ℕ) (r : Request) (x : Refusal) (found : Option Channel) → channel_of l c ≡ found →
+    refusal_at l.role r found ≡ Some x → on_found l c (λ ch. requested l.role ch r) found ≡ l
+found_refused l c r x None at is = refl
+found_refused l c r x (Some ch) at is =
+    ap (λ (o : Option Refusal). after_step l c (unless o (carried_out ch r) ch)) is ∙ quiet_same l c ch at
+
+pub refused_same : (l : Layer) (c : ℕ) (r : Request) (x : Refusal) → request_refusal l c r ≡ Some x → machine.request l c r ≡ l
+refused_same l c r x is = found_refused l c r x (channel_of l c) refl is
+
+-- a request that went through, and one that was refused
+pub went : (e new : PacketEnd) (c : ℕ) (r : Request) → request_refusal e.layer c r ≡ None → new ≡ ended (asked e c r) →
+    new ≡ after_request e c r
+went e new c r is done = done ∙ ap (λ (o : Option Refusal). unless_refused o (ended (asked e c r)) e) (sym is)
+
+pub went_not : (e new : PacketEnd) (c : ℕ) (r : Request) (x : Refusal) → request_refusal e.layer c r ≡ Some x → new ≡ asked e c r →
+    new ≡ after_request e c r
+went_not e new c r x is done =
+    done ∙ (λ i. record e { layer = refused_same e.layer c r x is i })
+    ∙ ap (λ (o : Option Refusal). unless_refused o (ended (asked e c r)) e) (sym is)
+
+-- the same of a call
+not_placed : (l : Layer) (parts : CallParts) (x : Refusal) (given : Option ℕ) → cond (is_some given) None (Some Refusal.NoChannel) ≡ Some x →
+    placed_on l parts given ≡ l
+not_placed l parts x None is = refl
+not_placed l parts x (Some c) is = absurd (cc)
+
+not_called : (l : Layer) (parts : CallParts) (x : Refusal) (phase : Phase) → call_refusal l phase ≡ Some x →
+    placed_on l parts (machine.channel_given l phase) ≡ l
+not_called l parts x Phase.NoSession is = refl
+not_called l parts x Phase.OwnRestart is = refl
+not_called l parts x Phase.PacketReady is = not_placed l parts x (free_channel l.role l.channels) is
+
+given_of : (l : Layer) (c : ℕ) (given : Option ℕ) → given ≡ Some c → cond (is_some given) None (Some Refusal.NoChannel) ≡ None
+given_of l c None is = absurd (cc)
+given_of l c (Some n) is = refl
+
+given_none : (l : Layer) (c : ℕ) (phase : Phase) → machine.channel_given l phase ≡ Some c → call_refusal l phase ≡ None
+given_none l c Phase.NoSession is = absurd (cc)
+given_none l c Phase.OwnRestart is = absurd (cc)
+given_none l c Phase.PacketReady is = given_of l c (free_channel l.role l.channels) is
+
+pub call_went : (e new : PacketEnd) (parts : CallParts) (c : ℕ) → machine.channel_given e.layer e.layer.phase ≡ Some c →
+    new ≡ ended (called e parts) → new ≡ after_call e parts
+call_went e new parts c is done =
+    done ∙ ap (λ (o : Option Refusal). unless_refused o (ended (called e parts)) e) (sym (given_none e.layer c e.layer.phase is))
+
+pub call_went_not : (e new : PacketEnd) (parts : CallParts) (x : Refusal) → call_refusal e.layer e.layer.phase ≡ Some x →
+    new ≡ called e parts → new ≡ after_call e parts
+call_went_not e new parts x is done =
+    done ∙ (λ i. record e { layer = not_called e.layer parts x e.layer.phase is i })
+    ∙ ap (λ (o : Option Refusal). unless_refused o (ended (called e parts)) e) (sym is)
+
+-- a call that can be accepted can be cleared
+state_clears : (role : Role) (s : CallState) → may_accept role s ≡ true → may_clear s ≡ true
+state_clears role CallState.FarWaiting h = refl
+state_clears role CallState.Collision h = refl
+state_clears Dte CallState.Ready h = absurd (cc)
+state_clears Dce CallState.Ready h = absurd (cc)
+state_clears Dte CallState.OwnWaiting h = absurd (cc)
+state_clears Dce CallState.OwnWaiting h = absurd (cc)
+state_clears Dte CallState.Transfer h = absurd (cc)
+state_clears Dce CallState.Transfer h = absurd (cc)
+state_clears Dte CallState.OwnClear h = absurd (cc)
+state_clears Dce CallState.OwnClear h = absurd (cc)
+
+found_clears : (role : Role) (found : Option Channel) → can_accept_at role found ≡ true → refusal_at role (Request.Clearing 0 0) found ≡ None
+found_clears role None h = absurd (cc)
+found_clears role (Some ch) h =
+    ap (λ (b : Bool). refused_if (not b) Refusal.NoCall None) (state_clears role ch.state h)
+
+pub accepted_clears : (l : Layer) (c : ℕ) → can_accept l c ≡ true → request_refusal l c (Request.Clearing 0 0) ≡ None
+accepted_clears l c h = found_clears l.role (channel_of l c) h
+
+pub refuse_went : (e new : PacketEnd) (c : ℕ) → can_accept e.layer c ≡ true → new ≡ after_request e c (Request.Clearing 0 0) →
+    new ≡ after_refuse e c
+refuse_went e new c h done =
+    done
+    ∙ ap (λ (o : Option Refusal). unless_refused o (ended (asked e c (Request.Clearing 0 0))) e) (accepted_clears e.layer c h)
+    ∙ ap (λ (b : Bool). unless_refused (refused_if (not b) Refusal.NoCall None) (ended (asked e c (Request.Clearing 0 0))) e) (sym h)
+
+-- where nothing waits, taking changes nothing
+taking_none : (i : Option (List ℕ)) (ds : List Datum) (t : Traffic) → front_of i ds ≡ None → taking_of i ds t ≡ t
+taking_none (Some octets) ds t h = absurd (cc)
+taking_none None [] t h = refl
+taking_none None (d ∷ ds) t h = absurd (cc)
+
+unless_same : (o : Option Refusal) (ch : Channel) → unless o (quiet ch) ch ≡ quiet ch
+unless_same None ch = refl
+unless_same (Some r) ch = refl
+
+found_empty : (l : Layer) (c : ℕ) (found : Option Channel) → channel_of l c ≡ found → front_at found ≡ None →
+    on_found l c (λ ch. requested l.role ch Request.Taking) found ≡ l
+found_empty l c None at h = refl
+found_empty l c (Some ch) at h =
+    ap (λ (t : Traffic). after_step l c (unless (refusal l.role ch Request.Taking) (quiet (record ch { traffic = t })) ch))
+    (taking_none ch.traffic.interrupt_arrived ch.traffic.arrived ch.traffic h)
+    ∙ ap (λ (st : Step). after_step l c st) (unless_same (refusal l.role ch Request.Taking) ch) ∙ quiet_same l c ch at
+
+pub took_nothing : (e new : PacketEnd) (c : ℕ) → front_on e.layer c ≡ None → new ≡ asked e c Request.Taking → new ≡ after_take e c
+took_nothing e new c is done =
+    done ∙ (λ i. record e { layer = found_empty e.layer c (channel_of e.layer c) refl is i })
+    ∙ ap (λ (x : Option Taken). taken_as x c e) (sym is)

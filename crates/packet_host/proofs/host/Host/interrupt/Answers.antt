@@ -1,0 +1,13 @@
+use Rattle.std.proofs.Common.{◌≡◌, ◌∙◌, ap, true, false}
+use Rattle.packet_layer.specs.Channel.{Request}
+use Rattle.packet_end.specs.PacketEnd.{PacketEnd}
+use Rattle.packet_host.specs.Host.{after_request}
+use Rattle.packet_host.proofs.Refused.{went_not}
+use Rattle.packet_host.proofs.host.Host.interrupt.Goals as goal
+
+pub returns-in_err-interrupt-clause-host : goal.returns-in_err-interrupt-clause-host
+returns-in_err-interrupt-clause-host c =
+    let asks = Request.Interrupting c.args.octets.now in
+    went_not c.self.inside.end c.interrupt.new.self c.args.channel asks _ c.in_err-interrupt.ensures.answer
+    c.interrupt.ensures.end
+    ∙ ap (λ (e : PacketEnd). after_request e c.args.channel asks) c.self.view_is

@@ -1,0 +1,12 @@
+use Rattle.std.proofs.Common.{◌≡◌, ◌∙◌, ap, sym}
+use Rattle.std.specs.Prelude.{Option, Some, None}
+use Rattle.packet_layer.specs.Layer.{front_on}
+use Rattle.packet_end.specs.PacketEnd.{PacketEnd}
+use Rattle.packet_host.specs.Host.{after_take}
+use Rattle.packet_host.proofs.Refused.{took_nothing}
+use Rattle.packet_host.proofs.host.Host.take.Goals as goal
+
+pub returns-in_err-taken-clause-host : goal.returns-in_err-taken-clause-host
+returns-in_err-taken-clause-host c =
+    took_nothing c.self.inside.end c.take.new.self c.args.channel (sym c.in_err-taken.ensures.taken) c.take.ensures.end
+    ∙ ap (λ (e : PacketEnd). after_take e c.args.channel) c.self.view_is

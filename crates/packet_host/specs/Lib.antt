@@ -1,0 +1,4 @@
+pub mod Host
+pub mod Making
+pub mod HostView
+pub mod Saying

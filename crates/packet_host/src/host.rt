@@ -1,0 +1,219 @@
+//! The host and its calls.
+ghost use Rattle.std.specs.Prelude.{◌≡◌, ◌≤◌, ◌∷◌, [], true, false, Some, None, length, MatchResult, slice_get};
+ghost use Rattle.std.specs.Bool.{OnTrue, OnFalse};
+ghost use Rattle.packet_layer.specs.Channel.{Request as ask};
+ghost use Rattle.packet_layer.specs.Layer as machine;
+ghost use Rattle.packet_layer.specs.NoteView.{maybe_note};
+ghost use Rattle.packet_layer.specs.RequestView.{refusal_of, call_refusal_of};
+ghost use Rattle.packet_layer.specs.TakenView.{maybe_taken};
+ghost use Rattle.packet_end.specs.Params.{AreParams};
+ghost use Rattle.packet_end.specs.PacketEnd as end;
+ghost use Rattle.packet_host.specs.Host.{ended, call_parts, after_call, after_request, refuse_refusal, after_refuse, after_say, after_take, after_frame, after_expiry, after_relink};
+ghost use Rattle.packet_host.specs.Making.{made, MadeNot};
+ghost use Rattle.packet_host.specs.Saying.{say_refusal};
+
+mod line;
+mod saying;
+
+use crate::config::HostConfig;
+use crate::fault::HostFault;
+use packet_codec::{Address, CallData};
+use packet_end::PacketEnd;
+use packet_layer::{CallFault, ChannelFault, LayerNote, Taken};
+use std::alloc::Global;
+use std::marker::Model;
+
+/// A host at one end of a line, in either role. Each call that changes it is one event, whose frames are then taken by `out` and
+/// whose notes by `notes`, before the next one: what is not taken then is dropped, a frame as lost. A call that is refused changes
+/// nothing.
+#[derive(Drop)]
+pub struct Host {
+    end: PacketEnd,
+}
+
+impl Model for Host {
+    ghost use Rattle.packet_end.specs.PacketEnd.{PacketEnd as EndValue};
+
+    ghost Value = { EndValue };
+
+    ghost use Rattle.packet_host.specs.HostView.{host_of};
+
+    ghost view = { host_of };
+}
+
+impl Host {
+    /// The host at its line, which is new: the link is started, or stands where the line does. It takes all the memory that it ever
+    /// uses.
+    ///
+    /// `BadConfig` comes where a parameter is out of its range, and then `OutOfMemory` for want of memory.
+    pub fn new(alloc: Global, config: HostConfig) -> Result<Host, HostFault>
+        ensures { MatchResult result
+            (λ host. AreParams config.line × (host ≡ made config))
+            (λ fault. MadeNot config fault) }
+    {
+        let end = PacketEnd::new(alloc, config.role, config.line)?;
+        Ok(Host { end })
+    }
+
+    /// Calls an address with at most 16 octets of call user data (X.25 4.1.2), and answers the channel: the highest free one of a
+    /// DTE, the lowest of a DCE.
+    ///
+    /// `NotReady` comes where the restart procedure is not done, then `NoChannel` where no channel is free.
+    pub fn call(&mut self, address: Address, user_data: &[u8]) -> Result<u8, CallFault>
+        requires { length user_data.now ≤ 16 }
+        ensures answer { MatchResult result
+            (λ channel. machine.channel_given self.old.layer self.old.layer.phase ≡ Some channel)
+            (λ fault. machine.call_refusal self.old.layer self.old.layer.phase ≡ Some (call_refusal_of fault)) }
+        ensures host { self.new ≡ after_call self.old (call_parts address user_data.now) }
+    {
+        let _ = address.digits();
+        let channel = self.end.call(&CallData {
+            called: address,
+            calling: None,
+            facilities: &[],
+            user_data,
+        })?;
+        self.end_event();
+        Ok(channel)
+    }
+
+    /// Accepts the call that came in on the channel (X.25 4.1.5).
+    ///
+    /// `NoCall` comes where none waits for it: no call came in, or a DTE's own call collided with it.
+    pub fn answer(&mut self, channel: u8) -> Result<(), ChannelFault>
+        ensures answer { MatchResult result
+            (λ _. machine.request_refusal self.old.layer channel ask.Accept ≡ None)
+            (λ fault. machine.request_refusal self.old.layer channel ask.Accept ≡ Some (refusal_of fault)) }
+        ensures host { self.new ≡ after_request self.old channel ask.Accept }
+    {
+        self.end.accept(channel)?;
+        self.end_event();
+        Ok(())
+    }
+
+    /// Clears the call that came in on the channel and is not answered, with cause 0 and diagnostic 0 (X.25 4.1.7).
+    ///
+    /// `NoCall` comes where there is none.
+    pub fn refuse(&mut self, channel: u8) -> Result<(), ChannelFault>
+        ensures answer { MatchResult result
+            (λ _. refuse_refusal self.old channel ≡ None)
+            (λ fault. refuse_refusal self.old channel ≡ Some (refusal_of fault)) }
+        ensures host { self.new ≡ after_refuse self.old channel }
+    {
+        if !self.end.can_accept(channel) {
+            return Err(ChannelFault::NoCall);
+        }
+        self.clear(channel)
+    }
+
+    /// Clears the call on the channel, also one that is being set up, with cause 0 and diagnostic 0 (X.25 4.1.7).
+    ///
+    /// `NoCall` comes where there is none.
+    pub fn clear(&mut self, channel: u8) -> Result<(), ChannelFault>
+        ensures answer { MatchResult result
+            (λ _. machine.request_refusal self.old.layer channel (ask.Clearing 0 0) ≡ None)
+            (λ fault. machine.request_refusal self.old.layer channel (ask.Clearing 0 0) ≡ Some (refusal_of fault)) }
+        ensures host { self.new ≡ after_request self.old channel (ask.Clearing 0 0) }
+    {
+        self.end.clear(channel, 0, 0)?;
+        self.end_event();
+        Ok(())
+    }
+
+    /// Resets the call on the channel with cause 0 and diagnostic 0: what waits in both directions is dropped (X.25 4.4.3).
+    ///
+    /// `NoCall` comes where no call is in data transfer, `Resetting` while the last own reset is not confirmed.
+    pub fn reset(&mut self, channel: u8) -> Result<(), ChannelFault>
+        ensures answer { MatchResult result
+            (λ _. machine.request_refusal self.old.layer channel (ask.Resetting 0 0) ≡ None)
+            (λ fault. machine.request_refusal self.old.layer channel (ask.Resetting 0 0) ≡ Some (refusal_of fault)) }
+        ensures host { self.new ≡ after_request self.old channel (ask.Resetting 0 0) }
+    {
+        self.end.reset(channel, 0, 0)?;
+        self.end_event();
+        Ok(())
+    }
+
+    /// Sends an interrupt of 1 to 32 octets on the channel (X.25 4.3.7).
+    ///
+    /// `NoCall` comes where no call is in data transfer, then `Resetting` while the own reset is not confirmed, `TooLong` for
+    /// no octets or more than 32, `InterruptPending` while the last interrupt is not confirmed.
+    pub fn interrupt(&mut self, channel: u8, octets: &[u8]) -> Result<(), ChannelFault>
+        ensures answer { MatchResult result
+            (λ _. machine.request_refusal self.old.layer channel (ask.Interrupting octets.now) ≡ None)
+            (λ fault. machine.request_refusal self.old.layer channel (ask.Interrupting octets.now) ≡ Some (refusal_of fault)) }
+        ensures host { self.new ≡ after_request self.old channel (ask.Interrupting octets.now) }
+    {
+        self.end.interrupt(channel, octets)?;
+        self.end_event();
+        Ok(())
+    }
+
+    /// Asks the far end by RNR to send no more data on the channel (X.25 4.4.1.4).
+    ///
+    /// `NoCall` comes where no call is in data transfer.
+    pub fn stop(&mut self, channel: u8) -> Result<(), ChannelFault>
+        ensures answer { MatchResult result
+            (λ _. machine.request_refusal self.old.layer channel (ask.Stopping true) ≡ None)
+            (λ fault. machine.request_refusal self.old.layer channel (ask.Stopping true) ≡ Some (refusal_of fault)) }
+        ensures host { self.new ≡ after_request self.old channel (ask.Stopping true) }
+    {
+        self.end.stop(channel)?;
+        self.end_event();
+        Ok(())
+    }
+
+    /// Ends by RR what `stop` asked (X.25 4.4.1.3).
+    ///
+    /// `NoCall` comes where no call is in data transfer.
+    pub fn go(&mut self, channel: u8) -> Result<(), ChannelFault>
+        ensures answer { MatchResult result
+            (λ _. machine.request_refusal self.old.layer channel (ask.Stopping false) ≡ None)
+            (λ fault. machine.request_refusal self.old.layer channel (ask.Stopping false) ≡ Some (refusal_of fault)) }
+        ensures host { self.new ≡ after_request self.old channel (ask.Stopping false) }
+    {
+        self.end.go(channel)?;
+        self.end_event();
+        Ok(())
+    }
+
+    /// Takes what comes next on the channel, if anything: an interrupt, which is then confirmed, before all packets, each of which
+    /// is then acknowledged by P(R) (X.25 4.3.7, 4.4.1.4).
+    pub fn take(&mut self, channel: u8) -> Option<Taken>
+        ensures taken { maybe_taken result ≡ machine.front_on self.old.layer channel }
+        ensures host { self.new ≡ after_take self.old channel }
+    {
+        let taken = self.end.take(channel)?;
+        match taken {
+            Taken::Interrupt(_) => self.end.confirm_interrupt(channel),
+            Taken::Data(_) => self.end.release(channel, 1),
+        }
+        self.end_event();
+        Some(taken)
+    }
+
+    /// Whether there is a call on the channel, and each packet said with D = 1 since the last reset is covered by a received
+    /// P(R) (X.25 4.3.3).
+    pub fn confirmed(&self, channel: u8) -> bool
+        ensures { result ≡ machine.confirmed self.now.layer channel }
+    {
+        self.end.confirmed(channel)
+    }
+
+    /// Takes the next note of the event, if there is one.
+    pub fn notes(&mut self) -> Option<LayerNote>
+        ensures note { maybe_note result ≡ slice_get self.old.notes 0 }
+        ensures host { self.new ≡ end.without_first_note self.old }
+    {
+        self.end.notes()
+    }
+
+    // Ends an event that has changed the end of the line.
+    fn end_event(&mut self)
+        ensures host { self.new ≡ ended self.old }
+        ensures nothing_kept_back { end.KeepsNothingBack self.new }
+    {
+        self.end.begin();
+        self.end.finish();
+    }
+}

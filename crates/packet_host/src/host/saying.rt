@@ -1,0 +1,86 @@
+//! What a host says on a call (X.25 4.3).
+ghost use Rattle.std.specs.Prelude.{◌≡◌, ◌≤◌, Some, None, MatchResult, length};
+ghost use Rattle.packet_layer.specs.RequestView.{refusal_of};
+ghost use Rattle.packet_host.specs.Host.{after_say};
+ghost use Rattle.packet_host.specs.Saying.{say_refusal, full_packets, places_needed, most_octets, cut, queued};
+
+use crate::host::Host;
+use packet_codec::MAX_USER_DATA;
+use packet_end::PacketEnd;
+use packet_layer::ChannelFault;
+
+/// The places of a send queue.
+const QUEUE: usize = 8;
+
+impl Host {
+    /// Says octets on the channel: full packets of 128 octets with M = 1, and a last one with M = 0, which alone has D; no octets
+    /// are one empty packet. Q is on all of them (X.25 4.3.3 to 4.3.6). At most 1,024 octets, with Q 128.
+    ///
+    /// `NoCall` comes where no call is in data transfer, then `Resetting` while the own reset is not confirmed, `QueueFull` where
+    /// the send queue has fewer places than the packets need, of which at most 8 are counted, and with Q one; then `TooLong`.
+    pub fn say(
+        &mut self,
+        channel: u8,
+        octets: &[u8],
+        qualified: bool,
+        delivery: bool,
+    ) -> Result<(), ChannelFault>
+        ensures answer { MatchResult result
+            (λ _. say_refusal self.old.layer channel octets.now qualified ≡ None)
+            (λ fault. say_refusal self.old.layer channel octets.now qualified ≡ Some (refusal_of fault)) }
+        ensures host { self.new ≡ after_say self.old channel octets.now qualified delivery }
+    {
+        self.end.may_send(channel)?;
+        if usize::from(self.end.room(channel)) < needed(octets, qualified) {
+            return Err(ChannelFault::QueueFull);
+        }
+        if most(qualified) < octets.len() {
+            return Err(ChannelFault::TooLong);
+        }
+        queue(&mut self.end, channel, octets, qualified, delivery);
+        self.end_event();
+        Ok(())
+    }
+}
+
+// How many full packets go before the last one.
+fn full(octets: &[u8]) -> usize
+    ensures { result ≡ full_packets octets.now }
+{
+    octets.len().saturating_sub(1) / MAX_USER_DATA
+}
+
+// How many places of the send queue a message needs.
+fn needed(octets: &[u8], qualified: bool) -> usize
+    ensures { result ≡ places_needed qualified octets.now }
+{
+    if qualified {
+        1
+    } else {
+        QUEUE.min(full(octets) + 1)
+    }
+}
+
+// The most octets of a message.
+fn most(qualified: bool) -> usize
+    ensures { result ≡ most_octets qualified }
+{
+    if qualified {
+        MAX_USER_DATA
+    } else {
+        QUEUE * MAX_USER_DATA
+    }
+}
+
+// Puts the packets of a message into the send queue.
+fn queue(end: &mut PacketEnd, channel: u8, octets: &[u8], qualified: bool, delivery: bool)
+    ensures { end.new ≡ queued channel (cut octets.now qualified delivery) end.old }
+{
+    let mut rest = octets;
+    for _ in 0..full(octets) {
+        let (packet, others) = rest.split_at(MAX_USER_DATA);
+        let _ = end.send(channel, packet, true, qualified, false);
+        rest = others;
+    }
+    let _ = end.send(channel, rest, false, qualified, delivery);
+}
