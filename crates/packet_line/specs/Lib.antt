@@ -1,0 +1,5 @@
+pub mod PacketLine
+pub mod Events
+pub mod Fit
+pub mod Joint
+pub mod Law
