@@ -1,1 +1,3 @@
 mod Thinning
+mod Unread
+mod Layers

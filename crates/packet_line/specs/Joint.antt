@@ -61,12 +61,12 @@ AreHeard [] [] = Unit {0}
 AreHeard (octets ∷ more) (packet ∷ packets) = (heard octets ≡ Some (Whole packet)) × AreHeard more packets
 AreHeard _ _ = ⊥
 
--- an end of two packet layers is that of a link with this layer, but for notes that were not read
+-- an end of two packet layers is that of a link with this layer, but for notes that it has not read, of which this one has none
 pub record Follows (x : Side) (l : Layer) (a : End) : Type 0 where
   pub session : a.session ≡ session_now x.up x.session
   pub offered : (s : ℕ) → AreHeard (x.offered s) (a.offered s)
   pub accepted : (s : ℕ) → a.accepted s ≡ length (x.accepted s)
-  pub layer : unread a.layer ≡ unread l
+  pub layer : unread a.layer ≡ l
 
 -- ---- both ends
 
