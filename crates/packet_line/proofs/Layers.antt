@@ -1,6 +1,7 @@
 -- What each event of two packet layers makes of an end that follows a link and a layer.
 use Rattle.std.specs.Prelude.{◌≡◌, ℕ, zero, suc, ◌+◌, ◌≤◌, Bool, true, false, cond, not, ◌&&◌, ◌==◌, if◌then◌else◌, List, [], ◌∷◌, ◌++◌, length, slice_get, Option, Some, None}
 use Rattle.std.proofs.Common.{refl, sym, ap, ◌∙◌, subst, arith, length-append}
+use Rattle.std.proofs.lemmas.Bool.{eq-eqb, ne_eqb}
 use Rattle.lapb.specs.Machine.{Octets}
 use Rattle.lapb.specs.World.{logged, emptied}
 use Rattle.packet_layer.specs.Packets.{CallParts, Packet, Note}
@@ -55,8 +56,10 @@ follows_down x l a f = record {
 }
 
 begins_now : (n p q : ℕ) → 1 ≤ n → p ≡ 0 → q ≡ 0 → (not (n == 0) && ((p == 0) && (q == 0))) ≡ true
-begins_now zero p q h e f = absurd (let n : ⊥ = omega arith in n)
-begins_now (suc n) p q h e f = ap (λ (z : ℕ). (z == 0) && (q == 0)) e ∙ ap (λ (z : ℕ). z == 0) f
+begins_now n p q h e f =
+    ap (λ (t : Bool). not t && ((p == 0) && (q == 0))) (ne_eqb n 0 (λ z. let m : ⊥ = omega arith in m))
+    ∙ ap (λ (t : Bool). t && (q == 0)) (eq-eqb p 0 e)
+    ∙ eq-eqb q 0 f
 
 pub up_happens : (v : Line) (n : ℕ) → 1 ≤ n → v.me.accepted n ≡ 0 → v.you.accepted n ≡ 0 → happens (Up n) v ≡ record v { me = begun n v.me }
 up_happens v n h e f = ap (λ (t : Bool). cond t (record v { me = begun n v.me }) v) (begins_now n (v.me.accepted n) (v.you.accepted n) h e f)

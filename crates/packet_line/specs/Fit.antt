@@ -1,14 +1,16 @@
--- Which packets of a layer are heard at the other end.
-use Rattle.packet_layer.specs.Layer.{Layer}
-use Rattle.packet_line.specs.PacketLine.{Event}
+-- Which acts at an end can be read at the other one: a call that is placed carries what a Call Request can.
 use Rattle.std.specs.Prelude.{List, [], ◌∷◌}
+use Rattle.packet_layer.specs.Readable.{CanBePlaced}
+use Rattle.packet_line.specs.PacketLine.{Act, Event, Calls, At}
 
-abbrev pub IsReadable : Layer → Type 0
-IsReadable l = Unit {0}
+abbrev pub IsFit : Act → Type 0
+IsFit (Calls parts) = CanBePlaced parts
+IsFit act = Unit {0}
 
-abbrev pub IsFit : Event → Type 0
-IsFit event = Unit {0}
+abbrev pub IsFitEvent : Event → Type 0
+IsFitEvent (At role act) = IsFit act
+IsFitEvent event = Unit {0}
 
 abbrev pub AreFit : List Event → Type 0
 AreFit [] = Unit {0}
-AreFit (event ∷ events) = IsFit event × AreFit events
+AreFit (event ∷ events) = IsFitEvent event × AreFit events

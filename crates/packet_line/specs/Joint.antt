@@ -15,7 +15,7 @@ use Rattle.packet_layer.specs.Line.{End}
 use Rattle.packet_layer.specs.Line as layers
 use Rattle.packet_end.specs.PacketEnd.{PacketEnd}
 use Rattle.packet_line.specs.PacketLine.{Line}
-use Rattle.packet_line.specs.Fit.{IsReadable}
+use Rattle.packet_layer.specs.Readable.{IsReadable}
 
 -- ---- one end
 
