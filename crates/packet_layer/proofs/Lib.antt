@@ -43,3 +43,4 @@ pub mod Places
 pub mod FreeChannels
 pub mod Closed
 pub mod Serving
+pub mod Readable
