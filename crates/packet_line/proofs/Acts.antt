@@ -103,24 +103,24 @@ module _ (role : Role) (w : World) (v : layers.Line) (me you : PacketEnd) (going
       Result role v e you out in_ [] (session_of role w) (session_of (other_of role) w)
   quiet e out in_ is g = result_of role v e e you out in_ [] here_side here_side there_side (nothing_told e is) j.readable_there g
 
-  step_begins : Step role Begins w v me you going coming
+  pub step_begins : Step role Begins w v me you going coming
   step_begins =
       let r = quiet (end.begun me) going coming refl (goes_none role me.line.link you.line.link going me.line.frames (coming ++ you.line.frames) here_side there_side here) in
       record { world = r.world; joint = r.joint; notes = refl; rises = r.rises; mine = r.mine_is; yours = r.yours_is }
 
-  step_sends : (kept : List Bool) → Step role (Sends kept) w v me you going coming
+  pub step_sends : (kept : List Bool) → Step role (Sends kept) w v me you going coming
   step_sends kept =
       let g = goes_thin role me.line.link you.line.link going me.line.frames (coming ++ you.line.frames) here_side there_side kept here in
       let h = subst (λ (q : List Octets). Goes role me.line.link you.line.link q (coming ++ you.line.frames) here_side there_side) (sym (append-nil (going ++ chosen kept me.line.frames))) g in
       let r = quiet (record me { line = without_frames me.line }) (going ++ chosen kept me.line.frames) coming refl h in
       record { world = r.world; joint = r.joint; notes = sym (append-nil me.notes); rises = r.rises; mine = r.mine_is; yours = r.yours_is }
 
-  step_elapses : (ticks : ℕ) → Step role (Elapses ticks) w v me you going coming
+  pub step_elapses : (ticks : ℕ) → Step role (Elapses ticks) w v me you going coming
   step_elapses ticks =
       let r = quiet (end.elapsed me ticks) going coming refl here in
       record { world = r.world; joint = r.joint; notes = sym (append-nil me.notes); rises = r.rises; mine = r.mine_is; yours = r.yours_is }
 
-  step_settles : Step role Settles w v me you going coming
+  pub step_settles : Step role Settles w v me you going coming
   step_settles =
       let g = goes_settle me.line.link you.line.link (going ++ me.line.frames) (coming ++ you.line.frames) here_side there_side role here in
       let same : at_link here_side (link.settle me.line.link).link ≡ here_side = ap (λ (b : Bool). record here_side { up = b }) (settle_as_up me.line.link) in
@@ -131,13 +131,13 @@ module _ (role : Role) (w : World) (v : layers.Line) (me you : PacketEnd) (going
 
   -- ---- the user's calls
 
-  step_calls : (parts : CallParts) → CanBePlaced parts → Step role (Calls parts) w v me you going coming
+  pub step_calls : (parts : CallParts) → CanBePlaced parts → Step role (Calls parts) w v me you going coming
   step_calls parts fits =
       let t = told_call here_side there_side you.layer me v j.mine j.yours j.readable_here parts fits in
       let r = result_of role v me (end.called me parts) you going coming (Event.Calls parts ∷ []) here_side here_side there_side t j.readable_there here in
       record { world = r.world; joint = r.joint; notes = t.notes; rises = r.rises; mine = r.mine_is; yours = r.yours_is }
 
-  step_requests : (channel : ℕ) (q : Request) → Step role (Requests channel q) w v me you going coming
+  pub step_requests : (channel : ℕ) (q : Request) → Step role (Requests channel q) w v me you going coming
   step_requests channel q =
       let t = told_request here_side there_side you.layer me v j.mine j.yours j.readable_here channel q in
       let r = result_of role v me (end.asked me channel q) you going coming (Event.Requests channel q ∷ []) here_side here_side there_side t j.readable_there here in
@@ -151,7 +151,7 @@ module _ (role : Role) (w : World) (v : layers.Line) (me you : PacketEnd) (going
       let d = did_goes role me.line (link.relink me.line.link) you.line.link going (coming ++ you.line.frames) (at_link here_side (link.relink me.line.link).link) there_side role_is g in
       subst (λ (b : Bool). at_line role (line.relinked me.line) you.line.link going (coming ++ you.line.frames) (record here_side { up = b }) there_side) (relink_not_up me.line.link) d
 
-  step_relinks : Step role Relinks w v me you going coming
+  pub step_relinks : Step role Relinks w v me you going coming
   step_relinks =
       let t = told_down here_side there_side you.layer (record me { line = line.relinked me.line }) v j.mine j.yours j.readable_here in
       let r = result_of role v (record me { line = line.relinked me.line }) (end.relinked me) you going coming (Event.Down ∷ []) here_side (record here_side { up = false }) there_side t j.readable_there relink_goes in
@@ -173,7 +173,7 @@ module _ (role : Role) (w : World) (v : layers.Line) (me you : PacketEnd) (going
   either true e events h = h
   either false e events h = unchanged
 
-  step_relinks_if_due : Step role RelinksIfDue w v me you going coming
+  pub step_relinks_if_due : Step role RelinksIfDue w v me you going coming
   step_relinks_if_due =
       let s = step_relinks in
       let r = either me.layer.relink (end.relinked me) (Event.Down ∷ []) (record { world = s.world; joint = s.joint; notes = s.notes; rises = s.rises; mine = s.mine; yours = s.yours }) in
@@ -215,14 +215,14 @@ module _ (role : Role) (w : World) (v : layers.Line) (me you : PacketEnd) (going
   any_expires (timer.T23 c) = named_expires (timer.T23 c)
   any_expires (timer.Idle c) = named_expires (timer.Idle c)
 
-  step_expires : (id : TimerId) → Step role (Expires id) w v me you going coming
+  pub step_expires : (id : TimerId) → Step role (Expires id) w v me you going coming
   step_expires id =
       let r = either (runs_at me id) (end.expired id me) (expiry_events (coming_session role w) id me) (any_expires id) in
       record { world = r.world; joint = r.joint; notes = r.notes; rises = r.rises; mine = r.mine; yours = r.yours }
 
   -- ---- the node restarts
 
-  step_restarts : Step role Restarts w v me you going coming
+  pub step_restarts : Step role Restarts w v me you going coming
   step_restarts =
       let fresh : End = untouched me.line.link.role me.line.link.k me.line.link.n2 false in
       let a = goes_restart me.line.link you.line.link (going ++ me.line.frames) (coming ++ you.line.frames) here_side there_side role here in
@@ -262,6 +262,6 @@ step_frame role w v me you going octets coming j =
     let r = result_of role v before (end.received me octets) you going coming (frame_events (coming_session role w) (octets ∷ coming) me) x h.0 y t j.readable_there g in
     record { world = r.world; joint = r.joint; notes = t.notes; rises = r.rises; mine = r.mine_is; yours = r.yours_is }
 
-step_hears : (role : Role) (w : World) (v : layers.Line) (me you : PacketEnd) (going coming : List Octets) → JointAt role w v me you going coming → Step role Hears w v me you going coming
+pub step_hears : (role : Role) (w : World) (v : layers.Line) (me you : PacketEnd) (going coming : List Octets) → JointAt role w v me you going coming → Step role Hears w v me you going coming
 step_hears role w v me you going [] j = record { world = w; joint = j; notes = sym (append-nil me.notes); rises = tt; mine = refl; yours = refl }
 step_hears role w v me you going (octets ∷ coming) j = step_frame role w v me you going octets coming j

@@ -77,17 +77,23 @@ one_goes role w v me you going coming j room says =
 offers_went : (most : ℕ) (role : Role) (w : World) (v : layers.Line) (me you : PacketEnd) (going coming : List Octets) → JointAt role w v me you going coming →
     Went role v me you going coming (offered most me) (offer_events most me) (session_of role w) (session_of (other_of role) w)
 offers_went zero role w v me you going coming j = record { world = w; joint = j; notes = sym (append-nil me.notes); rises = tt; mine_is = refl; yours_is = refl }
-offers_went (suc most) role w v me you going coming j = by (can_offer me.line.link) refl (is_some (next_packet me.layer).packet) refl
+offers_went (suc most) role w v me you going coming j =
+    by (λ next_world next_line next_end next_joint. offers_went most role next_world next_line next_end you going coming next_joint)
+    (can_offer me.line.link) refl (is_some (next_packet me.layer).packet) refl
   where
     none : Went role v me you going coming me [] (session_of role w) (session_of (other_of role) w)
     none = record { world = w; joint = j; notes = sym (append-nil me.notes); rises = tt; mine_is = refl; yours_is = refl }
 
-    more : can_offer me.line.link ≡ true → is_some (next_packet me.layer).packet ≡ true →
+    abbrev Others : Type 0
+    Others = (u : World) (o : layers.Line) (e : PacketEnd) → JointAt role u o e you going coming →
+        Went role o e you going coming (offered most e) (offer_events most e) (session_of role u) (session_of (other_of role) u)
+
+    more : Others → can_offer me.line.link ≡ true → is_some (next_packet me.layer).packet ≡ true →
         Went role v me you going coming (offered most (with_next me (next_packet me.layer))) (Event.Offers ∷ offer_events most (with_next me (next_packet me.layer))) (session_of role w) (session_of (other_of role) w)
-    more room says =
+    more others room says =
         let o = one_goes role w v me you going coming j room says in
         let events : List Event = offer_events most (with_next me (next_packet me.layer)) in
-        let r = offers_went most role o.world (happens Event.Offers v) (with_next me (next_packet me.layer)) you going coming o.joint in
+        let r = others o.world (happens Event.Offers v) (with_next me (next_packet me.layer)) o.joint in
         record {
           world = r.world;
           joint = r.joint;
@@ -97,12 +103,12 @@ offers_went (suc most) role w v me you going coming j = by (can_offer me.line.li
           yours_is = r.yours_is ∙ o.yours_is;
         }
 
-    by : (room : Bool) → can_offer me.line.link ≡ room → (says : Bool) → is_some (next_packet me.layer).packet ≡ says →
+    by : Others → (room : Bool) → can_offer me.line.link ≡ room → (says : Bool) → is_some (next_packet me.layer).packet ≡ says →
         Went role v me you going coming (cond room (cond says (offered most (with_next me (next_packet me.layer))) me) me)
         (cond room (cond says (Event.Offers ∷ offer_events most (with_next me (next_packet me.layer))) []) []) (session_of role w) (session_of (other_of role) w)
-    by false e says f = none
-    by true e false f = none
-    by true e true f = more e f
+    by others false e says f = none
+    by others true e false f = none
+    by others true e true f = more others e f
 
 all_is : (e : PacketEnd) → all_offered e ≡ offered 7 e
 unfolding all_offered
