@@ -74,6 +74,10 @@ one_goes role w v me you going coming j room says =
       yours_is = ap (λ (s : Side). s.session) g.yours_is;
     }
 
+abbrev Others : (most : ℕ) → Role → PacketEnd → (going coming : List Octets) → Type 0
+Others most role you going coming = (u : World) (o : layers.Line) (e : PacketEnd) → JointAt role u o e you going coming →
+    Went role o e you going coming (offered most e) (offer_events most e) (session_of role u) (session_of (other_of role) u)
+
 offers_went : (most : ℕ) (role : Role) (w : World) (v : layers.Line) (me you : PacketEnd) (going coming : List Octets) → JointAt role w v me you going coming →
     Went role v me you going coming (offered most me) (offer_events most me) (session_of role w) (session_of (other_of role) w)
 offers_went zero role w v me you going coming j = record { world = w; joint = j; notes = sym (append-nil me.notes); rises = tt; mine_is = refl; yours_is = refl }
@@ -84,11 +88,7 @@ offers_went (suc most) role w v me you going coming j =
     none : Went role v me you going coming me [] (session_of role w) (session_of (other_of role) w)
     none = record { world = w; joint = j; notes = sym (append-nil me.notes); rises = tt; mine_is = refl; yours_is = refl }
 
-    abbrev Others : Type 0
-    Others = (u : World) (o : layers.Line) (e : PacketEnd) → JointAt role u o e you going coming →
-        Went role o e you going coming (offered most e) (offer_events most e) (session_of role u) (session_of (other_of role) u)
-
-    more : Others → can_offer me.line.link ≡ true → is_some (next_packet me.layer).packet ≡ true →
+    more : Others most role you going coming → can_offer me.line.link ≡ true → is_some (next_packet me.layer).packet ≡ true →
         Went role v me you going coming (offered most (with_next me (next_packet me.layer))) (Event.Offers ∷ offer_events most (with_next me (next_packet me.layer))) (session_of role w) (session_of (other_of role) w)
     more others room says =
         let o = one_goes role w v me you going coming j room says in
@@ -103,7 +103,7 @@ offers_went (suc most) role w v me you going coming j =
           yours_is = r.yours_is ∙ o.yours_is;
         }
 
-    by : Others → (room : Bool) → can_offer me.line.link ≡ room → (says : Bool) → is_some (next_packet me.layer).packet ≡ says →
+    by : Others most role you going coming → (room : Bool) → can_offer me.line.link ≡ room → (says : Bool) → is_some (next_packet me.layer).packet ≡ says →
         Went role v me you going coming (cond room (cond says (offered most (with_next me (next_packet me.layer))) me) me)
         (cond room (cond says (Event.Offers ∷ offer_events most (with_next me (next_packet me.layer))) []) []) (session_of role w) (session_of (other_of role) w)
     by others false e says f = none

@@ -8,6 +8,7 @@ use Rattle.packet_layer.specs.Packets.Note.{Incoming, Connected}
 use Rattle.packet_layer.specs.Traffic.Taken.{TakenPacket}
 use Rattle.packet_layer.specs.Channel.Request.{Accept, Sending}
 use Rattle.packet_layer.specs.Layer.{front_on}
+use Rattle.packet_layer.specs.Layer.Phase.{PacketReady}
 use Rattle.packet_end.specs.PacketEnd.{all_offered}
 use Rattle.packet_end.specs.declared.params.EndParams.{EndParams}
 use Rattle.packet_line.specs.PacketLine.{Line, Event, At, Begins, Hears, Calls, Requests, Offers, Settles, Sends, made, after}
@@ -33,3 +34,41 @@ asked = At Dte (Sends []) ∷ At Dce (Sends []) ∷ hears Dce
 one_up : (after asked (made params)).up ≡ []
 unfolding all_offered
 one_up = refl
+
+-- the link is up at both ends, and both restarted
+abbrev restarted : List Event
+restarted = At Dte (Sends []) ∷ At Dce (Sends []) ∷ rounds 6
+
+both_restarted : ((after restarted (made params)).dte.layer.phase ≡ PacketReady) × ((after restarted (made params)).dce.layer.phase ≡ PacketReady)
+unfolding all_offered
+both_restarted = (refl, refl)
+
+-- a call of the DTE comes to the DCE
+abbrev digits : CallParts
+digits = record { called = 2 ∷ 0 ∷ 0 ∷ 1 ∷ []; calling = []; facilities = []; user_part = [] }
+
+abbrev called : List Event
+called = restarted ++ (At Dte (Calls digits) ∷ ends Dte) ++ rounds 2
+
+incoming : (after called (made params)).dce.notes ≡ Incoming 4 digits ∷ []
+unfolding all_offered
+incoming = refl
+
+-- it is answered
+abbrev answered : List Event
+answered = called ++ (At Dce (Requests 4 Accept) ∷ ends Dce) ++ rounds 2
+
+connected : (after answered (made params)).dte.notes ≡ Connected 4 ∷ []
+unfolding all_offered
+connected = refl
+
+-- what the DTE sends can be taken at the DCE
+abbrev hi : Datum
+hi = record { octets = 72 ∷ 73 ∷ []; more = false; qualified = false; delivery = false }
+
+abbrev said : List Event
+said = answered ++ (At Dte (Requests 4 (Sending hi)) ∷ ends Dte) ++ rounds 2
+
+arrived : front_on (after said (made params)).dce.layer 4 ≡ Some (TakenPacket hi)
+unfolding all_offered
+arrived = refl
