@@ -1,3 +1,9 @@
-mod Thinning
-mod Unread
-mod Layers
+pub mod Thinning
+pub mod Unread
+pub mod Layers
+pub mod Links
+pub mod Telling
+pub mod Acts
+pub mod Offering
+pub mod Holding
+mod Rows

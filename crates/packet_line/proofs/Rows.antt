@@ -1,12 +1,13 @@
 -- Worked runs of a line with both its ends, over octets, by computation.
 use Rattle.std.specs.Prelude.{◌≡◌, ℕ, zero, suc, true, false, List, [], ◌∷◌, ◌++◌, Some}
-use Rattle.std.proofs.Common.{refl}
+use Rattle.std.proofs.Common.{refl, arith}
 use Rattle.link_timers.specs.declared.role.Role.{Role}
 use Rattle.link_timers.specs.declared.role.Role.TheVariants.{Dte, Dce}
 use Rattle.packet_layer.specs.Packets.{CallParts, Datum}
 use Rattle.packet_layer.specs.Packets.Note.{Incoming, Connected}
 use Rattle.packet_layer.specs.Traffic.Taken.{TakenPacket}
 use Rattle.packet_layer.specs.Channel.Request.{Accept, Sending}
+use Rattle.packet_layer.specs.Readable.{CanBePlaced}
 use Rattle.packet_layer.specs.Layer.{front_on}
 use Rattle.packet_layer.specs.Layer.Phase.{PacketReady}
 use Rattle.packet_end.specs.PacketEnd.{all_offered}
@@ -49,6 +50,14 @@ digits = record { called = 2 ∷ 0 ∷ 0 ∷ 1 ∷ []; calling = []; facilities 
 
 abbrev called : List Event
 called = restarted ++ (At Dte (Calls digits) ∷ ends Dte) ++ rounds 2
+
+can_be_placed : CanBePlaced digits
+can_be_placed = record {
+  called = (omega arith, omega arith, refl);
+  calling = (omega arith, refl);
+  facilities = omega arith;
+  user_data = omega arith;
+}
 
 incoming : (after called (made params)).dce.notes ≡ Incoming 4 digits ∷ []
 unfolding all_offered

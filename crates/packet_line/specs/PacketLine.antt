@@ -36,7 +36,7 @@ pub data Act : Type 0 where
   Offers : Act
   Settles : Act
   Elapses : (ticks : ℕ) → Act
-  -- the frames that wait at the end go onto the line, in order; of those that `kept` says, some are lost
+  -- the frames that wait at the end go onto the line, in order; those that `kept` drops are lost
   Sends : (kept : List Bool) → Act
 
 pub data Event : Type 0 where
@@ -64,7 +64,7 @@ does Settles coming e = end.settled e
 does (Elapses ticks) coming e = end.elapsed e ticks
 does (Sends kept) coming e = record e { line = without_frames e.line }
 
--- a frame that waits at the other end is on the line too
+-- a restart loses what waits at the other end, too: it is on the line already
 abbrev pub other_after : Act → PacketEnd → PacketEnd
 other_after Restarts e = record e { line = without_frames e.line }
 other_after act e = e
