@@ -21,10 +21,10 @@ use Rattle.packet_end.specs.PacketEnd.{PacketEnd}
 use Rattle.packet_end.specs.Params.{AreParams}
 use Rattle.packet_end.specs.declared.params.EndParams.{EndParams}
 use Rattle.packet_line.specs.PacketLine.{Line, Act, Begins, Hears, Expires, Relinks, RelinksIfDue, Restarts, Calls, Requests, Offers, Settles, Elapses, Sends, Event, At, Loses, happens, after, made}
-use Rattle.packet_line.specs.Events.{events_of, after_here}
+use Rattle.packet_line.specs.Events.{after_here}
 use Rattle.packet_line.specs.Fit.{IsFit, IsFitEvent, AreFit}
-use Rattle.packet_line.specs.Joint.{Side, side, session_of, coming_session, Follows, JointAt, Joint}
-use Rattle.packet_line.specs.Steps.{Step}
+use Rattle.packet_line.specs.Joint.{Side, side, session_of, Follows, JointAt, Joint}
+use Rattle.packet_line.specs.Steps.{Step, events_at}
 use Rattle.packet_line.specs.Law.{Passes, PacketLineLaw}
 use Rattle.packet_line.proofs.Links.{Goes, at_link, goes_relink, goes_lose}
 use Rattle.packet_line.proofs.Acts.{did_goes, step_begins, step_hears, step_expires, step_relinks, step_relinks_if_due, step_restarts, step_calls, step_requests, step_settles, step_elapses, step_sends}
@@ -101,7 +101,7 @@ event_leads : (start : layers.Line) (event : Event) (l : Line) → IsFitEvent ev
 event_leads start (At Dte act) l fits d =
     let v : layers.Line = layers.after d.happenings start in
     let s = act_steps Dte act d.world v l.dte l.dce l.up l.down fits d.joint in
-    let events : List layers.Event = events_of (coming_session Dte d.world) act l.down l.dte in
+    let events : List layers.Event = events_at Dte d.world act l.down l.dte in
     record {
       world = s.world;
       happenings = d.happenings ++ map Here events;
@@ -110,7 +110,7 @@ event_leads start (At Dte act) l fits d =
 event_leads start (At Dce act) l fits d =
     let v : layers.Line = layers.after d.happenings start in
     let s = act_steps Dce act d.world (turned v) l.dce l.dte l.down l.up fits (turned_joint Dte d.world v l.dte l.dce l.up l.down d.joint) in
-    let events : List layers.Event = events_of (coming_session Dce d.world) act l.up l.dce in
+    let events : List layers.Event = events_at Dce d.world act l.up l.dce in
     let r : Joint (happens (At Dce act) l) s.world (turned (after_here events (turned v))) =
     turned_joint Dce s.world (after_here events (turned v)) (happens (At Dce act) l).dce (happens (At Dce act) l).dte (happens (At Dce act) l).down (happens (At Dce act) l).up s.joint in
     record {

@@ -6,4 +6,5 @@ pub mod Telling
 pub mod Acts
 pub mod Offering
 pub mod Holding
+pub mod Finishing
 mod Rows

@@ -33,12 +33,17 @@ AreNotes Begins before given after = after ≡ []
 AreNotes Restarts before given after = after ≡ []
 AreNotes act before given after = after ≡ before ++ given
 
+-- the events of an act at the end of this role, in this world
+abbrev pub events_at : Role → World → Act → (coming : List Octets) → PacketEnd → List Event
+events_at role w act coming me = events_of (coming_session role w) act coming me
+
 -- the act of an end of this role, in step with a world of links and a line of layers: both go on in step with it, the layers by
 -- the events of the act
 pub record Step (role : Role) (act : Act) (w : World) (v : layers.Line) (me you : PacketEnd) (going coming : List Octets) : Type 0 where
   pub world : World
-  pub joint : JointAt role world (after_here (events_of (coming_session role w) act coming me) v) (does act coming me) (other_after act you) (going_after act me going) (coming_after act coming)
-  pub notes : AreNotes act me.notes (notes_of (events_of (coming_session role w) act coming me) v) (does act coming me).notes
-  pub rises : Rise (events_of (coming_session role w) act coming me) (session_of role w) (session_of (other_of role) w)
-  pub mine : session_of role world ≡ session_after (events_of (coming_session role w) act coming me) (session_of role w)
+  pub joint : JointAt role world (after_here (events_at role w act coming me) v)
+      (does act coming me) (other_after act you) (going_after act me going) (coming_after act coming)
+  pub notes : AreNotes act me.notes (notes_of (events_at role w act coming me) v) (does act coming me).notes
+  pub rises : Rise (events_at role w act coming me) (session_of role w) (session_of (other_of role) w)
+  pub mine : session_of role world ≡ session_after (events_at role w act coming me) (session_of role w)
   pub yours : session_of (other_of role) world ≡ session_of (other_of role) w
