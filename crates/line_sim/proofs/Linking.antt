@@ -5,7 +5,7 @@ use Rattle.std.specs.Option.{option_to_list}
 use Rattle.link_timers.specs.declared.role.Role.TheVariants.{Dte, Dce}
 use Rattle.frame_codec.specs.Spelling.{spelling}
 use Rattle.lapb.specs.Machine.{first_phase, Octets, Link, Step, on_t1, relink, settle, offer, new}
-use Rattle.lapb.specs.World.{World, Offer, Lose, Expire, Relink, Settle, Restart, Params, opening, happens, logged, offered, remade, is_setting_up, is_up_note, dte_does, dce_does}
+use Rattle.lapb.specs.World.{World, Offer, Lose, Expire, Relink, Settle, Restart, Params, opening, happens, logged, offered, remade, is_setting_up, dte_does, dce_does}
 use Rattle.lapb.specs.Line.{chosen}
 use Rattle.lapb.specs.Rising.{IsPlain}
 use Rattle.lapb.proofs.Rising.{plain_on_t1, plain_relink, plain_settle}
