@@ -16,7 +16,7 @@ use Rattle.lapb.specs.Reach.{Reached}
 use Rattle.lapb.specs.Fits.{AllSpelt, octets_of}
 use Rattle.lapb.specs.Line.{chosen, StandsIn}
 use Rattle.lapb.specs.Rising.{AsksInOrder, Tells, IsPlain}
-use Rattle.lapb.proofs.Rising.{tells_on_octets, plain_on_t1, plain_relink, plain_settle, reached_rise}
+use Rattle.lapb.proofs.Rising.{tells_on_octets, plain_on_t1, plain_relink, plain_settle, reached_rise, later_at_dte}
 use Rattle.lapb.proofs.Lines.{stands_offer_dte, stands_offer_dce, stands_t1_dte, stands_t1_dce, stands_relink_dte, stands_relink_dce, stands_settle_dte, stands_settle_dce, stands_restart_dte, stands_restart_dce, stands_lose_up, stands_lose_down, stands_frame_dte, stands_frame_dce}
 use Rattle.lapb.proofs.Inv.{Inv}
 use Rattle.lapb.proofs.Reach.{reached_inv, reached_in_order, reached_up, reached_begins_fresh}
@@ -331,19 +331,6 @@ up_note Up e = refl
 up_note Down e = absurd (cc)
 up_note Nothing e = absurd (cc)
 
--- the DTE comes up in a later act than the one in which it stood
-rises_dte : (w : World) (dte dce : Link) (up down : List Octets) (bytes : Octets) → StandsIn w dte dce up (bytes ∷ down) → (on_octets dte bytes).note ≡ Up → w.own < w.act
-rises_dte w dte dce up down bytes s n = go w.down refl s.fit.down s.down_is
-  where
-    go : (flow : List Sent) → w.down ≡ flow → AllSpelt flow → octets_of Dce flow ≡ bytes ∷ down → w.own < w.act
-    go [] is all e = absurd (cc)
-    go (x ∷ flow) is all e =
-        let role : w.dte.role ≡ Dte = (reached_inv w s.reached).dte_role in
-        let head : spelling Dce x.frame ≡ bytes = cc in
-        let step : on_frame w.dte x.frame ≡ on_octets dte bytes =
-        sym (octets_taken w.dte Dce x.frame role all.0) ∙ ap (on_octets w.dte) head ∙ ap (λ l. on_octets l bytes) s.dte_is in
-        (reached_rise w s.reached).at_dte x flow is (ap (λ (t : Step). t.note) step ∙ n)
-
 pub goes_frame_dte : (w : World) (mine yours : Link) (going coming : List Octets) (octets : Octets) → Stands Dte w mine yours going (octets ∷ coming) →
     (after : Side) × Takes (on_octets mine octets).note (on_octets mine octets).accepted (coming_session Dte w) (side Dte w mine) after (side Dce w yours)
     × Goes Dte (on_octets mine octets).link yours (going ++ map (spelling Dte) (on_octets mine octets).frames) coming after (side Dce w yours)
@@ -353,7 +340,7 @@ goes_frame_dte w mine yours going coming octets s = (
       refl refl (tells_on_octets mine octets) t.own
       (t.offered ∙ emptied_if w.dte_offered w.act (is_up_note (on_octets mine octets).note) (λ e. (t.fresh (up_note (on_octets mine octets).note e)).2))
       t.accepted
-      (λ e. let f = t.fresh e in let r = rises_dte w mine yours going coming octets s e in (omega arith, omega arith, f.0, f.1))
+      (λ e. let f = t.fresh e in let r = later_at_dte w mine yours going coming octets s e in (omega arith, omega arith, f.0, f.1))
       (λ e. let u = reached_up w s.reached (ap (λ (l : Link). l.phase) s.dte_is ∙ e) in let a = u.0 in let b = u.1 in omega arith)
       (λ n. subst (λ (q : ℕ → List Octets). IsPrefix ((happens w (Deliver Dte [])).dte_accepted n) (q n)) t.dce_offered ((reached_in_order (happens w (Deliver Dte [])) g.reached).at_dte n)),
   record {
