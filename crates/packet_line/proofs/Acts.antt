@@ -1,44 +1,36 @@
 -- Each act at an end of a line is some events of its links and some of its two layers, in step.
-use Rattle.std.specs.Prelude.{◌≡◌, ℕ, zero, suc, ◌≤◌, Bool, true, false, cond, List, [], ◌∷◌, ◌++◌, length, drop, map, take, Option, Some, None, is_some}
-use Rattle.std.proofs.Common.{refl, sym, ap, ◌∙◌, subst, append_assoc}
+use Rattle.std.specs.Prelude.{◌≡◌, ℕ, Bool, true, false, cond, List, [], ◌∷◌, ◌++◌, map}
+use Rattle.std.proofs.Common.{refl, sym, ap, ◌∙◌, subst}
 use Rattle.std.proofs.lemmas.List.{append-nil}
 use Rattle.link_timers.specs.declared.role.Role.{Role}
 use Rattle.link_timers.specs.declared.timers.TimerId.{TimerId}
 use Rattle.link_timers.specs.declared.timers.TimerId.TheVariants as timer
-use Rattle.link_timers.specs.Timers.{Places, none_running, stopped}
+use Rattle.link_timers.specs.Timers.{stopped}
 use Rattle.link_timers.specs.Role.{other_of}
 use Rattle.frame_codec.specs.Spelling.{spelling}
-use Rattle.lapb.specs.declared.note.Note as link_note
 use Rattle.lapb.specs.Machine as link
 use Rattle.lapb.specs.Machine.{Octets, Link, can_offer, is_up}
-use Rattle.lapb.specs.World.{World, logged}
-use Rattle.lapb.specs.World as world
+use Rattle.lapb.specs.World.{World}
 use Rattle.lapb.specs.Octets as link_octets
 use Rattle.lapb.specs.Line.{chosen}
 use Rattle.lapb.proofs.Rising.{tells_on_t1, plain_on_t1}
 use Rattle.line_end.specs.End.{End, did, without_frames, untouched}
 use Rattle.line_end.specs.End as line
-use Rattle.packet_layer.specs.Packets.{CallParts, Packet, Note}
-use Rattle.packet_layer.specs.Packets.Received.{Whole}
-use Rattle.packet_layer.specs.Octets.{heard}
+use Rattle.packet_layer.specs.Packets.{CallParts, Note}
 use Rattle.packet_layer.specs.Channel.{Request}
-use Rattle.packet_layer.specs.Layer.{Layer, Timer, unread, next_packet}
+use Rattle.packet_layer.specs.Layer.{Layer}
 use Rattle.packet_layer.specs.Events.{timer_named, written_packet}
 use Rattle.packet_layer.specs.Line as layers
 use Rattle.packet_layer.specs.Line.{Event, happens, offers}
 use Rattle.packet_layer.specs.Readable.{IsReadable, CanBePlaced}
-use Rattle.packet_layer.proofs.Readable.{readable_next, readable_link_down, next_heard, next_short}
+use Rattle.packet_layer.proofs.Readable.{readable_link_down}
 use Rattle.packet_end.specs.PacketEnd as end
 use Rattle.packet_end.specs.PacketEnd.{PacketEnd, gathered, heeded, after_packet, runs_at, with_next, offered, all_offered}
-use Rattle.packet_end.specs.Timing.{brought}
-use Rattle.packet_line.specs.PacketLine.{Act, Begins, Hears, Expires, Relinks, RelinksIfDue, Restarts, Calls, Requests, Offers, Settles, Elapses, Sends, heard_first}
-use Rattle.packet_line.specs.Events.{frame_events, expiry_events, timer_events, note_events, packet_events, offer_events, events_of, after_here, cleared, notes_of}
-use Rattle.packet_line.specs.Fit.{IsFit}
-use Rattle.packet_line.specs.Joint.{Side, side, session_of, coming_session, session_now, Follows, Stands, JointAt}
+use Rattle.packet_line.specs.PacketLine.{Begins, Hears, Expires, Relinks, RelinksIfDue, Restarts, Calls, Requests, Settles, Elapses, Sends}
+use Rattle.packet_line.specs.Events.{frame_events, expiry_events, timer_events, after_here, notes_of}
+use Rattle.packet_line.specs.Joint.{Side, side, session_of, coming_session, Follows, JointAt}
 use Rattle.packet_line.specs.Steps.{session_after, Rise, Step}
-use Rattle.packet_line.proofs.Unread.{next_unread}
-use Rattle.packet_line.proofs.Layers.{follows_down, follows_offers, offers_happens, next_silent}
-use Rattle.packet_line.proofs.Links.{Goes, Takes, at_link, role_of, goes_thin, goes_none, goes_behind, goes_t1, goes_relink, goes_settle, goes_restart, goes_offer, goes_frame, relink_not_up, settle_as_up, takes_up, plain_takes}
+use Rattle.packet_line.proofs.Links.{Goes, at_link, role_of, goes_thin, goes_none, goes_behind, goes_t1, goes_relink, goes_settle, goes_restart, goes_frame, relink_not_up, settle_as_up, plain_takes}
 use Rattle.packet_line.proofs.Telling.{Told, told_nothing, told_down, told_note, told_step, told_timer, told_call, told_request}
 
 -- ---- a step of the link, whose frames wait behind those that waited

@@ -18,15 +18,13 @@ use Rattle.packet_layer.specs.Line.Happening.{Here, There}
 use Rattle.packet_layer.proofs.LineHolds.{line_holds}
 use Rattle.packet_layer.proofs.Readable.{readable_made}
 use Rattle.packet_end.specs.PacketEnd.{PacketEnd}
-use Rattle.packet_end.specs.Params.{AreParams}
-use Rattle.packet_end.specs.declared.params.EndParams.{EndParams}
 use Rattle.packet_line.specs.PacketLine.{Line, Act, Begins, Hears, Expires, Relinks, RelinksIfDue, Restarts, Calls, Requests, Offers, Settles, Elapses, Sends, Event, At, Loses, happens, after, made}
 use Rattle.packet_line.specs.Events.{after_here}
 use Rattle.packet_line.specs.Fit.{IsFit, IsFitEvent, AreFit}
 use Rattle.packet_line.specs.Joint.{Side, side, session_of, Follows, JointAt, Joint}
 use Rattle.packet_line.specs.Steps.{Step, events_at}
-use Rattle.packet_line.specs.Law.{Passes, PacketLineLaw}
-use Rattle.packet_line.proofs.Links.{Goes, at_link, goes_relink, goes_lose}
+use Rattle.packet_line.specs.Law.{PacketLineLaw}
+use Rattle.packet_line.proofs.Links.{Goes, goes_relink, goes_lose}
 use Rattle.packet_line.proofs.Acts.{did_goes, step_begins, step_hears, step_expires, step_relinks, step_relinks_if_due, step_restarts, step_calls, step_requests, step_settles, step_elapses, step_sends}
 use Rattle.packet_line.proofs.Offering.{step_offers}
 

@@ -1,5 +1,5 @@
 -- What each call at an end makes of a world of two links, as the end and the other one see it.
-use Rattle.std.specs.Prelude.{◌≡◌, ℕ, zero, suc, ◌+◌, ◌<◌, ◌≤◌, Bool, true, false, cond, not, ◌&&◌, ◌==◌, if◌then◌else◌, List, [], ◌∷◌, ◌++◌, length, map, take, slice_get, Option, Some, None}
+use Rattle.std.specs.Prelude.{◌≡◌, ℕ, zero, suc, ◌≤◌, Bool, true, false, not, ◌&&◌, ◌==◌, if◌then◌else◌, List, [], ◌∷◌, ◌++◌, length, map, take, slice_get, Option, Some, None}
 use Rattle.std.proofs.Common.{refl, sym, ap, ◌∙◌, subst, arith, append_assoc}
 use Rattle.std.proofs.lemmas.Bool.{eq-eqb, eqb-true}
 use Rattle.link_timers.specs.declared.role.Role.{Role}
@@ -11,8 +11,7 @@ use Rattle.lapb.specs.declared.note.Note.{Note}
 use Rattle.lapb.specs.declared.note.Note.TheVariants.{Nothing, Up, Down}
 use Rattle.lapb.specs.Machine.{Octets, Link, Step, is_up, can_offer, is_full, on_frame, on_t1, relink, relink_as, settle, settle_in, send_all, sendable, offer}
 use Rattle.lapb.specs.Octets.{on_octets}
-use Rattle.lapb.specs.World.{Sent, World, Offer, Deliver, Lose, Expire, Relink, Settle, Restart, IsPrefix, happens, dte_does, dce_does, to_dte, to_dce, logged, emptied, is_set_mode, is_up_note, offered, remade}
-use Rattle.lapb.specs.Reach.{Reached}
+use Rattle.lapb.specs.World.{Sent, World, Offer, Deliver, Lose, Expire, Relink, Settle, Restart, IsPrefix, happens, dte_does, dce_does, to_dce, logged, emptied, is_set_mode, is_up_note, offered, remade}
 use Rattle.lapb.specs.Fits.{AllSpelt, octets_of}
 use Rattle.lapb.specs.Line.{chosen, StandsIn}
 use Rattle.lapb.specs.Rising.{AsksInOrder, Tells, IsPlain}
@@ -22,7 +21,7 @@ use Rattle.lapb.proofs.Inv.{Inv}
 use Rattle.lapb.proofs.Reach.{reached_inv, reached_in_order, reached_up, reached_begins_fresh}
 use Rattle.lapb.proofs.Fitting.{octets_taken}
 use Rattle.lapb.proofs.Sessions.{TakenAtDte, TakenAtDce, taken_at_dte, dce_begins}
-use Rattle.packet_line.specs.Joint.{Side, side, session_of, offered_of, accepted_of, coming_session, first_act, Stands}
+use Rattle.packet_line.specs.Joint.{Side, side, coming_session, first_act, Stands}
 use Rattle.packet_line.proofs.Thinning.{thin, stands_thin}
 
 -- ---- a world in which the links and the octets stand, with these sides of the two ends

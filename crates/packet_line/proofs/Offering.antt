@@ -4,12 +4,12 @@ use Rattle.std.proofs.Common.{refl, sym, ap, ◌∙◌, subst}
 use Rattle.std.proofs.lemmas.List.{append-nil}
 use Rattle.link_timers.specs.declared.role.Role.{Role}
 use Rattle.link_timers.specs.Role.{other_of}
-use Rattle.lapb.specs.Machine.{Octets, can_offer, offer}
+use Rattle.lapb.specs.Machine.{Octets, can_offer}
 use Rattle.lapb.specs.World.{World, logged}
 use Rattle.packet_layer.specs.Packets.{Packet, Note}
 use Rattle.packet_layer.specs.Packets.Received.{Whole}
 use Rattle.packet_layer.specs.Octets.{heard}
-use Rattle.packet_layer.specs.Layer.{Layer, next_packet}
+use Rattle.packet_layer.specs.Layer.{next_packet}
 use Rattle.packet_layer.specs.Events.{written_packet}
 use Rattle.packet_layer.specs.Line as layers
 use Rattle.packet_layer.specs.Line.{Event, happens}

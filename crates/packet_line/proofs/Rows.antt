@@ -1,5 +1,5 @@
 -- Worked runs of a line with both its ends, over octets, by computation.
-use Rattle.std.specs.Prelude.{◌≡◌, ℕ, zero, suc, true, false, List, [], ◌∷◌, ◌++◌, Some}
+use Rattle.std.specs.Prelude.{◌≡◌, ℕ, zero, suc, false, List, [], ◌∷◌, ◌++◌, Some}
 use Rattle.std.proofs.Common.{refl, arith}
 use Rattle.link_timers.specs.declared.role.Role.{Role}
 use Rattle.link_timers.specs.declared.role.Role.TheVariants.{Dte, Dce}
@@ -12,7 +12,7 @@ use Rattle.packet_layer.specs.Layer.{front_on}
 use Rattle.packet_layer.specs.Layer.Phase.{PacketReady}
 use Rattle.packet_end.specs.PacketEnd.{all_offered}
 use Rattle.packet_end.specs.declared.params.EndParams.{EndParams}
-use Rattle.packet_line.specs.PacketLine.{Line, Event, At, Begins, Hears, Calls, Requests, Offers, Settles, Sends, made, after}
+use Rattle.packet_line.specs.PacketLine.{Event, At, Hears, Calls, Requests, Offers, Settles, Sends, made, after}
 
 abbrev params : EndParams
 params = record { k = 7; n2 = 3; channels = 4; window = 2; standing = false }

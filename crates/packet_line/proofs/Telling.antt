@@ -4,17 +4,15 @@ use Rattle.std.proofs.Common.{refl, sym, ap, ◌∙◌, subst}
 use Rattle.std.proofs.lemmas.List.{append-nil}
 use Rattle.link_timers.specs.Timers.{Places}
 use Rattle.lapb.specs.declared.note.Note as link_note
-use Rattle.lapb.specs.declared.note.Note.TheVariants.{Nothing, Up, Down}
+use Rattle.lapb.specs.declared.note.Note.TheVariants.{Up, Down}
 use Rattle.lapb.specs.Machine.{Octets}
 use Rattle.lapb.specs.World.{logged, emptied}
-use Rattle.packet_layer.specs.Packets.{CallParts, Packet, Note}
+use Rattle.packet_layer.specs.Packets.{CallParts, Note}
 use Rattle.packet_layer.specs.Packets.Received.{Whole}
-use Rattle.packet_layer.specs.Octets.{heard}
 use Rattle.packet_layer.specs.Channel.{Request}
 use Rattle.packet_layer.specs.Events.{on_octets, after_hearing, on_named}
 use Rattle.packet_layer.specs.Layer.{Layer, Timer, unread, link_up, link_down, on_packet, on_timer, call, request, channel_given}
 use Rattle.packet_layer.specs.History.{call_story, request_story, timer_story}
-use Rattle.packet_layer.specs.Line as layers
 use Rattle.packet_layer.specs.Line.{Line, Event, happens, begun, next_of_session}
 use Rattle.packet_layer.specs.Readable.{IsReadable, CanBePlaced}
 use Rattle.packet_layer.proofs.Readable.{readable_link_up, readable_link_down, readable_on_octets, readable_on_timer, readable_call, readable_request}

@@ -75,13 +75,25 @@ abbrev pub Stands : Role → World → (mine yours : Link) → (going coming : L
 Stands Dte w mine yours going coming = StandsIn w mine yours going coming
 Stands Dce w mine yours going coming = StandsIn w yours mine coming going
 
+-- what this reads of an end: its link, the frames that wait, its layer
+pub record Part : Type 0 where
+  pub link : Link
+  pub waiting : List Octets
+  pub layer : Layer
+
+abbrev pub part_of : PacketEnd → Part
+part_of e = record { link = e.line.link; waiting = e.line.frames; layer = e.layer }
+
 -- as the end of a role sees it: the frames that wait at an end are behind those on the way from it
-pub record JointAt (role : Role) (w : World) (v : layers.Line) (me you : PacketEnd) (going coming : List Octets) : Type 0 where
-  pub stands : Stands role w me.line.link you.line.link (going ++ me.line.frames) (coming ++ you.line.frames)
-  pub mine : Follows (side role w me.line.link) me.layer v.me
-  pub yours : Follows (side (other_of role) w you.line.link) you.layer v.you
+pub record JointOf (role : Role) (w : World) (v : layers.Line) (me you : Part) (going coming : List Octets) : Type 0 where
+  pub stands : Stands role w me.link you.link (going ++ me.waiting) (coming ++ you.waiting)
+  pub mine : Follows (side role w me.link) me.layer v.me
+  pub yours : Follows (side (other_of role) w you.link) you.layer v.you
   pub readable_here : IsReadable me.layer
   pub readable_there : IsReadable you.layer
+
+abbrev pub JointAt : Role → World → layers.Line → (me you : PacketEnd) → (going coming : List Octets) → Type 0
+JointAt role w v me you going coming = JointOf role w v (part_of me) (part_of you) going coming
 
 -- a line, a world of its links and a line of its layers, the DTE's at `me`
 abbrev pub Joint : Line → World → layers.Line → Type 0
