@@ -138,10 +138,10 @@ new_end role channels window k n2 standing = record {
   notes = [];
 }
 
-abbrev new_line : (channels window k n2 : ℕ) → (standing : Bool) → Line
-new_line channels window k n2 standing = record {
+abbrev new_line : (channels window k n2 k' n2' : ℕ) → (standing : Bool) → Line
+new_line channels window k n2 k' n2' standing = record {
   dte = new_end Dte channels window k n2 standing;
-  dce = new_end Dce channels window k n2 standing;
+  dce = new_end Dce channels window k' n2' standing;
   up = [];
   down = [];
 }
@@ -150,29 +150,30 @@ turned_goes : (role : Role) (mine yours : Link) (going coming : List Octets) (x 
 turned_goes Dte mine yours going coming x y g = record { world = g.world; stands = g.stands; mine_is = g.yours_is; yours_is = g.mine_is }
 turned_goes Dce mine yours going coming x y g = record { world = g.world; stands = g.stands; mine_is = g.yours_is; yours_is = g.mine_is }
 
-pub new_joint : (channels window k n2 : ℕ) (standing : Bool) → k ≤ 7 → channels ≤ 32 → (w : World) × Joint (new_line channels window k n2 standing) w (start_line channels window standing)
-new_joint channels window k n2 true small few = (
-  opening true (record { k = k; n2 = n2 }) (record { k = k; n2 = n2 }),
+pub new_joint : (channels window k n2 k' n2' : ℕ) (standing : Bool) → k ≤ 7 → k' ≤ 7 → channels ≤ 32 →
+    (w : World) × Joint (new_line channels window k n2 k' n2' standing) w (start_line channels window standing)
+new_joint channels window k n2 k' n2' true small small' few = (
+  opening true (record { k = k; n2 = n2 }) (record { k = k'; n2 = n2' }),
   record {
-    stands = stands_opening true (record { k = k; n2 = n2 }) (record { k = k; n2 = n2 }) small small;
+    stands = stands_opening true (record { k = k; n2 = n2 }) (record { k = k'; n2 = n2' }) small small';
     mine = record { session = refl; offered = λ s. tt; accepted = λ s. refl; layer = refl };
     yours = record { session = refl; offered = λ s. tt; accepted = λ s. refl; layer = refl };
     readable_here = readable_made Dte channels window true few;
     readable_there = readable_made Dce channels window true few;
   },
 )
-new_joint channels window k n2 false small few =
+new_joint channels window k n2 k' n2' false small small' few =
     let dte : Link = link.new Dte k n2 false in
-    let dce : Link = link.new Dce k n2 false in
-    let w : World = opening false (record { k = k; n2 = n2 }) (record { k = k; n2 = n2 }) in
+    let dce : Link = link.new Dce k' n2' false in
+    let w : World = opening false (record { k = k; n2 = n2 }) (record { k = k'; n2 = n2' }) in
     let x : Side = side Dte w (link.relink dte).link in
     let y : Side = side Dce w (link.relink dce).link in
-    let a : Goes Dte dte dce [] [] (side Dte w dte) (side Dce w dce) = record { world = w; stands = stands_opening false (record { k = k; n2 = n2 }) (record { k = k; n2 = n2 }) small small; mine_is = refl; yours_is = refl } in
+    let a : Goes Dte dte dce [] [] (side Dte w dte) (side Dce w dce) = record { world = w; stands = stands_opening false (record { k = k; n2 = n2 }) (record { k = k'; n2 = n2' }) small small'; mine_is = refl; yours_is = refl } in
     let b = did_goes Dte (untouched Dte k n2 false) (link.relink dte) dce [] [] x (side Dce w dce) refl (goes_relink dte dce [] [] (side Dte w dte) (side Dce w dce) Dte a) in
     let up : List Octets = (line.made Dte k n2 false).frames in
     let c = turned_goes Dte (link.relink dte).link dce up [] x (side Dce w dce) b in
-    let d = did_goes Dce (untouched Dce k n2 false) (link.relink dce) (link.relink dte).link [] up y x refl (goes_relink dce (link.relink dte).link [] up (side Dce w dce) x Dce c) in
-    let g = turned_goes Dce (link.relink dce).link (link.relink dte).link (line.made Dce k n2 false).frames up y x d in (
+    let d = did_goes Dce (untouched Dce k' n2' false) (link.relink dce) (link.relink dte).link [] up y x refl (goes_relink dce (link.relink dte).link [] up (side Dce w dce) x Dce c) in
+    let g = turned_goes Dce (link.relink dce).link (link.relink dte).link (line.made Dce k' n2' false).frames up y x d in (
       g.world,
       record {
         stands = g.stands;
@@ -188,11 +189,14 @@ new_joint channels window k n2 false small few =
 -- ---- the law
 
 pub packet_line_holds : PacketLineLaw
-packet_line_holds p are events fits =
-    let start : layers.Line = start_line p.channels p.window p.standing in
-    let n = new_joint p.channels p.window p.k p.n2 p.standing are.link.k_most are.layer.channels_most in
-    let d = all_lead start events (made p) fits (record { world = n.0; happenings = []; joint = n.1 }) in
-    let h = line_holds p.channels p.window p.standing are.layer.channels_least are.layer.window_most d.happenings in
+packet_line_holds dte dce are are' alike events fits =
+    let start : layers.Line = start_line dte.channels dte.window dte.standing in
+    let n = new_joint dte.channels dte.window dte.k dte.n2 dce.k dce.n2 dte.standing are.link.k_most are'.link.k_most are.layer.channels_most in
+    let j : Joint (made dte dce) n.0 start =
+    subst (λ (e : PacketEnd). Joint (record (made dte dce) { dce = e }) n.0 start)
+    (λ i. new_end Dce (sym alike.channels i) (sym alike.window i) dce.k dce.n2 (sym alike.standing i)) n.1 in
+    let d = all_lead start events (made dte dce) fits (record { world = n.0; happenings = []; joint = j }) in
+    let h = line_holds dte.channels dte.window dte.standing are.layer.channels_least are.layer.window_most d.happenings in
     record {
       world = d.world;
       happenings = d.happenings;

@@ -32,7 +32,7 @@ rounds (suc n) = hears Dce ++ (hears Dte ++ rounds n)
 abbrev asked : List Event
 asked = At Dte (Sends []) ∷ At Dce (Sends []) ∷ hears Dce
 
-one_up : (after asked (made params)).up ≡ []
+one_up : (after asked (made params params)).up ≡ []
 unfolding all_offered
 one_up = refl
 
@@ -40,7 +40,7 @@ one_up = refl
 abbrev restarted : List Event
 restarted = At Dte (Sends []) ∷ At Dce (Sends []) ∷ rounds 6
 
-both_restarted : ((after restarted (made params)).dte.layer.phase ≡ PacketReady) × ((after restarted (made params)).dce.layer.phase ≡ PacketReady)
+both_restarted : ((after restarted (made params params)).dte.layer.phase ≡ PacketReady) × ((after restarted (made params params)).dce.layer.phase ≡ PacketReady)
 unfolding all_offered
 both_restarted = (refl, refl)
 
@@ -59,7 +59,7 @@ can_be_placed = record {
   user_data = omega arith;
 }
 
-incoming : (after called (made params)).dce.notes ≡ Incoming 4 digits ∷ []
+incoming : (after called (made params params)).dce.notes ≡ Incoming 4 digits ∷ []
 unfolding all_offered
 incoming = refl
 
@@ -67,7 +67,7 @@ incoming = refl
 abbrev answered : List Event
 answered = called ++ (At Dce (Requests 4 Accept) ∷ ends Dce) ++ rounds 2
 
-connected : (after answered (made params)).dte.notes ≡ Connected 4 ∷ []
+connected : (after answered (made params params)).dte.notes ≡ Connected 4 ∷ []
 unfolding all_offered
 connected = refl
 
@@ -78,6 +78,6 @@ hi = record { octets = 72 ∷ 73 ∷ []; more = false; qualified = false; delive
 abbrev said : List Event
 said = answered ++ (At Dte (Requests 4 (Sending hi)) ∷ ends Dte) ++ rounds 2
 
-arrived : front_on (after said (made params)).dce.layer 4 ≡ Some (TakenPacket hi)
+arrived : front_on (after said (made params params)).dce.layer 4 ≡ Some (TakenPacket hi)
 unfolding all_offered
 arrived = refl

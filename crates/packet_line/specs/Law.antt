@@ -10,12 +10,12 @@ use Rattle.packet_layer.specs.Law.{Holds, NoFault}
 use Rattle.packet_end.specs.PacketEnd.{PacketEnd}
 use Rattle.packet_end.specs.Params.{AreParams}
 use Rattle.packet_end.specs.declared.params.EndParams.{EndParams}
-use Rattle.packet_line.specs.PacketLine.{Line, Act, Event, made, after}
+use Rattle.packet_line.specs.PacketLine.{Line, Act, Event, AreAlike, made, after}
 use Rattle.packet_line.specs.Fit.{IsFit, AreFit}
 use Rattle.packet_line.specs.Joint.{Joint, JointAt, session_of}
 use Rattle.packet_line.specs.Steps.{Step}
 
--- some happenings at two packet layers, made with these parameters, lead to the layers of this line, in step with its links, and
+-- some happenings at two packet layers, made with the channels and the window of these parameters, lead to the layers of this line, in step with its links, and
 -- the law of a line holds there on each channel, in each session
 pub record Passes (p : EndParams) (l : Line) : Type 0 where
   pub world : World
@@ -27,7 +27,8 @@ pub record Passes (p : EndParams) (l : Line) : Type 0 where
 
 -- whatever happens on a line whose parameters are in range and whose requests are fit
 abbrev pub PacketLineLaw : Type 0
-PacketLineLaw = (p : EndParams) → AreParams p → (events : List Event) → AreFit events → Passes p (after events (made p))
+PacketLineLaw = (dte dce : EndParams) → AreParams dte → AreParams dce → AreAlike dte dce → (events : List Event) → AreFit events →
+    Passes dte (after events (made dte dce))
 
 -- whatever an end does, or comes to it, on a line in step with a world of links and a line of layers: these go on in step with it,
 -- the layers by the events of that act, which give the notes that the end gains

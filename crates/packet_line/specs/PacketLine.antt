@@ -1,5 +1,5 @@
 -- A line with both its ends, each a link with its packet layer, the octets on the way, and what may happen on it.
-use Rattle.std.specs.Prelude.{ℕ, Bool, List, [], ◌∷◌, ◌++◌, drop}
+use Rattle.std.specs.Prelude.{◌≡◌, ℕ, Bool, List, [], ◌∷◌, ◌++◌, drop}
 use Rattle.link_timers.specs.declared.role.Role.{Role}
 use Rattle.link_timers.specs.declared.role.Role.TheVariants.{Dte, Dce}
 use Rattle.link_timers.specs.declared.timers.TimerId.{TimerId}
@@ -101,6 +101,12 @@ abbrev pub after : List Event → Line → Line
 after [] l = l
 after (event ∷ events) l = after events (happens event l)
 
--- both ends are made alike, and nothing is on the way
-abbrev pub made : EndParams → Line
-made p = record { dte = end.made Dte p; dce = end.made Dce p; up = []; down = [] }
+-- the ends are made for the same line: with as many channels, the same window of each, and standing or not
+pub record AreAlike (dte dce : EndParams) : Type 0 where
+  pub channels : dce.channels ≡ dte.channels
+  pub window : dce.window ≡ dte.window
+  pub standing : dce.standing ≡ dte.standing
+
+-- both ends are made, and nothing is on the way
+abbrev pub made : (dte dce : EndParams) → Line
+made dte dce = record { dte = end.made Dte dte; dce = end.made Dce dce; up = []; down = [] }
