@@ -1,18 +1,22 @@
 -- Worked runs of a line with both its ends, over octets, by computation.
-use Rattle.std.specs.Prelude.{◌≡◌, ℕ, zero, suc, false, List, [], ◌∷◌, ◌++◌, Some}
+use Rattle.std.specs.Prelude.{◌≡◌, ℕ, zero, suc, false, List, [], ◌∷◌, ◌++◌, Some, None}
 use Rattle.std.proofs.Common.{refl, arith}
 use Rattle.link_timers.specs.declared.role.Role.{Role}
 use Rattle.link_timers.specs.declared.role.Role.TheVariants.{Dte, Dce}
 use Rattle.packet_layer.specs.Packets.{CallParts, Datum}
 use Rattle.packet_layer.specs.Packets.Note.{Incoming, Connected}
 use Rattle.packet_layer.specs.Traffic.Taken.{TakenPacket}
-use Rattle.packet_layer.specs.Channel.Request.{Accept, Sending}
+use Rattle.packet_layer.specs.Channel.Request.{Accept, Sending, Taking}
 use Rattle.packet_layer.specs.Readable.{CanBePlaced}
 use Rattle.packet_layer.specs.Layer.{front_on}
 use Rattle.packet_layer.specs.Layer.Phase.{PacketReady}
 use Rattle.packet_end.specs.PacketEnd.{all_offered}
 use Rattle.packet_end.specs.declared.params.EndParams.{EndParams}
-use Rattle.packet_line.specs.PacketLine.{Event, At, Hears, Calls, Requests, Offers, Settles, Sends, made, after}
+use Rattle.packet_end.specs.Params.{AreParams}
+use Rattle.packet_line.specs.Fit.{IsFit, AreFit}
+use Rattle.packet_line.specs.Law.{Passes}
+use Rattle.packet_line.proofs.Holding.{packet_line_holds}
+use Rattle.packet_line.specs.PacketLine.{Act, Event, At, Hears, Calls, Requests, Offers, Settles, Sends, made, after}
 
 abbrev params : EndParams
 params = record { k = 7; n2 = 3; channels = 4; window = 2; standing = false }
@@ -81,3 +85,39 @@ said = answered ++ (At Dte (Requests 4 (Sending hi)) ∷ ends Dte) ++ rounds 2
 arrived : front_on (after said (made params params)).dce.layer 4 ≡ Some (TakenPacket hi)
 unfolding all_offered
 arrived = refl
+
+-- and is taken
+abbrev taken : List Event
+taken = said ++ (At Dce (Requests 4 Taking) ∷ ends Dce)
+
+none_left : front_on (after taken (made params params)).dce.layer 4 ≡ None
+unfolding all_offered
+none_left = refl
+
+-- ---- the law is about this run
+
+fit_append : (events more : List Event) → AreFit events → AreFit more → AreFit (events ++ more)
+fit_append [] more f g = g
+fit_append (event ∷ events) more f g = (f.0, fit_append events more f.1 g)
+
+fit_rounds : (n : ℕ) → AreFit (rounds n)
+fit_rounds zero = tt
+fit_rounds (suc n) = (tt, (tt, (tt, (tt, (tt, (tt, (tt, (tt, fit_rounds n))))))))
+
+-- an act of the user, and what follows
+fit_act : (before : List Event) (role : Role) (act : Act) → AreFit before → IsFit act → AreFit (before ++ (At role act ∷ ends role) ++ rounds 2)
+fit_act before role act f g = fit_append (before ++ (At role act ∷ ends role)) (rounds 2) (fit_append before (At role act ∷ ends role) f (g, (tt, (tt, (tt, tt))))) (fit_rounds 2)
+
+fits : AreFit said
+fits =
+    fit_act answered Dte (Requests 4 (Sending hi))
+    (fit_act called Dce (Requests 4 Accept) (fit_act restarted Dte (Calls digits) (tt, (tt, fit_rounds 6)) can_be_placed) tt) tt
+
+are_params : AreParams params
+are_params = record {
+  link = record { k_least = omega arith; k_most = omega arith; n2_least = omega arith; n2_most = omega arith };
+  layer = record { channels_least = omega arith; channels_most = omega arith; window_least = omega arith; window_most = omega arith };
+}
+
+passes : Passes params (after said (made params params))
+passes = packet_line_holds params params are_params are_params (record { channels = refl; window = refl; standing = refl }) said fits
