@@ -42,11 +42,12 @@ accepted_of Dce w = w.dce_accepted
 abbrev pub side : Role → World → Link → Side
 side role w l = record { up = is_up l.phase; session = session_of role w; offered = offered_of role w; accepted = accepted_of role w }
 
--- the session in which an end comes up, if it comes up by the next frame
+-- the act in which the first frame was sent
 abbrev pub first_act : List Sent → ℕ
 first_act [] = 0
 first_act (s ∷ rest) = s.act
 
+-- the session in which an end comes up, if it does so by its next act
 abbrev pub coming_session : Role → World → ℕ
 coming_session Dte w = w.act
 coming_session Dce w = first_act w.up
@@ -75,7 +76,7 @@ abbrev pub Stands : Role → World → (mine yours : Link) → (going coming : L
 Stands Dte w mine yours going coming = StandsIn w mine yours going coming
 Stands Dce w mine yours going coming = StandsIn w yours mine coming going
 
--- what this reads of an end: its link, the frames that wait, its layer
+-- what the tie reads of an end: its link, the frames that wait, its layer
 pub record Part : Type 0 where
   pub link : Link
   pub waiting : List Octets
