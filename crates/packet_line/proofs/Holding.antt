@@ -21,7 +21,7 @@ use Rattle.packet_end.specs.PacketEnd.{PacketEnd}
 use Rattle.packet_line.specs.PacketLine.{Line, Act, Begins, Hears, Expires, Relinks, RelinksIfDue, Restarts, Calls, Requests, Offers, Settles, Elapses, Sends, Event, At, Loses, happens, after, made}
 use Rattle.packet_line.specs.Events.{after_here}
 use Rattle.packet_line.specs.Fit.{IsFit, IsFitEvent, AreFit}
-use Rattle.packet_line.specs.Joint.{Side, side, session_of, Follows, JointAt, Joint}
+use Rattle.packet_line.specs.Joint.{Side, side, session_of, Follows, JointAt, Joint, Leads}
 use Rattle.packet_line.specs.Steps.{Step, events_at}
 use Rattle.packet_line.specs.Law.{PacketLineLaw}
 use Rattle.packet_line.proofs.Links.{Goes, goes_relink, goes_lose}
@@ -89,13 +89,7 @@ there_is (event ∷ events) v = there_is events (turned (layers.happens event (t
 
 -- ---- any event
 
--- happenings lead from the start to layers in step with the line
-record Leads (start : layers.Line) (l : Line) : Type 0 where
-  world : World
-  happenings : List Happening
-  joint : Joint l world (layers.after happenings start)
-
-event_leads : (start : layers.Line) (event : Event) (l : Line) → IsFitEvent event → Leads start l → Leads start (happens event l)
+pub event_leads : (start : layers.Line) (event : Event) (l : Line) → IsFitEvent event → Leads start l → Leads start (happens event l)
 event_leads start (At Dte act) l fits d =
     let v : layers.Line = layers.after d.happenings start in
     let s = act_steps Dte act d.world v l.dte l.dce l.up l.down fits d.joint in
@@ -124,7 +118,7 @@ event_leads start (Loses Dce) l fits d =
     let r = loses_joint Dce d.world (turned v) l.dce l.dte l.down l.up (turned_joint Dte d.world v l.dte l.dce l.up l.down d.joint) in
     record { world = r.0; happenings = d.happenings; joint = turned_joint Dce r.0 (turned v) l.dce l.dte l.down (drop 1 l.up) r.1 }
 
-all_lead : (start : layers.Line) (events : List Event) (l : Line) → AreFit events → Leads start l → Leads start (after events l)
+pub all_lead : (start : layers.Line) (events : List Event) (l : Line) → AreFit events → Leads start l → Leads start (after events l)
 all_lead start [] l fits d = d
 all_lead start (event ∷ events) l fits d = all_lead start events (happens event l) fits.1 (event_leads start event l fits.0 d)
 

@@ -11,7 +11,7 @@ use Rattle.packet_layer.specs.Packets.{Packet}
 use Rattle.packet_layer.specs.Packets.Received.{Whole}
 use Rattle.packet_layer.specs.Octets.{heard}
 use Rattle.packet_layer.specs.Layer.{Layer, unread}
-use Rattle.packet_layer.specs.Line.{End}
+use Rattle.packet_layer.specs.Line.{End, Happening}
 use Rattle.packet_layer.specs.Line as layers
 use Rattle.packet_end.specs.PacketEnd.{PacketEnd}
 use Rattle.packet_line.specs.PacketLine.{Line}
@@ -99,3 +99,9 @@ JointAt role w v me you going coming = JointOf role w v (part_of me) (part_of yo
 -- a line, a world of its links and a line of its layers, the DTE's at `me`
 abbrev pub Joint : Line → World → layers.Line → Type 0
 Joint l w v = JointAt Dte w v l.dte l.dce l.up l.down
+
+-- from this start of two packet layers some happenings lead to the layers of this line, in step with its links
+pub record Leads (start : layers.Line) (l : Line) : Type 0 where
+  pub world : World
+  pub happenings : List Happening
+  pub joint : Joint l world (layers.after happenings start)
