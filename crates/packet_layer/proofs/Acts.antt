@@ -9,7 +9,7 @@ use Rattle.packet_layer.specs.Channel.{Channel, Step, Request, Refusal, requeste
 use Rattle.packet_layer.specs.Channel.CallState.{Transfer, OwnClear}
 use Rattle.packet_layer.specs.Channel.Request.{Accept, Clearing, Resetting, Sending, Interrupting, Stopping, Taking, Releasing, Confirming}
 use Rattle.packet_layer.specs.Layer.{placing}
-use Rattle.packet_layer.specs.History.{Epoch, Story, requested_story, grown, grown_unless, opened, logged, next_use_of, next_epoch_of, placed, with_call, with_answer, accepted}
+use Rattle.packet_layer.specs.History.{Epoch, Story, requested_story, grown, grown_unless, opened, logged, next_use_of, next_epoch_of, placed, with_call, with_answer, call_accepted}
 use Rattle.packet_layer.proofs.Handshake.{Did, said, at, advanced, SaysPayload}
 use Rattle.packet_layer.proofs.Stack.{at_next}
 use Rattle.packet_layer.proofs.SetUp.{Stage, places, accepts_call}
@@ -107,7 +107,7 @@ request_clears window role s rs n owed cause diagnostic l =
 
 -- a call accepted: nothing was done in it before
 accept_waiting : (window : ℕ) (role : Role) (rs : Bool) (n : Whole) (owed : List Body) → Laters (in_state false Waiting rs n)
-    → Act window role (in_state false Waiting rs n) owed (entered Transfer (shown (face (in_state false Waiting rs n)) owed)) (Some Accepted) (λ st. accepted st)
+    → Act window role (in_state false Waiting rs n) owed (entered Transfer (shown (face (in_state false Waiting rs n)) owed)) (Some Accepted) (λ st. call_accepted st)
 accept_waiting window role rs n owed l = record {
   did = in_use (accepts_call first_epoch (in_state false Waiting rs n).now.now) (in_state false Waiting rs n);
   channel_is = refl;
@@ -124,7 +124,7 @@ accept_waiting window role rs n owed l = record {
 }
 
 accept_collided : (window : ℕ) (rs : Bool) (n : Whole) (owed : List Body) → Laters (in_state false Collided rs n)
-    → Act window Dce (in_state false Collided rs n) owed (entered Transfer (shown (face (in_state false Collided rs n)) owed)) (Some Accepted) (λ st. accepted st)
+    → Act window Dce (in_state false Collided rs n) owed (entered Transfer (shown (face (in_state false Collided rs n)) owed)) (Some Accepted) (λ st. call_accepted st)
 accept_collided window rs n owed l = record {
   did = in_use (accepts_call first_epoch (in_state false Collided rs n).now.now) (in_state false Collided rs n);
   channel_is = refl;

@@ -196,7 +196,7 @@ standing_end : (window channels : ℕ) (mine : Bool) (c : ℕ) → 1 ≤ c → c
 standing_end window channels mine c lo hi = record {
   role_is = refl;
   window_is = refl;
-  there = there_at role channels window true c lo hi;
+  there = there_at (standing_role mine) channels window true c lo hi;
   rest = [];
   out_is = refl;
   well = tt;

@@ -62,7 +62,7 @@ pub settled_uses : (v : Bool) (s : Uses) → SettledWhole v s → SettledUses s.
 settled_uses true s e = subst (λ (q : Uses). SettledUses q.own q.now) (sym e) tt
 settled_uses false s e = e
 
--- nor where a restart came in the own clear
+-- nor in an own clear that a restart ended
 abbrev pub Frozen : Whole → Type 0
 Frozen n = (k : ℕ) → SettledUses (n.past k).own (n.past k).now
 

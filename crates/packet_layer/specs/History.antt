@@ -80,8 +80,8 @@ placed parts st = in_whole_use (λ e. with_call parts e) st
 abbrev pub with_answer : Epoch → Epoch
 with_answer e = record e { answered = true }
 
-abbrev pub accepted : Story → Story
-accepted st = in_whole_use (λ e. with_answer e) st
+abbrev pub call_accepted : Story → Story
+call_accepted st = in_whole_use (λ e. with_answer e) st
 
 abbrev pub next_restart_of : Story → Story
 next_restart_of st = record st { restart = st.restart + 1; use_ = 0; epoch = 0 }
@@ -108,7 +108,7 @@ grown_unless None f st = grown f st
 grown_unless (Some r) f st = st
 
 abbrev pub accepted_unless : Option Refusal → Story → Story
-accepted_unless None st = accepted st
+accepted_unless None st = call_accepted st
 accepted_unless (Some r) st = st
 
 abbrev pub requested_story : Role → Channel → Request → Story → Story

@@ -138,11 +138,12 @@ pub record IsOneCall (st : Story) : Type 0 where
   pub called : (r u g h : ℕ) → (st.epochs r u g).called ≡ (st.epochs r u h).called
   pub answered : (r u g h : ℕ) → (st.epochs r u g).answered ≡ (st.epochs r u h).answered
 
--- the present use of the channel before any call of this end, and while its call is not answered
+-- in the present use this end placed no call, accepted none and did nothing
 pub record IsUnused (st : Story) : Type 0 where
   pub first : st.epoch ≡ 0
   pub empty : (g : ℕ) → st.epochs st.restart st.use_ g ≡ empty_epoch
 
+-- it placed a call and did nothing else
 pub record HasPlaced (st : Story) : Type 0 where
   pub parts : CallParts
   pub first : st.epoch ≡ 0
@@ -154,22 +155,22 @@ HasCall role None false = ⊥
 HasCall Dte (Some parts) true = ⊥
 HasCall role called answered = Unit {0}
 
--- what the state of the channel at an end says of the present use; in a call of the other end that is not accepted, and in the own clear
--- or restart, it is unused
+-- what the state of the channel at an end says of the present use: in p1, which is the state in r2 and r3 too, during the own clear, and
+-- while the other end's call waits, it is unused
 abbrev pub InUse : Role → CallState → Story → Type 0
 InUse role OwnWaiting st = HasPlaced st
 InUse role Collision st = HasPlaced st
 InUse role Transfer st = HasCall role (epoch_now st).called (epoch_now st).answered
 InUse role state st = IsUnused st
 
--- where an end did anything in a use, one of the ends accepted a call in it, and never do both; where an end did, the other one had
--- placed a call
+-- in a use in which an end did anything, one of the two ends accepted a call, and never do both; where an end accepted one, the other
+-- end had placed one
 pub record OneAnswers (mine yours : Story) : Type 0 where
   pub answered : (r u g : ℕ) → (HasNoLogs (mine.epochs r u g) → ⊥) → ((mine.epochs r u g).answered || (yours.epochs r u g).answered) ≡ true
   pub never_both : (r u g : ℕ) → ((mine.epochs r u g).answered && (yours.epochs r u g).answered) ≡ false
   pub was_called : (r u g : ℕ) → (mine.epochs r u g).answered ≡ true → is_some (yours.epochs r u g).called ≡ true
 
--- at one end, up in session s or not
+-- at one end, up in the session or not
 pub record HoldsAt (e : End) (s c : ℕ) : Type 0 where
   pub begun : IsBegun (e.stories s c)
   pub one_call : IsOneCall (e.stories s c)

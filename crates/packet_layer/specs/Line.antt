@@ -7,7 +7,7 @@ use Rattle.packet_layer.specs.Packets.{CallParts, Packet}
 use Rattle.packet_layer.specs.Packets.Received.{Whole}
 use Rattle.packet_layer.specs.Channel.{Request}
 use Rattle.packet_layer.specs.Layer.{Layer, Timer, made, link_up, link_down, on_packet, on_timer, next_packet, call, channel_given, request}
-use Rattle.packet_layer.specs.History.{Story, new_story, placed, accepted, call_story, request_story, packet_story, timer_story}
+use Rattle.packet_layer.specs.History.{Story, new_story, placed, call_accepted, call_story, request_story, packet_story, timer_story}
 
 -- one end: its layer, the session in which its link is up, and by session what it handed to the link, how many of the other
 -- end's packets it accepted, and the stories of its channels
@@ -36,7 +36,7 @@ no_parts = record { called = []; calling = []; facilities = []; user_part = [] }
 
 abbrev pub standing_story : Role → Story
 standing_story Dte = placed no_parts new_story
-standing_story Dce = accepted new_story
+standing_story Dce = call_accepted new_story
 
 abbrev pub start_story : Role → Bool → ℕ → ℕ → Story
 start_story role true zero (suc zero) = standing_story role
