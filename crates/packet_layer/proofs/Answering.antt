@@ -1,5 +1,5 @@
 -- In a use in which anything was done one end accepted a call, and the other one had placed it.
-use Rattle.std.proofs.Common.{◌≡◌, ℕ, Bool, true, false, ◌&&◌, ◌||◌, List, is_some, refl, sym, ap, subst, ◌∙◌}
+use Rattle.std.proofs.Common.{◌≡◌, ℕ, Bool, ◌&&◌, ◌||◌, List, is_some, refl, sym, ap, subst, ◌∙◌}
 use Rattle.link_timers.specs.declared.role.Role.{Role}
 use Rattle.packet_layer.specs.Packets.{Body}
 use Rattle.packet_layer.specs.History.{Epoch, Story}
@@ -8,8 +8,8 @@ use Rattle.packet_layer.proofs.Handshake.{at, inner}
 use Rattle.packet_layer.proofs.SetUp.{Stage, Idle, answers}
 use Rattle.packet_layer.proofs.SetUp.Stage.{Free, Placed, Waiting, Collided, Open}
 use Rattle.packet_layer.proofs.SettingUp.{open_answered, never_both, answered_placed}
-use Rattle.packet_layer.proofs.Nest.{CallUse, Whole, first_epoch, GoodCall, GoodWhole}
-use Rattle.packet_layer.proofs.Face.{StoryTie, look, epoch_in}
+use Rattle.packet_layer.proofs.Nest.{CallUse, Whole, first_epoch, GoodWhole}
+use Rattle.packet_layer.proofs.Face.{StoryTie, look}
 use Rattle.packet_layer.proofs.Beginning.{call_epochs}
 
 blank : (v : CallUse) (g : ℕ) → v.call ≡ first_epoch → HasNoLogs (look v g)

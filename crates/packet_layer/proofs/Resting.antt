@@ -1,9 +1,9 @@
 -- Where nothing of a channel is on its way, its two ends belong together and nothing is missing.
-use Rattle.std.proofs.Common.{◌≡◌, ℕ, Bool, true, false, cond, List, [], ◌∷◌, ◌++◌, length, drop, refl, sym, ap, subst, ◌∙◌, arith, Option}
+use Rattle.std.proofs.Common.{◌≡◌, ℕ, Bool, true, false, cond, List, [], ◌∷◌, ◌++◌, length, drop, refl, sym, ap, subst, ◌∙◌, arith}
 use Rattle.std.proofs.lemmas.Bool.{eq-eqb}
 use Rattle.link_timers.specs.declared.role.Role.{Role}
 use Rattle.link_timers.specs.Role.{other_of}
-use Rattle.packet_layer.specs.Packets.{Body, Packet, CallParts}
+use Rattle.packet_layer.specs.Packets.{Body, Packet}
 use Rattle.packet_layer.specs.Traffic.{Traffic}
 use Rattle.packet_layer.specs.Channel.{Channel}
 use Rattle.packet_layer.specs.History.{Epoch, Story}

@@ -1,5 +1,5 @@
 -- Worked runs of a line, by computation.
-use Rattle.std.proofs.Common.{◌≡◌, ℕ, true, false, List, [], ◌∷◌, ◌++◌, Some, refl, length, None}
+use Rattle.std.proofs.Common.{◌≡◌, ℕ, true, false, List, [], ◌∷◌, ◌++◌, Some, refl, length, None, arith}
 use Rattle.packet_layer.specs.Packets.{CallParts, Datum, Body, Packet, Reason}
 use Rattle.packet_layer.specs.Packets.Body.{Call, Accepted, Data, ReceiveReady, Reset, Restart}
 use Rattle.packet_layer.specs.Packets.Note.{Incoming, Connected, Closed, Covered}
