@@ -18,3 +18,4 @@ mod Steps
 pub mod Fitting
 pub mod Lines
 pub mod Sessions
+pub mod Rising

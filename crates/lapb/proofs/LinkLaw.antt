@@ -51,7 +51,7 @@ first-heard : (standing : Bool) → first_phase standing ≡ Phase.Up → standi
 first-heard true e f = cc
 first-heard false e f = cc
 
-opening-meets : (standing : Bool) (dte dce : Params) → dte.k ≤ 7 → dce.k ≤ 7 → Inv (opening standing dte dce)
+pub opening-meets : (standing : Bool) (dte dce : Params) → dte.k ≤ 7 → dce.k ≤ 7 → Inv (opening standing dte dce)
 opening-meets standing dte dce few few' = record {
   dte_role = refl;
   dce_role = refl;

@@ -178,6 +178,28 @@ two_more_is : (controls two_more.up ≡ 0x0E ∷ 0x00 ∷ []) × (controls (run 
     [])
 two_more_is = (refl, refl)
 
+-- ---- a second session
+
+-- the DTE sets the link up again: its second act begins, both ends stand in the first session
+abbrev asks_again : World
+asks_again = run (at_end Dte (Relink Dte [])) up_both
+
+asks_again_is : (asks_again.own ≡ 1) × (asks_again.session ≡ 1) × (asks_again.act ≡ 2) × (controls asks_again.up ≡ 0x2F ∷ [])
+asks_again_is = (refl, refl, refl, refl)
+
+-- the DCE takes the SABM, and then the DTE the UA
+abbrev entered : World
+entered = run (comes Dce) asks_again
+
+entered_is : (entered.own ≡ 1) × (entered.session ≡ 2) × (entered.act ≡ 2)
+entered_is = (refl, refl, refl)
+
+abbrev up_again : World
+up_again = run (comes Dte) entered
+
+up_again_is : (up_again.own ≡ 2) × (up_again.session ≡ 2) × (up_again.act ≡ 2) × (up_again.dte.phase ≡ Phase.Up)
+up_again_is = (refl, refl, refl, refl)
+
 -- ---- a lost I frame
 
 abbrev gap : World

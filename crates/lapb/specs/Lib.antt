@@ -14,3 +14,4 @@ pub mod Ring
 pub mod NamedOctets
 pub mod Fits
 pub mod Line
+pub mod Rising

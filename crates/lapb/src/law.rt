@@ -1,4 +1,6 @@
+ghost use Rattle.lapb.specs.Machine.{Link};
 ghost use Rattle.lapb.specs.World.{Always, InOrder, ComesUp, BeginsFresh, MayCarry};
+ghost use Rattle.lapb.specs.Rising.{SessionsRise, CallsTell};
 
 /// The law of two links, one of each role, on a line that loses frames and neither changes, reorders nor repeats them:
 /// for every list of offers, deliveries, losses, frames dropped on sending, expiries of T1, starts, relinks and restarts.
@@ -12,6 +14,12 @@ pub fn link_law()
 
     // Where an end comes to stand in a session, nothing of it was accepted before; a DTE comes up in its last act.
     ensures begins_fresh { Always BeginsFresh }
+
+    // The sessions of each end come in rising order, and that of the DTE is never ahead of that of the DCE.
+    ensures sessions_rise { Always SessionsRise }
+
+    // Each call tells when a session begins and when it ends; a frame alone begins one, or brings a packet.
+    ensures calls_tell { (l : Link) → CallsTell l }
 
     // And some events set the link up and take any packet each way.
     ensures may_carry { MayCarry }

@@ -1,0 +1,550 @@
+-- Sessions come in rising order: the acts of SABMs, the sessions of both ends, and what each call tells.
+use Rattle.std.specs.Prelude.{◌≡◌, ℕ, ◌+◌, ◌<◌, ◌≤◌, Bool, true, false, not, ◌&&◌, ◌⊎◌, List, [], ◌∷◌, Option, Some, None, if◌then◌else◌, nat_le, ◌==◌, Result, Ok, Err}
+use Rattle.std.proofs.Common.{refl, sym, ap, ◌∙◌, subst, inl, inr, arith}
+use Rattle.link_timers.specs.declared.role.Role.{Role}
+use Rattle.link_timers.specs.declared.role.Role.TheVariants.{Dte, Dce}
+use Rattle.frame_codec.specs.declared.fault.FrameFault.{FrameFault}
+use Rattle.frame_codec.specs.declared.fault.FrameFault.TheVariants.{
+  TooShort,
+  WrongAddress,
+  UnknownControl,
+  InfoNotAllowed,
+  InfoTooLong,
+}
+use Rattle.frame_codec.specs.Frame.{FrameValue, Content, Report}
+use Rattle.frame_codec.specs.Frame.Content.{
+  Information,
+  ReceiveReady,
+  ReceiveNotReady,
+  Reject,
+  SetMode,
+  Disconnect,
+  DisconnectedMode,
+  Acknowledgement,
+  FrameReject,
+}
+use Rattle.frame_codec.specs.Reading.{reading}
+use Rattle.lapb.specs.declared.phase.Phase.{Phase}
+use Rattle.lapb.specs.declared.note.Note.{Note}
+use Rattle.lapb.specs.Machine.{Octets, Link, Step, left, answers, response, still, sends, relink, relink_as, come_up, reject_as, reject_number, is_valid, acknowledged, on_supervisory, accept, discard, on_information, in_up, in_setting_up, in_down, in_rejecting, in_phase, on_content, on_frame, on_t1, expire_in, runs, poll, numbered, send_all, sendable, settle, settle_in, is_same, is_up}
+use Rattle.lapb.specs.Octets.{on_octets, on_reading, on_fault}
+use Rattle.lapb.specs.World.{Sent, World, Params, Event, Offer, Deliver, Lose, Expire, Relink, Settle, Restart, stamped, kept_of, is_set_mode, is_setting_up, is_up_note, act_after, dte_does, to_dte, to_dce, without_first, happens, run, opening, Always}
+use Rattle.lapb.specs.Reach.{Reached}
+use Rattle.lapb.specs.Rising.{AsksInOrder, SessionsRise, Tells, IsPlain, CallsTell}
+use Rattle.lapb.proofs.Cases.{cond_by, Each, each-kept, each-weaken}
+use Rattle.lapb.proofs.Flights.{Flight, flight-append, flight-stamped, Ups}
+use Rattle.lapb.proofs.Inv.{Inv}
+use Rattle.lapb.proofs.Events.{happens-keeps}
+use Rattle.lapb.proofs.Notes.{Says, begins, continues, ends, stays_out, says_on_frame, says_on_t1, says_relink, says_settle, says_on_defect, dte_begins}
+use Rattle.lapb.proofs.LinkLaw.{opening-meets, always-inv}
+use Rattle.lapb.proofs.Sessions.{dce_begins}
+
+-- ---- what a call tells
+
+not-up : (p : Phase) → (p ≡ Phase.Up → ⊥) → is_up p ≡ false
+not-up Phase.Down off = refl
+not-up Phase.SettingUp off = refl
+not-up Phase.Up off = absurd (off refl)
+not-up Phase.Rejecting off = refl
+
+some-none : (o : Option Octets) (packet : Octets) → o ≡ Some packet → o ≡ None → ⊥
+some-none o packet e f = cc
+
+says-tells : (before : Link) (step : Step) → Says before.phase step → Tells before step
+says-tells before step (begins note up none) = record {
+  begins = λ e. (up, none);
+  ends = λ e. absurd (let x = sym note ∙ e in cc);
+  stays = λ e. absurd (let x = sym note ∙ e in cc);
+  comes_up = λ off e. note;
+  leaves = λ e off. absurd (off up);
+  accepts = λ packet e. absurd (some-none step.accepted packet e none);
+}
+says-tells before step (continues was note up) = record {
+  begins = λ e. absurd (let x = sym note ∙ e in cc);
+  ends = λ e. absurd (let x = sym note ∙ e in cc);
+  stays = λ e. ap is_up (up ∙ sym was);
+  comes_up = λ off e. absurd (off was);
+  leaves = λ e off. absurd (off up);
+  accepts = λ packet e. (note, was, up);
+}
+says-tells before step (ends was note off none) = record {
+  begins = λ e. absurd (let x = sym note ∙ e in cc);
+  ends = λ e. (was, off, none);
+  stays = λ e. absurd (let x = sym note ∙ e in cc);
+  comes_up = λ out e. absurd (off e);
+  leaves = λ e out. note;
+  accepts = λ packet e. absurd (some-none step.accepted packet e none);
+}
+says-tells before step (stays_out was note off none) = record {
+  begins = λ e. absurd (let x = sym note ∙ e in cc);
+  ends = λ e. absurd (let x = sym note ∙ e in cc);
+  stays = λ e. not-up step.link.phase off ∙ sym (not-up before.phase was);
+  comes_up = λ out e. absurd (off e);
+  leaves = λ e out. absurd (was e);
+  accepts = λ packet e. absurd (some-none step.accepted packet e none);
+}
+
+-- a frame, octets
+pub tells_on_frame : (l : Link) (frame : FrameValue) → Tells l (on_frame l frame)
+tells_on_frame l frame = says-tells l (on_frame l frame) (says_on_frame l frame.content l.role frame.response frame.poll)
+
+tells-still : (l : Link) → Tells l (still l)
+tells-still l = record {
+  begins = λ e. absurd (cc);
+  ends = λ e. absurd (cc);
+  stays = λ e. refl;
+  comes_up = λ off e. absurd (off e);
+  leaves = λ e off. absurd (off e);
+  accepts = λ packet e. absurd (cc);
+}
+
+tells-fault : (l : Link) (fault : FrameFault) (bytes : Octets) → Tells l (on_fault l fault bytes)
+tells-fault l TooShort bytes = tells-still l
+tells-fault l WrongAddress bytes = tells-still l
+tells-fault l UnknownControl bytes = says-tells l _ (says_on_defect l _ _ _)
+tells-fault l InfoNotAllowed bytes = says-tells l _ (says_on_defect l _ _ _)
+tells-fault l InfoTooLong bytes = says-tells l _ (says_on_defect l _ _ _)
+
+tells-reading : (l : Link) (bytes : Octets) (r : Result FrameValue FrameFault) → Tells l (on_reading l bytes r)
+tells-reading l bytes (Ok frame) = tells_on_frame l frame
+tells-reading l bytes (Err fault) = tells-fault l fault bytes
+
+pub tells_on_octets : (l : Link) (bytes : Octets) → Tells l (on_octets l bytes)
+tells_on_octets l bytes = tells-reading l bytes (reading l.role bytes)
+
+pub tells_on_t1 : (l : Link) → Tells l (on_t1 l)
+tells_on_t1 l = says-tells l (on_t1 l) (says_on_t1 l)
+
+pub tells_relink : (l : Link) → Tells l (relink l)
+tells_relink l = says-tells l (relink l) (says_relink l)
+
+pub tells_settle : (l : Link) → Tells l (settle l)
+tells_settle l = says-tells l (settle l) (says_settle l)
+
+-- ---- calls that begin no session and accept nothing
+
+left-not_up : (p : Phase) → is_up_note (left p) ≡ false
+left-not_up Phase.Down = refl
+left-not_up Phase.SettingUp = refl
+left-not_up Phase.Up = refl
+left-not_up Phase.Rejecting = refl
+
+plain-relink_as : (role : Role) (phase : Phase) (l : Link) → IsPlain (relink_as role phase l)
+plain-relink_as Dte Phase.SettingUp l = record { begins = refl; accepts = refl }
+plain-relink_as Dte Phase.Down l = record { begins = left-not_up l.phase; accepts = refl }
+plain-relink_as Dte Phase.Up l = record { begins = left-not_up l.phase; accepts = refl }
+plain-relink_as Dte Phase.Rejecting l = record { begins = left-not_up l.phase; accepts = refl }
+plain-relink_as Dce phase l = record { begins = left-not_up l.phase; accepts = refl }
+
+pub plain_relink : (l : Link) → IsPlain (relink l)
+plain_relink l = plain-relink_as l.role l.phase l
+
+plain-expire_in : (phase : Phase) (l : Link) → IsPlain (expire_in phase l)
+plain-expire_in Phase.Down l = record { begins = refl; accepts = refl }
+plain-expire_in Phase.SettingUp l = record { begins = refl; accepts = refl }
+plain-expire_in Phase.Up l = cond_by (λ b. IsPlain (if b then relink l else poll l)) (nat_le l.n2 l.polls)
+    (λ _. plain_relink l) (λ _. record { begins = refl; accepts = refl })
+plain-expire_in Phase.Rejecting l = record { begins = refl; accepts = refl }
+
+pub plain_on_t1 : (l : Link) → IsPlain (on_t1 l)
+plain_on_t1 l = cond_by (λ b. IsPlain (if b then expire_in l.phase l else still l)) (runs l)
+    (λ _. plain-expire_in l.phase l) (λ _. record { begins = refl; accepts = refl })
+
+plain-send_all : (l : Link) (packets : List Octets) → IsPlain (send_all l packets)
+plain-send_all l [] = record { begins = refl; accepts = refl }
+plain-send_all l (packet ∷ packets) = record { begins = refl; accepts = refl }
+
+plain-settle_in : (phase : Phase) (l : Link) → IsPlain (settle_in phase l)
+plain-settle_in Phase.Up l = plain-send_all l (sendable l)
+plain-settle_in Phase.Down l = record { begins = refl; accepts = refl }
+plain-settle_in Phase.SettingUp l = record { begins = refl; accepts = refl }
+plain-settle_in Phase.Rejecting l = record { begins = refl; accepts = refl }
+
+pub plain_settle : (l : Link) → IsPlain (settle l)
+plain_settle l = plain-settle_in l.phase l
+
+pub calls_tell : (l : Link) → CallsTell l
+calls_tell l = record {
+  frame = λ frame. tells_on_frame l frame;
+  octets = λ octets. tells_on_octets l octets;
+  t1 = (tells_on_t1 l, plain_on_t1 l);
+  relink = (tells_relink l, plain_relink l);
+  settle = (tells_settle l, plain_settle l);
+  offer = λ packet. refl;
+}
+
+-- ---- a SABM is sent by a link that is setting up alone
+
+abbrev NoSets : List FrameValue → Type 0
+NoSets = Each (λ f. is_set_mode f.content ≡ false)
+
+abbrev MaySet : Step → Type 0
+MaySet step = (step.link.phase ≡ Phase.SettingUp) ⊎ NoSets step.frames
+
+none-answers : (due : Bool) (receive : ℕ) → NoSets (answers due receive)
+none-answers true receive = (refl, tt)
+none-answers false receive = tt
+
+none-numbered : (send receive : ℕ) (packets : List Octets) → NoSets (numbered send receive packets)
+none-numbered send receive [] = tt
+none-numbered send receive (packet ∷ packets) = (refl, none-numbered (send + 1) receive packets)
+
+sets-reject : (role : Role) (l : Link) (report : Report) (p : Bool) → MaySet (reject_as role l report p)
+sets-reject Dte l report p = inl refl
+sets-reject Dce l report p = inr (refl, tt)
+
+sets-information : (l : Link) (send : ℕ) (p : Bool) (packet : Octets) → MaySet (on_information l send p packet)
+sets-information l send p packet =
+    cond_by (λ b. MaySet (if b then accept l p packet else discard l p)) (send == l.expected)
+    (λ _. inr (none-answers p _))
+    (λ _. inr (cond_by (λ b. NoSets (if b then answers p l.expected else response (Reject l.expected) p ∷ [])) l.rejecting
+    (λ _. none-answers p l.expected) (λ _. (refl, tt))))
+
+sets-checked : (l : Link) (content : Content) (r p : Bool) (receive : ℕ) (taken : Step) (anew : Bool) → MaySet taken →
+    MaySet (if is_valid l receive then record taken { anew = anew } else reject_number l content r p)
+sets-checked l content r p receive taken anew sets =
+    cond_by (λ b. MaySet (if b then record taken { anew = anew } else reject_number l content r p)) (is_valid l receive)
+    (λ _. sets) (λ _. sets-reject l.role l _ _)
+
+sets-supervisory : (l : Link) (busy back r p : Bool) → MaySet (on_supervisory l busy back r p)
+sets-supervisory l busy back r p = inr (none-answers (p && not r) l.expected)
+
+sets-in_up : (role : Role) (l : Link) (content : Content) (r p : Bool) → MaySet (in_up role l content r p)
+sets-in_up role l (Information send receive packet) r p =
+    sets-checked l (Information send receive packet) r p receive (on_information (acknowledged l receive) send p packet) _
+    (sets-information (acknowledged l receive) send p packet)
+sets-in_up role l (ReceiveReady receive) r p =
+    sets-checked l (ReceiveReady receive) r p receive (on_supervisory (acknowledged l receive) false false r p) _
+    (sets-supervisory (acknowledged l receive) false false r p)
+sets-in_up role l (ReceiveNotReady receive) r p =
+    sets-checked l (ReceiveNotReady receive) r p receive (on_supervisory (acknowledged l receive) true false r p) _
+    (sets-supervisory (acknowledged l receive) true false r p)
+sets-in_up role l (Reject receive) r p =
+    sets-checked l (Reject receive) r p receive (on_supervisory (acknowledged l receive) false true r p) _
+    (sets-supervisory (acknowledged l receive) false true r p)
+sets-in_up role l Disconnect r p = inr (refl, tt)
+sets-in_up role l Acknowledgement r p = inr tt
+sets-in_up Dte l SetMode r p = inl refl
+sets-in_up Dte l DisconnectedMode r p = inl refl
+sets-in_up Dte l (FrameReject report) r p = inl refl
+sets-in_up Dce l SetMode r p = inr tt
+sets-in_up Dce l DisconnectedMode r p = inr tt
+sets-in_up Dce l (FrameReject report) r p = inr (refl, tt)
+
+sets-in_setting_up : (l : Link) (content : Content) (r p : Bool) → MaySet (in_setting_up l content r p)
+sets-in_setting_up l Acknowledgement r p =
+    cond_by (λ b. MaySet (if b then come_up l else still l)) (is_same p l.bit) (λ _. inr (refl, tt)) (λ _. inr tt)
+sets-in_setting_up l Disconnect r p = inr (refl, tt)
+sets-in_setting_up l SetMode r p = inr tt
+sets-in_setting_up l DisconnectedMode r p = inr tt
+sets-in_setting_up l (FrameReject report) r p = inr tt
+sets-in_setting_up l (Information send receive packet) r p = inr tt
+sets-in_setting_up l (ReceiveReady receive) r p = inr tt
+sets-in_setting_up l (ReceiveNotReady receive) r p = inr tt
+sets-in_setting_up l (Reject receive) r p = inr tt
+
+sets-polite : (l : Link) (due : Bool) → MaySet (if due then sends l (response DisconnectedMode true) else still l)
+sets-polite l true = inr (refl, tt)
+sets-polite l false = inr tt
+
+sets-in_down : (role : Role) (l : Link) (content : Content) (r p : Bool) → MaySet (in_down role l content r p)
+sets-in_down Dte l SetMode r p = inl refl
+sets-in_down Dte l DisconnectedMode r p = inl refl
+sets-in_down Dte l Disconnect r p = inr (refl, tt)
+sets-in_down Dte l (Information send receive packet) r p = sets-polite l (p && not r)
+sets-in_down Dte l (ReceiveReady receive) r p = sets-polite l (p && not r)
+sets-in_down Dte l (ReceiveNotReady receive) r p = sets-polite l (p && not r)
+sets-in_down Dte l (Reject receive) r p = sets-polite l (p && not r)
+sets-in_down Dte l Acknowledgement r p = sets-polite l (p && not r)
+sets-in_down Dte l (FrameReject report) r p = sets-polite l (p && not r)
+sets-in_down Dce l SetMode r p = sets-polite l (p && not r)
+sets-in_down Dce l DisconnectedMode r p = sets-polite l (p && not r)
+sets-in_down Dce l Disconnect r p = inr (refl, tt)
+sets-in_down Dce l (Information send receive packet) r p = sets-polite l (p && not r)
+sets-in_down Dce l (ReceiveReady receive) r p = sets-polite l (p && not r)
+sets-in_down Dce l (ReceiveNotReady receive) r p = sets-polite l (p && not r)
+sets-in_down Dce l (Reject receive) r p = sets-polite l (p && not r)
+sets-in_down Dce l Acknowledgement r p = sets-polite l (p && not r)
+sets-in_down Dce l (FrameReject report) r p = sets-polite l (p && not r)
+
+sets-again : (l : Link) (r p : Bool) → MaySet (if r then still l else sends l (response (FrameReject l.report) p))
+sets-again l true p = inr tt
+sets-again l false p = inr (refl, tt)
+
+sets-in_rejecting : (l : Link) (content : Content) (r p : Bool) → MaySet (in_rejecting l content r p)
+sets-in_rejecting l Disconnect r p = inr (refl, tt)
+sets-in_rejecting l SetMode r p = sets-again l r p
+sets-in_rejecting l DisconnectedMode r p = sets-again l r p
+sets-in_rejecting l Acknowledgement r p = sets-again l r p
+sets-in_rejecting l (FrameReject report) r p = sets-again l r p
+sets-in_rejecting l (Information send receive packet) r p = sets-again l r p
+sets-in_rejecting l (ReceiveReady receive) r p = sets-again l r p
+sets-in_rejecting l (ReceiveNotReady receive) r p = sets-again l r p
+sets-in_rejecting l (Reject receive) r p = sets-again l r p
+
+sets-in_phase : (phase : Phase) (role : Role) (l : Link) (content : Content) (r p : Bool) →
+    MaySet (in_phase phase role l content r p)
+sets-in_phase Phase.Down role l content r p = sets-in_down role l content r p
+sets-in_phase Phase.SettingUp role l content r p = sets-in_setting_up l content r p
+sets-in_phase Phase.Up role l content r p = sets-in_up role l content r p
+sets-in_phase Phase.Rejecting role l content r p = sets-in_rejecting l content r p
+
+sets-content : (content : Content) (role : Role) (l : Link) (r p : Bool) → MaySet (on_content content role l r p)
+sets-content SetMode Dce l r p = inr (refl, tt)
+sets-content SetMode Dte l r p = sets-in_phase l.phase Dte l SetMode r p
+sets-content (Information send receive packet) role l r p = sets-in_phase l.phase role l (Information send receive packet) r p
+sets-content (ReceiveReady receive) role l r p = sets-in_phase l.phase role l (ReceiveReady receive) r p
+sets-content (ReceiveNotReady receive) role l r p = sets-in_phase l.phase role l (ReceiveNotReady receive) r p
+sets-content (Reject receive) role l r p = sets-in_phase l.phase role l (Reject receive) r p
+sets-content Disconnect role l r p = sets-in_phase l.phase role l Disconnect r p
+sets-content DisconnectedMode role l r p = sets-in_phase l.phase role l DisconnectedMode r p
+sets-content Acknowledgement role l r p = sets-in_phase l.phase role l Acknowledgement r p
+sets-content (FrameReject report) role l r p = sets-in_phase l.phase role l (FrameReject report) r p
+
+sets-frame : (l : Link) (frame : FrameValue) → MaySet (on_frame l frame)
+sets-frame l frame = sets-content frame.content l.role l frame.response frame.poll
+
+sets-relink_as : (role : Role) (phase : Phase) (l : Link) → MaySet (relink_as role phase l)
+sets-relink_as Dte Phase.SettingUp l = inr tt
+sets-relink_as Dte Phase.Down l = inl refl
+sets-relink_as Dte Phase.Up l = inl refl
+sets-relink_as Dte Phase.Rejecting l = inl refl
+sets-relink_as Dce phase l = inr (refl, tt)
+
+sets-relink : (l : Link) → MaySet (relink l)
+sets-relink l = sets-relink_as l.role l.phase l
+
+sets-expire_in : (phase : Phase) (l : Link) → l.phase ≡ phase → MaySet (expire_in phase l)
+sets-expire_in Phase.Down l e = inr (refl, tt)
+sets-expire_in Phase.SettingUp l e = inl e
+sets-expire_in Phase.Up l e = cond_by (λ b. MaySet (if b then relink l else poll l)) (nat_le l.n2 l.polls)
+    (λ _. sets-relink l) (λ _. inr (refl, tt))
+sets-expire_in Phase.Rejecting l e = inr (refl, tt)
+
+sets-t1 : (l : Link) → MaySet (on_t1 l)
+sets-t1 l = cond_by (λ b. MaySet (if b then expire_in l.phase l else still l)) (runs l)
+    (λ _. sets-expire_in l.phase l refl) (λ _. inr tt)
+
+sets-send_all : (l : Link) (packets : List Octets) → MaySet (send_all l packets)
+sets-send_all l [] = inr (cond_by (λ b. NoSets (if b then response (ReceiveReady l.expected) false ∷ [] else [])) l.owed
+    (λ _. (refl, tt)) (λ _. tt))
+sets-send_all l (packet ∷ packets) = inr (none-numbered (l.oldest + l.next) l.expected (packet ∷ packets))
+
+sets-settle_in : (phase : Phase) (l : Link) → MaySet (settle_in phase l)
+sets-settle_in Phase.Up l = sets-send_all l (sendable l)
+sets-settle_in Phase.Down l = inr tt
+sets-settle_in Phase.SettingUp l = inr tt
+sets-settle_in Phase.Rejecting l = inr tt
+
+sets-settle : (l : Link) → MaySet (settle l)
+sets-settle l = sets-settle_in l.phase l
+
+-- ---- acts and sessions
+
+abbrev Begun : List Sent → Type 0
+Begun = Flight (λ s. is_set_mode s.frame.content ≡ true → 1 ≤ s.act)
+
+-- over the parts of a world
+pub record Rises' (own session act : ℕ) (phase : Phase) (up : List Sent) : Type 0 where
+  pub own_before : own ≤ session
+  pub later : phase ≡ Phase.SettingUp → own < act
+  pub begun : Begun up
+
+abbrev pub Rises : World → Type 0
+Rises w = Rises' w.own w.session w.act w.dte.phase w.up
+
+-- an act in which the DTE is setting up is later than its session
+act-later : (now before : Bool) (own act : ℕ) → own ≤ act → (before ≡ true → own < act) → now ≡ true →
+    own < (if now && not before then act + 1 else act)
+act-later true true own act le b e = b refl
+act-later true false own act le b e = omega arith
+act-later false before own act le b e = absurd (cc)
+
+setting-is : (p : Phase) → is_setting_up p ≡ true → p ≡ Phase.SettingUp
+setting-is Phase.SettingUp e = refl
+setting-is Phase.Down e = absurd (cc)
+setting-is Phase.Up e = absurd (cc)
+setting-is Phase.Rejecting e = absurd (cc)
+
+abbrev own_after : World → Step → ℕ
+own_after w step = if is_up_note step.note then w.act else w.own
+
+-- a DTE that does not come up keeps its session
+same-own : (w : World) (step : Step) (note : Note) → step.note ≡ note → is_up_note note ≡ false → own_after w step ≡ w.own
+same-own w step note e off = ap (λ b. if b then w.act else w.own) (ap is_up_note e ∙ off)
+
+own-before : (w : World) (step : Step) → w.own ≤ w.session → (step.link.phase ≡ Phase.Up → own_after w step ≡ w.session) →
+    Says w.dte.phase step → own_after w step ≤ w.session
+own-before w step le now (begins note up none) = let e = now up in omega arith
+own-before w step le now (continues was note up) = let e = now up in omega arith
+own-before w step le now (ends was note off none) = let e = same-own w step Note.Down note refl in omega arith
+own-before w step le now (stays_out was note off none) = let e = same-own w step Note.Nothing note refl in omega arith
+
+own-later : (w : World) (step : Step) → w.own ≤ w.act → (w.dte.phase ≡ Phase.SettingUp → w.own < w.act) →
+    Says w.dte.phase step → step.link.phase ≡ Phase.SettingUp → own_after w step < act_after w step
+own-later w step le later (begins note up none) e = absurd (let x = sym up ∙ e in cc)
+own-later w step le later (continues was note up) e = absurd (let x = sym up ∙ e in cc)
+own-later w step le later (ends was note off none) e =
+    let same = same-own w step Note.Down note refl in
+    let less = act-later (is_setting_up step.link.phase) (is_setting_up w.dte.phase) w.own w.act le
+    (λ s. later (setting-is w.dte.phase s)) (ap is_setting_up e) in omega arith
+own-later w step le later (stays_out was note off none) e =
+    let same = same-own w step Note.Nothing note refl in
+    let less = act-later (is_setting_up step.link.phase) (is_setting_up w.dte.phase) w.own w.act le
+    (λ s. later (setting-is w.dte.phase s)) (ap is_setting_up e) in omega arith
+
+-- the SABMs that a step sends
+begun-sent : (t : ℕ) (kept : List Bool) (step : Step) → (step.link.phase ≡ Phase.SettingUp → 1 ≤ t) → MaySet step →
+    Begun (stamped t (kept_of kept step.frames))
+begun-sent t kept step acts sets =
+    flight-stamped (λ s. is_set_mode s.frame.content ≡ true → 1 ≤ s.act) t (kept_of kept step.frames)
+    (each-kept (λ f. is_set_mode f.content ≡ true → 1 ≤ t) kept step.frames (elim sets [
+      | inl e ↦ all (acts e) step.frames
+      | inr none ↦ each-weaken (λ f. is_set_mode f.content ≡ false) (λ f. is_set_mode f.content ≡ true → 1 ≤ t)
+          (λ f off is. absurd (cc)) step.frames none
+    ]))
+  where
+    all : 1 ≤ t → (frames : List FrameValue) → Each (λ f. is_set_mode f.content ≡ true → 1 ≤ t) frames
+    all le [] = tt
+    all le (f ∷ frames) = (λ _. le, all le frames)
+
+-- the DTE
+dte-rises : (w : World) (kept : List Bool) (step : Step) → w.session ≤ w.act → Says w.dte.phase step → MaySet step →
+    Inv (dte_does w kept step) → Rises w → Rises (dte_does w kept step)
+dte-rises w kept step le says sets i r =
+    let before = r.own_before in
+    let reached : w.own ≤ w.act = omega arith in
+    let later : step.link.phase ≡ Phase.SettingUp → own_after w step < act_after w step =
+    own-later w step reached r.later says in
+    record {
+      own_before = own-before w step before (λ up. (i.up_in up).own_is) says;
+      later = later;
+      begun = flight-append (λ s. is_set_mode s.frame.content ≡ true → 1 ≤ s.act) w.up
+          (stamped (act_after w step) (kept_of kept step.frames)) r.begun
+          (begun-sent (act_after w step) kept step (λ e. let less = later e in omega arith) sets);
+    }
+
+dte-takes : (w : World) (kept : List Bool) (flow : List Sent) → w.session ≤ w.act → Inv (to_dte w kept flow) → Rises w →
+    Rises (to_dte w kept flow)
+dte-takes w kept [] le i r = r
+dte-takes w kept (s ∷ rest) le i r =
+    dte-rises (record w { down = rest }) kept (on_frame w.dte s.frame) le
+    (says_on_frame w.dte s.frame.content w.dte.role s.frame.response s.frame.poll) (sets-frame w.dte s.frame) i r
+
+-- the DCE
+session-later : (b : Bool) (session act : ℕ) → session ≤ act → session ≤ (if b then act else session)
+session-later true session act le = le
+session-later false session act le = omega arith
+
+dce-takes : (w : World) (kept : List Bool) (flow : List Sent) → w.up ≡ flow →
+    Ups w.session w.act w.dte.bit w.session flow → Rises w → Rises (to_dce w kept flow)
+dce-takes w kept [] e u r = r
+dce-takes w kept (s ∷ rest) e u r =
+    let begun : Begun (s ∷ rest) = subst Begun e r.begun in
+    let more = session-later (is_set_mode s.frame.content) w.session s.act u.0 in
+    let before = r.own_before in
+    record { own_before = omega arith; later = r.later; begun = begun.1 }
+
+up-lost : (w : World) (flow : List Sent) → w.up ≡ flow → Rises w → Rises (record w { up = without_first flow })
+up-lost w [] e r = record { own_before = r.own_before; later = r.later; begun = tt }
+up-lost w (s ∷ rest) e r =
+    let begun : Begun (s ∷ rest) = subst Begun e r.begun in
+    record { own_before = r.own_before; later = r.later; begun = begun.1 }
+
+rises-happens : (w : World) (event : Event) → Inv w → Rises w → Rises (happens w event)
+rises-happens w (Offer Dte packet) i r = r
+rises-happens w (Offer Dce packet) i r = r
+rises-happens w (Deliver Dte kept) i r = dte-takes w kept w.down i.reached (happens-keeps w (Deliver Dte kept) i) r
+rises-happens w (Deliver Dce kept) i r = dce-takes w kept w.up refl i.ups r
+rises-happens w (Lose Dte) i r = r
+rises-happens w (Lose Dce) i r = up-lost w w.up refl r
+rises-happens w (Expire Dte kept) i r = dte-rises w kept (on_t1 w.dte) i.reached (says_on_t1 w.dte) (sets-t1 w.dte)
+    (happens-keeps w (Expire Dte kept) i) r
+rises-happens w (Expire Dce kept) i r = r
+rises-happens w (Relink Dte kept) i r = dte-rises w kept (relink w.dte) i.reached (says_relink w.dte) (sets-relink w.dte)
+    (happens-keeps w (Relink Dte kept) i) r
+rises-happens w (Relink Dce kept) i r = r
+rises-happens w (Settle Dte kept) i r = dte-rises w kept (settle w.dte) i.reached (says_settle w.dte) (sets-settle w.dte)
+    (happens-keeps w (Settle Dte kept) i) r
+rises-happens w (Settle Dce kept) i r = r
+rises-happens w (Restart Dte) i r = record { own_before = r.own_before; later = λ e. absurd (cc); begun = tt }
+rises-happens w (Restart Dce) i r = record { own_before = r.own_before; later = r.later; begun = tt }
+
+rises-run : (events : List Event) (w : World) → Inv w → Rises w → Rises (run events w)
+rises-run [] w i r = r
+rises-run (event ∷ events) w i r = rises-run events (happens w event) (happens-keeps w event i) (rises-happens w event i r)
+
+rises-opening : (standing : Bool) (dte dce : Params) → Rises (opening standing dte dce)
+rises-opening true dte dce = record { own_before = omega arith; later = λ e. absurd (cc); begun = tt }
+rises-opening false dte dce = record { own_before = omega arith; later = λ e. absurd (cc); begun = tt }
+
+-- ---- what is promised
+
+-- each SABM is of an act, from the DCE's session to the DTE's last act
+asks-in_order : (w : World) (lo : ℕ) (flow : List Sent) → w.session ≤ lo → Ups w.session w.act w.dte.bit lo flow →
+    Begun flow → AsksInOrder w flow
+asks-in_order w lo [] le u b = tt
+asks-in_order w lo (s ∷ rest) le u b =
+    let from : lo ≤ s.act = u.0 in
+    let late : w.session ≤ s.act = omega arith in
+    (λ is. (b.0 is, late, u.1), asks-in_order w s.act rest late u.3 b.1)
+
+-- no session falls
+dte-never_falls : (b : Bool) (own act : ℕ) → own ≤ act → own ≤ (if b then act else own)
+dte-never_falls b own act le = session-later b own act le
+
+same : (n : ℕ) → n ≤ n
+same n = omega arith
+
+never-falls : (w : World) (event : Event) → Inv w → Rises w →
+    (w.own ≤ (happens w event).own) × (w.session ≤ (happens w event).session)
+never-falls w (Offer Dte packet) i r = (same w.own, same w.session)
+never-falls w (Offer Dce packet) i r = (same w.own, same w.session)
+never-falls w (Deliver Dte kept) i r = taken w.down
+  where
+    reached : w.own ≤ w.act
+    reached = let a = r.own_before in let b = i.reached in omega arith
+
+    taken : (flow : List Sent) → (w.own ≤ (to_dte w kept flow).own) × (w.session ≤ (to_dte w kept flow).session)
+    taken [] = (same w.own, same w.session)
+    taken (s ∷ rest) = (session-later (is_up_note (on_frame w.dte s.frame).note) w.own w.act reached, same w.session)
+never-falls w (Deliver Dce kept) i r = taken w.up i.ups
+  where
+    taken : (flow : List Sent) → Ups w.session w.act w.dte.bit w.session flow →
+        (w.own ≤ (to_dce w kept flow).own) × (w.session ≤ (to_dce w kept flow).session)
+    taken [] u = (same w.own, same w.session)
+    taken (s ∷ rest) u = (same w.own, session-later (is_set_mode s.frame.content) w.session s.act u.0)
+never-falls w (Lose Dte) i r = (same w.own, same w.session)
+never-falls w (Lose Dce) i r = (same w.own, same w.session)
+never-falls w (Expire Dte kept) i r =
+    (session-later (is_up_note (on_t1 w.dte).note) w.own w.act (let a = r.own_before in let b = i.reached in omega arith), same w.session)
+never-falls w (Expire Dce kept) i r = (same w.own, same w.session)
+never-falls w (Relink Dte kept) i r =
+    (session-later (is_up_note (relink w.dte).note) w.own w.act (let a = r.own_before in let b = i.reached in omega arith), same w.session)
+never-falls w (Relink Dce kept) i r = (same w.own, same w.session)
+never-falls w (Settle Dte kept) i r =
+    (session-later (is_up_note (settle w.dte).note) w.own w.act (let a = r.own_before in let b = i.reached in omega arith), same w.session)
+never-falls w (Settle Dce kept) i r = (same w.own, same w.session)
+never-falls w (Restart Dte) i r = (same w.own, same w.session)
+never-falls w (Restart Dce) i r = (same w.own, same w.session)
+
+rise : (w : World) → Inv w → Rises w → SessionsRise w
+rise w i r = record {
+  own = r.own_before;
+  session = i.reached;
+  up = λ up. let j = i.up_in up in (j.own_is ∙ sym j.act_is, sym j.act_is);
+  setting_up = r.later;
+  asked = asks-in_order w w.session w.up (same w.session) i.ups r.begun;
+  never_falls = λ event. never-falls w event i r;
+  at_dte = λ s rest e up. r.later (dte_begins w.dte s.frame i.dte_role i.dte_phase up).0;
+  at_dce = λ s rest e. dce_begins w.dce s.frame i.dce_role i.dce_set;
+}
+
+pub sessions_rise : Always SessionsRise
+sessions_rise standing dte dce few few' events =
+    rise (run events (opening standing dte dce)) (always-inv standing dte dce few few' events)
+    (rises-run events (opening standing dte dce) (opening-meets standing dte dce few few') (rises-opening standing dte dce))
+
+pub reached_rise : (w : World) → Reached w → SessionsRise w
+reached_rise w r =
+    subst SessionsRise r.leads (sessions_rise r.standing r.dte r.dce r.dte_window r.dce_window r.events)
