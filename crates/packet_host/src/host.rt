@@ -66,6 +66,7 @@ impl Host {
             (λ fault. machine.call_refusal self.old.layer self.old.layer.phase ≡ Some (call_refusal_of fault)) }
         ensures host { self.new ≡ after_call self.old (call_parts address user_data.now) }
     {
+        // an address has 1 to 15 decimal digits
         let _ = address.digits();
         let channel = self.end.call(&CallData {
             called: address,
