@@ -114,7 +114,7 @@ KeepsNothingBack e = (can_offer e.line.link ≡ false) ⊎ ((next_packet e.layer
 
 -- the timers run as the layer wants them, and the link sends what may go
 abbrev pub settled : PacketEnd → PacketEnd
-settled e = record e { timers = brought e.line.link.role e.layer e.timers; line = line.settled e.line }
+settled e = record e { timers = brought e.layer e.timers; line = line.settled e.line }
 
 -- the end of an event of a node with one line
 unfoldable pub finished : PacketEnd → PacketEnd
