@@ -1,5 +1,5 @@
-use Rattle.std.proofs.Common.{◌≡◌, ◌∙◌, ap}
-use Rattle.packet_end.specs.PacketEnd.{PacketEnd, settled, all_offered, relinked_if_due, finished, KeepsNothingBack}
+use Rattle.std.proofs.Common.{◌∙◌, ap}
+use Rattle.packet_end.specs.PacketEnd.{PacketEnd, settled, all_offered, finished}
 use Rattle.packet_end.proofs.Offering.{settled_keeps_nothing}
 use Rattle.packet_end.proofs.end.PacketEnd.finish.Goals as goal
 
