@@ -1,10 +1,10 @@
 -- A message that is not refused has room: each of its packets is taken into the send queue.
-use Rattle.std.proofs.Common.{◌≡◌, ℕ, zero, suc, ◌+◌, ◌-◌, ◌*◌, ◌/◌, ◌<◌, ◌≤◌, Bool, true, false, cond, List, [], ◌∷◌, ◌++◌, length, set, take, drop, refl, sym, ap, ◌∙◌, arith, length-append, length-drop, length-take}
-use Rattle.std.specs.Prelude.{Option, Some, None, slice_get, not, ◌&&◌, min, nat_lt, nat_le}
+use Rattle.std.proofs.Common.{◌≡◌, ℕ, zero, suc, ◌+◌, ◌-◌, ◌*◌, ◌<◌, ◌≤◌, Bool, true, false, List, [], ◌∷◌, length, set, drop, refl, ap, ◌∙◌, arith, length-append, length-drop, length-take}
+use Rattle.std.specs.Prelude.{Option, Some, None, slice_get, not, nat_lt}
 use Rattle.std.proofs.lemmas.Bool.{le-ltb, lt-leb, ltb-false}
 use Rattle.packet_layer.specs.Packets.{Datum}
 use Rattle.packet_layer.specs.Traffic.{queue}
-use Rattle.packet_layer.specs.Channel.{Channel, Request, Refusal, unless, quiet, refusal, requested, carried_out, moved, in_transfer, has_flow, refused_if}
+use Rattle.packet_layer.specs.Channel.{Channel, Request, Refusal, unless, quiet, refusal, requested, carried_out, moved, in_transfer, refused_if}
 use Rattle.packet_layer.specs.Layer.{Layer, nth_channel, with_nth, channel_of, on_found, after_step, request_refusal, refusal_at, flow_refusal_at, flow_refusal, room, room_at}
 use Rattle.packet_end.specs.PacketEnd.{PacketEnd, asked}
 use Rattle.packet_host.specs.Saying.{full_packets, cut_after, cut, most_octets, places_needed, either_refusal, say_refusal, AllTaken}
@@ -45,8 +45,8 @@ flows_on : (e : PacketEnd) (c : ℕ) (ch : Channel) (d : Datum) → Flows e c ch
     Flows (asked e c (Request.Sending d)) c (moved (queue d ch.traffic) ch)
 flows_on e c ch d flows room short = record {
   there =
-    ap (λ (l : Layer). channel_of l c) (sent_layer e c ch d flows room short)
-    ∙ nth_there e.layer.channels c ch (moved (queue d ch.traffic) ch) flows.there;
+      ap (λ (l : Layer). channel_of l c) (sent_layer e c ch d flows room short)
+      ∙ nth_there e.layer.channels c ch (moved (queue d ch.traffic) ch) flows.there;
   transfer = flows.transfer;
   quiet_reset = flows.quiet_reset;
 }
@@ -61,11 +61,10 @@ all_taken : (ds : List Datum) (e : PacketEnd) (c : ℕ) (ch : Channel) → Flows
     AllShort ds → AllTaken c ds e
 all_taken [] e c ch flows room short = tt
 all_taken (d ∷ ds) e c ch flows room (and_more _ _ within others) =
-    let place : length ch.traffic.waiting < 8 = omega (arith, room) in
-    (
+    let place : length ch.traffic.waiting < 8 = omega (arith, room) in (
       sends_at e c ch d flows place within,
       all_taken ds (asked e c (Request.Sending d)) c (moved (queue d ch.traffic) ch) (flows_on e c ch d flows place within)
-      (omega (arith, room, length-append ch.traffic.waiting (d ∷ []))) others,
+          (omega (arith, room, length-append ch.traffic.waiting (d ∷ []))) others,
     )
 
 cut_short : (full : ℕ) (octets : List ℕ) (qualified delivery : Bool) → length octets ≤ (full + 1) * 128 →
