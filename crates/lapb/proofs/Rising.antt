@@ -24,12 +24,15 @@ use Rattle.frame_codec.specs.Frame.Content.{
   FrameReject,
 }
 use Rattle.frame_codec.specs.Reading.{reading}
+use Rattle.frame_codec.specs.Spelling.{spelling}
 use Rattle.lapb.specs.declared.phase.Phase.{Phase}
 use Rattle.lapb.specs.declared.note.Note.{Note}
 use Rattle.lapb.specs.Machine.{Octets, Link, Step, left, answers, response, still, sends, relink, relink_as, come_up, reject_as, reject_number, is_valid, acknowledged, on_supervisory, accept, discard, on_information, in_up, in_setting_up, in_down, in_rejecting, in_phase, on_content, on_frame, on_t1, expire_in, runs, poll, numbered, send_all, sendable, settle, settle_in, is_same, is_up}
 use Rattle.lapb.specs.Octets.{on_octets, on_reading, on_fault}
 use Rattle.lapb.specs.World.{Sent, World, Params, Event, Offer, Deliver, Lose, Expire, Relink, Settle, Restart, stamped, kept_of, is_set_mode, is_setting_up, is_up_note, act_after, dte_does, to_dte, to_dce, without_first, happens, run, opening, Always}
 use Rattle.lapb.specs.Reach.{Reached}
+use Rattle.lapb.specs.Fits.{AllSpelt, octets_of}
+use Rattle.lapb.specs.Line.{StandsIn}
 use Rattle.lapb.specs.Rising.{AsksInOrder, SessionsRise, Tells, IsPlain, CallsTell}
 use Rattle.lapb.proofs.Cases.{cond_by, Each, each-kept, each-weaken}
 use Rattle.lapb.proofs.Flights.{Flight, flight-append, flight-stamped, Ups}
@@ -37,6 +40,8 @@ use Rattle.lapb.proofs.Inv.{Inv}
 use Rattle.lapb.proofs.Events.{happens-keeps}
 use Rattle.lapb.proofs.Notes.{Says, begins, continues, ends, stays_out, says_on_frame, says_on_t1, says_relink, says_settle, says_on_defect, dte_begins}
 use Rattle.lapb.proofs.LinkLaw.{opening-meets, always-inv}
+use Rattle.lapb.proofs.Reach.{reached_inv}
+use Rattle.lapb.proofs.Fitting.{octets_taken}
 use Rattle.lapb.proofs.Sessions.{dce_begins}
 
 -- ---- what a call tells
@@ -490,9 +495,6 @@ asks-in_order w lo (s ∷ rest) le u b =
     (λ is. (b.0 is, late, u.1), asks-in_order w s.act rest late u.3 b.1)
 
 -- no session falls
-dte-never_falls : (b : Bool) (own act : ℕ) → own ≤ act → own ≤ (if b then act else own)
-dte-never_falls b own act le = session-later b own act le
-
 same : (n : ℕ) → n ≤ n
 same n = omega arith
 
@@ -548,3 +550,38 @@ sessions_rise standing dte dce few few' events =
 pub reached_rise : (w : World) → Reached w → SessionsRise w
 reached_rise w r =
     subst SessionsRise r.leads (sessions_rise r.standing r.dte r.dce r.dte_window r.dce_window r.events)
+
+-- ---- the same of a line as a network keeps it
+
+-- the session that the DTE begins by octets is later than the one before
+pub later_at_dte : (w : World) (dte dce : Link) (up down : List Octets) (bytes : Octets) → StandsIn w dte dce up (bytes ∷ down) →
+    (on_octets dte bytes).note ≡ Note.Up → w.own < w.act
+later_at_dte w dte dce up down bytes s up_note = go w.down refl s.fit.down s.down_is
+  where
+    go : (flow : List Sent) → w.down ≡ flow → AllSpelt flow → octets_of Dce flow ≡ bytes ∷ down → w.own < w.act
+    go [] is all e = absurd (cc)
+    go (x ∷ flow) is all e =
+        let head : spelling Dce x.frame ≡ bytes = cc in
+        let step : on_frame w.dte x.frame ≡ on_octets dte bytes =
+        sym (octets_taken w.dte Dce x.frame (reached_inv w s.reached).dte_role all.0) ∙ ap (on_octets w.dte) head ∙ ap
+        (λ l. on_octets l bytes) s.dte_is in
+        (reached_rise w s.reached).at_dte x flow is (ap (λ (t : Step). t.note) step ∙ up_note)
+
+-- the session that the DCE begins by octets is one of the DTE's acts, so not the one of the making
+pub of_act_at_dce : (w : World) (dte dce : Link) (up down : List Octets) (bytes : Octets) (kept : List Bool) →
+    StandsIn w dte dce (bytes ∷ up) down → (on_octets dce bytes).note ≡ Note.Up →
+    1 ≤ (happens w (Deliver Dce kept)).session
+of_act_at_dce w dte dce up down bytes kept s up_note = go w.up refl s.fit.up s.up_is
+  where
+    go : (flow : List Sent) → w.up ≡ flow → AllSpelt flow → octets_of Dte flow ≡ bytes ∷ up → 1 ≤ (to_dce w kept flow).session
+    go [] is all e = absurd (cc)
+    go (x ∷ flow) is all e =
+        let rise = reached_rise w s.reached in
+        let head : spelling Dte x.frame ≡ bytes = cc in
+        let step : on_frame w.dce x.frame ≡ on_octets dce bytes =
+        sym (octets_taken w.dce Dte x.frame (reached_inv w s.reached).dce_role all.0) ∙ ap (on_octets w.dce) head ∙ ap
+        (λ l. on_octets l bytes) s.dce_is in
+        let set : is_set_mode x.frame.content ≡ true =
+        sym (rise.at_dce x flow is) ∙ ap (λ (t : Step). is_up_note t.note) step ∙ ap is_up_note up_note in
+        let asked : AsksInOrder w (x ∷ flow) = subst (λ (f : List Sent). AsksInOrder w f) is rise.asked in
+        subst (λ b. 1 ≤ (if b then x.act else w.session)) (sym set) (asked.0 set).0

@@ -13,6 +13,7 @@ use Rattle.lapb.specs.Machine.{Octets, Link, Step, can_offer}
 use Rattle.lapb.specs.World as world
 use Rattle.lapb.specs.World.{is_up_note}
 use Rattle.lapb.specs.Octets.{on_octets}
+use Rattle.lapb.proofs.Rising.{plain_relink, plain_on_t1}
 use Rattle.epochs.specs.Item.{DataPacket}
 use Rattle.line_end.specs.End.{End, received, after_timer, timer_note, expiry_note, relinked, restarted, offered}
 use Rattle.line_sim.specs.Linked.{Logs, HasLinks, dce_offers, TakenAtDce}
@@ -23,7 +24,6 @@ use Rattle.line_sim.specs.HostState.{HostState, host_gives, host_begins, is_due,
 use Rattle.line_sim.specs.Joined.{AreShort, PadPart, pad_part, HostPart, host_part, Agrees}
 use Rattle.line_sim.proofs.Calls.{data-fits, ready-fits}
 use Rattle.line_sim.proofs.Keys.{KeyDoes, key-does}
-use Rattle.line_sim.proofs.Linking.{plain-relink, plain-t1}
 use Rattle.line_sim.proofs.Joining.{agrees-pad_gone, agrees-host_gone, agrees-host_closes, agrees-dte_closes, agrees-dte_silent, agrees-dte_ready, agrees-goes, agrees-dte_offers, agrees-host_offers, agrees-dce_silent, agrees-dce_data, agrees-takes, agrees-pad_accepts}
 use Rattle.line_sim.proofs.Holding.{HeldDte, HeldDce, begins-dte, begins-dce, received-dte, received-dce, relinked-dte, relinked-dce, settled-dte, settled-dce, timed-dte, timed-dce, offered-dte, offered-dce, restarted-dte, restarted-dce, weaken-dte, weaken-dce}
 
@@ -40,7 +40,7 @@ both-of false b e = absurd (cc)
 
 -- an expiry begins no session
 expiry-quiet : (id : TimerId) (l : Link) → is_up_note (expiry_note id l) ≡ false
-expiry-quiet timer.T1 l = (plain-t1 l).begins
+expiry-quiet timer.T1 l = (plain_on_t1 l).begins
 expiry-quiet timer.T10 l = refl
 expiry-quiet timer.T20 l = refl
 expiry-quiet (timer.T11 c) l = refl
@@ -203,7 +203,7 @@ module _ (p : PadState) (h : HostState) (dce : Link) (sent taken : List DataPack
   pub call-pad-relinks : HasLinks p.line.link dce up down g → TurnHeld (host_part h) dce sent taken covered (pad_call Relinks p) up down
   call-pad-relinks i =
       ended (pad_told (machine.relink p.line.link).note None (record p { line = relinked (pad_begins p).line }))
-      (held-pad_noted (pad_begins p) h dce sent taken covered (relinked (pad_begins p).line) up down (machine.relink p.line.link).note (plain-relink p.line.link).begins
+      (held-pad_noted (pad_begins p) h dce sent taken covered (relinked (pad_begins p).line) up down (machine.relink p.line.link).note (plain_relink p.line.link).begins
       (relinked-dte (pad_begins p).line dce up (λ f. Agrees f (pad_part p) (host_part h) sent taken covered) down (started down i)))
 
   -- a key
@@ -336,7 +336,7 @@ module _ (p : PadState) (h : HostState) (dte : Link) (sent taken : List DataPack
   pub call-host-relinks : HasLinks dte h.line.link up down g → HostHeld (pad_part p) dte sent taken covered up down (host_call Relinks h).node
   call-host-relinks i =
       held-host_ends p dte sent taken covered up down (host_told (machine.relink h.line.link).note None (record h { line = relinked (host_begins h).line })).node
-      (held-host_noted p dte sent taken covered up down (host_begins h) (relinked (host_begins h).line) (machine.relink h.line.link).note (plain-relink h.line.link).begins
+      (held-host_noted p dte sent taken covered up down (host_begins h) (relinked (host_begins h).line) (machine.relink h.line.link).note (plain_relink h.line.link).begins
       (relinked-dce (host_begins h).line dte down (λ f. Agrees f (pad_part p) (host_part h) sent taken covered) up (started-dce up i)))
 
   pub call-host-takes : HasLinks dte h.line.link up down g → HostHeld (pad_part p) dte sent (taken ++ option_to_list (host_gives h)) covered up down (host_takes h)

@@ -1,65 +1,16 @@
 -- What each event of two links makes of a line, and of the lists of session 0.
 use Rattle.std.proofs.Common.{◌≡◌, ℕ, ◌+◌, ◌≤◌, Bool, true, false, List, [], ◌∷◌, ◌++◌, length, map, Option, Some, None, refl, sym, ap, ◌∙◌, arith}
-use Rattle.std.specs.Prelude.{if◌then◌else◌, not, ◌&&◌, nat_le, ◌==◌}
+use Rattle.std.specs.Prelude.{if◌then◌else◌, not, ◌&&◌, ◌==◌}
 use Rattle.std.specs.Option.{option_to_list}
-use Rattle.link_timers.specs.declared.role.Role.{Role}
 use Rattle.link_timers.specs.declared.role.Role.TheVariants.{Dte, Dce}
 use Rattle.frame_codec.specs.Spelling.{spelling}
-use Rattle.lapb.specs.declared.phase.Phase.{Phase}
-use Rattle.lapb.specs.Machine.{left, first_phase, Octets, Link, Step, on_t1, relink, relink_as, expire_in, poll, runs, still, settle, settle_in, send_all, sendable, offer, new}
-use Rattle.lapb.specs.World.{World, Offer, Lose, Expire, Relink, Settle, Restart, Params, opening, happens, logged, offered, remade, is_setting_up, is_up_note, dte_does, dce_does}
+use Rattle.lapb.specs.Machine.{first_phase, Octets, Link, Step, on_t1, relink, settle, offer, new}
+use Rattle.lapb.specs.World.{World, Offer, Lose, Expire, Relink, Settle, Restart, Params, opening, happens, logged, offered, remade, is_setting_up, dte_does, dce_does}
 use Rattle.lapb.specs.Line.{chosen}
+use Rattle.lapb.specs.Rising.{IsPlain}
+use Rattle.lapb.proofs.Rising.{plain_on_t1, plain_relink, plain_settle}
 use Rattle.lapb.proofs.Lines.{stands_opening, stands_offer_dte, stands_offer_dce, stands_t1_dte, stands_t1_dce, stands_relink_dte, stands_relink_dce, stands_settle_dte, stands_settle_dce, stands_restart_dte, stands_restart_dce, stands_lose_up, stands_lose_down}
 use Rattle.line_sim.specs.Linked.{Logs, logs_of, HasLinks, added, dte_offers, dce_offers}
-
--- ---- calls that begin no session and accept nothing
-
-bool_by : (P : Bool → Type 0) (b : Bool) → P true → P false → P b
-bool_by P true x y = x
-bool_by P false x y = y
-
--- a step of these says Nothing or Down, and accepts nothing
-pub record IsPlain (step : Step) : Type 0 where
-  pub begins : is_up_note step.note ≡ false
-  pub accepts : step.accepted ≡ None
-
-plain-relink_as : (role : Role) (phase : Phase) (l : Link) → l.phase ≡ phase → IsPlain (relink_as role phase l)
-plain-relink_as Dte Phase.SettingUp l e = record { begins = refl; accepts = refl }
-plain-relink_as Dte Phase.Down l e = record { begins = ap (λ p. is_up_note (left p)) e; accepts = refl }
-plain-relink_as Dte Phase.Up l e = record { begins = ap (λ p. is_up_note (left p)) e; accepts = refl }
-plain-relink_as Dte Phase.Rejecting l e = record { begins = ap (λ p. is_up_note (left p)) e; accepts = refl }
-plain-relink_as Dce phase l e = record { begins = quiet l.phase; accepts = refl }
-  where
-    quiet : (p : Phase) → is_up_note (left p) ≡ false
-    quiet Phase.Down = refl
-    quiet Phase.SettingUp = refl
-    quiet Phase.Up = refl
-    quiet Phase.Rejecting = refl
-
-pub plain-relink : (l : Link) → IsPlain (relink l)
-plain-relink l = plain-relink_as l.role l.phase l refl
-
-plain-expire_in : (phase : Phase) (l : Link) → IsPlain (expire_in phase l)
-plain-expire_in Phase.Down l = record { begins = refl; accepts = refl }
-plain-expire_in Phase.SettingUp l = record { begins = refl; accepts = refl }
-plain-expire_in Phase.Up l = bool_by (λ b. IsPlain (if b then relink l else poll l)) (nat_le l.n2 l.polls) (plain-relink l) (record { begins = refl; accepts = refl })
-plain-expire_in Phase.Rejecting l = record { begins = refl; accepts = refl }
-
-pub plain-t1 : (l : Link) → IsPlain (on_t1 l)
-plain-t1 l = bool_by (λ b. IsPlain (if b then expire_in l.phase l else still l)) (runs l) (plain-expire_in l.phase l) (record { begins = refl; accepts = refl })
-
-plain-send_all : (l : Link) (packets : List Octets) → IsPlain (send_all l packets)
-plain-send_all l [] = record { begins = refl; accepts = refl }
-plain-send_all l (packet ∷ packets) = record { begins = refl; accepts = refl }
-
-plain-settle_in : (phase : Phase) (l : Link) → IsPlain (settle_in phase l)
-plain-settle_in Phase.Up l = plain-send_all l (sendable l)
-plain-settle_in Phase.Down l = record { begins = refl; accepts = refl }
-plain-settle_in Phase.SettingUp l = record { begins = refl; accepts = refl }
-plain-settle_in Phase.Rejecting l = record { begins = refl; accepts = refl }
-
-pub plain-settle : (l : Link) → IsPlain (settle l)
-plain-settle l = plain-settle_in l.phase l
 
 -- ---- the act in which the DTE is setting up
 
@@ -115,7 +66,7 @@ module _ (dte dce : Link) (up down : List Octets) (g : Logs) where
     world = happens i.world (Expire Dte kept);
     stands = stands_t1_dte i.world dte dce up down kept i.stands;
     begun = begun-after (is_setting_up (on_t1 i.world.dte).link.phase) (is_setting_up i.world.dte.phase) i.world.act i.begun;
-    logs_are = logs-plain-dte i.world kept (on_t1 i.world.dte) (plain-t1 i.world.dte) ∙ i.logs_are;
+    logs_are = logs-plain-dte i.world kept (on_t1 i.world.dte) (plain_on_t1 i.world.dte) ∙ i.logs_are;
   }
 
   pub linked-relink-dte : (kept : List Bool) → HasLinks dte dce up down g
@@ -124,7 +75,7 @@ module _ (dte dce : Link) (up down : List Octets) (g : Logs) where
     world = happens i.world (Relink Dte kept);
     stands = stands_relink_dte i.world dte dce up down kept i.stands;
     begun = begun-after (is_setting_up (relink i.world.dte).link.phase) (is_setting_up i.world.dte.phase) i.world.act i.begun;
-    logs_are = logs-plain-dte i.world kept (relink i.world.dte) (plain-relink i.world.dte) ∙ i.logs_are;
+    logs_are = logs-plain-dte i.world kept (relink i.world.dte) (plain_relink i.world.dte) ∙ i.logs_are;
   }
 
   pub linked-settle-dte : (kept : List Bool) → HasLinks dte dce up down g
@@ -133,7 +84,7 @@ module _ (dte dce : Link) (up down : List Octets) (g : Logs) where
     world = happens i.world (Settle Dte kept);
     stands = stands_settle_dte i.world dte dce up down kept i.stands;
     begun = begun-after (is_setting_up (settle i.world.dte).link.phase) (is_setting_up i.world.dte.phase) i.world.act i.begun;
-    logs_are = logs-plain-dte i.world kept (settle i.world.dte) (plain-settle i.world.dte) ∙ i.logs_are;
+    logs_are = logs-plain-dte i.world kept (settle i.world.dte) (plain_settle i.world.dte) ∙ i.logs_are;
   }
 
   pub linked-t1-dce : (kept : List Bool) → HasLinks dte dce up down g
@@ -142,7 +93,7 @@ module _ (dte dce : Link) (up down : List Octets) (g : Logs) where
     world = happens i.world (Expire Dce kept);
     stands = stands_t1_dce i.world dte dce up down kept i.stands;
     begun = i.begun;
-    logs_are = logs-plain-dce i.world kept (on_t1 i.world.dce) (plain-t1 i.world.dce) ∙ i.logs_are;
+    logs_are = logs-plain-dce i.world kept (on_t1 i.world.dce) (plain_on_t1 i.world.dce) ∙ i.logs_are;
   }
 
   pub linked-relink-dce : (kept : List Bool) → HasLinks dte dce up down g
@@ -151,7 +102,7 @@ module _ (dte dce : Link) (up down : List Octets) (g : Logs) where
     world = happens i.world (Relink Dce kept);
     stands = stands_relink_dce i.world dte dce up down kept i.stands;
     begun = i.begun;
-    logs_are = logs-plain-dce i.world kept (relink i.world.dce) (plain-relink i.world.dce) ∙ i.logs_are;
+    logs_are = logs-plain-dce i.world kept (relink i.world.dce) (plain_relink i.world.dce) ∙ i.logs_are;
   }
 
   pub linked-settle-dce : (kept : List Bool) → HasLinks dte dce up down g
@@ -160,7 +111,7 @@ module _ (dte dce : Link) (up down : List Octets) (g : Logs) where
     world = happens i.world (Settle Dce kept);
     stands = stands_settle_dce i.world dte dce up down kept i.stands;
     begun = i.begun;
-    logs_are = logs-plain-dce i.world kept (settle i.world.dce) (plain-settle i.world.dce) ∙ i.logs_are;
+    logs_are = logs-plain-dce i.world kept (settle i.world.dce) (plain_settle i.world.dce) ∙ i.logs_are;
   }
 
   pub linked-offer-dte : (packet : Octets) → length packet ≤ 145 → HasLinks dte dce up down g

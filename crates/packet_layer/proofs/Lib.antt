@@ -45,3 +45,4 @@ pub mod Places
 pub mod FreeChannels
 pub mod Closed
 pub mod Serving
+pub mod Readable

@@ -1,0 +1,61 @@
+-- A packet layer all of whose packets read back at the other end of the line.
+use Rattle.std.specs.Prelude.{ℕ, ◌<◌, ◌≤◌, List, [], ◌∷◌, length, Option, Some, None}
+use Rattle.packet_codec.specs.Packet.{PacketValue, IsLogicalChannel, IsCallValue, IsContentOn}
+use Rattle.packet_layer.specs.Packets.{CallParts, Datum, Body, Packet}
+use Rattle.packet_layer.specs.Traffic.{Traffic}
+use Rattle.packet_layer.specs.Channel.{Channel}
+use Rattle.packet_layer.specs.Layer.{Layer}
+use Rattle.packet_layer.specs.Octets.{content_of, value_of_parts}
+
+-- it holds of each
+abbrev pub Every : {A : Type 0} → (A → Type 0) → List A → Type 0
+Every P [] = Unit {0}
+Every P (x ∷ xs) = P x × Every P xs
+
+-- it holds of what there is, if anything
+abbrev pub IfAny : {A : Type 0} → (A → Type 0) → Option A → Type 0
+IfAny P None = Unit {0}
+IfAny P (Some x) = P x
+
+-- a packet with a spelling, from which it is read again
+abbrev pub value_of : Packet → PacketValue
+value_of p = record { channel = p.channel; content = content_of p.body }
+
+-- what each logical channel can carry, and what the channel of the restart packets can
+abbrev pub FitsChannels : Body → Type 0
+FitsChannels b = (channel : ℕ) → IsLogicalChannel channel → IsContentOn channel (content_of b)
+
+abbrev pub FitsRestarts : Body → Type 0
+FitsRestarts b = IsContentOn 0 (content_of b)
+
+-- what waits on a channel is short enough, and its next numbers are numbers modulo 8
+abbrev pub IsShortDatum : Datum → Type 0
+IsShortDatum d = length d.octets ≤ 128
+
+abbrev pub IsInterrupt : List ℕ → Type 0
+IsInterrupt octets = (1 ≤ length octets) × (length octets ≤ 32)
+
+pub record TrafficFits (waiting : List Datum) (send_number released : ℕ) (interrupt : Option (List ℕ)) : Type 0 where
+  pub waiting_fits : Every IsShortDatum waiting
+  pub send_fits : send_number < 8
+  pub released_fits : released < 8
+  pub interrupt_fits : IfAny IsInterrupt interrupt
+
+abbrev pub TrafficReads : Traffic → Type 0
+TrafficReads t = TrafficFits t.waiting t.send_number t.released t.interrupt_waiting
+
+abbrev pub ChannelReads : Channel → Type 0
+ChannelReads ch = Every FitsChannels ch.owed × TrafficReads ch.traffic
+
+-- at most 32 channels, and nothing waits or is owed that could not be read at the other end
+pub record AllRead (channels : List Channel) (owed : List Body) : Type 0 where
+  pub few : length channels ≤ 32
+  pub channels_read : Every ChannelReads channels
+  pub owed_read : Every FitsRestarts owed
+
+abbrev pub IsReadable : Layer → Type 0
+IsReadable l = AllRead l.channels l.owed
+
+-- a call that can be placed: a called address, a calling one or none, at most 109 octets of facilities and 16 of user data
+abbrev pub CanBePlaced : CallParts → Type 0
+CanBePlaced parts = IsCallValue (value_of_parts parts)
