@@ -1,5 +1,5 @@
 -- One end of a line with its packet layer: what each call of a node makes of the link, the layer and the timers together.
-use Rattle.std.specs.Prelude.{◌≡◌, ℕ, zero, suc, Bool, true, false, cond, ◌⊎◌, List, [], ◌∷◌, ◌++◌, drop, Option, Some, None, is_some}
+use Rattle.std.specs.Prelude.{◌≡◌, ℕ, zero, suc, Bool, false, cond, ◌⊎◌, List, [], ◌++◌, drop, Option, Some, None, is_some}
 use Rattle.link_timers.specs.declared.role.Role.{Role}
 use Rattle.link_timers.specs.declared.timers.TimerId.{TimerId}
 use Rattle.link_timers.specs.declared.timers.TimerId.TheVariants.{T1}
@@ -114,7 +114,7 @@ KeepsNothingBack e = (can_offer e.line.link ≡ false) ⊎ ((next_packet e.layer
 
 -- the timers run as the layer wants them, and the link sends what may go
 abbrev pub settled : PacketEnd → PacketEnd
-settled e = record e { timers = brought e.line.link.role e.layer e.timers; line = line.settled e.line }
+settled e = record e { timers = brought e.layer e.timers; line = line.settled e.line }
 
 -- the end of an event of a node with one line
 unfoldable pub finished : PacketEnd → PacketEnd

@@ -1,5 +1,4 @@
 -- The parameters of an end of a line.
-use Rattle.std.specs.Prelude.{ℕ}
 use Rattle.lapb.specs.Params as link
 use Rattle.packet_layer.specs.Params as layer
 use Rattle.packet_layer.specs.declared.fault.MakeFault.{MakeFault}

@@ -1,33 +1,14 @@
 -- The timers of the packet layer at one end of a line: which of them run after an event of the node (X.25 annex D).
-use Rattle.std.specs.Prelude.{ℕ, zero, suc, ◌+◌, Bool, true, false, if◌then◌else◌, is_some}
-use Rattle.link_timers.specs.declared.role.Role.{Role}
-use Rattle.link_timers.specs.declared.role.Role.TheVariants.{Dte, Dce}
+use Rattle.std.specs.Prelude.{◌≡◌, ℕ, zero, suc, Bool, true, false, if◌then◌else◌, is_some}
 use Rattle.link_timers.specs.declared.timers.TimerId.{TimerId}
-use Rattle.link_timers.specs.declared.timers.TimerId.TheVariants.{T10, T20, T11, T12, T13, T21, T22, T23}
-use Rattle.link_timers.specs.Timers.{Places, left_of, started, stopped}
+use Rattle.link_timers.specs.declared.timers.TimerId.TheVariants.{T1, T10, T20, T11, T12, T13, T21, T22, T23, Idle}
+use Rattle.link_timers.specs.Timers.{Places, IsTimer, left_of, started, stopped}
 use Rattle.packet_layer.specs.Layer.{Layer}
 use Rattle.packet_layer.specs.Events.{timer_named, runs_named}
 
 -- how long a timer of the packet layer runs: three minutes
 abbrev pub packet_ticks : ℕ
 packet_ticks = 3600
-
--- the timer of the own restart, and by channel those of the own call, reset and clear
-abbrev pub restart_timer : Role → TimerId
-restart_timer Dte = T20
-restart_timer Dce = T10
-
-abbrev pub call_timer : Role → (channel : ℕ) → TimerId
-call_timer Dte channel = T21 channel
-call_timer Dce channel = T11 channel
-
-abbrev pub reset_timer : Role → (channel : ℕ) → TimerId
-reset_timer Dte channel = T22 channel
-reset_timer Dce channel = T12 channel
-
-abbrev pub clear_timer : Role → (channel : ℕ) → TimerId
-clear_timer Dte channel = T23 channel
-clear_timer Dce channel = T13 channel
 
 -- a timer that is to run and does not is started, one that is not to run is stopped, and one that runs as it is to goes on
 abbrev pub brought_as : (runs : Bool) → TimerId → Places → Places
@@ -37,17 +18,45 @@ brought_as false id timers = stopped timers id
 abbrev pub brought_one : Layer → TimerId → Places → Places
 brought_one l id timers = brought_as (runs_named l (timer_named l.role id)) id timers
 
--- those of a channel
-abbrev pub brought_channel : Role → Layer → (channel : ℕ) → Places → Places
-brought_channel role l channel timers =
-    brought_one l (clear_timer role channel)
-    (brought_one l (reset_timer role channel) (brought_one l (call_timer role channel) timers))
+-- those of the call, the reset and the clear on a channel, of a DCE and of a DTE
+abbrev pub brought_channel : Layer → (channel : ℕ) → Places → Places
+brought_channel l channel timers =
+    brought_one l (T23 channel)
+    (brought_one l (T22 channel)
+    (brought_one l (T21 channel)
+    (brought_one l (T13 channel) (brought_one l (T12 channel) (brought_one l (T11 channel) timers)))))
 
 -- those of so many channels, from the first one on
-abbrev pub brought_channels : Role → Layer → (count : ℕ) → Places → Places
-brought_channels role l zero timers = timers
-brought_channels role l (suc count) timers = brought_channel role l (suc count) (brought_channels role l count timers)
+abbrev pub brought_channels : Layer → (count : ℕ) → Places → Places
+brought_channels l zero timers = timers
+brought_channels l (suc count) timers = brought_channel l (suc count) (brought_channels l count timers)
 
--- all those of an end of this role: a line has at most 32 channels
-unfoldable pub brought : Role → Layer → Places → Places
-brought role l timers = brought_channels role l 32 (brought_one l (restart_timer role) timers)
+-- all of them, with those of the restart: a line has at most 32 channels
+unfoldable pub brought : Layer → Places → Places
+brought l timers = brought_channels l 32 (brought_one l T20 (brought_one l T10 timers))
+
+-- ---- which of them run then
+
+-- a timer runs exactly where the layer wants it to, which it never does of one of the other role
+abbrev pub RunsAsWanted : Layer → Places → TimerId → Type 0
+RunsAsWanted l timers id = is_some (left_of timers id) ≡ runs_named l (timer_named l.role id)
+
+-- T1 is the link's, and an idle timer is a terminal's
+abbrev pub IsPacketTimer : TimerId → Type 0
+IsPacketTimer T1 = ⊥
+IsPacketTimer (Idle terminal) = ⊥
+IsPacketTimer id = IsTimer id
+
+-- the channel of a timer of the packet layer, 0 for those of the restart
+abbrev pub channel_number : TimerId → ℕ
+channel_number (T11 channel) = channel
+channel_number (T12 channel) = channel
+channel_number (T13 channel) = channel
+channel_number (T21 channel) = channel
+channel_number (T22 channel) = channel
+channel_number (T23 channel) = channel
+channel_number id = 0
+
+-- each timer of the packet layer, of either role and of any channel, runs exactly where the layer wants it to
+abbrev pub TimersAgree : Layer → Places → Type 0
+TimersAgree l timers = (id : TimerId) → IsPacketTimer id → RunsAsWanted l timers id

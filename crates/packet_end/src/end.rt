@@ -2,6 +2,7 @@
 ghost use Rattle.std.specs.Prelude.{◌≡◌, ◌≤◌, ◌+◌, [], ◌∷◌, length, MatchResult, slice_get};
 ghost use Rattle.std.specs.Bool.{OnTrue, OnFalse};
 ghost use Rattle.packet_end.specs.Params.{AreParams, MadeNot};
+ghost use Rattle.packet_end.specs.Timing.{TimersAgree};
 ghost use Rattle.packet_end.specs.PacketEnd.{made, begun, gathered, heeded, received, runs_at, after_timer, relinked, relinked_if_due, restarted, KeepsNothingBack, settled, finished, elapsed, due, without_first_frame, without_first_note};
 
 mod asking;
@@ -165,9 +166,10 @@ impl PacketEnd {
 
     /// Ends an event: the timers run as the packet layer wants them, and the link sends what may go.
     pub fn settle(&mut self)
-        ensures { self.new ≡ settled self.old }
+        ensures end { self.new ≡ settled self.old }
+        ensures timers { TimersAgree self.new.layer self.new.timers }
     {
-        bring_into_line(&mut self.timers, &self.layer, self.line.role());
+        bring_into_line(&mut self.timers, &self.layer);
         self.line.settle();
     }
 
@@ -176,6 +178,7 @@ impl PacketEnd {
         requires { length self.old.notes ≤ 64 }
         ensures end { self.new ≡ finished self.old }
         ensures nothing_kept_back { KeepsNothingBack self.new }
+        ensures timers { TimersAgree self.new.layer self.new.timers }
     {
         self.relink_if_due();
         self.offer_packets();

@@ -1,3 +1,5 @@
+//! The parameters of an end of a line.
+
 /// How one end of a line is to be made.
 #[derive(Clone, Copy, Debug, PartialEq, Eq)]
 pub struct EndParams {

@@ -1,9 +1,10 @@
 //! Which timers of the packet layer run (X.25 annex D).
-ghost use Rattle.std.specs.Prelude.{◌≡◌, ◌≤◌};
-ghost use Rattle.link_timers.specs.Timers.{IsTimer};
-ghost use Rattle.packet_end.specs.Timing.{brought_one, brought_channel, brought, restart_timer};
+ghost use Rattle.std.specs.Prelude.{◌≡◌, ◌≢◌, ◌≤◌};
+ghost use Rattle.link_timers.specs.declared.timers.TimerId.{TimerId as TimerName};
+ghost use Rattle.link_timers.specs.Timers.{IsTimer, left_of};
+ghost use Rattle.packet_end.specs.Timing.{brought_one, brought_channel, brought, RunsAsWanted, IsPacketTimer, TimersAgree, channel_number};
 
-use link_timers::{Role, TimerId, Timers};
+use link_timers::{TimerId, Timers};
 use packet_layer::Layer;
 
 /// How long each of these timers runs, in ticks of a twentieth of a second.
@@ -14,44 +15,40 @@ const MOST_CHANNELS: u8 = 32;
 
 #[tactic(auto, unfolding(crate::specs::Timing::brought))]
 /// Starts the timers that are to run and do not, and stops those that are not to run.
-pub(crate) fn bring_into_line(timers: &mut Timers, layer: &Layer, role: Role)
-    ensures { timers.new ≡ brought role layer.now timers.old }
+pub(crate) fn bring_into_line(timers: &mut Timers, layer: &Layer)
+    ensures places { timers.new ≡ brought layer.now timers.old }
+    ensures agree { TimersAgree layer.now timers.new }
 {
-    let restart = match role {
-        Role::Dte => TimerId::T20,
-        Role::Dce => TimerId::T10,
-    };
-    bring_one(timers, layer, restart);
+    bring_one(timers, layer, TimerId::T10);
+    bring_one(timers, layer, TimerId::T20);
     for place in 0..MOST_CHANNELS {
-        bring_channel(timers, layer, role, place + 1);
+        bring_channel(timers, layer, place + 1);
     }
 }
 
-fn bring_channel(timers: &mut Timers, layer: &Layer, role: Role, channel: u8)
+// Those of a channel: call, reset and clear, at a DCE and at a DTE.
+#[tactic(auto, using(crate::proofs::Wanted::of_channel))]
+fn bring_channel(timers: &mut Timers, layer: &Layer, channel: u8)
     requires least { 1 ≤ channel }
     requires most { channel ≤ 32 }
-    ensures { timers.new ≡ brought_channel role layer.now channel timers.old }
+    ensures places { timers.new ≡ brought_channel layer.now channel timers.old }
+    ensures own { (id : TimerName) → IsPacketTimer id → channel_number id ≡ channel → RunsAsWanted layer.now timers.new id }
+    ensures kept { (id : TimerName) → IsTimer id → RunsAsWanted layer.now timers.old id → RunsAsWanted layer.now timers.new id }
 {
-    let (call, reset, clear) = match role {
-        Role::Dte => (
-            TimerId::T21(channel),
-            TimerId::T22(channel),
-            TimerId::T23(channel),
-        ),
-        Role::Dce => (
-            TimerId::T11(channel),
-            TimerId::T12(channel),
-            TimerId::T13(channel),
-        ),
-    };
-    bring_one(timers, layer, call);
-    bring_one(timers, layer, reset);
-    bring_one(timers, layer, clear);
+    bring_one(timers, layer, TimerId::T11(channel));
+    bring_one(timers, layer, TimerId::T12(channel));
+    bring_one(timers, layer, TimerId::T13(channel));
+    bring_one(timers, layer, TimerId::T21(channel));
+    bring_one(timers, layer, TimerId::T22(channel));
+    bring_one(timers, layer, TimerId::T23(channel));
 }
 
+#[tactic(auto, using(crate::proofs::Wanted::kept))]
 fn bring_one(timers: &mut Timers, layer: &Layer, id: TimerId)
     requires { IsTimer id }
-    ensures { timers.new ≡ brought_one layer.now id timers.old }
+    ensures places { timers.new ≡ brought_one layer.now id timers.old }
+    ensures own { RunsAsWanted layer.now timers.new id }
+    ensures kept { (other : TimerName) → IsTimer other → RunsAsWanted layer.now timers.old other → RunsAsWanted layer.now timers.new other }
 {
     if !layer.runs(id) {
         timers.stop(id);

@@ -1,9 +1,9 @@
 -- What is said: its packets are put into the send queue one by one.
-use Rattle.std.proofs.Common.{◌≡◌, ℕ, zero, suc, ◌+◌, ◌-◌, ◌*◌, ◌/◌, ◌<◌, ◌≤◌, Bool, true, false, List, length, take, drop, refl, sym, ap, ◌∙◌, arith}
+use Rattle.std.proofs.Common.{◌≡◌, ℕ, zero, suc, ◌+◌, ◌-◌, ◌<◌, Bool, true, false, List, take, drop, sym, ap, arith}
 use Rattle.packet_layer.specs.Packets.{Datum}
 use Rattle.packet_layer.specs.Channel.{Request}
 use Rattle.packet_end.specs.PacketEnd.{PacketEnd, asked}
-use Rattle.packet_host.specs.Saying.{full_packets, cut_after, queued}
+use Rattle.packet_host.specs.Saying.{cut_after, queued}
 
 abbrev pub full_packet : List ℕ → Bool → Datum
 full_packet octets qualified = record { octets = take 128 octets; more = true; qualified = qualified; delivery = false }

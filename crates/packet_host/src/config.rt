@@ -1,3 +1,5 @@
+//! How a host is to be made.
+
 use link_timers::Role;
 use packet_end::EndParams;
 

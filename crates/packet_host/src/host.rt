@@ -8,6 +8,7 @@ ghost use Rattle.packet_layer.specs.RequestView.{refusal_of, call_refusal_of};
 ghost use Rattle.packet_layer.specs.TakenView.{maybe_taken};
 ghost use Rattle.packet_end.specs.Params.{AreParams};
 ghost use Rattle.packet_end.specs.PacketEnd as end;
+ghost use Rattle.packet_end.specs.Timing.{TimersAgree};
 ghost use Rattle.packet_host.specs.Host.{ended, call_parts, after_call, after_request, refuse_refusal, after_refuse, after_say, after_take, after_frame, after_expiry, after_relink};
 ghost use Rattle.packet_host.specs.Making.{made, MadeNot};
 ghost use Rattle.packet_host.specs.Saying.{say_refusal};
@@ -66,6 +67,7 @@ impl Host {
             (λ fault. machine.call_refusal self.old.layer self.old.layer.phase ≡ Some (call_refusal_of fault)) }
         ensures host { self.new ≡ after_call self.old (call_parts address user_data.now) }
     {
+        // an address has 1 to 15 decimal digits
         let _ = address.digits();
         let channel = self.end.call(&CallData {
             called: address,
@@ -212,6 +214,7 @@ impl Host {
     fn end_event(&mut self)
         ensures host { self.new ≡ ended self.old }
         ensures nothing_kept_back { end.KeepsNothingBack self.new }
+        ensures timers { TimersAgree self.new.layer self.new.timers }
     {
         self.end.begin();
         self.end.finish();

@@ -2,6 +2,7 @@
 ghost use Rattle.std.specs.Prelude.{◌≡◌, ◌∷◌, []};
 ghost use Rattle.std.specs.Bool.{OnTrue, OnFalse};
 ghost use Rattle.packet_end.specs.PacketEnd as end;
+ghost use Rattle.packet_end.specs.Timing.{TimersAgree};
 ghost use Rattle.packet_host.specs.Host.{after_frame, after_expiry, after_relink};
 
 use crate::host::Host;
@@ -13,6 +14,7 @@ impl Host {
     pub fn on_frame(&mut self, octets: &[u8])
         ensures host { self.new ≡ after_frame self.old octets.now }
         ensures nothing_kept_back { end.KeepsNothingBack self.new }
+        ensures timers { TimersAgree self.new.layer self.new.timers }
     {
         self.end.begin();
         self.end.on_frame(octets);
@@ -37,6 +39,7 @@ impl Host {
     pub fn relink(&mut self)
         ensures host { self.new ≡ after_relink self.old }
         ensures nothing_kept_back { end.KeepsNothingBack self.new }
+        ensures timers { TimersAgree self.new.layer self.new.timers }
     {
         self.end.begin();
         self.end.relink();

@@ -1,8 +1,8 @@
 //! What a host says on a call (X.25 4.3).
-ghost use Rattle.std.specs.Prelude.{◌≡◌, ◌≤◌, Some, None, MatchResult, length};
+ghost use Rattle.std.specs.Prelude.{◌≡◌, ◌≤◌, Some, None, MatchResult, OnOk, length};
 ghost use Rattle.packet_layer.specs.RequestView.{refusal_of};
 ghost use Rattle.packet_host.specs.Host.{after_say};
-ghost use Rattle.packet_host.specs.Saying.{say_refusal, full_packets, places_needed, most_octets, cut, queued};
+ghost use Rattle.packet_host.specs.Saying.{say_refusal, full_packets, places_needed, most_octets, cut, queued, AllTaken};
 
 use crate::host::Host;
 use packet_codec::MAX_USER_DATA;
@@ -13,6 +13,7 @@ use packet_layer::ChannelFault;
 const QUEUE: usize = 8;
 
 impl Host {
+    #[tactic(auto, using(crate::proofs::Taken::all_said))]
     /// Says octets on the channel: full packets of 128 octets with M = 1, and a last one with M = 0, which alone has D; no octets
     /// are one empty packet. Q is on all of them (X.25 4.3.3 to 4.3.6). At most 1,024 octets, with Q 128.
     ///
@@ -28,6 +29,9 @@ impl Host {
         ensures answer { MatchResult result
             (λ _. say_refusal self.old.layer channel octets.now qualified ≡ None)
             (λ fault. say_refusal self.old.layer channel octets.now qualified ≡ Some (refusal_of fault)) }
+
+        // No packet of an accepted message is refused by the send queue.
+        ensures taken { OnOk result (AllTaken channel (cut octets.now qualified delivery) self.old) }
         ensures host { self.new ≡ after_say self.old channel octets.now qualified delivery }
     {
         self.end.may_send(channel)?;

@@ -1,7 +1,11 @@
-use Rattle.std.proofs.Common.{◌≡◌}
-use Rattle.packet_end.specs.Timing.{brought_one, brought_channels, restart_timer}
+use Rattle.std.proofs.Common.{◌≡◌, ◌≤◌}
+use Rattle.link_timers.specs.declared.timers.TimerId.{TimerId}
+use Rattle.link_timers.specs.declared.timers.TimerId.TheVariants.{T10, T20}
+use Rattle.packet_end.specs.Timing.{brought_one, brought_channels, RunsAsWanted, IsPacketTimer, channel_number}
 use Rattle.packet_end.proofs.timing.bring_into_line.Given as goal
 
 abbrev pub invariant-loop-place : goal.invariant-loop-place
-invariant-loop-place l =
-    l.timers ≡ brought_channels l.role l.layer l.place (brought_one l.layer (restart_timer l.role) l.fn.timers)
+invariant-loop-place l = record {
+  places : l.timers ≡ brought_channels l.layer l.place (brought_one l.layer T20 (brought_one l.layer T10 l.fn.timers));
+  agree : (id : TimerId) → IsPacketTimer id → channel_number id ≤ l.place → RunsAsWanted l.layer l.timers id;
+}

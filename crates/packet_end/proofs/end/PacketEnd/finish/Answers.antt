@@ -1,14 +1,14 @@
-use Rattle.std.proofs.Common.{◌≡◌, ◌∙◌, ap}
-use Rattle.packet_end.specs.PacketEnd.{PacketEnd, settled, all_offered, relinked_if_due, finished, KeepsNothingBack}
+use Rattle.std.proofs.Common.{◌∙◌, ap}
+use Rattle.packet_end.specs.PacketEnd.{PacketEnd, settled, all_offered, finished}
 use Rattle.packet_end.proofs.Offering.{settled_keeps_nothing}
 use Rattle.packet_end.proofs.end.PacketEnd.finish.Goals as goal
 
 pub returns-clause-end : goal.returns-clause-end
 unfolding finished
 returns-clause-end c =
-    c.settle.ensures
+    c.settle.ensures.end
     ∙ ap (λ (e : PacketEnd). settled e) (c.offer_packets.ensures.end ∙ ap (λ (e : PacketEnd). all_offered e) c.relink_if_due.ensures)
 
 pub returns-clause-nothing_kept_back : goal.returns-clause-nothing_kept_back
 returns-clause-nothing_kept_back c =
-    rw c.settle.ensures (settled_keeps_nothing c.offer_packets.new.self c.offer_packets.ensures.nothing_kept_back)
+    rw c.settle.ensures.end (settled_keeps_nothing c.offer_packets.new.self c.offer_packets.ensures.nothing_kept_back)

@@ -1,11 +1,11 @@
-use Rattle.std.proofs.Common.{rules, [], ◌≡◌, ◌∙◌, ◌+◌, ◌-◌, ◌≤◌, refl, ap, sym, arith, inl, inr, length}
+use Rattle.std.proofs.Common.{rules, [], ◌≡◌, ◌∙◌, ◌+◌, ◌-◌, ap, sym, arith, inl}
 use Rattle.std.specs.Prelude.{is_some, true, false}
 use Rattle.line_end.specs.End as line
-use Rattle.lapb.specs.Machine.{Octets, Link, can_offer}
+use Rattle.lapb.specs.Machine.{can_offer}
 use Rattle.packet_layer.specs.Layer.{Layer, next_packet}
 use Rattle.packet_layer.specs.Events.{written_packet}
 use Rattle.packet_end.specs.EndView.{end_of}
-use Rattle.packet_end.specs.PacketEnd.{PacketEnd, offered, all_offered, with_next, KeepsNothingBack}
+use Rattle.packet_end.specs.PacketEnd.{offered, all_offered, with_next}
 use Rattle.packet_end.proofs.Offering.{next_none, written_same, no_room, no_packet, one_offered, takes_none, longer, silent_keeps_nothing}
 use Rattle.packet_end.proofs.end.PacketEnd.offer_packets.Goals as goal
 use Rattle.packet_end.proofs.end.PacketEnd.offer_packets.Goals.{then-not-has_room-via-then-not-has_room, then-not-has_room-via-else-not-has_room+then-not-next_packet}

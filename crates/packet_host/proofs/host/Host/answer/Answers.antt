@@ -1,4 +1,4 @@
-use Rattle.std.proofs.Common.{◌≡◌, ◌∙◌, ap, true, false}
+use Rattle.std.proofs.Common.{◌∙◌, ap}
 use Rattle.packet_layer.specs.Channel.{Request}
 use Rattle.packet_end.specs.PacketEnd.{PacketEnd}
 use Rattle.packet_host.specs.Host.{after_request}

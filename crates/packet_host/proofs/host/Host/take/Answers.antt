@@ -1,6 +1,4 @@
-use Rattle.std.proofs.Common.{◌≡◌, ◌∙◌, ap, sym}
-use Rattle.std.specs.Prelude.{Option, Some, None}
-use Rattle.packet_layer.specs.Layer.{front_on}
+use Rattle.std.proofs.Common.{◌∙◌, ap, sym}
 use Rattle.packet_end.specs.PacketEnd.{PacketEnd}
 use Rattle.packet_host.specs.Host.{after_take}
 use Rattle.packet_host.proofs.Refused.{took_nothing}

@@ -1,4 +1,4 @@
-use Rattle.std.proofs.Common.{◌≡◌, ◌∙◌, ◌+◌, ◌-◌, ap, true, false, List, ℕ, take, drop, arith, length-drop}
+use Rattle.std.proofs.Common.{◌∙◌, ◌+◌, ◌-◌, ap, true, false, List, ℕ, take, arith, length-drop}
 use Rattle.packet_layer.specs.Channel.{Request}
 use Rattle.packet_end.specs.PacketEnd.{PacketEnd, asked}
 use Rattle.packet_host.specs.Saying.{cut_after, queued}
