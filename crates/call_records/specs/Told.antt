@@ -1,5 +1,5 @@
 -- A line and its book, side by side: whatever happens at an end's packet layer is written into the book.
-use Rattle.std.specs.Prelude.{ℕ, ◌≤◌, Bool, true, false, cond, List, [], ◌∷◌, Option, Some, None}
+use Rattle.std.specs.Prelude.{◌≡◌, ℕ, ◌≤◌, Bool, true, false, cond, List, [], ◌∷◌, Option, Some, None}
 use Rattle.link_timers.specs.declared.role.Role.{Role}
 use Rattle.link_timers.specs.declared.role.Role.TheVariants.{Dte, Dce}
 use Rattle.pad_editing.specs.Edited.{Step}
@@ -99,11 +99,12 @@ after_all [] v = v
 after_all (m ∷ ms) v = after_all ms (after_move m v)
 
 -- ---- what the links promise of sessions: they come in rising order, and a packet that arrives in a session comes from an end
--- that was up in none later
+-- that was up in none later; and no end of a line without a switch names itself in a call
 
 abbrev pub InOrder : Event → Option ℕ → (top other_top : ℕ) → Type 0
 InOrder (Up s) session top other_top = top ≤ s
 InOrder Arrives (Some s) top other_top = other_top ≤ s
+InOrder (Calls parts) session top other_top = parts.calling ≡ []
 InOrder _ session top other_top = Unit {0}
 
 abbrev pub IsAllowed : Move → World → Type 0
