@@ -1,0 +1,10 @@
+mod Basics
+mod Scenes
+mod Carrying
+mod Ending
+mod Adding
+mod Cancelling
+mod Answering
+mod Concluding
+mod Calling
+mod Writing
