@@ -21,7 +21,7 @@ use Rattle.call_records.proofs.Adding.{Adds, Begins, added_right, placed_more}
 use Rattle.call_records.proofs.Concluding.{kind_cases}
 
 some_is : (o : Option CallParts) (parts : CallParts) → o ≡ Some parts → IsSome o
-some_is o parts e = subst (λ (p : Option CallParts). IsSome p) (sym e) tt
+some_is o parts e = subst (λ (p : Option CallParts). IsSome p) (sym e) refl
 
 -- a new record has one empty epoch each way
 none_sent : (g : ℕ) → nth_sent (nothing_sent ∷ []) g ≡ nothing_passed
@@ -141,7 +141,7 @@ module _ (x : Role) (s c : ℕ) (parts : CallParts) (faces faces' : Role → Fac
     last = last;
   }
 
-  present : Present (faces' x) (tags ++ placed_tag ∷ []) x c (slots x c)
+  abbrev present : Present (faces' x) (tags ++ placed_tag ∷ []) x c (slots x c)
   present = record {
     session = s;
     number = length b.records;
@@ -264,11 +264,11 @@ module _ (x : Role) (s c : ℕ) (parts : CallParts) (faces faces' : Role → Fac
   abbrev come_tag : Tag
   come_tag = record { role = x; spot = now (faces x) s c; kind = Callee mate.number; own = address_of parts.called; far = address_of parts.calling }
 
-  now_is : now (faces' x) s c ≡ now (faces x) s c
-  now_is = spot_same s c ((faces x).stories s c) ((faces' x).stories s c) (q.here.restart s c) (q.here.uses s c)
+  come_now_is : now (faces' x) s c ≡ now (faces x) s c
+  come_now_is = spot_same s c ((faces x).stories s c) ((faces' x).stories s c) (q.here.restart s c) (q.here.uses s c)
 
-  there_is : slice_get (tags ++ come_tag ∷ []) (length b.records) ≡ Some come_tag
-  there_is = ap (λ (n : ℕ). slice_get (tags ++ come_tag ∷ []) n) (sym w.count) ∙ get_last tags come_tag
+  come_there_is : slice_get (tags ++ come_tag ∷ []) (length b.records) ≡ Some come_tag
+  come_there_is = ap (λ (n : ℕ). slice_get (tags ++ come_tag ∷ []) n) (sym w.count) ∙ get_last tags come_tag
 
   callee : IsCallee (faces' x) b.pairs (tags ++ come_tag ∷ []) (length b.records) mate.number come_tag
   callee = record {
@@ -284,28 +284,28 @@ module _ (x : Role) (s c : ℕ) (parts : CallParts) (faces faces' : Role → Fac
     paired = λ v. absurd (true≢false (sym v ∙ q.here.answered K ∙ q.new.not_answered));
   }
 
-  means : Means (faces' x) (faces' (other_of x)) b.pairs (tags ++ come_tag ∷ []) (length b.records) come_tag
-  means = record {
+  come_means : Means (faces' x) (faces' (other_of x)) b.pairs (tags ++ come_tag ∷ []) (length b.records) come_tag
+  come_means = record {
     caller = λ e. absurd (caller_not_callee mate.number (sym e));
     callee = λ a e. subst (λ (n : ℕ). IsCallee (faces' x) b.pairs (tags ++ come_tag ∷ []) (length b.records) n come_tag) (callee_number mate.number a e) callee;
     cancelled = λ e. absurd (callee_not_cancelled mate.number e);
   }
 
-  present : Present (faces' x) (tags ++ come_tag ∷ []) x c (slots x c)
-  present = record {
+  abbrev come_present : Present (faces' x) (tags ++ come_tag ∷ []) x c (slots x c)
+  come_present = record {
     session = s;
     number = length b.records;
     tag = come_tag;
     up = q.here.session ∙ q.here.up;
     is_present = ap (λ (z : Slot). z.present) q.slot;
-    there = there_is;
+    there = come_there_is;
     role = refl;
-    spot = sym now_is;
+    spot = sym come_now_is;
     live = callee_not_cancelled mate.number;
   }
 
-  begins : Begins x s c faces faces' b slots tags come_tag (new_record (length b.records) (b.nodes x) (address_of parts.called) (address_of parts.calling))
-  begins = record {
+  come_begins : Begins x s c faces faces' b slots tags come_tag (new_record (length b.records) (b.nodes x) (address_of parts.called) (address_of parts.calling))
+  come_begins = record {
     there = q.there;
     here = q.here;
     slots_else = q.slots_else;
@@ -314,12 +314,12 @@ module _ (x : Role) (s c : ℕ) (parts : CallParts) (faces faces' : Role → Fac
     spot = refl;
     live = callee_not_cancelled mate.number;
     stands = new_stands (faces x) (faces' x) s c (b.nodes x) (length b.records) (slots x) (address_of parts.called) (address_of parts.calling) Caller q.here q.new come_tag refl (ap (λ (z : Slot). z.present) q.slot);
-    means = means;
+    means = come_means;
     fits = new_fits (faces x) (faces' x) s c (b.nodes x) (length b.records) (slots x) (address_of parts.called) (address_of parts.calling) Caller q.here q.new come_tag refl refl refl (callee_not_cancelled mate.number);
-    slot = subst (λ (m : Mood). SlotIs m (faces' x) (tags ++ come_tag ∷ []) x c (slots x c)) (sym q.mood) (present, mate.number, refl, ap (λ (z : Slot). z.caller) q.slot ∙ mate.is_placed);
+    slot = subst (λ (m : Mood). SlotIs m (faces' x) (tags ++ come_tag ∷ []) x c (slots x c)) (sym q.mood) (come_present, mate.number, refl, ap (λ (z : Slot). z.caller) q.slot ∙ mate.is_placed);
     placed = subst (λ (o : Option ℕ). PlacedIs o (faces' x) (tags ++ come_tag ∷ []) x c) (sym (ap (λ (z : Slot). z.placed) q.slot))
       (placed_same (b.slots x c).placed (faces x) (faces' x) (tags ++ come_tag ∷ []) x c (let h = q.here.top in omega arith) (λ k e. q.called k) (placed_more (b.slots x c).placed (faces x) tags (come_tag ∷ []) x c (w.placed x c)));
   }
 
   pub coming_right : (tags' : List Tag) × IsRight faces' (record b { slots = slots; records = b.records ++ new_record (length b.records) (b.nodes x) (address_of parts.called) (address_of parts.calling) ∷ [] }) tags'
-  coming_right = (tags ++ come_tag ∷ [], added_right x s c faces faces' b slots tags come_tag (new_record (length b.records) (b.nodes x) (address_of parts.called) (address_of parts.calling)) w begins)
+  coming_right = (tags ++ come_tag ∷ [], added_right x s c faces faces' b slots tags come_tag (new_record (length b.records) (b.nodes x) (address_of parts.called) (address_of parts.calling)) w come_begins)

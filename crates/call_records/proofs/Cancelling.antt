@@ -24,13 +24,13 @@ kind_number Caller = 0
 kind_number (Callee a) = 1
 kind_number Cancelled = 2
 
-zero_one : 0 ≡ 1 → ⊥
+zero_one : ◌≡◌ {A = ℕ} 0 1 → ⊥
 zero_one h = omega arith
 
-zero_two : 0 ≡ 2 → ⊥
+zero_two : ◌≡◌ {A = ℕ} 0 2 → ⊥
 zero_two h = omega arith
 
-one_two : 1 ≡ 2 → ⊥
+one_two : ◌≡◌ {A = ℕ} 1 2 → ⊥
 one_two h = omega arith
 
 pub caller_not_callee : (a : ℕ) → Caller ≡ Callee a → ⊥
@@ -43,7 +43,7 @@ pub callee_not_cancelled : (a : ℕ) → Callee a ≡ Cancelled → ⊥
 callee_not_cancelled a e = one_two (ap kind_number e)
 
 pub none_is_not_some : (o : Option CallParts) → o ≡ None → IsSome o → ⊥
-none_is_not_some o e h = subst (λ (p : Option CallParts). IsSome p) e h
+none_is_not_some o e h = true≢false (sym (subst (λ (p : Option CallParts). IsSome p) e h))
 
 -- ---- the present call of x on channel c is cancelled: nothing but its record's meaning and its place changes
 

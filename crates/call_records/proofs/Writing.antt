@@ -226,14 +226,18 @@ closes_one x d b =
 pub closed_here : (x : Role) (d : ℕ) (b : Book) → (slot_at x d (closes x d b)).present ≡ None
 closed_here x d b = (closed_slot x d b).0
 
+closes_by : (x : Role) (k : ℕ) (reason : Reason) (v : Bool) (notes : List Note) (b : Book) → ((u : Book) → Closes x u (all_told x notes u)) → Closes x b (all_told x (cond v (Closed k 9 0 reason ∷ notes) notes) b)
+closes_by x k reason true notes b h = closes_trans x b (closes x k b) (all_told x notes (closes x k b)) (closes_one x k b) (h (closes x k b))
+closes_by x k reason false notes b h = h b
+
+told_by : (x : Role) (k : ℕ) (reason : Reason) (v : Bool) (notes : List Note) (n : ℕ) (b : Book) → ((u : Book) → (slot_at x n (all_told x notes u)).present ≡ None) → (slot_at x n (all_told x (cond v (Closed k 9 0 reason ∷ notes) notes) b)).present ≡ None
+told_by x k reason true notes n b h = h (closes x k b)
+told_by x k reason false notes n b h = h b
+
 -- all calls of the channels from k on close
 pub closes_all : (x : Role) (k : ℕ) (reason : Reason) (chs : List Channel) (b : Book) → Closes x b (all_told x (closing_notes k reason chs) b)
 closes_all x k reason [] b = closes_none x b
-closes_all x k reason (ch ∷ chs) b = by_call (had_call ch.state)
-  where
-    by_call : (v : Bool) → Closes x b (all_told x (cond v (Closed k 9 0 reason ∷ closing_notes (suc k) reason chs) (closing_notes (suc k) reason chs)) b)
-    by_call true = closes_trans x b (closes x k b) (all_told x (closing_notes (suc k) reason chs) (closes x k b)) (closes_one x k b) (closes_all x (suc k) reason chs (closes x k b))
-    by_call false = closes_all x (suc k) reason chs b
+closes_all x k reason (ch ∷ chs) b = closes_by x k reason (had_call ch.state) (closing_notes (suc k) reason chs) b (λ v. closes_all x (suc k) reason chs v)
 
 pub closed_all : (x : Role) (k : ℕ) (reason : Reason) (chs : List Channel) (b : Book) (i : ℕ) (ch : Channel) → slice_get chs i ≡ Some ch → had_call ch.state ≡ true → (slot_at x (k + i) (all_told x (closing_notes k reason chs) b)).present ≡ None
 closed_all x k reason [] b i ch e h = absurd (none-some ch e)
@@ -243,10 +247,7 @@ closed_all x k reason (c ∷ chs) b zero ch e h =
     subst (λ (n : ℕ). (slot_at x n (all_told x (cond (had_call c.state) (Closed k 9 0 reason ∷ closing_notes (suc k) reason chs) (closing_notes (suc k) reason chs)) b)).present ≡ None) (sym number)
     (subst (λ (v : Bool). (slot_at x k (all_told x (cond v (Closed k 9 0 reason ∷ closing_notes (suc k) reason chs) (closing_notes (suc k) reason chs)) b)).present ≡ None) (sym is)
     (none_stays (slot_at x k (closes x k b)) (slot_at x k (all_told x (closing_notes (suc k) reason chs) (closes x k b))) ((closes_all x (suc k) reason chs (closes x k b)).present k) (closed_here x k b)))
-closed_all x k reason (c ∷ chs) b (suc i) ch e h = by_call (had_call c.state)
-  where
-    number : suc k + i ≡ k + suc i
-    number = omega arith
-    by_call : (v : Bool) → (slot_at x (k + suc i) (all_told x (cond v (Closed k 9 0 reason ∷ closing_notes (suc k) reason chs) (closing_notes (suc k) reason chs)) b)).present ≡ None
-    by_call true = subst (λ (n : ℕ). (slot_at x n (all_told x (closing_notes (suc k) reason chs) (closes x k b))).present ≡ None) number (closed_all x (suc k) reason chs (closes x k b) i ch e h)
-    by_call false = subst (λ (n : ℕ). (slot_at x n (all_told x (closing_notes (suc k) reason chs) b)).present ≡ None) number (closed_all x (suc k) reason chs b i ch e h)
+closed_all x k reason (c ∷ chs) b (suc i) ch e h =
+    let number : suc k + i ≡ k + suc i = omega arith in
+    told_by x k reason (had_call c.state) (closing_notes (suc k) reason chs) (k + suc i) b
+    (λ u. subst (λ (n : ℕ). (slot_at x n (all_told x (closing_notes (suc k) reason chs) u)).present ≡ None) number (closed_all x (suc k) reason chs u i ch e h))
