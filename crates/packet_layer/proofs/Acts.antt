@@ -9,14 +9,14 @@ use Rattle.packet_layer.specs.Channel.{Channel, Step, Request, Refusal, requeste
 use Rattle.packet_layer.specs.Channel.CallState.{Transfer, OwnClear}
 use Rattle.packet_layer.specs.Channel.Request.{Accept, Clearing, Resetting, Sending, Interrupting, Stopping, Taking, Releasing, Confirming}
 use Rattle.packet_layer.specs.Layer.{placing}
-use Rattle.packet_layer.specs.History.{Epoch, Story, requested_story, grown, grown_unless, opened, logged, next_use_of, next_epoch_of, placed}
+use Rattle.packet_layer.specs.History.{Epoch, Story, requested_story, grown, grown_unless, opened, logged, next_use_of, next_epoch_of, placed, with_call, with_answer, call_accepted}
 use Rattle.packet_layer.proofs.Handshake.{Did, said, at, advanced, SaysPayload}
 use Rattle.packet_layer.proofs.Stack.{at_next}
 use Rattle.packet_layer.proofs.SetUp.{Stage, places, accepts_call}
 use Rattle.packet_layer.proofs.SetUp.Stage.{Free, Placed, Waiting, Collided, Open}
 use Rattle.packet_layer.proofs.OneEpoch.{Inner, begun_epoch, inner_after, inner_says, Askable}
 use Rattle.packet_layer.proofs.Nest.{restart_kind, Epochs, CallUse, Whole, first_epoch, first_call, GoodWhole, in_use, in_the_call, in_the_epoch, asked_inner, begins_reset, begins_clear, in_uses, traffic_is, traffic_restart, whole_places, whole_accepts, whole_asked, whole_says, whole_resets, whole_clears}
-use Rattle.packet_layer.proofs.Face.{face, shown, Settled, StoryTie, Laters, kept_story, grown_story, next_epoch_tie, same_in_use, grows_in_use, through_whole, through_epochs, look, marked, logged_marked, placed_story, places_in_use}
+use Rattle.packet_layer.proofs.Face.{face, shown, Settled, StoryTie, Laters, kept_story, grown_story, next_epoch_tie, same_in_use, grows_in_use, through_whole, through_epochs, mark, look, marked, logged_marked, use_story, marks_in_use}
 use Rattle.packet_layer.proofs.Agreement.{in_state}
 
 pub record Act (window : ℕ) (role : Role) (n : Whole) (owed : List Body) (ch : Channel) (o : Option Body) (f : Story → Story) : Type 0 where
@@ -26,6 +26,7 @@ pub record Act (window : ℕ) (role : Role) (n : Whole) (owed : List Body) (ch :
   pub plain : SaysPayload restart_kind did.says
   pub own_is : did.end_.own ≡ n.own
   pub settled : Settled did.end_
+  pub past_is : did.end_.past ≡ n.past
   pub story : (st : Story) → StoryTie n st → StoryTie did.end_ (f st)
   pub keeps : (y : Whole) (p b : List Body) → GoodWhole window role (record { me = n; you = y; out = p; back = b }) → GoodWhole window role (record { me = did.end_; you = y; out = said did.says p; back = b })
   pub idle : n.own ≡ true → (did.end_ ≡ n) × (did.says ≡ None)
@@ -38,6 +39,7 @@ unchanged window role n owed s = record {
   plain = tt;
   own_is = refl;
   settled = s;
+  past_is = refl;
   story = λ st t. t;
   keeps = λ y p b g. g;
   idle = λ e. (refl, refl);
@@ -74,6 +76,7 @@ clear_act window role s rs n owed cause diagnostic l = record {
   plain = refl;
   own_is = refl;
   settled = refl;
+  past_is = refl;
   story = λ st t. clear_story s rs n cause diagnostic l st t;
   keeps = λ y p b g. whole_clears window role cause diagnostic (record { me = in_state false s rs n; you = y; out = p; back = b }) refl g;
   idle = λ e. never_own e;
@@ -88,6 +91,7 @@ with_story window role n owed ch o f h g a = record {
   plain = a.plain;
   own_is = a.own_is;
   settled = a.settled;
+  past_is = a.past_is;
   story = λ st t. g a.did.end_ st (a.story st t);
   keeps = a.keeps;
   idle = a.idle;
@@ -103,7 +107,7 @@ request_clears window role s rs n owed cause diagnostic l =
 
 -- a call accepted: nothing was done in it before
 accept_waiting : (window : ℕ) (role : Role) (rs : Bool) (n : Whole) (owed : List Body) → Laters (in_state false Waiting rs n)
-    → Act window role (in_state false Waiting rs n) owed (entered Transfer (shown (face (in_state false Waiting rs n)) owed)) (Some Accepted) (λ st. grown (λ e. e) st)
+    → Act window role (in_state false Waiting rs n) owed (entered Transfer (shown (face (in_state false Waiting rs n)) owed)) (Some Accepted) (λ st. call_accepted st)
 accept_waiting window role rs n owed l = record {
   did = in_use (accepts_call first_epoch (in_state false Waiting rs n).now.now) (in_state false Waiting rs n);
   channel_is = refl;
@@ -111,14 +115,16 @@ accept_waiting window role rs n owed l = record {
   plain = refl;
   own_is = refl;
   settled = tt;
-  story = λ st t. same_story _ st (kept_story (in_state false Waiting rs n) _ st refl refl (sym (ap (λ (v : Epochs). v.number) l.idle))
-      (λ r u g. same_in_use (in_state false Waiting rs n) (record (in_state false Waiting rs n).now.now { stage = Open false; call = first_epoch }) false _ _ (λ g. ap (λ (v : Epochs). marked n.now.now.placed (at v g).epoch) (sym l.idle)) r u g) t);
+  past_is = refl;
+  story = λ st t. use_story (λ e. with_answer e) (in_state false Waiting rs n) _ st refl refl (sym (ap (λ (v : Epochs). v.number) l.idle))
+      (λ r u g. marks_in_use (λ e. with_answer e) (in_state false Waiting rs n) (accepts_call first_epoch (in_state false Waiting rs n).now.now).end_ _ _
+      (λ g. ap (λ (v : Epochs). marked (record { called = n.now.now.placed; answered = true }) (at v g).epoch) (sym l.idle)) r u g) t;
   keeps = λ y p b g. whole_accepts window role (record { me = in_state false Waiting rs n; you = y; out = p; back = b }) tt g;
   idle = λ e. never_own e;
 }
 
 accept_collided : (window : ℕ) (rs : Bool) (n : Whole) (owed : List Body) → Laters (in_state false Collided rs n)
-    → Act window Dce (in_state false Collided rs n) owed (entered Transfer (shown (face (in_state false Collided rs n)) owed)) (Some Accepted) (λ st. grown (λ e. e) st)
+    → Act window Dce (in_state false Collided rs n) owed (entered Transfer (shown (face (in_state false Collided rs n)) owed)) (Some Accepted) (λ st. call_accepted st)
 accept_collided window rs n owed l = record {
   did = in_use (accepts_call first_epoch (in_state false Collided rs n).now.now) (in_state false Collided rs n);
   channel_is = refl;
@@ -126,8 +132,10 @@ accept_collided window rs n owed l = record {
   plain = refl;
   own_is = refl;
   settled = tt;
-  story = λ st t. same_story _ st (kept_story (in_state false Collided rs n) _ st refl refl (sym (ap (λ (v : Epochs). v.number) l.idle))
-      (λ r u g. same_in_use (in_state false Collided rs n) (record (in_state false Collided rs n).now.now { stage = Open false; call = first_epoch }) false _ _ (λ g. ap (λ (v : Epochs). marked n.now.now.placed (at v g).epoch) (sym l.idle)) r u g) t);
+  past_is = refl;
+  story = λ st t. use_story (λ e. with_answer e) (in_state false Collided rs n) _ st refl refl (sym (ap (λ (v : Epochs). v.number) l.idle))
+      (λ r u g. marks_in_use (λ e. with_answer e) (in_state false Collided rs n) (accepts_call first_epoch (in_state false Collided rs n).now.now).end_ _ _
+      (λ g. ap (λ (v : Epochs). marked (record { called = n.now.now.placed; answered = true }) (at v g).epoch) (sym l.idle)) r u g) t;
   keeps = λ y p b g. whole_accepts window Dce (record { me = in_state false Collided rs n; you = y; out = p; back = b }) tt g;
   idle = λ e. never_own e;
 }
@@ -144,8 +152,9 @@ reset_act window role m n owed cause diagnostic l =
       plain = refl;
       own_is = refl;
       settled = tt;
+      past_is = refl;
       story = λ st t. next_epoch_tie N _ (grown (λ e. e) st) refl refl refl
-          (λ r u g. same_in_use N (record N.now.now { call = advanced begun_epoch true N.now.now.call }) false _ _ (λ g. ap (λ (i : Inner). marked n.now.now.placed i.epoch) (at_next Inner begun_epoch true N.now.now.call g l.later_epochs)) r u g) (same_story N st t);
+          (λ r u g. same_in_use N (record N.now.now { call = advanced begun_epoch true N.now.now.call }) false _ _ (λ g. ap (λ (i : Inner). marked (mark N.now.now) i.epoch) (at_next Inner begun_epoch true N.now.now.call g l.later_epochs)) r u g) (same_story N st t);
       keeps = λ y p b g. whole_resets window role m cause diagnostic (record { me = N; you = y; out = p; back = b }) refl refl g;
       idle = λ e. never_own e;
     }
@@ -163,6 +172,7 @@ inner_act window role m rs n owed r ch same a =
       plain = tt;
       own_is = refl;
       settled = tt;
+      past_is = refl;
       story = λ st t. grown_story (λ e. logged N.now.now.call.now.traffic r e) N _ st refl refl refl
           (λ x u g. grows_in_use (λ e. logged N.now.now.call.now.traffic r e) N (inner_after r N.now.now.call.now) false rs _ _ _ _ (λ q v. logged_marked N.now.now.call.now.traffic r q v) refl x u g) t;
       keeps = λ y p b g. whole_asked window role m r (record { me = N; you = y; out = p; back = b }) refl a g;
@@ -236,7 +246,8 @@ place_act window role rs n owed parts = record {
   plain = refl;
   own_is = refl;
   settled = tt;
-  story = λ st t. placed_story parts (in_state false Free rs n) _ st refl refl refl (λ r u g. places_in_use parts (in_state false Free rs n) (places parts (in_state false Free rs n).now.now).end_ _ _ (λ g. refl) r u g) t;
+  past_is = refl;
+  story = λ st t. use_story (λ e. with_call parts e) (in_state false Free rs n) _ st refl refl refl (λ r u g. marks_in_use (λ e. with_call parts e) (in_state false Free rs n) (places parts (in_state false Free rs n).now.now).end_ _ _ (λ g. refl) r u g) t;
   keeps = λ y p b g. whole_places window role parts (record { me = in_state false Free rs n; you = y; out = p; back = b }) refl g;
   idle = λ e. never_own e;
 }
@@ -255,7 +266,8 @@ says_act window role m n owed =
       plain = traffic_restart _ (traffic_is window i.traffic);
       own_is = refl;
       settled = tt;
-      story = λ st t. kept_story N _ st refl refl refl (λ r u g. same_in_use N _ false _ _ (λ g. ap (λ (e : Epoch). marked n.now.now.placed e) (through_epochs (g == N.now.now.call.number) i (inner_says window i).end_ (N.now.now.call.past g) refl)) r u g) t;
+      past_is = refl;
+      story = λ st t. kept_story N _ st refl refl refl (λ r u g. same_in_use N _ false _ _ (λ g. ap (λ (e : Epoch). marked (mark N.now.now) e) (through_epochs (g == N.now.now.call.number) i (inner_says window i).end_ (N.now.now.call.past g) refl)) r u g) t;
       keeps = λ y p b g. whole_says window role m (record { me = N; you = y; out = p; back = b }) refl g;
       idle = λ e. never_own e;
     }

@@ -1,5 +1,5 @@
 -- The layer's step on a packet that arrives in r1 is that of the channel's handshakes, and so is the story.
-use Rattle.std.proofs.Common.{◌≡◌, ℕ, ◌+◌, Bool, true, false, ◌==◌, List, Option, None, refl, sym, ap, subst, ◌∙◌, arith}
+use Rattle.std.proofs.Common.{◌≡◌, ℕ, ◌+◌, Bool, true, false, not, ◌==◌, List, Option, None, refl, sym, ap, subst, ◌∙◌, arith}
 use Rattle.link_timers.specs.declared.role.Role.{Role}
 use Rattle.link_timers.specs.declared.role.Role.TheVariants.{Dte, Dce}
 use Rattle.packet_layer.specs.Packets.{Body}
@@ -129,7 +129,7 @@ received_at role window c false Placed rs n owed Accepted plain l e ok = record 
   ready = refl;
   settled = tt;
   story = λ st t. kept_story (in_state false Placed rs n) _ st refl refl (sym (ap (λ (v : Epochs). v.number) l.idle))
-      (λ r u g. same_in_use (in_state false Placed rs n) (record (in_state false Placed rs n).now.now { stage = Open true; call = first_epoch }) false _ _ (λ g. ap (λ (v : Epochs). marked n.now.now.placed (at v g).epoch) (sym l.idle)) r u g) t;
+      (λ r u g. same_in_use (in_state false Placed rs n) (record (in_state false Placed rs n).now.now { stage = Open true; call = first_epoch }) false _ _ (λ g. ap (λ (v : Epochs). marked (record { called = n.now.now.placed; answered = false }) (at v g).epoch) (sym l.idle)) r u g) t;
 }
 received_at role window c false Placed rs n owed (Clear x y) plain l e ok = record {
   channel_is = refl;
@@ -164,7 +164,7 @@ received_at Dte window c false Collided rs n owed Accepted plain l e ok = record
   ready = refl;
   settled = tt;
   story = λ st t. kept_story (in_state false Collided rs n) _ st refl refl (sym (ap (λ (v : Epochs). v.number) l.idle))
-      (λ r u g. same_in_use (in_state false Collided rs n) (record (in_state false Collided rs n).now.now { stage = Open true; call = first_epoch }) false _ _ (λ g. ap (λ (v : Epochs). marked n.now.now.placed (at v g).epoch) (sym l.idle)) r u g) t;
+      (λ r u g. same_in_use (in_state false Collided rs n) (record (in_state false Collided rs n).now.now { stage = Open true; call = first_epoch }) false _ _ (λ g. ap (λ (v : Epochs). marked (record { called = n.now.now.placed; answered = false }) (at v g).epoch) (sym l.idle)) r u g) t;
 }
 received_at Dce window c false Collided rs n owed Accepted plain l e ok = absurd ok
 received_at Dte window c false Collided rs n owed (Clear x y) plain l e ok = record {
@@ -243,7 +243,7 @@ received_at role window c false (Open m) false n owed (Reset x y) plain l e ok =
   settled = tt;
   story = λ st t. next_epoch_tie (in_state false (Open m) false n) _ st refl refl refl
       (λ r u g. same_in_use (in_state false (Open m) false n) (record (in_state false (Open m) false n).now.now { call = advanced begun_epoch false (in_state false (Open m) false n).now.now.call }) false _ _
-      (λ g. ap (λ (i : Inner). marked n.now.now.placed i.epoch) (at_next Inner begun_epoch false (in_state false (Open m) false n).now.now.call g l.later_epochs)) r u g) t;
+      (λ g. ap (λ (i : Inner). marked (record { called = n.now.now.placed; answered = not m }) i.epoch) (at_next Inner begun_epoch false (in_state false (Open m) false n).now.now.call g l.later_epochs)) r u g) t;
 }
 received_at role window c false (Open m) false n owed (Restart x y) plain l e ok = absurd (not_payload plain)
 received_at role window c false (Open m) false n owed RestartConfirmation plain l e ok = absurd (not_payload' plain)

@@ -18,7 +18,7 @@ use Rattle.packet_layer.proofs.Handshake.Kind.{Payload, Request, Confirmation}
 use Rattle.packet_layer.proofs.Stack.{same}
 use Rattle.packet_layer.proofs.Saying.{by_cond}
 use Rattle.packet_layer.proofs.Nest.{restart_kind, Uses, Whole, first_use, GoodWhole, whole_hears, whole_ok, uses_hear, uses_say, uses_ok, whole_heard, whole_learns}
-use Rattle.packet_layer.proofs.Face.{face, face_whole, phase_of, shown, Settled, SettledWhole, StoryTie, Laters, laters, restart_story_tie}
+use Rattle.packet_layer.proofs.Face.{face, face_whole, phase_of, shown, Settled, SettledWhole, Frozen, frozen_same, frozen_next, StoryTie, Laters, laters, restart_story_tie}
 use Rattle.packet_layer.proofs.Agreement.{Ties, received_at}
 use Rattle.packet_layer.proofs.Lines.{on_c, Well, WellOf, AllWell, AllRestart, IsRestart, Present, EndTie, Tied, nth_same, nth_other, nth_map, set_if_false, owed_said, said_append, owed_payload, owed_restart, session_other}
 use Rattle.packet_layer.proofs.Moves.{SameLine, found_same, map_length, not_now}
@@ -29,6 +29,7 @@ pub record Arrival (window : ℕ) (role : Role) (x y : Whole) (link b : List Bod
   pub rest : List Body
   pub good : GoodWhole window role (record { me = next; you = y; out = link ++ rest; back = b })
   pub settled : Settled next
+  pub frozen : Frozen x → Frozen next
   pub story : (st : Story) → StoryTie x st → StoryTie next (f st)
   pub present : Present l c next rest
 
@@ -60,6 +61,7 @@ confirms_restart window role x y link b ts rest l c t r e g s p =
       rest = rest;
       good = confirm_good window role x y (link ++ rest) ts t r e g;
       settled = settled_first x.now first;
+      frozen = λ f. f;
       story = λ st q. record { restart_is = q.restart_is; use_is = q.use_is; epoch_is = q.epoch_is; epochs_are = q.epochs_are };
       present = record {
         phase_is = refl;
@@ -79,13 +81,14 @@ learn_out window role x y link ts rest owed owed_c a d plain ready e g =
     (subst (λ (o : List Body). GoodWhole window role (record { me = x; you = y; out = o; back = Restart a d ∷ ts })) (ap (λ (q : List Body). link ++ q) e ∙ sym (append_assoc link owed owed_c)) g))
 
 learns_at : (window : ℕ) (role : Role) (x y : Whole) (link ts rest : List Body) (l : Layer) (c : ℕ) (a d : ℕ) (relink : Bool) → l.relink ≡ relink → x.own ≡ false
-    → GoodWhole window role (record { me = x; you = y; out = link ++ rest; back = Restart a d ∷ ts }) → Present l c x rest
+    → GoodWhole window role (record { me = x; you = y; out = link ++ rest; back = Restart a d ∷ ts }) → Settled x → Present l c x rest
     → Arrival window role x y link ts (owes_restart (Some RestartConfirmation) (record (all_closed Reason.FarRestart (unread l)) { served_last = 0 })) c (λ st. next_restart_of st)
-learns_at window role x y link ts rest l c a d false rl ready g p = record {
+learns_at window role x y link ts rest l c a d false rl ready g s p = record {
   next = advanced first_use false x;
   rest = l.owed ++ RestartConfirmation ∷ [];
   good = learn_out window role x y link ts rest l.owed p.owed a d p.plain ready (p.rest_is rl) g;
   settled = tt;
+  frozen = λ f. frozen_next false x s f;
   story = λ st t. restart_story_tie false x st (laters window role x y (link ++ rest) (Restart a d ∷ ts) g) t;
   present = record {
     phase_is = p.phase_is ∙ ap (λ (v : Bool). phase_of v) ready;
@@ -96,11 +99,12 @@ learns_at window role x y link ts rest l c a d false rl ready g p = record {
     rest_is = λ h. sym (owed_said l.owed (Some RestartConfirmation) (set_if_false _ l.relink h).0) ∙ sym (append-nil _);
   };
 }
-learns_at window role x y link ts rest l c a d true rl ready g p = record {
+learns_at window role x y link ts rest l c a d true rl ready g s p = record {
   next = advanced first_use false x;
   rest = rest ++ RestartConfirmation ∷ [];
   good = learn_out window role x y link ts rest rest [] a d tt ready (sym (append-nil rest)) g;
   settled = tt;
+  frozen = λ f. frozen_next false x s f;
   story = λ st t. restart_story_tie false x st (laters window role x y (link ++ rest) (Restart a d ∷ ts) g) t;
   present = record {
     phase_is = p.phase_is ∙ ap (λ (v : Bool). phase_of v) ready;
@@ -122,7 +126,7 @@ restart_arrives : (window : ℕ) (role : Role) (x y : Whole) (link ts rest : Lis
 restart_arrives window role x y link ts rest l c (Restart a d) true r e g s p = confirms_restart window role x y link [] ts rest l c (Restart a d) tt e g s p
 restart_arrives window role x y link ts rest l c RestartConfirmation true r e g s p = confirms_restart window role x y link [] ts rest l c RestartConfirmation tt e g s p
 restart_arrives window role x y link ts rest l c (Restart a d) false r e g s p =
-    learns_at window role x y link ts rest l c a d l.relink refl e g p
+    learns_at window role x y link ts rest l c a d l.relink refl e g s p
 restart_arrives window role x y link ts rest l c RestartConfirmation false r e g s p = absurd (confirmation_unexpected window role x y (link ++ rest) ts e g)
 restart_arrives window role x y link ts rest l c _ own r e g s p = absurd r
 
@@ -152,6 +156,13 @@ ties_of window role x y o ts c owed t k e s g =
     (subst (λ (v : Bool). SettledWhole v x.now) e s)
     (subst (λ (n : Whole). whole_ok window role n t) path (whole_heard window role (record { me = x; you = y; out = o; back = [] }) t ts g).0))
 
+-- no earlier restart is touched
+past_heard : (window : ℕ) (role : Role) (k : Kind) (own : Bool) (x : Whole) (t : Body) → k ≡ Payload → (side_hears RestartConfirmation first_use (λ s b. uses_hear window role s b) k own x t).end_.past ≡ x.past
+past_heard window role Payload true x t e = refl
+past_heard window role Payload false x t e = refl
+past_heard window role Request own x t e = absurd cc
+past_heard window role Confirmation own x t e = absurd cc
+
 channel_arrives : (window : ℕ) (role : Role) (x y : Whole) (link ts rest : List Body) (l : Layer) (c : ℕ) (t : Body) (own : Bool) → l.role ≡ role → l.window ≡ window → restart_kind t ≡ Payload → x.own ≡ own
     → GoodWhole window role (record { me = x; you = y; out = link ++ rest; back = t ∷ ts }) → Settled x → Present l c x rest
     → Arrival window role x y link ts (on_channel (phase_of own) (unread l) c (λ ch. received role window c ch t)) c (λ st. channel_story (phase_of own) (channel_of l c) (λ ch z. received_story role window c ch t z) st)
@@ -160,6 +171,7 @@ channel_arrives window role x y link ts rest l c t true ro wi k e g s p = record
   rest = rest;
   good = discard_good window role x y (link ++ rest) ts t k e g;
   settled = s;
+  frozen = λ f. f;
   story = λ st q. q;
   present = record { phase_is = p.phase_is; owed = p.owed; channel_is = p.channel_is; plain = p.plain; restarts = p.restarts; rest_is = p.rest_is };
 }
@@ -180,6 +192,7 @@ channel_arrives window role x y link ts rest l c t false ro wi k e g s p =
       rest = said says rest;
       good = subst (λ (o : List Body). GoodWhole window role (record { me = x'; you = y; out = o; back = ts })) (said_append link rest says) good';
       settled = ties.settled;
+      frozen = λ f. frozen_same x x' (past_heard window role (restart_kind t) x.own x t k) f;
       story = ties.story;
       present = record {
         phase_is = p.phase_is ∙ ap (λ (v : Bool). phase_of v) (e ∙ sym ties.ready);
@@ -216,6 +229,7 @@ other_arrival window role x y link bs rest l c p l' F ne k g s pr = record {
   rest = rest;
   good = g;
   settled = s;
+  frozen = λ f. f;
   story = λ st t. subst (λ (v : Bool). StoryTie x (cond v (F st) st)) (sym (ne_eqb c p.channel ne)) t;
   present = record {
     phase_is = k.0 ∙ pr.phase_is;
@@ -320,6 +334,7 @@ arrives_now w s c p ses got t =
         within = m.within;
         story = subst (λ (v : Bool). StoryTie r.next (cond v (packet_story l p c (w.me.stories s c)) (w.me.stories s c))) (sym (ap (λ (o : Option ℕ). is_session o s) ses ∙ same s)) (r.story (w.me.stories s c) m.story);
         settled = r.settled;
+        frozen = r.frozen m.frozen;
         present = λ h. r.present;
         still = λ lt h. absurd (suc_zero a (sym acc ∙ h));
       };
@@ -333,6 +348,7 @@ arrives_now w s c p ses got t =
         within = let h = slice_get_within (w.you.offered s) a p got in omega arith;
         story = t.yours.story;
         settled = t.yours.settled;
+        frozen = t.yours.frozen;
         present = t.yours.present;
         still = t.yours.still;
       });

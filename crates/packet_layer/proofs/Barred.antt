@@ -14,7 +14,7 @@ use Rattle.packet_layer.proofs.SetUp.Stage.{Free, Placed, Waiting, Collided, Ope
 use Rattle.packet_layer.proofs.SetUp.Sort.{Calling, Accepting, Flowing}
 use Rattle.packet_layer.proofs.OneEpoch.{one, Inner, begun_epoch, Epochs_agree}
 use Rattle.packet_layer.proofs.Nest.{restart_kind, clear_kind, reset_kind, Epochs, CallUse, Uses, Whole, first_epoch, first_call, first_use, GoodCall, GoodUses, GoodWhole, whole_ok, whole_heard}
-use Rattle.packet_layer.proofs.Face.{face, Settled, SettledUses, SettledWhole}
+use Rattle.packet_layer.proofs.Face.{face, Settled, SettledUses, settled_uses}
 use Rattle.packet_layer.proofs.Agreement.{in_state}
 use Rattle.packet_layer.proofs.Counting.{counted, shakes, shakes_append, on_the_way, inside}
 use Rattle.packet_layer.proofs.Desk.{is_accepted, has_accepted, resets, Comes, Fits, ended_none, one_small}
@@ -185,10 +185,6 @@ no_reset_owed window role x y m keep owed b g ready st s k flow one_more f =
     no_reset_by window role x.now y.now m x.now.call.own y.now.stage u.0 owed b u.1 flow one_more refl f refl (call_pair window role x.now y.now m (u.0 ++ owed) b u.1 st flow)
 
 -- ---- the packet may come
-
-settled_uses : (v : Bool) (s : Uses) → SettledWhole v s → SettledUses s.own s.now
-settled_uses true s e = subst (λ (q : Uses). SettledUses q.own q.now) (sym e) tt
-settled_uses false s e = e
 
 abbrev Any : CallState → Bool → List Body → Type 0
 Any s rs o = Unit {0}

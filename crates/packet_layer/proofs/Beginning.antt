@@ -1,17 +1,18 @@
 -- A line as it is made, standing or not, is tied to handshakes at their beginning.
-use Rattle.std.proofs.Common.{◌≡◌, ℕ, zero, suc, ◌<◌, ◌≤◌, Bool, true, false, cond, ◌==◌, [], ◌∷◌, replicate, slice_get, Some, None, refl, sym, ap, ◌∙◌, arith}
+use Rattle.std.proofs.Common.{◌≡◌, ℕ, zero, suc, ◌<◌, ◌≤◌, Bool, true, false, cond, ◌&&◌, ◌==◌, [], ◌∷◌, replicate, slice_get, Option, Some, None, refl, sym, ap, subst, ◌∙◌, arith}
 use Rattle.link_timers.specs.declared.role.Role.{Role}
 use Rattle.link_timers.specs.declared.role.Role.TheVariants.{Dte, Dce}
+use Rattle.packet_layer.specs.Packets.{CallParts}
 use Rattle.packet_layer.specs.Packets.Body.{Restart}
 use Rattle.packet_layer.specs.Channel.{closed_channel}
 use Rattle.packet_layer.specs.Layer.{nth_channel, made, standing_channels}
-use Rattle.packet_layer.specs.History.{empty_epoch, new_story}
-use Rattle.packet_layer.specs.Line.{start_end, start_line}
+use Rattle.packet_layer.specs.History.{Story, empty_epoch, new_story, in_whole_use}
+use Rattle.packet_layer.specs.Line.{start_end, start_line, start_story, no_parts}
 use Rattle.packet_layer.proofs.Handshake.{Two, at, started}
 use Rattle.packet_layer.proofs.SetUp.Stage.{Open}
 use Rattle.packet_layer.proofs.OneEpoch.{Inner, begun_epoch, Epochs_agree}
-use Rattle.packet_layer.proofs.Nest.{CallUse, Uses, Whole, first_epoch, first_call, first_use, begun_whole, GoodEpochs, GoodCall, GoodUses, GoodWhole}
-use Rattle.packet_layer.proofs.Face.{face, shown, epoch_in, StoryTie, look, marked}
+use Rattle.packet_layer.proofs.Nest.{Epochs, CallUse, Uses, Whole, first_epoch, first_call, first_use, begun_whole, GoodEpochs, GoodCall, GoodUses, GoodWhole}
+use Rattle.packet_layer.proofs.Face.{face, shown, epoch_in, StoryTie, mark, look, marked}
 use Rattle.packet_layer.proofs.Lines.{There, EndTie, Tied}
 
 -- ---- at the beginning the ends of each level agree
@@ -48,14 +49,18 @@ call_first window small = record {
 }
 
 free_first : (window : ℕ) (role : Role) → window ≤ 7 → GoodCall window role (record { me = first_call; you = first_call; out = []; back = [] })
-free_first window role small = record { fore = tt; aft = tt; idle_me = refl; idle_you = refl; calls_me = tt; calls_you = tt; free_me = refl; free_you = refl; call = call_first window small }
+free_first window role small = record { fore = tt; aft = tt; idle_me = refl; idle_you = refl; calls_me = tt; calls_you = tt; placed_me = refl; placed_you = refl; call = call_first window small }
 
 -- a standing call was placed by the DTE
-abbrev standing_call : Bool → CallUse
-standing_call mine = record { stage = Open mine; call = first_epoch; placed = None }
+abbrev standing_placed : Bool → Option CallParts
+standing_placed true = Some no_parts
+standing_placed false = None
 
-open_first : (window : ℕ) (role : Role) → window ≤ 7 → GoodCall window role (record { me = standing_call true; you = standing_call false; out = []; back = [] })
-open_first window role small = record { fore = refl; aft = refl; idle_me = tt; idle_you = tt; calls_me = tt; calls_you = tt; free_me = tt; free_you = tt; call = call_first window small }
+abbrev standing_call : Bool → CallUse
+standing_call mine = record { stage = Open mine; call = first_epoch; placed = standing_placed mine }
+
+open_first : (window : ℕ) → window ≤ 7 → GoodCall window Dte (record { me = standing_call true; you = standing_call false; out = []; back = [] })
+open_first window small = record { fore = refl; aft = refl; idle_me = tt; idle_you = tt; calls_me = tt; calls_you = tt; placed_me = refl; placed_you = tt; call = call_first window small }
 
 abbrev uses_with : CallUse → Uses
 uses_with u = record first_use { now = u }
@@ -121,44 +126,58 @@ there_at role channels window false c lo hi = (closed_channel, closed_at channel
 
 -- ---- the ties
 
-call_at : (mine : Bool) (c : ℕ) → use_at mine c ≡ record (use_at mine c) { call = first_epoch; placed = None }
-call_at mine zero = refl
-call_at mine (suc zero) = refl
-call_at mine (suc (suc i)) = refl
-
-pick_is : {X : Type 0} → (b : Bool) (x : X) → cond b x x ≡ x
+pub pick_is : {X : Type 0} → (b : Bool) (x : X) → cond b x x ≡ x
 pick_is true x = refl
 pick_is false x = refl
 
 begun_epochs : (r u g : ℕ) → empty_epoch ≡ epoch_in begun_whole r u g
 begun_epochs r u g =
-    sym (ap (λ (s : Uses). look (at s u) g) (pick_is (r == 0) first_use) ∙ ap (λ (s : CallUse). look s g) (pick_is (u == 0) first_call) ∙ ap (λ (i : Inner). marked None i.epoch) (pick_is (g == 0) begun_epoch))
+    sym (ap (λ (s : Uses). look (at s u) g) (pick_is (r == 0) first_use) ∙ ap (λ (s : CallUse). look s g) (pick_is (u == 0) first_call) ∙ ap (λ (i : Inner). marked (mark first_call) i.epoch) (pick_is (g == 0) begun_epoch))
 
-call_epochs : (v : CallUse) (g : ℕ) → v ≡ record v { call = first_epoch; placed = None } → look v g ≡ empty_epoch
-call_epochs v g e = ap (λ (z : CallUse). look z g) e ∙ ap (λ (i : Inner). marked None i.epoch) (pick_is (g == 0) begun_epoch)
+pub call_epochs : (v : CallUse) (g : ℕ) → v.call ≡ first_epoch → look v g ≡ marked (mark v) empty_epoch
+call_epochs v g e = ap (λ (z : Epochs). marked (mark v) (at z g).epoch) e ∙ ap (λ (i : Inner). marked (mark v) i.epoch) (pick_is (g == 0) begun_epoch)
 
-use_epochs_at : (b : Bool) (v : CallUse) (g : ℕ) → v ≡ record v { call = first_epoch; placed = None } → look (cond b v first_call) g ≡ empty_epoch
-use_epochs_at true v g e = call_epochs v g e
-use_epochs_at false v g e = call_epochs first_call g refl
+use_epochs_at : (b : Bool) (v : CallUse) (g : ℕ) → v.call ≡ first_epoch → cond b (marked (mark v) empty_epoch) empty_epoch ≡ look (cond b v first_call) g
+use_epochs_at true v g e = sym (call_epochs v g e)
+use_epochs_at false v g e = sym (call_epochs first_call g refl)
 
-standing_epochs_at : (b : Bool) (v : CallUse) (u g : ℕ) → v ≡ record v { call = first_epoch; placed = None } → look (at (cond b (uses_with v) first_use) u) g ≡ empty_epoch
+standing_epochs_at : (b : Bool) (v : CallUse) (u g : ℕ) → v.call ≡ first_epoch → cond (b && (u == 0)) (marked (mark v) empty_epoch) empty_epoch ≡ look (at (cond b (uses_with v) first_use) u) g
 standing_epochs_at true v u g e = use_epochs_at (u == 0) v g e
-standing_epochs_at false v u g e = use_epochs_at (u == 0) first_call g refl
+standing_epochs_at false v u g e = sym (ap (λ (s : CallUse). look s g) (pick_is (u == 0) first_call) ∙ call_epochs first_call g refl)
 
 begun_story : StoryTie begun_whole new_story
 begun_story = record { restart_is = refl; use_is = refl; epoch_is = refl; epochs_are = begun_epochs }
 
-standing_story : (v : CallUse) → v ≡ record v { call = first_epoch; placed = None } → StoryTie (standing_whole v) new_story
-standing_story v e = record {
+standing_tie : (v : CallUse) → v.call ≡ first_epoch → StoryTie (standing_whole v) (in_whole_use (λ e. marked (mark v) e) new_story)
+standing_tie v e = record {
   restart_is = refl;
   use_is = refl;
-  epoch_is = sym (ap (λ (z : CallUse). z.call.number) e);
-  epochs_are = λ r u g. sym (standing_epochs_at (r == 0) v u g e);
+  epoch_is = sym (ap (λ (z : Epochs). z.number) e);
+  epochs_are = λ r u g. standing_epochs_at (r == 0) v u g e;
 }
 
-begun_end : (window : ℕ) (role : Role) (channels : ℕ) (standing : Bool) (s c cause : ℕ) → 1 ≤ c → c ≤ channels → ((start_end role channels window standing).session ≡ Some s → ⊥)
+free_tie : StoryTie (standing_whole first_call) new_story
+free_tie = let t = standing_tie first_call refl in record {
+  restart_is = refl;
+  use_is = refl;
+  epoch_is = refl;
+  epochs_are = λ r u g. sym (pick_is ((r == 0) && (u == 0)) empty_epoch) ∙ t.epochs_are r u g;
+}
+
+-- the DTE has placed the standing call, the DCE has accepted it
+abbrev standing_role : Bool → Role
+standing_role true = Dte
+standing_role false = Dce
+
+start_tie : (mine : Bool) (c : ℕ) → StoryTie (standing_whole (use_at mine c)) (start_story (standing_role mine) true 0 c)
+start_tie mine zero = free_tie
+start_tie true (suc zero) = standing_tie (standing_call true) refl
+start_tie false (suc zero) = standing_tie (standing_call false) refl
+start_tie mine (suc (suc i)) = free_tie
+
+begun_end : (window : ℕ) (role : Role) (channels : ℕ) (standing : Bool) (s c cause : ℕ) → 1 ≤ c → c ≤ channels → ((start_end role channels window standing).session ≡ Some s → ⊥) → start_story role standing s c ≡ new_story
     → EndTie window role (start_end role channels window standing) 0 s c begun_whole (Restart cause 0 ∷ [])
-begun_end window role channels standing s c cause lo hi never = record {
+begun_end window role channels standing s c cause lo hi never new = record {
   role_is = refl;
   window_is = refl;
   there = there_at role channels window standing c lo hi;
@@ -166,23 +185,25 @@ begun_end window role channels standing s c cause lo hi never = record {
   out_is = refl;
   well = tt;
   within = omega arith;
-  story = begun_story;
+  story = subst (λ (z : Story). StoryTie begun_whole z) (sym new) begun_story;
   settled = refl;
+  frozen = λ k. tt;
   present = λ h. absurd (never h);
   still = λ lt h. refl;
 }
 
-standing_end : (window : ℕ) (role : Role) (channels : ℕ) (mine : Bool) (c : ℕ) → 1 ≤ c → c ≤ channels → EndTie window role (start_end role channels window true) 0 0 c (standing_whole (use_at mine c)) []
-standing_end window role channels mine c lo hi = record {
+standing_end : (window channels : ℕ) (mine : Bool) (c : ℕ) → 1 ≤ c → c ≤ channels → EndTie window (standing_role mine) (start_end (standing_role mine) channels window true) 0 0 c (standing_whole (use_at mine c)) []
+standing_end window channels mine c lo hi = record {
   role_is = refl;
   window_is = refl;
-  there = there_at role channels window true c lo hi;
+  there = there_at (standing_role mine) channels window true c lo hi;
   rest = [];
   out_is = refl;
   well = tt;
   within = omega arith;
-  story = standing_story (use_at mine c) (call_at mine c);
+  story = start_tie mine c;
   settled = tt;
+  frozen = λ k. tt;
   present = λ h. record { phase_is = refl; owed = []; channel_is = standing_at mine channels c lo hi; plain = tt; restarts = tt; rest_is = λ r. refl };
   still = λ lt h. absurd (no_less lt);
 }
@@ -190,10 +211,10 @@ standing_end window role channels mine c lo hi = record {
     no_less : 0 < 0 → ⊥
     no_less lt = omega arith
 
-use_first : (window : ℕ) (role : Role) (c : ℕ) → window ≤ 7 → GoodCall window role (record { me = use_at true c; you = use_at false c; out = []; back = [] })
-use_first window role zero small = free_first window role small
-use_first window role (suc zero) small = open_first window role small
-use_first window role (suc (suc i)) small = free_first window role small
+use_first : (window c : ℕ) → window ≤ 7 → GoodCall window Dte (record { me = use_at true c; you = use_at false c; out = []; back = [] })
+use_first window zero small = free_first window Dte small
+use_first window (suc zero) small = open_first window small
+use_first window (suc (suc i)) small = free_first window Dte small
 
 never_none : (s : ℕ) → None ≡ Some s → ⊥
 never_none s e = cc
@@ -208,17 +229,17 @@ starts_tied channels window false s c small lo hi = record {
   o = Restart 0 0 ∷ [];
   b = Restart 7 0 ∷ [];
   good = restarts_first window Dte 0 7 small;
-  mine = begun_end window Dte channels false s c 0 lo hi (never_none s);
-  yours = begun_end window Dce channels false s c 7 lo hi (never_none s);
+  mine = begun_end window Dte channels false s c 0 lo hi (never_none s) refl;
+  yours = begun_end window Dce channels false s c 7 lo hi (never_none s) refl;
 }
 starts_tied channels window true zero c small lo hi = record {
   x = standing_whole (use_at true c);
   y = standing_whole (use_at false c);
   o = [];
   b = [];
-  good = standing_first window Dte (use_at true c) (use_at false c) small (use_first window Dte c small);
-  mine = standing_end window Dte channels true c lo hi;
-  yours = standing_end window Dce channels false c lo hi;
+  good = standing_first window Dte (use_at true c) (use_at false c) small (use_first window c small);
+  mine = standing_end window channels true c lo hi;
+  yours = standing_end window channels false c lo hi;
 }
 starts_tied channels window true (suc s) c small lo hi = record {
   x = begun_whole;
@@ -226,6 +247,6 @@ starts_tied channels window true (suc s) c small lo hi = record {
   o = Restart 0 0 ∷ [];
   b = Restart 7 0 ∷ [];
   good = restarts_first window Dte 0 7 small;
-  mine = begun_end window Dte channels true (suc s) c 0 lo hi (never_zero s);
-  yours = begun_end window Dce channels true (suc s) c 7 lo hi (never_zero s);
+  mine = begun_end window Dte channels true (suc s) c 0 lo hi (never_zero s) refl;
+  yours = begun_end window Dce channels true (suc s) c 7 lo hi (never_zero s) refl;
 }

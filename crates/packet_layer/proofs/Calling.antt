@@ -1,5 +1,5 @@
 -- A Call that makes an Incoming Call is the one that the other end placed in the same restart and use.
-use Rattle.std.proofs.Common.{◌≡◌, ℕ, suc, ◌<◌, ◌≤◌, Bool, true, false, cond, ◌||◌, ◌==◌, List, ◌∷◌, ◌++◌, drop, slice_get, Some, None, refl, sym, ap, subst, ◌∙◌, arith, true≢false, inl, inr}
+use Rattle.std.proofs.Common.{◌≡◌, ℕ, suc, ◌<◌, ◌≤◌, Bool, true, false, cond, ◌||◌, ◌==◌, List, ◌∷◌, ◌++◌, drop, slice_get, Some, None, refl, sym, ap, subst, ◌∙◌, arith, inl, inr}
 use Rattle.std.proofs.lemmas.Bool.{eq-eqb, ne_eqb, cases_eq}
 use Rattle.link_timers.specs.declared.role.Role.{Role}
 use Rattle.packet_layer.specs.Packets.{CallParts, Body, Packet}
@@ -13,7 +13,7 @@ use Rattle.packet_layer.proofs.Handshake.Kind.{Payload}
 use Rattle.packet_layer.proofs.Walks.{walk_reach, walk_above}
 use Rattle.packet_layer.proofs.Stack.{same, drop_get}
 use Rattle.packet_layer.proofs.Nest.{restart_kind, clear_kind, CallUse, Uses, Whole, first_call, first_use, GoodCall, GoodUses, GoodWhole}
-use Rattle.packet_layer.proofs.Face.{face, face_whole, shown, Settled, SettledWhole, SettledUses}
+use Rattle.packet_layer.proofs.Face.{face, face_whole, shown, Settled, SettledWhole, SettledUses, settled_uses, Frozen}
 use Rattle.packet_layer.proofs.Lines.{on_c, Tied}
 use Rattle.packet_layer.proofs.Arriving.{drop_packet, cond_append}
 use Rattle.packet_layer.proofs.Outcomes.{some_same, ready_phase}
@@ -57,15 +57,16 @@ first_placed : (v : Bool) → (cond v first_call first_call).placed ≡ None
 first_placed true = refl
 first_placed false = refl
 
-at_here : (y : Whole) (k : ℕ) → k ≡ y.number → at y k ≡ y.now
-at_here y k e = ap (λ (v : Bool). cond v y.now (y.past k)) (eq-eqb k y.number e)
-
 unsettled : (y : Whole) → Settled y → y.own ≡ true → y.now ≡ first_use
 unsettled y s e = subst (λ (v : Bool). SettledWhole v y.now) e s
 
-unsettled_at : (own : Bool) (s : Uses) → SettledWhole own s → s.own ≡ true → s.now ≡ first_call
-unsettled_at true s e h = absurd (true≢false (sym h ∙ ap (λ (u : Uses). u.own) e))
-unsettled_at false s e h = subst (λ (v : Bool). SettledUses v s.now) h e
+-- in each restart, that before the present one too
+settled_pick : (b : Bool) (s p : Uses) → SettledUses s.own s.now → SettledUses p.own p.now → (cond b s p).own ≡ true → (cond b s p).now ≡ first_call
+settled_pick true s p e f h = subst (λ (v : Bool). SettledUses v s.now) h e
+settled_pick false s p e f h = subst (λ (v : Bool). SettledUses v p.now) h f
+
+settled_in : (y : Whole) (k : ℕ) → Settled y → Frozen y → (at y k).own ≡ true → (at y k).now ≡ first_call
+settled_in y k s f h = settled_pick (k == y.number) y.now (y.past k) (settled_uses y.own y.now s) (f k) h
 
 -- a channel in p1 or with its own call waiting, in r1, is in no clear
 takes_own : (own : Bool) (s : Uses) → TakesCall (face_whole false (record s { own = own })).state → own ≡ false
@@ -101,11 +102,8 @@ call_known window role w s c parts t a =
           ap (λ (e : Epoch). e.called) (tie.epochs_are r u g)
           ∙ ap (λ (v : Uses). (at v u).placed) (ahead restart_kind Uses first_use (λ u. GoodUses window role u) x y t.o t.b r (unsettled y t.yours.settled) (omega arith) t.good)
           ∙ first_placed (u == 0);
-      last_use = λ u g same_restart lt.
-          let now : at y x.number ≡ y.now = at_here y x.number (sym rs ∙ sym same_restart ∙ tie.restart_is) in
+      last_use = λ u g lt.
           ap (λ (e : Epoch). e.called) (tie.epochs_are st.restart u g)
           ∙ ap (λ (k : ℕ). (at (at y k) u).placed) rs
-          ∙ ap (λ (v : Uses). (at v u).placed) now
-          ∙ ap (λ (v : CallUse). v.placed) (ahead clear_kind CallUse first_call (λ u. GoodCall window role u) x.now y.now _ _ u (unsettled_at y.own y.now t.yours.settled) (omega arith)
-          (subst (λ (v : Uses). GoodUses window role (record { me = x.now; you = v; out = drop (y.came x.number) (x.put x.number); back = Call parts ∷ drop (suc (x.came x.number)) (y.put x.number) })) now uses));
+          ∙ ap (λ (v : CallUse). v.placed) (ahead clear_kind CallUse first_call (λ u. GoodCall window role u) x.now (at y x.number) _ _ u (settled_in y x.number t.yours.settled t.yours.frozen) (omega arith) uses);
     }

@@ -2,7 +2,7 @@
 use Rattle.std.proofs.Common.{◌≡◌, ℕ, suc, ◌+◌, ◌≤◌, Bool, true, false, cond, ◌||◌, ◌==◌, List, ◌∷◌, ◌++◌, drop, Option, Some, refl, sym, ap, subst, ◌∙◌, arith}
 use Rattle.std.proofs.lemmas.Bool.{eq-eqb}
 use Rattle.link_timers.specs.declared.role.Role.{Role}
-use Rattle.packet_layer.specs.Packets.{Body, Packet, CallParts}
+use Rattle.packet_layer.specs.Packets.{Body, Packet}
 use Rattle.packet_layer.specs.Packets.Body.{RestartConfirmation}
 use Rattle.packet_layer.specs.Channel.{Channel, received}
 use Rattle.packet_layer.specs.Layer.{Phase, Layer, channel_of}
@@ -15,15 +15,17 @@ use Rattle.packet_layer.proofs.Stack.{same}
 use Rattle.packet_layer.proofs.OneEpoch.{Inner, datas, interrupts, Way}
 use Rattle.packet_layer.proofs.Pipes.{acks_le}
 use Rattle.packet_layer.proofs.Nest.{restart_kind, clear_kind, reset_kind, Epochs, CallUse, Uses, Whole, GoodEpochs, GoodCall, GoodUses, GoodWhole, whole_turned}
-use Rattle.packet_layer.proofs.Face.{face, phase_of, shown, epoch_in, StoryTie, marked}
+use Rattle.packet_layer.proofs.Face.{face, phase_of, shown, Mark, epoch_in, StoryTie, marked}
 use Rattle.packet_layer.proofs.Lines.{on_c, WellOf, Tied, EndTie}
 use Rattle.packet_layer.proofs.Arriving.{ties_of, drop_packet, well_get, cond_append, confirmation_unexpected}
 use Rattle.packet_layer.proofs.Resting.{tied_rests}
 use Rattle.packet_layer.proofs.Calling.{call_known}
+use Rattle.packet_layer.proofs.Using.{holds_at}
+use Rattle.packet_layer.proofs.Answering.{one_answers}
 use Rattle.link_timers.specs.declared.role.Role.TheVariants.{Dte, Dce}
 use Rattle.link_timers.specs.Role.{other_of}
 
-way_aligned : (window : ℕ) (x y : Inner) (p q : Option CallParts) (o b : List Body) → Way window x y o b → Aligned (marked p x.epoch) (marked q y.epoch)
+way_aligned : (window : ℕ) (x y : Inner) (p q : Mark) (o b : List Body) → Way window x y o b → Aligned (marked p x.epoch) (marked q y.epoch)
 way_aligned window x y p q o b w = record {
   packets = (y.traffic.arrived ++ (datas o ++ x.traffic.waiting), w.stream.items);
   interrupts = (listed y.traffic.interrupt_arrived ++ (interrupts o ++ listed x.traffic.interrupt_waiting), w.urgent.items);
@@ -118,6 +120,10 @@ tied_holds window role w s c t = record {
   at_rest = λ a b q. tied_rests window role w s c t a b q;
   call_here = λ parts a. call_known window role w s c parts t a;
   call_there = λ parts a. call_known window (other_of role) (turned w) s c parts (turned_tied window role w s c t) a;
+  here = holds_at window role w s c t;
+  there = holds_at window (other_of role) (turned w) s c (turned_tied window role w s c t);
+  answers_here = one_answers window role t.x t.y t.o t.b _ _ t.mine.story t.yours.story t.good;
+  answers_there = one_answers window (other_of role) t.y t.x t.b t.o _ _ t.yours.story t.mine.story (whole_turned window role _ t.good);
 }
 
 -- ---- no procedure error

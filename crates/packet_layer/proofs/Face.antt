@@ -8,10 +8,10 @@ use Rattle.packet_layer.specs.Channel.{CallState, Channel, Request}
 use Rattle.packet_layer.specs.Channel.CallState.{Ready, OwnWaiting, FarWaiting, Transfer, Collision, OwnClear}
 use Rattle.packet_layer.specs.Layer.{Phase}
 use Rattle.packet_layer.specs.Layer.Phase.{OwnRestart, PacketReady}
-use Rattle.packet_layer.specs.History.{Epoch, Story, is_now, grown, next_restart_of, next_use_of, next_epoch_of, placed, is_use, with_call, with_taken, logged, logged_heard}
+use Rattle.packet_layer.specs.History.{Epoch, Story, is_now, grown, next_restart_of, next_use_of, next_epoch_of, in_whole_use, is_use, with_taken, logged, logged_heard}
 use Rattle.packet_layer.proofs.Handshake.{at, inner, advanced}
 use Rattle.packet_layer.proofs.Stack.{same, at_next}
-use Rattle.packet_layer.proofs.SetUp.{Stage, Idle}
+use Rattle.packet_layer.proofs.SetUp.{Stage, Idle, answers}
 use Rattle.packet_layer.proofs.SetUp.Stage.{Free, Placed, Waiting, Collided, Open}
 use Rattle.packet_layer.proofs.OneEpoch.{Inner, begun_epoch}
 use Rattle.packet_layer.proofs.Nest.{Epochs, CallUse, Uses, Whole, first_epoch, first_call, first_use, GoodCall, GoodUses, GoodWhole}
@@ -58,14 +58,39 @@ SettledWhole false s = SettledUses s.own s.now
 abbrev pub Settled : Whole → Type 0
 Settled n = SettledWhole n.own n.now
 
+pub settled_uses : (v : Bool) (s : Uses) → SettledWhole v s → SettledUses s.own s.now
+settled_uses true s e = subst (λ (q : Uses). SettledUses q.own q.now) (sym e) tt
+settled_uses false s e = e
+
+-- nor in an own clear that a restart ended
+abbrev pub Frozen : Whole → Type 0
+Frozen n = (k : ℕ) → SettledUses (n.past k).own (n.past k).now
+
+pub frozen_same : (n n' : Whole) → n'.past ≡ n.past → Frozen n → Frozen n'
+frozen_same n n' e f k = subst (λ (p : ℕ → Uses). SettledUses (p k).own (p k).now) (sym e) (f k)
+
+frozen_pick : (b : Bool) (x p : Uses) → SettledUses x.own x.now → SettledUses p.own p.now → SettledUses (cond b x p).own (cond b x p).now
+frozen_pick true x p h f = h
+frozen_pick false x p h f = f
+
+pub frozen_next : (own : Bool) (n : Whole) → Settled n → Frozen n → Frozen (advanced first_use own n)
+frozen_next own n s f k = frozen_pick (k == n.number) n.now (n.past k) (settled_uses n.own n.now s) (f k)
+
 -- ---- the story
 
--- an epoch of a use, with the call that was placed in it
-abbrev pub marked : Option CallParts → Epoch → Epoch
-marked p e = record e { called = p }
+-- an epoch of a use, with the call that was placed in it, and whether one was accepted
+pub record Mark : Type 0 where
+  pub called : Option CallParts
+  pub answered : Bool
+
+abbrev pub mark : CallUse → Mark
+mark v = record { called = v.placed; answered = answers v.stage }
+
+abbrev pub marked : Mark → Epoch → Epoch
+marked q e = record e { called = q.called; answered = q.answered }
 
 abbrev pub look : CallUse → ℕ → Epoch
-look v g = marked v.placed (at v.call g).epoch
+look v g = marked (mark v) (at v.call g).epoch
 
 abbrev pub epoch_in : Whole → ℕ → ℕ → ℕ → Epoch
 epoch_in n r u g = look (at (at n r) u) g
@@ -83,11 +108,11 @@ pub record Laters (n : Whole) : Type 0 where
   pub later_epochs : (j : ℕ) → n.now.now.call.number < j → n.now.now.call.past j ≡ begun_epoch
   pub idle : Idle first_epoch n.now.now.stage n.now.now.call
 
-uses_now : (window : ℕ) (role : Role) (x y : Whole) (o b : List Body) → GoodWhole window role (record { me = x; you = y; out = o; back = b })
+pub uses_now : (window : ℕ) (role : Role) (x y : Whole) (o b : List Body) → GoodWhole window role (record { me = x; you = y; out = o; back = b })
     → GoodUses window role (record { me = x.now; you = at y x.number; out = (inner x y x.number).out; back = (inner x y x.number).back })
 uses_now window role x y o b i = subst (λ (c : Bool). GoodUses window role (record { me = cond c x.now (x.past x.number); you = at y x.number; out = (inner x y x.number).out; back = (inner x y x.number).back })) (same x.number) (i.inners x.number)
 
-call_now : (window : ℕ) (role : Role) (x y : Uses) (o b : List Body) → GoodUses window role (record { me = x; you = y; out = o; back = b })
+pub call_now : (window : ℕ) (role : Role) (x y : Uses) (o b : List Body) → GoodUses window role (record { me = x; you = y; out = o; back = b })
     → GoodCall window role (record { me = x.now; you = at y x.number; out = (inner x y x.number).out; back = (inner x y x.number).back })
 call_now window role x y o b i = subst (λ (c : Bool). GoodCall window role (record { me = cond c x.now (x.past x.number); you = at y x.number; out = (inner x y x.number).out; back = (inner x y x.number).back })) (same x.number) (i.inners x.number)
 
@@ -130,7 +155,7 @@ pub grow_uses : (f : Epoch → Epoch) (b rest : Bool) (y y' q : CallUse) (g : �
 grow_uses f true rest y y' q g h = h
 grow_uses f false rest y y' q g h = refl
 
-pub grow_epochs : (f : Epoch → Epoch) (q : Option CallParts) → ((e : Epoch) → f (marked q e) ≡ marked q (f e)) → (b : Bool) (i i' p : Inner) → i'.epoch ≡ f i.epoch
+pub grow_epochs : (f : Epoch → Epoch) (q : Mark) → ((e : Epoch) → f (marked q e) ≡ marked q (f e)) → (b : Bool) (i i' p : Inner) → i'.epoch ≡ f i.epoch
     → marked q (cond b i' p).epoch ≡ cond b (f (marked q (cond b i p).epoch)) (marked q (cond b i p).epoch)
 grow_epochs f q comm true i i' p h = ap (λ (e : Epoch). marked q e) h ∙ sym (comm i.epoch)
 grow_epochs f q comm false i i' p h = refl
@@ -191,7 +216,7 @@ same_in_use n y' own put came e r u g =
     through_whole (r == n.number) n.now (record n.now { own = own; now = y'; put = put; came = came }) (n.past r) u g (through_uses (u == n.now.number) n.now.now y' (n.now.past u) g (e g))
 
 -- the present epoch of the call grew
-pub grows_in_use : (f : Epoch → Epoch) (n : Whole) (i' : Inner) (own rs : Bool) (put put' : ℕ → List Body) (came came' : ℕ → ℕ) → ((q : Option CallParts) (e : Epoch) → f (marked q e) ≡ marked q (f e)) → i'.epoch ≡ f n.now.now.call.now.epoch → (r u g : ℕ)
+pub grows_in_use : (f : Epoch → Epoch) (n : Whole) (i' : Inner) (own rs : Bool) (put put' : ℕ → List Body) (came came' : ℕ → ℕ) → ((q : Mark) (e : Epoch) → f (marked q e) ≡ marked q (f e)) → i'.epoch ≡ f n.now.now.call.now.epoch → (r u g : ℕ)
     → look (at (cond (r == n.number) (record n.now { own = own; now = record n.now.now { call = record n.now.now.call { own = rs; now = i'; put = put'; came = came' } }; put = put; came = came }) (n.past r)) u) g
     ≡ cond ((r == n.number) && ((u == n.now.number) && (g == n.now.now.call.number))) (f (epoch_in n r u g)) (epoch_in n r u g)
 grows_in_use f n i' own rs put put' came came' comm e r u g =
@@ -200,50 +225,50 @@ grows_in_use f n i' own rs put put' came came' comm e r u g =
     let s' : Uses = record n.now { own = own; now = y'; put = put; came = came } in
     grow_whole f (r == n.number) ((u == n.now.number) && (g == n.now.now.call.number)) n.now s' (n.past r) u g
     (grow_uses f (u == n.now.number) (g == n.now.now.call.number) n.now.now y' (n.now.past u) g
-    (grow_epochs f n.now.now.placed (λ v. comm n.now.now.placed v) (g == n.now.now.call.number) n.now.now.call.now i' (n.now.now.call.past g) e))
+    (grow_epochs f (mark n.now.now) (λ v. comm (mark n.now.now) v) (g == n.now.now.call.number) n.now.now.call.now i' (n.now.now.call.past g) e))
 
--- a call was placed in the present use
+-- a call was placed in the present use, or accepted
 put_use : (f : Epoch → Epoch) (b : Bool) (y y' q : CallUse) (g : ℕ) → look y' g ≡ f (look y g) → look (cond b y' q) g ≡ cond b (f (look (cond b y q) g)) (look (cond b y q) g)
 put_use f true y y' q g h = h
 put_use f false y y' q g h = refl
 
-pub placed_story : (parts : CallParts) (n n' : Whole) (st : Story) → n'.number ≡ n.number → n'.now.number ≡ n.now.number → n'.now.now.call.number ≡ n.now.now.call.number
-    → ((r u g : ℕ) → epoch_in n' r u g ≡ cond ((r == n.number) && (u == n.now.number)) (with_call parts (epoch_in n r u g)) (epoch_in n r u g))
-    → StoryTie n st → StoryTie n' (placed parts st)
-placed_story parts n n' st a b c e t = record {
+pub use_story : (f : Epoch → Epoch) (n n' : Whole) (st : Story) → n'.number ≡ n.number → n'.now.number ≡ n.now.number → n'.now.now.call.number ≡ n.now.now.call.number
+    → ((r u g : ℕ) → epoch_in n' r u g ≡ cond ((r == n.number) && (u == n.now.number)) (f (epoch_in n r u g)) (epoch_in n r u g))
+    → StoryTie n st → StoryTie n' (in_whole_use f st)
+use_story f n n' st a b c e t = record {
   restart_is = t.restart_is ∙ sym a;
   use_is = t.use_is ∙ sym b;
   epoch_is = t.epoch_is ∙ sym c;
   epochs_are = λ r u g.
-      ap (λ (v : Epoch). cond (is_use st r u) (with_call parts v) v) (t.epochs_are r u g)
-      ∙ ap (λ (v : ℕ). cond ((r == v) && (u == st.use_)) (with_call parts (epoch_in n r u g)) (epoch_in n r u g)) t.restart_is
-      ∙ ap (λ (v : ℕ). cond ((r == n.number) && (u == v)) (with_call parts (epoch_in n r u g)) (epoch_in n r u g)) t.use_is
+      ap (λ (v : Epoch). cond (is_use st r u) (f v) v) (t.epochs_are r u g)
+      ∙ ap (λ (v : ℕ). cond ((r == v) && (u == st.use_)) (f (epoch_in n r u g)) (epoch_in n r u g)) t.restart_is
+      ∙ ap (λ (v : ℕ). cond ((r == n.number) && (u == v)) (f (epoch_in n r u g)) (epoch_in n r u g)) t.use_is
       ∙ sym (e r u g);
 }
 
-pub places_in_use : (parts : CallParts) (n : Whole) (y' : CallUse) (put : ℕ → List Body) (came : ℕ → ℕ) → ((g : ℕ) → look y' g ≡ with_call parts (look n.now.now g)) → (r u g : ℕ)
-    → look (at (cond (r == n.number) (record n.now { now = y'; put = put; came = came }) (n.past r)) u) g ≡ cond ((r == n.number) && (u == n.now.number)) (with_call parts (epoch_in n r u g)) (epoch_in n r u g)
-places_in_use parts n y' put came e r u g =
-    grow_whole (λ v. with_call parts v) (r == n.number) (u == n.now.number) n.now (record n.now { now = y'; put = put; came = came }) (n.past r) u g
-    (put_use (λ v. with_call parts v) (u == n.now.number) n.now.now y' (n.now.past u) g (e g))
+pub marks_in_use : (f : Epoch → Epoch) (n : Whole) (y' : CallUse) (put : ℕ → List Body) (came : ℕ → ℕ) → ((g : ℕ) → look y' g ≡ f (look n.now.now g)) → (r u g : ℕ)
+    → look (at (cond (r == n.number) (record n.now { now = y'; put = put; came = came }) (n.past r)) u) g ≡ cond ((r == n.number) && (u == n.now.number)) (f (epoch_in n r u g)) (epoch_in n r u g)
+marks_in_use f n y' put came e r u g =
+    grow_whole f (r == n.number) (u == n.now.number) n.now (record n.now { now = y'; put = put; came = came }) (n.past r) u g
+    (put_use f (u == n.now.number) n.now.now y' (n.now.past u) g (e g))
 
 -- what an epoch gains does not touch the call that was placed
-taken_marked : (q : Option CallParts) (t : Option Taken) (e : Epoch) → with_taken t (marked q e) ≡ marked q (with_taken t e)
+taken_marked : (q : Mark) (t : Option Taken) (e : Epoch) → with_taken t (marked q e) ≡ marked q (with_taken t e)
 taken_marked q None e = refl
 taken_marked q (Some (Taken.TakenInterrupt o)) e = refl
 taken_marked q (Some (Taken.TakenPacket d)) e = refl
 
-released_marked : (q : Option CallParts) (b : Bool) (n : ℕ) (e : Epoch) → cond b (record (marked q e) { released = e.released + n }) (marked q e) ≡ marked q (cond b (record e { released = e.released + n }) e)
+released_marked : (q : Mark) (b : Bool) (n : ℕ) (e : Epoch) → cond b (record (marked q e) { released = e.released + n }) (marked q e) ≡ marked q (cond b (record e { released = e.released + n }) e)
 released_marked q true n e = refl
 released_marked q false n e = refl
 
-pub logged_marked : (t : Traffic) (r : Request) (q : Option CallParts) (e : Epoch) → logged t r (marked q e) ≡ marked q (logged t r e)
+pub logged_marked : (t : Traffic) (r : Request) (q : Mark) (e : Epoch) → logged t r (marked q e) ≡ marked q (logged t r e)
 logged_marked t (Request.Sending d) q e = refl
 logged_marked t (Request.Interrupting o) q e = refl
 logged_marked t Request.Taking q e = taken_marked q (front t) e
 logged_marked t (Request.Releasing n) q e = released_marked q (may_release n t) n e
 logged_marked t _ q e = refl
 
-pub heard_marked : (h : Heard) (q : Option CallParts) (e : Epoch) → logged_heard h (marked q e) ≡ marked q (logged_heard h e)
+pub heard_marked : (h : Heard) (q : Mark) (e : Epoch) → logged_heard h (marked q e) ≡ marked q (logged_heard h e)
 heard_marked (Heard.Keeps n t) q e = refl
 heard_marked _ q e = refl

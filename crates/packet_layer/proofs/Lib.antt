@@ -22,6 +22,8 @@ pub mod Arriving
 pub mod Beginning
 pub mod Resting
 pub mod Calling
+pub mod Using
+pub mod Answering
 pub mod Consequences
 pub mod LineHolds
 pub mod Naming

@@ -12,7 +12,7 @@ use Rattle.packet_layer.specs.History.{Story}
 use Rattle.packet_layer.specs.Line.{End, Line}
 use Rattle.packet_layer.proofs.Handshake.{Two, Did, said, AllPayload, SaysPayload}
 use Rattle.packet_layer.proofs.Nest.{restart_kind, Whole, begun_whole, GoodWhole}
-use Rattle.packet_layer.proofs.Face.{face, phase_of, shown, Settled, StoryTie}
+use Rattle.packet_layer.proofs.Face.{face, phase_of, shown, Settled, Frozen, StoryTie}
 
 -- ---- the packets of a channel, restart packets among them
 
@@ -68,6 +68,7 @@ pub record EndTie (window : ℕ) (role : Role) (e : End) (a s c : ℕ) (n : Whol
   pub within : a ≤ length (e.offered s)
   pub story : StoryTie n (e.stories s c)
   pub settled : Settled n
+  pub frozen : Frozen n
   pub present : e.session ≡ Some s → Present e.layer c n rest
   pub still : 0 < s → e.accepted s ≡ 0 → n ≡ begun_whole
 
@@ -170,6 +171,7 @@ pub record Outcome (window : ℕ) (role : Role) (x y : Whole) (link b : List Bod
   pub rest : List Body
   pub good : GoodWhole window role (record { me = next; you = y; out = link ++ rest; back = b })
   pub settled : Settled next
+  pub frozen : Frozen x → Frozen next
   pub story : (st : Story) → StoryTie x st → StoryTie next (f st)
   pub present : Present l c next rest
   pub still : x ≡ begun_whole → next ≡ begun_whole
@@ -198,6 +200,7 @@ end_again window role e e' a s c n o role_same window_same there off st acc pres
   within = subst (λ (l : List Packet). a ≤ length l) (sym off) t.within;
   story = subst (λ (z : Story). StoryTie n z) (sym st) t.story;
   settled = t.settled;
+  frozen = t.frozen;
   present = present t.rest t.present;
   still = λ lt h. t.still lt (sym acc ∙ h);
 }

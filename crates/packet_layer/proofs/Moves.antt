@@ -65,6 +65,7 @@ is_now_case window role w e' s c f here now ro wi th went comes t =
         within = subst (λ (l : List Packet). w.you.accepted s ≤ length l) (sym went.1) m.within;
         story = subst (λ (z : Story). StoryTie r.next z) (sym (went.3 ∙ ap (λ (v : Bool). cond v (f (w.me.stories s c)) (w.me.stories s c)) here)) (r.story (w.me.stories s c) m.story);
         settled = r.settled;
+        frozen = r.frozen m.frozen;
         present = λ h. r.present;
         still = λ lt h. r.still (m.still lt (sym went.2 ∙ h));
       };
@@ -172,6 +173,7 @@ begun_tie window role e a s c n o none fresh t =
       within = subst (λ (l : List Packet). a ≤ length l) (sym off) (omega arith);
       story = subst (λ (m : Whole). StoryTie m (e.stories s c)) fresh t.story;
       settled = refl;
+      frozen = λ k. tt;
       present = λ h. record { phase_is = refl; owed = []; channel_is = nth_map e.layer.channels c t.there.0 closed_channel t.there.1; plain = tt; restarts = (tt, tt); rest_is = λ r. refl };
       still = λ lt h. refl;
     }

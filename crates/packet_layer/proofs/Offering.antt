@@ -17,7 +17,7 @@ use Rattle.packet_layer.proofs.SetUp.{Stage}
 use Rattle.packet_layer.proofs.SetUp.Stage.{Open}
 use Rattle.packet_layer.proofs.Saying.{by_cond}
 use Rattle.packet_layer.proofs.Nest.{restart_kind, Whole, begun_whole, GoodWhole}
-use Rattle.packet_layer.proofs.Face.{face, shown, Settled, StoryTie}
+use Rattle.packet_layer.proofs.Face.{face, shown, Settled, Frozen, frozen_same, StoryTie}
 use Rattle.packet_layer.proofs.Acts.{Act, in_any, says_act}
 use Rattle.packet_layer.proofs.Lines.{belongs, on_c, Well, WellOf, AllWell, AllRestart, Present, Tied, nth_there, nth_same, nth_other, session_other, end_again}
 use Rattle.packet_layer.proofs.Moves.{SameLine, nth_length}
@@ -110,9 +110,9 @@ handed_other k s (Some p) off e = ap (λ (v : Bool). cond v (off s ++ p ∷ []) 
 pushed : (window : ℕ) (role : Role) (w : Line) (s c : ℕ) (t : Tied window role w s c) (l' : Layer) (p : Packet) (x' : Whole) (rest' : List Body)
     → l'.role ≡ w.me.layer.role → l'.window ≡ w.me.layer.window → Well c p
     → GoodWhole window role (record { me = x'; you = t.y; out = (on_c c (drop (w.you.accepted s) (w.me.offered s)) ++ on_c c (p ∷ [])) ++ rest'; back = t.b })
-    → Settled x' → StoryTie x' (w.me.stories s c) → (0 < s → w.me.accepted s ≡ 0 → x' ≡ begun_whole) → Present l' c x' rest'
+    → Settled x' → Frozen x' → StoryTie x' (w.me.stories s c) → (0 < s → w.me.accepted s ≡ 0 → x' ≡ begun_whole) → Present l' c x' rest'
     → Tied window role (Becomes w s (record { layer = l'; packet = Some p })) s c
-pushed window role w s c t l' p x' rest' ro wi well good settled story still present =
+pushed window role w s c t l' p x' rest' ro wi well good settled frozen story still present =
     let m = t.mine in
     let off : cond (s == s) (w.me.offered s ++ p ∷ []) (w.me.offered s) ≡ w.me.offered s ++ p ∷ [] = ap (λ (v : Bool). cond v (w.me.offered s ++ p ∷ []) (w.me.offered s)) (same s) in
     record {
@@ -131,6 +131,7 @@ pushed window role w s c t l' p x' rest' ro wi well good settled story still pre
         within = subst (λ (l : List Packet). w.you.accepted s ≤ length l) (sym off) (within_push (w.you.accepted s) (w.me.offered s) p m.within);
         story = story;
         settled = settled;
+        frozen = frozen;
         present = λ h. present;
         still = still;
       };
@@ -148,7 +149,7 @@ offers_restart window role w s c t pr q qs e f =
     t.mine.out_is ∙ ap (λ (z : List Body). link ++ z) (pr.rest_is e ∙ ap (λ (z : List Body). z ++ pr.owed) f) ∙ sym (append_assoc link (q ∷ []) (qs ++ pr.owed)) in
     pushed window role w s c t (record l { owed = qs }) (record { channel = 0; body = q }) t.x (qs ++ pr.owed) refl refl restarts.0
     (subst (λ (z : List Body). GoodWhole window role (record { me = t.x; you = t.y; out = z; back = t.b })) out t.good)
-    t.mine.settled t.mine.story t.mine.still
+    t.mine.settled t.mine.frozen t.mine.story t.mine.still
     (record { phase_is = pr.phase_is; owed = pr.owed; channel_is = pr.channel_is; plain = pr.plain; restarts = restarts.1; rest_is = λ h. refl })
 
 pub not_restart_channel : (l : Layer) (d : ℕ) (ch : Channel) → channel_of l d ≡ Some ch → (d == 0) ≡ false
@@ -168,7 +169,7 @@ offers_other window role w s c t pr d ch' q nz ne =
     pushed window role w s c t (record l { channels = with_nth l.channels d ch'; served_last = d }) p t.x t.mine.rest refl refl
     (subst (λ (v : Bool). WellOf v (d == c) q) (sym nz) (subst (λ (v : Bool). WellOf false v q) (sym dc) tt))
     (subst (λ (z : List Body). GoodWhole window role (record { me = t.x; you = t.y; out = z; back = t.b })) (t.mine.out_is ∙ ap (λ (z : List Body). z ++ t.mine.rest) (sym (append-nil link) ∙ ap (λ (z : List Body). link ++ z) (sym nothing))) t.good)
-    t.mine.settled t.mine.story t.mine.still
+    t.mine.settled t.mine.frozen t.mine.story t.mine.still
     (record { phase_is = pr.phase_is; owed = pr.owed; channel_is = nth_other l.channels c d ch' ne ∙ pr.channel_is; plain = pr.plain; restarts = pr.restarts; rest_is = pr.rest_is })
 
 pub one_packet : (c : ℕ) (q : Body) → on_c c (record { channel = c; body = q } ∷ []) ≡ q ∷ []
@@ -215,7 +216,7 @@ offers_here window role w s c t pr q (b ∷ bs) is rl none nz e =
     ∙ ap (λ (z : List Body). (link ++ z) ++ bs) (sym (one_packet c b)) in
     pushed window role w s c t _ (record { channel = c; body = b }) t.x bs refl refl (well_here c b nz plain.0)
     (subst (λ (z : List Body). GoodWhole window role (record { me = t.x; you = t.y; out = z; back = t.b })) out t.good)
-    t.mine.settled t.mine.story t.mine.still
+    t.mine.settled t.mine.frozen t.mine.story t.mine.still
     (record { phase_is = pr.phase_is; owed = bs; channel_is = nth_same l.channels c (shown (face t.x) pr.owed) _ pr.channel_is; plain = plain.1; restarts = pr.restarts; rest_is = λ h. ap (λ (z : List Body). z ++ bs) (sym none) })
 offers_here window role w s c t pr q [] is rl none nz e =
     let l : Layer = w.me.layer in
@@ -243,7 +244,7 @@ offers_here window role w s c t pr q [] is rl none nz e =
     subst (λ (o : Option Packet). Tied window role (Becomes w s (record { layer = record l { channels = with_nth l.channels c next.channel; served_last = c }; packet = o })) s c) (ap (λ (o : Option Body). packet_of c o) (sym e))
     (pushed window role w s c t (record l { channels = with_nth l.channels c next.channel; served_last = c }) (record { channel = c; body = q }) x' [] refl refl (well_here c q nz payload)
     (subst (λ (z : List Body). GoodWhole window role (record { me = x'; you = t.y; out = z; back = t.b })) out good1)
-    act.settled (act.story (w.me.stories s c) t.mine.story)
+    act.settled (frozen_same x x' act.past_is t.mine.frozen) (act.story (w.me.stories s c) t.mine.story)
     (λ lt h. let b = t.mine.still lt h in (act.idle (ap (λ (n : Whole). n.own) b)).0 ∙ b)
     (record {
       phase_is = pr.phase_is ∙ ap (λ (v : Bool). Rattle.packet_layer.proofs.Face.phase_of v) (sym act.own_is);

@@ -17,7 +17,7 @@ use Rattle.packet_layer.proofs.SetUp.{Stage}
 use Rattle.packet_layer.proofs.SetUp.Stage.{Free}
 use Rattle.packet_layer.proofs.Saying.{and_parts}
 use Rattle.packet_layer.proofs.Nest.{restart_kind, Whole, first_use, GoodWhole, whole_restarts}
-use Rattle.packet_layer.proofs.Face.{face, phase_of, shown, Settled, StoryTie, Laters, laters, restart_story_tie}
+use Rattle.packet_layer.proofs.Face.{face, phase_of, shown, Settled, frozen_same, frozen_next, StoryTie, Laters, laters, restart_story_tie}
 use Rattle.packet_layer.proofs.Acts.{Act, in_any, request_act, place_act, clear_act}
 use Rattle.packet_layer.proofs.Lines.{Present, Outcome, AllRestart, nth_same, nth_other, nth_map, set_if_false, owed_said, said_append, owed_payload, owed_restart}
 
@@ -31,6 +31,7 @@ same_outcome window role x y link b rest l l' c f id ph ch ow rl g s p = record 
   rest = rest;
   good = g;
   settled = s;
+  frozen = λ f. f;
   story = λ st t. subst (λ (z : Story). StoryTie x z) (sym (id st)) t;
   present = record {
     phase_is = ph ∙ p.phase_is;
@@ -60,6 +61,7 @@ act_outcome window role x y link b rest l c st f p a g =
       rest = said says rest;
       good = subst (λ (o : List Body). GoodWhole window role (record { me = a.did.end_; you = y; out = o; back = b })) (said_append link rest says) (a.keeps y (link ++ rest) b g);
       settled = a.settled;
+      frozen = λ f. frozen_same x a.did.end_ a.past_is f;
       story = a.story;
       present = record {
         phase_is = p.phase_is ∙ ap (λ (v : Bool). phase_of v) (sym a.own_is);
@@ -96,12 +98,13 @@ restart_out window role x y link b rest owed owed_c cause diagnostic plain ready
     (subst (λ (o : List Body). GoodWhole window role (record { me = x; you = y; out = o; back = b })) (ap (λ (q : List Body). link ++ q) e ∙ sym (append_assoc link owed owed_c)) g))
 
 restart_at : (window : ℕ) (role : Role) (x y : Whole) (link b rest : List Body) (l : Layer) (c : ℕ) (cause diagnostic : ℕ) (reason : Reason) (relink : Bool) → l.relink ≡ relink → x.own ≡ false
-    → GoodWhole window role (record { me = x; you = y; out = link ++ rest; back = b }) → Present l c x rest → Outcome window role x y link b (restarting cause diagnostic (all_closed reason l)) c (λ st. next_restart_of st)
-restart_at window role x y link b rest l c cause diagnostic reason false rl ready g p = record {
+    → GoodWhole window role (record { me = x; you = y; out = link ++ rest; back = b }) → Settled x → Present l c x rest → Outcome window role x y link b (restarting cause diagnostic (all_closed reason l)) c (λ st. next_restart_of st)
+restart_at window role x y link b rest l c cause diagnostic reason false rl ready g s p = record {
   next = advanced first_use true x;
   rest = l.owed ++ Restart cause diagnostic ∷ [];
   good = restart_out window role x y link b rest l.owed p.owed cause diagnostic p.plain ready (p.rest_is rl) g;
   settled = refl;
+  frozen = λ f. frozen_next true x s f;
   story = λ st t. restart_story_tie true x st (laters window role x y (link ++ rest) b g) t;
   present = record {
     phase_is = refl;
@@ -113,11 +116,12 @@ restart_at window role x y link b rest l c cause diagnostic reason false rl read
   };
   still = λ e. absurd (true≢false (sym (ap (λ (n : Whole). n.own) e) ∙ ready));
 }
-restart_at window role x y link b rest l c cause diagnostic reason true rl ready g p = record {
+restart_at window role x y link b rest l c cause diagnostic reason true rl ready g s p = record {
   next = advanced first_use true x;
   rest = rest ++ Restart cause diagnostic ∷ [];
   good = restart_out window role x y link b rest rest [] cause diagnostic tt ready (sym (append-nil rest)) g;
   settled = refl;
+  frozen = λ f. frozen_next true x s f;
   story = λ st t. restart_story_tie true x st (laters window role x y (link ++ rest) b g) t;
   present = record {
     phase_is = refl;
@@ -131,8 +135,8 @@ restart_at window role x y link b rest l c cause diagnostic reason true rl ready
 }
 
 pub restart_outcome : (window : ℕ) (role : Role) (x y : Whole) (link b rest : List Body) (l : Layer) (c : ℕ) (cause diagnostic : ℕ) (reason : Reason) → x.own ≡ false
-    → GoodWhole window role (record { me = x; you = y; out = link ++ rest; back = b }) → Present l c x rest → Outcome window role x y link b (restarting cause diagnostic (all_closed reason l)) c (λ st. next_restart_of st)
-restart_outcome window role x y link b rest l c cause diagnostic reason ready g p = restart_at window role x y link b rest l c cause diagnostic reason l.relink refl ready g p
+    → GoodWhole window role (record { me = x; you = y; out = link ++ rest; back = b }) → Settled x → Present l c x rest → Outcome window role x y link b (restarting cause diagnostic (all_closed reason l)) c (λ st. next_restart_of st)
+restart_outcome window role x y link b rest l c cause diagnostic reason ready g s p = restart_at window role x y link b rest l c cause diagnostic reason l.relink refl ready g s p
 
 -- ---- a call placed
 
@@ -294,7 +298,7 @@ expired_outcome window role x y link b rest l c (ResetTimer d) run g s p =
     expiry_clears window role x y link b rest l c d (λ st. in_transfer st) (λ ch. in_transfer ch.state && ch.resetting) (λ ch e. (and_parts (in_transfer ch.state) ch.resetting e).0) refl run g s p
 expired_outcome window role x y link b rest l c (ClearTimer d) run g s p =
     restart_outcome window role x y link b rest l c (error_cause l.role 1) 0 Reason.LocalFault
-    (ready_phase x.own (sym p.phase_is ∙ (runs_found (λ ch. waits_for_clear ch.state) l.phase (channel_of l d) run).0)) g p
+    (ready_phase x.own (sym p.phase_is ∙ (runs_found (λ ch. waits_for_clear ch.state) l.phase (channel_of l d) run).0)) g s p
 
 pub runs_unread : (l : Layer) (t : Timer) → runs (unread l) t ≡ runs l t
 runs_unread l RestartTimer = refl

@@ -1,9 +1,9 @@
 -- Where nothing of a channel is on its way, its two ends belong together and nothing is missing.
-use Rattle.std.proofs.Common.{◌≡◌, ℕ, Bool, true, false, cond, List, [], ◌∷◌, ◌++◌, length, drop, refl, sym, ap, subst, ◌∙◌, arith, Option}
+use Rattle.std.proofs.Common.{◌≡◌, ℕ, Bool, true, false, cond, List, [], ◌∷◌, ◌++◌, length, drop, refl, sym, ap, subst, ◌∙◌, arith}
 use Rattle.std.proofs.lemmas.Bool.{eq-eqb}
 use Rattle.link_timers.specs.declared.role.Role.{Role}
 use Rattle.link_timers.specs.Role.{other_of}
-use Rattle.packet_layer.specs.Packets.{Body, Packet, CallParts}
+use Rattle.packet_layer.specs.Packets.{Body, Packet}
 use Rattle.packet_layer.specs.Traffic.{Traffic}
 use Rattle.packet_layer.specs.Channel.{Channel}
 use Rattle.packet_layer.specs.History.{Epoch, Story}
@@ -14,7 +14,7 @@ use Rattle.packet_layer.proofs.SetUp.{Stage, Pair, Idle}
 use Rattle.packet_layer.proofs.SetUp.Stage.{Free, Placed, Waiting, Collided, Open}
 use Rattle.packet_layer.proofs.OneEpoch.{Inner, begun_epoch, Way, Epochs_agree}
 use Rattle.packet_layer.proofs.Nest.{restart_kind, clear_kind, reset_kind, Epochs, CallUse, Uses, Whole, first_epoch, first_call, first_use, GoodCall, GoodUses, GoodWhole}
-use Rattle.packet_layer.proofs.Face.{Face, face, face_call, face_uses, face_whole, phase_of, shown, StoryTie, look, marked}
+use Rattle.packet_layer.proofs.Face.{Face, face, face_call, face_uses, face_whole, phase_of, shown, StoryTie, Mark, mark, look, marked}
 use Rattle.packet_layer.proofs.Lines.{on_c, Tied}
 use Rattle.packet_layer.proofs.Outcomes.{some_same}
 
@@ -33,7 +33,7 @@ meets_rest p q true false nx ny cx cy f g = let a = f.0 in let b = g.0 in let n 
 meets_rest p q false true nx ny cx cy f g = let a = f.0 in let b = g.0 in let n : ⊥ = omega arith in absurd n
 meets_rest p q false false nx ny cx cy f g = (refl, refl, g.0, f.1, g.1)
 
-at_number : {I : Type 0} → (s : Side I) (k : ℕ) → k ≡ s.number → at s k ≡ s.now
+pub at_number : {I : Type 0} → (s : Side I) (k : ℕ) → k ≡ s.number → at s k ≡ s.now
 at_number s k e = ap (λ (b : Bool). cond b s.now (s.past k)) (eq-eqb k s.number e)
 
 record SideRest (I : Type 0) (Good : Two I → Type 0) (x y : Side I) : Type 0 where
@@ -95,14 +95,14 @@ call_resetting (Open m) e h = h
 face_is : (x : Whole) → x.own ≡ false → x.now.own ≡ false → face x ≡ face_call x.now.now.stage x.now.now.call
 face_is x e f = ap (λ (b : Bool). face_whole b x.now) e ∙ ap (λ (b : Bool). face_uses b x.now.now) f
 
-epoch_is : (x : Whole) (st : Story) → StoryTie x st → epoch_now st ≡ marked x.now.now.placed x.now.now.call.now.epoch
+epoch_is : (x : Whole) (st : Story) → StoryTie x st → epoch_now st ≡ marked (mark x.now.now) x.now.now.call.now.epoch
 epoch_is x st t =
     t.epochs_are st.restart st.use_ st.epoch
     ∙ ap (λ (s : Uses). look (at s st.use_) st.epoch) (at_number x st.restart t.restart_is)
     ∙ ap (λ (u : CallUse). look u st.epoch) (at_number x.now st.use_ t.use_is)
-    ∙ ap (λ (i : Inner). marked x.now.now.placed i.epoch) (at_number x.now.now.call st.epoch t.epoch_is)
+    ∙ ap (λ (i : Inner). marked (mark x.now.now) i.epoch) (at_number x.now.now.call st.epoch t.epoch_is)
 
-nothing_missing : (window : ℕ) (i j : Inner) (p q : Option CallParts) (a b : Channel) (e f : Epoch) → Way window i j [] [] → a.traffic ≡ i.traffic → b.traffic ≡ j.traffic → e ≡ marked p i.epoch → f ≡ marked q j.epoch → NothingMissing e f a b
+nothing_missing : (window : ℕ) (i j : Inner) (p q : Mark) (a b : Channel) (e f : Epoch) → Way window i j [] [] → a.traffic ≡ i.traffic → b.traffic ≡ j.traffic → e ≡ marked p i.epoch → f ≡ marked q j.epoch → NothingMissing e f a b
 nothing_missing window i j p q a b e f w at bt ee fe = record {
   packets = ap (λ (v : Epoch). v.taken ++ (b.traffic.arrived ++ a.traffic.waiting)) fe
       ∙ ap (λ (t : Traffic). j.epoch.taken ++ (t.arrived ++ a.traffic.waiting)) bt ∙ ap (λ (t : Traffic). j.epoch.taken ++ (j.traffic.arrived ++ t.waiting)) at
@@ -149,6 +149,6 @@ tied_rests window role w s c t a b q =
       same_restart = t.mine.story.restart_is ∙ top.numbers ∙ sym t.yours.story.restart_is;
       same_use = t.mine.story.use_is ∙ uses.numbers ∙ sym t.yours.story.use_is;
       same_epoch = t.mine.story.epoch_is ∙ ep.numbers ∙ sym t.yours.story.epoch_is;
-      forth = nothing_missing window x.now.now.call.now y.now.now.call.now x.now.now.placed y.now.now.placed a b _ _ ep.inside.forth ax by ex ey;
-      back = nothing_missing window y.now.now.call.now x.now.now.call.now y.now.now.placed x.now.now.placed b a _ _ ep.inside.back by ax ey ex;
+      forth = nothing_missing window x.now.now.call.now y.now.now.call.now (mark x.now.now) (mark y.now.now) a b _ _ ep.inside.forth ax by ex ey;
+      back = nothing_missing window y.now.now.call.now x.now.now.call.now (mark y.now.now) (mark x.now.now) b a _ _ ep.inside.back by ax ey ex;
     }

@@ -1,14 +1,19 @@
 -- Worked runs of a line, by computation.
-use Rattle.std.proofs.Common.{◌≡◌, ℕ, true, false, List, [], ◌∷◌, ◌++◌, Some, refl, length, None}
+use Rattle.std.proofs.Common.{◌≡◌, ℕ, true, false, List, [], ◌∷◌, ◌++◌, Some, refl, length, None, arith}
 use Rattle.packet_layer.specs.Packets.{CallParts, Datum, Body, Packet, Reason}
 use Rattle.packet_layer.specs.Packets.Body.{Call, Accepted, Data, ReceiveReady, Reset, Restart}
 use Rattle.packet_layer.specs.Packets.Note.{Incoming, Connected, Closed, Covered}
-use Rattle.packet_layer.specs.Channel.{Refusal}
+use Rattle.link_timers.specs.declared.role.Role.TheVariants.{Dte, Dce}
+use Rattle.packet_layer.specs.Channel.{CallState, Refusal, closed_channel}
 use Rattle.packet_layer.specs.Channel.Request.{Accept, Clearing, Resetting, Sending, Taking, Releasing}
 use Rattle.packet_layer.specs.Layer.{confirmed, request_refusal}
-use Rattle.packet_layer.specs.Line.{Line, Happening, start_line, after}
+use Rattle.packet_layer.specs.Layer.Timer.{ClearTimer}
+use Rattle.packet_layer.specs.History.{empty_epoch}
+use Rattle.packet_layer.specs.Line.{Line, Happening, start_line, no_parts, after}
 use Rattle.packet_layer.specs.Line.Happening.{Here, There}
-use Rattle.packet_layer.specs.Line.Event.{Up, Calls, Requests, Offers, Arrives}
+use Rattle.packet_layer.specs.Line.Event.{Up, Calls, Requests, Expires, Offers, Arrives}
+use Rattle.packet_layer.specs.Law.{CallKnown, IsUnused, InUse}
+use Rattle.packet_layer.proofs.LineHolds.{line_holds}
 
 abbrev packet : ℕ → Body → Packet
 packet c b = record { channel = c; body = b }
@@ -109,8 +114,49 @@ now = refl
 covered : (run 4 (delivery ++ Here Arrives ∷ [])).me.layer.notes ≡ Covered 4 1 ∷ []
 covered = refl
 
-took : ((run 4 delivery).you.stories 1 4).epochs 0 0 0 ≡ record { sent = []; taken = hi ∷ []; interrupts_sent = []; interrupts_taken = []; covered = 0; released = 1; called = None }
+took : ((run 4 delivery).you.stories 1 4).epochs 0 0 0 ≡ record { sent = []; taken = hi ∷ []; interrupts_sent = []; interrupts_taken = []; covered = 0; released = 1; called = None; answered = true }
 took = refl
+
+-- the caller knows the call that it placed, the other end that it accepted one, also after a reset
+caller : ((run 4 delivery).me.stories 1 4).epochs 0 0 0 ≡ record { sent = hi ∷ []; taken = []; interrupts_sent = []; interrupts_taken = []; covered = 0; released = 0; called = Some (parts (2 ∷ 0 ∷ 0 ∷ 1 ∷ [])); answered = false }
+caller = refl
+
+callee_after_reset : ((run 4 resets).you.stories 1 4).epochs 0 0 1 ≡ record empty_epoch { answered = true }
+callee_after_reset = refl
+
+waits : InUse Dte CallState.OwnWaiting ((run 4 call_2001).me.stories 1 4)
+waits = record { parts = parts (2 ∷ 0 ∷ 0 ∷ 1 ∷ []); first = refl; placed = λ g. refl }
+
+is_called : InUse Dce CallState.FarWaiting ((run 4 call_2001).you.stories 1 4)
+is_called = record { first = refl; empty = λ g. refl }
+
+-- the DCE of a collision placed a call and accepted another one, which the DTE placed
+abbrev resolved : List Happening
+resolved = collision ++ There (Requests 1 Accept) ∷ There Offers ∷ Here Arrives ∷ []
+
+resolved_there : ((run 1 resolved).you.stories 1 1).epochs 0 0 0 ≡ record empty_epoch { called = Some (parts (2 ∷ [])); answered = true }
+resolved_there = refl
+
+resolved_here : ((run 1 resolved).me.stories 1 1).epochs 0 0 0 ≡ record empty_epoch { called = Some (parts (1 ∷ [])); answered = false }
+resolved_here = refl
+
+-- a standing call counts as one that the DTE placed and the DCE accepted
+standing_here : ((start_line 1 2 true).me.stories 0 1).epochs 0 0 0 ≡ record empty_epoch { called = Some no_parts }
+standing_here = refl
+
+standing_there : ((start_line 1 2 true).you.stories 0 1).epochs 0 0 0 ≡ record empty_epoch { answered = true }
+standing_there = refl
+
+-- the DCE's Call arrives when the DCE has cleared and begun a further restart meanwhile
+abbrev overtaken : List Happening
+overtaken = set_up ++ There (Calls (parts (2 ∷ []))) ∷ There Offers ∷ There (Requests 1 (Clearing 0 0)) ∷ There Offers ∷ There (Expires (ClearTimer 1)) ∷ []
+
+further_restart : ((run 1 overtaken).you.stories 1 1).restart ≡ 1
+further_restart = refl
+
+call_still_known : CallKnown ((run 1 overtaken).me.stories 1 1) ((run 1 overtaken).you.stories 1 1) (parts (2 ∷ []))
+call_still_known = ((line_holds 1 2 false (omega arith) (omega arith) overtaken).0 1 1 (omega arith) (omega arith)).call_here (parts (2 ∷ []))
+    (record { up = refl; next = refl; ready = refl; channel = closed_channel; found = refl; takes = tt })
 
 -- a clear ends the use of the channel; the next call on it is another use
 abbrev cleared : List Happening
@@ -121,3 +167,6 @@ closed = refl
 
 next_use : ((run 4 cleared).me.stories 1 4).use_ ≡ 1
 next_use = refl
+
+unused_again : IsUnused ((run 4 cleared).me.stories 1 4)
+unused_again = record { first = refl; empty = λ g. refl }

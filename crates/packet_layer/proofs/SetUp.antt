@@ -1,6 +1,6 @@
 -- The set-up of one call on a channel, between two clears: who calls, who accepts, and a collision of two calls. What goes on in
 -- the call is left open.
-use Rattle.std.proofs.Common.{◌≡◌, Bool, true, false, not, List, [], ◌∷◌, Option, Some, None}
+use Rattle.std.proofs.Common.{◌≡◌, Bool, true, false, not, List, [], ◌∷◌, Option, Some, None, is_some}
 use Rattle.link_timers.specs.declared.role.Role.{Role}
 use Rattle.link_timers.specs.declared.role.Role.TheVariants.{Dte, Dce}
 use Rattle.link_timers.specs.Role.{other_of}
@@ -114,7 +114,7 @@ abbrev pub Idle : {I : Type 0} → I → Stage → I → Type 0
 Idle start (Open m) c = Unit {0}
 Idle start _ c = c ≡ start
 
--- each Call on the way is the one that its sender placed, and an end in p1 placed none
+-- each Call on the way is the one that its sender placed
 abbrev pub IsCalled : Body → Option CallParts → Type 0
 IsCalled (Call parts) p = p ≡ Some parts
 IsCalled _ p = Unit {0}
@@ -123,9 +123,21 @@ abbrev pub AllCalled : Option CallParts → List Body → Type 0
 AllCalled p [] = Unit {0}
 AllCalled p (t ∷ ts) = IsCalled t p × AllCalled p ts
 
-abbrev pub FreeNone : Stage → Option CallParts → Type 0
-FreeNone Free p = p ≡ None
-FreeNone s p = Unit {0}
+-- an end that has no call, or has the other end's, placed none; one that accepted a call placed none, unless it is the DCE of a
+-- collision; in all other stages it placed one
+abbrev pub Answerer : Role → Option CallParts → Type 0
+Answerer Dte p = p ≡ None
+Answerer Dce p = Unit {0}
+
+abbrev pub Places : Role → Stage → Option CallParts → Type 0
+Places r Free p = p ≡ None
+Places r Waiting p = p ≡ None
+Places r (Open false) p = Answerer r p
+Places r s p = is_some p ≡ true
+
+abbrev pub answers : Stage → Bool
+answers (Open mine) = not mine
+answers s = false
 
 pub record UseInv (I : Type 0) (start : I) (Good : Two I → Type 0) (role : Role) (w : Two (Use I)) : Type 0 where
   pub fore : Path (other_of role) w.me.stage w.you.stage w.out
@@ -134,8 +146,8 @@ pub record UseInv (I : Type 0) (start : I) (Good : Two I → Type 0) (role : Rol
   pub idle_you : Idle start w.you.stage w.you.call
   pub calls_me : AllCalled w.me.placed w.out
   pub calls_you : AllCalled w.you.placed w.back
-  pub free_me : FreeNone w.me.stage w.me.placed
-  pub free_you : FreeNone w.you.stage w.you.placed
+  pub placed_me : Places role w.me.stage w.me.placed
+  pub placed_you : Places (other_of role) w.you.stage w.you.placed
   pub call : Good (record { me = w.me.call; you = w.you.call; out = flows w.out; back = flows w.back })
 
 abbrev pub SaysFlow : Option Body → Type 0

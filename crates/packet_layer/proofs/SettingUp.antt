@@ -1,12 +1,12 @@
 -- The set-up of a call keeps the two ends in one of the pairs of stages, and what holds in the call.
-use Rattle.std.proofs.Common.{◌≡◌, Bool, true, false, not, List, [], ◌∷◌, ◌++◌, Option, Some, None, refl, sym, ap, subst, ◌∙◌, append-nil, true≢false}
+use Rattle.std.proofs.Common.{◌≡◌, Bool, true, false, not, ◌&&◌, ◌||◌, List, [], ◌∷◌, ◌++◌, Option, Some, None, is_some, refl, sym, ap, subst, ◌∙◌, append-nil, true≢false}
 use Rattle.link_timers.specs.declared.role.Role.{Role}
 use Rattle.link_timers.specs.declared.role.Role.TheVariants.{Dte, Dce}
 use Rattle.link_timers.specs.Role.{other_of}
 use Rattle.packet_layer.specs.Packets.{CallParts, Body}
 use Rattle.packet_layer.specs.Packets.Body.{Call, Accepted}
 use Rattle.packet_layer.proofs.Handshake.{Two, Did, said, does, turned_two}
-use Rattle.packet_layer.proofs.SetUp.{Stage, Use, Sort, sort, places, accepts_call, in_call, use_hears, use_ok, Pair, Passes, Path, Leads, kept_flow, flows, Idle, UseInv, SaysFlow, IsCalled, AllCalled, FreeNone}
+use Rattle.packet_layer.proofs.SetUp.{Stage, Use, Sort, sort, places, accepts_call, in_call, use_hears, use_ok, Pair, Passes, Path, Leads, kept_flow, flows, Idle, UseInv, SaysFlow, IsCalled, AllCalled, Answerer, Places, answers}
 use Rattle.packet_layer.proofs.SetUp.Stage.{Free, Placed, Waiting, Collided, Open}
 use Rattle.packet_layer.proofs.SetUp.Sort.{Calling, Accepting, Flowing}
 
@@ -131,15 +131,77 @@ pair_open r Collided h = absurd (true≢false h.1)
 pair_open r (Open m) h = not_true m h
 pair_open r _ h = absurd h
 
-passes_open : (r : Role) (k : Sort) (y : Stage) (ts : List Body) → Passes r k (Open true) (λ s. Path r y s ts) → Path r y (Open true) ts
-passes_open r Flowing y ts h = h
-passes_open Dte Accepting y ts h = absurd h
-passes_open Dce Accepting y ts h = absurd h
-passes_open r Calling y ts h = absurd h
+passes_open : (r : Role) (m : Bool) (k : Sort) (y : Stage) (ts : List Body) → Passes r k (Open m) (λ s. Path r y s ts) → Path r y (Open m) ts
+passes_open r m Flowing y ts h = h
+passes_open Dte m Accepting y ts h = absurd h
+passes_open Dce m Accepting y ts h = absurd h
+passes_open r m Calling y ts h = absurd h
 
 from_open : (r : Role) (y : Stage) (ts : List Body) → Path r y (Open true) ts → IsTheirs y
 from_open r y [] h = pair_open r y h
-from_open r y (t ∷ ts) h = from_open r y ts (passes_open r (sort t) y ts h)
+from_open r y (t ∷ ts) h = from_open r y ts (passes_open r true (sort t) y ts h)
+
+abbrev IsMine : Stage → Type 0
+IsMine Placed = Unit {0}
+IsMine Collided = Unit {0}
+IsMine (Open m) = m ≡ true
+IsMine _ = ⊥
+
+not_false : (m : Bool) → false ≡ not m → m ≡ true
+not_false true e = refl
+not_false false e = absurd (true≢false (sym e))
+
+pair_mine : (r : Role) (y : Stage) → Pair r y (Open false) → IsMine y
+pair_mine r Placed h = tt
+pair_mine r Collided h = tt
+pair_mine r (Open m) h = not_false m h
+pair_mine r _ h = absurd h
+
+from_mine : (r : Role) (y : Stage) (ts : List Body) → Path r y (Open false) ts → IsMine y
+from_mine r y [] h = pair_mine r y h
+from_mine r y (t ∷ ts) h = from_mine r y ts (passes_open r false (sort t) y ts h)
+
+-- of the ends of a call one accepted it, and the other one placed it
+theirs_answers : (y : Stage) → IsTheirs y → answers y ≡ true
+theirs_answers (Open m) h = ap (λ (b : Bool). not b) h
+theirs_answers _ h = absurd h
+
+mine_answers : (y : Stage) → IsMine y → answers y ≡ false
+mine_answers Placed h = refl
+mine_answers Collided h = refl
+mine_answers (Open m) h = ap (λ (b : Bool). not b) h
+mine_answers _ h = absurd h
+
+mine_placed : (r : Role) (y : Stage) (p : Option CallParts) → IsMine y → Places r y p → is_some p ≡ true
+mine_placed r Placed p h q = q
+mine_placed r Collided p h q = q
+mine_placed r (Open m) p h q = subst (λ (b : Bool). Places r (Open b) p) h q
+mine_placed r _ p h q = absurd h
+
+pub open_answered : (r : Role) (x y : Stage) (ts : List Body) → Path r y x ts → (m : Bool) → x ≡ Open m → (answers x || answers y) ≡ true
+open_answered r x y ts h true e = answered_there y (theirs_answers y (from_open r y ts (subst (λ (s : Stage). Path r y s ts) e h)))
+  where
+    answered_there : (y : Stage) → answers y ≡ true → (answers x || answers y) ≡ true
+    answered_there y a = ap (λ (s : Stage). answers s || answers y) e ∙ a
+open_answered r x y ts h false e = ap (λ (s : Stage). answers s || answers y) e
+
+answers_open : (x : Stage) → answers x ≡ true → x ≡ Open false
+answers_open (Open true) h = absurd (true≢false (sym h))
+answers_open (Open false) h = refl
+answers_open _ h = absurd (true≢false (sym h))
+
+mine_of : (r : Role) (x y : Stage) (ts : List Body) → Path r y x ts → answers x ≡ true → IsMine y
+mine_of r x y ts h a = from_mine r y ts (subst (λ (s : Stage). Path r y s ts) (answers_open x a) h)
+
+pub never_both : (r : Role) (x y : Stage) (ts : List Body) → Path r y x ts → (answers x && answers y) ≡ false
+never_both r x y ts h = never_at (answers x) refl
+  where
+    never_at : (b : Bool) → answers x ≡ b → (b && answers y) ≡ false
+    never_at true a = mine_answers y (mine_of r x y ts h a)
+    never_at false a = refl
+
+pub answered_placed : (r : Role) (x y : Stage) (p : Option CallParts) (ts : List Body) → Path r y x ts → Places (other_of r) y p → answers x ≡ true → is_some p ≡ true
+answered_placed r x y p ts h q a = mine_placed (other_of r) y p (mine_of r x y ts h a) q
 
 abbrev Called : Role → Stage → Type 0
 Called r Placed = Unit {0}
@@ -279,10 +341,10 @@ setup_places I start Good role parts w free i =
       aft = path_place role w.you.stage w.back aft;
       idle_me = subst (λ (s : Stage). Idle start s w.me.call) free i.idle_me;
       idle_you = i.idle_you;
-      calls_me = called_append (Some parts) w.out (Call parts) (all_none w.out w.me.placed (Some parts) (subst (λ (s : Stage). FreeNone s w.me.placed) free i.free_me) i.calls_me) refl;
+      calls_me = called_append (Some parts) w.out (Call parts) (all_none w.out w.me.placed (Some parts) (subst (λ (s : Stage). Places role s w.me.placed) free i.placed_me) i.calls_me) refl;
       calls_you = i.calls_you;
-      free_me = tt;
-      free_you = i.free_you;
+      placed_me = refl;
+      placed_you = i.placed_you;
       call = subst (λ (o : List Body). Good (record { me = w.me.call; you = w.you.call; out = o; back = flows w.back })) (sym (flows_call w.out parts)) i.call;
     }
 
@@ -307,6 +369,15 @@ accept_idle I start c role Waiting a h = h
 accept_idle I start c Dce Collided a h = h
 accept_idle I start c role _ a h = absurd a
 
+answerer : (r : Role) (p : Option CallParts) → p ≡ None → Answerer r p
+answerer Dte p e = e
+answerer Dce p e = tt
+
+accept_placed : (role : Role) (s : Stage) (p : Option CallParts) → Acceptable role s → Places role s p → Places role (Open false) p
+accept_placed role Waiting p a h = answerer role p h
+accept_placed Dce Collided p a h = tt
+accept_placed role _ p a h = absurd a
+
 pub setup_accepts : (I : Type 0) (start : I) (Good : Two I → Type 0) (role : Role) (w : Two (Use I)) → Acceptable role w.me.stage → UseInv I start Good role w → UseInv I start Good role (does w (accepts_call start w.me))
 setup_accepts I start Good role w a i = record {
   fore = accept_fore role w.me.stage w.you.stage w.out a i.fore;
@@ -315,8 +386,8 @@ setup_accepts I start Good role w a i = record {
   idle_you = i.idle_you;
   calls_me = called_append w.me.placed w.out Accepted i.calls_me tt;
   calls_you = i.calls_you;
-  free_me = tt;
-  free_you = i.free_you;
+  placed_me = accept_placed role w.me.stage w.me.placed a i.placed_me;
+  placed_you = i.placed_you;
   call = subst (λ (o : List Body). Good (record { me = start; you = w.you.call; out = o; back = flows w.back })) (sym (flows_accepted w.out))
       (subst (λ (c : I). Good (record { me = c; you = w.you.call; out = flows w.out; back = flows w.back })) (accept_idle I start w.me.call role w.me.stage a i.idle_me) i.call);
 }
@@ -336,8 +407,8 @@ setup_acts I start Good role m d w is_open flow keeps i = record {
   idle_you = i.idle_you;
   calls_me = said_called d.says w.me.placed w.out flow i.calls_me;
   calls_you = i.calls_you;
-  free_me = i.free_me;
-  free_you = i.free_you;
+  placed_me = i.placed_me;
+  placed_you = i.placed_you;
   call = subst (λ (o : List Body). Good (record { me = d.end_; you = w.you.call; out = o; back = flows w.back })) (sym (flows_said d.says flow w.out)) (keeps w.you.call (flows w.out) (flows w.back) i.call);
 }
 
@@ -357,8 +428,8 @@ hear_use I start Good role hear ok flow hears Calling Free x y out t ts e i =
         idle_you = i.idle_you;
         calls_me = i.calls_me;
         calls_you = i.calls_you.1;
-        free_me = tt;
-        free_you = i.free_you;
+        placed_me = i.placed_me;
+        placed_you = i.placed_you;
         call = subst (λ (k : Sort). Good (record { me = x.call; you = y.call; out = flows out; back = kept_flow k t (flows ts) })) e i.call;
       },
     )
@@ -372,8 +443,8 @@ hear_use I start Good role hear ok flow hears Calling Placed x y out t ts e i =
         idle_you = i.idle_you;
         calls_me = i.calls_me;
         calls_you = i.calls_you.1;
-        free_me = tt;
-        free_you = i.free_you;
+        placed_me = i.placed_me;
+        placed_you = i.placed_you;
         call = subst (λ (k : Sort). Good (record { me = x.call; you = y.call; out = flows out; back = kept_flow k t (flows ts) })) e i.call;
       },
     )
@@ -391,8 +462,8 @@ hear_use I start Good role hear ok flow hears Accepting Placed x y out t ts e i 
         idle_you = i.idle_you;
         calls_me = i.calls_me;
         calls_you = i.calls_you.1;
-        free_me = tt;
-        free_you = i.free_you;
+        placed_me = i.placed_me;
+        placed_you = i.placed_you;
         call = subst (λ (c : I). Good (record { me = c; you = y.call; out = flows out; back = flows ts })) i.idle_me
             (subst (λ (k : Sort). Good (record { me = x.call; you = y.call; out = flows out; back = kept_flow k t (flows ts) })) e i.call);
       },
@@ -407,8 +478,8 @@ hear_use I start Good Dte hear ok flow hears Accepting Collided x y out t ts e i
         idle_you = i.idle_you;
         calls_me = i.calls_me;
         calls_you = i.calls_you.1;
-        free_me = tt;
-        free_you = i.free_you;
+        placed_me = i.placed_me;
+        placed_you = i.placed_you;
         call = subst (λ (c : I). Good (record { me = c; you = y.call; out = flows out; back = flows ts })) i.idle_me
             (subst (λ (k : Sort). Good (record { me = x.call; you = y.call; out = flows out; back = kept_flow k t (flows ts) })) e i.call);
       },
@@ -425,8 +496,8 @@ hear_use I start Good role hear ok flow hears Flowing (Open m) x y out t ts e i 
         idle_you = i.idle_you;
         calls_me = said_called (hear x.call t).says x.placed out (flow x.call t) i.calls_me;
         calls_you = i.calls_you.1;
-        free_me = tt;
-        free_you = i.free_you;
+        placed_me = i.placed_me;
+        placed_you = i.placed_you;
         call = subst (λ (o : List Body). Good (record { me = (hear x.call t).end_; you = y.call; out = o; back = flows ts })) (sym (flows_said (hear x.call t).says (flow x.call t) out)) h.1;
       },
     )
@@ -440,5 +511,5 @@ pub setup_hears : (I : Type 0) (start : I) (Good : Two I → Type 0) (role : Rol
 setup_hears I start Good role hear ok flow hears w t ts i = hear_use I start Good role hear ok flow hears (sort t) w.me.stage w.me w.you w.out t ts refl i
 
 pub setup_turned : (I : Type 0) (start : I) (Good Back : Two I → Type 0) → ((v : Two I) → Good v → Back (turned_two v)) → (role : Role) (w : Two (Use I)) → UseInv I start Good role w → UseInv I start Back (other_of role) (turned_two w)
-setup_turned I start Good Back turn Dte w i = record { fore = i.aft; aft = i.fore; idle_me = i.idle_you; idle_you = i.idle_me; calls_me = i.calls_you; calls_you = i.calls_me; free_me = i.free_you; free_you = i.free_me; call = turn (record { me = w.me.call; you = w.you.call; out = flows w.out; back = flows w.back }) i.call }
-setup_turned I start Good Back turn Dce w i = record { fore = i.aft; aft = i.fore; idle_me = i.idle_you; idle_you = i.idle_me; calls_me = i.calls_you; calls_you = i.calls_me; free_me = i.free_you; free_you = i.free_me; call = turn (record { me = w.me.call; you = w.you.call; out = flows w.out; back = flows w.back }) i.call }
+setup_turned I start Good Back turn Dte w i = record { fore = i.aft; aft = i.fore; idle_me = i.idle_you; idle_you = i.idle_me; calls_me = i.calls_you; calls_you = i.calls_me; placed_me = i.placed_you; placed_you = i.placed_me; call = turn (record { me = w.me.call; you = w.you.call; out = flows w.out; back = flows w.back }) i.call }
+setup_turned I start Good Back turn Dce w i = record { fore = i.aft; aft = i.fore; idle_me = i.idle_you; idle_you = i.idle_me; calls_me = i.calls_you; calls_you = i.calls_me; placed_me = i.placed_you; placed_you = i.placed_me; call = turn (record { me = w.me.call; you = w.you.call; out = flows w.out; back = flows w.back }) i.call }

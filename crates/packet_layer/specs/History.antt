@@ -1,5 +1,5 @@
 -- What the two ends of a line did on a channel, epoch by epoch, which no node stores: the laws speak of it.
-use Rattle.std.specs.Prelude.{ℕ, ◌+◌, Bool, false, cond, ◌&&◌, ◌==◌, List, [], ◌∷◌, ◌++◌, Option, Some, None}
+use Rattle.std.specs.Prelude.{ℕ, ◌+◌, Bool, true, false, cond, ◌&&◌, ◌==◌, List, [], ◌∷◌, ◌++◌, Option, Some, None}
 use Rattle.link_timers.specs.declared.role.Role.{Role}
 use Rattle.packet_layer.specs.Packets.{CallParts, Datum, Body, Packet}
 use Rattle.packet_layer.specs.Packets.Body.{Clear, ClearConfirmation, Reset, ResetConfirmation, Restart, RestartConfirmation}
@@ -8,7 +8,7 @@ use Rattle.packet_layer.specs.Traffic.Taken.{TakenInterrupt, TakenPacket}
 use Rattle.packet_layer.specs.Traffic.Heard.{Keeps, Wrong}
 use Rattle.packet_layer.specs.Channel.{CallState, Channel, Request, Refusal, received, requested, refusal}
 use Rattle.packet_layer.specs.Channel.CallState.{Transfer}
-use Rattle.packet_layer.specs.Channel.Request.{Sending, Interrupting, Taking, Releasing}
+use Rattle.packet_layer.specs.Channel.Request.{Accept, Sending, Interrupting, Taking, Releasing}
 use Rattle.packet_layer.specs.Layer.{Phase, Layer, Timer, channel_of, runs}
 use Rattle.packet_layer.specs.Layer.Phase.{PacketReady}
 use Rattle.packet_layer.specs.Layer.Timer.{RestartTimer, CallTimer, ResetTimer, ClearTimer}
@@ -22,11 +22,12 @@ pub record Epoch : Type 0 where
   pub interrupts_taken : List (List ℕ)
   pub covered : ℕ
   pub released : ℕ
-  -- the call that this end placed in this use of the channel, if it did
+  -- the call that this end placed in this use of the channel, if it did, and whether it accepted one in it
   pub called : Option CallParts
+  pub answered : Bool
 
 abbrev pub empty_epoch : Epoch
-empty_epoch = record { sent = []; taken = []; interrupts_sent = []; interrupts_taken = []; covered = 0; released = 0; called = None }
+empty_epoch = record { sent = []; taken = []; interrupts_sent = []; interrupts_taken = []; covered = 0; released = 0; called = None; answered = false }
 
 -- how an epoch grows: by a request that was not refused, by a packet heard in d1
 abbrev pub with_taken : Option Taken → Epoch → Epoch
@@ -63,16 +64,24 @@ is_now st r u g = (r == st.restart) && ((u == st.use_) && (g == st.epoch))
 abbrev pub grown : (Epoch → Epoch) → Story → Story
 grown f st = record st { epochs = λ r u g. cond (is_now st r u g) (f (st.epochs r u g)) (st.epochs r u g) }
 
--- a call placed is known in the whole use
+-- a call placed is known in the whole use, and so is that one was accepted
 abbrev pub is_use : Story → ℕ → ℕ → Bool
 is_use st r u = (r == st.restart) && (u == st.use_)
+
+abbrev pub in_whole_use : (Epoch → Epoch) → Story → Story
+in_whole_use f st = record st { epochs = λ r u g. cond (is_use st r u) (f (st.epochs r u g)) (st.epochs r u g) }
 
 abbrev pub with_call : CallParts → Epoch → Epoch
 with_call parts e = record e { called = Some parts }
 
 abbrev pub placed : CallParts → Story → Story
-placed parts st =
-    record st { epochs = λ r u g. cond (is_use st r u) (with_call parts (st.epochs r u g)) (st.epochs r u g) }
+placed parts st = in_whole_use (λ e. with_call parts e) st
+
+abbrev pub with_answer : Epoch → Epoch
+with_answer e = record e { answered = true }
+
+abbrev pub call_accepted : Story → Story
+call_accepted st = in_whole_use (λ e. with_answer e) st
 
 abbrev pub next_restart_of : Story → Story
 next_restart_of st = record st { restart = st.restart + 1; use_ = 0; epoch = 0 }
@@ -98,7 +107,12 @@ abbrev pub grown_unless : Option Refusal → (Epoch → Epoch) → Story → Sto
 grown_unless None f st = grown f st
 grown_unless (Some r) f st = st
 
+abbrev pub accepted_unless : Option Refusal → Story → Story
+accepted_unless None st = call_accepted st
+accepted_unless (Some r) st = st
+
 abbrev pub requested_story : Role → Channel → Request → Story → Story
+requested_story role ch Accept st = accepted_unless (refusal role ch Accept) st
 requested_story role ch r st = opened (requested role ch r).owes (grown_unless (refusal role ch r) (λ e. logged ch.traffic r e) st)
 
 abbrev pub heard_story : CallState → Bool → Heard → Story → Story

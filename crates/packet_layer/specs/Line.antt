@@ -1,13 +1,13 @@
 -- A line: two packet layers and, session by session, the packets that each end handed to the link and how many of them the
 -- other end accepted. The link keeps its promise: in a session an end accepts the next packet that the other end offered.
-use Rattle.std.specs.Prelude.{ℕ, ◌+◌, Bool, true, false, cond, not, ◌&&◌, ◌==◌, List, [], ◌∷◌, ◌++◌, slice_get, Option, Some, None}
+use Rattle.std.specs.Prelude.{ℕ, zero, suc, ◌+◌, Bool, true, false, cond, not, ◌&&◌, ◌==◌, List, [], ◌∷◌, ◌++◌, slice_get, Option, Some, None}
 use Rattle.link_timers.specs.declared.role.Role.{Role}
 use Rattle.link_timers.specs.declared.role.Role.TheVariants.{Dte, Dce}
 use Rattle.packet_layer.specs.Packets.{CallParts, Packet}
 use Rattle.packet_layer.specs.Packets.Received.{Whole}
 use Rattle.packet_layer.specs.Channel.{Request}
 use Rattle.packet_layer.specs.Layer.{Layer, Timer, made, link_up, link_down, on_packet, on_timer, next_packet, call, channel_given, request}
-use Rattle.packet_layer.specs.History.{Story, new_story, call_story, request_story, packet_story, timer_story}
+use Rattle.packet_layer.specs.History.{Story, new_story, placed, call_accepted, call_story, request_story, packet_story, timer_story}
 
 -- one end: its layer, the session in which its link is up, and by session what it handed to the link, how many of the other
 -- end's packets it accepted, and the stories of its channels
@@ -30,8 +30,20 @@ abbrev pub start_session : Bool → Option ℕ
 start_session true = Some 0
 start_session false = None
 
+-- its standing call, on channel 1, counts as one that the DTE placed, with nothing in it, and the DCE accepted
+abbrev pub no_parts : CallParts
+no_parts = record { called = []; calling = []; facilities = []; user_part = [] }
+
+abbrev pub standing_story : Role → Story
+standing_story Dte = placed no_parts new_story
+standing_story Dce = call_accepted new_story
+
+abbrev pub start_story : Role → Bool → ℕ → ℕ → Story
+start_story role true zero (suc zero) = standing_story role
+start_story role standing s c = new_story
+
 abbrev pub start_end : Role → ℕ → ℕ → Bool → End
-start_end role channels window standing = record { layer = made role channels window standing; session = start_session standing; offered = λ s. []; accepted = λ s. 0; stories = λ s c. new_story }
+start_end role channels window standing = record { layer = made role channels window standing; session = start_session standing; offered = λ s. []; accepted = λ s. 0; stories = λ s c. start_story role standing s c }
 
 abbrev pub start_line : ℕ → ℕ → Bool → Line
 start_line channels window standing = record { me = start_end Dte channels window standing; you = start_end Dce channels window standing }
