@@ -105,6 +105,15 @@ pub by_false : {X : Type 0} (b : Bool) (x y : X) → b ≡ false → cond b x y 
 by_false true x y e = absurd (true≢false e)
 by_false false x y e = refl
 
+pub order : (m n : ℕ) → (m ≤ n) ⊎ (n < m)
+order zero n = inl (omega arith)
+order (suc m) zero = inr (omega arith)
+order (suc m) (suc n) =
+    elim (order m n) [
+      | inl h ↦ inl (omega arith)
+      | inr h ↦ inr (omega arith)
+    ]
+
 -- ---- roles
 
 pub role_is : (x r : Role) → (r ≡ x) ⊎ (r ≡ other_of x)

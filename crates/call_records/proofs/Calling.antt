@@ -197,7 +197,7 @@ number_in Cancelled = 0
 callee_number : (a n : ℕ) → Callee a ≡ Callee n → a ≡ n
 callee_number a n e = ap number_in e
 
-spot_is : (k h : Spot) → k.session ≡ h.session → k.channel ≡ h.channel → k.restart ≡ h.restart → k.use_ ≡ h.use_ → k ≡ h
+pub spot_is : (k h : Spot) → k.session ≡ h.session → k.channel ≡ h.channel → k.restart ≡ h.restart → k.use_ ≡ h.use_ → k ≡ h
 spot_is k h a b c d = rw (a, b, c, d) refl
 
 module _ (x : Role) (s c : ℕ) (parts : CallParts) (faces faces' : Role → Face) (b : Shelf) (slots : Role → ℕ → Slot) (tags : List Tag) (w : IsRight faces b tags) (q : Comes x s c parts faces faces' b slots) where

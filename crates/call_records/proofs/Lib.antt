@@ -8,3 +8,6 @@ mod Answering
 mod Concluding
 mod Calling
 mod Writing
+mod Faces
+mod Stories
+mod Steps

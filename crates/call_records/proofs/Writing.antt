@@ -234,6 +234,35 @@ told_by : (x : Role) (k : ℕ) (reason : Reason) (v : Bool) (notes : List Note) 
 told_by x k reason true notes n b h = h (closes x k b)
 told_by x k reason false notes n b h = h b
 
+pub closed_else : (x : Role) (d : ℕ) (b : Book) (c : ℕ) → c ≢ d → slot_at x c (closes x d b) ≡ slot_at x c b
+closed_else x d b c e = slot_else x d c (record (slot_at x d b) { present = None; caller = None }) (changed x d with_closed b) e ∙ slot_changed x c (slot_at x d b).present with_closed b
+
+-- ---- shelves
+
+pub slots_same : (b b' : Book) → ((y : Role) (c : ℕ) → slot_at y c b' ≡ slot_at y c b) → (shelf_of b').slots ≡ (shelf_of b).slots
+slots_same b b' h = all_same (shelf_of b').slots (shelf_of b).slots (λ y. all_same ((shelf_of b').slots y) ((shelf_of b).slots y) (h y))
+
+-- the shelf is the old one with other records
+pub shelf_records : (b b' : Book) → b'.pairs ≡ b.pairs → ((y : Role) → (side_of y b').node ≡ (side_of y b).node) → ((y : Role) (c : ℕ) → slot_at y c b' ≡ slot_at y c b)
+    → record (shelf_of b) { records = b'.records } ≡ shelf_of b'
+shelf_records b b' p n h =
+    ap (λ (z : Role → ℕ → Slot). record { records = b'.records; pairs = b.pairs; slots = z; nodes = (shelf_of b).nodes }) (sym (slots_same b b' h))
+    ∙ shelf_same b b' p n
+
+pair_slots : (b : Book) (ps : List PairValue) (y : Role) (c : ℕ) → slot_at y c (record b { pairs = ps }) ≡ slot_at y c b
+pair_slots b ps Dte c = refl
+pair_slots b ps Dce c = refl
+
+pair_nodes : (b : Book) (ps : List PairValue) (y : Role) → (side_of y (record b { pairs = ps })).node ≡ (side_of y b).node
+pair_nodes b ps Dte = refl
+pair_nodes b ps Dce = refl
+
+pub shelf_pairs : (b : Book) (ps : List PairValue) → record (shelf_of b) { pairs = ps } ≡ shelf_of (record b { pairs = ps })
+shelf_pairs b ps =
+    ap (λ (z : Role → ℕ → Slot). record { records = b.records; pairs = ps; slots = z; nodes = (shelf_of b).nodes }) (sym (slots_same b (record b { pairs = ps }) (pair_slots b ps)))
+    ∙ ap (λ (m : Role → ℕ). record { records = b.records; pairs = ps; slots = (shelf_of (record b { pairs = ps })).slots; nodes = m })
+      (all_same (shelf_of b).nodes (shelf_of (record b { pairs = ps })).nodes (λ y. sym (pair_nodes b ps y)))
+
 -- all calls of the channels from k on close
 pub closes_all : (x : Role) (k : ℕ) (reason : Reason) (chs : List Channel) (b : Book) → Closes x b (all_told x (closing_notes k reason chs) b)
 closes_all x k reason [] b = closes_none x b
