@@ -21,13 +21,17 @@ use Rattle.call_records.proofs.Writing.{Closes, shelf_same}
 use Rattle.call_records.proofs.Calling.{spot_is}
 use Rattle.std.proofs.lemmas.Option.{same_Some}
 
+-- in a collision the DTE's call is the one that goes on
+abbrev pub met_mood : Role → Mood
+met_mood Dte = OwnCall
+met_mood Dce = FarCall
+
 abbrev pub mood_of : Role → CallState → Mood
 mood_of x Ready = Idle
 mood_of x OwnWaiting = OwnCall
 mood_of x FarWaiting = FarCall
 mood_of x Transfer = Open
-mood_of Dte Collision = OwnCall
-mood_of Dce Collision = FarCall
+mood_of x Collision = met_mood x
 mood_of x OwnClear = Idle
 
 abbrev pub mood_at : Role → Option Channel → Mood

@@ -11,3 +11,5 @@ mod Writing
 mod Faces
 mod Stories
 mod Steps
+mod Meetings
+mod Outcomes

@@ -184,10 +184,10 @@ pub record ComeStep (x : Role) (e e' y : End) (s d te ty : ℕ) (parts : CallPar
   pub most : d ≤ length (side_of x b).slots
 
 module _ (x : Role) (e e' y : End) (s d te ty : ℕ) (parts : CallParts) (b : Book) (q : ComeStep x e e' y s d te ty parts b) where
-  come_epochs : (k : Spot) (g : ℕ) → epoch_at (face_of x e' te) k g ≡ epoch_at (face_of x e te) k g
+  pub come_epochs : (k : Spot) (g : ℕ) → epoch_at (face_of x e' te) k g ≡ epoch_at (face_of x e te) k g
   come_epochs k g = at_else x e e' s d (λ (a c : Story). c.epochs k.restart k.use_ g ≡ a.epochs k.restart k.use_ g) q.on (λ a. refl) (q.story.epochs k.restart k.use_ g) k.session k.channel
 
-  come_adds : (mood : ℕ → Mood) → mood d ≡ Idle → ((c : ℕ) → c ≢ d → mood c ≡ mood_at x (channel_of e.layer c)) → Adds (record (face_of x e te) { mood = mood }) (face_of x e' te) s d
+  pub come_adds : (mood : ℕ → Mood) → mood d ≡ Idle → ((c : ℕ) → c ≢ d → mood c ≡ mood_at x (channel_of e.layer c)) → Adds (record (face_of x e te) { mood = mood }) (face_of x e' te) s d
   come_adds mood idle same = record {
     session = q.on.session;
     up = q.on.up;
