@@ -13,3 +13,4 @@ mod Stories
 mod Steps
 mod Meetings
 mod Outcomes
+mod Moving
