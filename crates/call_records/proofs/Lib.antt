@@ -14,3 +14,8 @@ mod Steps
 mod Meetings
 mod Outcomes
 mod Moving
+mod Layers
+mod Ends
+mod Events
+mod Placing
+mod Coming

@@ -70,7 +70,7 @@ pub record ChannelStep (n : ℕ) (x : Role) (e e' y : End) (s d ty : ℕ) (ch ch
   pub most : d ≤ n
   pub arrival : (parts : CallParts) → came parts → (ch.state ≡ Ready) ⊎ (ch.state ≡ OwnWaiting) → Arrival e y s d ty parts
 
-abbrev mood_number : Mood → ℕ
+abbrev pub mood_number : Mood → ℕ
 mood_number Idle = 0
 mood_number OwnCall = 1
 mood_number FarCall = 2

@@ -416,7 +416,7 @@ opens_after st = record { restart = refl; uses = refl; epoch = omega arith; epoc
 ends_after : (st : Story) → EndsUse st (next_use_of (grown (λ e. e) st))
 ends_after st = record { further = inr (refl, omega arith); epochs = grown_keeps (λ e. e) (λ e. e) st (λ e. refl) }
 
-abbrev NoCalls : CallParts → Type 0
+abbrev pub NoCalls : CallParts → Type 0
 NoCalls parts = ⊥
 
 -- what was at the front is taken
