@@ -24,11 +24,11 @@ some_is : (o : Option CallParts) (parts : CallParts) → o ≡ Some parts → Is
 some_is o parts e = subst (λ (p : Option CallParts). IsSome p) (sym e) refl
 
 -- a new record has one empty epoch each way
-none_sent : (g : ℕ) → nth_sent (nothing_sent ∷ []) g ≡ nothing_passed
+pub none_sent : (g : ℕ) → nth_sent (nothing_sent ∷ []) g ≡ nothing_passed
 none_sent zero = refl
 none_sent (suc g) = refl
 
-none_taken : (g : ℕ) → nth_taken (nothing_taken ∷ []) g ≡ nothing_passed
+pub none_taken : (g : ℕ) → nth_taken (nothing_taken ∷ []) g ≡ nothing_passed
 none_taken zero = refl
 none_taken (suc g) = refl
 
@@ -194,7 +194,7 @@ number_in Caller = 0
 number_in (Callee k) = k
 number_in Cancelled = 0
 
-callee_number : (a n : ℕ) → Callee a ≡ Callee n → a ≡ n
+pub callee_number : (a n : ℕ) → Callee a ≡ Callee n → a ≡ n
 callee_number a n e = ap number_in e
 
 pub spot_is : (k h : Spot) → k.session ≡ h.session → k.channel ≡ h.channel → k.restart ≡ h.restart → k.use_ ≡ h.use_ → k ≡ h

@@ -116,7 +116,9 @@ restart_in n e y te ty b s c o (Restart cause diagnostic) PacketReady k up phase
 restart_in n e y te ty b s c o RestartConfirmation PacketReady k up phase = closes_calls n e y te ty b s LocalFault (restart_packet PacketReady RestartConfirmation (unread e.layer)) k refl refl (λ p. phase)
 restart_in n e y te ty b s c o (Restart cause diagnostic) OwnRestart k up phase = now_ready n e y te ty b s (restart_packet OwnRestart (Restart cause diagnostic) (unread e.layer)) k up refl refl
 restart_in n e y te ty b s c o RestartConfirmation OwnRestart k up phase = now_ready n e y te ty b s (restart_packet OwnRestart RestartConfirmation (unread e.layer)) k up refl refl
-restart_in n e y te ty b s c o body ph k up phase = counts_only n e y te ty b s (unread e.layer) (λ d st. st) k refl refl refl (λ d st. story_refl st)
+restart_in n e y te ty b s c o body PacketReady k up phase = counts_only n e y te ty b s (unread e.layer) (λ d st. st) k refl refl refl (λ d st. story_refl st)
+restart_in n e y te ty b s c o body OwnRestart k up phase = counts_only n e y te ty b s (unread e.layer) (λ d st. st) k refl refl refl (λ d st. story_refl st)
+restart_in n e y te ty b s c o body NoSession k up phase = counts_only n e y te ty b s (unread e.layer) (λ d st. st) k refl refl refl (λ d st. story_refl st)
 
 -- on a channel
 takes_call : (s : CallState) → (s ≡ Ready) ⊎ (s ≡ OwnWaiting) → TakesCall s

@@ -19,3 +19,7 @@ mod Ends
 mod Events
 mod Placing
 mod Coming
+mod Lines
+mod Starting
+mod LineLaw
+mod BookHolds

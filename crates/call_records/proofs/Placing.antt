@@ -165,7 +165,7 @@ abbrev no_session_phase : Phase → Bool
 no_session_phase NoSession = true
 no_session_phase ph = false
 
-no_session_not_ready : NoSession ≡ PacketReady → ⊥
+pub no_session_not_ready : NoSession ≡ PacketReady → ⊥
 no_session_not_ready p = true≢false (ap no_session_phase p)
 
 pub down_kept : (n : ℕ) (e y : End) (te ty : ℕ) (b : Book) → KeptAt n e.layer.role e y te ty b → KeptAt n e.layer.role (record e { layer = link_down e.layer; session = None }) y te ty (all_told e.layer.role (link_down e.layer).notes b)
