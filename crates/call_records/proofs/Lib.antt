@@ -21,5 +21,4 @@ mod Placing
 mod Coming
 mod Lines
 mod Starting
-mod LineLaw
 mod BookHolds
