@@ -22,3 +22,4 @@ mod Coming
 mod Lines
 mod Starting
 mod BookHolds
+mod Rows
