@@ -1,17 +1,15 @@
 -- A call begins at an end: a record is added, and all else of the book stays right.
-use Rattle.std.specs.Prelude.{◌≡◌, ◌≢◌, ℕ, zero, suc, ◌<◌, ◌≤◌, ◌⊎◌, Bool, true, false, List, [], ◌∷◌, ◌++◌, length, slice_get, Option, Some, None}
+use Rattle.std.specs.Prelude.{◌≡◌, ◌≢◌, ℕ, suc, ◌⊎◌, Bool, true, false, List, [], ◌∷◌, ◌++◌, length, slice_get, Option, Some, None}
 use Rattle.std.proofs.Common.{inl, inr, refl, sym, ap, subst, ◌∙◌, arith, true≢false}
 use Rattle.std.proofs.lemmas.Option.{none-some, same_Some, slice_get_within}
 use Rattle.link_timers.specs.declared.role.Role.{Role}
-use Rattle.link_timers.specs.declared.role.Role.TheVariants.{Dte, Dce}
 use Rattle.link_timers.specs.Role.{other_of}
 use Rattle.packet_layer.specs.Packets.{CallParts}
-use Rattle.packet_layer.specs.History.{Epoch, Story}
 use Rattle.std.specs.Option.{IsSome}
 use Rattle.call_records.specs.Records.{RecordValue, PairValue}
 use Rattle.call_records.specs.Book.{Slot}
-use Rattle.call_records.proofs.Basics.{role_is, is_role, number_is, twice, get_before, get_pushed, get_last, length_pushed}
-use Rattle.call_records.proofs.Scenes.{Face, Mood, Spot, Kind, Tag, Shelf, IsLive, Stands, Means, Fits, Tells, HasEpochs, Present, SlotIs, IsPlaced, PlacedIs, IsPast, IsPair, IsRight, epoch_at, called_at, answered_at, now, spot_in, sent_of, taken_of}
+use Rattle.call_records.proofs.Basics.{role_is, number_is, get_before, get_pushed, length_pushed}
+use Rattle.call_records.proofs.Scenes.{Face, Mood, Spot, Kind, Tag, Shelf, IsLive, Stands, Means, Fits, HasEpochs, Present, SlotIs, PlacedIs, IsPair, IsRight, epoch_at, called_at, answered_at, now, sent_of, taken_of}
 use Rattle.call_records.proofs.Scenes.Mood.{Idle, OwnCall, FarCall, Open}
 use Rattle.call_records.proofs.Scenes.Kind.{Caller, Callee, Cancelled}
 use Rattle.call_records.proofs.Carrying.{slot_same, placed_same, past_same, spot_same}
@@ -100,8 +98,8 @@ module _ (x : Role) (s c : ℕ) (faces faces' : Role → Face) (b : Shelf) (slot
       let here : t.spot.channel ≡ c = ap (λ (k : Spot). k.channel) spot in
       let when : t.spot.session ≡ s = ap (λ (k : Spot). k.session) spot in
       let is : (b.slots x c).present ≡ Some n =
-        sym (ap (λ (d : ℕ). (b.slots x d).present) here)
-        ∙ st.present (q.here.up ∙ ap (λ (k : ℕ). Some k) (sym when)) (spot ∙ ap (λ (k : ℕ). now (faces x) k c) (sym when) ∙ ap (λ (d : ℕ). now (faces x) t.spot.session d) (sym here)) live in
+      sym (ap (λ (d : ℕ). (b.slots x d).present) here)
+      ∙ st.present (q.here.up ∙ ap (λ (k : ℕ). Some k) (sym when)) (spot ∙ ap (λ (k : ℕ). now (faces x) k c) (sym when) ∙ ap (λ (d : ℕ). now (faces x) t.spot.session d) (sym here)) live in
       let none : (b.slots x c).present ≡ None = subst (λ (m : Mood). SlotIs m (faces x) tags x c (b.slots x c)) q.here.idle (w.slot x c) in
       none-some n (sym none ∙ is)
 
@@ -113,8 +111,8 @@ module _ (x : Role) (s c : ℕ) (faces faces' : Role → Face) (b : Shelf) (slot
     begun = q.here.begun t.spot o.begun;
     past = λ up. past_same t.spot ((faces x).stories t.spot.session t.spot.channel) ((faces' x).stories t.spot.session t.spot.channel) (q.here.restart t.spot.session t.spot.channel) (q.here.uses t.spot.session t.spot.channel) (o.past (sym q.here.session ∙ up));
     present = λ up is live.
-      let when : s ≡ t.spot.session = same_Some s t.spot.session (sym q.here.up ∙ sym q.here.session ∙ up) in
-      absurd (free_now n t there role (is ∙ now_is t.spot.session t.spot.channel ∙ ap (λ (d : ℕ). now (faces x) t.spot.session d) here ∙ ap (λ (k : ℕ). now (faces x) k c) (sym when)) live);
+        let when : s ≡ t.spot.session = same_Some s t.spot.session (sym q.here.up ∙ sym q.here.session ∙ up) in
+        absurd (free_now n t there role (is ∙ now_is t.spot.session t.spot.channel ∙ ap (λ (d : ℕ). now (faces x) t.spot.session d) here ∙ ap (λ (k : ℕ). now (faces x) k c) (sym when)) live);
   }
   old_stands_here n t there role (inr other) o = record {
     begun = q.here.begun t.spot o.begun;
@@ -153,9 +151,9 @@ module _ (x : Role) (s c : ℕ) (faces faces' : Role → Face) (b : Shelf) (slot
   called_of y k =
       elim (role_is x y) [
         | inl e ↦ subst (λ (z : Role). CalledOf z k) (sym e) (elim (q.here.called k) [
-            | inl h ↦ inl h
-            | inr h ↦ inr (refl, h.0, h.1)
-          ])
+          | inl h ↦ inl h
+          | inr h ↦ inr (refl, h.0, h.1)
+        ])
         | inr e ↦ subst (λ (z : Role). CalledOf z k) (sym e) (inl (ap (λ (f : Face). called_at f k) q.there))
       ]
 
@@ -256,15 +254,15 @@ module _ (x : Role) (s c : ℕ) (faces faces' : Role → Face) (b : Shelf) (slot
   fits_of n t r e got =
       elim (get_pushed tags t0 n t e) [
         | inl h ↦ elim (get_pushed b.records r0 n r got) [
-            | inl g ↦ old_fits n t r (w.fits n t r h g)
-            | inr g ↦ absurd (let l = slice_get_within tags n t h in let a = g.0 in let m = w.count in omega arith)
-          ]
+          | inl g ↦ old_fits n t r (w.fits n t r h g)
+          | inr g ↦ absurd (let l = slice_get_within tags n t h in let a = g.0 in let m = w.count in omega arith)
+        ]
         | inr h ↦ elim (get_pushed b.records r0 n r got) [
-            | inl g ↦ absurd (let l = slice_get_within b.records n r g in let a = h.0 in let m = w.count in omega arith)
-            | inr g ↦ subst (λ (z : RecordValue). Fits (faces' t.role) (b.nodes t.role) n t z) (sym g.1)
-                (subst (λ (u : Tag). Fits (faces' u.role) (b.nodes u.role) n u r0) (sym h.1)
-                (subst (λ (y : Role). Fits (faces' y) (b.nodes y) n t0 r0) (sym q.role) (subst (λ (m : ℕ). Fits (faces' x) (b.nodes x) m t0 r0) (sym g.0) q.fits)))
-          ]
+          | inl g ↦ absurd (let l = slice_get_within b.records n r g in let a = h.0 in let m = w.count in omega arith)
+          | inr g ↦ subst (λ (z : RecordValue). Fits (faces' t.role) (b.nodes t.role) n t z) (sym g.1)
+              (subst (λ (u : Tag). Fits (faces' u.role) (b.nodes u.role) n u r0) (sym h.1)
+              (subst (λ (y : Role). Fits (faces' y) (b.nodes y) n t0 r0) (sym q.role) (subst (λ (m : ℕ). Fits (faces' x) (b.nodes x) m t0 r0) (sym g.0) q.fits)))
+        ]
       ]
 
   slot_here : (d : ℕ) → (d ≡ c) ⊎ (d ≢ c) → SlotIs ((faces' x).mood d) (faces' x) (tags ++ t0 ∷ []) x d (slots x d)
@@ -324,13 +322,13 @@ module _ (x : Role) (s c : ℕ) (faces faces' : Role → Face) (b : Shelf) (slot
   alone_of i j t u ei ej lt lu role spot =
       elim (get_pushed tags t0 i t ei) [
         | inl h ↦ elim (get_pushed tags t0 j u ej) [
-            | inl g ↦ w.alone i j t u h g lt lu role spot
-            | inr g ↦ absurd (alone_new i t h lt (role ∙ ap (λ (z : Tag). z.role) g.1) (spot ∙ ap (λ (z : Tag). z.spot) g.1))
-          ]
+          | inl g ↦ w.alone i j t u h g lt lu role spot
+          | inr g ↦ absurd (alone_new i t h lt (role ∙ ap (λ (z : Tag). z.role) g.1) (spot ∙ ap (λ (z : Tag). z.spot) g.1))
+        ]
         | inr h ↦ elim (get_pushed tags t0 j u ej) [
-            | inl g ↦ absurd (alone_new j u g lu (sym role ∙ ap (λ (z : Tag). z.role) h.1) (sym spot ∙ ap (λ (z : Tag). z.spot) h.1))
-            | inr g ↦ h.0 ∙ sym g.0
-          ]
+          | inl g ↦ absurd (alone_new j u g lu (sym role ∙ ap (λ (z : Tag). z.role) h.1) (sym spot ∙ ap (λ (z : Tag). z.spot) h.1))
+          | inr g ↦ h.0 ∙ sym g.0
+        ]
       ]
 
   pairs_of : (i : ℕ) (p : PairValue) → slice_get b.pairs i ≡ Some p → IsPair faces' (tags ++ t0 ∷ []) p

@@ -1,19 +1,15 @@
 -- An end accepts the call that came in: its record and that of the caller are a pair, and all else of the book stays right.
-use Rattle.std.specs.Prelude.{◌≡◌, ◌≢◌, ℕ, zero, suc, ◌<◌, ◌≤◌, ◌⊎◌, Bool, true, false, List, [], ◌∷◌, ◌++◌, length, slice_get, Option, Some, None}
+use Rattle.std.specs.Prelude.{◌≡◌, ◌≢◌, ℕ, ◌⊎◌, true, false, List, [], ◌∷◌, ◌++◌, length, slice_get, Option, Some}
 use Rattle.std.proofs.Common.{inl, inr, refl, sym, ap, subst, ◌∙◌, arith, true≢false}
-use Rattle.std.proofs.lemmas.Option.{none-some, same_Some, slice_get_within}
 use Rattle.link_timers.specs.declared.role.Role.{Role}
-use Rattle.link_timers.specs.declared.role.Role.TheVariants.{Dte, Dce}
 use Rattle.link_timers.specs.Role.{other_of}
 use Rattle.packet_layer.specs.Packets.{CallParts}
-use Rattle.packet_layer.specs.History.{Epoch, Story}
 use Rattle.std.specs.Option.{IsSome}
 use Rattle.call_records.specs.Records.{RecordValue, PairValue}
-use Rattle.call_records.specs.Book.{Slot}
-use Rattle.call_records.proofs.Basics.{role_is, is_role, number_is, twice, get_before, get_pushed, get_last}
-use Rattle.call_records.proofs.Scenes.{Face, Mood, Spot, Kind, Tag, Shelf, IsLive, Stands, Means, Fits, Tells, HasEpochs, Present, SlotIs, IsPlaced, PlacedIs, IsPair, IsPaired, IsRight, caller_of, callee_of, epoch_at, called_at, answered_at, now, sent_of, taken_of}
-use Rattle.call_records.proofs.Scenes.Mood.{Idle, OwnCall, FarCall, Open}
-use Rattle.call_records.proofs.Scenes.Kind.{Caller, Callee, Cancelled}
+use Rattle.call_records.proofs.Basics.{role_is, number_is, twice, get_before, get_pushed, get_last}
+use Rattle.call_records.proofs.Scenes.{Face, Mood, Spot, Tag, Shelf, IsLive, Stands, Means, Fits, HasEpochs, Present, SlotIs, IsPair, IsPaired, IsRight, caller_of, callee_of, epoch_at, called_at, answered_at, now, sent_of, taken_of}
+use Rattle.call_records.proofs.Scenes.Mood.{FarCall, Open}
+use Rattle.call_records.proofs.Scenes.Kind.{Caller, Callee}
 use Rattle.call_records.proofs.Carrying.{SameEnd, same_end, stands_same, slot_same, placed_same, now_same, is_present, same_tag}
 use Rattle.call_records.proofs.Cancelling.{caller_not_callee, caller_not_cancelled, callee_not_cancelled}
 
@@ -65,9 +61,9 @@ module _ (x : Role) (c : ℕ) (faces faces' : Role → Face) (b : Shelf) (tags :
   answered_of y k =
       elim (role_is x y) [
         | inl e ↦ subst (λ (z : Role). AnsweredOf z k) (sym e) (elim (q.here.answered k) [
-            | inl h ↦ inl h
-            | inr h ↦ inr (refl, h)
-          ])
+          | inl h ↦ inl h
+          | inr h ↦ inr (refl, h)
+        ])
         | inr e ↦ subst (λ (z : Role). AnsweredOf z k) (sym e) (inl (ap (λ (f : Face). answered_at f k) q.there))
       ]
 
@@ -167,7 +163,7 @@ module _ (x : Role) (c : ℕ) (faces faces' : Role → Face) (b : Shelf) (tags :
         };
         none = o.none;
         epochs = λ up is live. subst (λ (m : ℕ). HasEpochs r m) (sym (k.2 t.spot.session t.spot.channel))
-          (o.epochs (sym s.session ∙ up) (is ∙ now_same (faces t.role) (faces' t.role) s t.spot.session t.spot.channel) live);
+            (o.epochs (sym s.session ∙ up) (is ∙ now_same (faces t.role) (faces' t.role) s t.spot.session t.spot.channel) live);
       }
 
   slot_else : (y : Role) (d : ℕ) → (faces' y).mood d ≡ (faces y).mood d → SlotIs ((faces' y).mood d) (faces' y) tags y d (b.slots y d)
@@ -182,9 +178,9 @@ module _ (x : Role) (c : ℕ) (faces faces' : Role → Face) (b : Shelf) (tags :
   slot_of y d =
       elim (role_is x y) [
         | inl e ↦ subst (λ (z : Role). SlotIs ((faces' z).mood d) (faces' z) tags z d (b.slots z d)) (sym e) (elim (number_is d c) [
-            | inl h ↦ subst (λ (k : ℕ). SlotIs ((faces' x).mood k) (faces' x) tags x k (b.slots x k)) (sym h) slot_own
-            | inr h ↦ slot_else x d (q.here.mood d h)
-          ])
+          | inl h ↦ subst (λ (k : ℕ). SlotIs ((faces' x).mood k) (faces' x) tags x k (b.slots x k)) (sym h) slot_own
+          | inr h ↦ slot_else x d (q.here.mood d h)
+        ])
         | inr e ↦ subst (λ (z : Role). SlotIs ((faces' z).mood d) (faces' z) tags z d (b.slots z d)) (sym e) (slot_else (other_of x) d (ap (λ (f : Face). f.mood d) q.there))
       ]
 
@@ -218,13 +214,13 @@ module _ (x : Role) (c : ℕ) (faces faces' : Role → Face) (b : Shelf) (tags :
   once_of i j p r ei ej e =
       elim (get_pushed b.pairs pair i p ei) [
         | inl h ↦ elim (get_pushed b.pairs pair j r ej) [
-            | inl g ↦ w.once i j p r h g e
-            | inr g ↦ absurd (not_paired i p h (e ∙ ap callee_of g.1))
-          ]
+          | inl g ↦ w.once i j p r h g e
+          | inr g ↦ absurd (not_paired i p h (e ∙ ap callee_of g.1))
+        ]
         | inr h ↦ elim (get_pushed b.pairs pair j r ej) [
-            | inl g ↦ absurd (not_paired j r g (sym e ∙ ap callee_of h.1))
-            | inr g ↦ h.0 ∙ sym g.0
-          ]
+          | inl g ↦ absurd (not_paired j r g (sym e ∙ ap callee_of h.1))
+          | inr g ↦ h.0 ∙ sym g.0
+        ]
       ]
 
   pub answered_right : IsRight faces' (record b { pairs = b.pairs ++ record { caller = a; callee = n0 } ∷ [] }) tags

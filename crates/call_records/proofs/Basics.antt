@@ -1,8 +1,8 @@
 -- Small facts of lists, numbers and roles.
-use Rattle.std.proofs.Common.{◌≡◌, ◌≢◌, ℕ, zero, suc, ◌<◌, ◌≤◌, ◌⊎◌, inl, inr, Bool, true, false, cond, ◌==◌, List, [], ◌∷◌, ◌++◌, length, set, Option, Some, None, refl, sym, ap, subst, ◌∙◌, arith, true≢false}
+use Rattle.std.proofs.Common.{◌≡◌, ◌≢◌, ℕ, zero, suc, ◌<◌, ◌≤◌, ◌⊎◌, inl, inr, Bool, true, false, cond, ◌==◌, List, [], ◌∷◌, ◌++◌, length, set, Some, refl, sym, ap, ◌∙◌, arith, true≢false}
 use Rattle.std.specs.Prelude.{slice_get}
-use Rattle.std.proofs.lemmas.Option.{none-some, same_Some, slice_get_within}
-use Rattle.std.proofs.lemmas.Bool.{eq-eqb, ne_eqb, cases_eq}
+use Rattle.std.proofs.lemmas.Option.{none-some, same_Some}
+use Rattle.std.proofs.lemmas.Bool.{eq-eqb, cases_eq}
 use Rattle.link_timers.specs.declared.role.Role.{Role}
 use Rattle.link_timers.specs.declared.role.Role.TheVariants.{Dte, Dce}
 use Rattle.link_timers.specs.Role.{other_of}
@@ -45,11 +45,14 @@ get_changed (r ∷ rs) zero f zero r' e = (r, refl, inl (refl, sym (same_Some (f
 get_changed (r ∷ rs) zero f (suc m) r' e = (r', e, inr (λ h. omega arith, refl))
 get_changed (r ∷ rs) (suc n) f zero r' e = (r, refl, inr (λ h. omega arith, sym (same_Some r r' e)))
 get_changed (r ∷ rs) (suc n) f (suc m) r' e =
-    let h = get_changed rs n f m r' e in
-    (h.0, h.1, elim h.2 [
-      | inl q ↦ inl (ap suc q.0, q.1)
-      | inr q ↦ inr (suc_ne q.0, q.1)
-    ])
+    let h = get_changed rs n f m r' e in (
+      h.0,
+      h.1,
+      elim h.2 [
+        | inl q ↦ inl (ap suc q.0, q.1)
+        | inr q ↦ inr (suc_ne q.0, q.1)
+      ],
+    )
 
 pub length_changed : (rs : List RecordValue) (n : ℕ) (f : RecordValue → RecordValue) → length (changed_at n f rs) ≡ length rs
 length_changed [] n f = refl

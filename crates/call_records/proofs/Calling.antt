@@ -1,21 +1,20 @@
 -- A call is placed, and a call comes in: the record that it makes.
-use Rattle.std.specs.Prelude.{◌≡◌, ◌≢◌, ℕ, zero, suc, ◌<◌, ◌≤◌, ◌⊎◌, Bool, true, false, List, [], ◌∷◌, ◌++◌, length, slice_get, Option, Some, None}
+use Rattle.std.specs.Prelude.{◌≡◌, ◌≢◌, ℕ, zero, suc, ◌≤◌, true, false, List, [], ◌∷◌, ◌++◌, length, slice_get, Option, Some, None}
 use Rattle.std.proofs.Common.{inl, inr, refl, sym, ap, subst, ◌∙◌, arith, true≢false}
-use Rattle.std.proofs.lemmas.Option.{none-some, same_Some, slice_get_within}
+use Rattle.std.proofs.lemmas.Option.{same_Some, slice_get_within}
 use Rattle.epochs.specs.Epoch.{nothing_sent, nothing_taken}
 use Rattle.link_timers.specs.declared.role.Role.{Role}
-use Rattle.link_timers.specs.declared.role.Role.TheVariants.{Dte, Dce}
+use Rattle.link_timers.specs.declared.role.Role.TheVariants.{Dte}
 use Rattle.link_timers.specs.Role.{other_of}
 use Rattle.packet_layer.specs.Packets.{CallParts}
-use Rattle.packet_layer.specs.History.{Epoch, Story}
 use Rattle.std.specs.Option.{IsSome}
-use Rattle.call_records.specs.Records.{RecordValue, PairValue, new_record}
+use Rattle.call_records.specs.Records.{new_record}
 use Rattle.call_records.specs.Book.{Slot, address_of}
-use Rattle.call_records.proofs.Basics.{role_is, is_role, number_is, twice, get_last, get_before}
-use Rattle.call_records.proofs.Scenes.{Face, Mood, Spot, Kind, Tag, Shelf, IsLive, Stands, Means, Fits, Tells, HasEpochs, Present, SlotIs, IsPlaced, PlacedIs, UpTo, IsPast, IsRight, IsCallee, epoch_at, called_at, answered_at, now, spot_in, sent_of, taken_of, nth_sent, nth_taken, nothing_passed}
-use Rattle.call_records.proofs.Scenes.Mood.{Idle, OwnCall, FarCall, Open}
+use Rattle.call_records.proofs.Basics.{twice, get_last, get_before}
+use Rattle.call_records.proofs.Scenes.{Face, Mood, Spot, Kind, Tag, Shelf, Stands, Means, Fits, Tells, HasEpochs, Present, SlotIs, IsPlaced, PlacedIs, UpTo, IsPast, IsRight, IsCallee, epoch_at, called_at, answered_at, now, sent_of, taken_of, nth_sent, nth_taken, nothing_passed}
+use Rattle.call_records.proofs.Scenes.Mood.{OwnCall, FarCall}
 use Rattle.call_records.proofs.Scenes.Kind.{Caller, Callee, Cancelled}
-use Rattle.call_records.proofs.Carrying.{same_tag, spot_same, placed_same}
+use Rattle.call_records.proofs.Carrying.{spot_same, placed_same}
 use Rattle.call_records.proofs.Cancelling.{caller_not_callee, caller_not_cancelled, callee_not_cancelled, none_is_not_some}
 use Rattle.call_records.proofs.Adding.{Adds, Begins, added_right, placed_more}
 use Rattle.call_records.proofs.Concluding.{kind_cases}
@@ -49,7 +48,7 @@ module _ (f f' : Face) (s c node n : ℕ) (slots : ℕ → Slot) (own far : Opti
   new_stands t e here = record {
     begun = subst (λ (k : Spot). f'.begun k ≡ true) (sym e) (q.begun (now f s c) new.begun);
     past = λ up. subst (λ (k : Spot). IsPast k (f'.stories k.session k.channel)) (sym e)
-      (record { restarts = let h = q.restart s c in omega arith; uses = λ a. let h = q.uses s c in omega arith });
+        (record { restarts = let h = q.restart s c in omega arith; uses = λ a. let h = q.uses s c in omega arith });
     present = λ up is live. ap (λ (k : Spot). (slots k.channel).present) e ∙ here;
   }
 
@@ -65,7 +64,7 @@ module _ (f f' : Face) (s c node n : ℕ) (slots : ℕ → Slot) (own far : Opti
     });
     none = λ k. absurd (live k);
     epochs = λ up is l. subst (λ (k : Spot). HasEpochs (new_record n node own far) (f'.stories k.session k.channel).epoch) (sym e)
-      (record { sent = sym (q.epoch s c ∙ new.first); taken = sym (q.epoch s c ∙ new.first) });
+        (record { sent = sym (q.epoch s c ∙ new.first); taken = sym (q.epoch s c ∙ new.first) });
   }
 
 -- ---- a call is placed
@@ -106,12 +105,12 @@ module _ (x : Role) (s c : ℕ) (parts : CallParts) (faces faces' : Role → Fac
   last k e some =
       elim (q.here.called k) [
         | inl h ↦
-          let old : IsSome (called_at (faces x) k) = subst (λ (p : Option CallParts). IsSome p) h some in
-          record {
-            sessions = before (b.slots x c).placed (w.placed x c) k e old;
-            restarts = λ a. (q.earlier k a e old).restarts;
-            uses = λ a r. (q.earlier k a e old).uses r;
-          }
+            let old : IsSome (called_at (faces x) k) = subst (λ (p : Option CallParts). IsSome p) h some in
+            record {
+              sessions = before (b.slots x c).placed (w.placed x c) k e old;
+              restarts = λ a. (q.earlier k a e old).restarts;
+              uses = λ a r. (q.earlier k a e old).uses r;
+            }
         | inr h ↦ subst (λ (z : Spot). UpTo z (now (faces x) s c)) (sym h.0) (record { sessions = omega arith; restarts = λ a. omega arith; uses = λ a r. omega arith })
       ]
 
@@ -251,10 +250,10 @@ module _ (x : Role) (s c : ℕ) (parts : CallParts) (faces faces' : Role → Fac
             | inl h ↦ h
             | inr (inl h) ↦ absurd (p.placed h.0 h.1)
             | inr (inr h) ↦
-              let z = (w.means n p.tag p.there).cancelled h in
-              let mine : other_of p.tag.role ≡ x = ap other_of p.role ∙ twice x in
-              let dte : x ≡ Dte = sym mine ∙ ap other_of z.role in
-              absurd (none_is_not_some (called_at (faces x) K) (q.free dte)
+                let z = (w.means n p.tag p.there).cancelled h in
+                let mine : other_of p.tag.role ≡ x = ap other_of p.role ∙ twice x in
+                let dte : x ≡ Dte = sym mine ∙ ap other_of z.role in
+                absurd (none_is_not_some (called_at (faces x) K) (q.free dte)
                 (subst (λ (k : Spot). IsSome (called_at (faces x) k)) spot (subst (λ (y : Role). IsSome (called_at (faces y) p.tag.spot)) mine z.met)))
           ]
 
@@ -318,7 +317,7 @@ module _ (x : Role) (s c : ℕ) (parts : CallParts) (faces faces' : Role → Fac
     fits = new_fits (faces x) (faces' x) s c (b.nodes x) (length b.records) (slots x) (address_of parts.called) (address_of parts.calling) Caller q.here q.new come_tag refl refl refl (callee_not_cancelled mate.number);
     slot = subst (λ (m : Mood). SlotIs m (faces' x) (tags ++ come_tag ∷ []) x c (slots x c)) (sym q.mood) (come_present, mate.number, refl, ap (λ (z : Slot). z.caller) q.slot ∙ mate.is_placed);
     placed = subst (λ (o : Option ℕ). PlacedIs o (faces' x) (tags ++ come_tag ∷ []) x c) (sym (ap (λ (z : Slot). z.placed) q.slot))
-      (placed_same (b.slots x c).placed (faces x) (faces' x) (tags ++ come_tag ∷ []) x c (let h = q.here.top in omega arith) (λ k e. q.called k) (placed_more (b.slots x c).placed (faces x) tags (come_tag ∷ []) x c (w.placed x c)));
+        (placed_same (b.slots x c).placed (faces x) (faces' x) (tags ++ come_tag ∷ []) x c (let h = q.here.top in omega arith) (λ k e. q.called k) (placed_more (b.slots x c).placed (faces x) tags (come_tag ∷ []) x c (w.placed x c)));
   }
 
   pub coming_right : (tags' : List Tag) × IsRight faces' (record b { slots = slots; records = b.records ++ new_record (length b.records) (b.nodes x) (address_of parts.called) (address_of parts.calling) ∷ [] }) tags'

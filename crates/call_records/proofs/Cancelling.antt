@@ -1,17 +1,16 @@
 -- In a collision the DCE's own call is cancelled, and the book stays right.
-use Rattle.std.specs.Prelude.{◌≡◌, ◌≢◌, ℕ, zero, suc, ◌<◌, ◌≤◌, ◌⊎◌, Bool, true, false, List, [], ◌∷◌, ◌++◌, length, set, slice_get, Option, Some, None}
+use Rattle.std.specs.Prelude.{◌≡◌, ◌≢◌, ℕ, ◌≤◌, List, length, set, slice_get, Option, Some, None}
 use Rattle.std.proofs.Common.{inl, inr, refl, sym, ap, subst, ◌∙◌, arith, true≢false}
-use Rattle.std.proofs.lemmas.Option.{none-some, same_Some}
+use Rattle.std.proofs.lemmas.Option.{same_Some}
 use Rattle.link_timers.specs.declared.role.Role.{Role}
 use Rattle.link_timers.specs.declared.role.Role.TheVariants.{Dte, Dce}
 use Rattle.link_timers.specs.Role.{other_of}
 use Rattle.packet_layer.specs.Packets.{CallParts}
-use Rattle.packet_layer.specs.History.{Epoch, Story}
 use Rattle.std.specs.Option.{IsSome}
 use Rattle.call_records.specs.Records.{RecordValue, PairValue}
 use Rattle.call_records.specs.Book.{Slot}
-use Rattle.call_records.proofs.Basics.{role_is, is_role, number_is, twice, other_differs, get_set, set_here, set_elsewhere, length_set}
-use Rattle.call_records.proofs.Scenes.{Face, Mood, Spot, Kind, Tag, Shelf, IsLive, Stands, Means, Fits, Tells, HasEpochs, Present, SlotIs, IsPlaced, PlacedIs, UpTo, IsPast, IsPair, IsRight, TookNone, epoch_at, called_at, answered_at, now, sent_of, taken_of, nth_taken, all_taken, nothing_passed}
+use Rattle.call_records.proofs.Basics.{is_role, number_is, twice, get_set, set_here, set_elsewhere, length_set}
+use Rattle.call_records.proofs.Scenes.{Face, Mood, Spot, Kind, Tag, Shelf, IsLive, Stands, Means, Fits, Present, SlotIs, PlacedIs, UpTo, IsPair, IsRight, epoch_at, called_at, now, taken_of, nothing_passed}
 use Rattle.call_records.proofs.Scenes.Mood.{Idle, OwnCall, FarCall, Open}
 use Rattle.call_records.proofs.Scenes.Kind.{Caller, Callee, Cancelled}
 use Rattle.call_records.proofs.Carrying.{is_present, same_tag}
@@ -72,34 +71,34 @@ placed_kind None f m tags n t x c there w = w
 placed_kind (Some k) f m tags n t x c there w =
     elim (number_is k n) [
       | inl e ↦
-        let is : w.tag ≡ t = same_tag tags n w.tag t (ap (λ (i : ℕ). slice_get tags i) (sym e) ∙ w.there) there in
-        let spot : w.tag.spot ≡ t.spot = ap (λ (u : Tag). u.spot) is in
-        record {
-          tag = cancelled_tag t;
-          parts = w.parts;
-          there = ap (λ (i : ℕ). slice_get (set tags n (cancelled_tag t)) i) e ∙ set_here tags n (cancelled_tag t) t there;
-          role = ap (λ (u : Tag). u.role) (sym is) ∙ w.role;
-          channel = ap (λ (u : Spot). u.channel) (sym spot) ∙ w.channel;
-          session = subst (λ (u : Spot). u.session ≤ f.top) spot w.session;
-          called = ap (λ (u : Spot). called_at f u) (sym spot) ∙ w.called;
-          calling = w.calling;
-          far = ap (λ (u : Tag). u.far) (sym is) ∙ w.far;
-          placed = λ a e. callee_not_cancelled a (sym e);
-          last = λ h ch some. subst (λ (u : Spot). UpTo h u) spot (w.last h ch some);
-        }
+          let is : w.tag ≡ t = same_tag tags n w.tag t (ap (λ (i : ℕ). slice_get tags i) (sym e) ∙ w.there) there in
+          let spot : w.tag.spot ≡ t.spot = ap (λ (u : Tag). u.spot) is in
+          record {
+            tag = cancelled_tag t;
+            parts = w.parts;
+            there = ap (λ (i : ℕ). slice_get (set tags n (cancelled_tag t)) i) e ∙ set_here tags n (cancelled_tag t) t there;
+            role = ap (λ (u : Tag). u.role) (sym is) ∙ w.role;
+            channel = ap (λ (u : Spot). u.channel) (sym spot) ∙ w.channel;
+            session = subst (λ (u : Spot). u.session ≤ f.top) spot w.session;
+            called = ap (λ (u : Spot). called_at f u) (sym spot) ∙ w.called;
+            calling = w.calling;
+            far = ap (λ (u : Tag). u.far) (sym is) ∙ w.far;
+            placed = λ a e. callee_not_cancelled a (sym e);
+            last = λ h ch some. subst (λ (u : Spot). UpTo h u) spot (w.last h ch some);
+          }
       | inr e ↦ record {
-          tag = w.tag;
-          parts = w.parts;
-          there = set_elsewhere tags n k (cancelled_tag t) e ∙ w.there;
-          role = w.role;
-          channel = w.channel;
-          session = w.session;
-          called = w.called;
-          calling = w.calling;
-          far = w.far;
-          placed = w.placed;
-          last = w.last;
-        }
+        tag = w.tag;
+        parts = w.parts;
+        there = set_elsewhere tags n k (cancelled_tag t) e ∙ w.there;
+        role = w.role;
+        channel = w.channel;
+        session = w.session;
+        called = w.called;
+        calling = w.calling;
+        far = w.far;
+        placed = w.placed;
+        last = w.last;
+      }
     ]
 
 abbrev present_else : (f : Face) (m : ℕ → Mood) (tags : List Tag) (n : ℕ) (t : Tag) (x : Role) (c : ℕ) (slot : Slot) → (p : Present f tags x c slot) → p.number ≢ n → Present (record f { mood = m }) (set tags n t) x c slot
@@ -139,10 +138,10 @@ module _ (x : Role) (c : ℕ) (faces : Role → Face) (mood : Role → ℕ → M
         past = o.past;
         present = λ up is live. elim (is_role x t.role) [
           | inl e ↦ elim (number_is t.spot.channel c) [
-              | inl h ↦ absurd (other (is_present (faces x) (b.slots x) tags x c q.own n t (subst (λ (y : Role). Stands (faces y) (b.slots y) n t) e o)
-                  (at_now t e h up is) live))
-              | inr h ↦ ap (λ (z : Slot). z.present) (q.slots_else t.role t.spot.channel (λ p. h p.1)) ∙ o.present up is live
-            ]
+            | inl h ↦ absurd (other (is_present (faces x) (b.slots x) tags x c q.own n t (subst (λ (y : Role). Stands (faces y) (b.slots y) n t) e o)
+                (at_now t e h up is) live))
+            | inr h ↦ ap (λ (z : Slot). z.present) (q.slots_else t.role t.spot.channel (λ p. h p.1)) ∙ o.present up is live
+          ]
           | inr e ↦ ap (λ (z : Slot). z.present) (q.slots_else t.role t.spot.channel (λ p. e p.0)) ∙ o.present up is live
         ];
       }
@@ -268,9 +267,9 @@ module _ (x : Role) (c : ℕ) (faces : Role → Face) (mood : Role → ℕ → M
   slot_of y d =
       elim (is_role x y) [
         | inl e ↦ elim (number_is d c) [
-            | inl h ↦ subst (λ (z : Role). SlotIs (mood z d) (with_moods mood faces z) tags' z d (slots z d)) (sym e) (subst (λ (k : ℕ). SlotIs (mood x k) (with_moods mood faces x) tags' x k (slots x k)) (sym h) slot_own)
-            | inr h ↦ slot_other y d (λ p. h p.1)
-          ]
+          | inl h ↦ subst (λ (z : Role). SlotIs (mood z d) (with_moods mood faces z) tags' z d (slots z d)) (sym e) (subst (λ (k : ℕ). SlotIs (mood x k) (with_moods mood faces x) tags' x k (slots x k)) (sym h) slot_own)
+          | inr h ↦ slot_other y d (λ p. h p.1)
+        ]
         | inr e ↦ slot_other y d (λ p. e p.0)
       ]
 
@@ -278,9 +277,9 @@ module _ (x : Role) (c : ℕ) (faces : Role → Face) (mood : Role → ℕ → M
   same_placed y d =
       elim (is_role x y) [
         | inl e ↦ elim (number_is d c) [
-            | inl h ↦ subst (λ (z : Role). (slots z d).placed ≡ (b.slots z d).placed) (sym e) (subst (λ (k : ℕ). (slots x k).placed ≡ (b.slots x k).placed) (sym h) q.placed)
-            | inr h ↦ ap (λ (z : Slot). z.placed) (q.slots_else y d (λ p. h p.1))
-          ]
+          | inl h ↦ subst (λ (z : Role). (slots z d).placed ≡ (b.slots z d).placed) (sym e) (subst (λ (k : ℕ). (slots x k).placed ≡ (b.slots x k).placed) (sym h) q.placed)
+          | inr h ↦ ap (λ (z : Slot). z.placed) (q.slots_else y d (λ p. h p.1))
+        ]
         | inr e ↦ ap (λ (z : Slot). z.placed) (q.slots_else y d (λ p. e p.0))
       ]
 
@@ -299,7 +298,7 @@ module _ (x : Role) (c : ℕ) (faces : Role → Face) (mood : Role → ℕ → M
   pairs_of i p e =
       let o = w.pairs i p e in
       let other : p.callee ≢ q.own.number = λ h.
-        caller_not_callee p.caller (sym q.kind ∙ ap (λ (u : Tag). u.kind) (same_tag tags q.own.number q.own.tag o.tag q.own.there (ap (λ (k : ℕ). slice_get tags k) (sym h) ∙ o.there)) ∙ o.kind) in
+      caller_not_callee p.caller (sym q.kind ∙ ap (λ (u : Tag). u.kind) (same_tag tags q.own.number q.own.tag o.tag q.own.there (ap (λ (k : ℕ). slice_get tags k) (sym h) ∙ o.there)) ∙ o.kind) in
       record {
         tag = o.tag;
         there = set_elsewhere tags q.own.number p.callee (cancelled_tag q.own.tag) other ∙ o.there;

@@ -1,19 +1,17 @@
 -- A call goes on: its record grows by what its end does in the present use, and all else of the book stays right.
-use Rattle.std.specs.Prelude.{◌≡◌, ◌≢◌, ℕ, zero, suc, ◌<◌, ◌≤◌, ◌⊎◌, Bool, true, false, List, [], ◌∷◌, ◌++◌, length, slice_get, Option, Some, None}
+use Rattle.std.specs.Prelude.{◌≡◌, ◌≢◌, ℕ, ◌≤◌, ◌⊎◌, true, List, length, slice_get, Option, Some, None}
 use Rattle.std.proofs.Common.{inl, inr, refl, sym, ap, subst, ◌∙◌, arith}
-use Rattle.std.proofs.lemmas.Option.{none-some, same_Some}
+use Rattle.std.proofs.lemmas.Option.{same_Some}
 use Rattle.link_timers.specs.declared.role.Role.{Role}
-use Rattle.link_timers.specs.declared.role.Role.TheVariants.{Dte, Dce}
 use Rattle.link_timers.specs.Role.{other_of}
 use Rattle.packet_layer.specs.Packets.{CallParts}
-use Rattle.packet_layer.specs.History.{Epoch, Story}
+use Rattle.packet_layer.specs.History.{Story}
 use Rattle.std.specs.Option.{IsSome}
 use Rattle.call_records.specs.Records.{RecordValue, PairValue}
 use Rattle.call_records.specs.Book.{Slot}
 use Rattle.call_records.proofs.Basics.{is_role, number_is}
-use Rattle.call_records.proofs.Scenes.{Face, Mood, Spot, Kind, Tag, Shelf, IsLive, Stands, Means, Fits, IsCaller, IsCallee, IsCancelled, Tells, HasEpochs, Present, SlotIs, IsPlaced, PlacedIs, UpTo, IsPast, IsPair, IsRight, epoch_at, called_at, answered_at, now, spot_in, caller_of, callee_of, sent_of, taken_of}
+use Rattle.call_records.proofs.Scenes.{Face, Mood, Spot, Tag, Shelf, IsLive, Stands, Means, Fits, Tells, HasEpochs, Present, SlotIs, PlacedIs, IsPast, IsPair, IsRight, epoch_at, called_at, answered_at, now, spot_in, sent_of, taken_of}
 use Rattle.call_records.proofs.Scenes.Mood.{Idle, OwnCall, FarCall, Open}
-use Rattle.call_records.proofs.Scenes.Kind.{Caller, Callee, Cancelled}
 
 -- ---- an end of which the book sees the same but for what is sent and taken
 
@@ -186,12 +184,12 @@ module _ (x : Role) (c : ℕ) (faces faces' : Role → Face) (b : Shelf) (record
       let live : IsLive t.kind = subst (λ (u : Tag). IsLive u.kind) (sym e) p.live in
       let up : (faces t.role).session ≡ Some t.spot.session = ap (λ (y : Role). (faces y).session) role ∙ p.up ∙ ap (λ (k : Spot). Some k.session) (sym spot) in
       let at_now : t.spot ≡ now (faces t.role) t.spot.session t.spot.channel =
-        spot ∙ ap (λ (y : Role). now (faces y) p.session c) (sym role) ∙ ap (λ (k : Spot). now (faces t.role) k.session k.channel) (sym spot) in
+      spot ∙ ap (λ (y : Role). now (faces y) p.session c) (sym role) ∙ ap (λ (k : Spot). now (faces t.role) k.session k.channel) (sym spot) in
       let epochs : HasEpochs r ((faces x).stories p.session c).epoch =
-        subst (λ (y : Role). HasEpochs r ((faces y).stories p.session c).epoch) role
-        (subst (λ (k : Spot). HasEpochs r ((faces t.role).stories k.session k.channel).epoch) spot (old.epochs up at_now live)) in
+      subst (λ (y : Role). HasEpochs r ((faces y).stories p.session c).epoch) role
+      (subst (λ (k : Spot). HasEpochs r ((faces t.role).stories k.session k.channel).epoch) spot (old.epochs up at_now live)) in
       let tells : Tells (faces x) (now (faces x) p.session c) r =
-        subst (λ (y : Role). Tells (faces y) (now (faces x) p.session c) r) role (subst (λ (k : Spot). Tells (faces t.role) k r) spot (old.tells live)) in
+      subst (λ (y : Role). Tells (faces y) (now (faces x) p.session c) r) role (subst (λ (k : Spot). Tells (faces t.role) k r) spot (old.tells live)) in
       record {
         number = g.head.number ∙ old.number;
         node_is = g.head.node ∙ old.node_is;
@@ -208,7 +206,7 @@ module _ (x : Role) (c : ℕ) (faces faces' : Role → Face) (b : Shelf) (record
       let p = q.now_there in
       let stands = w.stands n t there in
       let elsewhere : IsLive t.kind → IsElse x (faces x) p.session c t.role t.spot = λ live h.
-        other (is_present (faces x) (b.slots x) tags x c p n t (subst (λ (y : Role). Stands (faces y) (b.slots y) n t) h.0 stands) h.1 live) in
+      other (is_present (faces x) (b.slots x) tags x c p n t (subst (λ (y : Role). Stands (faces y) (b.slots y) n t) h.0 stands) h.1 live) in
       record {
         number = old.number;
         node_is = old.node_is;
@@ -220,10 +218,10 @@ module _ (x : Role) (c : ℕ) (faces faces' : Role → Face) (b : Shelf) (record
         };
         none = old.none;
         epochs = λ up is live.
-          let is_now : t.spot ≡ now (faces t.role) t.spot.session t.spot.channel = is ∙ now_same (faces t.role) (faces' t.role) (q.same t.role) t.spot.session t.spot.channel in
-          subst (λ (n : ℕ). HasEpochs r n)
-          (sym (q.epoch t.role t.spot.session t.spot.channel (λ h. elsewhere live (h.0, is_now ∙ ap (λ (y : Role). now (faces y) t.spot.session t.spot.channel) h.0 ∙ ap (λ (s : ℕ). now (faces x) s t.spot.channel) h.1 ∙ ap (λ (d : ℕ). now (faces x) p.session d) h.2))))
-          (old.epochs (sym ((q.same t.role).session) ∙ up) is_now live);
+            let is_now : t.spot ≡ now (faces t.role) t.spot.session t.spot.channel = is ∙ now_same (faces t.role) (faces' t.role) (q.same t.role) t.spot.session t.spot.channel in
+            subst (λ (n : ℕ). HasEpochs r n)
+            (sym (q.epoch t.role t.spot.session t.spot.channel (λ h. elsewhere live (h.0, is_now ∙ ap (λ (y : Role). now (faces y) t.spot.session t.spot.channel) h.0 ∙ ap (λ (s : ℕ). now (faces x) s t.spot.channel) h.1 ∙ ap (λ (d : ℕ). now (faces x) p.session d) h.2))))
+            (old.epochs (sym ((q.same t.role).session) ∙ up) is_now live);
       }
 
   fits_all : (n : ℕ) (t : Tag) (r' : RecordValue) → slice_get tags n ≡ Some t → slice_get records n ≡ Some r' → Fits (faces' t.role) (b.nodes t.role) n t r'

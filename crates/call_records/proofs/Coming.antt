@@ -1,31 +1,28 @@
 -- A packet that comes in at an end keeps the book right.
-use Rattle.std.specs.Prelude.{◌≡◌, ◌≢◌, ℕ, zero, suc, ◌+◌, ◌<◌, ◌≤◌, ◌⊎◌, Bool, true, false, cond, not, ◌&&◌, ◌||◌, ◌==◌, nat_lt, List, [], ◌∷◌, ◌++◌, length, map, slice_get, is_some, Option, Some, None}
-use Rattle.std.proofs.Common.{inl, inr, refl, sym, ap, subst, ◌∙◌, arith, true≢false}
-use Rattle.std.proofs.lemmas.Option.{none-some, same_Some}
-use Rattle.std.proofs.lemmas.Bool.{eq-eqb, ne_eqb, lt-ltb, ltb-true}
-use Rattle.link_timers.specs.declared.role.Role.{Role}
-use Rattle.packet_layer.specs.Packets.{CallParts, Packet, Body, Note, Reason}
+use Rattle.std.specs.Prelude.{◌≡◌, ℕ, ◌+◌, ◌≤◌, ◌⊎◌, Bool, true, false, cond, ◌||◌, ◌==◌, nat_lt, List, length, map, Option, Some, None}
+use Rattle.std.proofs.Common.{inl, inr, refl, sym, ap, subst, ◌∙◌, arith}
+use Rattle.std.proofs.lemmas.Option.{same_Some}
+use Rattle.std.proofs.lemmas.Bool.{eq-eqb, lt-ltb}
+use Rattle.packet_layer.specs.Packets.{CallParts, Packet, Body, Reason}
 use Rattle.packet_layer.specs.Packets.Body.{Call, Restart, RestartConfirmation}
 use Rattle.packet_layer.specs.Packets.Reason.{FarRestart, LocalFault}
 use Rattle.packet_layer.specs.Packets.Received.{Whole}
 use Rattle.packet_layer.specs.Channel.{CallState, Channel, Step, closed_channel, received}
-use Rattle.packet_layer.specs.Channel.CallState.{Ready, OwnWaiting, FarWaiting, Transfer, Collision, OwnClear}
-use Rattle.packet_layer.specs.Layer as layer
-use Rattle.packet_layer.specs.Layer.{Phase, Layer, nth_channel, channel_of, with_nth, closing_notes, unread, restart_packet, on_found, on_channel, on_packet, after_step, owing}
+use Rattle.packet_layer.specs.Channel.CallState.{Ready, OwnWaiting}
+use Rattle.packet_layer.specs.Layer.{Phase, Layer, nth_channel, channel_of, closing_notes, unread, restart_packet, on_found, on_channel, on_packet, after_step, owing}
 use Rattle.packet_layer.specs.Layer.Phase.{NoSession, OwnRestart, PacketReady}
-use Rattle.packet_layer.specs.History.{Story, found_story, received_story, packet_story, restart_story, channel_story, next_restart_of}
-use Rattle.packet_layer.specs.Law.{CallArrives, TakesCall}
-use Rattle.packet_layer.specs.Line.{End, Line, told, accepts, next_of_session, is_session}
-use Rattle.call_records.specs.Book.{Book, slot_at, all_told}
-use Rattle.call_records.proofs.Basics.{number_is, by_true, by_false}
+use Rattle.packet_layer.specs.History.{Story, received_story, packet_story, restart_story, channel_story, next_restart_of}
+use Rattle.packet_layer.specs.Law.{TakesCall}
+use Rattle.packet_layer.specs.Line.{End, accepts, next_of_session, is_session}
+use Rattle.call_records.specs.Book.{Book, all_told}
+use Rattle.call_records.proofs.Basics.{by_true}
 use Rattle.call_records.proofs.Ending.{Further}
-use Rattle.call_records.proofs.Scenes.{Mood}
-use Rattle.call_records.proofs.Faces.{mood_of, mood_at, has_come, face_of}
+use Rattle.call_records.proofs.Faces.{mood_at, has_come}
 use Rattle.call_records.proofs.Steps.{SameStory, story_refl}
-use Rattle.call_records.proofs.Moving.{KeptAt, IsEnd, Facts, Arrival}
-use Rattle.call_records.proofs.Outcomes.{Outcome, received_outcome}
+use Rattle.call_records.proofs.Moving.{KeptAt, Facts, Arrival}
+use Rattle.call_records.proofs.Outcomes.{received_outcome}
 use Rattle.call_records.proofs.Layers.{closed_length, told_here, either_way}
-use Rattle.call_records.proofs.Ends.{AllOver, restart_step}
+use Rattle.call_records.proofs.Ends.{restart_step}
 use Rattle.call_records.proofs.Events.{moved_end, begun_rises, same_end_is, on_one, still, else_story, here_story, Rises}
 
 -- ---- one more packet of the session was accepted

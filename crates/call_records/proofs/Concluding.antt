@@ -1,25 +1,24 @@
 -- What is right of the book of a line, with the law of the line, gives what the book promises.
-use Rattle.std.specs.Prelude.{◌≡◌, ◌≢◌, ℕ, zero, suc, ◌<◌, ◌≤◌, ◌⊎◌, Bool, true, false, ◌||◌, List, [], ◌∷◌, ◌++◌, length, map, slice_get, Option, Some, None}
+use Rattle.std.specs.Prelude.{◌≡◌, ℕ, suc, ◌⊎◌, Bool, true, false, ◌||◌, List, [], ◌∷◌, ◌++◌, map, slice_get, Some}
 use Rattle.std.proofs.Common.{inl, inr, refl, sym, ap, subst, ◌∙◌, arith, true≢false}
-use Rattle.std.proofs.lemmas.Option.{none-some, same_Some, slice_get_within}
+use Rattle.std.proofs.lemmas.Option.{slice_get_within}
 use Rattle.link_timers.specs.declared.role.Role.{Role}
 use Rattle.link_timers.specs.declared.role.Role.TheVariants.{Dte, Dce}
 use Rattle.link_timers.specs.Role.{other_of}
-use Rattle.epochs.specs.Prefix.{IsListPrefix}
 use Rattle.epochs.specs.Item.{DataPacket, all_items}
 use Rattle.epochs.specs.Epoch as epochs
 use Rattle.epochs.specs.Epoch.{SentEpoch, TakenEpoch, taken_epoch, sent_epoch, IsEmpty, IsPrefixOf}
 use Rattle.epochs.specs.Match.{Match}
-use Rattle.epochs.specs.Match.Match.{nothing, drop_empty, join, skip}
+use Rattle.epochs.specs.Match.Match.{nothing, drop_empty, join}
 use Rattle.epochs.proofs.Prefixes.{empty-prefix, all_items-prefix}
-use Rattle.packet_layer.specs.Packets.{CallParts, Datum}
-use Rattle.packet_layer.specs.History.{Epoch, Story, empty_epoch}
-use Rattle.packet_layer.specs.Law.{IsPrefix, Aligned, HasNoLogs}
+use Rattle.packet_layer.specs.Packets.{Datum}
+use Rattle.packet_layer.specs.History.{Epoch}
+use Rattle.packet_layer.specs.Law.{Aligned, HasNoLogs}
 use Rattle.call_records.specs.Records.{RecordValue, PairValue, sent_epochs, taken_epochs}
-use Rattle.call_records.specs.Book.{Book, Slot, Side, side_of, packet_of}
-use Rattle.call_records.specs.Headline.{PairMatches, AreEnds, PairIsRight, PairHolds, IsIn, TookNothing, BookHolds}
-use Rattle.call_records.proofs.Basics.{role_is, is_role, number_is, twice, get_there}
-use Rattle.call_records.proofs.Scenes.{Face, Spot, Kind, Tag, Shelf, shelf_of, IsLive, Stands, Means, Fits, Tells, IsCaller, IsCallee, IsPair, IsPaired, IsRight, caller_of, callee_of, epoch_at, called_at, answered_at, sent_of, taken_of, nth_sent, nth_taken, all_sent, all_taken, Passed, nothing_passed, TookNone}
+use Rattle.call_records.specs.Book.{Book, side_of, packet_of}
+use Rattle.call_records.specs.Headline.{AreEnds, PairHolds, IsIn, TookNothing, BookHolds}
+use Rattle.call_records.proofs.Basics.{twice, get_there}
+use Rattle.call_records.proofs.Scenes.{Face, Spot, Kind, Tag, shelf_of, IsLive, Tells, IsCaller, IsCallee, IsPaired, IsRight, caller_of, callee_of, epoch_at, answered_at, sent_of, taken_of, nth_sent, nth_taken, all_sent, all_taken, Passed, nothing_passed}
 use Rattle.call_records.proofs.Scenes.Kind.{Caller, Callee, Cancelled}
 use Rattle.call_records.proofs.Carrying.{same_tag}
 use Rattle.call_records.proofs.Cancelling.{caller_not_callee, caller_not_cancelled, callee_not_cancelled}
@@ -80,9 +79,9 @@ took_any [] = inl tt
 took_any (t ∷ ts) =
     elim (took_one t.packets t.interrupts t.released) [
       | inl e ↦ elim (took_any ts) [
-          | inl h ↦ inl (e, h)
-          | inr h ↦ inr (suc h.0, h.1)
-        ]
+        | inl h ↦ inl (e, h)
+        | inr h ↦ inr (suc h.0, h.1)
+      ]
       | inr h ↦ inr (0, h)
     ]
 
@@ -141,7 +140,7 @@ module _ (faces : Role → Face) (b : Book) (tags : List Tag) (w : IsRight faces
         is_right = record {
           order = let a = fm.number in let c = fy.number in let l = m.order in omega arith;
           ends = subst (λ (n : ℕ). AreEnds b n yours.0.node) (sym (fm.node_is ∙ ap (λ (y : Role). (side_of y b).node) m.role))
-            (subst (λ (n : ℕ). AreEnds b (side_of (other_of t.role) b).node n) (sym fy.node_is) (ends_are b t.role));
+              (subst (λ (n : ℕ). AreEnds b (side_of (other_of t.role) b).node n) (sym fy.node_is) (ends_are b t.role));
           address = fy.own ∙ sym m.address ∙ sym fm.far;
           caller_own = fm.own ∙ ((w.means p.caller u m.there).caller m.calls).own;
           callee_far = fy.far ∙ m.far;

@@ -1,15 +1,15 @@
 -- Calls end: a channel's use is over, or all those of an end, and the book stays right.
-use Rattle.std.specs.Prelude.{◌≡◌, ◌≢◌, ℕ, zero, suc, ◌<◌, ◌≤◌, ◌⊎◌, Bool, true, false, List, [], ◌∷◌, ◌++◌, length, slice_get, Option, Some, None}
+use Rattle.std.specs.Prelude.{◌≡◌, ℕ, ◌<◌, ◌≤◌, ◌⊎◌, true, false, List, length, slice_get, Option, Some, None}
 use Rattle.std.proofs.Common.{inl, inr, refl, sym, ap, subst, ◌∙◌, arith, true≢false}
 use Rattle.link_timers.specs.declared.role.Role.{Role}
 use Rattle.link_timers.specs.Role.{other_of}
 use Rattle.packet_layer.specs.History.{Epoch, Story}
-use Rattle.call_records.specs.Records.{RecordValue, PairValue}
+use Rattle.call_records.specs.Records.{RecordValue}
 use Rattle.call_records.specs.Book.{Slot}
-use Rattle.call_records.proofs.Basics.{role_is, is_role, number_is}
-use Rattle.call_records.proofs.Scenes.{Face, Mood, Spot, Kind, Tag, Shelf, IsLive, Stands, Means, Fits, Tells, HasEpochs, Present, SlotIs, PlacedIs, IsPast, IsRight, epoch_at, called_at, answered_at, now, spot_in, sent_of, taken_of, all_sent, all_taken, nth_sent, nth_taken, TookNone}
-use Rattle.call_records.proofs.Scenes.Mood.{Idle, OwnCall, FarCall, Open}
-use Rattle.call_records.proofs.Carrying.{SameCalls, SameEnd, SameHead, same_end, same_calls, stands_same, means_same, present_same, slot_same, placed_same, pair_same, past_same, spot_same}
+use Rattle.call_records.proofs.Basics.{role_is}
+use Rattle.call_records.proofs.Scenes.{Face, Mood, Spot, Tag, Shelf, Stands, Fits, Tells, HasEpochs, SlotIs, PlacedIs, IsPast, IsRight, epoch_at, now, spot_in, sent_of, taken_of}
+use Rattle.call_records.proofs.Scenes.Mood.{Idle}
+use Rattle.call_records.proofs.Carrying.{SameCalls, SameHead, same_end, same_calls, stands_same, means_same, slot_same, placed_same, pair_same, past_same, spot_same}
 
 -- a story stands later than another one
 abbrev pub Further : Story → Story → Type 0
@@ -80,16 +80,16 @@ stays_stands f f' slots slots' n t begun st w =
     let s = t.spot.session in let c = t.spot.channel in
     elim (st.channels c) [
       | inl h ↦ record {
-          begun = begun t.spot w.begun;
-          past = λ up. let u : f.session ≡ Some s = sym st.session ∙ up in past_same t.spot (f.stories s c) (f'.stories s c) (h.restart s u) (h.uses s u) (w.past u);
-          present = λ up is live. let u : f.session ≡ Some s = sym st.session ∙ up in
+        begun = begun t.spot w.begun;
+        past = λ up. let u : f.session ≡ Some s = sym st.session ∙ up in past_same t.spot (f.stories s c) (f'.stories s c) (h.restart s u) (h.uses s u) (w.past u);
+        present = λ up is live. let u : f.session ≡ Some s = sym st.session ∙ up in
             ap (λ (z : Slot). z.present) h.slot_is ∙ w.present u (is ∙ spot_same s c (f.stories s c) (f'.stories s c) (h.restart s u) (h.uses s u)) live;
-        }
+      }
       | inr h ↦ record {
-          begun = begun t.spot w.begun;
-          past = λ up. let u : f.session ≡ Some s = sym st.session ∙ up in past_further t.spot (f.stories s c) (f'.stories s c) (w.past u) (h.further s u);
-          present = λ up is live. let u : f.session ≡ Some s = sym st.session ∙ up in absurd (never_now t.spot s c (f.stories s c) (f'.stories s c) (w.past u) (h.further s u) is);
-        }
+        begun = begun t.spot w.begun;
+        past = λ up. let u : f.session ≡ Some s = sym st.session ∙ up in past_further t.spot (f.stories s c) (f'.stories s c) (w.past u) (h.further s u);
+        present = λ up is live. let u : f.session ≡ Some s = sym st.session ∙ up in absurd (never_now t.spot s c (f.stories s c) (f'.stories s c) (w.past u) (h.further s u) is);
+      }
     ]
 
 leaves_stands : (f f' : Face) (slots slots' : ℕ → Slot) (n : ℕ) (t : Tag) → ((k : Spot) → f.begun k ≡ true → f'.begun k ≡ true) → Leaves f f' slots' → Stands f slots n t → Stands f' slots' n t
@@ -192,9 +192,9 @@ module _ (x : Role) (faces faces' : Role → Face) (b : Shelf) (slots : Role →
   slot_here c =
       elim q.how [
         | inl st ↦ elim (st.channels c) [
-            | inl h ↦ still_slot c st.session h
-            | inr h ↦ idle_slot c h.mood h.present
-          ]
+          | inl h ↦ still_slot c st.session h
+          | inr h ↦ idle_slot c h.mood h.present
+        ]
         | inr l ↦ idle_slot c (l.mood c) (l.present c)
       ]
 

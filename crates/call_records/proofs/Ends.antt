@@ -1,21 +1,19 @@
 -- Events at an end that leave all calls as they are, and those that end all of them.
-use Rattle.std.specs.Prelude.{◌≡◌, ◌≢◌, ℕ, zero, suc, ◌+◌, ◌<◌, ◌≤◌, ◌⊎◌, Bool, true, false, cond, not, ◌&&◌, ◌||◌, ◌==◌, nat_lt, List, [], ◌∷◌, ◌++◌, length, map, slice_get, is_some, Option, Some, None}
-use Rattle.std.proofs.Common.{inl, inr, refl, sym, ap, subst, ◌∙◌, arith, true≢false}
-use Rattle.std.proofs.lemmas.Option.{none-some, same_Some}
+use Rattle.std.specs.Prelude.{◌≡◌, ℕ, zero, suc, ◌+◌, ◌≤◌, ◌⊎◌, Bool, true, false, ◌&&◌, List, length, map, Option, Some, None}
+use Rattle.std.proofs.Common.{inl, inr, refl, sym, ap, subst, ◌∙◌, arith}
+use Rattle.std.proofs.lemmas.Option.{none-some}
 use Rattle.link_timers.specs.declared.role.Role.{Role}
 use Rattle.packet_layer.specs.Packets.{Reason}
 use Rattle.packet_layer.specs.Channel.{CallState, Channel, closed_channel}
 use Rattle.packet_layer.specs.Channel.CallState.{Ready, OwnWaiting, FarWaiting, Transfer, Collision, OwnClear}
-use Rattle.packet_layer.specs.Layer.{Phase, Layer, nth_channel, channel_of, closing_notes, had_call}
-use Rattle.packet_layer.specs.History.{Story}
+use Rattle.packet_layer.specs.Layer.{nth_channel, channel_of, closing_notes, had_call}
 use Rattle.packet_layer.specs.Line.{End}
-use Rattle.call_records.specs.Book.{Book, Slot, slot_at, side_of, all_told}
-use Rattle.call_records.proofs.Basics.{number_is}
-use Rattle.call_records.proofs.Scenes.{Mood, Spot, Face, SlotIs}
-use Rattle.call_records.proofs.Scenes.Mood.{Idle, OwnCall, FarCall, Open}
-use Rattle.call_records.proofs.Ending.{Stays, Leaves, StandsStill, IsOver, Further}
+use Rattle.call_records.specs.Book.{Book, Slot, slot_at, all_told}
+use Rattle.call_records.proofs.Scenes.{Mood, Spot, SlotIs}
+use Rattle.call_records.proofs.Scenes.Mood.{Idle}
+use Rattle.call_records.proofs.Ending.{Further}
 use Rattle.call_records.proofs.Writing.{Closes, closes_none, closes_all, closed_all}
-use Rattle.call_records.proofs.Faces.{mood_of, met_mood, mood_at, within, has_come, face_of, EndStep, end_step}
+use Rattle.call_records.proofs.Faces.{mood_of, mood_at, within, has_come, face_of, end_step}
 use Rattle.call_records.proofs.Steps.{SameStory}
 use Rattle.call_records.proofs.Moving.{KeptAt, IsEnd, sized, slot_of, top_of}
 use Rattle.call_records.proofs.Layers.{closed_idle}

@@ -1,38 +1,31 @@
 -- Each event at an end of a line keeps the book right.
-use Rattle.std.specs.Prelude.{◌≡◌, ◌≢◌, ℕ, zero, suc, ◌+◌, ◌<◌, ◌≤◌, ◌⊎◌, Bool, true, false, cond, not, ◌&&◌, ◌||◌, ◌==◌, nat_lt, List, [], ◌∷◌, ◌++◌, length, map, slice_get, is_some, Option, Some, None}
+use Rattle.std.specs.Prelude.{◌≡◌, ◌≢◌, ℕ, ◌⊎◌, Bool, true, false, cond, ◌&&◌, ◌||◌, ◌==◌, nat_lt, List, length, Option, Some, None}
 use Rattle.std.proofs.Common.{inl, inr, refl, sym, ap, subst, ◌∙◌, arith, true≢false}
-use Rattle.std.proofs.lemmas.Option.{none-some, same_Some}
-use Rattle.std.proofs.lemmas.Bool.{eq-eqb, ne_eqb, lt-ltb, ltb-true, eqb-true}
+use Rattle.std.proofs.lemmas.Option.{none-some}
+use Rattle.std.proofs.lemmas.Bool.{eq-eqb, ne_eqb}
 use Rattle.link_timers.specs.declared.role.Role.{Role}
-use Rattle.packet_layer.specs.Packets.{CallParts, Packet, Body, Note, Reason}
-use Rattle.packet_layer.specs.Packets.Body.{Call, Restart, RestartConfirmation}
-use Rattle.packet_layer.specs.Packets.Reason.{LinkLost, FarRestart, LocalFault}
-use Rattle.packet_layer.specs.Packets.Received.{Whole}
-use Rattle.packet_layer.specs.Traffic.{Taken, front}
-use Rattle.packet_layer.specs.Channel.{CallState, Channel, Step, Request, Refusal, closed_channel, received, requested, carried_out, unless, refusal, quiet, clear_error}
+use Rattle.packet_layer.specs.Packets.{CallParts}
+use Rattle.packet_layer.specs.Traffic.{front}
+use Rattle.packet_layer.specs.Channel.{Channel, Step, Request, Refusal, requested, carried_out, unless, refusal}
 use Rattle.packet_layer.specs.Channel.Request.{Accept, Clearing, Resetting, Sending, Interrupting, Stopping, Taking, Releasing, Confirming}
-use Rattle.packet_layer.specs.Channel.CallState.{Ready, OwnWaiting, FarWaiting, Transfer, Collision, OwnClear}
-use Rattle.packet_layer.specs.Layer as layer
-use Rattle.packet_layer.specs.Layer.{Phase, Layer, Timer, nth_channel, channel_of, with_nth, closing_notes, unread, restart_packet, on_found, on_channel, on_packet, after_step, owing, link_up, link_down, on_timer, expired, runs, runs_at, waits_for_call, waits_for_clear, call, placing, channel_given, free_channel, request, refusal_at, request_refusal, front_at, front_on, next_packet, set_if, passes_limit, with_owed}
-use Rattle.packet_layer.specs.Layer.Phase.{NoSession, OwnRestart, PacketReady}
-use Rattle.packet_layer.specs.Layer.Timer.{RestartTimer, CallTimer, ResetTimer, ClearTimer}
-use Rattle.packet_layer.specs.History.{Story, opened, grown_unless, accepted_unless, logged, call_accepted, placed, requested_story, request_story, found_story, received_story, packet_story, restart_story, channel_story, call_story, timer_story, expired_story, next_restart_of, next_use_of}
-use Rattle.packet_layer.specs.Law.{CallArrives, TakesCall}
-use Rattle.packet_layer.specs.Line.{End, Line, told, is_session}
-use Rattle.call_records.specs.Book.{Book, slot_at, closes, all_told}
+use Rattle.packet_layer.specs.Channel.CallState.{Ready, OwnWaiting}
+use Rattle.packet_layer.specs.Layer.{Layer, nth_channel, channel_of, with_nth, on_found, after_step, owing, refusal_at, request_refusal, front_at, front_on}
+use Rattle.packet_layer.specs.History.{Story, opened, grown_unless, accepted_unless, logged, requested_story, found_story}
+use Rattle.packet_layer.specs.Line.{End, told, is_session}
+use Rattle.call_records.specs.Book.{Book, slot_at, closes}
 use Rattle.call_records.specs.Told.{carried, unless_refused}
 use Rattle.call_records.proofs.Basics.{number_is, by_true, by_false}
 use Rattle.call_records.proofs.Scenes.{Mood, Spot, SlotIs}
 use Rattle.call_records.proofs.Writing.{Closes, closes_none, closes_one, closed_else, closed_here}
 use Rattle.call_records.proofs.Scenes.Mood.{Idle, OwnCall, FarCall, Open}
-use Rattle.call_records.proofs.Ending.{Further, IsOver, StandsStill}
-use Rattle.call_records.proofs.Faces.{mood_of, mood_at, within, has_come, face_of, OnChannel, EndStep, end_step}
+use Rattle.call_records.proofs.Ending.{IsOver}
+use Rattle.call_records.proofs.Faces.{mood_of, mood_at, within, has_come, face_of, end_step}
 use Rattle.call_records.proofs.Steps.{SameStory, story_refl}
-use Rattle.call_records.proofs.Moving.{KeptAt, IsEnd, Facts, Arrival, ChannelStep, channel_step, sized, slot_of, mood_number}
-use Rattle.call_records.proofs.Outcomes.{Outcome, NoCalls, next_use, received_outcome, asked}
+use Rattle.call_records.proofs.Moving.{KeptAt, IsEnd, Facts, Arrival, channel_step, sized, slot_of, mood_number}
+use Rattle.call_records.proofs.Outcomes.{Outcome, NoCalls, asked}
 use Rattle.call_records.proofs.Outcomes.Outcome.{stays, ends, ends_none, goes, connects, accepts, comes as call_comes, collides}
-use Rattle.call_records.proofs.Layers.{put_here, put_else, put_length, in_range, closed_length, told_here, told_else, either_way, next_same}
-use Rattle.call_records.proofs.Ends.{Quiet, quiet_step, AllOver, restart_step, session_step}
+use Rattle.call_records.proofs.Layers.{put_here, put_else, put_length, in_range, told_here, told_else, either_way}
+use Rattle.call_records.proofs.Ends.{quiet_step}
 
 -- ---- an end after an event
 
@@ -230,12 +223,12 @@ module _ (n : ℕ) (e y : End) (te ty : ℕ) (b : Book) (d : ℕ) (ch ch' : Chan
           | inl h ↦ inr (subst (λ (m : ℕ). IsOver (face_of e.layer.role e te) (face_of e.layer.role after te) m (slot_at e.layer.role m b) (slot_at e.layer.role m b')) (sym h)
               (record { mood = mood_there ∙ mood; further = λ s up. absurd (none-some s (sym none ∙ up)); present = present }))
           | inr h ↦ inl (record {
-              mood = mood_else c h;
-              restart = λ s up. absurd (none-some s (sym none ∙ up));
-              uses = λ s up. absurd (none-some s (sym none ∙ up));
-              epoch = λ s up. absurd (none-some s (sym none ∙ up));
-              slot_is = same c h;
-            })
+            mood = mood_else c h;
+            restart = λ s up. absurd (none-some s (sym none ∙ up));
+            uses = λ s up. absurd (none-some s (sym none ∙ up));
+            epoch = λ s up. absurd (none-some s (sym none ∙ up));
+            slot_is = same c h;
+          })
         ];
       });
       closed = closed;

@@ -1,22 +1,20 @@
 -- The ends of a line as their calls see them, and what a step at one end makes of the book.
-use Rattle.std.specs.Prelude.{◌≡◌, ◌≢◌, ℕ, zero, suc, ◌<◌, ◌≤◌, ◌⊎◌, Bool, true, false, cond, ◌&&◌, ◌||◌, ◌==◌, nat_lt, List, [], ◌∷◌, ◌++◌, length, slice_get, Option, Some, None}
-use Rattle.std.proofs.Common.{inl, inr, refl, sym, ap, subst, ◌∙◌, arith, true≢false}
+use Rattle.std.specs.Prelude.{◌≡◌, ◌≢◌, ℕ, zero, suc, ◌≤◌, ◌⊎◌, Bool, true, false, ◌&&◌, ◌||◌, ◌==◌, nat_lt, List, length, slice_get, Option, Some, None}
+use Rattle.std.proofs.Common.{inl, inr, refl, sym, ap, subst, ◌∙◌}
 use Rattle.link_timers.specs.declared.role.Role.{Role}
 use Rattle.link_timers.specs.declared.role.Role.TheVariants.{Dte, Dce}
-use Rattle.link_timers.specs.Role.{other_of}
-use Rattle.packet_layer.specs.Packets.{CallParts}
 use Rattle.packet_layer.specs.Channel.{CallState, Channel}
 use Rattle.packet_layer.specs.Channel.CallState.{Ready, OwnWaiting, FarWaiting, Transfer, Collision, OwnClear}
-use Rattle.packet_layer.specs.Layer.{Layer, channel_of}
-use Rattle.packet_layer.specs.History.{Epoch, Story}
+use Rattle.packet_layer.specs.Layer.{channel_of}
+use Rattle.packet_layer.specs.History.{Story}
 use Rattle.packet_layer.specs.Line.{End}
-use Rattle.call_records.specs.Records.{RecordValue, PairValue, new_record, changed_at}
-use Rattle.call_records.specs.Book.{Book, Slot, slot_at, side_of, with_slot, with_record, with_change, changed, answers, with_pair, places, comes, address_of}
-use Rattle.call_records.proofs.Basics.{is_role, role_is, number_is, all_same, get_changed, length_changed}
-use Rattle.call_records.proofs.Scenes.{Face, Mood, Spot, Kind, Tag, Shelf, shelf_of, IsLive, Present, SlotIs, IsRight, Tells, HasEpochs, epoch_at, called_at, answered_at, now, spot_in, sent_of, taken_of}
+use Rattle.call_records.specs.Records.{RecordValue}
+use Rattle.call_records.specs.Book.{Book, slot_at}
+use Rattle.call_records.proofs.Basics.{number_is}
+use Rattle.call_records.proofs.Scenes.{Face, Mood, Spot, Tag, Shelf, shelf_of, Present, SlotIs, IsRight, epoch_at, now}
 use Rattle.call_records.proofs.Scenes.Mood.{Idle, OwnCall, FarCall, Open}
-use Rattle.call_records.proofs.Carrying.{SameCalls, SameEnd, Grows, Carries, same_end, same_calls, carried_right, IsElse}
-use Rattle.call_records.proofs.Ending.{Stays, Leaves, Ends, ended_right}
+use Rattle.call_records.proofs.Carrying.{SameCalls, SameEnd, Grows, same_end, same_calls, carried_right, IsElse}
+use Rattle.call_records.proofs.Ending.{Stays, Leaves, ended_right}
 use Rattle.call_records.proofs.Writing.{Closes, shelf_same}
 use Rattle.call_records.proofs.Calling.{spot_is}
 use Rattle.std.proofs.lemmas.Option.{same_Some}
@@ -116,9 +114,9 @@ pub at_else : (x : Role) (e e' : End) (s d : ℕ) (P : Story → Story → Type 
 at_else x e e' s d P q same here k c =
     elim (number_is k s) [
       | inl a ↦ elim (number_is c d) [
-          | inl b ↦ subst (λ (m : ℕ). P (e.stories m c) (e'.stories m c)) (sym a) (subst (λ (n : ℕ). P (e.stories s n) (e'.stories s n)) (sym b) here)
-          | inr b ↦ subst (λ (st : Story). P (e.stories k c) st) (sym (q.else k c (λ h. b h.1))) (same (e.stories k c))
-        ]
+        | inl b ↦ subst (λ (m : ℕ). P (e.stories m c) (e'.stories m c)) (sym a) (subst (λ (n : ℕ). P (e.stories s n) (e'.stories s n)) (sym b) here)
+        | inr b ↦ subst (λ (st : Story). P (e.stories k c) st) (sym (q.else k c (λ h. b h.1))) (same (e.stories k c))
+      ]
       | inr a ↦ subst (λ (st : Story). P (e.stories k c) st) (sym (q.else k c (λ h. a h.0))) (same (e.stories k c))
     ]
 
@@ -165,11 +163,11 @@ module _ (x : Role) (e e' : End) (s d te : ℕ) (b : Book) (records : List Recor
   goes_logs k g other =
       elim (number_is k.session s) [
         | inl a ↦ elim (number_is k.channel d) [
-            | inl c ↦ subst (λ (m : ℕ). (e'.stories m k.channel).epochs k.restart k.use_ g ≡ (e.stories m k.channel).epochs k.restart k.use_ g) (sym a)
-                (subst (λ (n : ℕ). (e'.stories s n).epochs k.restart k.use_ g ≡ (e.stories s n).epochs k.restart k.use_ g) (sym c)
-                (q.story.logs k.restart k.use_ g (λ h. other (spot_is k (now (face_of x e te) p.session d) (a ∙ sym session_is) c (h.0 ∙ ap (λ (m : ℕ). (e.stories m d).restart) (sym session_is)) (h.1 ∙ ap (λ (m : ℕ). (e.stories m d).use_) (sym session_is))))))
-            | inr c ↦ ap (λ (st : Story). st.epochs k.restart k.use_ g) (q.on.else k.session k.channel (λ h. c h.1))
-          ]
+          | inl c ↦ subst (λ (m : ℕ). (e'.stories m k.channel).epochs k.restart k.use_ g ≡ (e.stories m k.channel).epochs k.restart k.use_ g) (sym a)
+              (subst (λ (n : ℕ). (e'.stories s n).epochs k.restart k.use_ g ≡ (e.stories s n).epochs k.restart k.use_ g) (sym c)
+              (q.story.logs k.restart k.use_ g (λ h. other (spot_is k (now (face_of x e te) p.session d) (a ∙ sym session_is) c (h.0 ∙ ap (λ (m : ℕ). (e.stories m d).restart) (sym session_is)) (h.1 ∙ ap (λ (m : ℕ). (e.stories m d).use_) (sym session_is))))))
+          | inr c ↦ ap (λ (st : Story). st.epochs k.restart k.use_ g) (q.on.else k.session k.channel (λ h. c h.1))
+        ]
         | inr a ↦ ap (λ (st : Story). st.epochs k.restart k.use_ g) (q.on.else k.session k.channel (λ h. a h.0))
       ]
 
@@ -195,15 +193,19 @@ carry_step Dte e e' y s d te ty b b' tags w p q same =
     dte_same : (z : Role) → SameEnd (faces_of Dte e y te ty z) (faces_of Dte e' y te ty z)
     dte_same Dte = goes_same Dte e e' s d te b b'.records tags p q
     dte_same Dce = same_end (face_of Dce y ty) (face_of Dce y ty) refl
+
     dte_calls : (z : Role) → SameCalls (faces_of Dte e y te ty z) (faces_of Dte e' y te ty z)
     dte_calls Dte = goes_calls Dte e e' s d te b b'.records tags p q
     dte_calls Dce = same_calls (face_of Dce y ty) (face_of Dce y ty) refl
+
     dte_mood : (z : Role) (c : ℕ) → ((z ≡ Dte) × (c ≡ d) → ⊥) → (faces_of Dte e' y te ty z).mood c ≡ (faces_of Dte e y te ty z).mood c
     dte_mood Dte c h = q.on.mood c (λ k. h (refl, k))
     dte_mood Dce c h = refl
+
     dte_logs : (z : Role) (k : Spot) (g : ℕ) → IsElse Dte (face_of Dte e te) p.session d z k → epoch_at (faces_of Dte e' y te ty z) k g ≡ epoch_at (faces_of Dte e y te ty z) k g
     dte_logs Dte k g h = goes_logs Dte e e' s d te b b'.records tags p q k g (λ a. h (refl, a))
     dte_logs Dce k g h = refl
+
     dte_epoch : (z : Role) (k c : ℕ) → ((z ≡ Dte) × (k ≡ p.session) × (c ≡ d) → ⊥) → ((faces_of Dte e' y te ty z).stories k c).epoch ≡ ((faces_of Dte e y te ty z).stories k c).epoch
     dte_epoch Dte k c h = goes_epoch Dte e e' s d te b b'.records tags p q k c (λ a. h (refl, a.0, a.1))
     dte_epoch Dce k c h = refl
@@ -224,15 +226,19 @@ carry_step Dce e e' y s d te ty b b' tags w p q same =
     dce_same : (z : Role) → SameEnd (faces_of Dce e y te ty z) (faces_of Dce e' y te ty z)
     dce_same Dce = goes_same Dce e e' s d te b b'.records tags p q
     dce_same Dte = same_end (face_of Dte y ty) (face_of Dte y ty) refl
+
     dce_calls : (z : Role) → SameCalls (faces_of Dce e y te ty z) (faces_of Dce e' y te ty z)
     dce_calls Dce = goes_calls Dce e e' s d te b b'.records tags p q
     dce_calls Dte = same_calls (face_of Dte y ty) (face_of Dte y ty) refl
+
     dce_mood : (z : Role) (c : ℕ) → ((z ≡ Dce) × (c ≡ d) → ⊥) → (faces_of Dce e' y te ty z).mood c ≡ (faces_of Dce e y te ty z).mood c
     dce_mood Dce c h = q.on.mood c (λ k. h (refl, k))
     dce_mood Dte c h = refl
+
     dce_logs : (z : Role) (k : Spot) (g : ℕ) → IsElse Dce (face_of Dce e te) p.session d z k → epoch_at (faces_of Dce e' y te ty z) k g ≡ epoch_at (faces_of Dce e y te ty z) k g
     dce_logs Dce k g h = goes_logs Dce e e' s d te b b'.records tags p q k g (λ a. h (refl, a))
     dce_logs Dte k g h = refl
+
     dce_epoch : (z : Role) (k c : ℕ) → ((z ≡ Dce) × (k ≡ p.session) × (c ≡ d) → ⊥) → ((faces_of Dce e' y te ty z).stories k c).epoch ≡ ((faces_of Dce e y te ty z).stories k c).epoch
     dce_epoch Dce k c h = goes_epoch Dce e e' s d te b b'.records tags p q k c (λ a. h (refl, a.0, a.1))
     dce_epoch Dte k c h = refl

@@ -1,19 +1,18 @@
 -- What the events at an end of a line make of its channels and stories.
-use Rattle.std.specs.Prelude.{◌≡◌, ◌≢◌, ℕ, zero, suc, ◌+◌, ◌<◌, ◌≤◌, ◌⊎◌, Bool, true, false, cond, ◌&&◌, ◌||◌, ◌==◌, nat_lt, List, [], ◌∷◌, ◌++◌, length, map, set, slice_get, is_some, Option, Some, None}
+use Rattle.std.specs.Prelude.{◌≡◌, ◌≢◌, ℕ, zero, suc, ◌≤◌, Bool, true, false, cond, ◌&&◌, ◌==◌, List, [], ◌∷◌, length, map, is_some, Option, Some, None}
 use Rattle.std.proofs.Common.{inl, inr, refl, sym, ap, subst, ◌∙◌, arith, true≢false}
 use Rattle.std.proofs.lemmas.Option.{none-some, same_Some, slice_get_within}
-use Rattle.std.proofs.lemmas.Bool.{eq-eqb, ne_eqb, lt-ltb, ltb-true}
+use Rattle.std.proofs.lemmas.Bool.{eq-eqb, ne_eqb}
 use Rattle.link_timers.specs.declared.role.Role.{Role}
 use Rattle.link_timers.specs.declared.role.Role.TheVariants.{Dte, Dce}
-use Rattle.packet_layer.specs.Packets.{Packet, Body}
-use Rattle.packet_layer.specs.Channel.{CallState, Channel, Step, closed_channel, has_flow}
-use Rattle.packet_layer.specs.Layer.{Phase, Layer, Next, ChannelNext, nth_channel, channel_of, with_nth, next_packet, next_in, next_restart, serve, serve_found, served, next_of, next_owed, next_number, is_free, is_ready, free_channel, lowest_free, highest_free, either_of, itself_if, raised}
+use Rattle.packet_layer.specs.Packets.{Body}
+use Rattle.packet_layer.specs.Channel.{CallState, Channel, closed_channel, has_flow}
+use Rattle.packet_layer.specs.Layer.{Phase, Layer, Next, ChannelNext, nth_channel, channel_of, with_nth, next_packet, next_in, next_restart, serve, serve_found, next_of, next_owed, next_number, is_free, is_ready, free_channel, lowest_free, highest_free, either_of, itself_if, raised}
 use Rattle.packet_layer.specs.Layer.Phase.{NoSession, OwnRestart, PacketReady}
 use Rattle.packet_layer.specs.Channel.CallState.{Ready, OwnWaiting, FarWaiting, Transfer, Collision, OwnClear}
 use Rattle.packet_layer.specs.History.{Story}
 use Rattle.packet_layer.specs.Line.{End, told, is_session}
-use Rattle.call_records.proofs.Basics.{number_is, by_true, by_false, set_here, set_elsewhere, length_set, get_there}
-use Rattle.call_records.proofs.Scenes.{Mood}
+use Rattle.call_records.proofs.Basics.{number_is, by_true, by_false, set_here, set_elsewhere, length_set}
 use Rattle.call_records.proofs.Scenes.Mood.{Idle}
 use Rattle.call_records.proofs.Faces.{mood_of, mood_at}
 
@@ -123,7 +122,6 @@ put_mood x chs d ch ch' found same c =
     ]
 
 serve_found_same : (x : Role) (k : ℕ) (l : Layer) (d : ℕ) (o : Option Channel) → channel_of l d ≡ o → SameLayer x l (serve k l (next_number l d)).layer → SameLayer x l (serve_found l d o (serve k l (next_number l d))).layer
-
 serve_found_same x k l d None e h = h
 serve_found_same x k l d (Some ch) e h =
     either_way (λ (m : Next). SameLayer x l m.layer) (is_some (next_of l.window ch).body) _ (serve k l (next_number l d))

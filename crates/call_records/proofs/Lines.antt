@@ -1,33 +1,30 @@
 -- Whatever happens at the two ends of a line keeps its book right.
-use Rattle.std.specs.Prelude.{◌≡◌, ◌≢◌, ℕ, zero, suc, ◌+◌, ◌<◌, ◌≤◌, ◌⊎◌, Bool, true, false, cond, not, ◌&&◌, ◌||◌, ◌==◌, nat_lt, List, [], ◌∷◌, ◌++◌, length, map, slice_get, is_some, Option, Some, None}
+use Rattle.std.specs.Prelude.{◌≡◌, ℕ, zero, suc, ◌≤◌, Bool, true, false, cond, ◌&&◌, ◌||◌, List, [], ◌∷◌, length, Option, Some, None}
 use Rattle.std.proofs.Common.{inl, inr, refl, sym, ap, subst, ◌∙◌, arith, true≢false}
-use Rattle.std.proofs.lemmas.Option.{none-some, same_Some}
 use Rattle.std.proofs.lemmas.Bool.{ltb-true}
 use Rattle.link_timers.specs.declared.role.Role.{Role}
 use Rattle.link_timers.specs.declared.role.Role.TheVariants.{Dte, Dce}
 use Rattle.link_timers.specs.Role.{other_of}
 use Rattle.pad_editing.specs.Edited.{Step}
-use Rattle.packet_layer.specs.Packets.{CallParts, Packet}
-use Rattle.packet_layer.specs.Layer.{Layer, link_up, link_down, next_packet, runs, channel_given, channel_of}
-use Rattle.packet_layer.specs.History.{Epoch, Story}
+use Rattle.packet_layer.specs.Packets.{Packet}
+use Rattle.packet_layer.specs.Layer.{link_up, runs, channel_given}
 use Rattle.packet_layer.specs.Law.{Holds, HasNoLogs, Aligned}
-use Rattle.packet_layer.specs.Line.{End, Line, Event, Happening, turned, happens, after_one, after, may_begin, begun, offers, accepts, arrives_in, next_of_session}
+use Rattle.packet_layer.specs.Line.{End, Line, Event, Happening, turned, happens, after, may_begin, begun, offers, accepts, arrives_in, next_of_session}
 use Rattle.packet_layer.specs.Line.Event.{Up, Down, Calls, Requests, Expires, Offers, Arrives}
 use Rattle.packet_layer.specs.Line.Happening.{Here, There}
-use Rattle.call_records.specs.Records.{RecordValue, with_step}
-use Rattle.call_records.specs.Book.{Book, Slot, slot_at, side_of, edits, changed, with_change, all_told}
-use Rattle.call_records.specs.Told.{World, Move, notes_of, notes_in, notes_by_packet, written, top_after, after_move, after_all, InOrder, IsAllowed, AreAllowed}
+use Rattle.call_records.specs.Records.{with_step}
+use Rattle.call_records.specs.Book.{Book, Slot, slot_at, edits, all_told}
+use Rattle.call_records.specs.Told.{World, Move, notes_in, notes_by_packet, written, top_after, after_move, after_all, InOrder, IsAllowed, AreAllowed}
 use Rattle.call_records.specs.Told.Move.{Happens, Edits}
 use Rattle.call_records.specs.Headline.{BookHolds}
 use Rattle.call_records.proofs.Basics.{all_same}
-use Rattle.call_records.proofs.Scenes.{Face, Spot, IsRight, shelf_of, called_at, answered_at, epoch_at}
-use Rattle.call_records.proofs.Ending.{Alike}
+use Rattle.call_records.proofs.Scenes.{Face, Spot, IsRight, shelf_of, answered_at, epoch_at}
 use Rattle.call_records.proofs.Writing.{Closes, size_changed, slot_changed, pairs_changed, count_changed, kept_changed}
-use Rattle.call_records.proofs.Faces.{face_of, faces_of, within, has_come, EndStep, end_step}
+use Rattle.call_records.proofs.Faces.{face_of, faces_of, within, has_come, end_step}
 use Rattle.call_records.proofs.Steps.{story_refl}
-use Rattle.call_records.proofs.Moving.{KeptAt, IsEnd, Facts, sized, top_of}
+use Rattle.call_records.proofs.Moving.{KeptAt, Facts, sized, top_of}
 use Rattle.call_records.proofs.Layers.{next_same, either_way}
-use Rattle.call_records.proofs.Ends.{Quiet, quiet_step}
+use Rattle.call_records.proofs.Ends.{quiet_step}
 use Rattle.call_records.proofs.Events.{requests_kept, begun_rises, same_rises, same_end_is}
 use Rattle.call_records.proofs.Placing.{calls_given, timer_runs, down_kept, up_kept}
 use Rattle.call_records.proofs.Coming.{accepts_kept}
@@ -218,9 +215,11 @@ says_of n e y te ty here there law = record {
     aligned : (z : Role) (k : Spot) (g : ℕ) → (faces_of Dte e y te ty z).begun k ≡ true → Aligned (epoch_at (faces_of Dte e y te ty z) k g) (epoch_at (faces_of Dte e y te ty (other_of z)) k g)
     aligned Dte k g h = let r = in_line n Dte e te k here h in (law k.session k.channel r.0 r.1).forth k.restart k.use_ g
     aligned Dce k g h = let r = in_line n Dce y ty k there h in (law k.session k.channel r.0 r.1).back k.restart k.use_ g
+
     back : (z : Role) (k : Spot) (g : ℕ) → (faces_of Dte e y te ty z).begun k ≡ true → Aligned (epoch_at (faces_of Dte e y te ty (other_of z)) k g) (epoch_at (faces_of Dte e y te ty z) k g)
     back Dte k g h = let r = in_line n Dte e te k here h in (law k.session k.channel r.0 r.1).back k.restart k.use_ g
     back Dce k g h = let r = in_line n Dce y ty k there h in (law k.session k.channel r.0 r.1).forth k.restart k.use_ g
+
     answers : (z : Role) (k : Spot) (g : ℕ) → (faces_of Dte e y te ty z).begun k ≡ true → (HasNoLogs (epoch_at (faces_of Dte e y te ty z) k g) → ⊥)
         → (answered_at (faces_of Dte e y te ty z) k || answered_at (faces_of Dte e y te ty (other_of z)) k) ≡ true
     answers Dte k g h some =

@@ -1,29 +1,26 @@
 -- What a collision at the DCE and the acceptance of a call make of the book.
-use Rattle.std.specs.Prelude.{◌≡◌, ◌≢◌, ℕ, zero, suc, ◌<◌, ◌≤◌, ◌⊎◌, Bool, true, false, cond, ◌&&◌, ◌||◌, ◌==◌, nat_lt, List, [], ◌∷◌, ◌++◌, length, set, slice_get, is_some, Option, Some, None}
-use Rattle.std.proofs.Common.{inl, inr, refl, sym, ap, subst, ◌∙◌, arith, true≢false}
+use Rattle.std.specs.Prelude.{◌≡◌, ◌≢◌, ℕ, ◌⊎◌, true, false, cond, ◌==◌, List, [], ◌∷◌, ◌++◌, length, set, is_some, Option, Some}
+use Rattle.std.proofs.Common.{inl, inr, refl, sym, ap, subst, ◌∙◌, arith}
 use Rattle.std.specs.Option.{IsSome}
-use Rattle.std.proofs.lemmas.Option.{none-some, same_Some}
+use Rattle.std.proofs.lemmas.Option.{same_Some}
 use Rattle.link_timers.specs.declared.role.Role.{Role}
 use Rattle.link_timers.specs.declared.role.Role.TheVariants.{Dte, Dce}
-use Rattle.link_timers.specs.Role.{other_of}
 use Rattle.packet_layer.specs.Packets.{CallParts}
-use Rattle.packet_layer.specs.Layer.{Layer, channel_of}
-use Rattle.packet_layer.specs.History.{Epoch, Story, empty_epoch, call_accepted, with_answer, with_call}
-use Rattle.packet_layer.specs.Law.{IsBegun, IsUnused, HasPlaced}
+use Rattle.packet_layer.specs.Layer.{channel_of}
+use Rattle.packet_layer.specs.History.{Epoch, Story, call_accepted, with_answer}
 use Rattle.packet_layer.specs.Line.{End}
-use Rattle.call_records.specs.Records.{RecordValue, PairValue, new_record, with_closed}
-use Rattle.call_records.specs.Book.{Book, Slot, slot_at, side_of, with_slot, with_record, answers, with_pair, comes, closes, address_of}
+use Rattle.call_records.specs.Records.{RecordValue, PairValue, new_record}
+use Rattle.call_records.specs.Book.{Book, Slot, slot_at, with_record, answers, with_pair, comes, closes, address_of}
 use Rattle.call_records.proofs.Basics.{number_is, eq_true, by_true, by_false, dte_not_dce}
 use Rattle.std.proofs.lemmas.Bool.{ne_eqb}
-use Rattle.call_records.proofs.Scenes.{Face, Mood, Spot, Kind, Tag, Shelf, shelf_of, Present, SlotIs, IsPast, IsRight, epoch_at, called_at, answered_at, now, sent_of, taken_of, nothing_passed}
+use Rattle.call_records.proofs.Scenes.{Mood, Spot, Tag, Shelf, shelf_of, Present, SlotIs, IsRight, epoch_at, called_at, answered_at, now, sent_of, taken_of, nothing_passed}
 use Rattle.call_records.proofs.Scenes.Mood.{Idle, OwnCall, FarCall, Open}
-use Rattle.call_records.proofs.Scenes.Kind.{Caller, Callee, Cancelled}
-use Rattle.call_records.proofs.Carrying.{SameEnd}
-use Rattle.call_records.proofs.Calling.{IsNew, Comes, coming_right, spot_is}
+use Rattle.call_records.proofs.Scenes.Kind.{Caller, Callee}
+use Rattle.call_records.proofs.Calling.{coming_right, spot_is}
 use Rattle.call_records.proofs.Cancelling.{Cancels, cancelled_right, cancelled_tag, with_moods}
-use Rattle.call_records.proofs.Answering.{AnswersAt, Answers, answered_right}
-use Rattle.call_records.proofs.Writing.{Closes, shelf_same, shelf_pairs, slot_here, slot_else, size_record, size_slot, closes_one, closed_here, closed_else}
-use Rattle.call_records.proofs.Faces.{mood_of, mood_at, face_of, faces_of, OnChannel, at_else}
+use Rattle.call_records.proofs.Answering.{AnswersAt, answered_right}
+use Rattle.call_records.proofs.Writing.{shelf_same, shelf_pairs, slot_here, slot_else, size_record, size_slot, closes_one, closed_here, closed_else}
+use Rattle.call_records.proofs.Faces.{mood_at, face_of, faces_of, OnChannel, at_else}
 use Rattle.call_records.proofs.Stories.{in_use_cases, in_use_keeps}
 use Rattle.call_records.proofs.Steps.{ComeStep, come_adds, come_epochs}
 
@@ -79,9 +76,11 @@ module _ (e e' y : End) (s d te ty : ℕ) (parts : CallParts) (b : Book) (tags :
   Between = (tags' : List Tag) × IsRight (with_moods (between e y d) (faces_of Dce e y te ty)) (shelf_of (closes Dce d b)) tags'
 
   meets : Between
-  meets =
-      (set tags cancels.own.number (cancelled_tag cancels.own.tag), subst (λ (v : Shelf). IsRight (with_moods (between e y d) (faces_of Dce e y te ty)) v (set tags cancels.own.number (cancelled_tag cancels.own.tag))) (shelf_same b (closes Dce d b) (closes_one Dce d b).pairs (closes_one Dce d b).size.node)
-      (cancelled_right Dce d (faces_of Dce e y te ty) (between e y d) (shelf_of b) (shelf_of (closes Dce d b)).slots (closes Dce d b).records tags w cancels))
+  meets = (
+    set tags cancels.own.number (cancelled_tag cancels.own.tag),
+    subst (λ (v : Shelf). IsRight (with_moods (between e y d) (faces_of Dce e y te ty)) v (set tags cancels.own.number (cancelled_tag cancels.own.tag))) (shelf_same b (closes Dce d b) (closes_one Dce d b).pairs (closes_one Dce d b).size.node)
+        (cancelled_right Dce d (faces_of Dce e y te ty) (between e y d) (shelf_of b) (shelf_of (closes Dce d b)).slots (closes Dce d b).records tags w cancels),
+  )
 
   pub collide_step : (tags' : List Tag) × IsRight (faces_of Dce e' y te ty) (shelf_of (comes Dce d parts (closes Dce d b))) tags'
   collide_step =
@@ -125,14 +124,14 @@ module _ (x : Role) (e e' y : End) (s d te ty : ℕ) (b : Book) (q : AnswerStep 
   answered k =
       elim (number_is k.session s) [
         | inl a ↦ elim (number_is k.channel d) [
-            | inl c ↦ elim (in_use_cases (λ z. with_answer z) (e.stories s d) k.restart k.use_) [
-                | inl h ↦ inr (spot_is k (now (face_of x e te) s d) a c h.0.0 h.0.1)
-                | inr h ↦ inl (ap (λ (m : ℕ). ((e'.stories m k.channel).epochs k.restart k.use_ 0).answered) a ∙ ap (λ (n : ℕ). ((e'.stories s n).epochs k.restart k.use_ 0).answered) c
-                    ∙ ap (λ (z : Story). (z.epochs k.restart k.use_ 0).answered) q.story ∙ ap (λ (z : Epoch). z.answered) (h.1 0)
-                    ∙ ap (λ (n : ℕ). ((e.stories s n).epochs k.restart k.use_ 0).answered) (sym c) ∙ ap (λ (m : ℕ). ((e.stories m k.channel).epochs k.restart k.use_ 0).answered) (sym a))
-              ]
-            | inr c ↦ inl (ap (λ (z : Story). (z.epochs k.restart k.use_ 0).answered) (q.on.else k.session k.channel (λ h. c h.1)))
+          | inl c ↦ elim (in_use_cases (λ z. with_answer z) (e.stories s d) k.restart k.use_) [
+            | inl h ↦ inr (spot_is k (now (face_of x e te) s d) a c h.0.0 h.0.1)
+            | inr h ↦ inl (ap (λ (m : ℕ). ((e'.stories m k.channel).epochs k.restart k.use_ 0).answered) a ∙ ap (λ (n : ℕ). ((e'.stories s n).epochs k.restart k.use_ 0).answered) c
+                ∙ ap (λ (z : Story). (z.epochs k.restart k.use_ 0).answered) q.story ∙ ap (λ (z : Epoch). z.answered) (h.1 0)
+                ∙ ap (λ (n : ℕ). ((e.stories s n).epochs k.restart k.use_ 0).answered) (sym c) ∙ ap (λ (m : ℕ). ((e.stories m k.channel).epochs k.restart k.use_ 0).answered) (sym a))
           ]
+          | inr c ↦ inl (ap (λ (z : Story). (z.epochs k.restart k.use_ 0).answered) (q.on.else k.session k.channel (λ h. c h.1)))
+        ]
         | inr a ↦ inl (ap (λ (z : Story). (z.epochs k.restart k.use_ 0).answered) (q.on.else k.session k.channel (λ h. a h.0)))
       ]
 
@@ -140,9 +139,9 @@ module _ (x : Role) (e e' y : End) (s d te ty : ℕ) (b : Book) (q : AnswerStep 
   since =
       ap (λ (z : Story). (z.epochs (e.stories s d).restart (e.stories s d).use_ 0).answered) q.story
       ∙ elim (in_use_cases (λ z. with_answer z) (e.stories s d) (e.stories s d).restart (e.stories s d).use_) [
-          | inl h ↦ ap (λ (z : Epoch). z.answered) (h.1 0)
-          | inr h ↦ absurd (h.0 (refl, refl))
-        ]
+        | inl h ↦ ap (λ (z : Epoch). z.answered) (h.1 0)
+        | inr h ↦ absurd (h.0 (refl, refl))
+      ]
 
   answers_at : AnswersAt (face_of x e te) (face_of x e' te) s d
   answers_at = record {

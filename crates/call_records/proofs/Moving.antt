@@ -1,5 +1,5 @@
 -- A step on one channel of an end keeps the book right.
-use Rattle.std.specs.Prelude.{◌≡◌, ◌≢◌, ℕ, zero, suc, ◌+◌, ◌<◌, ◌≤◌, ◌⊎◌, Bool, true, false, cond, ◌&&◌, ◌||◌, ◌==◌, nat_lt, List, [], ◌∷◌, ◌++◌, length, slice_get, is_some, Option, Some, None}
+use Rattle.std.specs.Prelude.{◌≡◌, ◌≢◌, ℕ, zero, suc, ◌≤◌, ◌⊎◌, Bool, true, false, ◌&&◌, List, length, slice_get, is_some, Option, Some, None}
 use Rattle.std.proofs.Common.{inl, inr, refl, sym, ap, subst, ◌∙◌, arith, true≢false}
 use Rattle.std.specs.Option.{IsSome}
 use Rattle.std.proofs.lemmas.Option.{none-some, same_Some}
@@ -10,25 +10,24 @@ use Rattle.link_timers.specs.Role.{other_of}
 use Rattle.packet_layer.specs.Packets.{CallParts}
 use Rattle.packet_layer.specs.Channel.{CallState, Channel}
 use Rattle.packet_layer.specs.Channel.CallState.{Ready, OwnWaiting, FarWaiting, Transfer, Collision, OwnClear}
-use Rattle.packet_layer.specs.Layer.{Layer, channel_of}
+use Rattle.packet_layer.specs.Layer.{channel_of}
 use Rattle.packet_layer.specs.Layer.Phase.{PacketReady}
 use Rattle.packet_layer.specs.History.{Epoch, Story, call_accepted}
-use Rattle.packet_layer.specs.Law.{HoldsAt, OneAnswers, CallArrives, CallKnown, InUse, IsUnused, HasPlaced, IsBegun}
-use Rattle.packet_layer.specs.Line.{End, Line}
-use Rattle.call_records.specs.Records.{RecordValue, PairValue, changed_at}
-use Rattle.call_records.specs.Book.{Book, Slot, slot_at, side_of, with_change, changed, answers, with_pair, closes, comes, with_record, with_slot}
-use Rattle.call_records.proofs.Basics.{number_is, order, dte_not_dce, get_changed, length_changed}
-use Rattle.call_records.proofs.Scenes.{Face, Mood, Spot, Kind, Tag, Shelf, shelf_of, Present, SlotIs, IsPast, IsRight, Tells, HasEpochs, epoch_at, called_at, answered_at, now, sent_of, taken_of}
+use Rattle.packet_layer.specs.Law.{HoldsAt, OneAnswers, CallArrives, CallKnown, InUse, IsUnused, HasPlaced}
+use Rattle.packet_layer.specs.Line.{End}
+use Rattle.call_records.specs.Records.{RecordValue}
+use Rattle.call_records.specs.Book.{Book, slot_at, side_of, with_change, changed, answers, with_pair, closes, comes, with_record}
+use Rattle.call_records.proofs.Basics.{number_is, order, dte_not_dce, get_changed}
+use Rattle.call_records.proofs.Scenes.{Face, Mood, Spot, Tag, shelf_of, Present, SlotIs, IsPast, IsRight, HasEpochs, called_at, now, sent_of, taken_of}
 use Rattle.call_records.proofs.Scenes.Mood.{Idle, OwnCall, FarCall, Open}
-use Rattle.call_records.proofs.Scenes.Kind.{Caller, Callee, Cancelled}
 use Rattle.call_records.proofs.Carrying.{Grows}
-use Rattle.call_records.proofs.Ending.{Stays, Leaves, StandsStill, IsOver, Further}
+use Rattle.call_records.proofs.Ending.{StandsStill, IsOver, Further}
 use Rattle.call_records.proofs.Calling.{IsNew}
 use Rattle.call_records.proofs.Writing.{SameSize, size_refl, size_trans, size_slot, size_changed, size_record, Closes, closes_none, closes_one, closed_here, closed_else, shelf_records, slot_changed, pairs_changed, count_changed}
-use Rattle.call_records.proofs.Faces.{mood_of, met_mood, mood_at, within, has_come, face_of, faces_of, EndStep, end_step, OnChannel, at_else, StoryGrows, story_grows_refl, GoesOn, carry_step}
-use Rattle.call_records.proofs.Steps.{SameStory, story_refl, ComeStep, come_step, unused_new, past_of}
-use Rattle.call_records.proofs.Meetings.{AnswerStep, answer_step, collide_step}
-use Rattle.call_records.proofs.Outcomes.{EndsUse, TellsIn, RecordGrows, Outcome}
+use Rattle.call_records.proofs.Faces.{mood_of, mood_at, within, has_come, face_of, faces_of, end_step, OnChannel, at_else, StoryGrows, carry_step}
+use Rattle.call_records.proofs.Steps.{SameStory, ComeStep, come_step, unused_new}
+use Rattle.call_records.proofs.Meetings.{answer_step, collide_step}
+use Rattle.call_records.proofs.Outcomes.{EndsUse, RecordGrows, Outcome}
 use Rattle.call_records.proofs.Outcomes.Outcome.{stays, ends, ends_none, goes, connects, accepts, comes as call_comes, collides}
 
 -- ---- what is kept
@@ -110,6 +109,7 @@ pair_size (Some a) (Some c) b = record { size = λ y. size y; node = λ y. node 
     size : (y : Role) → length (side_of y (with_pair (Some a) (Some c) b)).slots ≡ length (side_of y b).slots
     size Dte = refl
     size Dce = refl
+
     node : (y : Role) → (side_of y (with_pair (Some a) (Some c) b)).node ≡ (side_of y b).node
     node Dte = refl
     node Dce = refl
@@ -186,12 +186,12 @@ module _ (n : ℕ) (x : Role) (e e' y : End) (te ty : ℕ) (b : Book) (s d : ℕ
   stays_after mood same = end_after b (closes_none x b) (λ st. (same st).epochs)
       (λ c. elim (number_is c d) [
         | inl h ↦ inl (subst (λ (m : ℕ). StandsStill (face_of x e te) (face_of x e' te) m (slot_at x m b) (slot_at x m b)) (sym h) (record {
-            mood = q.found_after ∙ mood ∙ sym mood_now;
-            restart = at_now (λ a. (e'.stories a d).restart ≡ (e.stories a d).restart) (ap (λ (z : Story). z.restart) q.story ∙ (same (e.stories s d)).restart);
-            uses = at_now (λ a. (e'.stories a d).use_ ≡ (e.stories a d).use_) (ap (λ (z : Story). z.use_) q.story ∙ (same (e.stories s d)).uses);
-            epoch = at_now (λ a. (e'.stories a d).epoch ≡ (e.stories a d).epoch) (ap (λ (z : Story). z.epoch) q.story ∙ (same (e.stories s d)).epoch);
-            slot_is = refl;
-          }))
+          mood = q.found_after ∙ mood ∙ sym mood_now;
+          restart = at_now (λ a. (e'.stories a d).restart ≡ (e.stories a d).restart) (ap (λ (z : Story). z.restart) q.story ∙ (same (e.stories s d)).restart);
+          uses = at_now (λ a. (e'.stories a d).use_ ≡ (e.stories a d).use_) (ap (λ (z : Story). z.use_) q.story ∙ (same (e.stories s d)).uses);
+          epoch = at_now (λ a. (e'.stories a d).epoch ≡ (e.stories a d).epoch) (ap (λ (z : Story). z.epoch) q.story ∙ (same (e.stories s d)).epoch);
+          slot_is = refl;
+        }))
         | inr h ↦ inl (still b c h refl)
       ])
 
@@ -199,10 +199,10 @@ module _ (n : ℕ) (x : Role) (e e' y : End) (te ty : ℕ) (b : Book) (s d : ℕ
   over_after b' closed else none mood uses = end_after b' closed (λ st. (uses st).epochs)
       (λ c. elim (number_is c d) [
         | inl h ↦ inr (subst (λ (m : ℕ). IsOver (face_of x e te) (face_of x e' te) m (slot_at x m b) (slot_at x m b')) (sym h) (record {
-            mood = q.found_after ∙ mood;
-            further = at_now (λ a. Further (e.stories a d) (e'.stories a d)) (subst (λ (z : Story). Further (e.stories s d) z) (sym q.story) (uses (e.stories s d)).further);
-            present = none;
-          }))
+          mood = q.found_after ∙ mood;
+          further = at_now (λ a. Further (e.stories a d) (e'.stories a d)) (subst (λ (z : Story). Further (e.stories s d) z) (sym q.story) (uses (e.stories s d)).further);
+          present = none;
+        }))
         | inr h ↦ inl (still b' c h (else c h))
       ])
 
@@ -227,11 +227,11 @@ module _ (n : ℕ) (x : Role) (e e' y : End) (te ty : ℕ) (b : Book) (s d : ℕ
       (record {
         head = g.head;
         tells = λ t h.
-          let after = g.tells (record { sent = t.sent; taken = t.taken }) h in
-          record {
-            sent = λ i. after.sent i ∙ ap (λ (z : Story). sent_of (z.epochs (e.stories s d).restart (e.stories s d).use_ i)) (sym q.story);
-            taken = λ i. after.taken i ∙ ap (λ (z : Story). taken_of (z.epochs (e.stories s d).restart (e.stories s d).use_ i)) (sym q.story);
-          };
+            let after = g.tells (record { sent = t.sent; taken = t.taken }) h in
+            record {
+              sent = λ i. after.sent i ∙ ap (λ (z : Story). sent_of (z.epochs (e.stories s d).restart (e.stories s d).use_ i)) (sym q.story);
+              taken = λ i. after.taken i ∙ ap (λ (z : Story). taken_of (z.epochs (e.stories s d).restart (e.stories s d).use_ i)) (sym q.story);
+            };
         epochs = λ h. subst (λ (z : Story). HasEpochs r' z.epoch) (sym q.story) (g.epochs h);
       })
 
@@ -240,11 +240,14 @@ module _ (n : ℕ) (x : Role) (e e' y : End) (te ty : ℕ) (b : Book) (s d : ℕ
   kept_at None change p e0 grows m r' got = absurd (none-some p.number e0)
   kept_at (Some i) change p e0 grows m r' got =
       let is : i ≡ p.number = same_Some i p.number e0 in
-      let g = get_changed b.records i change m r' got in
-      (g.0, g.1, elim g.2 [
-        | inl h ↦ inl (h.0 ∙ is, subst (λ (z : RecordValue). Grows (face_of x e te) (face_of x e' te) p.session d g.0 z) (sym h.1) (grows_at p g.0 (change g.0) (grows g.0)))
-        | inr h ↦ inr (λ a. h.0 (a ∙ sym is), h.1)
-      ])
+      let g = get_changed b.records i change m r' got in (
+        g.0,
+        g.1,
+        elim g.2 [
+          | inl h ↦ inl (h.0 ∙ is, subst (λ (z : RecordValue). Grows (face_of x e te) (face_of x e' te) p.session d g.0 z) (sym h.1) (grows_at p g.0 (change g.0) (grows g.0)))
+          | inr h ↦ inr (λ a. h.0 (a ∙ sym is), h.1)
+        ],
+      )
 
   changed_after : (change : RecordValue → RecordValue) → mood_of x ch.state ≡ Open → mood_of x ch'.state ≡ Open → ((st : Story) → StoryGrows st (told st)) → ((st : Story) (r : RecordValue) → RecordGrows st (told st) r (change r)) → KeptAt n x e' y te ty (changed x d change b)
   changed_after change m m' grows rgrows =
@@ -276,10 +279,14 @@ module _ (n : ℕ) (x : Role) (e e' y : End) (te ty : ℕ) (b : Book) (s d : ℕ
   connects_after m m' same =
       let w = subst (λ (z : Mood). SlotIs z (face_of x e te) k.tags x d (slot_at x d b)) (mood_now ∙ m) (slot_of x e y te ty b k.tags d k.right) in
       goes_after b w.0 (subst (λ (z : Mood). SlotIs z (face_of x e te) k.tags x d (slot_at x d b)) (sym (q.found_after ∙ m')) w.0) (same_grows (e.stories s d) (told (e.stories s d)) (same (e.stories s d))) refl
-      (λ i r' got. (r', got, elim (number_is i w.0.number) [
-        | inl h ↦ inl (h, grows_at w.0 r' r' (same_record (e.stories s d) (told (e.stories s d)) r' (same (e.stories s d))))
-        | inr h ↦ inr (h, refl)
-      ])) refl (size_refl b)
+      (λ i r' got. (
+        r',
+        got,
+        elim (number_is i w.0.number) [
+          | inl h ↦ inl (h, grows_at w.0 r' r' (same_record (e.stories s d) (told (e.stories s d)) r' (same (e.stories s d))))
+          | inr h ↦ inr (h, refl)
+        ],
+      )) refl (size_refl b)
 
   answers_after : mood_of x ch.state ≡ FarCall → mood_of x ch'.state ≡ Open → ((st : Story) → told st ≡ call_accepted st) → KeptAt n x e' y te ty (answers x d b)
   answers_after m m' story = record {
@@ -312,7 +319,7 @@ module _ (n : ℕ) (x : Role) (e e' y : End) (te ty : ℕ) (b : Book) (s d : ℕ
   past_known : (parts : CallParts) → CallKnown (e.stories s d) (y.stories s d) parts → (z : Spot) → z.session ≡ s → z.channel ≡ d → IsSome (called_at (face_of (other_of x) y ty) z) → IsPast z (e.stories s d)
   past_known parts known z a c some =
       let there : IsSome ((y.stories s d).epochs z.restart z.use_ 0).called =
-        ap (λ (i : ℕ). is_some ((y.stories s i).epochs z.restart z.use_ 0).called) (sym c) ∙ ap (λ (j : ℕ). is_some ((y.stories j z.channel).epochs z.restart z.use_ 0).called) (sym a) ∙ some in
+      ap (λ (i : ℕ). is_some ((y.stories s i).epochs z.restart z.use_ 0).called) (sym c) ∙ ap (λ (j : ℕ). is_some ((y.stories j z.channel).epochs z.restart z.use_ 0).called) (sym a) ∙ some in
       record {
         restarts = elim (order z.restart (e.stories s d).restart) [
           | inl le ↦ le
@@ -353,8 +360,8 @@ collides_after n Dce e e' y te ty b s d ch ch' told came k facts q parts c role 
     let arrival = q.arrival parts c (inr own) in
     let placed : HasPlaced (e.stories s d) = subst (λ (z : CallState). InUse Dce z (e.stories s d)) own (use_now n Dce e e' y te ty b s d ch ch' told came k facts q) in
     let r = collide_step e e' y s d te ty parts b k.tags
-      (come_at n Dce e e' y te ty b s d ch ch' told came k facts q parts arrival (placed_use n Dce e e' y te ty b s d ch ch' told came k facts q placed arrival.come) m' same)
-      (ap (mood_at Dce) q.found ∙ ap (mood_of Dce) own) k.right in
+    (come_at n Dce e e' y te ty b s d ch ch' told came k facts q parts arrival (placed_use n Dce e e' y te ty b s d ch ch' told came k facts q placed arrival.come) m' same)
+    (ap (mood_at Dce) q.found ∙ ap (mood_of Dce) own) k.right in
     record {
       tags = r.0;
       right = r.1;

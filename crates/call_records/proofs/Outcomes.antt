@@ -1,31 +1,31 @@
 -- What a step of one channel comes to for its call, its story and the book.
-use Rattle.std.specs.Prelude.{◌≡◌, ◌≢◌, ℕ, zero, suc, ◌+◌, ◌<◌, ◌≤◌, ◌⊎◌, Bool, true, false, cond, not, ◌==◌, List, [], ◌∷◌, ◌++◌, length, map, slice_get, Option, Some, None}
-use Rattle.std.proofs.Common.{inl, inr, refl, sym, ap, subst, ◌∙◌, arith, true≢false}
-use Rattle.std.proofs.lemmas.Option.{none-some, same_Some}
+use Rattle.std.specs.Prelude.{◌≡◌, ◌≢◌, ℕ, zero, suc, ◌+◌, Bool, true, false, cond, not, ◌==◌, List, [], ◌∷◌, ◌++◌, length, map, Option, Some, None}
+use Rattle.std.proofs.Common.{inl, inr, refl, sym, ap, ◌∙◌, arith}
+use Rattle.std.proofs.lemmas.Option.{none-some}
 use Rattle.link_timers.specs.declared.role.Role.{Role}
 use Rattle.link_timers.specs.declared.role.Role.TheVariants.{Dte, Dce}
 use Rattle.epochs.specs.Item.{DataPacket}
 use Rattle.epochs.specs.Epoch.{SentEpoch, TakenEpoch, nothing_sent, nothing_taken}
-use Rattle.packet_layer.specs.Packets.{CallParts, Datum, Body, Note}
-use Rattle.packet_layer.specs.Packets.Body.{Call, Accepted, Clear, ClearConfirmation, Data, Interrupt, InterruptConfirmation, ReceiveReady, ReceiveNotReady, Reset, ResetConfirmation, Restart, RestartConfirmation}
+use Rattle.packet_layer.specs.Packets.{CallParts, Datum, Body}
+use Rattle.packet_layer.specs.Packets.Body.{Call, Accepted, Clear, ClearConfirmation, Data, Interrupt, InterruptConfirmation, ReceiveReady, ReceiveNotReady, Reset, ResetConfirmation}
 use Rattle.packet_layer.specs.Packets.Note.{Covered}
 use Rattle.packet_layer.specs.Traffic.{Traffic, Heard, Taken, front, may_release, hears}
 use Rattle.packet_layer.specs.Traffic.Heard.{Keeps, Confirms, Wrong}
 use Rattle.packet_layer.specs.Traffic.Taken.{TakenInterrupt, TakenPacket}
-use Rattle.packet_layer.specs.Channel.{CallState, Channel, Step, Request, Refusal, received, received_in, after_heard, in_own_reset, in_flow_ready, requested, carried_out, refusal, refused_if, may_accept, in_transfer, unless, clear_error}
+use Rattle.packet_layer.specs.Channel.{CallState, Channel, Request, Refusal, received, received_in, after_heard, in_own_reset, in_flow_ready, carried_out, refusal, refused_if, may_accept, in_transfer}
 use Rattle.packet_layer.specs.Channel.Request.{Accept, Clearing, Resetting, Sending, Interrupting, Stopping, Taking, Releasing, Confirming}
 use Rattle.packet_layer.specs.Channel.CallState.{Ready, OwnWaiting, FarWaiting, Transfer, Collision, OwnClear}
-use Rattle.packet_layer.specs.History.{Epoch, Story, opened, heard_story, received_story, requested_story, grown, grown_unless, accepted_unless, logged, logged_heard, with_taken, call_accepted, next_use_of, next_epoch_of}
+use Rattle.packet_layer.specs.History.{Epoch, Story, opened, heard_story, received_story, grown, logged, logged_heard, with_taken, call_accepted, next_use_of, next_epoch_of}
 use Rattle.call_records.specs.Records.{RecordValue, with_sent, with_interrupt_sent, with_interrupt_taken, with_released, with_covered, with_epoch, changed_at}
 use Rattle.call_records.specs.Records as records
 use Rattle.call_records.specs.Book.{Book, slot_at, with_change, changed, answers, closes, packet_of, all_told}
 use Rattle.call_records.specs.Book as book
-use Rattle.call_records.specs.Told.{carried, unless_refused}
-use Rattle.call_records.proofs.Scenes.{Mood, HasEpochs, sent_of, taken_of, Passed, passed_sent, passed_taken, nth_sent, nth_taken, all_sent, all_taken}
+use Rattle.call_records.specs.Told.{carried}
+use Rattle.call_records.proofs.Scenes.{HasEpochs, sent_of, taken_of, Passed, passed_sent, passed_taken, nth_sent, nth_taken, all_sent, all_taken}
 use Rattle.call_records.proofs.Scenes.Mood.{Idle, OwnCall, FarCall, Open}
 use Rattle.call_records.proofs.Carrying.{SameHead}
 use Rattle.call_records.proofs.Ending.{Further}
-use Rattle.call_records.proofs.Faces.{mood_of, met_mood, StoryGrows}
+use Rattle.call_records.proofs.Faces.{mood_of, StoryGrows}
 use Rattle.call_records.proofs.Steps.{SameStory, story_refl}
 use Rattle.call_records.proofs.Stories.{grown_cases, grown_keeps}
 use Rattle.call_records.proofs.Basics.{length_pushed}
@@ -155,26 +155,26 @@ grown_sent : (f : Epoch → Epoch) (change : RecordValue → RecordValue) → Gr
 grown_sent f change q st r t h g =
     elim (grown_cases f st st.restart st.use_ g) [
       | inl a ↦
-        let at : g ≡ length r.sent_before = a.0.2 ∙ sym h.sent in
-        let now : passed_sent r.sent ≡ sent_of (st.epochs st.restart st.use_ g) = sym (nth_at r.sent_before r.sent) ∙ ap (λ (n : ℕ). nth_sent (all_sent r) n) (sym at) ∙ t.sent g in
-        ap (λ (l : List SentEpoch). nth_sent (l ++ (change r).sent ∷ []) g) (q.sent_before r) ∙ ap (λ (n : ℕ). nth_sent (r.sent_before ++ (change r).sent ∷ []) n) at ∙ nth_at r.sent_before (change r).sent
-        ∙ q.sent r (st.epochs st.restart st.use_ g) now ∙ ap sent_of (sym a.1)
+          let at : g ≡ length r.sent_before = a.0.2 ∙ sym h.sent in
+          let now : passed_sent r.sent ≡ sent_of (st.epochs st.restart st.use_ g) = sym (nth_at r.sent_before r.sent) ∙ ap (λ (n : ℕ). nth_sent (all_sent r) n) (sym at) ∙ t.sent g in
+          ap (λ (l : List SentEpoch). nth_sent (l ++ (change r).sent ∷ []) g) (q.sent_before r) ∙ ap (λ (n : ℕ). nth_sent (r.sent_before ++ (change r).sent ∷ []) n) at ∙ nth_at r.sent_before (change r).sent
+          ∙ q.sent r (st.epochs st.restart st.use_ g) now ∙ ap sent_of (sym a.1)
       | inr a ↦
-        let other : g ≢ length r.sent_before = λ k. a.0 (refl, refl, k ∙ h.sent) in
-        ap (λ (l : List SentEpoch). nth_sent (l ++ (change r).sent ∷ []) g) (q.sent_before r) ∙ nth_else r.sent_before (change r).sent r.sent g other ∙ t.sent g ∙ ap sent_of (sym a.1)
+          let other : g ≢ length r.sent_before = λ k. a.0 (refl, refl, k ∙ h.sent) in
+          ap (λ (l : List SentEpoch). nth_sent (l ++ (change r).sent ∷ []) g) (q.sent_before r) ∙ nth_else r.sent_before (change r).sent r.sent g other ∙ t.sent g ∙ ap sent_of (sym a.1)
     ]
 
 grown_taken : (f : Epoch → Epoch) (change : RecordValue → RecordValue) → GrowsBy f change → (st : Story) (r : RecordValue) → TellsIn st st r → HasEpochs r st.epoch → (g : ℕ) → nth_taken (all_taken (change r)) g ≡ taken_of ((grown f st).epochs st.restart st.use_ g)
 grown_taken f change q st r t h g =
     elim (grown_cases f st st.restart st.use_ g) [
       | inl a ↦
-        let at : g ≡ length r.taken_before = a.0.2 ∙ sym h.taken in
-        let now : passed_taken r.taken ≡ taken_of (st.epochs st.restart st.use_ g) = sym (nth_at_taken r.taken_before r.taken) ∙ ap (λ (n : ℕ). nth_taken (all_taken r) n) (sym at) ∙ t.taken g in
-        ap (λ (l : List TakenEpoch). nth_taken (l ++ (change r).taken ∷ []) g) (q.taken_before r) ∙ ap (λ (n : ℕ). nth_taken (r.taken_before ++ (change r).taken ∷ []) n) at ∙ nth_at_taken r.taken_before (change r).taken
-        ∙ q.taken r (st.epochs st.restart st.use_ g) now ∙ ap taken_of (sym a.1)
+          let at : g ≡ length r.taken_before = a.0.2 ∙ sym h.taken in
+          let now : passed_taken r.taken ≡ taken_of (st.epochs st.restart st.use_ g) = sym (nth_at_taken r.taken_before r.taken) ∙ ap (λ (n : ℕ). nth_taken (all_taken r) n) (sym at) ∙ t.taken g in
+          ap (λ (l : List TakenEpoch). nth_taken (l ++ (change r).taken ∷ []) g) (q.taken_before r) ∙ ap (λ (n : ℕ). nth_taken (r.taken_before ++ (change r).taken ∷ []) n) at ∙ nth_at_taken r.taken_before (change r).taken
+          ∙ q.taken r (st.epochs st.restart st.use_ g) now ∙ ap taken_of (sym a.1)
       | inr a ↦
-        let other : g ≢ length r.taken_before = λ k. a.0 (refl, refl, k ∙ h.taken) in
-        ap (λ (l : List TakenEpoch). nth_taken (l ++ (change r).taken ∷ []) g) (q.taken_before r) ∙ nth_else_taken r.taken_before (change r).taken r.taken g other ∙ t.taken g ∙ ap taken_of (sym a.1)
+          let other : g ≢ length r.taken_before = λ k. a.0 (refl, refl, k ∙ h.taken) in
+          ap (λ (l : List TakenEpoch). nth_taken (l ++ (change r).taken ∷ []) g) (q.taken_before r) ∙ nth_else_taken r.taken_before (change r).taken r.taken g other ∙ t.taken g ∙ ap taken_of (sym a.1)
     ]
 
 grown_record : (f : Epoch → Epoch) (change : RecordValue → RecordValue) → GrowsBy f change → (st : Story) (r : RecordValue) → RecordGrows st (grown f st) r (change r)
@@ -200,7 +200,7 @@ by_sending d = record {
   sent_before = λ r. refl;
   taken_before = λ r. refl;
   sent = λ r e h. ap (λ (p : Passed). record { packets = p.packets ++ packet_of d ∷ []; interrupts = p.interrupts }) h
-    ∙ ap (λ (l : List DataPacket). record { packets = l; interrupts = e.interrupts_sent }) (sym (map_pushed e.sent d));
+      ∙ ap (λ (l : List DataPacket). record { packets = l; interrupts = e.interrupts_sent }) (sym (map_pushed e.sent d));
   taken = λ r e h. h;
 }
 
@@ -224,7 +224,7 @@ by_taking d = record {
   taken_before = λ r. refl;
   sent = λ r e h. h;
   taken = λ r e h. ap (λ (p : Passed). record { packets = p.packets ++ packet_of d ∷ []; interrupts = p.interrupts }) h
-    ∙ ap (λ (l : List DataPacket). record { packets = l; interrupts = e.interrupts_taken }) (sym (map_pushed e.taken d));
+      ∙ ap (λ (l : List DataPacket). record { packets = l; interrupts = e.interrupts_taken }) (sym (map_pushed e.taken d));
 }
 
 by_interrupt_taken : (octets : List ℕ) → GrowsBy (λ e. record e { interrupts_taken = e.interrupts_taken ++ octets ∷ [] }) (λ r. with_interrupt_taken octets r)

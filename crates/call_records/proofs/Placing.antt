@@ -1,37 +1,33 @@
 -- The user's calls, the expiry of a timer and the link's sessions keep the book right.
-use Rattle.std.specs.Prelude.{◌≡◌, ◌≢◌, ℕ, zero, suc, ◌+◌, ◌<◌, ◌≤◌, ◌⊎◌, Bool, true, false, cond, not, ◌&&◌, ◌||◌, ◌==◌, nat_lt, List, [], ◌∷◌, ◌++◌, length, map, slice_get, is_some, Option, Some, None}
+use Rattle.std.specs.Prelude.{◌≡◌, ℕ, zero, suc, ◌≤◌, Bool, true, false, cond, not, ◌&&◌, ◌||◌, ◌==◌, nat_lt, List, [], length, is_some, Option, Some, None}
 use Rattle.std.proofs.Common.{inl, inr, refl, sym, ap, subst, ◌∙◌, arith, true≢false}
 use Rattle.std.proofs.lemmas.Option.{none-some, same_Some}
 use Rattle.std.proofs.lemmas.Bool.{ne_eqb}
 use Rattle.link_timers.specs.declared.role.Role.{Role}
-use Rattle.link_timers.specs.Role.{other_of}
-use Rattle.packet_layer.specs.Packets.{CallParts, Reason, Body, Note}
-use Rattle.packet_layer.specs.Packets.Body.{Restart}
-use Rattle.packet_layer.specs.Packets.Reason.{LinkLost, FarRestart, LocalFault}
-use Rattle.packet_layer.specs.Channel.{CallState, Channel, Step, closed_channel, clear_error, error_cause, in_transfer}
-use Rattle.packet_layer.specs.Channel.CallState.{Ready, OwnWaiting, FarWaiting, Transfer, Collision, OwnClear}
+use Rattle.packet_layer.specs.Packets.{CallParts, Note}
+use Rattle.packet_layer.specs.Packets.Reason.{LinkLost, LocalFault}
+use Rattle.packet_layer.specs.Channel.{CallState, Channel, clear_error, in_transfer}
+use Rattle.packet_layer.specs.Channel.CallState.{Ready}
 use Rattle.packet_layer.specs.Layer as layer
 use Rattle.packet_layer.specs.Layer.{Phase, Layer, Timer, nth_channel, channel_of, with_nth, closing_notes, unread, on_found, after_step, owing, on_timer, expired, runs, runs_at, waits_for_call, waits_for_clear, placing, channel_given, free_channel, link_up, link_down}
 use Rattle.packet_layer.specs.Layer.Phase.{NoSession, OwnRestart, PacketReady}
 use Rattle.packet_layer.specs.Layer.Timer.{RestartTimer, CallTimer, ResetTimer, ClearTimer}
-use Rattle.packet_layer.specs.History.{Epoch, Story, placed, call_story, timer_story, expired_story, next_restart_of, next_use_of}
+use Rattle.packet_layer.specs.History.{Epoch, Story, placed, call_story, expired_story, next_restart_of, next_use_of}
 use Rattle.packet_layer.specs.Law.{InUse, IsUnused}
-use Rattle.packet_layer.specs.Line.{End, Line, told, begun, may_begin, is_session}
-use Rattle.call_records.specs.Book.{Book, slot_at, places, closes, with_record, all_told}
+use Rattle.packet_layer.specs.Line.{End, begun, may_begin, is_session}
+use Rattle.call_records.specs.Book.{Book, places, closes, with_record, all_told}
 use Rattle.call_records.specs.Told.{placed_on}
-use Rattle.call_records.proofs.Basics.{number_is, by_true, by_false}
-use Rattle.call_records.proofs.Scenes.{Mood, Spot, called_at, answered_at, now}
-use Rattle.call_records.proofs.Scenes.Mood.{Idle, OwnCall, FarCall, Open}
+use Rattle.call_records.proofs.Basics.{number_is}
 use Rattle.call_records.proofs.Ending.{Further}
 use Rattle.call_records.proofs.Writing.{size_trans, size_record, size_slot, SameSize}
-use Rattle.call_records.proofs.Faces.{mood_of, mood_at, within, has_come, face_of, OnChannel}
-use Rattle.call_records.proofs.Steps.{SameStory, story_refl, PlaceStep, place_step}
-use Rattle.call_records.proofs.Moving.{KeptAt, IsEnd, Facts, begun_now, sized}
-use Rattle.call_records.proofs.Outcomes.{Outcome, NoCalls, next_use}
+use Rattle.call_records.proofs.Faces.{mood_of, mood_at, has_come}
+use Rattle.call_records.proofs.Steps.{story_refl, place_step}
+use Rattle.call_records.proofs.Moving.{KeptAt, Facts, begun_now, sized}
+use Rattle.call_records.proofs.Outcomes.{NoCalls, next_use}
 use Rattle.call_records.proofs.Outcomes.Outcome.{ends}
-use Rattle.call_records.proofs.Layers.{put_here, put_else, put_length, in_range, closed_length, told_here, told_else, either_way, next_same, free_is}
-use Rattle.call_records.proofs.Ends.{Quiet, quiet_step, AllOver, restart_step, session_step}
-use Rattle.call_records.proofs.Events.{moved_end, begun_rises, same_end_is, same_rises, on_one, still, else_story, here_story, Rises}
+use Rattle.call_records.proofs.Layers.{put_here, put_else, put_length, in_range, closed_length, told_here, told_else, either_way, free_is}
+use Rattle.call_records.proofs.Ends.{restart_step, session_step}
+use Rattle.call_records.proofs.Events.{moved_end, begun_rises, same_end_is, same_rises, on_one, still, else_story, here_story}
 
 -- ---- the user places a call
 

@@ -1,13 +1,12 @@
 -- A worked run of a line and its book, by computation: a call, data on it, a reset, and data again.
-use Rattle.std.proofs.Common.{◌≡◌, ℕ, ◌≤◌, true, false, List, [], ◌∷◌, Some, None, refl, arith}
-use Rattle.link_timers.specs.declared.role.Role.TheVariants.{Dte, Dce}
+use Rattle.std.proofs.Common.{◌≡◌, ℕ, ◌≤◌, false, List, [], ◌∷◌, Some, None, refl, arith}
 use Rattle.epochs.specs.Epoch.{nothing_sent, nothing_taken}
 use Rattle.packet_layer.specs.Packets.{CallParts, Datum}
 use Rattle.packet_layer.specs.Channel.Request.{Accept, Resetting, Sending, Taking, Releasing}
 use Rattle.packet_layer.specs.Line.Happening.{Here, There}
 use Rattle.packet_layer.specs.Line.Event.{Up, Calls, Requests, Offers, Arrives}
-use Rattle.call_records.specs.Records.{RecordValue, PairValue}
-use Rattle.call_records.specs.Book.{Book, packet_of}
+use Rattle.call_records.specs.Records.{RecordValue}
+use Rattle.call_records.specs.Book.{packet_of}
 use Rattle.call_records.specs.Told.{World, Move, after_all, start, AreAllowed}
 use Rattle.call_records.specs.Told.Move.{Happens}
 

@@ -1,5 +1,5 @@
 -- The book of a line as it is made is right, standing or not.
-use Rattle.std.specs.Prelude.{◌≡◌, ◌≢◌, ℕ, zero, suc, ◌+◌, ◌<◌, ◌≤◌, ◌⊎◌, Bool, true, false, cond, ◌&&◌, ◌||◌, ◌==◌, nat_lt, List, [], ◌∷◌, ◌++◌, length, map, replicate, slice_get, is_some, Option, Some, None}
+use Rattle.std.specs.Prelude.{◌≡◌, ◌≢◌, ℕ, zero, suc, ◌≤◌, ◌⊎◌, Bool, true, false, List, [], ◌∷◌, length, replicate, slice_get, is_some, Some, None}
 use Rattle.std.proofs.Common.{inl, inr, refl, sym, ap, subst, ◌∙◌, arith, true≢false}
 use Rattle.std.specs.Option.{IsSome}
 use Rattle.std.proofs.lemmas.Option.{none-some, same_Some}
@@ -7,25 +7,22 @@ use Rattle.std.proofs.lemmas.Bool.{lt-ltb}
 use Rattle.link_timers.specs.declared.role.Role.{Role}
 use Rattle.link_timers.specs.declared.role.Role.TheVariants.{Dte, Dce}
 use Rattle.link_timers.specs.Role.{other_of}
-use Rattle.packet_layer.specs.Packets.{CallParts}
-use Rattle.packet_layer.specs.Channel.{Channel, closed_channel, entered}
-use Rattle.packet_layer.specs.Channel.CallState.{Transfer}
-use Rattle.packet_layer.specs.Layer.{nth_channel, channel_of, standing_channels}
-use Rattle.packet_layer.specs.Layer.Phase.{NoSession, PacketReady}
-use Rattle.packet_layer.specs.History.{Epoch, Story, new_story, placed, call_accepted, with_call, with_answer}
-use Rattle.packet_layer.specs.Line.{End, Line, start_line, start_end, start_story, no_parts}
+use Rattle.packet_layer.specs.Channel.{closed_channel}
+use Rattle.packet_layer.specs.Layer.{nth_channel}
+use Rattle.packet_layer.specs.History.{Epoch, new_story, with_call, with_answer}
+use Rattle.packet_layer.specs.Line.{End, start_end, start_story, no_parts}
 use Rattle.call_records.specs.Records.{RecordValue, PairValue, new_record}
-use Rattle.call_records.specs.Book.{Book, Slot, free_slot, slot_at, side_of, nth_slot, new_book, standing_book, made_book}
-use Rattle.call_records.specs.Told.{World, start}
+use Rattle.call_records.specs.Book.{Book, Slot, free_slot, slot_at, side_of, nth_slot, new_book, standing_book}
+use Rattle.call_records.specs.Told.{start}
 use Rattle.call_records.proofs.Basics.{dte_not_dce}
-use Rattle.call_records.proofs.Scenes.{Face, Mood, Spot, Kind, Tag, Shelf, shelf_of, IsLive, IsCallee, Stands, Means, Fits, Tells, Present, SlotIs, IsPlaced, PlacedIs, UpTo, IsPair, IsRight, called_at, sent_of, taken_of, nth_sent, nth_taken, nothing_passed}
-use Rattle.call_records.proofs.Scenes.Mood.{Idle, OwnCall, FarCall, Open}
-use Rattle.call_records.proofs.Scenes.Kind.{Caller, Callee, Cancelled}
+use Rattle.call_records.proofs.Scenes.{Face, Mood, Spot, Tag, shelf_of, IsLive, IsCallee, Stands, Means, Fits, SlotIs, PlacedIs, UpTo, IsPair, IsRight, called_at}
+use Rattle.call_records.proofs.Scenes.Mood.{Idle}
+use Rattle.call_records.proofs.Scenes.Kind.{Caller, Callee}
 use Rattle.call_records.proofs.Cancelling.{caller_not_callee, caller_not_cancelled, callee_not_cancelled}
 use Rattle.call_records.proofs.Calling.{none_sent, none_taken, callee_number}
-use Rattle.call_records.proofs.Faces.{mood_of, mood_at, face_of, faces_of}
+use Rattle.call_records.proofs.Faces.{mood_at, face_of, faces_of}
 use Rattle.call_records.proofs.Stories.{in_use_cases, in_use_keeps}
-use Rattle.call_records.proofs.Moving.{KeptAt, IsEnd}
+use Rattle.call_records.proofs.Moving.{KeptAt}
 use Rattle.call_records.proofs.Placing.{no_session_not_ready}
 use Rattle.call_records.proofs.Lines.{KeptIn}
 
@@ -232,13 +229,13 @@ module _ (a b m window : ℕ) where
   up_fits n t r e g =
       elim (two_cases caller_tag callee_tag n t e) [
         | inl h ↦
-          let is : r ≡ new_record 0 a None None = sym (same_Some (new_record 0 a None None) r (ap (λ (i : ℕ). slice_get book_up.records i) (sym h.0) ∙ g)) in
-          subst (λ (z : RecordValue). Fits (up_faces t.role) (node_of t.role) n t z) (sym is)
-          (subst (λ (u : Tag). Fits (up_faces u.role) (node_of u.role) n u (new_record 0 a None None)) (sym h.1) (subst (λ (i : ℕ). Fits (up_faces Dte) a i caller_tag (new_record 0 a None None)) (sym h.0) caller_fits))
+            let is : r ≡ new_record 0 a None None = sym (same_Some (new_record 0 a None None) r (ap (λ (i : ℕ). slice_get book_up.records i) (sym h.0) ∙ g)) in
+            subst (λ (z : RecordValue). Fits (up_faces t.role) (node_of t.role) n t z) (sym is)
+            (subst (λ (u : Tag). Fits (up_faces u.role) (node_of u.role) n u (new_record 0 a None None)) (sym h.1) (subst (λ (i : ℕ). Fits (up_faces Dte) a i caller_tag (new_record 0 a None None)) (sym h.0) caller_fits))
         | inr h ↦
-          let is : r ≡ new_record 1 b None None = sym (same_Some (new_record 1 b None None) r (ap (λ (i : ℕ). slice_get book_up.records i) (sym h.0) ∙ g)) in
-          subst (λ (z : RecordValue). Fits (up_faces t.role) (node_of t.role) n t z) (sym is)
-          (subst (λ (u : Tag). Fits (up_faces u.role) (node_of u.role) n u (new_record 1 b None None)) (sym h.1) (subst (λ (i : ℕ). Fits (up_faces Dce) b i callee_tag (new_record 1 b None None)) (sym h.0) callee_fits))
+            let is : r ≡ new_record 1 b None None = sym (same_Some (new_record 1 b None None) r (ap (λ (i : ℕ). slice_get book_up.records i) (sym h.0) ∙ g)) in
+            subst (λ (z : RecordValue). Fits (up_faces t.role) (node_of t.role) n t z) (sym is)
+            (subst (λ (u : Tag). Fits (up_faces u.role) (node_of u.role) n u (new_record 1 b None None)) (sym h.1) (subst (λ (i : ℕ). Fits (up_faces Dce) b i callee_tag (new_record 1 b None None)) (sym h.0) callee_fits))
       ]
 
   up_slot : (x : Role) (c : ℕ) → SlotIs ((up_faces x).mood c) (up_faces x) both x c (slot_at x c book_up)
@@ -289,13 +286,13 @@ module _ (a b m window : ℕ) where
   up_alone i j t u ei ej lt lu role spot =
       elim (two_cases caller_tag callee_tag i t ei) [
         | inl h ↦ elim (two_cases caller_tag callee_tag j u ej) [
-            | inl g ↦ h.0 ∙ sym g.0
-            | inr g ↦ absurd (dte_not_dce (ap (λ (z : Tag). z.role) (sym h.1) ∙ role ∙ ap (λ (z : Tag). z.role) g.1))
-          ]
+          | inl g ↦ h.0 ∙ sym g.0
+          | inr g ↦ absurd (dte_not_dce (ap (λ (z : Tag). z.role) (sym h.1) ∙ role ∙ ap (λ (z : Tag). z.role) g.1))
+        ]
         | inr h ↦ elim (two_cases caller_tag callee_tag j u ej) [
-            | inl g ↦ absurd (dte_not_dce (ap (λ (z : Tag). z.role) (sym g.1) ∙ sym role ∙ ap (λ (z : Tag). z.role) h.1))
-            | inr g ↦ h.0 ∙ sym g.0
-          ]
+          | inl g ↦ absurd (dte_not_dce (ap (λ (z : Tag). z.role) (sym g.1) ∙ sym role ∙ ap (λ (z : Tag). z.role) h.1))
+          | inr g ↦ h.0 ∙ sym g.0
+        ]
       ]
 
   abbrev the_pair : PairValue

@@ -1,29 +1,24 @@
 -- What the beginning and the acceptance of a call at an end of a line make of the book.
-use Rattle.std.specs.Prelude.{◌≡◌, ◌≢◌, ℕ, zero, suc, ◌<◌, ◌≤◌, ◌⊎◌, Bool, true, false, cond, ◌&&◌, ◌||◌, ◌==◌, nat_lt, List, [], ◌∷◌, ◌++◌, length, slice_get, is_some, Option, Some, None}
-use Rattle.std.proofs.Common.{inl, inr, refl, sym, ap, subst, ◌∙◌, arith, true≢false}
+use Rattle.std.specs.Prelude.{◌≡◌, ◌≢◌, ℕ, ◌≤◌, ◌⊎◌, true, false, List, [], length, is_some, Some, None}
+use Rattle.std.proofs.Common.{inl, inr, refl, sym, ap, subst, ◌∙◌, true≢false}
 use Rattle.std.specs.Option.{IsSome}
-use Rattle.std.proofs.lemmas.Option.{none-some, same_Some}
 use Rattle.link_timers.specs.declared.role.Role.{Role}
 use Rattle.link_timers.specs.declared.role.Role.TheVariants.{Dte, Dce}
 use Rattle.link_timers.specs.Role.{other_of}
 use Rattle.packet_layer.specs.Packets.{CallParts}
-use Rattle.packet_layer.specs.Layer.{Layer, channel_of}
-use Rattle.packet_layer.specs.History.{Epoch, Story, empty_epoch, placed, call_accepted, with_call, with_answer}
-use Rattle.packet_layer.specs.Law.{IsBegun, IsUnused, HasPlaced}
+use Rattle.packet_layer.specs.Layer.{channel_of}
+use Rattle.packet_layer.specs.History.{Epoch, Story, placed, with_call}
+use Rattle.packet_layer.specs.Law.{IsBegun, IsUnused}
 use Rattle.packet_layer.specs.Line.{End}
-use Rattle.call_records.specs.Records.{RecordValue, PairValue, new_record}
-use Rattle.call_records.specs.Book.{Book, Slot, slot_at, side_of, with_slot, with_record, answers, with_pair, places, comes, closes, address_of}
+use Rattle.call_records.specs.Records.{RecordValue, new_record}
+use Rattle.call_records.specs.Book.{Book, Slot, slot_at, side_of, with_record, places, comes, address_of}
 use Rattle.call_records.proofs.Basics.{number_is, order}
-use Rattle.call_records.proofs.Scenes.{Face, Mood, Spot, Kind, Tag, Shelf, shelf_of, Present, SlotIs, IsPast, IsRight, epoch_at, called_at, answered_at, now, sent_of, taken_of, nothing_passed}
-use Rattle.call_records.proofs.Scenes.Mood.{Idle, OwnCall, FarCall, Open}
-use Rattle.call_records.proofs.Scenes.Kind.{Caller, Callee, Cancelled}
-use Rattle.call_records.proofs.Carrying.{SameEnd}
+use Rattle.call_records.proofs.Scenes.{Mood, Spot, Tag, Shelf, shelf_of, IsPast, IsRight, epoch_at, called_at, answered_at, now, sent_of, taken_of}
+use Rattle.call_records.proofs.Scenes.Mood.{Idle, OwnCall, FarCall}
 use Rattle.call_records.proofs.Adding.{Adds}
-use Rattle.call_records.proofs.Calling.{IsNew, Places, Comes, placing_right, coming_right, spot_is}
-use Rattle.call_records.proofs.Cancelling.{Cancels, cancelled_right, with_moods}
-use Rattle.call_records.proofs.Answering.{AnswersAt, Answers, answered_right}
-use Rattle.call_records.proofs.Writing.{Closes, shelf_same, shelf_pairs, slot_here, slot_else, slot_there, size_record, size_slot, closes_one, closed_here, closed_else}
-use Rattle.call_records.proofs.Faces.{mood_of, mood_at, within, has_come, face_of, faces_of, OnChannel, at_else}
+use Rattle.call_records.proofs.Calling.{IsNew, placing_right, coming_right, spot_is}
+use Rattle.call_records.proofs.Writing.{shelf_same, slot_here, slot_else, size_record, size_slot}
+use Rattle.call_records.proofs.Faces.{mood_at, face_of, faces_of, OnChannel, at_else}
 use Rattle.call_records.proofs.Stories.{in_use_cases, in_use_keeps}
 
 -- ---- a use that nothing was done in
@@ -40,15 +35,15 @@ unused_new x e te s d begun u = record {
 -- what is called in a story that is begun is not later than its present use
 pub past_of : (s d : ℕ) (st : Story) → IsBegun st → (r u : ℕ) → IsSome (st.epochs r u 0).called → (r ≤ st.restart) × (r ≡ st.restart → u ≤ st.use_)
 past_of s d st h r u some = (
-      elim (order r st.restart) [
-        | inl le ↦ le
-        | inr lt ↦ absurd (true≢false (sym some ∙ ap (λ (z : Epoch). is_some z.called) (h.restarts r u 0 lt)))
-      ],
-      λ e. elim (order u st.use_) [
-        | inl le ↦ le
-        | inr lt ↦ absurd (true≢false (sym some ∙ ap (λ (n : ℕ). is_some (st.epochs n u 0).called) e ∙ ap (λ (z : Epoch). is_some z.called) (h.uses u 0 lt)))
-      ],
-    )
+  elim (order r st.restart) [
+    | inl le ↦ le
+    | inr lt ↦ absurd (true≢false (sym some ∙ ap (λ (z : Epoch). is_some z.called) (h.restarts r u 0 lt)))
+  ],
+  λ e. elim (order u st.use_) [
+    | inl le ↦ le
+    | inr lt ↦ absurd (true≢false (sym some ∙ ap (λ (n : ℕ). is_some (st.epochs n u 0).called) e ∙ ap (λ (z : Epoch). is_some z.called) (h.uses u 0 lt)))
+  ],
+)
 
 -- ---- an end places a call
 
@@ -66,9 +61,6 @@ pub record PlaceStep (x : Role) (e e' y : End) (s d te ty : ℕ) (parts : CallPa
   pub most : d ≤ length (side_of x b).slots
 
 module _ (x : Role) (e e' y : End) (s d te ty : ℕ) (parts : CallParts) (b : Book) (q : PlaceStep x e e' y s d te ty parts b) where
-  abbrev st : Story
-  st = e.stories s d
-
   keeps : {X : Type 0} (see : Epoch → X) → ((z : Epoch) → see (with_call parts z) ≡ see z) → (k : Spot) (g : ℕ) → see (epoch_at (face_of x e' te) k g) ≡ see (epoch_at (face_of x e te) k g)
   keeps {X} see h k g = at_else x e e' s d (λ (a c : Story). see (c.epochs k.restart k.use_ g) ≡ see (a.epochs k.restart k.use_ g)) q.on (λ a. refl)
       (ap (λ (z : Story). see (z.epochs k.restart k.use_ g)) q.story ∙ in_use_keeps see (λ z. with_call parts z) (e.stories s d) h k.restart k.use_ g) k.session k.channel
@@ -77,16 +69,18 @@ module _ (x : Role) (e e' y : End) (s d te ty : ℕ) (parts : CallParts) (b : Bo
   called k =
       elim (number_is k.session s) [
         | inl a ↦ elim (number_is k.channel d) [
-            | inl c ↦ elim (in_use_cases (λ z. with_call parts z) (e.stories s d) k.restart k.use_) [
-                | inl h ↦ inr (spot_is k (now (face_of x e te) s d) a c h.0.0 h.0.1,
-                    ap (λ (m : ℕ). is_some ((e'.stories m k.channel).epochs k.restart k.use_ 0).called) a ∙ ap (λ (n : ℕ). is_some ((e'.stories s n).epochs k.restart k.use_ 0).called) c
-                    ∙ ap (λ (z : Story). is_some (z.epochs k.restart k.use_ 0).called) q.story ∙ ap (λ (z : Epoch). is_some z.called) (h.1 0))
-                | inr h ↦ inl (ap (λ (m : ℕ). ((e'.stories m k.channel).epochs k.restart k.use_ 0).called) a ∙ ap (λ (n : ℕ). ((e'.stories s n).epochs k.restart k.use_ 0).called) c
-                    ∙ ap (λ (z : Story). (z.epochs k.restart k.use_ 0).called) q.story ∙ ap (λ (z : Epoch). z.called) (h.1 0)
-                    ∙ ap (λ (n : ℕ). ((e.stories s n).epochs k.restart k.use_ 0).called) (sym c) ∙ ap (λ (m : ℕ). ((e.stories m k.channel).epochs k.restart k.use_ 0).called) (sym a))
-              ]
-            | inr c ↦ inl (ap (λ (z : Story). (z.epochs k.restart k.use_ 0).called) (q.on.else k.session k.channel (λ h. c h.1)))
+          | inl c ↦ elim (in_use_cases (λ z. with_call parts z) (e.stories s d) k.restart k.use_) [
+            | inl h ↦ inr (
+              spot_is k (now (face_of x e te) s d) a c h.0.0 h.0.1,
+              ap (λ (m : ℕ). is_some ((e'.stories m k.channel).epochs k.restart k.use_ 0).called) a ∙ ap (λ (n : ℕ). is_some ((e'.stories s n).epochs k.restart k.use_ 0).called) c
+                  ∙ ap (λ (z : Story). is_some (z.epochs k.restart k.use_ 0).called) q.story ∙ ap (λ (z : Epoch). is_some z.called) (h.1 0),
+            )
+            | inr h ↦ inl (ap (λ (m : ℕ). ((e'.stories m k.channel).epochs k.restart k.use_ 0).called) a ∙ ap (λ (n : ℕ). ((e'.stories s n).epochs k.restart k.use_ 0).called) c
+                ∙ ap (λ (z : Story). (z.epochs k.restart k.use_ 0).called) q.story ∙ ap (λ (z : Epoch). z.called) (h.1 0)
+                ∙ ap (λ (n : ℕ). ((e.stories s n).epochs k.restart k.use_ 0).called) (sym c) ∙ ap (λ (m : ℕ). ((e.stories m k.channel).epochs k.restart k.use_ 0).called) (sym a))
           ]
+          | inr c ↦ inl (ap (λ (z : Story). (z.epochs k.restart k.use_ 0).called) (q.on.else k.session k.channel (λ h. c h.1)))
+        ]
         | inr a ↦ inl (ap (λ (z : Story). (z.epochs k.restart k.use_ 0).called) (q.on.else k.session k.channel (λ h. a h.0)))
       ]
 
@@ -111,14 +105,14 @@ module _ (x : Role) (e e' y : End) (s d te ty : ℕ) (parts : CallParts) (b : Bo
   now_called =
       ap (λ (z : Story). (z.epochs (e.stories s d).restart (e.stories s d).use_ 0).called) q.story
       ∙ elim (in_use_cases (λ z. with_call parts z) (e.stories s d) (e.stories s d).restart (e.stories s d).use_) [
-          | inl h ↦ ap (λ (z : Epoch). z.called) (h.1 0)
-          | inr h ↦ absurd (h.0 (refl, refl))
-        ]
+        | inl h ↦ ap (λ (z : Epoch). z.called) (h.1 0)
+        | inr h ↦ absurd (h.0 (refl, refl))
+      ]
 
   earlier : (k : Spot) → k.session ≡ s → k.channel ≡ d → IsSome (called_at (face_of x e te) k) → IsPast k (e.stories s d)
   earlier k a c some =
       let h = past_of s d (e.stories s d) q.begun_story k.restart k.use_
-        (ap (λ (n : ℕ). is_some ((e.stories s n).epochs k.restart k.use_ 0).called) (sym c) ∙ ap (λ (m : ℕ). is_some ((e.stories m k.channel).epochs k.restart k.use_ 0).called) (sym a) ∙ some) in
+      (ap (λ (n : ℕ). is_some ((e.stories s n).epochs k.restart k.use_ 0).called) (sym c) ∙ ap (λ (m : ℕ). is_some ((e.stories m k.channel).epochs k.restart k.use_ 0).called) (sym a) ∙ some) in
       record { restarts = h.0; uses = h.1 }
 
 pub place_step : (x : Role) (e e' y : End) (s d te ty : ℕ) (parts : CallParts) (b : Book) (tags : List Tag) → PlaceStep x e e' y s d te ty parts b → IsRight (faces_of x e y te ty) (shelf_of b) tags

@@ -1,11 +1,9 @@
 -- What a story says after a call was placed or accepted in it, or its present epoch grew.
-use Rattle.std.specs.Prelude.{◌≡◌, ◌≢◌, ℕ, zero, suc, ◌<◌, ◌≤◌, ◌⊎◌, Bool, true, false, cond, ◌&&◌, ◌==◌, List, [], Option, Some, None}
-use Rattle.std.proofs.Common.{inl, inr, refl, sym, ap, subst, ◌∙◌, arith, true≢false}
-use Rattle.std.proofs.lemmas.Bool.{eq-eqb, ne_eqb, eqb-true}
-use Rattle.packet_layer.specs.Packets.{CallParts}
-use Rattle.packet_layer.specs.History.{Epoch, Story, empty_epoch, in_whole_use, is_use, with_call, with_answer, placed, call_accepted, grown, is_now}
-use Rattle.packet_layer.specs.Law.{IsBegun, IsUnused, HasPlaced, HasNoLogs}
-use Rattle.call_records.proofs.Basics.{number_is, order, by_true, by_false}
+use Rattle.std.specs.Prelude.{◌≡◌, ℕ, ◌⊎◌, Bool, true, false, ◌&&◌, ◌==◌}
+use Rattle.std.proofs.Common.{inl, inr, refl, sym, ap, ◌∙◌, true≢false}
+use Rattle.std.proofs.lemmas.Bool.{eq-eqb, ne_eqb}
+use Rattle.packet_layer.specs.History.{Epoch, Story, in_whole_use, is_use, grown, is_now}
+use Rattle.call_records.proofs.Basics.{number_is, by_true, by_false}
 
 and_true : (a b : Bool) → a ≡ true → b ≡ true → (a && b) ≡ true
 and_true true b e h = h
@@ -26,9 +24,9 @@ pub in_use_cases : (f : Epoch → Epoch) (st : Story) (r u : ℕ)
 in_use_cases f st r u =
     elim (number_is r st.restart) [
       | inl a ↦ elim (number_is u st.use_) [
-          | inl b ↦ inl ((a, b), λ g. by_true (is_use st r u) (f (st.epochs r u g)) (st.epochs r u g) (and_true (r == st.restart) (u == st.use_) (eq-eqb r st.restart a) (eq-eqb u st.use_ b)))
-          | inr b ↦ inr (λ h. b h.1, λ g. by_false (is_use st r u) (f (st.epochs r u g)) (st.epochs r u g) (and_right (r == st.restart) (u == st.use_) (ne_eqb u st.use_ b)))
-        ]
+        | inl b ↦ inl ((a, b), λ g. by_true (is_use st r u) (f (st.epochs r u g)) (st.epochs r u g) (and_true (r == st.restart) (u == st.use_) (eq-eqb r st.restart a) (eq-eqb u st.use_ b)))
+        | inr b ↦ inr (λ h. b h.1, λ g. by_false (is_use st r u) (f (st.epochs r u g)) (st.epochs r u g) (and_right (r == st.restart) (u == st.use_) (ne_eqb u st.use_ b)))
+      ]
       | inr a ↦ inr (λ h. a h.0, λ g. by_false (is_use st r u) (f (st.epochs r u g)) (st.epochs r u g) (and_left (r == st.restart) (u == st.use_) (ne_eqb r st.restart a)))
     ]
 
@@ -46,15 +44,24 @@ pub grown_cases : (f : Epoch → Epoch) (st : Story) (r u g : ℕ)
 grown_cases f st r u g =
     elim (number_is r st.restart) [
       | inl a ↦ elim (number_is u st.use_) [
-          | inl b ↦ elim (number_is g st.epoch) [
-              | inl c ↦ inl ((a, b, c), by_true (is_now st r u g) (f (st.epochs r u g)) (st.epochs r u g)
-                  (and_true (r == st.restart) ((u == st.use_) && (g == st.epoch)) (eq-eqb r st.restart a) (and_true (u == st.use_) (g == st.epoch) (eq-eqb u st.use_ b) (eq-eqb g st.epoch c))))
-              | inr c ↦ inr (λ h. c h.2, by_false (is_now st r u g) (f (st.epochs r u g)) (st.epochs r u g)
-                  (and_right (r == st.restart) ((u == st.use_) && (g == st.epoch)) (and_right (u == st.use_) (g == st.epoch) (ne_eqb g st.epoch c))))
-            ]
-          | inr b ↦ inr (λ h. b h.1, by_false (is_now st r u g) (f (st.epochs r u g)) (st.epochs r u g)
-              (and_right (r == st.restart) ((u == st.use_) && (g == st.epoch)) (and_left (u == st.use_) (g == st.epoch) (ne_eqb u st.use_ b))))
+        | inl b ↦ elim (number_is g st.epoch) [
+          | inl c ↦ inl (
+            (a, b, c),
+            by_true (is_now st r u g) (f (st.epochs r u g)) (st.epochs r u g)
+                (and_true (r == st.restart) ((u == st.use_) && (g == st.epoch)) (eq-eqb r st.restart a) (and_true (u == st.use_) (g == st.epoch) (eq-eqb u st.use_ b) (eq-eqb g st.epoch c))),
+          )
+          | inr c ↦ inr (
+            λ h. c h.2,
+            by_false (is_now st r u g) (f (st.epochs r u g)) (st.epochs r u g)
+                (and_right (r == st.restart) ((u == st.use_) && (g == st.epoch)) (and_right (u == st.use_) (g == st.epoch) (ne_eqb g st.epoch c))),
+          )
         ]
+        | inr b ↦ inr (
+          λ h. b h.1,
+          by_false (is_now st r u g) (f (st.epochs r u g)) (st.epochs r u g)
+              (and_right (r == st.restart) ((u == st.use_) && (g == st.epoch)) (and_left (u == st.use_) (g == st.epoch) (ne_eqb u st.use_ b))),
+        )
+      ]
       | inr a ↦ inr (λ h. a h.0, by_false (is_now st r u g) (f (st.epochs r u g)) (st.epochs r u g) (and_left (r == st.restart) ((u == st.use_) && (g == st.epoch)) (ne_eqb r st.restart a)))
     ]
 

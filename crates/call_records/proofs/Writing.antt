@@ -1,7 +1,7 @@
 -- What is written into a book: which slots and records it changes.
-use Rattle.std.specs.Prelude.{◌≡◌, ◌≢◌, ℕ, zero, suc, ◌+◌, ◌<◌, ◌≤◌, ◌⊎◌, Bool, true, false, cond, List, [], ◌∷◌, ◌++◌, length, set, slice_get, Option, Some, None}
-use Rattle.std.proofs.Common.{inl, inr, refl, sym, ap, subst, ◌∙◌, arith, true≢false}
-use Rattle.std.proofs.lemmas.Option.{none-some, same_Some, slice_get_within}
+use Rattle.std.specs.Prelude.{◌≡◌, ◌≢◌, ℕ, zero, suc, ◌+◌, ◌≤◌, ◌⊎◌, Bool, true, false, cond, List, [], ◌∷◌, length, slice_get, Option, Some, None}
+use Rattle.std.proofs.Common.{inl, inr, refl, sym, ap, subst, ◌∙◌, arith}
+use Rattle.std.proofs.lemmas.Option.{none-some, same_Some}
 use Rattle.link_timers.specs.declared.role.Role.{Role}
 use Rattle.link_timers.specs.declared.role.Role.TheVariants.{Dte, Dce}
 use Rattle.link_timers.specs.Role.{other_of}
@@ -9,12 +9,11 @@ use Rattle.packet_layer.specs.Packets.{Note, Reason}
 use Rattle.packet_layer.specs.Packets.Note.{Closed}
 use Rattle.packet_layer.specs.Channel.{Channel}
 use Rattle.packet_layer.specs.Layer.{closing_notes, had_call}
-use Rattle.call_records.specs.Records.{RecordValue, PairValue, with_closed, changed_at}
-use Rattle.call_records.specs.Book.{Book, Side, Slot, free_slot, side_of, with_slots, nth_slot, with_nth, found_slot, slot_at, with_slot, with_change, changed, with_record, with_pair, closes, told, all_told}
+use Rattle.call_records.specs.Records.{RecordValue, PairValue, with_closed}
+use Rattle.call_records.specs.Book.{Book, Slot, side_of, nth_slot, with_nth, found_slot, slot_at, with_slot, with_change, changed, with_record, closes, all_told}
 use Rattle.call_records.proofs.Basics.{all_same, get_changed, length_changed, length_set, set_elsewhere, set_here, get_there, number_is}
-use Rattle.call_records.proofs.Scenes.{Shelf, shelf_of}
+use Rattle.call_records.proofs.Scenes.{shelf_of}
 use Rattle.call_records.proofs.Ending.{Alike, alike}
-use Rattle.call_records.proofs.Carrying.{SameHead}
 
 -- ---- slots
 
@@ -71,6 +70,7 @@ size_slot x d z b = record { size = λ y. size x y; node = λ y. node x y }
     size Dte Dce = refl
     size Dce Dte = refl
     size Dce Dce = length_nth b.dce.slots d z
+
     node : (x y : Role) → (side_of y (with_slot x d z b)).node ≡ (side_of y b).node
     node Dte Dte = refl
     node Dte Dce = refl
@@ -84,6 +84,7 @@ size_changed o f b = record { size = λ y. size o y; node = λ y. node o y }
     size None y = refl
     size (Some n) Dte = refl
     size (Some n) Dce = refl
+
     node : (o : Option ℕ) (y : Role) → (side_of y (with_change o f b)).node ≡ (side_of y b).node
     node None y = refl
     node (Some n) Dte = refl
@@ -95,6 +96,7 @@ size_record r b = record { size = λ y. size y; node = λ y. node y }
     size : (y : Role) → length (side_of y (with_record r b)).slots ≡ length (side_of y b).slots
     size Dte = refl
     size Dce = refl
+
     node : (y : Role) → (side_of y (with_record r b)).node ≡ (side_of y b).node
     node Dte = refl
     node Dce = refl
@@ -113,11 +115,14 @@ pub kept_changed : (o : Option ℕ) (f : RecordValue → RecordValue) (b : Book)
     → (r : RecordValue) × (slice_get b.records n ≡ Some r) × Alike r r'
 kept_changed None f b a n r' e = (r', e, alike r')
 kept_changed (Some m) f b a n r' e =
-    let g = get_changed b.records m f n r' e in
-    (g.0, g.1, elim g.2 [
-      | inl h ↦ subst (λ (z : RecordValue). Alike g.0 z) (sym h.1) (a g.0)
-      | inr h ↦ subst (λ (z : RecordValue). Alike g.0 z) (sym h.1) (alike g.0)
-    ])
+    let g = get_changed b.records m f n r' e in (
+      g.0,
+      g.1,
+      elim g.2 [
+        | inl h ↦ subst (λ (z : RecordValue). Alike g.0 z) (sym h.1) (a g.0)
+        | inr h ↦ subst (λ (z : RecordValue). Alike g.0 z) (sym h.1) (alike g.0)
+      ],
+    )
 
 pub count_changed : (o : Option ℕ) (f : RecordValue → RecordValue) (b : Book) → length (with_change o f b).records ≡ length b.records
 count_changed None f b = refl
@@ -180,9 +185,9 @@ closes_trans x a b c p q = record {
   present = λ d. elim (q.present d) [
     | inl e ↦ inl e
     | inr e ↦ elim (p.present d) [
-        | inl h ↦ inl (ap (λ (z : Slot). z.present) e ∙ h)
-        | inr h ↦ inr (e ∙ h)
-      ]
+      | inl h ↦ inl (ap (λ (z : Slot). z.present) e ∙ h)
+      | inr h ↦ inr (e ∙ h)
+    ]
   ];
   count = q.count ∙ p.count;
   kept = λ n r'' e. let k = q.kept n r'' e in let h = p.kept n k.0 k.1 in (h.0, h.1, alike_trans h.0 k.0 r'' h.2 k.2);
@@ -261,7 +266,7 @@ pub shelf_pairs : (b : Book) (ps : List PairValue) → record (shelf_of b) { pai
 shelf_pairs b ps =
     ap (λ (z : Role → ℕ → Slot). record { records = b.records; pairs = ps; slots = z; nodes = (shelf_of b).nodes }) (sym (slots_same b (record b { pairs = ps }) (pair_slots b ps)))
     ∙ ap (λ (m : Role → ℕ). record { records = b.records; pairs = ps; slots = (shelf_of (record b { pairs = ps })).slots; nodes = m })
-      (all_same (shelf_of b).nodes (shelf_of (record b { pairs = ps })).nodes (λ y. sym (pair_nodes b ps y)))
+    (all_same (shelf_of b).nodes (shelf_of (record b { pairs = ps })).nodes (λ y. sym (pair_nodes b ps y)))
 
 -- all calls of the channels from k on close
 pub closes_all : (x : Role) (k : ℕ) (reason : Reason) (chs : List Channel) (b : Book) → Closes x b (all_told x (closing_notes k reason chs) b)

@@ -1,10 +1,10 @@
 -- What the book of a line promises of its calls.
-use Rattle.std.specs.Prelude.{◌≡◌, ◌≢◌, ℕ, ◌<◌, ◌≤◌, ◌⊎◌, Bool, List, [], ◌∷◌, slice_get, Some, None}
+use Rattle.std.specs.Prelude.{◌≡◌, ℕ, ◌<◌, ◌≤◌, ◌⊎◌, Bool, List, [], ◌∷◌, slice_get, Some, None}
 use Rattle.epochs.specs.Epoch.{Epoch, IsEmpty}
 use Rattle.epochs.specs.Match.{Match}
 use Rattle.call_records.specs.Records.{RecordValue, PairValue, sent_epochs, taken_epochs}
 use Rattle.call_records.specs.Book.{Book}
-use Rattle.call_records.specs.Told.{World, Move, after_all, AreAllowed, start}
+use Rattle.call_records.specs.Told.{Move, after_all, AreAllowed, start}
 
 -- the epochs that one end of a call took match those that the other end sent, both ways
 pub record PairMatches (caller callee : RecordValue) : Type 0 where

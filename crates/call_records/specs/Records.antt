@@ -1,5 +1,5 @@
 -- What a network keeps of each end's part in a call, and which two of these make a call.
-use Rattle.std.specs.Prelude.{ℕ, zero, suc, ◌+◌, Bool, true, false, List, [], ◌∷◌, ◌++◌, length, map, min, Option, Some, None}
+use Rattle.std.specs.Prelude.{ℕ, zero, suc, ◌+◌, Bool, true, false, List, [], ◌∷◌, ◌++◌, length, map, min, Option}
 use Rattle.epochs.specs.Item.{DataPacket}
 use Rattle.epochs.specs.Epoch.{nothing_sent, nothing_taken, Epoch, SentEpoch, TakenEpoch, sent_epoch, taken_epoch}
 use Rattle.pad_editing.specs.Edited.{Step}

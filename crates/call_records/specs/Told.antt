@@ -1,5 +1,5 @@
 -- A line and its book, side by side: whatever happens at an end's packet layer is written into the book.
-use Rattle.std.specs.Prelude.{◌≡◌, ℕ, ◌≤◌, Bool, true, false, cond, List, [], ◌∷◌, Option, Some, None}
+use Rattle.std.specs.Prelude.{◌≡◌, ℕ, ◌≤◌, Bool, cond, List, [], ◌∷◌, Option, Some, None}
 use Rattle.link_timers.specs.declared.role.Role.{Role}
 use Rattle.link_timers.specs.declared.role.Role.TheVariants.{Dte, Dce}
 use Rattle.pad_editing.specs.Edited.{Step}
@@ -8,9 +8,9 @@ use Rattle.packet_layer.specs.Packets.Received.{Whole}
 use Rattle.packet_layer.specs.Traffic.{Taken}
 use Rattle.packet_layer.specs.Channel.{Request, Refusal}
 use Rattle.packet_layer.specs.Channel.Request.{Accept, Clearing, Resetting, Sending, Interrupting, Taking, Releasing}
-use Rattle.packet_layer.specs.Layer.{Layer, Timer, runs, link_up, link_down, on_packet, on_timer, channel_given, request_refusal, front_on}
+use Rattle.packet_layer.specs.Layer.{Layer, runs, link_up, link_down, on_packet, on_timer, channel_given, request_refusal, front_on}
 use Rattle.packet_layer.specs.Line.{Line, Event, Happening, turned, start_line, may_begin, next_of_session, after_one}
-use Rattle.packet_layer.specs.Line.Event.{Up, Down, Calls, Requests, Expires, Offers, Arrives}
+use Rattle.packet_layer.specs.Line.Event.{Up, Down, Calls, Requests, Expires, Arrives}
 use Rattle.packet_layer.specs.Line.Happening.{Here, There}
 use Rattle.call_records.specs.Book.{Book, places, answers, closes, renews, sends, interrupts, takes, releases, edits, all_told, made_book}
 
