@@ -21,5 +21,5 @@ mod Placing
 mod Coming
 mod Lines
 mod Starting
-mod BookHolds
+pub mod BookHolds
 mod Rows
