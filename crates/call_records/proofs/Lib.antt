@@ -1,0 +1,25 @@
+mod Basics
+mod Scenes
+mod Carrying
+mod Ending
+mod Adding
+mod Cancelling
+mod Answering
+mod Concluding
+mod Calling
+mod Writing
+mod Faces
+mod Stories
+mod Steps
+mod Meetings
+mod Outcomes
+mod Moving
+mod Layers
+mod Ends
+mod Events
+mod Placing
+mod Coming
+mod Lines
+mod Starting
+pub mod BookHolds
+mod Rows

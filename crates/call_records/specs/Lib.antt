@@ -1,0 +1,4 @@
+pub mod Records
+pub mod Book
+pub mod Told
+pub mod Headline
