@@ -15,7 +15,7 @@ pub record PairMatches (caller callee : RecordValue) : Type 0 where
 abbrev pub AreEnds : Book → (a b : ℕ) → Type 0
 AreEnds book a b = ((a ≡ book.dte.node) × (b ≡ book.dce.node)) ⊎ ((a ≡ book.dce.node) × (b ≡ book.dte.node))
 
--- the caller's record was made first; the callee is at the other end of the line, and its own address is the one that was called;
+-- the caller's record was made first; the callee's node is the other one of the line, and its own address is the one that was called;
 -- a line without a switch has no address, so the caller has none and the callee knows none
 pub record PairIsRight (book : Book) (caller callee : RecordValue) : Type 0 where
   pub order : caller.number < callee.number

@@ -25,8 +25,8 @@ use std::alloc::Global;
 use std::marker::Model;
 
 /// A host at one end of a line, in either role. Each call that changes it is one event, whose frames are then taken by `out` and
-/// whose notes by `notes`, before the next one: what is not taken then is dropped, a frame as lost. A call that is refused changes
-/// nothing.
+/// whose notes by `notes`, before the next one; after it they are gone, a frame as if the line had lost it. A call that is
+/// refused changes nothing.
 #[derive(Drop)]
 pub struct Host {
     end: PacketEnd,
@@ -194,8 +194,8 @@ impl Host {
         Some(taken)
     }
 
-    /// Whether there is a call on the channel, and each packet said with D = 1 since the last reset is covered by a received
-    /// P(R) (X.25 4.3.3).
+    /// Whether the channel has a call in which no packet of the present epoch that asks for delivery confirmation (D = 1) still
+    /// waits for the P(R) that covers it (X.25 4.3.3).
     pub fn confirmed(&self, channel: u8) -> bool
         ensures { result ≡ machine.confirmed self.now.layer channel }
     {

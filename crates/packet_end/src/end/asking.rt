@@ -177,8 +177,8 @@ impl PacketEnd {
         self.layer.front(channel)
     }
 
-    /// Whether there is a call on the channel, and each packet sent with D = 1 since the last reset is covered by a received
-    /// P(R) (X.25 4.3.3).
+    /// Whether the channel has a call in which no packet of the present epoch that asks for delivery confirmation (D = 1) still
+    /// waits for the P(R) that covers it (X.25 4.3.3).
     pub fn confirmed(&self, channel: u8) -> bool
         ensures { result ≡ machine.confirmed self.now.layer channel }
     {

@@ -14,11 +14,11 @@ const QUEUE: usize = 8;
 
 impl Host {
     #[tactic(auto, using(crate::proofs::Taken::all_said))]
-    /// Says octets on the channel: full packets of 128 octets with M = 1, and a last one with M = 0, which alone has D; no octets
+    /// Says octets on the channel: full packets of 128 octets with M = 1, then the rest with M = 0 and, if asked for, D; no octets
     /// are one empty packet. Q is on all of them (X.25 4.3.3 to 4.3.6). At most 1,024 octets, with Q 128.
     ///
     /// `NoCall` comes where no call is in data transfer, then `Resetting` while the own reset is not confirmed, `QueueFull` where
-    /// the send queue has fewer places than the packets need, of which at most 8 are counted, and with Q one; then `TooLong`.
+    /// the send queue has fewer places than the packets need (never more than 8, and with Q one); then `TooLong`.
     pub fn say(
         &mut self,
         channel: u8,
