@@ -1,4 +1,2 @@
 pub mod Records
 pub mod Book
-pub mod Told
-pub mod Headline

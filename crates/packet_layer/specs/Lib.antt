@@ -2,11 +2,6 @@ pub mod Packets
 pub mod Traffic
 pub mod Channel
 pub mod Layer
-pub mod History
-pub mod Counts
-pub mod Line
-pub mod Law
-pub mod Owed
 pub mod Octets
 pub mod TakenView
 pub mod TrafficView
@@ -25,4 +20,3 @@ pub mod LayerView
 pub mod Events
 pub mod TimerView
 pub mod Free
-pub mod Readable

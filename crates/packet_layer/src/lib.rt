@@ -7,7 +7,6 @@ mod control;
 mod effect;
 mod fault;
 mod heard;
-mod law;
 mod layer;
 mod note;
 mod params;
@@ -19,7 +18,6 @@ mod user_data;
 mod write;
 
 pub use fault::{CallFault, ChannelFault, MakeFault};
-pub use law::{counts_law, line_law, owed_law};
 pub use layer::Layer;
 pub use note::{LayerNote, Reason};
 pub use params::LayerParams;

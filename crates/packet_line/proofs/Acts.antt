@@ -20,10 +20,10 @@ use Rattle.packet_layer.specs.Packets.{CallParts, Note}
 use Rattle.packet_layer.specs.Channel.{Request}
 use Rattle.packet_layer.specs.Layer.{Layer}
 use Rattle.packet_layer.specs.Events.{timer_named, written_packet}
-use Rattle.packet_layer.specs.Line as layers
-use Rattle.packet_layer.specs.Line.{Event, happens, offers}
-use Rattle.packet_layer.specs.Readable.{IsReadable, CanBePlaced}
-use Rattle.packet_layer.proofs.Readable.{readable_link_down}
+use Rattle.packet_laws.specs.Line as layers
+use Rattle.packet_laws.specs.Line.{Event, happens, offers}
+use Rattle.packet_laws.specs.Readable.{IsReadable, CanBePlaced}
+use Rattle.packet_laws.proofs.Readable.{readable_link_down}
 use Rattle.packet_end.specs.PacketEnd as end
 use Rattle.packet_end.specs.PacketEnd.{PacketEnd, gathered, heeded, after_packet, runs_at, with_next, offered, all_offered}
 use Rattle.packet_line.specs.PacketLine.{Begins, Hears, Expires, Relinks, RelinksIfDue, Restarts, Calls, Requests, Settles, Elapses, Sends}

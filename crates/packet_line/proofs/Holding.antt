@@ -12,11 +12,11 @@ use Rattle.lapb.proofs.Lines.{stands_opening}
 use Rattle.line_end.specs.End.{untouched}
 use Rattle.line_end.specs.End as line
 use Rattle.packet_layer.specs.Layer as machine
-use Rattle.packet_layer.specs.Line as layers
-use Rattle.packet_layer.specs.Line.{Happening, start_line, turned}
-use Rattle.packet_layer.specs.Line.Happening.{Here, There}
-use Rattle.packet_layer.proofs.LineHolds.{line_holds}
-use Rattle.packet_layer.proofs.Readable.{readable_made}
+use Rattle.packet_laws.specs.Line as layers
+use Rattle.packet_laws.specs.Line.{Happening, start_line, turned}
+use Rattle.packet_laws.specs.Line.Happening.{Here, There}
+use Rattle.packet_laws.proofs.LineHolds.{line_holds}
+use Rattle.packet_laws.proofs.Readable.{readable_made}
 use Rattle.packet_end.specs.PacketEnd.{PacketEnd}
 use Rattle.packet_line.specs.PacketLine.{Line, Act, Begins, Hears, Expires, Relinks, RelinksIfDue, Restarts, Calls, Requests, Offers, Settles, Elapses, Sends, Event, At, Loses, happens, after, made}
 use Rattle.packet_line.specs.Events.{after_here}

@@ -9,10 +9,10 @@ use Rattle.packet_layer.specs.Packets.Received.{Whole}
 use Rattle.packet_layer.specs.Octets.{heard}
 use Rattle.packet_layer.specs.Events.{on_octets, after_hearing}
 use Rattle.packet_layer.specs.Channel.{Request}
-use Rattle.packet_layer.specs.History.{Story}
+use Rattle.packet_laws.specs.History.{Story}
 use Rattle.packet_layer.specs.Layer.{Layer, Timer, unread, link_up, link_down, on_packet, on_timer, call, request, next_packet}
-use Rattle.packet_layer.specs.Line.{End, Line, begun, offers, accepts, arrives_in, handed_over, next_of_session, happens, with_layer, told}
-use Rattle.packet_layer.specs.Line.Event.{Up, Offers, Arrives}
+use Rattle.packet_laws.specs.Line.{End, Line, begun, offers, accepts, arrives_in, handed_over, next_of_session, happens, with_layer, told}
+use Rattle.packet_laws.specs.Line.Event.{Up, Offers, Arrives}
 use Rattle.packet_line.specs.Joint.{Side, AreHeard, Follows}
 use Rattle.packet_line.proofs.Unread.{request_unread, call_unread, timer_unread, next_unread}
 

@@ -11,9 +11,9 @@ use Rattle.packet_layer.specs.Packets.Received.{Whole}
 use Rattle.packet_layer.specs.Octets.{heard}
 use Rattle.packet_layer.specs.Layer.{next_packet}
 use Rattle.packet_layer.specs.Events.{written_packet}
-use Rattle.packet_layer.specs.Line as layers
-use Rattle.packet_layer.specs.Line.{Event, happens}
-use Rattle.packet_layer.proofs.Readable.{readable_next, next_heard, next_short}
+use Rattle.packet_laws.specs.Line as layers
+use Rattle.packet_laws.specs.Line.{Event, happens}
+use Rattle.packet_laws.proofs.Readable.{readable_next, next_heard, next_short}
 use Rattle.packet_end.specs.PacketEnd.{PacketEnd, with_next, offered, all_offered}
 use Rattle.packet_line.specs.PacketLine.{Offers}
 use Rattle.packet_line.specs.Events.{offer_events, after_here, cleared, notes_of}

@@ -7,7 +7,7 @@ use Rattle.packet_layer.specs.Packets.{CallParts, Datum}
 use Rattle.packet_layer.specs.Packets.Note.{Incoming, Connected}
 use Rattle.packet_layer.specs.Traffic.Taken.{TakenPacket}
 use Rattle.packet_layer.specs.Channel.Request.{Accept, Sending, Taking}
-use Rattle.packet_layer.specs.Readable.{CanBePlaced}
+use Rattle.packet_laws.specs.Readable.{CanBePlaced}
 use Rattle.packet_layer.specs.Layer.{front_on}
 use Rattle.packet_layer.specs.Layer.Phase.{PacketReady}
 use Rattle.packet_end.specs.PacketEnd.{all_offered}

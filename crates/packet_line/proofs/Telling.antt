@@ -12,10 +12,10 @@ use Rattle.packet_layer.specs.Packets.Received.{Whole}
 use Rattle.packet_layer.specs.Channel.{Request}
 use Rattle.packet_layer.specs.Events.{on_octets, after_hearing, on_named}
 use Rattle.packet_layer.specs.Layer.{Layer, Timer, unread, link_up, link_down, on_packet, on_timer, call, request, channel_given}
-use Rattle.packet_layer.specs.History.{call_story, request_story, timer_story}
-use Rattle.packet_layer.specs.Line.{Line, Event, happens, begun, next_of_session}
-use Rattle.packet_layer.specs.Readable.{IsReadable, CanBePlaced}
-use Rattle.packet_layer.proofs.Readable.{readable_link_up, readable_link_down, readable_on_octets, readable_on_timer, readable_call, readable_request}
+use Rattle.packet_laws.specs.History.{call_story, request_story, timer_story}
+use Rattle.packet_laws.specs.Line.{Line, Event, happens, begun, next_of_session}
+use Rattle.packet_laws.specs.Readable.{IsReadable, CanBePlaced}
+use Rattle.packet_laws.proofs.Readable.{readable_link_up, readable_link_down, readable_on_octets, readable_on_timer, readable_call, readable_request}
 use Rattle.packet_end.specs.PacketEnd.{PacketEnd, gathered, heeded, after_packet, called, asked}
 use Rattle.packet_line.specs.Joint.{Side, Follows, session_now}
 use Rattle.packet_line.specs.Events.{note_events, packet_events, timer_events, after_here, cleared, notes_of}

@@ -9,8 +9,8 @@ use Rattle.lapb.specs.Octets.{on_octets}
 use Rattle.packet_layer.specs.Packets as packets
 use Rattle.packet_layer.specs.Layer.{Timer, next_packet, unread}
 use Rattle.packet_layer.specs.Events.{timer_named}
-use Rattle.packet_layer.specs.Line as layers
-use Rattle.packet_layer.specs.Line.{Event}
+use Rattle.packet_laws.specs.Line as layers
+use Rattle.packet_laws.specs.Line.{Event}
 use Rattle.packet_end.specs.PacketEnd.{PacketEnd, runs_at, with_next}
 use Rattle.packet_line.specs.PacketLine.{Act}
 use Rattle.packet_line.specs.PacketLine.Act.{Begins, Hears, Expires, Relinks, RelinksIfDue, Restarts, Calls, Requests, Offers, Settles, Elapses, Sends}

@@ -1,6 +1,6 @@
 -- Which acts at an end can be read at the other one: a call that is placed carries what a Call Request can.
 use Rattle.std.specs.Prelude.{List, [], ◌∷◌}
-use Rattle.packet_layer.specs.Readable.{CanBePlaced}
+use Rattle.packet_laws.specs.Readable.{CanBePlaced}
 use Rattle.packet_line.specs.PacketLine.{Act, Event, Calls, At}
 
 abbrev pub IsFit : Act → Type 0

@@ -11,11 +11,11 @@ use Rattle.packet_layer.specs.Packets.{Packet}
 use Rattle.packet_layer.specs.Packets.Received.{Whole}
 use Rattle.packet_layer.specs.Octets.{heard}
 use Rattle.packet_layer.specs.Layer.{Layer, unread}
-use Rattle.packet_layer.specs.Line.{End, Happening}
-use Rattle.packet_layer.specs.Line as layers
+use Rattle.packet_laws.specs.Line.{End, Happening}
+use Rattle.packet_laws.specs.Line as layers
 use Rattle.packet_end.specs.PacketEnd.{PacketEnd}
 use Rattle.packet_line.specs.PacketLine.{Line}
-use Rattle.packet_layer.specs.Readable.{IsReadable}
+use Rattle.packet_laws.specs.Readable.{IsReadable}
 
 -- ---- one end
 

@@ -4,9 +4,9 @@ use Rattle.link_timers.specs.declared.role.Role.{Role}
 use Rattle.link_timers.specs.Role.{other_of}
 use Rattle.lapb.specs.Machine.{Octets}
 use Rattle.lapb.specs.World.{World}
-use Rattle.packet_layer.specs.Line.{Happening, start_line, turned}
-use Rattle.packet_layer.specs.Line as layers
-use Rattle.packet_layer.specs.Law.{Holds, NoFault}
+use Rattle.packet_laws.specs.Line.{Happening, start_line, turned}
+use Rattle.packet_laws.specs.Line as layers
+use Rattle.packet_laws.specs.Law.{Holds, NoFault}
 use Rattle.packet_end.specs.PacketEnd.{PacketEnd}
 use Rattle.packet_end.specs.Params.{AreParams}
 use Rattle.packet_end.specs.declared.params.EndParams.{EndParams}

@@ -5,8 +5,8 @@ use Rattle.link_timers.specs.Role.{other_of}
 use Rattle.lapb.specs.Machine.{Octets}
 use Rattle.lapb.specs.World.{World}
 use Rattle.packet_layer.specs.Packets.{Note}
-use Rattle.packet_layer.specs.Line as layers
-use Rattle.packet_layer.specs.Line.{Event}
+use Rattle.packet_laws.specs.Line as layers
+use Rattle.packet_laws.specs.Line.{Event}
 use Rattle.packet_end.specs.PacketEnd.{PacketEnd}
 use Rattle.packet_line.specs.PacketLine.{Act, Begins, Restarts, does, other_after, going_after, coming_after}
 use Rattle.packet_line.specs.Events.{events_of, after_here, notes_of}

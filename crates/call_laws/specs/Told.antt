@@ -1,0 +1,127 @@
+-- A line and its book, side by side: whatever happens at an end's packet layer is written into the book.
+use Rattle.std.specs.Prelude.{◌≡◌, ℕ, ◌≤◌, Bool, cond, List, [], ◌∷◌, Option, Some, None}
+use Rattle.link_timers.specs.declared.role.Role.{Role}
+use Rattle.link_timers.specs.declared.role.Role.TheVariants.{Dte, Dce}
+use Rattle.pad_editing.specs.Edited.{Step}
+use Rattle.packet_layer.specs.Packets.{CallParts, Packet, Note}
+use Rattle.packet_layer.specs.Packets.Received.{Whole}
+use Rattle.packet_layer.specs.Traffic.{Taken}
+use Rattle.packet_layer.specs.Channel.{Request, Refusal}
+use Rattle.packet_layer.specs.Channel.Request.{Accept, Clearing, Resetting, Sending, Interrupting, Taking, Releasing}
+use Rattle.packet_layer.specs.Layer.{Layer, runs, link_up, link_down, on_packet, on_timer, channel_given, request_refusal, front_on}
+use Rattle.packet_laws.specs.Line.{Line, Event, Happening, turned, start_line, may_begin, next_of_session, after_one}
+use Rattle.packet_laws.specs.Line.Event.{Up, Down, Calls, Requests, Expires, Arrives}
+use Rattle.packet_laws.specs.Line.Happening.{Here, There}
+use Rattle.call_records.specs.Book.{Book, places, answers, closes, renews, sends, interrupts, takes, releases, edits, all_told, made_book}
+
+-- ---- what an end's packet layer tells by an event
+
+abbrev pub notes_by_packet : Layer → Option Packet → List Note
+notes_by_packet l None = []
+notes_by_packet l (Some p) = (on_packet l (Whole p)).notes
+
+abbrev pub notes_in : Option ℕ → Line → List Note
+notes_in None w = []
+notes_in (Some s) w = notes_by_packet w.me.layer (next_of_session w s)
+
+-- at `me`
+abbrev pub notes_of : Event → Line → List Note
+notes_of (Up s) w = cond (may_begin s w) (link_up w.me.layer).notes []
+notes_of Down w = (link_down w.me.layer).notes
+notes_of (Expires t) w = cond (runs w.me.layer t) (on_timer w.me.layer t).notes []
+notes_of Arrives w = notes_in w.me.session w
+notes_of _ w = []
+
+-- ---- what is written
+
+-- what the user asked, where it was not refused; what is taken is what was at the front before
+abbrev pub carried : Role → (channel : ℕ) → Request → Option Taken → Book → Book
+carried role channel Accept front b = answers role channel b
+carried role channel (Clearing cause diagnostic) front b = closes role channel b
+carried role channel (Resetting cause diagnostic) front b = renews role channel b
+carried role channel (Sending d) front b = sends role channel d b
+carried role channel (Interrupting octets) front b = interrupts role channel octets b
+carried role channel Taking front b = takes role channel front b
+carried role channel (Releasing count) front b = releases role channel count b
+carried role channel _ front b = b
+
+abbrev pub unless_refused : Option Refusal → (done old : Book) → Book
+unless_refused None done old = done
+unless_refused (Some r) done old = old
+
+abbrev pub placed_on : Role → Option ℕ → CallParts → Book → Book
+placed_on role None parts b = b
+placed_on role (Some channel) parts b = places role channel parts.called b
+
+-- at `me`, which has this role
+abbrev pub written : Role → Event → Line → Book → Book
+written role (Calls parts) w b = placed_on role (channel_given w.me.layer w.me.layer.phase) parts b
+written role (Requests channel r) w b =
+    unless_refused (request_refusal w.me.layer channel r) (carried role channel r (front_on w.me.layer channel) b) b
+written role event w b = all_told role (notes_of event w) b
+
+-- ---- the two together
+
+-- and for each end the last session in which it came up
+pub record World : Type 0 where
+  pub line : Line
+  pub book : Book
+  pub top_me : ℕ
+  pub top_you : ℕ
+
+-- an event at an end of the line, or a step of editing at a PAD
+pub data Move : Type 0 where
+  Happens : Happening → Move
+  Edits : Role → (channel : ℕ) → Step → Move
+
+abbrev pub top_after : Event → Line → ℕ → ℕ
+top_after (Up s) w top = cond (may_begin s w) s top
+top_after event w top = top
+
+-- the DTE is `me`
+abbrev pub after_move : Move → World → World
+after_move (Happens (Here event)) v = record {
+  line = after_one (Here event) v.line;
+  book = written Dte event v.line v.book;
+  top_me = top_after event v.line v.top_me;
+  top_you = v.top_you;
+}
+after_move (Happens (There event)) v = record {
+  line = after_one (There event) v.line;
+  book = written Dce event (turned v.line) v.book;
+  top_me = v.top_me;
+  top_you = top_after event (turned v.line) v.top_you;
+}
+after_move (Edits role channel step) v = record v { book = edits role channel step v.book }
+
+abbrev pub after_all : List Move → World → World
+after_all [] v = v
+after_all (m ∷ ms) v = after_all ms (after_move m v)
+
+-- ---- what the links promise of sessions: they come in rising order, and a packet that arrives in a session comes from an end
+-- that was up in none later; and no end of a line without a switch names itself in a call
+
+abbrev pub InOrder : Event → Option ℕ → (top other_top : ℕ) → Type 0
+InOrder (Up s) session top other_top = top ≤ s
+InOrder Arrives (Some s) top other_top = other_top ≤ s
+InOrder (Calls parts) session top other_top = parts.calling ≡ []
+InOrder _ session top other_top = Unit {0}
+
+abbrev pub IsAllowed : Move → World → Type 0
+IsAllowed (Happens (Here event)) v = InOrder event v.line.me.session v.top_me v.top_you
+IsAllowed (Happens (There event)) v = InOrder event v.line.you.session v.top_you v.top_me
+IsAllowed (Edits role channel step) v = Unit {0}
+
+abbrev pub AreAllowed : List Move → World → Type 0
+AreAllowed [] v = Unit {0}
+AreAllowed (m ∷ ms) v = IsAllowed m v × AreAllowed ms (after_move m v)
+
+-- ---- the making
+
+abbrev pub start : (dte_node dce_node channels window : ℕ) → (standing : Bool) → World
+start dte_node dce_node channels window standing = record {
+  line = start_line channels window standing;
+  book = made_book dte_node dce_node channels standing;
+  top_me = 0;
+  top_you = 0;
+}

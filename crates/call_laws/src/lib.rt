@@ -1,0 +1,6 @@
+//! What the book of a line promises of its calls, whatever happens on the line.
+#![tactic(auto)]
+
+mod law;
+
+pub use law::book_law;

@@ -1,0 +1,378 @@
+-- The numbers of data transfer name counts and places, whatever the partner does.
+use Rattle.std.proofs.Common.{◌≡◌, ℕ, zero, suc, ◌+◌, ◌-◌, ◌%◌, ◌<◌, ◌≤◌, Bool, true, false, cond, ◌&&◌, ◌==◌, nat_lt, nat_le, List, [], ◌∷◌, ◌++◌, length, Option, Some, None, refl, sym, ap, subst, ◌∙◌, append_assoc, length-append, arith}
+use Rattle.std.specs.Prelude.{◌↔◌}
+use Rattle.std.proofs.lemmas.Bool.{leb-true, ltb-true, eqb-true}
+use Rattle.packet_layer.specs.Packets.{Datum, Body}
+use Rattle.packet_layer.specs.Packets.Body.{Data, Interrupt, InterruptConfirmation, ReceiveReady, ReceiveNotReady}
+use Rattle.packet_layer.specs.Traffic.{Traffic, Said, queue, Heard, distance, in_flight, unreleased, interrupted, covers, keeps, arrives, partner_says, hears, says, says_interrupt, says_data, says_flow, flow_told, window_open, ready_or_not, taking_of, front_of, may_release, releasing, confirming}
+use Rattle.packet_layer.specs.Channel.{Request, traffic_after}
+use Rattle.packet_layer.specs.Channel.Request.{Sending, Interrupting, Stopping, Taking, Releasing, Confirming}
+use Rattle.packet_laws.specs.History.{Epoch, logged, with_taken}
+use Rattle.packet_laws.specs.Counts.{NamesCounts, NamesPlace, NamesAfter, NamesNext, IsNumbered, AreDelivered, CountsLaw, or_first, through_delivery}
+use Rattle.packet_laws.proofs.Pipes.{more_mod}
+use Rattle.packet_laws.proofs.Saying.{by_cond, and_parts}
+use Rattle.packet_laws.proofs.Asking.{same_length}
+
+named_mod : (c r : ℕ) → r < 8 → r ≡ (c + distance (c % 8) r) % 8
+named_mod c r lt = omega arith
+
+-- the distance of two numbers is that of the counts that they name, within seven
+apart_by : (low high window : ℕ) → low ≤ high → high ≤ low + window → window ≤ 7 → distance (low % 8) (high % 8) ≡ high - low
+apart_by low high window le within seven = omega arith
+
+-- ---- up to the last packet with D = 1
+
+through_more : (ds : List Datum) (d : Datum) → through_delivery (ds ++ d ∷ []) ≡ cond d.delivery (suc (length ds)) (through_delivery ds)
+through_more [] d = refl
+through_more (x ∷ xs) d = by_delivery d.delivery (through_more xs d)
+  where
+    by_delivery : (b : Bool) → through_delivery (xs ++ d ∷ []) ≡ cond b (suc (length xs)) (through_delivery xs)
+        → or_first x.delivery (through_delivery (xs ++ d ∷ [])) ≡ cond b (suc (suc (length xs))) (or_first x.delivery (through_delivery xs))
+    by_delivery true e = ap (λ (k : ℕ). or_first x.delivery k) e
+    by_delivery false e = ap (λ (k : ℕ). or_first x.delivery k) e
+
+through_at_least : (before after : List Datum) (d : Datum) → d.delivery ≡ true → length before < through_delivery (before ++ d ∷ after)
+through_at_least [] after d marked = first d.delivery marked (through_delivery after)
+  where
+    first : (b : Bool) → b ≡ true → (k : ℕ) → 0 < or_first b k
+    first true e zero = omega arith
+    first true e (suc k) = omega arith
+    first false e k = absurd (cc)
+through_at_least (x ∷ before) after d marked = onward (through_delivery (before ++ d ∷ after)) x.delivery (length before) (through_at_least before after d marked)
+  where
+    onward : (k : ℕ) (b : Bool) (n : ℕ) → n < k → suc n < or_first b k
+    onward zero b n lt = absurd (omega arith)
+    onward (suc k) b n lt = omega arith
+
+through_covered : (ds : List Datum) (c : ℕ) → ((before after : List Datum) (d : Datum) → before ++ d ∷ after ≡ ds → d.delivery ≡ true → length before < c)
+    → through_delivery ds ≤ c
+through_covered [] c all = omega arith
+through_covered (x ∷ xs) c all =
+    onward (through_delivery xs) x.delivery c (through_covered xs (c - 1) rest) (λ marked. all [] xs x refl marked)
+  where
+    less : (n c : ℕ) → suc n < c → n < c - 1
+    less n c lt = omega arith
+
+    rest : (before after : List Datum) (d : Datum) → before ++ d ∷ after ≡ xs → d.delivery ≡ true → length before < c - 1
+    rest before after d e marked = less (length before) c (all (x ∷ before) after d (ap (λ (l : List Datum). x ∷ l) e) marked)
+
+    onward : (k : ℕ) (b : Bool) (c : ℕ) → k ≤ c - 1 → (b ≡ true → 0 < c) → or_first b k ≤ c
+    onward zero true c le first = let lt = first refl in omega arith
+    onward zero false c le first = omega arith
+    onward (suc k) b c le first = omega arith
+
+names_delivered : (window : ℕ) (t : Traffic) (e : Epoch) → NamesCounts window t e → (t.undelivered ≡ 0) ↔ AreDelivered e
+names_delivered window t e n = (all_are, none_left)
+  where
+    all_are : t.undelivered ≡ 0 → AreDelivered e
+    all_are none before after d split marked =
+        let far : length before < through_delivery (before ++ d ∷ after) = through_at_least before after d marked in
+        let same : through_delivery (before ++ d ∷ after) ≡ through_delivery e.sent = ap (λ (l : List Datum). through_delivery l) split in
+        let left = n.undelivered in
+        omega arith
+
+    none_left : AreDelivered e → t.undelivered ≡ 0
+    none_left all =
+        let most : through_delivery e.sent ≤ e.covered = through_covered e.sent e.covered all in
+        let left = n.undelivered in
+        omega arith
+
+-- ---- the same of the fields that matter, so that a change of the others leaves it as it is
+
+record Counts (window : ℕ) (waiting arrived : List Datum) (send covered expected released undelivered : ℕ) (sent taken : List Datum) (c r : ℕ) : Type 0 where
+  gone : List Datum
+  sent_is : gone ++ waiting ≡ sent
+  send_is : send ≡ length gone % 8
+  covered_is : covered ≡ c % 8
+  covered_went : c ≤ length gone
+  went_within : length gone ≤ c + window
+  expected_is : expected ≡ (length taken + length arrived) % 8
+  released_is : released ≡ r % 8
+  released_taken : r ≤ length taken
+  came_within : length taken + length arrived ≤ r + window
+  undelivered_is : undelivered ≡ through_delivery sent - c
+
+abbrev Of : ℕ → Traffic → Epoch → Type 0
+Of window t e = Counts window t.waiting t.arrived t.send_number t.covered t.receive_number t.released t.undelivered e.sent e.taken e.covered e.released
+
+into : (window : ℕ) (t : Traffic) (e : Epoch) → NamesCounts window t e → Of window t e
+into window t e n = record {
+  gone = n.gone;
+  sent_is = n.sent;
+  send_is = n.send;
+  covered_is = n.covered;
+  covered_went = n.covered_went;
+  went_within = n.went_within;
+  expected_is = n.expected;
+  released_is = n.released;
+  released_taken = n.released_taken;
+  came_within = n.came_within;
+  undelivered_is = n.undelivered;
+}
+
+back : (window : ℕ) (t : Traffic) (e : Epoch) → Of window t e → NamesCounts window t e
+back window t e k = record {
+  gone = k.gone;
+  sent = k.sent_is;
+  send = k.send_is;
+  covered = k.covered_is;
+  covered_went = k.covered_went;
+  went_within = k.went_within;
+  expected = k.expected_is;
+  released = k.released_is;
+  released_taken = k.released_taken;
+  came_within = k.came_within;
+  undelivered = k.undelivered_is;
+}
+
+flight_is : (window : ℕ) (t : Traffic) (e : Epoch) → window ≤ 7 → (k : Of window t e) → in_flight t ≡ length k.gone - e.covered
+flight_is window t e seven k =
+    ap (λ (a : ℕ). distance a t.send_number) k.covered_is
+    ∙ (ap (λ (b : ℕ). distance (e.covered % 8) b) k.send_is ∙ apart_by e.covered (length k.gone) window k.covered_went k.went_within seven)
+
+unreleased_is : (window : ℕ) (t : Traffic) (e : Epoch) → window ≤ 7 → Of window t e → unreleased t ≡ (length e.taken + length t.arrived) - e.released
+unreleased_is window t e seven k =
+    let taken = k.released_taken in
+    let le : e.released ≤ length e.taken + length t.arrived = omega arith in
+    ap (λ (a : ℕ). distance a t.receive_number) k.released_is
+    ∙ (ap (λ (b : ℕ). distance (e.released % 8) b) k.expected_is ∙ apart_by e.released (length e.taken + length t.arrived) window le k.came_within seven)
+
+-- ---- asked
+
+asked_take : (window : ℕ) (a : Option (List ℕ)) (ds : List Datum) (t : Traffic) (e : Epoch) → Of window (record t { interrupt_arrived = a; arrived = ds }) e
+    → Of window (taking_of a ds (record t { interrupt_arrived = a; arrived = ds })) (with_taken (front_of a ds) e)
+asked_take window (Some octets) ds t e k = k
+asked_take window None [] t e k = k
+asked_take window None (d ∷ ds) t e k =
+    let same = same_length e.taken ds d in
+    let more = length-append e.taken (d ∷ []) in
+    let taken = k.released_taken in
+    let within = k.came_within in
+    record {
+      gone = k.gone;
+      sent_is = k.sent_is;
+      send_is = k.send_is;
+      covered_is = k.covered_is;
+      covered_went = k.covered_went;
+      went_within = k.went_within;
+      expected_is = k.expected_is ∙ ap (λ (n : ℕ). n % 8) (sym same);
+      released_is = k.released_is;
+      released_taken = omega arith;
+      came_within = omega arith;
+      undelivered_is = k.undelivered_is;
+    }
+
+asked_release : (window n : ℕ) (t : Traffic) (e : Epoch) → window ≤ 7 → Of window t e
+    → Of window (cond (may_release n t) (releasing n t) t) (cond (may_release n t) (record e { released = e.released + n }) e)
+asked_release window n t e seven k = by_test (may_release n t) (λ may. leb-true (n + length t.arrived) (unreleased t) may)
+  where
+    by_test : (b : Bool) → (b ≡ true → n + length t.arrived ≤ unreleased t) → Of window (cond b (releasing n t) t) (cond b (record e { released = e.released + n }) e)
+    by_test true room =
+        let some = room refl in
+        let count = unreleased_is window t e seven k in
+        let taken = k.released_taken in
+        let within = k.came_within in
+        record {
+          gone = k.gone;
+          sent_is = k.sent_is;
+          send_is = k.send_is;
+          covered_is = k.covered_is;
+          covered_went = k.covered_went;
+          went_within = k.went_within;
+          expected_is = k.expected_is;
+          released_is = ap (λ (r : ℕ). (r + n) % 8) k.released_is ∙ more_mod e.released n;
+          released_taken = omega arith;
+          came_within = omega arith;
+          undelivered_is = k.undelivered_is;
+        }
+    by_test false room = k
+
+asked_confirm : (window : ℕ) (b : Bool) (t : Traffic) (e : Epoch) → Of window t e → Of window (cond b (confirming t) t) e
+asked_confirm window true t e k = k
+asked_confirm window false t e k = k
+
+asked_send : (window : ℕ) (d : Datum) (t : Traffic) (e : Epoch) → window ≤ 7 → Of window t e → Of window (queue d t) (record e { sent = e.sent ++ d ∷ [] })
+asked_send window d t e seven k =
+    let flight = flight_is window t e seven k in
+    let whole : length k.gone + length t.waiting ≡ length e.sent = sym (length-append k.gone t.waiting) ∙ ap (λ (l : List Datum). length l) k.sent_is in
+    let went = k.covered_went in
+    let left = k.undelivered_is in
+    let more = through_more e.sent d in
+    record {
+      gone = k.gone;
+      sent_is = sym (append_assoc k.gone t.waiting (d ∷ [])) ∙ ap (λ (l : List Datum). l ++ d ∷ []) k.sent_is;
+      send_is = k.send_is;
+      covered_is = k.covered_is;
+      covered_went = k.covered_went;
+      went_within = k.went_within;
+      expected_is = k.expected_is;
+      released_is = k.released_is;
+      released_taken = k.released_taken;
+      came_within = k.came_within;
+      undelivered_is =
+          by_delivery d.delivery (in_flight t + length t.waiting + 1) (length e.sent) e.covered (through_delivery e.sent) (omega arith) left
+          ∙ ap (λ (n : ℕ). n - e.covered) (sym more);
+    }
+  where
+    by_delivery : (b : Bool) (count all c through : ℕ) → count ≡ suc all - c → t.undelivered ≡ through - c → cond b count t.undelivered ≡ cond b (suc all) through - c
+    by_delivery true count all c through e old = e
+    by_delivery false count all c through e old = old
+
+names_asked : (window : ℕ) → window ≤ 7 → (t : Traffic) (e : Epoch) (r : Request) → NamesCounts window t e → NamesCounts window (traffic_after r t) (logged t r e)
+names_asked window seven t e (Sending d) n = back window _ _ (asked_send window d t e seven (into window t e n))
+names_asked window seven t e (Interrupting octets) n = back window _ _ (into window t e n)
+names_asked window seven t e (Stopping b) n = back window _ _ (into window t e n)
+names_asked window seven t e Taking n = back window _ _ (asked_take window t.interrupt_arrived t.arrived t e (into window t e n))
+names_asked window seven t e (Releasing m) n = back window _ _ (asked_release window m t e seven (into window t e n))
+names_asked window seven t e Confirming n = back window _ _ (asked_confirm window t.interrupt_taken t e (into window t e n))
+names_asked window seven t e _ n = n
+
+-- ---- said
+
+abbrev Named : ℕ → Epoch → Said → Type 0
+Named window e s = Of window s.traffic e × NamesPlace e s.traffic.waiting s.body
+
+named_ready : (window : ℕ) (stop : Bool) (t : Traffic) (e : Epoch) → Of window t e → Named window e (record { traffic = record t { untold = false; told_stopped = t.stopped }; body = Some (ready_or_not stop t.released) })
+named_ready window true t e k = (k, k.released_is)
+named_ready window false t e k = (k, k.released_is)
+
+named_flow : (window : ℕ) (t : Traffic) (e : Epoch) → Of window t e → Named window e (says_flow t)
+named_flow window t e k = by_cond (λ (s : Said). Named window e s) (flow_told t) _ _ (λ h. (k, tt)) (λ h. named_ready window t.stopped t e k)
+
+named_datum : (window : ℕ) (d : Datum) (ds : List Datum) (t : Traffic) (e : Epoch) → window ≤ 7 → window_open window t ≡ true → t.waiting ≡ d ∷ ds → Of window t e
+    → Named window e (record { traffic = record t { waiting = ds; send_number = (t.send_number + 1) % 8; untold = false }; body = Some (Data t.send_number t.released d) })
+named_datum window d ds t e seven may w k =
+    let whole : k.gone ++ (d ∷ ds) ≡ e.sent = ap (λ (l : List Datum). k.gone ++ l) (sym w) ∙ k.sent_is in
+    let len = length-append k.gone (d ∷ []) in
+    let number = k.send_is in
+    let went = k.covered_went in
+    let flight = flight_is window t e seven k in
+    let room : in_flight t < window = ltb-true (in_flight t) window (and_parts (nat_lt (in_flight t) window) _ may).0 in (
+      record {
+        gone = k.gone ++ d ∷ [];
+        sent_is = append_assoc k.gone (d ∷ []) ds ∙ whole;
+        send_is = omega arith;
+        covered_is = k.covered_is;
+        covered_went = omega arith;
+        went_within = omega arith;
+        expected_is = k.expected_is;
+        released_is = k.released_is;
+        released_taken = k.released_taken;
+        came_within = k.came_within;
+        undelivered_is = k.undelivered_is;
+      },
+      ((k.gone, (whole, number)), k.released_is),
+    )
+
+named_data : (window : ℕ) (ds : List Datum) (t : Traffic) (e : Epoch) → window ≤ 7 → t.waiting ≡ ds → Of window t e → Named window e (says_data window ds t)
+named_data window [] t e seven w k = named_flow window t e k
+named_data window (d ∷ ds) t e seven w k =
+    by_cond (λ (s : Said). Named window e s) (window_open window t) _ _ (λ h. named_datum window d ds t e seven h w k) (λ h. named_flow window t e k)
+
+named_interrupt : (window : ℕ) (q : Option (List ℕ)) (t : Traffic) (e : Epoch) → window ≤ 7 → Of window t e → Named window e (says_interrupt window q t)
+named_interrupt window (Some octets) t e seven k = (k, tt)
+named_interrupt window None t e seven k = named_data window t.waiting t e seven refl k
+
+named_says : (window : ℕ) (t : Traffic) (e : Epoch) → window ≤ 7 → Of window t e → Named window e (says window t)
+named_says window t e seven k =
+    by_cond (λ (s : Said). Named window e s) t.confirmation_due _ _ (λ h. (k, tt)) (λ h. named_interrupt window t.interrupt_waiting t e seven k)
+
+names_said : (window : ℕ) → window ≤ 7 → (t : Traffic) (e : Epoch) → NamesCounts window t e
+    → NamesCounts window (says window t).traffic e × NamesPlace e (says window t).traffic.waiting (says window t).body
+names_said window seven t e n = let s = named_says window t e seven (into window t e n) in (back window _ e s.0, s.1)
+
+-- ---- heard
+
+heard_cover : (window r : ℕ) (t : Traffic) (e : Epoch) → window ≤ 7 → r < 8 → nat_le (distance t.covered r) (in_flight t) ≡ true → Of window t e
+    → Of window (record t { covered = r; undelivered = t.undelivered - distance t.covered r }) (record e { covered = e.covered + distance t.covered r })
+heard_cover window r t e seven lt valid k =
+    let le : distance t.covered r ≤ in_flight t = leb-true (distance t.covered r) (in_flight t) valid in
+    let flight = flight_is window t e seven k in
+    let went = k.covered_went in
+    let within = k.went_within in
+    let left = k.undelivered_is in
+    record {
+      gone = k.gone;
+      sent_is = k.sent_is;
+      send_is = k.send_is;
+      covered_is = named_mod e.covered r lt ∙ ap (λ (c : ℕ). (e.covered + distance c r) % 8) (sym k.covered_is);
+      covered_went = omega arith;
+      went_within = omega arith;
+      expected_is = k.expected_is;
+      released_is = k.released_is;
+      released_taken = k.released_taken;
+      came_within = k.came_within;
+      undelivered_is = omega arith;
+    }
+
+heard_ready : (window : ℕ) (busy : Bool) (r : ℕ) (t : Traffic) (e : Epoch) (b : Body) → window ≤ 7 → r < 8 → NamesNext t e b → Of window t e
+    → NamesAfter window (keeps (λ u. partner_says busy u) (covers r t)) t e b
+heard_ready window busy r t e b seven lt next k =
+    by_cond (λ (h : Heard). NamesAfter window (keeps (λ u. partner_says busy u) h) t e b) (nat_le (distance t.covered r) (in_flight t)) _ _
+    (λ h. (back window _ _ (heard_cover window r t e seven lt h k), next)) (λ h. tt)
+
+heard_datum : (window : ℕ) (s r : ℕ) (d : Datum) (t : Traffic) (e : Epoch) → window ≤ 7 → r < 8 → s ≡ t.receive_number → unreleased t < window → Of window t e
+    → NamesAfter window (keeps (λ u. arrives d u) (covers r t)) t e (Data s r d)
+heard_datum window s r d t e seven lt number room k =
+    by_cond (λ (h : Heard). NamesAfter window (keeps (λ u. arrives d u) h) t e (Data s r d)) (nat_le (distance t.covered r) (in_flight t)) _ _
+    (λ h.
+    let c = heard_cover window r t e seven lt h k in
+    let len = length-append t.arrived (d ∷ []) in
+    let expected = k.expected_is in
+    let count = unreleased_is window t e seven k in
+    let taken = k.released_taken in (
+      back window _ _ (record {
+        gone = c.gone;
+        sent_is = c.sent_is;
+        send_is = c.send_is;
+        covered_is = c.covered_is;
+        covered_went = c.covered_went;
+        went_within = c.went_within;
+        expected_is = omega arith;
+        released_is = c.released_is;
+        released_taken = c.released_taken;
+        came_within = omega arith;
+        undelivered_is = c.undelivered_is;
+      }),
+      number ∙ expected,
+    )) (λ h. tt)
+
+names_heard : (window : ℕ) → window ≤ 7 → (t : Traffic) (e : Epoch) (b : Body) → IsNumbered b → NamesCounts window t e → NamesAfter window (hears window t b) t e b
+names_heard window seven t e (Data s r d) lt n =
+    by_cond (λ (h : Heard). NamesAfter window h t e (Data s r d)) ((s == t.receive_number) && nat_lt (unreleased t) window) _ _
+    (λ h.
+    let both = and_parts (s == t.receive_number) (nat_lt (unreleased t) window) h in
+    heard_datum window s r d t e seven lt (eqb-true s t.receive_number both.0) (ltb-true (unreleased t) window both.1) (into window t e n)) (λ h. tt)
+names_heard window seven t e (ReceiveReady r) lt n = heard_ready window false r t e (ReceiveReady r) seven lt tt (into window t e n)
+names_heard window seven t e (ReceiveNotReady r) lt n = heard_ready window true r t e (ReceiveNotReady r) seven lt tt (into window t e n)
+names_heard window seven t e (Interrupt octets) lt n =
+    let k = into window t e n in
+    by_cond (λ (h : Heard). NamesAfter window h t e (Interrupt octets)) (interrupted t) _ _ (λ h. tt)
+    (λ h. (back window _ _ (none_more window t e k), tt))
+  where
+    none_more : (window : ℕ) (t : Traffic) (e : Epoch) → Of window t e → Of window t (record e { covered = e.covered + 0 })
+    none_more window t e k = let same : e.covered ≡ e.covered + 0 = omega arith in subst (λ (c : ℕ). Of window t (record e { covered = c })) same k
+names_heard window seven t e InterruptConfirmation lt n =
+    by_cond (λ (h : Heard). NamesAfter window h t e InterruptConfirmation) t.interrupt_unconfirmed _ _ (λ h. back window _ _ (into window t e n)) (λ h. tt)
+names_heard window seven t e _ lt n = tt
+
+pub counts_hold : CountsLaw
+counts_hold = record {
+  begins = λ window. record {
+    gone = [];
+    sent = refl;
+    send = refl;
+    covered = refl;
+    covered_went = omega arith;
+    went_within = omega arith;
+    expected = refl;
+    released = refl;
+    released_taken = omega arith;
+    came_within = omega arith;
+    undelivered = refl;
+  };
+  asked = names_asked;
+  said = names_said;
+  heard = names_heard;
+  delivered = names_delivered;
+}

@@ -1,0 +1,638 @@
+-- Every packet of a layer reads back at the other end: so it is from the making on, whatever comes and whatever the user asks.
+use Rattle.std.specs.Prelude.{◌≡◌, ℕ, zero, suc, ◌+◌, ◌%◌, ◌<◌, ◌≤◌, Bool, true, false, cond, not, ◌&&◌, ◌||◌, ◌==◌, nat_lt, nat_le, List, [], ◌∷◌, ◌++◌, length, map, set, replicate, slice_get, Option, Some, None}
+use Rattle.std.proofs.Common.{refl, ap, subst, arith}
+use Rattle.std.proofs.lemmas.List.{length-append, length-replicate, length-map, length-set}
+use Rattle.std.proofs.lemmas.Option.{slice_get_within}
+use Rattle.link_timers.specs.declared.role.Role.{Role}
+use Rattle.link_timers.specs.declared.role.Role.TheVariants.{Dte, Dce}
+use Rattle.packet_codec.specs.Packet.{IsPacket, IsLogicalChannel, IsContentOn, spelling, packed}
+use Rattle.packet_codec.proofs.Cases.{cond_by}
+use Rattle.packet_codec.proofs.Blocks.{length-packed}
+use Rattle.packet_codec.proofs.Spellings.{reading-spelling}
+use Rattle.packet_layer.specs.Packets.{CallParts, Datum, Body, Packet, Received}
+use Rattle.packet_layer.specs.Packets.Body.{Call, Accepted, Clear, ClearConfirmation, Data, Interrupt, InterruptConfirmation, ReceiveReady, ReceiveNotReady, Reset, ResetConfirmation, Restart, RestartConfirmation}
+use Rattle.packet_layer.specs.Traffic.{Traffic, Said, Heard, fresh, in_flight, distance, window_open, flow_told, interrupted, unreleased, ready_or_not, may_release, releasing, confirming, taking_of, covers, keeps, arrives, partner_says, hears, says, says_interrupt, says_data, says_flow}
+use Rattle.packet_layer.specs.Traffic.Heard.{Keeps, Confirms, Wrong}
+use Rattle.packet_layer.specs.Channel.{CallState, Channel, Step, Request, Refusal, closed_channel, clear_error, reset_error, far_cleared, after_heard, in_flow_ready, in_own_reset, in_ready, in_own_waiting, in_far_waiting, in_collision, in_own_clear, received_in, received, unreadable_in, unreadable, in_transfer, has_flow, refused_if, refusal, carried_out, unless, requested}
+use Rattle.packet_layer.specs.Channel.CallState.{Ready, OwnWaiting, FarWaiting, Transfer, Collision, OwnClear}
+use Rattle.packet_layer.specs.Channel.Request.{Accept, Clearing, Resetting, Sending, Interrupting, Stopping, Taking, Releasing, Confirming}
+use Rattle.packet_layer.specs.Layer.{Layer, Phase, Timer, Next, ChannelNext, channel_of, nth_channel, with_nth, standing_channels, made, is_full, with_owed, owing, unread, link_up, link_down, restart_packet, on_found, on_channel, on_received, on_packet, runs, expired, on_timer, next_owed, next_of, next_number, served, serve_found, serve, next_restart, next_in, next_packet, placing, placed_on, channel_given, call, request}
+use Rattle.packet_layer.specs.Layer.Phase.{NoSession, OwnRestart, PacketReady}
+use Rattle.packet_layer.specs.Layer.Timer.{RestartTimer, CallTimer, ResetTimer, ClearTimer}
+use Rattle.packet_layer.specs.Octets.{content_of, heard}
+use Rattle.packet_layer.specs.Events.{on_octets, after_hearing, written_packet}
+use Rattle.packet_laws.specs.Readable.{Every, IfAny, value_of, FitsChannels, FitsRestarts, IsShortDatum, IsInterrupt, TrafficReads, ChannelReads, AllRead, IsReadable, CanBePlaced}
+use Rattle.packet_layer.proofs.Serving.{heard_of_reading}
+
+-- ---- facts of each element of a list
+
+every-at : {A : Type 0} (P : A → Type 0) (xs : List A) (i : ℕ) (x : A) → Every P xs → slice_get xs i ≡ Some x → P x
+every-at P [] i x all e = absurd (cc)
+every-at P (y ∷ ys) zero x all e = let same : y ≡ x = cc in subst P same all.0
+every-at P (y ∷ ys) (suc i) x all e = every-at P ys i x all.1 e
+
+every-set : {A : Type 0} (P : A → Type 0) (xs : List A) (i : ℕ) (x : A) → Every P xs → P x → Every P (set xs i x)
+every-set P [] i x all p = tt
+every-set P (y ∷ ys) zero x all p = (p, all.1)
+every-set P (y ∷ ys) (suc i) x all p = (all.0, every-set P ys i x all.1 p)
+
+every-append : {A : Type 0} (P : A → Type 0) (xs : List A) (x : A) → Every P xs → P x → Every P (xs ++ x ∷ [])
+every-append P [] x all p = (p, tt)
+every-append P (y ∷ ys) x all p = (all.0, every-append P ys x all.1 p)
+
+-- a further packet that is owed
+every-owed : (P : Body → Type 0) (owed : List Body) (o : Option Body) → Every P owed → IfAny P o → Every P (with_owed owed o)
+every-owed P owed None all p = all
+every-owed P owed (Some b) all p =
+    cond_by (Every P) (is_full owed) owed (owed ++ b ∷ []) (λ _. all) (λ _. every-append P owed b all p)
+
+-- ---- channels
+
+fresh-reads : TrafficReads fresh
+fresh-reads = record { waiting_fits = tt; send_fits = omega arith; released_fits = omega arith; interrupt_fits = tt }
+
+closed-reads : ChannelReads closed_channel
+closed-reads = (tt, fresh-reads)
+
+closed-all : (chs : List Channel) → Every ChannelReads (map (λ ch. closed_channel) chs)
+closed-all [] = tt
+closed-all (ch ∷ chs) = (closed-reads, closed-all chs)
+
+-- what a step of a channel owes, and the channel
+abbrev StepReads : Step → Type 0
+StepReads st = ChannelReads st.channel × IfAny FitsChannels st.owes
+
+clear-reads : (role : Role) (c d : ℕ) (had : Bool) (ch : Channel) → ChannelReads ch → StepReads (clear_error role c d had ch)
+clear-reads role c d had ch r = ((r.0, fresh-reads), λ channel is. is)
+
+reset-reads : (role : Role) (c d : ℕ) (ch : Channel) → ChannelReads ch → StepReads (reset_error role c d ch)
+reset-reads role c d ch r = ((r.0, fresh-reads), λ channel is. is)
+
+far_cleared-reads : (c cause d : ℕ) (ch : Channel) → ChannelReads ch → StepReads (far_cleared c cause d ch)
+far_cleared-reads c cause d ch r = ((r.0, fresh-reads), λ channel is. is)
+
+-- ---- what comes in d1
+
+abbrev HeardReads : Heard → Type 0
+HeardReads (Keeps n t) = TrafficReads t
+HeardReads (Confirms t) = TrafficReads t
+HeardReads (Wrong d) = Unit {0}
+
+heard-reads : (role : Role) (c : ℕ) (ch : Channel) (h : Heard) → ChannelReads ch → HeardReads h → StepReads (after_heard role c ch h)
+heard-reads role c ch (Keeps n t) r p = ((r.0, p), tt)
+heard-reads role c ch (Confirms t) r p = ((r.0, p), tt)
+heard-reads role c ch (Wrong d) r p = reset-reads role c d ch r
+
+covers-reads : (n : ℕ) (t : Traffic) (f : Traffic → Traffic) → TrafficReads t → ((u : Traffic) → TrafficReads u → TrafficReads (f u)) →
+    HeardReads (keeps f (covers n t))
+covers-reads n t f r go =
+    cond_by (λ h. HeardReads (keeps f h)) (nat_le (distance t.covered n) (in_flight t)) _ _ (λ _. go _ r) (λ _. tt)
+
+hears-reads : (window : ℕ) (t : Traffic) (b : Body) → TrafficReads t → HeardReads (hears window t b)
+hears-reads window t (Data send receive d) r =
+    cond_by HeardReads ((send == t.receive_number) && nat_lt (unreleased t) window) (keeps (λ u. arrives d u) (covers receive t)) (Wrong 1)
+    (λ _. covers-reads receive t (λ u. arrives d u) r (λ u s. s)) (λ _. tt)
+hears-reads window t (ReceiveReady receive) r = covers-reads receive t (λ u. partner_says false u) r (λ u s. s)
+hears-reads window t (ReceiveNotReady receive) r = covers-reads receive t (λ u. partner_says true u) r (λ u s. s)
+hears-reads window t (Interrupt octets) r =
+    cond_by HeardReads (interrupted t) (Wrong 0) (Keeps 0 (record t { interrupt_arrived = Some octets })) (λ _. tt) (λ _. r)
+hears-reads window t InterruptConfirmation r =
+    cond_by HeardReads t.interrupt_unconfirmed (Confirms (record t { interrupt_unconfirmed = false })) (Wrong 0) (λ _. r) (λ _. tt)
+hears-reads window t (Call parts) r = tt
+hears-reads window t Accepted r = tt
+hears-reads window t (Clear cause diagnostic) r = tt
+hears-reads window t ClearConfirmation r = tt
+hears-reads window t (Reset cause diagnostic) r = tt
+hears-reads window t ResetConfirmation r = tt
+hears-reads window t (Restart cause diagnostic) r = tt
+hears-reads window t RestartConfirmation r = tt
+
+in_flow_ready-reads : (role : Role) (window c : ℕ) (ch : Channel) (b : Body) → ChannelReads ch → StepReads (in_flow_ready role window c ch b)
+in_flow_ready-reads role window c ch (Clear cause diagnostic) r = far_cleared-reads c cause diagnostic ch r
+in_flow_ready-reads role window c ch (Reset cause diagnostic) r = ((r.0, fresh-reads), λ channel is. is)
+in_flow_ready-reads role window c ch ResetConfirmation r = reset-reads role c 27 ch r
+in_flow_ready-reads role window c ch (Data send receive d) r =
+    heard-reads role c ch (hears window ch.traffic (Data send receive d)) r (hears-reads window ch.traffic (Data send receive d) r.1)
+in_flow_ready-reads role window c ch (ReceiveReady receive) r =
+    heard-reads role c ch (hears window ch.traffic (ReceiveReady receive)) r (hears-reads window ch.traffic (ReceiveReady receive) r.1)
+in_flow_ready-reads role window c ch (ReceiveNotReady receive) r =
+    heard-reads role c ch (hears window ch.traffic (ReceiveNotReady receive)) r (hears-reads window ch.traffic (ReceiveNotReady receive) r.1)
+in_flow_ready-reads role window c ch (Interrupt octets) r =
+    heard-reads role c ch (hears window ch.traffic (Interrupt octets)) r (hears-reads window ch.traffic (Interrupt octets) r.1)
+in_flow_ready-reads role window c ch InterruptConfirmation r =
+    heard-reads role c ch (hears window ch.traffic InterruptConfirmation) r (hears-reads window ch.traffic InterruptConfirmation r.1)
+in_flow_ready-reads role window c ch (Call parts) r = clear-reads role c 0 true ch r
+in_flow_ready-reads role window c ch Accepted r = clear-reads role c 0 true ch r
+in_flow_ready-reads role window c ch ClearConfirmation r = clear-reads role c 0 true ch r
+in_flow_ready-reads role window c ch (Restart cause diagnostic) r = clear-reads role c 0 true ch r
+in_flow_ready-reads role window c ch RestartConfirmation r = clear-reads role c 0 true ch r
+
+-- ---- what comes in the other states
+
+in_own_reset-reads : (role : Role) (c : ℕ) (ch : Channel) (b : Body) → ChannelReads ch → StepReads (in_own_reset role c ch b)
+in_own_reset-reads role c ch (Clear cause diagnostic) r = far_cleared-reads c cause diagnostic ch r
+in_own_reset-reads role c ch (Reset cause diagnostic) r = (r, tt)
+in_own_reset-reads role c ch ResetConfirmation r = (r, tt)
+in_own_reset-reads role c ch (Data send receive d) r = (r, tt)
+in_own_reset-reads role c ch (ReceiveReady receive) r = (r, tt)
+in_own_reset-reads role c ch (ReceiveNotReady receive) r = (r, tt)
+in_own_reset-reads role c ch (Interrupt octets) r = (r, tt)
+in_own_reset-reads role c ch InterruptConfirmation r = (r, tt)
+in_own_reset-reads role c ch (Call parts) r = clear-reads role c 0 true ch r
+in_own_reset-reads role c ch Accepted r = clear-reads role c 0 true ch r
+in_own_reset-reads role c ch ClearConfirmation r = clear-reads role c 0 true ch r
+in_own_reset-reads role c ch (Restart cause diagnostic) r = clear-reads role c 0 true ch r
+in_own_reset-reads role c ch RestartConfirmation r = clear-reads role c 0 true ch r
+
+in_ready-reads : (role : Role) (c : ℕ) (ch : Channel) (b : Body) → ChannelReads ch → StepReads (in_ready role c ch b)
+in_ready-reads role c ch (Call parts) r = (r, tt)
+in_ready-reads role c ch (Clear cause diagnostic) r = (r, λ channel is. is)
+in_ready-reads role c ch Accepted r = clear-reads role c 20 false ch r
+in_ready-reads role c ch ClearConfirmation r = clear-reads role c 20 false ch r
+in_ready-reads role c ch (Data send receive d) r = clear-reads role c 20 false ch r
+in_ready-reads role c ch (Interrupt octets) r = clear-reads role c 20 false ch r
+in_ready-reads role c ch InterruptConfirmation r = clear-reads role c 20 false ch r
+in_ready-reads role c ch (ReceiveReady receive) r = clear-reads role c 20 false ch r
+in_ready-reads role c ch (ReceiveNotReady receive) r = clear-reads role c 20 false ch r
+in_ready-reads role c ch (Reset cause diagnostic) r = clear-reads role c 20 false ch r
+in_ready-reads role c ch ResetConfirmation r = clear-reads role c 20 false ch r
+in_ready-reads role c ch (Restart cause diagnostic) r = clear-reads role c 20 false ch r
+in_ready-reads role c ch RestartConfirmation r = clear-reads role c 20 false ch r
+
+in_own_waiting-reads : (role : Role) (c : ℕ) (ch : Channel) (b : Body) → ChannelReads ch → StepReads (in_own_waiting role c ch b)
+in_own_waiting-reads role c ch Accepted r = (r, tt)
+in_own_waiting-reads role c ch (Call parts) r = (r, tt)
+in_own_waiting-reads role c ch (Clear cause diagnostic) r = far_cleared-reads c cause diagnostic ch r
+in_own_waiting-reads role c ch ClearConfirmation r = clear-reads role c 0 true ch r
+in_own_waiting-reads role c ch (Data send receive d) r = clear-reads role c 0 true ch r
+in_own_waiting-reads role c ch (Interrupt octets) r = clear-reads role c 0 true ch r
+in_own_waiting-reads role c ch InterruptConfirmation r = clear-reads role c 0 true ch r
+in_own_waiting-reads role c ch (ReceiveReady receive) r = clear-reads role c 0 true ch r
+in_own_waiting-reads role c ch (ReceiveNotReady receive) r = clear-reads role c 0 true ch r
+in_own_waiting-reads role c ch (Reset cause diagnostic) r = clear-reads role c 0 true ch r
+in_own_waiting-reads role c ch ResetConfirmation r = clear-reads role c 0 true ch r
+in_own_waiting-reads role c ch (Restart cause diagnostic) r = clear-reads role c 0 true ch r
+in_own_waiting-reads role c ch RestartConfirmation r = clear-reads role c 0 true ch r
+
+in_far_waiting-reads : (role : Role) (c : ℕ) (ch : Channel) (b : Body) → ChannelReads ch → StepReads (in_far_waiting role c ch b)
+in_far_waiting-reads role c ch (Clear cause diagnostic) r = far_cleared-reads c cause diagnostic ch r
+in_far_waiting-reads role c ch (Call parts) r = clear-reads role c 0 true ch r
+in_far_waiting-reads role c ch Accepted r = clear-reads role c 0 true ch r
+in_far_waiting-reads role c ch ClearConfirmation r = clear-reads role c 0 true ch r
+in_far_waiting-reads role c ch (Data send receive d) r = clear-reads role c 0 true ch r
+in_far_waiting-reads role c ch (Interrupt octets) r = clear-reads role c 0 true ch r
+in_far_waiting-reads role c ch InterruptConfirmation r = clear-reads role c 0 true ch r
+in_far_waiting-reads role c ch (ReceiveReady receive) r = clear-reads role c 0 true ch r
+in_far_waiting-reads role c ch (ReceiveNotReady receive) r = clear-reads role c 0 true ch r
+in_far_waiting-reads role c ch (Reset cause diagnostic) r = clear-reads role c 0 true ch r
+in_far_waiting-reads role c ch ResetConfirmation r = clear-reads role c 0 true ch r
+in_far_waiting-reads role c ch (Restart cause diagnostic) r = clear-reads role c 0 true ch r
+in_far_waiting-reads role c ch RestartConfirmation r = clear-reads role c 0 true ch r
+
+in_collision-reads : (role : Role) (c : ℕ) (ch : Channel) (b : Body) → ChannelReads ch → StepReads (in_collision role c ch b)
+in_collision-reads Dte c ch Accepted r = (r, tt)
+in_collision-reads Dte c ch (Clear cause diagnostic) r = far_cleared-reads c cause diagnostic ch r
+in_collision-reads Dte c ch (Call parts) r = clear-reads Dte c 0 true ch r
+in_collision-reads Dte c ch ClearConfirmation r = clear-reads Dte c 0 true ch r
+in_collision-reads Dte c ch (Data send receive d) r = clear-reads Dte c 0 true ch r
+in_collision-reads Dte c ch (Interrupt octets) r = clear-reads Dte c 0 true ch r
+in_collision-reads Dte c ch InterruptConfirmation r = clear-reads Dte c 0 true ch r
+in_collision-reads Dte c ch (ReceiveReady receive) r = clear-reads Dte c 0 true ch r
+in_collision-reads Dte c ch (ReceiveNotReady receive) r = clear-reads Dte c 0 true ch r
+in_collision-reads Dte c ch (Reset cause diagnostic) r = clear-reads Dte c 0 true ch r
+in_collision-reads Dte c ch ResetConfirmation r = clear-reads Dte c 0 true ch r
+in_collision-reads Dte c ch (Restart cause diagnostic) r = clear-reads Dte c 0 true ch r
+in_collision-reads Dte c ch RestartConfirmation r = clear-reads Dte c 0 true ch r
+in_collision-reads Dce c ch Accepted r = clear-reads Dce c 0 true ch r
+in_collision-reads Dce c ch (Clear cause diagnostic) r = far_cleared-reads c cause diagnostic ch r
+in_collision-reads Dce c ch (Call parts) r = clear-reads Dce c 0 true ch r
+in_collision-reads Dce c ch ClearConfirmation r = clear-reads Dce c 0 true ch r
+in_collision-reads Dce c ch (Data send receive d) r = clear-reads Dce c 0 true ch r
+in_collision-reads Dce c ch (Interrupt octets) r = clear-reads Dce c 0 true ch r
+in_collision-reads Dce c ch InterruptConfirmation r = clear-reads Dce c 0 true ch r
+in_collision-reads Dce c ch (ReceiveReady receive) r = clear-reads Dce c 0 true ch r
+in_collision-reads Dce c ch (ReceiveNotReady receive) r = clear-reads Dce c 0 true ch r
+in_collision-reads Dce c ch (Reset cause diagnostic) r = clear-reads Dce c 0 true ch r
+in_collision-reads Dce c ch ResetConfirmation r = clear-reads Dce c 0 true ch r
+in_collision-reads Dce c ch (Restart cause diagnostic) r = clear-reads Dce c 0 true ch r
+in_collision-reads Dce c ch RestartConfirmation r = clear-reads Dce c 0 true ch r
+
+in_own_clear-reads : (ch : Channel) (b : Body) → ChannelReads ch → StepReads (in_own_clear ch b)
+in_own_clear-reads ch (Clear cause diagnostic) r = (r, tt)
+in_own_clear-reads ch ClearConfirmation r = (r, tt)
+in_own_clear-reads ch (Call parts) r = (r, tt)
+in_own_clear-reads ch Accepted r = (r, tt)
+in_own_clear-reads ch (Data send receive d) r = (r, tt)
+in_own_clear-reads ch (Interrupt octets) r = (r, tt)
+in_own_clear-reads ch InterruptConfirmation r = (r, tt)
+in_own_clear-reads ch (ReceiveReady receive) r = (r, tt)
+in_own_clear-reads ch (ReceiveNotReady receive) r = (r, tt)
+in_own_clear-reads ch (Reset cause diagnostic) r = (r, tt)
+in_own_clear-reads ch ResetConfirmation r = (r, tt)
+in_own_clear-reads ch (Restart cause diagnostic) r = (r, tt)
+in_own_clear-reads ch RestartConfirmation r = (r, tt)
+
+received_in-reads : (s : CallState) (role : Role) (window c : ℕ) (ch : Channel) (b : Body) → ChannelReads ch →
+    StepReads (received_in s role window c ch b)
+received_in-reads Ready role window c ch b r = in_ready-reads role c ch b r
+received_in-reads OwnWaiting role window c ch b r = in_own_waiting-reads role c ch b r
+received_in-reads FarWaiting role window c ch b r = in_far_waiting-reads role c ch b r
+received_in-reads Transfer role window c ch b r =
+    cond_by StepReads ch.resetting (in_own_reset role c ch b) (in_flow_ready role window c ch b)
+    (λ _. in_own_reset-reads role c ch b r) (λ _. in_flow_ready-reads role window c ch b r)
+received_in-reads Collision role window c ch b r = in_collision-reads role c ch b r
+received_in-reads OwnClear role window c ch b r = in_own_clear-reads ch b r
+
+unreadable_in-reads : (s : CallState) (role : Role) (c : ℕ) (unknown : Bool) (ch : Channel) → ChannelReads ch →
+    StepReads (unreadable_in s role c unknown ch)
+unreadable_in-reads Ready role c unknown ch r = clear-reads role c 0 false ch r
+unreadable_in-reads OwnClear role c unknown ch r = (r, tt)
+unreadable_in-reads Transfer role c unknown ch r =
+    cond_by StepReads ch.resetting (clear_error role c (cond unknown 23 0) true ch) (reset_error role c (cond unknown 27 0) ch)
+    (λ _. clear-reads role c 0 true ch r) (λ _. reset-reads role c 0 ch r)
+unreadable_in-reads OwnWaiting role c unknown ch r = clear-reads role c 0 true ch r
+unreadable_in-reads FarWaiting role c unknown ch r = clear-reads role c 0 true ch r
+unreadable_in-reads Collision role c unknown ch r = clear-reads role c 0 true ch r
+
+-- ---- what the user asks of a channel
+
+modulo-8 : (n : ℕ) → n % 8 < 8
+modulo-8 n = omega arith
+
+released-reads : (n : ℕ) (t : Traffic) → TrafficReads t → TrafficReads (cond (may_release n t) (releasing n t) t)
+released-reads n t r =
+    cond_by TrafficReads (may_release n t) (releasing n t) t
+    (λ _. record { waiting_fits = r.waiting_fits; send_fits = r.send_fits; released_fits = modulo-8 (t.released + n); interrupt_fits = r.interrupt_fits })
+    (λ _. r)
+
+taken-reads : (o : Option (List ℕ)) (ds : List Datum) (t : Traffic) → TrafficReads t → TrafficReads (taking_of o ds t)
+taken-reads (Some octets) ds t r = r
+taken-reads None [] t r = r
+taken-reads None (d ∷ ds) t r = r
+
+-- a request that is not refused is short enough
+passes : (b : Bool) (x : Refusal) (o : Option Refusal) → refused_if b x o ≡ None → (b ≡ false) × (o ≡ None)
+passes true x o e = absurd (cc)
+passes false x o e = (refl, e)
+
+not-less : (m n : ℕ) → nat_lt m n ≡ false → n ≤ m
+not-less m n e = grind arith
+
+or-false : (a b : Bool) → a || b ≡ false → (a ≡ false) × (b ≡ false)
+or-false true b e = absurd (cc)
+or-false false b e = (refl, e)
+
+not-empty : (n : ℕ) → (n == 0) ≡ false → 1 ≤ n
+not-empty zero e = absurd (cc)
+not-empty (suc n) e = omega arith
+
+carried_out-reads : (role : Role) (ch : Channel) (r : Request) → refusal role ch r ≡ None → ChannelReads ch → StepReads (carried_out ch r)
+carried_out-reads role ch Accept e p = (p, λ channel is. is)
+carried_out-reads role ch (Clearing cause diagnostic) e p = ((p.0, fresh-reads), λ channel is. is)
+carried_out-reads role ch (Resetting cause diagnostic) e p = ((p.0, fresh-reads), λ channel is. is)
+carried_out-reads role ch (Sending d) e p =
+    let in_call = passes (not (in_transfer ch.state)) Refusal.NoCall _ e in
+    let not_resetting = passes ch.resetting Refusal.IsResetting _ in_call.1 in
+    let room = passes (nat_le 8 (length ch.traffic.waiting)) Refusal.QueueFull _ not_resetting.1 in
+    let short = passes (nat_lt 128 (length d.octets)) Refusal.TooLong _ room.1 in (
+      (
+        p.0,
+        record {
+          waiting_fits = every-append IsShortDatum ch.traffic.waiting d p.1.waiting_fits (not-less 128 (length d.octets) short.0);
+          send_fits = p.1.send_fits;
+          released_fits = p.1.released_fits;
+          interrupt_fits = p.1.interrupt_fits;
+        },
+      ),
+      tt,
+    )
+carried_out-reads role ch (Interrupting octets) e p =
+    let in_call = passes (not (in_transfer ch.state)) Refusal.NoCall _ e in
+    let not_resetting = passes ch.resetting Refusal.IsResetting _ in_call.1 in
+    let fits = passes ((length octets == 0) || nat_lt 32 (length octets)) Refusal.TooLong _ not_resetting.1 in
+    let both = or-false (length octets == 0) (nat_lt 32 (length octets)) fits.0 in (
+      (
+        p.0,
+        record {
+          waiting_fits = p.1.waiting_fits;
+          send_fits = p.1.send_fits;
+          released_fits = p.1.released_fits;
+          interrupt_fits = (not-empty (length octets) both.0, not-less 32 (length octets) both.1);
+        },
+      ),
+      tt,
+    )
+carried_out-reads role ch (Stopping b) e p = (p, tt)
+carried_out-reads role ch Taking e p = ((p.0, taken-reads ch.traffic.interrupt_arrived ch.traffic.arrived ch.traffic p.1), tt)
+carried_out-reads role ch (Releasing n) e p = ((p.0, released-reads n ch.traffic p.1), tt)
+carried_out-reads role ch Confirming e p =
+    ((p.0, cond_by TrafficReads ch.traffic.interrupt_taken (confirming ch.traffic) ch.traffic (λ _. p.1) (λ _. p.1)), tt)
+
+requested-reads : (role : Role) (ch : Channel) (r : Request) → ChannelReads ch → StepReads (requested role ch r)
+requested-reads role ch r p = by_refusal (refusal role ch r) refl
+  where
+    by_refusal : (o : Option Refusal) → refusal role ch r ≡ o → StepReads (unless o (carried_out ch r) ch)
+    by_refusal None e = carried_out-reads role ch r e p
+    by_refusal (Some x) e = (p, tt)
+
+-- ---- a step of one channel of a layer
+
+with_nth-reads : (chs : List Channel) (c : ℕ) (ch : Channel) → Every ChannelReads chs → ChannelReads ch → Every ChannelReads (with_nth chs c ch)
+with_nth-reads chs zero ch all p = all
+with_nth-reads chs (suc i) ch all p = every-set ChannelReads chs i ch all p
+
+with_nth-length : (chs : List Channel) (c : ℕ) (ch : Channel) → length (with_nth chs c ch) ≡ length chs
+with_nth-length chs zero ch = refl
+with_nth-length chs (suc i) ch = length-set chs i ch
+
+nth-reads : (chs : List Channel) (c : ℕ) (ch : Channel) → Every ChannelReads chs → nth_channel chs c ≡ Some ch → ChannelReads ch
+nth-reads chs zero ch all e = absurd (cc)
+nth-reads chs (suc i) ch all e = every-at ChannelReads chs i ch all e
+
+with_channel : (chs : List Channel) (owed : List Body) (c : ℕ) (ch : Channel) → AllRead chs owed → ChannelReads ch → AllRead (with_nth chs c ch) owed
+with_channel chs owed c ch r p = record {
+  few = let few = r.few in let same = with_nth-length chs c ch in omega arith;
+  channels_read = with_nth-reads chs c ch r.channels_read p;
+  owed_read = r.owed_read;
+}
+
+found-reads : (l : Layer) (c : ℕ) (f : Channel → Step) → ((ch : Channel) → ChannelReads ch → StepReads (f ch)) → IsReadable l →
+    (o : Option Channel) → channel_of l c ≡ o → IsReadable (on_found l c f o)
+found-reads l c f go r None e = r
+found-reads l c f go r (Some ch) e =
+    let st = go ch (nth-reads l.channels c ch r.channels_read e) in
+    with_channel l.channels l.owed c (owing (f ch)) r (every-owed FitsChannels (f ch).channel.owed (f ch).owes st.0.0 st.1, st.0.1)
+
+on_channel-reads : (phase : Phase) (l : Layer) (c : ℕ) (f : Channel → Step) → ((ch : Channel) → ChannelReads ch → StepReads (f ch)) → IsReadable l →
+    IsReadable (on_channel phase l c f)
+on_channel-reads PacketReady l c f go r = found-reads l c f go r (channel_of l c) refl
+on_channel-reads NoSession l c f go r = r
+on_channel-reads OwnRestart l c f go r = r
+
+-- ---- restarts
+
+closed : (chs : List Channel) (owed : List Body) → AllRead chs owed → AllRead (map (λ ch. closed_channel) chs) owed
+closed chs owed r = record {
+  few = let few = r.few in let same = length-map chs (λ (ch : Channel). closed_channel) in omega arith;
+  channels_read = closed-all chs;
+  owed_read = r.owed_read;
+}
+
+owes-reads : (chs : List Channel) (owed : List Body) (b : Body) → FitsRestarts b → AllRead chs owed → AllRead chs (with_owed owed (Some b))
+owes-reads chs owed b fits r = record {
+  few = r.few;
+  channels_read = r.channels_read;
+  owed_read = every-owed FitsRestarts owed (Some b) r.owed_read fits;
+}
+
+without_owed : (chs : List Channel) (owed : List Body) → AllRead chs owed → AllRead chs []
+without_owed chs owed r = record { few = r.few; channels_read = r.channels_read; owed_read = tt }
+
+restart-reads : (phase : Phase) (b : Body) (l : Layer) → IsReadable l → IsReadable (restart_packet phase b l)
+restart-reads PacketReady (Restart cause diagnostic) l r = owes-reads _ l.owed RestartConfirmation refl (closed l.channels l.owed r)
+restart-reads PacketReady RestartConfirmation l r = owes-reads _ l.owed (Restart _ 17) refl (closed l.channels l.owed r)
+restart-reads PacketReady (Call parts) l r = r
+restart-reads PacketReady Accepted l r = r
+restart-reads PacketReady (Clear cause diagnostic) l r = r
+restart-reads PacketReady ClearConfirmation l r = r
+restart-reads PacketReady (Data send receive d) l r = r
+restart-reads PacketReady (Interrupt octets) l r = r
+restart-reads PacketReady InterruptConfirmation l r = r
+restart-reads PacketReady (ReceiveReady receive) l r = r
+restart-reads PacketReady (ReceiveNotReady receive) l r = r
+restart-reads PacketReady (Reset cause diagnostic) l r = r
+restart-reads PacketReady ResetConfirmation l r = r
+restart-reads OwnRestart (Restart cause diagnostic) l r = r
+restart-reads OwnRestart RestartConfirmation l r = r
+restart-reads OwnRestart (Call parts) l r = r
+restart-reads OwnRestart Accepted l r = r
+restart-reads OwnRestart (Clear cause diagnostic) l r = r
+restart-reads OwnRestart ClearConfirmation l r = r
+restart-reads OwnRestart (Data send receive d) l r = r
+restart-reads OwnRestart (Interrupt octets) l r = r
+restart-reads OwnRestart InterruptConfirmation l r = r
+restart-reads OwnRestart (ReceiveReady receive) l r = r
+restart-reads OwnRestart (ReceiveNotReady receive) l r = r
+restart-reads OwnRestart (Reset cause diagnostic) l r = r
+restart-reads OwnRestart ResetConfirmation l r = r
+restart-reads NoSession (Restart cause diagnostic) l r = r
+restart-reads NoSession RestartConfirmation l r = r
+restart-reads NoSession (Call parts) l r = r
+restart-reads NoSession Accepted l r = r
+restart-reads NoSession (Clear cause diagnostic) l r = r
+restart-reads NoSession ClearConfirmation l r = r
+restart-reads NoSession (Data send receive d) l r = r
+restart-reads NoSession (Interrupt octets) l r = r
+restart-reads NoSession InterruptConfirmation l r = r
+restart-reads NoSession (ReceiveReady receive) l r = r
+restart-reads NoSession (ReceiveNotReady receive) l r = r
+restart-reads NoSession (Reset cause diagnostic) l r = r
+restart-reads NoSession ResetConfirmation l r = r
+
+-- ---- a layer as it is made, and what each call makes of it
+
+standing-reads : (standing : Bool) (chs : List Channel) → Every ChannelReads chs → Every ChannelReads (standing_channels standing chs)
+standing-reads true [] all = tt
+standing-reads true (ch ∷ chs) all = all
+standing-reads false chs all = all
+
+standing-length : (standing : Bool) (chs : List Channel) → length (standing_channels standing chs) ≡ length chs
+standing-length true [] = refl
+standing-length true (ch ∷ chs) = refl
+standing-length false chs = refl
+
+new-reads : (n : ℕ) → Every ChannelReads (replicate n closed_channel)
+new-reads zero = tt
+new-reads (suc n) = (closed-reads, new-reads n)
+
+pub readable_made : (role : Role) (channels window : ℕ) (standing : Bool) → channels ≤ 32 → IsReadable (made role channels window standing)
+readable_made role channels window standing few = record {
+  few = let same = standing-length standing (replicate channels closed_channel) in let many = length-replicate channels closed_channel in omega arith;
+  channels_read = standing-reads standing (replicate channels closed_channel) (new-reads channels);
+  owed_read = tt;
+}
+
+pub readable_unread : (l : Layer) → IsReadable l → IsReadable (unread l)
+readable_unread l r = r
+
+pub readable_link_up : (l : Layer) → IsReadable l → IsReadable (link_up l)
+readable_link_up l r = owes-reads _ [] (Restart _ 0) refl (without_owed _ l.owed (closed l.channels l.owed r))
+
+pub readable_link_down : (l : Layer) → IsReadable l → IsReadable (link_down l)
+readable_link_down l r = without_owed _ l.owed (closed l.channels l.owed r)
+
+-- whatever is received, also octets that were not read
+pub readable_received : (l : Layer) (r : Received) → IsReadable l → IsReadable (on_received l r)
+readable_received l (Received.Whole p) i =
+    cond_by IsReadable (p.channel == 0) (restart_packet l.phase p.body l)
+    (on_channel l.phase l p.channel (λ ch. received l.role l.window p.channel ch p.body))
+    (λ _. restart-reads l.phase p.body l i)
+    (λ _. on_channel-reads l.phase l p.channel (λ ch. received l.role l.window p.channel ch p.body)
+    (λ ch s. received_in-reads ch.state l.role l.window p.channel ch p.body s) i)
+readable_received l (Received.Unknown c) i =
+    on_channel-reads l.phase l c (λ ch. unreadable l.role c true ch) (λ ch s. unreadable_in-reads ch.state l.role c true ch s) i
+readable_received l (Received.Faulty c) i =
+    on_channel-reads l.phase l c (λ ch. unreadable l.role c false ch) (λ ch s. unreadable_in-reads ch.state l.role c false ch s) i
+
+pub readable_on_packet : (l : Layer) (r : Received) → IsReadable l → IsReadable (on_packet l r)
+readable_on_packet l r i = readable_received (unread l) r i
+
+pub readable_on_octets : (l : Layer) (octets : List ℕ) → IsReadable l → IsReadable (on_octets l octets)
+readable_on_octets l octets i = after (heard octets)
+  where
+    after : (o : Option Received) → IsReadable (after_hearing (unread l) o)
+    after None = i
+    after (Some r) = readable_received (unread l) r i
+
+expired-reads : (l : Layer) (t : Timer) → IsReadable l → IsReadable (expired l t)
+expired-reads l RestartTimer r = r
+expired-reads l (CallTimer c) r = found-reads l c (λ ch. clear_error l.role c 0 true ch) (λ ch s. clear-reads l.role c 0 true ch s) r (channel_of l c) refl
+expired-reads l (ResetTimer c) r = found-reads l c (λ ch. clear_error l.role c 0 true ch) (λ ch s. clear-reads l.role c 0 true ch s) r (channel_of l c) refl
+expired-reads l (ClearTimer c) r = owes-reads _ l.owed (Restart _ 0) refl (closed l.channels l.owed r)
+
+pub readable_on_timer : (l : Layer) (t : Timer) → IsReadable l → IsReadable (on_timer l t)
+readable_on_timer l t r = cond_by IsReadable (runs l t) (expired (unread l) t) l (λ _. expired-reads (unread l) t r) (λ _. r)
+
+pub readable_call : (l : Layer) (parts : CallParts) → CanBePlaced parts → IsReadable l → IsReadable (call l parts)
+readable_call l parts fits r = given (channel_given l l.phase)
+  where
+    given : (o : Option ℕ) → IsReadable (placed_on l parts o)
+    given None = r
+    given (Some c) = found-reads l c (λ ch. placing parts ch) (λ ch s. (s, λ channel is. (is, fits))) r (channel_of l c) refl
+
+-- a refused request changes nothing, and the others fit
+pub readable_request : (l : Layer) (c : ℕ) (r : Request) → IsReadable l → IsReadable (request l c r)
+readable_request l c r i = found-reads l c (λ ch. requested l.role ch r) (λ ch s. requested-reads l.role ch r s) i (channel_of l c) refl
+
+-- ---- what goes to the link
+
+abbrev SaidReads : Said → Type 0
+SaidReads s = TrafficReads s.traffic × IfAny FitsChannels s.body
+
+ready-reads : (b : Bool) (n : ℕ) → n < 8 → FitsChannels (ready_or_not b n)
+ready-reads true n le = λ channel is. (is, le)
+ready-reads false n le = λ channel is. (is, le)
+
+flow-reads : (t : Traffic) → TrafficReads t → SaidReads (says_flow t)
+flow-reads t r = cond_by SaidReads (flow_told t) _ _ (λ _. (r, tt)) (λ _. (r, ready-reads t.stopped t.released r.released_fits))
+
+data-reads : (window : ℕ) (ds : List Datum) (t : Traffic) → Every IsShortDatum ds → TrafficReads t → SaidReads (says_data window ds t)
+data-reads window [] t all r = flow-reads t r
+data-reads window (d ∷ ds) t all r =
+    cond_by SaidReads (window_open window t) _ (says_flow t)
+    (λ _. (
+      record { waiting_fits = all.1; send_fits = modulo-8 (t.send_number + 1); released_fits = r.released_fits; interrupt_fits = r.interrupt_fits },
+      λ channel is. (is, record { send = r.send_fits; receive = r.released_fits; short = all.0 }),
+    ))
+    (λ _. flow-reads t r)
+
+interrupt-reads : (window : ℕ) (o : Option (List ℕ)) (t : Traffic) → IfAny IsInterrupt o → TrafficReads t → SaidReads (says_interrupt window o t)
+interrupt-reads window (Some octets) t fits r = (
+  record { waiting_fits = r.waiting_fits; send_fits = r.send_fits; released_fits = r.released_fits; interrupt_fits = tt },
+  λ channel is. (is, fits),
+)
+interrupt-reads window None t fits r = data-reads window t.waiting t r.waiting_fits r
+
+says-reads : (window : ℕ) (t : Traffic) → TrafficReads t → SaidReads (says window t)
+says-reads window t r =
+    cond_by SaidReads t.confirmation_due _ (says_interrupt window t.interrupt_waiting t) (λ _. (r, λ channel is. is))
+    (λ _. interrupt-reads window t.interrupt_waiting t r.interrupt_fits r)
+
+abbrev NextReads : ChannelNext → Type 0
+NextReads n = ChannelReads n.channel × IfAny FitsChannels n.body
+
+next-reads : (window : ℕ) (owed : List Body) (ch : Channel) → Every FitsChannels owed → ch.owed ≡ owed → ChannelReads ch → NextReads (next_owed window owed ch)
+next-reads window (b ∷ bs) ch all e r = ((all.1, r.1), all.0)
+next-reads window [] ch all e r =
+    let said = says-reads window ch.traffic r.1 in
+    cond_by NextReads (has_flow ch) _ _ (λ _. ((r.0, said.0), said.1)) (λ _. (r, tt))
+
+abbrev Goes : Packet → Type 0
+Goes p = IsPacket (value_of p)
+
+abbrev GivesReadable : Next → Type 0
+GivesReadable n = IsReadable n.layer × IfAny Goes n.packet
+
+logical : (chs : List Channel) (c : ℕ) (ch : Channel) → length chs ≤ 32 → nth_channel chs c ≡ Some ch → IsLogicalChannel c
+logical chs zero ch few e = absurd (cc)
+logical chs (suc i) ch few e = let within = slice_get_within chs i ch e in (omega arith, omega arith)
+
+served-reads : (l : Layer) (c : ℕ) (n : ChannelNext) (others : Next) → IsLogicalChannel c → IsReadable l → NextReads n → GivesReadable others →
+    GivesReadable (served l c n others)
+served-reads l c n others is r reads rest = by_body n.body n.channel reads.0 reads.1
+  where
+    by_body : (o : Option Body) (ch : Channel) → ChannelReads ch → IfAny FitsChannels o → GivesReadable (served l c (record { channel = ch; body = o }) others)
+    by_body None ch p fits = rest
+    by_body (Some b) ch p fits = (with_channel l.channels l.owed c ch r p, fits c is)
+
+found-gives : (l : Layer) (c : ℕ) (others : Next) (o : Option Channel) → channel_of l c ≡ o → IsReadable l → GivesReadable others →
+    GivesReadable (serve_found l c o others)
+found-gives l c others None e r rest = rest
+found-gives l c others (Some ch) e r rest =
+    let reads = nth-reads l.channels c ch r.channels_read e in
+    served-reads l c (next_of l.window ch) others (logical l.channels c ch r.few e) r (next-reads l.window ch.owed ch reads.0 refl reads) rest
+
+serve-gives : (k : ℕ) (l : Layer) (c : ℕ) → IsReadable l → GivesReadable (serve k l c)
+serve-gives zero l c r = (r, tt)
+serve-gives (suc k) l c r = found-gives l c (serve k l (next_number l c)) (channel_of l c) refl r (serve-gives k l (next_number l c) r)
+
+restart-gives : (owed : List Body) (l : Layer) → l.owed ≡ owed → IsReadable l → GivesReadable (next_restart owed l)
+restart-gives [] l e r = serve-gives (length l.channels) l (next_number l l.served_last) r
+restart-gives (b ∷ bs) l e r =
+    let all : Every FitsRestarts (b ∷ bs) = subst (λ (owed : List Body). Every FitsRestarts owed) e r.owed_read in
+    (record { few = r.few; channels_read = r.channels_read; owed_read = all.1 }, all.0)
+
+in-gives : (phase : Phase) (relink : Bool) (l : Layer) → IsReadable l → GivesReadable (next_in phase relink l)
+in-gives NoSession relink l r = (r, tt)
+in-gives OwnRestart true l r = (r, tt)
+in-gives PacketReady true l r = (r, tt)
+in-gives OwnRestart false l r = restart-gives l.owed l refl r
+in-gives PacketReady false l r = restart-gives l.owed l refl r
+
+pub readable_next : (l : Layer) → IsReadable l → IsReadable (next_packet l).layer
+readable_next l r = (in-gives l.phase l.relink l r).0
+
+pub next_goes : (l : Layer) → IsReadable l → (p : Packet) → (next_packet l).packet ≡ Some p → IsPacket (value_of p)
+next_goes l r p e = subst (IfAny Goes) e (in-gives l.phase l.relink l r).1
+
+-- ---- its octets
+
+spelling-short : (p : Packet) → IsPacket (value_of p) → length (spelling (value_of p)) ≤ 145
+spelling-short p is = short p.body is
+  where
+    short : (b : Body) → IsContentOn p.channel (content_of b) → length (spelling (record { channel = p.channel; content = content_of b })) ≤ 145
+    short (Call parts) fits =
+        let c = fits.1 in
+        let called = c.called.1 in
+        let calling = c.calling.0 in
+        let facilities = c.facilities in
+        let user = c.user_data in
+        let digits = length-packed 0 (parts.called ++ parts.calling) in
+        let both = length-append parts.called parts.calling in
+        let tail = length-append parts.facilities parts.user_part in
+        let block = length-append (packed 0 (parts.called ++ parts.calling)) (length parts.facilities ∷ (parts.facilities ++ parts.user_part)) in
+        omega arith
+    short Accepted fits = omega arith
+    short (Clear cause diagnostic) fits = omega arith
+    short ClearConfirmation fits = omega arith
+    short (Data send receive d) fits = let few = fits.1.short in omega arith
+    short (Interrupt octets) fits = let few = fits.1.1 in omega arith
+    short InterruptConfirmation fits = omega arith
+    short (ReceiveReady receive) fits = omega arith
+    short (ReceiveNotReady receive) fits = omega arith
+    short (Reset cause diagnostic) fits = omega arith
+    short ResetConfirmation fits = omega arith
+    short (Restart cause diagnostic) fits = omega arith
+    short RestartConfirmation fits = omega arith
+
+-- what a layer gives is heard as it was given, and a link takes it
+pub next_heard : (l : Layer) → IsReadable l → (p : Packet) → (next_packet l).packet ≡ Some p →
+    heard (written_packet (Some p) []) ≡ Some (Received.Whole p)
+next_heard l r p e = heard_of_reading (Some p) (written_packet (Some p) []) (reading-spelling (value_of p) (next_goes l r p e))
+
+pub next_short : (l : Layer) → IsReadable l → (p : Packet) → (next_packet l).packet ≡ Some p → length (written_packet (Some p) []) ≤ 145
+next_short l r p e = spelling-short p (next_goes l r p e)
+
+-- octets of a packet are that packet
+pub octets_heard : (l : Layer) (octets : List ℕ) (p : Packet) → heard octets ≡ Some (Received.Whole p) → on_octets l octets ≡ on_packet l (Received.Whole p)
+octets_heard l octets p e = ap (λ o. after_hearing (unread l) o) e

@@ -1,0 +1,5 @@
+use Rattle.packet_laws.proofs.LineHolds.{line_holds}
+use Rattle.packet_laws.proofs.law.line_law.Goals as goal
+
+pub returns : goal.returns
+returns c = line_holds

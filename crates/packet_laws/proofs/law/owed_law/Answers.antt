@@ -1,0 +1,5 @@
+use Rattle.packet_laws.proofs.OwedHolds.{owed_holds}
+use Rattle.packet_laws.proofs.law.owed_law.Goals as goal
+
+pub returns : goal.returns
+returns c = owed_holds

@@ -1,0 +1,123 @@
+-- A line: two packet layers and, session by session, the packets that each end handed to the link and how many of them the
+-- other end accepted. The link keeps its promise: in a session an end accepts the next packet that the other end offered.
+use Rattle.std.specs.Prelude.{ℕ, zero, suc, ◌+◌, Bool, true, false, cond, not, ◌&&◌, ◌==◌, List, [], ◌∷◌, ◌++◌, slice_get, Option, Some, None}
+use Rattle.link_timers.specs.declared.role.Role.{Role}
+use Rattle.link_timers.specs.declared.role.Role.TheVariants.{Dte, Dce}
+use Rattle.packet_layer.specs.Packets.{CallParts, Packet}
+use Rattle.packet_layer.specs.Packets.Received.{Whole}
+use Rattle.packet_layer.specs.Channel.{Request}
+use Rattle.packet_layer.specs.Layer.{Layer, Timer, made, link_up, link_down, on_packet, on_timer, next_packet, call, channel_given, request}
+use Rattle.packet_laws.specs.History.{Story, new_story, placed, call_accepted, call_story, request_story, packet_story, timer_story}
+
+-- one end: its layer, the session in which its link is up, and by session what it handed to the link, how many of the other
+-- end's packets it accepted, and the stories of its channels
+pub record End : Type 0 where
+  pub layer : Layer
+  pub session : Option ℕ
+  pub offered : ℕ → List Packet
+  pub accepted : ℕ → ℕ
+  pub stories : ℕ → ℕ → Story
+
+pub record Line : Type 0 where
+  pub me : End
+  pub you : End
+
+abbrev pub turned : Line → Line
+turned w = record { me = w.you; you = w.me }
+
+-- a standing line is made with session 0 up
+abbrev pub start_session : Bool → Option ℕ
+start_session true = Some 0
+start_session false = None
+
+-- its standing call, on channel 1, counts as one that the DTE placed, with nothing in it, and the DCE accepted
+abbrev pub no_parts : CallParts
+no_parts = record { called = []; calling = []; facilities = []; user_part = [] }
+
+abbrev pub standing_story : Role → Story
+standing_story Dte = placed no_parts new_story
+standing_story Dce = call_accepted new_story
+
+abbrev pub start_story : Role → Bool → ℕ → ℕ → Story
+start_story role true zero (suc zero) = standing_story role
+start_story role standing s c = new_story
+
+abbrev pub start_end : Role → ℕ → ℕ → Bool → End
+start_end role channels window standing = record { layer = made role channels window standing; session = start_session standing; offered = λ s. []; accepted = λ s. 0; stories = λ s c. start_story role standing s c }
+
+abbrev pub start_line : ℕ → ℕ → Bool → Line
+start_line channels window standing = record { me = start_end Dte channels window standing; you = start_end Dce channels window standing }
+
+-- what happens at an end
+pub data Event : Type 0 where
+  -- the link notes a new session, or that it is down
+  Up : (session : ℕ) → Event
+  Down : Event
+  -- the user's calls, the expiry of a timer
+  Calls : CallParts → Event
+  Requests : (channel : ℕ) → Request → Event
+  Expires : Timer → Event
+  -- the next packet is handed to the link; the link accepted the other end's next packet of the session
+  Offers : Event
+  Arrives : Event
+
+abbrev pub is_session : Option ℕ → ℕ → Bool
+is_session None s = false
+is_session (Some now) s = s == now
+
+-- the stories of the present session go on
+abbrev pub told : (ℕ → Story → Story) → End → End
+told f e = record e { stories = λ s c. cond (is_session e.session s) (f c (e.stories s c)) (e.stories s c) }
+
+abbrev pub with_layer : Layer → End → End
+with_layer l e = record e { layer = l }
+
+-- when an end comes up in a session, neither end accepted anything in it before; what it offered in it is given up
+abbrev pub begun : ℕ → End → End
+begun s e = record e { layer = link_up e.layer; session = Some s; offered = λ k. cond (k == s) [] (e.offered k) }
+
+abbrev pub may_begin : ℕ → Line → Bool
+may_begin s w = not (s == 0) && ((w.me.accepted s == 0) && (w.you.accepted s == 0))
+
+abbrev pub handed_over : ℕ → Option Packet → (ℕ → List Packet) → ℕ → List Packet
+handed_over s None offered = offered
+handed_over s (Some p) offered = λ k. cond (k == s) (offered k ++ p ∷ []) (offered k)
+
+abbrev pub offers : Option ℕ → End → End
+offers None e = e
+offers (Some s) e = record e { layer = (next_packet e.layer).layer; offered = handed_over s (next_packet e.layer).packet e.offered }
+
+abbrev pub accepts : ℕ → Option Packet → End → End
+accepts s None e = e
+accepts s (Some p) e = record (told (λ c st. packet_story e.layer p c st) e) { layer = on_packet e.layer (Whole p); accepted = λ k. cond (k == s) (e.accepted k + 1) (e.accepted k) }
+
+abbrev pub next_of_session : Line → ℕ → Option Packet
+next_of_session w s = slice_get (w.you.offered s) (w.me.accepted s)
+
+abbrev pub arrives_in : Option ℕ → Line → Line
+arrives_in None w = w
+arrives_in (Some s) w = record w { me = accepts s (next_of_session w s) w.me }
+
+-- at `me`
+abbrev pub happens : Event → Line → Line
+happens (Up s) w = cond (may_begin s w) (record w { me = begun s w.me }) w
+happens Down w = record w { me = record w.me { layer = link_down w.me.layer; session = None } }
+happens (Calls parts) w =
+    record w { me = with_layer (call w.me.layer parts) (told (λ d st. call_story parts (channel_given w.me.layer w.me.layer.phase) d st) w.me) }
+happens (Requests c r) w = record w { me = with_layer (request w.me.layer c r) (told (λ d st. request_story w.me.layer c r d st) w.me) }
+happens (Expires t) w = record w { me = with_layer (on_timer w.me.layer t) (told (λ d st. timer_story w.me.layer t d st) w.me) }
+happens Offers w = record w { me = offers w.me.session w.me }
+happens Arrives w = arrives_in w.me.session w
+
+-- at which end it happens
+pub data Happening : Type 0 where
+  Here : Event → Happening
+  There : Event → Happening
+
+abbrev pub after_one : Happening → Line → Line
+after_one (Here e) w = happens e w
+after_one (There e) w = turned (happens e (turned w))
+
+abbrev pub after : List Happening → Line → Line
+after [] w = w
+after (h ∷ hs) w = after hs (after_one h w)

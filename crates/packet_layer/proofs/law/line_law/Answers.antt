@@ -1,5 +1,0 @@
-use Rattle.packet_layer.proofs.LineHolds.{line_holds}
-use Rattle.packet_layer.proofs.law.line_law.Goals as goal
-
-pub returns : goal.returns
-returns c = line_holds

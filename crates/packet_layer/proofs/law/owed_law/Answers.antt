@@ -1,5 +1,0 @@
-use Rattle.packet_layer.proofs.OwedHolds.{owed_holds}
-use Rattle.packet_layer.proofs.law.owed_law.Goals as goal
-
-pub returns : goal.returns
-returns c = owed_holds
