@@ -73,4 +73,11 @@ impl Layer {
     {
         self.relink
     }
+
+    /// Whether no packet is owed and nothing waits to be sent or taken, on any channel.
+    pub fn is_at_rest(&self) -> bool
+        ensures { result ≡ machine.at_rest self.now }
+    {
+        self.owed.is_empty() && self.channels.iter().all(|channel| channel.is_at_rest())
+    }
 }
