@@ -1,20 +1,35 @@
 //! The events of a network, and what answers them.
 use crate::line::Direction;
-use crate::packet::Taken;
+use arrayvec::ArrayVec;
 use frame_codec::FrameBuf;
+use line_nodes::{HostNote, KeyAnswer, NodeFault};
 use link_timers::TimerId;
+use packet_codec::Address;
+use packet_layer::Taken;
 use std::alloc::AllocError;
 use thiserror::Error;
 
 /// An event, which is handled whole before the next one. Nodes and lines go by their place in the network's configuration,
 /// counted from 0.
-#[derive(Clone, Copy, Debug, PartialEq, Eq)]
+#[derive(Debug, Drop)]
 pub enum Event {
     /// A key at a terminal of a PAD.
     Key {
         node: usize,
         terminal: u16,
         octet: u8,
+    },
+    /// A host calls an address, with at most 16 octets of user data (X.25 4.1.2).
+    Call {
+        node: usize,
+        address: Address,
+        user_data: ArrayVec<u8, 16>,
+    },
+    /// A host asks something of the call on a logical channel.
+    Ask {
+        node: usize,
+        channel: u16,
+        request: Request,
     },
     /// A host takes what waits on a logical channel.
     Take {
@@ -47,11 +62,31 @@ pub enum Event {
     },
 }
 
-/// Whether a PAD took a key, or dropped it since it would end a block and the send queue is full.
-#[derive(Clone, Copy, Debug, PartialEq, Eq)]
-pub enum KeyAnswer {
-    Taken,
-    Dropped,
+/// What a host asks of a call.
+#[derive(Debug, Drop)]
+pub enum Request {
+    /// The call that came in is accepted (X.25 4.1.5).
+    Answer,
+    /// The call that came in is cleared before it is accepted (X.25 4.1.7).
+    Refuse,
+    /// Octets go as one message, cut into packets: on Q and D see `packet_host::Host::say` (X.25 4.3).
+    Say {
+        octets: Vec<u8>,
+        qualified: bool,
+        delivery: bool,
+    },
+    /// An interrupt of 1 to 32 octets goes (X.25 4.3.7).
+    Interrupt {
+        octets: Vec<u8>,
+    },
+    /// The call is reset (X.25 4.4.3).
+    Reset,
+    /// The call is cleared (X.25 4.1.7).
+    Clear,
+    /// The far end is told to send no data (X.25 4.4.1.4).
+    Stop,
+    /// The far end may send data again (X.25 4.4.1.3).
+    Go,
 }
 
 /// What an event gave, besides frames.
@@ -61,6 +96,10 @@ pub enum Outcome {
     Delivered(bool),
     /// What a PAD did with a key.
     Keyed(KeyAnswer),
+    /// A host's call was placed on this logical channel.
+    Called {
+        channel: u8,
+    },
     /// What a host took, if anything waited.
     Took(Option<Taken>),
     /// Nothing besides frames and notes.
@@ -73,18 +112,6 @@ pub struct Put {
     pub line: usize,
     pub direction: Direction,
     pub octets: FrameBuf,
-}
-
-/// What a host notes of a call.
-#[derive(Clone, Copy, Debug, PartialEq, Eq)]
-pub enum HostNote {
-    /// The call is over, for this cause and diagnostic (X.25 5.2.4).
-    Cleared {
-        node: usize,
-        channel: u16,
-        cause: u8,
-        diagnostic: u8,
-    },
 }
 
 /// The answer to an event: each frame that was put, in order, what a host noted, and the outcome.
@@ -107,6 +134,9 @@ pub enum StepFault {
     /// The channel is 0 or beyond those of the line.
     #[error("no such call")]
     NoSuchCall,
+    /// The node refuses it, for this reason.
+    #[error("refused: {0}")]
+    Refused(NodeFault),
     /// No memory was left.
     #[error("out of memory")]
     OutOfMemory,
