@@ -1,33 +1,103 @@
--- When an event is refused (X.25 is silent: these are the network's own).
-use Rattle.std.specs.Prelude.{ℕ, ◌==◌, ◌&&◌, ◌||◌, not, Bool, Option, Some, None, nat_lt, if◌then◌else◌}
+-- When an event is refused (X.25 is silent: these are the network's own, or the node's).
+use Rattle.std.specs.Prelude.{◌≡◌, ℕ, ◌==◌, ◌&&◌, ◌||◌, not, Bool, Option, Some, None, nat_lt, if◌then◌else◌}
+use Rattle.link_timers.specs.declared.role.Role.{Role}
+use Rattle.link_timers.specs.declared.role.Role.TheVariants.{Dte, Dce}
+use Rattle.packet_layer.specs.Channel.{Refusal}
+use Rattle.packet_layer.specs.Channel.Request as ask
+use Rattle.packet_layer.specs.Layer.{call_refusal, request_refusal}
+use Rattle.packet_layer.specs.declared.fault.CallFault.{CallFault}
+use Rattle.packet_layer.specs.declared.fault.CallFault.TheVariants as call_fault
+use Rattle.packet_layer.specs.declared.fault.ChannelFault.{ChannelFault}
+use Rattle.packet_layer.specs.declared.fault.ChannelFault.TheVariants as channel_fault
+use Rattle.packet_end.specs.PacketEnd.{PacketEnd}
+use Rattle.packet_host.specs.Host.{refuse_refusal}
+use Rattle.packet_host.specs.Saying.{say_refusal}
+use Rattle.line_nodes.specs.Node.{NodeState, end_of, is_pad}
+use Rattle.line_nodes.specs.declared.fault.NodeFault.TheVariants as node_fault
 use Rattle.line_sim.specs.declared.event.Event.{Event}
-use Rattle.line_sim.specs.declared.event.Event.TheVariants.{Key, Take, Deliver, Lose, Expire, Relink, Restart}
+use Rattle.line_sim.specs.declared.event.Event.TheVariants.{Key, Call, Ask, Take, Deliver, Lose, Expire, Relink, Restart}
+use Rattle.line_sim.specs.declared.event.Request.{Request}
+use Rattle.line_sim.specs.declared.event.Request.TheVariants.{Answer, Refuse, Say, Interrupt, Reset, Clear, Stop, Go}
 use Rattle.line_sim.specs.declared.event.StepFault.{StepFault}
-use Rattle.line_sim.specs.declared.event.StepFault.TheVariants.{NoSuchNode, NoSuchTerminal, NoSuchCall}
-use Rattle.line_sim.specs.NodeState.{is_pad}
-use Rattle.line_sim.specs.NetState.{NetState}
+use Rattle.line_sim.specs.declared.event.StepFault.TheVariants.{NoSuchNode, NoSuchTerminal, NoSuchCall, Refused}
+use Rattle.line_sim.specs.NetState.{NetState, node_at}
 
--- the node of this place is the host at the DCE, or one at the DTE
-abbrev pub is_host_at : ℕ → NetState → Bool
-is_host_at node s = (node == s.dce_place) || (node == s.dte_place) && not (is_pad s.dte)
+-- ---- where an event is
+
+-- the end of the line that the node of this place has: there are no more than two
+abbrev pub role_of : ℕ → NetState → Role
+role_of node s = if node == s.dte_place then Dte else Dce
 
 -- the place has a node
 abbrev pub is_node : ℕ → NetState → Bool
 is_node node s = (node == s.dte_place) || (node == s.dce_place)
 
--- the first fault of an event, want of memory apart: no such node or line, or a node of another kind; no such terminal; a
--- channel that is 0 or beyond those of the line
+-- the node of this place is a host
+abbrev pub is_host_at : ℕ → NetState → Bool
+is_host_at node s = is_node node s && not (is_pad (node_at (role_of node s) s))
+
+-- the line has the channel
+abbrev pub is_channel : ℕ → NetState → Bool
+is_channel channel s = not (channel == 0) && not (nat_lt s.channels channel)
+
+-- ---- what the node refuses
+
+abbrev pub call_fault_of : Option Refusal → Option StepFault
+call_fault_of None = None
+call_fault_of (Some Refusal.NotReady) = Some (Refused (node_fault.Call call_fault.NotReady))
+call_fault_of (Some refusal) = Some (Refused (node_fault.Call call_fault.NoChannel))
+
+abbrev pub channel_fault_of : Option Refusal → Option StepFault
+channel_fault_of None = None
+channel_fault_of (Some Refusal.IsResetting) = Some (Refused (node_fault.Channel channel_fault.Resetting))
+channel_fault_of (Some Refusal.QueueFull) = Some (Refused (node_fault.Channel channel_fault.QueueFull))
+channel_fault_of (Some Refusal.TooLong) = Some (Refused (node_fault.Channel channel_fault.TooLong))
+channel_fault_of (Some Refusal.InterruptPending) = Some (Refused (node_fault.Channel channel_fault.InterruptPending))
+channel_fault_of (Some refusal) = Some (Refused (node_fault.Channel channel_fault.NoCall))
+
+-- what a host refuses of a request on a channel
+abbrev pub ask_refusal : PacketEnd → (channel : ℕ) → Request → Option Refusal
+ask_refusal e channel Answer = request_refusal e.layer channel ask.Accept
+ask_refusal e channel Refuse = refuse_refusal e channel
+ask_refusal e channel (Say octets qualified delivery) = say_refusal e.layer channel octets.items qualified
+ask_refusal e channel (Interrupt octets) = request_refusal e.layer channel (ask.Interrupting octets.items)
+ask_refusal e channel Reset = request_refusal e.layer channel (ask.Resetting 0 0)
+ask_refusal e channel Clear = request_refusal e.layer channel (ask.Clearing 0 0)
+ask_refusal e channel Stop = request_refusal e.layer channel (ask.Stopping true)
+ask_refusal e channel Go = request_refusal e.layer channel (ask.Stopping false)
+
+-- ---- the first fault of an event, want of memory apart
+
+-- at a host: no such node, or a PAD; else this
+abbrev pub at_host : ℕ → NetState → Option StepFault → Option StepFault
+at_host node s fault = if is_host_at node s then fault else Some NoSuchNode
+
+-- on a channel of the line
+abbrev pub on_channel : ℕ → NetState → Option StepFault → Option StepFault
+on_channel channel s fault = if is_channel channel s then fault else Some NoSuchCall
+
+-- at a node, or on the line
+abbrev pub where_there_is : Bool → Option StepFault
+where_there_is there = if there then None else Some NoSuchNode
+
 abbrev pub step_fault : Event → NetState → Option StepFault
 step_fault (Key node terminal octet) s =
     if (node == s.dte_place) && is_pad s.dte
     then (if nat_lt terminal s.terminals then None else Some NoSuchTerminal)
     else Some NoSuchNode
-step_fault (Take node channel) s =
-    if is_host_at node s
-    then (if (channel == 0) || nat_lt s.channels channel then Some NoSuchCall else None)
-    else Some NoSuchNode
-step_fault (Deliver line direction) s = if line == 0 then None else Some NoSuchNode
-step_fault (Lose line direction) s = if line == 0 then None else Some NoSuchNode
-step_fault (Expire node line timer) s = if is_node node s && (line == 0) then None else Some NoSuchNode
-step_fault (Relink line) s = if line == 0 then None else Some NoSuchNode
-step_fault (Restart node) s = if is_node node s then None else Some NoSuchNode
+step_fault (Call node address user_data) s =
+    let e = end_of (node_at (role_of node s) s) in at_host node s (call_fault_of (call_refusal e.layer e.layer.phase))
+step_fault (Ask node channel request) s =
+    at_host node s (on_channel channel s (channel_fault_of (ask_refusal (end_of (node_at (role_of node s) s)) channel request)))
+step_fault (Take node channel) s = at_host node s (on_channel channel s None)
+step_fault (Deliver line direction) s = where_there_is (line == 0)
+step_fault (Lose line direction) s = where_there_is (line == 0)
+step_fault (Expire node line timer) s = where_there_is (is_node node s && (line == 0))
+step_fault (Relink line) s = where_there_is (line == 0)
+step_fault (Restart node) s = where_there_is (is_node node s)
+
+-- memory may be wanting where the network itself has no fault: it is looked for before the node is asked
+abbrev pub MayWant : Option StepFault → Type 0
+MayWant None = Unit {0}
+MayWant (Some (Refused fault)) = Unit {0}
+MayWant (Some fault) = ⊥

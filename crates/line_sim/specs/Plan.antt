@@ -13,12 +13,13 @@ use Rattle.line_sim.specs.declared.config.LineConfig.{LineConfig}
 use Rattle.line_sim.specs.declared.config.RouteConfig.{RouteConfig}
 use Rattle.line_sim.specs.declared.config.Setting.{Setting}
 use Rattle.line_sim.specs.Lines.{Flights, no_flights}
-use Rattle.line_sim.specs.Records.{RecordValue, PairValue, standing_record, standing_pair}
 use Rattle.link_timers.specs.declared.role.Role.TheVariants.{Dte, Dce}
+use Rattle.packet_end.specs.declared.params.EndParams.{EndParams}
+use Rattle.packet_host.specs.Making as host
+use Rattle.packet_pad.specs.Making as pad
+use Rattle.call_records.specs.Book.{made_book}
+use Rattle.line_nodes.specs.Node.{NodeState, Pad, Host, frames_of, drained}
 use Rattle.line_sim.specs.declared.line.Direction.TheVariants.{FromDte, FromDce}
-use Rattle.line_sim.specs.PadState.{new_pad}
-use Rattle.line_sim.specs.HostState.{HostState, new_host, host_begins}
-use Rattle.line_sim.specs.NodeState.{NodeState, Pad, Host, frames_of, drained}
 use Rattle.line_sim.specs.Sends.{ArePut}
 use Rattle.line_sim.specs.NetState.{NetState}
 
@@ -27,17 +28,12 @@ pub data DtePlan : Type 0 where
   PadPlan : (terminals : ℕ) → (params : List ℕ) → DtePlan
   HostPlan : DtePlan
 
--- what a network is made with: the places of its nodes, the DTE, how many channels there are, the window size, the link's k and
--- n2, and whether the call stands
+-- what a network is made with: the places of its nodes, the DTE, and the parameters of the line, which both ends share
 pub record Plan : Type 0 where
   pub dte_place : ℕ
   pub dce_place : ℕ
   pub dte : DtePlan
-  pub channels : ℕ
-  pub window : ℕ
-  pub k : ℕ
-  pub n2 : ℕ
-  pub standing : Bool
+  pub line : EndParams
 
 abbrev pub is_from : ℕ → ℕ → ℕ → Bool
 is_from a b n = nat_le a n && nat_le n b
@@ -85,11 +81,7 @@ planned dte_place dce_place l dte = record {
   dte_place = dte_place;
   dce_place = dce_place;
   dte = dte;
-  channels = l.channels;
-  window = l.window;
-  k = l.k;
-  n2 = l.n2;
-  standing = l.standing;
+  line = record { k = l.k; n2 = l.n2; channels = l.channels; window = l.window; standing = l.standing };
 }
 
 abbrev pub plan_line : (dte_place dce_place : ℕ) → (dte dce : NodeKind) → LineConfig → Option Plan
@@ -118,22 +110,15 @@ terminals_of (PadPlan terminals params) = terminals
 terminals_of HostPlan = 0
 
 -- the nodes as they are made, with the frames that they have to send
-abbrev pub dte_of : DtePlan → (window k n2 : ℕ) → (standing : Bool) → NodeState
-dte_of (PadPlan terminals params) window k n2 standing = Pad (new_pad params window k n2 standing)
-dte_of HostPlan window k n2 standing = Host (new_host Dte window k n2 standing)
+abbrev pub dte_of : DtePlan → EndParams → NodeState
+dte_of (PadPlan terminals params) line = Pad (pad.made (record { line = line; params = params }))
+dte_of HostPlan line = Host (host.made (record { role = Dte; line = line }))
 
 abbrev pub new_dte : Plan → NodeState
-new_dte plan = dte_of plan.dte plan.window plan.k plan.n2 plan.standing
+new_dte plan = dte_of plan.dte plan.line
 
-abbrev pub new_dce : Plan → HostState
-new_dce plan = new_host Dce plan.window plan.k plan.n2 plan.standing
-
--- the records and the pair of a standing call
-abbrev pub first_records : Plan → List RecordValue
-first_records plan = if plan.standing then standing_record 0 plan.dte_place ∷ standing_record 1 plan.dce_place ∷ [] else []
-
-abbrev pub first_pairs : Plan → List PairValue
-first_pairs plan = if plan.standing then standing_pair ∷ [] else []
+abbrev pub new_dce : Plan → NodeState
+new_dce plan = Host (host.made (record { role = Dce; line = plan.line }))
 
 -- the network at the making, whose line is empty
 abbrev pub opening : Plan → NetState
@@ -141,24 +126,27 @@ opening plan = record {
   dte_place = plan.dte_place;
   dce_place = plan.dce_place;
   terminals = terminals_of plan.dte;
-  channels = plan.channels;
+  channels = plan.line.channels;
   dte = drained (new_dte plan);
-  dce = host_begins (new_dce plan);
+  dce = drained (new_dce plan);
   line = no_flights;
-  records = first_records plan;
-  pairs = first_pairs plan;
+  book = made_book plan.dte_place plan.dce_place plan.line.channels plan.line.standing;
 }
 
 -- the frames with which the ends begin are put on an empty line, first those of the DTE
 pub record IsBegun (plan : Plan) (line : Flights) : Type 0 where
   pub between : Flights
   pub dte : ArePut FromDte (frames_of (new_dte plan)) no_flights between
-  pub dce : ArePut FromDce (new_dce plan).line.frames between line
+  pub dce : ArePut FromDce (frames_of (new_dce plan)) between line
 
--- the network is one as it is made by this configuration
-pub record IsMade (F : Type 0) (config : Config) (net : NetState) : Type 0 where
-  pub plan : Plan
+-- the network is as it is made by a plan
+pub record IsMadeOf (F : Type 0) (plan : Plan) (net : NetState) : Type 0 where
   pub line : Flights
-  pub planned_so : plan_of config ≡ Some plan
   pub state : net ≡ record (opening plan) { line = line }
   pub begun : F → IsBegun plan line
+
+-- and by a configuration
+pub record IsMade (F : Type 0) (config : Config) (net : NetState) : Type 0 where
+  pub plan : Plan
+  pub planned_so : plan_of config ≡ Some plan
+  pub made : IsMadeOf F plan net

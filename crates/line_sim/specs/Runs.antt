@@ -1,8 +1,8 @@
 -- What an event does, refused or not, and what a list of events does.
-use Rattle.std.specs.Prelude.{◌≡◌, ◌≢◌, ℕ, List, [], ◌∷◌, take, slice_get, ◌⊎◌, Option, Some, None, Result, Ok, Err}
+use Rattle.std.specs.Prelude.{◌≡◌, ◌≢◌, ℕ, List, [], ◌∷◌, take, slice_get, ◌⊎◌, Option, Some, None, Result, Ok, Err, IsOkUnless}
 use Rattle.line_sim.specs.declared.event.Event.{Event}
 use Rattle.line_sim.specs.declared.event.StepFault.{StepFault}
-use Rattle.line_sim.specs.declared.event.StepFault.TheVariants.{OutOfMemory}
+use Rattle.line_sim.specs.declared.event.StepFault.TheVariants.{OutOfMemory, Refused}
 use Rattle.line_sim.specs.declared.event.Answer.{Answer}
 use Rattle.line_sim.specs.declared.config.Config.{Config}
 use Rattle.line_sim.specs.declared.event.MakeFault.TheVariants as make_fault
@@ -11,13 +11,21 @@ use Rattle.line_sim.specs.declared.event.RunFault.{RunFault}
 use Rattle.line_sim.specs.declared.event.RunFault.TheVariants.{Made, Stopped}
 use Rattle.line_sim.specs.Plan.{plan_of, IsMade}
 use Rattle.line_sim.specs.NetState.{NetState}
-use Rattle.line_sim.specs.Faults.{step_fault}
+use Rattle.line_sim.specs.Faults.{step_fault, MayWant}
 use Rattle.line_sim.specs.Steps.{StepOf}
 
--- the event is answered, or refused with its fault, or where it has none for want of memory; refused, it changes nothing
+-- the event is answered, or refused with its fault, or for want of memory where the network itself refuses it not; refused, it changes
+-- nothing
 abbrev pub Happens : (F : Type 0) → Event → NetState → Result Answer StepFault → NetState → Type 0
 Happens F e s (Ok answer) t = (step_fault e s ≡ None) × StepOf F e s answer t
-Happens F e s (Err fault) t = ((step_fault e s ≡ Some fault) ⊎ (step_fault e s ≡ None) × (fault ≡ OutOfMemory)) × (t ≡ s)
+Happens F e s (Err fault) t = ((step_fault e s ≡ Some fault) ⊎ MayWant (step_fault e s) × (fault ≡ OutOfMemory)) × (t ≡ s)
+
+-- an event with a fault of its own is refused with it, or, where only the node refuses it, for want of memory; one without is refused
+-- for want of memory alone
+abbrev pub IsRefusedSo : Option StepFault → Result Answer StepFault → Type 0
+IsRefusedSo None r = IsOkUnless r OutOfMemory
+IsRefusedSo (Some (Refused fault)) r = (r ≡ Err (Refused fault)) ⊎ (r ≡ Err OutOfMemory)
+IsRefusedSo (Some fault) r = r ≡ Err fault
 
 -- the event is answered, or refused with its fault, but not for want of memory
 abbrev pub Happened : (F : Type 0) → Event → NetState → Option StepFault → NetState → Type 0
@@ -35,13 +43,13 @@ pub record HasRun (config : Config) (events : List Event) (net : NetState) : Typ
   pub made : IsMade (Unit {0}) config start
   pub ran : Ran (Unit {0}) start events net
 
--- the events before this index happened, and that of this index, which has no fault of its own, found no memory
+-- the events before this index happened, and that of this index, which the network itself does not refuse, found no memory
 pub record HasStopped (config : Config) (events : List Event) (index : ℕ) : Type 0 where
   pub net : NetState
   pub event : Event
   pub before : HasRun config (take index events) net
   pub is_next : slice_get events index ≡ Some event
-  pub no_fault : step_fault event net ≡ None
+  pub may_want : MayWant (step_fault event net)
 
 -- why a run ends early: a configuration that is not served, or want of memory, at the making or at one of the events
 abbrev pub IsRunFault : Config → List Event → RunFault → Type 0

@@ -1,171 +1,183 @@
--- What an event without a fault does to nodes, line and records.
+-- What an event without a fault does to nodes, line and book.
 use Rattle.std.specs.Prelude.{◌≡◌, ℕ, ◌==◌, ◌&&◌, Bool, true, false, List, [], ◌∷◌, slice_get, Option, Some, None, is_some, MatchOption, MatchBool, if◌then◌else◌}
-use Rattle.epochs.specs.Item.{DataPacket}
-use Rattle.pad_editing.specs.Edited.{Step}
+use Rattle.link_timers.specs.declared.role.Role.{Role}
+use Rattle.link_timers.specs.declared.role.Role.TheVariants.{Dte, Dce}
+use Rattle.link_timers.specs.declared.timers.TimerId.{TimerId}
+use Rattle.packet_layer.specs.Packets.{Note}
+use Rattle.packet_layer.specs.Traffic.{Taken}
+use Rattle.packet_layer.specs.TakenView.{maybe_taken}
+use Rattle.packet_layer.specs.Layer.{channel_given, front_on}
+use Rattle.packet_layer.specs.Channel.Request as ask
+use Rattle.packet_end.specs.PacketEnd.{PacketEnd}
+use Rattle.packet_host.specs.Host.{call_parts}
+use Rattle.packet_pad.specs.Pad.{PadState}
+use Rattle.call_records.specs.Book.{Book}
+use Rattle.line_nodes.specs.Node.{NodeState, Pad, Host, end_of, frames_of}
+use Rattle.packet_pad.specs.Keys.{after_octet}
+use Rattle.line_nodes.specs.Turn.{Turn, unchanged}
+use Rattle.line_nodes.specs.HostTurns.{host_calls, host_asks, host_refuses, host_says, host_takes}
+use Rattle.line_nodes.specs.PadTurns.{pad_keys, key_answer}
+use Rattle.line_nodes.specs.LineTurns.{hears, expires, relinks, restarts}
+use Rattle.line_nodes.specs.Notes.{user_notes}
+use Rattle.line_nodes.specs.declared.note.HostNote.{HostNote}
+use Rattle.line_nodes.specs.declared.pad.KeyAnswer.{KeyAnswer}
+use Rattle.line_nodes.specs.declared.pad.KeyAnswer.TheVariants as key_is
+use Rattle.line_sim.specs.declared.event.Put.{Put}
 use Rattle.line_sim.specs.declared.line.Direction.{Direction}
 use Rattle.line_sim.specs.declared.line.Direction.TheVariants.{FromDte, FromDce}
 use Rattle.line_sim.specs.declared.event.Event.{Event}
-use Rattle.line_sim.specs.declared.event.Event.TheVariants.{Key, Take, Deliver, Lose, Expire, Relink, Restart}
-use Rattle.line_sim.specs.declared.event.KeyAnswer.{KeyAnswer}
-use Rattle.line_sim.specs.declared.event.KeyAnswer.TheVariants as key_answer
+use Rattle.line_sim.specs.declared.event.Event.TheVariants.{Key, Call, Ask, Take, Deliver, Lose, Expire, Relink, Restart}
+use Rattle.line_sim.specs.declared.event.Request.{Request}
+use Rattle.line_sim.specs.declared.event.Request.TheVariants.{Answer, Refuse, Say, Interrupt, Reset, Clear, Stop, Go}
 use Rattle.line_sim.specs.declared.event.Outcome.{Outcome}
-use Rattle.line_sim.specs.declared.event.Outcome.TheVariants.{Delivered, Keyed, Took, Done}
-use Rattle.line_sim.specs.declared.event.HostNote.{HostNote}
-use Rattle.line_sim.specs.declared.event.HostNote.TheVariants.{Cleared}
-use Rattle.line_sim.specs.declared.event.Answer.{Answer}
-use Rattle.line_sim.specs.declared.packet.Taken.{Taken}
-use Rattle.line_sim.specs.declared.packet.Taken.TheVariants.{Packet}
+use Rattle.line_sim.specs.declared.event.Outcome.TheVariants.{Delivered, Keyed, Called, Took, Done}
+use Rattle.line_sim.specs.declared.event.Answer as answer
 use Rattle.line_sim.specs.Lines.{Flights, no_flights, flying, without_first}
-use Rattle.line_sim.specs.Turn as turn
-use Rattle.line_sim.specs.Turn.{NodeCall, Turn}
-use Rattle.line_sim.specs.PadState.{KeyEffect, pad_begins, pad_key}
-use Rattle.line_sim.specs.HostState.{host_begins, host_call, host_takes, host_gives}
-use Rattle.line_sim.specs.NodeState.{NodeState, Pad, Host, node_call, frames_of, drained}
-use Rattle.line_sim.specs.Records.{RecordValue, with_step, with_sent, with_taken, with_turn, changed_at}
-use Rattle.line_sim.specs.NetState.{NetState}
+use Rattle.line_sim.specs.NetState.{NetState, node_at, place_at, with_turn}
+use Rattle.line_sim.specs.Faults.{role_of}
 use Rattle.line_sim.specs.Sends.{Sends}
 
--- the places of the two records of the standing call
-abbrev pub caller_place : ℕ
-caller_place = 0
+-- ---- a call of a node
 
-abbrev pub callee_place : ℕ
-callee_place = 1
+-- the end of this role sends in this direction
+abbrev pub direction_of : Role → Direction
+direction_of Dte = FromDte
+direction_of Dce = FromDce
 
--- a record with what a key made: the steps of editing, and the packets that were accepted to be sent
-abbrev pub with_steps : List Step → RecordValue → RecordValue
-with_steps [] r = r
-with_steps (step ∷ steps) r = with_steps steps (with_step step r)
+-- and hears what comes in the other one
+abbrev pub hearer : Direction → Role
+hearer FromDte = Dce
+hearer FromDce = Dte
 
-abbrev pub with_all_sent : List DataPacket → RecordValue → RecordValue
-with_all_sent [] r = r
-with_all_sent (packet ∷ packets) r = with_all_sent packets (with_sent packet r)
-
-abbrev pub with_key : KeyEffect → RecordValue → RecordValue
-with_key e r = with_all_sent e.sent (with_steps e.steps r)
-
--- a record with what was taken, if anything
-abbrev pub with_any_taken : Option DataPacket → RecordValue → RecordValue
-with_any_taken (Some packet) r = with_taken packet r
-with_any_taken None r = r
-
--- ---- calls of the nodes
+-- one event of the node at the end of a role, while this is in flight: all frames that it gives are put, in order, what it wrote is
+-- in the book, and a host's notes are told
+pub record NodeStep (F : Type 0) (role : Role) (turn : Turn) (line : Flights) (s : NetState) (frames : List Put) (notes : List HostNote) (t : NetState) : Type 0 where
+  pub sends : Sends F (direction_of role) (frames_of turn.node) line frames t.line
+  pub told : notes ≡ user_notes (node_at role s) (place_at role s) turn.notes
+  pub others : t ≡ with_turn role turn t.line s
 
 -- nothing happens, and this is answered
-pub record IdleStep (outcome : Outcome) (s : NetState) (answer : Answer) (t : NetState) : Type 0 where
-  pub frames : answer.frames.items ≡ []
-  pub notes : answer.notes.items ≡ []
-  pub answered : answer.outcome ≡ outcome
+pub record IdleStep (outcome : Outcome) (s : NetState) (a : answer.Answer) (t : NetState) : Type 0 where
+  pub frames : a.frames.items ≡ []
+  pub notes : a.notes.items ≡ []
+  pub answered : a.outcome ≡ outcome
   pub others : t ≡ s
 
-abbrev pub key_answer_of : (dropped : Bool) → KeyAnswer
-key_answer_of true = key_answer.Dropped
-key_answer_of false = key_answer.Taken
+-- ---- keys
 
--- a key at the terminal of the standing call: the PAD's call, and what it sends
-pub record KeyStep (F : Type 0) (e : KeyEffect) (s : NetState) (answer : Answer) (t : NetState) : Type 0 where
-  pub sends : Sends F FromDte e.node.line.frames s.line answer.frames.items t.line
-  pub notes : answer.notes.items ≡ []
-  pub answered : answer.outcome ≡ Keyed (key_answer_of e.dropped)
-  pub others : t ≡ record s { dte = Pad (pad_begins e.node); line = t.line; records = changed_at caller_place (with_key e) s.records }
+abbrev pub keys_turn : Role → NodeState → (octet : ℕ) → Book → Turn
+keys_turn role (Pad p) octet b = pad_keys role p octet b
+keys_turn role (Host e) octet b = unchanged (Host e) b
 
--- a key at a terminal without a call is taken and does nothing
-abbrev pub KeyOf : (F : Type 0) → (terminal octet : ℕ) → NodeState → NetState → Answer → NetState → Type 0
-KeyOf F terminal octet (Pad p) s answer t =
-    MatchBool ((terminal == 0) && p.stands) (KeyStep F (pad_key octet p) s answer t) (IdleStep (Keyed key_answer.Taken) s answer t)
-KeyOf F terminal octet (Host h) s answer t = ⊥
+-- what a PAD answers to a key
+abbrev pub IsKeyAnswer : (octet : ℕ) → NodeState → KeyAnswer → Type 0
+IsKeyAnswer octet (Pad p) k = k ≡ key_answer (after_octet p octet).dropped
+IsKeyAnswer octet (Host e) k = ⊥
 
-abbrev pub taken_of : Option DataPacket → Option Taken
-taken_of (Some packet) = Some (Packet packet)
-taken_of None = None
+pub record KeyStep (F : Type 0) (octet : ℕ) (s : NetState) (a : answer.Answer) (t : NetState) : Type 0 where
+  pub shown : KeyAnswer
+  pub does : NodeStep F Dte (keys_turn Dte s.dte octet s.book) s.line s a.frames.items a.notes.items t
+  pub is_answer : IsKeyAnswer octet s.dte shown
+  pub answered : a.outcome ≡ Keyed shown
 
--- the host takes what waits on the standing call, and sends what it has to send
-pub record TakeStep (F : Type 0) (s : NetState) (answer : Answer) (t : NetState) : Type 0 where
-  pub sends : Sends F FromDce (host_takes s.dce).line.frames s.line answer.frames.items t.line
-  pub notes : answer.notes.items ≡ []
-  pub answered : answer.outcome ≡ Took (taken_of (host_gives s.dce))
-  pub others : t ≡ record s { dce = host_begins (host_takes s.dce); line = t.line; records = changed_at callee_place (with_any_taken (host_gives s.dce)) s.records }
+-- the call is that of terminal 0: at another one a key is taken and does nothing
+abbrev pub KeyOf : (F : Type 0) → (terminal octet : ℕ) → NetState → answer.Answer → NetState → Type 0
+KeyOf F terminal octet s a t = MatchBool (terminal == 0) (KeyStep F octet s a t) (IdleStep (Keyed key_is.Taken) s a t)
 
--- without a call there is nothing to take
-abbrev pub TakeOf : (F : Type 0) → (node channel : ℕ) → NetState → Answer → NetState → Type 0
-TakeOf F node channel s answer t =
-    MatchBool ((node == s.dce_place) && (channel == 1) && s.dce.stands) (TakeStep F s answer t) (IdleStep (Took None) s answer t)
+-- ---- what a host is asked
 
--- a host notes that the standing call is over, unless it began anew itself
-abbrev pub is_noted : NodeCall → Bool
-is_noted turn.Restarts = false
-is_noted call = true
+-- what the request makes of the host and of the book
+abbrev pub asked_turn : Role → PacketEnd → (channel : ℕ) → Request → Book → Turn
+asked_turn role e channel Answer b = host_asks role e channel ask.Accept b
+asked_turn role e channel Refuse b = host_refuses role e channel b
+asked_turn role e channel (Say octets qualified delivery) b = host_says role e channel octets.items qualified delivery b
+asked_turn role e channel (Interrupt octets) b = host_asks role e channel (ask.Interrupting octets.items) b
+asked_turn role e channel Reset b = host_asks role e channel (ask.Resetting 0 0) b
+asked_turn role e channel Clear b = host_asks role e channel (ask.Clearing 0 0) b
+asked_turn role e channel Stop b = host_asks role e channel (ask.Stopping true) b
+asked_turn role e channel Go b = host_asks role e channel (ask.Stopping false) b
 
-abbrev pub notes_of : NodeCall → (node : ℕ) → (closes : Bool) → List HostNote
-notes_of call node closes = if is_noted call && closes then Cleared node 1 9 0 ∷ [] else []
+pub record CallStep (F : Type 0) (role : Role) (address user_data : List ℕ) (s : NetState) (a : answer.Answer) (t : NetState) : Type 0 where
+  pub channel : ℕ
+  pub given : let e = end_of (node_at role s) in channel_given e.layer e.layer.phase ≡ Some channel
+  pub does : NodeStep F role (host_calls role (end_of (node_at role s)) (call_parts address user_data) s.book) s.line s a.frames.items a.notes.items t
+  pub answered : a.outcome ≡ Called channel
 
--- a call of the node at the DTE, while this is in flight
-pub record DteStep (F : Type 0) (call : NodeCall) (line : Flights) (s : NetState) (answer : Answer) (t : NetState) : Type 0 where
-  pub sends : Sends F FromDte (frames_of (node_call call s.dte).node) line answer.frames.items t.line
-  pub notes : answer.notes.items ≡ []
-  pub others : t ≡ record s {
-    dte = drained (node_call call s.dte).node;
-    line = t.line;
-    records = changed_at caller_place (with_turn (node_call call s.dte).covers (node_call call s.dte).closes) s.records;
-  }
+pub record AskStep (F : Type 0) (role : Role) (channel : ℕ) (request : Request) (s : NetState) (a : answer.Answer) (t : NetState) : Type 0 where
+  pub does : NodeStep F role (asked_turn role (end_of (node_at role s)) channel request s.book) s.line s a.frames.items a.notes.items t
+  pub answered : a.outcome ≡ Done
 
--- a call of the host at the DCE
-pub record DceStep (F : Type 0) (call : NodeCall) (line : Flights) (s : NetState) (answer : Answer) (t : NetState) : Type 0 where
-  pub sends : Sends F FromDce (host_call call s.dce).node.line.frames line answer.frames.items t.line
-  pub notes : answer.notes.items ≡ notes_of call s.dce_place (host_call call s.dce).closes
-  pub others : t ≡ record s {
-    dce = host_begins (host_call call s.dce).node;
-    line = t.line;
-    records = changed_at callee_place (with_turn (host_call call s.dce).covers (host_call call s.dce).closes) s.records;
-  }
+-- what the answer says was taken
+pub data TookAs (taken : Option Taken) (outcome : Outcome) : Type 0 where
+  took : (shown : _) → outcome ≡ Took shown → maybe_taken shown ≡ taken → TookAs taken outcome
 
--- a call of the node at this place
-abbrev pub NodeStep : (F : Type 0) → (node : ℕ) → NodeCall → Flights → NetState → Answer → NetState → Type 0
-NodeStep F node call line s answer t =
-    (answer.outcome ≡ Done) × MatchBool (node == s.dte_place) (DteStep F call line s answer t) (DceStep F call line s answer t)
+pub record TakeStep (F : Type 0) (role : Role) (channel : ℕ) (s : NetState) (a : answer.Answer) (t : NetState) : Type 0 where
+  pub does : NodeStep F role (host_takes role (end_of (node_at role s)) channel s.book) s.line s a.frames.items a.notes.items t
+  pub answered : TookAs (front_on (end_of (node_at role s)).layer channel) a.outcome
 
--- ---- moves of the line
+-- ---- what comes at the line
+
+-- what may come to a node at its line
+pub data LineCall : Type 0 where
+  Hears : (octets : List ℕ) → LineCall
+  Expires : TimerId → LineCall
+  Relinks : LineCall
+  Restarts : LineCall
+
+abbrev pub line_turn : LineCall → Role → NodeState → Book → Turn
+line_turn (Hears octets) role n b = hears role n octets b
+line_turn (Expires timer) role n b = expires role n timer b
+line_turn Relinks role n b = relinks role n b
+line_turn Restarts role n b = restarts role n b
+
+-- to the node at the end of this role, while this is in flight
+abbrev pub LineStep : (F : Type 0) → (role : Role) → LineCall → Flights → NetState → answer.Answer → NetState → Type 0
+LineStep F role call line s a t = NodeStep F role (line_turn call role (node_at role s) s.book) line s a.frames.items a.notes.items t
 
 -- nothing was in flight
-pub record EmptyDelivery (line : Flights) (s : NetState) (answer : Answer) (t : NetState) : Type 0 where
-  pub frames : answer.frames.items ≡ []
-  pub notes : answer.notes.items ≡ []
+pub record EmptyDelivery (line : Flights) (s : NetState) (a : answer.Answer) (t : NetState) : Type 0 where
+  pub frames : a.frames.items ≡ []
+  pub notes : a.notes.items ≡ []
   pub others : t ≡ record s { line = line }
 
--- who hears what a delivery in a direction hands over
-abbrev pub HearsOf : Direction → (F : Type 0) → List ℕ → Flights → NetState → Answer → NetState → Type 0
-HearsOf FromDte F octets line s answer t = DceStep F (turn.Hears octets) line s answer t
-HearsOf FromDce F octets line s answer t = DteStep F (turn.Hears octets) line s answer t
-
 -- the first frame in flight is taken from the line and given to the node at its other end
-pub record DeliverStep (F : Type 0) (d : Direction) (s : NetState) (answer : Answer) (t : NetState) : Type 0 where
+pub record DeliverStep (F : Type 0) (d : Direction) (s : NetState) (a : answer.Answer) (t : NetState) : Type 0 where
   pub came : Option (List ℕ)
   pub line : Flights
   pub first : F → came ≡ slice_get (flying d s.line) 0
   pub rest : F → line ≡ without_first d s.line
-  pub heard : MatchOption came (EmptyDelivery line s answer t) (λ octets. HearsOf d F octets line s answer t)
-  pub answered : answer.outcome ≡ Delivered (is_some came)
+  pub heard : MatchOption came (EmptyDelivery line s a t) (λ octets. LineStep F (hearer d) (Hears octets) line s a t)
+  pub answered : a.outcome ≡ Delivered (is_some came)
 
 -- the first frame in flight is lost
-pub record LoseStep (F : Type 0) (d : Direction) (s : NetState) (answer : Answer) (t : NetState) : Type 0 where
-  pub frames : answer.frames.items ≡ []
-  pub notes : answer.notes.items ≡ []
-  pub answered : answer.outcome ≡ Done
+pub record LoseStep (F : Type 0) (d : Direction) (s : NetState) (a : answer.Answer) (t : NetState) : Type 0 where
+  pub frames : a.frames.items ≡ []
+  pub notes : a.notes.items ≡ []
+  pub answered : a.outcome ≡ Done
   pub rest : F → t.line ≡ without_first d s.line
   pub others : t ≡ record s { line = t.line }
 
+-- a timer expires, or the DTE gives its link up
+pub record CalledStep (F : Type 0) (role : Role) (call : LineCall) (s : NetState) (a : answer.Answer) (t : NetState) : Type 0 where
+  pub does : LineStep F role call s.line s a t
+  pub answered : a.outcome ≡ Done
+
 -- the line loses all frames, and the node begins anew
-pub record RestartStep (F : Type 0) (node : ℕ) (s : NetState) (answer : Answer) (t : NetState) : Type 0 where
+pub record RestartStep (F : Type 0) (role : Role) (s : NetState) (a : answer.Answer) (t : NetState) : Type 0 where
   pub line : Flights
   pub emptied : F → line ≡ no_flights
-  pub begins : NodeStep F node turn.Restarts line s answer t
+  pub does : LineStep F role Restarts line s a t
+  pub answered : a.outcome ≡ Done
 
--- what each event is
-abbrev pub StepOf : (F : Type 0) → Event → NetState → Answer → NetState → Type 0
-StepOf F (Key node terminal octet) s answer t = KeyOf F terminal octet s.dte s answer t
-StepOf F (Take node channel) s answer t = TakeOf F node channel s answer t
-StepOf F (Deliver line direction) s answer t = DeliverStep F direction s answer t
-StepOf F (Lose line direction) s answer t = LoseStep F direction s answer t
-StepOf F (Expire node line timer) s answer t = NodeStep F node (turn.Expires timer) s.line s answer t
-StepOf F (Relink line) s answer t = (answer.outcome ≡ Done) × DteStep F turn.Relinks s.line s answer t
-StepOf F (Restart node) s answer t = RestartStep F node s answer t
+-- ---- each event
+
+abbrev pub StepOf : (F : Type 0) → Event → NetState → answer.Answer → NetState → Type 0
+StepOf F (Key node terminal octet) s a t = KeyOf F terminal octet s a t
+StepOf F (Call node address user_data) s a t = CallStep F (role_of node s) address user_data.items s a t
+StepOf F (Ask node channel request) s a t = AskStep F (role_of node s) channel request s a t
+StepOf F (Take node channel) s a t = TakeStep F (role_of node s) channel s a t
+StepOf F (Deliver line direction) s a t = DeliverStep F direction s a t
+StepOf F (Lose line direction) s a t = LoseStep F direction s a t
+StepOf F (Expire node line timer) s a t = CalledStep F (role_of node s) (Expires timer) s a t
+StepOf F (Relink line) s a t = CalledStep F Dte Relinks s a t
+StepOf F (Restart node) s a t = RestartStep F (role_of node s) s a t

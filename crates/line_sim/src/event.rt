@@ -5,7 +5,7 @@ use frame_codec::FrameBuf;
 use line_nodes::{HostNote, KeyAnswer, NodeFault};
 use link_timers::TimerId;
 use packet_codec::Address;
-use packet_layer::Taken;
+use packet_layer::{CallFault, ChannelFault, Taken};
 use std::alloc::AllocError;
 use thiserror::Error;
 
@@ -150,6 +150,30 @@ impl From<AllocError> for StepFault {
 
     fn from(_: AllocError) -> Self {
         StepFault::OutOfMemory
+    }
+}
+
+impl From<CallFault> for StepFault {
+    ghost use Rattle.std.specs.Prelude.{◌≡◌};
+    ghost use Rattle.line_nodes.specs.declared.fault.NodeFault.TheVariants.{Call};
+    ghost use Rattle.line_sim.specs.declared.event.StepFault.TheVariants.{Refused};
+
+    ghost from_gives = { λ fault made. made ≡ Refused (Call fault) };
+
+    fn from(fault: CallFault) -> Self {
+        StepFault::Refused(NodeFault::Call(fault))
+    }
+}
+
+impl From<ChannelFault> for StepFault {
+    ghost use Rattle.std.specs.Prelude.{◌≡◌};
+    ghost use Rattle.line_nodes.specs.declared.fault.NodeFault.TheVariants.{Channel};
+    ghost use Rattle.line_sim.specs.declared.event.StepFault.TheVariants.{Refused};
+
+    ghost from_gives = { λ fault made. made ≡ Refused (Channel fault) };
+
+    fn from(fault: ChannelFault) -> Self {
+        StepFault::Refused(NodeFault::Channel(fault))
     }
 }
 

@@ -1,28 +1,23 @@
 //! Lines, and the network of nodes on them.
 #![tactic(auto)]
 
-mod call;
 mod config;
 mod event;
-mod host;
 mod line;
 mod net;
-mod node;
-mod packet;
-mod pad;
+mod nodes;
 mod plan;
-mod record;
+mod room;
 mod running;
 mod send;
-mod serve;
-mod turn;
 
+pub use call_records::{EditStep, Pair, Record, SentEpoch, TakenEpoch};
 pub use config::{Config, LineConfig, NodeConfig, NodeKind, PadConfig, RouteConfig, Setting};
-pub use event::{Answer, Event, HostNote, KeyAnswer, MakeFault, Outcome, Put, RunFault, StepFault};
+pub use event::{Answer, Event, MakeFault, Outcome, Put, Request, RunFault, StepFault};
 pub use line::{Direction, FRAMES_IN_FLIGHT, Line, MemLine, mem_lines};
+pub use line_nodes::{HostNote, KeyAnswer, NodeFault, NoteKind};
 pub use net::Net;
-pub use packet::{Interrupt, Taken, USER_DATA_OCTETS, UserPacket};
-pub use record::{EditStep, Pair, Record, SentEpoch, TakenEpoch};
+pub use packet_layer::Taken;
 pub use running::run;
 
 #[cfg(test)]

@@ -5,7 +5,7 @@ ghost use Rattle.line_sim.specs.PlanView.{dte_value, plan_value, CanStand, IsLim
 ghost use Rattle.x3_params.specs.Table.{profile_values};
 
 use crate::config::{Config, LineConfig, NodeConfig, NodeKind, PadConfig, Setting};
-use lapb::LinkParams;
+use packet_end::EndParams;
 use x3_params::Params;
 
 /// What the DTE is made with: a PAD with so many terminals and these initial parameters, or a host.
@@ -15,16 +15,14 @@ pub(crate) enum DtePlan {
     Host,
 }
 
-/// What a network is made with: the places of its nodes in the configuration, the DTE, how many channels there are, the window
-/// size, and the links' parameters, which say whether the call stands.
+/// What a network is made with: the places of its nodes in the configuration, the DTE, and the line's parameters, which both ends
+/// share.
 #[derive(Drop)]
 pub(crate) struct Plan {
     pub(crate) dte_place: usize,
     pub(crate) dce_place: usize,
     pub(crate) dte: DtePlan,
-    pub(crate) channels: u16,
-    pub(crate) window: u8,
-    pub(crate) link: LinkParams,
+    pub(crate) line: EndParams,
 }
 
 fn is_from(least: u16, most: u16, value: u16) -> bool
@@ -132,11 +130,11 @@ fn plan_line(
         dte_place,
         dce_place,
         dte,
-        channels: line.channels,
-        window: line.window as u8,
-        link: LinkParams {
+        line: EndParams {
             k: line.k as u8,
             n2: line.n2 as u8,
+            channels: line.channels as u8,
+            window: line.window as u8,
             standing: line.standing,
         },
     })

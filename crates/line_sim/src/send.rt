@@ -1,12 +1,13 @@
 //! The frames that a node has to send at the end of an event.
 ghost use Rattle.std.specs.Prelude.{◌≡◌, ◌≤◌, [], vec_capacity};
-ghost use Rattle.line_end.specs.End.{without_frames};
+ghost use Rattle.line_nodes.specs.Node.{drained, frames_of};
+ghost use Rattle.line_nodes.specs.NodeView.{node_of};
 ghost use Rattle.line_sim.specs.Sends.{Sends};
 
 use crate::event::Put;
 use crate::line::{Direction, Line};
 use frame_codec::FrameBuf;
-use line_end::LineEnd;
+use line_nodes::Node;
 
 /// A node sends no more frames than this at the end of an event.
 pub(crate) const MOST_FRAMES: usize = 9;
@@ -19,21 +20,21 @@ fn copy_of(frame: &FrameBuf) -> FrameBuf
     copy
 }
 
-/// Puts all frames that wait at the end of a line on it, and lists them.
+/// Puts all frames that wait at a node on its line, and lists them.
 pub(crate) fn put_frames<L: Line>(
-    end: &mut LineEnd,
+    node: &mut Node,
     line: &mut L,
     direction: Direction,
     puts: &mut Vec<Put>,
 )
     requires empty { puts.old.items ≡ [] }
     requires room { MOST_FRAMES ≤ vec_capacity puts.old }
-    ensures end { end.new ≡ without_frames end.old }
-    ensures puts { Sends L.faithful direction end.old.frames (L.flights line.old) puts.new.items (L.flights line.new) }
+    ensures node { node_of node.new ≡ drained (node_of node.old) }
+    ensures puts { Sends L.faithful direction (frames_of (node_of node.old)) (L.flights line.old) puts.new.items (L.flights line.new) }
 {
-    let _waiting = end.waiting();
+    let _waiting = node.waiting_frames();
     let mut frame = FrameBuf::new();
-    'frames: while end.out(&mut frame) {
+    'frames: while node.out(&mut frame) {
         line.put(direction, copy_of(&frame));
         puts.push_reserved(Put {
             line: 0,

@@ -1,220 +1,246 @@
-//! What an event does at one node, on its line and in the records.
-ghost use Rattle.std.specs.Prelude.{◌≡◌, ◌+◌, ◌≤◌, [], ◌∷◌, map, IfOk, OnErr, vec_len, vec_capacity};
-ghost use Rattle.line_sim.specs.declared.line.Direction.TheVariants.{FromDte, FromDce};
-ghost use Rattle.line_sim.specs.Records.{with_turn, changed_at};
-ghost use Rattle.line_sim.specs.HostState.{HostState, host_begins, host_call, host_takes, host_gives};
-ghost use Rattle.line_sim.specs.PadState.{KeyEffect, pad_begins, pad_key};
-ghost use Rattle.line_sim.specs.NodeState.{node_call, frames_of, drained};
-ghost use Rattle.line_sim.specs.NodeViews.{node_of, call_of};
-ghost use Rattle.line_sim.specs.KeyResultView.{IsKeyResult};
-ghost use Rattle.line_sim.specs.Sends.{Sends};
-ghost use Rattle.line_sim.specs.Steps.{with_key, with_any_taken, key_answer_of, taken_of, notes_of, is_noted};
-ghost use Rattle.line_sim.specs.RecordView.{shown, HasStepRoom, HasSendRoom, HasTakeRoom, CoversFit};
-ghost use Rattle.line_sim.specs.ServedBy.{KeyServed, TakeServed, DteServed, DceServed};
+//! What an event does at one node, on its line and in the book.
+ghost use Rattle.std.specs.Prelude.{◌≡◌, ◌≤◌, [], Some, None, true, false, OnOk, OnErr, MatchResult, vec_capacity, length};
+ghost use Rattle.packet_layer.specs.Layer.{channel_given, call_refusal, front_on};
+ghost use Rattle.packet_layer.specs.RequestView.{refusal_of, call_refusal_of};
+ghost use Rattle.packet_layer.specs.TakenView.{maybe_taken};
+ghost use Rattle.packet_host.specs.Host.{call_parts};
+ghost use Rattle.line_nodes.specs.Node.{end_of, is_pad};
+ghost use Rattle.line_nodes.specs.NodeView.{node_of};
+ghost use Rattle.line_nodes.specs.Turn.{HostTurned};
+ghost use Rattle.line_nodes.specs.HostTurns.{host_calls, host_takes};
+ghost use Rattle.line_nodes.specs.Notes.{user_notes};
+ghost use Rattle.line_sim.specs.Faults.{ask_refusal};
+ghost use Rattle.line_sim.specs.Steps.{direction_of, line_turn, asked_turn, keys_turn, IsKeyAnswer};
+ghost use Rattle.line_sim.specs.CallView.{call_of};
+ghost use Rattle.line_sim.specs.Served.{Served};
 
-use crate::call::STANDING_CHANNEL;
-use crate::event::{Answer, HostNote, KeyAnswer, Outcome, Put};
-use crate::host::Host;
+use crate::event::Request;
 use crate::line::{Direction, Line};
-use crate::node::Node;
-use crate::packet::Taken;
-use crate::pad::{KeyResult, Pad};
-use crate::record::{EditStep, Record};
-use crate::send::MOST_FRAMES;
-use crate::turn::{Happened, NodeCall};
-use std::alloc::{AllocError, Global};
-use x3_params::Params;
+use crate::room::{MOST_NOTES, Room};
+use crate::send::{MOST_FRAMES, put_frames};
+use call_records::Book;
+use line_nodes::{HostNote, KeyAnswer, Node, Place, host, pad};
+use link_timers::{Role, TimerId};
+use packet_codec::Address;
+use packet_host::Host;
+use packet_layer::{CallFault, ChannelFault, Taken};
 
-/// The place of the record of the end that called.
-pub(crate) const CALLER: usize = 0;
-
-/// The place of the record of the end that was called.
-pub(crate) const CALLEE: usize = 1;
-
-/// The lists of an answer, grown before the node is called.
-#[derive(Drop)]
-pub(crate) struct Room {
-    pub(crate) frames: Vec<Put>,
-    pub(crate) notes: Vec<HostNote>,
+/// What comes to a node at its line.
+#[derive(Clone, Copy)]
+pub(crate) enum LineCall<'a> {
+    /// A frame arrives.
+    Hears(&'a [u8]),
+    /// A timer expires.
+    Expires(TimerId),
+    /// The link is given up and set up again.
+    Relinks,
+    /// The node begins anew.
+    Restarts,
 }
 
-impl Room {
-    /// Room for the frames of one call of a node, and a note.
-    pub(crate) fn new(alloc: Global) -> Result<Self, AllocError>
-        ensures { IfOk result (λ room. (room.frames.items ≡ []) × (room.notes.items ≡ []) × (MOST_FRAMES ≤ vec_capacity room.frames) × (1 ≤ vec_capacity room.notes)) }
-    {
-        Ok(Room {
-            frames: Vec::with_capacity(alloc, MOST_FRAMES)?,
-            notes: Vec::with_capacity(alloc, 1)?,
-        })
-    }
-
-    /// An answer with this outcome.
-    pub(crate) fn answer(self, outcome: Outcome) -> Answer
-        ensures frames { result.frames.items ≡ self.frames.items }
-        ensures notes { result.notes.items ≡ self.notes.items }
-        ensures outcome { result.outcome ≡ outcome }
-    {
-        let Room { frames, notes } = self;
-        Answer {
-            frames,
-            notes,
-            outcome,
-        }
+/// The direction in which the end of a role sends.
+fn direction_of(role: Role) -> Direction
+    ensures { result ≡ direction_of role }
+{
+    match role {
+        Role::Dte => Direction::FromDte,
+        Role::Dce => Direction::FromDce,
     }
 }
 
-/// An answer without frames and notes, which takes no memory.
-pub(crate) fn bare_answer(alloc: Global, outcome: Outcome) -> Answer
-    ensures frames { result.frames.items ≡ [] }
-    ensures notes { result.notes.items ≡ [] }
-    ensures outcome { result.outcome ≡ outcome }
-{
-    Answer {
-        frames: Vec::new(alloc),
-        notes: Vec::new(alloc),
-        outcome,
-    }
-}
-
-/// Writes down what a key made.
-fn note_key(part: &mut Record, octet: u8, params: Params, outcome: KeyResult) -> KeyAnswer
-    requires step { HasStepRoom part.old }
-    requires send { HasSendRoom part.old }
-    ensures part { (e : KeyEffect) → IsKeyResult octet params outcome e → shown part.new ≡ with_key e (shown part.old) }
-    ensures answer { (e : KeyEffect) → IsKeyResult octet params outcome e → result ≡ key_answer_of e.dropped }
-{
-    match outcome {
-        KeyResult::Dropped => KeyAnswer::Dropped,
-        KeyResult::NoStep => KeyAnswer::Taken,
-        KeyResult::Step(packet) => {
-            part.add_step(EditStep::Key { octet, params });
-            if let Some(packet) = packet {
-                part.add_sent(packet);
-            }
-            KeyAnswer::Taken
-        }
-    }
-}
-
-/// Serves a key at the terminal of a PAD's call.
-pub(crate) fn serve_key<L: Line>(
-    alloc: Global,
-    pad: &mut Pad,
-    line: &mut L,
-    part: &mut Record,
-    octet: u8,
-) -> Result<Answer, AllocError>
-    ensures ok { IfOk result (λ answer. KeyServed L.faithful (pad_key octet pad.old) (L.flights line.old) (shown part.old) answer pad.new (L.flights line.new) (shown part.new)) }
-    ensures pad { OnErr result (pad.new ≡ pad.old) }
-    ensures line { OnErr result (line.new ≡ line.old) }
-    ensures part { OnErr result (shown part.new ≡ shown part.old) }
-{
-    let mut room = Room::new(alloc)?;
-    part.reserve_key()?;
-    let params = pad.params();
-    let answer = note_key(part, octet, params, pad.on_key(octet));
-    pad.put_frames(line, Direction::FromDte, &mut room.frames);
-    Ok(room.answer(Outcome::Keyed(answer)))
-}
-
-/// Serves a take at a host's call.
-pub(crate) fn serve_take<L: Line>(
-    alloc: Global,
-    host: &mut Host,
-    line: &mut L,
-    part: &mut Record,
-) -> Result<Answer, AllocError>
-    requires { part.old.taken.released ≤ vec_len part.old.taken.packets }
-    ensures ok { IfOk result (λ answer. TakeServed L.faithful host.old (L.flights line.old) (shown part.old) answer host.new (L.flights line.new) (shown part.new)) }
-    ensures host { OnErr result (host.new ≡ host.old) }
-    ensures line { OnErr result (line.new ≡ line.old) }
-    ensures part { OnErr result (shown part.new ≡ shown part.old) }
-{
-    let mut room = Room::new(alloc)?;
-    part.reserve_taken()?;
-    let taken = match host.take() {
-        Some(packet) => {
-            part.add_taken(packet.copied());
-            Some(Taken::Packet(packet))
-        }
-        None => None,
-    };
-    host.put_frames(line, Direction::FromDce, &mut room.frames);
-    Ok(room.answer(Outcome::Took(taken)))
-}
-
-/// Writes down what a call of a node did, where its end has a record.
-fn note_turn(records: &mut Vec<Record>, place: usize, happened: Happened)
-    requires { CoversFit place happened.covers records.old.items }
-    ensures { map shown records.new.items ≡ changed_at place (with_turn happened.covers happened.closes) (map shown records.old.items) }
-{
-    if place < records.len() {
-        records[place].note_turn(happened);
-    }
-}
-
-/// Serves a call of the node at the DTE.
-pub(crate) fn serve_dte<L: Line>(
+/// Calls a node for what comes at its line.
+fn call_node(
     node: &mut Node,
-    line: &mut L,
-    records: &mut Vec<Record>,
-    call: NodeCall<'_>,
-    room: Room,
-) -> Room
-    requires empty { room.frames.items ≡ [] }
-    requires place { MOST_FRAMES ≤ vec_capacity room.frames }
-    requires covered { CoversFit CALLER (node_call (call_of call) (node_of node.old)).covers records.old.items }
-    ensures served { DteServed L.faithful (call_of call.entry) (node_of node.old) (L.flights line.old) (map shown records.old.items) result.frames.items (node_of node.new) (L.flights line.new) (map shown records.new.items) }
-    ensures notes { result.notes.items ≡ room.notes.items }
-{
-    let mut room = room;
-    let happened = node.call(call);
-    note_turn(records, CALLER, happened);
-    node.put_frames(line, Direction::FromDte, &mut room.frames);
-    room
-}
-
-/// Whether a call of a host is noted where it closes the standing call: not where the host begins anew itself.
-fn is_noted(call: NodeCall<'_>) -> bool
-    ensures { result ≡ is_noted (call_of call.entry) }
+    at: Place,
+    call: LineCall<'_>,
+    book: &mut Book,
+    notes: &mut Vec<HostNote>,
+)
+    requires writes { 1 ≤ book.old.room }
+    requires empty { notes.old.items ≡ [] }
+    requires capacity { MOST_NOTES ≤ vec_capacity notes.old }
+    ensures node { node_of node.new ≡ (line_turn (call_of call) at.role (node_of node.old) book.old.book).node }
+    ensures book { book.new.book ≡ (line_turn (call_of call) at.role (node_of node.old) book.old.book).book }
+    ensures notes { notes.new.items ≡ user_notes (node_of node.old) at.node (line_turn (call_of call) at.role (node_of node.old) book.old.book).notes }
 {
     match call {
-        NodeCall::Restarts => false,
-        NodeCall::Hears(_) => true,
-        NodeCall::Expires(_) => true,
-        NodeCall::Relinks => true,
+        LineCall::Hears(octets) => node.hears(at, octets, book, notes),
+        LineCall::Expires(timer) => {
+            let _ = node.expires(at, timer, book, notes);
+        }
+        LineCall::Relinks => node.relinks(at, book, notes),
+        LineCall::Restarts => node.restarts(at.role, book),
     }
 }
 
-/// Serves a call of the host at the DCE, which stands at this place.
-pub(crate) fn serve_dce<L: Line>(
-    place: usize,
-    host: &mut Host,
+/// Serves what comes to a node at its line.
+pub(crate) fn serve<L: Line>(
+    node: &mut Node,
+    at: Place,
+    call: LineCall<'_>,
     line: &mut L,
-    records: &mut Vec<Record>,
-    call: NodeCall<'_>,
-    room: Room,
-) -> Room
-    requires empty { room.frames.items ≡ [] }
-    requires none { room.notes.items ≡ [] }
-    requires place { MOST_FRAMES ≤ vec_capacity room.frames }
-    requires note { 1 ≤ vec_capacity room.notes }
-    requires covered { CoversFit CALLEE (host_call (call_of call) host.old).covers records.old.items }
-    ensures { DceServed L.faithful place (call_of call.entry) host.old (L.flights line.old) (map shown records.old.items) result.frames.items result.notes.items host.new (L.flights line.new) (map shown records.new.items) }
+    book: &mut Book,
+    room: &mut Room,
+)
+    requires writes { 1 ≤ book.old.room }
+    requires frames { room.old.frames.items ≡ [] }
+    requires notes { room.old.notes.items ≡ [] }
+    requires frame_room { MOST_FRAMES ≤ vec_capacity room.old.frames }
+    requires note_room { MOST_NOTES ≤ vec_capacity room.old.notes }
+    ensures { Served L.faithful at.role at.node (node_of node.old) (line_turn (call_of call) at.role (node_of node.old) book.old.book) (L.flights line.old) room.new.frames.items room.new.notes.items (node_of node.new) (L.flights line.new) book.new.book }
 {
-    let mut room = room;
-    let noted = is_noted(call);
-    let happened = host.call(call);
-    note_turn(records, CALLEE, happened);
-    if noted && happened.closes {
-        room.notes.push_reserved(HostNote::Cleared {
-            node: place,
-            channel: STANDING_CHANNEL,
-            cause: 9,
-            diagnostic: 0,
-        });
+    call_node(node, at, call, book, &mut room.notes);
+    put_frames(node, line, direction_of(at.role), &mut room.frames);
+}
+
+/// What a host is asked on a channel.
+fn ask_host(
+    host: &mut Host,
+    at: Place,
+    channel: u8,
+    request: &Request,
+    book: &mut Book,
+    notes: &mut Vec<HostNote>,
+) -> Result<(), ChannelFault>
+    requires writes { 8 ≤ book.old.room }
+    requires empty { notes.old.items ≡ [] }
+    requires capacity { MOST_NOTES ≤ vec_capacity notes.old }
+    ensures answer { MatchResult result
+        (λ _. ask_refusal host.old channel request.now ≡ None)
+        (λ fault. ask_refusal host.old channel request.now ≡ Some (refusal_of fault)) }
+    ensures ok { OnOk result (HostTurned at.node (asked_turn at.role host.old channel request.now book.old.book) host.new book.new.book notes.new.items) }
+    ensures err { OnErr result ((host.new ≡ host.old) × (book.new ≡ book.old) × (notes.new.items ≡ [])) }
+{
+    match request {
+        Request::Answer => host::answer(host, at, channel, book, notes),
+        Request::Refuse => host::refuse(host, at, channel, book, notes),
+        Request::Say {
+            octets,
+            qualified,
+            delivery,
+        } => host::say(host, at, channel, octets.as_slice(), *qualified, *delivery, book, notes),
+        Request::Interrupt { octets } => {
+            host::interrupt(host, at, channel, octets.as_slice(), book, notes)
+        }
+        Request::Reset => host::reset(host, at, channel, book, notes),
+        Request::Clear => host::clear(host, at, channel, book, notes),
+        Request::Stop => host::stop(host, at, channel, book, notes),
+        Request::Go => host::go(host, at, channel, book, notes),
     }
-    host.put_frames(line, Direction::FromDce, &mut room.frames);
-    room
+}
+
+/// Serves what a host is asked on a channel.
+pub(crate) fn serve_ask<L: Line>(
+    node: &mut Node,
+    at: Place,
+    channel: u8,
+    request: &Request,
+    line: &mut L,
+    book: &mut Book,
+    room: &mut Room,
+) -> Result<(), ChannelFault>
+    requires host { is_pad (node_of node.old) ≡ false }
+    requires writes { 8 ≤ book.old.room }
+    requires frames { room.old.frames.items ≡ [] }
+    requires notes { room.old.notes.items ≡ [] }
+    requires frame_room { MOST_FRAMES ≤ vec_capacity room.old.frames }
+    requires note_room { MOST_NOTES ≤ vec_capacity room.old.notes }
+    ensures answer { MatchResult result
+        (λ _. ask_refusal (end_of (node_of node.old)) channel request.now ≡ None)
+        (λ fault. ask_refusal (end_of (node_of node.old)) channel request.now ≡ Some (refusal_of fault)) }
+    ensures ok { OnOk result (Served L.faithful at.role at.node (node_of node.old) (asked_turn at.role (end_of (node_of node.old)) channel request.now book.old.book) (L.flights line.old) room.new.frames.items room.new.notes.items (node_of node.new) (L.flights line.new) book.new.book) }
+    ensures node { OnErr result (node_of node.new ≡ node_of node.old) }
+    ensures line { OnErr result (line.new ≡ line.old) }
+    ensures book { OnErr result (book.new.book ≡ book.old.book) }
+{
+    match node {
+        Node::Pad(_) => unreachable!(),
+        Node::Host(host) => ask_host(host, at, channel, request, book, &mut room.notes)?,
+    }
+    put_frames(node, line, direction_of(at.role), &mut room.frames);
+    Ok(())
+}
+
+/// Serves a call that a host places.
+pub(crate) fn serve_call<L: Line>(
+    node: &mut Node,
+    at: Place,
+    address: Address,
+    user_data: &[u8],
+    line: &mut L,
+    book: &mut Book,
+    room: &mut Room,
+) -> Result<u8, CallFault>
+    requires host { is_pad (node_of node.old) ≡ false }
+    requires user_data { length user_data.now ≤ 16 }
+    requires writes { 1 ≤ book.old.room }
+    requires frames { room.old.frames.items ≡ [] }
+    requires notes { room.old.notes.items ≡ [] }
+    requires frame_room { MOST_FRAMES ≤ vec_capacity room.old.frames }
+    requires note_room { MOST_NOTES ≤ vec_capacity room.old.notes }
+    ensures answer { MatchResult result
+        (λ channel. channel_given (end_of (node_of node.old)).layer (end_of (node_of node.old)).layer.phase ≡ Some channel)
+        (λ fault. call_refusal (end_of (node_of node.old)).layer (end_of (node_of node.old)).layer.phase ≡ Some (call_refusal_of fault)) }
+    ensures ok { OnOk result (Served L.faithful at.role at.node (node_of node.old) (host_calls at.role (end_of (node_of node.old)) (call_parts address user_data.now) book.old.book) (L.flights line.old) room.new.frames.items room.new.notes.items (node_of node.new) (L.flights line.new) book.new.book) }
+    ensures node { OnErr result (node_of node.new ≡ node_of node.old) }
+    ensures line { OnErr result (line.new ≡ line.old) }
+    ensures book { OnErr result (book.new.book ≡ book.old.book) }
+{
+    let channel = match node {
+        Node::Pad(_) => unreachable!(),
+        Node::Host(host) => host::call(host, at, address, user_data, book, &mut room.notes)?,
+    };
+    put_frames(node, line, direction_of(at.role), &mut room.frames);
+    Ok(channel)
+}
+
+/// Serves a take at a host.
+pub(crate) fn serve_take<L: Line>(
+    node: &mut Node,
+    at: Place,
+    channel: u8,
+    line: &mut L,
+    book: &mut Book,
+    room: &mut Room,
+) -> Option<Taken>
+    requires host { is_pad (node_of node.old) ≡ false }
+    requires writes { 1 ≤ book.old.room }
+    requires frames { room.old.frames.items ≡ [] }
+    requires notes { room.old.notes.items ≡ [] }
+    requires frame_room { MOST_FRAMES ≤ vec_capacity room.old.frames }
+    requires note_room { MOST_NOTES ≤ vec_capacity room.old.notes }
+    ensures taken { maybe_taken result ≡ front_on (end_of (node_of node.old)).layer channel }
+    ensures served { Served L.faithful at.role at.node (node_of node.old) (host_takes at.role (end_of (node_of node.old)) channel book.old.book) (L.flights line.old) room.new.frames.items room.new.notes.items (node_of node.new) (L.flights line.new) book.new.book }
+{
+    let taken = match node {
+        Node::Pad(_) => unreachable!(),
+        Node::Host(host) => host::take(host, at, channel, book, &mut room.notes),
+    };
+    put_frames(node, line, direction_of(at.role), &mut room.frames);
+    taken
+}
+
+/// Serves a key at the terminal of a PAD.
+pub(crate) fn serve_key<L: Line>(
+    node: &mut Node,
+    at: Place,
+    octet: u8,
+    line: &mut L,
+    book: &mut Book,
+    room: &mut Room,
+) -> KeyAnswer
+    requires pad { is_pad (node_of node.old) ≡ true }
+    requires writes { 2 ≤ book.old.room }
+    requires frames { room.old.frames.items ≡ [] }
+    requires notes { room.old.notes.items ≡ [] }
+    requires frame_room { MOST_FRAMES ≤ vec_capacity room.old.frames }
+    ensures answer { IsKeyAnswer octet (node_of node.old) result }
+    ensures served { Served L.faithful at.role at.node (node_of node.old) (keys_turn at.role (node_of node.old) octet book.old.book) (L.flights line.old) room.new.frames.items room.new.notes.items (node_of node.new) (L.flights line.new) book.new.book }
+{
+    let answer = match node {
+        Node::Pad(pad) => pad::key(pad, at.role, octet, book),
+        Node::Host(_) => unreachable!(),
+    };
+    put_frames(node, line, direction_of(at.role), &mut room.frames);
+    answer
 }
