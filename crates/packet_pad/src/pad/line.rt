@@ -110,4 +110,28 @@ impl Pad {
     {
         self.end.due()
     }
+
+    /// How many frames wait to be taken, at most nine.
+    pub fn waiting_frames(&self) -> usize
+        ensures count { result ≡ length self.now.end.line.frames }
+        ensures most { result ≤ 9 }
+    {
+        self.end.waiting_frames()
+    }
+
+    /// How many notes wait to be taken, at most 96.
+    pub fn waiting_notes(&self) -> usize
+        ensures count { result ≡ length self.now.end.notes }
+        ensures most { result ≤ 96 }
+    {
+        self.end.waiting_notes()
+    }
+
+    /// Whether the link is up with nothing unacknowledged and nothing to be said, no packet is owed, and nothing waits to be sent
+    /// or taken on any channel.
+    pub fn is_at_rest(&self) -> bool
+        ensures { result ≡ end.at_rest self.now.end }
+    {
+        self.end.is_at_rest()
+    }
 }
