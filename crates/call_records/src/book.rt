@@ -1,12 +1,12 @@
 //! The book of a line, and what is written into it.
-ghost use Rattle.std.specs.Prelude.{◌≡◌, ◌≤◌, ◌-◌, IfOk, OnOk, OnErr, IsTrue, Some, map, length};
+ghost use Rattle.std.specs.Prelude.{◌≡◌, ◌≤◌, ◌-◌, ℕ, IfOk, OnOk, OnErr, IsTrue, Some, map, length, vec_len, vec_capacity};
 ghost use Rattle.packet_layer.specs.NoteView.{note_of};
 ghost use Rattle.packet_layer.specs.TakenView.{taken_of};
 ghost use Rattle.packet_layer.specs.Octets.{parts_of};
-ghost use Rattle.call_records.specs.Book.{made_book, slot_at, changed, places, comes, answers, closes, renews, sends, interrupts, takes, releases, covers, edits, told};
+ghost use Rattle.call_records.specs.Book.{made_book, nth_slot, slot_at, changed, places, comes, answers, closes, renews, sends, interrupts, takes, releases, covers, edits, told};
 ghost use Rattle.call_records.specs.Closing.{all_closed};
 ghost use Rattle.call_records.specs.Room.{opens, room_after};
-ghost use Rattle.call_records.specs.RecordView.{shown, pair_of, step_of, grown, needed, left};
+ghost use Rattle.call_records.specs.RecordView.{shown, pair_of, step_of, grown, needed, left, PlacesAt};
 
 use crate::ends::{Ends, Side, Slot};
 use crate::packet::{Interrupt, UserPacket};

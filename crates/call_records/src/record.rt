@@ -1,6 +1,7 @@
 //! What a network keeps of each end's part in a call, and which two of these make a call.
 ghost use Rattle.std.specs.Prelude.{◌≡◌, ◌≤◌, ℕ, OnOk};
-ghost use Rattle.call_records.specs.Records.{new_record};
+ghost use Rattle.epochs.specs.Epoch.{nothing_sent, nothing_taken};
+ghost use Rattle.call_records.specs.Records.{new_record, with_epoch};
 ghost use Rattle.call_records.specs.RecordView.{shown, sent_of, taken_of, grown, needed, left, HasPlaces};
 
 use crate::packet::{Interrupt, UserPacket};
