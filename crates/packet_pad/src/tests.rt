@@ -77,9 +77,13 @@ fn read_notes(line: &mut Line) {
                     line.refused = Some(channel);
                 }
             }
-            Some(LayerNote::Closed {
-                cause, diagnostic, ..
-            }) => line.closed = Some((cause, diagnostic)),
+            Some(
+                LayerNote::Closed {
+                    cause,
+                    diagnostic,
+                    ..
+                },
+            ) => line.closed = Some((cause, diagnostic)),
             Some(LayerNote::Reset { .. }) => line.resets = line.resets.saturating_add(1),
             Some(LayerNote::Covered { count, .. }) => {
                 line.covered = line.covered.saturating_add(count);
@@ -197,9 +201,7 @@ fn keys_become_a_packet(rt: HostRuntime) {
     assert!(rt; edits(&key(&mut line, b'I')));
     assert!(rt; line.sent.is_empty());
     assert!(rt; ends(&key(&mut line, b'\r'), b"HI\r"));
-    assert!(rt;
-        sends(&line, &[0x01, 0x00, 0x10, 0x01, 0x00, 0x48, 0x49, 0x0D])
-    );
+    assert!(rt; sends(&line, &[0x01, 0x00, 0x10, 0x01, 0x00, 0x48, 0x49, 0x0D]));
     assert!(rt; !line.pad.is_at_rest());
     flow(&mut line);
     assert!(rt; takes(&mut line, b"HI\r"));
@@ -210,9 +212,7 @@ fn keys_become_a_packet(rt: HostRuntime) {
         assert!(rt; edits(&key(&mut line, octet)));
     }
     assert!(rt; ends(&key(&mut line, b'\r'), b"B\r"));
-    assert!(rt;
-        sends(&line, &[0x01, 0x22, 0x10, 0x01, 0x02, 0x42, 0x0D])
-    );
+    assert!(rt; sends(&line, &[0x01, 0x22, 0x10, 0x01, 0x02, 0x42, 0x0D]));
 }
 
 #[test]
@@ -267,9 +267,7 @@ fn held_text_stays_over_a_reset(rt: HostRuntime) {
     flow(&mut line);
     assert_eq!(rt; line.resets, 1);
     assert!(rt; ends(&key(&mut line, b'\r'), b"A\r"));
-    assert!(rt;
-        sends(&line, &[0x01, 0x22, 0x10, 0x01, 0x00, 0x41, 0x0D])
-    );
+    assert!(rt; sends(&line, &[0x01, 0x22, 0x10, 0x01, 0x00, 0x41, 0x0D]));
 }
 
 #[test]
@@ -277,9 +275,7 @@ fn keys_are_dropped_while_the_own_reset_is_not_confirmed(rt: HostRuntime) {
     let mut line = new_line(&rt, rt.alloc(), true);
     // a Data packet whose P(S) is 1 and not 0
     hears(&mut line, &[0x03, 0x00, 0x10, 0x01, 0x02, b'X']);
-    assert!(rt;
-        sends(&line, &[0x01, 0x20, 0x10, 0x01, 0x1B, 0x00, 0x01])
-    );
+    assert!(rt; sends(&line, &[0x01, 0x20, 0x10, 0x01, 0x1B, 0x00, 0x01]));
     assert!(rt; line.pad.stands());
     assert!(rt; edits(&key(&mut line, b'A')));
     assert!(rt; is_dropped(&key(&mut line, b'\r')));
@@ -315,9 +311,7 @@ fn a_new_session_closes_the_call(rt: HostRuntime) {
     let frame = line.answered.remove(0);
     hears(&mut line, frame.as_slice());
     assert_eq!(rt; line.refused, Some(1));
-    assert!(rt;
-        sends(&line, &[0x01, 0x42, 0x10, 0x01, 0x13, 0x00, 0x00])
-    );
+    assert!(rt; sends(&line, &[0x01, 0x42, 0x10, 0x01, 0x13, 0x00, 0x00]));
     assert!(rt; !line.pad.refuse(1));
     assert!(rt; !line.pad.refuse(2));
 }
