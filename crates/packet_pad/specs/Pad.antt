@@ -1,5 +1,5 @@
 -- A PAD at the DTE's end of a line, for a terminal that types on the one call that stands there.
-use Rattle.std.specs.Prelude.{ℕ, Bool, true, false, cond, List, [], Option, Some, None}
+use Rattle.std.specs.Prelude.{ℕ, Bool, true, false, cond, List, [], Option, Some}
 use Rattle.link_timers.specs.declared.timers.TimerId.{TimerId}
 use Rattle.lapb.specs.Machine.{Octets}
 use Rattle.packet_layer.specs.Channel.{Refusal, Request}

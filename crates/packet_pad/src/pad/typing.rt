@@ -10,7 +10,9 @@ use pad_editing::Block;
 use x3_params::Params;
 
 const DATA_LINK_ESCAPE: u8 = 0x10;
+
 const DEVICE_CONTROL_ONE: u8 = 0x11;
+
 const DEVICE_CONTROL_THREE: u8 = 0x13;
 
 impl Pad {
@@ -56,7 +58,9 @@ impl Pad {
     fn send(&mut self, block: &Block)
         ensures { self.new ≡ with_block (Some block.now) self.old }
     {
-        let _ = self.end.send(CHANNEL, block.as_slice(), false, false, false);
+        let _ = self
+            .end
+            .send(CHANNEL, block.as_slice(), false, false, false);
         self.end.begin();
         self.finish();
     }
