@@ -3,10 +3,11 @@ ghost use Rattle.std.specs.Prelude.{◌≡◌, ◌≤◌, ◌-◌, ℕ, IfOk, On
 ghost use Rattle.packet_layer.specs.NoteView.{note_of};
 ghost use Rattle.packet_layer.specs.TakenView.{taken_of};
 ghost use Rattle.packet_layer.specs.Octets.{parts_of};
-ghost use Rattle.call_records.specs.Book.{made_book, nth_slot, slot_at, changed, places, comes, answers, closes, renews, sends, interrupts, takes, releases, covers, edits, told};
+ghost use Rattle.call_records.specs.Book.{made_book, slot_at, changed, places, comes, answers, closes, renews, sends, interrupts, takes, releases, covers, edits, told};
 ghost use Rattle.call_records.specs.Records.{changed_at};
 ghost use Rattle.call_records.specs.Closing.{all_closed};
 ghost use Rattle.call_records.specs.Room.{opens, room_after};
+ghost use Rattle.call_records.specs.BookView.{CallsHavePlaces};
 ghost use Rattle.call_records.specs.RecordView.{shown, pair_of, step_of, grown, needed, left, PlacesAt};
 
 use crate::ends::{Ends, Side, Slot};
@@ -361,7 +362,7 @@ fn reserve_present(records: &mut Vec<Record>, side: &Side, count: usize) -> Resu
     ensures len { vec_len records.new ≡ vec_len records.old }
     ensures capacity { vec_capacity records.new ≡ vec_capacity records.old }
     ensures kept { OnOk result ((other : ℕ) → PlacesAt count other records.old.items → PlacesAt count other records.new.items) }
-    ensures ok { OnOk result ((channel number : ℕ) → (nth_slot side.now.slots channel).present ≡ Some number → PlacesAt count number records.new.items) }
+    ensures ok { OnOk result (CallsHavePlaces count side.now.slots records.new.items) }
 {
     for place in 0..side.channels() {
         if let Some(number) = side.slot(place + 1).present {
