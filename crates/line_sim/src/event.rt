@@ -97,9 +97,7 @@ pub enum Outcome {
     /// What a PAD did with a key.
     Keyed(KeyAnswer),
     /// A host's call was placed on this logical channel.
-    Called {
-        channel: u8,
-    },
+    Called { channel: u8 },
     /// What a host took, if anything waited.
     Took(Option<Taken>),
     /// Nothing besides frames and notes.

@@ -10,6 +10,7 @@ mod plan;
 mod room;
 mod running;
 mod send;
+mod serve;
 
 pub use call_records::{EditStep, Pair, Record, SentEpoch, TakenEpoch};
 pub use config::{Config, LineConfig, NodeConfig, NodeKind, PadConfig, RouteConfig, Setting};

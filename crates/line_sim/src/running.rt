@@ -54,6 +54,7 @@ fn goes_on(net: &mut Net<MemLine>, event: &Event) -> bool
         Err(StepFault::NoSuchNode) => return true,
         Err(StepFault::NoSuchTerminal) => return true,
         Err(StepFault::NoSuchCall) => return true,
+        Err(StepFault::Refused(_)) => return true,
         Ok(_) => return true,
     }
 }

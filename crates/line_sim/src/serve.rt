@@ -118,7 +118,16 @@ fn ask_host(
             octets,
             qualified,
             delivery,
-        } => host::say(host, at, channel, octets.as_slice(), *qualified, *delivery, book, notes),
+        } => host::say(
+            host,
+            at,
+            channel,
+            octets.as_slice(),
+            *qualified,
+            *delivery,
+            book,
+            notes,
+        ),
         Request::Interrupt { octets } => {
             host::interrupt(host, at, channel, octets.as_slice(), book, notes)
         }

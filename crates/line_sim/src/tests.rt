@@ -1,6 +1,8 @@
-//! A call that stands between a PAD and a host on one line, event by event.
+//! A call that stands between a PAD and a host on one line, event by event, and calls between two hosts.
 use super::*;
+use arrayvec::ArrayVec;
 use frame_codec::FrameBuf;
+use packet_codec::Address;
 use std::alloc::Global;
 use std::test::Fail;
 use x3_params::Profile;
@@ -133,8 +135,8 @@ fn reaches_pad(net: &mut Net<MemLine>, expected: &[&[u8]]) -> bool {
 /// Whether a whole message of these octets was taken.
 fn gives_message(outcome: &Outcome, octets: &[u8]) -> bool {
     match outcome {
-        Outcome::Took(Some(Taken::Packet(packet))) => {
-            packet.octets() == octets && !packet.more() && !packet.qualified() && !packet.confirm()
+        Outcome::Took(Some(Taken::Data(packet))) => {
+            packet.octets() == octets && !packet.more() && !packet.qualified() && !packet.delivery()
         }
         _ => false,
     }
@@ -202,8 +204,8 @@ fn deliver(line: usize) -> Event {
 }
 
 /// How an event is refused.
-fn refusal(net: &mut Net<MemLine>, event: Event) -> Option<StepFault> {
-    net.step(&event).err()
+fn refusal(net: &mut Net<MemLine>, event: &Event) -> Option<StepFault> {
+    net.step(event).err()
 }
 
 #[test]
@@ -291,8 +293,8 @@ fn refused_events_change_nothing(rt: HostRuntime) -> Result<(), Fail> {
         (take(HOST, 2), StepFault::NoSuchCall),
         (deliver(1), StepFault::NoSuchNode),
     ];
-    for (event, fault) in rows {
-        assert_eq!(rt; refusal(&mut net, event), Some(fault));
+    for (event, fault) in &rows {
+        assert_eq!(rt; refusal(&mut net, event), Some(*fault));
     }
     assert!(rt; net.at_rest());
     let records = net.records();
@@ -356,5 +358,110 @@ fn a_line_keeps_frames_in_order(rt: HostRuntime) -> Result<(), Fail> {
     line.empty();
     assert!(rt; !line.in_flight(Direction::FromDte));
     assert!(rt; comes(&mut line, Direction::FromDte, None));
+    Ok(())
+}
+
+/// Two hosts on one line of so many channels.
+fn hosts_of(alloc: Global, channels: u16) -> Result<Config, Fail> {
+    let line = LineConfig {
+        dte: String::from_str(alloc, "pad")?,
+        dce: String::from_str(alloc, "host")?,
+        address: String::new(alloc),
+        channels,
+        window: 2,
+        k: 7,
+        n2: 3,
+        standing: false,
+    };
+    let dte = NodeConfig {
+        name: String::from_str(alloc, "pad")?,
+        kind: NodeKind::Host,
+    };
+    Ok(Config {
+        nodes: vec![in alloc; dte, host_of(alloc)?]?,
+        lines: vec![in alloc; line]?,
+        routes: Vec::new(alloc),
+    })
+}
+
+/// Delivers one frame in each direction, pass after pass.
+fn flow(net: &mut Net<MemLine>) {
+    for _ in 0..20 {
+        let _ = net.step(&deliver(0));
+        let _ = net.step(&Event::Deliver {
+            line: 0,
+            direction: Direction::FromDce,
+        });
+    }
+}
+
+/// Two hosts whose line is up, on channel 4 of which a call stands that the DTE placed.
+fn connected(alloc: Global) -> Result<Net<MemLine>, Fail> {
+    let config = hosts_of(alloc, 4)?;
+    let mut net = Net::new(alloc, &config, mem_lines(alloc, 1)?)?;
+    flow(&mut net);
+    let called = net.step(&Event::Call {
+        node: PAD,
+        address: Address::read(b"2001")?,
+        user_data: ArrayVec::new(),
+    })?;
+    let _ = called;
+    flow(&mut net);
+    let _ = net.step(&ask(HOST, 4, Request::Answer))?;
+    flow(&mut net);
+    Ok(net)
+}
+
+fn ask(node: usize, channel: u16, request: Request) -> Event {
+    Event::Ask {
+        node,
+        channel,
+        request,
+    }
+}
+
+#[test]
+fn a_call_is_placed_and_answered(rt: HostRuntime) -> Result<(), Fail> {
+    let net = connected(rt.alloc())?;
+    assert!(rt; net.at_rest());
+    assert_eq!(rt;
+        net.pairs(),
+        [Pair {
+            caller: 0,
+            callee: 1
+        }]
+        .as_slice()
+    );
+    let records = net.records();
+    assert_eq!(rt; records.len(), 2);
+    assert_eq!(rt; (records[0].node, records[1].node), (PAD, HOST));
+    assert_eq!(rt;
+        (records[0].far, records[1].own),
+        (Some(Address::read(b"2001")?), Some(Address::read(b"2001")?))
+    );
+    Ok(())
+}
+
+#[test]
+fn delivery_is_confirmed(rt: HostRuntime) -> Result<(), Fail> {
+    let mut net = connected(rt.alloc())?;
+    let say = Request::Say {
+        octets: b"HI".to_vec(rt.alloc())?,
+        qualified: false,
+        delivery: true,
+    };
+    let answer = net.step(&ask(PAD, 4, say))?;
+    assert!(rt;
+        are_put(
+            &answer.frames,
+            Direction::FromDte,
+            &[&[0x01, 0x44, 0x50, 0x04, 0x00, 0x48, 0x49]]
+        )
+    );
+    flow(&mut net);
+    assert!(rt; !net.confirmed(PAD, 4));
+    let _ = net.step(&take(HOST, 4))?;
+    flow(&mut net);
+    assert!(rt; net.confirmed(PAD, 4) && net.confirmed(HOST, 4) && !net.confirmed(PAD, 3));
     Ok(())
 }

@@ -21,12 +21,7 @@ const MESSAGE_WRITES: usize = 8;
 
 impl<L: Line> Nodes<L> {
     /// A key at a terminal of the PAD. The call is that of terminal 0.
-    pub(super) fn key(
-        &mut self,
-        node: usize,
-        terminal: u16,
-        octet: u8,
-    ) -> Result<Answer, StepFault>
+    pub(super) fn key(&mut self, node: usize, terminal: u16, octet: u8) -> Result<Answer, StepFault>
         ensures { Happens L.faithful (event_is.Key node terminal octet) self.old result self.new }
     {
         if node != self.dte_place || !self.dte.is_pad() {
@@ -44,7 +39,14 @@ impl<L: Line> Nodes<L> {
             role: Role::Dte,
             node,
         };
-        let answer = serve_key(&mut self.dte, at, octet, &mut self.line, &mut self.book, &mut room);
+        let answer = serve_key(
+            &mut self.dte,
+            at,
+            octet,
+            &mut self.line,
+            &mut self.book,
+            &mut room,
+        );
         Ok(room.answer(Outcome::Keyed(answer)))
     }
 

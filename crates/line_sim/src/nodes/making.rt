@@ -71,7 +71,9 @@ impl<L: Line> Nodes<L> {
         let mut dte = new_dte(alloc, &plan.dte, plan.line)?;
         let mut dce = new_host(alloc, Role::Dce, plan.line)?;
         let EndParams {
-            channels, standing, ..
+            channels,
+            standing,
+            ..
         } = plan.line;
         let book = Book::new(alloc, plan.dte_place, plan.dce_place, channels, standing)?;
         let mut first = Room::new(alloc)?;

@@ -13,11 +13,7 @@ use link_timers::{Role, TimerId};
 
 impl<L: Line> Nodes<L> {
     /// The first frame in flight in a direction arrives.
-    pub(super) fn deliver(
-        &mut self,
-        line: usize,
-        direction: Direction,
-    ) -> Result<Answer, StepFault>
+    pub(super) fn deliver(&mut self, line: usize, direction: Direction) -> Result<Answer, StepFault>
         ensures { Happens L.faithful (event_is.Deliver line direction) self.old result self.new }
     {
         if line != 0 {
@@ -97,7 +93,14 @@ impl<L: Line> Nodes<L> {
             role: Role::Dte,
             node: self.dte_place,
         };
-        serve(&mut self.dte, at, LineCall::Relinks, &mut self.line, &mut self.book, &mut room);
+        serve(
+            &mut self.dte,
+            at,
+            LineCall::Relinks,
+            &mut self.line,
+            &mut self.book,
+            &mut room,
+        );
         Ok(room.answer(Outcome::Done))
     }
 
