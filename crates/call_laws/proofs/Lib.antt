@@ -22,4 +22,5 @@ mod Coming
 mod Lines
 mod Starting
 pub mod BookHolds
+pub mod Beside
 mod Rows

@@ -1,0 +1,5 @@
+pub mod Kept
+pub mod Clauses
+pub mod Happens
+pub mod Room
+pub mod Opening
