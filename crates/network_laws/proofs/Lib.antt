@@ -1,0 +1,5 @@
+mod Moving
+mod Telling
+mod Views
+pub mod Acting
+pub mod Keeping
