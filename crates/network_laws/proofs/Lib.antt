@@ -3,3 +3,4 @@ mod Telling
 mod Views
 pub mod Acting
 pub mod Keeping
+pub mod Happening

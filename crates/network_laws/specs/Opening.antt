@@ -3,7 +3,7 @@ use Rattle.std.specs.Prelude.{◌≡◌, ℕ, ◌≤◌}
 use Rattle.link_timers.specs.declared.timers.TimerId.{TimerId}
 use Rattle.lapb.specs.Machine.{Octets}
 use Rattle.packet_end.specs.PacketEnd.{PacketEnd, begun, received, after_timer, relinked, finished, called}
-use Rattle.network_laws.specs.Room.{opening_notes}
+use Rattle.call_records.specs.Room.{opening_notes}
 
 -- a frame that arrives gives one at most
 abbrev pub FrameOpens : Type 0

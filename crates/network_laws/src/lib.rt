@@ -1,7 +1,7 @@
 //! What a network keeps of a line with both its ends and of the book of its calls, and that whatever happens keeps it.
 #![tactic(auto)]
 
-ghost use Rattle.network_laws.specs.Clauses.{MadeLaw, TellsLaw, SilentLaw, RestartLaw, CallLaw, RequestLaw, LossLaw, EditLaw, LikeLaw, HoldsLaw, PresentLaw};
+ghost use Rattle.network_laws.specs.Clauses.{MadeLaw, TellsLaw, SilentLaw, RestartLaw, CallLaw, RequestLaw, LossLaw, EditLaw, LikeLaw, HoldsLaw, PresentLaw, ChannelsLaw, ClosingLaw};
 ghost use Rattle.network_laws.specs.Happens.{FrameLaw, ExpiryLaw, RelinkLaw, RestartedLaw, CalledLaw, AskedLaw};
 ghost use Rattle.network_laws.specs.Opening.{FrameOpens, ExpiryOpens, RelinkOpens, EndOpens};
 
@@ -28,6 +28,8 @@ pub fn network_law()
     // What the book is then.
     ensures holds { HoldsLaw }
     ensures present { PresentLaw }
+    ensures channels { ChannelsLaw }
+    ensures closing { ClosingLaw }
 {}
 
 /// The same of whole events of a node: what comes to it or is asked at it, its end, and its frames, which go onto the line.
