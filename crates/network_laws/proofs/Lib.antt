@@ -4,3 +4,4 @@ mod Views
 pub mod Acting
 pub mod Keeping
 pub mod Happening
+pub mod Opening

@@ -3,7 +3,7 @@
 
 ghost use Rattle.network_laws.specs.Clauses.{MadeLaw, TellsLaw, SilentLaw, RestartLaw, CallLaw, RequestLaw, LossLaw, EditLaw, LikeLaw, HoldsLaw, PresentLaw, ChannelsLaw, ClosingLaw};
 ghost use Rattle.network_laws.specs.Happens.{FrameLaw, ExpiryLaw, RelinkLaw, RestartedLaw, CalledLaw, AskedLaw};
-ghost use Rattle.network_laws.specs.Opening.{FrameOpens, ExpiryOpens, RelinkOpens, EndOpens};
+ghost use Rattle.network_laws.specs.Opening.{FrameOpens, ExpiryOpens, RelinkOpens, EndOpens, ReadLaw};
 
 /// The law of a line of a network and of its book, over definitions alone. From the making on, whatever is called at an end,
 /// whatever comes to it, whichever frames are lost and however often an end restarts: what its layer is asked and what it tells is
@@ -48,4 +48,5 @@ pub fn opening_law()
     ensures expiries { ExpiryOpens }
     ensures relinks { RelinkOpens }
     ensures ends { EndOpens }
+    ensures read { ReadLaw }
 {}
