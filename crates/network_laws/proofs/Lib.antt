@@ -5,3 +5,4 @@ pub mod Acting
 pub mod Keeping
 pub mod Happening
 pub mod Opening
+mod Rows
