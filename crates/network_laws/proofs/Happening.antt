@@ -13,10 +13,9 @@ use Rattle.packet_layer.specs.Layer.{channel_given, link_down, next_packet}
 use Rattle.packet_laws.specs.Readable.{CanBePlaced}
 use Rattle.packet_end.specs.PacketEnd as end
 use Rattle.packet_end.specs.PacketEnd.{PacketEnd, begun, received, after_timer, relinked, finished, called, asked, offered, all_offered, with_next}
-use Rattle.packet_line.specs.PacketLine.{Line, RelinksIfDue, Offers, Settles, Sends, Calls, Requests, Begins, does}
+use Rattle.packet_line.specs.PacketLine.{Line, RelinksIfDue, Offers, Settles, does}
 use Rattle.packet_line.proofs.Finishing.{finished_is}
 use Rattle.call_records.specs.Book.{Book, all_told}
-use Rattle.call_records.specs.Closing.{all_closed}
 use Rattle.call_laws.specs.Told.{placed_on}
 use Rattle.network_laws.specs.Kept.{Setting, Kept, end_at, coming_to}
 use Rattle.network_laws.specs.Clauses.{requested_at}

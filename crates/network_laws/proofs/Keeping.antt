@@ -1,5 +1,5 @@
 -- The law of a line of a network and of its book.
-use Rattle.std.specs.Prelude.{◌≡◌, ℕ, suc, ◌+◌, ◌≤◌, Bool, true, false, cond, List, [], ◌∷◌, ◌++◌, drop, length, slice_get, Option, Some, None, is_some}
+use Rattle.std.specs.Prelude.{◌≡◌, ℕ, suc, ◌+◌, Bool, true, false, cond, List, [], ◌∷◌, ◌++◌, drop, length, slice_get, Option, Some, None, is_some}
 use Rattle.std.proofs.Common.{refl, sym, ap, subst, ◌∙◌, arith, true≢false}
 use Rattle.link_timers.specs.declared.role.Role.{Role}
 use Rattle.link_timers.specs.declared.role.Role.TheVariants.{Dte, Dce}
@@ -19,19 +19,19 @@ use Rattle.packet_laws.specs.Line as layers
 use Rattle.packet_end.specs.PacketEnd.{PacketEnd}
 use Rattle.packet_line.specs.PacketLine as acts
 use Rattle.packet_line.specs.PacketLine.{Line, Act, Begins, Hears, Expires, Relinks, RelinksIfDue, Restarts, Calls, Requests, Offers, Settles, Elapses, Sends, At, Loses, does, other_after, going_after, coming_after, made}
-use Rattle.packet_line.specs.Joint.{Part, JointOf, Joint, Stands, Side, side, Follows}
+use Rattle.packet_line.specs.Joint.{Joint, Stands, side, Follows}
 use Rattle.packet_line.proofs.Holding.{new_joint}
-use Rattle.call_records.specs.Book.{Book, Slot, side_of, slot_at, closes, made_book, edits, all_told}
+use Rattle.call_records.specs.Book.{Book, Slot, side_of, slot_at, closes, edits, all_told}
 use Rattle.call_records.specs.Closing.{closes_if, closed_from}
 use Rattle.call_laws.proofs.Writing.{closed_else}
-use Rattle.call_laws.specs.Told.{World, after_all, start, placed_on}
+use Rattle.call_laws.specs.Told.{after_all, placed_on}
 use Rattle.call_laws.specs.Headline.{BookHolds, IsBeside, has_call}
 use Rattle.call_laws.proofs.BookHolds.{book_holds}
 use Rattle.call_laws.proofs.Beside.{is_beside}
-use Rattle.network_laws.specs.Kept.{Setting, IsSetting, Kept, IsLike, beginning, end_at, coming_to}
-use Rattle.network_laws.specs.Clauses.{MadeLaw, MayTell, IsSilent, Tells, TellsLaw, SilentLaw, RestartLaw, CallLaw, requested_at, RequestLaw, LossLaw, EditLaw, LikeLaw, HoldsLaw, PresentLaw, ChannelsLaw, ClosingLaw}
-use Rattle.network_laws.proofs.Views.{KeptAt, KeptOf, seen, unseen}
-use Rattle.network_laws.proofs.Acting.{Told, hears_at, expires_at, relinks_at, relinks_if_due_at, begins_at, settles_at, elapses_at, sends_at, offers_at, restarts_at, calls_at, requests_at, loses_at, edits_at, kept_happens, end_is}
+use Rattle.network_laws.specs.Kept.{Setting, Kept, IsLike, beginning, end_at, coming_to}
+use Rattle.network_laws.specs.Clauses.{MadeLaw, Tells, TellsLaw, SilentLaw, RestartLaw, CallLaw, requested_at, RequestLaw, LossLaw, EditLaw, LikeLaw, HoldsLaw, PresentLaw, ChannelsLaw, ClosingLaw}
+use Rattle.network_laws.proofs.Views.{KeptAt, seen, unseen}
+use Rattle.network_laws.proofs.Acting.{hears_at, expires_at, relinks_at, relinks_if_due_at, begins_at, settles_at, elapses_at, sends_at, offers_at, restarts_at, calls_at, requests_at, loses_at, edits_at, kept_happens, end_is}
 
 -- ---- the making
 
