@@ -2,3 +2,5 @@ pub mod Records
 pub mod Book
 pub mod Room
 pub mod Closing
+pub mod RecordView
+pub mod BookView
