@@ -7,7 +7,7 @@ mod Cancelling
 mod Answering
 mod Concluding
 mod Calling
-mod Writing
+pub mod Writing
 mod Faces
 mod Stories
 mod Steps
@@ -22,4 +22,5 @@ mod Coming
 mod Lines
 mod Starting
 pub mod BookHolds
+pub mod Beside
 mod Rows

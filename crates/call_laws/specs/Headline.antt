@@ -1,10 +1,14 @@
 -- What the book of a line promises of its calls.
-use Rattle.std.specs.Prelude.{◌≡◌, ℕ, ◌<◌, ◌≤◌, ◌⊎◌, Bool, List, [], ◌∷◌, slice_get, Some, None}
+use Rattle.std.specs.Prelude.{◌≡◌, ℕ, ◌<◌, ◌≤◌, ◌⊎◌, Bool, false, List, [], ◌∷◌, length, slice_get, Option, Some, None, is_some}
+use Rattle.link_timers.specs.declared.role.Role.{Role}
+use Rattle.link_timers.specs.declared.role.Role.TheVariants.{Dte, Dce}
+use Rattle.packet_layer.specs.Channel.{Channel}
+use Rattle.packet_layer.specs.Layer.{Layer, channel_of, had_call}
 use Rattle.epochs.specs.Epoch.{Epoch, IsEmpty}
 use Rattle.epochs.specs.Match.{Match}
 use Rattle.call_records.specs.Records.{RecordValue, PairValue, sent_epochs, taken_epochs}
-use Rattle.call_records.specs.Book.{Book}
-use Rattle.call_laws.specs.Told.{Move, after_all, AreAllowed, start}
+use Rattle.call_records.specs.Book.{Book, side_of, slot_at}
+use Rattle.call_laws.specs.Told.{World, Move, after_all, AreAllowed, start}
 
 -- the epochs that one end of a call took match those that the other end sent, both ways
 pub record PairMatches (caller callee : RecordValue) : Type 0 where
@@ -58,3 +62,24 @@ abbrev pub BookLaw : Type 0
 BookLaw = (dte_node dce_node channels window : ℕ) (standing : Bool) → 1 ≤ channels → window ≤ 7
     → (ms : List Move) → AreAllowed ms (start dte_node dce_node channels window standing)
     → BookHolds (after_all ms (start dte_node dce_node channels window standing)).book
+
+-- ---- the book beside the packet layers
+
+abbrev pub layer_at : Role → World → Layer
+layer_at Dte w = w.line.me.layer
+layer_at Dce w = w.line.you.layer
+
+-- a channel has a call
+abbrev pub has_call : Option Channel → Bool
+has_call None = false
+has_call (Some ch) = had_call ch.state
+
+-- at each end the book has the channels of the layer, and a present record exactly where the layer has a call
+pub record IsBeside (w : World) : Type 0 where
+  pub channels : (role : Role) → length (side_of role w.book).slots ≡ length (layer_at role w).channels
+  pub present : (role : Role) (c : ℕ) → is_some (slot_at role c w.book).present ≡ has_call (channel_of (layer_at role w) c)
+
+abbrev pub PresentLaw : Type 0
+PresentLaw = (dte_node dce_node channels window : ℕ) (standing : Bool) → 1 ≤ channels → window ≤ 7
+    → (ms : List Move) → AreAllowed ms (start dte_node dce_node channels window standing)
+    → IsBeside (after_all ms (start dte_node dce_node channels window standing))

@@ -1,12 +1,12 @@
 -- A call that comes in, and a book that is made.
-use Rattle.std.proofs.Common.{◌≡◌, ℕ, zero, suc, ◌≤◌, Bool, true, false, List, [], ◌∷◌, ◌++◌, map, length, replicate, refl, sym, ap, ◌∙◌, arith}
+use Rattle.std.proofs.Common.{◌≡◌, ℕ, suc, ◌≤◌, List, [], ◌∷◌, ◌++◌, map, length, replicate, refl, ap, ◌∙◌, arith}
 use Rattle.std.specs.Prelude.{Option, Some, None}
 use Rattle.link_timers.specs.declared.role.Role.{Role}
 use Rattle.link_timers.specs.declared.role.Role.TheVariants.{Dte, Dce}
 use Rattle.link_timers.specs.Role.{other_of}
 use Rattle.packet_layer.specs.Packets.{CallParts}
 use Rattle.call_records.specs.Records.{RecordValue, PairValue, new_record}
-use Rattle.call_records.specs.Book.{Book, Slot, Side, side_of, slot_at, with_slot, with_nth, free_slot, address_of, comes, new_book, standing_book, made_book}
+use Rattle.call_records.specs.Book.{side_of, slot_at, with_slot, free_slot, address_of, comes, new_book, standing_book}
 use Rattle.call_records.specs.RecordView.{shown, pair_of}
 use Rattle.call_records.specs.BookView.{book_with, book_of}
 use Rattle.call_records.specs.declared.record.Record.{Record}

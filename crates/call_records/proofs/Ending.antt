@@ -1,5 +1,5 @@
 -- All calls of an end close, channel by channel.
-use Rattle.std.proofs.Common.{◌≡◌, ℕ, zero, suc, ◌+◌, ◌-◌, ◌<◌, true, false, refl, sym, ap, ◌∙◌, arith}
+use Rattle.std.proofs.Common.{◌≡◌, ℕ, suc, ◌+◌, ◌-◌, ◌<◌, true, false, refl, ap, arith}
 use Rattle.std.specs.Prelude.{Option, Some, None, is_some}
 use Rattle.link_timers.specs.declared.role.Role.{Role}
 use Rattle.call_records.specs.Book.{Book, slot_at, closes}

@@ -1,8 +1,5 @@
-use Rattle.std.proofs.Common.{◌≡◌, ◌∙◌, ◌+◌, ◌<◌, ◌≤◌, ℕ, Some, length, sym, ap, subst, inl, inr, arith}
-use Rattle.std.specs.Prelude.{slice_get, ◌⊎◌, None}
-use Rattle.call_records.specs.Book.{Slot, nth_slot}
-use Rattle.call_records.specs.RecordView.{PlacesAt}
-use Rattle.call_records.proofs.Sides.{beyond}
+use Rattle.std.proofs.Common.{◌∙◌, sym, ap, arith}
+use Rattle.call_records.specs.Book.{Slot}
 use Rattle.call_records.proofs.Rooms.{this_or_before, none_or_before, before_all}
 use Rattle.call_records.proofs.book.reserve_present.Goals as goal
 use Rattle.call_records.proofs.book.reserve_present.Goals.{in-Some+in_ok-reserve_at, in_default}

@@ -1,4 +1,4 @@
-use Rattle.std.proofs.Common.{◌≡◌, ◌∙◌, ◌+◌, ◌-◌, ap, sym, arith}
+use Rattle.std.proofs.Common.{◌∙◌, ◌+◌, ◌-◌, ap, sym}
 use Rattle.call_records.specs.Book.{Book}
 use Rattle.call_records.specs.Closing.{closed_from}
 use Rattle.call_records.specs.Room.{BookState}

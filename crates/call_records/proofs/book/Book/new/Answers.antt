@@ -1,4 +1,4 @@
-use Rattle.std.proofs.Common.{◌≡◌, ◌∙◌, ◌++◌, ◌∷◌, [], List, ap, sym, map, true, false}
+use Rattle.std.proofs.Common.{List, ap, map}
 use Rattle.call_records.specs.Book.{Book}
 use Rattle.call_records.specs.RecordView.{shown, pair_of}
 use Rattle.call_records.specs.declared.ends.Ends.{Ends}

@@ -1,5 +1,5 @@
-use Rattle.std.proofs.Common.{◌≡◌, ◌≤◌, ◌-◌, ◌∙◌, [], ap, subst, List, arith, vec_len, vec_capacity}
-use Rattle.call_records.specs.Book.{Side, Slot}
+use Rattle.std.proofs.Common.{[], subst, arith}
+use Rattle.call_records.specs.Book.{Side}
 use Rattle.call_records.specs.BookView.{CallsHavePlaces}
 use Rattle.call_records.proofs.book.Book.reserve.Goals as goal
 

@@ -1,0 +1,4 @@
+pub mod Kept
+pub mod Clauses
+pub mod Happens
+pub mod Opening
