@@ -1,5 +1,5 @@
 -- One end of a line with its packet layer: what each call of a node makes of the link, the layer and the timers together.
-use Rattle.std.specs.Prelude.{◌≡◌, ℕ, zero, suc, Bool, false, cond, ◌⊎◌, List, [], ◌++◌, drop, Option, Some, None, is_some}
+use Rattle.std.specs.Prelude.{◌≡◌, ℕ, zero, suc, Bool, false, cond, ◌&&◌, ◌⊎◌, List, [], ◌++◌, drop, Option, Some, None, is_some}
 use Rattle.link_timers.specs.declared.role.Role.{Role}
 use Rattle.link_timers.specs.declared.timers.TimerId.{TimerId}
 use Rattle.link_timers.specs.declared.timers.TimerId.TheVariants.{T1}
@@ -142,6 +142,10 @@ either_timer None other = other
 -- the first timer with no tick left: T1 before the layer's
 abbrev pub due : PacketEnd → Option TimerId
 due e = either_timer (first_of (due_timers e.line.timers)) (first_of (due_timers e.timers))
+
+-- the link is at rest, and the layer has nothing to send, to tell or to hand out
+abbrev pub at_rest : PacketEnd → Bool
+at_rest e = link.at_rest e.line.link && machine.at_rest e.layer
 
 abbrev pub without_first_frame : PacketEnd → PacketEnd
 without_first_frame e = record e { line = line.without_first e.line }

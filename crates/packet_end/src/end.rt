@@ -3,7 +3,7 @@ ghost use Rattle.std.specs.Prelude.{◌≡◌, ◌≤◌, ◌+◌, [], ◌∷◌
 ghost use Rattle.std.specs.Bool.{OnTrue, OnFalse};
 ghost use Rattle.packet_end.specs.Params.{AreParams, MadeNot};
 ghost use Rattle.packet_end.specs.Timing.{TimersAgree};
-ghost use Rattle.packet_end.specs.PacketEnd.{made, begun, gathered, heeded, received, runs_at, after_timer, relinked, relinked_if_due, restarted, KeepsNothingBack, settled, finished, elapsed, due, without_first_frame, without_first_note};
+ghost use Rattle.packet_end.specs.PacketEnd.{made, begun, gathered, heeded, received, runs_at, after_timer, relinked, relinked_if_due, restarted, KeepsNothingBack, settled, finished, elapsed, due, at_rest, without_first_frame, without_first_note};
 
 mod asking;
 mod offering;
@@ -219,6 +219,30 @@ impl PacketEnd {
             Some(id) => Some(id),
             None => self.timers.due(),
         }
+    }
+
+    /// How many frames wait to be taken, at most nine.
+    pub fn waiting_frames(&self) -> usize
+        ensures count { result ≡ length self.now.line.frames }
+        ensures most { result ≤ 9 }
+    {
+        self.line.waiting()
+    }
+
+    /// How many notes wait to be taken, at most 96.
+    pub fn waiting_notes(&self) -> usize
+        ensures count { result ≡ length self.now.notes }
+        ensures most { result ≤ 96 }
+    {
+        self.notes.len()
+    }
+
+    /// Whether the link is up with nothing unacknowledged and nothing to be said, no packet is owed, and nothing waits to be sent
+    /// or taken on any channel.
+    pub fn is_at_rest(&self) -> bool
+        ensures { result ≡ at_rest self.now }
+    {
+        self.line.at_rest() && self.layer.is_at_rest()
     }
 
     /// The role of this end of the line.

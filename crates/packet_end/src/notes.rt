@@ -44,6 +44,14 @@ impl NoteQueue {
         self.notes.clear();
     }
 
+    /// How many notes are not yet read.
+    pub(crate) fn len(&self) -> usize
+        ensures count { result ≡ length self.now }
+        ensures most { result ≤ 96 }
+    {
+        self.notes.len()
+    }
+
     /// Adds a note.
     pub(crate) fn add(&mut self, note: LayerNote)
         requires { length self.old < 96 }

@@ -1,5 +1,6 @@
 -- The packet layer of one line: its logical channels, the restart procedure (X.25 3 and table C-1), timers, what is owed to the link.
 use Rattle.std.specs.Prelude.{ℕ, zero, suc, ◌-◌, Bool, true, false, cond, ◌&&◌, ◌==◌, nat_le, List, [], ◌∷◌, ◌++◌, length, map, set, slice_get, replicate, Option, Some, None, is_some, not}
+use Rattle.std.specs.List.{list_all}
 use Rattle.link_timers.specs.declared.role.Role.{Role}
 use Rattle.link_timers.specs.declared.role.Role.TheVariants.{Dte, Dce}
 use Rattle.packet_layer.specs.Packets.{CallParts, Body, Packet, Received, Note, Reason}
@@ -7,7 +8,7 @@ use Rattle.packet_layer.specs.Packets.Body.{Call, Restart, RestartConfirmation}
 use Rattle.packet_layer.specs.Packets.Received.{Whole, Unknown, Faulty}
 use Rattle.packet_layer.specs.Packets.Note.{Closed}
 use Rattle.packet_layer.specs.Packets.Reason.{LinkLost, FarRestart, LocalFault}
-use Rattle.packet_layer.specs.Traffic.{Taken, says, front}
+use Rattle.packet_layer.specs.Traffic.{Taken, says, front, rests}
 use Rattle.packet_layer.specs.Channel.{CallState, Channel, Step, Request, Refusal, closed_channel, entered, moved, error_cause, clear_error, received, unreadable, requested, refusal, has_flow, in_transfer, refused_if, may_accept}
 use Rattle.packet_layer.specs.Channel.CallState.{Ready, OwnWaiting, Transfer, Collision, OwnClear}
 
@@ -354,3 +355,10 @@ confirmed_at (Some ch) = in_transfer ch.state && (ch.traffic.undelivered == 0)
 
 abbrev pub confirmed : Layer → ℕ → Bool
 confirmed l c = confirmed_at (channel_of l c)
+
+-- nothing is owed or to be told, and nothing waits to be sent or taken
+abbrev pub channel_rests : Channel → Bool
+channel_rests ch = (length ch.owed == 0) && rests ch.traffic
+
+abbrev pub at_rest : Layer → Bool
+at_rest l = (length l.owed == 0) && list_all channel_rests l.channels

@@ -123,6 +123,12 @@ same_flag false b = not b
 abbrev pub flow_told : Traffic → Bool
 flow_told t = not t.untold && same_flag t.told_stopped t.stopped
 
+-- nothing waits to be sent or taken, and nothing is to be told
+abbrev pub rests : Traffic → Bool
+rests t =
+    (length t.waiting == 0) && (length t.arrived == 0) && not (is_some t.interrupt_waiting) && not (is_some t.interrupt_arrived)
+    && not t.confirmation_due && flow_told t
+
 abbrev pub says_flow : Traffic → Said
 says_flow t = cond (flow_told t) (record { traffic = t; body = None }) (record { traffic = record t { untold = false; told_stopped = t.stopped }; body = Some (ready_or_not t.stopped t.released) })
 

@@ -145,6 +145,13 @@ impl Channel {
         self.state.in_transfer() && self.traffic.is_delivered()
     }
 
+    /// Whether nothing is owed or to be told, and nothing waits to be sent or taken.
+    pub(crate) fn is_at_rest(&self) -> bool
+        ensures { result ≡ layer.channel_rests self.now }
+    {
+        self.owed.is_empty() && self.traffic.is_at_rest()
+    }
+
     /// Writes the packet that goes to the link next, if there is one.
     pub(crate) fn next_packet(&mut self, window: u8, channel: u8, buf: &mut PacketBuf) -> bool
         requires window { window ≤ 7 }

@@ -1,5 +1,5 @@
 //! The restart packets that a packet layer owes to the link.
-ghost use Rattle.std.specs.Prelude.{◌≡◌, [], is_some, Some};
+ghost use Rattle.std.specs.Prelude.{◌≡◌, ◌==◌, [], is_some, Some, length};
 ghost use Rattle.packet_layer.specs.Layer.{with_owed, passes_limit};
 ghost use Rattle.packet_layer.specs.Octets.{written, ReadsAs};
 ghost use Rattle.packet_layer.specs.ControlView.{first_of, rest_of};
@@ -58,6 +58,12 @@ impl OwedRestarts {
         OwedRestarts {
             packets: ArrayVec::new(),
         }
+    }
+
+    pub(crate) fn is_empty(&self) -> bool
+        ensures { result ≡ (length self.now == 0) }
+    {
+        self.packets.is_empty()
     }
 
     pub(crate) fn clear(&mut self)

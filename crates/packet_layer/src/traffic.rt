@@ -206,4 +206,17 @@ impl Traffic {
     {
         self.undelivered == 0
     }
+
+    /// Whether nothing waits to be sent or taken, and nothing is to be told.
+    pub(crate) fn is_at_rest(&self) -> bool
+        ensures { result ≡ machine.rests self.now }
+    {
+        self.waiting.is_empty()
+            && self.arrived.is_empty()
+            && self.interrupt_waiting.is_none()
+            && self.interrupt_arrived.is_none()
+            && !self.confirmation_due
+            && !self.untold
+            && self.told_stopped == self.stopped
+    }
 }

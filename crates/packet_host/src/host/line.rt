@@ -1,5 +1,5 @@
 //! What comes from the line and what goes to it.
-ghost use Rattle.std.specs.Prelude.{◌≡◌, ◌∷◌, []};
+ghost use Rattle.std.specs.Prelude.{◌≡◌, ◌≤◌, ◌∷◌, [], length};
 ghost use Rattle.std.specs.Bool.{OnTrue, OnFalse};
 ghost use Rattle.packet_end.specs.PacketEnd as end;
 ghost use Rattle.packet_end.specs.Timing.{TimersAgree};
@@ -75,5 +75,29 @@ impl Host {
         ensures { result ≡ end.due self.now }
     {
         self.end.due()
+    }
+
+    /// How many frames wait to be taken, at most nine.
+    pub fn waiting_frames(&self) -> usize
+        ensures count { result ≡ length self.now.line.frames }
+        ensures most { result ≤ 9 }
+    {
+        self.end.waiting_frames()
+    }
+
+    /// How many notes wait to be taken, at most 96.
+    pub fn waiting_notes(&self) -> usize
+        ensures count { result ≡ length self.now.notes }
+        ensures most { result ≤ 96 }
+    {
+        self.end.waiting_notes()
+    }
+
+    /// Whether the link is up with nothing unacknowledged and nothing to be said, no packet is owed, and nothing waits to be sent
+    /// or taken on any channel.
+    pub fn is_at_rest(&self) -> bool
+        ensures { result ≡ end.at_rest self.now }
+    {
+        self.end.is_at_rest()
     }
 }

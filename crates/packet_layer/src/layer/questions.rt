@@ -1,5 +1,6 @@
 //! What a user may ask of a layer without changing anything.
 ghost use Rattle.std.specs.Prelude.{◌≡◌, Some, None, MatchResult};
+ghost use Rattle.std.specs.List.{list_all};
 ghost use Rattle.packet_layer.specs.Layer as machine;
 ghost use Rattle.packet_layer.specs.RequestView.{refusal_of};
 ghost use Rattle.packet_layer.specs.TakenView.{maybe_front};
@@ -72,5 +73,18 @@ impl Layer {
         ensures { result ≡ self.now.relink }
     {
         self.relink
+    }
+
+    /// Whether no packet is owed and nothing waits to be sent or taken, on any channel.
+    pub fn is_at_rest(&self) -> bool
+        ensures { result ≡ machine.at_rest self.now }
+    {
+        self.owed.is_empty() && self.channels_rest()
+    }
+
+    fn channels_rest(&self) -> bool
+        ensures { result ≡ list_all machine.channel_rests self.now.channels }
+    {
+        self.channels.iter().all(|channel| channel.is_at_rest())
     }
 }

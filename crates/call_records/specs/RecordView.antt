@@ -1,0 +1,80 @@
+-- What the code's records show, and what room they have.
+use Rattle.std.specs.Prelude.{◌≡◌, ℕ, ◌-◌, ◌≤◌, List, map, slice_get, Option, Some, vec_len, vec_capacity}
+use Rattle.epochs.specs.Epoch.{SentEpoch as Sent, TakenEpoch as Taken}
+use Rattle.pad_editing.specs.Edited.{Step, key}
+use Rattle.call_records.specs.Records.{RecordValue, PairValue, with_step, with_sent, with_interrupt_sent, with_taken, with_interrupt_taken, with_released, with_covered, with_epoch, with_closed}
+use Rattle.call_records.specs.declared.record.SentEpoch.{SentEpoch}
+use Rattle.call_records.specs.declared.record.TakenEpoch.{TakenEpoch}
+use Rattle.call_records.specs.declared.record.EditStep.{EditStep}
+use Rattle.call_records.specs.declared.record.EditStep.TheVariants as edit_step
+use Rattle.call_records.specs.declared.record.Record.{Record}
+use Rattle.call_records.specs.declared.record.Pair.{Pair}
+use Rattle.call_records.specs.declared.record.Growth.{Growth}
+use Rattle.call_records.specs.declared.record.Growth.TheVariants as growth
+
+abbrev pub sent_of : SentEpoch → Sent
+sent_of e = record { packets = e.packets.items; interrupts = e.interrupts.items; covered = e.covered }
+
+abbrev pub taken_of : TakenEpoch → Taken
+taken_of e = record { packets = e.packets.items; interrupts = e.interrupts.items; released = e.released }
+
+abbrev pub step_of : EditStep → Step
+step_of (edit_step.Key octet params) = key octet params
+
+abbrev pub shown : Record → RecordValue
+shown r = record {
+  number = r.number;
+  node = r.node;
+  own = r.own;
+  far = r.far;
+  sent_before = map sent_of r.sent_before.items;
+  sent = sent_of r.sent;
+  taken_before = map taken_of r.taken_before.items;
+  taken = taken_of r.taken;
+  closed = r.closed;
+  steps = map step_of r.steps.items;
+}
+
+abbrev pub pair_of : Pair → PairValue
+pair_of p = record { caller = p.caller; callee = p.callee }
+
+-- every list of a record has so many spare places
+pub record HasPlaces (room : ℕ) (r : Record) : Type 0 where
+  pub sent_before : room ≤ vec_capacity r.sent_before - vec_len r.sent_before
+  pub sent_packets : room ≤ vec_capacity r.sent.packets - vec_len r.sent.packets
+  pub sent_interrupts : room ≤ vec_capacity r.sent.interrupts - vec_len r.sent.interrupts
+  pub taken_before : room ≤ vec_capacity r.taken_before - vec_len r.taken_before
+  pub taken_packets : room ≤ vec_capacity r.taken.packets - vec_len r.taken.packets
+  pub taken_interrupts : room ≤ vec_capacity r.taken.interrupts - vec_len r.taken.interrupts
+  pub steps : room ≤ vec_capacity r.steps - vec_len r.steps
+
+-- the record of this number has them, if there is one
+abbrev pub PlacesAt : (room number : ℕ) → List Record → Type 0
+PlacesAt room number records = (r : Record) → slice_get records number ≡ Some r → HasPlaces room r
+
+-- ---- how a record grows by a write
+
+abbrev pub grown : Growth → RecordValue → RecordValue
+grown (growth.Sent packet) r = with_sent packet r
+grown (growth.InterruptSent interrupt) r = with_interrupt_sent interrupt r
+grown (growth.Taken packet) r = with_taken packet r
+grown (growth.InterruptTaken interrupt) r = with_interrupt_taken interrupt r
+grown (growth.Covered count) r = with_covered count r
+grown (growth.Released count) r = with_released count r
+grown (growth.Step step) r = with_step (step_of step) r
+grown growth.Epoch r = with_epoch r
+grown growth.Closed r = with_closed r
+
+-- how much room a write needs, and how much it leaves
+abbrev pub needed : Growth → ℕ
+needed (growth.Covered count) = 0
+needed (growth.Released count) = 0
+needed growth.Closed = 0
+needed _ = 1
+
+abbrev pub left : Growth → (room : ℕ) → ℕ
+left (growth.Covered count) room = room
+left (growth.Released count) room = room
+left growth.Closed room = room
+left growth.Epoch room = 0
+left _ room = room - 1

@@ -1,0 +1,373 @@
+//! The book of a line, and what is written into it.
+ghost use Rattle.std.specs.Prelude.{◌≡◌, ◌≤◌, ◌-◌, ℕ, IfOk, OnOk, OnErr, IsTrue, Some, map, length, vec_len, vec_capacity};
+ghost use Rattle.packet_layer.specs.NoteView.{note_of};
+ghost use Rattle.packet_layer.specs.TakenView.{taken_of};
+ghost use Rattle.packet_layer.specs.Octets.{parts_of};
+ghost use Rattle.call_records.specs.Book.{made_book, slot_at, changed, places, comes, answers, closes, renews, sends, interrupts, takes, releases, covers, edits, told};
+ghost use Rattle.call_records.specs.Records.{changed_at};
+ghost use Rattle.call_records.specs.Closing.{all_closed};
+ghost use Rattle.call_records.specs.Room.{opens, room_after};
+ghost use Rattle.call_records.specs.BookView.{CallsHavePlaces};
+ghost use Rattle.call_records.specs.RecordView.{shown, pair_of, step_of, grown, needed, left, PlacesAt};
+
+use crate::ends::{Ends, Side, Slot};
+use crate::packet::{Interrupt, UserPacket};
+use crate::record::{EditStep, Growth, Pair, Record};
+use link_timers::Role;
+use packet_codec::{Address, CallBuf};
+use packet_layer::{LayerNote, Taken};
+use std::alloc::{AllocError, Global};
+use std::marker::Model;
+
+/// The book of a line: the records of the calls' two ends, the pairs of them that make a call, and for each end, channel by
+/// channel, which records belong there. Only `new` and `reserve` take memory; what is written needs room that was reserved.
+#[derive(Drop)]
+pub struct Book {
+    alloc: Global,
+    records: Vec<Record>,
+    pairs: Vec<Pair>,
+    ends: Ends,
+    room: usize,
+}
+
+impl Model for Book {
+    ghost use Rattle.call_records.specs.Room.{BookState};
+
+    ghost Value = { BookState };
+
+    ghost use Rattle.call_records.specs.BookView.{state_of, HasRoom};
+
+    ghost view = { state_of };
+
+    ghost invariant = { HasRoom };
+}
+
+impl Book {
+    /// The book of a line between two nodes with channels from 1 on. On a standing line a call stands on channel 1, which counts
+    /// as placed by the DTE. It is refused for want of memory. There is no room yet.
+    pub fn new(
+        alloc: Global,
+        dte_node: usize,
+        dce_node: usize,
+        channels: u8,
+        standing: bool,
+    ) -> Result<Book, AllocError>
+        ensures { IfOk result (λ b. b ≡ record { book = made_book dte_node dce_node channels standing; room = 0 }) }
+    {
+        let mut ends = Ends {
+            dte: Side::new(alloc, dte_node, channels)?,
+            dce: Side::new(alloc, dce_node, channels)?,
+        };
+        let mut records = Vec::with_capacity(alloc, 2)?;
+        let mut pairs = Vec::with_capacity(alloc, 1)?;
+        if standing {
+            records.push_reserved(Record::new(alloc, 0, dte_node, None, None));
+            records.push_reserved(Record::new(alloc, 1, dce_node, None, None));
+            pairs.push_reserved(Pair {
+                caller: 0,
+                callee: 1,
+            });
+            let caller = Slot {
+                present: Some(0),
+                placed: Some(0),
+                caller: None,
+            };
+            let callee = Slot {
+                present: Some(1),
+                placed: None,
+                caller: Some(0),
+            };
+            ends.put(Role::Dte, 1, caller);
+            ends.put(Role::Dce, 1, callee);
+        }
+        Ok(Book {
+            alloc,
+            records,
+            pairs,
+            ends,
+            room: 0,
+        })
+    }
+
+    /// Makes room for so many writes: in the lists of records and of pairs, and in the record of each present call. Without the
+    /// memory there is no room, and the book is as before.
+    pub fn reserve(&mut self, count: usize) -> Result<(), AllocError>
+        ensures same { self.new.book ≡ self.old.book }
+        ensures ok { OnOk result (self.new.room ≡ count) }
+        ensures err { OnErr result (self.new.room ≡ 0) }
+    {
+        self.room = 0;
+        self.records.reserve(count)?;
+        self.pairs.reserve(count)?;
+        reserve_present(&mut self.records, self.ends.of(Role::Dte), count)?;
+        reserve_present(&mut self.records, self.ends.of(Role::Dce), count)?;
+        self.room = count;
+        Ok(())
+    }
+
+    /// The records, by their numbers.
+    pub fn records(&self) -> &[Record]
+        ensures { map shown result.now ≡ self.now.book.records }
+    {
+        self.records.as_slice()
+    }
+
+    /// The pairs, in the order of acceptance.
+    pub fn pairs(&self) -> &[Pair]
+        ensures { map pair_of result.now ≡ self.now.book.pairs }
+    {
+        self.pairs.as_slice()
+    }
+
+    /// The number of the record of the present call on a channel of an end.
+    pub fn present(&self, role: Role, channel: u8) -> Option<usize>
+        ensures { result ≡ (slot_at role channel self.now.book).present }
+    {
+        self.ends.of(role).slot(channel).present
+    }
+
+    /// For how many writes there is room.
+    pub fn room(&self) -> usize
+        ensures { result ≡ self.now.room }
+    {
+        self.room
+    }
+
+    /// An end places a call to an address (X.25 4.1.2). No room is left, since the new record has none.
+    pub fn places(&mut self, role: Role, channel: u8, called: &Address)
+        requires { 1 ≤ self.old.room }
+        ensures { self.new ≡ record { book = places role channel called.now self.old.book; room = 0 } }
+    {
+        let number = self.records.len();
+        let node = self.ends.of(role).node();
+        let slot = Slot {
+            present: Some(number),
+            placed: Some(number),
+            caller: None,
+        };
+        self.records.push_reserved(Record::new(self.alloc, number, node, None, Some(*called)));
+        self.ends.put(role, channel, slot);
+        self.room = 0;
+    }
+
+    // A call comes in at an end: it is the one that the other end placed last on this channel.
+    fn comes(&mut self, role: Role, channel: u8, call: &CallBuf)
+        requires { 1 ≤ self.old.room }
+        ensures { self.new ≡ record { book = comes role channel (parts_of call.now) self.old.book; room = 0 } }
+    {
+        let number = self.records.len();
+        let here = self.ends.of(role);
+        let node = here.node();
+        let placed = here.slot(channel).placed;
+        let caller = self.ends.of(role.other()).slot(channel).placed;
+        let slot = Slot {
+            present: Some(number),
+            placed,
+            caller,
+        };
+        let data = call.data();
+        self.records.push_reserved(Record::new(
+            self.alloc,
+            number,
+            node,
+            Some(data.called),
+            data.calling,
+        ));
+        self.ends.put(role, channel, slot);
+        self.room = 0;
+    }
+
+    /// An end accepts the call that came in (X.25 4.1.5): its record and that of the end that placed it are a pair.
+    pub fn answers(&mut self, role: Role, channel: u8)
+        requires { 1 ≤ self.old.room }
+        ensures { self.new ≡ record { book = answers role channel self.old.book; room = self.old.room - 1 } }
+    {
+        let Slot {
+            present, caller, ..
+        } = self.ends.of(role).slot(channel);
+        self.room -= 1;
+        let (Some(caller), Some(callee)) = (caller, present) else {
+            return;
+        };
+        self.pairs.push_reserved(Pair { caller, callee });
+    }
+
+    /// The present call is over for an end (X.25 4.1.7, 4.1.8).
+    pub fn closes(&mut self, role: Role, channel: u8)
+        ensures { self.new ≡ record { book = closes role channel self.old.book; room = self.old.room } }
+    {
+        self.grow(role, channel, Growth::Closed);
+        let placed = self.ends.of(role).slot(channel).placed;
+        let slot = Slot {
+            present: None,
+            placed,
+            caller: None,
+        };
+        self.ends.put(role, channel, slot);
+    }
+
+    /// The present calls on all channels of an end are over for it, in rising order of channels.
+    pub fn close_all(&mut self, role: Role)
+        ensures { self.new ≡ record { book = all_closed role self.old.book; room = self.old.room } }
+    {
+        let channels = self.ends.of(role).channels();
+        for place in 0..channels {
+            if self.present(role, place + 1).is_some() {
+                self.closes(role, place + 1);
+            }
+        }
+    }
+
+    /// The present call was reset (X.25 4.4.3): an epoch begins, sent and taken. No room is left, since the new epoch has none.
+    pub fn renews(&mut self, role: Role, channel: u8)
+        requires { 1 ≤ self.old.room }
+        ensures { self.new ≡ record { book = renews role channel self.old.book; room = 0 } }
+    {
+        self.grow(role, channel, Growth::Epoch);
+    }
+
+    /// A Data packet of at most 128 octets was accepted to be sent, with its bits M, Q and D (X.25 4.3).
+    pub fn sends(
+        &mut self,
+        role: Role,
+        channel: u8,
+        octets: &[u8],
+        more: bool,
+        qualified: bool,
+        delivery: bool,
+    )
+        requires room { 1 ≤ self.old.room }
+        requires fits { length octets.now ≤ 128 }
+        ensures { self.new ≡ record { book = sends role channel (record { octets = octets.now; more = more; qualified = qualified; delivery = delivery }) self.old.book; room = self.old.room - 1 } }
+    {
+        let packet = UserPacket::new(octets, more, qualified, delivery);
+        self.grow(role, channel, Growth::Sent(packet));
+    }
+
+    /// An interrupt of at most 32 octets was accepted to be sent (X.25 4.3.7).
+    pub fn interrupts(&mut self, role: Role, channel: u8, octets: &[u8])
+        requires room { 1 ≤ self.old.room }
+        requires fits { length octets.now ≤ 32 }
+        ensures { self.new ≡ record { book = interrupts role channel octets.now self.old.book; room = self.old.room - 1 } }
+    {
+        self.grow(role, channel, Growth::InterruptSent(Interrupt::new(octets)));
+    }
+
+    /// A packet or an interrupt was taken.
+    pub fn takes(&mut self, role: Role, channel: u8, taken: &Taken)
+        requires { 1 ≤ self.old.room }
+        ensures { self.new ≡ record { book = takes role channel (Some (taken_of taken.now)) self.old.book; room = self.old.room - 1 } }
+    {
+        match taken {
+            Taken::Interrupt(interrupt) => {
+                let interrupt = Interrupt::new(interrupt.octets());
+                self.grow(role, channel, Growth::InterruptTaken(interrupt));
+            }
+            Taken::Data(data) => {
+                let packet = UserPacket::new(
+                    data.octets(),
+                    data.more(),
+                    data.qualified(),
+                    data.delivery(),
+                );
+                self.grow(role, channel, Growth::Taken(packet));
+            }
+        }
+    }
+
+    /// So many more of the packets taken are released, at most all of them (X.25 4.4.1.3).
+    pub fn releases(&mut self, role: Role, channel: u8, count: usize)
+        ensures { self.new ≡ record { book = releases role channel count self.old.book; room = self.old.room } }
+    {
+        self.grow(role, channel, Growth::Released(count));
+    }
+
+    /// So many more of the packets sent are covered, at most all of them (X.25 4.4.1.3).
+    pub fn covers(&mut self, role: Role, channel: u8, count: usize)
+        ensures { self.new ≡ record { book = covers role channel count self.old.book; room = self.old.room } }
+    {
+        self.grow(role, channel, Growth::Covered(count));
+    }
+
+    /// A PAD took a step of editing on its call.
+    pub fn edits(&mut self, role: Role, channel: u8, step: EditStep)
+        requires { 1 ≤ self.old.room }
+        ensures { self.new ≡ record { book = edits role channel (step_of step) self.old.book; room = self.old.room - 1 } }
+    {
+        self.grow(role, channel, Growth::Step(step));
+    }
+
+    /// An end's packet layer told something. A note of a call that came in and one of a reset need room, and leave none.
+    pub fn told(&mut self, role: Role, note: &LayerNote)
+        requires { IsTrue (opens (note_of note.now)) → 1 ≤ self.old.room }
+        ensures { self.new ≡ record { book = told role (note_of note.now) self.old.book; room = room_after (note_of note.now) self.old.room } }
+    {
+        match note {
+            LayerNote::Incoming(channel, call) => self.comes(role, *channel, call),
+            LayerNote::Connected(_) | LayerNote::InterruptConfirmed(_) => {}
+            LayerNote::Closed { channel, .. } => self.closes(role, *channel),
+            LayerNote::Reset { channel, .. } => self.renews(role, *channel),
+            LayerNote::Covered { channel, count } => {
+                self.covers(role, *channel, usize::from(*count));
+            }
+        }
+    }
+
+    // The record of the present call on a channel grows by a write.
+    fn grow(&mut self, role: Role, channel: u8, growth: Growth)
+        requires { needed growth ≤ self.old.room }
+        ensures { self.new ≡ record { book = changed role channel (grown growth) self.old.book; room = left growth self.old.room } }
+    {
+        let present = self.ends.of(role).slot(channel).present;
+        self.room = growth.left(self.room);
+        let Some(number) = present else {
+            return;
+        };
+        grow_at(&mut self.records, number, self.alloc, growth);
+    }
+}
+
+// The record of this number grows by a write, if there is one.
+fn grow_at(records: &mut Vec<Record>, number: usize, alloc: Global, growth: Growth)
+    requires { PlacesAt (needed growth) number records.old.items }
+    ensures shown { map shown records.new.items ≡ changed_at number (grown growth) (map shown records.old.items) }
+    ensures len { vec_len records.new ≡ vec_len records.old }
+    ensures capacity { vec_capacity records.new ≡ vec_capacity records.old }
+    ensures room { (room other : ℕ) → PlacesAt room number records.old.items → PlacesAt room other records.old.items → PlacesAt (left growth room) other records.new.items }
+{
+    if number < records.len() {
+        let record = &mut records[number];
+        record.grow(alloc, growth);
+    }
+}
+
+// Makes room in the record of this number, if there is one.
+fn reserve_at(records: &mut Vec<Record>, number: usize, count: usize) -> Result<(), AllocError>
+    ensures same { map shown records.new.items ≡ map shown records.old.items }
+    ensures len { vec_len records.new ≡ vec_len records.old }
+    ensures capacity { vec_capacity records.new ≡ vec_capacity records.old }
+    ensures kept { OnOk result ((other : ℕ) → PlacesAt count other records.old.items → PlacesAt count other records.new.items) }
+    ensures ok { OnOk result (PlacesAt count number records.new.items) }
+{
+    if number < records.len() {
+        let record = &mut records[number];
+        record.reserve(count)?;
+    }
+    Ok(())
+}
+
+// Makes room in the records of the present calls of an end.
+fn reserve_present(records: &mut Vec<Record>, side: &Side, count: usize) -> Result<(), AllocError>
+    ensures same { map shown records.new.items ≡ map shown records.old.items }
+    ensures len { vec_len records.new ≡ vec_len records.old }
+    ensures capacity { vec_capacity records.new ≡ vec_capacity records.old }
+    ensures kept { OnOk result ((other : ℕ) → PlacesAt count other records.old.items → PlacesAt count other records.new.items) }
+    ensures ok { OnOk result (CallsHavePlaces count side.now.slots records.new.items) }
+{
+    for place in 0..side.channels() {
+        if let Some(number) = side.slot(place + 1).present {
+            reserve_at(records, number, count)?;
+        }
+    }
+    Ok(())
+}

@@ -1,0 +1,141 @@
+//! The two ends of a line, channel by channel.
+ghost use Rattle.std.specs.Prelude.{◌≡◌, ◌≤◌, List, IfOk, Some, None, length, replicate};
+ghost use Rattle.call_records.specs.Records.{RecordValue, PairValue};
+ghost use Rattle.call_records.specs.Book.{free_slot, nth_slot, with_nth, side_of, with_slot};
+ghost use Rattle.call_records.specs.BookView.{book_with};
+
+use crate::record::Pair;
+use link_timers::Role;
+use std::alloc::{AllocError, Global};
+use std::marker::Model;
+
+/// A channel at an end of the line: the number of the record of the present call, that of the call that this end placed there
+/// last, and where the present call came in, that of the record of the end that placed it.
+#[derive(Clone, Copy)]
+pub(crate) struct Slot {
+    pub(crate) present: Option<usize>,
+    pub(crate) placed: Option<usize>,
+    pub(crate) caller: Option<usize>,
+}
+
+impl Model for Slot {
+    ghost use Rattle.call_records.specs.Book.{Slot as SlotValue};
+
+    ghost Value = { SlotValue };
+
+    ghost view = { λ s. record { present = s.present; placed = s.placed; caller = s.caller } };
+
+    ghost inverse = { λ s. record { present = s.present; placed = s.placed; caller = s.caller } };
+}
+
+impl Slot {
+    /// A channel on which no call is present, and none was placed.
+    pub(crate) fn free() -> Slot
+        ensures { result ≡ free_slot }
+    {
+        Slot {
+            present: None,
+            placed: None,
+            caller: None,
+        }
+    }
+}
+
+/// An end of the line: its node, and its channels from 1 on.
+#[derive(Drop)]
+pub(crate) struct Side {
+    node: usize,
+    slots: Vec<Slot>,
+}
+
+impl Model for Side {
+    ghost use Rattle.std.specs.Prelude.{◌≤◌, length};
+    ghost use Rattle.call_records.specs.Book.{Side as SideValue};
+
+    ghost Value = { SideValue };
+
+    ghost view = { λ s. record { node = s.node; slots = s.slots.items } };
+
+    ghost invariant = { λ s. length s.slots.items ≤ 255 };
+}
+
+impl Side {
+    /// An end with this node, and so many channels, all free.
+    pub(crate) fn new(alloc: Global, node: usize, channels: u8) -> Result<Side, AllocError>
+        ensures { IfOk result (λ side. side ≡ record { node = node; slots = replicate channels free_slot }) }
+    {
+        let mut slots = Vec::new(alloc);
+        for _ in 0..channels {
+            slots.push(Slot::free())?;
+        }
+        Ok(Side { node, slots })
+    }
+
+    /// The number of its node.
+    pub(crate) fn node(&self) -> usize
+        ensures { result ≡ self.now.node }
+    {
+        self.node
+    }
+
+    /// How many channels it has.
+    pub(crate) fn channels(&self) -> u8
+        ensures { result ≡ length self.now.slots }
+    {
+        self.slots.len() as u8
+    }
+
+    /// What is kept of a channel.
+    pub(crate) fn slot(&self, channel: u8) -> Slot
+        ensures { result ≡ nth_slot self.now.slots channel }
+    {
+        let Some(place) = usize::from(channel).checked_sub(1) else {
+            return Slot::free();
+        };
+        match self.slots.get(place) {
+            Some(slot) => *slot,
+            None => Slot::free(),
+        }
+    }
+
+    /// Keeps something of a channel, if the line has it.
+    pub(crate) fn put(&mut self, channel: u8, slot: Slot)
+        ensures { self.new ≡ record self.old { slots = with_nth self.old.slots channel slot } }
+    {
+        let Some(place) = usize::from(channel).checked_sub(1) else {
+            return;
+        };
+        if place < self.slots.len() {
+            self.slots[place] = slot;
+        }
+    }
+}
+
+/// The two ends of a line.
+#[derive(Drop)]
+pub(crate) struct Ends {
+    pub(crate) dte: Side,
+    pub(crate) dce: Side,
+}
+
+impl Ends {
+    /// The end of this role.
+    pub(crate) fn of(&self, role: Role) -> &Side
+        ensures { (records : List RecordValue) (pairs : List PairValue) → result.now ≡ side_of role (book_with records pairs self.now) }
+    {
+        match role {
+            Role::Dte => &self.dte,
+            Role::Dce => &self.dce,
+        }
+    }
+
+    /// Keeps something of a channel of the end of this role.
+    pub(crate) fn put(&mut self, role: Role, channel: u8, slot: Slot)
+        ensures { (records : List RecordValue) (pairs : List PairValue) → book_with records pairs self.new ≡ with_slot role channel slot (book_with records pairs self.old) }
+    {
+        match role {
+            Role::Dte => self.dte.put(channel, slot),
+            Role::Dce => self.dce.put(channel, slot),
+        }
+    }
+}

@@ -1,0 +1,209 @@
+//! What a network keeps of each end's part in a call, and which two of these make a call.
+ghost use Rattle.std.specs.Prelude.{◌≡◌, ◌≤◌, ℕ, OnOk};
+ghost use Rattle.epochs.specs.Epoch.{nothing_sent, nothing_taken};
+ghost use Rattle.call_records.specs.Records.{new_record, with_epoch};
+ghost use Rattle.call_records.specs.RecordView.{shown, sent_of, taken_of, grown, needed, left, HasPlaces};
+
+use crate::packet::{Interrupt, UserPacket};
+use packet_codec::Address;
+use std::alloc::{AllocError, Global};
+use std::mem;
+use x3_params::Params;
+
+/// What an end sent in an epoch of its call, that is, between two resets: the packets and the interrupts, and how many of the
+/// packets a received P(R) covered.
+#[derive(Drop)]
+pub struct SentEpoch {
+    pub packets: Vec<UserPacket>,
+    pub interrupts: Vec<Interrupt>,
+    pub covered: usize,
+}
+
+/// What an end took in an epoch of its call: the packets and the interrupts, and how many of the packets were released.
+#[derive(Drop)]
+pub struct TakenEpoch {
+    pub packets: Vec<UserPacket>,
+    pub interrupts: Vec<Interrupt>,
+    pub released: usize,
+}
+
+/// A step of editing at a PAD: a key that was taken, with the parameters that were then in force.
+#[derive(Clone, Copy)]
+pub enum EditStep {
+    Key { octet: u8, params: Params },
+}
+
+/// One end's part in one call.
+#[derive(Drop)]
+pub struct Record {
+    /// Its number in the order of making, from 0.
+    pub number: usize,
+    /// The number of its node.
+    pub node: usize,
+    /// Its own address: of a callee the called one. Without a switch a caller has none, and neither has a standing call.
+    pub own: Option<Address>,
+    /// The address of the far end.
+    pub far: Option<Address>,
+    /// The epochs sent before the last one.
+    pub sent_before: Vec<SentEpoch>,
+    /// The last epoch sent.
+    pub sent: SentEpoch,
+    /// The epochs taken before the last one.
+    pub taken_before: Vec<TakenEpoch>,
+    /// The last epoch taken.
+    pub taken: TakenEpoch,
+    /// Whether the call is over for this end.
+    pub closed: bool,
+    /// The steps of editing, at a PAD.
+    pub steps: Vec<EditStep>,
+}
+
+/// A call: the numbers of the records of the end that called and of the end that was called.
+#[derive(Clone, Copy, Debug, PartialEq, Eq)]
+pub struct Pair {
+    pub caller: usize,
+    pub callee: usize,
+}
+
+/// What a write adds to a record.
+#[derive(Drop)]
+pub(crate) enum Growth {
+    /// A packet that was accepted to be sent.
+    Sent(UserPacket),
+    /// An interrupt that was accepted to be sent.
+    InterruptSent(Interrupt),
+    /// A packet that was taken.
+    Taken(UserPacket),
+    /// An interrupt that was taken.
+    InterruptTaken(Interrupt),
+    /// So many more of the packets sent are covered.
+    Covered(usize),
+    /// So many more of the packets taken are released.
+    Released(usize),
+    /// A step of editing.
+    Step(EditStep),
+    /// A reset opens an epoch.
+    Epoch,
+    /// The call is over for this end.
+    Closed,
+}
+
+impl Growth {
+    /// The room that it leaves.
+    pub(crate) fn left(&self, room: usize) -> usize
+        requires { needed self.now ≤ room }
+        ensures { result ≡ left self.now room }
+    {
+        match self {
+            Growth::Covered(_) | Growth::Released(_) | Growth::Closed => room,
+            Growth::Epoch => 0,
+            Growth::Sent(_)
+            | Growth::InterruptSent(_)
+            | Growth::Taken(_)
+            | Growth::InterruptTaken(_)
+            | Growth::Step(_) => room - 1,
+        }
+    }
+}
+
+impl SentEpoch {
+    /// An epoch in which nothing was sent yet.
+    fn new(alloc: Global) -> Self
+        ensures { sent_of result ≡ nothing_sent }
+    {
+        SentEpoch {
+            packets: Vec::new(alloc),
+            interrupts: Vec::new(alloc),
+            covered: 0,
+        }
+    }
+}
+
+impl TakenEpoch {
+    /// An epoch in which nothing was taken yet.
+    fn new(alloc: Global) -> Self
+        ensures { taken_of result ≡ nothing_taken }
+    {
+        TakenEpoch {
+            packets: Vec::new(alloc),
+            interrupts: Vec::new(alloc),
+            released: 0,
+        }
+    }
+}
+
+impl Record {
+    /// The record of an end's part in a new call.
+    pub(crate) fn new(
+        alloc: Global,
+        number: usize,
+        node: usize,
+        own: Option<Address>,
+        far: Option<Address>,
+    ) -> Self
+        ensures { shown result ≡ new_record number node own far }
+    {
+        Record {
+            number,
+            node,
+            own,
+            far,
+            sent_before: Vec::new(alloc),
+            sent: SentEpoch::new(alloc),
+            taken_before: Vec::new(alloc),
+            taken: TakenEpoch::new(alloc),
+            closed: false,
+            steps: Vec::new(alloc),
+        }
+    }
+
+    /// Makes room in every list.
+    pub(crate) fn reserve(&mut self, count: usize) -> Result<(), AllocError>
+        ensures same { shown self.new ≡ shown self.old }
+        ensures ok { OnOk result (HasPlaces count self.new) }
+    {
+        self.sent_before.reserve(count)?;
+        self.sent.packets.reserve(count)?;
+        self.sent.interrupts.reserve(count)?;
+        self.taken_before.reserve(count)?;
+        self.taken.packets.reserve(count)?;
+        self.taken.interrupts.reserve(count)?;
+        self.steps.reserve(count)
+    }
+
+    /// Grows by a write.
+    pub(crate) fn grow(&mut self, alloc: Global, growth: Growth)
+        requires { HasPlaces (needed growth) self.old }
+        ensures shown { shown self.new ≡ grown growth (shown self.old) }
+        ensures room { (room : ℕ) → HasPlaces room self.old → HasPlaces (left growth room) self.new }
+    {
+        match growth {
+            Growth::Sent(packet) => self.sent.packets.push_reserved(packet),
+            Growth::InterruptSent(interrupt) => self.sent.interrupts.push_reserved(interrupt),
+            Growth::Taken(packet) => self.taken.packets.push_reserved(packet),
+            Growth::InterruptTaken(interrupt) => self.taken.interrupts.push_reserved(interrupt),
+            Growth::Covered(count) => {
+                let covered = self.sent.covered.saturating_add(count);
+                self.sent.covered = covered.min(self.sent.packets.len());
+            }
+            Growth::Released(count) => {
+                let released = self.taken.released.saturating_add(count);
+                self.taken.released = released.min(self.taken.packets.len());
+            }
+            Growth::Step(step) => self.steps.push_reserved(step),
+            Growth::Epoch => self.open_epoch(alloc),
+            Growth::Closed => self.closed = true,
+        }
+    }
+
+    // Opens an epoch in both lists.
+    fn open_epoch(&mut self, alloc: Global)
+        requires { HasPlaces 1 self.old }
+        ensures { shown self.new ≡ with_epoch (shown self.old) }
+    {
+        let sent = mem::replace(&mut self.sent, SentEpoch::new(alloc));
+        let taken = mem::replace(&mut self.taken, TakenEpoch::new(alloc));
+        self.sent_before.push_reserved(sent);
+        self.taken_before.push_reserved(taken);
+    }
+}

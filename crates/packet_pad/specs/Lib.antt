@@ -1,0 +1,4 @@
+pub mod Pad
+pub mod Making
+pub mod PadView
+pub mod Keys
