@@ -7,7 +7,7 @@ mod Cancelling
 mod Answering
 mod Concluding
 mod Calling
-mod Writing
+pub mod Writing
 mod Faces
 mod Stories
 mod Steps

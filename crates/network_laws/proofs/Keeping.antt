@@ -1,6 +1,6 @@
 -- The law of a line of a network and of its book.
-use Rattle.std.specs.Prelude.{◌≡◌, ℕ, ◌≤◌, Bool, true, false, List, [], ◌∷◌, ◌++◌, drop, Option, Some, None, is_some}
-use Rattle.std.proofs.Common.{refl, sym, ap, subst, ◌∙◌, arith}
+use Rattle.std.specs.Prelude.{◌≡◌, ℕ, suc, ◌+◌, ◌≤◌, Bool, true, false, cond, List, [], ◌∷◌, ◌++◌, drop, length, slice_get, Option, Some, None, is_some}
+use Rattle.std.proofs.Common.{refl, sym, ap, subst, ◌∙◌, arith, true≢false}
 use Rattle.link_timers.specs.declared.role.Role.{Role}
 use Rattle.link_timers.specs.declared.role.Role.TheVariants.{Dte, Dce}
 use Rattle.link_timers.specs.Role.{other_of}
@@ -9,8 +9,11 @@ use Rattle.lapb.specs.World as links
 use Rattle.link_timers.specs.Timers.{none_running}
 use Rattle.line_end.specs.End as line
 use Rattle.packet_layer.specs.Packets.{Note}
+use Rattle.packet_layer.specs.Packets.Note.{Closed}
+use Rattle.packet_layer.specs.Packets.Reason.{LinkLost}
+use Rattle.packet_layer.specs.Channel.{Channel}
 use Rattle.packet_layer.specs.Layer as machine
-use Rattle.packet_layer.specs.Layer.{Layer, channel_of, link_down, channel_given}
+use Rattle.packet_layer.specs.Layer.{Layer, channel_of, link_down, channel_given, had_call, closing_notes}
 use Rattle.packet_laws.specs.Readable.{IsReadable}
 use Rattle.packet_laws.specs.Line as layers
 use Rattle.packet_end.specs.PacketEnd.{PacketEnd}
@@ -18,13 +21,15 @@ use Rattle.packet_line.specs.PacketLine as acts
 use Rattle.packet_line.specs.PacketLine.{Line, Act, Begins, Hears, Expires, Relinks, RelinksIfDue, Restarts, Calls, Requests, Offers, Settles, Elapses, Sends, At, Loses, does, other_after, going_after, coming_after, made}
 use Rattle.packet_line.specs.Joint.{Part, JointOf, Joint, Stands, Side, side, Follows}
 use Rattle.packet_line.proofs.Holding.{new_joint}
-use Rattle.call_records.specs.Book.{Book, slot_at, made_book, edits, all_told}
+use Rattle.call_records.specs.Book.{Book, Slot, side_of, slot_at, closes, made_book, edits, all_told}
+use Rattle.call_records.specs.Closing.{closes_if, closed_from}
+use Rattle.call_laws.proofs.Writing.{closed_else}
 use Rattle.call_laws.specs.Told.{World, after_all, start, placed_on}
 use Rattle.call_laws.specs.Headline.{BookHolds, IsBeside, has_call}
 use Rattle.call_laws.proofs.BookHolds.{book_holds}
 use Rattle.call_laws.proofs.Beside.{is_beside}
 use Rattle.network_laws.specs.Kept.{Setting, IsSetting, Kept, IsLike, beginning, end_at, coming_to}
-use Rattle.network_laws.specs.Clauses.{MadeLaw, MayTell, IsSilent, Tells, TellsLaw, SilentLaw, RestartLaw, CallLaw, requested_at, RequestLaw, LossLaw, EditLaw, LikeLaw, HoldsLaw, PresentLaw}
+use Rattle.network_laws.specs.Clauses.{MadeLaw, MayTell, IsSilent, Tells, TellsLaw, SilentLaw, RestartLaw, CallLaw, requested_at, RequestLaw, LossLaw, EditLaw, LikeLaw, HoldsLaw, PresentLaw, ChannelsLaw, ClosingLaw}
 use Rattle.network_laws.proofs.Views.{KeptAt, KeptOf, seen, unseen}
 use Rattle.network_laws.proofs.Acting.{Told, hears_at, expires_at, relinks_at, relinks_if_due_at, begins_at, settles_at, elapses_at, sends_at, offers_at, restarts_at, calls_at, requests_at, loses_at, edits_at, kept_happens, end_is}
 
@@ -101,11 +106,6 @@ silent_kept s b l role Restarts is k = absurd is
 silent_kept s b l role (Calls parts) is k = absurd is
 silent_kept s b l role (Requests channel r) is k = absurd is
 
-pub restart_kept : RestartLaw
-restart_kept s b l role k =
-    kept_happens s (all_told role (link_down (end_at role l).layer).notes b) role Restarts l
-    (restarts_at s b role (end_at role l) (end_at (other_of role) l) (coming_to (other_of role) l) (coming_to role l) (seen s b role l k))
-
 -- ---- acts of a user
 
 pub call_kept : CallLaw
@@ -164,7 +164,7 @@ holds_kept s b l k =
     subst (λ (x : Book). BookHolds x) k.book
     (book_holds s.dte_node s.dce_node s.dte.channels s.dte.window s.dte.standing k.setting.dte.layer.channels_least k.setting.dte.layer.window_most k.moves k.allowed)
 
-beside : (s : Setting) (b : Book) (l : Line) → (k : Kept s b l) → IsBeside (after_all k.moves (beginning s))
+pub beside : (s : Setting) (b : Book) (l : Line) → (k : Kept s b l) → IsBeside (after_all k.moves (beginning s))
 beside s b l k = is_beside s.dte_node s.dce_node s.dte.channels s.dte.window s.dte.standing k.setting.dte.layer.channels_least k.setting.dte.layer.window_most k.moves k.allowed
 
 pub present_kept : PresentLaw
@@ -174,3 +174,44 @@ present_kept s b l Dte channel k =
 present_kept s b l Dce channel k =
     ap (λ (x : Book). is_some (slot_at Dce channel x).present) (sym k.book) ∙ (beside s b l k).present Dce channel
     ∙ ap (λ (x : Layer). has_call (channel_of x channel)) k.joint.yours.layer
+
+pub channels_kept : ChannelsLaw
+channels_kept s b l Dte k =
+    ap (λ (x : Book). length (side_of Dte x).slots) (sym k.book) ∙ (beside s b l k).channels Dte ∙ ap (λ (x : Layer). length x.channels) k.joint.mine.layer
+channels_kept s b l Dce k =
+    ap (λ (x : Book). length (side_of Dce x).slots) (sym k.book) ∙ (beside s b l k).channels Dce ∙ ap (λ (x : Layer). length x.channels) k.joint.yours.layer
+
+-- ---- a restart
+
+-- the notes of some channels from `c` on, with a present record exactly where there is a call
+closing_told : (chs : List Channel) (c : ℕ) (role : Role) (b : Book) → ((n i : ℕ) → n ≡ c + i → is_some (slot_at role n b).present ≡ has_call (slice_get chs i)) →
+    all_told role (closing_notes c LinkLost chs) b ≡ closed_from (length chs) c role b
+closing_told [] c role b h = refl
+closing_told (ch ∷ chs) c role b h = one (had_call ch.state) (slot_at role c b).present refl (h c 0 (omega arith)) (λ x g. closing_told chs (suc c) role x g)
+  where
+    further : (n i : ℕ) → n ≡ suc c + i → is_some (slot_at role n b).present ≡ has_call (slice_get chs i)
+    further n i e = h n (suc i) (omega arith)
+
+    one : (v : Bool) (o : Option ℕ) → (slot_at role c b).present ≡ o → is_some o ≡ v →
+        ((x : Book) → ((n i : ℕ) → n ≡ suc c + i → is_some (slot_at role n x).present ≡ has_call (slice_get chs i)) → all_told role (closing_notes (suc c) LinkLost chs) x ≡ closed_from (length chs) (suc c) role x) →
+        all_told role (cond v (Closed c 9 0 LinkLost ∷ closing_notes (suc c) LinkLost chs) (closing_notes (suc c) LinkLost chs)) b ≡ closed_from (length chs) (suc c) role (closes_if o role c b)
+    one true (Some number) e f others =
+        others (closes role c b) (λ n i g. ap (λ (z : Slot). is_some z.present) (closed_else role c b n (λ k. absurd (omega arith))) ∙ further n i g)
+    one true None e f others = absurd (true≢false (sym f))
+    one false (Some number) e f others = absurd (true≢false f)
+    one false None e f others = others b further
+
+pub closing_kept : ClosingLaw
+closing_kept s b l role k =
+    let e : PacketEnd = end_at role l in
+    closing_told e.layer.channels 1 role b (λ n i g. subst (λ (m : ℕ). is_some (slot_at role m b).present ≡ has_call (channel_of e.layer (suc i))) (sym (first_place n i g)) (present_kept s b l role (suc i) k))
+    ∙ ap (λ (m : ℕ). closed_from m 1 role b) (sym (channels_kept s b l role k))
+  where
+    first_place : (n i : ℕ) → n ≡ 1 + i → n ≡ suc i
+    first_place n i g = omega arith
+
+pub restart_kept : RestartLaw
+restart_kept s b l role k =
+    let r = kept_happens s (all_told role (link_down (end_at role l).layer).notes b) role Restarts l
+    (restarts_at s b role (end_at role l) (end_at (other_of role) l) (coming_to (other_of role) l) (coming_to role l) (seen s b role l k)) in
+    (r, subst (λ (x : Book). Kept s x (acts.happens (At role Restarts) l)) (closing_kept s b l role k) r)

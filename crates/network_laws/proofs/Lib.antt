@@ -3,3 +3,5 @@ mod Telling
 mod Views
 pub mod Acting
 pub mod Keeping
+pub mod Happening
+pub mod Opening

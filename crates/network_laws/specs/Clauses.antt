@@ -1,5 +1,5 @@
 -- What each thing that may happen on a line makes of what is kept of it and of its book.
-use Rattle.std.specs.Prelude.{◌≡◌, ℕ, List, [], ◌++◌, Option, Some, None, is_some}
+use Rattle.std.specs.Prelude.{◌≡◌, ℕ, List, [], ◌++◌, length, Option, Some, None, is_some}
 use Rattle.link_timers.specs.declared.role.Role.{Role}
 use Rattle.pad_editing.specs.Edited.{Step}
 use Rattle.packet_layer.specs.Packets.{CallParts, Note}
@@ -8,7 +8,8 @@ use Rattle.packet_layer.specs.Layer.{link_down, channel_of, channel_given, reque
 use Rattle.packet_laws.specs.Readable.{CanBePlaced}
 use Rattle.packet_end.specs.PacketEnd.{PacketEnd}
 use Rattle.packet_line.specs.PacketLine.{Line, Act, Begins, Hears, Expires, Relinks, RelinksIfDue, Restarts, Calls, Requests, Offers, Settles, Elapses, Sends, At, Loses, happens, made}
-use Rattle.call_records.specs.Book.{Book, slot_at, edits, all_told, made_book}
+use Rattle.call_records.specs.Book.{Book, side_of, slot_at, edits, all_told, made_book}
+use Rattle.call_records.specs.Closing.{all_closed}
 use Rattle.call_laws.specs.Told.{carried, unless_refused, placed_on}
 use Rattle.call_laws.specs.Headline.{BookHolds, has_call}
 use Rattle.network_laws.specs.Kept.{Setting, IsSetting, Kept, IsLike, end_at}
@@ -52,7 +53,7 @@ SilentLaw = (s : Setting) (b : Book) (l : Line) (role : Role) (act : Act) → Is
 -- a restart drops the notes, of which the book has those of the calls that it ends
 abbrev pub RestartLaw : Type 0
 RestartLaw = (s : Setting) (b : Book) (l : Line) (role : Role) → Kept s b l
-    → Kept s (all_told role (link_down (end_at role l).layer).notes b) (happens (At role Restarts) l)
+    → Kept s (all_told role (link_down (end_at role l).layer).notes b) (happens (At role Restarts) l) × Kept s (all_closed role b) (happens (At role Restarts) l)
 
 -- ---- acts of a user
 
@@ -89,3 +90,11 @@ HoldsLaw = (s : Setting) (b : Book) (l : Line) → Kept s b l → BookHolds b
 abbrev pub PresentLaw : Type 0
 PresentLaw = (s : Setting) (b : Book) (l : Line) (role : Role) (channel : ℕ) → Kept s b l
     → is_some (slot_at role channel b).present ≡ has_call (channel_of (end_at role l).layer channel)
+
+-- it has the channels of the layer
+abbrev pub ChannelsLaw : Type 0
+ChannelsLaw = (s : Setting) (b : Book) (l : Line) (role : Role) → Kept s b l → length (side_of role b).slots ≡ length (end_at role l).layer.channels
+
+-- where the link is lost, the layer tells of each present call that it is over
+abbrev pub ClosingLaw : Type 0
+ClosingLaw = (s : Setting) (b : Book) (l : Line) (role : Role) → Kept s b l → all_told role (link_down (end_at role l).layer).notes b ≡ all_closed role b

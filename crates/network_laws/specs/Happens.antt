@@ -9,12 +9,13 @@ use Rattle.lapb.specs.Line.{chosen}
 use Rattle.line_end.specs.End.{without_frames}
 use Rattle.packet_layer.specs.Packets.{CallParts}
 use Rattle.packet_layer.specs.Channel.{Request}
-use Rattle.packet_layer.specs.Layer.{link_down, channel_given}
+use Rattle.packet_layer.specs.Layer.{channel_given}
 use Rattle.packet_laws.specs.Readable.{CanBePlaced}
 use Rattle.packet_end.specs.PacketEnd as end
 use Rattle.packet_end.specs.PacketEnd.{PacketEnd, begun, received, after_timer, relinked, finished, called, asked}
 use Rattle.packet_line.specs.PacketLine.{Line}
 use Rattle.call_records.specs.Book.{Book, all_told}
+use Rattle.call_records.specs.Closing.{all_closed}
 use Rattle.call_laws.specs.Told.{placed_on}
 use Rattle.network_laws.specs.Kept.{Setting, Kept, end_at, coming_to}
 use Rattle.network_laws.specs.Clauses.{requested_at}
@@ -52,7 +53,7 @@ RelinkLaw = (s : Setting) (b : Book) (l : Line) (role : Role) (kept : List Bool)
 
 abbrev pub RestartedLaw : Type 0
 RestartedLaw = (s : Setting) (b : Book) (l : Line) (role : Role) (kept : List Bool) → Kept s b l
-    → Kept s (all_told role (link_down (end_at role l).layer).notes b) (with_restart role kept l)
+    → Kept s (all_closed role b) (with_restart role kept l)
 
 -- ---- a user's events: it asks first, then the event begins, and ends
 

@@ -1,9 +1,9 @@
 //! What a network keeps of a line with both its ends and of the book of its calls, and that whatever happens keeps it.
 #![tactic(auto)]
 
-ghost use Rattle.network_laws.specs.Clauses.{MadeLaw, TellsLaw, SilentLaw, RestartLaw, CallLaw, RequestLaw, LossLaw, EditLaw, LikeLaw, HoldsLaw, PresentLaw};
+ghost use Rattle.network_laws.specs.Clauses.{MadeLaw, TellsLaw, SilentLaw, RestartLaw, CallLaw, RequestLaw, LossLaw, EditLaw, LikeLaw, HoldsLaw, PresentLaw, ChannelsLaw, ClosingLaw};
 ghost use Rattle.network_laws.specs.Happens.{FrameLaw, ExpiryLaw, RelinkLaw, RestartedLaw, CalledLaw, AskedLaw};
-ghost use Rattle.network_laws.specs.Opening.{FrameOpens, ExpiryOpens, RelinkOpens, EndOpens};
+ghost use Rattle.network_laws.specs.Opening.{FrameOpens, ExpiryOpens, RelinkOpens, EndOpens, ReadLaw};
 
 /// The law of a line of a network and of its book, over definitions alone. From the making on, whatever is called at an end,
 /// whatever comes to it, whichever frames are lost and however often an end restarts: what its layer is asked and what it tells is
@@ -28,6 +28,8 @@ pub fn network_law()
     // What the book is then.
     ensures holds { HoldsLaw }
     ensures present { PresentLaw }
+    ensures channels { ChannelsLaw }
+    ensures closing { ClosingLaw }
 {}
 
 /// The same of whole events of a node: what comes to it or is asked at it, its end, and its frames, which go onto the line.
@@ -46,4 +48,5 @@ pub fn opening_law()
     ensures expiries { ExpiryOpens }
     ensures relinks { RelinkOpens }
     ensures ends { EndOpens }
+    ensures read { ReadLaw }
 {}
