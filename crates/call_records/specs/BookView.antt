@@ -1,10 +1,10 @@
 -- What contracts see of the code's book, and what always holds of it.
-use Rattle.std.specs.Prelude.{◌≡◌, ℕ, ◌-◌, ◌≤◌, List, map, length, Option, Some, vec_len, vec_capacity}
-use Rattle.link_timers.specs.declared.role.Role.{Role}
+use Rattle.std.specs.Prelude.{◌≡◌, ℕ, ◌-◌, ◌≤◌, List, map, Option, Some, vec_len, vec_capacity}
 use Rattle.call_records.specs.Records.{RecordValue, PairValue}
-use Rattle.call_records.specs.Book.{Book, slot_at}
+use Rattle.call_records.specs.Book.{Book, Slot, nth_slot}
 use Rattle.call_records.specs.Room.{BookState}
 use Rattle.call_records.specs.RecordView.{shown, pair_of, PlacesAt}
+use Rattle.call_records.specs.declared.record.Record.{Record}
 use Rattle.call_records.specs.declared.ends.Ends.{Ends}
 use Rattle.call_records.specs.declared.book.Book.TheInside.{Inside}
 
@@ -18,8 +18,13 @@ book_of a = book_with (map shown a.records.items) (map pair_of a.pairs.items) a.
 abbrev pub state_of : Inside → BookState
 state_of a = record { book = book_of a; room = a.room }
 
+-- the record of the present call on each channel, where there is one, has so many places
+abbrev pub CallsHavePlaces : (room : ℕ) → List Slot → List Record → Type 0
+CallsHavePlaces room slots records = (channel number : ℕ) → (nth_slot slots channel).present ≡ Some number → PlacesAt room number records
+
 -- the lists of records and pairs have the room, and so has every list of the record of each present call
 pub record HasRoom (a : Inside) : Type 0 where
   pub records : a.room ≤ vec_capacity a.records - vec_len a.records
   pub pairs : a.room ≤ vec_capacity a.pairs - vec_len a.pairs
-  pub present : (role : Role) (channel number : ℕ) → (slot_at role channel (book_of a)).present ≡ Some number → PlacesAt a.room number a.records.items
+  pub dte : CallsHavePlaces a.room a.ends.dte.slots a.records.items
+  pub dce : CallsHavePlaces a.room a.ends.dce.slots a.records.items

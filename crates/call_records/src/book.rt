@@ -3,9 +3,11 @@ ghost use Rattle.std.specs.Prelude.{◌≡◌, ◌≤◌, ◌-◌, ℕ, IfOk, On
 ghost use Rattle.packet_layer.specs.NoteView.{note_of};
 ghost use Rattle.packet_layer.specs.TakenView.{taken_of};
 ghost use Rattle.packet_layer.specs.Octets.{parts_of};
-ghost use Rattle.call_records.specs.Book.{made_book, nth_slot, slot_at, changed, places, comes, answers, closes, renews, sends, interrupts, takes, releases, covers, edits, told};
+ghost use Rattle.call_records.specs.Book.{made_book, slot_at, changed, places, comes, answers, closes, renews, sends, interrupts, takes, releases, covers, edits, told};
+ghost use Rattle.call_records.specs.Records.{changed_at};
 ghost use Rattle.call_records.specs.Closing.{all_closed};
 ghost use Rattle.call_records.specs.Room.{opens, room_after};
+ghost use Rattle.call_records.specs.BookView.{CallsHavePlaces};
 ghost use Rattle.call_records.specs.RecordView.{shown, pair_of, step_of, grown, needed, left, PlacesAt};
 
 use crate::ends::{Ends, Side, Slot};
@@ -183,10 +185,11 @@ impl Book {
         let Slot {
             present, caller, ..
         } = self.ends.of(role).slot(channel);
-        if let (Some(caller), Some(callee)) = (caller, present) {
-            self.pairs.push_reserved(Pair { caller, callee });
-        }
         self.room -= 1;
+        let (Some(caller), Some(callee)) = (caller, present) else {
+            return;
+        };
+        self.pairs.push_reserved(Pair { caller, callee });
     }
 
     /// The present call is over for an end (X.25 4.1.7, 4.1.8).
@@ -255,18 +258,21 @@ impl Book {
         requires { 1 ≤ self.old.room }
         ensures { self.new ≡ record { book = takes role channel (Some (taken_of taken.now)) self.old.book; room = self.old.room - 1 } }
     {
-        let growth = match taken {
+        match taken {
             Taken::Interrupt(interrupt) => {
-                Growth::InterruptTaken(Interrupt::new(interrupt.octets()))
+                let interrupt = Interrupt::new(interrupt.octets());
+                self.grow(role, channel, Growth::InterruptTaken(interrupt));
             }
-            Taken::Data(data) => Growth::Taken(UserPacket::new(
-                data.octets(),
-                data.more(),
-                data.qualified(),
-                data.delivery(),
-            )),
-        };
-        self.grow(role, channel, growth);
+            Taken::Data(data) => {
+                let packet = UserPacket::new(
+                    data.octets(),
+                    data.more(),
+                    data.qualified(),
+                    data.delivery(),
+                );
+                self.grow(role, channel, Growth::Taken(packet));
+            }
+        }
     }
 
     /// So many more of the packets taken are released, at most all of them (X.25 4.4.1.3).
@@ -312,29 +318,55 @@ impl Book {
         requires { needed growth ≤ self.old.room }
         ensures { self.new ≡ record { book = changed role channel (grown growth) self.old.book; room = left growth self.old.room } }
     {
-        let room = growth.left(self.room);
-        if let Some(number) = self.ends.of(role).slot(channel).present {
-            if let Some(record) = self.records.get_mut(number) {
-                record.grow(self.alloc, growth);
-            }
-        }
-        self.room = room;
+        let present = self.ends.of(role).slot(channel).present;
+        self.room = growth.left(self.room);
+        let Some(number) = present else {
+            return;
+        };
+        grow_at(&mut self.records, number, self.alloc, growth);
     }
+}
+
+// The record of this number grows by a write, if there is one.
+fn grow_at(records: &mut Vec<Record>, number: usize, alloc: Global, growth: Growth)
+    requires { PlacesAt (needed growth) number records.old.items }
+    ensures shown { map shown records.new.items ≡ changed_at number (grown growth) (map shown records.old.items) }
+    ensures len { vec_len records.new ≡ vec_len records.old }
+    ensures capacity { vec_capacity records.new ≡ vec_capacity records.old }
+    ensures room { (room other : ℕ) → PlacesAt room number records.old.items → PlacesAt room other records.old.items → PlacesAt (left growth room) other records.new.items }
+{
+    if number < records.len() {
+        let record = &mut records[number];
+        record.grow(alloc, growth);
+    }
+}
+
+// Makes room in the record of this number, if there is one.
+fn reserve_at(records: &mut Vec<Record>, number: usize, count: usize) -> Result<(), AllocError>
+    ensures same { map shown records.new.items ≡ map shown records.old.items }
+    ensures len { vec_len records.new ≡ vec_len records.old }
+    ensures capacity { vec_capacity records.new ≡ vec_capacity records.old }
+    ensures kept { OnOk result ((other : ℕ) → PlacesAt count other records.old.items → PlacesAt count other records.new.items) }
+    ensures ok { OnOk result (PlacesAt count number records.new.items) }
+{
+    if number < records.len() {
+        let record = &mut records[number];
+        record.reserve(count)?;
+    }
+    Ok(())
 }
 
 // Makes room in the records of the present calls of an end.
 fn reserve_present(records: &mut Vec<Record>, side: &Side, count: usize) -> Result<(), AllocError>
     ensures same { map shown records.new.items ≡ map shown records.old.items }
-    ensures places { vec_len records.new ≡ vec_len records.old }
+    ensures len { vec_len records.new ≡ vec_len records.old }
     ensures capacity { vec_capacity records.new ≡ vec_capacity records.old }
-    ensures kept { (number : ℕ) → PlacesAt count number records.old.items → PlacesAt count number records.new.items }
-    ensures ok { OnOk result ((channel number : ℕ) → (nth_slot side.now.slots channel).present ≡ Some number → PlacesAt count number records.new.items) }
+    ensures kept { OnOk result ((other : ℕ) → PlacesAt count other records.old.items → PlacesAt count other records.new.items) }
+    ensures ok { OnOk result (CallsHavePlaces count side.now.slots records.new.items) }
 {
     for place in 0..side.channels() {
         if let Some(number) = side.slot(place + 1).present {
-            if let Some(record) = records.get_mut(number) {
-                record.reserve(count)?;
-            }
+            reserve_at(records, number, count)?;
         }
     }
     Ok(())

@@ -1,0 +1,92 @@
+-- A change of one of the code's records: as the records show it, and the room that it leaves.
+use Rattle.std.proofs.Common.{◌≡◌, ℕ, zero, suc, ◌+◌, ◌-◌, ◌<◌, ◌≤◌, List, [], ◌∷◌, map, set, length, get_or, refl, sym, ap, subst, ◌∙◌, inl, inr, arith}
+use Rattle.std.specs.Prelude.{◌⊎◌, Option, Some, None, slice_get}
+use Rattle.call_records.specs.Records.{RecordValue, changed_at}
+use Rattle.call_records.specs.RecordView.{shown, HasPlaces, PlacesAt, needed, left}
+use Rattle.call_records.specs.declared.record.Record.{Record}
+use Rattle.call_records.specs.declared.record.Growth.{Growth}
+use Rattle.call_records.specs.declared.record.Growth.TheVariants as growth
+
+pub found_at : {X : Type 0} (xs : List X) (i : ℕ) (x : X) → i < length xs → x ≡ get_or xs i x → slice_get xs i ≡ Some x
+found_at [] i x h e = absurd (let no : ⊥ = omega arith in no)
+found_at (y ∷ ys) zero x h e = ap (λ z. Some z) (sym e)
+found_at (y ∷ ys) (suc i) x h e = found_at ys i x (omega arith) e
+
+pub get_set : {X : Type 0} (xs : List X) (n : ℕ) (y : X) (m : ℕ) (x : X) → slice_get (set xs n y) m ≡ Some x → (y ≡ x) ⊎ (slice_get xs m ≡ Some x)
+get_set [] n y m x e = inr e
+get_set (z ∷ xs) zero y zero x e = inl (cc)
+get_set (z ∷ xs) zero y (suc m) x e = inr e
+get_set (z ∷ xs) (suc n) y zero x e = inr e
+get_set (z ∷ xs) (suc n) y (suc m) x e = get_set xs n y m x e
+
+pub get_set_here : {X : Type 0} (xs : List X) (n : ℕ) (y x : X) → slice_get (set xs n y) n ≡ Some x → y ≡ x
+get_set_here [] n y x e = absurd (cc)
+get_set_here (z ∷ xs) zero y x e = cc
+get_set_here (z ∷ xs) (suc n) y x e = get_set_here xs n y x e
+
+pub changed_some : (rs : List Record) (n : ℕ) (r new : Record) (change : RecordValue → RecordValue) → slice_get rs n ≡ Some r → shown new ≡ change (shown r)
+    → map shown (set rs n new) ≡ changed_at n change (map shown rs)
+changed_some [] n r new change h e = refl
+changed_some (x ∷ rs) zero r new change h e =
+    let same : r ≡ x = cc in
+    ap (λ (y : RecordValue). y ∷ map shown rs) (e ∙ ap (λ (z : Record). change (shown z)) same)
+changed_some (x ∷ rs) (suc n) r new change h e = ap (λ (ys : List RecordValue). shown x ∷ ys) (changed_some rs n r new change h e)
+
+pub shown_same : (rs : List Record) (n : ℕ) (r new : Record) → slice_get rs n ≡ Some r → shown new ≡ shown r → map shown (set rs n new) ≡ map shown rs
+shown_same [] n r new h e = refl
+shown_same (x ∷ rs) zero r new h e =
+    let same : r ≡ x = cc in
+    ap (λ (y : RecordValue). y ∷ map shown rs) (e ∙ ap shown same)
+shown_same (x ∷ rs) (suc n) r new h e = ap (λ (ys : List RecordValue). shown x ∷ ys) (shown_same rs n r new h e)
+
+pub changed_none : (rs : List Record) (n : ℕ) (change : RecordValue → RecordValue) → length rs ≤ n → changed_at n change (map shown rs) ≡ map shown rs
+changed_none [] n change h = refl
+changed_none (x ∷ rs) zero change h = absurd (let no : ⊥ = omega arith in no)
+changed_none (x ∷ rs) (suc n) change h = ap (λ (ys : List RecordValue). shown x ∷ ys) (changed_none rs n change (omega arith))
+
+pub none_at : {X : Type 0} (xs : List X) (i : ℕ) (x : X) → length xs ≤ i → slice_get xs i ≡ Some x → ⊥
+none_at [] i x h e = absurd (cc)
+none_at (y ∷ ys) zero x h e = let no : ⊥ = omega arith in no
+none_at (y ∷ ys) (suc i) x h e = none_at ys i x (omega arith) e
+
+-- ---- room
+
+pub fewer : (k j : ℕ) (r : Record) → j ≤ k → HasPlaces k r → HasPlaces j r
+fewer k j r h p = record {
+  sent_before = omega (arith, p.sent_before);
+  sent_packets = omega (arith, p.sent_packets);
+  sent_interrupts = omega (arith, p.sent_interrupts);
+  taken_before = omega (arith, p.taken_before);
+  taken_packets = omega (arith, p.taken_packets);
+  taken_interrupts = omega (arith, p.taken_interrupts);
+  steps = omega (arith, p.steps);
+}
+
+pub fewer_at : (k j m : ℕ) (rs : List Record) → j ≤ k → PlacesAt k m rs → PlacesAt j m rs
+fewer_at k j m rs h p r e = fewer k j r h (p r e)
+
+pub left_less : (g : Growth) (k : ℕ) → left g k ≤ k
+left_less (growth.Sent packet) k = omega arith
+left_less (growth.InterruptSent interrupt) k = omega arith
+left_less (growth.Taken packet) k = omega arith
+left_less (growth.InterruptTaken interrupt) k = omega arith
+left_less (growth.Covered count) k = omega arith
+left_less (growth.Released count) k = omega arith
+left_less (growth.Step step) k = omega arith
+left_less growth.Epoch k = omega arith
+left_less growth.Closed k = omega arith
+
+-- what is written back has the places, and so have the others
+pub places_set : (k m n : ℕ) (rs : List Record) (new : Record) → HasPlaces k new → PlacesAt k m rs → PlacesAt k m (set rs n new)
+places_set k m n rs new h p r e = elim (get_set rs n new m r e) [
+  | inl same ↦ let P : Record → Type 0 = λ x. HasPlaces k x in subst P same h
+  | inr there ↦ p r there
+]
+
+pub places_here : (k n : ℕ) (rs : List Record) (new : Record) → HasPlaces k new → PlacesAt k n (set rs n new)
+places_here k n rs new h r e = let P : Record → Type 0 = λ x. HasPlaces k x in subst P (get_set_here rs n new r e) h
+
+-- as a growth changes a record
+pub grown_places : (g : Growth) (k m n : ℕ) (rs : List Record) (old new : Record) → slice_get rs n ≡ Some old
+    → ((room : ℕ) → HasPlaces room old → HasPlaces (left g room) new) → PlacesAt k n rs → PlacesAt k m rs → PlacesAt (left g k) m (set rs n new)
+grown_places g k m n rs old new there grows here at = places_set (left g k) m n rs new (grows k (here old there)) (fewer_at k (left g k) m rs (left_less g k) at)

@@ -1,0 +1,17 @@
+use Rattle.std.proofs.Common.{◌≡◌, ◌≤◌, ◌-◌, arith}
+use Rattle.call_records.proofs.Rooms.{less_room}
+use Rattle.call_records.proofs.book.Book.answers.Goals as goal
+
+pub invariant_of-self : goal.invariant_of-self
+invariant_of-self c = less_room c.self.inside (c.self.inside.room - 1) (omega arith) c.self.invariant
+
+pub invariant_of-self-2 : goal.invariant_of-self-2
+invariant_of-self-2 c =
+    let p = c.self.invariant in
+    let less = less_room c.self.inside (c.self.inside.room - 1) (omega arith) p in
+    record {
+      records = less.records;
+      pairs = omega (arith, p.pairs, c.push_reserved.ensures.len, c.push_reserved.ensures.capacity);
+      dte = less.dte;
+      dce = less.dce;
+    }

@@ -1,0 +1,34 @@
+use Rattle.std.proofs.Common.{◌≡◌, ◌≤◌, ◌-◌, Some, sym, ap, subst, ◌∙◌, arith, vec_len, vec_capacity}
+use Rattle.call_records.specs.Book.{Slot}
+use Rattle.call_records.specs.Room.{BookState}
+use Rattle.call_records.specs.BookView.{book_of}
+use Rattle.call_records.specs.RecordView.{left, needed, shown, pair_of}
+use Rattle.call_records.proofs.Growing.{left_less, fewer_at}
+use Rattle.call_records.proofs.Rooms.{less_room, present_has}
+use Rattle.call_records.proofs.book.Book.grow.Goals as goal
+
+pub invariant_of-self : goal.invariant_of-self
+invariant_of-self c =
+    let a = c.self.inside in
+    let less = left_less c.args.growth a.room in
+    less_room a c.left-self-inside.result (omega (arith, less, c.left-self-inside.ensures)) c.self.invariant
+
+pub grow_at-requires : goal.grow_at-requires
+grow_at-requires c =
+    let a = c.self.inside in
+    let P : BookState → Type 0 = λ s. needed c.args.growth ≤ s.room in
+    let here = present_has a c.args.role c.args.channel c.in-Some.number c.of.result.now c.slot.result (c.of.ensures _ _) c.slot.ensures (ap (λ (s : Slot). s.present) (sym c.present.view_is) ∙ c.in-Some.is) c.self.invariant in
+    fewer_at a.room (needed c.args.growth) c.in-Some.number a.records.items (subst P (sym c.self.view_is) c.requires) here
+
+pub invariant_of-self-2 : goal.invariant_of-self-2
+invariant_of-self-2 c =
+    let a = c.self.inside in
+    let less = left_less c.args.growth a.room in
+    let p = c.self.invariant in
+    let here = present_has a c.args.role c.args.channel c.in-Some.number c.of.result.now c.slot.result (c.of.ensures _ _) c.slot.ensures (ap (λ (s : Slot). s.present) (sym c.present.view_is) ∙ c.in-Some.is) p in
+    rw c.left-self-inside.ensures (record {
+      records = omega (arith, less, p.records, c.grow_at.ensures.len, c.grow_at.ensures.capacity);
+      pairs = omega (arith, less, p.pairs);
+      dte = λ channel number e. c.grow_at.ensures.room a.room number here (p.dte channel number e);
+      dce = λ channel number e. c.grow_at.ensures.room a.room number here (p.dce channel number e);
+    })

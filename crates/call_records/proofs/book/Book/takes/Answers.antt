@@ -1,0 +1,13 @@
+use Rattle.std.proofs.Common.{◌≡◌, ◌∙◌, sym, ap}
+use Rattle.call_records.proofs.Rooms.{takes_interrupt, takes_packet}
+use Rattle.call_records.proofs.book.Book.takes.Goals as goal
+
+pub returns-in-Interrupt : goal.returns-in-Interrupt
+returns-in-Interrupt c =
+    c.grow.ensures ∙ takes_interrupt c.args.self.now c.args.role c.args.channel c.args.taken.now c.new-interrupt.result c.in-Interrupt.interrupt c.in-Interrupt.is (c.new-interrupt.ensures ∙ c.octets.ensures.value)
+
+pub returns-in-Data : goal.returns-in-Data
+returns-in-Data c =
+    let d = c.in-Data.data in
+    c.grow-in-Data.ensures ∙ takes_packet c.args.self.now c.args.role c.args.channel c.args.taken.now c.new-packet.result d c.in-Data.is
+    (rw (c.new-packet.ensures, c.octets-in-Data.ensures.value, c.more.ensures, c.qualified.ensures, c.delivery.ensures) refl)

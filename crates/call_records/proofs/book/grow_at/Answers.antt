@@ -1,0 +1,25 @@
+use Rattle.std.proofs.Common.{◌≡◌, ◌<◌, ◌≤◌, Some, length, sym, arith}
+use Rattle.std.specs.Prelude.{slice_get}
+use Rattle.call_records.specs.RecordView.{grown}
+use Rattle.call_records.proofs.Growing.{found_at, changed_some, changed_none, grown_places}
+use Rattle.call_records.proofs.book.grow_at.Goals as goal
+
+pub returns-then-number-len-clause-shown : goal.returns-then-number-len-clause-shown
+returns-then-number-len-clause-shown c =
+    let rs = c.args.records.now.items in
+    let within : c.args.number < length rs = omega (arith, c.args.records.now.ok) in
+    let there = found_at rs c.args.number c.index_mut-record.result.now within c.index_mut-record.ensures.value in
+    changed_some rs c.args.number c.index_mut-record.result.now c.grow.new.self (grown c.args.growth) there c.grow.ensures.shown
+
+pub returns-then-number-len-clause-room : goal.returns-then-number-len-clause-room
+returns-then-number-len-clause-room c room other here at =
+    let rs = c.args.records.now.items in
+    let within : c.args.number < length rs = omega (arith, c.args.records.now.ok) in
+    let there = found_at rs c.args.number c.index_mut-record.result.now within c.index_mut-record.ensures.value in
+    grown_places c.args.growth room other c.args.number rs c.index_mut-record.result.now c.grow.new.self there c.grow.ensures.room here at
+
+pub returns-else-number-len-clause-shown : goal.returns-else-number-len-clause-shown
+returns-else-number-len-clause-shown c =
+    let rs = c.args.records.now.items in
+    let beyond : length rs ≤ c.args.number = omega (arith, c.args.records.now.ok) in
+    sym (changed_none rs c.args.number (grown c.args.growth) beyond)
