@@ -1,0 +1,2 @@
+mod Channels
+mod Layers
