@@ -1,6 +1,33 @@
 -- What holds of a network between its events.
-use Rattle.std.specs.Prelude.{◌≡◌}
+use Rattle.std.specs.Prelude.{◌≡◌, ◌≢◌, false}
+use Rattle.link_timers.specs.declared.role.Role.TheVariants.{Dte, Dce}
+use Rattle.packet_line.specs.PacketLine as line
+use Rattle.network_laws.specs.Kept.{Setting, Kept}
+use Rattle.node_laws.specs.Quiet.{IsQuiet}
+use Rattle.pad_laws.specs.PadHolds.{NodeHolds}
+use Rattle.line_nodes.specs.Node.{end_of, is_pad}
 use Rattle.line_sim.specs.NetState.{NetState}
 
+-- the line with its two ends
+abbrev pub line_of : NetState → line.Line
+line_of s = record { dte = end_of s.dte; dce = end_of s.dce; up = s.line.from_dte; down = s.line.from_dce }
+
+-- events at two ends of a line lead to it and to the book
+pub record IsKept (s : NetState) : Type 0 where
+  pub setting : Setting
+  pub kept : Kept setting s.book (line_of s)
+
+-- no frame or note waits to be taken
+pub record AreQuiet (s : NetState) : Type 0 where
+  pub dte : IsQuiet s.dte
+  pub dce : IsQuiet s.dce
+
+-- F says that the line is faithful
 pub record IsNet (F : Type 0) (s : NetState) : Type 0 where
-  pub same : s.dte_place ≡ s.dte_place
+  pub apart : s.dte_place ≢ s.dce_place
+  pub dte_node : s.book.dte.node ≡ s.dte_place
+  pub dce_node : s.book.dce.node ≡ s.dce_place
+  pub host : is_pad s.dce ≡ false
+  pub quiet : AreQuiet s
+  pub typed : NodeHolds Dte s.dte s.book
+  pub kept : F → IsKept s

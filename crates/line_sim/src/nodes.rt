@@ -40,6 +40,7 @@ impl<L: Line> Model for Nodes<L> {
 
 impl<L: Line> Nodes<L> {
     ghost use Rattle.line_sim.specs.Faults.{role_of, is_node, is_host_at, is_channel};
+    ghost use Rattle.line_sim.specs.IsNet.{AreQuiet};
     ghost use Rattle.line_sim.specs.NetState.{place_at};
     ghost use Rattle.line_sim.specs.Runs.{Happens};
 
@@ -100,6 +101,7 @@ impl<L: Line> Nodes<L> {
 
     /// Handles an event.
     pub(crate) fn happen(&mut self, event: &Event) -> Result<Answer, StepFault>
+        requires { AreQuiet self.old }
         ensures { Happens L.faithful event.now self.old result self.new }
     {
         match event {

@@ -4,7 +4,8 @@ ghost use Rattle.packet_layer.specs.Layer.{channel_given, call_refusal, front_on
 ghost use Rattle.packet_layer.specs.RequestView.{refusal_of, call_refusal_of};
 ghost use Rattle.packet_layer.specs.TakenView.{maybe_taken};
 ghost use Rattle.packet_host.specs.Host.{call_parts};
-ghost use Rattle.line_nodes.specs.Node.{end_of, is_pad};
+ghost use Rattle.line_nodes.specs.Node.{end_of, is_pad, Host as host_node};
+ghost use Rattle.node_laws.specs.Quiet.{IsQuiet};
 ghost use Rattle.line_nodes.specs.NodeView.{node_of};
 ghost use Rattle.line_nodes.specs.Turn.{HostTurned};
 ghost use Rattle.line_nodes.specs.HostTurns.{host_calls, host_takes};
@@ -56,6 +57,7 @@ fn call_node(
     book: &mut Book,
     notes: &mut Vec<HostNote>,
 )
+    requires quiet { IsQuiet (node_of node.old) }
     requires writes { 1 ≤ book.old.room }
     requires empty { notes.old.items ≡ [] }
     requires capacity { MOST_NOTES ≤ vec_capacity notes.old }
@@ -82,6 +84,7 @@ pub(crate) fn serve<L: Line>(
     book: &mut Book,
     room: &mut Room,
 )
+    requires quiet { IsQuiet (node_of node.old) }
     requires writes { 1 ≤ book.old.room }
     requires frames { room.old.frames.items ≡ [] }
     requires notes { room.old.notes.items ≡ [] }
@@ -102,6 +105,7 @@ fn ask_host(
     book: &mut Book,
     notes: &mut Vec<HostNote>,
 ) -> Result<(), ChannelFault>
+    requires quiet { IsQuiet (host_node host.old) }
     requires writes { 8 ≤ book.old.room }
     requires empty { notes.old.items ≡ [] }
     requires capacity { MOST_NOTES ≤ vec_capacity notes.old }
@@ -149,6 +153,7 @@ pub(crate) fn serve_ask<L: Line>(
     room: &mut Room,
 ) -> Result<(), ChannelFault>
     requires host { is_pad (node_of node.old) ≡ false }
+    requires quiet { IsQuiet (node_of node.old) }
     requires writes { 8 ≤ book.old.room }
     requires frames { room.old.frames.items ≡ [] }
     requires notes { room.old.notes.items ≡ [] }
@@ -182,6 +187,7 @@ pub(crate) fn serve_call<L: Line>(
 ) -> Result<u8, CallFault>
     requires host { is_pad (node_of node.old) ≡ false }
     requires user_data { length user_data.now ≤ 16 }
+    requires quiet { IsQuiet (node_of node.old) }
     requires writes { 1 ≤ book.old.room }
     requires frames { room.old.frames.items ≡ [] }
     requires notes { room.old.notes.items ≡ [] }
@@ -213,6 +219,7 @@ pub(crate) fn serve_take<L: Line>(
     room: &mut Room,
 ) -> Option<Taken>
     requires host { is_pad (node_of node.old) ≡ false }
+    requires quiet { IsQuiet (node_of node.old) }
     requires writes { 1 ≤ book.old.room }
     requires frames { room.old.frames.items ≡ [] }
     requires notes { room.old.notes.items ≡ [] }
@@ -239,6 +246,7 @@ pub(crate) fn serve_key<L: Line>(
     room: &mut Room,
 ) -> KeyAnswer
     requires pad { is_pad (node_of node.old) ≡ true }
+    requires quiet { IsQuiet (node_of node.old) }
     requires writes { 2 ≤ book.old.room }
     requires frames { room.old.frames.items ≡ [] }
     requires notes { room.old.notes.items ≡ [] }

@@ -1,6 +1,7 @@
 //! What the users of the nodes ask.
 ghost use Rattle.std.specs.Prelude.{◌≡◌, ◌≤◌, length};
 ghost use Rattle.line_sim.specs.declared.event.Event.TheVariants as event_is;
+ghost use Rattle.line_sim.specs.IsNet.{AreQuiet};
 ghost use Rattle.line_sim.specs.Runs.{Happens};
 
 use crate::event::{Answer, Outcome, Request, StepFault};
@@ -22,6 +23,7 @@ const MESSAGE_WRITES: usize = 8;
 impl<L: Line> Nodes<L> {
     /// A key at a terminal of the PAD. The call is that of terminal 0.
     pub(super) fn key(&mut self, node: usize, terminal: u16, octet: u8) -> Result<Answer, StepFault>
+        requires { AreQuiet self.old }
         ensures { Happens L.faithful (event_is.Key node terminal octet) self.old result self.new }
     {
         if node != self.dte_place || !self.dte.is_pad() {
@@ -57,6 +59,7 @@ impl<L: Line> Nodes<L> {
         address: Address,
         user_data: &ArrayVec<u8, 16>,
     ) -> Result<Answer, StepFault>
+        requires { AreQuiet self.old }
         ensures { Happens L.faithful (event_is.Call node address user_data.now) self.old result self.new }
     {
         if !self.is_host_at(node) {
@@ -81,6 +84,7 @@ impl<L: Line> Nodes<L> {
         channel: u16,
         request: &Request,
     ) -> Result<Answer, StepFault>
+        requires { AreQuiet self.old }
         ensures { Happens L.faithful (event_is.Ask node channel request.now) self.old result self.new }
     {
         if !self.is_host_at(node) {
@@ -103,6 +107,7 @@ impl<L: Line> Nodes<L> {
 
     /// A host takes what waits on a channel.
     pub(super) fn take(&mut self, node: usize, channel: u16) -> Result<Answer, StepFault>
+        requires { AreQuiet self.old }
         ensures { Happens L.faithful (event_is.Take node channel) self.old result self.new }
     {
         if !self.is_host_at(node) {

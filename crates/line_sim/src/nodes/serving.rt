@@ -1,6 +1,7 @@
 //! What comes to the nodes at their line.
 ghost use Rattle.std.specs.Prelude.{◌≡◌};
 ghost use Rattle.line_sim.specs.declared.event.Event.TheVariants as event_is;
+ghost use Rattle.line_sim.specs.IsNet.{AreQuiet};
 ghost use Rattle.line_sim.specs.Runs.{Happens};
 
 use crate::event::{Answer, Outcome, StepFault};
@@ -14,6 +15,7 @@ use link_timers::{Role, TimerId};
 impl<L: Line> Nodes<L> {
     /// The first frame in flight in a direction arrives.
     pub(super) fn deliver(&mut self, line: usize, direction: Direction) -> Result<Answer, StepFault>
+        requires { AreQuiet self.old }
         ensures { Happens L.faithful (event_is.Deliver line direction) self.old result self.new }
     {
         if line != 0 {
@@ -63,6 +65,7 @@ impl<L: Line> Nodes<L> {
         line: usize,
         timer: TimerId,
     ) -> Result<Answer, StepFault>
+        requires { AreQuiet self.old }
         ensures { Happens L.faithful (event_is.Expire node line timer) self.old result self.new }
     {
         if !self.is_node(node) || line != 0 {
@@ -82,6 +85,7 @@ impl<L: Line> Nodes<L> {
 
     /// The DTE gives its link up and sets it up again.
     pub(super) fn relink(&mut self, line: usize) -> Result<Answer, StepFault>
+        requires { AreQuiet self.old }
         ensures { Happens L.faithful (event_is.Relink line) self.old result self.new }
     {
         if line != 0 {
@@ -106,6 +110,7 @@ impl<L: Line> Nodes<L> {
 
     /// A node begins anew, and the line loses all frames.
     pub(super) fn restart(&mut self, node: usize) -> Result<Answer, StepFault>
+        requires { AreQuiet self.old }
         ensures { Happens L.faithful (event_is.Restart node) self.old result self.new }
     {
         if !self.is_node(node) {
