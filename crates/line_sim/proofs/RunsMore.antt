@@ -4,13 +4,15 @@ use Rattle.std.specs.Prelude.{◌&&◌, ◌==◌, ◌||◌, nat_lt, true, false,
 use Rattle.std.proofs.lemmas.Option.{slice_get-get_or}
 use Rattle.line_sim.specs.declared.config.Config.{Config}
 use Rattle.line_sim.specs.declared.event.Event.{Event}
-use Rattle.line_sim.specs.declared.event.Event.TheVariants.{Key, Take, Deliver, Lose, Expire, Relink, Restart}
+use Rattle.line_sim.specs.declared.event.Event.TheVariants.{Key, Call, Ask, Take, Deliver, Lose, Expire, Relink, Restart}
 use Rattle.line_sim.specs.declared.event.StepFault.{StepFault}
 use Rattle.line_sim.specs.declared.event.StepFault.TheVariants.{OutOfMemory, NoSuchNode, NoSuchTerminal, NoSuchCall}
 use Rattle.line_sim.specs.declared.event.Answer.{Answer}
-use Rattle.line_sim.specs.NetState.{NetState}
-use Rattle.line_sim.specs.Faults.{step_fault, is_host_at, is_node}
-use Rattle.line_sim.specs.NodeState.{is_pad}
+use Rattle.packet_layer.specs.Channel.{Refusal}
+use Rattle.packet_layer.specs.Layer.{call_refusal}
+use Rattle.line_nodes.specs.Node.{end_of, is_pad}
+use Rattle.line_sim.specs.NetState.{NetState, node_at}
+use Rattle.line_sim.specs.Faults.{step_fault, is_host_at, is_node, is_channel, on_channel, role_of, call_fault_of, channel_fault_of, ask_refusal, where_there_is, MayWant}
 use Rattle.line_sim.specs.Runs.{Happens, Happened, Ran, HasRun, HasStopped}
 
 -- what was answered, or refused for another reason than want of memory, happened
@@ -44,9 +46,40 @@ run-more config events i d t u h run happens =
       ran = subst P (sym next) (ran-more (Unit {0}) (take i events) run.start t e u run.ran happens);
     }
 
-no-such : (a : Bool) → ◌≡◌ {A = Option StepFault} (if a then None else Some NoSuchNode) (Some OutOfMemory) → ⊥
+no-such : (a : Bool) → where_there_is a ≡ Some OutOfMemory → ⊥
 no-such true e = absurd (cc)
 no-such false e = absurd (cc)
+
+on-host : (a : Bool) (o : Option StepFault) → (o ≡ Some OutOfMemory → ⊥) → (if a then o else Some NoSuchNode) ≡ Some OutOfMemory → ⊥
+on-host true o n e = n e
+on-host false o n e = absurd (cc)
+
+on-line : (a : Bool) (o : Option StepFault) → (o ≡ Some OutOfMemory → ⊥) → (if a then o else Some NoSuchCall) ≡ Some OutOfMemory → ⊥
+on-line true o n e = n e
+on-line false o n e = absurd (cc)
+
+none : ◌≡◌ {A = Option StepFault} None (Some OutOfMemory) → ⊥
+none e = absurd (cc)
+
+no-call : (o : Option Refusal) → call_fault_of o ≡ Some OutOfMemory → ⊥
+no-call None e = absurd (cc)
+no-call (Some Refusal.NotReady) e = absurd (cc)
+no-call (Some Refusal.NoChannel) e = absurd (cc)
+no-call (Some Refusal.NoCall) e = absurd (cc)
+no-call (Some Refusal.IsResetting) e = absurd (cc)
+no-call (Some Refusal.QueueFull) e = absurd (cc)
+no-call (Some Refusal.TooLong) e = absurd (cc)
+no-call (Some Refusal.InterruptPending) e = absurd (cc)
+
+no-channel : (o : Option Refusal) → channel_fault_of o ≡ Some OutOfMemory → ⊥
+no-channel None e = absurd (cc)
+no-channel (Some Refusal.NotReady) e = absurd (cc)
+no-channel (Some Refusal.NoChannel) e = absurd (cc)
+no-channel (Some Refusal.NoCall) e = absurd (cc)
+no-channel (Some Refusal.IsResetting) e = absurd (cc)
+no-channel (Some Refusal.QueueFull) e = absurd (cc)
+no-channel (Some Refusal.TooLong) e = absurd (cc)
+no-channel (Some Refusal.InterruptPending) e = absurd (cc)
 
 -- want of memory is no fault of an event
 not-memory : (e : Event) (s : NetState) → step_fault e s ≡ Some OutOfMemory → ⊥
@@ -55,19 +88,21 @@ not-memory (Key node terminal octet) s e = by ((node == s.dte_place) && is_pad s
   by true true e = absurd (cc)
   by true false e = absurd (cc)
   by false b e = absurd (cc)
-not-memory (Take node channel) s e = by (is_host_at node s) ((channel == 0) || nat_lt s.channels channel) e where
-  by : (a b : Bool) → (if a then (if b then Some NoSuchCall else None) else Some NoSuchNode) ≡ Some OutOfMemory → ⊥
-  by true true e = absurd (cc)
-  by true false e = absurd (cc)
-  by false b e = absurd (cc)
+not-memory (Call node address user_data) s e =
+    let l = (end_of (node_at (role_of node s) s)).layer in
+    on-host (is_host_at node s) (call_fault_of (call_refusal l l.phase)) (no-call (call_refusal l l.phase)) e
+not-memory (Ask node channel request) s e =
+    let o = ask_refusal (end_of (node_at (role_of node s) s)) channel request in
+    on-host (is_host_at node s) (on_channel channel s (channel_fault_of o)) (on-line (is_channel channel s) (channel_fault_of o) (no-channel o)) e
+not-memory (Take node channel) s e = on-host (is_host_at node s) (on_channel channel s None) (on-line (is_channel channel s) None none) e
 not-memory (Deliver line direction) s e = no-such (line == 0) e
 not-memory (Lose line direction) s e = no-such (line == 0) e
 not-memory (Expire node line timer) s e = no-such (is_node node s && (line == 0)) e
 not-memory (Relink line) s e = no-such (line == 0) e
 not-memory (Restart node) s e = no-such (is_node node s) e
 
--- where memory was wanting, the event has no fault
-pub wanting : (F : Type 0) (e : Event) (s : NetState) (r : Result Answer StepFault) (t : NetState) → Happens F e s r t → r ≡ Err OutOfMemory → step_fault e s ≡ None
+-- where memory was wanting, the network itself does not refuse the event
+pub wanting : (F : Type 0) (e : Event) (s : NetState) (r : Result Answer StepFault) (t : NetState) → Happens F e s r t → r ≡ Err OutOfMemory → MayWant (step_fault e s)
 wanting F e s (Ok answer) t h memory = absurd (cc)
 wanting F e s (Err fault) t h memory =
     elim h.0 [
@@ -76,6 +111,6 @@ wanting F e s (Err fault) t h memory =
     ]
 
 pub stops : (config : Config) (events : List Event) (i : ℕ) (d : Event) (t : NetState) → i < length events
-    → HasRun config (take i events) t → step_fault (get_or events i d) t ≡ None → HasStopped config events i
+    → HasRun config (take i events) t → MayWant (step_fault (get_or events i d) t) → HasStopped config events i
 stops config events i d t h run none =
-    record { net = t; event = get_or events i d; before = run; is_next = slice_get-get_or events i d h; no_fault = none }
+    record { net = t; event = get_or events i d; before = run; is_next = slice_get-get_or events i d h; may_want = none }

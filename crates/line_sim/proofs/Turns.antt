@@ -9,7 +9,6 @@ use Rattle.packet_layer.specs.Packets.{CallParts}
 use Rattle.packet_layer.specs.Traffic.{Taken}
 use Rattle.packet_layer.specs.Traffic.Taken.{TakenInterrupt, TakenPacket}
 use Rattle.packet_layer.specs.Channel.{Request, Refusal}
-use Rattle.packet_layer.specs.Channel.Request as ask
 use Rattle.packet_layer.specs.Layer.{channel_given, request_refusal, front_on}
 use Rattle.packet_end.specs.PacketEnd.{PacketEnd, runs_at}
 use Rattle.packet_host.specs.Host as host

@@ -1,9 +1,9 @@
 -- When an event is refused (X.25 is silent: these are the network's own, or the node's).
-use Rattle.std.specs.Prelude.{◌≡◌, ℕ, ◌==◌, ◌&&◌, ◌||◌, not, Bool, Option, Some, None, nat_lt, if◌then◌else◌}
+use Rattle.std.specs.Prelude.{◌≡◌, ℕ, ◌==◌, ◌&&◌, ◌||◌, not, Bool, true, false, Option, Some, None, nat_lt, if◌then◌else◌}
 use Rattle.link_timers.specs.declared.role.Role.{Role}
 use Rattle.link_timers.specs.declared.role.Role.TheVariants.{Dte, Dce}
 use Rattle.packet_layer.specs.Channel.{Refusal}
-use Rattle.packet_layer.specs.Channel.Request as ask
+use Rattle.packet_layer.specs.Channel.{Request as ask}
 use Rattle.packet_layer.specs.Layer.{call_refusal, request_refusal}
 use Rattle.packet_layer.specs.declared.fault.CallFault.{CallFault}
 use Rattle.packet_layer.specs.declared.fault.CallFault.TheVariants as call_fault

@@ -7,7 +7,7 @@ use Rattle.packet_layer.specs.Packets.{Note}
 use Rattle.packet_layer.specs.Traffic.{Taken}
 use Rattle.packet_layer.specs.TakenView.{maybe_taken}
 use Rattle.packet_layer.specs.Layer.{channel_given, front_on}
-use Rattle.packet_layer.specs.Channel.Request as ask
+use Rattle.packet_layer.specs.Channel.{Request as ask}
 use Rattle.packet_end.specs.PacketEnd.{PacketEnd}
 use Rattle.packet_host.specs.Host.{call_parts}
 use Rattle.packet_pad.specs.Pad.{PadState}

@@ -1,0 +1,168 @@
+-- What holds of a network between its events holds after what the user of a node asks.
+use Rattle.std.proofs.Common.{◌≡◌, ℕ, Bool, true, false, List, [], ◌∷◌, length, Option, Some, None, refl, sym, ap, ◌∙◌, subst, arith}
+use Rattle.std.specs.Prelude.{◌≤◌}
+use Rattle.link_timers.specs.declared.role.Role.{Role}
+use Rattle.link_timers.specs.declared.role.Role.TheVariants.{Dte, Dce}
+use Rattle.lapb.specs.Machine.{Octets}
+use Rattle.packet_codec.specs.Address.{AreDigits}
+use Rattle.packet_layer.specs.Packets.{CallParts}
+use Rattle.packet_layer.specs.Channel.{Request as ask}
+use Rattle.packet_end.specs.PacketEnd.{PacketEnd}
+use Rattle.packet_host.specs.Host.{call_parts}
+use Rattle.packet_pad.specs.Pad.{PadState}
+use Rattle.call_records.specs.Book.{Book}
+use Rattle.network_laws.specs.Kept.{Setting, Kept, coming_to}
+use Rattle.network_laws.specs.Happens.{with_event}
+use Rattle.node_laws.specs.Nodes.{StandsAt}
+use Rattle.node_laws.specs.Quiet.{IsQuiet}
+use Rattle.pad_laws.specs.PadHolds.{NodeHolds}
+use Rattle.line_nodes.specs.Node.{NodeState, Pad, Host, end_of, is_pad, drained}
+use Rattle.line_nodes.specs.Turn.{Turn}
+use Rattle.line_nodes.specs.HostTurns.{host_calls, host_takes}
+use Rattle.line_nodes.specs.PadTurns.{pad_keys}
+use Rattle.line_nodes.specs.declared.note.HostNote.{HostNote}
+use Rattle.line_sim.specs.declared.event.Put.{Put}
+use Rattle.line_sim.specs.declared.event.Request.{Request}
+use Rattle.line_sim.specs.declared.event.Request.TheVariants.{Answer, Refuse, Say, Interrupt, Reset, Clear, Stop, Go}
+use Rattle.line_sim.specs.NetState.{NetState, node_at}
+use Rattle.line_sim.specs.Steps.{NodeStep, keys_turn, asked_turn}
+use Rattle.line_sim.specs.IsNet.{line_of, IsKept, AreQuiet, IsNet}
+use Rattle.line_sim.proofs.Sides.{SameNodes}
+use Rattle.line_sim.proofs.Fitting.{Leaves, stands, quiet-at}
+use Rattle.line_sim.proofs.Turns.{same-calls, same-asks, same-refuses, same-says, same-takes, same-keys, kind-takes, kind-keys}
+use Rattle.line_sim.proofs.Events.{by-turn}
+use Rattle.line_sim.proofs.Laws as law
+
+-- ---- a host at the end of a role
+
+pub host-is : (n : NodeState) → is_pad n ≡ false → n ≡ Host (end_of n)
+host-is (Pad p) e = absurd (cc)
+host-is (Host e) h = refl
+
+quiet-host : (n : NodeState) → is_pad n ≡ false → IsQuiet n → IsQuiet (Host (end_of n))
+quiet-host n h q = subst IsQuiet (host-is n h) q
+
+host-stands : (role : Role) (s : NetState) → AreQuiet s → is_pad (node_at role s) ≡ false → StandsAt role (line_of s) (Host (end_of (node_at role s)))
+host-stands role s q h = subst (StandsAt role (line_of s)) (host-is (node_at role s) h) (stands role s q)
+
+typed-host : (n : NodeState) (b : Book) → is_pad n ≡ false → NodeHolds Dte (drained n) b
+typed-host (Pad p) b e = absurd (cc)
+typed-host (Host e) b h = tt
+
+-- a turn of a host: the PAD's law speaks of it only where it is at the DCE
+host-leaves : (role : Role) (s : NetState) (turn : Turn) → is_pad (node_at role s) ≡ false → SameNodes s.book turn.book → IsQuiet (drained turn.node) → is_pad turn.node ≡ false
+    → (role ≡ Dce → NodeHolds Dte s.dte turn.book) → Leaves role s turn
+host-leaves Dte s turn host same quiet kind far = record { same = same; quiet = quiet; kind = kind ∙ sym host; typed = typed-host turn.node turn.book kind }
+host-leaves Dce s turn host same quiet kind far = record { same = same; quiet = quiet; kind = kind ∙ sym host; typed = far refl }
+
+-- ---- calls
+
+pub calls-net : (F : Type 0) (role : Role) (s : NetState) (address user_data : List ℕ) (frames : List Put) (notes : List HostNote) (t : NetState)
+    → IsNet F s → is_pad (node_at role s) ≡ false → AreDigits address → length user_data ≤ 16
+    → NodeStep F role (host_calls role (end_of (node_at role s)) (call_parts address user_data) s.book) s.line s frames notes t → IsNet F t
+calls-net F role s address user_data frames notes t n host digits few step =
+    let e = end_of (node_at role s) in
+    let parts = call_parts address user_data in
+    by-turn F role s (host_calls role e parts s.book) frames notes t n
+    (host-leaves role s (host_calls role e parts s.book) host (same-calls role e parts s.book) (law.quiet_calls role e parts s.book (quiet-host (node_at role s) host (quiet-at role s n.quiet))) refl
+    (λ dce. let P : Role → Type 0 = λ r. NodeHolds Dte s.dte (host_calls r e parts s.book).book in subst P (sym dce) (law.far_calls Dte s.dte e parts s.book n.typed)))
+    (λ k kept. (law.calls_keeps k.setting s.book (line_of s) role e address user_data kept digits few (host-stands role s n.quiet host) k.kept).kept) step
+
+-- ---- requests on a channel
+
+same-asked : (role : Role) (e : PacketEnd) (channel : ℕ) (r : Request) (b : Book) → SameNodes b (asked_turn role e channel r b).book
+same-asked role e channel Answer b = same-asks role e channel ask.Accept b
+same-asked role e channel Refuse b = same-refuses role e channel b
+same-asked role e channel (Say octets qualified delivery) b = same-says role e channel octets.items qualified delivery b
+same-asked role e channel (Interrupt octets) b = same-asks role e channel (ask.Interrupting octets.items) b
+same-asked role e channel Reset b = same-asks role e channel (ask.Resetting 0 0) b
+same-asked role e channel Clear b = same-asks role e channel (ask.Clearing 0 0) b
+same-asked role e channel Stop b = same-asks role e channel (ask.Stopping true) b
+same-asked role e channel Go b = same-asks role e channel (ask.Stopping false) b
+
+quiet-asked : (role : Role) (e : PacketEnd) (channel : ℕ) (r : Request) (b : Book) → IsQuiet (Host e) → IsQuiet (drained (asked_turn role e channel r b).node)
+quiet-asked role e channel Answer b q = law.quiet_asks role e channel ask.Accept b q
+quiet-asked role e channel Refuse b q = law.quiet_refuses role e channel b q
+quiet-asked role e channel (Say octets qualified delivery) b q = law.quiet_says role e channel octets.items qualified delivery b q
+quiet-asked role e channel (Interrupt octets) b q = law.quiet_asks role e channel (ask.Interrupting octets.items) b q
+quiet-asked role e channel Reset b q = law.quiet_asks role e channel (ask.Resetting 0 0) b q
+quiet-asked role e channel Clear b q = law.quiet_asks role e channel (ask.Clearing 0 0) b q
+quiet-asked role e channel Stop b q = law.quiet_asks role e channel (ask.Stopping true) b q
+quiet-asked role e channel Go b q = law.quiet_asks role e channel (ask.Stopping false) b q
+
+kind-asked : (role : Role) (e : PacketEnd) (channel : ℕ) (r : Request) (b : Book) → is_pad (asked_turn role e channel r b).node ≡ false
+kind-asked role e channel Answer b = refl
+kind-asked role e channel Refuse b = refl
+kind-asked role e channel (Say octets qualified delivery) b = refl
+kind-asked role e channel (Interrupt octets) b = refl
+kind-asked role e channel Reset b = refl
+kind-asked role e channel Clear b = refl
+kind-asked role e channel Stop b = refl
+kind-asked role e channel Go b = refl
+
+far-asked : (n : NodeState) (e : PacketEnd) (channel : ℕ) (r : Request) (b : Book) → NodeHolds Dte n b → NodeHolds Dte n (asked_turn Dce e channel r b).book
+far-asked n e channel Answer b h = law.far_asks Dte n e channel ask.Accept b h
+far-asked n e channel Refuse b h = law.far_refuses Dte n e channel b h
+far-asked n e channel (Say octets qualified delivery) b h = law.far_says Dte n e channel octets.items qualified delivery b h
+far-asked n e channel (Interrupt octets) b h = law.far_asks Dte n e channel (ask.Interrupting octets.items) b h
+far-asked n e channel Reset b h = law.far_asks Dte n e channel (ask.Resetting 0 0) b h
+far-asked n e channel Clear b h = law.far_asks Dte n e channel (ask.Clearing 0 0) b h
+far-asked n e channel Stop b h = law.far_asks Dte n e channel (ask.Stopping true) b h
+far-asked n e channel Go b h = law.far_asks Dte n e channel (ask.Stopping false) b h
+
+keeps-asked : (k : Setting) (b : Book) (l : Rattle.packet_line.specs.PacketLine.Line) (role : Role) (e : PacketEnd) (channel : ℕ) (r : Request) (kept : List Bool) → StandsAt role l (Host e) → Kept k b l
+    → Kept k (asked_turn role e channel r b).book (with_event role (end_of (asked_turn role e channel r b).node) kept (coming_to role l) l)
+keeps-asked k b l role e channel Answer kept at h = (law.asks_keeps k b l role e channel ask.Accept kept at h).kept
+keeps-asked k b l role e channel Refuse kept at h = (law.refuses_keeps k b l role e channel kept at h).kept
+keeps-asked k b l role e channel (Say octets qualified delivery) kept at h = (law.says_keeps k b l role e channel octets.items qualified delivery kept at h).kept
+keeps-asked k b l role e channel (Interrupt octets) kept at h = (law.asks_keeps k b l role e channel (ask.Interrupting octets.items) kept at h).kept
+keeps-asked k b l role e channel Reset kept at h = (law.asks_keeps k b l role e channel (ask.Resetting 0 0) kept at h).kept
+keeps-asked k b l role e channel Clear kept at h = (law.asks_keeps k b l role e channel (ask.Clearing 0 0) kept at h).kept
+keeps-asked k b l role e channel Stop kept at h = (law.asks_keeps k b l role e channel (ask.Stopping true) kept at h).kept
+keeps-asked k b l role e channel Go kept at h = (law.asks_keeps k b l role e channel (ask.Stopping false) kept at h).kept
+
+pub asks-net : (F : Type 0) (role : Role) (s : NetState) (channel : ℕ) (r : Request) (frames : List Put) (notes : List HostNote) (t : NetState)
+    → IsNet F s → is_pad (node_at role s) ≡ false → NodeStep F role (asked_turn role (end_of (node_at role s)) channel r s.book) s.line s frames notes t → IsNet F t
+asks-net F role s channel r frames notes t n host step =
+    let e = end_of (node_at role s) in
+    by-turn F role s (asked_turn role e channel r s.book) frames notes t n
+    (host-leaves role s (asked_turn role e channel r s.book) host (same-asked role e channel r s.book)
+    (quiet-asked role e channel r s.book (quiet-host (node_at role s) host (quiet-at role s n.quiet))) (kind-asked role e channel r s.book)
+    (λ dce. let P : Role → Type 0 = λ x. NodeHolds Dte s.dte (asked_turn x e channel r s.book).book in subst P (sym dce) (far-asked s.dte e channel r s.book n.typed)))
+    (λ k kept. keeps-asked k.setting s.book (line_of s) role e channel r kept (host-stands role s n.quiet host) k.kept) step
+
+-- ---- takes
+
+pub takes-net : (F : Type 0) (role : Role) (s : NetState) (channel : ℕ) (frames : List Put) (notes : List HostNote) (t : NetState)
+    → IsNet F s → is_pad (node_at role s) ≡ false → NodeStep F role (host_takes role (end_of (node_at role s)) channel s.book) s.line s frames notes t → IsNet F t
+takes-net F role s channel frames notes t n host step =
+    let e = end_of (node_at role s) in
+    by-turn F role s (host_takes role e channel s.book) frames notes t n
+    (host-leaves role s (host_takes role e channel s.book) host (same-takes role e channel s.book)
+    (law.quiet_takes role e channel s.book (quiet-host (node_at role s) host (quiet-at role s n.quiet))) (kind-takes role e channel s.book)
+    (λ dce. let P : Role → Type 0 = λ x. NodeHolds Dte s.dte (host_takes x e channel s.book).book in subst P (sym dce) (law.far_takes Dte s.dte e channel s.book n.typed)))
+    (λ k kept. (law.takes_keeps k.setting s.book (line_of s) role e channel kept (host-stands role s n.quiet host) k.kept).kept) step
+
+-- ---- keys
+
+keys-leaves : (s : NetState) (n : NodeState) (octet : ℕ) → s.dte ≡ n → IsQuiet n → NodeHolds Dte n s.book → Leaves Dte s (keys_turn Dte n octet s.book)
+keys-leaves s (Pad p) octet is q typed = record {
+  same = same-keys Dte p octet s.book;
+  quiet = law.quiet_keys Dte p octet s.book q;
+  kind = kind-keys Dte p octet s.book ∙ sym (ap is_pad is);
+  typed = law.typed_drained Dte (pad_keys Dte p octet s.book).node (pad_keys Dte p octet s.book).book (law.typed_keys Dte p octet s.book typed);
+}
+keys-leaves s (Host e) octet is q typed = record {
+  same = record { dte = refl; dce = refl };
+  quiet = record { node = record { read = q.node.read; sent = refl; held = tt }; unread = q.unread };
+  kind = sym (ap is_pad is);
+  typed = tt;
+}
+
+pub keys-net : (F : Type 0) (s : NetState) (p : PadState) (octet : ℕ) (frames : List Put) (notes : List HostNote) (t : NetState)
+    → IsNet F s → s.dte ≡ Pad p → NodeStep F Dte (keys_turn Dte s.dte octet s.book) s.line s frames notes t → IsNet F t
+keys-net F s p octet frames notes t n is step =
+    by-turn F Dte s (keys_turn Dte s.dte octet s.book) frames notes t n (keys-leaves s s.dte octet refl n.quiet.dte n.typed)
+    (λ k kept.
+        let P : NodeState → Type 0 = λ x. Kept k.setting (keys_turn Dte x octet s.book).book (with_event Dte (end_of (keys_turn Dte x octet s.book).node) kept (coming_to Dte (line_of s)) (line_of s)) in
+        subst P (sym is) (law.keys_keeps k.setting s.book (line_of s) Dte p octet kept (subst (StandsAt Dte (line_of s)) is (stands Dte s n.quiet)) k.kept).kept) step

@@ -1,0 +1,241 @@
+-- What holds of a network between its events holds after each event.
+use Rattle.std.proofs.Common.{◌≡◌, ℕ, Bool, true, false, List, [], ◌∷◌, ◌++◌, length, drop, Option, Some, None, refl, sym, ap, ◌∙◌, subst, arith}
+use Rattle.std.specs.Prelude.{◌≤◌, ◌==◌, ◌&&◌, not, if◌then◌else◌, slice_get}
+use Rattle.link_timers.specs.declared.role.Role.{Role}
+use Rattle.link_timers.specs.declared.role.Role.TheVariants.{Dte, Dce}
+use Rattle.link_timers.specs.declared.timers.TimerId.{TimerId}
+use Rattle.lapb.specs.Machine.{Octets}
+use Rattle.line_end.specs.End.{without_frames}
+use Rattle.packet_codec.specs.Address.{AreDigits}
+use Rattle.packet_layer.specs.Packets.{CallParts}
+use Rattle.packet_layer.specs.Channel.{Request as ask}
+use Rattle.packet_end.specs.PacketEnd.{PacketEnd}
+use Rattle.packet_host.specs.Host.{call_parts}
+use Rattle.packet_pad.specs.Pad.{PadState}
+use Rattle.packet_line.specs.PacketLine as line
+use Rattle.call_records.specs.Book.{Book}
+use Rattle.network_laws.specs.Kept.{Setting, Kept, end_at, coming_to}
+use Rattle.network_laws.specs.Happens.{sent, with_event, with_restart}
+use Rattle.node_laws.specs.Nodes.{StandsAt}
+use Rattle.node_laws.specs.Quiet.{IsQuiet}
+use Rattle.pad_laws.specs.PadHolds.{NodeHolds}
+use Rattle.line_nodes.specs.Node.{NodeState, Pad, Host, end_of, is_pad, drained, frames_of}
+use Rattle.line_nodes.specs.Turn.{Turn}
+use Rattle.line_nodes.specs.HostTurns.{host_calls, host_takes}
+use Rattle.line_nodes.specs.PadTurns.{pad_keys}
+use Rattle.line_nodes.specs.LineTurns.{hears, expires, relinks, restarts}
+use Rattle.line_nodes.specs.declared.note.HostNote.{HostNote}
+use Rattle.line_sim.specs.declared.line.Direction.{Direction}
+use Rattle.line_sim.specs.declared.line.Direction.TheVariants.{FromDte, FromDce}
+use Rattle.line_sim.specs.declared.event.Put.{Put}
+use Rattle.line_sim.specs.declared.event.Request.{Request}
+use Rattle.line_sim.specs.declared.event.Request.TheVariants.{Answer, Refuse, Say, Interrupt, Reset, Clear, Stop, Go}
+use Rattle.line_sim.specs.Lines.{Flights, no_flights, flying, with_flying, without_first}
+use Rattle.line_sim.specs.Sends.{ArePut}
+use Rattle.line_sim.specs.NetState.{NetState, node_at, with_turn}
+use Rattle.line_sim.specs.Steps.{direction_of, hearer, NodeStep, keys_turn, asked_turn}
+use Rattle.line_sim.specs.IsNet.{line_of, IsKept, AreQuiet, IsNet}
+use Rattle.line_sim.proofs.Flying.{Landed, landed}
+use Rattle.line_sim.proofs.Sides.{SameNodes}
+use Rattle.line_sim.proofs.Fitting.{dte_after, Leaves, end-drained, after-turn, Comes, comes-same, kept-after, stands, quiet-at}
+use Rattle.line_sim.proofs.Turns.{same-calls, same-asks, same-refuses, same-says, same-takes, same-keys, same-hears, same-expires, same-relinks, same-restarts, kind-hears, kind-expires, kind-relinks, kind-restarts, kind-takes, kind-keys}
+use Rattle.line_sim.proofs.Laws as law
+
+-- ---- one turn
+
+pub node-net : (F : Type 0) (role : Role) (s : NetState) (turn : Turn) (mid : Flights) (coming : List Octets) (frames : List Put) (notes : List HostNote) (t : NetState)
+    → IsNet F s → Leaves role s turn → (F → Comes role s mid coming)
+    → ((k : IsKept s) (kept : List Bool) → Kept k.setting turn.book (with_event role (end_of turn.node) kept coming (line_of s)))
+    → NodeStep F role turn mid s frames notes t → IsNet F t
+node-net F role s turn mid coming frames notes t n w c keeps d =
+    subst (IsNet F) (sym d.others)
+    (after-turn F role s turn t.line n w (λ f. let k = n.kept f in kept-after role s turn mid t.line coming (c f) (d.sends.put f) k.setting (keeps k)))
+
+-- where nothing was taken from the line before
+pub by-turn : (F : Type 0) (role : Role) (s : NetState) (turn : Turn) (frames : List Put) (notes : List HostNote) (t : NetState)
+    → IsNet F s → Leaves role s turn
+    → ((k : IsKept s) (kept : List Bool) → Kept k.setting turn.book (with_event role (end_of turn.node) kept (coming_to role (line_of s)) (line_of s)))
+    → NodeStep F role turn s.line s frames notes t → IsNet F t
+by-turn F role s turn frames notes t n w keeps d = node-net F role s turn s.line (coming_to role (line_of s)) frames notes t n w (λ f. comes-same role s) keeps d
+
+-- ---- what a PAD's law says after a turn of either node
+
+typed-host : (n : NodeState) (b : Book) → is_pad n ≡ false → NodeHolds Dte (drained n) b
+typed-host (Pad p) b e = absurd (cc)
+typed-host (Host e) b h = tt
+
+-- ---- what comes at the line
+
+hears-leaves : (role : Role) (s : NetState) (octets : Octets) → AreQuiet s → NodeHolds Dte s.dte s.book → Leaves role s (hears role (node_at role s) octets s.book)
+hears-leaves Dte s octets q typed = record {
+  same = same-hears Dte s.dte octets s.book;
+  quiet = law.quiet_hears Dte s.dte octets s.book q.dte;
+  kind = kind-hears Dte s.dte octets s.book;
+  typed = law.typed_drained Dte (hears Dte s.dte octets s.book).node (hears Dte s.dte octets s.book).book (law.typed_hears Dte s.dte octets s.book typed);
+}
+hears-leaves Dce s octets q typed = record {
+  same = same-hears Dce s.dce octets s.book;
+  quiet = law.quiet_hears Dce s.dce octets s.book q.dce;
+  kind = kind-hears Dce s.dce octets s.book;
+  typed = law.far_hears Dte s.dte s.dce octets s.book typed;
+}
+
+first-of : (l : List Octets) (x : Octets) → slice_get l 0 ≡ Some x → l ≡ x ∷ drop 1 l
+first-of [] x e = absurd (cc)
+first-of (y ∷ ys) x e = let same : y ≡ x = cc in ap (λ z. z ∷ ys) same
+
+none-of : (l : List Octets) → slice_get l 0 ≡ None → drop 1 l ≡ l
+none-of [] e = refl
+none-of (y ∷ ys) e = absurd (cc)
+
+-- a frame that is taken from the line arrives
+pub heard-net : (F : Type 0) (d : Direction) (s : NetState) (mid : Flights) (octets : Octets) (frames : List Put) (notes : List HostNote) (t : NetState)
+    → IsNet F s → (F → Some octets ≡ slice_get (flying d s.line) 0) → (F → mid ≡ without_first d s.line)
+    → NodeStep F (hearer d) (hears (hearer d) (node_at (hearer d) s) octets s.book) mid s frames notes t → IsNet F t
+heard-net F FromDce s mid octets frames notes t n first rest step =
+    subst (IsNet F) (sym step.others)
+    (after-turn F Dte s (hears Dte s.dte octets s.book) t.line n (hears-leaves Dte s octets n.quiet n.typed)
+    (λ f. let k = n.kept f in kept-after Dte s (hears Dte s.dte octets s.book) mid t.line (drop 1 s.line.from_dce)
+        (record { own = ap (λ (x : Flights). x.from_dte) (rest f); other = ap (λ (x : Flights). x.from_dce) (rest f) }) (step.sends.put f) k.setting
+        (λ kept. (law.hears_keeps k.setting s.book (line_of s) Dte s.dte octets (drop 1 s.line.from_dce) kept (first-of s.line.from_dce octets (sym (first f))) (stands Dte s n.quiet) k.kept).kept)))
+heard-net F FromDte s mid octets frames notes t n first rest step =
+    subst (IsNet F) (sym step.others)
+    (after-turn F Dce s (hears Dce s.dce octets s.book) t.line n (hears-leaves Dce s octets n.quiet n.typed)
+    (λ f. let k = n.kept f in kept-after Dce s (hears Dce s.dce octets s.book) mid t.line (drop 1 s.line.from_dte)
+        (record { own = ap (λ (x : Flights). x.from_dce) (rest f); other = ap (λ (x : Flights). x.from_dte) (rest f) }) (step.sends.put f) k.setting
+        (λ kept. (law.hears_keeps k.setting s.book (line_of s) Dce s.dce octets (drop 1 s.line.from_dte) kept (first-of s.line.from_dte octets (sym (first f))) (stands Dce s n.quiet) k.kept).kept)))
+
+-- another line under the same nodes and book
+with-line : (F : Type 0) (s : NetState) (l : Flights) → IsNet F s → (F → IsKept (record s { line = l })) → IsNet F (record s { line = l })
+with-line F s l n kept = record {
+  apart = n.apart;
+  dte_node = n.dte_node;
+  dce_node = n.dce_node;
+  host = n.host;
+  quiet = record { dte = n.quiet.dte; dce = n.quiet.dce };
+  typed = n.typed;
+  kept = kept;
+}
+
+-- nothing was in flight
+pub empty-net : (F : Type 0) (d : Direction) (s : NetState) (l : Flights) → IsNet F s → (F → None ≡ slice_get (flying d s.line) 0) → (F → l ≡ without_first d s.line) → IsNet F (record s { line = l })
+empty-net F d s l n first rest = with-line F s l n (λ f. let K : Flights → Type 0 = λ x. IsKept (record s { line = x }) in subst K (sym (rest f ∙ still d s.line (sym (first f)))) (n.kept f))
+  where
+    still : (d : Direction) (x : Flights) → slice_get (flying d x) 0 ≡ None → without_first d x ≡ x
+    still FromDte x e = ap (λ (y : List Octets). record x { from_dte = y }) (none-of x.from_dte e)
+    still FromDce x e = ap (λ (y : List Octets). record x { from_dce = y }) (none-of x.from_dce e)
+
+-- the first frame in flight is lost
+pub lost-net : (F : Type 0) (d : Direction) (s : NetState) (l : Flights) → IsNet F s → (F → l ≡ without_first d s.line) → IsNet F (record s { line = l })
+lost-net F FromDte s l n rest = with-line F s l n (λ f. let k = n.kept f in let K : Flights → Type 0 = λ x. IsKept (record s { line = x }) in
+    subst K (sym (rest f)) (record { setting = k.setting; kept = law.loses_keeps k.setting s.book (line_of s) Dce k.kept }))
+lost-net F FromDce s l n rest = with-line F s l n (λ f. let k = n.kept f in let K : Flights → Type 0 = λ x. IsKept (record s { line = x }) in
+    subst K (sym (rest f)) (record { setting = k.setting; kept = law.loses_keeps k.setting s.book (line_of s) Dte k.kept }))
+
+expires-leaves : (role : Role) (s : NetState) (id : TimerId) → AreQuiet s → NodeHolds Dte s.dte s.book → Leaves role s (expires role (node_at role s) id s.book)
+expires-leaves Dte s id q typed = record {
+  same = same-expires Dte s.dte id s.book;
+  quiet = law.quiet_expires Dte s.dte id s.book q.dte;
+  kind = kind-expires Dte s.dte id s.book;
+  typed = law.typed_drained Dte (expires Dte s.dte id s.book).node (expires Dte s.dte id s.book).book (law.typed_expires Dte s.dte id s.book typed);
+}
+expires-leaves Dce s id q typed = record {
+  same = same-expires Dce s.dce id s.book;
+  quiet = law.quiet_expires Dce s.dce id s.book q.dce;
+  kind = kind-expires Dce s.dce id s.book;
+  typed = law.far_expires Dte s.dte s.dce id s.book typed;
+}
+
+pub expires-net : (F : Type 0) (role : Role) (s : NetState) (id : TimerId) (frames : List Put) (notes : List HostNote) (t : NetState)
+    → IsNet F s → NodeStep F role (expires role (node_at role s) id s.book) s.line s frames notes t → IsNet F t
+expires-net F role s id frames notes t n step =
+    by-turn F role s (expires role (node_at role s) id s.book) frames notes t n (expires-leaves role s id n.quiet n.typed)
+    (λ k kept. (law.expires_keeps k.setting s.book (line_of s) role (node_at role s) id kept (stands role s n.quiet) k.kept).kept) step
+
+relinks-leaves : (role : Role) (s : NetState) → AreQuiet s → NodeHolds Dte s.dte s.book → Leaves role s (relinks role (node_at role s) s.book)
+relinks-leaves Dte s q typed = record {
+  same = same-relinks Dte s.dte s.book;
+  quiet = law.quiet_relinks Dte s.dte s.book q.dte;
+  kind = kind-relinks Dte s.dte s.book;
+  typed = law.typed_drained Dte (relinks Dte s.dte s.book).node (relinks Dte s.dte s.book).book (law.typed_relinks Dte s.dte s.book typed);
+}
+relinks-leaves Dce s q typed = record {
+  same = same-relinks Dce s.dce s.book;
+  quiet = law.quiet_relinks Dce s.dce s.book q.dce;
+  kind = kind-relinks Dce s.dce s.book;
+  typed = law.far_relinks Dte s.dte s.dce s.book typed;
+}
+
+pub relinks-net : (F : Type 0) (role : Role) (s : NetState) (frames : List Put) (notes : List HostNote) (t : NetState)
+    → IsNet F s → NodeStep F role (relinks role (node_at role s) s.book) s.line s frames notes t → IsNet F t
+relinks-net F role s frames notes t n step =
+    by-turn F role s (relinks role (node_at role s) s.book) frames notes t n (relinks-leaves role s n.quiet n.typed)
+    (λ k kept. (law.relinks_keeps k.setting s.book (line_of s) role (node_at role s) kept (stands role s n.quiet) k.kept).kept) step
+
+-- ---- a restart
+
+restarts-leaves : (role : Role) (s : NetState) → AreQuiet s → NodeHolds Dte s.dte s.book → Leaves role s (restarts role (node_at role s) s.book)
+restarts-leaves Dte s q typed = record {
+  same = same-restarts Dte s.dte s.book;
+  quiet = law.quiet_restarts Dte s.dte s.book q.dte;
+  kind = kind-restarts Dte s.dte s.book;
+  typed = law.typed_drained Dte (restarts Dte s.dte s.book).node (restarts Dte s.dte s.book).book (law.typed_restarts Dte s.dte s.book typed);
+}
+restarts-leaves Dce s q typed = record {
+  same = same-restarts Dce s.dce s.book;
+  quiet = law.quiet_restarts Dce s.dce s.book q.dce;
+  kind = kind-restarts Dce s.dce s.book;
+  typed = law.far_restarts Dte s.dte s.dce s.book typed;
+}
+
+-- an end whose frames went
+went : (e : PacketEnd) → e.line.frames ≡ [] → e ≡ sent e
+went e h = ap (λ (fs : List Octets). record e { line = record e.line { frames = fs } }) h
+
+restarted-end : (n : NodeState) → end_of (drained (Rattle.line_nodes.specs.LineTurns.restarted n)) ≡ sent (Rattle.packet_end.specs.PacketEnd.restarted (end_of n))
+restarted-end (Pad p) = refl
+restarted-end (Host e) = refl
+
+restarted-frames : (n : NodeState) → frames_of (Rattle.line_nodes.specs.LineTurns.restarted n) ≡ (Rattle.packet_end.specs.PacketEnd.restarted (end_of n)).line.frames
+restarted-frames (Pad p) = refl
+restarted-frames (Host e) = refl
+
+line-is : (a b : line.Line) → a.dte ≡ b.dte → a.dce ≡ b.dce → a.up ≡ b.up → a.down ≡ b.down → a ≡ b
+line-is a b p q r t = λ i. record { dte = p i; dce = q i; up = r i; down = t i }
+
+restart-line : (role : Role) (s : NetState) (mid l : Flights) → AreQuiet s → mid ≡ no_flights → (w : Landed (direction_of role) (frames_of (restarts role (node_at role s) s.book).node) mid l)
+    → line_of (with_turn role (restarts role (node_at role s) s.book) l s) ≡ with_restart role w.kept (line_of s)
+restart-line Dte s mid l q none w =
+    line-is (line_of (with_turn Dte (restarts Dte s.dte s.book) l s)) (with_restart Dte w.kept (line_of s)) (restarted-end s.dte) (went (end_of s.dce) q.dce.node.sent)
+    (ap (λ (f : Flights). f.from_dte) w.is ∙ ap (λ (f : Flights). f.from_dte ++ Rattle.lapb.specs.Line.chosen w.kept (frames_of (Rattle.line_nodes.specs.LineTurns.restarted s.dte))) none
+    ∙ ap (λ (fs : List Octets). Rattle.lapb.specs.Line.chosen w.kept fs) (restarted-frames s.dte))
+    (ap (λ (f : Flights). f.from_dce) w.is ∙ ap (λ (f : Flights). f.from_dce) none)
+restart-line Dce s mid l q none w =
+    line-is (line_of (with_turn Dce (restarts Dce s.dce s.book) l s)) (with_restart Dce w.kept (line_of s)) (went (end_of s.dte) q.dte.node.sent) (restarted-end s.dce)
+    (ap (λ (f : Flights). f.from_dte) w.is ∙ ap (λ (f : Flights). f.from_dte) none)
+    (ap (λ (f : Flights). f.from_dce) w.is ∙ ap (λ (f : Flights). f.from_dce ++ Rattle.lapb.specs.Line.chosen w.kept (frames_of (Rattle.line_nodes.specs.LineTurns.restarted s.dce))) none
+    ∙ ap (λ (fs : List Octets). Rattle.lapb.specs.Line.chosen w.kept fs) (restarted-frames s.dce))
+
+restart-kept : (role : Role) (s : NetState) (mid l : Flights) → AreQuiet s → mid ≡ no_flights
+    → ArePut (direction_of role) (frames_of (restarts role (node_at role s) s.book).node) mid l → IsKept s → IsKept (with_turn role (restarts role (node_at role s) s.book) l s)
+restart-kept Dte s mid l q none put k =
+    let w = landed FromDte (frames_of (restarts Dte s.dte s.book).node) mid l put in
+    record {
+      setting = k.setting;
+      kept = subst (Kept k.setting (restarts Dte s.dte s.book).book) (sym (restart-line Dte s mid l q none w))
+          (law.restarts_keeps k.setting s.book (line_of s) Dte s.dte w.kept (stands Dte s q) k.kept).kept;
+    }
+restart-kept Dce s mid l q none put k =
+    let w = landed FromDce (frames_of (restarts Dce s.dce s.book).node) mid l put in
+    record {
+      setting = k.setting;
+      kept = subst (Kept k.setting (restarts Dce s.dce s.book).book) (sym (restart-line Dce s mid l q none w))
+          (law.restarts_keeps k.setting s.book (line_of s) Dce s.dce w.kept (stands Dce s q) k.kept).kept;
+    }
+
+pub restarts-net : (F : Type 0) (role : Role) (s : NetState) (mid : Flights) (frames : List Put) (notes : List HostNote) (t : NetState)
+    → IsNet F s → (F → mid ≡ no_flights) → NodeStep F role (restarts role (node_at role s) s.book) mid s frames notes t → IsNet F t
+restarts-net F role s mid frames notes t n none step =
+    subst (IsNet F) (sym step.others)
+    (after-turn F role s (restarts role (node_at role s) s.book) t.line n (restarts-leaves role s n.quiet n.typed)
+    (λ f. restart-kept role s mid t.line n.quiet (none f) (step.sends.put f) (n.kept f)))
