@@ -14,5 +14,3 @@ pub use note::{HostNote, NoteKind};
 pub use pad::KeyAnswer;
 pub use place::Place;
 
-#[cfg(test)]
-mod tests;

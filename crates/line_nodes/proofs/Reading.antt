@@ -1,0 +1,52 @@
+-- Notes that are read one by one: what each opens, and what is listed of it.
+use Rattle.std.proofs.Common.{◌≡◌, ◌≤◌, ◌+◌, ◌++◌, ℕ, List, [], ◌∷◌, length, drop, ap, refl, arith}
+use Rattle.std.specs.Prelude.{Some, None, IsTrue, slice_get}
+use Rattle.packet_layer.specs.Packets.{Note}
+use Rattle.packet_layer.specs.Packets.Note.{Incoming, Connected, Closed, WasReset, InterruptConfirmed, Covered}
+use Rattle.call_records.specs.Room.{opens, room_after, opening_notes}
+
+pub first_read : (notes : List Note) (n : Note) → Some n ≡ slice_get notes 0 → notes ≡ n ∷ drop 1 notes
+first_read [] n at = absurd (cc)
+first_read (x ∷ xs) n at =
+    let same : x ≡ n = cc in
+    ap (λ (z : Note). z ∷ xs) same
+
+pub none_read : (notes : List Note) → None ≡ slice_get notes 0 → notes ≡ []
+none_read [] at = refl
+none_read (x ∷ xs) at = absurd (cc)
+
+-- what two lists open together
+pub opening_both : (ns ms : List Note) → opening_notes (ns ++ ms) ≡ opening_notes ns + opening_notes ms
+opening_both [] ms = refl
+opening_both (Incoming channel parts ∷ ns) ms = omega (arith, opening_both ns ms)
+opening_both (WasReset channel cause diagnostic reason ∷ ns) ms = omega (arith, opening_both ns ms)
+opening_both (Connected channel ∷ ns) ms = opening_both ns ms
+opening_both (Closed channel cause diagnostic reason ∷ ns) ms = opening_both ns ms
+opening_both (InterruptConfirmed channel ∷ ns) ms = opening_both ns ms
+opening_both (Covered channel count ∷ ns) ms = opening_both ns ms
+
+-- one that opens something has room, and leaves enough for the others
+pub has_room : (n : Note) (ns : List Note) (room : ℕ) → opening_notes (n ∷ ns) ≤ room → IsTrue (opens n) → 1 ≤ room
+has_room (Incoming channel parts) ns room fits is = omega (arith, fits)
+has_room (WasReset channel cause diagnostic reason) ns room fits is = omega (arith, fits)
+has_room (Connected channel) ns room fits is = absurd (cc)
+has_room (Closed channel cause diagnostic reason) ns room fits is = absurd (cc)
+has_room (InterruptConfirmed channel) ns room fits is = absurd (cc)
+has_room (Covered channel count) ns room fits is = absurd (cc)
+
+pub room_left : (n : Note) (ns : List Note) (room : ℕ) → opening_notes (n ∷ ns) ≤ 1 → opening_notes (n ∷ ns) ≤ room →
+    opening_notes ns ≤ room_after n room
+room_left (Incoming channel parts) ns room one fits = omega (arith, one)
+room_left (WasReset channel cause diagnostic reason) ns room one fits = omega (arith, one)
+room_left (Connected channel) ns room one fits = fits
+room_left (Closed channel cause diagnostic reason) ns room one fits = fits
+room_left (InterruptConfirmed channel) ns room one fits = fits
+room_left (Covered channel count) ns room one fits = fits
+
+pub one_left : (n : Note) (ns : List Note) → opening_notes (n ∷ ns) ≤ 1 → opening_notes ns ≤ 1
+one_left (Incoming channel parts) ns one = omega (arith, one)
+one_left (WasReset channel cause diagnostic reason) ns one = omega (arith, one)
+one_left (Connected channel) ns one = one
+one_left (Closed channel cause diagnostic reason) ns one = one
+one_left (InterruptConfirmed channel) ns one = one
+one_left (Covered channel count) ns one = one
