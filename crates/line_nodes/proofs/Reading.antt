@@ -70,9 +70,10 @@ pub second_has_room : (role : Role) (p : PadState) (b : Book) (before after : �
     → 1 ≤ before → (opening_notes p.end.notes ≡ 0 → after ≡ before) → opening_notes (second_notes p) ≤ after
 second_has_room role p b before after one room kept =
     go (opening_notes p.end.notes) refl
-    where
+  where
     both : opening_notes (pad_event role p b).notes ≡ opening_notes p.end.notes + opening_notes (second_notes p)
     both = opening_both p.end.notes (second_notes p)
+
     go : (n : ℕ) → opening_notes p.end.notes ≡ n → opening_notes (second_notes p) ≤ after
     go zero is = omega (arith, one, both, room, kept is)
     go (suc n) is = omega (arith, one, both, is)

@@ -13,4 +13,3 @@ pub use node::Node;
 pub use note::{HostNote, NoteKind};
 pub use pad::KeyAnswer;
 pub use place::Place;
-

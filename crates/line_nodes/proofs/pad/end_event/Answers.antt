@@ -1,4 +1,4 @@
-use Rattle.std.proofs.Common.{◌≡◌, ◌≤◌, arith}
+use Rattle.std.proofs.Common.{arith}
 use Rattle.line_nodes.proofs.Reading.{first_opens, second_opens, second_has_room}
 use Rattle.line_nodes.proofs.pad.end_event.Goals as goal
 

@@ -10,8 +10,8 @@ pub loop-preserved : goal.loop-preserved
 loop-preserved c =
     let left = c.full_packets-end.result - (c.loop.counter + 1) in
     let book : c.sends.new.self.book ≡ sends c.args.role c.args.channel (record { octets = take 128 c.loop.rest.now; more = true; qualified = c.args.qualified; delivery = false }) c.loop.book.book =
-        ap (λ (s : BookState). s.book) c.sends.ensures
-        ∙ ap (λ (octets : List ℕ). sends c.args.role c.args.channel (record { octets = octets; more = true; qualified = c.args.qualified; delivery = false }) c.loop.book.book) c.split_at.ensures.front in
+    ap (λ (s : BookState). s.book) c.sends.ensures
+    ∙ ap (λ (octets : List ℕ). sends c.args.role c.args.channel (record { octets = octets; more = true; qualified = c.args.qualified; delivery = false }) c.loop.book.book) c.split_at.ensures.front in
     record {
       end = c.loop.invariant.end;
       least = rw c.split_at.ensures.back
