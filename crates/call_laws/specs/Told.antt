@@ -5,14 +5,13 @@ use Rattle.link_timers.specs.declared.role.Role.TheVariants.{Dte, Dce}
 use Rattle.pad_editing.specs.Edited.{Step}
 use Rattle.packet_layer.specs.Packets.{CallParts, Packet, Note}
 use Rattle.packet_layer.specs.Packets.Received.{Whole}
-use Rattle.packet_layer.specs.Traffic.{Taken}
-use Rattle.packet_layer.specs.Channel.{Request, Refusal}
-use Rattle.packet_layer.specs.Channel.Request.{Accept, Clearing, Resetting, Sending, Interrupting, Taking, Releasing}
+use Rattle.packet_layer.specs.Channel.{Request}
 use Rattle.packet_layer.specs.Layer.{Layer, runs, link_up, link_down, on_packet, on_timer, channel_given, request_refusal, front_on}
 use Rattle.packet_laws.specs.Line.{Line, Event, Happening, turned, start_line, may_begin, next_of_session, after_one}
 use Rattle.packet_laws.specs.Line.Event.{Up, Down, Calls, Requests, Expires, Arrives}
 use Rattle.packet_laws.specs.Line.Happening.{Here, There}
-use Rattle.call_records.specs.Book.{Book, places, answers, closes, renews, sends, interrupts, takes, releases, edits, all_told, made_book}
+use Rattle.call_records.specs.Book.{Book, edits, all_told, made_book}
+pub use Rattle.call_records.specs.Carried.{carried, unless_refused, placed_on}
 
 -- ---- what an end's packet layer tells by an event
 
@@ -33,25 +32,6 @@ notes_of Arrives w = notes_in w.me.session w
 notes_of _ w = []
 
 -- ---- what is written
-
--- what the user asked, where it was not refused; what is taken is what was at the front before
-abbrev pub carried : Role → (channel : ℕ) → Request → Option Taken → Book → Book
-carried role channel Accept front b = answers role channel b
-carried role channel (Clearing cause diagnostic) front b = closes role channel b
-carried role channel (Resetting cause diagnostic) front b = renews role channel b
-carried role channel (Sending d) front b = sends role channel d b
-carried role channel (Interrupting octets) front b = interrupts role channel octets b
-carried role channel Taking front b = takes role channel front b
-carried role channel (Releasing count) front b = releases role channel count b
-carried role channel _ front b = b
-
-abbrev pub unless_refused : Option Refusal → (done old : Book) → Book
-unless_refused None done old = done
-unless_refused (Some r) done old = old
-
-abbrev pub placed_on : Role → Option ℕ → CallParts → Book → Book
-placed_on role None parts b = b
-placed_on role (Some channel) parts b = places role channel parts.called b
 
 -- at `me`, which has this role
 abbrev pub written : Role → Event → Line → Book → Book

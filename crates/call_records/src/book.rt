@@ -146,7 +146,8 @@ impl Book {
             placed: Some(number),
             caller: None,
         };
-        self.records.push_reserved(Record::new(self.alloc, number, node, None, Some(*called)));
+        self.records
+            .push_reserved(Record::new(self.alloc, number, node, None, Some(*called)));
         self.ends.put(role, channel, slot);
         self.room = 0;
     }
@@ -184,7 +185,9 @@ impl Book {
         ensures { self.new ≡ record { book = answers role channel self.old.book; room = self.old.room - 1 } }
     {
         let Slot {
-            present, caller, ..
+            present,
+            caller,
+            ..
         } = self.ends.of(role).slot(channel);
         self.room -= 1;
         let (Some(caller), Some(callee)) = (caller, present) else {

@@ -29,5 +29,5 @@ returns c =
     let more = shown_more a.records.items c.push_reserved.new.self.items c.new.result c.push_reserved.ensures.items in
     let grown = more ∙ ap (λ (r : RecordValue). rs ++ r ∷ []) c.new.ensures in
     ap (λ (b : Book). record { book = b; room = 0 }) (comes_is a c.args.role c.args.channel parts new c.put.new.self c.len-number.result c.node-node.result
-        (Some c.data-data.result.called) c.calling_of.result c.placed.inside.placed c.caller.inside.placed
-        (number ∙ shown_length a.records.items) node own far placed (caller ∙ other) grown (c.put.ensures new ps) ∙ ap (λ (s : BookState). comes c.args.role c.args.channel parts s.book) c.self.view_is)
+    (Some c.data-data.result.called) c.calling_of.result c.placed.inside.placed c.caller.inside.placed
+    (number ∙ shown_length a.records.items) node own far placed (caller ∙ other) grown (c.put.ensures new ps) ∙ ap (λ (s : BookState). comes c.args.role c.args.channel parts s.book) c.self.view_is)

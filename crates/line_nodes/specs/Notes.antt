@@ -1,0 +1,27 @@
+-- What a host is told of its calls.
+use Rattle.std.specs.Prelude.{ℕ, List, [], ◌∷◌, ◌++◌}
+use Rattle.packet_layer.specs.Packets.{Note}
+use Rattle.packet_layer.specs.Packets.Note.{Incoming, Connected, Closed, WasReset, InterruptConfirmed, Covered}
+use Rattle.line_nodes.specs.Node.{NodeState, Pad, Host}
+use Rattle.line_nodes.specs.declared.note.HostNote.{HostNote}
+use Rattle.line_nodes.specs.declared.note.NoteKind.TheVariants as kind
+
+-- a call that comes in, that is connected, cleared or reset; that an interrupt or packets arrived is not told
+abbrev pub host_note : (node : ℕ) → Note → List HostNote
+host_note node (Incoming channel parts) = record { node = node; channel = channel; kind = kind.Incoming } ∷ []
+host_note node (Connected channel) = record { node = node; channel = channel; kind = kind.Connected } ∷ []
+host_note node (Closed channel cause diagnostic reason) =
+    record { node = node; channel = channel; kind = kind.Cleared cause diagnostic } ∷ []
+host_note node (WasReset channel cause diagnostic reason) =
+    record { node = node; channel = channel; kind = kind.Reset cause diagnostic } ∷ []
+host_note node (InterruptConfirmed channel) = []
+host_note node (Covered channel count) = []
+
+abbrev pub host_notes : (node : ℕ) → List Note → List HostNote
+host_notes node [] = []
+host_notes node (note ∷ notes) = host_note node note ++ host_notes node notes
+
+-- a PAD has no user that is told
+abbrev pub user_notes : NodeState → (node : ℕ) → List Note → List HostNote
+user_notes (Pad p) node notes = []
+user_notes (Host e) node notes = host_notes node notes

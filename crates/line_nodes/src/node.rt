@@ -1,0 +1,171 @@
+//! A node at an end of a line.
+ghost use Rattle.std.specs.Prelude.{◌≡◌, ◌≤◌, ◌∷◌, [], length, vec_capacity};
+ghost use Rattle.std.specs.Bool.{OnTrue, OnFalse};
+ghost use Rattle.packet_end.specs.PacketEnd.{runs_at, without_first_frame};
+ghost use Rattle.call_records.specs.Room.{opening_notes};
+ghost use Rattle.line_nodes.specs.Node.{end_of, with_end, is_pad, frames_of, drained, node_rests, node_due, node_elapsed, node_confirmed};
+ghost use Rattle.line_nodes.specs.NodeView.{node_of};
+ghost use Rattle.line_nodes.specs.Notes.{user_notes};
+ghost use Rattle.line_nodes.specs.LineTurns.{hears, expires, relinks, restarts};
+
+use crate::note::HostNote;
+use crate::place::Place;
+use crate::{host, pad};
+use call_records::Book;
+use frame_codec::FrameBuf;
+use link_timers::{Role, TimerId};
+use packet_host::Host;
+use packet_pad::Pad;
+
+/// A node at an end of a line.
+#[derive(Drop)]
+pub enum Node {
+    Pad(Pad),
+    Host(Host),
+}
+
+impl Node {
+    /// Takes the octets of a received frame, and writes what follows into the book. `notes` lists what a host is told, in order; it
+    /// is empty before, with 96 places.
+    pub fn hears(&mut self, at: Place, octets: &[u8], book: &mut Book, notes: &mut Vec<HostNote>)
+        requires opening { opening_notes (hears at.role (node_of self.old) octets.now book.old.book).notes ≤ 1 }
+        requires room { 1 ≤ book.old.room }
+        requires empty { notes.old.items ≡ [] }
+        requires capacity { 96 ≤ vec_capacity notes.old }
+        ensures node { node_of self.new ≡ (hears at.role (node_of self.old) octets.now book.old.book).node }
+        ensures book { book.new.book ≡ (hears at.role (node_of self.old) octets.now book.old.book).book }
+        ensures notes { notes.new.items ≡ user_notes (node_of self.old) at.node (hears at.role (node_of self.old) octets.now book.old.book).notes }
+    {
+        match self {
+            Node::Pad(pad) => pad::hear(pad, at.role, octets, book),
+            Node::Host(host) => host::hear(host, at, octets, book, notes),
+        }
+    }
+
+    /// Takes an expiry of a timer, and answers whether it ran. Where it did not nothing happens. It writes and lists as `hears`.
+    pub fn expires(
+        &mut self,
+        at: Place,
+        id: TimerId,
+        book: &mut Book,
+        notes: &mut Vec<HostNote>,
+    ) -> bool
+        requires opening { opening_notes (expires at.role (node_of self.old) id book.old.book).notes ≤ 1 }
+        requires room { 1 ≤ book.old.room }
+        requires empty { notes.old.items ≡ [] }
+        requires capacity { 96 ≤ vec_capacity notes.old }
+        ensures ran { result ≡ runs_at (end_of (node_of self.old)) id }
+        ensures node { node_of self.new ≡ (expires at.role (node_of self.old) id book.old.book).node }
+        ensures book { book.new.book ≡ (expires at.role (node_of self.old) id book.old.book).book }
+        ensures notes { notes.new.items ≡ user_notes (node_of self.old) at.node (expires at.role (node_of self.old) id book.old.book).notes }
+    {
+        match self {
+            Node::Pad(pad) => pad::expire(pad, at.role, id, book),
+            Node::Host(host) => host::expire(host, at, id, book, notes),
+        }
+    }
+
+    /// Gives the link up and sets it up again: all calls close. It writes and lists as `hears`.
+    pub fn relinks(&mut self, at: Place, book: &mut Book, notes: &mut Vec<HostNote>)
+        requires opening { opening_notes (relinks at.role (node_of self.old) book.old.book).notes ≤ 1 }
+        requires room { 1 ≤ book.old.room }
+        requires empty { notes.old.items ≡ [] }
+        requires capacity { 96 ≤ vec_capacity notes.old }
+        ensures node { node_of self.new ≡ (relinks at.role (node_of self.old) book.old.book).node }
+        ensures book { book.new.book ≡ (relinks at.role (node_of self.old) book.old.book).book }
+        ensures notes { notes.new.items ≡ user_notes (node_of self.old) at.node (relinks at.role (node_of self.old) book.old.book).notes }
+    {
+        match self {
+            Node::Pad(pad) => pad::relink(pad, at.role, book),
+            Node::Host(host) => host::relink(host, at, book, notes),
+        }
+    }
+
+    /// Begins anew: its calls are over for it, and are closed in the book. Nobody is told.
+    pub fn restarts(&mut self, role: Role, book: &mut Book)
+        ensures node { node_of self.new ≡ (restarts role (node_of self.old) book.old.book).node }
+        ensures book { book.new.book ≡ (restarts role (node_of self.old) book.old.book).book }
+    {
+        match self {
+            Node::Pad(pad) => pad.restart(),
+            Node::Host(host) => host.restart(),
+        }
+        book.close_all(role);
+    }
+
+    /// Takes the next frame that goes out, if there is one. Where there is none `frame` stays.
+    pub fn out(&mut self, frame: &mut FrameBuf) -> bool
+        ensures frame { OnTrue result (frames_of (node_of self.old) ≡ frame.new ∷ frames_of (node_of self.new)) }
+        ensures nothing { OnFalse result (frames_of (node_of self.old) ≡ []) }
+        ensures same { OnFalse result (frame.new ≡ frame.old) }
+        ensures node { node_of self.new ≡ with_end (without_first_frame (end_of (node_of self.old))) (node_of self.old) }
+    {
+        match self {
+            Node::Pad(pad) => pad.out(frame),
+            Node::Host(host) => host.out(frame),
+        }
+    }
+
+    /// How many frames wait to be taken, at most nine.
+    pub fn waiting_frames(&self) -> usize
+        ensures count { result ≡ length (frames_of (node_of self.now)) }
+        ensures most { result ≤ 9 }
+    {
+        match self {
+            Node::Pad(pad) => pad.waiting_frames(),
+            Node::Host(host) => host.waiting_frames(),
+        }
+    }
+
+    /// Lets ticks pass, each a twentieth of a second: each timer that runs has so many less, not below 0.
+    pub fn elapse(&mut self, ticks: u16)
+        ensures { node_of self.new ≡ node_elapsed ticks (node_of self.old) }
+    {
+        match self {
+            Node::Pad(pad) => pad.elapse(ticks),
+            Node::Host(host) => host.elapse(ticks),
+        }
+    }
+
+    /// The first timer that runs with no tick left, in the order of [`TimerId`] and then by number.
+    pub fn due(&self) -> Option<TimerId>
+        ensures { result ≡ node_due (node_of self.now) }
+    {
+        match self {
+            Node::Pad(pad) => pad.due(),
+            Node::Host(host) => host.due(),
+        }
+    }
+
+    /// Whether the link is up with nothing unacknowledged and nothing to be said, no packet is owed, and nothing waits to be sent
+    /// or taken on any channel.
+    pub fn is_at_rest(&self) -> bool
+        ensures { result ≡ node_rests (node_of self.now) }
+    {
+        match self {
+            Node::Pad(pad) => pad.is_at_rest(),
+            Node::Host(host) => host.is_at_rest(),
+        }
+    }
+
+    /// Whether it is a host with a call on the channel in which no packet that asks for delivery confirmation (D = 1) still waits
+    /// for the P(R) that covers it (X.25 4.3.3).
+    pub fn confirmed(&self, channel: u8) -> bool
+        ensures { result ≡ node_confirmed (node_of self.now) channel }
+    {
+        match self {
+            Node::Pad(_) => false,
+            Node::Host(host) => host.confirmed(channel),
+        }
+    }
+
+    /// Whether it is a PAD.
+    pub fn is_pad(&self) -> bool
+        ensures { result ≡ is_pad (node_of self.now) }
+    {
+        match self {
+            Node::Pad(_) => true,
+            Node::Host(_) => false,
+        }
+    }
+}
