@@ -19,7 +19,7 @@ use Rattle.call_records.specs.Book.{Book, all_told}
 use Rattle.call_laws.specs.Told.{placed_on}
 use Rattle.network_laws.specs.Kept.{Setting, Kept, end_at, coming_to}
 use Rattle.network_laws.specs.Clauses.{requested_at}
-use Rattle.network_laws.specs.Happens.{sent, with_event, with_restart, FrameLaw, ExpiryLaw, RelinkLaw, RestartedLaw, CalledLaw, asked_all, requested_all, AskedLaw}
+use Rattle.network_laws.specs.Happens.{sent, with_event, with_restart, FrameLaw, ExpiryLaw, RelinkLaw, RestartedLaw, CalledLaw, asked_all, requested_all, RequestedLaw}
 use Rattle.network_laws.proofs.Telling.{told_append}
 use Rattle.network_laws.proofs.Views.{KeptAt, seen, unseen}
 use Rattle.network_laws.proofs.Acting.{hears_at, expires_at, relinks_at, relinks_if_due_at, begins_at, settles_at, sends_at, offers_at, restarts_at, calls_at, requests_at}
@@ -147,8 +147,8 @@ relink_kept s b l role kept k = relink_on s b l role kept k
 pub called_kept : CalledLaw
 called_kept s b l role parts kept fits calling k = called_on s b l role parts kept fits calling k
 
-pub asked_kept : AskedLaw
-asked_kept s b l role channel rs kept k = requests_on s b l role channel rs kept k
+pub requested_kept : RequestedLaw
+requested_kept s b l role channel rs kept k = requests_on s b l role channel rs kept k
 
 restart_as : (s : Setting) (b : Book) (role : Role) (l : Line) (kept : List Bool) →
     KeptAt s b role (sent (end.restarted (end_at role l))) (sent (end_at (other_of role) l)) (chosen kept (end.restarted (end_at role l)).line.frames) [] → Kept s b (with_restart role kept l)
