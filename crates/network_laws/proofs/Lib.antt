@@ -6,3 +6,4 @@ pub mod Keeping
 pub mod Happening
 pub mod Opening
 mod Rows
+mod Calm
