@@ -1,23 +1,22 @@
 -- Outside data transfer nothing waits to be taken: so it is of each channel, whatever happens on a line.
-use Rattle.std.specs.Prelude.{◌≡◌, ℕ, zero, suc, ◌==◌, ◌&&◌, Bool, true, false, cond, not, List, [], ◌∷◌, length, map, set, slice_get, replicate, Option, Some, None, is_some}
-use Rattle.std.proofs.Common.{refl, sym, ap, ◌∙◌, arith, true≢false}
+use Rattle.std.specs.Prelude.{◌≡◌, ℕ, zero, suc, ◌==◌, ◌&&◌, Bool, true, false, cond, not, List, [], ◌∷◌, length, map, set, replicate, Option, Some, None, is_some}
+use Rattle.std.proofs.Common.{refl, sym, ap, ◌∙◌, true≢false}
 use Rattle.std.proofs.lemmas.Option.{none-some, same_Some}
 use Rattle.link_timers.specs.declared.role.Role.{Role}
 use Rattle.link_timers.specs.declared.role.Role.TheVariants.{Dte, Dce}
 use Rattle.packet_layer.specs.Packets.{CallParts, Body, Packet}
 use Rattle.packet_layer.specs.Packets.Body.{Call, Accepted, Clear, ClearConfirmation, Data, Interrupt, InterruptConfirmation, ReceiveReady, ReceiveNotReady, Reset, ResetConfirmation, Restart, RestartConfirmation}
 use Rattle.packet_layer.specs.Packets.Received.{Whole}
-use Rattle.packet_layer.specs.Packets.Reason.{LinkLost, FarRestart, LocalFault}
 use Rattle.packet_layer.specs.Traffic.{Heard, Taken, hears, says, front}
 use Rattle.packet_layer.specs.Traffic.Heard.{Keeps, Confirms, Wrong}
 use Rattle.packet_layer.specs.Channel.{CallState, Channel, Step, Request, Refusal, closed_channel, entered, in_transfer, has_flow, refused_if, refusal, carried_out, unless, requested, clear_error, after_heard, in_flow_ready, in_own_reset, in_ready, in_own_waiting, in_far_waiting, in_collision, in_own_clear, received_in, received}
 use Rattle.packet_layer.specs.Channel.CallState.{Ready, OwnWaiting, FarWaiting, Transfer, Collision, OwnClear}
 use Rattle.packet_layer.specs.Channel.Request.{Accept, Clearing, Resetting, Sending, Interrupting, Stopping, Taking, Releasing, Confirming}
-use Rattle.packet_layer.specs.Layer.{Phase, Layer, Timer, with_owed, front_at, Next, ChannelNext, nth_channel, channel_of, with_nth, standing_channels, made, link_up, link_down, after_step, on_found, on_channel, restart_packet, packet_in, on_packet, runs, expired, on_timer, next_owed, next_of, next_number, served, serve_found, serve, next_restart, next_in, next_packet, channel_given, placing, placed_on, call, request, unread}
+use Rattle.packet_layer.specs.Layer.{Phase, Layer, Timer, with_owed, front_at, Next, ChannelNext, nth_channel, channel_of, with_nth, standing_channels, made, on_found, on_channel, restart_packet, on_packet, runs, expired, on_timer, next_owed, next_of, next_number, serve_found, serve, next_restart, next_in, channel_given, placing, placed_on, call, request, unread}
 use Rattle.packet_layer.specs.Layer.Phase.{NoSession, OwnRestart, PacketReady}
 use Rattle.packet_layer.specs.Layer.Timer.{RestartTimer, CallTimer, ResetTimer, ClearTimer}
 use Rattle.packet_laws.specs.Readable.{Every}
-use Rattle.packet_laws.specs.Line.{End, Line, Event, Happening, happens, turned, after_one, may_begin, begun, offers, accepts, arrives_in, next_of_session, start_line}
+use Rattle.packet_laws.specs.Line.{End, Line, Event, happens, turned, may_begin, begun, offers, accepts, arrives_in, next_of_session, start_line}
 use Rattle.packet_laws.specs.Line.Event.{Up, Down, Calls, Requests, Expires, Offers, Arrives}
 use Rattle.packet_laws.specs.Line.Happening.{Here, There}
 use Rattle.call_laws.specs.Told.{World, Move, after_move, after_all}
