@@ -19,7 +19,7 @@ use Rattle.call_records.specs.Book.{Book, all_told}
 use Rattle.call_laws.specs.Told.{placed_on}
 use Rattle.network_laws.specs.Kept.{Setting, Kept, end_at, coming_to}
 use Rattle.network_laws.specs.Clauses.{requested_at}
-use Rattle.network_laws.specs.Happens.{sent, with_event, with_restart, FrameLaw, ExpiryLaw, RelinkLaw, RestartedLaw, CalledLaw, asked_all, requested_all, AskedLaw}
+use Rattle.network_laws.specs.Happens.{sent, with_event, with_restart, FrameLaw, ExpiryLaw, RelinkLaw, RestartedLaw, CalledLaw, asked_all, requested_all, RequestedLaw}
 use Rattle.network_laws.proofs.Telling.{told_append}
 use Rattle.network_laws.proofs.Views.{KeptAt, seen, unseen}
 use Rattle.network_laws.proofs.Acting.{hears_at, expires_at, relinks_at, relinks_if_due_at, begins_at, settles_at, sends_at, offers_at, restarts_at, calls_at, requests_at}
@@ -65,7 +65,7 @@ module _ (s : Setting) (b : Book) (role : Role) (e you : PacketEnd) (going comin
 
 -- ---- as a line
 
-on_line : (s : Setting) (b : Book) (role : Role) (e : PacketEnd) (l : Line) (coming : List Octets) (kept : List Bool) → Sent s b role e (end_at (other_of role) l) (coming_to (other_of role) l) coming kept →
+pub on_line : (s : Setting) (b : Book) (role : Role) (e : PacketEnd) (l : Line) (coming : List Octets) (kept : List Bool) → Sent s b role e (end_at (other_of role) l) (coming_to (other_of role) l) coming kept →
     Kept s b (with_event role e kept coming l)
 on_line s b Dte e l coming kept k = unseen s b Dte (sent e) l.dce (l.up ++ chosen kept e.line.frames) coming k
 on_line s b Dce e l coming kept k = unseen s b Dce (sent e) l.dte (l.down ++ chosen kept e.line.frames) coming k
@@ -114,7 +114,7 @@ module _ (s : Setting) (b : Book) (l : Line) (role : Role) where
       ends_on s b role (relinked (begun me)) l (coming_to role l) kept (told_by (relinked (begun me)) (coming_to role l) t.given t.notes t.kept)
 
   -- ---- a user's event, of which `e` is what was asked, and `x` the book with it
-  asked_on : (e : PacketEnd) (x : Book) (kept : List Bool) → KeptAt s x role e you going (coming_to role l) →
+  pub asked_on : (e : PacketEnd) (x : Book) (kept : List Bool) → KeptAt s x role e you going (coming_to role l) →
       Kept s (all_told role (finished (begun e)).notes x) (with_event role (finished (begun e)) kept (coming_to role l) l)
   asked_on e x kept k = ends_on s x role (begun e) l (coming_to role l) kept (begins_at s x role e you going (coming_to role l) k)
 
@@ -147,8 +147,8 @@ relink_kept s b l role kept k = relink_on s b l role kept k
 pub called_kept : CalledLaw
 called_kept s b l role parts kept fits calling k = called_on s b l role parts kept fits calling k
 
-pub asked_kept : AskedLaw
-asked_kept s b l role channel rs kept k = requests_on s b l role channel rs kept k
+pub requested_kept : RequestedLaw
+requested_kept s b l role channel rs kept k = requests_on s b l role channel rs kept k
 
 restart_as : (s : Setting) (b : Book) (role : Role) (l : Line) (kept : List Bool) →
     KeptAt s b role (sent (end.restarted (end_at role l))) (sent (end_at (other_of role) l)) (chosen kept (end.restarted (end_at role l)).line.frames) [] → Kept s b (with_restart role kept l)

@@ -1,8 +1,10 @@
 mod Moving
 mod Telling
+mod Calm
 mod Views
 pub mod Acting
 pub mod Keeping
 pub mod Happening
 pub mod Opening
 mod Rows
+pub mod Hosting

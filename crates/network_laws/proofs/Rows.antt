@@ -22,7 +22,7 @@ use Rattle.call_laws.specs.Headline.{BookHolds}
 use Rattle.network_laws.specs.Kept.{Setting, IsSetting, Kept, end_at, coming_to}
 use Rattle.network_laws.specs.Happens.{with_event, asked_all, requested_all}
 use Rattle.network_laws.proofs.Keeping.{made_kept, silent_kept, holds_kept}
-use Rattle.network_laws.proofs.Happening.{frame_kept, called_kept, asked_kept}
+use Rattle.network_laws.proofs.Happening.{frame_kept, called_kept, requested_kept}
 
 -- ---- events of nodes, of whose frames none is lost
 
@@ -74,7 +74,7 @@ one_kept : (s : Setting) (h : Happening) (n : Net) → IsFitOne h → Kept s n.b
 one_kept s (Starts role) n fits k = silent_kept s n.book n.line role (Sends []) tt k
 one_kept s (Hears role) n fits k = heard_kept s role (coming_to role n.line) n refl k
 one_kept s (Places role parts) n fits k = called_kept s n.book n.line role parts [] fits.0 fits.1 k
-one_kept s (Asks role channel rs) n fits k = asked_kept s n.book n.line role channel rs [] k
+one_kept s (Asks role channel rs) n fits k = requested_kept s n.book n.line role channel rs [] k
 
 all_kept : (s : Setting) (hs : List Happening) (n : Net) → AreFit hs → Kept s n.book n.line → Kept s (after hs n).book (after hs n).line
 all_kept s [] n fits k = k
