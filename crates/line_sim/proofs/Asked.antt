@@ -27,11 +27,15 @@ use Rattle.line_sim.specs.declared.event.Request.TheVariants.{Answer, Refuse, Sa
 use Rattle.line_sim.specs.NetState.{NetState, node_at}
 use Rattle.line_sim.specs.Steps.{NodeStep, keys_turn, asked_turn}
 use Rattle.line_sim.specs.IsNet.{line_of, IsKept, AreQuiet, IsNet}
-use Rattle.line_sim.proofs.Sides.{SameNodes}
 use Rattle.line_sim.proofs.Fitting.{Leaves, stands, quiet-at}
-use Rattle.line_sim.proofs.Turns.{same-calls, same-asks, same-refuses, same-says, same-takes, same-keys, kind-takes, kind-keys}
+use Rattle.line_sim.proofs.Turns.{SameNodes, same, kind-takes, kind-keys}
+use Rattle.pad_laws.proofs.Nodes.{nodes_stay}
 use Rattle.line_sim.proofs.Events.{by-turn}
-use Rattle.line_sim.proofs.Laws as law
+use Rattle.node_laws.proofs.Asking as asking_law
+use Rattle.pad_laws.proofs.FarTurns as far_law
+use Rattle.node_laws.proofs.QuietTurns as quiet_law
+use Rattle.pad_laws.proofs.Turns as typed_law
+use Rattle.node_laws.proofs.Typing as typing_law
 
 -- ---- a host at the end of a role
 
@@ -64,31 +68,31 @@ calls-net F role s address user_data frames notes t n host digits few step =
     let e = end_of (node_at role s) in
     let parts = call_parts address user_data in
     by-turn F role s (host_calls role e parts s.book) frames notes t n
-    (host-leaves role s (host_calls role e parts s.book) host (same-calls role e parts s.book) (law.quiet_calls role e parts s.book (quiet-host (node_at role s) host (quiet-at role s n.quiet))) refl
-    (λ dce. let P : Role → Type 0 = λ r. NodeHolds Dte s.dte (host_calls r e parts s.book).book in subst P (sym dce) (law.far_calls Dte s.dte e parts s.book n.typed)))
-    (λ k kept. (law.calls_keeps k.setting s.book (line_of s) role e address user_data kept digits few (host-stands role s n.quiet host) k.kept).kept) step
+    (host-leaves role s (host_calls role e parts s.book) host (same s.book (host_calls role e parts s.book).book (nodes_stay.calls role e parts s.book)) (quiet_law.quiet-calls role e parts s.book (quiet-host (node_at role s) host (quiet-at role s n.quiet))) refl
+    (λ dce. let P : Role → Type 0 = λ r. NodeHolds Dte s.dte (host_calls r e parts s.book).book in subst P (sym dce) (far_law.far_calls_kept Dte s.dte e parts s.book n.typed)))
+    (λ k kept. (asking_law.calls_keeps k.setting s.book (line_of s) role e address user_data kept digits few (host-stands role s n.quiet host) k.kept).kept) step
 
 -- ---- requests on a channel
 
 same-asked : (role : Role) (e : PacketEnd) (channel : ℕ) (r : Request) (b : Book) → SameNodes b (asked_turn role e channel r b).book
-same-asked role e channel Answer b = same-asks role e channel ask.Accept b
-same-asked role e channel Refuse b = same-refuses role e channel b
-same-asked role e channel (Say octets qualified delivery) b = same-says role e channel octets.items qualified delivery b
-same-asked role e channel (Interrupt octets) b = same-asks role e channel (ask.Interrupting octets.items) b
-same-asked role e channel Reset b = same-asks role e channel (ask.Resetting 0 0) b
-same-asked role e channel Clear b = same-asks role e channel (ask.Clearing 0 0) b
-same-asked role e channel Stop b = same-asks role e channel (ask.Stopping true) b
-same-asked role e channel Go b = same-asks role e channel (ask.Stopping false) b
+same-asked role e channel Answer b = same b (asked_turn role e channel Answer b).book (nodes_stay.asks role e channel ask.Accept b)
+same-asked role e channel Refuse b = same b (asked_turn role e channel Refuse b).book (nodes_stay.refuses role e channel b)
+same-asked role e channel (Say octets qualified delivery) b = same b (asked_turn role e channel (Say octets qualified delivery) b).book (nodes_stay.says role e channel octets.items qualified delivery b)
+same-asked role e channel (Interrupt octets) b = same b (asked_turn role e channel (Interrupt octets) b).book (nodes_stay.asks role e channel (ask.Interrupting octets.items) b)
+same-asked role e channel Reset b = same b (asked_turn role e channel Reset b).book (nodes_stay.asks role e channel (ask.Resetting 0 0) b)
+same-asked role e channel Clear b = same b (asked_turn role e channel Clear b).book (nodes_stay.asks role e channel (ask.Clearing 0 0) b)
+same-asked role e channel Stop b = same b (asked_turn role e channel Stop b).book (nodes_stay.asks role e channel (ask.Stopping true) b)
+same-asked role e channel Go b = same b (asked_turn role e channel Go b).book (nodes_stay.asks role e channel (ask.Stopping false) b)
 
 quiet-asked : (role : Role) (e : PacketEnd) (channel : ℕ) (r : Request) (b : Book) → IsQuiet (Host e) → IsQuiet (drained (asked_turn role e channel r b).node)
-quiet-asked role e channel Answer b q = law.quiet_asks role e channel ask.Accept b q
-quiet-asked role e channel Refuse b q = law.quiet_refuses role e channel b q
-quiet-asked role e channel (Say octets qualified delivery) b q = law.quiet_says role e channel octets.items qualified delivery b q
-quiet-asked role e channel (Interrupt octets) b q = law.quiet_asks role e channel (ask.Interrupting octets.items) b q
-quiet-asked role e channel Reset b q = law.quiet_asks role e channel (ask.Resetting 0 0) b q
-quiet-asked role e channel Clear b q = law.quiet_asks role e channel (ask.Clearing 0 0) b q
-quiet-asked role e channel Stop b q = law.quiet_asks role e channel (ask.Stopping true) b q
-quiet-asked role e channel Go b q = law.quiet_asks role e channel (ask.Stopping false) b q
+quiet-asked role e channel Answer b q = quiet_law.quiet-asks role e channel ask.Accept b q
+quiet-asked role e channel Refuse b q = quiet_law.quiet-refuses role e channel b q
+quiet-asked role e channel (Say octets qualified delivery) b q = quiet_law.quiet-says role e channel octets.items qualified delivery b q
+quiet-asked role e channel (Interrupt octets) b q = quiet_law.quiet-asks role e channel (ask.Interrupting octets.items) b q
+quiet-asked role e channel Reset b q = quiet_law.quiet-asks role e channel (ask.Resetting 0 0) b q
+quiet-asked role e channel Clear b q = quiet_law.quiet-asks role e channel (ask.Clearing 0 0) b q
+quiet-asked role e channel Stop b q = quiet_law.quiet-asks role e channel (ask.Stopping true) b q
+quiet-asked role e channel Go b q = quiet_law.quiet-asks role e channel (ask.Stopping false) b q
 
 kind-asked : (role : Role) (e : PacketEnd) (channel : ℕ) (r : Request) (b : Book) → is_pad (asked_turn role e channel r b).node ≡ false
 kind-asked role e channel Answer b = refl
@@ -101,25 +105,25 @@ kind-asked role e channel Stop b = refl
 kind-asked role e channel Go b = refl
 
 far-asked : (n : NodeState) (e : PacketEnd) (channel : ℕ) (r : Request) (b : Book) → NodeHolds Dte n b → NodeHolds Dte n (asked_turn Dce e channel r b).book
-far-asked n e channel Answer b h = law.far_asks Dte n e channel ask.Accept b h
-far-asked n e channel Refuse b h = law.far_refuses Dte n e channel b h
-far-asked n e channel (Say octets qualified delivery) b h = law.far_says Dte n e channel octets.items qualified delivery b h
-far-asked n e channel (Interrupt octets) b h = law.far_asks Dte n e channel (ask.Interrupting octets.items) b h
-far-asked n e channel Reset b h = law.far_asks Dte n e channel (ask.Resetting 0 0) b h
-far-asked n e channel Clear b h = law.far_asks Dte n e channel (ask.Clearing 0 0) b h
-far-asked n e channel Stop b h = law.far_asks Dte n e channel (ask.Stopping true) b h
-far-asked n e channel Go b h = law.far_asks Dte n e channel (ask.Stopping false) b h
+far-asked n e channel Answer b h = far_law.far_asks_kept Dte n e channel ask.Accept b h
+far-asked n e channel Refuse b h = far_law.far_refuses_kept Dte n e channel b h
+far-asked n e channel (Say octets qualified delivery) b h = far_law.far_says_kept Dte n e channel octets.items qualified delivery b h
+far-asked n e channel (Interrupt octets) b h = far_law.far_asks_kept Dte n e channel (ask.Interrupting octets.items) b h
+far-asked n e channel Reset b h = far_law.far_asks_kept Dte n e channel (ask.Resetting 0 0) b h
+far-asked n e channel Clear b h = far_law.far_asks_kept Dte n e channel (ask.Clearing 0 0) b h
+far-asked n e channel Stop b h = far_law.far_asks_kept Dte n e channel (ask.Stopping true) b h
+far-asked n e channel Go b h = far_law.far_asks_kept Dte n e channel (ask.Stopping false) b h
 
 keeps-asked : (k : Setting) (b : Book) (l : Rattle.packet_line.specs.PacketLine.Line) (role : Role) (e : PacketEnd) (channel : ℕ) (r : Request) (kept : List Bool) → StandsAt role l (Host e) → Kept k b l
     → Kept k (asked_turn role e channel r b).book (with_event role (end_of (asked_turn role e channel r b).node) kept (coming_to role l) l)
-keeps-asked k b l role e channel Answer kept at h = (law.asks_keeps k b l role e channel ask.Accept kept at h).kept
-keeps-asked k b l role e channel Refuse kept at h = (law.refuses_keeps k b l role e channel kept at h).kept
-keeps-asked k b l role e channel (Say octets qualified delivery) kept at h = (law.says_keeps k b l role e channel octets.items qualified delivery kept at h).kept
-keeps-asked k b l role e channel (Interrupt octets) kept at h = (law.asks_keeps k b l role e channel (ask.Interrupting octets.items) kept at h).kept
-keeps-asked k b l role e channel Reset kept at h = (law.asks_keeps k b l role e channel (ask.Resetting 0 0) kept at h).kept
-keeps-asked k b l role e channel Clear kept at h = (law.asks_keeps k b l role e channel (ask.Clearing 0 0) kept at h).kept
-keeps-asked k b l role e channel Stop kept at h = (law.asks_keeps k b l role e channel (ask.Stopping true) kept at h).kept
-keeps-asked k b l role e channel Go kept at h = (law.asks_keeps k b l role e channel (ask.Stopping false) kept at h).kept
+keeps-asked k b l role e channel Answer kept at h = (asking_law.asks_keeps k b l role e channel ask.Accept kept at h).kept
+keeps-asked k b l role e channel Refuse kept at h = (asking_law.refuses_keeps k b l role e channel kept at h).kept
+keeps-asked k b l role e channel (Say octets qualified delivery) kept at h = (asking_law.says_keeps k b l role e channel octets.items qualified delivery kept at h).kept
+keeps-asked k b l role e channel (Interrupt octets) kept at h = (asking_law.asks_keeps k b l role e channel (ask.Interrupting octets.items) kept at h).kept
+keeps-asked k b l role e channel Reset kept at h = (asking_law.asks_keeps k b l role e channel (ask.Resetting 0 0) kept at h).kept
+keeps-asked k b l role e channel Clear kept at h = (asking_law.asks_keeps k b l role e channel (ask.Clearing 0 0) kept at h).kept
+keeps-asked k b l role e channel Stop kept at h = (asking_law.asks_keeps k b l role e channel (ask.Stopping true) kept at h).kept
+keeps-asked k b l role e channel Go kept at h = (asking_law.asks_keeps k b l role e channel (ask.Stopping false) kept at h).kept
 
 pub asks-net : (F : Type 0) (role : Role) (s : NetState) (channel : ℕ) (r : Request) (frames : List Put) (notes : List HostNote) (t : NetState)
     → IsNet F s → is_pad (node_at role s) ≡ false → NodeStep F role (asked_turn role (end_of (node_at role s)) channel r s.book) s.line s frames notes t → IsNet F t
@@ -138,19 +142,19 @@ pub takes-net : (F : Type 0) (role : Role) (s : NetState) (channel : ℕ) (frame
 takes-net F role s channel frames notes t n host step =
     let e = end_of (node_at role s) in
     by-turn F role s (host_takes role e channel s.book) frames notes t n
-    (host-leaves role s (host_takes role e channel s.book) host (same-takes role e channel s.book)
-    (law.quiet_takes role e channel s.book (quiet-host (node_at role s) host (quiet-at role s n.quiet))) (kind-takes role e channel s.book)
-    (λ dce. let P : Role → Type 0 = λ x. NodeHolds Dte s.dte (host_takes x e channel s.book).book in subst P (sym dce) (law.far_takes Dte s.dte e channel s.book n.typed)))
-    (λ k kept. (law.takes_keeps k.setting s.book (line_of s) role e channel kept (host-stands role s n.quiet host) k.kept).kept) step
+    (host-leaves role s (host_takes role e channel s.book) host (same s.book (host_takes role e channel s.book).book (nodes_stay.takes role e channel s.book))
+    (quiet_law.quiet-takes role e channel s.book (quiet-host (node_at role s) host (quiet-at role s n.quiet))) (kind-takes role e channel s.book)
+    (λ dce. let P : Role → Type 0 = λ x. NodeHolds Dte s.dte (host_takes x e channel s.book).book in subst P (sym dce) (far_law.far_takes_kept Dte s.dte e channel s.book n.typed)))
+    (λ k kept. (asking_law.takes_keeps k.setting s.book (line_of s) role e channel kept (host-stands role s n.quiet host) k.kept).kept) step
 
 -- ---- keys
 
 keys-leaves : (s : NetState) (n : NodeState) (octet : ℕ) → s.dte ≡ n → IsQuiet n → NodeHolds Dte n s.book → Leaves Dte s (keys_turn Dte n octet s.book)
 keys-leaves s (Pad p) octet is q typed = record {
-  same = same-keys Dte p octet s.book;
-  quiet = law.quiet_keys Dte p octet s.book q;
+  same = same s.book (pad_keys Dte p octet s.book).book (nodes_stay.key Dte p octet s.book);
+  quiet = quiet_law.quiet-keys Dte p octet s.book q;
   kind = kind-keys Dte p octet s.book ∙ sym (ap is_pad is);
-  typed = law.typed_drained Dte (pad_keys Dte p octet s.book).node (pad_keys Dte p octet s.book).book (law.typed_keys Dte p octet s.book typed);
+  typed = typed_law.drained_kept Dte (pad_keys Dte p octet s.book).node (pad_keys Dte p octet s.book).book (typed_law.key_kept Dte p octet s.book typed);
 }
 keys-leaves s (Host e) octet is q typed = record {
   same = record { dte = refl; dce = refl };
@@ -165,4 +169,4 @@ keys-net F s p octet frames notes t n is step =
     by-turn F Dte s (keys_turn Dte s.dte octet s.book) frames notes t n (keys-leaves s s.dte octet refl n.quiet.dte n.typed)
     (λ k kept.
         let P : NodeState → Type 0 = λ x. Kept k.setting (keys_turn Dte x octet s.book).book (with_event Dte (end_of (keys_turn Dte x octet s.book).node) kept (coming_to Dte (line_of s)) (line_of s)) in
-        subst P (sym is) (law.keys_keeps k.setting s.book (line_of s) Dte p octet kept (subst (StandsAt Dte (line_of s)) is (stands Dte s n.quiet)) k.kept).kept) step
+        subst P (sym is) (typing_law.keys_keeps k.setting s.book (line_of s) Dte p octet kept (subst (StandsAt Dte (line_of s)) is (stands Dte s n.quiet)) k.kept).kept) step

@@ -36,10 +36,14 @@ use Rattle.line_sim.specs.NetState.{NetState, node_at, with_turn}
 use Rattle.line_sim.specs.Steps.{direction_of, hearer, NodeStep, keys_turn, asked_turn}
 use Rattle.line_sim.specs.IsNet.{line_of, IsKept, AreQuiet, IsNet}
 use Rattle.line_sim.proofs.Flying.{Landed, landed}
-use Rattle.line_sim.proofs.Sides.{SameNodes}
 use Rattle.line_sim.proofs.Fitting.{dte_after, Leaves, end-drained, after-turn, Comes, comes-same, kept-after, stands, quiet-at}
-use Rattle.line_sim.proofs.Turns.{same-calls, same-asks, same-refuses, same-says, same-takes, same-keys, same-hears, same-expires, same-relinks, same-restarts, kind-hears, kind-expires, kind-relinks, kind-restarts, kind-takes, kind-keys}
-use Rattle.line_sim.proofs.Laws as law
+use Rattle.line_sim.proofs.Turns.{same, kind-hears, kind-expires, kind-relinks, kind-restarts}
+use Rattle.pad_laws.proofs.Nodes.{nodes_stay}
+use Rattle.pad_laws.proofs.FarTurns as far_law
+use Rattle.node_laws.proofs.Hearing as hearing_law
+use Rattle.network_laws.proofs.Keeping as keeping_law
+use Rattle.node_laws.proofs.QuietTurns as quiet_law
+use Rattle.pad_laws.proofs.Turns as typed_law
 
 -- ---- one turn
 
@@ -68,16 +72,16 @@ typed-host (Host e) b h = tt
 
 hears-leaves : (role : Role) (s : NetState) (octets : Octets) → AreQuiet s → NodeHolds Dte s.dte s.book → Leaves role s (hears role (node_at role s) octets s.book)
 hears-leaves Dte s octets q typed = record {
-  same = same-hears Dte s.dte octets s.book;
-  quiet = law.quiet_hears Dte s.dte octets s.book q.dte;
+  same = same s.book (hears Dte s.dte octets s.book).book (nodes_stay.hears Dte s.dte octets s.book);
+  quiet = quiet_law.quiet-hears Dte s.dte octets s.book q.dte;
   kind = kind-hears Dte s.dte octets s.book;
-  typed = law.typed_drained Dte (hears Dte s.dte octets s.book).node (hears Dte s.dte octets s.book).book (law.typed_hears Dte s.dte octets s.book typed);
+  typed = typed_law.drained_kept Dte (hears Dte s.dte octets s.book).node (hears Dte s.dte octets s.book).book (typed_law.hears_kept Dte s.dte octets s.book typed);
 }
 hears-leaves Dce s octets q typed = record {
-  same = same-hears Dce s.dce octets s.book;
-  quiet = law.quiet_hears Dce s.dce octets s.book q.dce;
+  same = same s.book (hears Dce s.dce octets s.book).book (nodes_stay.hears Dce s.dce octets s.book);
+  quiet = quiet_law.quiet-hears Dce s.dce octets s.book q.dce;
   kind = kind-hears Dce s.dce octets s.book;
-  typed = law.far_hears Dte s.dte s.dce octets s.book typed;
+  typed = far_law.far_hears_kept Dte s.dte s.dce octets s.book typed;
 }
 
 first-of : (l : List Octets) (x : Octets) → slice_get l 0 ≡ Some x → l ≡ x ∷ drop 1 l
@@ -97,13 +101,13 @@ heard-net F FromDce s mid octets frames notes t n first rest step =
     (after-turn F Dte s (hears Dte s.dte octets s.book) t.line n (hears-leaves Dte s octets n.quiet n.typed)
     (λ f. let k = n.kept f in kept-after Dte s (hears Dte s.dte octets s.book) mid t.line (drop 1 s.line.from_dce)
         (record { own = ap (λ (x : Flights). x.from_dte) (rest f); other = ap (λ (x : Flights). x.from_dce) (rest f) }) (step.sends.put f) k.setting
-        (λ kept. (law.hears_keeps k.setting s.book (line_of s) Dte s.dte octets (drop 1 s.line.from_dce) kept (first-of s.line.from_dce octets (sym (first f))) (stands Dte s n.quiet) k.kept).kept)))
+        (λ kept. (hearing_law.hears_keeps k.setting s.book (line_of s) Dte s.dte octets (drop 1 s.line.from_dce) kept (first-of s.line.from_dce octets (sym (first f))) (stands Dte s n.quiet) k.kept).kept)))
 heard-net F FromDte s mid octets frames notes t n first rest step =
     subst (IsNet F) (sym step.others)
     (after-turn F Dce s (hears Dce s.dce octets s.book) t.line n (hears-leaves Dce s octets n.quiet n.typed)
     (λ f. let k = n.kept f in kept-after Dce s (hears Dce s.dce octets s.book) mid t.line (drop 1 s.line.from_dte)
         (record { own = ap (λ (x : Flights). x.from_dce) (rest f); other = ap (λ (x : Flights). x.from_dte) (rest f) }) (step.sends.put f) k.setting
-        (λ kept. (law.hears_keeps k.setting s.book (line_of s) Dce s.dce octets (drop 1 s.line.from_dte) kept (first-of s.line.from_dte octets (sym (first f))) (stands Dce s n.quiet) k.kept).kept)))
+        (λ kept. (hearing_law.hears_keeps k.setting s.book (line_of s) Dce s.dce octets (drop 1 s.line.from_dte) kept (first-of s.line.from_dte octets (sym (first f))) (stands Dce s n.quiet) k.kept).kept)))
 
 -- another line under the same nodes and book
 with-line : (F : Type 0) (s : NetState) (l : Flights) → IsNet F s → (F → IsKept (record s { line = l })) → IsNet F (record s { line = l })
@@ -128,64 +132,64 @@ empty-net F d s l n first rest = with-line F s l n (λ f. let K : Flights → Ty
 -- the first frame in flight is lost
 pub lost-net : (F : Type 0) (d : Direction) (s : NetState) (l : Flights) → IsNet F s → (F → l ≡ without_first d s.line) → IsNet F (record s { line = l })
 lost-net F FromDte s l n rest = with-line F s l n (λ f. let k = n.kept f in let K : Flights → Type 0 = λ x. IsKept (record s { line = x }) in
-    subst K (sym (rest f)) (record { setting = k.setting; kept = law.loses_keeps k.setting s.book (line_of s) Dce k.kept }))
+    subst K (sym (rest f)) (record { setting = k.setting; kept = keeping_law.loss_kept k.setting s.book (line_of s) Dce k.kept }))
 lost-net F FromDce s l n rest = with-line F s l n (λ f. let k = n.kept f in let K : Flights → Type 0 = λ x. IsKept (record s { line = x }) in
-    subst K (sym (rest f)) (record { setting = k.setting; kept = law.loses_keeps k.setting s.book (line_of s) Dte k.kept }))
+    subst K (sym (rest f)) (record { setting = k.setting; kept = keeping_law.loss_kept k.setting s.book (line_of s) Dte k.kept }))
 
 expires-leaves : (role : Role) (s : NetState) (id : TimerId) → AreQuiet s → NodeHolds Dte s.dte s.book → Leaves role s (expires role (node_at role s) id s.book)
 expires-leaves Dte s id q typed = record {
-  same = same-expires Dte s.dte id s.book;
-  quiet = law.quiet_expires Dte s.dte id s.book q.dte;
+  same = same s.book (expires Dte s.dte id s.book).book (nodes_stay.expires Dte s.dte id s.book);
+  quiet = quiet_law.quiet-expires Dte s.dte id s.book q.dte;
   kind = kind-expires Dte s.dte id s.book;
-  typed = law.typed_drained Dte (expires Dte s.dte id s.book).node (expires Dte s.dte id s.book).book (law.typed_expires Dte s.dte id s.book typed);
+  typed = typed_law.drained_kept Dte (expires Dte s.dte id s.book).node (expires Dte s.dte id s.book).book (typed_law.expires_kept Dte s.dte id s.book typed);
 }
 expires-leaves Dce s id q typed = record {
-  same = same-expires Dce s.dce id s.book;
-  quiet = law.quiet_expires Dce s.dce id s.book q.dce;
+  same = same s.book (expires Dce s.dce id s.book).book (nodes_stay.expires Dce s.dce id s.book);
+  quiet = quiet_law.quiet-expires Dce s.dce id s.book q.dce;
   kind = kind-expires Dce s.dce id s.book;
-  typed = law.far_expires Dte s.dte s.dce id s.book typed;
+  typed = far_law.far_expires_kept Dte s.dte s.dce id s.book typed;
 }
 
 pub expires-net : (F : Type 0) (role : Role) (s : NetState) (id : TimerId) (frames : List Put) (notes : List HostNote) (t : NetState)
     → IsNet F s → NodeStep F role (expires role (node_at role s) id s.book) s.line s frames notes t → IsNet F t
 expires-net F role s id frames notes t n step =
     by-turn F role s (expires role (node_at role s) id s.book) frames notes t n (expires-leaves role s id n.quiet n.typed)
-    (λ k kept. (law.expires_keeps k.setting s.book (line_of s) role (node_at role s) id kept (stands role s n.quiet) k.kept).kept) step
+    (λ k kept. (hearing_law.expires_keeps k.setting s.book (line_of s) role (node_at role s) id kept (stands role s n.quiet) k.kept).kept) step
 
 relinks-leaves : (role : Role) (s : NetState) → AreQuiet s → NodeHolds Dte s.dte s.book → Leaves role s (relinks role (node_at role s) s.book)
 relinks-leaves Dte s q typed = record {
-  same = same-relinks Dte s.dte s.book;
-  quiet = law.quiet_relinks Dte s.dte s.book q.dte;
+  same = same s.book (relinks Dte s.dte s.book).book (nodes_stay.relinks Dte s.dte s.book);
+  quiet = quiet_law.quiet-relinks Dte s.dte s.book q.dte;
   kind = kind-relinks Dte s.dte s.book;
-  typed = law.typed_drained Dte (relinks Dte s.dte s.book).node (relinks Dte s.dte s.book).book (law.typed_relinks Dte s.dte s.book typed);
+  typed = typed_law.drained_kept Dte (relinks Dte s.dte s.book).node (relinks Dte s.dte s.book).book (typed_law.relinks_kept Dte s.dte s.book typed);
 }
 relinks-leaves Dce s q typed = record {
-  same = same-relinks Dce s.dce s.book;
-  quiet = law.quiet_relinks Dce s.dce s.book q.dce;
+  same = same s.book (relinks Dce s.dce s.book).book (nodes_stay.relinks Dce s.dce s.book);
+  quiet = quiet_law.quiet-relinks Dce s.dce s.book q.dce;
   kind = kind-relinks Dce s.dce s.book;
-  typed = law.far_relinks Dte s.dte s.dce s.book typed;
+  typed = far_law.far_relinks_kept Dte s.dte s.dce s.book typed;
 }
 
 pub relinks-net : (F : Type 0) (role : Role) (s : NetState) (frames : List Put) (notes : List HostNote) (t : NetState)
     → IsNet F s → NodeStep F role (relinks role (node_at role s) s.book) s.line s frames notes t → IsNet F t
 relinks-net F role s frames notes t n step =
     by-turn F role s (relinks role (node_at role s) s.book) frames notes t n (relinks-leaves role s n.quiet n.typed)
-    (λ k kept. (law.relinks_keeps k.setting s.book (line_of s) role (node_at role s) kept (stands role s n.quiet) k.kept).kept) step
+    (λ k kept. (hearing_law.relinks_keeps k.setting s.book (line_of s) role (node_at role s) kept (stands role s n.quiet) k.kept).kept) step
 
 -- ---- a restart
 
 restarts-leaves : (role : Role) (s : NetState) → AreQuiet s → NodeHolds Dte s.dte s.book → Leaves role s (restarts role (node_at role s) s.book)
 restarts-leaves Dte s q typed = record {
-  same = same-restarts Dte s.dte s.book;
-  quiet = law.quiet_restarts Dte s.dte s.book q.dte;
+  same = same s.book (restarts Dte s.dte s.book).book (nodes_stay.restarts Dte s.dte s.book);
+  quiet = quiet_law.quiet-restarts Dte s.dte s.book q.dte;
   kind = kind-restarts Dte s.dte s.book;
-  typed = law.typed_drained Dte (restarts Dte s.dte s.book).node (restarts Dte s.dte s.book).book (law.typed_restarts Dte s.dte s.book typed);
+  typed = typed_law.drained_kept Dte (restarts Dte s.dte s.book).node (restarts Dte s.dte s.book).book (typed_law.restarts_kept Dte s.dte s.book typed);
 }
 restarts-leaves Dce s q typed = record {
-  same = same-restarts Dce s.dce s.book;
-  quiet = law.quiet_restarts Dce s.dce s.book q.dce;
+  same = same s.book (restarts Dce s.dce s.book).book (nodes_stay.restarts Dce s.dce s.book);
+  quiet = quiet_law.quiet-restarts Dce s.dce s.book q.dce;
   kind = kind-restarts Dce s.dce s.book;
-  typed = law.far_restarts Dte s.dte s.dce s.book typed;
+  typed = far_law.far_restarts_kept Dte s.dte s.dce s.book typed;
 }
 
 -- an end whose frames went
@@ -223,14 +227,14 @@ restart-kept Dte s mid l q none put k =
     record {
       setting = k.setting;
       kept = subst (Kept k.setting (restarts Dte s.dte s.book).book) (sym (restart-line Dte s mid l q none w))
-          (law.restarts_keeps k.setting s.book (line_of s) Dte s.dte w.kept (stands Dte s q) k.kept).kept;
+          (hearing_law.restarts_keeps k.setting s.book (line_of s) Dte s.dte w.kept (stands Dte s q) k.kept).kept;
     }
 restart-kept Dce s mid l q none put k =
     let w = landed FromDce (frames_of (restarts Dce s.dce s.book).node) mid l put in
     record {
       setting = k.setting;
       kept = subst (Kept k.setting (restarts Dce s.dce s.book).book) (sym (restart-line Dce s mid l q none w))
-          (law.restarts_keeps k.setting s.book (line_of s) Dce s.dce w.kept (stands Dce s q) k.kept).kept;
+          (hearing_law.restarts_keeps k.setting s.book (line_of s) Dce s.dce w.kept (stands Dce s q) k.kept).kept;
     }
 
 pub restarts-net : (F : Type 0) (role : Role) (s : NetState) (mid : Flights) (frames : List Put) (notes : List HostNote) (t : NetState)

@@ -22,7 +22,7 @@ use Rattle.line_sim.specs.NetState.{NetState, node_at, with_node, with_turn}
 use Rattle.line_sim.specs.Steps.{direction_of}
 use Rattle.line_sim.specs.IsNet.{line_of, IsKept, AreQuiet, IsNet}
 use Rattle.line_sim.proofs.Flying.{Landed, landed}
-use Rattle.line_sim.proofs.Sides.{SameNodes}
+use Rattle.line_sim.proofs.Turns.{SameNodes}
 
 -- ---- the parts of a network after a turn
 

@@ -1,18 +1,10 @@
-pub mod Linking
-pub mod Taking
-pub mod Holding
-pub mod Calls
-pub mod Joining
-pub mod Keys
-pub mod Calling
-pub mod Serving
-pub mod Keeping
-pub mod Sending
-pub mod Noting
-pub mod Writing
-pub mod Nets
-pub mod Glue
-pub mod Openings
-pub mod Promises
-pub mod Refusals
-pub mod RunsMore
+mod Asked
+mod Events
+mod Fitting
+mod Flying
+mod Laws
+mod Refusals
+mod RunsMore
+mod Sending
+mod Sides
+mod Turns

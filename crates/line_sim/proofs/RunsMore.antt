@@ -34,12 +34,11 @@ take-more [] i x d h e = absurd (omega arith)
 take-more (y ∷ ys) zero x d h e = ap (λ z. z ∷ []) (sym e)
 take-more (y ∷ ys) (suc i) x d h e = ap (λ zs. y ∷ zs) (take-more ys i x d (omega arith) e)
 
-pub run-more : (config : Config) (events : List Event) (i : ℕ) (d : Event) (t u : NetState) → i < length events
-    → HasRun config (take i events) t → Happened (Unit {0}) (get_or events i d) t (step_fault (get_or events i d) t) u → HasRun config (take (i + 1) events) u
-run-more config events i d t u h run happens =
-    let e : Event = get_or events i d in
+pub run-more : (config : Config) (events : List Event) (i : ℕ) (d e : Event) (t u : NetState) → i < length events → e ≡ get_or events i d
+    → HasRun config (take i events) t → Happened (Unit {0}) e t (step_fault e t) u → HasRun config (take (i + 1) events) u
+run-more config events i d e t u h is run happens =
     let P : List Event → Type 0 = λ es. Ran (Unit {0}) run.start es u in
-    let next : take (i + 1) events ≡ take i events ++ e ∷ [] = (let same : i + 1 ≡ suc i = omega arith in ap (λ n. take n events) same ∙ take-more events i e d h refl) in
+    let next : take (i + 1) events ≡ take i events ++ e ∷ [] = (let same : i + 1 ≡ suc i = omega arith in ap (λ n. take n events) same ∙ take-more events i e d h is) in
     record {
       start = run.start;
       made = run.made;
@@ -110,7 +109,7 @@ wanting F e s (Err fault) t h memory =
       | inr o ↦ o.0
     ]
 
-pub stops : (config : Config) (events : List Event) (i : ℕ) (d : Event) (t : NetState) → i < length events
-    → HasRun config (take i events) t → MayWant (step_fault (get_or events i d) t) → HasStopped config events i
-stops config events i d t h run none =
-    record { net = t; event = get_or events i d; before = run; is_next = slice_get-get_or events i d h; may_want = none }
+pub stops : (config : Config) (events : List Event) (i : ℕ) (d e : Event) (t : NetState) → i < length events → e ≡ get_or events i d
+    → HasRun config (take i events) t → MayWant (step_fault e t) → HasStopped config events i
+stops config events i d e t h is run may =
+    record { net = t; event = e; before = run; is_next = slice_get-get_or events i d h ∙ ap Some (sym is); may_want = may }

@@ -1,41 +1,13 @@
--- The loops by which a PAD offers its packets, and a node puts its frames.
-use Rattle.std.proofs.Common.{◌≡◌, ◌≤◌, Bool, true, false, List, [], ◌∷◌, ◌++◌, None, refl, sym, ap, ◌∙◌, subst, append_assoc}
-use Rattle.std.specs.Prelude.{slice_get, nat_lt, ◌&&◌, if◌then◌else◌}
-use Rattle.std.proofs.lemmas.Bool.{le-ltb}
+-- The loop by which a node puts its frames.
+use Rattle.std.proofs.Common.{◌≡◌, ◌≤◌, Bool, true, false, List, [], ◌∷◌, ◌++◌, drop, refl, sym, ap, ◌∙◌, subst, append_assoc}
 use Rattle.std.proofs.lemmas.List.{append-nil}
-use Rattle.lapb.specs.Machine.{Octets, can_offer}
-use Rattle.epochs.specs.Item.{DataPacket}
-use Rattle.line_end.specs.End.{End, without_first}
+use Rattle.lapb.specs.Machine.{Octets}
+use Rattle.packet_end.specs.PacketEnd.{PacketEnd, without_first_frame}
+use Rattle.line_nodes.specs.Node.{NodeState, Pad, Host, end_of, with_end, frames_of, drained}
 use Rattle.line_sim.specs.declared.line.Direction.{Direction}
 use Rattle.line_sim.specs.declared.event.Put.{Put}
 use Rattle.line_sim.specs.Lines.{Flights, IsPut}
-use Rattle.line_sim.specs.PadState.{PadState, lets_go, goes, pad_offers_of, pad_offers}
 use Rattle.line_sim.specs.Sends.{IsPutOf, ArePutsOf, ArePut, Sends}
-
--- where no packet may go, none goes
-offers-none : (p : PadState) → lets_go p ≡ false → pad_offers p ≡ p
-offers-none p e = by p.queue
-  where
-    by : (qs : List DataPacket) → pad_offers_of qs p ≡ p
-    by [] = refl
-    by (d ∷ ds) = ap (λ b. if b then pad_offers_of ds (goes p d ds) else p) e
-
-pub no-window : (p : PadState) → p.window ≤ p.outstanding → pad_offers p ≡ p
-no-window p le = offers-none p (ap (λ b. b && can_offer p.line.link) (le-ltb p.outstanding p.window le))
-
-pub no-room : (p : PadState) → can_offer p.line.link ≡ false → pad_offers p ≡ p
-no-room p e = offers-none p (ap (λ b. nat_lt p.outstanding p.window && b) e ∙ both (nat_lt p.outstanding p.window))
-  where
-    both : (b : Bool) → (b && false) ≡ false
-    both true = refl
-    both false = refl
-
-pub no-packet : (p : PadState) → slice_get p.queue 0 ≡ None → pad_offers p ≡ p
-no-packet p e = by p.queue e
-  where
-    by : (qs : List DataPacket) → slice_get qs 0 ≡ None → pad_offers_of qs p ≡ p
-    by [] e = refl
-    by (d ∷ ds) e = absurd (cc)
 
 -- frames that are being put: these are, those are left
 pub record Putting (F : Type 0) (d : Direction) (start : List Octets) (before : Flights) (puts : List Put) (left : List Octets) (now : Flights) : Type 0 where
@@ -78,7 +50,32 @@ putting-ends F d start before puts left now w e =
     let Q : List Octets → Type 0 = λ l. F → ArePut d l before now in
     record { puts_are = subst P (sym all) w.listed; put = subst Q (sym all) w.put }
 
--- the end of a line from which a frame was taken
-pub end-kept : (a b c : End) → b ≡ record a { frames = b.frames } → c ≡ without_first b → c ≡ record a { frames = c.frames }
-end-kept a b c e f =
-    f ∙ ap (λ (l : List Octets). record b { frames = l }) (sym (ap (λ (x : End). x.frames) f)) ∙ ap (λ (x : End). record x { frames = c.frames }) e
+-- a node with these frames left
+abbrev pub with_frames : List Octets → NodeState → NodeState
+with_frames fs n = with_end (record (end_of n) { line = record (end_of n).line { frames = fs } }) n
+
+pub frames-begin : (n : NodeState) → n ≡ with_frames (frames_of n) n
+frames-begin (Pad p) = refl
+frames-begin (Host e) = refl
+
+-- the first one was taken
+one-less : (n : NodeState) (fs : List Octets) → with_end (without_first_frame (end_of (with_frames fs n))) (with_frames fs n) ≡ with_frames (drop 1 fs) n
+one-less (Pad p) fs = refl
+one-less (Host e) fs = refl
+
+frames-are : (n : NodeState) (fs : List Octets) → frames_of (with_frames fs n) ≡ fs
+frames-are (Pad p) fs = refl
+frames-are (Host e) fs = refl
+
+pub frames-kept : (a b c : NodeState) → b ≡ with_frames (frames_of b) a → c ≡ with_end (without_first_frame (end_of b)) b → c ≡ with_frames (frames_of c) a
+frames-kept a b c e g =
+    let fs = frames_of b in
+    let h : c ≡ with_frames (drop 1 fs) a = g ∙ ap (λ (n : NodeState). with_end (without_first_frame (end_of n)) n) e ∙ one-less a fs in
+    h ∙ ap (λ (x : List Octets). with_frames x a) (sym (ap frames_of h ∙ frames-are a (drop 1 fs)))
+
+pub frames-end : (a b : NodeState) → b ≡ with_frames (frames_of b) a → frames_of b ≡ [] → b ≡ drained a
+frames-end a b e none = e ∙ ap (λ (x : List Octets). with_frames x a) none ∙ all-gone a
+  where
+    all-gone : (n : NodeState) → with_frames [] n ≡ drained n
+    all-gone (Pad p) = refl
+    all-gone (Host e) = refl

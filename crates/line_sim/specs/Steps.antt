@@ -1,9 +1,9 @@
 -- What an event without a fault does to nodes, line and book.
-use Rattle.std.specs.Prelude.{◌≡◌, ℕ, ◌==◌, ◌&&◌, Bool, true, false, List, [], ◌∷◌, slice_get, Option, Some, None, is_some, MatchOption, MatchBool, if◌then◌else◌}
+use Rattle.std.specs.Prelude.{◌≡◌, ℕ, ◌==◌, ◌&&◌, Bool, true, false, ◌≤◌, List, [], length, slice_get, Option, Some, None, is_some, MatchOption, MatchBool, if◌then◌else◌}
 use Rattle.link_timers.specs.declared.role.Role.{Role}
 use Rattle.link_timers.specs.declared.role.Role.TheVariants.{Dte, Dce}
 use Rattle.link_timers.specs.declared.timers.TimerId.{TimerId}
-use Rattle.packet_layer.specs.Packets.{Note}
+use Rattle.packet_codec.specs.Address.{AreDigits}
 use Rattle.packet_layer.specs.Traffic.{Taken}
 use Rattle.packet_layer.specs.TakenView.{maybe_taken}
 use Rattle.packet_layer.specs.Layer.{channel_given, front_on}
@@ -98,6 +98,8 @@ asked_turn role e channel Stop b = host_asks role e channel (ask.Stopping true) 
 asked_turn role e channel Go b = host_asks role e channel (ask.Stopping false) b
 
 pub record CallStep (F : Type 0) (role : Role) (address user_data : List ℕ) (s : NetState) (a : answer.Answer) (t : NetState) : Type 0 where
+  pub digits : AreDigits address
+  pub few : length user_data ≤ 16
   pub channel : ℕ
   pub given : let e = end_of (node_at role s) in channel_given e.layer e.layer.phase ≡ Some channel
   pub does : NodeStep F role (host_calls role (end_of (node_at role s)) (call_parts address user_data) s.book) s.line s a.frames.items a.notes.items t

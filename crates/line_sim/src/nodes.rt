@@ -1,5 +1,5 @@
 //! The nodes on their line, and the book of their calls: each event, exactly.
-ghost use Rattle.std.specs.Prelude.{◌≡◌, ◌≤◌, [], ℕ, IfOk, OnErr, true, false};
+ghost use Rattle.std.specs.Prelude.{◌≡◌, MatchOption, true, false};
 
 mod asking;
 mod making;
@@ -21,7 +21,7 @@ pub(crate) struct Nodes<L: Line> {
     dte_place: usize,
     dce_place: usize,
     terminals: u16,
-    channels: u16,
+    channels: u8,
     dte: Node,
     dce: Node,
     line: L,
@@ -92,11 +92,15 @@ impl<L: Line> Nodes<L> {
         }
     }
 
-    /// Whether the line has the channel.
-    fn is_channel(&self, channel: u16) -> bool
-        ensures { result ≡ is_channel channel self.now }
+    /// The channel of this number, if the line has it.
+    fn channel(&self, channel: u16) -> Option<u8>
+        ensures { MatchOption result (is_channel channel self.now ≡ false) (λ c. (is_channel channel self.now ≡ true) × (c ≡ channel)) }
     {
-        channel != 0 && channel <= self.channels
+        let channel = u8::try_from(channel).ok()?;
+        if channel == 0 || channel > self.channels {
+            return None;
+        }
+        Some(channel)
     }
 
     /// Handles an event.

@@ -1,5 +1,5 @@
 //! The lists of an answer, grown before a node is called.
-ghost use Rattle.std.specs.Prelude.{◌≡◌, ◌≤◌, ◌×◌, [], IfOk, vec_capacity};
+ghost use Rattle.std.specs.Prelude.{◌≡◌, ◌≤◌, [], IfOk, vec_capacity};
 
 use crate::event::{Answer, Outcome, Put};
 use crate::send::MOST_FRAMES;

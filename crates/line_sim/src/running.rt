@@ -4,7 +4,7 @@ ghost use Rattle.line_sim.specs.declared.event.MakeFault.TheVariants.{BadConfig}
 ghost use Rattle.line_sim.specs.declared.event.RunFault.TheVariants.{Made};
 ghost use Rattle.line_sim.specs.Plan.{plan_of};
 ghost use Rattle.line_sim.specs.Headline.{Headline};
-ghost use Rattle.line_sim.specs.Faults.{step_fault};
+ghost use Rattle.line_sim.specs.Faults.{step_fault, MayWant};
 ghost use Rattle.line_sim.specs.Runs.{Happened, HasRun, IsRunFault};
 ghost use Rattle.std.specs.Bool.{OnTrue, OnFalse};
 
@@ -43,11 +43,11 @@ pub fn run(alloc: Global, config: &Config, events: &[Event]) -> Result<Net<MemLi
     Ok(net)
 }
 
-/// Handles an event, and says whether memory was there. Where it was not, the event has no other fault.
+/// Handles an event, and says whether memory was there. Where it was not, the network itself does not refuse the event.
 #[tactic(auto, using(crate::proofs::RunsMore::happened, crate::proofs::RunsMore::wanting))]
 fn goes_on(net: &mut Net<MemLine>, event: &Event) -> bool
     ensures handled { OnTrue result (Happened (Unit {0}) event.now net.old (step_fault event.now net.old) net.new) }
-    ensures wanting { OnFalse result (step_fault event.now net.old ≡ None) }
+    ensures wanting { OnFalse result (MayWant (step_fault event.now net.old)) }
 {
     match net.step(event) {
         Err(StepFault::OutOfMemory) => return false,

@@ -61,9 +61,9 @@ fn call_node(
     requires writes { 1 ≤ book.old.room }
     requires empty { notes.old.items ≡ [] }
     requires capacity { MOST_NOTES ≤ vec_capacity notes.old }
-    ensures node { node_of node.new ≡ (line_turn (call_of call) at.role (node_of node.old) book.old.book).node }
-    ensures book { book.new.book ≡ (line_turn (call_of call) at.role (node_of node.old) book.old.book).book }
-    ensures notes { notes.new.items ≡ user_notes (node_of node.old) at.node (line_turn (call_of call) at.role (node_of node.old) book.old.book).notes }
+    ensures node { node_of node.new ≡ (line_turn (call_of call.entry) at.role (node_of node.old) book.old.book).node }
+    ensures book { book.new.book ≡ (line_turn (call_of call.entry) at.role (node_of node.old) book.old.book).book }
+    ensures notes { notes.new.items ≡ user_notes (node_of node.old) at.node (line_turn (call_of call.entry) at.role (node_of node.old) book.old.book).notes }
 {
     match call {
         LineCall::Hears(octets) => node.hears(at, octets, book, notes),
@@ -90,7 +90,7 @@ pub(crate) fn serve<L: Line>(
     requires notes { room.old.notes.items ≡ [] }
     requires frame_room { MOST_FRAMES ≤ vec_capacity room.old.frames }
     requires note_room { MOST_NOTES ≤ vec_capacity room.old.notes }
-    ensures { Served L.faithful at.role at.node (node_of node.old) (line_turn (call_of call) at.role (node_of node.old) book.old.book) (L.flights line.old) room.new.frames.items room.new.notes.items (node_of node.new) (L.flights line.new) book.new.book }
+    ensures { Served L.faithful at.role at.node (node_of node.old) (line_turn (call_of call.entry) at.role (node_of node.old) book.old.book) (L.flights line.old) room.new.frames.items room.new.notes.items (node_of node.new) (L.flights line.new) book.new.book }
 {
     call_node(node, at, call, book, &mut room.notes);
     put_frames(node, line, direction_of(at.role), &mut room.frames);

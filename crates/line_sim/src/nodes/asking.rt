@@ -68,6 +68,8 @@ impl<L: Line> Nodes<L> {
         let mut room = Room::new(self.alloc)?;
         self.book.reserve(1)?;
         let at = self.place_of(node);
+        // an address has 1 to 15 decimal digits
+        let _ = address.digits();
         let user_data = user_data.as_slice();
         let (line, book) = (&mut self.line, &mut self.book);
         let channel = match at.role {
@@ -90,13 +92,12 @@ impl<L: Line> Nodes<L> {
         if !self.is_host_at(node) {
             return Err(StepFault::NoSuchNode);
         }
-        if !self.is_channel(channel) {
+        let Some(channel) = self.channel(channel) else {
             return Err(StepFault::NoSuchCall);
-        }
+        };
         let mut room = Room::new(self.alloc)?;
         self.book.reserve(MESSAGE_WRITES)?;
         let at = self.place_of(node);
-        let channel = channel as u8;
         let (line, book) = (&mut self.line, &mut self.book);
         match at.role {
             Role::Dte => serve_ask(&mut self.dte, at, channel, request, line, book, &mut room)?,
@@ -113,13 +114,12 @@ impl<L: Line> Nodes<L> {
         if !self.is_host_at(node) {
             return Err(StepFault::NoSuchNode);
         }
-        if !self.is_channel(channel) {
+        let Some(channel) = self.channel(channel) else {
             return Err(StepFault::NoSuchCall);
-        }
+        };
         let mut room = Room::new(self.alloc)?;
         self.book.reserve(1)?;
         let at = self.place_of(node);
-        let channel = channel as u8;
         let (line, book) = (&mut self.line, &mut self.book);
         let taken = match at.role {
             Role::Dte => serve_take(&mut self.dte, at, channel, line, book, &mut room),

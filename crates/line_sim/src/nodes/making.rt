@@ -86,7 +86,7 @@ impl<L: Line> Nodes<L> {
             dte_place: plan.dte_place,
             dce_place: plan.dce_place,
             terminals: terminals_of(&plan.dte),
-            channels: u16::from(channels),
+            channels,
             dte,
             dce,
             line,

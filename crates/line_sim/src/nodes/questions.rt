@@ -53,7 +53,7 @@ impl<L: Line> Nodes<L> {
         if !self.is_node(node) {
             return false;
         }
-        let Ok(channel) = u8::try_from(channel) else {
+        let Some(channel) = self.channel(channel) else {
             return false;
         };
         match self.role_of(node) {

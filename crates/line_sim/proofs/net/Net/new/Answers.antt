@@ -1,0 +1,8 @@
+use Rattle.line_sim.specs.PlanView.{plan_value}
+use Rattle.line_sim.proofs.Promises.{made-net}
+use Rattle.line_sim.proofs.net.Net.new.Goals as goal
+
+pub invariant_of-result : goal.invariant_of-result
+invariant_of-result g c =
+    let l = c.in-Some.ensures.limits in
+    made-net g.L.Line.faithful (plan_value c.in-Some.plan) _ l.apart l.params c.in_ok-nodes.ensures.ok
