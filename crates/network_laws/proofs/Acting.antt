@@ -1,7 +1,6 @@
 -- What each act at an end, and all else that may happen on a line, makes of what is kept.
-use Rattle.std.specs.Prelude.{◌≡◌, ℕ, zero, suc, ◌≤◌, Bool, true, false, cond, List, [], ◌∷◌, ◌++◌, drop, Option, Some, None, is_some}
-use Rattle.std.proofs.Common.{refl, sym, ap, subst, ◌∙◌, arith}
-use Rattle.std.proofs.lemmas.List.{append-nil}
+use Rattle.std.specs.Prelude.{◌≡◌, ℕ, zero, suc, ◌≤◌, Bool, true, false, cond, List, [], ◌∷◌, drop, Option, Some, is_some}
+use Rattle.std.proofs.Common.{refl, sym, ap, subst, ◌∙◌}
 use Rattle.std.proofs.lemmas.Option.{none-some, same_Some}
 use Rattle.link_timers.specs.declared.role.Role.{Role}
 use Rattle.link_timers.specs.declared.role.Role.TheVariants.{Dte, Dce}
@@ -10,8 +9,8 @@ use Rattle.link_timers.specs.Role.{other_of}
 use Rattle.lapb.specs.Machine.{Octets, is_up, can_offer}
 use Rattle.pad_editing.specs.Edited.{Step}
 use Rattle.packet_layer.specs.Packets.{CallParts, Note}
-use Rattle.packet_layer.specs.Channel.{Channel, Request}
-use Rattle.packet_layer.specs.Layer.{Layer, Phase, unread, next_packet, link_down, channel_of, channel_given, request_refusal, front_on}
+use Rattle.packet_layer.specs.Channel.{Request}
+use Rattle.packet_layer.specs.Layer.{Layer, Phase, unread, next_packet, link_down, channel_given, request_refusal, front_on}
 use Rattle.packet_layer.specs.Layer.Phase.{NoSession, OwnRestart, PacketReady}
 use Rattle.packet_laws.specs.Line as layers
 use Rattle.packet_laws.specs.Line.{Event, happens, turned}
@@ -21,17 +20,17 @@ use Rattle.packet_line.specs.PacketLine as acts
 use Rattle.packet_line.specs.PacketLine.{Line, Act, Begins, Hears, Expires, Relinks, RelinksIfDue, Restarts, Calls, Requests, Offers, Settles, Elapses, Sends, At, Loses, does, other_after, going_after, coming_after, made}
 use Rattle.packet_line.specs.Events.{offer_events, after_here, notes_of}
 use Rattle.packet_line.specs.Fit.{IsFit}
-use Rattle.packet_line.specs.Joint.{JointAt, session_of, coming_session, session_now}
+use Rattle.packet_line.specs.Joint.{session_of, coming_session, session_now}
 use Rattle.packet_line.specs.Steps.{events_at, session_after, Rise, AreNotes}
 use Rattle.packet_line.specs.Steps as steps
-use Rattle.packet_line.proofs.Holding.{act_steps, loses_joint, new_joint}
-use Rattle.call_records.specs.Book.{Book, slot_at, edits, all_told, made_book}
-use Rattle.call_laws.specs.Told.{written, top_after, carried, unless_refused, placed_on, InOrder}
-use Rattle.network_laws.specs.Kept.{Setting, IsSetting, Kept, IsLike, beginning, end_at, coming_to}
-use Rattle.network_laws.specs.Clauses.{MadeLaw, MayTell, IsSilent, Tells, TellsLaw, SilentLaw, RestartLaw, CallLaw, requested_at, RequestLaw, LossLaw, EditLaw, LikeLaw}
-use Rattle.network_laws.proofs.Moving.{Reaches, one_event, one_edit, all_events, written_all, tops_after, AllInOrder}
+use Rattle.packet_line.proofs.Holding.{act_steps, loses_joint}
+use Rattle.call_records.specs.Book.{Book, edits, all_told}
+use Rattle.call_laws.specs.Told.{carried, unless_refused, placed_on, InOrder}
+use Rattle.network_laws.specs.Kept.{Setting, Kept, beginning, end_at, coming_to}
+use Rattle.network_laws.specs.Clauses.{requested_at}
+use Rattle.network_laws.proofs.Moving.{one_edit, all_events, written_all, tops_after, AllInOrder}
 use Rattle.network_laws.proofs.Telling.{IsPlain, plain_frame, plain_if, plain_expires, plain_offers, in_order, tops_rise, plain_written}
-use Rattle.network_laws.proofs.Views.{KeptAt, KeptOf, line_of, seen, unseen}
+use Rattle.network_laws.proofs.Views.{KeptAt, unseen}
 
 -- ---- small things
 

@@ -13,14 +13,13 @@ use Rattle.packet_layer.specs.Layer.{channel_given, link_down, next_packet}
 use Rattle.packet_laws.specs.Readable.{CanBePlaced}
 use Rattle.packet_end.specs.PacketEnd as end
 use Rattle.packet_end.specs.PacketEnd.{PacketEnd, begun, received, after_timer, relinked, finished, called, asked, offered, all_offered, with_next}
-use Rattle.packet_line.specs.PacketLine.{Line, RelinksIfDue, Offers, Settles, Sends, Calls, Requests, Begins, does}
+use Rattle.packet_line.specs.PacketLine.{Line, RelinksIfDue, Offers, Settles, does}
 use Rattle.packet_line.proofs.Finishing.{finished_is}
 use Rattle.call_records.specs.Book.{Book, all_told}
-use Rattle.call_records.specs.Closing.{all_closed}
 use Rattle.call_laws.specs.Told.{placed_on}
 use Rattle.network_laws.specs.Kept.{Setting, Kept, end_at, coming_to}
 use Rattle.network_laws.specs.Clauses.{requested_at}
-use Rattle.network_laws.specs.Happens.{sent, with_event, with_restart, FrameLaw, ExpiryLaw, RelinkLaw, RestartedLaw, CalledLaw, asked_all, requested_all, AskedLaw}
+use Rattle.network_laws.specs.Happens.{sent, with_event, with_restart, FrameLaw, ExpiryLaw, RelinkLaw, RestartedLaw, CalledLaw, asked_all, requested_all, RequestedLaw}
 use Rattle.network_laws.proofs.Telling.{told_append}
 use Rattle.network_laws.proofs.Views.{KeptAt, seen, unseen}
 use Rattle.network_laws.proofs.Acting.{hears_at, expires_at, relinks_at, relinks_if_due_at, begins_at, settles_at, sends_at, offers_at, restarts_at, calls_at, requests_at}
@@ -72,7 +71,7 @@ on_line s b Dte e l coming kept k = unseen s b Dte (sent e) l.dce (l.up ++ chose
 on_line s b Dce e l coming kept k = unseen s b Dce (sent e) l.dte (l.down ++ chosen kept e.line.frames) coming k
 
 -- an event that told the notes of `e`, from a line of which this was kept
-ends_on : (s : Setting) (b : Book) (role : Role) (e : PacketEnd) (l : Line) (coming : List Octets) (kept : List Bool) → KeptAt s (all_told role e.notes b) role e (end_at (other_of role) l) (coming_to (other_of role) l) coming →
+pub ends_on : (s : Setting) (b : Book) (role : Role) (e : PacketEnd) (l : Line) (coming : List Octets) (kept : List Bool) → KeptAt s (all_told role e.notes b) role e (end_at (other_of role) l) (coming_to (other_of role) l) coming →
     Kept s (all_told role (finished e).notes b) (with_event role (finished e) kept coming l)
 ends_on s b role e l coming kept k =
     on_line s (all_told role (finished e).notes b) role (finished e) l coming kept
@@ -148,8 +147,8 @@ relink_kept s b l role kept k = relink_on s b l role kept k
 pub called_kept : CalledLaw
 called_kept s b l role parts kept fits calling k = called_on s b l role parts kept fits calling k
 
-pub asked_kept : AskedLaw
-asked_kept s b l role channel rs kept k = requests_on s b l role channel rs kept k
+pub requested_kept : RequestedLaw
+requested_kept s b l role channel rs kept k = requests_on s b l role channel rs kept k
 
 restart_as : (s : Setting) (b : Book) (role : Role) (l : Line) (kept : List Bool) →
     KeptAt s b role (sent (end.restarted (end_at role l))) (sent (end_at (other_of role) l)) (chosen kept (end.restarted (end_at role l)).line.frames) [] → Kept s b (with_restart role kept l)

@@ -1,5 +1,5 @@
 -- The law of a line of a network and of its book.
-use Rattle.std.specs.Prelude.{◌≡◌, ℕ, suc, ◌+◌, ◌≤◌, Bool, true, false, cond, List, [], ◌∷◌, ◌++◌, drop, length, slice_get, Option, Some, None, is_some}
+use Rattle.std.specs.Prelude.{◌≡◌, ℕ, suc, not, ◌+◌, Bool, true, false, cond, List, [], ◌∷◌, ◌++◌, drop, length, slice_get, Option, Some, None, is_some}
 use Rattle.std.proofs.Common.{refl, sym, ap, subst, ◌∙◌, arith, true≢false}
 use Rattle.link_timers.specs.declared.role.Role.{Role}
 use Rattle.link_timers.specs.declared.role.Role.TheVariants.{Dte, Dce}
@@ -11,27 +11,29 @@ use Rattle.line_end.specs.End as line
 use Rattle.packet_layer.specs.Packets.{Note}
 use Rattle.packet_layer.specs.Packets.Note.{Closed}
 use Rattle.packet_layer.specs.Packets.Reason.{LinkLost}
-use Rattle.packet_layer.specs.Channel.{Channel}
+use Rattle.packet_layer.specs.Channel.{CallState, Channel, Request, Refusal, refusal, refused_if, in_transfer, entered}
+use Rattle.packet_layer.specs.Channel.CallState.{Ready, OwnWaiting, FarWaiting, Transfer, Collision, OwnClear}
+use Rattle.packet_layer.specs.Channel.Request.{Accept, Clearing, Resetting, Sending, Interrupting, Stopping, Taking, Releasing, Confirming}
 use Rattle.packet_layer.specs.Layer as machine
-use Rattle.packet_layer.specs.Layer.{Layer, channel_of, link_down, channel_given, had_call, closing_notes}
+use Rattle.packet_layer.specs.Layer.{Layer, channel_of, link_down, channel_given, had_call, closing_notes, flow_refusal_at, refusal_at}
 use Rattle.packet_laws.specs.Readable.{IsReadable}
 use Rattle.packet_laws.specs.Line as layers
 use Rattle.packet_end.specs.PacketEnd.{PacketEnd}
 use Rattle.packet_line.specs.PacketLine as acts
 use Rattle.packet_line.specs.PacketLine.{Line, Act, Begins, Hears, Expires, Relinks, RelinksIfDue, Restarts, Calls, Requests, Offers, Settles, Elapses, Sends, At, Loses, does, other_after, going_after, coming_after, made}
-use Rattle.packet_line.specs.Joint.{Part, JointOf, Joint, Stands, Side, side, Follows}
+use Rattle.packet_line.specs.Joint.{Joint, Stands, side, Follows}
 use Rattle.packet_line.proofs.Holding.{new_joint}
-use Rattle.call_records.specs.Book.{Book, Slot, side_of, slot_at, closes, made_book, edits, all_told}
+use Rattle.call_records.specs.Book.{Book, Slot, side_of, slot_at, closes, edits, all_told}
 use Rattle.call_records.specs.Closing.{closes_if, closed_from}
 use Rattle.call_laws.proofs.Writing.{closed_else}
-use Rattle.call_laws.specs.Told.{World, after_all, start, placed_on}
+use Rattle.call_laws.specs.Told.{after_all, placed_on}
 use Rattle.call_laws.specs.Headline.{BookHolds, IsBeside, has_call}
 use Rattle.call_laws.proofs.BookHolds.{book_holds}
 use Rattle.call_laws.proofs.Beside.{is_beside}
-use Rattle.network_laws.specs.Kept.{Setting, IsSetting, Kept, IsLike, beginning, end_at, coming_to}
-use Rattle.network_laws.specs.Clauses.{MadeLaw, MayTell, IsSilent, Tells, TellsLaw, SilentLaw, RestartLaw, CallLaw, requested_at, RequestLaw, LossLaw, EditLaw, LikeLaw, HoldsLaw, PresentLaw, ChannelsLaw, ClosingLaw}
-use Rattle.network_laws.proofs.Views.{KeptAt, KeptOf, seen, unseen}
-use Rattle.network_laws.proofs.Acting.{Told, hears_at, expires_at, relinks_at, relinks_if_due_at, begins_at, settles_at, elapses_at, sends_at, offers_at, restarts_at, calls_at, requests_at, loses_at, edits_at, kept_happens, end_is}
+use Rattle.network_laws.specs.Kept.{Setting, Kept, IsLike, beginning, end_at, coming_to}
+use Rattle.network_laws.specs.Clauses.{MadeLaw, Tells, TellsLaw, SilentLaw, RestartLaw, CallLaw, requested_at, RequestLaw, LossLaw, EditLaw, LikeLaw, HoldsLaw, PresentLaw, IsInTransfer, TransferLaw, AskedLaw, ChannelsLaw, ClosingLaw}
+use Rattle.network_laws.proofs.Views.{KeptAt, seen, unseen}
+use Rattle.network_laws.proofs.Acting.{hears_at, expires_at, relinks_at, relinks_if_due_at, begins_at, settles_at, elapses_at, sends_at, offers_at, restarts_at, calls_at, requests_at, loses_at, edits_at, kept_happens, end_is}
 
 -- ---- the making
 
@@ -174,6 +176,67 @@ present_kept s b l Dte channel k =
 present_kept s b l Dce channel k =
     ap (λ (x : Book). is_some (slot_at Dce channel x).present) (sym k.book) ∙ (beside s b l k).present Dce channel
     ∙ ap (λ (x : Layer). has_call (channel_of x channel)) k.joint.yours.layer
+
+-- a call in data transfer, and one of which a request is not refused, is a call
+abbrev refusal_number : Option Refusal → ℕ
+refusal_number None = 0
+refusal_number (Some Refusal.NoCall) = 1
+refusal_number (Some r) = 2
+
+transfer_call : (state : CallState) (resetting : Bool) → IsInTransfer (refused_if (not (in_transfer state)) Refusal.NoCall (refused_if resetting Refusal.IsResetting None)) → had_call state ≡ true
+transfer_call Ready resetting h = absurd h
+transfer_call OwnClear resetting h = absurd h
+transfer_call OwnWaiting resetting h = refl
+transfer_call FarWaiting resetting h = refl
+transfer_call Transfer resetting h = refl
+transfer_call Collision resetting h = refl
+
+found_transfer : (o : Option Channel) → IsInTransfer (flow_refusal_at o) → has_call o ≡ true
+found_transfer None h = absurd h
+found_transfer (Some ch) h = transfer_call ch.state ch.resetting h
+
+no_call : (o : Option Refusal) → o ≡ Some Refusal.NoCall → o ≡ None → ⊥
+no_call o e f = let h : ◌≡◌ {A = ℕ} 1 0 = ap refusal_number (sym e ∙ f) in omega arith
+
+ready_refused : (role : Role) (ch : Channel) (r : Request) → refusal role (entered Ready ch) r ≡ Some Refusal.NoCall
+ready_refused role ch Accept = refl
+ready_refused role ch (Clearing cause diagnostic) = refl
+ready_refused role ch (Resetting cause diagnostic) = refl
+ready_refused role ch (Sending d) = refl
+ready_refused role ch (Interrupting octets) = refl
+ready_refused role ch (Stopping v) = refl
+ready_refused role ch Taking = refl
+ready_refused role ch (Releasing n) = refl
+ready_refused role ch Confirming = refl
+
+clear_refused : (role : Role) (ch : Channel) (r : Request) → refusal role (entered OwnClear ch) r ≡ Some Refusal.NoCall
+clear_refused role ch Accept = refl
+clear_refused role ch (Clearing cause diagnostic) = refl
+clear_refused role ch (Resetting cause diagnostic) = refl
+clear_refused role ch (Sending d) = refl
+clear_refused role ch (Interrupting octets) = refl
+clear_refused role ch (Stopping v) = refl
+clear_refused role ch Taking = refl
+clear_refused role ch (Releasing n) = refl
+clear_refused role ch Confirming = refl
+
+request_call : (role : Role) (state : CallState) (ch : Channel) (r : Request) → refusal role (entered state ch) r ≡ None → had_call state ≡ true
+request_call role Ready ch r h = absurd (no_call (refusal role (entered Ready ch) r) (ready_refused role ch r) h)
+request_call role OwnClear ch r h = absurd (no_call (refusal role (entered OwnClear ch) r) (clear_refused role ch r) h)
+request_call role OwnWaiting ch r h = refl
+request_call role FarWaiting ch r h = refl
+request_call role Transfer ch r h = refl
+request_call role Collision ch r h = refl
+
+found_request : (role : Role) (r : Request) (o : Option Channel) → refusal_at role r o ≡ None → has_call o ≡ true
+found_request role r None h = absurd (no_call (Some Refusal.NoCall) refl h)
+found_request role r (Some ch) h = request_call role ch.state ch r h
+
+pub transfer_kept : TransferLaw
+transfer_kept s b l role channel k h = present_kept s b l role channel k ∙ found_transfer (channel_of (end_at role l).layer channel) h
+
+pub asked_kept : AskedLaw
+asked_kept s b l role channel r k h = present_kept s b l role channel k ∙ found_request (end_at role l).layer.role r (channel_of (end_at role l).layer channel) h
 
 pub channels_kept : ChannelsLaw
 channels_kept s b l Dte k =

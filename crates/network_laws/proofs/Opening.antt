@@ -1,5 +1,5 @@
 -- How many notes of an event open something.
-use Rattle.std.specs.Prelude.{◌≡◌, ℕ, zero, suc, ◌+◌, ◌≤◌, ◌==◌, Bool, true, false, cond, List, [], ◌∷◌, ◌++◌, Option, Some, None}
+use Rattle.std.specs.Prelude.{◌≡◌, ℕ, suc, ◌+◌, ◌≤◌, ◌==◌, Bool, true, false, cond, List, [], ◌∷◌, ◌++◌, Option, Some, None}
 use Rattle.std.proofs.Common.{refl, sym, ap, subst, ◌∙◌, arith}
 use Rattle.link_timers.specs.declared.role.Role.{Role}
 use Rattle.link_timers.specs.declared.role.Role.TheVariants.{Dte, Dce}
@@ -20,12 +20,11 @@ use Rattle.packet_layer.specs.Channel.{CallState, Channel, Step, after_heard, co
 use Rattle.packet_layer.specs.Channel.CallState.{Ready, OwnWaiting, FarWaiting, Transfer, Collision, OwnClear}
 use Rattle.packet_layer.specs.Octets.{heard}
 use Rattle.packet_layer.specs.Events.{after_hearing, on_octets, timer_named, on_named}
-use Rattle.packet_layer.specs.Layer.{Phase, Layer, Timer, had_call, closing_notes, unread, link_up, link_down, restart_packet, on_found, on_channel, channel_of, packet_in, on_received, runs, expired, on_timer}
+use Rattle.packet_layer.specs.Layer.{Phase, Layer, Timer, had_call, closing_notes, unread, link_up, link_down, restart_packet, on_found, on_channel, channel_of, packet_in, runs, expired}
 use Rattle.packet_layer.specs.Layer.Phase.{NoSession, OwnRestart, PacketReady}
 use Rattle.packet_layer.specs.Layer.Timer.{RestartTimer, CallTimer, ResetTimer, ClearTimer}
 use Rattle.packet_end.specs.PacketEnd as end
 use Rattle.packet_end.specs.PacketEnd.{PacketEnd, begun, heeded, after_packet, received, runs_at, after_timer, relinked, relinked_if_due, finished}
-use Rattle.packet_line.specs.PacketLine.{RelinksIfDue, Offers, does}
 use Rattle.packet_line.proofs.Finishing.{finished_is}
 use Rattle.call_records.specs.Room.{opening_notes}
 use Rattle.network_laws.specs.Opening.{FrameOpens, ExpiryOpens, RelinkOpens, EndOpens, ReadLaw}

@@ -1,7 +1,6 @@
 -- What the events of an act that is no user's come to: they are allowed, and what they write is what they tell.
 use Rattle.std.specs.Prelude.{◌≡◌, ℕ, zero, suc, ◌≤◌, Bool, true, false, cond, List, [], ◌∷◌, ◌++◌, Option, Some, None, is_some}
-use Rattle.std.proofs.Common.{refl, sym, ap, subst, ◌∙◌, arith}
-use Rattle.std.proofs.lemmas.Option.{none-some, same_Some}
+use Rattle.std.proofs.Common.{refl, sym, ap, ◌∙◌, arith}
 use Rattle.link_timers.specs.declared.role.Role.{Role}
 use Rattle.link_timers.specs.declared.timers.TimerId.{TimerId}
 use Rattle.link_timers.specs.declared.timers.TimerId.TheVariants as timer
@@ -9,8 +8,7 @@ use Rattle.lapb.specs.declared.note.Note as link_note
 use Rattle.lapb.specs.declared.note.Note.TheVariants.{Nothing, Up as LinkUp, Down as LinkDown}
 use Rattle.lapb.specs.Machine.{Octets, can_offer, on_t1}
 use Rattle.lapb.specs.Octets.{on_octets}
-use Rattle.packet_layer.specs.Packets.{CallParts, Packet, Note}
-use Rattle.packet_layer.specs.Channel.{Request}
+use Rattle.packet_layer.specs.Packets.{Packet, Note}
 use Rattle.packet_layer.specs.Layer.{Layer, Timer, unread, runs, next_packet}
 use Rattle.packet_layer.specs.Layer.Timer.{RestartTimer, CallTimer, ResetTimer, ClearTimer}
 use Rattle.packet_layer.specs.Events.{timer_named}

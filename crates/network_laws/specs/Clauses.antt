@@ -1,10 +1,10 @@
 -- What each thing that may happen on a line makes of what is kept of it and of its book.
-use Rattle.std.specs.Prelude.{◌≡◌, ℕ, List, [], ◌++◌, length, Option, Some, None, is_some}
+use Rattle.std.specs.Prelude.{◌≡◌, ℕ, true, List, [], ◌++◌, length, Option, Some, None, is_some}
 use Rattle.link_timers.specs.declared.role.Role.{Role}
 use Rattle.pad_editing.specs.Edited.{Step}
 use Rattle.packet_layer.specs.Packets.{CallParts, Note}
-use Rattle.packet_layer.specs.Channel.{Request}
-use Rattle.packet_layer.specs.Layer.{link_down, channel_of, channel_given, request_refusal, front_on}
+use Rattle.packet_layer.specs.Channel.{Request, Refusal}
+use Rattle.packet_layer.specs.Layer.{link_down, channel_of, channel_given, request_refusal, flow_refusal, front_on}
 use Rattle.packet_laws.specs.Readable.{CanBePlaced}
 use Rattle.packet_end.specs.PacketEnd.{PacketEnd}
 use Rattle.packet_line.specs.PacketLine.{Line, Act, Begins, Hears, Expires, Relinks, RelinksIfDue, Restarts, Calls, Requests, Offers, Settles, Elapses, Sends, At, Loses, happens, made}
@@ -90,6 +90,20 @@ HoldsLaw = (s : Setting) (b : Book) (l : Line) → Kept s b l → BookHolds b
 abbrev pub PresentLaw : Type 0
 PresentLaw = (s : Setting) (b : Book) (l : Line) (role : Role) (channel : ℕ) → Kept s b l
     → is_some (slot_at role channel b).present ≡ has_call (channel_of (end_at role l).layer channel)
+
+-- so it has one in data transfer, a reset of the own end confirmed or not, and where a request is not refused
+abbrev pub IsInTransfer : Option Refusal → Type 0
+IsInTransfer None = Unit {0}
+IsInTransfer (Some Refusal.IsResetting) = Unit {0}
+IsInTransfer _ = ⊥
+
+abbrev pub TransferLaw : Type 0
+TransferLaw = (s : Setting) (b : Book) (l : Line) (role : Role) (channel : ℕ) → Kept s b l → IsInTransfer (flow_refusal (end_at role l).layer channel)
+    → is_some (slot_at role channel b).present ≡ true
+
+abbrev pub AskedLaw : Type 0
+AskedLaw = (s : Setting) (b : Book) (l : Line) (role : Role) (channel : ℕ) (r : Request) → Kept s b l → request_refusal (end_at role l).layer channel r ≡ None
+    → is_some (slot_at role channel b).present ≡ true
 
 -- it has the channels of the layer
 abbrev pub ChannelsLaw : Type 0

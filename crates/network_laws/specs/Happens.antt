@@ -71,7 +71,7 @@ abbrev pub requested_all : Role → (channel : ℕ) → List Request → PacketE
 requested_all role channel [] e b = b
 requested_all role channel (r ∷ rs) e b = requested_all role channel rs (asked e channel r) (requested_at role channel r e b)
 
-abbrev pub AskedLaw : Type 0
-AskedLaw = (s : Setting) (b : Book) (l : Line) (role : Role) (channel : ℕ) (rs : List Request) (kept : List Bool) → Kept s b l
+abbrev pub RequestedLaw : Type 0
+RequestedLaw = (s : Setting) (b : Book) (l : Line) (role : Role) (channel : ℕ) (rs : List Request) (kept : List Bool) → Kept s b l
     → let before = end_at role l in let e = finished (begun (asked_all channel rs before)) in
     Kept s (all_told role e.notes (requested_all role channel rs before b)) (with_event role e kept (coming_to role l) l)

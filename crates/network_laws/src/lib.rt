@@ -1,8 +1,8 @@
 //! What a network keeps of a line with both its ends and of the book of its calls, and that whatever happens keeps it.
 #![tactic(auto)]
 
-ghost use Rattle.network_laws.specs.Clauses.{MadeLaw, TellsLaw, SilentLaw, RestartLaw, CallLaw, RequestLaw, LossLaw, EditLaw, LikeLaw, HoldsLaw, PresentLaw, ChannelsLaw, ClosingLaw};
-ghost use Rattle.network_laws.specs.Happens.{FrameLaw, ExpiryLaw, RelinkLaw, RestartedLaw, CalledLaw, AskedLaw};
+ghost use Rattle.network_laws.specs.Clauses.{MadeLaw, TellsLaw, SilentLaw, RestartLaw, CallLaw, RequestLaw, LossLaw, EditLaw, LikeLaw, HoldsLaw, PresentLaw, TransferLaw, AskedLaw, ChannelsLaw, ClosingLaw};
+ghost use Rattle.network_laws.specs.Happens.{FrameLaw, ExpiryLaw, RelinkLaw, RestartedLaw, CalledLaw, RequestedLaw};
 ghost use Rattle.network_laws.specs.Opening.{FrameOpens, ExpiryOpens, RelinkOpens, EndOpens, ReadLaw};
 
 /// The law of a line of a network and of its book, over definitions alone. From the making on, whatever is called at an end,
@@ -28,6 +28,8 @@ pub fn network_law()
     // What the book is then.
     ensures holds { HoldsLaw }
     ensures present { PresentLaw }
+    ensures transfer { TransferLaw }
+    ensures asked { AskedLaw }
     ensures channels { ChannelsLaw }
     ensures closing { ClosingLaw }
 {}
@@ -39,7 +41,7 @@ pub fn event_law()
     ensures relinks { RelinkLaw }
     ensures restarts { RestartedLaw }
     ensures calls { CalledLaw }
-    ensures requests { AskedLaw }
+    ensures requests { RequestedLaw }
 {}
 
 /// An event opens at most one record or epoch, and does so only by a frame that arrives.
