@@ -1,2 +1,3 @@
 mod Turning
 mod Asking
+mod Hearing
