@@ -57,7 +57,7 @@ refused_on s c role (Some channel) p l kept coming k =
     ends_on s (closed_call (Some channel) role (pad_read p) c) role (asked (all_read p.end) channel refusing) l coming kept
     (requests_at s c role (all_read p.end) (end_at (other_of role) l) (coming_to (other_of role) l) coming (unread s c role p.end l coming k) channel refusing)
 
-held_if : (v : Bool) (held : List ℕ) → length held < limit → length (cond v held []) < limit
+pub held_if : (v : Bool) (held : List ℕ) → length held < limit → length (cond v held []) < limit
 held_if true held h = h
 held_if false held h = omega arith
 

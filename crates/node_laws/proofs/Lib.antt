@@ -1,3 +1,4 @@
 mod Turning
 mod Asking
 mod Hearing
+mod Typing
