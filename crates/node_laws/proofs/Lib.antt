@@ -2,3 +2,5 @@ mod Turning
 mod Asking
 mod Hearing
 mod Typing
+mod Making
+mod Opening

@@ -33,7 +33,7 @@ use Rattle.node_laws.specs.Clauses.{KeysLaw}
 use Rattle.node_laws.proofs.Turning.{told_keeps, unchanged_keeps, nothing_told}
 use Rattle.node_laws.proofs.Hearing.{held_if}
 
-either : {A : Type 0} (P : A → Type 0) (v : Bool) (x y : A) → (v ≡ true → P x) → (v ≡ false → P y) → P (if v then x else y)
+pub either : {A : Type 0} (P : A → Type 0) (v : Bool) (x y : A) → (v ≡ true → P x) → (v ≡ false → P y) → P (if v then x else y)
 either P true x y f g = f refl
 either P false x y f g = g refl
 
