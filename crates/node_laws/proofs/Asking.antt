@@ -35,10 +35,10 @@ use Rattle.node_laws.proofs.Turning.{told_keeps, nothing_told}
 -- ---- what is asked is refused, and nothing changes, or it is not
 
 module _ (s : Setting) (b : Book) (l : Line) (role : Role) (kept : List Bool) (k : Kept s b l) where
-  abbrev me : PacketEnd
+  abbrev pub me : PacketEnd
   me = end_at role l
 
-  abbrev Ends : PacketEnd → Book → Type 0
+  abbrev pub Ends : PacketEnd → Book → Type 0
   Ends e x = Kept s (all_told role e.notes x) (with_event role e kept (coming_to role l) l)
 
   asked_turn : (o : Option Refusal) (done : PacketEnd) (x : Book) → StandsAt role l (Host me) → (o ≡ None → Ends done x) →
@@ -53,7 +53,7 @@ module _ (s : Setting) (b : Book) (l : Line) (role : Role) (kept : List Bool) (k
       (requested_kept s b l role channel (r ∷ []) kept k)
 
 -- the host at the end is as good as the end itself
-at_end : (role : Role) (l : Line) (e : PacketEnd) (P : PacketEnd → Type 0) → StandsAt role l (Host e) → (StandsAt role l (Host (end_at role l)) → P (end_at role l)) → P e
+pub at_end : (role : Role) (l : Line) (e : PacketEnd) (P : PacketEnd → Type 0) → StandsAt role l (Host e) → (StandsAt role l (Host (end_at role l)) → P (end_at role l)) → P e
 at_end role l e P h f =
     subst P (sym h.end) (f (subst (λ (x : PacketEnd). StandsAt role l (Host x)) h.end h))
 

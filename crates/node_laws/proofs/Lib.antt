@@ -4,3 +4,5 @@ mod Hearing
 mod Typing
 mod Making
 mod Opening
+mod Fronts
+mod Taking
