@@ -65,7 +65,7 @@ module _ (s : Setting) (b : Book) (role : Role) (e you : PacketEnd) (going comin
 
 -- ---- as a line
 
-on_line : (s : Setting) (b : Book) (role : Role) (e : PacketEnd) (l : Line) (coming : List Octets) (kept : List Bool) → Sent s b role e (end_at (other_of role) l) (coming_to (other_of role) l) coming kept →
+pub on_line : (s : Setting) (b : Book) (role : Role) (e : PacketEnd) (l : Line) (coming : List Octets) (kept : List Bool) → Sent s b role e (end_at (other_of role) l) (coming_to (other_of role) l) coming kept →
     Kept s b (with_event role e kept coming l)
 on_line s b Dte e l coming kept k = unseen s b Dte (sent e) l.dce (l.up ++ chosen kept e.line.frames) coming k
 on_line s b Dce e l coming kept k = unseen s b Dce (sent e) l.dte (l.down ++ chosen kept e.line.frames) coming k
@@ -114,7 +114,7 @@ module _ (s : Setting) (b : Book) (l : Line) (role : Role) where
       ends_on s b role (relinked (begun me)) l (coming_to role l) kept (told_by (relinked (begun me)) (coming_to role l) t.given t.notes t.kept)
 
   -- ---- a user's event, of which `e` is what was asked, and `x` the book with it
-  asked_on : (e : PacketEnd) (x : Book) (kept : List Bool) → KeptAt s x role e you going (coming_to role l) →
+  pub asked_on : (e : PacketEnd) (x : Book) (kept : List Bool) → KeptAt s x role e you going (coming_to role l) →
       Kept s (all_told role (finished (begun e)).notes x) (with_event role (finished (begun e)) kept (coming_to role l) l)
   asked_on e x kept k = ends_on s x role (begun e) l (coming_to role l) kept (begins_at s x role e you going (coming_to role l) k)
 

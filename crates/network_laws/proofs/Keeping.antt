@@ -31,8 +31,9 @@ use Rattle.call_laws.specs.Headline.{BookHolds, IsBeside, has_call}
 use Rattle.call_laws.proofs.BookHolds.{book_holds}
 use Rattle.call_laws.proofs.Beside.{is_beside}
 use Rattle.network_laws.specs.Kept.{Setting, Kept, IsLike, beginning, end_at, coming_to}
-use Rattle.network_laws.specs.Clauses.{MadeLaw, Tells, TellsLaw, SilentLaw, RestartLaw, CallLaw, requested_at, RequestLaw, LossLaw, EditLaw, LikeLaw, HoldsLaw, PresentLaw, IsInTransfer, TransferLaw, AskedLaw, ChannelsLaw, ClosingLaw}
-use Rattle.network_laws.proofs.Views.{KeptAt, seen, unseen}
+use Rattle.network_laws.specs.Clauses.{MadeLaw, Tells, TellsLaw, SilentLaw, RestartLaw, CallLaw, requested_at, RequestLaw, LossLaw, EditLaw, LikeLaw, HoldsLaw, PresentLaw, IsInTransfer, TransferLaw, AskedLaw, FrontLaw, ChannelsLaw, ClosingLaw}
+use Rattle.network_laws.proofs.Calm.{found_open}
+use Rattle.network_laws.proofs.Views.{kept_calm, KeptAt, seen, unseen}
 use Rattle.network_laws.proofs.Acting.{hears_at, expires_at, relinks_at, relinks_if_due_at, begins_at, settles_at, elapses_at, sends_at, offers_at, restarts_at, calls_at, requests_at, loses_at, edits_at, kept_happens, end_is}
 
 -- ---- the making
@@ -237,6 +238,13 @@ transfer_kept s b l role channel k h = present_kept s b l role channel k ∙ fou
 
 pub asked_kept : AskedLaw
 asked_kept s b l role channel r k h = present_kept s b l role channel k ∙ found_request (end_at role l).layer.role r (channel_of (end_at role l).layer channel) h
+
+pub front_kept : FrontLaw
+front_kept s b l role channel x k is =
+    let e : PacketEnd = end_at role l in
+    let calm = kept_calm s b role e (end_at (other_of role) l) (coming_to (other_of role) l) (coming_to role l) (seen s b role l k) in
+    let f = found_open e.layer channel x (channel_of e.layer channel) refl calm is in
+    ap (λ (o : Option Channel). refusal_at e.layer.role Taking o) f.1 ∙ ap (λ (v : Bool). refused_if (not v) Refusal.NoCall None) f.2
 
 pub channels_kept : ChannelsLaw
 channels_kept s b l Dte k =

@@ -1,8 +1,10 @@
-pub mod Moving
-pub mod Telling
+mod Moving
+mod Telling
+mod Calm
 pub mod Views
 pub mod Acting
 pub mod Keeping
 pub mod Happening
 pub mod Opening
 mod Rows
+pub mod Hosting

@@ -16,7 +16,7 @@ use Rattle.packet_layer.specs.Packets.Received.{Whole, Unknown, Faulty}
 use Rattle.packet_layer.specs.Packets.Note.{Incoming, Connected, Closed, WasReset, InterruptConfirmed, Covered}
 use Rattle.packet_layer.specs.Traffic.{Heard, hears}
 use Rattle.packet_layer.specs.Traffic.Heard.{Keeps, Confirms, Wrong}
-use Rattle.packet_layer.specs.Channel.{CallState, Channel, Step, after_heard, covered_note, in_flow_ready, in_own_reset, in_ready, collision_notes, in_own_waiting, in_far_waiting, in_collision, in_own_clear, received_in, unreadable_in, clear_error}
+use Rattle.packet_layer.specs.Channel.{CallState, Channel, Step, after_heard, covered_note, in_flow_ready, in_own_reset, in_ready, collision_notes, in_own_waiting, in_far_waiting, in_collision, in_own_clear, received_in, unreadable_in, clear_error, unreadable, received as channel_received}
 use Rattle.packet_layer.specs.Channel.CallState.{Ready, OwnWaiting, FarWaiting, Transfer, Collision, OwnClear}
 use Rattle.packet_layer.specs.Octets.{heard}
 use Rattle.packet_layer.specs.Events.{after_hearing, on_octets, timer_named, on_named}
@@ -184,15 +184,15 @@ restart_one phase _ l = omega arith
 packet_one : (l : Layer) (p : Packet) → AtMostOne (packet_in (unread l) p).notes
 packet_one l p = by (p.channel == 0)
   where
-    by : (v : Bool) → AtMostOne (cond v (restart_packet l.phase p.body (unread l)) (on_channel l.phase (unread l) p.channel (λ ch. Rattle.packet_layer.specs.Channel.received l.role l.window p.channel ch p.body))).notes
+    by : (v : Bool) → AtMostOne (cond v (restart_packet l.phase p.body (unread l)) (on_channel l.phase (unread l) p.channel (λ ch. channel_received l.role l.window p.channel ch p.body))).notes
     by true = restart_one l.phase p.body l
-    by false = channel_one l.phase l p.channel (λ ch. Rattle.packet_layer.specs.Channel.received l.role l.window p.channel ch p.body) (λ ch. received_one ch.state l.role l.window p.channel ch p.body)
+    by false = channel_one l.phase l p.channel (λ ch. channel_received l.role l.window p.channel ch p.body) (λ ch. received_one ch.state l.role l.window p.channel ch p.body)
 
 hearing_one : (l : Layer) (o : Option Received) → AtMostOne (after_hearing (unread l) o).notes
 hearing_one l None = omega arith
 hearing_one l (Some (Whole p)) = packet_one l p
-hearing_one l (Some (Unknown c)) = channel_one l.phase l c (λ ch. Rattle.packet_layer.specs.Channel.unreadable l.role c true ch) (λ ch. unreadable_one ch.state l.role c true ch)
-hearing_one l (Some (Faulty c)) = channel_one l.phase l c (λ ch. Rattle.packet_layer.specs.Channel.unreadable l.role c false ch) (λ ch. unreadable_one ch.state l.role c false ch)
+hearing_one l (Some (Unknown c)) = channel_one l.phase l c (λ ch. unreadable l.role c true ch) (λ ch. unreadable_one ch.state l.role c true ch)
+hearing_one l (Some (Faulty c)) = channel_one l.phase l c (λ ch. unreadable l.role c false ch) (λ ch. unreadable_one ch.state l.role c false ch)
 
 -- ---- an end
 

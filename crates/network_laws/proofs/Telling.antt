@@ -9,7 +9,7 @@ use Rattle.lapb.specs.declared.note.Note.TheVariants.{Nothing, Up as LinkUp, Dow
 use Rattle.lapb.specs.Machine.{Octets, can_offer, on_t1}
 use Rattle.lapb.specs.Octets.{on_octets}
 use Rattle.packet_layer.specs.Packets.{Packet, Note}
-use Rattle.packet_layer.specs.Layer.{Layer, Timer, unread, runs, next_packet}
+use Rattle.packet_layer.specs.Layer.{Layer, Timer, unread, runs, next_packet, link_up, on_timer, expired}
 use Rattle.packet_layer.specs.Layer.Timer.{RestartTimer, CallTimer, ResetTimer, ClearTimer}
 use Rattle.packet_layer.specs.Events.{timer_named}
 use Rattle.packet_laws.specs.Line as layers
@@ -140,7 +140,7 @@ pub told_append : (role : Role) (before more : List Note) (b : Book) → all_tol
 told_append role [] more b = refl
 told_append role (note ∷ before) more b = told_append role before more (told role note b)
 
-up_told : (n : ℕ) (v : layers.Line) (may : Bool) → (cond may (record (cleared v) { me = begun n (cleared v).me }) (cleared v)).me.layer.notes ≡ cond may (Rattle.packet_layer.specs.Layer.link_up v.me.layer).notes []
+up_told : (n : ℕ) (v : layers.Line) (may : Bool) → (cond may (record (cleared v) { me = begun n (cleared v).me }) (cleared v)).me.layer.notes ≡ cond may (link_up v.me.layer).notes []
 up_told n v true = refl
 up_told n v false = refl
 
@@ -151,12 +151,12 @@ runs_same l (ResetTimer c) = refl
 runs_same l (ClearTimer c) = refl
 
 expires_told : (l : Layer) (t : Timer) (v : Bool) → runs l t ≡ v →
-    (Rattle.packet_layer.specs.Layer.on_timer (unread l) t).notes ≡ cond v (Rattle.packet_layer.specs.Layer.on_timer l t).notes []
+    (on_timer (unread l) t).notes ≡ cond v (on_timer l t).notes []
 expires_told l t true e =
-    ap (λ (v : Bool). (cond v (Rattle.packet_layer.specs.Layer.expired (unread (unread l)) t) (unread l)).notes) (runs_same l t ∙ e)
-    ∙ sym (ap (λ (v : Bool). (cond v (Rattle.packet_layer.specs.Layer.expired (unread l) t) l).notes) e)
+    ap (λ (v : Bool). (cond v (expired (unread (unread l)) t) (unread l)).notes) (runs_same l t ∙ e)
+    ∙ sym (ap (λ (v : Bool). (cond v (expired (unread l) t) l).notes) e)
 expires_told l t false e =
-    ap (λ (v : Bool). (cond v (Rattle.packet_layer.specs.Layer.expired (unread (unread l)) t) (unread l)).notes) (runs_same l t ∙ e)
+    ap (λ (v : Bool). (cond v (expired (unread (unread l)) t) (unread l)).notes) (runs_same l t ∙ e)
 
 offers_told : (o : Option ℕ) (e : layers.End) → (layers.offers o (layers.with_layer (unread e.layer) e)).layer.notes ≡ []
 offers_told None e = refl

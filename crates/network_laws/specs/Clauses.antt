@@ -3,6 +3,7 @@ use Rattle.std.specs.Prelude.{◌≡◌, ℕ, true, List, [], ◌++◌, length, 
 use Rattle.link_timers.specs.declared.role.Role.{Role}
 use Rattle.pad_editing.specs.Edited.{Step}
 use Rattle.packet_layer.specs.Packets.{CallParts, Note}
+use Rattle.packet_layer.specs.Traffic.{Taken}
 use Rattle.packet_layer.specs.Channel.{Request, Refusal}
 use Rattle.packet_layer.specs.Layer.{link_down, channel_of, channel_given, request_refusal, flow_refusal, front_on}
 use Rattle.packet_laws.specs.Readable.{CanBePlaced}
@@ -104,6 +105,11 @@ TransferLaw = (s : Setting) (b : Book) (l : Line) (role : Role) (channel : ℕ) 
 abbrev pub AskedLaw : Type 0
 AskedLaw = (s : Setting) (b : Book) (l : Line) (role : Role) (channel : ℕ) (r : Request) → Kept s b l → request_refusal (end_at role l).layer channel r ≡ None
     → is_some (slot_at role channel b).present ≡ true
+
+-- and what waits on a channel may be taken: outside data transfer nothing waits
+abbrev pub FrontLaw : Type 0
+FrontLaw = (s : Setting) (b : Book) (l : Line) (role : Role) (channel : ℕ) (x : Taken) → Kept s b l → front_on (end_at role l).layer channel ≡ Some x
+    → request_refusal (end_at role l).layer channel Request.Taking ≡ None
 
 -- it has the channels of the layer
 abbrev pub ChannelsLaw : Type 0

@@ -1,4 +1,5 @@
 pub mod Kept
 pub mod Clauses
 pub mod Happens
+pub mod Hosts
 pub mod Opening

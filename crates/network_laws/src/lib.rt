@@ -1,8 +1,9 @@
 //! What a network keeps of a line with both its ends and of the book of its calls, and that whatever happens keeps it.
 #![tactic(auto)]
 
-ghost use Rattle.network_laws.specs.Clauses.{MadeLaw, TellsLaw, SilentLaw, RestartLaw, CallLaw, RequestLaw, LossLaw, EditLaw, LikeLaw, HoldsLaw, PresentLaw, TransferLaw, AskedLaw, ChannelsLaw, ClosingLaw};
+ghost use Rattle.network_laws.specs.Clauses.{MadeLaw, TellsLaw, SilentLaw, RestartLaw, CallLaw, RequestLaw, LossLaw, EditLaw, LikeLaw, HoldsLaw, PresentLaw, TransferLaw, AskedLaw, FrontLaw, ChannelsLaw, ClosingLaw};
 ghost use Rattle.network_laws.specs.Happens.{FrameLaw, ExpiryLaw, RelinkLaw, RestartedLaw, CalledLaw, RequestedLaw};
+ghost use Rattle.network_laws.specs.Hosts.{HostExpiryLaw, HostCallLaw, HostRequestLaw, HostSayLaw, HostRefuseLaw, HostTakeLaw};
 ghost use Rattle.network_laws.specs.Opening.{FrameOpens, ExpiryOpens, RelinkOpens, EndOpens, ReadLaw};
 
 /// The law of a line of a network and of its book, over definitions alone. From the making on, whatever is called at an end,
@@ -30,6 +31,7 @@ pub fn network_law()
     ensures present { PresentLaw }
     ensures transfer { TransferLaw }
     ensures asked { AskedLaw }
+    ensures front { FrontLaw }
     ensures channels { ChannelsLaw }
     ensures closing { ClosingLaw }
 {}
@@ -42,6 +44,17 @@ pub fn event_law()
     ensures restarts { RestartedLaw }
     ensures calls { CalledLaw }
     ensures requests { RequestedLaw }
+{}
+
+/// The same of the events of a host that its user asks for, or that may be refused or find nothing to do. A frame that arrives, a
+/// relink and a restart are as at any node.
+pub fn host_law()
+    ensures expiries { HostExpiryLaw }
+    ensures calls { HostCallLaw }
+    ensures requests { HostRequestLaw }
+    ensures says { HostSayLaw }
+    ensures refuses { HostRefuseLaw }
+    ensures takes { HostTakeLaw }
 {}
 
 /// An event opens at most one record or epoch, and does so only by a frame that arrives.

@@ -4,5 +4,4 @@ mod Hearing
 mod Typing
 mod Making
 mod Opening
-mod Fronts
-mod Taking
+mod Rows

@@ -1,4 +1,4 @@
-use Rattle.network_laws.proofs.Keeping.{made_kept, tells_kept, silent_kept, restart_kept, call_kept, request_kept, loss_kept, edit_kept, like_kept, holds_kept, present_kept, transfer_kept, asked_kept, channels_kept, closing_kept}
+use Rattle.network_laws.proofs.Keeping.{made_kept, tells_kept, silent_kept, restart_kept, call_kept, request_kept, loss_kept, edit_kept, like_kept, holds_kept, present_kept, transfer_kept, asked_kept, front_kept, channels_kept, closing_kept}
 use Rattle.network_laws.proofs.network_law.Goals as goal
 
 pub returns : goal.returns
@@ -16,6 +16,7 @@ returns c = record {
   present = present_kept;
   transfer = transfer_kept;
   asked = asked_kept;
+  front = front_kept;
   channels = channels_kept;
   closing = closing_kept;
 }
