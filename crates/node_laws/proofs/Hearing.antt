@@ -21,11 +21,11 @@ use Rattle.network_laws.specs.Happens.{sent, with_event, with_restart}
 use Rattle.network_laws.proofs.Views.{KeptAt, seen}
 use Rattle.network_laws.proofs.Acting.{begins_at, hears_at, expires_at, relinks_at, requests_at}
 use Rattle.network_laws.proofs.Happening.{ends_on, frame_kept, expiry_kept, relink_kept, restarted_kept}
-use Rattle.line_nodes.specs.Node.{NodeState, Pad, Host, end_of, drained, all_read, sent_out}
-use Rattle.line_nodes.specs.Turn.{Turn, unchanged, told}
+use Rattle.line_nodes.specs.Node.{NodeState, Pad, Host, end_of, drained, all_read}
+use Rattle.line_nodes.specs.Turn.{unchanged, told}
 use Rattle.line_nodes.specs.PadTurns.{last_incoming, without_call, closed_call, pad_read, pad_event}
-use Rattle.line_nodes.specs.LineTurns.{hears, expires, relinks, restarts, pad_hears, pad_relinks, host_hears, host_relinks, restarted}
-use Rattle.node_laws.specs.Nodes.{HoldsNoBlock, IsNode, StandsAt, Keeps, KeepsWith, KeepsBy}
+use Rattle.line_nodes.specs.LineTurns.{pad_hears, pad_relinks, host_hears, host_relinks, restarted}
+use Rattle.node_laws.specs.Nodes.{IsNode, StandsAt, KeepsWith, KeepsBy}
 use Rattle.node_laws.specs.Clauses.{HearsLaw, ExpiresLaw, RelinksLaw, RestartsLaw}
 use Rattle.node_laws.proofs.Turning.{told_keeps, unchanged_keeps}
 

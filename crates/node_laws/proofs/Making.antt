@@ -1,5 +1,5 @@
 -- The making of the nodes, and time.
-use Rattle.std.specs.Prelude.{◌≡◌, ℕ, Bool, []}
+use Rattle.std.specs.Prelude.{◌≡◌, ℕ}
 use Rattle.std.proofs.Common.{refl, sym, ap, subst, arith}
 use Rattle.link_timers.specs.declared.role.Role.{Role}
 use Rattle.link_timers.specs.declared.role.Role.TheVariants.{Dte, Dce}
@@ -7,7 +7,7 @@ use Rattle.packet_end.specs.PacketEnd as end
 use Rattle.packet_end.specs.PacketEnd.{PacketEnd}
 use Rattle.packet_line.specs.PacketLine.{At, Sends, Elapses, happens, made}
 use Rattle.call_records.specs.Book.{Book, made_book}
-use Rattle.network_laws.specs.Kept.{Setting, Kept, end_at}
+use Rattle.network_laws.specs.Kept.{Setting, Kept}
 use Rattle.network_laws.specs.Happens.{sent}
 use Rattle.network_laws.proofs.Keeping.{made_kept, silent_kept}
 use Rattle.line_nodes.specs.Node.{NodeState, Pad, Host, end_of, drained, node_elapsed}

@@ -1,12 +1,11 @@
 -- How many notes of a turn open something.
-use Rattle.std.specs.Prelude.{◌≡◌, ℕ, ◌≤◌, Bool, true, false, cond, ◌&&◌, ◌==◌, if◌then◌else◌, List, [], ◌∷◌, ◌++◌, Option, Some, None, is_some}
+use Rattle.std.specs.Prelude.{◌≡◌, ℕ, ◌≤◌, Bool, true, false, cond, ◌&&◌, ◌==◌, if◌then◌else◌, List, [], Option, Some, None, is_some}
 use Rattle.std.proofs.Common.{refl, sym, ap, subst, ◌∙◌}
 use Rattle.link_timers.specs.declared.role.Role.{Role}
 use Rattle.packet_layer.specs.Traffic.{Taken}
-use Rattle.packet_layer.specs.Packets.{Note}
 use Rattle.packet_layer.specs.Channel.{Request, Refusal}
 use Rattle.packet_layer.specs.Layer.{call_refusal, request_refusal, front_on, room}
-use Rattle.packet_end.specs.PacketEnd.{PacketEnd, begun, received, after_timer, relinked, finished, asked, called, runs_at}
+use Rattle.packet_end.specs.PacketEnd.{PacketEnd, begun, after_timer, finished, asked, called, runs_at}
 use Rattle.packet_host.specs.Host as host
 use Rattle.packet_host.specs.Host.{ended, refuse_refusal, let_go, taken_as}
 use Rattle.packet_host.specs.Saying.{cut, queued, say_refusal}
@@ -16,13 +15,11 @@ use Rattle.packet_pad.specs.Keys.{KeyEffect, message, is_control, edited_by, key
 use Rattle.pad_editing.specs.Edited.{Effect, after_key}
 use Rattle.call_records.specs.Book.{Book}
 use Rattle.call_records.specs.Room.{opening_notes}
-use Rattle.network_laws.specs.Kept.{end_at}
 use Rattle.network_laws.proofs.Opening.{more_none, finished_same, frame_opens, expiry_opens, relink_opens, end_opens, read_kept}
-use Rattle.line_nodes.specs.Node.{NodeState, Pad, Host, all_read}
-use Rattle.line_nodes.specs.Turn.{Turn, unchanged, told}
+use Rattle.line_nodes.specs.Node.{Pad, Host, all_read}
+use Rattle.line_nodes.specs.Turn.{unchanged, told}
 use Rattle.line_nodes.specs.HostTurns.{taken_turn}
 use Rattle.line_nodes.specs.PadTurns.{last_incoming, without_call, pad_read, pad_event, keyed}
-use Rattle.node_laws.specs.Nodes.{IsNode}
 use Rattle.node_laws.specs.Opening.{OpensNothing, HearingOpens, ExpiryOpens, RelinkOpens, CallOpens, AskingOpens, RefusalOpens, SayingOpens, TakingOpens, KeyOpens}
 use Rattle.node_laws.proofs.Typing.{either}
 

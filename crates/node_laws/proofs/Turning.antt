@@ -1,6 +1,6 @@
 -- The nodes after a turn, and a turn in which nothing happens.
-use Rattle.std.specs.Prelude.{◌≡◌, ℕ, ◌<◌, Bool, true, false, cond, List, [], length}
-use Rattle.std.proofs.Common.{refl, sym, ap, subst, ◌∙◌, arith}
+use Rattle.std.specs.Prelude.{Bool, List}
+use Rattle.std.proofs.Common.{refl, sym, subst}
 use Rattle.link_timers.specs.declared.role.Role.{Role}
 use Rattle.link_timers.specs.declared.role.Role.TheVariants.{Dte, Dce}
 use Rattle.link_timers.specs.Role.{other_of}
@@ -8,14 +8,13 @@ use Rattle.lapb.specs.Machine.{Octets}
 use Rattle.packet_layer.specs.Packets.{Note}
 use Rattle.packet_end.specs.PacketEnd.{PacketEnd}
 use Rattle.packet_line.specs.PacketLine.{Line, Sends}
-use Rattle.pad_editing.specs.Edited.{limit}
 use Rattle.call_records.specs.Book.{Book, all_told}
-use Rattle.network_laws.specs.Kept.{Setting, Kept, IsLike, end_at, coming_to}
+use Rattle.network_laws.specs.Kept.{Setting, Kept, end_at, coming_to}
 use Rattle.network_laws.specs.Happens.{with_event}
 use Rattle.network_laws.proofs.Keeping.{silent_kept, like_kept}
 use Rattle.line_nodes.specs.Node.{NodeState, Pad, Host, end_of, drained, all_read, without_notes}
-use Rattle.line_nodes.specs.Turn.{Turn, unchanged, told}
-use Rattle.node_laws.specs.Nodes.{HoldsNoBlock, IsNode, StandsAt, Keeps, KeepsWith, KeepsBy}
+use Rattle.line_nodes.specs.Turn.{unchanged, told}
+use Rattle.node_laws.specs.Nodes.{HoldsNoBlock, IsNode, StandsAt, KeepsWith, KeepsBy}
 
 -- ---- nodes
 

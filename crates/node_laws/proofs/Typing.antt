@@ -1,7 +1,6 @@
 -- A key at a PAD.
-use Rattle.std.specs.Prelude.{◌≡◌, ℕ, ◌+◌, ◌-◌, ◌<◌, ◌≤◌, Bool, true, false, cond, not, ◌&&◌, ◌||◌, ◌==◌, nat_lt, nat_le, if◌then◌else◌, List, [], ◌∷◌, ◌++◌, length, take, map, Option, Some, None, is_some}
-use Rattle.std.specs.Option.{option_to_list}
-use Rattle.std.proofs.Common.{inl, inr, refl, sym, ap, subst, ◌∙◌, arith, true≢false, length-append, length-take}
+use Rattle.std.specs.Prelude.{◌≡◌, ℕ, ◌-◌, ◌<◌, ◌≤◌, Bool, true, false, cond, not, ◌&&◌, ◌||◌, ◌==◌, nat_lt, nat_le, if◌then◌else◌, List, [], ◌∷◌, ◌++◌, length, take, Option, Some, None, is_some}
+use Rattle.std.proofs.Common.{inl, inr, refl, sym, subst, arith, true≢false, length-append, length-take}
 use Rattle.std.proofs.lemmas.Bool.{eqb-false, le-ltb, lt-leb, cases_lt}
 use Rattle.std.proofs.lemmas.Option.{none-some}
 use Rattle.link_timers.specs.declared.role.Role.{Role}
@@ -12,23 +11,23 @@ use Rattle.x3_params.specs.declared.editing.EditingFunction.TheVariants.{Charact
 use Rattle.x3_params.specs.declared.settings.LineFeedInsertion.TheVariants.{FromTerminal}
 use Rattle.pad_editing.specs.Edited.{Step, key, Effect, limit, inserted, after_text, after_typed, editing, after_editing, after_key, holds, ends}
 use Rattle.packet_layer.specs.Packets.{Datum}
-use Rattle.packet_layer.specs.Channel.{Channel, Request, Refusal, refused_if, in_transfer}
+use Rattle.packet_layer.specs.Channel.{Channel, Refusal, refused_if, in_transfer}
 use Rattle.packet_layer.specs.Channel.Request.{Sending}
 use Rattle.packet_layer.specs.Layer.{channel_of, refusal_at, request_refusal, room_at, room}
 use Rattle.packet_end.specs.PacketEnd.{PacketEnd, begun, finished, asked}
 use Rattle.packet_line.specs.PacketLine.{Line}
-use Rattle.packet_pad.specs.Pad.{PadState, stands, after_finish}
-use Rattle.packet_pad.specs.Keys.{KeyEffect, message, is_control, edited_by, key_dropped, key_without_effect, typed, with_block, after_octet}
+use Rattle.packet_pad.specs.Pad.{PadState, stands}
+use Rattle.packet_pad.specs.Keys.{KeyEffect, message, is_control, edited_by, key_dropped, key_without_effect, typed, with_block}
 use Rattle.call_records.specs.Book.{Book, all_told, sends, edits}
 use Rattle.call_records.specs.Carried.{unless_refused}
 use Rattle.network_laws.specs.Kept.{Setting, Kept, end_at, coming_to}
 use Rattle.network_laws.specs.Happens.{with_event}
 use Rattle.network_laws.proofs.Keeping.{edit_kept}
 use Rattle.network_laws.proofs.Happening.{requested_kept}
-use Rattle.line_nodes.specs.Node.{Pad, end_of}
-use Rattle.line_nodes.specs.Turn.{Turn, unchanged, told, all_sent}
-use Rattle.line_nodes.specs.PadTurns.{keyed, pad_keys}
-use Rattle.node_laws.specs.Nodes.{HoldsNoBlock, IsNode, StandsAt, KeepsBy}
+use Rattle.line_nodes.specs.Node.{Pad}
+use Rattle.line_nodes.specs.Turn.{told}
+use Rattle.line_nodes.specs.PadTurns.{keyed}
+use Rattle.node_laws.specs.Nodes.{StandsAt, KeepsBy}
 use Rattle.node_laws.specs.Clauses.{KeysLaw}
 use Rattle.node_laws.proofs.Turning.{told_keeps, unchanged_keeps, nothing_told}
 use Rattle.node_laws.proofs.Hearing.{held_if}
@@ -58,7 +57,7 @@ not_full true n h = absurd (true≢false h)
 not_full false n h = eqb-false n limit h
 
 below : (n : ℕ) → n ≤ limit → (n ≡ limit → ⊥) → n < limit
-below n h g = elim (cases_lt n limit) [ | inl l ↦ l | inr over ↦ (let is : n ≡ limit = omega arith in absurd (g is)) ]
+below n h g = elim (cases_lt n limit) [ inl l ↦ l | inr over ↦ (let is : n ≡ limit = omega arith in absurd (g is)) ]
 
 text_fits : (p : List ℕ) (o : ℕ) (text : List ℕ) → length text ≤ limit → Fits (after_text p o text)
 text_fits p o text h =
@@ -102,7 +101,7 @@ room_takes role (Some ch) d open_ short = by (in_transfer ch.state) ch.resetting
         rw (lt-leb 8 n less, le-ltb 128 (length d.octets) short) refl
       where
         few : (n : ℕ) → (8 - n ≡ 0 → ⊥) → n < 8
-        few n h = elim (cases_lt n 8) [ | inl l ↦ l | inr over ↦ (let is : 8 - n ≡ 0 = omega arith in absurd (h is)) ]
+        few n h = elim (cases_lt n 8) [ inl l ↦ l | inr over ↦ (let is : 8 - n ≡ 0 = omega arith in absurd (h is)) ]
     by false resetting n h = absurd (true≢false h)
 
 -- ---- the turn
