@@ -1,0 +1,7 @@
+mod Turning
+mod Asking
+mod Hearing
+mod Typing
+mod Making
+mod Opening
+mod Rows

@@ -1,0 +1,111 @@
+-- What each event at a node keeps of the line and of the book.
+use Rattle.std.specs.Prelude.{◌≡◌, ℕ, ◌≤◌, Bool, List, ◌∷◌, length}
+use Rattle.link_timers.specs.declared.role.Role.{Role}
+use Rattle.link_timers.specs.declared.role.Role.TheVariants.{Dte, Dce}
+use Rattle.link_timers.specs.declared.timers.TimerId.{TimerId}
+use Rattle.lapb.specs.Machine.{Octets}
+use Rattle.lapb.specs.Line.{chosen}
+use Rattle.packet_codec.specs.Address.{AreDigits}
+use Rattle.packet_layer.specs.Channel.{Request}
+use Rattle.packet_end.specs.PacketEnd as end
+use Rattle.packet_end.specs.PacketEnd.{PacketEnd}
+use Rattle.packet_line.specs.PacketLine.{Line}
+use Rattle.packet_host.specs.Host.{call_parts}
+use Rattle.packet_host.specs.Making as host
+use Rattle.packet_host.specs.declared.config.HostConfig.{HostConfig}
+use Rattle.packet_pad.specs.Pad.{PadState}
+use Rattle.packet_pad.specs.Making as pad
+use Rattle.packet_pad.specs.declared.config.PadConfig.{PadConfig}
+use Rattle.call_records.specs.Book.{Book, made_book}
+use Rattle.network_laws.specs.Kept.{Setting, IsSetting, Kept, coming_to}
+use Rattle.network_laws.specs.Happens.{sent, with_restart}
+use Rattle.line_nodes.specs.Node.{NodeState, Pad, Host, end_of, drained, node_elapsed}
+use Rattle.line_nodes.specs.LineTurns.{hears, expires, relinks, restarts}
+use Rattle.line_nodes.specs.HostTurns.{host_calls, host_asks, host_refuses, host_says, host_takes}
+use Rattle.line_nodes.specs.PadTurns.{pad_keys}
+use Rattle.node_laws.specs.Nodes.{IsNode, StandsAt, Keeps, KeepsWith, KeepsBy}
+
+-- ---- what comes from the line, to a PAD or to a host
+
+-- the first frame on the way to the node arrives
+abbrev pub HearsLaw : Type 0
+HearsLaw = (s : Setting) (b : Book) (l : Line) (role : Role) (n : NodeState) (octets : Octets) (coming : List Octets) (kept : List Bool)
+    → coming_to role l ≡ octets ∷ coming → StandsAt role l n → Kept s b l → KeepsWith s role l kept coming (hears role n octets b)
+
+abbrev pub ExpiresLaw : Type 0
+ExpiresLaw = (s : Setting) (b : Book) (l : Line) (role : Role) (n : NodeState) (id : TimerId) (kept : List Bool)
+    → StandsAt role l n → Kept s b l → KeepsBy s role l kept (expires role n id b)
+
+abbrev pub RelinksLaw : Type 0
+RelinksLaw = (s : Setting) (b : Book) (l : Line) (role : Role) (n : NodeState) (kept : List Bool)
+    → StandsAt role l n → Kept s b l → KeepsBy s role l kept (relinks role n b)
+
+-- all frames on the line are lost
+abbrev pub RestartsLaw : Type 0
+RestartsLaw = (s : Setting) (b : Book) (l : Line) (role : Role) (n : NodeState) (kept : List Bool)
+    → StandsAt role l n → Kept s b l → Keeps s role l (with_restart role kept l) (restarts role n b)
+
+-- ---- what the user of a host asks
+
+abbrev pub CallsLaw : Type 0
+CallsLaw = (s : Setting) (b : Book) (l : Line) (role : Role) (e : PacketEnd) (address user_data : List ℕ) (kept : List Bool)
+    → AreDigits address → length user_data ≤ 16 → StandsAt role l (Host e) → Kept s b l
+    → KeepsBy s role l kept (host_calls role e (call_parts address user_data) b)
+
+abbrev pub AsksLaw : Type 0
+AsksLaw = (s : Setting) (b : Book) (l : Line) (role : Role) (e : PacketEnd) (channel : ℕ) (r : Request) (kept : List Bool)
+    → StandsAt role l (Host e) → Kept s b l → KeepsBy s role l kept (host_asks role e channel r b)
+
+abbrev pub RefusesLaw : Type 0
+RefusesLaw = (s : Setting) (b : Book) (l : Line) (role : Role) (e : PacketEnd) (channel : ℕ) (kept : List Bool)
+    → StandsAt role l (Host e) → Kept s b l → KeepsBy s role l kept (host_refuses role e channel b)
+
+abbrev pub SaysLaw : Type 0
+SaysLaw = (s : Setting) (b : Book) (l : Line) (role : Role) (e : PacketEnd) (channel : ℕ) (octets : List ℕ) (qualified delivery : Bool) (kept : List Bool)
+    → StandsAt role l (Host e) → Kept s b l → KeepsBy s role l kept (host_says role e channel octets qualified delivery b)
+
+abbrev pub TakesLaw : Type 0
+TakesLaw = (s : Setting) (b : Book) (l : Line) (role : Role) (e : PacketEnd) (channel : ℕ) (kept : List Bool)
+    → StandsAt role l (Host e) → Kept s b l → KeepsBy s role l kept (host_takes role e channel b)
+
+-- ---- a key at a PAD
+
+abbrev pub KeysLaw : Type 0
+KeysLaw = (s : Setting) (b : Book) (l : Line) (role : Role) (p : PadState) (octet : ℕ) (kept : List Bool)
+    → StandsAt role l (Pad p) → Kept s b l → KeepsBy s role l kept (pad_keys role p octet b)
+
+-- ---- time passes at both nodes
+
+abbrev pub elapsed_line : (ticks : ℕ) → Line → Line
+elapsed_line ticks l = record l { dte = end.elapsed l.dte ticks; dce = end.elapsed l.dce ticks }
+
+pub record KeepsElapsed (s : Setting) (b : Book) (ticks : ℕ) (l : Line) : Type 0 where
+  pub kept : Kept s b (elapsed_line ticks l)
+  pub nodes : (role : Role) (n : NodeState) → StandsAt role l n → StandsAt role (elapsed_line ticks l) (node_elapsed ticks n)
+
+abbrev pub ElapsesLaw : Type 0
+ElapsesLaw = (s : Setting) (b : Book) (l : Line) (ticks : ℕ) → Kept s b l → KeepsElapsed s b ticks l
+
+-- ---- the making
+
+-- nothing was on the line, and the first frames of the DTE and then those of the DCE go onto it or are lost there
+abbrev pub first_line : (dte dce : PacketEnd) → (kept_up kept_down : List Bool) → Line
+first_line dte dce kept_up kept_down =
+    record { dte = sent dte; dce = sent dce; up = chosen kept_up dte.line.frames; down = chosen kept_down dce.line.frames }
+
+-- two nodes are made for this line
+abbrev pub AreMade : Setting → (dte dce : NodeState) → Type 0
+AreMade s dte dce = (end_of dte ≡ end.made Dte s.dte) × (end_of dce ≡ end.made Dce s.dce)
+
+pub record Begins (s : Setting) (l : Line) (dte dce : NodeState) : Type 0 where
+  pub kept : Kept s (made_book s.dte_node s.dce_node s.dte.channels s.dte.standing) l
+  pub dte_there : IsNode (drained dte) → StandsAt Dte l (drained dte)
+  pub dce_there : IsNode (drained dce) → StandsAt Dce l (drained dce)
+
+abbrev pub MakingLaw : Type 0
+MakingLaw = (s : Setting) (dte dce : NodeState) (kept_up kept_down : List Bool)
+    → IsSetting s → AreMade s dte dce → Begins s (first_line (end_of dte) (end_of dce) kept_up kept_down) dte dce
+
+-- a PAD or a host that is made is such a node once its first frames went
+abbrev pub NodesLaw : Type 0
+NodesLaw = ((c : PadConfig) → IsNode (drained (Pad (pad.made c)))) × ((c : HostConfig) → IsNode (drained (Host (host.made c))))

@@ -1,0 +1,44 @@
+//! That each event at a node of a network of one line keeps what is kept of the line and of the book of its calls.
+#![tactic(auto)]
+
+ghost use Rattle.node_laws.specs.Clauses.{HearsLaw, ExpiresLaw, RelinksLaw, RestartsLaw, CallsLaw, AsksLaw, RefusesLaw, SaysLaw, TakesLaw, KeysLaw, ElapsesLaw, MakingLaw, NodesLaw};
+ghost use Rattle.node_laws.specs.Opening.{HearingOpens, ExpiryOpens, RelinkOpens, CallOpens, AskingOpens, RefusalOpens, SayingOpens, TakingOpens, KeyOpens};
+
+/// The law of the nodes of a line, over definitions alone. From the making on, whatever comes to a node and whatever its user asks
+/// or types: the book has what its layer was asked and told, its frames go onto the line or are lost there, and the same is kept as
+/// before (X.25 2.4, 3, 4; X.3).
+pub fn node_law()
+    // What comes from the line.
+    ensures hears { HearsLaw }
+    ensures expires { ExpiresLaw }
+    ensures relinks { RelinksLaw }
+    ensures restarts { RestartsLaw }
+
+    // What the user of a host asks.
+    ensures calls { CallsLaw }
+    ensures asks { AsksLaw }
+    ensures refuses { RefusesLaw }
+    ensures says { SaysLaw }
+    ensures takes { TakesLaw }
+
+    // A key at a PAD, and time.
+    ensures keys { KeysLaw }
+    ensures elapses { ElapsesLaw }
+
+    // The making.
+    ensures made { MakingLaw }
+    ensures nodes { NodesLaw }
+{}
+
+/// A turn opens at most one record or epoch in the book, and does so only by a frame that arrives.
+pub fn turn_opening_law()
+    ensures hearing { HearingOpens }
+    ensures expiry { ExpiryOpens }
+    ensures relink { RelinkOpens }
+    ensures call { CallOpens }
+    ensures asking { AskingOpens }
+    ensures refusal { RefusalOpens }
+    ensures saying { SayingOpens }
+    ensures taking { TakingOpens }
+    ensures key { KeyOpens }
+{}
