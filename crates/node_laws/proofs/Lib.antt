@@ -1,0 +1,3 @@
+pub mod QuietEnds
+pub mod QuietTurns
+pub mod QuietOpens

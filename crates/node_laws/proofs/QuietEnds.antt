@@ -1,6 +1,6 @@
 -- Ends of a line whose layer has no note that was not read: whatever happens to them leaves them so.
 use Rattle.std.specs.Prelude.{◌≡◌, ℕ, zero, suc, Bool, true, false, cond, List, [], ◌∷◌, Option, Some, None, is_some}
-use Rattle.std.proofs.Common.{refl, sym, ap, subst, ◌∙◌}
+use Rattle.std.proofs.Common.{refl, sym, ap, subst}
 use Rattle.link_timers.specs.declared.timers.TimerId.{TimerId}
 use Rattle.link_timers.specs.declared.timers.TimerId.TheVariants as timer
 use Rattle.lapb.specs.declared.note.Note as link_note
@@ -15,7 +15,6 @@ use Rattle.packet_layer.specs.Channel.{Refusal, Request}
 use Rattle.packet_layer.specs.Layer.{Layer, unread, call, request, next_packet, front_on, call_refusal, request_refusal}
 use Rattle.packet_end.specs.PacketEnd as end
 use Rattle.packet_end.specs.PacketEnd.{PacketEnd, begun, heeded, after_packet, received, runs_at, after_timer, relinked, relinked_if_due, with_next, offered, all_offered, finished, asked, called}
-use Rattle.packet_host.specs.Host as host
 use Rattle.packet_host.specs.Host.{ended, unless_refused, refuse_refusal, after_call, after_request, after_refuse, after_say, let_go, taken_as, after_take}
 use Rattle.packet_host.specs.Saying.{queued, cut, say_refusal}
 use Rattle.packet_line.proofs.Unread.{request_unread, call_unread}

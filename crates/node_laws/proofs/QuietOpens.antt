@@ -10,8 +10,7 @@ use Rattle.packet_layer.specs.Packets.Note.{Incoming, Connected, Closed, WasRese
 use Rattle.packet_layer.specs.Traffic.{Taken}
 use Rattle.packet_layer.specs.Channel.{Channel, Refusal, Request}
 use Rattle.packet_layer.specs.Layer.{had_call, closing_notes, link_down, room, front_on, call_refusal, request_refusal}
-use Rattle.packet_end.specs.PacketEnd as end
-use Rattle.packet_end.specs.PacketEnd.{PacketEnd, begun, received, runs_at, after_timer, relinked, relinked_if_due, finished, asked, called}
+use Rattle.packet_end.specs.PacketEnd.{PacketEnd, begun, runs_at, after_timer, relinked, relinked_if_due, finished, asked, called}
 use Rattle.packet_host.specs.Host as host
 use Rattle.packet_host.specs.Host.{ended, refuse_refusal, let_go}
 use Rattle.packet_host.specs.Saying.{queued, cut, say_refusal}

@@ -1,5 +1,5 @@
 -- Each turn leaves a quiet node quiet.
-use Rattle.std.specs.Prelude.{◌≡◌, ℕ, ◌<◌, Bool, true, false, cond, ◌&&◌, ◌==◌, List, [], ◌∷◌, length, Option, Some, None, is_some, if◌then◌else◌}
+use Rattle.std.specs.Prelude.{ℕ, ◌<◌, Bool, true, false, cond, ◌&&◌, ◌==◌, List, [], length, Option, Some, None, is_some, if◌then◌else◌}
 use Rattle.std.proofs.Common.{refl, lit<}
 use Rattle.link_timers.specs.declared.role.Role.{Role}
 use Rattle.link_timers.specs.declared.timers.TimerId.{TimerId}
@@ -7,11 +7,11 @@ use Rattle.lapb.specs.Machine.{Octets}
 use Rattle.pad_editing.specs.Edited.{Effect, after_key, limit}
 use Rattle.pad_editing.specs.Edited.Step.{key}
 use Rattle.pad_editing.proofs.Edits.{effect_of_bounds}
-use Rattle.packet_layer.specs.Packets.{CallParts, Note}
+use Rattle.packet_layer.specs.Packets.{CallParts}
 use Rattle.packet_layer.specs.Traffic.{Taken}
 use Rattle.packet_layer.specs.Channel.{Request}
 use Rattle.packet_layer.specs.Layer.{room, front_on}
-use Rattle.packet_end.specs.PacketEnd.{PacketEnd, begun, received, runs_at, after_timer, finished, asked}
+use Rattle.packet_end.specs.PacketEnd.{PacketEnd, begun, received, runs_at, after_timer, relinked, finished, asked}
 use Rattle.packet_host.specs.Host as host
 use Rattle.packet_host.specs.Making as host_making
 use Rattle.packet_host.specs.declared.config.HostConfig.{HostConfig}
@@ -26,7 +26,7 @@ use Rattle.line_nodes.specs.Turn.{Turn, unchanged, told}
 use Rattle.line_nodes.specs.LineTurns.{hears, expires, relinks, restarts}
 use Rattle.line_nodes.specs.HostTurns.{host_calls, host_asks, host_refuses, host_says, host_takes, taken_turn}
 use Rattle.line_nodes.specs.PadTurns.{keyed, pad_keys, last_incoming, without_call, pad_read, pad_event}
-use Rattle.node_laws.specs.Nodes.{HoldsNoBlock, IsNode}
+use Rattle.node_laws.specs.Nodes.{HoldsNoBlock}
 use Rattle.node_laws.specs.Quiet.{IsQuiet, LeavesQuiet}
 use Rattle.node_laws.proofs.QuietEnds.{IsUnread, received_unread, timer_unread, finished_unread, asked_unread, calls_unread, asks_unread, refuses_unread, says_unread, takes_unread}
 
@@ -102,7 +102,7 @@ quiet-expires role (Host e) id b q =
 
 pub quiet-relinks : (role : Role) (n : NodeState) (b : Book) → IsQuiet n → LeavesQuiet (relinks role n b)
 quiet-relinks role (Pad p) b q = pad_quiet role (pad.after_relink p) b (record { held = q.node.held; unread = refl })
-quiet-relinks role (Host e) b q = told_quiet role (Host (host.after_relink e)) b tt (finished_unread (Rattle.packet_end.specs.PacketEnd.relinked (begun e)) refl)
+quiet-relinks role (Host e) b q = told_quiet role (Host (host.after_relink e)) b tt (finished_unread (relinked (begun e)) refl)
 
 pub quiet-restarts : (role : Role) (n : NodeState) (b : Book) → IsQuiet n → LeavesQuiet (restarts role n b)
 quiet-restarts role (Pad p) b q = record { node = record { read = refl; sent = refl; held = lit< tt }; unread = refl }
@@ -111,25 +111,25 @@ quiet-restarts role (Host e) b q = record { node = record { read = refl; sent = 
 -- ---- what the user of a host asks
 
 pub quiet-calls : (role : Role) (e : PacketEnd) (parts : CallParts) (b : Book) → IsQuiet (Host e) → LeavesQuiet (host_calls role e parts b)
-quiet-calls role e parts b q = record { node = record { read = refl; sent = refl; held = tt }; unread = calls_unread e parts q.unread }
+quiet-calls role e parts b q = told_quiet role (Host (host.after_call e parts)) b tt (calls_unread e parts q.unread)
 
 pub quiet-asks : (role : Role) (e : PacketEnd) (channel : ℕ) (r : Request) (b : Book) → IsQuiet (Host e) → LeavesQuiet (host_asks role e channel r b)
-quiet-asks role e channel r b q = record { node = record { read = refl; sent = refl; held = tt }; unread = asks_unread e channel r q.unread }
+quiet-asks role e channel r b q = told_quiet role (Host (host.after_request e channel r)) b tt (asks_unread e channel r q.unread)
 
 pub quiet-refuses : (role : Role) (e : PacketEnd) (channel : ℕ) (b : Book) → IsQuiet (Host e) → LeavesQuiet (host_refuses role e channel b)
-quiet-refuses role e channel b q = record { node = record { read = refl; sent = refl; held = tt }; unread = refuses_unread e channel q.unread }
+quiet-refuses role e channel b q = told_quiet role (Host (host.after_refuse e channel)) b tt (refuses_unread e channel q.unread)
 
 pub quiet-says : (role : Role) (e : PacketEnd) (channel : ℕ) (octets : List ℕ) (qualified delivery : Bool) (b : Book)
     → IsQuiet (Host e) → LeavesQuiet (host_says role e channel octets qualified delivery b)
 quiet-says role e channel octets qualified delivery b q =
-    record { node = record { read = refl; sent = refl; held = tt }; unread = says_unread e channel octets qualified delivery q.unread }
+    told_quiet role (Host (host.after_say e channel octets qualified delivery)) b tt (says_unread e channel octets qualified delivery q.unread)
 
 pub quiet-takes : (role : Role) (e : PacketEnd) (channel : ℕ) (b : Book) → IsQuiet (Host e) → LeavesQuiet (host_takes role e channel b)
 quiet-takes role e channel b q = by (front_on e.layer channel)
   where
     by : (o : Option Taken) → LeavesQuiet (taken_turn o role e channel b)
     by None = unchanged_quiet (Host e) b q
-    by (Some x) = record { node = record { read = refl; sent = refl; held = tt }; unread = takes_unread e channel q.unread }
+    by (Some x) = told_quiet role (Host (host.after_take e channel)) b tt (takes_unread e channel q.unread)
 
 -- ---- a key at a PAD
 
