@@ -14,7 +14,7 @@ mod Steps
 mod Meetings
 mod Outcomes
 mod Moving
-mod Layers
+pub mod Layers
 mod Ends
 mod Events
 mod Placing
