@@ -140,7 +140,7 @@ block_calm (Some block) p c =
     (record { held = c.held; unread = asked_unread p.end 1 (Request.Sending (message block)) c.unread })
 
 -- whichever branch was taken
-pub either : {A : Type 0} (P : A → Type 0) (v : Bool) (x y : A) → P x → P y → P (if v then x else y)
+either : {A : Type 0} (P : A → Type 0) (v : Bool) (x y : A) → P x → P y → P (if v then x else y)
 either P true x y g h = g
 either P false x y g h = h
 
