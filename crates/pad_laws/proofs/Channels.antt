@@ -37,7 +37,7 @@ pub record StepHolds (c : ℕ) (ch : Channel) (st : Step) : Type 0 where
   pub stands : waits_for_answer ch.state ≡ false → in_transfer st.channel.state ≡ true → (in_transfer ch.state ≡ true) × NoneCame st.notes
 
 -- the state stays
-same_state : (c : ℕ) (ch : Channel) (st : Step) → st.channel.state ≡ ch.state → NoneCame st.notes → StepHolds c ch st
+pub same_state : (c : ℕ) (ch : Channel) (st : Step) → st.channel.state ≡ ch.state → NoneCame st.notes → StepHolds c ch st
 same_state c ch st e n = record {
   others = λ h. n;
   waits = λ h. ap (λ (s : CallState). waits_for_answer s) e ∙ h;
@@ -45,7 +45,7 @@ same_state c ch st e n = record {
 }
 
 -- the call is over, or comes in
-no_call : (c : ℕ) (ch : Channel) (st : Step) → waits_for_answer st.channel.state ≡ false → in_transfer st.channel.state ≡ false
+pub no_call : (c : ℕ) (ch : Channel) (st : Step) → waits_for_answer st.channel.state ≡ false → in_transfer st.channel.state ≡ false
     → ((c ≡ 1 → ⊥) → NoneCame st.notes) → StepHolds c ch st
 no_call c ch st w t n = record { others = n; waits = λ h. w; stands = λ h k. absurd (true≢false (sym k ∙ t)) }
 

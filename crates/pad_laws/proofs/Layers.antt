@@ -1,5 +1,5 @@
 -- A packet layer that placed no call on channel 1: a call that stands there after an event stood before, and none came in.
-use Rattle.std.proofs.Common.{◌≡◌, ℕ, zero, suc, ◌⊎◌, Bool, true, false, cond, List, [], ◌∷◌, ◌++◌, map, set, Option, Some, None, is_some, refl, sym, ap, subst, ◌∙◌, true≢false, inl, inr}
+use Rattle.std.proofs.Common.{◌≡◌, ℕ, zero, suc, ◌⊎◌, Bool, true, false, cond, List, [], ◌∷◌, ◌++◌, length, map, set, Option, Some, None, is_some, refl, sym, ap, subst, ◌∙◌, true≢false, inl, inr}
 use Rattle.std.specs.Prelude.{slice_get}
 use Rattle.std.proofs.lemmas.Bool.{cases_eq}
 use Rattle.link_timers.specs.declared.role.Role.{Role}
@@ -222,7 +222,7 @@ serve_holds P (suc k) l c h = serve_found_holds P l c (channel_of l c) (serve k 
 
 restart_next : (P : Type 0) (owed : List Body) (l : Layer) → LayerHolds P l → LayerHolds P (next_restart owed l).layer
 restart_next P (b ∷ bs) l h = like P l _ refl refl refl h
-restart_next P [] l h = serve_holds P _ l _ h
+restart_next P [] l h = serve_holds P (length l.channels) l (next_number l l.served_last) h
 
 next_in_holds : (P : Type 0) (phase : Phase) (relink : Bool) (l : Layer) → LayerHolds P l → LayerHolds P (next_in phase relink l).layer
 next_in_holds P NoSession relink l h = h

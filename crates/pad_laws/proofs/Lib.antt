@@ -1,2 +1,4 @@
 mod Channels
 mod Layers
+mod Ends
+mod Records

@@ -1,4 +1,5 @@
-use Rattle.pad_laws.proofs.Layers.{next_holds, named_holds, octets_hold, request_holds, up_holds, down_holds}
+use Rattle.pad_laws.proofs.Records.{key_typed, key_held, key_node, closed_quiet}
+use Rattle.pad_laws.proofs.Ends.{finished_holds, stands_is, received_holds, timer_holds, relinked_holds, refused_holds, sent_holds}
 use Rattle.pad_laws.proofs.law.pad_law.Goals as goal
 
 pub returns-clause-made : goal.returns-clause-made
