@@ -2,3 +2,5 @@ mod Channels
 mod Layers
 mod Ends
 mod Records
+mod Lists
+mod Books

@@ -1,5 +1,6 @@
 -- What was sent in a record, as the record grows.
-use Rattle.std.proofs.Common.{◌≡◌, ℕ, false, List, [], ◌∷◌, ◌++◌, map, Option, Some, None, refl, sym, ap, ◌∙◌, append_assoc, append-nil, map-append}
+use Rattle.std.proofs.Common.{◌≡◌, ℕ, false, List, [], ◌∷◌, ◌++◌, map, Option, Some, None, refl, sym, ap, ◌∙◌, append_assoc, append-nil}
+use Rattle.std.proofs.lemmas.List.{map-append}
 use Rattle.std.specs.Option.{option_to_list}
 use Rattle.epochs.specs.Item.{Item, Octet, End, QualifiedOctet, QualifiedEnd, DataPacket, items_of, all_items, user_items}
 use Rattle.epochs.specs.Epoch.{Epoch, sent_epoch}
@@ -37,12 +38,6 @@ user_octets [] ys = refl
 user_octets (x ∷ xs) ys = ap (λ (l : List Item). Octet x ∷ l) (user_octets xs ys)
 
 -- ---- what was sent
-
-pub sent_items : RecordValue → List Item
-sent_items r = user_items (items_of_epochs (sent_epochs r))
-
-before_items : RecordValue → List Item
-before_items r = user_items (items_of_epochs (map sent_epoch r.sent_before))
 
 sent_is : (r : RecordValue) → user_items (items_of_epochs (sent_epochs r)) ≡ user_items (items_of_epochs (map sent_epoch r.sent_before)) ++ user_items (all_items r.sent.packets)
 sent_is r =
