@@ -10,13 +10,13 @@ use Rattle.packet_layer.specs.Packets.{CallParts, Datum, Note}
 use Rattle.packet_layer.specs.Packets.Note.{Incoming, Connected, Closed, WasReset, InterruptConfirmed, Covered}
 use Rattle.packet_layer.specs.Traffic.{Taken}
 use Rattle.packet_layer.specs.Traffic.Taken.{TakenInterrupt, TakenPacket}
-use Rattle.call_records.specs.Records.{RecordValue, PairValue, new_record, with_closed, with_epoch, with_sent, with_step, with_taken, with_interrupt_taken, with_interrupt_sent, with_released, with_covered}
+use Rattle.call_records.specs.Records.{RecordValue, PairValue, new_record, changed_at, with_closed, with_epoch, with_sent, with_step, with_taken, with_interrupt_taken, with_interrupt_sent, with_released, with_covered}
 use Rattle.call_records.specs.Book.{Book, Side, Slot, side_of, nth_slot, slot_at, with_slot, with_change, changed, with_record, address_of, places, comes, with_pair, answers, closes, renews, sends, interrupts, takes, releases, covers, edits, packet_of, told, all_told}
 use Rattle.call_records.specs.Closing.{closes_if, closes_present, closed_from, all_closed}
 use Rattle.pad_laws.specs.Typed.{IsTyped}
 use Rattle.pad_laws.specs.PadHolds.{node_at, HasItsRecords, IsLeft, NoneCame}
 use Rattle.pad_laws.proofs.Records.{IsQuiet, interrupt_sent_quiet, taken_quiet, interrupt_taken_quiet, released_quiet, covered_quiet, epoch_quiet, closed_quiet}
-use Rattle.pad_laws.proofs.Lists.{get_before, get_last, get_pushed, get_changed, changed_there, nth_cases, other_differs}
+use Rattle.pad_laws.proofs.Lists.{get_before, get_last, get_pushed, get_changed, changed_here, changed_there, changed_twice, nth_cases, other_differs}
 
 -- the book of a line with a PAD at the end of this role; while P holds this text is what the present call's steps leave
 pub record BookHolds (role : Role) (P : Type 0) (held : List ℕ) (b : Book) : Type 0 where
@@ -95,6 +95,24 @@ change_holds role P Q held text b o f node typed left h =
       ];
       left = left;
     }
+
+-- the record that is to change
+pub change_here : (o : Option ℕ) (f : RecordValue → RecordValue) (b : Book) (n : ℕ) (r' : RecordValue) → o ≡ Some n → slice_get (with_change o f b).records n ≡ Some r'
+    → (r : RecordValue) × (slice_get b.records n ≡ Some r) × (r' ≡ f r)
+change_here None f b n r' e g = absurd (none-some n e)
+change_here (Some m) f b n r' e g =
+    let same : m ≡ n = same_Some m n e in
+    changed_here b.records n f r' (ap (λ (k : ℕ). slice_get (changed_at k f b.records) n) (sym same) ∙ g)
+
+change_twice : (o : Option ℕ) (f g : RecordValue → RecordValue) (b : Book) → with_change o g (with_change o f b) ≡ with_change o (λ r. g (f r)) b
+change_twice None f g b = refl
+change_twice (Some n) f g b = ap (λ (l : List RecordValue). record b { records = l }) (changed_twice b.records n f g)
+
+-- of two changes of a present call the second finds the same record
+pub changed_again : (x : Role) (c : ℕ) (f g : RecordValue → RecordValue) (b : Book) → changed x c g (changed x c f b) ≡ with_change (slot_at x c b).present (λ r. g (f r)) b
+changed_again x c f g b =
+    let o : Option ℕ = (slot_at x c b).present in
+    ap (λ (z : Side). with_change (nth_slot z.slots c).present g (with_change o f b)) (side_changed x o f b) ∙ change_twice o f g b
 
 -- the present call of channel 1 stays
 pub present_before : (role : Role) (o : Option ℕ) (f : RecordValue → RecordValue) (b : Book) (n : ℕ) → (slot_at role 1 (with_change o f b)).present ≡ Some n → (slot_at role 1 b).present ≡ Some n

@@ -4,3 +4,6 @@ mod Ends
 mod Records
 mod Lists
 mod Books
+mod Turns
+mod FarTurns
+mod Making

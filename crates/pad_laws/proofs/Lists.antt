@@ -43,6 +43,13 @@ get_changed (r ∷ rs) (suc n) f (suc m) r' e =
       ],
     )
 
+-- at the place itself
+pub changed_here : (rs : List RecordValue) (n : ℕ) (f : RecordValue → RecordValue) (r' : RecordValue) → slice_get (changed_at n f rs) n ≡ Some r'
+    → (r : RecordValue) × (slice_get rs n ≡ Some r) × (r' ≡ f r)
+changed_here [] n f r' e = absurd (none-some r' e)
+changed_here (r ∷ rs) zero f r' e = (r, refl, sym (same_Some (f r) r' e))
+changed_here (r ∷ rs) (suc n) f r' e = changed_here rs n f r' e
+
 pub changed_there : (rs : List RecordValue) (n : ℕ) (f : RecordValue → RecordValue) (m : ℕ) (r : RecordValue) → ((x : RecordValue) → (f x).node ≡ x.node) → slice_get rs m ≡ Some r
     → (r' : RecordValue) × (slice_get (changed_at n f rs) m ≡ Some r') × (r'.node ≡ r.node)
 changed_there [] n f m r h e = absurd (none-some r e)
