@@ -7,3 +7,4 @@ mod Books
 mod Turns
 mod FarTurns
 mod Making
+mod Rows
