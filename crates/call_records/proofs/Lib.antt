@@ -1,3 +1,5 @@
 pub mod Growing
 pub mod Sides
 pub mod Rooms
+pub mod Coming
+pub mod Ending

@@ -1,6 +1,6 @@
 -- The room of a book, as its parts change.
-use Rattle.std.proofs.Common.{◌≡◌, ℕ, zero, suc, ◌+◌, ◌-◌, ◌<◌, ◌≤◌, List, [], ◌∷◌, map, length, refl, sym, ap, subst, ◌∙◌, inl, inr, arith, vec_len, vec_capacity}
-use Rattle.std.specs.Prelude.{◌⊎◌, Option, Some, None, slice_get}
+use Rattle.std.proofs.Common.{◌≡◌, ℕ, zero, suc, ◌+◌, ◌-◌, ◌<◌, ◌≤◌, List, map, length, refl, sym, ap, subst, ◌∙◌, inl, inr, arith}
+use Rattle.std.specs.Prelude.{◌⊎◌, Some, None}
 use Rattle.link_timers.specs.declared.role.Role.{Role}
 use Rattle.link_timers.specs.declared.role.Role.TheVariants.{Dte, Dce}
 use Rattle.packet_layer.specs.declared.taken.Taken.{Taken}
@@ -92,9 +92,9 @@ pub this_or_before : (slots : List Slot) (place count this : ℕ) (rs : List Rec
 this_or_before slots place count this rs t at before channel number le e = elim (le_or_next channel place le) [
   | inl h ↦ before channel number h e
   | inr h ↦
-    let same : this ≡ number = same_number this number (sym t ∙ ap (λ (n : ℕ). (nth_slot slots n).present) (sym h) ∙ e) in
-    let P : ℕ → Type 0 = λ n. PlacesAt count n rs in
-    subst P same at
+      let same : this ≡ number = same_number this number (sym t ∙ ap (λ (n : ℕ). (nth_slot slots n).present) (sym h) ∙ e) in
+      let P : ℕ → Type 0 = λ n. PlacesAt count n rs in
+      subst P same at
 ]
 
 pub none_or_before : (slots : List Slot) (place count : ℕ) (rs : List Record) → (nth_slot slots (place + 1)).present ≡ None
@@ -103,8 +103,8 @@ pub none_or_before : (slots : List Slot) (place count : ℕ) (rs : List Record) 
 none_or_before slots place count rs t before channel number le e = elim (le_or_next channel place le) [
   | inl h ↦ before channel number h e
   | inr h ↦
-    let no : None ≡ Some number = sym t ∙ ap (λ (n : ℕ). (nth_slot slots n).present) (sym h) ∙ e in
-    absurd (cc)
+      let no : None ≡ Some number = sym t ∙ ap (λ (n : ℕ). (nth_slot slots n).present) (sym h) ∙ e in
+      absurd (cc)
 ]
 
 -- no call is present beyond the channels
@@ -114,6 +114,6 @@ pub before_all : (slots : List Slot) (count : ℕ) (rs : List Record)
 before_all slots count rs before channel number e = elim (le_or_more channel (length slots)) [
   | inl h ↦ before channel number h e
   | inr h ↦
-    let no : None ≡ Some number = ap (λ (s : Slot). s.present) (sym (beyond slots channel h)) ∙ e in
-    absurd (cc)
+      let no : None ≡ Some number = ap (λ (s : Slot). s.present) (sym (beyond slots channel h)) ∙ e in
+      absurd (cc)
 ]

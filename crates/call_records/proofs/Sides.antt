@@ -1,6 +1,6 @@
 -- Channels and what is kept of them.
-use Rattle.std.proofs.Common.{◌≡◌, ℕ, zero, suc, ◌+◌, ◌<◌, ◌≤◌, List, [], ◌∷◌, set, length, refl, sym, ap, subst, ◌∙◌, arith}
-use Rattle.std.specs.Prelude.{Option, Some, None, slice_get}
+use Rattle.std.proofs.Common.{◌≡◌, ℕ, zero, suc, ◌<◌, List, [], ◌∷◌, set, length, refl, arith}
+use Rattle.std.specs.Prelude.{slice_get}
 use Rattle.call_records.specs.Book.{Slot, free_slot, found_slot, nth_slot, with_nth}
 
 found_or : (P : Slot → Type 0) (slots : List Slot) (i j : ℕ) (slot : Slot) → P slot → P (found_slot (slice_get slots j)) → P (found_slot (slice_get (set slots i slot) j))

@@ -1,5 +1,5 @@
 -- What contracts see of the code's book, and what always holds of it.
-use Rattle.std.specs.Prelude.{◌≡◌, ℕ, ◌-◌, ◌≤◌, List, map, Option, Some, vec_len, vec_capacity}
+use Rattle.std.specs.Prelude.{◌≡◌, ℕ, ◌-◌, ◌≤◌, List, map, Some, vec_len, vec_capacity}
 use Rattle.call_records.specs.Records.{RecordValue, PairValue}
 use Rattle.call_records.specs.Book.{Book, Slot, nth_slot}
 use Rattle.call_records.specs.Room.{BookState}

@@ -3,7 +3,8 @@ ghost use Rattle.std.specs.Prelude.{◌≡◌, ◌≤◌, ◌-◌, ℕ, IfOk, On
 ghost use Rattle.packet_layer.specs.NoteView.{note_of};
 ghost use Rattle.packet_layer.specs.TakenView.{taken_of};
 ghost use Rattle.packet_layer.specs.Octets.{parts_of};
-ghost use Rattle.call_records.specs.Book.{made_book, slot_at, changed, places, comes, answers, closes, renews, sends, interrupts, takes, releases, covers, edits, told};
+ghost use Rattle.call_records.specs.Book.{made_book, slot_at, address_of, changed, places, comes, answers, closes, renews, sends, interrupts, takes, releases, covers, edits, told};
+ghost use Rattle.packet_codec.specs.Digits.{digits_or_none};
 ghost use Rattle.call_records.specs.Records.{changed_at};
 ghost use Rattle.call_records.specs.Closing.{all_closed};
 ghost use Rattle.call_records.specs.Room.{opens, room_after};
@@ -14,7 +15,7 @@ use crate::ends::{Ends, Side, Slot};
 use crate::packet::{Interrupt, UserPacket};
 use crate::record::{EditStep, Growth, Pair, Record};
 use link_timers::Role;
-use packet_codec::{Address, CallBuf};
+use packet_codec::{Address, CallBuf, CallData};
 use packet_layer::{LayerNote, Taken};
 use std::alloc::{AllocError, Global};
 use std::marker::Model;
@@ -145,7 +146,8 @@ impl Book {
             placed: Some(number),
             caller: None,
         };
-        self.records.push_reserved(Record::new(self.alloc, number, node, None, Some(*called)));
+        self.records
+            .push_reserved(Record::new(self.alloc, number, node, None, Some(*called)));
         self.ends.put(role, channel, slot);
         self.room = 0;
     }
@@ -171,7 +173,7 @@ impl Book {
             number,
             node,
             Some(data.called),
-            data.calling,
+            calling_of(&data),
         ));
         self.ends.put(role, channel, slot);
         self.room = 0;
@@ -183,7 +185,9 @@ impl Book {
         ensures { self.new ≡ record { book = answers role channel self.old.book; room = self.old.room - 1 } }
     {
         let Slot {
-            present, caller, ..
+            present,
+            caller,
+            ..
         } = self.ends.of(role).slot(channel);
         self.room -= 1;
         let (Some(caller), Some(callee)) = (caller, present) else {
@@ -324,6 +328,16 @@ impl Book {
             return;
         };
         grow_at(&mut self.records, number, self.alloc, growth);
+    }
+}
+
+// The calling address that a call gives, if it gives one.
+fn calling_of(call: &CallData<'_>) -> Option<Address>
+    ensures { result ≡ address_of (digits_or_none call.now.calling) }
+{
+    match &call.calling {
+        Some(address) => Some(Address::new(address.digits())),
+        None => None,
     }
 }
 

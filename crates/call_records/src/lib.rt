@@ -9,3 +9,6 @@ mod record;
 pub use book::Book;
 pub use packet::{Interrupt, UserPacket};
 pub use record::{EditStep, Pair, Record, SentEpoch, TakenEpoch};
+
+#[cfg(test)]
+mod tests;

@@ -30,10 +30,10 @@ all_sent role channel [] b = b
 all_sent role channel (d ∷ ds) b = all_sent role channel ds (sends role channel d b)
 
 -- what the code has of a turn: a host with what it is told, and a PAD
-pub record HostTurned (node : ℕ) (t : Turn) (e : PacketEnd) (b : Book) (notes : List HostNote) : Type 0 where
+pub record HostTurned (node : ℕ) (t : Turn) (e : PacketEnd) (b : Book) (listed : List HostNote) : Type 0 where
   pub host : Host e ≡ t.node
   pub book : b ≡ t.book
-  pub notes : notes ≡ host_notes node t.notes
+  pub notes : listed ≡ host_notes node t.notes
 
 pub record PadTurned (t : Turn) (p : PadState) (b : Book) : Type 0 where
   pub pad : Pad p ≡ t.node

@@ -25,7 +25,6 @@ use link_timers::TimerId;
 use packet_codec::Address;
 use packet_host::Host;
 use packet_layer::{CallFault, ChannelFault, Taken};
-
 pub use saying::say;
 
 /// Calls an address with at most 16 octets of call user data (X.25 4.1.2), and answers the channel.

@@ -43,15 +43,31 @@ impl HostNote {
                 cause,
                 diagnostic,
                 ..
-            } => (*channel, NoteKind::Cleared { cause: *cause, diagnostic: *diagnostic }),
+            } => (
+                *channel,
+                NoteKind::Cleared {
+                    cause: *cause,
+                    diagnostic: *diagnostic,
+                },
+            ),
             LayerNote::Reset {
                 channel,
                 cause,
                 diagnostic,
                 ..
-            } => (*channel, NoteKind::Reset { cause: *cause, diagnostic: *diagnostic }),
+            } => (
+                *channel,
+                NoteKind::Reset {
+                    cause: *cause,
+                    diagnostic: *diagnostic,
+                },
+            ),
             LayerNote::InterruptConfirmed(_) | LayerNote::Covered { .. } => return None,
         };
-        Some(HostNote { node, channel, kind })
+        Some(HostNote {
+            node,
+            channel,
+            kind,
+        })
     }
 }

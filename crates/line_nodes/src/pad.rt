@@ -7,7 +7,7 @@ ghost use Rattle.call_records.specs.Book.{all_told};
 ghost use Rattle.call_records.specs.Room.{opening_notes};
 ghost use Rattle.line_nodes.specs.Node.{Pad as pad_node};
 ghost use Rattle.line_nodes.specs.Turn.{PadTurned};
-ghost use Rattle.line_nodes.specs.PadTurns.{key_answer, pad_keys, pad_event, pad_read, last_incoming};
+ghost use Rattle.line_nodes.specs.PadTurns.{key_answer, pad_keys, pad_event, pad_read, last_incoming, without_call, closed_call};
 ghost use Rattle.line_nodes.specs.LineTurns.{pad_hears, pad_expires, pad_relinks};
 
 use call_records::{Book, EditStep};
@@ -88,13 +88,23 @@ fn end_event(pad: &mut Pad, role: Role, book: &mut Book)
     requires room { 1 ≤ book.old.room }
     ensures { PadTurned (pad_event role pad.old book.old.book) pad.new book.new.book }
 {
-    if let Some(channel) = tell(pad, role, book) {
-        if pad.refuse(channel) {
-            book.closes(role, channel);
-        }
-    }
+    let incoming = tell(pad, role, book);
+    refuse_call(pad, role, incoming, book);
     pad.finish();
     let _ = tell(pad, role, book);
+}
+
+// Refuses a call, if there is one.
+fn refuse_call(pad: &mut Pad, role: Role, incoming: Option<u8>, book: &mut Book)
+    ensures pad { pad.new ≡ without_call incoming pad.old }
+    ensures book { book.new ≡ record book.old { book = closed_call incoming role pad.old book.old.book } }
+{
+    let Some(channel) = incoming else {
+        return;
+    };
+    if pad.refuse(channel) {
+        book.closes(role, channel);
+    }
 }
 
 // Reads the notes of the PAD, writes them into the book, and answers the channel of the last call that came in.

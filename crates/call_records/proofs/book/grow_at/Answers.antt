@@ -1,5 +1,4 @@
-use Rattle.std.proofs.Common.{◌≡◌, ◌<◌, ◌≤◌, Some, length, sym, arith}
-use Rattle.std.specs.Prelude.{slice_get}
+use Rattle.std.proofs.Common.{◌<◌, ◌≤◌, length, sym, arith}
 use Rattle.call_records.specs.RecordView.{grown}
 use Rattle.call_records.proofs.Growing.{found_at, changed_some, changed_none, grown_places}
 use Rattle.call_records.proofs.book.grow_at.Goals as goal

@@ -1,5 +1,4 @@
-use Rattle.std.proofs.Common.{◌≡◌, ◌<◌, ◌≤◌, Some, length, sym, arith}
-use Rattle.std.specs.Prelude.{slice_get}
+use Rattle.std.proofs.Common.{◌<◌, ◌≤◌, length, arith}
 use Rattle.call_records.proofs.Growing.{found_at, none_at, shown_same, places_set, places_here}
 use Rattle.call_records.proofs.book.reserve_at.Goals as goal
 

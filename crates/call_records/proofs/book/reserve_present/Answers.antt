@@ -1,8 +1,5 @@
-use Rattle.std.proofs.Common.{◌≡◌, ◌∙◌, ◌+◌, ◌<◌, ◌≤◌, ℕ, Some, length, sym, ap, subst, inl, inr, arith}
-use Rattle.std.specs.Prelude.{slice_get, ◌⊎◌, None}
-use Rattle.call_records.specs.Book.{Slot, nth_slot}
-use Rattle.call_records.specs.RecordView.{PlacesAt}
-use Rattle.call_records.proofs.Sides.{beyond}
+use Rattle.std.proofs.Common.{◌∙◌, sym, ap, arith}
+use Rattle.call_records.specs.Book.{Slot}
 use Rattle.call_records.proofs.Rooms.{this_or_before, none_or_before, before_all}
 use Rattle.call_records.proofs.book.reserve_present.Goals as goal
 use Rattle.call_records.proofs.book.reserve_present.Goals.{in-Some+in_ok-reserve_at, in_default}
@@ -13,22 +10,22 @@ loop-place-preserved c =
     let slot = ap (λ (s : Slot). s.present) (sym c.slot.ensures) ∙ ap (λ (s : Slot). s.present) (sym c.slot-in-loop-place.view_is) in
     elim c.match-slot.branch [
       | in-Some+in_ok-reserve_at w ↦
-        let kept = w.in_ok-reserve_at.ensures.kept in
-        rw w.records-is (record {
-          same = w.reserve_at.ensures.same ∙ v.same;
-          len = w.reserve_at.ensures.len ∙ v.len;
-          capacity = w.reserve_at.ensures.capacity ∙ v.capacity;
-          kept = λ other at. kept other (v.kept other at);
-          reserved = this_or_before c.args.side.now.slots c.loop-place.place c.args.count w.in-Some.number w.reserve_at.new.records.items
-              (slot ∙ w.in-Some.is) w.in_ok-reserve_at.ensures.ok (λ channel number le e. kept number (v.reserved channel number le e));
-        })
+          let kept = w.in_ok-reserve_at.ensures.kept in
+          rw w.records-is (record {
+            same = w.reserve_at.ensures.same ∙ v.same;
+            len = w.reserve_at.ensures.len ∙ v.len;
+            capacity = w.reserve_at.ensures.capacity ∙ v.capacity;
+            kept = λ other at. kept other (v.kept other at);
+            reserved = this_or_before c.args.side.now.slots c.loop-place.place c.args.count w.in-Some.number w.reserve_at.new.records.items
+                (slot ∙ w.in-Some.is) w.in_ok-reserve_at.ensures.ok (λ channel number le e. kept number (v.reserved channel number le e));
+          })
       | in_default w ↦ rw w.records-is (record {
-          same = v.same;
-          len = v.len;
-          capacity = v.capacity;
-          kept = v.kept;
-          reserved = none_or_before c.args.side.now.slots c.loop-place.place c.args.count c.loop-place.records.items (slot ∙ w.in_default.is) v.reserved;
-        })
+        same = v.same;
+        len = v.len;
+        capacity = v.capacity;
+        kept = v.kept;
+        reserved = none_or_before c.args.side.now.slots c.loop-place.place c.args.count c.loop-place.records.items (slot ∙ w.in_default.is) v.reserved;
+      })
     ]
 
 pub returns-clause-ok : goal.returns-clause-ok

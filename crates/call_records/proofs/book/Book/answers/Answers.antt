@@ -1,4 +1,4 @@
-use Rattle.std.proofs.Common.{◌≡◌, ◌≤◌, ◌-◌, arith}
+use Rattle.std.proofs.Common.{◌-◌, arith}
 use Rattle.call_records.proofs.Rooms.{less_room}
 use Rattle.call_records.proofs.book.Book.answers.Goals as goal
 

@@ -1,8 +1,7 @@
-use Rattle.std.proofs.Common.{◌≡◌, ◌≤◌, ◌-◌, Some, sym, ap, subst, ◌∙◌, arith, vec_len, vec_capacity}
+use Rattle.std.proofs.Common.{◌≤◌, sym, ap, subst, ◌∙◌, arith}
 use Rattle.call_records.specs.Book.{Slot}
 use Rattle.call_records.specs.Room.{BookState}
-use Rattle.call_records.specs.BookView.{book_of}
-use Rattle.call_records.specs.RecordView.{left, needed, shown, pair_of}
+use Rattle.call_records.specs.RecordView.{needed}
 use Rattle.call_records.proofs.Growing.{left_less, fewer_at}
 use Rattle.call_records.proofs.Rooms.{less_room, present_has}
 use Rattle.call_records.proofs.book.Book.grow.Goals as goal

@@ -1,4 +1,4 @@
-use Rattle.std.proofs.Common.{◌≡◌, ◌∙◌, sym, ap}
+use Rattle.std.proofs.Common.{◌∙◌, refl}
 use Rattle.call_records.proofs.Rooms.{takes_interrupt, takes_packet}
 use Rattle.call_records.proofs.book.Book.takes.Goals as goal
 

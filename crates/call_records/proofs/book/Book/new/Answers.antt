@@ -1,0 +1,28 @@
+use Rattle.std.proofs.Common.{List, ap, map}
+use Rattle.call_records.specs.Book.{Book}
+use Rattle.call_records.specs.RecordView.{shown, pair_of}
+use Rattle.call_records.specs.declared.ends.Ends.{Ends}
+use Rattle.call_records.specs.declared.record.Record.{Record}
+use Rattle.call_records.specs.declared.record.Pair.{Pair}
+use Rattle.call_records.proofs.Coming.{standing_is, free_is, two_shown, one_pair}
+use Rattle.call_records.proofs.book.Book.new.Goals as goal
+use Rattle.call_records.proofs.book.Book.new.Goals.{then-standing, else-standing}
+
+pub returns : goal.returns
+returns c =
+    let first : Ends = record { dte = c.in_ok-new.field-0; dce = c.in_ok-new-2.field-0 } in
+    elim c.if-standing.branch [
+      | then-standing w ↦
+          let two = w.push_reserved-then-standing.new.self.items in
+          let one = w.push_reserved-then-standing-2.new.self.items in
+          rw (w.ends-is, w.records-is, w.pairs-is, w.if-standing.true) (ap (λ (b : Book). record { book = b; room = 0 })
+          (standing_is c.args.dte_node c.args.dce_node c.args.channels first w.put.new.self w.put-then-standing.new.self (map shown two) (map pair_of one)
+          c.in_ok-new.ensures c.in_ok-new-2.ensures (w.put.ensures (map shown two) (map pair_of one)) (w.put-then-standing.ensures (map shown two) (map pair_of one))
+          (two_shown c.in_ok-records.records.items w.push_reserved.new.self.items two w.new-then-standing.result w.new-then-standing-2.result _ _
+          c.in_ok-records.ensures.items w.push_reserved.ensures.items w.push_reserved-then-standing.ensures.items w.new-then-standing.ensures w.new-then-standing-2.ensures)
+          (one_pair c.in_ok-pairs.pairs.items one (record { caller = 0; callee = 1 }) c.in_ok-pairs.ensures.items w.push_reserved-then-standing-2.ensures.items)))
+      | else-standing w ↦
+          rw (w.ends-is, w.records-is, w.pairs-is, w.if-standing.false) (ap (λ (b : Book). record { book = b; room = 0 })
+          (free_is c.args.dte_node c.args.dce_node c.args.channels first (map shown c.in_ok-records.records.items) (map pair_of c.in_ok-pairs.pairs.items)
+          c.in_ok-new.ensures c.in_ok-new-2.ensures (ap (λ (l : List Record). map shown l) c.in_ok-records.ensures.items) (ap (λ (l : List Pair). map pair_of l) c.in_ok-pairs.ensures.items)))
+    ]
