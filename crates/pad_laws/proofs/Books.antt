@@ -6,12 +6,12 @@ use Rattle.link_timers.specs.declared.role.Role.{Role}
 use Rattle.link_timers.specs.declared.role.Role.TheVariants.{Dte, Dce}
 use Rattle.link_timers.specs.Role.{other_of}
 use Rattle.pad_editing.specs.Edited.{Step, edit_of}
-use Rattle.packet_layer.specs.Packets.{CallParts, Datum, Note}
+use Rattle.packet_layer.specs.Packets.{Datum, Note}
 use Rattle.packet_layer.specs.Packets.Note.{Incoming, Connected, Closed, WasReset, InterruptConfirmed, Covered}
 use Rattle.packet_layer.specs.Traffic.{Taken}
 use Rattle.packet_layer.specs.Traffic.Taken.{TakenInterrupt, TakenPacket}
 use Rattle.call_records.specs.Records.{RecordValue, PairValue, new_record, changed_at, with_closed, with_epoch, with_sent, with_step, with_taken, with_interrupt_taken, with_interrupt_sent, with_released, with_covered}
-use Rattle.call_records.specs.Book.{Book, Side, Slot, side_of, nth_slot, slot_at, with_slot, with_change, changed, with_record, address_of, places, comes, with_pair, answers, closes, renews, sends, interrupts, takes, releases, covers, edits, packet_of, told, all_told}
+use Rattle.call_records.specs.Book.{Book, Side, Slot, side_of, nth_slot, slot_at, with_slot, with_change, changed, with_record, address_of, places, with_pair, answers, closes, renews, sends, interrupts, takes, releases, edits, packet_of, told, all_told}
 use Rattle.call_records.specs.Closing.{closes_if, closes_present, closed_from, all_closed}
 use Rattle.pad_laws.specs.Typed.{IsTyped}
 use Rattle.pad_laws.specs.PadHolds.{node_at, HasItsRecords, IsLeft, NoneCame}
@@ -85,14 +85,14 @@ change_holds role P Q held text b o f node typed left h =
       own = has_kept role b b' (side_changed role o f b) (change_keeps o f b node) h.own;
       far = has_kept (other_of role) b b' (side_changed (other_of role) o f b) (change_keeps o f b node) h.far;
       typed = λ n r' e of_pad.
-      let g = change_of o f b n r' e in
-      elim g.2 [
-        | inl q ↦
-            let here : g.0.node ≡ node_at role b = sym (node g.0) ∙ sym (ap (λ (z : RecordValue). z.node) q.1) ∙ of_pad ∙ stays role in
-            subst (λ (z : RecordValue). IsTyped z) (sym q.1) (typed n g.0 q.0 g.1 here (h.typed n g.0 g.1 here))
-        | inr q ↦
-            subst (λ (z : RecordValue). IsTyped z) (sym q) (h.typed n g.0 g.1 (sym (ap (λ (z : RecordValue). z.node) q) ∙ of_pad ∙ stays role))
-      ];
+          let g = change_of o f b n r' e in
+          elim g.2 [
+            | inl q ↦
+                let here : g.0.node ≡ node_at role b = sym (node g.0) ∙ sym (ap (λ (z : RecordValue). z.node) q.1) ∙ of_pad ∙ stays role in
+                subst (λ (z : RecordValue). IsTyped z) (sym q.1) (typed n g.0 q.0 g.1 here (h.typed n g.0 g.1 here))
+            | inr q ↦
+                subst (λ (z : RecordValue). IsTyped z) (sym q) (h.typed n g.0 g.1 (sym (ap (λ (z : RecordValue). z.node) q) ∙ of_pad ∙ stays role))
+          ];
       left = left;
     }
 
@@ -123,12 +123,12 @@ pub quiet_holds : (role : Role) (P : Type 0) (held : List ℕ) (b : Book) (o : O
 quiet_holds role P held b o f quiet h =
     change_holds role P P held held b o f quiet.node (λ n r e g own t. quiet.typed r t)
     (λ p n r' e g.
-      let old = change_of o f b n r' g in
-      let before = h.left p n old.0 (present_before role o f b n e) old.1 in
-      elim old.2 [
-        | inl q ↦ ap (λ (z : RecordValue). (edit_of z.steps).held) q.1 ∙ ap (λ (s : List Step). (edit_of s).held) (quiet.steps old.0) ∙ before
-        | inr q ↦ ap (λ (z : RecordValue). (edit_of z.steps).held) q ∙ before
-      ]) h
+    let old = change_of o f b n r' g in
+    let before = h.left p n old.0 (present_before role o f b n e) old.1 in
+    elim old.2 [
+      | inl q ↦ ap (λ (z : RecordValue). (edit_of z.steps).held) q.1 ∙ ap (λ (s : List Step). (edit_of s).held) (quiet.steps old.0) ∙ before
+      | inr q ↦ ap (λ (z : RecordValue). (edit_of z.steps).held) q ∙ before
+    ]) h
 
 -- no present call of the other end has a record of the PAD's node
 not_ours : (role : Role) (P : Type 0) (held : List ℕ) (b : Book) → BookHolds role P held b → (c n : ℕ) (r : RecordValue) → (slot_at (other_of role) c b).present ≡ Some n → slice_get b.records n ≡ Some r
@@ -144,14 +144,14 @@ far_holds role P held b c f node h =
     let o : Option ℕ = (slot_at (other_of role) c b).present in
     change_holds role P P held held b o f node (λ n r e g own t. absurd (not_ours role P held b h c n r e g own))
     (λ p n r' e g.
-      let old = change_of o f b n r' g in
-      let here = present_before role o f b n e in
-      let mine = h.own 1 n here in
-      let before = h.left p n old.0 here old.1 in
-      elim old.2 [
-        | inl q ↦ absurd (not_ours role P held b h c n mine.0 q.0 mine.1 mine.2)
-        | inr q ↦ ap (λ (z : RecordValue). (edit_of z.steps).held) q ∙ before
-      ]) h
+    let old = change_of o f b n r' g in
+    let here = present_before role o f b n e in
+    let mine = h.own 1 n here in
+    let before = h.left p n old.0 here old.1 in
+    elim old.2 [
+      | inl q ↦ absurd (not_ours role P held b h c n mine.0 q.0 mine.1 mine.2)
+      | inr q ↦ ap (λ (z : RecordValue). (edit_of z.steps).held) q ∙ before
+    ]) h
 
 -- ---- a slot changes
 
@@ -202,10 +202,10 @@ slot_holds role P held b x d z new never h =
       far = has_slot x d z b (other_of role) new h.far;
       typed = λ n r e own. h.typed n r (sym (same n) ∙ e) (own ∙ slot_node x d z b role);
       left = λ p n r e g.
-      elim (slot_cases x d z b role 1) [
-        | inl q ↦ h.left p n r (ap (λ (s : Slot). s.present) (sym q) ∙ e) (sym (same n) ∙ g)
-        | inr q ↦ absurd (never p q.1 q.2 n (ap (λ (s : Slot). s.present) (sym q.0) ∙ e))
-      ];
+          elim (slot_cases x d z b role 1) [
+            | inl q ↦ h.left p n r (ap (λ (s : Slot). s.present) (sym q) ∙ e) (sym (same n) ∙ g)
+            | inr q ↦ absurd (never p q.1 q.2 n (ap (λ (s : Slot). s.present) (sym q.0) ∙ e))
+          ];
     }
 
 -- ---- a record more
@@ -225,15 +225,15 @@ record_holds role P held b r typed h =
       own = has_kept role b b' (side_record r b role) keep h.own;
       far = has_kept (other_of role) b b' (side_record r b (other_of role)) keep h.far;
       typed = λ n q e own.
-      elim (get_pushed b.records r n q e) [
-        | inl k ↦ h.typed n q k (own ∙ stays role)
-        | inr k ↦ subst (λ (z : RecordValue). IsTyped z) (sym k) typed
-      ];
+          elim (get_pushed b.records r n q e) [
+            | inl k ↦ h.typed n q k (own ∙ stays role)
+            | inr k ↦ subst (λ (z : RecordValue). IsTyped z) (sym k) typed
+          ];
       left = λ p n q e g.
-      let here = ap (λ (z : Side). (nth_slot z.slots 1).present) (sym (side_record r b role)) ∙ e in
-      let mine = h.own 1 n here in
-      let same : q ≡ mine.0 = same_Some q mine.0 (sym g ∙ get_before b.records (r ∷ []) n mine.0 mine.1) in
-      ap (λ (z : RecordValue). (edit_of z.steps).held) same ∙ h.left p n mine.0 here mine.1;
+          let here = ap (λ (z : Side). (nth_slot z.slots 1).present) (sym (side_record r b role)) ∙ e in
+          let mine = h.own 1 n here in
+          let same : q ≡ mine.0 = same_Some q mine.0 (sym g ∙ get_before b.records (r ∷ []) n mine.0 mine.1) in
+          ap (λ (z : RecordValue). (edit_of z.steps).held) same ∙ h.left p n mine.0 here mine.1;
     }
 
 -- a call begins at an end

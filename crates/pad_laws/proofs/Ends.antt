@@ -1,5 +1,5 @@
 -- An end of a line that placed no call on channel 1, through an event.
-use Rattle.std.proofs.Common.{◌≡◌, ℕ, zero, suc, Bool, true, false, cond, not, List, [], ◌∷◌, ◌++◌, Option, Some, None, is_some, refl, sym, ap, ◌∙◌, true≢false}
+use Rattle.std.proofs.Common.{◌≡◌, ℕ, zero, suc, Bool, true, false, cond, not, Option, Some, None, is_some, refl}
 use Rattle.link_timers.specs.declared.timers.TimerId.{TimerId}
 use Rattle.link_timers.specs.declared.timers.TimerId.TheVariants.{T1}
 use Rattle.link_timers.specs.Timers.{none_running, stopped}
@@ -13,9 +13,9 @@ use Rattle.packet_layer.specs.Packets.{Datum}
 use Rattle.packet_layer.specs.Channel.{Channel, Refusal, Request, in_transfer, refused_if, carried_out}
 use Rattle.packet_layer.specs.Layer.{channel_of, link_up, link_down, flow_refusal_at, next_packet}
 use Rattle.packet_layer.specs.Events.{timer_named, on_octets, on_named}
-use Rattle.packet_end.specs.PacketEnd.{PacketEnd, gathered, begun, heeded, after_packet, received, runs_at, expired, after_timer, relinked, relinked_if_due, with_next, offered, all_offered, settled, finished, asked}
+use Rattle.packet_end.specs.PacketEnd.{PacketEnd, gathered, begun, heeded, after_packet, received, runs_at, expired, after_timer, relinked, relinked_if_due, with_next, offered, all_offered, finished, asked}
 use Rattle.packet_pad.specs.Pad.{is_call, stands, refusing}
-use Rattle.pad_laws.specs.PadHolds.{waits_at, NoneCame}
+use Rattle.pad_laws.specs.PadHolds.{NoneCame}
 use Rattle.pad_laws.proofs.Channels.{StepHolds, came_append, same_state, no_call}
 use Rattle.pad_laws.proofs.Layers.{in_call, LayerHolds, up_holds, down_holds, octets_hold, named_holds, request_holds, next_holds}
 

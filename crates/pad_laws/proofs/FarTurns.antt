@@ -21,7 +21,7 @@ use Rattle.line_nodes.specs.Node.{NodeState, Pad, Host, end_of}
 use Rattle.line_nodes.specs.Turn.{Turn, unchanged, told, all_sent}
 use Rattle.line_nodes.specs.PadTurns.{keyed, last_incoming, without_call, closed_call, pad_read, pad_event}
 use Rattle.line_nodes.specs.HostTurns.{let_go, taken_turn}
-use Rattle.pad_laws.specs.PadHolds.{PadHolds, NodeHolds}
+use Rattle.pad_laws.specs.PadHolds.{NodeHolds}
 use Rattle.pad_laws.specs.Law.{FarHearsLaw, FarExpiresLaw, FarRelinksLaw, FarRestartsLaw, FarKeyLaw, FarCallsLaw, FarAsksLaw, FarRefusesLaw, FarSaysLaw, FarTakesLaw}
 use Rattle.pad_laws.proofs.Books.{BookHolds, closes_holds, all_closed_holds, far_told, far_sends, far_edits, far_renews, far_interrupts, far_releases, far_takes, far_places, far_answers}
 use Rattle.pad_laws.proofs.Turns.{end_of_pad, book_of_pad, pad_of_parts, unless_holds, closed_call_holds}
@@ -117,7 +117,7 @@ far_asks_kept role n e c r b h =
     let o : Option Refusal = request_refusal e.layer c r in
     kept_by role n b _
     (λ P held k. told_keeps role (Host (host.after_request e c r)) (unless_refused o done b) P held
-      (unless_holds role P held o done b (carried_keeps role c r (front_on e.layer c) b P held k) k)) h
+    (unless_holds role P held o done b (carried_keeps role c r (front_on e.layer c) b P held k) k)) h
 
 pub far_refuses_kept : FarRefusesLaw
 far_refuses_kept role n e c b h =
@@ -125,7 +125,7 @@ far_refuses_kept role n e c b h =
     let o : Option Refusal = host.refuse_refusal e c in
     kept_by role n b _
     (λ P held k. told_keeps role (Host (host.after_refuse e c)) (unless_refused o done b) P held
-      (unless_holds role P held o done b (closes_holds role P held (other_of role) c b k) k)) h
+    (unless_holds role P held o done b (closes_holds role P held (other_of role) c b k) k)) h
 
 pub far_says_kept : FarSaysLaw
 far_says_kept role n e c octets qualified delivery b h =
@@ -133,7 +133,7 @@ far_says_kept role n e c octets qualified delivery b h =
     let o : Option Refusal = say_refusal e.layer c octets qualified in
     kept_by role n b _
     (λ P held k. told_keeps role (Host (host.after_say e c octets qualified delivery)) (unless_refused o done b) P held
-      (unless_holds role P held o done b (sent_keeps role c (cut octets qualified delivery) b P held k) k)) h
+    (unless_holds role P held o done b (sent_keeps role c (cut octets qualified delivery) b P held k) k)) h
 
 let_go_keeps : (role : Role) (x : Taken) (c : ℕ) (b : Book) → Keeps role b (let_go x (other_of role) c b)
 let_go_keeps role (TakenInterrupt octets) c b P held h = h

@@ -1,19 +1,17 @@
 -- What holds of a PAD and of the book of its line at the making.
-use Rattle.std.proofs.Common.{◌≡◌, ℕ, zero, suc, ◌⊎◌, inl, inr, Bool, true, false, List, [], ◌∷◌, Option, Some, None, refl, sym, ap, subst, ◌∙◌}
+use Rattle.std.proofs.Common.{◌≡◌, ℕ, zero, suc, inl, inr, Bool, true, false, [], Some, None, refl, sym, ap, subst, ◌∙◌}
 use Rattle.std.specs.Prelude.{slice_get, replicate}
 use Rattle.std.proofs.lemmas.Option.{none-some, same_Some}
 use Rattle.link_timers.specs.declared.role.Role.{Role}
 use Rattle.link_timers.specs.declared.role.Role.TheVariants.{Dte, Dce}
 use Rattle.link_timers.specs.Role.{other_of}
 use Rattle.pad_editing.specs.Edited.{edit_of}
-use Rattle.packet_layer.specs.Channel.{Channel, closed_channel}
+use Rattle.packet_layer.specs.Channel.{closed_channel}
 use Rattle.packet_layer.specs.Layer.{nth_channel, standing_channels}
-use Rattle.packet_pad.specs.Pad.{stands}
-use Rattle.packet_pad.specs.Making.{made}
 use Rattle.call_records.specs.Records.{RecordValue, new_record}
-use Rattle.call_records.specs.Book.{Book, Slot, free_slot, nth_slot, with_nth, slot_at, new_book, standing_book, made_book}
+use Rattle.call_records.specs.Book.{Book, Slot, free_slot, nth_slot, with_nth, new_book, standing_book, made_book}
 use Rattle.pad_laws.specs.Typed.{IsTyped}
-use Rattle.pad_laws.specs.PadHolds.{node_at, HasItsRecords, IsLeft, waits_at, PadHolds}
+use Rattle.pad_laws.specs.PadHolds.{node_at, HasItsRecords, waits_at}
 use Rattle.pad_laws.specs.Law.{MadeLaw}
 use Rattle.pad_laws.proofs.Lists.{nth_cases}
 

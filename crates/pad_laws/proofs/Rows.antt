@@ -1,29 +1,25 @@
 -- Worked runs of a PAD on a line with a call that stands, by computation.
 use Rattle.std.specs.Prelude.{◌≡◌, ℕ, true, List, [], ◌∷◌, slice_get, Option, Some, None}
 use Rattle.std.proofs.Common.{refl, sym, subst, arith}
-use Rattle.link_timers.specs.declared.role.Role.TheVariants.{Dte, Dce}
+use Rattle.link_timers.specs.declared.role.Role.TheVariants.{Dte}
 use Rattle.epochs.specs.Item.{Item, Octet, End, user_items}
 use Rattle.x3_params.specs.Table.{profile_values}
 use Rattle.x3_params.specs.Forwarding.{class_of}
 use Rattle.x3_params.specs.declared.profile.Profile.TheVariants.{Simple}
-use Rattle.pad_editing.specs.Edited.{edit_of, edited, after_key}
-use Rattle.packet_layer.specs.Packets.{CallParts}
-use Rattle.packet_layer.specs.Channel.Request.{Sending}
+use Rattle.pad_editing.specs.Edited.{edited, after_key}
 use Rattle.packet_end.specs.PacketEnd.{all_offered, finished}
-use Rattle.packet_pad.specs.Pad.{PadState, stands}
 use Rattle.packet_pad.specs.Making.{made}
 use Rattle.packet_pad.specs.declared.config.PadConfig.{PadConfig}
 use Rattle.call_records.specs.Records.{RecordValue, sent_epochs}
-use Rattle.call_records.specs.Book.{Book, made_book}
+use Rattle.call_records.specs.Book.{made_book}
 use Rattle.line_nodes.specs.Node.{NodeState, Pad, Host}
 use Rattle.line_nodes.specs.Turn.{Turn, unchanged}
 use Rattle.line_nodes.specs.PadTurns.{pad_keys}
 use Rattle.line_nodes.specs.LineTurns.{relinks}
 use Rattle.pad_laws.specs.Typed.{items_of_epochs, messages}
-use Rattle.pad_laws.specs.PadHolds.{PadHolds, NodeHolds}
-use Rattle.pad_laws.specs.Law.{TypedLaw}
+use Rattle.pad_laws.specs.PadHolds.{NodeHolds}
 use Rattle.pad_laws.proofs.Making.{made_holds}
-use Rattle.pad_laws.proofs.Turns.{key_kept, relinks_kept}
+use Rattle.pad_laws.proofs.Turns.{key_kept}
 
 abbrev config : PadConfig
 config = record { line = record { k = 7; n2 = 3; channels = 4; window = 2; standing = true }; params = profile_values Simple 14 }

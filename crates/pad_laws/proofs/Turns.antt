@@ -1,26 +1,25 @@
 -- The events at a PAD keep what holds of it and of the book.
-use Rattle.std.proofs.Common.{◌≡◌, ℕ, Bool, true, false, cond, ◌&&◌, ◌==◌, List, [], ◌∷◌, map, Option, Some, None, is_some, refl, sym, ap, subst, ◌∙◌, if◌then◌else◌}
+use Rattle.std.proofs.Common.{◌≡◌, ℕ, Bool, true, false, cond, ◌&&◌, ◌==◌, List, [], map, Option, Some, None, is_some, refl, sym, ap, subst, ◌∙◌, if◌then◌else◌}
 use Rattle.std.specs.Option.{option_to_list}
 use Rattle.link_timers.specs.declared.role.Role.{Role}
 use Rattle.link_timers.specs.declared.timers.TimerId.{TimerId}
 use Rattle.pad_editing.specs.Edited.{Step, key, Effect, after_key, edit_of}
-use Rattle.packet_layer.specs.Packets.{Note}
 use Rattle.packet_layer.specs.Channel.{Refusal, Request}
 use Rattle.packet_layer.specs.Layer.{link_down, request_refusal, room}
-use Rattle.packet_end.specs.PacketEnd.{PacketEnd, begun, finished, runs_at, after_timer, asked}
+use Rattle.packet_end.specs.PacketEnd.{PacketEnd, begun, runs_at, after_timer, asked}
 use Rattle.packet_host.specs.Host as host
-use Rattle.packet_pad.specs.Pad.{PadState, stands, after_finish, after_frame, after_expiry, after_relink, after_restart, refusing}
-use Rattle.packet_pad.specs.Keys.{KeyEffect, key_without_effect, key_dropped, message, with_block, edited_by, is_control, typed, after_octet}
+use Rattle.packet_pad.specs.Pad.{PadState, stands, after_finish, after_frame, after_relink, after_restart, refusing}
+use Rattle.packet_pad.specs.Keys.{KeyEffect, key_without_effect, key_dropped, message, with_block, edited_by, is_control, typed}
 use Rattle.call_records.specs.Records.{RecordValue, with_step, with_sent}
 use Rattle.call_records.specs.Book.{Book, slot_at, with_change, packet_of, edits, closes, all_told}
 use Rattle.call_records.specs.Closing.{all_closed}
 use Rattle.call_records.specs.Carried.{unless_refused}
 use Rattle.line_nodes.specs.Node.{Pad, Host}
-use Rattle.line_nodes.specs.Turn.{Turn, unchanged, told, all_sent}
-use Rattle.line_nodes.specs.PadTurns.{keyed, pad_keys, last_incoming, without_call, closed_call, pad_read, pad_event}
-use Rattle.pad_laws.specs.PadHolds.{NoneCame, PadHolds, NodeHolds}
+use Rattle.line_nodes.specs.Turn.{unchanged, told, all_sent}
+use Rattle.line_nodes.specs.PadTurns.{keyed, last_incoming, without_call, closed_call, pad_read, pad_event}
+use Rattle.pad_laws.specs.PadHolds.{NoneCame, PadHolds}
 use Rattle.pad_laws.specs.Law.{IsKept, KeyLaw, HearsLaw, ExpiresLaw, RelinksLaw, RestartsLaw, OutLaw, DrainedLaw, ElapsesLaw}
-use Rattle.pad_laws.proofs.Layers.{LayerHolds, unread_holds, down_holds}
+use Rattle.pad_laws.proofs.Layers.{unread_holds, down_holds}
 use Rattle.pad_laws.proofs.Ends.{EndHolds, stands_is, begun_holds, received_holds, timer_holds, relinked_holds, finished_holds, refused_holds, sent_holds}
 use Rattle.pad_laws.proofs.Records.{with_key, key_node, key_typed, key_held}
 use Rattle.pad_laws.proofs.Books.{BookHolds, narrowed, change_holds, change_here, changed_again, present_before, told_holds, closes_holds, all_closed_holds}
@@ -163,10 +162,10 @@ key_holds role P octet params held o b p e h =
     (change_holds role P P held now b n (with_key step o) (key_node step o)
     (λ k r there g own t. key_typed step o r (ap (λ (text : List ℕ). (after_key params octet text).block) (h.left p k r there g) ∙ e) t)
     (λ q k r' there g.
-      let before = present_before role n (with_key step o) b k there in
-      let old = change_here n (with_key step o) b k r' before g in
-      ap (λ (z : RecordValue). (edit_of z.steps).held) old.2 ∙ key_held step o old.0
-      ∙ ap (λ (text : List ℕ). (after_key params octet text).held) (h.left p k old.0 before old.1)) h)
+    let before = present_before role n (with_key step o) b k there in
+    let old = change_here n (with_key step o) b k r' before g in
+    ap (λ (z : RecordValue). (edit_of z.steps).held) old.2 ∙ key_held step o old.0
+    ∙ ap (λ (text : List ℕ). (after_key params octet text).held) (h.left p k old.0 before old.1)) h)
 
 block_kept : (role : Role) (p : PadState) (octet : ℕ) (b : Book) (o : Option (List ℕ)) → stands p.end ≡ true → (after_key p.params octet p.held).block ≡ o → PadHolds role p b
     → IsKept role (told role (Pad (with_block o (record p { held = (after_key p.params octet p.held).held }))) (all_sent role 1 (map message (option_to_list o)) (edits role 1 (key octet p.params) b)))
@@ -192,5 +191,5 @@ key_kept role p octet b h =
     let e : Effect = after_key p.params octet p.held in
     effect_if role b (stands p.end) _ (key_without_effect p)
     (λ s. effect_if role b (is_control p.params octet) (key_without_effect p) (typed p octet e) (λ c. h)
-      (effect_if role b (is_some e.block && (room p.end.layer 1 == 0)) (key_dropped p) (edited_by p octet e) (λ full. h) (block_kept role p octet b e.block s refl h)))
+    (effect_if role b (is_some e.block && (room p.end.layer 1 == 0)) (key_dropped p) (edited_by p octet e) (λ full. h) (block_kept role p octet b e.block s refl h)))
     h
