@@ -51,7 +51,7 @@ apart_kept role b b' s h e = h (sym (s role) ∙ e ∙ s (other_of role))
 
 -- ---- a record changes
 
-side_changed : (y : Role) (o : Option ℕ) (f : RecordValue → RecordValue) (b : Book) → side_of y (with_change o f b) ≡ side_of y b
+pub side_changed : (y : Role) (o : Option ℕ) (f : RecordValue → RecordValue) (b : Book) → side_of y (with_change o f b) ≡ side_of y b
 side_changed y None f b = refl
 side_changed Dte (Some n) f b = refl
 side_changed Dce (Some n) f b = refl
@@ -174,7 +174,7 @@ slot_records : (x : Role) (d : ℕ) (z : Slot) (b : Book) → (with_slot x d z b
 slot_records Dte d z b = refl
 slot_records Dce d z b = refl
 
-slot_node : (x : Role) (d : ℕ) (z : Slot) (b : Book) (y : Role) → node_at y (with_slot x d z b) ≡ node_at y b
+pub slot_node : (x : Role) (d : ℕ) (z : Slot) (b : Book) (y : Role) → node_at y (with_slot x d z b) ≡ node_at y b
 slot_node Dte d z b Dte = refl
 slot_node Dte d z b Dce = refl
 slot_node Dce d z b Dte = refl
@@ -210,7 +210,7 @@ slot_holds role P held b x d z new never h =
 
 -- ---- a record more
 
-side_record : (r : RecordValue) (b : Book) (y : Role) → side_of y (with_record r b) ≡ side_of y b
+pub side_record : (r : RecordValue) (b : Book) (y : Role) → side_of y (with_record r b) ≡ side_of y b
 side_record r b Dte = refl
 side_record r b Dce = refl
 
@@ -322,7 +322,7 @@ far_places role P held c called b h =
     None (address_of called) refl (λ p same one. other_differs role (sym same)) h
 
 -- a pair more
-side_pairs : (ps : List PairValue) (b : Book) (y : Role) → side_of y (record b { pairs = ps }) ≡ side_of y b
+pub side_pairs : (ps : List PairValue) (b : Book) (y : Role) → side_of y (record b { pairs = ps }) ≡ side_of y b
 side_pairs ps b Dte = refl
 side_pairs ps b Dce = refl
 

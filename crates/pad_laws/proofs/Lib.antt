@@ -7,4 +7,5 @@ mod Books
 mod Turns
 mod FarTurns
 mod Making
+mod Nodes
 mod Rows
