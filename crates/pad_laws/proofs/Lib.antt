@@ -1,0 +1,11 @@
+mod Channels
+mod Layers
+mod Ends
+mod Records
+mod Lists
+mod Books
+mod Turns
+mod FarTurns
+mod Making
+mod Nodes
+mod Rows
