@@ -1,15 +1,10 @@
 mod Turning
-mod Asking
-mod Hearing
-mod Typing
-mod Making
-mod Opening
-<<<<<<< HEAD
+pub mod Asking
+pub mod Hearing
+pub mod Typing
+pub mod Making
+pub mod Opening
 mod Rows
-=======
-mod Fronts
-mod Taking
 pub mod QuietEnds
 pub mod QuietTurns
 pub mod QuietOpens
->>>>>>> quiet

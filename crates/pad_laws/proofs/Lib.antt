@@ -4,8 +4,8 @@ mod Ends
 mod Records
 mod Lists
 mod Books
-mod Turns
-mod FarTurns
-mod Making
-mod Nodes
+pub mod Turns
+pub mod FarTurns
+pub mod Making
+pub mod Nodes
 mod Rows
