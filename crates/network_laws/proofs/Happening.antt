@@ -71,7 +71,7 @@ on_line s b Dte e l coming kept k = unseen s b Dte (sent e) l.dce (l.up ++ chose
 on_line s b Dce e l coming kept k = unseen s b Dce (sent e) l.dte (l.down ++ chosen kept e.line.frames) coming k
 
 -- an event that told the notes of `e`, from a line of which this was kept
-ends_on : (s : Setting) (b : Book) (role : Role) (e : PacketEnd) (l : Line) (coming : List Octets) (kept : List Bool) → KeptAt s (all_told role e.notes b) role e (end_at (other_of role) l) (coming_to (other_of role) l) coming →
+pub ends_on : (s : Setting) (b : Book) (role : Role) (e : PacketEnd) (l : Line) (coming : List Octets) (kept : List Bool) → KeptAt s (all_told role e.notes b) role e (end_at (other_of role) l) (coming_to (other_of role) l) coming →
     Kept s (all_told role (finished e).notes b) (with_event role (finished e) kept coming l)
 ends_on s b role e l coming kept k =
     on_line s (all_told role (finished e).notes b) role (finished e) l coming kept

@@ -1,7 +1,7 @@
 mod Moving
 mod Telling
 mod Calm
-mod Views
+pub mod Views
 pub mod Acting
 pub mod Keeping
 pub mod Happening

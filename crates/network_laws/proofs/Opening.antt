@@ -47,7 +47,7 @@ none_more (Closed channel cause diagnostic reason ∷ notes) more h = none_more 
 none_more (InterruptConfirmed channel ∷ notes) more h = none_more notes more h
 none_more (Covered channel count ∷ notes) more h = none_more notes more h
 
-more_none : (notes more : List Note) → IsNone more → opening_notes (notes ++ more) ≡ opening_notes notes
+pub more_none : (notes more : List Note) → IsNone more → opening_notes (notes ++ more) ≡ opening_notes notes
 more_none [] more h = h
 more_none (Incoming channel parts ∷ notes) more h = ap (λ (n : ℕ). 1 + n) (more_none notes more h)
 more_none (WasReset channel cause diagnostic reason ∷ notes) more h = ap (λ (n : ℕ). 1 + n) (more_none notes more h)
@@ -218,7 +218,7 @@ due_same : (v : Bool) (e : PacketEnd) → opening_notes (cond v (relinked e) e).
 due_same true e = more_none e.notes (link_down e.layer).notes (down_none e.layer)
 due_same false e = refl
 
-finished_same : (e : PacketEnd) → opening_notes (finished e).notes ≡ opening_notes e.notes
+pub finished_same : (e : PacketEnd) → opening_notes (finished e).notes ≡ opening_notes e.notes
 finished_same e =
     ap (λ (x : PacketEnd). opening_notes x.notes) (finished_is [] e)
     ∙ ap opening_notes (all_offered_notes (relinked_if_due e)) ∙ due_same e.layer.relink e

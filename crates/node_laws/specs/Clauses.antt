@@ -1,5 +1,5 @@
 -- What each event at a node keeps of the line and of the book.
-use Rattle.std.specs.Prelude.{◌≡◌, ℕ, ◌≤◌, Bool, List, [], ◌∷◌, length}
+use Rattle.std.specs.Prelude.{◌≡◌, ℕ, ◌≤◌, Bool, List, ◌∷◌, length}
 use Rattle.link_timers.specs.declared.role.Role.{Role}
 use Rattle.link_timers.specs.declared.role.Role.TheVariants.{Dte, Dce}
 use Rattle.link_timers.specs.declared.timers.TimerId.{TimerId}
@@ -20,7 +20,6 @@ use Rattle.call_records.specs.Book.{Book, made_book}
 use Rattle.network_laws.specs.Kept.{Setting, IsSetting, Kept, coming_to}
 use Rattle.network_laws.specs.Happens.{sent, with_restart}
 use Rattle.line_nodes.specs.Node.{NodeState, Pad, Host, end_of, drained, node_elapsed}
-use Rattle.line_nodes.specs.Turn.{Turn}
 use Rattle.line_nodes.specs.LineTurns.{hears, expires, relinks, restarts}
 use Rattle.line_nodes.specs.HostTurns.{host_calls, host_asks, host_refuses, host_says, host_takes}
 use Rattle.line_nodes.specs.PadTurns.{pad_keys}

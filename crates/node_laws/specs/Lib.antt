@@ -1,3 +1,4 @@
 pub mod Nodes
 pub mod Clauses
 pub mod Opening
+pub mod Quiet

@@ -2,13 +2,13 @@
 use Rattle.std.proofs.Common.{◌≡◌, ℕ, Bool, true, false, cond, List, [], ◌∷◌, ◌++◌, refl, sym, ap, ◌∙◌, true≢false}
 use Rattle.link_timers.specs.declared.role.Role.{Role}
 use Rattle.link_timers.specs.declared.role.Role.TheVariants.{Dte, Dce}
-use Rattle.packet_layer.specs.Packets.{CallParts, Body, Note}
+use Rattle.packet_layer.specs.Packets.{Body, Note}
 use Rattle.packet_layer.specs.Packets.Body.{Call, Accepted, Clear, ClearConfirmation, Data, Interrupt, InterruptConfirmation, ReceiveReady, ReceiveNotReady, Reset, ResetConfirmation, Restart, RestartConfirmation}
 use Rattle.packet_layer.specs.Packets.Note.{Incoming, Closed}
 use Rattle.packet_layer.specs.Packets.Reason.{LocalFault}
 use Rattle.packet_layer.specs.Traffic.{Heard, hears}
 use Rattle.packet_layer.specs.Traffic.Heard.{Keeps, Confirms, Wrong}
-use Rattle.packet_layer.specs.Channel.{CallState, Channel, Step, quiet, entered, clear_error, reset_error, not_allowed, far_cleared, covered_note, after_heard, in_flow_ready, in_own_reset, in_ready, in_own_waiting, in_far_waiting, in_collision, in_own_clear, received_in, received, unreadable_in, unreadable, in_transfer}
+use Rattle.packet_layer.specs.Channel.{CallState, Channel, Step, quiet, clear_error, reset_error, far_cleared, covered_note, after_heard, in_flow_ready, in_own_reset, in_ready, in_own_waiting, in_far_waiting, in_collision, in_own_clear, received_in, received, unreadable_in, unreadable, in_transfer}
 use Rattle.packet_layer.specs.Channel.CallState.{Ready, OwnWaiting, FarWaiting, Transfer, Collision, OwnClear}
 use Rattle.pad_laws.specs.PadHolds.{waits_for_answer, NoneCame}
 
@@ -37,7 +37,7 @@ pub record StepHolds (c : ℕ) (ch : Channel) (st : Step) : Type 0 where
   pub stands : waits_for_answer ch.state ≡ false → in_transfer st.channel.state ≡ true → (in_transfer ch.state ≡ true) × NoneCame st.notes
 
 -- the state stays
-same_state : (c : ℕ) (ch : Channel) (st : Step) → st.channel.state ≡ ch.state → NoneCame st.notes → StepHolds c ch st
+pub same_state : (c : ℕ) (ch : Channel) (st : Step) → st.channel.state ≡ ch.state → NoneCame st.notes → StepHolds c ch st
 same_state c ch st e n = record {
   others = λ h. n;
   waits = λ h. ap (λ (s : CallState). waits_for_answer s) e ∙ h;
@@ -45,7 +45,7 @@ same_state c ch st e n = record {
 }
 
 -- the call is over, or comes in
-no_call : (c : ℕ) (ch : Channel) (st : Step) → waits_for_answer st.channel.state ≡ false → in_transfer st.channel.state ≡ false
+pub no_call : (c : ℕ) (ch : Channel) (st : Step) → waits_for_answer st.channel.state ≡ false → in_transfer st.channel.state ≡ false
     → ((c ≡ 1 → ⊥) → NoneCame st.notes) → StepHolds c ch st
 no_call c ch st w t n = record { others = n; waits = λ h. w; stands = λ h k. absurd (true≢false (sym k ∙ t)) }
 

@@ -1,16 +1,13 @@
 -- A packet layer that placed no call on channel 1: a call that stands there after an event stood before, and none came in.
-use Rattle.std.proofs.Common.{◌≡◌, ℕ, zero, suc, ◌⊎◌, Bool, true, false, cond, List, [], ◌∷◌, ◌++◌, map, set, Option, Some, None, is_some, refl, sym, ap, subst, ◌∙◌, true≢false, inl, inr}
+use Rattle.std.proofs.Common.{◌≡◌, ℕ, zero, suc, Bool, true, false, cond, List, [], ◌∷◌, length, map, set, Option, Some, None, is_some, refl, sym, ap, subst, ◌∙◌, true≢false, inl, inr}
 use Rattle.std.specs.Prelude.{slice_get}
 use Rattle.std.proofs.lemmas.Bool.{cases_eq}
-use Rattle.link_timers.specs.declared.role.Role.{Role}
-use Rattle.link_timers.specs.declared.timers.TimerId.{TimerId}
-use Rattle.packet_layer.specs.Packets.{Body, Packet, Received, Reason, Note}
+use Rattle.packet_layer.specs.Packets.{Body, Received, Note}
 use Rattle.packet_layer.specs.Packets.Body.{Restart, RestartConfirmation}
 use Rattle.packet_layer.specs.Packets.Received.{Whole, Unknown, Faulty}
-use Rattle.packet_layer.specs.Packets.Reason.{LinkLost, FarRestart, LocalFault}
 use Rattle.packet_layer.specs.Traffic.{says}
 use Rattle.packet_layer.specs.Channel.{CallState, Channel, Step, Request, Refusal, closed_channel, moved, carried_out, unless, requested, refusal, in_transfer, has_flow, clear_error, received, unreadable}
-use Rattle.packet_layer.specs.Layer.{Phase, Layer, Timer, Next, ChannelNext, nth_channel, with_nth, channel_of, owing, after_step, all_closed, restarting, unread, link_up, link_down, restart_packet, on_found, on_channel, packet_in, on_received, runs, expired, on_timer, packet_of, next_owed, next_of, next_number, served, serve_found, serve, next_restart, next_in, next_packet, request}
+use Rattle.packet_layer.specs.Layer.{Phase, Layer, Timer, Next, ChannelNext, nth_channel, with_nth, channel_of, owing, after_step, unread, link_up, link_down, restart_packet, on_found, on_channel, on_received, runs, expired, next_owed, next_of, next_number, serve_found, serve, next_restart, next_in, next_packet, request}
 use Rattle.packet_layer.specs.Layer.Phase.{NoSession, OwnRestart, PacketReady}
 use Rattle.packet_layer.specs.Layer.Timer.{RestartTimer, CallTimer, ResetTimer, ClearTimer}
 use Rattle.packet_layer.specs.Events.{after_hearing, on_octets, on_named}
@@ -93,9 +90,9 @@ step_here P l ch st e s h =
     record {
       waits = ap (λ (o : Option Channel). waits_at o) there ∙ s.waits before;
       stands = λ k.
-      let q = s.stands before (sym (ap (λ (o : Option Channel). in_call o) there) ∙ k) in
-      let p = h.stands (ap (λ (o : Option Channel). in_call o) e ∙ q.0) in
-      (p.0, came_append l.notes st.notes p.1 q.1);
+          let q = s.stands before (sym (ap (λ (o : Option Channel). in_call o) there) ∙ k) in
+          let p = h.stands (ap (λ (o : Option Channel). in_call o) e ∙ q.0) in
+          (p.0, came_append l.notes st.notes p.1 q.1);
     }
 
 step_else : (P : Type 0) (l : Layer) (c : ℕ) (ch : Channel) (st : Step) → (c ≡ 1 → ⊥) → StepHolds c ch st → LayerHolds P l → LayerHolds P (after_step l c st)
@@ -104,8 +101,8 @@ step_else P l c ch st ne s h =
     record {
       waits = ap (λ (o : Option Channel). waits_at o) there ∙ h.waits;
       stands = λ k.
-      let p = h.stands (sym (ap (λ (o : Option Channel). in_call o) there) ∙ k) in
-      (p.0, came_append l.notes st.notes p.1 (s.others ne));
+          let p = h.stands (sym (ap (λ (o : Option Channel). in_call o) there) ∙ k) in
+          (p.0, came_append l.notes st.notes p.1 (s.others ne));
     }
 
 step_holds : (P : Type 0) (l : Layer) (c : ℕ) (ch : Channel) (st : Step) → channel_of l c ≡ Some ch → StepHolds c ch st → LayerHolds P l → LayerHolds P (after_step l c st)
@@ -222,7 +219,7 @@ serve_holds P (suc k) l c h = serve_found_holds P l c (channel_of l c) (serve k 
 
 restart_next : (P : Type 0) (owed : List Body) (l : Layer) → LayerHolds P l → LayerHolds P (next_restart owed l).layer
 restart_next P (b ∷ bs) l h = like P l _ refl refl refl h
-restart_next P [] l h = serve_holds P _ l _ h
+restart_next P [] l h = serve_holds P (length l.channels) l (next_number l l.served_last) h
 
 next_in_holds : (P : Type 0) (phase : Phase) (relink : Bool) (l : Layer) → LayerHolds P l → LayerHolds P (next_in phase relink l).layer
 next_in_holds P NoSession relink l h = h

@@ -17,7 +17,7 @@ use Rattle.line_nodes.specs.PadTurns.{pad_keys}
 use Rattle.line_nodes.specs.HostTurns.{host_calls, host_asks, host_refuses, host_says, host_takes}
 use Rattle.line_nodes.specs.LineTurns.{hears, expires, relinks, restarts}
 use Rattle.pad_laws.specs.Typed.{IsTyped}
-use Rattle.pad_laws.specs.PadHolds.{node_at, PadHolds, NodeHolds}
+use Rattle.pad_laws.specs.PadHolds.{node_at, NodeHolds}
 
 -- ---- what it says, and the making
 

@@ -1,3 +1,4 @@
 pub mod Typed
 pub mod PadHolds
 pub mod Law
+pub mod Nodes

@@ -59,7 +59,7 @@ pub record PadHolds (role : Role) (p : PadState) (b : Book) : Type 0 where
   pub typed : (n : ℕ) (r : RecordValue) → slice_get b.records n ≡ Some r → r.node ≡ node_at role b → IsTyped r
   -- the PAD placed no call on channel 1; while the call stands there none comes in, and the text that is held is its own
   pub waits : waits_at (channel_of p.end.layer 1) ≡ false
-  pub none_came : stands p.end ≡ true → NoneCame p.end.layer.notes
+  pub none_came : stands p.end ≡ true → NoneCame p.end.notes × NoneCame p.end.layer.notes
   pub left : stands p.end ≡ true → IsLeft role p.held b
 
 -- of a node of either kind

@@ -1,0 +1,289 @@
+//! Worked examples: the nodes of a line on which a call stands, with its book.
+ghost use Rattle.std.specs.Prelude.{◌≡◌, ◌≤◌, [], IfOk, OnOk, vec_capacity};
+
+use super::*;
+use call_records::{Book, UserPacket};
+use frame_codec::FrameBuf;
+use link_timers::Role;
+use packet_codec::{Address, CallBuf, CallData};
+use packet_end::EndParams;
+use packet_host::{Host, HostConfig};
+use packet_layer::{CallFault, ChannelFault, LayerNote};
+use packet_pad::{Pad, PadConfig};
+use std::alloc::{AllocError, Global};
+use std::process::Abort;
+use std::test::Fail;
+use x3_params::{Params, Profile};
+
+const DTE_NODE: usize = 3;
+
+// The host is the DCE.
+const AT_DCE: Place = Place {
+    role: Role::Dce,
+    node: 5,
+};
+
+// A call stands on channel 1 of two.
+const LINE: EndParams = EndParams {
+    k: 7,
+    n2: 3,
+    channels: 2,
+    window: 2,
+    standing: true,
+};
+
+fn new_book(alloc: Global) -> Result<Book, AllocError> {
+    Book::new(alloc, DTE_NODE, AT_DCE.node, LINE.channels, LINE.standing)
+}
+
+fn new_host(rt: &impl Abort, alloc: Global) -> Host {
+    match Host::new(
+        alloc,
+        HostConfig {
+            role: Role::Dce,
+            line: LINE,
+        },
+    ) {
+        Ok(host) => host,
+        Err(_) => panic!(rt; "a host is made"),
+    }
+}
+
+// A carriage return forwards.
+fn new_pad(rt: &impl Abort, alloc: Global) -> Pad {
+    let mut params = Params::profile(Profile::Simple, 14);
+    assert_eq!(rt; params.set(3, 2), Ok(()));
+    match Pad::new(
+        alloc,
+        PadConfig {
+            line: LINE,
+            params,
+        },
+    ) {
+        Ok(pad) => pad,
+        Err(_) => panic!(rt; "a PAD is made"),
+    }
+}
+
+// Before an event the notes of the last one are read; the book has room, and the list of what the host is told is empty.
+fn ready(alloc: Global, host: &mut Host, book: &mut Book) -> Result<Vec<HostNote>, AllocError>
+    ensures read { host.new.notes ≡ [] }
+    ensures room { OnOk result (book.new.room ≡ 8) }
+    ensures empty { IfOk result (λ notes. notes.items ≡ []) }
+    ensures capacity { IfOk result (λ notes. 96 ≤ vec_capacity notes) }
+{
+    while host.notes().is_some() {}
+    book.reserve(8)?;
+    Vec::with_capacity(alloc, 96)
+}
+
+#[tactic(auto, using(crate::proofs::Quiet::calls_quiet))]
+fn calls(
+    alloc: Global,
+    host: &mut Host,
+    digits: &[u8; 4],
+    book: &mut Book,
+) -> Result<Result<u8, CallFault>, AllocError> {
+    let mut notes = ready(alloc, host, book)?;
+    let address = match Address::read(digits) {
+        Ok(address) => address,
+        Err(_) => Address::new(&[0]),
+    };
+    Ok(host::call(host, AT_DCE, address, &[], book, &mut notes))
+}
+
+#[tactic(auto, using(crate::proofs::Quiet::says_quiet))]
+fn says(
+    alloc: Global,
+    host: &mut Host,
+    octets: &[u8],
+    book: &mut Book,
+) -> Result<Result<(), ChannelFault>, AllocError> {
+    let mut notes = ready(alloc, host, book)?;
+    Ok(host::say(host, AT_DCE, 1, octets, false, true, book, &mut notes))
+}
+
+// What a host asks in these examples.
+#[derive(Clone, Copy)]
+enum Asked {
+    Answer,
+    Refuse,
+    Clear,
+    Reset,
+    Interrupt,
+    Stop,
+    Go,
+}
+
+#[tactic(auto, using(crate::proofs::Quiet::asks_quiet, crate::proofs::Quiet::refuses_quiet))]
+fn asks(
+    alloc: Global,
+    host: &mut Host,
+    asked: Asked,
+    book: &mut Book,
+) -> Result<Result<(), ChannelFault>, AllocError> {
+    let mut notes = ready(alloc, host, book)?;
+    Ok(match asked {
+        Asked::Answer => host::answer(host, AT_DCE, 1, book, &mut notes),
+        Asked::Refuse => host::refuse(host, AT_DCE, 1, book, &mut notes),
+        Asked::Clear => host::clear(host, AT_DCE, 1, book, &mut notes),
+        Asked::Reset => host::reset(host, AT_DCE, 1, book, &mut notes),
+        Asked::Interrupt => host::interrupt(host, AT_DCE, 1, &[7, 8], book, &mut notes),
+        Asked::Stop => host::stop(host, AT_DCE, 1, book, &mut notes),
+        Asked::Go => host::go(host, AT_DCE, 1, book, &mut notes),
+    })
+}
+
+#[tactic(auto, using(crate::proofs::Quiet::takes_quiet))]
+fn takes_nothing(alloc: Global, host: &mut Host, book: &mut Book) -> Result<bool, AllocError> {
+    let mut notes = ready(alloc, host, book)?;
+    Ok(host::take(host, AT_DCE, 1, book, &mut notes).is_none())
+}
+
+#[tactic(auto, using(crate::proofs::Quiet::keys_quiet))]
+fn types(pad: &mut Pad, octet: u8, book: &mut Book) -> Result<KeyAnswer, AllocError> {
+    while pad.notes().is_some() {}
+    book.reserve(2)?;
+    Ok(pad::key(pad, Role::Dte, octet, book))
+}
+
+fn is_packet(packet: Option<&UserPacket>, octets: &[u8], more: bool, confirm: bool) -> bool {
+    match packet {
+        Some(packet) => {
+            packet.octets() == octets
+                && packet.more() == more
+                && !packet.qualified()
+                && packet.confirm() == confirm
+        }
+        None => false,
+    }
+}
+
+fn is_closed(book: &Book, number: usize) -> bool {
+    match book.records().get(number) {
+        Some(record) => record.closed,
+        None => false,
+    }
+}
+
+#[test]
+fn keys_are_written(rt: HostRuntime) -> Result<(), Fail> {
+    let mut book = new_book(rt.alloc())?;
+    let mut pad = new_pad(&rt, rt.alloc());
+    for octet in *b"HI\r" {
+        assert_eq!(rt; types(&mut pad, octet, &mut book)?, KeyAnswer::Taken);
+    }
+    let Some(record) = book.records().get(0) else {
+        panic!(rt; "a record");
+    };
+    assert_eq!(rt; record.steps.len(), 3);
+    assert_eq!(rt; record.sent.packets.len(), 1);
+    assert!(rt; is_packet(record.sent.packets.get(0), b"HI\r", false, false));
+    for _ in 0..9 {
+        assert_eq!(rt; types(&mut pad, b'\r', &mut book)?, KeyAnswer::Taken);
+    }
+    assert_eq!(rt; types(&mut pad, b'\r', &mut book)?, KeyAnswer::Dropped);
+    Ok(())
+}
+
+#[test]
+fn what_a_host_says_is_written(rt: HostRuntime) -> Result<(), Fail> {
+    let mut book = new_book(rt.alloc())?;
+    let mut host = new_host(&rt, rt.alloc());
+    assert_eq!(rt; says(rt.alloc(), &mut host, &[b'A'; 130], &mut book)?, Ok(()));
+    assert_eq!(rt;
+        says(rt.alloc(), &mut host, &[b'A'; 1025], &mut book)?,
+        Err(ChannelFault::TooLong)
+    );
+    let Some(record) = book.records().get(1) else {
+        panic!(rt; "a record");
+    };
+    assert_eq!(rt; record.sent.packets.len(), 2);
+    assert!(rt; is_packet(record.sent.packets.get(0), &[b'A'; 128], true, false));
+    assert!(rt; is_packet(record.sent.packets.get(1), b"AA", false, true));
+    assert!(rt; takes_nothing(rt.alloc(), &mut host, &mut book)?);
+    Ok(())
+}
+
+#[test]
+fn what_a_host_asks_is_written(rt: HostRuntime) -> Result<(), Fail> {
+    let mut book = new_book(rt.alloc())?;
+    let mut host = new_host(&rt, rt.alloc());
+    for asked in [Asked::Stop, Asked::Go, Asked::Interrupt, Asked::Reset] {
+        assert_eq!(rt; asks(rt.alloc(), &mut host, asked, &mut book)?, Ok(()));
+    }
+    assert_eq!(rt;
+        asks(rt.alloc(), &mut host, Asked::Interrupt, &mut book)?,
+        Err(ChannelFault::Resetting)
+    );
+    let Some(record) = book.records().get(1) else {
+        panic!(rt; "a record");
+    };
+    assert_eq!(rt; record.sent_before.len(), 1);
+    assert!(rt; !record.closed);
+    for asked in [Asked::Answer, Asked::Refuse] {
+        assert_eq!(rt;
+            asks(rt.alloc(), &mut host, asked, &mut book)?,
+            Err(ChannelFault::NoCall)
+        );
+    }
+    assert_eq!(rt; asks(rt.alloc(), &mut host, Asked::Clear, &mut book)?, Ok(()));
+    assert!(rt; is_closed(&book, 1));
+    assert_eq!(rt; calls(rt.alloc(), &mut host, b"2001", &mut book)?, Ok(2));
+    assert_eq!(rt;
+        calls(rt.alloc(), &mut host, b"2001", &mut book)?,
+        Err(CallFault::NoChannel)
+    );
+    assert_eq!(rt; book.present(Role::Dce, 2), Some(2));
+    Ok(())
+}
+
+#[test]
+fn a_restart_closes_the_calls(rt: HostRuntime) -> Result<(), Fail> {
+    let mut book = new_book(rt.alloc())?;
+    let mut host = Node::Host(new_host(&rt, rt.alloc()));
+    let mut pad = Node::Pad(new_pad(&rt, rt.alloc()));
+    assert!(rt; pad.is_pad() && !host.is_pad());
+    assert!(rt; pad.is_at_rest() && host.is_at_rest());
+    assert!(rt; host.confirmed(1) && !pad.confirmed(1));
+    host.restarts(Role::Dce, &mut book);
+    assert!(rt; !is_closed(&book, 0) && is_closed(&book, 1));
+    pad.restarts(Role::Dte, &mut book);
+    assert!(rt; is_closed(&book, 0));
+    assert_eq!(rt; pad.waiting_frames(), 1);
+    let mut frame = FrameBuf::new();
+    assert!(rt; pad.out(&mut frame) && !pad.out(&mut frame));
+    pad.elapse(60);
+    assert!(rt; pad.due().is_some());
+    Ok(())
+}
+
+#[test]
+fn a_host_is_told(rt: HostRuntime) {
+    let call = CallBuf::new(&CallData {
+        called: Address::new(&[2]),
+        calling: None,
+        facilities: &[],
+        user_data: &[],
+    });
+    let incoming = HostNote {
+        node: 5,
+        channel: 2,
+        kind: NoteKind::Incoming,
+    };
+    assert_eq!(rt; HostNote::of(5, &LayerNote::Incoming(2, call)), Some(incoming));
+    let covered = LayerNote::Covered {
+        channel: 2,
+        count: 1,
+    };
+    assert_eq!(rt; HostNote::of(5, &covered), None);
+}
+
+#[test]
+fn a_fault_has_the_words_of_its_cause(rt: HostRuntime) -> Result<(), Fail> {
+    let fault = NodeFault::from(ChannelFault::QueueFull);
+    assert_eq!(rt; format!(in rt.alloc(); "{fault}")?.as_str(), "send queue full");
+    let fault = NodeFault::from(CallFault::NoChannel);
+    assert_eq!(rt; format!(in rt.alloc(); "{fault}")?.as_str(), "no free channel");
+    Ok(())
+}

@@ -1,0 +1,26 @@
+//! That a node is quiet between two events, whatever line it is on.
+
+ghost use Rattle.node_laws.specs.Quiet.{QuietHearingLaw, QuietExpiryLaw, QuietRelinkLaw, QuietRestartLaw, QuietCallLaw, QuietAskingLaw, QuietRefusalLaw, QuietSayingLaw, QuietTakingLaw, QuietKeyLaw, QuietTimeLaw, QuietMakingLaw};
+
+/// The law of a node between two events, over definitions alone. From the making on, and whatever arrives, also what no node of this
+/// kind would send: each turn leaves nothing unread and less than a block held, opens at most one record or epoch in the book, and
+/// does so only by a frame that arrives (X.25 3, 4; X.3).
+pub fn quiet_law()
+    // What comes from the line.
+    ensures hears { QuietHearingLaw }
+    ensures expires { QuietExpiryLaw }
+    ensures relinks { QuietRelinkLaw }
+    ensures restarts { QuietRestartLaw }
+
+    // What the user of a host asks.
+    ensures calls { QuietCallLaw }
+    ensures asks { QuietAskingLaw }
+    ensures refuses { QuietRefusalLaw }
+    ensures says { QuietSayingLaw }
+    ensures takes { QuietTakingLaw }
+
+    // A key at a PAD, time, and the making.
+    ensures keys { QuietKeyLaw }
+    ensures elapses { QuietTimeLaw }
+    ensures made { QuietMakingLaw }
+{}
