@@ -1,10 +1,11 @@
 mod Asked
 mod Events
+mod Fits
 mod Fitting
 mod Flying
-mod Laws
+mod Promises
 mod Refusals
 mod RunsMore
 mod Sending
-mod Sides
+mod Serving
 mod Turns

@@ -93,7 +93,7 @@ book-nodes : (dte_node dce_node channels : ℕ) (standing : Bool) → ((made_boo
 book-nodes dte_node dce_node channels true = (refl, refl)
 book-nodes dte_node dce_node channels false = (refl, refl)
 
-setting-of : Plan → Setting
+abbrev setting-of : Plan → Setting
 setting-of plan = record { dte = plan.line; dce = plan.line; dte_node = plan.dte_place; dce_node = plan.dce_place }
 
 -- the first frames of both ends

@@ -4,7 +4,7 @@ use Rattle.link_timers.specs.declared.role.Role.{Role}
 use Rattle.link_timers.specs.declared.role.Role.TheVariants.{Dte, Dce}
 use Rattle.link_timers.specs.declared.timers.TimerId.{TimerId}
 use Rattle.packet_codec.specs.Address.{AreDigits}
-use Rattle.packet_layer.specs.Traffic.{Taken}
+use Rattle.packet_layer.specs.declared.taken.Taken as taken
 use Rattle.packet_layer.specs.TakenView.{maybe_taken}
 use Rattle.packet_layer.specs.Layer.{channel_given, front_on}
 use Rattle.packet_layer.specs.Channel.{Request as ask}
@@ -109,13 +109,11 @@ pub record AskStep (F : Type 0) (role : Role) (channel : ℕ) (request : Request
   pub does : NodeStep F role (asked_turn role (end_of (node_at role s)) channel request s.book) s.line s a.frames.items a.notes.items t
   pub answered : a.outcome ≡ Done
 
--- what the answer says was taken
-pub data TookAs (taken : Option Taken) (outcome : Outcome) : Type 0 where
-  took : (shown : _) → outcome ≡ Took shown → maybe_taken shown ≡ taken → TookAs taken outcome
-
 pub record TakeStep (F : Type 0) (role : Role) (channel : ℕ) (s : NetState) (a : answer.Answer) (t : NetState) : Type 0 where
+  pub shown : Option taken.Taken
   pub does : NodeStep F role (host_takes role (end_of (node_at role s)) channel s.book) s.line s a.frames.items a.notes.items t
-  pub answered : TookAs (front_on (end_of (node_at role s)).layer channel) a.outcome
+  pub is_taken : maybe_taken shown ≡ front_on (end_of (node_at role s)).layer channel
+  pub answered : a.outcome ≡ Took shown
 
 -- ---- what comes at the line
 

@@ -96,11 +96,10 @@ impl<L: Line> Nodes<L> {
     fn channel(&self, channel: u16) -> Option<u8>
         ensures { MatchOption result (is_channel channel self.now ≡ false) (λ c. (is_channel channel self.now ≡ true) × (c ≡ channel)) }
     {
-        let channel = u8::try_from(channel).ok()?;
-        if channel == 0 || channel > self.channels {
+        if channel == 0 || channel > u16::from(self.channels) {
             return None;
         }
-        Some(channel)
+        Some(channel as u8)
     }
 
     /// Handles an event.

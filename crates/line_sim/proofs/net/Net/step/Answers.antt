@@ -1,12 +1,8 @@
-use Rattle.line_sim.proofs.Refusals.{refusals}
 use Rattle.line_sim.proofs.Fits.{happens-net}
 use Rattle.line_sim.proofs.net.Net.step.Goals as goal
 
 pub happen-result-requires : goal.happen-result-requires
-happen-result-requires g c = rw (← c.self.view_is) c.self.invariant.quiet
+happen-result-requires g c = c.self.invariant.quiet
 
 pub invariant_of-self : goal.invariant_of-self
 invariant_of-self g c = happens-net g.L.Line.faithful c.args.event.now _ c.happen-result.result c.happen-result.new.self c.happen-result.ensures c.self.invariant
-
-pub returns-clause-faults : goal.returns-clause-faults
-returns-clause-faults g c = refusals g.L.Line.faithful c.args.event.now c.args.self.now c.happen-result.result c.happen-result.new.self c.happen-result.ensures
