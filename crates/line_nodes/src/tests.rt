@@ -77,22 +77,16 @@ fn ready(alloc: Global, host: &mut Host, book: &mut Book) -> Result<Vec<HostNote
     Vec::with_capacity(alloc, 96)
 }
 
-#[tactic(auto, using(crate::proofs::Quiet::calls_quiet))]
 fn calls(
     alloc: Global,
     host: &mut Host,
-    digits: &[u8; 4],
+    address: Address,
     book: &mut Book,
 ) -> Result<Result<u8, CallFault>, AllocError> {
     let mut notes = ready(alloc, host, book)?;
-    let address = match Address::read(digits) {
-        Ok(address) => address,
-        Err(_) => Address::new(&[0]),
-    };
     Ok(host::call(host, AT_DCE, address, &[], book, &mut notes))
 }
 
-#[tactic(auto, using(crate::proofs::Quiet::says_quiet))]
 fn says(
     alloc: Global,
     host: &mut Host,
@@ -115,7 +109,6 @@ enum Asked {
     Go,
 }
 
-#[tactic(auto, using(crate::proofs::Quiet::asks_quiet, crate::proofs::Quiet::refuses_quiet))]
 fn asks(
     alloc: Global,
     host: &mut Host,
@@ -134,15 +127,19 @@ fn asks(
     })
 }
 
-#[tactic(auto, using(crate::proofs::Quiet::takes_quiet))]
 fn takes_nothing(alloc: Global, host: &mut Host, book: &mut Book) -> Result<bool, AllocError> {
     let mut notes = ready(alloc, host, book)?;
     Ok(host::take(host, AT_DCE, 1, book, &mut notes).is_none())
 }
 
-#[tactic(auto, using(crate::proofs::Quiet::keys_quiet))]
-fn types(pad: &mut Pad, octet: u8, book: &mut Book) -> Result<KeyAnswer, AllocError> {
+fn read_all(pad: &mut Pad)
+    ensures { pad.new.end.notes ≡ [] }
+{
     while pad.notes().is_some() {}
+}
+
+fn types(pad: &mut Pad, octet: u8, book: &mut Book) -> Result<KeyAnswer, AllocError> {
+    read_all(pad);
     book.reserve(2)?;
     Ok(pad::key(pad, Role::Dte, octet, book))
 }
@@ -229,9 +226,9 @@ fn what_a_host_asks_is_written(rt: HostRuntime) -> Result<(), Fail> {
     }
     assert_eq!(rt; asks(rt.alloc(), &mut host, Asked::Clear, &mut book)?, Ok(()));
     assert!(rt; is_closed(&book, 1));
-    assert_eq!(rt; calls(rt.alloc(), &mut host, b"2001", &mut book)?, Ok(2));
+    assert_eq!(rt; calls(rt.alloc(), &mut host, Address::new(&[2, 0, 0, 1]), &mut book)?, Ok(2));
     assert_eq!(rt;
-        calls(rt.alloc(), &mut host, b"2001", &mut book)?,
+        calls(rt.alloc(), &mut host, Address::new(&[2, 0, 0, 1]), &mut book)?,
         Err(CallFault::NoChannel)
     );
     assert_eq!(rt; book.present(Role::Dce, 2), Some(2));
