@@ -53,13 +53,7 @@ fn new_host(rt: &impl Abort, alloc: Global) -> Host {
 fn new_pad(rt: &impl Abort, alloc: Global) -> Pad {
     let mut params = Params::profile(Profile::Simple, 14);
     assert_eq!(rt; params.set(3, 2), Ok(()));
-    match Pad::new(
-        alloc,
-        PadConfig {
-            line: LINE,
-            params,
-        },
-    ) {
+    match Pad::new(alloc, PadConfig { line: LINE, params }) {
         Ok(pad) => pad,
         Err(_) => panic!(rt; "a PAD is made"),
     }
@@ -187,7 +181,10 @@ fn keys_are_written(rt: HostRuntime) -> Result<(), Fail> {
 fn what_a_host_says_is_written(rt: HostRuntime) -> Result<(), Fail> {
     let mut book = new_book(rt.alloc())?;
     let mut host = new_host(&rt, rt.alloc());
-    assert_eq!(rt; says(rt.alloc(), &mut host, &[b'A'; 130], &mut book)?, Ok(()));
+    assert_eq!(rt;
+        says(rt.alloc(), &mut host, &[b'A'; 130], &mut book)?,
+        Ok(())
+    );
     assert_eq!(rt;
         says(rt.alloc(), &mut host, &[b'A'; 1025], &mut book)?,
         Err(ChannelFault::TooLong)
@@ -224,11 +221,27 @@ fn what_a_host_asks_is_written(rt: HostRuntime) -> Result<(), Fail> {
             Err(ChannelFault::NoCall)
         );
     }
-    assert_eq!(rt; asks(rt.alloc(), &mut host, Asked::Clear, &mut book)?, Ok(()));
-    assert!(rt; is_closed(&book, 1));
-    assert_eq!(rt; calls(rt.alloc(), &mut host, Address::new(&[2, 0, 0, 1]), &mut book)?, Ok(2));
     assert_eq!(rt;
-        calls(rt.alloc(), &mut host, Address::new(&[2, 0, 0, 1]), &mut book)?,
+        asks(rt.alloc(), &mut host, Asked::Clear, &mut book)?,
+        Ok(())
+    );
+    assert!(rt; is_closed(&book, 1));
+    assert_eq!(rt;
+        calls(
+            rt.alloc(),
+            &mut host,
+            Address::new(&[2, 0, 0, 1]),
+            &mut book
+        )?,
+        Ok(2)
+    );
+    assert_eq!(rt;
+        calls(
+            rt.alloc(),
+            &mut host,
+            Address::new(&[2, 0, 0, 1]),
+            &mut book
+        )?,
         Err(CallFault::NoChannel)
     );
     assert_eq!(rt; book.present(Role::Dce, 2), Some(2));
@@ -268,7 +281,10 @@ fn a_host_is_told(rt: HostRuntime) {
         channel: 2,
         kind: NoteKind::Incoming,
     };
-    assert_eq!(rt; HostNote::of(5, &LayerNote::Incoming(2, call)), Some(incoming));
+    assert_eq!(rt;
+        HostNote::of(5, &LayerNote::Incoming(2, call)),
+        Some(incoming)
+    );
     let covered = LayerNote::Covered {
         channel: 2,
         count: 1,
@@ -279,8 +295,14 @@ fn a_host_is_told(rt: HostRuntime) {
 #[test]
 fn a_fault_has_the_words_of_its_cause(rt: HostRuntime) -> Result<(), Fail> {
     let fault = NodeFault::from(ChannelFault::QueueFull);
-    assert_eq!(rt; format!(in rt.alloc(); "{fault}")?.as_str(), "send queue full");
+    assert_eq!(rt;
+        format!(in rt.alloc(); "{fault}")?.as_str(),
+        "send queue full"
+    );
     let fault = NodeFault::from(CallFault::NoChannel);
-    assert_eq!(rt; format!(in rt.alloc(); "{fault}")?.as_str(), "no free channel");
+    assert_eq!(rt;
+        format!(in rt.alloc(); "{fault}")?.as_str(),
+        "no free channel"
+    );
     Ok(())
 }
