@@ -1,15 +1,15 @@
 -- Where all notes were read, what a user asks opens nothing in the book by the notes that it gives.
-use Rattle.std.proofs.Common.{◌≡◌, ℕ, zero, suc, ◌++◌, Bool, true, false, cond, List, [], ◌∷◌, refl, sym, ap, ◌∙◌}
+use Rattle.std.proofs.Common.{◌≡◌, ℕ, zero, suc, ◌++◌, Bool, true, false, cond, List, [], ◌∷◌, refl, ap, ◌∙◌}
 use Rattle.std.specs.Prelude.{Option, Some, None, is_some, ◌&&◌, ◌==◌, if◌then◌else◌}
 use Rattle.link_timers.specs.declared.role.Role.{Role}
 use Rattle.lapb.specs.Machine.{can_offer}
 use Rattle.packet_layer.specs.Packets.{CallParts, Note, Reason}
-use Rattle.packet_layer.specs.Packets.Note.{Incoming, Connected, Closed, WasReset, InterruptConfirmed, Covered}
+use Rattle.packet_layer.specs.Packets.Note.{Closed}
 use Rattle.packet_layer.specs.Traffic.{Taken}
 use Rattle.packet_layer.specs.Channel.{Channel, Refusal, Request}
 use Rattle.packet_layer.specs.Layer.{had_call, closing_notes, link_down, next_packet, call_refusal, request_refusal, front_on, room}
 use Rattle.packet_end.specs.PacketEnd.{PacketEnd, begun, called, asked, relinked, relinked_if_due, offered, all_offered, with_next, settled, finished}
-use Rattle.packet_host.specs.Host.{ended, unless_refused, let_go, after_call, after_request, refuse_refusal, after_refuse, after_say, taken_as, after_take}
+use Rattle.packet_host.specs.Host.{ended, unless_refused, let_go, refuse_refusal, taken_as}
 use Rattle.packet_host.specs.Saying.{cut, queued, say_refusal}
 use Rattle.pad_editing.specs.Edited.{Step, Effect, after_key}
 use Rattle.packet_pad.specs.Pad.{PadState, stands}

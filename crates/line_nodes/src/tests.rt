@@ -53,13 +53,7 @@ fn new_host(rt: &impl Abort, alloc: Global) -> Host {
 fn new_pad(rt: &impl Abort, alloc: Global) -> Pad {
     let mut params = Params::profile(Profile::Simple, 14);
     assert_eq!(rt; params.set(3, 2), Ok(()));
-    match Pad::new(
-        alloc,
-        PadConfig {
-            line: LINE,
-            params,
-        },
-    ) {
+    match Pad::new(alloc, PadConfig { line: LINE, params }) {
         Ok(pad) => pad,
         Err(_) => panic!(rt; "a PAD is made"),
     }
@@ -77,22 +71,16 @@ fn ready(alloc: Global, host: &mut Host, book: &mut Book) -> Result<Vec<HostNote
     Vec::with_capacity(alloc, 96)
 }
 
-#[tactic(auto, using(crate::proofs::Quiet::calls_quiet))]
 fn calls(
     alloc: Global,
     host: &mut Host,
-    digits: &[u8; 4],
+    address: Address,
     book: &mut Book,
 ) -> Result<Result<u8, CallFault>, AllocError> {
     let mut notes = ready(alloc, host, book)?;
-    let address = match Address::read(digits) {
-        Ok(address) => address,
-        Err(_) => Address::new(&[0]),
-    };
     Ok(host::call(host, AT_DCE, address, &[], book, &mut notes))
 }
 
-#[tactic(auto, using(crate::proofs::Quiet::says_quiet))]
 fn says(
     alloc: Global,
     host: &mut Host,
@@ -115,7 +103,6 @@ enum Asked {
     Go,
 }
 
-#[tactic(auto, using(crate::proofs::Quiet::asks_quiet, crate::proofs::Quiet::refuses_quiet))]
 fn asks(
     alloc: Global,
     host: &mut Host,
@@ -134,15 +121,19 @@ fn asks(
     })
 }
 
-#[tactic(auto, using(crate::proofs::Quiet::takes_quiet))]
 fn takes_nothing(alloc: Global, host: &mut Host, book: &mut Book) -> Result<bool, AllocError> {
     let mut notes = ready(alloc, host, book)?;
     Ok(host::take(host, AT_DCE, 1, book, &mut notes).is_none())
 }
 
-#[tactic(auto, using(crate::proofs::Quiet::keys_quiet))]
-fn types(pad: &mut Pad, octet: u8, book: &mut Book) -> Result<KeyAnswer, AllocError> {
+fn read_all(pad: &mut Pad)
+    ensures { pad.new.end.notes ≡ [] }
+{
     while pad.notes().is_some() {}
+}
+
+fn types(pad: &mut Pad, octet: u8, book: &mut Book) -> Result<KeyAnswer, AllocError> {
+    read_all(pad);
     book.reserve(2)?;
     Ok(pad::key(pad, Role::Dte, octet, book))
 }
@@ -190,7 +181,10 @@ fn keys_are_written(rt: HostRuntime) -> Result<(), Fail> {
 fn what_a_host_says_is_written(rt: HostRuntime) -> Result<(), Fail> {
     let mut book = new_book(rt.alloc())?;
     let mut host = new_host(&rt, rt.alloc());
-    assert_eq!(rt; says(rt.alloc(), &mut host, &[b'A'; 130], &mut book)?, Ok(()));
+    assert_eq!(rt;
+        says(rt.alloc(), &mut host, &[b'A'; 130], &mut book)?,
+        Ok(())
+    );
     assert_eq!(rt;
         says(rt.alloc(), &mut host, &[b'A'; 1025], &mut book)?,
         Err(ChannelFault::TooLong)
@@ -227,11 +221,27 @@ fn what_a_host_asks_is_written(rt: HostRuntime) -> Result<(), Fail> {
             Err(ChannelFault::NoCall)
         );
     }
-    assert_eq!(rt; asks(rt.alloc(), &mut host, Asked::Clear, &mut book)?, Ok(()));
-    assert!(rt; is_closed(&book, 1));
-    assert_eq!(rt; calls(rt.alloc(), &mut host, b"2001", &mut book)?, Ok(2));
     assert_eq!(rt;
-        calls(rt.alloc(), &mut host, b"2001", &mut book)?,
+        asks(rt.alloc(), &mut host, Asked::Clear, &mut book)?,
+        Ok(())
+    );
+    assert!(rt; is_closed(&book, 1));
+    assert_eq!(rt;
+        calls(
+            rt.alloc(),
+            &mut host,
+            Address::new(&[2, 0, 0, 1]),
+            &mut book
+        )?,
+        Ok(2)
+    );
+    assert_eq!(rt;
+        calls(
+            rt.alloc(),
+            &mut host,
+            Address::new(&[2, 0, 0, 1]),
+            &mut book
+        )?,
         Err(CallFault::NoChannel)
     );
     assert_eq!(rt; book.present(Role::Dce, 2), Some(2));
@@ -271,7 +281,10 @@ fn a_host_is_told(rt: HostRuntime) {
         channel: 2,
         kind: NoteKind::Incoming,
     };
-    assert_eq!(rt; HostNote::of(5, &LayerNote::Incoming(2, call)), Some(incoming));
+    assert_eq!(rt;
+        HostNote::of(5, &LayerNote::Incoming(2, call)),
+        Some(incoming)
+    );
     let covered = LayerNote::Covered {
         channel: 2,
         count: 1,
@@ -282,8 +295,14 @@ fn a_host_is_told(rt: HostRuntime) {
 #[test]
 fn a_fault_has_the_words_of_its_cause(rt: HostRuntime) -> Result<(), Fail> {
     let fault = NodeFault::from(ChannelFault::QueueFull);
-    assert_eq!(rt; format!(in rt.alloc(); "{fault}")?.as_str(), "send queue full");
+    assert_eq!(rt;
+        format!(in rt.alloc(); "{fault}")?.as_str(),
+        "send queue full"
+    );
     let fault = NodeFault::from(CallFault::NoChannel);
-    assert_eq!(rt; format!(in rt.alloc(); "{fault}")?.as_str(), "no free channel");
+    assert_eq!(rt;
+        format!(in rt.alloc(); "{fault}")?.as_str(),
+        "no free channel"
+    );
     Ok(())
 }
