@@ -76,12 +76,19 @@ pub data Flows (F : Type 0) (names : Names) (traces : Bool) (lines : ℕ) : Flow
       → Passes F names traces lines s first mid → mid.left < s.left → Flows F names traces lines mid rest t
       → Flows F names traces lines s (first ++ rest) t
 
--- the timer that is due expires, and then the next one, until none is due or so many expired
+-- the timer that is due expires, or none is due
+pub data ExpiresNext (F : Type 0) (names : Names) (traces : Bool) : (was_due : Bool) → NetState → List ℕ → NetState → Type 0 where
+  one : {expiry : Event} {s t : NetState} {text : List ℕ}
+      → net_due s ≡ Some expiry → TellsEvent F names traces expiry s text t → ExpiresNext F names traces true s text t
+  none : {s : NetState} → net_due s ≡ None → ExpiresNext F names traces false s [] s
+
+-- what is due expires, one after the other, until none is due or so many expired
 pub data Expires (F : Type 0) (names : Names) (traces : Bool) : ℕ → NetState → List ℕ → NetState → Type 0 where
   at_limit : {s : NetState} → Expires F names traces 0 s [] s
-  none_due : {left : ℕ} {s : NetState} → net_due s ≡ None → Expires F names traces left s [] s
-  again : {left : ℕ} {expiry : Event} {s mid t : NetState} {first rest : List ℕ}
-      → net_due s ≡ Some expiry → TellsEvent F names traces expiry s first mid → Expires F names traces left mid rest t
+  last : {left : ℕ} {s t : NetState} {text : List ℕ}
+      → ExpiresNext F names traces false s text t → Expires F names traces (suc left) s text t
+  again : {left : ℕ} {s mid t : NetState} {first rest : List ℕ}
+      → ExpiresNext F names traces true s first mid → Expires F names traces left mid rest t
       → Expires F names traces (suc left) s (first ++ rest) t
 
 -- so many ticks go by, and then what is due expires: at most 100,000 expiries, more than there are timers

@@ -6,7 +6,8 @@ ghost use Rattle.x25net.specs.Answers.{frame_text, note_text, frames_text, answe
 ghost use Rattle.line_sim.specs.declared.event.Event.{Event};
 ghost use Rattle.line_sim.specs.NetState.{NetState};
 ghost use Rattle.x25net.specs.InTurn.{InTurn, Writes};
-ghost use Rattle.x25net.specs.Playing.{has_arrived, Tells, TellsEvent, Delivers, Passes, Flows, Ticks};
+ghost use Rattle.x25net.specs.Playing.{has_arrived, Tells, TellsEvent, Delivers, Passes, Flows};
+ghost use Rattle.x25net.specs.Playing.{ExpiresNext, Ticks};
 ghost use Rattle.x25net.specs.Playing.{DoesCommand, Plays, end_line, IsPlayFault};
 ghost use Rattle.x25net.specs.declared.fault.ProgFault.{ProgFault};
 
@@ -199,12 +200,32 @@ fn tick<L: Line, W: Write>(
 {
     net.elapse(ticks);
     for _ in 0..EXPIRY_LIMIT {
-        let Some(expiry) = net.next_due() else {
+        if !expire_next(alloc, net, names, traces, out)? {
             return Ok(());
-        };
-        play_event(alloc, net, names, traces, &expiry, out)?;
+        }
     }
     Ok(())
+}
+
+/// The timer that is due expires, if there is one, and gives whether there was.
+fn expire_next<L: Line, W: Write>(
+    alloc: Global,
+    net: &mut Net<L>,
+    names: &[String],
+    traces: bool,
+    out: &mut W,
+) -> Result<bool, ProgFault>
+    ensures writes { IfOk result (λ was_due. Writes (W.contents out.old) (W.contents out.new)
+        (λ text. ExpiresNext L.faithful names.now traces was_due net.old text net.new)) }
+    ensures faults { IfErr result IsPlayFault }
+{
+    match net.next_due() {
+        Some(expiry) => {
+            play_event(alloc, net, names, traces, &expiry, out)?;
+            Ok(true)
+        }
+        None => Ok(false),
+    }
 }
 
 /// One event: prints its answer, and gives whether a frame arrived.
