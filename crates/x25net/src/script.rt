@@ -10,7 +10,7 @@ use link_timers::TimerId;
 use std::alloc::{AllocError, Global};
 
 /// What a line of a script asks for.
-#[derive(Drop)]
+#[derive(Debug, Drop)]
 pub enum Command {
     /// These events, one after the other.
     Events(Vec<Event>),
