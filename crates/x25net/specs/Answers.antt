@@ -10,7 +10,7 @@ use Rattle.packet_layer.specs.declared.taken.Taken.{Taken}
 use Rattle.packet_layer.specs.declared.taken.Taken.TheVariants as taken
 use Rattle.line_nodes.specs.declared.fault.NodeFault.{NodeFault}
 use Rattle.line_nodes.specs.declared.fault.NodeFault.TheVariants.{Call, Channel}
-use Rattle.line_nodes.specs.declared.key.KeyAnswer.TheVariants.{Dropped}
+use Rattle.line_nodes.specs.declared.pad.KeyAnswer.TheVariants.{Dropped}
 use Rattle.line_nodes.specs.declared.note.HostNote.{HostNote}
 use Rattle.line_nodes.specs.declared.note.NoteKind.{NoteKind}
 use Rattle.line_nodes.specs.declared.note.NoteKind.TheVariants.{Incoming, Connected, Cleared, Reset}

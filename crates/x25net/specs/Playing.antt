@@ -11,7 +11,8 @@ use Rattle.line_sim.specs.declared.event.StepFault.{StepFault}
 use Rattle.line_sim.specs.declared.event.StepFault.TheVariants.{OutOfMemory}
 use Rattle.line_sim.specs.declared.config.Config.{Config}
 use Rattle.line_sim.specs.Plan.{IsMade}
-use Rattle.line_sim.specs.NetState.{NetState, net_rests, net_elapsed, net_due}
+use Rattle.line_sim.specs.NetState.{NetState, net_rests, net_elapsed}
+use Rattle.line_sim.specs.Due.{net_due}
 use Rattle.line_sim.specs.Runs.{Happens}
 use Rattle.x25net.specs.declared.fault.ProgFault.{ProgFault}
 use Rattle.x25net.specs.declared.script.Command.{Command}
