@@ -1,4 +1,3 @@
-use Rattle.std.proofs.Common.{◌≡◌, sym, ap, ◌∙◌}
 use Rattle.x25net.specs.Playing.DoesCommand.{events, flow, tick, trace}
 use Rattle.x25net.proofs.Turns.{writes_as, writes_nothing}
 use Rattle.x25net.proofs.player.play_command.Goals as goal

@@ -1,4 +1,4 @@
-use Rattle.std.proofs.Common.{◌-◌, List, ℕ}
+use Rattle.std.proofs.Common.{◌-◌}
 use Rattle.x25net.specs.InTurn.{Writes}
 use Rattle.x25net.proofs.Expiries.{Onward}
 use Rattle.x25net.proofs.player.tick.Given as goal
