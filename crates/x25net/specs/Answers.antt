@@ -3,22 +3,27 @@ use Rattle.std.specs.Prelude.{ℕ, ◌+◌, ◌/◌, ◌%◌, ◌==◌, ◌&&◌
 use Rattle.std.specs.Option.{option_map}
 use Rattle.std.specs.List.{flat_map}
 use Rattle.std.specs.declared.alloc.Global.{Global}
-use Rattle.epochs.specs.Item.{DataPacket}
+use Rattle.packet_layer.specs.Packets.{Datum}
+use Rattle.packet_layer.specs.declared.fault.CallFault.TheVariants.{NotReady, NoChannel}
+use Rattle.packet_layer.specs.declared.fault.ChannelFault.TheVariants.{NoCall, Resetting, QueueFull, TooLong, InterruptPending}
+use Rattle.packet_layer.specs.declared.taken.Taken.{Taken}
+use Rattle.packet_layer.specs.declared.taken.Taken.TheVariants as taken
+use Rattle.line_nodes.specs.declared.fault.NodeFault.{NodeFault}
+use Rattle.line_nodes.specs.declared.fault.NodeFault.TheVariants.{Call, Channel}
+use Rattle.line_nodes.specs.declared.pad.KeyAnswer.TheVariants.{Dropped}
+use Rattle.line_nodes.specs.declared.note.HostNote.{HostNote}
+use Rattle.line_nodes.specs.declared.note.NoteKind.{NoteKind}
+use Rattle.line_nodes.specs.declared.note.NoteKind.TheVariants.{Incoming, Connected, Cleared, Reset}
 use Rattle.line_sim.specs.declared.line.Direction.{Direction}
 use Rattle.line_sim.specs.declared.line.Direction.TheVariants.{FromDte, FromDce}
 use Rattle.line_sim.specs.declared.event.Put.{Put}
-use Rattle.line_sim.specs.declared.event.HostNote.{HostNote}
-use Rattle.line_sim.specs.declared.event.HostNote.TheVariants.{Cleared}
 use Rattle.line_sim.specs.declared.event.Event.{Event}
-use Rattle.line_sim.specs.declared.event.Event.TheVariants.{Take}
-use Rattle.line_sim.specs.declared.event.KeyAnswer.TheVariants.{Dropped}
+use Rattle.line_sim.specs.declared.event.Event.TheVariants as event
 use Rattle.line_sim.specs.declared.event.Outcome.{Outcome}
-use Rattle.line_sim.specs.declared.event.Outcome.TheVariants.{Keyed, Took}
+use Rattle.line_sim.specs.declared.event.Outcome.TheVariants.{Keyed, Called, Took}
 use Rattle.line_sim.specs.declared.event.Answer.{Answer}
 use Rattle.line_sim.specs.declared.event.StepFault.{StepFault}
 use Rattle.line_sim.specs.declared.event.StepFault.TheVariants as fault
-use Rattle.line_sim.specs.declared.packet.Taken.{Taken}
-use Rattle.line_sim.specs.declared.packet.Taken.TheVariants.{Interrupt, Packet}
 
 -- the hexadecimal digit of a number below 16: 48 is `0`, 65 is `A`
 abbrev pub hex_digit : ℕ → ℕ
@@ -42,17 +47,17 @@ letter_if letter true = letter ∷ []
 letter_if letter false = []
 
 -- the letters m, q and d of the bits that are set, or a dash where none is
-abbrev pub flags_of : DataPacket → List ℕ
+abbrev pub flags_of : Datum → List ℕ
 flags_of p =
-    if p.more then 109 ∷ letter_if 113 p.qualified ++ letter_if 100 p.confirm
-    else if p.qualified then 113 ∷ letter_if 100 p.confirm
-    else if p.confirm then 100 ∷ [] else 45 ∷ []
+    if p.more then 109 ∷ letter_if 113 p.qualified ++ letter_if 100 p.delivery
+    else if p.qualified then 113 ∷ letter_if 100 p.delivery
+    else if p.delivery then 100 ∷ [] else 45 ∷ []
 
 -- what was taken, if anything
 abbrev pub taken_text : Option Taken → List ℕ
 taken_text None = codes "none"
-taken_text (Some (Interrupt octets)) = codes "int " ++ quoted octets
-taken_text (Some (Packet p)) = codes "data " ++ (flags_of p ++ (32 ∷ quoted p.octets))
+taken_text (Some (taken.Interrupt octets)) = codes "int " ++ quoted octets
+taken_text (Some (taken.«Data» p)) = codes "data " ++ (flags_of p ++ (32 ∷ quoted p.octets))
 
 -- the names of a network's nodes
 abbrev pub Names : Type 0
@@ -62,9 +67,11 @@ Names = List (String Global)
 abbrev pub name_of : Names → ℕ → List ℕ
 name_of names node = unwrap_or (option_map string_bytes (slice_get names node)) []
 
--- the line of an outcome: nothing for a key that was taken and for a delivery
+-- the line of an outcome: of a call that was placed, of what was taken, of a key that was dropped
 abbrev pub outcome_text : Names → Event → Outcome → List ℕ
-outcome_text names (Take node channel) (Took taken) =
+outcome_text names (event.Call node address user_data) (Called channel) =
+    name_of names node ++ (47 ∷ decimal channel ++ (codes " called" ++ 10 ∷ []))
+outcome_text names (event.Take node channel) (Took taken) =
     name_of names node ++ (47 ∷ decimal channel ++ (32 ∷ taken_text taken ++ 10 ∷ []))
 outcome_text names e (Keyed Dropped) = codes "dropped" ++ 10 ∷ []
 outcome_text names e o = []
@@ -82,21 +89,41 @@ spaced octet = 32 ∷ hex_digit (octet / 16) ∷ hex_digit (octet % 16) ∷ []
 abbrev pub frame_text : Put → List ℕ
 frame_text put = decimal put.line ++ (32 ∷ way_of put.direction ++ (flat_map spaced put.octets ++ 10 ∷ []))
 
+-- what happened to a call, with the cause and the diagnostic
+abbrev pub happening : NoteKind → List ℕ
+happening Incoming = codes "incoming"
+happening Connected = codes "connected"
+happening (Cleared cause diagnostic) = codes "cleared " ++ (decimal cause ++ (32 ∷ decimal diagnostic))
+happening (Reset cause diagnostic) = codes "reset " ++ (decimal cause ++ (32 ∷ decimal diagnostic))
+
 -- the line of what a host noted
 abbrev pub note_text : Names → HostNote → List ℕ
-note_text names (Cleared node channel cause diagnostic) =
-    name_of names node ++ (47 ∷ decimal channel ++ (codes " cleared " ++ (decimal cause ++ (32 ∷ decimal diagnostic ++ 10 ∷ []))))
+note_text names note = name_of names note.node ++ (47 ∷ decimal note.channel ++ (32 ∷ happening note.kind ++ 10 ∷ []))
 
 -- the lines of the frames, if they are traced, and of the notes
 abbrev pub frames_text : (traces : Bool) → List Put → List ℕ
 frames_text true puts = flat_map frame_text puts
 frames_text false puts = []
 
--- the line of a refusal: its number and name
+-- why a node refuses
+abbrev pub fault_name : NodeFault → List ℕ
+fault_name (Call NotReady) = codes "NotReady"
+fault_name (Call NoChannel) = codes "NoChannel"
+fault_name (Channel NoCall) = codes "NoCall"
+fault_name (Channel Resetting) = codes "Resetting"
+fault_name (Channel QueueFull) = codes "QueueFull"
+fault_name (Channel TooLong) = codes "TooLong"
+fault_name (Channel InterruptPending) = codes "InterruptPending"
+
+abbrev pub node_refusal_text : NodeFault → List ℕ
+node_refusal_text reason = codes "refused 4 " ++ fault_name reason ++ 10 ∷ []
+
+-- the line of a refusal: its number and name, and for 4 the name of the node's fault
 abbrev pub refusal_text : StepFault → List ℕ
 refusal_text fault.NoSuchNode = codes "refused 1 NoSuchNode" ++ 10 ∷ []
 refusal_text fault.NoSuchTerminal = codes "refused 2 NoSuchTerminal" ++ 10 ∷ []
 refusal_text fault.NoSuchCall = codes "refused 3 NoSuchCall" ++ 10 ∷ []
+refusal_text (fault.Refused reason) = node_refusal_text reason
 refusal_text fault.OutOfMemory = codes "refused 5 OutOfMemory" ++ 10 ∷ []
 
 -- the text of an answer or a refusal

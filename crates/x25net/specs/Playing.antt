@@ -1,6 +1,6 @@
 -- What a script makes of a network, and what is printed.
 use Rattle.std.specs.declared.alloc.Global.{Global}
-use Rattle.std.specs.Prelude.{Vec, ◌≡◌, ◌≢◌, ◌⊎◌, ℕ, zero, suc, ◌+◌, ◌<◌, Bool, true, false, List, [], ◌∷◌, ◌++◌, Option, Result, Ok, Err, codes}
+use Rattle.std.specs.Prelude.{Vec, ◌≡◌, ◌≢◌, ◌⊎◌, ℕ, zero, suc, ◌+◌, ◌<◌, Bool, true, false, List, [], ◌∷◌, ◌++◌, Option, Some, None, Result, Ok, Err, codes}
 use Rattle.line_sim.specs.declared.line.Direction.TheVariants.{FromDte, FromDce}
 use Rattle.line_sim.specs.declared.event.Event.{Event}
 use Rattle.line_sim.specs.declared.event.Event.TheVariants.{Deliver}
@@ -11,11 +11,12 @@ use Rattle.line_sim.specs.declared.event.StepFault.{StepFault}
 use Rattle.line_sim.specs.declared.event.StepFault.TheVariants.{OutOfMemory}
 use Rattle.line_sim.specs.declared.config.Config.{Config}
 use Rattle.line_sim.specs.Plan.{IsMade}
-use Rattle.line_sim.specs.NetState.{NetState, net_rests}
+use Rattle.line_sim.specs.NetState.{NetState, net_rests, net_elapsed}
+use Rattle.line_sim.specs.Due.{net_due}
 use Rattle.line_sim.specs.Runs.{Happens}
 use Rattle.x25net.specs.declared.fault.ProgFault.{ProgFault}
 use Rattle.x25net.specs.declared.script.Command.{Command}
-use Rattle.x25net.specs.declared.script.Command.TheVariants.{Events, Flow, Trace}
+use Rattle.x25net.specs.declared.script.Command.TheVariants.{Events, Flow, Tick, Trace}
 use Rattle.x25net.specs.declared.script.Script.{Script}
 use Rattle.x25net.specs.Answers.{Names, answer_text}
 use Rattle.x25net.specs.InTurn.{InTurn, Writes}
@@ -76,12 +77,32 @@ pub data Flows (F : Type 0) (names : Names) (traces : Bool) (lines : ℕ) : Flow
       → Passes F names traces lines s first mid → mid.left < s.left → Flows F names traces lines mid rest t
       → Flows F names traces lines s (first ++ rest) t
 
+-- the timer that is due expires, or none is due
+pub data ExpiresNext (F : Type 0) (names : Names) (traces : Bool) : (was_due : Bool) → NetState → List ℕ → NetState → Type 0 where
+  one : {expiry : Event} {s t : NetState} {text : List ℕ}
+      → net_due s ≡ Some expiry → TellsEvent F names traces expiry s text t → ExpiresNext F names traces true s text t
+  none : {s : NetState} → net_due s ≡ None → ExpiresNext F names traces false s [] s
+
+-- what is due expires, one after the other, until none is due or so many expired
+pub data Expires (F : Type 0) (names : Names) (traces : Bool) : ℕ → NetState → List ℕ → NetState → Type 0 where
+  at_limit : {s : NetState} → Expires F names traces 0 s [] s
+  last : {left : ℕ} {s t : NetState} {text : List ℕ}
+      → ExpiresNext F names traces false s text t → Expires F names traces (suc left) s text t
+  again : {left : ℕ} {s mid t : NetState} {first rest : List ℕ}
+      → ExpiresNext F names traces true s first mid → Expires F names traces left mid rest t
+      → Expires F names traces (suc left) s (first ++ rest) t
+
+-- so many ticks go by, and then what is due expires: at most 100,000 expiries, more than there are timers
+abbrev pub Ticks : (F : Type 0) → Names → (traces : Bool) → (ticks : ℕ) → NetState → List ℕ → NetState → Type 0
+Ticks F names traces ticks s text t = Expires F names traces 100000 (net_elapsed ticks s) text t
+
 -- a network on which a script is played, and whether frames are traced
 pub record Played : Type 0 where
   pub net : NetState
   pub traces : Bool
 
--- what a command does: its events happen in order, at most 100,000 frames flow, or frames are traced from here on, or not
+-- what a command does: its events happen in order, at most 100,000 frames flow, time goes by, or frames are traced from here on,
+-- or not
 pub data DoesCommand (F : Type 0) (names : Names) (lines : ℕ) : Command → Played → List ℕ → Played → Type 0 where
   events : {events : Vec Event Global} {traces : Bool} {s t : NetState} {text : List ℕ}
       → InTurn Event NetState (TellsEvent F names traces) events.items s text t
@@ -89,6 +110,9 @@ pub data DoesCommand (F : Type 0) (names : Names) (lines : ℕ) : Command → Pl
   flow : {traces : Bool} {s t : NetState} {text : List ℕ}
       → Flows F names traces lines (record { left = 100000; net = s }) text t
       → DoesCommand F names lines Flow (record { net = s; traces = traces }) text (record { net = t; traces = traces })
+  tick : {ticks : ℕ} {traces : Bool} {s t : NetState} {text : List ℕ}
+      → Ticks F names traces ticks s text t
+      → DoesCommand F names lines (Tick ticks) (record { net = s; traces = traces }) text (record { net = t; traces = traces })
   trace : {before after : Bool} {s : NetState}
       → DoesCommand F names lines (Trace after) (record { net = s; traces = before }) [] (record { net = s; traces = after })
 

@@ -3,9 +3,12 @@ ghost use Rattle.std.specs.Prelude.{◌≡◌, ◌<◌, Some, IfOk, string_bytes
 ghost use Rattle.std.specs.List.{flat_map};
 ghost use Rattle.std.specs.Fmt.{WritesOnOk};
 ghost use Rattle.x25net.specs.Answers.{quoted, shown, hex_digit, flags_of, taken_text};
-ghost use Rattle.x25net.specs.Answers.{name_of, outcome_text, refusal_text, way_of, spaced, frame_text, note_text};
+ghost use Rattle.x25net.specs.Answers.{name_of, outcome_text, refusal_text, node_refusal_text, way_of, spaced};
+ghost use Rattle.x25net.specs.Answers.{frame_text, note_text, happening};
 
-use line_sim::{Direction, Event, HostNote, KeyAnswer, Outcome, Put, StepFault, Taken, UserPacket};
+use line_nodes::{HostNote, KeyAnswer, NodeFault, NoteKind};
+use line_sim::{Direction, Event, Outcome, Put, StepFault};
+use packet_layer::{CallFault, ChannelFault, Taken, UserData};
 use std::alloc::{AllocError, Global};
 use std::fmt;
 
@@ -19,6 +22,10 @@ pub(crate) fn outcome_text(
     ensures { IfOk result (λ text. string_bytes text ≡ outcome_text names.now event.now outcome.now) }
 {
     match (event, outcome) {
+        (Event::Call { node, .. }, Outcome::Called { channel }) => {
+            let name = node_name(names, *node);
+            format!(in alloc; "{name}/{channel} called\n")
+        }
         (Event::Take { node, channel }, Outcome::Took(taken)) => {
             let name = node_name(names, *node);
             let taken = Shown(taken);
@@ -57,15 +64,25 @@ pub(crate) fn note_text(
 ) -> Result<String, AllocError>
     ensures { IfOk result (λ text. string_bytes text ≡ note_text names.now note.now) }
 {
-    match *note {
-        HostNote::Cleared {
-            node,
-            channel,
-            cause,
-            diagnostic,
-        } => {
-            let name = node_name(names, node);
-            format!(in alloc; "{name}/{channel} cleared {cause} {diagnostic}\n")
+    let name = node_name(names, note.node);
+    let channel = note.channel;
+    let happening = Happening(&note.kind);
+    format!(in alloc; "{name}/{channel} {happening}\n")
+}
+
+/// What happened to a call.
+#[derive(Clone, Copy)]
+struct Happening<'a>(&'a NoteKind);
+
+impl fmt::Display for Happening<'_> {
+    ghost output = { λ h. Some (happening h.0.now) };
+
+    fn fmt<W: fmt::Write>(&self, f: &mut fmt::Formatter<W>) -> fmt::Result {
+        match self.0 {
+            NoteKind::Incoming => f.write_str("incoming"),
+            NoteKind::Connected => f.write_str("connected"),
+            NoteKind::Cleared { cause, diagnostic } => write!(f, "cleared {cause} {diagnostic}"),
+            NoteKind::Reset { cause, diagnostic } => write!(f, "reset {cause} {diagnostic}"),
         }
     }
 }
@@ -109,7 +126,23 @@ pub(crate) fn refusal_text(fault: StepFault) -> &'static str
         StepFault::NoSuchNode => "refused 1 NoSuchNode\n",
         StepFault::NoSuchTerminal => "refused 2 NoSuchTerminal\n",
         StepFault::NoSuchCall => "refused 3 NoSuchCall\n",
+        StepFault::Refused(fault) => node_refusal_text(fault),
         StepFault::OutOfMemory => "refused 5 OutOfMemory\n",
+    }
+}
+
+/// The line of a refusal by the node.
+fn node_refusal_text(fault: NodeFault) -> &'static str
+    ensures { result.now ≡ node_refusal_text fault }
+{
+    match fault {
+        NodeFault::Call(CallFault::NotReady) => "refused 4 NotReady\n",
+        NodeFault::Call(CallFault::NoChannel) => "refused 4 NoChannel\n",
+        NodeFault::Channel(ChannelFault::NoCall) => "refused 4 NoCall\n",
+        NodeFault::Channel(ChannelFault::Resetting) => "refused 4 Resetting\n",
+        NodeFault::Channel(ChannelFault::QueueFull) => "refused 4 QueueFull\n",
+        NodeFault::Channel(ChannelFault::TooLong) => "refused 4 TooLong\n",
+        NodeFault::Channel(ChannelFault::InterruptPending) => "refused 4 InterruptPending\n",
     }
 }
 
@@ -137,7 +170,7 @@ impl fmt::Display for Shown<'_> {
                 let octets = Quoted(interrupt.octets());
                 write!(f, "int {octets}")
             }
-            Some(Taken::Packet(packet)) => {
+            Some(Taken::Data(packet)) => {
                 let flags = flags_of(packet);
                 let octets = Quoted(packet.octets());
                 write!(f, "data {flags} {octets}")
@@ -147,10 +180,10 @@ impl fmt::Display for Shown<'_> {
 }
 
 /// The letters of the bits M, Q and D that are set, or a dash where none is.
-fn flags_of(packet: &UserPacket) -> &'static str
+fn flags_of(packet: &UserData) -> &'static str
     ensures { result.now ≡ flags_of packet.now }
 {
-    match (packet.more(), packet.qualified(), packet.confirm()) {
+    match (packet.more(), packet.qualified(), packet.delivery()) {
         (false, false, false) => "-",
         (false, false, true) => "d",
         (false, true, false) => "q",

@@ -3,6 +3,8 @@
 
 mod answer;
 mod fault;
+#[cfg(test)]
+mod host_tests;
 mod network;
 mod player;
 mod program;

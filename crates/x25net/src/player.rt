@@ -7,18 +7,23 @@ ghost use Rattle.line_sim.specs.declared.event.Event.{Event};
 ghost use Rattle.line_sim.specs.NetState.{NetState};
 ghost use Rattle.x25net.specs.InTurn.{InTurn, Writes};
 ghost use Rattle.x25net.specs.Playing.{has_arrived, Tells, TellsEvent, Delivers, Passes, Flows};
+ghost use Rattle.x25net.specs.Playing.{ExpiresNext, Ticks};
 ghost use Rattle.x25net.specs.Playing.{DoesCommand, Plays, end_line, IsPlayFault};
 ghost use Rattle.x25net.specs.declared.fault.ProgFault.{ProgFault};
 
 use crate::answer::{frame_text, note_text, outcome_text, refusal_text};
 use crate::fault::ProgFault;
 use crate::script::{Command, Script};
-use line_sim::{Answer, Direction, Event, HostNote, Line, Net, Outcome, Put, StepFault};
+use line_nodes::HostNote;
+use line_sim::{Answer, Direction, Event, Line, Net, Outcome, Put, StepFault};
 use std::alloc::Global;
 use std::io::Write;
 
 /// How many frames a `flow` delivers at most.
 const FLOW_LIMIT: u32 = 100_000;
+
+/// How many expiries a `tick` brings at most. A line has no more than 400 timers, and one that runs anew is not due.
+const EXPIRY_LIMIT: u32 = 100_000;
 
 /// Plays a script on a network, and prints the answer to each event, and at the end whether the network is at rest.
 ///
@@ -71,6 +76,10 @@ fn play_command<L: Line, W: Write>(
         }
         Command::Flow => {
             flow(alloc, net, names, traces, script.lines, out)?;
+            Ok(traces)
+        }
+        Command::Tick(ticks) => {
+            tick(alloc, net, names, traces, *ticks, out)?;
             Ok(traces)
         }
         Command::Trace(on) => Ok(*on),
@@ -173,6 +182,49 @@ fn deliver<L: Line, W: Write>(
         Ok(left - 1)
     } else {
         Ok(left)
+    }
+}
+
+/// Lets time go by, and then each timer that is due expires, one after the other.
+fn tick<L: Line, W: Write>(
+    alloc: Global,
+    net: &mut Net<L>,
+    names: &[String],
+    traces: bool,
+    ticks: u16,
+    out: &mut W,
+) -> Result<(), ProgFault>
+    ensures writes { OnOk result (Writes (W.contents out.old) (W.contents out.new)
+        (λ text. Ticks L.faithful names.now traces ticks net.old text net.new)) }
+    ensures faults { IfErr result IsPlayFault }
+{
+    net.elapse(ticks);
+    for _ in 0..EXPIRY_LIMIT {
+        if !expire_next(alloc, net, names, traces, out)? {
+            return Ok(());
+        }
+    }
+    Ok(())
+}
+
+/// The timer that is due expires, if there is one, and gives whether there was.
+fn expire_next<L: Line, W: Write>(
+    alloc: Global,
+    net: &mut Net<L>,
+    names: &[String],
+    traces: bool,
+    out: &mut W,
+) -> Result<bool, ProgFault>
+    ensures writes { IfOk result (λ was_due. Writes (W.contents out.old) (W.contents out.new)
+        (λ text. ExpiresNext L.faithful names.now traces was_due net.old text net.new)) }
+    ensures faults { IfErr result IsPlayFault }
+{
+    match net.next_due() {
+        Some(expiry) => {
+            play_event(alloc, net, names, traces, &expiry, out)?;
+            Ok(true)
+        }
+        None => Ok(false),
     }
 }
 

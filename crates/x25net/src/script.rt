@@ -4,17 +4,20 @@ ghost use Rattle.x25net.specs.Scripts.{AreNamesOf, IsScriptFault};
 
 use crate::fault::ProgFault;
 use crate::words::{LineFault, Words, cut, read_text};
-use line_sim::{Config, Direction, Event};
+use arrayvec::ArrayVec;
+use line_sim::{Config, Direction, Event, Request};
 use link_timers::TimerId;
 use std::alloc::{AllocError, Global};
 
 /// What a line of a script asks for.
-#[derive(Drop)]
+#[derive(Debug, Drop)]
 pub enum Command {
     /// These events, one after the other.
     Events(Vec<Event>),
     /// Frames are delivered, line after line, until none is in flight.
     Flow,
+    /// So many ticks go by, and then each timer that is due expires.
+    Tick(u16),
     /// From here on each frame that is put is printed, or none is.
     Trace(bool),
 }
@@ -30,8 +33,9 @@ pub struct Script {
 /// Reads a script for a network: a command a line, of words that one space parts. Empty lines are skipped.
 ///
 /// `Script` with the number of the first line that is no command, counted from 1: the word is unknown, words are missing
-/// or too many, a node has no such name, a number is not 0 to 65,535, or a text has a backslash that begins no octet.
-/// What a number means, as of a terminal or a channel, is tested when the event comes.
+/// or too many, a node has no such name, a number is not 0 to 65,535, an address is not 1 to 15 digits, a text has a backslash
+/// that begins no octet, or the user data of a call is more than 16 octets. What a number means, as of a terminal or a channel,
+/// is tested when the event comes.
 pub fn read_script(alloc: Global, text: &[u8], config: &Config) -> Result<Script, ProgFault>
     ensures names { IfOk result (λ script. AreNamesOf config.now.nodes.items script.names.items) }
     ensures lines { IfOk result (λ script. script.lines ≡ vec_len config.now.lines) }
@@ -75,42 +79,13 @@ fn read_line(alloc: Global, line: &[u8], names: &[String]) -> Result<Command, Li
     let mut words = Words::new(line);
     match words.next_word()? {
         b"key" => read_keys(alloc, words, names),
-        b"take" => {
-            let event = read_take(words, names)?;
-            Ok(Command::Events(vec![in alloc; event]?))
-        }
-        b"deliver" => {
-            let (line, direction) = read_direction(words)?;
-            let event = Event::Deliver { line, direction };
-            Ok(Command::Events(vec![in alloc; event]?))
-        }
-        b"lose" => {
-            let (line, direction) = read_direction(words)?;
-            let event = Event::Lose { line, direction };
-            Ok(Command::Events(vec![in alloc; event]?))
-        }
-        b"expire" => {
-            let event = read_expiry(words, names)?;
-            Ok(Command::Events(vec![in alloc; event]?))
-        }
-        b"relink" => {
-            let line = usize::from(words.number()?);
-            words.end()?;
-            let event = Event::Relink { line };
-            Ok(Command::Events(vec![in alloc; event]?))
-        }
-        b"restart" => {
-            let node = words.node(names)?;
-            words.end()?;
-            let event = Event::Restart { node };
-            Ok(Command::Events(vec![in alloc; event]?))
-        }
+        b"flow" => read_flow(words),
+        b"tick" => read_tick(words),
         b"trace" => read_trace(words),
-        b"flow" => {
-            words.end()?;
-            Ok(Command::Flow)
+        word => {
+            let event = read_event(alloc, word, words, names)?;
+            Ok(Command::Events(vec![in alloc; event]?))
         }
-        _ => Err(LineFault::NotACommand),
     }
 }
 
@@ -129,6 +104,74 @@ fn read_keys(alloc: Global, words: Words<'_>, names: &[String]) -> Result<Comman
         })?;
     }
     Ok(Command::Events(events))
+}
+
+/// `flow`.
+fn read_flow(words: Words<'_>) -> Result<Command, LineFault> {
+    words.end()?;
+    Ok(Command::Flow)
+}
+
+/// `tick N`.
+fn read_tick(words: Words<'_>) -> Result<Command, LineFault> {
+    let mut words = words;
+    let ticks = words.number()?;
+    words.end()?;
+    Ok(Command::Tick(ticks))
+}
+
+/// `trace on` or `trace off`.
+fn read_trace(words: Words<'_>) -> Result<Command, LineFault> {
+    let mut words = words;
+    let traces = match words.next_word()? {
+        b"on" => true,
+        b"off" => false,
+        _ => return Err(LineFault::NotACommand),
+    };
+    words.end()?;
+    Ok(Command::Trace(traces))
+}
+
+/// What follows the first word, where that is the name of one event.
+fn read_event(
+    alloc: Global,
+    word: &[u8],
+    words: Words<'_>,
+    names: &[String],
+) -> Result<Event, LineFault> {
+    match word {
+        b"call" => read_call(alloc, words, names),
+        b"take" => read_take(words, names),
+        b"deliver" => {
+            let (line, direction) = read_direction(words)?;
+            Ok(Event::Deliver { line, direction })
+        }
+        b"lose" => {
+            let (line, direction) = read_direction(words)?;
+            Ok(Event::Lose { line, direction })
+        }
+        b"expire" => read_expiry(words, names),
+        b"relink" => read_relink(words),
+        b"restart" => read_restart(words, names),
+        word => read_asking(alloc, word, words, names),
+    }
+}
+
+/// `call NODE ADDRESS TEXT`, where the text is the user data.
+fn read_call(alloc: Global, words: Words<'_>, names: &[String]) -> Result<Event, LineFault> {
+    let mut words = words;
+    let node = words.node(names)?;
+    let address = words.address()?;
+    let text = read_text(alloc, words.text())?;
+    let mut user_data = ArrayVec::new();
+    match user_data.try_extend_from_slice(text.as_slice()) {
+        Ok(()) => Ok(Event::Call {
+            node,
+            address,
+            user_data,
+        }),
+        Err(_) => Err(LineFault::NotACommand),
+    }
 }
 
 /// `take NODE CH`.
@@ -153,27 +196,105 @@ fn read_direction(words: Words<'_>) -> Result<(usize, Direction), LineFault> {
     Ok((line, direction))
 }
 
-/// `expire NODE LINE T1`.
+/// `expire NODE LINE`, and a timer.
 fn read_expiry(words: Words<'_>, names: &[String]) -> Result<Event, LineFault> {
     let mut words = words;
     let node = words.node(names)?;
     let line = usize::from(words.number()?);
-    let timer = match words.next_word()? {
-        b"T1" => TimerId::T1,
-        _ => return Err(LineFault::NotACommand),
-    };
-    words.end()?;
+    let timer = read_timer(words)?;
     Ok(Event::Expire { node, line, timer })
 }
 
-/// `trace on` or `trace off`.
-fn read_trace(words: Words<'_>) -> Result<Command, LineFault> {
+/// `T1`, `T10` or `T20`, or another timer of the packet layer and its channel, at the end.
+fn read_timer(words: Words<'_>) -> Result<TimerId, LineFault> {
     let mut words = words;
-    let traces = match words.next_word()? {
-        b"on" => true,
-        b"off" => false,
+    let timer = match words.next_word()? {
+        b"T1" => TimerId::T1,
+        b"T10" => TimerId::T10,
+        b"T20" => TimerId::T20,
+        b"T11" => TimerId::T11(words.channel()?),
+        b"T12" => TimerId::T12(words.channel()?),
+        b"T13" => TimerId::T13(words.channel()?),
+        b"T21" => TimerId::T21(words.channel()?),
+        b"T22" => TimerId::T22(words.channel()?),
+        b"T23" => TimerId::T23(words.channel()?),
         _ => return Err(LineFault::NotACommand),
     };
     words.end()?;
-    Ok(Command::Trace(traces))
+    Ok(timer)
+}
+
+/// `relink LINE`.
+fn read_relink(words: Words<'_>) -> Result<Event, LineFault> {
+    let mut words = words;
+    let line = usize::from(words.number()?);
+    words.end()?;
+    Ok(Event::Relink { line })
+}
+
+/// `restart NODE`.
+fn read_restart(words: Words<'_>, names: &[String]) -> Result<Event, LineFault> {
+    let mut words = words;
+    let node = words.node(names)?;
+    words.end()?;
+    Ok(Event::Restart { node })
+}
+
+/// `NODE CH`, and what is asked of the call there.
+fn read_asking(
+    alloc: Global,
+    word: &[u8],
+    words: Words<'_>,
+    names: &[String],
+) -> Result<Event, LineFault> {
+    let mut words = words;
+    let node = words.node(names)?;
+    let channel = words.number()?;
+    let request = read_request(alloc, word, words)?;
+    Ok(Event::Ask {
+        node,
+        channel,
+        request,
+    })
+}
+
+/// What the word asks, with what it takes to be said.
+fn read_request(alloc: Global, word: &[u8], words: Words<'_>) -> Result<Request, LineFault> {
+    let request = match word {
+        b"say" => return read_saying(alloc, words),
+        b"int" => return read_interrupt(alloc, words),
+        b"answer" => Request::Answer,
+        b"refuse" => Request::Refuse,
+        b"reset" => Request::Reset,
+        b"clear" => Request::Clear,
+        b"stop" => Request::Stop,
+        b"go" => Request::Go,
+        _ => return Err(LineFault::NotACommand),
+    };
+    words.end()?;
+    Ok(request)
+}
+
+/// `FLAGS TEXT` behind `say NODE CH`.
+fn read_saying(alloc: Global, words: Words<'_>) -> Result<Request, LineFault> {
+    let mut words = words;
+    let (qualified, delivery) = match words.next_word()? {
+        b"-" => (false, false),
+        b"q" => (true, false),
+        b"d" => (false, true),
+        b"qd" => (true, true),
+        _ => return Err(LineFault::NotACommand),
+    };
+    let octets = read_text(alloc, words.text())?;
+    Ok(Request::Say {
+        octets,
+        qualified,
+        delivery,
+    })
+}
+
+/// `TEXT` behind `int NODE CH`.
+fn read_interrupt(alloc: Global, words: Words<'_>) -> Result<Request, LineFault> {
+    let octets = read_text(alloc, words.text())?;
+    Ok(Request::Interrupt { octets })
 }

@@ -3,7 +3,8 @@ use crate::network::{FIRST, read_net};
 use crate::player::play;
 use crate::program::perform;
 use crate::script::{Command, read_script};
-use line_sim::{Direction, Event, MakeFault, Net, NodeKind, mem_lines};
+use line_sim::{Event, MakeFault, Net, NodeKind, mem_lines};
+use packet_codec::Address;
 use std::io;
 use std::io::{Read, Write};
 use std::test::Fail;
@@ -84,7 +85,7 @@ const PLAYED: [Run; 25] = [
     ),
     (b"flow\n   \nflow\n", b"", b"fault 2 line 2\n"),
     (b"flow\n\r\n", b"", b"fault 2 line 2\n"),
-    (b"stop host 1\n", b"", b"fault 2 line 1\n"),
+    (b"break pad 0\n", b"", b"fault 2 line 1\n"),
     (
         b"key pad 0 A\\0D\nlose 0 >\nexpire pad 0 T1\nflow\ntake host 1\nflow\n",
         b"host/1 data - \"A\\0D\"\nend rest\n",
@@ -108,7 +109,7 @@ dce = "host"
 "#;
 
 /// Plays a script on a network, and gives what is printed.
-fn played(rt: &HostRuntime, network: &str, script: &[u8]) -> Result<Vec<u8>, Fail> {
+pub(crate) fn played(rt: &HostRuntime, network: &str, script: &[u8]) -> Result<Vec<u8>, Fail> {
     let config = read_net(rt.alloc(), network)?;
     let script = read_script(rt.alloc(), script, &config)?;
     let lines = mem_lines(rt.alloc(), config.lines.len())?;
@@ -202,45 +203,211 @@ const NO_COMMANDS: [&[u8]; 35] = [
     b"deliver > 0",
 ];
 
+/// Lines with the words of hosts that are no commands.
+const NO_HOST_COMMANDS: [&[u8]; 44] = [
+    b"call",
+    b"call host",
+    b"call host ",
+    b"call host  1",
+    b"call hast 1",
+    b"call host 12A",
+    b"call host 1234567890123456",
+    b"call host 1 12345678901234567",
+    b"call host 1 \\4",
+    b"answer",
+    b"answer host",
+    b"answer host x",
+    b"answer host 1 ",
+    b"answer host 1 1",
+    b"refuse 1",
+    b"reset host 65536",
+    b"clear host -1",
+    b"stop pod 1",
+    b"go host 1 A",
+    b"say host 1",
+    b"say host 1 ",
+    b"say host 1 x",
+    b"say host 1 dq A",
+    b"say host 1 -- A",
+    b"say host 1 Q A",
+    b"say host 1  - A",
+    b"say host - A",
+    b"say host 1 - \\",
+    b"int host",
+    b"int host 1 \\zz",
+    b"tick",
+    b"tick 1 ",
+    b"tick 65536",
+    b"tick host 1",
+    b"expire host 0",
+    b"expire host 0 T11",
+    b"expire host 0 T1 1",
+    b"expire host 0 T20 1",
+    b"expire host 0 T22 x",
+    b"expire host 0 t11 1",
+    b"expire host 0 T14 1",
+    b"expire pad 0 Idle 0",
+    b"print pad 0",
+    b"check",
+];
+
 #[test]
-fn scripts_are_read(rt: HostRuntime) -> Result<(), Fail> {
+fn lines_that_are_no_commands_are_refused(rt: HostRuntime) -> Result<(), Fail> {
     let config = read_net(rt.alloc(), FIRST)?;
     for line in NO_COMMANDS {
         let fault = read_script(rt.alloc(), line, &config).err();
         assert_eq!(rt; fault, Some(ProgFault::Script(1)), "{line:?}");
     }
-    let text = b"\ndeliver 65535 <\nflow\nkey host 65535 A\\\\\\0d\n\ntake pad 00007";
+    for line in NO_HOST_COMMANDS {
+        let fault = read_script(rt.alloc(), line, &config).err();
+        assert_eq!(rt; fault, Some(ProgFault::Script(1)), "{line:?}");
+    }
+    Ok(())
+}
+
+/// Lines, and the commands that they are.
+const COMMANDS: [(&[u8], &str); 27] = [
+    (
+        b"key host 65535 \\\\\\0d",
+        "Events([Key { node: 1, terminal: 65535, octet: 92 }, Key { node: 1, terminal: 65535, octet: 13 }])",
+    ),
+    (b"take pad 00007", "Events([Take { node: 0, channel: 7 }])"),
+    (
+        b"deliver 65535 <",
+        "Events([Deliver { line: 65535, direction: FromDce }])",
+    ),
+    (
+        b"lose 0 >",
+        "Events([Lose { line: 0, direction: FromDte }])",
+    ),
+    (b"relink 3", "Events([Relink { line: 3 }])"),
+    (b"restart host", "Events([Restart { node: 1 }])"),
+    (b"flow", "Flow"),
+    (b"trace on", "Trace(true)"),
+    (b"trace off", "Trace(false)"),
+    (b"tick 65535", "Tick(65535)"),
+    (
+        b"answer host 1",
+        "Events([Ask { node: 1, channel: 1, request: Answer }])",
+    ),
+    (
+        b"refuse pad 0",
+        "Events([Ask { node: 0, channel: 0, request: Refuse }])",
+    ),
+    (
+        b"reset host 65535",
+        "Events([Ask { node: 1, channel: 65535, request: Reset }])",
+    ),
+    (
+        b"clear host 2",
+        "Events([Ask { node: 1, channel: 2, request: Clear }])",
+    ),
+    (
+        b"stop host 3",
+        "Events([Ask { node: 1, channel: 3, request: Stop }])",
+    ),
+    (
+        b"go host 4",
+        "Events([Ask { node: 1, channel: 4, request: Go }])",
+    ),
+    (
+        b"say host 1 - A b",
+        "Events([Ask { node: 1, channel: 1, request: Say { octets: [65, 32, 98], qualified: false, delivery: false } }])",
+    ),
+    (
+        b"say host 1 q \\00",
+        "Events([Ask { node: 1, channel: 1, request: Say { octets: [0], qualified: true, delivery: false } }])",
+    ),
+    (
+        b"say host 1 d ",
+        "Events([Ask { node: 1, channel: 1, request: Say { octets: [], qualified: false, delivery: true } }])",
+    ),
+    (
+        b"say host 1 qd",
+        "Events([Ask { node: 1, channel: 1, request: Say { octets: [], qualified: true, delivery: true } }])",
+    ),
+    (
+        b"int host 1 \\FF",
+        "Events([Ask { node: 1, channel: 1, request: Interrupt { octets: [255] } }])",
+    ),
+    (
+        b"expire pad 0 T1",
+        "Events([Expire { node: 0, line: 0, timer: T1 }])",
+    ),
+    (
+        b"expire host 1 T10",
+        "Events([Expire { node: 1, line: 1, timer: T10 }])",
+    ),
+    (
+        b"expire pad 0 T20",
+        "Events([Expire { node: 0, line: 0, timer: T20 }])",
+    ),
+    (
+        b"expire host 0 T11 1",
+        "Events([Expire { node: 1, line: 0, timer: T11(1) }])",
+    ),
+    (
+        b"expire host 0 T12 0",
+        "Events([Expire { node: 1, line: 0, timer: T12(0) }])",
+    ),
+    (
+        b"expire pad 0 T23 300",
+        "Events([Expire { node: 0, line: 0, timer: T23(255) }])",
+    ),
+];
+
+#[test]
+fn lines_are_read(rt: HostRuntime) -> Result<(), Fail> {
+    let config = read_net(rt.alloc(), FIRST)?;
+    for (line, expected) in COMMANDS {
+        let script = read_script(rt.alloc(), line, &config)?;
+        let commands = script.commands.as_slice();
+        let shown = format!(in rt.alloc(); "{commands:?}")?;
+        let expected = format!(in rt.alloc(); "[{expected}]")?;
+        assert_eq!(rt; shown.as_str(), expected.as_str());
+    }
+    Ok(())
+}
+
+#[test]
+fn calls_are_read(rt: HostRuntime) -> Result<(), Fail> {
+    let config = read_net(rt.alloc(), FIRST)?;
+    let text = b"call pad 123456789012345\ncall host 2001 \\00 23456789012345";
+    let script = read_script(rt.alloc(), text, &config)?;
+    let mut calls = Vec::new(rt.alloc());
+    for command in &script.commands {
+        let Command::Events(events) = command else {
+            return Err(Fail::from("a call is an event"));
+        };
+        for event in events {
+            let Event::Call {
+                node,
+                address,
+                user_data,
+            } = event
+            else {
+                return Err(Fail::from("a call is a call"));
+            };
+            calls.push((*node, *address, user_data.len()))?;
+        }
+    }
+    let expected = [
+        (0, Address::read(b"123456789012345")?, 0),
+        (1, Address::read(b"2001")?, 16),
+    ];
+    assert_eq!(rt; calls.as_slice(), expected.as_slice());
+    Ok(())
+}
+
+#[test]
+fn scripts_are_read(rt: HostRuntime) -> Result<(), Fail> {
+    let config = read_net(rt.alloc(), FIRST)?;
+    let text = b"\ndeliver 65535 <\nflow\nkey host 65535 A\n\ntake pad 00007";
     let script = read_script(rt.alloc(), text, &config)?;
     assert_eq!(rt; script.lines, 1);
     assert_eq!(rt; script.names.len(), 2);
     assert_eq!(rt; script.names[1].as_str(), "host");
-    let mut events = Vec::new(rt.alloc());
-    for command in &script.commands {
-        match command {
-            Command::Flow => events.push(None)?,
-            Command::Trace(_) => events.push(None)?,
-            Command::Events(some) => {
-                for event in some {
-                    events.push(Some(*event))?;
-                }
-            }
-        }
-    }
-    let key = |octet| Some(Event::Key {
-        node: 1,
-        terminal: 65535,
-        octet,
-    });
-    let deliver = Event::Deliver {
-        line: 65535,
-        direction: Direction::FromDce,
-    };
-    let take = Event::Take {
-        node: 0,
-        channel: 7,
-    };
-    let expected = [Some(deliver), None, key(65), key(92), key(13), Some(take)];
-    assert_eq!(rt; events.as_slice(), expected.as_slice());
+    assert_eq!(rt; script.commands.len(), 4);
     Ok(())
 }
 

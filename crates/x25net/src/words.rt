@@ -4,6 +4,7 @@ ghost use Rattle.x25net.specs.Digits.{hex_value};
 ghost use Rattle.std.specs.Option.{option_map};
 ghost use Rattle.x25net.specs.Cuts.{before, behind, length_left};
 
+use packet_codec::Address;
 use std::alloc::{AllocError, AllocFailed, Global};
 use thiserror::Error;
 
@@ -74,6 +75,22 @@ impl<'a> Words<'a> {
     pub(crate) fn number(&mut self) -> Result<u16, LineFault> {
         let word = self.next_word()?;
         read_number(word).ok_or(LineFault::NotACommand)
+    }
+
+    /// The next word, as the number of a logical channel of a timer. Beyond 255, as beyond the channels that a line may have, it
+    /// names a timer that never runs.
+    pub(crate) fn channel(&mut self) -> Result<u8, LineFault> {
+        let number = self.number()?;
+        Ok(u8::try_from(number).unwrap_or(u8::MAX))
+    }
+
+    /// The next word, as an address of 1 to 15 digits.
+    pub(crate) fn address(&mut self) -> Result<Address, LineFault> {
+        let word = self.next_word()?;
+        match Address::read(word) {
+            Ok(address) => Ok(address),
+            Err(_) => Err(LineFault::NotACommand),
+        }
     }
 
     /// All that is left, nothing where no word follows.
