@@ -168,5 +168,5 @@ pub keys-net : (F : Type 0) (s : NetState) (p : PadState) (octet : ℕ) (frames 
 keys-net F s p octet frames notes t n is step =
     by-turn F Dte s (keys_turn Dte s.dte octet s.book) frames notes t n (keys-leaves s s.dte octet refl n.quiet.dte n.typed)
     (λ k kept.
-        let P : NodeState → Type 0 = λ x. Kept k.setting (keys_turn Dte x octet s.book).book (with_event Dte (end_of (keys_turn Dte x octet s.book).node) kept (coming_to Dte (line_of s)) (line_of s)) in
-        subst P (sym is) (typing_law.keys_keeps k.setting s.book (line_of s) Dte p octet kept (subst (StandsAt Dte (line_of s)) is (stands Dte s n.quiet)) k.kept).kept) step
+    let P : NodeState → Type 0 = λ x. Kept k.setting (keys_turn Dte x octet s.book).book (with_event Dte (end_of (keys_turn Dte x octet s.book).node) kept (coming_to Dte (line_of s)) (line_of s)) in
+    subst P (sym is) (typing_law.keys_keeps k.setting s.book (line_of s) Dte p octet kept (subst (StandsAt Dte (line_of s)) is (stands Dte s n.quiet)) k.kept).kept) step

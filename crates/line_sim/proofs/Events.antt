@@ -100,14 +100,14 @@ heard-net F FromDce s mid octets frames notes t n first rest step =
     subst (IsNet F) (sym step.others)
     (after-turn F Dte s (hears Dte s.dte octets s.book) t.line n (hears-leaves Dte s octets n.quiet n.typed)
     (λ f. let k = n.kept f in kept-after Dte s (hears Dte s.dte octets s.book) mid t.line (drop 1 s.line.from_dce)
-        (record { own = ap (λ (x : Flights). x.from_dte) (rest f); other = ap (λ (x : Flights). x.from_dce) (rest f) }) (step.sends.put f) k.setting
-        (λ kept. (hearing_law.hears_keeps k.setting s.book (line_of s) Dte s.dte octets (drop 1 s.line.from_dce) kept (first-of s.line.from_dce octets (sym (first f))) (stands Dte s n.quiet) k.kept).kept)))
+    (record { own = ap (λ (x : Flights). x.from_dte) (rest f); other = ap (λ (x : Flights). x.from_dce) (rest f) }) (step.sends.put f) k.setting
+    (λ kept. (hearing_law.hears_keeps k.setting s.book (line_of s) Dte s.dte octets (drop 1 s.line.from_dce) kept (first-of s.line.from_dce octets (sym (first f))) (stands Dte s n.quiet) k.kept).kept)))
 heard-net F FromDte s mid octets frames notes t n first rest step =
     subst (IsNet F) (sym step.others)
     (after-turn F Dce s (hears Dce s.dce octets s.book) t.line n (hears-leaves Dce s octets n.quiet n.typed)
     (λ f. let k = n.kept f in kept-after Dce s (hears Dce s.dce octets s.book) mid t.line (drop 1 s.line.from_dte)
-        (record { own = ap (λ (x : Flights). x.from_dce) (rest f); other = ap (λ (x : Flights). x.from_dte) (rest f) }) (step.sends.put f) k.setting
-        (λ kept. (hearing_law.hears_keeps k.setting s.book (line_of s) Dce s.dce octets (drop 1 s.line.from_dte) kept (first-of s.line.from_dte octets (sym (first f))) (stands Dce s n.quiet) k.kept).kept)))
+    (record { own = ap (λ (x : Flights). x.from_dce) (rest f); other = ap (λ (x : Flights). x.from_dte) (rest f) }) (step.sends.put f) k.setting
+    (λ kept. (hearing_law.hears_keeps k.setting s.book (line_of s) Dce s.dce octets (drop 1 s.line.from_dte) kept (first-of s.line.from_dte octets (sym (first f))) (stands Dce s n.quiet) k.kept).kept)))
 
 -- another line under the same nodes and book
 with-line : (F : Type 0) (s : NetState) (l : Flights) → IsNet F s → (F → IsKept (record s { line = l })) → IsNet F (record s { line = l })

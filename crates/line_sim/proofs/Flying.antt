@@ -28,11 +28,11 @@ landed d (f ∷ frames) old new (mid, put, rest) =
     let w = landed d frames mid new rest in
     elim put [
       | inl is ↦ record {
-          kept = true ∷ w.kept;
-          is = w.is ∙ ap (λ (m : Flights). with_flying d (flying d m ++ chosen w.kept frames) m) is ∙ more d f (chosen w.kept frames) old;
-        }
+        kept = true ∷ w.kept;
+        is = w.is ∙ ap (λ (m : Flights). with_flying d (flying d m ++ chosen w.kept frames) m) is ∙ more d f (chosen w.kept frames) old;
+      }
       | inr is ↦ record {
-          kept = false ∷ w.kept;
-          is = w.is ∙ ap (λ (m : Flights). with_flying d (flying d m ++ chosen w.kept frames) m) is;
-        }
+        kept = false ∷ w.kept;
+        is = w.is ∙ ap (λ (m : Flights). with_flying d (flying d m ++ chosen w.kept frames) m) is;
+      }
     ]

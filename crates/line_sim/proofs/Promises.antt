@@ -99,14 +99,14 @@ setting-of plan = record { dte = plan.line; dce = plan.line; dte_node = plan.dte
 -- the first frames of both ends
 first-line : (plan : Plan) (l : Flights) (b : IsBegun plan l)
     → let up = landed FromDte (frames_of (new_dte plan)) no_flights b.between b.dte in
-      let down = landed FromDce (frames_of (new_dce plan)) b.between l b.dce in
-      line_of (record (opening plan) { line = l }) ≡ first_line (end_of (new_dte plan)) (end_of (new_dce plan)) up.kept down.kept
+    let down = landed FromDce (frames_of (new_dce plan)) b.between l b.dce in
+    line_of (record (opening plan) { line = l }) ≡ first_line (end_of (new_dte plan)) (end_of (new_dce plan)) up.kept down.kept
 first-line plan l b =
     let up = landed FromDte (frames_of (new_dte plan)) no_flights b.between b.dte in
     let down = landed FromDce (frames_of (new_dce plan)) b.between l b.dce in
     let going : l.from_dte ≡ chosen up.kept (end_of (new_dte plan)).line.frames = ap (λ (x : Flights). x.from_dte) down.is ∙ ap (λ (x : Flights). x.from_dte) up.is in
     let coming : l.from_dce ≡ chosen down.kept (end_of (new_dce plan)).line.frames =
-        ap (λ (x : Flights). x.from_dce) down.is ∙ ap (λ (x : Flights). x.from_dce ++ chosen down.kept (end_of (new_dce plan)).line.frames) up.is in
+    ap (λ (x : Flights). x.from_dce) down.is ∙ ap (λ (x : Flights). x.from_dce ++ chosen down.kept (end_of (new_dce plan)).line.frames) up.is in
     λ i. record { dte = end-drained (new_dte plan) i; dce = end-drained (new_dce plan) i; up = going i; down = coming i }
 
 pub made-net : (F : Type 0) (plan : Plan) (s : NetState) → plan.dte_place ≢ plan.dce_place → AreParams plan.line → IsMadeOf F plan s → IsNet F s

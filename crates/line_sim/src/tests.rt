@@ -400,12 +400,11 @@ fn connected(alloc: Global) -> Result<Net<MemLine>, Fail> {
     let config = hosts_of(alloc, 4)?;
     let mut net = Net::new(alloc, &config, mem_lines(alloc, 1)?)?;
     flow(&mut net);
-    let called = net.step(&Event::Call {
+    let _ = net.step(&Event::Call {
         node: PAD,
         address: Address::read(b"2001")?,
         user_data: ArrayVec::new(),
     })?;
-    let _ = called;
     flow(&mut net);
     let _ = net.step(&ask(HOST, 4, Request::Answer))?;
     flow(&mut net);
@@ -438,6 +437,62 @@ fn a_call_is_placed_and_answered(rt: HostRuntime) -> Result<(), Fail> {
     assert_eq!(rt;
         (records[0].far, records[1].own),
         (Some(Address::read(b"2001")?), Some(Address::read(b"2001")?))
+    );
+    Ok(())
+}
+
+/// Whether one frame was put, with this packet.
+fn is_put(frames: &[Put], packet: &[u8]) -> bool {
+    match frames {
+        [put] => put.octets.as_slice().ends_with(packet),
+        _ => false,
+    }
+}
+
+#[test]
+fn resets_of_both_ends_open_an_epoch(rt: HostRuntime) -> Result<(), Fail> {
+    let mut net = connected(rt.alloc())?;
+    let reset = [0x10, 0x04, 0x1b, 0x00, 0x00];
+    for node in [PAD, HOST] {
+        let answer = net.step(&ask(node, 4, Request::Reset))?;
+        assert!(rt; is_put(&answer.frames, &reset));
+    }
+    flow(&mut net);
+    assert!(rt; net.at_rest());
+    for record in net.records() {
+        assert_eq!(rt;
+            (record.sent_before.len(), record.taken_before.len()),
+            (1, 1)
+        );
+    }
+    Ok(())
+}
+
+#[test]
+fn the_call_of_the_dce_is_cancelled_in_a_collision(rt: HostRuntime) -> Result<(), Fail> {
+    let config = hosts_of(rt.alloc(), 1)?;
+    let mut net = Net::new(rt.alloc(), &config, mem_lines(rt.alloc(), 1)?)?;
+    flow(&mut net);
+    for node in [PAD, HOST] {
+        let _ = net.step(&Event::Call {
+            node,
+            address: Address::read(b"1")?,
+            user_data: ArrayVec::new(),
+        })?;
+    }
+    flow(&mut net);
+    let _ = net.step(&ask(HOST, 1, Request::Answer))?;
+    flow(&mut net);
+    let records = net.records();
+    assert_eq!(rt; records.len(), 3);
+    assert!(rt; !records[0].closed && records[1].closed && !records[2].closed);
+    assert_eq!(rt;
+        net.pairs(),
+        [Pair {
+            caller: 0,
+            callee: 2
+        }]
+        .as_slice()
     );
     Ok(())
 }
