@@ -22,7 +22,8 @@ use std::io::Write;
 /// How many frames a `flow` delivers at most.
 const FLOW_LIMIT: u32 = 100_000;
 
-/// How many expiries a `tick` brings at most. A line has no more than 400 timers, and one that runs anew is not due.
+/// How many expiries a `tick` brings at most. The two ends of a line have 211 timers each, and one that is started anew is not
+/// due.
 const EXPIRY_LIMIT: u32 = 100_000;
 
 /// Plays a script on a network, and prints the answer to each event, and at the end whether the network is at rest.

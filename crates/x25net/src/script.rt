@@ -153,7 +153,7 @@ fn read_event(
         b"expire" => read_expiry(words, names),
         b"relink" => read_relink(words),
         b"restart" => read_restart(words, names),
-        word => read_asking(alloc, word, words, names),
+        word => read_ask(alloc, word, words, names),
     }
 }
 
@@ -241,7 +241,7 @@ fn read_restart(words: Words<'_>, names: &[String]) -> Result<Event, LineFault> 
 }
 
 /// `NODE CH`, and what is asked of the call there.
-fn read_asking(
+fn read_ask(
     alloc: Global,
     word: &[u8],
     words: Words<'_>,
@@ -261,7 +261,7 @@ fn read_asking(
 /// What the word asks, with what it takes to be said.
 fn read_request(alloc: Global, word: &[u8], words: Words<'_>) -> Result<Request, LineFault> {
     let request = match word {
-        b"say" => return read_saying(alloc, words),
+        b"say" => return read_say(alloc, words),
         b"int" => return read_interrupt(alloc, words),
         b"answer" => Request::Answer,
         b"refuse" => Request::Refuse,
@@ -276,7 +276,7 @@ fn read_request(alloc: Global, word: &[u8], words: Words<'_>) -> Result<Request,
 }
 
 /// `FLAGS TEXT` behind `say NODE CH`.
-fn read_saying(alloc: Global, words: Words<'_>) -> Result<Request, LineFault> {
+fn read_say(alloc: Global, words: Words<'_>) -> Result<Request, LineFault> {
     let mut words = words;
     let (qualified, delivery) = match words.next_word()? {
         b"-" => (false, false),

@@ -266,7 +266,7 @@ fn lines_that_are_no_commands_are_refused(rt: HostRuntime) -> Result<(), Fail> {
 }
 
 /// Lines, and the commands that they are.
-const COMMANDS: [(&[u8], &str); 27] = [
+const COMMANDS: [(&[u8], &str); 30] = [
     (
         b"key host 65535 \\\\\\0d",
         "Events([Key { node: 1, terminal: 65535, octet: 92 }, Key { node: 1, terminal: 65535, octet: 13 }])",
@@ -349,6 +349,18 @@ const COMMANDS: [(&[u8], &str); 27] = [
     (
         b"expire host 0 T12 0",
         "Events([Expire { node: 1, line: 0, timer: T12(0) }])",
+    ),
+    (
+        b"expire host 0 T13 32",
+        "Events([Expire { node: 1, line: 0, timer: T13(32) }])",
+    ),
+    (
+        b"expire host 0 T21 33",
+        "Events([Expire { node: 1, line: 0, timer: T21(33) }])",
+    ),
+    (
+        b"expire host 0 T22 255",
+        "Events([Expire { node: 1, line: 0, timer: T22(255) }])",
     ),
     (
         b"expire pad 0 T23 300",
