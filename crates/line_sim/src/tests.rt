@@ -398,7 +398,8 @@ fn flow(net: &mut Net<MemLine>) {
 /// Two hosts whose line is up, on channel 4 of which a call stands that the DTE placed.
 fn connected(alloc: Global) -> Result<Net<MemLine>, Fail> {
     let config = hosts_of(alloc, 4)?;
-    let mut net = Net::new(alloc, &config, mem_lines(alloc, 1)?)?;
+    let lines = mem_lines(alloc, config.lines.len())?;
+    let mut net = Net::new(alloc, &config, lines)?;
     flow(&mut net);
     let _ = net.step(&Event::Call {
         node: PAD,
@@ -471,7 +472,8 @@ fn resets_of_both_ends_open_an_epoch(rt: HostRuntime) -> Result<(), Fail> {
 #[test]
 fn the_call_of_the_dce_is_cancelled_in_a_collision(rt: HostRuntime) -> Result<(), Fail> {
     let config = hosts_of(rt.alloc(), 1)?;
-    let mut net = Net::new(rt.alloc(), &config, mem_lines(rt.alloc(), 1)?)?;
+    let lines = mem_lines(rt.alloc(), config.lines.len())?;
+    let mut net = Net::new(rt.alloc(), &config, lines)?;
     flow(&mut net);
     for node in [PAD, HOST] {
         let _ = net.step(&Event::Call {
