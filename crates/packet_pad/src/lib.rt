@@ -1,7 +1,7 @@
 //! A PAD at one end of a line: a terminal types on the call that stands there (X.3, X.25 3 to 5).
 //!
-//! The call stands from the making of the line on. The PAD edits what the terminal types into blocks, and sends each block in one
-//! Data packet.
+//! Where the line stands the call does so from its making on. The PAD edits what the terminal types into blocks, and sends each
+//! block in one Data packet.
 #![tactic(auto)]
 
 mod config;

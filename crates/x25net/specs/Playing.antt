@@ -92,7 +92,7 @@ pub data Expires (F : Type 0) (names : Names) (traces : Bool) : ℕ → NetState
       → ExpiresNext F names traces true s first mid → Expires F names traces left mid rest t
       → Expires F names traces (suc left) s (first ++ rest) t
 
--- so many ticks go by, and then what is due expires: at most 100,000 expiries, more than there are timers
+-- so many ticks go by, and then what is due expires, one timer after the other, at most 100,000 times
 abbrev pub Ticks : (F : Type 0) → Names → (traces : Bool) → (ticks : ℕ) → NetState → List ℕ → NetState → Type 0
 Ticks F names traces ticks s text t = Expires F names traces 100000 (net_elapsed ticks s) text t
 

@@ -14,7 +14,7 @@ use std::alloc::{AllocError, Global};
 pub enum Command {
     /// These events, one after the other.
     Events(Vec<Event>),
-    /// Frames are delivered, line after line, until none is in flight.
+    /// Frames are delivered, pass after pass over the lines, until a pass brings none.
     Flow,
     /// So many ticks go by, and then each timer that is due expires.
     Tick(u16),
