@@ -213,6 +213,14 @@ fn a_call_is_set_up(rt: HostRuntime) {
 }
 
 #[test]
+fn a_packet_without_a_type_is_acknowledged_and_ignored(rt: HostRuntime) {
+    let (_, mut b) = pair(&rt, rt.alloc(), 4);
+    b.host.on_frame(&[0x01, 0x22, 0x10, 0x01]);
+    assert!(rt; sends(&mut b, &[0x01, 0x41]));
+    assert_eq!(rt; b.seen.incoming, 0);
+}
+
+#[test]
 fn resets_cross(rt: HostRuntime) {
     let (mut a, mut b) = connected(&rt, rt.alloc());
     assert_eq!(rt; a.host.reset(4), Ok(()));
