@@ -97,13 +97,13 @@ abbrev setting-of : Plan → Setting
 setting-of plan = record { dte = plan.line; dce = plan.line; dte_node = plan.dte_place; dce_node = plan.dce_place }
 
 -- the first frames of both ends
-first-line : (plan : Plan) (l : Flights) (b : IsBegun plan l)
-    → let up = landed FromDte (frames_of (new_dte plan)) no_flights b.between b.dte in
-    let down = landed FromDce (frames_of (new_dce plan)) b.between l b.dce in
+first-line : (plan : Plan) (l : Flights) (b : IsBegun (new_dte plan) (new_dce plan) l)
+    → let up = landed FromDte (frames_of (new_dte plan)) no_flights b.between b.from_dte in
+    let down = landed FromDce (frames_of (new_dce plan)) b.between l b.from_dce in
     line_of (record (opening plan) { line = l }) ≡ first_line (end_of (new_dte plan)) (end_of (new_dce plan)) up.kept down.kept
 first-line plan l b =
-    let up = landed FromDte (frames_of (new_dte plan)) no_flights b.between b.dte in
-    let down = landed FromDce (frames_of (new_dce plan)) b.between l b.dce in
+    let up = landed FromDte (frames_of (new_dte plan)) no_flights b.between b.from_dte in
+    let down = landed FromDce (frames_of (new_dce plan)) b.between l b.from_dce in
     let going : l.from_dte ≡ chosen up.kept (end_of (new_dte plan)).line.frames = ap (λ (x : Flights). x.from_dte) down.is ∙ ap (λ (x : Flights). x.from_dte) up.is in
     let coming : l.from_dce ≡ chosen down.kept (end_of (new_dce plan)).line.frames =
     ap (λ (x : Flights). x.from_dce) down.is ∙ ap (λ (x : Flights). x.from_dce ++ chosen down.kept (end_of (new_dce plan)).line.frames) up.is in
@@ -122,8 +122,8 @@ made-net F plan s apart params made =
       typed = made-typed plan.dte plan.line plan.dte_place plan.dce_place plan.line.channels plan.line.standing apart;
       kept = λ f.
           let b = made.begun f in
-          let up = landed FromDte (frames_of (new_dte plan)) no_flights b.between b.dte in
-          let down = landed FromDce (frames_of (new_dce plan)) b.between made.line b.dce in
+          let up = landed FromDte (frames_of (new_dte plan)) no_flights b.between b.from_dte in
+          let down = landed FromDce (frames_of (new_dce plan)) b.between made.line b.from_dce in
           record {
             setting = setting-of plan;
             kept = subst (Kept (setting-of plan) book) (sym (first-line plan made.line b))

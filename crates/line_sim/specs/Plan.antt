@@ -133,17 +133,27 @@ opening plan = record {
   book = made_book plan.dte_place plan.dce_place plan.line.channels plan.line.standing;
 }
 
--- the frames with which the ends begin are put on an empty line, first those of the DTE
-pub record IsBegun (plan : Plan) (line : Flights) : Type 0 where
+-- with other nodes and frames in flight
+abbrev pub with_nodes : (dte dce : NodeState) → Flights → NetState → NetState
+with_nodes dte dce line s = record s { dte = dte; dce = dce; line = line }
+
+-- what two nodes have to send is put on an empty line, first that of the DTE
+pub record IsBegun (dte dce : NodeState) (line : Flights) : Type 0 where
   pub between : Flights
-  pub dte : ArePut FromDte (frames_of (new_dte plan)) no_flights between
-  pub dce : ArePut FromDce (frames_of (new_dce plan)) between line
+  pub from_dte : ArePut FromDte (frames_of dte) no_flights between
+  pub from_dce : ArePut FromDce (frames_of dce) between line
+
+-- the nodes of a network have sent that
+pub record Begins (F : Type 0) (s t : NetState) : Type 0 where
+  pub line : Flights
+  pub state : t ≡ with_nodes (drained s.dte) (drained s.dce) line s
+  pub begun : F → IsBegun s.dte s.dce line
 
 -- the network is as it is made by a plan
 pub record IsMadeOf (F : Type 0) (plan : Plan) (net : NetState) : Type 0 where
   pub line : Flights
   pub state : net ≡ record (opening plan) { line = line }
-  pub begun : F → IsBegun plan line
+  pub begun : F → IsBegun (new_dte plan) (new_dce plan) line
 
 -- and by a configuration
 pub record IsMade (F : Type 0) (config : Config) (net : NetState) : Type 0 where

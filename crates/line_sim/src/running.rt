@@ -1,8 +1,8 @@
 //! A network over memory lines, and a list of events.
-ghost use Rattle.std.specs.Prelude.{◌≡◌, None, Err, IfOk, IfErr};
-ghost use Rattle.line_sim.specs.declared.event.MakeFault.TheVariants.{BadConfig};
+ghost use Rattle.std.specs.Prelude.{◌≡◌, ◌≢◌, None, Err, IfOk, IfErr, IsOkUnless};
+ghost use Rattle.line_sim.specs.declared.event.MakeFault.TheVariants.{BadConfig, OutOfMemory};
 ghost use Rattle.line_sim.specs.declared.event.RunFault.TheVariants.{Made};
-ghost use Rattle.line_sim.specs.Plan.{plan_of};
+ghost use Rattle.line_sim.specs.Plan.{plan_of, IsMade};
 ghost use Rattle.line_sim.specs.Headline.{Headline};
 ghost use Rattle.line_sim.specs.Faults.{step_fault, MayWant};
 ghost use Rattle.line_sim.specs.Runs.{Happened, HasRun, IsRunFault};
@@ -27,10 +27,7 @@ pub fn run(alloc: Global, config: &Config, events: &[Event]) -> Result<Net<MemLi
     if plan_of(config).is_none() {
         return Err(RunFault::Made(MakeFault::BadConfig));
     }
-    let Ok(lines) = mem_lines(alloc, config.lines.len()) else {
-        return Err(RunFault::Made(MakeFault::OutOfMemory));
-    };
-    let mut net = match Net::new(alloc, config, lines) {
+    let mut net = match on_memory_lines(alloc, config) {
         Ok(net) => net,
         Err(fault) => return Err(RunFault::Made(fault)),
     };
@@ -41,6 +38,15 @@ pub fn run(alloc: Global, config: &Config, events: &[Event]) -> Result<Net<MemLi
     }
     net.keeps();
     Ok(net)
+}
+
+/// The network at its making.
+fn on_memory_lines(alloc: Global, config: &Config) -> Result<Net<MemLine>, MakeFault>
+    ensures wanting { plan_of config.now ≢ None → IsOkUnless result OutOfMemory }
+    ensures ok { IfOk result (IsMade (Unit {0}) config.now) }
+{
+    let lines = mem_lines(alloc, config.lines.len())?;
+    Net::new(alloc, config, lines)
 }
 
 /// Handles an event, and says whether memory was there. Where it was not, the network itself does not refuse the event.

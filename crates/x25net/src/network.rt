@@ -48,23 +48,38 @@ pub fn read_net(alloc: Global, text: &str) -> Result<Config, ProgFault>
 
 fn read_document(alloc: Global, document: &Table) -> Result<Config, ProgFault> {
     known_keys(document, &["node", "line", "route"])?;
-    let mut nodes = Vec::new(alloc);
-    for value in tables(document, "node")? {
-        nodes.push(read_node(alloc, table(value)?)?)?;
-    }
-    let mut lines = Vec::new(alloc);
-    for value in tables(document, "line")? {
-        lines.push(read_line(alloc, table(value)?)?)?;
-    }
-    let mut routes = Vec::new(alloc);
-    for value in tables(document, "route")? {
-        routes.push(read_route(alloc, table(value)?)?)?;
-    }
+    let nodes = read_nodes(alloc, tables(document, "node")?)?;
+    let lines = read_lines(alloc, tables(document, "line")?)?;
+    let routes = read_routes(alloc, tables(document, "route")?)?;
     Ok(Config {
         nodes,
         lines,
         routes,
     })
+}
+
+fn read_nodes(alloc: Global, values: &[Value]) -> Result<Vec<NodeConfig>, ProgFault> {
+    let mut nodes = Vec::new(alloc);
+    for value in values {
+        nodes.push(read_node(alloc, table(value)?)?)?;
+    }
+    Ok(nodes)
+}
+
+fn read_lines(alloc: Global, values: &[Value]) -> Result<Vec<LineConfig>, ProgFault> {
+    let mut lines = Vec::new(alloc);
+    for value in values {
+        lines.push(read_line(alloc, table(value)?)?)?;
+    }
+    Ok(lines)
+}
+
+fn read_routes(alloc: Global, values: &[Value]) -> Result<Vec<RouteConfig>, ProgFault> {
+    let mut routes = Vec::new(alloc);
+    for value in values {
+        routes.push(read_route(alloc, table(value)?)?)?;
+    }
+    Ok(routes)
 }
 
 fn read_node(alloc: Global, entry: &Table) -> Result<NodeConfig, ProgFault> {

@@ -1,12 +1,13 @@
 //! The program.
-ghost use Rattle.std.specs.Prelude.{◌≡◌, ◌≢◌, ◌≤◌, ◌↔◌, [], OnOk};
+ghost use Rattle.std.specs.Prelude.{◌≡◌, ◌≢◌, ◌≤◌, ◌↔◌, [], OnOk, IfOk};
+ghost use Rattle.line_sim.specs.Plan.{IsMade};
 ghost use Rattle.x25net.specs.Playing.{PlaysSome};
 
 use crate::fault::ProgFault;
 use crate::network::{FIRST, read_net};
 use crate::player::play;
-use crate::script::read_script;
-use line_sim::{Net, mem_lines};
+use crate::script::{Script, read_script};
+use line_sim::{Config, MemLine, Net, mem_lines};
 use std::alloc::Global;
 use std::io;
 use std::io::{Read, Write};
@@ -48,17 +49,40 @@ pub fn perform<R: Read, W: Write, E: Write>(
     }
 }
 
-/// Reads the script, makes the network and plays.
+/// Reads the built-in network and the script, and plays.
 fn run<R: Read, W: Write>(alloc: Global, input: &mut R, out: &mut W) -> Result<(), ProgFault>
     ensures { OnOk result (PlaysSome (W.contents out.old) (W.contents out.new)) }
 {
     let config = read_net(alloc, FIRST)?;
-    let text = read_all(alloc, input)?;
-    let script = read_script(alloc, text.as_slice(), &config)?;
+    let script = read_input(alloc, input, &config)?;
+    play_on(alloc, &config, &script, out)
+}
+
+/// Plays a script on a network over memory lines.
+fn play_on<W: Write>(
+    alloc: Global,
+    config: &Config,
+    script: &Script,
+    out: &mut W,
+) -> Result<(), ProgFault>
+    ensures { OnOk result (PlaysSome (W.contents out.old) (W.contents out.new)) }
+{
+    let mut net = made(alloc, config)?;
+    play(alloc, &mut net, script, out)
+}
+
+/// The network of a configuration, over memory lines.
+pub(crate) fn made(alloc: Global, config: &Config) -> Result<Net<MemLine>, ProgFault>
+    ensures { IfOk result (IsMade (Unit {0}) config.now) }
+{
     let lines = mem_lines(alloc, config.lines.len())?;
-    let mut net = Net::new(alloc, &config, lines)?;
-    play(alloc, &mut net, &script, out)?;
-    Ok(())
+    Ok(Net::new(alloc, config, lines)?)
+}
+
+/// Reads the script that the input has.
+fn read_input<R: Read>(alloc: Global, input: &mut R, config: &Config) -> Result<Script, ProgFault> {
+    let text = read_all(alloc, input)?;
+    read_script(alloc, text.as_slice(), config)
 }
 
 /// Reads all of the input, of at most 1,048,576 octets.

@@ -1,12 +1,14 @@
 use crate::fault::ProgFault;
 use crate::network::{FIRST, read_net};
 use crate::player::play;
-use crate::program::perform;
-use crate::script::{Command, read_script};
-use line_sim::{Event, MakeFault, Net, NodeKind, mem_lines};
+use crate::program::{made, perform};
+use crate::script::{Command, Script, read_script};
+use line_sim::{Config, Event, LineConfig, MakeFault, Net, NodeConfig, NodeKind, mem_lines};
 use packet_codec::Address;
+use std::alloc::Global;
 use std::io;
 use std::io::{Read, Write};
+use std::process::Abort;
 use std::test::Fail;
 use x3_params::Profile;
 
@@ -112,11 +114,32 @@ dce = "host"
 pub(crate) fn played(rt: &HostRuntime, network: &str, script: &[u8]) -> Result<Vec<u8>, Fail> {
     let config = read_net(rt.alloc(), network)?;
     let script = read_script(rt.alloc(), script, &config)?;
-    let lines = mem_lines(rt.alloc(), config.lines.len())?;
-    let mut net = Net::new(rt.alloc(), &config, lines)?;
+    played_on(rt, &config, &script)
+}
+
+fn played_on(rt: &HostRuntime, config: &Config, script: &Script) -> Result<Vec<u8>, Fail> {
+    let mut net = made(rt.alloc(), config)?;
     let mut out = Vec::new(rt.alloc());
-    play(rt.alloc(), &mut net, &script, &mut out)?;
+    play(rt.alloc(), &mut net, script, &mut out)?;
     Ok(out)
+}
+
+/// The program on these words and this input ends with the status, what it prints and what it tells.
+fn ends<R: Read>(
+    rt: &impl Abort,
+    alloc: Global,
+    words: &[String],
+    input: &mut R,
+    status: u8,
+    printed: &[u8],
+    told: &[u8],
+) {
+    let mut out = Vec::new(alloc);
+    let mut err = Vec::new(alloc);
+    let ended = perform(alloc, words, input, &mut out, &mut err);
+    assert!(rt; ended == status, "{printed:?}");
+    assert_eq!(rt; out.as_slice(), printed);
+    assert_eq!(rt; err.as_slice(), told);
 }
 
 #[test]
@@ -153,13 +176,9 @@ fn a_lost_link_closes_the_call(rt: HostRuntime) -> Result<(), Fail> {
 #[test]
 fn scripts_are_played(rt: HostRuntime) -> Result<(), Fail> {
     for (script, printed, told) in PLAYED {
-        let mut out = Vec::new(rt.alloc());
-        let mut err = Vec::new(rt.alloc());
+        let status = if told.is_empty() { 0 } else { 1 };
         let mut input = script;
-        let status = perform(rt.alloc(), &[], &mut input, &mut out, &mut err);
-        assert_eq!(rt; out.as_slice(), printed);
-        assert_eq!(rt; err.as_slice(), told);
-        assert_eq!(rt; status, if told.is_empty() { 0 } else { 1 });
+        ends(&rt, rt.alloc(), &[], &mut input, status, printed, told);
     }
     Ok(())
 }
@@ -368,17 +387,39 @@ const COMMANDS: [(&[u8], &str); 30] = [
     ),
 ];
 
+/// How the commands of a script are shown.
+fn shown(alloc: Global, text: &[u8], config: &Config) -> Result<String, Fail> {
+    let script = read_script(alloc, text, config)?;
+    let commands = script.commands.as_slice();
+    Ok(format!(in alloc; "{commands:?}")?)
+}
+
 #[test]
 fn lines_are_read(rt: HostRuntime) -> Result<(), Fail> {
     let config = read_net(rt.alloc(), FIRST)?;
     for (line, expected) in COMMANDS {
-        let script = read_script(rt.alloc(), line, &config)?;
-        let commands = script.commands.as_slice();
-        let shown = format!(in rt.alloc(); "{commands:?}")?;
+        let shown = shown(rt.alloc(), line, &config)?;
         let expected = format!(in rt.alloc(); "[{expected}]")?;
         assert_eq!(rt; shown.as_str(), expected.as_str());
     }
     Ok(())
+}
+
+/// Whether a command is one call of a node, of this address and with so much user data.
+fn is_call(command: &Command, caller: usize, called: Address, octets: usize) -> bool {
+    let Command::Events(events) = command else {
+        return false;
+    };
+    match events.as_slice() {
+        [
+            Event::Call {
+                node,
+                address,
+                user_data,
+            },
+        ] => *node == caller && *address == called && user_data.len() == octets,
+        _ => false,
+    }
 }
 
 #[test]
@@ -386,28 +427,14 @@ fn calls_are_read(rt: HostRuntime) -> Result<(), Fail> {
     let config = read_net(rt.alloc(), FIRST)?;
     let text = b"call pad 123456789012345\ncall host 2001 \\00 23456789012345";
     let script = read_script(rt.alloc(), text, &config)?;
-    let mut calls = Vec::new(rt.alloc());
-    for command in &script.commands {
-        let Command::Events(events) = command else {
-            return Err(Fail::from("a call is an event"));
-        };
-        for event in events {
-            let Event::Call {
-                node,
-                address,
-                user_data,
-            } = event
-            else {
-                return Err(Fail::from("a call is a call"));
-            };
-            calls.push((*node, *address, user_data.len()))?;
+    let long = Address::read(b"123456789012345")?;
+    let short = Address::read(b"2001")?;
+    assert!(rt;
+        match script.commands.as_slice() {
+            [first, second] => is_call(first, 0, long, 0) && is_call(second, 1, short, 16),
+            _ => false,
         }
-    }
-    let expected = [
-        (0, Address::read(b"123456789012345")?, 0),
-        (1, Address::read(b"2001")?, 16),
-    ];
-    assert_eq!(rt; calls.as_slice(), expected.as_slice());
+    );
     Ok(())
 }
 
@@ -416,10 +443,13 @@ fn scripts_are_read(rt: HostRuntime) -> Result<(), Fail> {
     let config = read_net(rt.alloc(), FIRST)?;
     let text = b"\ndeliver 65535 <\nflow\nkey host 65535 A\n\ntake pad 00007";
     let script = read_script(rt.alloc(), text, &config)?;
-    assert_eq!(rt; script.lines, 1);
-    assert_eq!(rt; script.names.len(), 2);
-    assert_eq!(rt; script.names[1].as_str(), "host");
-    assert_eq!(rt; script.commands.len(), 4);
+    assert!(rt; script.lines == 1 && script.commands.len() == 4);
+    assert!(rt;
+        match script.names.as_slice() {
+            [pad, host] => pad.as_str() == "pad" && host.as_str() == "host",
+            _ => false,
+        }
+    );
     Ok(())
 }
 
@@ -512,49 +542,46 @@ fn networks_are_read(rt: HostRuntime) -> Result<(), Fail> {
     Ok(())
 }
 
+/// Whether the first node is a PAD of one terminal with two parameters set.
+fn is_first_pad(node: &NodeConfig) -> bool {
+    let NodeKind::Pad(pad) = &node.kind else {
+        return false;
+    };
+    let set = match pad.settings.as_slice() {
+        [first, second] => {
+            (first.number, first.value) == (3, 2) && (second.number, second.value) == (15, 1)
+        }
+        _ => false,
+    };
+    set && (pad.terminals, pad.profile, pad.speed) == (1, Profile::Simple, 14)
+}
+
+/// Whether the line is one of a standing call, with the values that it has where none are given.
+fn is_first_line(line: &LineConfig) -> bool {
+    (line.dte.as_str(), line.dce.as_str(), line.address.as_str()) == ("pad", "host", "")
+        && (line.channels, line.window, line.k, line.n2, line.standing) == (1, 2, 7, 3, true)
+}
+
 #[test]
 fn the_first_network_is_read(rt: HostRuntime) -> Result<(), Fail> {
     let config = read_net(rt.alloc(), FIRST)?;
-    assert_eq!(rt;
-        (config.nodes.len(), config.lines.len(), config.routes.len()),
-        (2, 1, 0)
-    );
-    let NodeKind::Pad(pad) = &config.nodes[0].kind else {
-        return Err(Fail::from("the first node is no PAD"));
-    };
-    assert_eq!(rt;
-        (pad.terminals, pad.profile, pad.speed),
-        (1, Profile::Simple, 14)
-    );
-    assert_eq!(rt; pad.settings.len(), 2);
-    assert_eq!(rt; (pad.settings[0].number, pad.settings[0].value), (3, 2));
-    assert_eq!(rt; (pad.settings[1].number, pad.settings[1].value), (15, 1));
-    let line = &config.lines[0];
-    assert_eq!(rt;
-        (line.dte.as_str(), line.dce.as_str(), line.address.as_str()),
-        ("pad", "host", "")
-    );
-    assert_eq!(rt;
-        (line.channels, line.window, line.k, line.n2, line.standing),
-        (1, 2, 7, 3, true)
+    assert!(rt; config.nodes.len() == 2 && config.routes.is_empty());
+    assert!(rt; config.nodes.first().is_some_and(is_first_pad));
+    assert!(rt;
+        match config.lines.as_slice() {
+            [line] => is_first_line(line),
+            _ => false,
+        }
     );
     Ok(())
 }
 
 #[test]
 fn a_script_is_played_on_a_network(rt: HostRuntime) -> Result<(), Fail> {
-    let config = read_net(rt.alloc(), FIRST)?;
-    let text = b"key pad 0 HEX\\7FLLO\\0D\nflow\ntake host 1\nflow\n";
-    let script = read_script(rt.alloc(), text, &config)?;
-    let lines = mem_lines(rt.alloc(), config.lines.len())?;
-    assert_eq!(rt; lines.len(), config.lines.len());
-    let mut net = Net::new(rt.alloc(), &config, lines)?;
-    let mut out = Vec::new(rt.alloc());
-    play(rt.alloc(), &mut net, &script, &mut out)?;
-    assert_eq!(rt;
-        out.as_slice(),
-        b"host/1 data - \"HELLO\\0D\"\nend rest\n".as_slice()
-    );
+    let script = b"key pad 0 HEX\\7FLLO\\0D\nflow\ntake host 1\nflow\n";
+    let printed = played(&rt, FIRST, script)?;
+    let expected: &[u8] = b"host/1 data - \"HELLO\\0D\"\nend rest\n";
+    assert_eq!(rt; printed.as_slice(), expected);
     Ok(())
 }
 
@@ -580,38 +607,30 @@ impl Write for Broken {
 
 #[test]
 fn faults_are_told(rt: HostRuntime) -> Result<(), Fail> {
-    let mut out = Vec::new(rt.alloc());
-    let mut err = Vec::new(rt.alloc());
     let words = vec![in rt.alloc(); String::from_str(rt.alloc(), "dance")?]?;
-    let status = perform(
+    let mut flow: &[u8] = b"flow";
+    ends(
+        &rt,
         rt.alloc(),
         words.as_slice(),
-        &mut b"flow".as_slice(),
-        &mut out,
-        &mut err,
+        &mut flow,
+        2,
+        b"",
+        b"bad words\n",
     );
-    assert_eq!(rt; status, 2);
-    let status = perform(rt.alloc(), &[], &mut Broken, &mut out, &mut err);
-    assert_eq!(rt; status, 1);
+    ends(&rt, rt.alloc(), &[], &mut Broken, 1, b"", b"fault 7\n");
     let mut long = io::repeat(b'\n').take(1_048_577);
-    let status = perform(rt.alloc(), &[], &mut long, &mut out, &mut err);
-    assert_eq!(rt; status, 1);
-    assert_eq!(rt; out.len(), 0);
+    ends(&rt, rt.alloc(), &[], &mut long, 1, b"", b"fault 7\n");
     let mut full = io::repeat(b'\n').take(1_048_576);
-    let status = perform(rt.alloc(), &[], &mut full, &mut out, &mut err);
-    assert_eq!(rt; status, 0);
-    assert_eq!(rt; out.as_slice(), b"end rest\n".as_slice());
-    let status = perform(
-        rt.alloc(),
-        &[],
-        &mut b"flow".as_slice(),
-        &mut Broken,
-        &mut err,
-    );
-    assert_eq!(rt; status, 1);
-    assert_eq!(rt;
-        err.as_slice(),
-        b"bad words\nfault 7\nfault 7\nfault 5\n".as_slice()
-    );
+    ends(&rt, rt.alloc(), &[], &mut full, 0, b"end rest\n", b"");
     Ok(())
+}
+
+#[test]
+fn output_that_cannot_be_written_is_a_fault(rt: HostRuntime) {
+    let mut flow: &[u8] = b"flow";
+    let mut err = Vec::new(rt.alloc());
+    let status = perform(rt.alloc(), &[], &mut flow, &mut Broken, &mut err);
+    assert_eq!(rt; status, 1);
+    assert_eq!(rt; err.as_slice(), b"fault 5\n".as_slice());
 }

@@ -1,11 +1,11 @@
 //! How the nodes are made.
-ghost use Rattle.std.specs.Prelude.{◌≡◌, ◌∷◌, Some, IfOk, IfErr};
+ghost use Rattle.std.specs.Prelude.{◌≡◌, ◌∷◌, Some, IfOk, IfErr, OnOk};
 ghost use Rattle.packet_end.specs.Params.{AreParams};
 ghost use Rattle.packet_host.specs.Making as host_made;
 ghost use Rattle.line_nodes.specs.Node.{Host as host_node};
 ghost use Rattle.line_nodes.specs.NodeView.{node_of};
 ghost use Rattle.line_sim.specs.declared.event.MakeFault.TheVariants as make_fault_is;
-ghost use Rattle.line_sim.specs.Plan.{dte_of, terminals_of, IsMadeOf};
+ghost use Rattle.line_sim.specs.Plan.{dte_of, new_dte, new_dce, terminals_of, opening, with_nodes, Begins, IsMadeOf};
 ghost use Rattle.line_sim.specs.PlanView.{dte_value, plan_value, IsLimited};
 
 use crate::event::MakeFault;
@@ -20,7 +20,7 @@ use link_timers::Role;
 use packet_end::EndParams;
 use packet_host::{Host, HostConfig, HostFault};
 use packet_pad::{Pad, PadConfig, PadFault};
-use std::alloc::Global;
+use std::alloc::{AllocError, Global};
 
 fn new_host(alloc: Global, role: Role, line: EndParams) -> Result<Node, MakeFault>
     requires { AreParams line }
@@ -67,20 +67,25 @@ impl<L: Line> Nodes<L> {
         ensures ok { IfOk result (IsMadeOf L.faithful (plan_value plan.now)) }
         ensures err { IfErr result (λ fault. fault ≡ make_fault_is.OutOfMemory) }
     {
-        let mut line = line;
-        let mut dte = new_dte(alloc, &plan.dte, plan.line)?;
-        let mut dce = new_host(alloc, Role::Dce, plan.line)?;
+        let mut nodes = Nodes::made(alloc, plan, line)?;
+        nodes.begin()?;
+        Ok(nodes)
+    }
+
+    /// The nodes and the book of a plan, on the line as it is; what the nodes have to send waits there.
+    fn made(alloc: Global, plan: &Plan, line: L) -> Result<Self, MakeFault>
+        requires { IsLimited plan.now }
+        ensures ok { IfOk result (λ nodes. nodes ≡ with_nodes (new_dte (plan_value plan.now)) (new_dce (plan_value plan.now)) (L.flights line) (opening (plan_value plan.now))) }
+        ensures err { IfErr result (λ fault. fault ≡ make_fault_is.OutOfMemory) }
+    {
         let EndParams {
             channels,
             standing,
             ..
         } = plan.line;
+        let dte = new_dte(alloc, &plan.dte, plan.line)?;
+        let dce = new_host(alloc, Role::Dce, plan.line)?;
         let book = Book::new(alloc, plan.dte_place, plan.dce_place, channels, standing)?;
-        let mut first = Room::new(alloc)?;
-        let mut second = Room::new(alloc)?;
-        line.empty();
-        put_frames(&mut dte, &mut line, Direction::FromDte, &mut first.frames);
-        put_frames(&mut dce, &mut line, Direction::FromDce, &mut second.frames);
         Ok(Nodes {
             alloc,
             dte_place: plan.dte_place,
@@ -92,5 +97,27 @@ impl<L: Line> Nodes<L> {
             line,
             book,
         })
+    }
+
+    /// Empties the line, and puts what the nodes have to send, that of the DTE first.
+    fn begin(&mut self) -> Result<(), AllocError>
+        ensures { OnOk result (Begins L.faithful self.old self.new) }
+    {
+        let mut first = Room::new(self.alloc)?;
+        let mut second = Room::new(self.alloc)?;
+        self.line.empty();
+        put_frames(
+            &mut self.dte,
+            &mut self.line,
+            Direction::FromDte,
+            &mut first.frames,
+        );
+        put_frames(
+            &mut self.dce,
+            &mut self.line,
+            Direction::FromDce,
+            &mut second.frames,
+        );
+        Ok(())
     }
 }

@@ -1,0 +1,11 @@
+use Rattle.x25net.proofs.program.play_on.Goals as goal
+
+pub returns : goal.returns
+returns g c = record {
+  config = _;
+  start = _;
+  made = c.in_ok-net.ensures;
+  script = _;
+  ended = _;
+  writes = c.play.ensures.writes;
+}
