@@ -80,7 +80,7 @@ impl Host {
         Ok(channel)
     }
 
-    /// Accepts the call that came in on the channel (X.25 4.1.5).
+    /// Accepts the call that came in on the channel (X.25 4.1.4).
     ///
     /// `NoCall` comes where none waits for it: no call came in, or a DTE's own call collided with it.
     pub fn answer(&mut self, channel: u8) -> Result<(), ChannelFault>
@@ -157,7 +157,7 @@ impl Host {
         Ok(())
     }
 
-    /// Asks the far end by RNR to send no more data on the channel (X.25 4.4.1.4).
+    /// Asks the far end by RNR to send no more data on the channel (X.25 4.4.1.5).
     ///
     /// `NoCall` comes where no call is in data transfer.
     pub fn stop(&mut self, channel: u8) -> Result<(), ChannelFault>
@@ -172,7 +172,7 @@ impl Host {
         Ok(())
     }
 
-    /// Ends by RR what `stop` asked (X.25 4.4.1.3).
+    /// Ends by RR what `stop` asked (X.25 4.4.1.4).
     ///
     /// `NoCall` comes where no call is in data transfer.
     pub fn go(&mut self, channel: u8) -> Result<(), ChannelFault>
@@ -188,7 +188,7 @@ impl Host {
     }
 
     /// Takes what comes next on the channel, if anything: an interrupt, which is then confirmed, before all packets, each of which
-    /// is then acknowledged by P(R) (X.25 4.3.7, 4.4.1.4).
+    /// is then acknowledged by P(R) (X.25 4.3.7, 4.4.1.3).
     pub fn take(&mut self, channel: u8) -> Option<Taken>
         ensures taken { maybe_taken result ≡ machine.front_on self.old.layer channel }
         ensures host { self.new ≡ after_take self.old channel }
