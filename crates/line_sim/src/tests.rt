@@ -520,7 +520,9 @@ fn delivery_is_confirmed(rt: HostRuntime) -> Result<(), Fail> {
     assert!(rt; !net.confirmed(DTE_HOST, 4));
     let _ = net.step(&take(DCE_HOST, 4))?;
     flow(&mut net);
-    assert!(rt; net.confirmed(DTE_HOST, 4) && net.confirmed(DCE_HOST, 4) && !net.confirmed(DTE_HOST, 3));
+    assert!(rt;
+        net.confirmed(DTE_HOST, 4) && net.confirmed(DCE_HOST, 4) && !net.confirmed(DTE_HOST, 3)
+    );
     Ok(())
 }
 
