@@ -179,7 +179,7 @@ impl Book {
         self.room = 0;
     }
 
-    /// An end accepts the call that came in (X.25 4.1.5): its record and that of the end that placed it are a pair.
+    /// An end accepts the call that came in (X.25 4.1.4): its record and that of the end that placed it are a pair.
     pub fn answers(&mut self, role: Role, channel: u8)
         requires { 1 ≤ self.old.room }
         ensures { self.new ≡ record { book = answers role channel self.old.book; room = self.old.room - 1 } }

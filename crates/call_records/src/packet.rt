@@ -4,7 +4,7 @@ ghost use Rattle.std.specs.Prelude.{◌≡◌, ◌≤◌, length};
 use arrayvec::ArrayVec;
 use std::marker::Model;
 
-/// A Data packet as its user sees it: at most 128 octets, and whether M, Q and D are set (X.25 4.3.2 to 4.3.5).
+/// A Data packet as its user sees it: at most 128 octets, and whether M, Q and D are set (X.25 4.3.2 to 4.3.6).
 #[derive(Drop)]
 pub struct UserPacket {
     octets: ArrayVec<u8, 128>,

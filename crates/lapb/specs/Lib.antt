@@ -6,6 +6,7 @@ pub mod Out
 pub mod Octets
 pub mod Defects
 pub mod Offers
+pub mod Unsent
 pub mod Params
 pub mod EffectView
 pub mod OutView

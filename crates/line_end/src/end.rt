@@ -4,6 +4,7 @@ ghost use Rattle.link_timers.specs.Timers.{left_of, due_timers, first_of};
 ghost use Rattle.lapb.specs.Machine as machine;
 ghost use Rattle.lapb.specs.Octets.{on_octets};
 ghost use Rattle.lapb.specs.Offers.{refusal};
+ghost use Rattle.lapb.specs.Unsent.{HasSentAll};
 ghost use Rattle.lapb.specs.Out.{with_frames};
 ghost use Rattle.lapb.specs.Params.{AreParams};
 ghost use Rattle.line_end.specs.End.{timed, runs_then, made, without_frames, received, after_timer, timer_note, relinked, restarted, offered, settled, without_first, elapsed, SendsUpTo};
@@ -166,6 +167,9 @@ impl LineEnd {
     /// Ends an event of the node: the I frames that may go go out, in order; where none goes, RR if an acknowledgement is owed.
     pub fn settle(&mut self)
         ensures end { self.new ≡ settled self.old }
+
+        // No packet that may go now stays unsent.
+        ensures all_sent { HasSentAll self.new.link }
         ensures frames { SendsUpTo 7 self.old (machine.settle self.old.link) }
     {
         let mut out = LinkOut::new();

@@ -55,7 +55,7 @@ pub fn call(
     Ok(channel)
 }
 
-/// Accepts the call that came in on the channel (X.25 4.1.5).
+/// Accepts the call that came in on the channel (X.25 4.1.4).
 ///
 /// `NoCall` comes where none waits for it: no call came in, or a DTE's own call collided with it.
 pub fn answer(
@@ -185,7 +185,7 @@ pub fn interrupt(
     Ok(())
 }
 
-/// Asks the far end by RNR to send no more data on the channel (X.25 4.4.1.4).
+/// Asks the far end by RNR to send no more data on the channel (X.25 4.4.1.5).
 ///
 /// `NoCall` comes where no call is in data transfer.
 pub fn stop(
@@ -209,7 +209,7 @@ pub fn stop(
     Ok(())
 }
 
-/// Ends by RR what `stop` asked (X.25 4.4.1.3).
+/// Ends by RR what `stop` asked (X.25 4.4.1.4).
 ///
 /// `NoCall` comes where no call is in data transfer.
 pub fn go(
@@ -234,7 +234,7 @@ pub fn go(
 }
 
 /// Takes what comes next on the channel, if anything: an interrupt, which is then confirmed, before all packets, each of which
-/// is then acknowledged by P(R) (X.25 4.3.7, 4.4.1.4). Where nothing waits nothing happens.
+/// is then acknowledged by P(R) (X.25 4.3.7, 4.4.1.3). Where nothing waits nothing happens.
 pub fn take(
     host: &mut Host,
     at: Place,

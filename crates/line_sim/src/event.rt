@@ -65,7 +65,7 @@ pub enum Event {
 /// What a host asks of a call.
 #[derive(Debug, Drop)]
 pub enum Request {
-    /// The call that came in is accepted (X.25 4.1.5).
+    /// The call that came in is accepted (X.25 4.1.4).
     Answer,
     /// The call that came in is cleared before it is accepted (X.25 4.1.7).
     Refuse,
@@ -83,9 +83,9 @@ pub enum Request {
     Reset,
     /// The call is cleared (X.25 4.1.7).
     Clear,
-    /// The far end is told to send no data (X.25 4.4.1.4).
+    /// The far end is told to send no data (X.25 4.4.1.5).
     Stop,
-    /// The far end may send data again (X.25 4.4.1.3).
+    /// The far end may send data again (X.25 4.4.1.4).
     Go,
 }
 

@@ -79,7 +79,7 @@ impl<L: Line> Nodes<L> {
         node == self.dte_place || node == self.dce_place
     }
 
-    /// The role of the host of this place, if there is one.
+    /// Whether the node of this place is a host.
     fn is_host_at(&self, node: usize) -> bool
         ensures { result ≡ is_host_at node self.now }
     {

@@ -37,9 +37,9 @@ fn pad_of(alloc: Global, terminals: u16) -> Result<NodeConfig, Fail> {
     })
 }
 
-fn host_of(alloc: Global) -> Result<NodeConfig, Fail> {
+fn host_of(alloc: Global, name: &str) -> Result<NodeConfig, Fail> {
     Ok(NodeConfig {
-        name: String::from_str(alloc, "host")?,
+        name: String::from_str(alloc, name)?,
         kind: NodeKind::Host,
     })
 }
@@ -60,7 +60,7 @@ fn line_of(alloc: Global) -> Result<LineConfig, Fail> {
 /// A PAD with this many terminals, a host, and a call that stands on their line.
 fn config_of(alloc: Global, terminals: u16) -> Result<Config, Fail> {
     Ok(Config {
-        nodes: vec![in alloc; pad_of(alloc, terminals)?, host_of(alloc)?]?,
+        nodes: vec![in alloc; pad_of(alloc, terminals)?, host_of(alloc, "host")?]?,
         lines: vec![in alloc; line_of(alloc)?]?,
         routes: Vec::new(alloc),
     })
@@ -361,11 +361,16 @@ fn a_line_keeps_frames_in_order(rt: HostRuntime) -> Result<(), Fail> {
     Ok(())
 }
 
+/// The places of two hosts, the DTE and the DCE of their line.
+const DTE_HOST: usize = 0;
+
+const DCE_HOST: usize = 1;
+
 /// Two hosts on one line of so many channels.
 fn hosts_of(alloc: Global, channels: u16) -> Result<Config, Fail> {
     let line = LineConfig {
-        dte: String::from_str(alloc, "pad")?,
-        dce: String::from_str(alloc, "host")?,
+        dte: String::from_str(alloc, "first")?,
+        dce: String::from_str(alloc, "second")?,
         address: String::new(alloc),
         channels,
         window: 2,
@@ -373,12 +378,8 @@ fn hosts_of(alloc: Global, channels: u16) -> Result<Config, Fail> {
         n2: 3,
         standing: false,
     };
-    let dte = NodeConfig {
-        name: String::from_str(alloc, "pad")?,
-        kind: NodeKind::Host,
-    };
     Ok(Config {
-        nodes: vec![in alloc; dte, host_of(alloc)?]?,
+        nodes: vec![in alloc; host_of(alloc, "first")?, host_of(alloc, "second")?]?,
         lines: vec![in alloc; line]?,
         routes: Vec::new(alloc),
     })
@@ -402,12 +403,12 @@ fn connected(alloc: Global) -> Result<Net<MemLine>, Fail> {
     let mut net = Net::new(alloc, &config, lines)?;
     flow(&mut net);
     let _ = net.step(&Event::Call {
-        node: PAD,
+        node: DTE_HOST,
         address: Address::read(b"2001")?,
         user_data: ArrayVec::new(),
     })?;
     flow(&mut net);
-    let _ = net.step(&ask(HOST, 4, Request::Answer))?;
+    let _ = net.step(&ask(DCE_HOST, 4, Request::Answer))?;
     flow(&mut net);
     Ok(net)
 }
@@ -434,7 +435,7 @@ fn a_call_is_placed_and_answered(rt: HostRuntime) -> Result<(), Fail> {
     );
     let records = net.records();
     assert_eq!(rt; records.len(), 2);
-    assert_eq!(rt; (records[0].node, records[1].node), (PAD, HOST));
+    assert_eq!(rt; (records[0].node, records[1].node), (DTE_HOST, DCE_HOST));
     assert_eq!(rt;
         (records[0].far, records[1].own),
         (Some(Address::read(b"2001")?), Some(Address::read(b"2001")?))
@@ -454,7 +455,7 @@ fn is_put(frames: &[Put], packet: &[u8]) -> bool {
 fn resets_of_both_ends_open_an_epoch(rt: HostRuntime) -> Result<(), Fail> {
     let mut net = connected(rt.alloc())?;
     let reset = [0x10, 0x04, 0x1b, 0x00, 0x00];
-    for node in [PAD, HOST] {
+    for node in [DTE_HOST, DCE_HOST] {
         let answer = net.step(&ask(node, 4, Request::Reset))?;
         assert!(rt; is_put(&answer.frames, &reset));
     }
@@ -475,7 +476,7 @@ fn the_call_of_the_dce_is_cancelled_in_a_collision(rt: HostRuntime) -> Result<()
     let lines = mem_lines(rt.alloc(), config.lines.len())?;
     let mut net = Net::new(rt.alloc(), &config, lines)?;
     flow(&mut net);
-    for node in [PAD, HOST] {
+    for node in [DTE_HOST, DCE_HOST] {
         let _ = net.step(&Event::Call {
             node,
             address: Address::read(b"1")?,
@@ -483,7 +484,7 @@ fn the_call_of_the_dce_is_cancelled_in_a_collision(rt: HostRuntime) -> Result<()
         })?;
     }
     flow(&mut net);
-    let _ = net.step(&ask(HOST, 1, Request::Answer))?;
+    let _ = net.step(&ask(DCE_HOST, 1, Request::Answer))?;
     flow(&mut net);
     let records = net.records();
     assert_eq!(rt; records.len(), 3);
@@ -507,7 +508,7 @@ fn delivery_is_confirmed(rt: HostRuntime) -> Result<(), Fail> {
         qualified: false,
         delivery: true,
     };
-    let answer = net.step(&ask(PAD, 4, say))?;
+    let answer = net.step(&ask(DTE_HOST, 4, say))?;
     assert!(rt;
         are_put(
             &answer.frames,
@@ -516,9 +517,19 @@ fn delivery_is_confirmed(rt: HostRuntime) -> Result<(), Fail> {
         )
     );
     flow(&mut net);
-    assert!(rt; !net.confirmed(PAD, 4));
-    let _ = net.step(&take(HOST, 4))?;
+    assert!(rt; !net.confirmed(DTE_HOST, 4));
+    let _ = net.step(&take(DCE_HOST, 4))?;
     flow(&mut net);
-    assert!(rt; net.confirmed(PAD, 4) && net.confirmed(HOST, 4) && !net.confirmed(PAD, 3));
+    assert!(rt;
+        net.confirmed(DTE_HOST, 4) && net.confirmed(DCE_HOST, 4) && !net.confirmed(DTE_HOST, 3)
+    );
+    Ok(())
+}
+
+#[test]
+fn no_call_of_another_node_is_confirmed(rt: HostRuntime) -> Result<(), Fail> {
+    let net = first_net(rt.alloc())?;
+    assert!(rt; net.confirmed(HOST, 1));
+    assert!(rt; !net.confirmed(PAD, 1) && !net.confirmed(2, 1));
     Ok(())
 }

@@ -9,7 +9,7 @@ use Rattle.packet_layer.specs.Channel.{Channel}
 use Rattle.packet_layer.specs.Layer.{Layer, Next, ChannelNext, channel_of, next_of, next_number, packet_of, serve, serve_found, served, next_restart, next_in, next_packet}
 use Rattle.packet_layer.specs.Layer as machine
 use Rattle.packet_layer.specs.Events.{written_packet}
-use Rattle.packet_end.specs.PacketEnd.{PacketEnd, offered, with_next, settled, KeepsNothingBack}
+use Rattle.packet_end.specs.PacketEnd.{PacketEnd, offered, with_next, settled, HasOfferedAll}
 
 -- ---- a layer that has no packet stays as it is
 
@@ -97,8 +97,8 @@ no_packet-is : (packet : Option Packet) → is_some packet ≡ false → packet 
 no_packet-is None h = refl
 no_packet-is (Some packet) h = absurd (cc)
 
-pub silent_keeps_nothing : (e : PacketEnd) → is_some (next_packet e.layer).packet ≡ false → KeepsNothingBack e
-silent_keeps_nothing e silent = inr (no_packet-is (next_packet e.layer).packet silent)
+pub silent_all_offered : (e : PacketEnd) → is_some (next_packet e.layer).packet ≡ false → HasOfferedAll e
+silent_all_offered e silent = inr (no_packet-is (next_packet e.layer).packet silent)
 
 sent_same : (l : Link) (packets : List Octets) → can_offer (send_all l packets).link ≡ can_offer l
 sent_same l [] = refl
@@ -111,6 +111,6 @@ settle_same Phase.Up l = sent_same l (sendable l)
 settle_same Phase.Rejecting l = refl
 
 -- settling changes neither what the link takes nor what the layer has
-pub settled_keeps_nothing : (e : PacketEnd) → KeepsNothingBack e → KeepsNothingBack (settled e)
-settled_keeps_nothing e (inl room) = inl (settle_same e.line.link.phase e.line.link ∙ room)
-settled_keeps_nothing e (inr silent) = inr silent
+pub settled_all_offered : (e : PacketEnd) → HasOfferedAll e → HasOfferedAll (settled e)
+settled_all_offered e (inl room) = inl (settle_same e.line.link.phase e.line.link ∙ room)
+settled_all_offered e (inr silent) = inr silent

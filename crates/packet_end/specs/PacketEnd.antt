@@ -9,6 +9,7 @@ use Rattle.lapb.specs.declared.note.Note.TheVariants.{Nothing, Up, Down}
 use Rattle.lapb.specs.Machine as link
 use Rattle.lapb.specs.Machine.{Octets, can_offer}
 use Rattle.lapb.specs.Octets as link_octets
+use Rattle.lapb.specs.Unsent.{HasSentAll}
 use Rattle.line_end.specs.End.{End}
 use Rattle.line_end.specs.End as line
 use Rattle.packet_layer.specs.Packets.{CallParts, Note}
@@ -108,9 +109,14 @@ offered (suc most) e =
 unfoldable pub all_offered : PacketEnd → PacketEnd
 all_offered e = offered 7 e
 
--- nothing is kept back: the layer has no packet that may go, or the link takes none
-abbrev pub KeepsNothingBack : PacketEnd → Type 0
-KeepsNothingBack e = (can_offer e.line.link ≡ false) ⊎ ((next_packet e.layer).packet ≡ None)
+-- the link takes no packet, or the layer has none that may go
+abbrev pub HasOfferedAll : PacketEnd → Type 0
+HasOfferedAll e = (can_offer e.line.link ≡ false) ⊎ ((next_packet e.layer).packet ≡ None)
+
+-- nothing is kept back: the layer's packets are offered as far as the link takes them, and the link's are sent as far as they may go
+pub record KeepsNothingBack (e : PacketEnd) : Type 0 where
+  pub offered : HasOfferedAll e
+  pub sent : HasSentAll e.line.link
 
 -- the timers run as the layer wants them, and the link sends what may go
 abbrev pub settled : PacketEnd → PacketEnd

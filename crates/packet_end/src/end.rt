@@ -1,6 +1,7 @@
 //! One end of a line with its packet layer.
 ghost use Rattle.std.specs.Prelude.{◌≡◌, ◌≤◌, ◌+◌, [], ◌∷◌, length, MatchResult, slice_get};
 ghost use Rattle.std.specs.Bool.{OnTrue, OnFalse};
+ghost use Rattle.lapb.specs.Unsent.{HasSentAll};
 ghost use Rattle.packet_end.specs.Params.{AreParams, MadeNot};
 ghost use Rattle.packet_end.specs.Timing.{TimersAgree};
 ghost use Rattle.packet_end.specs.PacketEnd.{made, begun, gathered, heeded, received, runs_at, after_timer, relinked, relinked_if_due, restarted, KeepsNothingBack, settled, finished, elapsed, due, at_rest, without_first_frame, without_first_note};
@@ -167,6 +168,9 @@ impl PacketEnd {
     /// Ends an event: the timers run as the packet layer wants them, and the link sends what may go.
     pub fn settle(&mut self)
         ensures end { self.new ≡ settled self.old }
+
+        // No packet that the link holds and may send stays unsent.
+        ensures all_sent { HasSentAll self.new.line.link }
         ensures timers { TimersAgree self.new.layer self.new.timers }
     {
         bring_into_line(&mut self.timers, &self.layer);

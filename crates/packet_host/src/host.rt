@@ -1,5 +1,5 @@
 //! The host and its calls.
-ghost use Rattle.std.specs.Prelude.{◌≡◌, ◌≤◌, ◌∷◌, [], true, false, Some, None, length, MatchResult, slice_get};
+ghost use Rattle.std.specs.Prelude.{◌≡◌, ◌≤◌, ◌∷◌, [], true, false, Some, None, length, MatchResult, OnOk, OnSome, slice_get};
 ghost use Rattle.std.specs.Bool.{OnTrue, OnFalse};
 ghost use Rattle.packet_layer.specs.Channel.{Request as ask};
 ghost use Rattle.packet_layer.specs.Layer as machine;
@@ -66,6 +66,7 @@ impl Host {
             (λ channel. machine.channel_given self.old.layer self.old.layer.phase ≡ Some channel)
             (λ fault. machine.call_refusal self.old.layer self.old.layer.phase ≡ Some (call_refusal_of fault)) }
         ensures host { self.new ≡ after_call self.old (call_parts address user_data.now) }
+        ensures nothing_kept_back { OnOk result (end.KeepsNothingBack self.new) }
     {
         // an address has 1 to 15 decimal digits
         let _ = address.digits();
@@ -79,7 +80,7 @@ impl Host {
         Ok(channel)
     }
 
-    /// Accepts the call that came in on the channel (X.25 4.1.5).
+    /// Accepts the call that came in on the channel (X.25 4.1.4).
     ///
     /// `NoCall` comes where none waits for it: no call came in, or a DTE's own call collided with it.
     pub fn answer(&mut self, channel: u8) -> Result<(), ChannelFault>
@@ -87,6 +88,7 @@ impl Host {
             (λ _. machine.request_refusal self.old.layer channel ask.Accept ≡ None)
             (λ fault. machine.request_refusal self.old.layer channel ask.Accept ≡ Some (refusal_of fault)) }
         ensures host { self.new ≡ after_request self.old channel ask.Accept }
+        ensures nothing_kept_back { OnOk result (end.KeepsNothingBack self.new) }
     {
         self.end.accept(channel)?;
         self.end_event();
@@ -101,6 +103,7 @@ impl Host {
             (λ _. refuse_refusal self.old channel ≡ None)
             (λ fault. refuse_refusal self.old channel ≡ Some (refusal_of fault)) }
         ensures host { self.new ≡ after_refuse self.old channel }
+        ensures nothing_kept_back { OnOk result (end.KeepsNothingBack self.new) }
     {
         if !self.end.can_accept(channel) {
             return Err(ChannelFault::NoCall);
@@ -116,6 +119,7 @@ impl Host {
             (λ _. machine.request_refusal self.old.layer channel (ask.Clearing 0 0) ≡ None)
             (λ fault. machine.request_refusal self.old.layer channel (ask.Clearing 0 0) ≡ Some (refusal_of fault)) }
         ensures host { self.new ≡ after_request self.old channel (ask.Clearing 0 0) }
+        ensures nothing_kept_back { OnOk result (end.KeepsNothingBack self.new) }
     {
         self.end.clear(channel, 0, 0)?;
         self.end_event();
@@ -130,6 +134,7 @@ impl Host {
             (λ _. machine.request_refusal self.old.layer channel (ask.Resetting 0 0) ≡ None)
             (λ fault. machine.request_refusal self.old.layer channel (ask.Resetting 0 0) ≡ Some (refusal_of fault)) }
         ensures host { self.new ≡ after_request self.old channel (ask.Resetting 0 0) }
+        ensures nothing_kept_back { OnOk result (end.KeepsNothingBack self.new) }
     {
         self.end.reset(channel, 0, 0)?;
         self.end_event();
@@ -145,13 +150,14 @@ impl Host {
             (λ _. machine.request_refusal self.old.layer channel (ask.Interrupting octets.now) ≡ None)
             (λ fault. machine.request_refusal self.old.layer channel (ask.Interrupting octets.now) ≡ Some (refusal_of fault)) }
         ensures host { self.new ≡ after_request self.old channel (ask.Interrupting octets.now) }
+        ensures nothing_kept_back { OnOk result (end.KeepsNothingBack self.new) }
     {
         self.end.interrupt(channel, octets)?;
         self.end_event();
         Ok(())
     }
 
-    /// Asks the far end by RNR to send no more data on the channel (X.25 4.4.1.4).
+    /// Asks the far end by RNR to send no more data on the channel (X.25 4.4.1.5).
     ///
     /// `NoCall` comes where no call is in data transfer.
     pub fn stop(&mut self, channel: u8) -> Result<(), ChannelFault>
@@ -159,13 +165,14 @@ impl Host {
             (λ _. machine.request_refusal self.old.layer channel (ask.Stopping true) ≡ None)
             (λ fault. machine.request_refusal self.old.layer channel (ask.Stopping true) ≡ Some (refusal_of fault)) }
         ensures host { self.new ≡ after_request self.old channel (ask.Stopping true) }
+        ensures nothing_kept_back { OnOk result (end.KeepsNothingBack self.new) }
     {
         self.end.stop(channel)?;
         self.end_event();
         Ok(())
     }
 
-    /// Ends by RR what `stop` asked (X.25 4.4.1.3).
+    /// Ends by RR what `stop` asked (X.25 4.4.1.4).
     ///
     /// `NoCall` comes where no call is in data transfer.
     pub fn go(&mut self, channel: u8) -> Result<(), ChannelFault>
@@ -173,6 +180,7 @@ impl Host {
             (λ _. machine.request_refusal self.old.layer channel (ask.Stopping false) ≡ None)
             (λ fault. machine.request_refusal self.old.layer channel (ask.Stopping false) ≡ Some (refusal_of fault)) }
         ensures host { self.new ≡ after_request self.old channel (ask.Stopping false) }
+        ensures nothing_kept_back { OnOk result (end.KeepsNothingBack self.new) }
     {
         self.end.go(channel)?;
         self.end_event();
@@ -180,10 +188,11 @@ impl Host {
     }
 
     /// Takes what comes next on the channel, if anything: an interrupt, which is then confirmed, before all packets, each of which
-    /// is then acknowledged by P(R) (X.25 4.3.7, 4.4.1.4).
+    /// is then acknowledged by P(R) (X.25 4.3.7, 4.4.1.3).
     pub fn take(&mut self, channel: u8) -> Option<Taken>
         ensures taken { maybe_taken result ≡ machine.front_on self.old.layer channel }
         ensures host { self.new ≡ after_take self.old channel }
+        ensures nothing_kept_back { OnSome result (end.KeepsNothingBack self.new) }
     {
         let taken = self.end.take(channel)?;
         match taken {

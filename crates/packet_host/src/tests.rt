@@ -217,7 +217,7 @@ fn a_packet_without_a_type_is_acknowledged_and_ignored(rt: HostRuntime) {
     let (_, mut b) = pair(&rt, rt.alloc(), 4);
     b.host.on_frame(&[0x01, 0x22, 0x10, 0x01]);
     assert!(rt; sends(&mut b, &[0x01, 0x41]));
-    assert_eq!(rt; b.seen.incoming, 0);
+    assert_eq!(rt; b.seen, NOTHING_SEEN);
 }
 
 #[test]

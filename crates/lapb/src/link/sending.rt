@@ -3,6 +3,7 @@ ghost use Rattle.std.specs.Prelude.{◌≡◌, ◌<◌, ◌≤◌, ◌+◌, [], 
 ghost use Rattle.frame_codec.specs.Spelling.{spelling};
 ghost use Rattle.lapb.specs.Machine as machine;
 ghost use Rattle.lapb.specs.Named.{Keeps};
+ghost use Rattle.lapb.specs.Unsent.{HasSentAll};
 ghost use Rattle.lapb.specs.Out.{gathered, with_frames, with_effect, no_effect};
 
 use crate::effect::{command, response};
@@ -19,6 +20,9 @@ impl Link {
     pub fn settle(&mut self, out: &mut LinkOut)
         ensures link { self.new ≡ (machine.settle self.old).link }
         ensures out { out.new ≡ gathered out.old self.old (machine.settle self.old) }
+
+        // No packet that may go now stays unsent.
+        ensures all_sent { HasSentAll self.new }
 
         // For every session that agrees with the link.
         ensures named { Keeps self.old (machine.settle self.old) }

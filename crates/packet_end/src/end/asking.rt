@@ -29,7 +29,7 @@ impl PacketEnd {
         self.layer.call(call)
     }
 
-    /// Accepts the call that came in on the channel (X.25 4.1.5).
+    /// Accepts the call that came in on the channel (X.25 4.1.4).
     ///
     /// `NoCall` comes where none waits for it: no call came in, or a DTE's own call collided with it.
     pub fn accept(&mut self, channel: u8) -> Result<(), ChannelFault>
@@ -98,7 +98,7 @@ impl PacketEnd {
         self.layer.interrupt(channel, octets)
     }
 
-    /// Asks the far end by RNR to send no more data on the channel (X.25 4.4.1.4).
+    /// Asks the far end by RNR to send no more data on the channel (X.25 4.4.1.5).
     ///
     /// `NoCall` comes where no call is in data transfer.
     pub fn stop(&mut self, channel: u8) -> Result<(), ChannelFault>
@@ -110,7 +110,7 @@ impl PacketEnd {
         self.layer.stop(channel)
     }
 
-    /// Ends by RR what `stop` asked (X.25 4.4.1.3).
+    /// Ends by RR what `stop` asked (X.25 4.4.1.4).
     ///
     /// `NoCall` comes where no call is in data transfer.
     pub fn go(&mut self, channel: u8) -> Result<(), ChannelFault>
@@ -130,7 +130,7 @@ impl PacketEnd {
         self.layer.take(channel)
     }
 
-    /// Lets P(R) pass `count` more of the packets that were taken on the channel (X.25 4.4.1.4). Nothing happens where fewer are
+    /// Lets P(R) pass `count` more of the packets that were taken on the channel (X.25 4.4.1.3). Nothing happens where fewer are
     /// taken and not released.
     pub fn release(&mut self, channel: u8, count: u8)
         ensures { self.new ≡ asked self.old channel (ask.Releasing count) }

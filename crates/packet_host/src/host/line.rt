@@ -25,6 +25,7 @@ impl Host {
     pub fn on_timer(&mut self, id: TimerId) -> bool
         ensures ran { result ≡ end.runs_at self.old id }
         ensures host { self.new ≡ after_expiry self.old id }
+        ensures nothing_kept_back { OnTrue result (end.KeepsNothingBack self.new) }
     {
         if !self.end.is_running(id) {
             return false;

@@ -1,6 +1,7 @@
 //! What a host says on a call (X.25 4.3).
 ghost use Rattle.std.specs.Prelude.{◌≡◌, ◌≤◌, Some, None, MatchResult, OnOk, length};
 ghost use Rattle.packet_layer.specs.RequestView.{refusal_of};
+ghost use Rattle.packet_end.specs.PacketEnd as end;
 ghost use Rattle.packet_host.specs.Host.{after_say};
 ghost use Rattle.packet_host.specs.Saying.{say_refusal, full_packets, places_needed, most_octets, cut, queued, AllTaken};
 
@@ -33,6 +34,7 @@ impl Host {
         // No packet of an accepted message is refused by the send queue.
         ensures taken { OnOk result (AllTaken channel (cut octets.now qualified delivery) self.old) }
         ensures host { self.new ≡ after_say self.old channel octets.now qualified delivery }
+        ensures nothing_kept_back { OnOk result (end.KeepsNothingBack self.new) }
     {
         self.end.may_send(channel)?;
         if usize::from(self.end.room(channel)) < needed(octets, qualified) {

@@ -178,7 +178,7 @@ impl Layer {
         self.request(channel, &Request::Interrupt(octets))
     }
 
-    /// Asks the far end by RNR to send no more data on the channel (X.25 4.4.1.6).
+    /// Asks the far end by RNR to send no more data on the channel (X.25 4.4.1.5).
     ///
     /// `NoCall` comes where no call is in data transfer.
     pub fn stop(&mut self, channel: u8) -> Result<(), ChannelFault>
@@ -190,7 +190,7 @@ impl Layer {
         self.request(channel, &Request::Stop(true))
     }
 
-    /// Ends by RR what `stop` asked (X.25 4.4.1.5).
+    /// Ends by RR what `stop` asked (X.25 4.4.1.4).
     ///
     /// `NoCall` comes where no call is in data transfer.
     pub fn go(&mut self, channel: u8) -> Result<(), ChannelFault>

@@ -1,7 +1,8 @@
 //! What a PAD does with the keys of its terminal (X.3, X.29 1.3).
-ghost use Rattle.std.specs.Prelude.{◌≡◌, ◌≢◌, true, Some, is_some};
+ghost use Rattle.std.specs.Prelude.{◌≡◌, ◌≢◌, ℕ, true, List, Some, is_some};
 ghost use Rattle.packet_layer.specs.Layer as machine;
 ghost use Rattle.pad_editing.specs.Edited.{after_key};
+ghost use Rattle.packet_end.specs.PacketEnd.{KeepsNothingBack};
 ghost use Rattle.packet_pad.specs.Keys.{after_octet, edited_by, with_block, is_control, is_character, AllTaken, IsKeyResult};
 
 use crate::key::KeyResult;
@@ -28,6 +29,9 @@ impl Pad {
 
         // No packet is refused by the send queue.
         ensures taken { AllTaken (after_octet self.old octet).sent self.old.end }
+
+        // A key that ends a block ends the event.
+        ensures nothing_kept_back { (block : List ℕ) → result ≡ KeyResult.Step (Some block) → KeepsNothingBack self.new.end }
     {
         if !self.stands() || is_control(&self.params, octet) {
             return KeyResult::NoStep;
@@ -44,6 +48,7 @@ impl Pad {
         ensures pad { self.new ≡ (edited_by self.old octet (after_key self.old.params octet self.old.held)).pad }
         ensures result { IsKeyResult octet self.old.params result (edited_by self.old octet (after_key self.old.params octet self.old.held)) }
         ensures taken { AllTaken (edited_by self.old octet (after_key self.old.params octet self.old.held)).sent self.old.end }
+        ensures nothing_kept_back { (block : List ℕ) → result ≡ KeyResult.Step (Some block) → KeepsNothingBack self.new.end }
     {
         match self.editor.key(octet, &self.params).block {
             None => KeyResult::Step(None),
@@ -56,7 +61,8 @@ impl Pad {
 
     // Sends a block, and ends the event.
     fn send(&mut self, block: &Block)
-        ensures { self.new ≡ with_block (Some block.now) self.old }
+        ensures pad { self.new ≡ with_block (Some block.now) self.old }
+        ensures nothing_kept_back { KeepsNothingBack self.new.end }
     {
         let _ = self
             .end

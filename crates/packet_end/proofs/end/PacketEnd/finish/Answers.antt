@@ -1,6 +1,6 @@
 use Rattle.std.proofs.Common.{◌∙◌, ap}
 use Rattle.packet_end.specs.PacketEnd.{PacketEnd, settled, all_offered, finished}
-use Rattle.packet_end.proofs.Offering.{settled_keeps_nothing}
+use Rattle.packet_end.proofs.Offering.{settled_all_offered}
 use Rattle.packet_end.proofs.end.PacketEnd.finish.Goals as goal
 
 pub returns-clause-end : goal.returns-clause-end
@@ -10,5 +10,7 @@ returns-clause-end c =
     ∙ ap (λ (e : PacketEnd). settled e) (c.offer_packets.ensures.end ∙ ap (λ (e : PacketEnd). all_offered e) c.relink_if_due.ensures)
 
 pub returns-clause-nothing_kept_back : goal.returns-clause-nothing_kept_back
-returns-clause-nothing_kept_back c =
-    rw c.settle.ensures.end (settled_keeps_nothing c.offer_packets.new.self c.offer_packets.ensures.nothing_kept_back)
+returns-clause-nothing_kept_back c = record {
+  offered = rw c.settle.ensures.end (settled_all_offered c.offer_packets.new.self c.offer_packets.ensures.all_offered);
+  sent = c.settle.ensures.all_sent;
+}

@@ -6,7 +6,7 @@ use Rattle.packet_layer.specs.Layer.{Layer, next_packet}
 use Rattle.packet_layer.specs.Events.{written_packet}
 use Rattle.packet_end.specs.EndView.{end_of}
 use Rattle.packet_end.specs.PacketEnd.{offered, all_offered, with_next}
-use Rattle.packet_end.proofs.Offering.{next_none, written_same, no_room, no_packet, one_offered, takes_none, longer, silent_keeps_nothing}
+use Rattle.packet_end.proofs.Offering.{next_none, written_same, no_room, no_packet, one_offered, takes_none, longer, silent_all_offered}
 use Rattle.packet_end.proofs.end.PacketEnd.offer_packets.Goals as goal
 use Rattle.packet_end.proofs.end.PacketEnd.offer_packets.Goals.{then-not-has_room-via-then-not-has_room, then-not-has_room-via-else-not-has_room+then-not-next_packet}
 
@@ -45,8 +45,8 @@ returns-then-not-has_room-clause-end c =
           ∙ sym (no_packet (7 - c.loop.counter) e silent) ∙ c.loop.invariant.left
     ]
 
-pub returns-then-not-has_room-clause-nothing_kept_back : goal.returns-then-not-has_room-clause-nothing_kept_back
-returns-then-not-has_room-clause-nothing_kept_back c =
+pub returns-then-not-has_room-clause-all_offered : goal.returns-then-not-has_room-clause-all_offered
+returns-then-not-has_room-clause-all_offered c =
     let e = end_of c.loop.self-inside in
     elim c.then-not-has_room.branch [
       | then-not-has_room-via-then-not-has_room w ↦
@@ -56,7 +56,7 @@ returns-then-not-has_room-clause-nothing_kept_back c =
           let layer : w.next_packet.new.self ≡ e.layer = w.next_packet.ensures.layer ∙ next_none e.layer silent in
           let still : is_some (next_packet w.next_packet.new.self).packet ≡ false =
           ap (λ (l : Layer). is_some (next_packet l).packet) layer ∙ silent in
-          rw w.self-is (silent_keeps_nothing
+          rw w.self-is (silent_all_offered
           (record { line = e.line; layer = w.next_packet.new.self; timers = e.timers; notes = e.notes }) still)
     ]
 
@@ -65,7 +65,7 @@ returns-clause-end c =
     let over : 7 - c.loop.counter ≡ 0 = omega (arith, c.loop-test.false) in
     ap (λ n. offered n (end_of c.loop.self-inside)) (sym over) ∙ c.loop.invariant.left
 
-pub returns-clause-nothing_kept_back : goal.returns-clause-nothing_kept_back
-returns-clause-nothing_kept_back c =
+pub returns-clause-all_offered : goal.returns-clause-all_offered
+returns-clause-all_offered c =
     inl (takes_none c.loop.self-inside.line.link
     (omega (arith, c.loop-test.false, c.loop.invariant.queued, c.loop.invariant.most (omega (arith, c.loop-test.false)))))
