@@ -4,6 +4,7 @@ use arrayvec::ArrayVec;
 use frame_codec::FrameBuf;
 use packet_codec::Address;
 use std::alloc::Global;
+use std::process::Abort;
 use std::test::Fail;
 use x3_params::Profile;
 
@@ -66,10 +67,14 @@ fn config_of(alloc: Global, terminals: u16) -> Result<Config, Fail> {
     })
 }
 
+fn net_of(alloc: Global, config: &Config) -> Result<Net<MemLine>, Fail> {
+    let lines = mem_lines(alloc, config.lines.len())?;
+    Ok(Net::new(alloc, config, lines)?)
+}
+
 fn first_net(alloc: Global) -> Result<Net<MemLine>, Fail> {
     let config = config_of(alloc, 1)?;
-    let lines = mem_lines(alloc, config.lines.len())?;
-    Ok(Net::new(alloc, &config, lines)?)
+    net_of(alloc, &config)
 }
 
 /// Whether these frames and no others were put on the line, in this direction.
@@ -203,104 +208,131 @@ fn deliver(line: usize) -> Event {
     }
 }
 
-/// How an event is refused.
-fn refusal(net: &mut Net<MemLine>, event: &Event) -> Option<StepFault> {
-    net.step(event).err()
+/// Whether an event is refused so.
+fn is_refused(net: &mut Net<MemLine>, event: Event, fault: StepFault) -> bool {
+    net.step(&event).err() == Some(fault)
+}
+
+/// Whether the records are those of a call between the two nodes, of which neither end sent or took anything.
+fn are_fresh(records: &[Record]) -> bool {
+    match records {
+        [pad, host] => {
+            (pad.number, pad.node, host.number, host.node) == (0, PAD, 1, HOST)
+                && is_fresh(pad)
+                && is_fresh(host)
+        }
+        _ => false,
+    }
+}
+
+/// Whether there is one pair, of these two records.
+fn is_pair(pairs: &[Pair], caller: usize, callee: usize) -> bool {
+    match pairs {
+        [pair] => pair.caller == caller && pair.callee == callee,
+        _ => false,
+    }
 }
 
 #[test]
 fn a_network_begins_fresh(rt: HostRuntime) -> Result<(), Fail> {
     let net = first_net(rt.alloc())?;
     assert!(rt; net.at_rest());
-    assert_eq!(rt;
-        net.pairs(),
-        [Pair {
-            caller: 0,
-            callee: 1
-        }]
-        .as_slice()
-    );
-    let records = net.records();
-    assert_eq!(rt; records.len(), 2);
-    assert_eq!(rt; (records[0].number, records[0].node), (0, PAD));
-    assert_eq!(rt; (records[1].number, records[1].node), (1, HOST));
-    assert!(rt; is_fresh(&records[0]) && is_fresh(&records[1]));
+    assert!(rt; is_pair(net.pairs(), 0, 1) && are_fresh(net.records()));
     Ok(())
+}
+
+/// Whether the first of two records sent a message, of which so many packets are covered, in so many steps.
+fn first_sent(records: &[Record], octets: &[u8], covered: usize, steps: usize) -> bool {
+    match records {
+        [first, _] => has_sent(first, octets, covered) && first.steps.len() == steps,
+        _ => false,
+    }
+}
+
+/// Whether the second of two records took a message.
+fn second_took(records: &[Record], octets: &[u8]) -> bool {
+    match records {
+        [_, second] => has_taken(second, octets),
+        _ => false,
+    }
+}
+
+fn sends_a_block(rt: &impl Abort, net: &mut Net<MemLine>) {
+    assert!(rt; types(net, 0x41, &[]));
+    assert!(rt; net.at_rest());
+    let frame: &[u8] = &[0x01, 0x00, 0x10, 0x01, 0x00, 0x41, 0x0d];
+    assert!(rt; types(net, 0x0d, &[frame]));
+    assert!(rt; !net.at_rest());
+    assert!(rt; first_sent(net.records(), &[0x41, 0x0d], 0, 2));
 }
 
 #[test]
 fn a_block_is_sent(rt: HostRuntime) -> Result<(), Fail> {
     let mut net = first_net(rt.alloc())?;
-    assert!(rt; types(&mut net, 0x41, &[]));
-    assert!(rt; net.at_rest());
-    assert!(rt;
-        types(
-            &mut net,
-            0x0d,
-            &[&[0x01, 0x00, 0x10, 0x01, 0x00, 0x41, 0x0d]]
-        )
-    );
-    assert!(rt; !net.at_rest());
-    let records = net.records();
-    assert_eq!(rt; records.len(), 2);
-    assert_eq!(rt; records[0].steps.len(), 2);
-    assert!(rt; has_sent(&records[0], &[0x41, 0x0d], 0));
-    assert!(rt; is_fresh(&records[1]));
+    sends_a_block(&rt, &mut net);
     Ok(())
+}
+
+fn carries_a_packet(rt: &impl Abort, net: &mut Net<MemLine>) {
+    assert!(rt; types(net, 0x0d, &[&[0x01, 0x00, 0x10, 0x01, 0x00, 0x0d]]));
+    assert!(rt; reaches_host(net, &[&[0x01, 0x21]]));
+    assert!(rt; takes(net, &[0x0d], &[&[0x03, 0x20, 0x10, 0x01, 0x21]]));
+    assert!(rt; reaches_pad(net, &[]));
+    assert!(rt; reaches_pad(net, &[&[0x03, 0x21]]));
+    assert!(rt; reaches_host(net, &[]));
+    assert!(rt; net.at_rest());
+    assert!(rt; first_sent(net.records(), &[0x0d], 1, 1));
+    assert!(rt; second_took(net.records(), &[0x0d]));
 }
 
 #[test]
 fn a_packet_crosses(rt: HostRuntime) -> Result<(), Fail> {
     let mut net = first_net(rt.alloc())?;
-    assert!(rt; types(&mut net, 0x0d, &[&[0x01, 0x00, 0x10, 0x01, 0x00, 0x0d]]));
-    assert!(rt; reaches_host(&mut net, &[&[0x01, 0x21]]));
-    assert!(rt; takes(&mut net, &[0x0d], &[&[0x03, 0x20, 0x10, 0x01, 0x21]]));
-    assert!(rt; reaches_pad(&mut net, &[]));
-    assert!(rt; reaches_pad(&mut net, &[&[0x03, 0x21]]));
-    assert!(rt; reaches_host(&mut net, &[]));
-    assert!(rt; net.at_rest());
-    let records = net.records();
-    assert_eq!(rt; records.len(), 2);
-    assert!(rt; has_sent(&records[0], &[0x0d], 1));
-    assert!(rt; has_taken(&records[1], &[0x0d]));
+    carries_a_packet(&rt, &mut net);
     Ok(())
+}
+
+fn holds_a_third_packet(rt: &impl Abort, net: &mut Net<MemLine>) {
+    assert!(rt; types(net, 0x0d, &[&[0x01, 0x00, 0x10, 0x01, 0x00, 0x0d]]));
+    assert!(rt; types(net, 0x0d, &[&[0x01, 0x02, 0x10, 0x01, 0x02, 0x0d]]));
+    assert!(rt; types(net, 0x0d, &[]));
+    assert!(rt; reaches_host(net, &[&[0x01, 0x21]]));
+    assert!(rt; reaches_host(net, &[&[0x01, 0x41]]));
+    assert!(rt; takes(net, &[0x0d], &[&[0x03, 0x40, 0x10, 0x01, 0x21]]));
+    assert!(rt; reaches_pad(net, &[]));
+    assert!(rt; reaches_pad(net, &[]));
+    assert!(rt; reaches_pad(net, &[&[0x01, 0x24, 0x10, 0x01, 0x04, 0x0d]]));
 }
 
 #[test]
 fn the_window_holds_a_third_packet(rt: HostRuntime) -> Result<(), Fail> {
     let mut net = first_net(rt.alloc())?;
-    assert!(rt; types(&mut net, 0x0d, &[&[0x01, 0x00, 0x10, 0x01, 0x00, 0x0d]]));
-    assert!(rt; types(&mut net, 0x0d, &[&[0x01, 0x02, 0x10, 0x01, 0x02, 0x0d]]));
-    assert!(rt; types(&mut net, 0x0d, &[]));
-    assert!(rt; reaches_host(&mut net, &[&[0x01, 0x21]]));
-    assert!(rt; reaches_host(&mut net, &[&[0x01, 0x41]]));
-    assert!(rt; takes(&mut net, &[0x0d], &[&[0x03, 0x40, 0x10, 0x01, 0x21]]));
-    assert!(rt; reaches_pad(&mut net, &[]));
-    assert!(rt; reaches_pad(&mut net, &[]));
-    assert!(rt; reaches_pad(&mut net, &[&[0x01, 0x24, 0x10, 0x01, 0x04, 0x0d]]));
+    holds_a_third_packet(&rt, &mut net);
     Ok(())
+}
+
+fn refuses_events(rt: &impl Abort, net: &mut Net<MemLine>) {
+    assert!(rt; is_refused(net, key(HOST, 1), StepFault::NoSuchNode));
+    assert!(rt; is_refused(net, key(2, 0), StepFault::NoSuchNode));
+    assert!(rt; is_refused(net, key(PAD, 1), StepFault::NoSuchTerminal));
+    assert!(rt; is_refused(net, take(PAD, 0), StepFault::NoSuchNode));
+    assert!(rt; is_refused(net, take(HOST, 0), StepFault::NoSuchCall));
+    assert!(rt; is_refused(net, take(HOST, 2), StepFault::NoSuchCall));
+    assert!(rt; is_refused(net, deliver(1), StepFault::NoSuchNode));
+    assert!(rt; net.at_rest() && are_fresh(net.records()));
 }
 
 #[test]
 fn refused_events_change_nothing(rt: HostRuntime) -> Result<(), Fail> {
     let mut net = first_net(rt.alloc())?;
-    let rows = [
-        (key(HOST, 1), StepFault::NoSuchNode),
-        (key(2, 0), StepFault::NoSuchNode),
-        (key(PAD, 1), StepFault::NoSuchTerminal),
-        (take(PAD, 0), StepFault::NoSuchNode),
-        (take(HOST, 0), StepFault::NoSuchCall),
-        (take(HOST, 2), StepFault::NoSuchCall),
-        (deliver(1), StepFault::NoSuchNode),
-    ];
-    for (event, fault) in &rows {
-        assert_eq!(rt; refusal(&mut net, event), Some(*fault));
-    }
-    assert!(rt; net.at_rest());
-    let records = net.records();
-    assert_eq!(rt; records.len(), 2);
-    assert!(rt; is_fresh(&records[0]) && is_fresh(&records[1]));
+    refuses_events(&rt, &mut net);
     Ok(())
+}
+
+fn has_run(net: &Net<MemLine>) -> bool {
+    !net.at_rest()
+        && first_sent(net.records(), &[0x0d], 0, 1)
+        && second_took(net.records(), &[0x0d])
 }
 
 #[test]
@@ -308,11 +340,7 @@ fn events_run_in_order(rt: HostRuntime) -> Result<(), Fail> {
     let config = config_of(rt.alloc(), 1)?;
     let events = [key(PAD, 0), take(HOST, 2), deliver(0), take(HOST, 1)];
     let net = run(rt.alloc(), &config, &events)?;
-    assert!(rt; !net.at_rest());
-    let records = net.records();
-    assert_eq!(rt; records.len(), 2);
-    assert!(rt; has_sent(&records[0], &[0x0d], 0));
-    assert!(rt; has_taken(&records[1], &[0x0d]));
+    assert!(rt; has_run(&net));
     Ok(())
 }
 
@@ -321,11 +349,15 @@ fn seventeen_terminals_are_refused(rt: HostRuntime) -> Result<(), Fail> {
     let config = config_of(rt.alloc(), 17)?;
     let bad = Some(RunFault::Made(MakeFault::BadConfig));
     assert_eq!(rt; run(rt.alloc(), &config, &[]).err(), bad);
+    Ok(())
+}
+
+#[test]
+fn no_network_of_seventeen_terminals_is_made(rt: HostRuntime) -> Result<(), Fail> {
+    let config = config_of(rt.alloc(), 17)?;
     let lines = mem_lines(rt.alloc(), config.lines.len())?;
-    assert_eq!(rt;
-        Net::new(rt.alloc(), &config, lines).err(),
-        Some(MakeFault::BadConfig)
-    );
+    let fault = Net::new(rt.alloc(), &config, lines).err();
+    assert_eq!(rt; fault, Some(MakeFault::BadConfig));
     Ok(())
 }
 
@@ -345,23 +377,27 @@ fn comes(line: &mut MemLine, direction: Direction, octet: Option<u8>) -> bool {
     }
 }
 
-#[test]
-fn a_line_keeps_frames_in_order(rt: HostRuntime) -> Result<(), Fail> {
-    let mut line = MemLine::new(rt.alloc())?;
+fn keeps_order(rt: &impl Abort, line: &mut MemLine) {
     line.put(Direction::FromDte, frame(1));
     line.put(Direction::FromDte, frame(2));
     assert!(rt; line.in_flight(Direction::FromDte) && !line.in_flight(Direction::FromDce));
     line.put(Direction::FromDce, frame(3));
-    assert!(rt; comes(&mut line, Direction::FromDte, Some(1)));
-    assert!(rt; comes(&mut line, Direction::FromDce, Some(3)));
-    assert!(rt; comes(&mut line, Direction::FromDce, None));
+    assert!(rt; comes(line, Direction::FromDte, Some(1)));
+    assert!(rt; comes(line, Direction::FromDce, Some(3)));
+    assert!(rt; comes(line, Direction::FromDce, None));
     line.empty();
     assert!(rt; !line.in_flight(Direction::FromDte));
-    assert!(rt; comes(&mut line, Direction::FromDte, None));
+    assert!(rt; comes(line, Direction::FromDte, None));
+}
+
+#[test]
+fn a_line_keeps_frames_in_order(rt: HostRuntime) -> Result<(), Fail> {
+    let mut line = MemLine::new(rt.alloc())?;
+    keeps_order(&rt, &mut line);
     Ok(())
 }
 
-/// The places of two hosts, the DTE and the DCE of their line.
+/// The places of two hosts.
 const DTE_HOST: usize = 0;
 
 const DCE_HOST: usize = 1;
@@ -396,21 +432,22 @@ fn flow(net: &mut Net<MemLine>) {
     }
 }
 
-/// Two hosts whose line is up, on channel 4 of which a call stands that the DTE placed.
-fn connected(alloc: Global) -> Result<Net<MemLine>, Fail> {
-    let config = hosts_of(alloc, 4)?;
-    let lines = mem_lines(alloc, config.lines.len())?;
-    let mut net = Net::new(alloc, &config, lines)?;
-    flow(&mut net);
-    let _ = net.step(&Event::Call {
-        node: DTE_HOST,
-        address: Address::read(b"2001")?,
-        user_data: ArrayVec::new(),
-    })?;
-    flow(&mut net);
-    let _ = net.step(&ask(DCE_HOST, 4, Request::Answer))?;
+/// Two hosts whose line is up.
+fn hosts_net(alloc: Global, channels: u16) -> Result<Net<MemLine>, Fail> {
+    let config = hosts_of(alloc, channels)?;
+    let mut net = net_of(alloc, &config)?;
     flow(&mut net);
     Ok(net)
+}
+
+/// Whether a host places a call.
+fn calls(net: &mut Net<MemLine>, node: usize, called: Address) -> bool {
+    let event = Event::Call {
+        node,
+        address: called,
+        user_data: ArrayVec::new(),
+    };
+    net.step(&event).is_ok()
 }
 
 fn ask(node: usize, channel: u16, request: Request) -> Event {
@@ -421,25 +458,39 @@ fn ask(node: usize, channel: u16, request: Request) -> Event {
     }
 }
 
+/// Whether what a host asks is done.
+fn asks(net: &mut Net<MemLine>, node: usize, channel: u16, request: Request) -> bool {
+    let event = ask(node, channel, request);
+    net.step(&event).is_ok()
+}
+
+/// The host at the DTE calls this address on channel 4, and the other one answers.
+fn connects(rt: &impl Abort, net: &mut Net<MemLine>, called: Address) {
+    assert!(rt; calls(net, DTE_HOST, called));
+    flow(net);
+    assert!(rt; asks(net, DCE_HOST, 4, Request::Answer));
+    flow(net);
+    assert!(rt; net.at_rest());
+}
+
+/// Whether the records are those of a call to this address.
+fn are_of_call(records: &[Record], called: Address) -> bool {
+    match records {
+        [caller, callee] => {
+            (caller.node, callee.node) == (DTE_HOST, DCE_HOST)
+                && caller.far == Some(called)
+                && callee.own == Some(called)
+        }
+        _ => false,
+    }
+}
+
 #[test]
 fn a_call_is_placed_and_answered(rt: HostRuntime) -> Result<(), Fail> {
-    let net = connected(rt.alloc())?;
-    assert!(rt; net.at_rest());
-    assert_eq!(rt;
-        net.pairs(),
-        [Pair {
-            caller: 0,
-            callee: 1
-        }]
-        .as_slice()
-    );
-    let records = net.records();
-    assert_eq!(rt; records.len(), 2);
-    assert_eq!(rt; (records[0].node, records[1].node), (DTE_HOST, DCE_HOST));
-    assert_eq!(rt;
-        (records[0].far, records[1].own),
-        (Some(Address::read(b"2001")?), Some(Address::read(b"2001")?))
-    );
+    let called = Address::read(b"2001")?;
+    let mut net = hosts_net(rt.alloc(), 4)?;
+    connects(&rt, &mut net, called);
+    assert!(rt; is_pair(net.pairs(), 0, 1) && are_of_call(net.records(), called));
     Ok(())
 }
 
@@ -451,85 +502,97 @@ fn is_put(frames: &[Put], packet: &[u8]) -> bool {
     }
 }
 
+/// Whether a host resets its call on channel 4 by a Reset Request.
+fn resets(net: &mut Net<MemLine>, node: usize) -> bool {
+    let event = ask(node, 4, Request::Reset);
+    match net.step(&event) {
+        Ok(answer) => is_put(&answer.frames, &[0x10, 0x04, 0x1b, 0x00, 0x00]),
+        Err(_) => false,
+    }
+}
+
+/// Whether each of two records has one epoch that is over, sent and taken.
+fn were_reset_once(records: &[Record]) -> bool {
+    match records {
+        [first, second] => {
+            (first.sent_before.len(), first.taken_before.len()) == (1, 1)
+                && (second.sent_before.len(), second.taken_before.len()) == (1, 1)
+        }
+        _ => false,
+    }
+}
+
 #[test]
 fn resets_of_both_ends_open_an_epoch(rt: HostRuntime) -> Result<(), Fail> {
-    let mut net = connected(rt.alloc())?;
-    let reset = [0x10, 0x04, 0x1b, 0x00, 0x00];
-    for node in [DTE_HOST, DCE_HOST] {
-        let answer = net.step(&ask(node, 4, Request::Reset))?;
-        assert!(rt; is_put(&answer.frames, &reset));
-    }
+    let mut net = hosts_net(rt.alloc(), 4)?;
+    connects(&rt, &mut net, Address::read(b"2001")?);
+    assert!(rt; resets(&mut net, DTE_HOST) && resets(&mut net, DCE_HOST));
     flow(&mut net);
-    assert!(rt; net.at_rest());
-    for record in net.records() {
-        assert_eq!(rt;
-            (record.sent_before.len(), record.taken_before.len()),
-            (1, 1)
-        );
-    }
+    assert!(rt; net.at_rest() && were_reset_once(net.records()));
     Ok(())
+}
+
+/// Whether the second of three records alone is closed.
+fn is_second_closed(records: &[Record]) -> bool {
+    match records {
+        [first, second, third] => !first.closed && second.closed && !third.closed,
+        _ => false,
+    }
+}
+
+/// Both hosts call on the one channel.
+fn collides(rt: &impl Abort, net: &mut Net<MemLine>, called: Address) {
+    assert!(rt; calls(net, DTE_HOST, called) && calls(net, DCE_HOST, called));
+    flow(net);
+    assert!(rt; asks(net, DCE_HOST, 1, Request::Answer));
+    flow(net);
+    assert!(rt; is_second_closed(net.records()) && is_pair(net.pairs(), 0, 2));
 }
 
 #[test]
 fn the_call_of_the_dce_is_cancelled_in_a_collision(rt: HostRuntime) -> Result<(), Fail> {
-    let config = hosts_of(rt.alloc(), 1)?;
-    let lines = mem_lines(rt.alloc(), config.lines.len())?;
-    let mut net = Net::new(rt.alloc(), &config, lines)?;
-    flow(&mut net);
-    for node in [DTE_HOST, DCE_HOST] {
-        let _ = net.step(&Event::Call {
-            node,
-            address: Address::read(b"1")?,
-            user_data: ArrayVec::new(),
-        })?;
-    }
-    flow(&mut net);
-    let _ = net.step(&ask(DCE_HOST, 1, Request::Answer))?;
-    flow(&mut net);
-    let records = net.records();
-    assert_eq!(rt; records.len(), 3);
-    assert!(rt; !records[0].closed && records[1].closed && !records[2].closed);
-    assert_eq!(rt;
-        net.pairs(),
-        [Pair {
-            caller: 0,
-            callee: 2
-        }]
-        .as_slice()
-    );
+    let mut net = hosts_net(rt.alloc(), 1)?;
+    collides(&rt, &mut net, Address::read(b"1")?);
     Ok(())
+}
+
+/// Whether the host at the DTE says HI on channel 4, and wants its delivery confirmed.
+fn says(net: &mut Net<MemLine>, octets: Vec<u8>) -> bool {
+    let say = Request::Say {
+        octets,
+        qualified: false,
+        delivery: true,
+    };
+    let event = ask(DTE_HOST, 4, say);
+    let frame: &[u8] = &[0x01, 0x44, 0x50, 0x04, 0x00, 0x48, 0x49];
+    match net.step(&event) {
+        Ok(answer) => are_put(&answer.frames, Direction::FromDte, &[frame]),
+        Err(_) => false,
+    }
+}
+
+/// What is said is confirmed when it was taken.
+fn confirms(rt: &impl Abort, net: &mut Net<MemLine>, octets: Vec<u8>) {
+    assert!(rt; says(net, octets));
+    flow(net);
+    assert!(rt; !net.confirmed(DTE_HOST, 4));
+    assert!(rt; net.step(&take(DCE_HOST, 4)).is_ok());
+    flow(net);
+    assert!(rt; net.confirmed(DTE_HOST, 4) && net.confirmed(DCE_HOST, 4));
+    assert!(rt; !net.confirmed(DTE_HOST, 3));
 }
 
 #[test]
 fn delivery_is_confirmed(rt: HostRuntime) -> Result<(), Fail> {
-    let mut net = connected(rt.alloc())?;
-    let say = Request::Say {
-        octets: b"HI".to_vec(rt.alloc())?,
-        qualified: false,
-        delivery: true,
-    };
-    let answer = net.step(&ask(DTE_HOST, 4, say))?;
-    assert!(rt;
-        are_put(
-            &answer.frames,
-            Direction::FromDte,
-            &[&[0x01, 0x44, 0x50, 0x04, 0x00, 0x48, 0x49]]
-        )
-    );
-    flow(&mut net);
-    assert!(rt; !net.confirmed(DTE_HOST, 4));
-    let _ = net.step(&take(DCE_HOST, 4))?;
-    flow(&mut net);
-    assert!(rt;
-        net.confirmed(DTE_HOST, 4) && net.confirmed(DCE_HOST, 4) && !net.confirmed(DTE_HOST, 3)
-    );
+    let mut net = hosts_net(rt.alloc(), 4)?;
+    connects(&rt, &mut net, Address::read(b"2001")?);
+    confirms(&rt, &mut net, b"HI".to_vec(rt.alloc())?);
     Ok(())
 }
 
 #[test]
 fn no_call_of_another_node_is_confirmed(rt: HostRuntime) -> Result<(), Fail> {
     let net = first_net(rt.alloc())?;
-    assert!(rt; net.confirmed(HOST, 1));
-    assert!(rt; !net.confirmed(PAD, 1) && !net.confirmed(2, 1));
+    assert!(rt; net.confirmed(HOST, 1) && !net.confirmed(PAD, 1) && !net.confirmed(2, 1));
     Ok(())
 }
