@@ -27,7 +27,8 @@ pub record ComesOn (l : Layer) (r : Received) (ch : Channel) : Type 0 where
   pub ready : l.phase ≡ Phase.PacketReady
   pub found : channel_of l (channel_named r) ≡ Some ch
 
--- the layer drops its notes and makes a step of the channel, of which P holds
+-- the layer drops the notes that nobody read and makes a step of the channel, of which P holds. What the step owes comes behind what
+-- is owed already; a fifth packet is dropped, and asks for a relink
 abbrev pub Steps : Layer → Received → (Step → Type 0) → Type 0
 Steps l r P = (done : Step) × (on_packet l r ≡ after_step (unread l) (channel_named r) done) × P done
 
@@ -44,15 +45,17 @@ ResetPackets =
 -- where there is none, the row of the call table is followed
 abbrev pub CallPackets : Type 0
 CallPackets =
-    (l : Layer) (r : Received) (ch : Channel) (row : CallStep) → ComesOn l r ch → reset_row l.role ch r ≡ None → call_row l.role ch r ≡ Some row
-    → row.note ≢ InDataTransfer → Steps l r (λ done. FollowsCall l.role (channel_named r) (body_read r) ch row done)
+    (l : Layer) (r : Received) (ch : Channel) (row : CallStep) → ComesOn l r ch
+    → reset_row l.role ch r ≡ None → call_row l.role ch r ≡ Some row → row.note ≢ InDataTransfer
+    → Steps l r (λ done. FollowsCall l.role (channel_named r) (body_read r) ch row done)
 
 -- or, where that row leaves the packet to data transfer, numbers and interrupts decide, in the state of the row
 abbrev pub DataPackets : Type 0
 DataPackets =
-    (l : Layer) (p : Packet) (ch : Channel) (row : CallStep) → ComesOn l (Whole p) ch → reset_row l.role ch (Whole p) ≡ None → call_row l.role ch (Whole p) ≡ Some row
-    → row.note ≡ InDataTransfer
-    → Steps l (Whole p) (λ done. (done ≡ after_heard l.role p.channel ch (hears l.window ch.traffic p.body)) × (call_state l.role done.channel.state ≡ row.state))
+    (l : Layer) (p : Packet) (ch : Channel) (row : CallStep) → ComesOn l (Whole p) ch
+    → reset_row l.role ch (Whole p) ≡ None → call_row l.role ch (Whole p) ≡ Some row → row.note ≡ InDataTransfer
+    → Steps l (Whole p) (λ done. (done ≡ after_heard l.role p.channel ch (hears l.window ch.traffic p.body))
+    × (call_state l.role done.channel.state ≡ row.state))
 
 -- ---- what the user does
 
@@ -72,7 +75,9 @@ pub record ActsByCallTable (l : Layer) (c : ℕ) (ch : Channel) (r : Request) (a
       → (done : Step) × (request l c r ≡ after_step l c done) × FollowsCall l.role c None ch row done × (done.owes ≡ packet_asked r)
 
 abbrev pub CallActs : Type 0
-CallActs = (l : Layer) (c : ℕ) (ch : Channel) (r : Request) (act : UserAct) → channel_of l c ≡ Some ch → call_act r ≡ Some act → ActsByCallTable l c ch r act
+CallActs =
+    (l : Layer) (c : ℕ) (ch : Channel) (r : Request) (act : UserAct) → channel_of l c ≡ Some ch → call_act r ≡ Some act
+    → ActsByCallTable l c ch r act
 
 -- so is a reset, by the reset table; outside data transfer this has no row
 pub record ActsByResetTable (l : Layer) (c : ℕ) (ch : Channel) (r : Request) : Type 0 where
@@ -82,12 +87,15 @@ pub record ActsByResetTable (l : Layer) (c : ℕ) (ch : Channel) (r : Request) :
       → (done : Step) × (request l c r ≡ after_step l c done) × FollowsReset l.role c None ch row done × (done.owes ≡ packet_asked r)
 
 abbrev pub ResetActs : Type 0
-ResetActs = (l : Layer) (c : ℕ) (ch : Channel) (cause diagnostic : ℕ) → channel_of l c ≡ Some ch → ActsByResetTable l c ch (Request.Resetting cause diagnostic)
+ResetActs =
+    (l : Layer) (c : ℕ) (ch : Channel) (cause diagnostic : ℕ) → channel_of l c ≡ Some ch
+    → ActsByResetTable l c ch (Request.Resetting cause diagnostic)
 
 -- ---- restarts
 
 -- a packet on the channel that its type may have: 0 for restart packets, another for all else
 abbrev pub RestartPackets : Type 0
 RestartPackets =
-    (l : Layer) (p : Packet) (state : RestartState) (row : RestartStep) → is_on_channel (type_of p.body) p.channel ≡ true → restart_state l.role l.phase ≡ Some state
-    → restart_step l.role state (type_of p.body) ≡ Some row → FollowsRestart l row (on_packet l (Whole p))
+    (l : Layer) (p : Packet) (state : RestartState) (row : RestartStep) → is_on_channel (type_of p.body) p.channel ≡ true
+    → restart_state l.role l.phase ≡ Some state → restart_step l.role state (type_of p.body) ≡ Some row
+    → FollowsRestart l row (on_packet l (Whole p))
