@@ -1,0 +1,88 @@
+-- Case by case: a step of the machine follows the row of the call table, where there is none of the reset table.
+use Rattle.std.proofs.Common.{◌≡◌, ℕ, Bool, true, false, List, refl, sym, ap, subst, ◌∙◌}
+use Rattle.std.specs.Prelude.{◌≢◌, Option, Some, None}
+use Rattle.link_timers.specs.declared.role.Role.{Role}
+use Rattle.link_timers.specs.declared.role.Role.TheVariants.{Dte, Dce}
+use Rattle.call_states.specs.declared.table.CallNote.TheVariants.{InDataTransfer}
+use Rattle.call_states.specs.declared.table.CallStep.{CallStep}
+use Rattle.reset_restart.specs.declared.reset.ResetStep.{ResetStep}
+use Rattle.packet_layer.specs.Packets.{Body, Received}
+use Rattle.packet_layer.specs.Packets.{Body as body}
+use Rattle.packet_layer.specs.Packets.Received.{Whole, Unknown, Faulty}
+use Rattle.packet_layer.specs.Traffic.{Traffic}
+use Rattle.packet_layer.specs.Channel.{CallState, Channel}
+use Rattle.packet_layer.specs.Channel.CallState.{Ready, OwnWaiting, FarWaiting, Transfer, Collision, OwnClear}
+use Rattle.table_laws.specs.States.{channel_named, body_read}
+use Rattle.table_laws.specs.Rows.{call_row, reset_row}
+use Rattle.table_laws.specs.Follows.{FollowsCall}
+use Rattle.table_laws.proofs.Channels.{channel_in, packet_on, step_by}
+
+-- P of the row of the call table that is followed: there is none of the reset table, and it does not leave the packet to data transfer
+abbrev pub Followed : Option ResetStep → Option CallStep → (CallStep → Type 0) → Type 0
+Followed None (Some row) P = row.note ≢ InDataTransfer → P row
+Followed None None P = ⊥
+Followed (Some row) found P = Unit {0}
+
+pub of_followed : (reset : Option ResetStep) (found : Option CallStep) (row : CallStep) (P : CallStep → Type 0) → reset ≡ None → found ≡ Some row → row.note ≢ InDataTransfer → Followed reset found P → P row
+of_followed None None row P none e ne h = absurd h
+of_followed None (Some x) row P none e ne h = let same : x ≡ row = cc in subst P same (h (λ q. ne (ap (λ (r : CallStep). r.note) (sym same) ∙ q)))
+of_followed (Some x) found row P none e ne h = absurd (cc)
+
+abbrev pub FollowedAt : Role → ℕ → Channel → Received → Type 0
+FollowedAt role window ch r = Followed (reset_row role ch r) (call_row role ch r) (λ row. FollowsCall role (channel_named r) (body_read r) ch row (step_by role window ch r))
+
+whole_followed : (role : Role) (window : ℕ) (s : CallState) (resetting : Bool) (owed : List Body) (t : Traffic) (c : ℕ) (b : Body)
+    → FollowedAt role window (channel_in s resetting owed t) (Whole (packet_on c b))
+whole_followed Dte window Ready resetting owed t c (body.Call parts) = search
+whole_followed Dte window Ready resetting owed t c _ = search
+whole_followed Dte window OwnWaiting resetting owed t c (body.Call parts) = search
+whole_followed Dte window OwnWaiting resetting owed t c _ = search
+whole_followed Dte window FarWaiting resetting owed t c (body.Call parts) = search
+whole_followed Dte window FarWaiting resetting owed t c _ = search
+whole_followed Dte window Transfer true owed t c (body.Call parts) = search
+whole_followed Dte window Transfer true owed t c _ = search
+whole_followed Dte window Transfer false owed t c (body.Data send receive d) = λ ne. absurd (ne refl)
+whole_followed Dte window Transfer false owed t c (body.Interrupt octets) = λ ne. absurd (ne refl)
+whole_followed Dte window Transfer false owed t c body.InterruptConfirmation = λ ne. absurd (ne refl)
+whole_followed Dte window Transfer false owed t c (body.ReceiveReady receive) = λ ne. absurd (ne refl)
+whole_followed Dte window Transfer false owed t c (body.ReceiveNotReady receive) = λ ne. absurd (ne refl)
+whole_followed Dte window Transfer false owed t c _ = search
+whole_followed Dte window Collision resetting owed t c (body.Call parts) = search
+whole_followed Dte window Collision resetting owed t c _ = search
+whole_followed Dte window OwnClear resetting owed t c (body.Call parts) = search
+whole_followed Dte window OwnClear resetting owed t c _ = search
+whole_followed Dce window Ready resetting owed t c (body.Call parts) = search
+whole_followed Dce window Ready resetting owed t c _ = search
+whole_followed Dce window OwnWaiting resetting owed t c (body.Call parts) = search
+whole_followed Dce window OwnWaiting resetting owed t c _ = search
+whole_followed Dce window FarWaiting resetting owed t c (body.Call parts) = search
+whole_followed Dce window FarWaiting resetting owed t c _ = search
+whole_followed Dce window Transfer true owed t c (body.Call parts) = search
+whole_followed Dce window Transfer true owed t c _ = search
+whole_followed Dce window Transfer false owed t c (body.Data send receive d) = λ ne. absurd (ne refl)
+whole_followed Dce window Transfer false owed t c (body.Interrupt octets) = λ ne. absurd (ne refl)
+whole_followed Dce window Transfer false owed t c body.InterruptConfirmation = λ ne. absurd (ne refl)
+whole_followed Dce window Transfer false owed t c (body.ReceiveReady receive) = λ ne. absurd (ne refl)
+whole_followed Dce window Transfer false owed t c (body.ReceiveNotReady receive) = λ ne. absurd (ne refl)
+whole_followed Dce window Transfer false owed t c _ = search
+whole_followed Dce window Collision resetting owed t c (body.Call parts) = search
+whole_followed Dce window Collision resetting owed t c _ = search
+whole_followed Dce window OwnClear resetting owed t c (body.Call parts) = search
+whole_followed Dce window OwnClear resetting owed t c _ = search
+
+unknown_followed : (role : Role) (window : ℕ) (s : CallState) (resetting : Bool) (owed : List Body) (t : Traffic) (c : ℕ) → FollowedAt role window (channel_in s resetting owed t) (Unknown c)
+unknown_followed Dte window Transfer true owed t c = search
+unknown_followed Dte window _ _ owed t c = search
+unknown_followed Dce window Transfer true owed t c = search
+unknown_followed Dce window _ _ owed t c = search
+
+faulty_followed : (role : Role) (window : ℕ) (s : CallState) (resetting : Bool) (owed : List Body) (t : Traffic) (c : ℕ) → FollowedAt role window (channel_in s resetting owed t) (Faulty c)
+faulty_followed Dte window Transfer true owed t c = search
+faulty_followed Dte window _ _ owed t c = search
+faulty_followed Dce window Transfer true owed t c = search
+faulty_followed Dce window _ _ owed t c = search
+
+pub followed : (role : Role) (window : ℕ) (ch : Channel) (r : Received) → FollowedAt role window ch r
+followed role window ch (Whole p) = whole_followed role window ch.state ch.resetting ch.owed ch.traffic p.channel p.body
+followed role window ch (Unknown c) = unknown_followed role window ch.state ch.resetting ch.owed ch.traffic c
+followed role window ch (Faulty c) = faulty_followed role window ch.state ch.resetting ch.owed ch.traffic c

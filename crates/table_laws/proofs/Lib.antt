@@ -1,0 +1,6 @@
+mod Channels
+mod Calls
+mod Resets
+mod Acts
+mod Restarts
+mod Holds

@@ -1,0 +1,48 @@
+-- Case by case: what a packet makes of the layer follows the row of the restart table.
+use Rattle.std.proofs.Common.{◌≡◌, ℕ, Bool, true, false, List, refl}
+use Rattle.std.specs.Prelude.{◌==◌, cond, Some, None, IfSome}
+use Rattle.link_timers.specs.declared.role.Role.{Role}
+use Rattle.link_timers.specs.declared.role.Role.TheVariants.{Dte, Dce}
+use Rattle.packet_codec.specs.Reading.{is_on_channel}
+use Rattle.reset_restart.specs.Restart.{restart_step}
+use Rattle.packet_layer.specs.Packets.{Body, Packet, Note}
+use Rattle.packet_layer.specs.Packets.{Body as body}
+use Rattle.packet_layer.specs.Packets.Received.{Whole}
+use Rattle.packet_layer.specs.Channel.{Channel, error_cause, received}
+use Rattle.packet_layer.specs.Layer.{Phase, Layer, restart_packet, on_channel, unread, on_packet}
+use Rattle.packet_layer.specs.Layer.Phase.{PacketReady, OwnRestart, NoSession}
+use Rattle.table_laws.specs.States.{restart_state, type_of}
+use Rattle.table_laws.specs.Follows.{FollowsRestart}
+
+abbrev layer_in : Role → ℕ → List Channel → Phase → List Body → ℕ → Bool → List Note → Layer
+layer_in role window chs ph owed served relink notes = record { role = role; window = window; channels = chs; phase = ph; owed = owed; served_last = served; relink = relink; notes = notes }
+
+abbrev pub RestartAt : Layer → Body → Layer → Type 0
+RestartAt l b done = IfSome (restart_state l.role l.phase) (λ state. IfSome (restart_step l.role state (type_of b)) (λ row. FollowsRestart l row done))
+
+-- a packet on channel 0, or on another one where it is not a restart packet
+abbrev after : Layer → ℕ → Body → Bool → Layer
+after l c b zero = cond zero (restart_packet l.phase b (unread l)) (on_channel l.phase (unread l) c (λ ch. received l.role l.window c ch b))
+
+restart_by : (role : Role) (window : ℕ) (chs : List Channel) (ph : Phase) (owed : List Body) (served : ℕ) (relink : Bool) (notes : List Note) (c : ℕ) (b : Body) (zero : Bool)
+    → (c == 0) ≡ zero → is_on_channel (type_of b) c ≡ true → RestartAt (layer_in role window chs ph owed served relink notes) b (after (layer_in role window chs ph owed served relink notes) c b zero)
+restart_by role window chs NoSession owed served relink notes c b zero z h = tt
+restart_by role window chs _ owed served relink notes c (body.Restart cause diagnostic) false z h = absurd (cc)
+restart_by role window chs _ owed served relink notes c body.RestartConfirmation false z h = absurd (cc)
+restart_by Dte window chs PacketReady owed served relink notes c (body.Restart cause diagnostic) true z h = record { state = refl; owes = Some body.RestartConfirmation; owed = refl; error = search; kept = refl; relink = refl; told = search }
+restart_by Dte window chs PacketReady owed served relink notes c body.RestartConfirmation true z h = record { state = refl; owes = Some (body.Restart (error_cause Dte 1) 17); owed = refl; error = search; kept = refl; relink = refl; told = search }
+restart_by Dte window chs PacketReady owed served relink notes c _ _ z h = tt
+restart_by Dte window chs OwnRestart owed served relink notes c (body.Restart cause diagnostic) true z h = record { state = refl; owes = None; owed = refl; error = search; kept = refl; relink = refl; told = search }
+restart_by Dte window chs OwnRestart owed served relink notes c body.RestartConfirmation true z h = record { state = refl; owes = None; owed = refl; error = search; kept = refl; relink = refl; told = search }
+restart_by Dte window chs OwnRestart owed served relink notes c _ true z h = absurd (cc)
+restart_by Dte window chs OwnRestart owed served relink notes c _ false z h = record { state = refl; owes = None; owed = refl; error = search; kept = refl; relink = refl; told = search }
+restart_by Dce window chs PacketReady owed served relink notes c (body.Restart cause diagnostic) true z h = record { state = refl; owes = Some body.RestartConfirmation; owed = refl; error = search; kept = refl; relink = refl; told = search }
+restart_by Dce window chs PacketReady owed served relink notes c body.RestartConfirmation true z h = record { state = refl; owes = Some (body.Restart (error_cause Dce 1) 17); owed = refl; error = search; kept = refl; relink = refl; told = search }
+restart_by Dce window chs PacketReady owed served relink notes c _ _ z h = tt
+restart_by Dce window chs OwnRestart owed served relink notes c (body.Restart cause diagnostic) true z h = record { state = refl; owes = None; owed = refl; error = search; kept = refl; relink = refl; told = search }
+restart_by Dce window chs OwnRestart owed served relink notes c body.RestartConfirmation true z h = record { state = refl; owes = None; owed = refl; error = search; kept = refl; relink = refl; told = search }
+restart_by Dce window chs OwnRestart owed served relink notes c _ true z h = absurd (cc)
+restart_by Dce window chs OwnRestart owed served relink notes c _ false z h = record { state = refl; owes = None; owed = refl; error = search; kept = refl; relink = refl; told = search }
+
+pub restart_at : (l : Layer) (p : Packet) → is_on_channel (type_of p.body) p.channel ≡ true → RestartAt l p.body (on_packet l (Whole p))
+restart_at l p h = restart_by l.role l.window l.channels l.phase l.owed l.served_last l.relink l.notes p.channel p.body (p.channel == 0) refl h
