@@ -557,7 +557,10 @@ fn the_call_of_the_dce_is_cancelled_in_a_collision(rt: HostRuntime) -> Result<()
 }
 
 /// Whether the host at the DTE says HI on channel 4, and wants its delivery confirmed.
-fn says(net: &mut Net<MemLine>, octets: Vec<u8>) -> bool {
+fn says(net: &mut Net<MemLine>, alloc: Global) -> bool {
+    let Ok(octets) = b"HI".to_vec(alloc) else {
+        return false;
+    };
     let say = Request::Say {
         octets,
         qualified: false,
@@ -572,8 +575,8 @@ fn says(net: &mut Net<MemLine>, octets: Vec<u8>) -> bool {
 }
 
 /// What is said is confirmed when it was taken.
-fn confirms(rt: &impl Abort, net: &mut Net<MemLine>, octets: Vec<u8>) {
-    assert!(rt; says(net, octets));
+fn confirms(rt: &impl Abort, net: &mut Net<MemLine>, alloc: Global) {
+    assert!(rt; says(net, alloc));
     flow(net);
     assert!(rt; !net.confirmed(DTE_HOST, 4));
     assert!(rt; net.step(&take(DCE_HOST, 4)).is_ok());
@@ -586,7 +589,7 @@ fn confirms(rt: &impl Abort, net: &mut Net<MemLine>, octets: Vec<u8>) {
 fn delivery_is_confirmed(rt: HostRuntime) -> Result<(), Fail> {
     let mut net = hosts_net(rt.alloc(), 4)?;
     connects(&rt, &mut net, Address::read(b"2001")?);
-    confirms(&rt, &mut net, b"HI".to_vec(rt.alloc())?);
+    confirms(&rt, &mut net, rt.alloc());
     Ok(())
 }
 
