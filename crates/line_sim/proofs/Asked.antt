@@ -1,11 +1,9 @@
 -- What holds of a network between its events holds after what the user of a node asks.
-use Rattle.std.proofs.Common.{◌≡◌, ℕ, Bool, true, false, List, [], ◌∷◌, length, Option, Some, None, refl, sym, ap, ◌∙◌, subst, arith}
+use Rattle.std.proofs.Common.{◌≡◌, ℕ, Bool, true, false, List, length, refl, sym, ap, ◌∙◌, subst}
 use Rattle.std.specs.Prelude.{◌≤◌}
 use Rattle.link_timers.specs.declared.role.Role.{Role}
 use Rattle.link_timers.specs.declared.role.Role.TheVariants.{Dte, Dce}
-use Rattle.lapb.specs.Machine.{Octets}
 use Rattle.packet_codec.specs.Address.{AreDigits}
-use Rattle.packet_layer.specs.Packets.{CallParts}
 use Rattle.packet_layer.specs.Channel.{Request as ask}
 use Rattle.packet_end.specs.PacketEnd.{PacketEnd}
 use Rattle.packet_host.specs.Host.{call_parts}
@@ -26,7 +24,7 @@ use Rattle.line_sim.specs.declared.event.Request.{Request}
 use Rattle.line_sim.specs.declared.event.Request.TheVariants.{Answer, Refuse, Say, Interrupt, Reset, Clear, Stop, Go}
 use Rattle.line_sim.specs.NetState.{NetState, node_at}
 use Rattle.line_sim.specs.Steps.{NodeStep, keys_turn, asked_turn}
-use Rattle.line_sim.specs.IsNet.{line_of, IsKept, AreQuiet, IsNet}
+use Rattle.line_sim.specs.IsNet.{line_of, AreQuiet, IsNet}
 use Rattle.line_sim.proofs.Fitting.{Leaves, stands, quiet-at}
 use Rattle.line_sim.proofs.Turns.{SameNodes, same, kind-takes, kind-keys}
 use Rattle.pad_laws.proofs.Nodes.{nodes_stay}
@@ -158,7 +156,7 @@ keys-leaves s (Pad p) octet is q typed = record {
 }
 keys-leaves s (Host e) octet is q typed = record {
   same = record { dte = refl; dce = refl };
-  quiet = record { node = record { read = q.node.read; sent = refl; held = tt }; unread = q.unread };
+  quiet = quiet_law.unchanged_quiet (Host e) s.book q;
   kind = sym (ap is_pad is);
   typed = tt;
 }

@@ -1,42 +1,30 @@
 -- What holds of a network between its events holds after each event.
-use Rattle.std.proofs.Common.{◌≡◌, ℕ, Bool, true, false, List, [], ◌∷◌, ◌++◌, length, drop, Option, Some, None, refl, sym, ap, ◌∙◌, subst, arith}
-use Rattle.std.specs.Prelude.{◌≤◌, ◌==◌, ◌&&◌, not, if◌then◌else◌, slice_get}
+use Rattle.std.proofs.Common.{◌≡◌, Bool, false, List, [], ◌∷◌, ◌++◌, drop, Some, None, refl, sym, ap, ◌∙◌, subst}
+use Rattle.std.specs.Prelude.{slice_get}
 use Rattle.link_timers.specs.declared.role.Role.{Role}
 use Rattle.link_timers.specs.declared.role.Role.TheVariants.{Dte, Dce}
 use Rattle.link_timers.specs.declared.timers.TimerId.{TimerId}
 use Rattle.lapb.specs.Machine.{Octets}
-use Rattle.line_end.specs.End.{without_frames}
-use Rattle.packet_codec.specs.Address.{AreDigits}
-use Rattle.packet_layer.specs.Packets.{CallParts}
-use Rattle.packet_layer.specs.Channel.{Request as ask}
 use Rattle.packet_end.specs.PacketEnd.{PacketEnd}
-use Rattle.packet_host.specs.Host.{call_parts}
-use Rattle.packet_pad.specs.Pad.{PadState}
 use Rattle.packet_line.specs.PacketLine as line
 use Rattle.call_records.specs.Book.{Book}
-use Rattle.network_laws.specs.Kept.{Setting, Kept, end_at, coming_to}
+use Rattle.network_laws.specs.Kept.{Kept, coming_to}
 use Rattle.network_laws.specs.Happens.{sent, with_event, with_restart}
-use Rattle.node_laws.specs.Nodes.{StandsAt}
-use Rattle.node_laws.specs.Quiet.{IsQuiet}
 use Rattle.pad_laws.specs.PadHolds.{NodeHolds}
 use Rattle.line_nodes.specs.Node.{NodeState, Pad, Host, end_of, is_pad, drained, frames_of}
 use Rattle.line_nodes.specs.Turn.{Turn}
-use Rattle.line_nodes.specs.HostTurns.{host_calls, host_takes}
-use Rattle.line_nodes.specs.PadTurns.{pad_keys}
 use Rattle.line_nodes.specs.LineTurns.{hears, expires, relinks, restarts}
 use Rattle.line_nodes.specs.declared.note.HostNote.{HostNote}
 use Rattle.line_sim.specs.declared.line.Direction.{Direction}
 use Rattle.line_sim.specs.declared.line.Direction.TheVariants.{FromDte, FromDce}
 use Rattle.line_sim.specs.declared.event.Put.{Put}
-use Rattle.line_sim.specs.declared.event.Request.{Request}
-use Rattle.line_sim.specs.declared.event.Request.TheVariants.{Answer, Refuse, Say, Interrupt, Reset, Clear, Stop, Go}
-use Rattle.line_sim.specs.Lines.{Flights, no_flights, flying, with_flying, without_first}
+use Rattle.line_sim.specs.Lines.{Flights, no_flights, flying, without_first}
 use Rattle.line_sim.specs.Sends.{ArePut}
 use Rattle.line_sim.specs.NetState.{NetState, node_at, with_turn}
-use Rattle.line_sim.specs.Steps.{direction_of, hearer, NodeStep, keys_turn, asked_turn}
+use Rattle.line_sim.specs.Steps.{direction_of, hearer, NodeStep}
 use Rattle.line_sim.specs.IsNet.{line_of, IsKept, AreQuiet, IsNet}
 use Rattle.line_sim.proofs.Flying.{Landed, landed}
-use Rattle.line_sim.proofs.Fitting.{dte_after, Leaves, end-drained, after-turn, Comes, comes-same, kept-after, stands, quiet-at}
+use Rattle.line_sim.proofs.Fitting.{Leaves, after-turn, Comes, comes-same, kept-after, stands}
 use Rattle.line_sim.proofs.Turns.{same, kind-hears, kind-expires, kind-relinks, kind-restarts}
 use Rattle.pad_laws.proofs.Nodes.{nodes_stay}
 use Rattle.pad_laws.proofs.FarTurns as far_law

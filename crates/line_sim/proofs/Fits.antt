@@ -1,11 +1,8 @@
 -- What holds of a network between its events holds after each event, refused or not.
-use Rattle.std.proofs.Common.{◌≡◌, ℕ, Bool, true, false, List, Option, Some, None, Result, Ok, Err, refl, sym, ap, ◌∙◌, subst, inl, inr}
-use Rattle.std.specs.Prelude.{◌≤◌, ◌==◌, ◌&&◌, not, nat_lt, if◌then◌else◌, slice_get, length, MatchBool, MatchOption}
-use Rattle.link_timers.specs.declared.role.Role.{Role}
-use Rattle.link_timers.specs.declared.role.Role.TheVariants.{Dte, Dce}
-use Rattle.packet_layer.specs.Channel.{Refusal}
+use Rattle.std.proofs.Common.{◌≡◌, ℕ, Bool, true, false, List, Option, Some, None, Result, Ok, Err, refl, sym, ap, ◌∙◌, subst}
+use Rattle.std.specs.Prelude.{◌==◌, ◌&&◌, not, nat_lt, if◌then◌else◌, slice_get, MatchBool, MatchOption}
+use Rattle.link_timers.specs.declared.role.Role.TheVariants.{Dte}
 use Rattle.packet_layer.specs.Layer.{call_refusal}
-use Rattle.packet_pad.specs.Pad.{PadState}
 use Rattle.line_nodes.specs.Node.{NodeState, Pad, Host, end_of, is_pad}
 use Rattle.line_sim.specs.declared.line.Direction.{Direction}
 use Rattle.line_sim.specs.declared.event.Event.{Event}
@@ -16,8 +13,8 @@ use Rattle.line_sim.specs.declared.event.Outcome.{Outcome}
 use Rattle.line_sim.specs.declared.event.Answer.{Answer}
 use Rattle.line_sim.specs.Lines.{Flights, flying, without_first}
 use Rattle.line_sim.specs.NetState.{NetState, node_at}
-use Rattle.line_sim.specs.Faults.{step_fault, role_of, is_node, is_host_at, is_channel, on_channel, call_fault_of, channel_fault_of, ask_refusal}
-use Rattle.line_sim.specs.Steps.{hearer, KeyStep, KeyOf, IdleStep, Hears, LineStep, EmptyDelivery, DeliverStep, StepOf}
+use Rattle.line_sim.specs.Faults.{step_fault, role_of, is_node, is_host_at, on_channel, call_fault_of, channel_fault_of, ask_refusal}
+use Rattle.line_sim.specs.Steps.{hearer, KeyStep, IdleStep, Hears, LineStep, EmptyDelivery, StepOf}
 use Rattle.line_sim.specs.Runs.{Happens}
 use Rattle.line_sim.specs.IsNet.{IsNet}
 use Rattle.line_sim.proofs.Events.{heard-net, empty-net, lost-net, expires-net, relinks-net, restarts-net}

@@ -1,24 +1,21 @@
 -- What holds of a network between its events holds after a turn of one of its nodes.
-use Rattle.std.proofs.Common.{◌≡◌, ℕ, Bool, true, false, List, [], ◌∷◌, ◌++◌, refl, sym, ap, ◌∙◌, subst}
+use Rattle.std.proofs.Common.{◌≡◌, Bool, List, ◌++◌, refl, sym, ap, ◌∙◌, subst}
 use Rattle.link_timers.specs.declared.role.Role.{Role}
 use Rattle.link_timers.specs.declared.role.Role.TheVariants.{Dte, Dce}
 use Rattle.lapb.specs.Machine.{Octets}
 use Rattle.lapb.specs.Line.{chosen}
-use Rattle.packet_end.specs.PacketEnd.{PacketEnd}
 use Rattle.packet_line.specs.PacketLine as line
-use Rattle.call_records.specs.Book.{Book}
-use Rattle.network_laws.specs.Kept.{Setting, Kept, end_at, coming_to}
+use Rattle.network_laws.specs.Kept.{Setting, Kept, coming_to}
 use Rattle.network_laws.specs.Happens.{sent, with_event}
 use Rattle.node_laws.specs.Nodes.{StandsAt}
 use Rattle.node_laws.specs.Quiet.{IsQuiet}
 use Rattle.pad_laws.specs.PadHolds.{NodeHolds}
 use Rattle.line_nodes.specs.Node.{NodeState, Pad, Host, end_of, is_pad, drained, frames_of}
 use Rattle.line_nodes.specs.Turn.{Turn}
-use Rattle.line_sim.specs.declared.line.Direction.{Direction}
 use Rattle.line_sim.specs.declared.line.Direction.TheVariants.{FromDte, FromDce}
-use Rattle.line_sim.specs.Lines.{Flights, flying, with_flying}
+use Rattle.line_sim.specs.Lines.{Flights, flying}
 use Rattle.line_sim.specs.Sends.{ArePut}
-use Rattle.line_sim.specs.NetState.{NetState, node_at, with_node, with_turn}
+use Rattle.line_sim.specs.NetState.{NetState, node_at, with_turn}
 use Rattle.line_sim.specs.Steps.{direction_of}
 use Rattle.line_sim.specs.IsNet.{line_of, IsKept, AreQuiet, IsNet}
 use Rattle.line_sim.proofs.Flying.{Landed, landed}

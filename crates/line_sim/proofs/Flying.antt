@@ -1,11 +1,11 @@
 -- Frames that are put on a line are behind those in flight, but for those that are lost.
-use Rattle.std.proofs.Common.{◌≡◌, Bool, true, false, List, [], ◌∷◌, ◌++◌, refl, sym, ap, ◌∙◌, subst, inl, inr, append_assoc}
+use Rattle.std.proofs.Common.{◌≡◌, Bool, true, false, List, [], ◌∷◌, ◌++◌, sym, ap, ◌∙◌, inl, inr, append_assoc}
 use Rattle.std.proofs.lemmas.List.{append-nil}
 use Rattle.lapb.specs.Machine.{Octets}
 use Rattle.lapb.specs.Line.{chosen}
 use Rattle.line_sim.specs.declared.line.Direction.{Direction}
 use Rattle.line_sim.specs.declared.line.Direction.TheVariants.{FromDte, FromDce}
-use Rattle.line_sim.specs.Lines.{Flights, flying, with_flying, IsPut}
+use Rattle.line_sim.specs.Lines.{Flights, flying, with_flying}
 use Rattle.line_sim.specs.Sends.{ArePut}
 
 -- these of the frames were not lost

@@ -1,5 +1,6 @@
 mod Asked
 mod Events
+mod FewerDue
 mod Fits
 mod Fitting
 mod Flying

@@ -1,17 +1,13 @@
 -- What holds of a network on a faithful line between its events has all that the network promises; it holds at the making, when ticks
 -- pass, and after each event.
-use Rattle.std.proofs.Common.{◌≡◌, ◌≢◌, ℕ, Bool, true, false, List, [], ◌∷◌, ◌++◌, length, Option, Some, None, Result, Ok, Err, refl, sym, ap, ◌∙◌, subst, arith}
-use Rattle.std.specs.Prelude.{◌≤◌, ◌==◌, ◌&&◌, ◌||◌, not, nat_lt, slice_get, if◌then◌else◌}
-use Rattle.link_timers.specs.declared.role.Role.{Role}
+use Rattle.std.proofs.Common.{◌≡◌, ◌≢◌, ℕ, Bool, true, false, ◌++◌, Some, refl, sym, ap, ◌∙◌, subst}
+use Rattle.std.specs.Prelude.{slice_get}
 use Rattle.link_timers.specs.declared.role.Role.TheVariants.{Dte, Dce}
-use Rattle.lapb.specs.Machine.{Octets}
 use Rattle.lapb.specs.Line.{chosen}
 use Rattle.packet_end.specs.Params.{AreParams}
-use Rattle.packet_line.specs.PacketLine as line
 use Rattle.call_records.specs.Records.{RecordValue}
 use Rattle.call_records.specs.Book.{Book, made_book}
-use Rattle.network_laws.specs.Kept.{Setting, IsSetting, Kept}
-use Rattle.network_laws.specs.Happens.{sent}
+use Rattle.network_laws.specs.Kept.{Setting, Kept}
 use Rattle.node_laws.specs.Quiet.{IsQuiet}
 use Rattle.node_laws.specs.Clauses.{elapsed_line, first_line}
 use Rattle.pad_laws.specs.Typed.{IsTyped}
@@ -19,12 +15,11 @@ use Rattle.pad_laws.specs.PadHolds.{NodeHolds}
 use Rattle.line_nodes.specs.Node.{NodeState, Pad, Host, end_of, is_pad, drained, frames_of, node_elapsed}
 use Rattle.line_sim.specs.declared.line.Direction.TheVariants.{FromDte, FromDce}
 use Rattle.line_sim.specs.Lines.{Flights, no_flights}
-use Rattle.line_sim.specs.Sends.{ArePut}
 use Rattle.line_sim.specs.NetState.{NetState, net_elapsed}
 use Rattle.line_sim.specs.Plan.{Plan, DtePlan, PadPlan, HostPlan, dte_of, new_dte, new_dce, opening, IsBegun, IsMadeOf}
 use Rattle.line_sim.specs.Headline.{Headline}
-use Rattle.line_sim.specs.IsNet.{line_of, IsKept, AreQuiet, IsNet}
-use Rattle.line_sim.proofs.Flying.{Landed, landed}
+use Rattle.line_sim.specs.IsNet.{line_of, IsNet}
+use Rattle.line_sim.proofs.Flying.{landed}
 use Rattle.line_sim.proofs.Fitting.{end-drained}
 use Rattle.network_laws.proofs.Keeping as keeping_law
 use Rattle.node_laws.proofs.Making as making_law

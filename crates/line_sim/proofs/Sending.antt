@@ -1,8 +1,8 @@
 -- The loop by which a node puts its frames.
-use Rattle.std.proofs.Common.{◌≡◌, ◌≤◌, Bool, true, false, List, [], ◌∷◌, ◌++◌, drop, refl, sym, ap, ◌∙◌, subst, append_assoc}
+use Rattle.std.proofs.Common.{◌≡◌, List, [], ◌∷◌, ◌++◌, drop, refl, sym, ap, ◌∙◌, subst, append_assoc}
 use Rattle.std.proofs.lemmas.List.{append-nil}
 use Rattle.lapb.specs.Machine.{Octets}
-use Rattle.packet_end.specs.PacketEnd.{PacketEnd, without_first_frame}
+use Rattle.packet_end.specs.PacketEnd.{without_first_frame}
 use Rattle.line_nodes.specs.Node.{NodeState, Pad, Host, end_of, with_end, frames_of, drained}
 use Rattle.line_sim.specs.declared.line.Direction.{Direction}
 use Rattle.line_sim.specs.declared.event.Put.{Put}

@@ -1,18 +1,16 @@
 -- When an event is refused (X.25 is silent: these are the network's own, or the node's).
-use Rattle.std.specs.Prelude.{◌≡◌, ℕ, ◌==◌, ◌&&◌, ◌||◌, not, Bool, true, false, Option, Some, None, nat_lt, if◌then◌else◌}
+use Rattle.std.specs.Prelude.{ℕ, ◌==◌, ◌&&◌, ◌||◌, not, Bool, true, false, Option, Some, None, nat_lt, if◌then◌else◌}
 use Rattle.link_timers.specs.declared.role.Role.{Role}
 use Rattle.link_timers.specs.declared.role.Role.TheVariants.{Dte, Dce}
 use Rattle.packet_layer.specs.Channel.{Refusal}
 use Rattle.packet_layer.specs.Channel.{Request as ask}
 use Rattle.packet_layer.specs.Layer.{call_refusal, request_refusal}
-use Rattle.packet_layer.specs.declared.fault.CallFault.{CallFault}
 use Rattle.packet_layer.specs.declared.fault.CallFault.TheVariants as call_fault
-use Rattle.packet_layer.specs.declared.fault.ChannelFault.{ChannelFault}
 use Rattle.packet_layer.specs.declared.fault.ChannelFault.TheVariants as channel_fault
 use Rattle.packet_end.specs.PacketEnd.{PacketEnd}
 use Rattle.packet_host.specs.Host.{refuse_refusal}
 use Rattle.packet_host.specs.Saying.{say_refusal}
-use Rattle.line_nodes.specs.Node.{NodeState, end_of, is_pad}
+use Rattle.line_nodes.specs.Node.{end_of, is_pad}
 use Rattle.line_nodes.specs.declared.fault.NodeFault.TheVariants as node_fault
 use Rattle.line_sim.specs.declared.event.Event.{Event}
 use Rattle.line_sim.specs.declared.event.Event.TheVariants.{Key, Call, Ask, Take, Deliver, Lose, Expire, Relink, Restart}

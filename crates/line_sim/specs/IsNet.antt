@@ -1,6 +1,6 @@
 -- What holds of a network between its events.
 use Rattle.std.specs.Prelude.{◌≡◌, ◌≢◌, false}
-use Rattle.link_timers.specs.declared.role.Role.TheVariants.{Dte, Dce}
+use Rattle.link_timers.specs.declared.role.Role.TheVariants.{Dte}
 use Rattle.packet_line.specs.PacketLine as line
 use Rattle.network_laws.specs.Kept.{Setting, Kept}
 use Rattle.node_laws.specs.Quiet.{IsQuiet}

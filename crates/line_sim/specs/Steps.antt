@@ -1,5 +1,5 @@
 -- What an event without a fault does to nodes, line and book.
-use Rattle.std.specs.Prelude.{◌≡◌, ℕ, ◌==◌, ◌&&◌, Bool, true, false, ◌≤◌, List, [], length, slice_get, Option, Some, None, is_some, MatchOption, MatchBool, if◌then◌else◌}
+use Rattle.std.specs.Prelude.{◌≡◌, ℕ, ◌==◌, true, false, ◌≤◌, List, [], length, slice_get, Option, Some, is_some, MatchOption, MatchBool}
 use Rattle.link_timers.specs.declared.role.Role.{Role}
 use Rattle.link_timers.specs.declared.role.Role.TheVariants.{Dte, Dce}
 use Rattle.link_timers.specs.declared.timers.TimerId.{TimerId}
@@ -10,7 +10,6 @@ use Rattle.packet_layer.specs.Layer.{channel_given, front_on}
 use Rattle.packet_layer.specs.Channel.{Request as ask}
 use Rattle.packet_end.specs.PacketEnd.{PacketEnd}
 use Rattle.packet_host.specs.Host.{call_parts}
-use Rattle.packet_pad.specs.Pad.{PadState}
 use Rattle.call_records.specs.Book.{Book}
 use Rattle.line_nodes.specs.Node.{NodeState, Pad, Host, end_of, frames_of}
 use Rattle.packet_pad.specs.Keys.{after_octet}

@@ -6,7 +6,7 @@ ghost use Rattle.line_sim.specs.NetState.{NetState, net_rests, net_elapsed};
 ghost use Rattle.line_sim.specs.Plan.{plan_of, IsMade};
 ghost use Rattle.line_sim.specs.Faults.{step_fault};
 ghost use Rattle.line_sim.specs.Runs.{Happens, IsRefusedSo};
-ghost use Rattle.line_sim.specs.Due.{net_due};
+ghost use Rattle.line_sim.specs.Due.{net_due, FewerDue};
 ghost use Rattle.line_sim.specs.Questions.{net_confirmed};
 ghost use Rattle.line_sim.specs.Headline.{Headline};
 
@@ -113,6 +113,9 @@ impl<L: Line> Net<L> {
         ensures faults { IsRefusedSo (step_fault event.now self.old) result }
         ensures happens { Happens L.faithful event.now self.old result self.new }
         ensures err { OnErr result (self.new ≡ self.old) }
+
+        // What is due comes to an end, on any line.
+        ensures fewer_due { FewerDue event.now self.old result self.new }
         ensures headline { L.faithful → Headline self.new }
     {
         let result = self.nodes.happen(event);

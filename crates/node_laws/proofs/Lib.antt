@@ -5,6 +5,9 @@ pub mod Typing
 pub mod Making
 pub mod Opening
 mod Rows
+mod DueCounts
+pub mod DueEnds
 pub mod QuietEnds
 pub mod QuietTurns
 pub mod QuietOpens
+pub mod Expiring

@@ -2,6 +2,7 @@
 use Rattle.std.specs.Prelude.{ℕ, ◌<◌, Bool, true, false, cond, ◌&&◌, ◌==◌, List, [], length, Option, Some, None, is_some, if◌then◌else◌}
 use Rattle.std.proofs.Common.{refl, lit<}
 use Rattle.link_timers.specs.declared.role.Role.{Role}
+use Rattle.link_timers.specs.declared.role.Role.TheVariants.{Dte}
 use Rattle.link_timers.specs.declared.timers.TimerId.{TimerId}
 use Rattle.lapb.specs.Machine.{Octets}
 use Rattle.pad_editing.specs.Edited.{Effect, after_key, limit}
@@ -11,7 +12,7 @@ use Rattle.packet_layer.specs.Packets.{CallParts}
 use Rattle.packet_layer.specs.Traffic.{Taken}
 use Rattle.packet_layer.specs.Channel.{Request}
 use Rattle.packet_layer.specs.Layer.{room, front_on}
-use Rattle.packet_end.specs.PacketEnd.{PacketEnd, begun, received, runs_at, after_timer, relinked, finished, asked}
+use Rattle.packet_end.specs.PacketEnd.{PacketEnd, begun, received, runs_at, after_timer, relinked, restarted, finished, asked, made}
 use Rattle.packet_host.specs.Host as host
 use Rattle.packet_host.specs.Making as host_making
 use Rattle.packet_host.specs.declared.config.HostConfig.{HostConfig}
@@ -26,19 +27,43 @@ use Rattle.line_nodes.specs.Turn.{Turn, unchanged, told}
 use Rattle.line_nodes.specs.LineTurns.{hears, expires, relinks, restarts}
 use Rattle.line_nodes.specs.HostTurns.{host_calls, host_asks, host_refuses, host_says, host_takes, taken_turn}
 use Rattle.line_nodes.specs.PadTurns.{keyed, pad_keys, last_incoming, without_call, pad_read, pad_event}
+use Rattle.node_laws.specs.Due.{TimersApart, AreApart}
 use Rattle.node_laws.specs.Nodes.{HoldsNoBlock}
 use Rattle.node_laws.specs.Quiet.{IsQuiet, LeavesQuiet}
+use Rattle.node_laws.proofs.DueEnds.{NoMoreDue, stays-apart, same-due, then-due, begun-due, received-due, timer-due, relinked-due, finished-due, calls-due, asks-due, refuses-due, says-due, takes-due, elapsed-apart, made-apart, restarted-apart}
 use Rattle.node_laws.proofs.QuietEnds.{IsUnread, received_unread, timer_unread, finished_unread, asked_unread, calls_unread, asks_unread, refuses_unread, says_unread, takes_unread}
+
+-- ---- the timers of a node
+
+set-apart : (n : NodeState) → TimersApart (end_of n) → AreApart n
+unfolding AreApart
+set-apart n a = a
+
+pub timers-apart : (n : NodeState) → AreApart n → TimersApart (end_of n)
+unfolding AreApart
+timers-apart n a = a
 
 -- ---- turns of any node
 
-told_quiet : (role : Role) (n : NodeState) (b : Book) → HoldsNoBlock n → IsUnread (end_of n) → LeavesQuiet (told role n b)
-told_quiet role (Pad p) b held h = record { node = record { read = refl; sent = refl; held = held }; unread = h }
-told_quiet role (Host e) b held h = record { node = record { read = refl; sent = refl; held = tt }; unread = h }
+told_quiet : (role : Role) (n : NodeState) (b : Book) → HoldsNoBlock n → IsUnread (end_of n) → TimersApart (end_of n) → LeavesQuiet (told role n b)
+told_quiet role (Pad p) b held h a = record { node = record { read = refl; sent = refl; held = held }; unread = h; timers = set-apart _ (record { link = a.link; layer = a.layer }) }
+told_quiet role (Host e) b held h a = record { node = record { read = refl; sent = refl; held = tt }; unread = h; timers = set-apart _ (record { link = a.link; layer = a.layer }) }
 
-unchanged_quiet : (n : NodeState) (b : Book) → IsQuiet n → LeavesQuiet (unchanged n b)
-unchanged_quiet (Pad p) b q = record { node = record { read = q.node.read; sent = refl; held = q.node.held }; unread = q.unread }
-unchanged_quiet (Host e) b q = record { node = record { read = q.node.read; sent = refl; held = tt }; unread = q.unread }
+pub unchanged_quiet : (n : NodeState) (b : Book) → IsQuiet n → LeavesQuiet (unchanged n b)
+unchanged_quiet (Pad p) b q =
+    let a : TimersApart p.end = timers-apart (Pad p) q.timers in
+    record {
+      node = record { read = q.node.read; sent = refl; held = q.node.held };
+      unread = q.unread;
+      timers = set-apart _ (record { link = a.link; layer = a.layer });
+    }
+unchanged_quiet (Host e) b q =
+    let a : TimersApart e = timers-apart (Host e) q.timers in
+    record {
+      node = record { read = q.node.read; sent = refl; held = tt };
+      unread = q.unread;
+      timers = set-apart _ (record { link = a.link; layer = a.layer });
+    }
 
 either_quiet : (v : Bool) (s t : Turn) → LeavesQuiet s → LeavesQuiet t → LeavesQuiet (cond v s t)
 either_quiet true s t g h = g
@@ -46,31 +71,40 @@ either_quiet false s t g h = h
 
 -- ---- a PAD
 
--- a PAD that holds less than a block, and whose layer has no note that was not read
+-- a PAD that holds less than a block, whose layer has no note that was not read, and at which no timer runs where it must not
 record IsCalm (p : PadState) : Type 0 where
   held : length p.held < limit
   unread : IsUnread p.end
+  apart : TimersApart p.end
 
 calm : (p : PadState) → IsQuiet (Pad p) → IsCalm p
-calm p q = record { held = q.node.held; unread = q.unread }
+calm p q = record { held = q.node.held; unread = q.unread; apart = timers-apart (Pad p) q.timers }
 
 held_short : (v : Bool) (held : List ℕ) → length held < limit → length (cond v held []) < limit
 held_short true held h = h
 held_short false held h = lit< tt
 
 finish_calm : (p : PadState) → IsCalm p → IsCalm (after_finish p)
-finish_calm p c = record { held = held_short (stands (finished p.end)) p.held c.held; unread = finished_unread p.end c.unread }
+finish_calm p c = record {
+  held = held_short (stands (finished p.end)) p.held c.held;
+  unread = finished_unread p.end c.unread;
+  apart = stays-apart p.end (finished p.end) (finished-due p.end) c.apart;
+}
 
 without_calm : (o : Option ℕ) (p : PadState) → IsCalm p → IsCalm (without_call o p)
 without_calm None p c = c
-without_calm (Some channel) p c = record { held = c.held; unread = asked_unread p.end channel refusing c.unread }
+without_calm (Some channel) p c = record {
+  held = c.held;
+  unread = asked_unread p.end channel refusing c.unread;
+  apart = record { link = c.apart.link; layer = c.apart.layer };
+}
 
 pad_quiet : (role : Role) (p : PadState) (b : Book) → IsCalm p → LeavesQuiet (pad_event role p b)
 pad_quiet role p b c =
     let o : Option ℕ = last_incoming None p.end.notes in
-    let d : IsCalm (without_call o (pad_read p)) = without_calm o (pad_read p) (record { held = c.held; unread = c.unread }) in
+    let d : IsCalm (without_call o (pad_read p)) = without_calm o (pad_read p) (record { held = c.held; unread = c.unread; apart = record { link = c.apart.link; layer = c.apart.layer } }) in
     let f : IsCalm (after_finish (without_call o (pad_read p))) = finish_calm (without_call o (pad_read p)) d in
-    record { node = record { read = refl; sent = refl; held = f.held }; unread = f.unread }
+    record { node = record { read = refl; sent = refl; held = f.held }; unread = f.unread; timers = set-apart _ (record { link = f.apart.link; layer = f.apart.layer }) }
 
 either_calm : (v : Bool) (p q : PadState) → IsCalm p → IsCalm q → IsCalm (cond v p q)
 either_calm true p q g h = g
@@ -79,18 +113,28 @@ either_calm false p q g h = h
 expiry_calm : (p : PadState) (id : TimerId) → IsCalm p → IsCalm (pad.after_expiry p id)
 expiry_calm p id c =
     either_calm (runs_at p.end id) (record p { end = after_timer (begun p.end) id }) p
-    (record { held = c.held; unread = timer_unread p.end id c.unread }) c
+    (record { held = c.held; unread = timer_unread p.end id c.unread; apart = stays-apart p.end (after_timer (begun p.end) id) (timer-due p.end id) c.apart }) c
 
 -- ---- what comes from the line
 
 pub quiet-hears : (role : Role) (n : NodeState) (octets : Octets) (b : Book) → IsQuiet n → LeavesQuiet (hears role n octets b)
-quiet-hears role (Pad p) octets b q = pad_quiet role (pad.after_frame p octets) b (record { held = q.node.held; unread = received_unread p.end octets q.unread })
+quiet-hears role (Pad p) octets b q = pad_quiet role (pad.after_frame p octets) b (record {
+  held = q.node.held;
+  unread = received_unread p.end octets q.unread;
+  apart = stays-apart p.end (received (begun p.end) octets) (received-due p.end octets) (timers-apart (Pad p) q.timers);
+})
 quiet-hears role (Host e) octets b q =
-    told_quiet role (Host (host.after_frame e octets)) b tt (finished_unread (received (begun e) octets) (received_unread e octets q.unread))
+    let x : PacketEnd = received (begun e) octets in
+    told_quiet role (Host (host.after_frame e octets)) b tt (finished_unread x (received_unread e octets q.unread))
+    (stays-apart e (finished x) (then-due (received-due e octets) (finished-due x)) (timers-apart (Host e) q.timers))
 
 host_expiry : (v : Bool) (e : PacketEnd) (id : TimerId) → IsUnread e → IsUnread (cond v (finished (after_timer (begun e) id)) e)
 host_expiry true e id h = finished_unread (after_timer (begun e) id) (timer_unread e id h)
 host_expiry false e id h = h
+
+host_expiry_due : (v : Bool) (e : PacketEnd) (id : TimerId) → NoMoreDue e (cond v (finished (after_timer (begun e) id)) e)
+host_expiry_due true e id = then-due (timer-due e id) (finished-due (after_timer (begun e) id))
+host_expiry_due false e id = same-due e
 
 pub quiet-expires : (role : Role) (n : NodeState) (id : TimerId) (b : Book) → IsQuiet n → LeavesQuiet (expires role n id b)
 quiet-expires role (Pad p) id b q =
@@ -98,38 +142,56 @@ quiet-expires role (Pad p) id b q =
     (pad_quiet role (pad.after_expiry p id) b (expiry_calm p id (calm p q))) (unchanged_quiet (Pad p) b q)
 quiet-expires role (Host e) id b q =
     either_quiet (runs_at e id) (told role (Host (host.after_expiry e id)) b) (unchanged (Host e) b)
-    (told_quiet role (Host (host.after_expiry e id)) b tt (host_expiry (runs_at e id) e id q.unread)) (unchanged_quiet (Host e) b q)
+    (told_quiet role (Host (host.after_expiry e id)) b tt (host_expiry (runs_at e id) e id q.unread)
+    (stays-apart e (host.after_expiry e id) (host_expiry_due (runs_at e id) e id) (timers-apart (Host e) q.timers))) (unchanged_quiet (Host e) b q)
 
 pub quiet-relinks : (role : Role) (n : NodeState) (b : Book) → IsQuiet n → LeavesQuiet (relinks role n b)
-quiet-relinks role (Pad p) b q = pad_quiet role (pad.after_relink p) b (record { held = q.node.held; unread = refl })
-quiet-relinks role (Host e) b q = told_quiet role (Host (host.after_relink e)) b tt (finished_unread (relinked (begun e)) refl)
+quiet-relinks role (Pad p) b q = pad_quiet role (pad.after_relink p) b (record {
+  held = q.node.held;
+  unread = refl;
+  apart = stays-apart p.end (relinked (begun p.end)) (then-due (begun-due p.end) (relinked-due (begun p.end))) (timers-apart (Pad p) q.timers);
+})
+quiet-relinks role (Host e) b q =
+    let x : PacketEnd = relinked (begun e) in
+    told_quiet role (Host (host.after_relink e)) b tt (finished_unread x refl)
+    (stays-apart e (finished x) (then-due (begun-due e) (then-due (relinked-due (begun e)) (finished-due x))) (timers-apart (Host e) q.timers))
 
 pub quiet-restarts : (role : Role) (n : NodeState) (b : Book) → IsQuiet n → LeavesQuiet (restarts role n b)
-quiet-restarts role (Pad p) b q = record { node = record { read = refl; sent = refl; held = lit< tt }; unread = refl }
-quiet-restarts role (Host e) b q = record { node = record { read = refl; sent = refl; held = tt }; unread = refl }
+quiet-restarts role (Pad p) b q =
+    let a : TimersApart (restarted p.end) = restarted-apart p.end in
+    record { node = record { read = refl; sent = refl; held = lit< tt }; unread = refl; timers = set-apart _ (record { link = a.link; layer = a.layer }) }
+quiet-restarts role (Host e) b q =
+    let a : TimersApart (restarted e) = restarted-apart e in
+    record { node = record { read = refl; sent = refl; held = tt }; unread = refl; timers = set-apart _ (record { link = a.link; layer = a.layer }) }
 
 -- ---- what the user of a host asks
 
 pub quiet-calls : (role : Role) (e : PacketEnd) (parts : CallParts) (b : Book) → IsQuiet (Host e) → LeavesQuiet (host_calls role e parts b)
 quiet-calls role e parts b q = told_quiet role (Host (host.after_call e parts)) b tt (calls_unread e parts q.unread)
+    (stays-apart e (host.after_call e parts) (calls-due e parts) (timers-apart (Host e) q.timers))
 
 pub quiet-asks : (role : Role) (e : PacketEnd) (channel : ℕ) (r : Request) (b : Book) → IsQuiet (Host e) → LeavesQuiet (host_asks role e channel r b)
 quiet-asks role e channel r b q = told_quiet role (Host (host.after_request e channel r)) b tt (asks_unread e channel r q.unread)
+    (stays-apart e (host.after_request e channel r) (asks-due e channel r) (timers-apart (Host e) q.timers))
 
 pub quiet-refuses : (role : Role) (e : PacketEnd) (channel : ℕ) (b : Book) → IsQuiet (Host e) → LeavesQuiet (host_refuses role e channel b)
 quiet-refuses role e channel b q = told_quiet role (Host (host.after_refuse e channel)) b tt (refuses_unread e channel q.unread)
+    (stays-apart e (host.after_refuse e channel) (refuses-due e channel) (timers-apart (Host e) q.timers))
 
 pub quiet-says : (role : Role) (e : PacketEnd) (channel : ℕ) (octets : List ℕ) (qualified delivery : Bool) (b : Book)
     → IsQuiet (Host e) → LeavesQuiet (host_says role e channel octets qualified delivery b)
 quiet-says role e channel octets qualified delivery b q =
     told_quiet role (Host (host.after_say e channel octets qualified delivery)) b tt (says_unread e channel octets qualified delivery q.unread)
+    (stays-apart e (host.after_say e channel octets qualified delivery) (says-due e channel octets qualified delivery) (timers-apart (Host e) q.timers))
 
 pub quiet-takes : (role : Role) (e : PacketEnd) (channel : ℕ) (b : Book) → IsQuiet (Host e) → LeavesQuiet (host_takes role e channel b)
 quiet-takes role e channel b q = by (front_on e.layer channel)
   where
     by : (o : Option Taken) → LeavesQuiet (taken_turn o role e channel b)
     by None = unchanged_quiet (Host e) b q
-    by (Some x) = told_quiet role (Host (host.after_take e channel)) b tt (takes_unread e channel q.unread)
+    by (Some x) =
+        told_quiet role (Host (host.after_take e channel)) b tt (takes_unread e channel q.unread)
+        (stays-apart e (host.after_take e channel) (takes-due e channel) (timers-apart (Host e) q.timers))
 
 -- ---- a key at a PAD
 
@@ -137,7 +199,11 @@ block_calm : (o : Option (List ℕ)) (p : PadState) → IsCalm p → IsCalm (wit
 block_calm None p c = c
 block_calm (Some block) p c =
     finish_calm (record p { end = begun (asked p.end 1 (Request.Sending (message block))) })
-    (record { held = c.held; unread = asked_unread p.end 1 (Request.Sending (message block)) c.unread })
+    (record {
+      held = c.held;
+      unread = asked_unread p.end 1 (Request.Sending (message block)) c.unread;
+      apart = record { link = c.apart.link; layer = c.apart.layer };
+    })
 
 -- whichever branch was taken
 either : {A : Type 0} (P : A → Type 0) (v : Bool) (x y : A) → P x → P y → P (if v then x else y)
@@ -150,8 +216,9 @@ module _ (role : Role) (p : PadState) (octet : ℕ) (b : Book) (q : IsQuiet (Pad
 
   edits_quiet : (e : Effect) → length e.held < limit → LeavesSo (edited_by p octet e)
   edits_quiet e short =
-      let c : IsCalm (with_block e.block (record p { held = e.held })) = block_calm e.block (record p { held = e.held }) (record { held = short; unread = q.unread }) in
-      told_quiet role (Pad (edited_by p octet e).pad) b c.held c.unread
+      let c : IsCalm (with_block e.block (record p { held = e.held })) = block_calm e.block (record p { held = e.held })
+      (record { held = short; unread = q.unread; apart = timers-apart (Pad p) q.timers }) in
+      told_quiet role (Pad (edited_by p octet e).pad) b c.held c.unread c.apart
 
   types_quiet : (e : Effect) → length e.held < limit → LeavesSo (typed p octet e)
   types_quiet e short =
@@ -172,11 +239,17 @@ quiet-keys role p octet b q = key_quiet role p octet b q
 -- ---- time, and the making
 
 pub quiet-elapses : (n : NodeState) (ticks : ℕ) → IsQuiet n → IsQuiet (node_elapsed ticks n)
-quiet-elapses (Pad p) ticks q = record { node = record { read = q.node.read; sent = q.node.sent; held = q.node.held }; unread = q.unread }
-quiet-elapses (Host e) ticks q = record { node = record { read = q.node.read; sent = q.node.sent; held = tt }; unread = q.unread }
+quiet-elapses (Pad p) ticks q =
+    record { node = record { read = q.node.read; sent = q.node.sent; held = q.node.held }; unread = q.unread; timers = set-apart _ (elapsed-apart p.end ticks (timers-apart (Pad p) q.timers)) }
+quiet-elapses (Host e) ticks q =
+    record { node = record { read = q.node.read; sent = q.node.sent; held = tt }; unread = q.unread; timers = set-apart _ (elapsed-apart e ticks (timers-apart (Host e) q.timers)) }
 
 pub quiet-made-pad : (c : PadConfig) → IsQuiet (drained (Pad (pad_making.made c)))
-quiet-made-pad c = record { node = record { read = refl; sent = refl; held = lit< tt }; unread = refl }
+quiet-made-pad c =
+    let a : TimersApart (made Dte c.line) = made-apart Dte c.line in
+    record { node = record { read = refl; sent = refl; held = lit< tt }; unread = refl; timers = set-apart _ (record { link = a.link; layer = a.layer }) }
 
 pub quiet-made-host : (c : HostConfig) → IsQuiet (drained (Host (host_making.made c)))
-quiet-made-host c = record { node = record { read = refl; sent = refl; held = tt }; unread = refl }
+quiet-made-host c =
+    let a : TimersApart (made c.role c.line) = made-apart c.role c.line in
+    record { node = record { read = refl; sent = refl; held = tt }; unread = refl; timers = set-apart _ (record { link = a.link; layer = a.layer }) }

@@ -18,13 +18,15 @@ use Rattle.line_nodes.specs.Turn.{Turn}
 use Rattle.line_nodes.specs.LineTurns.{hears, expires, relinks, restarts}
 use Rattle.line_nodes.specs.HostTurns.{host_calls, host_asks, host_refuses, host_says, host_takes}
 use Rattle.line_nodes.specs.PadTurns.{pad_keys}
+use Rattle.node_laws.specs.Due.{AreApart}
 use Rattle.node_laws.specs.Nodes.{IsNode}
 use Rattle.node_laws.specs.Opening.{OpensNothing}
 
--- nothing is left of its last event: no note, also none in its layer, no frame, and no block
+-- nothing is left of its last event: no note, also none in its layer, no frame, and no block; and no timer runs where it must not
 pub record IsQuiet (n : NodeState) : Type 0 where
   pub node : IsNode n
   pub unread : (end_of n).layer.notes ≡ []
+  pub timers : AreApart n
 
 -- the node is quiet once the frames of the turn went
 abbrev pub LeavesQuiet : Turn → Type 0

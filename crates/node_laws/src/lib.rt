@@ -1,11 +1,13 @@
 //! That each event at a node of a network of one line keeps what is kept of the line and of the book of its calls.
 #![tactic(auto)]
 
+mod expiry;
 mod quiet;
 
 ghost use Rattle.node_laws.specs.Clauses.{HearsLaw, ExpiresLaw, RelinksLaw, RestartsLaw, CallsLaw, AsksLaw, RefusesLaw, SaysLaw, TakesLaw, KeysLaw, ElapsesLaw, MakingLaw, NodesLaw};
 ghost use Rattle.node_laws.specs.Opening.{HearingOpens, ExpiryOpens, RelinkOpens, CallOpens, AskingOpens, RefusalOpens, SayingOpens, TakingOpens, KeyOpens};
 
+pub use expiry::expiry_law;
 pub use quiet::quiet_law;
 
 /// The law of the nodes of a line, over definitions alone. From the making on, whatever comes to a node and whatever its user asks

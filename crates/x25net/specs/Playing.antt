@@ -77,24 +77,16 @@ pub data Flows (F : Type 0) (names : Names) (traces : Bool) (lines : ℕ) : Flow
       → Passes F names traces lines s first mid → mid.left < s.left → Flows F names traces lines mid rest t
       → Flows F names traces lines s (first ++ rest) t
 
--- the timer that is due expires, or none is due
-pub data ExpiresNext (F : Type 0) (names : Names) (traces : Bool) : (was_due : Bool) → NetState → List ℕ → NetState → Type 0 where
-  one : {expiry : Event} {s t : NetState} {text : List ℕ}
-      → net_due s ≡ Some expiry → TellsEvent F names traces expiry s text t → ExpiresNext F names traces true s text t
-  none : {s : NetState} → net_due s ≡ None → ExpiresNext F names traces false s [] s
+-- what is due expires, one timer after the other, until none is due
+pub data Expires (F : Type 0) (names : Names) (traces : Bool) : NetState → List ℕ → NetState → Type 0 where
+  none : {s : NetState} → net_due s ≡ None → Expires F names traces s [] s
+  next : {expiry : Event} {s mid t : NetState} {first rest : List ℕ}
+      → net_due s ≡ Some expiry → TellsEvent F names traces expiry s first mid → Expires F names traces mid rest t
+      → Expires F names traces s (first ++ rest) t
 
--- what is due expires, one after the other, until none is due or so many expired
-pub data Expires (F : Type 0) (names : Names) (traces : Bool) : ℕ → NetState → List ℕ → NetState → Type 0 where
-  at_limit : {s : NetState} → Expires F names traces 0 s [] s
-  last : {left : ℕ} {s t : NetState} {text : List ℕ}
-      → ExpiresNext F names traces false s text t → Expires F names traces (suc left) s text t
-  again : {left : ℕ} {s mid t : NetState} {first rest : List ℕ}
-      → ExpiresNext F names traces true s first mid → Expires F names traces left mid rest t
-      → Expires F names traces (suc left) s (first ++ rest) t
-
--- so many ticks go by, and then what is due expires, one timer after the other, at most 100,000 times
+-- so many ticks go by, and then what is due expires
 abbrev pub Ticks : (F : Type 0) → Names → (traces : Bool) → (ticks : ℕ) → NetState → List ℕ → NetState → Type 0
-Ticks F names traces ticks s text t = Expires F names traces 100000 (net_elapsed ticks s) text t
+Ticks F names traces ticks s text t = Expires F names traces (net_elapsed ticks s) text t
 
 -- a network on which a script is played, and whether frames are traced
 pub record Played : Type 0 where

@@ -1,13 +1,14 @@
 //! The player: does what a script says, and prints the answers.
-ghost use Rattle.std.specs.Prelude.{◌≡◌, ◌≤◌, Ok, OnOk, IfOk, IfErr};
+ghost use Rattle.std.specs.Prelude.{◌≡◌, ◌≤◌, ◌<◌, Some, Ok, OnOk, IfOk, IfErr};
 ghost use Rattle.std.specs.Io.KnownBytes.{Appends};
 ghost use Rattle.std.specs.List.{flat_map};
 ghost use Rattle.x25net.specs.Answers.{frame_text, note_text, frames_text, answer_text};
 ghost use Rattle.line_sim.specs.declared.event.Event.{Event};
 ghost use Rattle.line_sim.specs.NetState.{NetState};
+ghost use Rattle.line_sim.specs.Due.{net_due, net_due_count};
 ghost use Rattle.x25net.specs.InTurn.{InTurn, Writes};
 ghost use Rattle.x25net.specs.Playing.{has_arrived, Tells, TellsEvent, Delivers, Passes, Flows};
-ghost use Rattle.x25net.specs.Playing.{ExpiresNext, Ticks};
+ghost use Rattle.x25net.specs.Playing.{Ticks};
 ghost use Rattle.x25net.specs.Playing.{DoesCommand, Plays, end_line, IsPlayFault};
 ghost use Rattle.x25net.specs.declared.fault.ProgFault.{ProgFault};
 
@@ -21,10 +22,6 @@ use std::io::Write;
 
 /// How many frames a `flow` delivers at most.
 const FLOW_LIMIT: u32 = 100_000;
-
-/// How many expiries a `tick` brings at most. The two ends of a line have 211 timers each, and one that is started anew is not
-/// due.
-const EXPIRY_LIMIT: u32 = 100_000;
 
 /// Plays a script on a network, and prints the answer to each event, and at the end whether the network is at rest.
 ///
@@ -186,7 +183,7 @@ fn deliver<L: Line, W: Write>(
     }
 }
 
-/// Lets time go by, and then each timer that is due expires, one after the other.
+/// Lets time go by, and then each timer that is due expires, one after the other, until none is.
 fn tick<L: Line, W: Write>(
     alloc: Global,
     net: &mut Net<L>,
@@ -200,33 +197,10 @@ fn tick<L: Line, W: Write>(
     ensures faults { IfErr result IsPlayFault }
 {
     net.elapse(ticks);
-    for _ in 0..EXPIRY_LIMIT {
-        if !expire_next(alloc, net, names, traces, out)? {
-            return Ok(());
-        }
+    while let Some(expiry) = net.next_due() {
+        play_event(alloc, net, names, traces, &expiry, out)?;
     }
     Ok(())
-}
-
-/// The timer that is due expires, if there is one, and gives whether there was.
-fn expire_next<L: Line, W: Write>(
-    alloc: Global,
-    net: &mut Net<L>,
-    names: &[String],
-    traces: bool,
-    out: &mut W,
-) -> Result<bool, ProgFault>
-    ensures writes { IfOk result (λ was_due. Writes (W.contents out.old) (W.contents out.new)
-        (λ text. ExpiresNext L.faithful names.now traces was_due net.old text net.new)) }
-    ensures faults { IfErr result IsPlayFault }
-{
-    match net.next_due() {
-        Some(expiry) => {
-            play_event(alloc, net, names, traces, &expiry, out)?;
-            Ok(true)
-        }
-        None => Ok(false),
-    }
 }
 
 /// One event: prints its answer, and gives whether a frame arrived.
@@ -240,6 +214,7 @@ fn play_event<L: Line, W: Write>(
 ) -> Result<bool, ProgFault>
     ensures tells { IfOk result (λ arrived. Writes (W.contents out.old) (W.contents out.new)
         (λ text. Tells L.faithful names.now traces arrived event.now net.old text net.new)) }
+    ensures fewer_due { OnOk result (net_due net.old ≡ Some event.now → net_due_count net.new < net_due_count net.old) }
     ensures faults { IfErr result IsPlayFault }
 {
     match net.step(event) {

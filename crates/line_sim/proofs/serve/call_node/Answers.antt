@@ -1,4 +1,3 @@
-use Rattle.std.proofs.Common.{◌≡◌, ◌≤◌, arith}
 use Rattle.line_nodes.specs.NodeView.{node_of}
 use Rattle.node_laws.proofs.QuietOpens.{opens-hears, opens-expires, opens-relinks}
 use Rattle.line_sim.proofs.serve.call_node.Goals as goal
