@@ -6,6 +6,7 @@ use link_timers::Role;
 use packet_codec::{Address, CallBuf, CallData, PacketBuf};
 use packet_layer::{Layer, LayerNote, LayerParams, MakeFault, Reason, Taken};
 use std::alloc::{AllocError, Global};
+use std::process::Abort;
 use std::test::Fail;
 use x3_params::{Params, Profile};
 
@@ -161,51 +162,57 @@ fn begins(record: &Record) -> bool {
         && record.taken.released == 0
 }
 
-#[test]
-fn a_call_is_placed_and_answered(rt: HostRuntime) -> Result<(), Fail> {
-    let mut book = new_book(rt.alloc(), false)?;
+fn a_call_comes_and_goes(rt: &impl Abort, book: &mut Book) -> Result<(), Fail> {
     assert!(rt; book.records().is_empty() && book.pairs().is_empty());
-    places(&mut book, Role::Dte, 2)?;
-    assert!(rt; is_open(&book, 0, DTE_NODE, &[], &CALLED));
-    tells(&mut book, Role::Dce, &incoming(2))?;
-    assert!(rt; is_open(&book, 1, DCE_NODE, &CALLED, &[]));
+    places(book, Role::Dte, 2)?;
+    assert!(rt; is_open(book, 0, DTE_NODE, &[], &CALLED));
+    tells(book, Role::Dce, &incoming(2))?;
+    assert!(rt; is_open(book, 1, DCE_NODE, &CALLED, &[]));
     assert_eq!(rt; book.present(Role::Dte, 2), Some(0));
     assert_eq!(rt; book.present(Role::Dce, 2), Some(1));
     assert!(rt; book.pairs().is_empty());
-    answers(&mut book, Role::Dce, 2)?;
-    tells(&mut book, Role::Dte, &LayerNote::Connected(2))?;
-    assert!(rt; has_pair(&book, 0, 1));
+    answers(book, Role::Dce, 2)?;
+    tells(book, Role::Dte, &LayerNote::Connected(2))?;
+    assert!(rt; has_pair(book, 0, 1));
     book.closes(Role::Dte, 2);
-    assert!(rt; is_closed(&book, 0) && !is_closed(&book, 1));
-    tells(&mut book, Role::Dce, &closed(2, Reason::FarEnd))?;
-    assert!(rt; is_closed(&book, 1) && book.present(Role::Dce, 2).is_none());
-    places(&mut book, Role::Dce, 2)?;
-    assert!(rt; is_open(&book, 2, DCE_NODE, &[], &CALLED));
-    assert!(rt; has_pair(&book, 0, 1) && book.records().len() == 3);
+    assert!(rt; is_closed(book, 0) && !is_closed(book, 1));
+    tells(book, Role::Dce, &closed(2, Reason::FarEnd))?;
+    assert!(rt; is_closed(book, 1) && book.present(Role::Dce, 2).is_none());
+    places(book, Role::Dce, 2)?;
+    assert!(rt; is_open(book, 2, DCE_NODE, &[], &CALLED));
+    assert!(rt; has_pair(book, 0, 1) && book.records().len() == 3);
+    Ok(())
+}
+
+#[test]
+fn a_call_is_placed_and_answered(rt: HostRuntime) -> Result<(), Fail> {
+    let mut book = new_book(rt.alloc(), false)?;
+    a_call_comes_and_goes(&rt, &mut book)
+}
+
+fn one_of_two_is_cancelled(rt: &impl Abort, book: &mut Book) -> Result<(), Fail> {
+    places(book, Role::Dte, 1)?;
+    places(book, Role::Dce, 1)?;
+    tells(book, Role::Dce, &closed(1, Reason::Cancelled))?;
+    tells(book, Role::Dce, &incoming(1))?;
+    assert!(rt; is_closed(book, 1));
+    assert!(rt; is_open(book, 2, DCE_NODE, &CALLED, &[]));
+    answers(book, Role::Dce, 1)?;
+    answers(book, Role::Dte, 1)?;
+    assert!(rt; has_pair(book, 0, 2));
     Ok(())
 }
 
 #[test]
 fn calls_cross(rt: HostRuntime) -> Result<(), Fail> {
     let mut book = new_book(rt.alloc(), false)?;
-    places(&mut book, Role::Dte, 1)?;
-    places(&mut book, Role::Dce, 1)?;
-    tells(&mut book, Role::Dce, &closed(1, Reason::Cancelled))?;
-    tells(&mut book, Role::Dce, &incoming(1))?;
-    assert!(rt; is_closed(&book, 1));
-    assert!(rt; is_open(&book, 2, DCE_NODE, &CALLED, &[]));
-    answers(&mut book, Role::Dce, 1)?;
-    answers(&mut book, Role::Dte, 1)?;
-    assert!(rt; has_pair(&book, 0, 2));
-    Ok(())
+    one_of_two_is_cancelled(&rt, &mut book)
 }
 
-#[test]
-fn a_call_stands(rt: HostRuntime) -> Result<(), Fail> {
-    let book = new_book(rt.alloc(), true)?;
-    assert!(rt; is_open(&book, 0, DTE_NODE, &[], &[]));
-    assert!(rt; is_open(&book, 1, DCE_NODE, &[], &[]));
-    assert!(rt; has_pair(&book, 0, 1) && book.records().len() == 2);
+fn two_records_stand(rt: &impl Abort, book: &Book) -> Result<(), Fail> {
+    assert!(rt; is_open(book, 0, DTE_NODE, &[], &[]));
+    assert!(rt; is_open(book, 1, DCE_NODE, &[], &[]));
+    assert!(rt; has_pair(book, 0, 1) && book.records().len() == 2);
     assert_eq!(rt; book.present(Role::Dte, 1), Some(0));
     assert_eq!(rt; book.present(Role::Dce, 1), Some(1));
     assert!(rt; book.present(Role::Dte, 2).is_none() && book.present(Role::Dte, 0).is_none());
@@ -213,22 +220,30 @@ fn a_call_stands(rt: HostRuntime) -> Result<(), Fail> {
 }
 
 #[test]
-fn packets_and_interrupts_pass(rt: HostRuntime) -> Result<(), Fail> {
-    let mut book = new_book(rt.alloc(), true)?;
-    let (interrupt, packet) = taken_at_dce(rt.alloc())?;
+fn a_call_stands(rt: HostRuntime) -> Result<(), Fail> {
+    let book = new_book(rt.alloc(), true)?;
+    two_records_stand(&rt, &book)
+}
+
+fn all_is_written(
+    rt: &impl Abort,
+    book: &mut Book,
+    interrupt: &Option<Taken>,
+    packet: &Option<Taken>,
+) -> Result<(), Fail> {
     assert!(rt; interrupt.is_some() && packet.is_some());
-    sends(&mut book, Role::Dte, b"AB")?;
-    sends(&mut book, Role::Dte, b"C")?;
+    sends(book, Role::Dte, b"AB")?;
+    sends(book, Role::Dte, b"C")?;
     book.reserve(1)?;
     book.interrupts(Role::Dte, 1, &[7]);
-    takes(&mut book, Role::Dce, &interrupt)?;
-    takes(&mut book, Role::Dce, &packet)?;
+    takes(book, Role::Dce, interrupt)?;
+    takes(book, Role::Dce, packet)?;
     book.releases(Role::Dce, 1, 1);
     let covered = LayerNote::Covered {
         channel: 1,
         count: 1,
     };
-    tells(&mut book, Role::Dte, &covered)?;
+    tells(book, Role::Dte, &covered)?;
     let [dte, dce] = book.records() else {
         assert!(rt; false, "a standing call has two records");
         return Ok(());
@@ -255,9 +270,14 @@ fn packets_and_interrupts_pass(rt: HostRuntime) -> Result<(), Fail> {
 }
 
 #[test]
-fn a_reset_opens_an_epoch_at_each_end(rt: HostRuntime) -> Result<(), Fail> {
+fn packets_and_interrupts_pass(rt: HostRuntime) -> Result<(), Fail> {
     let mut book = new_book(rt.alloc(), true)?;
-    sends(&mut book, Role::Dte, b"AB")?;
+    let taken = taken_at_dce(rt.alloc())?;
+    all_is_written(&rt, &mut book, &taken.0, &taken.1)
+}
+
+fn epochs_open(rt: &impl Abort, book: &mut Book) -> Result<(), Fail> {
+    sends(book, Role::Dte, b"AB")?;
     book.covers(Role::Dte, 1, 1);
     book.reserve(1)?;
     book.renews(Role::Dte, 1);
@@ -267,7 +287,7 @@ fn a_reset_opens_an_epoch_at_each_end(rt: HostRuntime) -> Result<(), Fail> {
         diagnostic: 0,
         reason: Reason::FarEnd,
     };
-    tells(&mut book, Role::Dce, &told)?;
+    tells(book, Role::Dce, &told)?;
     let [dte, dce] = book.records() else {
         assert!(rt; false, "a standing call has two records");
         return Ok(());
@@ -285,21 +305,29 @@ fn a_reset_opens_an_epoch_at_each_end(rt: HostRuntime) -> Result<(), Fail> {
 }
 
 #[test]
-fn all_calls_of_an_end_close(rt: HostRuntime) -> Result<(), Fail> {
+fn a_reset_opens_an_epoch_at_each_end(rt: HostRuntime) -> Result<(), Fail> {
     let mut book = new_book(rt.alloc(), true)?;
-    places(&mut book, Role::Dte, 4)?;
-    places(&mut book, Role::Dce, 3)?;
+    epochs_open(&rt, &mut book)
+}
+
+fn an_end_closes_all(rt: &impl Abort, book: &mut Book) -> Result<(), Fail> {
+    places(book, Role::Dte, 4)?;
+    places(book, Role::Dce, 3)?;
     book.close_all(Role::Dte);
-    assert!(rt; is_closed(&book, 0) && is_closed(&book, 2));
-    assert!(rt; !is_closed(&book, 1) && !is_closed(&book, 3));
+    assert!(rt; is_closed(book, 0) && is_closed(book, 2));
+    assert!(rt; !is_closed(book, 1) && !is_closed(book, 3));
     assert!(rt; book.present(Role::Dte, 1).is_none() && book.present(Role::Dte, 4).is_none());
     assert_eq!(rt; book.present(Role::Dce, 3), Some(3));
     Ok(())
 }
 
 #[test]
-fn a_pad_edits(rt: HostRuntime) -> Result<(), Fail> {
+fn all_calls_of_an_end_close(rt: HostRuntime) -> Result<(), Fail> {
     let mut book = new_book(rt.alloc(), true)?;
+    an_end_closes_all(&rt, &mut book)
+}
+
+fn keys_are_written(rt: &impl Abort, book: &mut Book) -> Result<(), Fail> {
     let params = Params::profile(Profile::Simple, 14);
     book.reserve(3)?;
     assert_eq!(rt; book.room(), 3);
@@ -324,13 +352,23 @@ fn a_pad_edits(rt: HostRuntime) -> Result<(), Fail> {
 }
 
 #[test]
-fn a_line_keeps_nothing_of_a_channel_that_it_has_not(rt: HostRuntime) -> Result<(), Fail> {
-    let mut book = new_book(rt.alloc(), false)?;
-    places(&mut book, Role::Dte, 5)?;
+fn a_pad_edits(rt: HostRuntime) -> Result<(), Fail> {
+    let mut book = new_book(rt.alloc(), true)?;
+    keys_are_written(&rt, &mut book)
+}
+
+fn nothing_is_kept(rt: &impl Abort, book: &mut Book) -> Result<(), Fail> {
+    places(book, Role::Dte, 5)?;
     assert!(rt; book.records().len() == 1 && book.present(Role::Dte, 5).is_none());
     book.reserve(1)?;
     book.sends(Role::Dte, 5, b"AB", false, false, false);
     book.closes(Role::Dte, 5);
-    assert!(rt; is_open(&book, 0, DTE_NODE, &[], &CALLED));
+    assert!(rt; is_open(book, 0, DTE_NODE, &[], &CALLED));
     Ok(())
+}
+
+#[test]
+fn a_line_keeps_nothing_of_a_channel_that_it_has_not(rt: HostRuntime) -> Result<(), Fail> {
+    let mut book = new_book(rt.alloc(), false)?;
+    nothing_is_kept(&rt, &mut book)
 }

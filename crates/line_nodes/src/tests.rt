@@ -157,12 +157,9 @@ fn is_closed(book: &Book, number: usize) -> bool {
     }
 }
 
-#[test]
-fn keys_are_written(rt: HostRuntime) -> Result<(), Fail> {
-    let mut book = new_book(rt.alloc())?;
-    let mut pad = new_pad(&rt, rt.alloc());
+fn writes_keys(rt: &impl Abort, pad: &mut Pad, book: &mut Book) -> Result<(), Fail> {
     for octet in *b"HI\r" {
-        assert_eq!(rt; types(&mut pad, octet, &mut book)?, KeyAnswer::Taken);
+        assert_eq!(rt; types(pad, octet, book)?, KeyAnswer::Taken);
     }
     let Some(record) = book.records().get(0) else {
         panic!(rt; "a record");
@@ -171,22 +168,28 @@ fn keys_are_written(rt: HostRuntime) -> Result<(), Fail> {
     assert_eq!(rt; record.sent.packets.len(), 1);
     assert!(rt; is_packet(record.sent.packets.get(0), b"HI\r", false, false));
     for _ in 0..9 {
-        assert_eq!(rt; types(&mut pad, b'\r', &mut book)?, KeyAnswer::Taken);
+        assert_eq!(rt; types(pad, b'\r', book)?, KeyAnswer::Taken);
     }
-    assert_eq!(rt; types(&mut pad, b'\r', &mut book)?, KeyAnswer::Dropped);
+    assert_eq!(rt; types(pad, b'\r', book)?, KeyAnswer::Dropped);
     Ok(())
 }
 
 #[test]
-fn what_a_host_says_is_written(rt: HostRuntime) -> Result<(), Fail> {
+fn keys_are_written(rt: HostRuntime) -> Result<(), Fail> {
     let mut book = new_book(rt.alloc())?;
-    let mut host = new_host(&rt, rt.alloc());
+    let mut pad = new_pad(&rt, rt.alloc());
+    writes_keys(&rt, &mut pad, &mut book)
+}
+
+fn writes_what_is_said(
+    rt: &impl Abort,
+    alloc: Global,
+    host: &mut Host,
+    book: &mut Book,
+) -> Result<(), Fail> {
+    assert_eq!(rt; says(alloc, host, &[b'A'; 130], book)?, Ok(()));
     assert_eq!(rt;
-        says(rt.alloc(), &mut host, &[b'A'; 130], &mut book)?,
-        Ok(())
-    );
-    assert_eq!(rt;
-        says(rt.alloc(), &mut host, &[b'A'; 1025], &mut book)?,
+        says(alloc, host, &[b'A'; 1025], book)?,
         Err(ChannelFault::TooLong)
     );
     let Some(record) = book.records().get(1) else {
@@ -195,19 +198,28 @@ fn what_a_host_says_is_written(rt: HostRuntime) -> Result<(), Fail> {
     assert_eq!(rt; record.sent.packets.len(), 2);
     assert!(rt; is_packet(record.sent.packets.get(0), &[b'A'; 128], true, false));
     assert!(rt; is_packet(record.sent.packets.get(1), b"AA", false, true));
-    assert!(rt; takes_nothing(rt.alloc(), &mut host, &mut book)?);
+    assert!(rt; takes_nothing(alloc, host, book)?);
     Ok(())
 }
 
 #[test]
-fn what_a_host_asks_is_written(rt: HostRuntime) -> Result<(), Fail> {
+fn what_a_host_says_is_written(rt: HostRuntime) -> Result<(), Fail> {
     let mut book = new_book(rt.alloc())?;
     let mut host = new_host(&rt, rt.alloc());
+    writes_what_is_said(&rt, rt.alloc(), &mut host, &mut book)
+}
+
+fn writes_what_is_asked(
+    rt: &impl Abort,
+    alloc: Global,
+    host: &mut Host,
+    book: &mut Book,
+) -> Result<(), Fail> {
     for asked in [Asked::Stop, Asked::Go, Asked::Interrupt, Asked::Reset] {
-        assert_eq!(rt; asks(rt.alloc(), &mut host, asked, &mut book)?, Ok(()));
+        assert_eq!(rt; asks(alloc, host, asked, book)?, Ok(()));
     }
     assert_eq!(rt;
-        asks(rt.alloc(), &mut host, Asked::Interrupt, &mut book)?,
+        asks(alloc, host, Asked::Interrupt, book)?,
         Err(ChannelFault::Resetting)
     );
     let Some(record) = book.records().get(1) else {
@@ -216,35 +228,47 @@ fn what_a_host_asks_is_written(rt: HostRuntime) -> Result<(), Fail> {
     assert_eq!(rt; record.sent_before.len(), 1);
     assert!(rt; !record.closed);
     for asked in [Asked::Answer, Asked::Refuse] {
-        assert_eq!(rt;
-            asks(rt.alloc(), &mut host, asked, &mut book)?,
-            Err(ChannelFault::NoCall)
-        );
+        assert_eq!(rt; asks(alloc, host, asked, book)?, Err(ChannelFault::NoCall));
     }
+    assert_eq!(rt; asks(alloc, host, Asked::Clear, book)?, Ok(()));
+    assert!(rt; is_closed(book, 1));
     assert_eq!(rt;
-        asks(rt.alloc(), &mut host, Asked::Clear, &mut book)?,
-        Ok(())
-    );
-    assert!(rt; is_closed(&book, 1));
-    assert_eq!(rt;
-        calls(
-            rt.alloc(),
-            &mut host,
-            Address::new(&[2, 0, 0, 1]),
-            &mut book
-        )?,
+        calls(alloc, host, Address::new(&[2, 0, 0, 1]), book)?,
         Ok(2)
     );
     assert_eq!(rt;
-        calls(
-            rt.alloc(),
-            &mut host,
-            Address::new(&[2, 0, 0, 1]),
-            &mut book
-        )?,
+        calls(alloc, host, Address::new(&[2, 0, 0, 1]), book)?,
         Err(CallFault::NoChannel)
     );
     assert_eq!(rt; book.present(Role::Dce, 2), Some(2));
+    Ok(())
+}
+
+#[test]
+fn what_a_host_asks_is_written(rt: HostRuntime) -> Result<(), Fail> {
+    let mut book = new_book(rt.alloc())?;
+    let mut host = new_host(&rt, rt.alloc());
+    writes_what_is_asked(&rt, rt.alloc(), &mut host, &mut book)
+}
+
+fn closes_by_restarts(
+    rt: &impl Abort,
+    host: &mut Node,
+    pad: &mut Node,
+    book: &mut Book,
+) -> Result<(), Fail> {
+    assert!(rt; pad.is_pad() && !host.is_pad());
+    assert!(rt; pad.is_at_rest() && host.is_at_rest());
+    assert!(rt; host.confirmed(1) && !pad.confirmed(1));
+    host.restarts(Role::Dce, book);
+    assert!(rt; !is_closed(book, 0) && is_closed(book, 1));
+    pad.restarts(Role::Dte, book);
+    assert!(rt; is_closed(book, 0));
+    assert_eq!(rt; pad.waiting_frames(), 1);
+    let mut frame = FrameBuf::new();
+    assert!(rt; pad.out(&mut frame) && !pad.out(&mut frame));
+    pad.elapse(60);
+    assert!(rt; pad.due().is_some());
     Ok(())
 }
 
@@ -253,19 +277,7 @@ fn a_restart_closes_the_calls(rt: HostRuntime) -> Result<(), Fail> {
     let mut book = new_book(rt.alloc())?;
     let mut host = Node::Host(new_host(&rt, rt.alloc()));
     let mut pad = Node::Pad(new_pad(&rt, rt.alloc()));
-    assert!(rt; pad.is_pad() && !host.is_pad());
-    assert!(rt; pad.is_at_rest() && host.is_at_rest());
-    assert!(rt; host.confirmed(1) && !pad.confirmed(1));
-    host.restarts(Role::Dce, &mut book);
-    assert!(rt; !is_closed(&book, 0) && is_closed(&book, 1));
-    pad.restarts(Role::Dte, &mut book);
-    assert!(rt; is_closed(&book, 0));
-    assert_eq!(rt; pad.waiting_frames(), 1);
-    let mut frame = FrameBuf::new();
-    assert!(rt; pad.out(&mut frame) && !pad.out(&mut frame));
-    pad.elapse(60);
-    assert!(rt; pad.due().is_some());
-    Ok(())
+    closes_by_restarts(&rt, &mut host, &mut pad, &mut book)
 }
 
 #[test]

@@ -68,7 +68,8 @@ fn play_on<W: Write>(
     ensures { OnOk result (PlaysSome (W.contents out.old) (W.contents out.new)) }
 {
     let mut net = made(alloc, config)?;
-    play(alloc, &mut net, script, out)
+    play(alloc, &mut net, script, out)?;
+    Ok(())
 }
 
 /// The network of a configuration, over memory lines.

@@ -7,5 +7,5 @@ returns g c = record {
   made = c.in_ok-net.ensures;
   script = _;
   ended = _;
-  writes = c.play.ensures.writes;
+  writes = c.in_ok-play.ensures.writes;
 }
