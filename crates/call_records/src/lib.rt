@@ -9,6 +9,3 @@ mod record;
 pub use book::Book;
 pub use packet::{Interrupt, UserPacket};
 pub use record::{EditStep, Pair, Record, SentEpoch, TakenEpoch};
-
-#[cfg(test)]
-mod tests;

@@ -14,6 +14,3 @@ pub use link::{BadParams, Link, LinkParams, OfferFault};
 pub use note::{Note, Timing};
 pub use out::LinkOut;
 pub use phase::Phase;
-
-#[cfg(test)]
-mod tests;

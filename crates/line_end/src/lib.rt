@@ -4,6 +4,3 @@
 mod end;
 
 pub use end::{LineEnd, MOST_FRAMES, Received};
-
-#[cfg(test)]
-mod tests;

@@ -20,6 +20,3 @@ pub use line_nodes::{HostNote, KeyAnswer, NodeFault, NoteKind};
 pub use net::Net;
 pub use packet_layer::Taken;
 pub use running::run;
-
-#[cfg(test)]
-mod tests;

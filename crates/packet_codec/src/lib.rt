@@ -8,8 +8,6 @@ mod fault;
 mod packet;
 mod packet_type;
 mod reading;
-#[cfg(test)]
-mod tests;
 mod writing;
 
 pub use address::{Address, AddressFault};

@@ -8,6 +8,3 @@ mod host;
 pub use config::HostConfig;
 pub use fault::HostFault;
 pub use host::Host;
-
-#[cfg(test)]
-mod tests;

@@ -23,6 +23,3 @@ pub use note::{LayerNote, Reason};
 pub use params::LayerParams;
 pub use taken::{Front, Taken};
 pub use user_data::{InterruptData, UserData};
-
-#[cfg(test)]
-mod tests;

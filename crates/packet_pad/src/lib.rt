@@ -13,6 +13,3 @@ pub use config::PadConfig;
 pub use fault::PadFault;
 pub use key::KeyResult;
 pub use pad::Pad;
-
-#[cfg(test)]
-mod tests;

@@ -1,19 +1,7 @@
 //! An X.25 network of PADs, hosts and switches, driven by a script.
 #![tactic(auto)]
 
-mod answer;
-mod fault;
-#[cfg(test)]
-mod host_tests;
-mod network;
-mod player;
-mod program;
-mod script;
-mod settings;
-#[cfg(test)]
-mod tests;
-mod words;
-
+use net_player::perform;
 use std::process::ExitCode;
 use std::{env, io};
 
@@ -24,7 +12,7 @@ fn main(rt: HostRuntime) -> ExitCode {
     };
     let mut out = io::writer(&rt);
     let mut err = rt.stderr();
-    let status = program::perform(
+    let status = perform(
         rt.alloc(),
         words.as_slice(),
         &mut rt.reader(),

@@ -17,6 +17,3 @@ pub use reading::{LINE_LIMIT, read_command, read_pairs};
 pub use selection::hides_echo;
 pub use signal::{ParameterValue, Signal};
 pub use writing::write_signal;
-
-#[cfg(test)]
-mod tests;

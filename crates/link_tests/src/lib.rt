@@ -1,0 +1,7 @@
+//! Worked examples of the link and of the end of a line, by the octets of their frames.
+#![tactic(auto)]
+
+#[cfg(test)]
+mod line_ends;
+#[cfg(test)]
+mod links;

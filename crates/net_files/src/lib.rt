@@ -1,0 +1,12 @@
+//! Network files and scripts, read from their texts.
+#![tactic(auto)]
+
+mod fault;
+mod network;
+mod script;
+mod settings;
+mod words;
+
+pub use fault::ProgFault;
+pub use network::{FIRST, read_net};
+pub use script::{Command, Script, read_script};

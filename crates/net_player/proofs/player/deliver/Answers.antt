@@ -1,0 +1,17 @@
+use Rattle.std.proofs.Common.{◌<◌, arith}
+use Rattle.net_player.proofs.Turns.{writes_nothing, writes_as}
+use Rattle.net_player.proofs.Deliveries.{delivers_at_limit, delivers_one, delivers_none}
+use Rattle.net_player.proofs.player.deliver.Goals as goal
+
+pub returns-then-left-eq0-clause-delivers : goal.returns-then-left-eq0-clause-delivers
+returns-then-left-eq0-clause-delivers g c = writes_nothing _ (delivers_at_limit _ (omega arith))
+
+pub returns-then-branch-clause-delivers : goal.returns-then-branch-clause-delivers
+returns-then-branch-clause-delivers g c =
+    let some : 0 < c.args.left = omega arith in
+    writes_as (λ text tells. delivers_one c.args.left some tells) (rw c.if-branch.true at c.in_ok-play_event.ensures.tells)
+
+pub returns-else-branch-clause-delivers : goal.returns-else-branch-clause-delivers
+returns-else-branch-clause-delivers g c =
+    let some : 0 < c.args.left = omega arith in
+    writes_as (λ text tells. delivers_none c.args.left some tells) (rw c.if-branch.false at c.in_ok-play_event.ensures.tells)

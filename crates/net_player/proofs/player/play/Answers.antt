@@ -1,0 +1,31 @@
+use Rattle.std.proofs.Common.{arith, length, ◌<◌, ◌≤◌, ◌≡◌, ◌++◌, ap, List, ℕ, get_or}
+use Rattle.net_player.specs.InTurn.InTurn.{nothing}
+use Rattle.net_player.proofs.Turns.{in_turn_all, in_turn_next, writes_nothing, writes_append, writes_then}
+use Rattle.net_files.specs.declared.script.Command.{Command}
+use Rattle.net_player.proofs.player.play.Goals as goal
+
+pub loop-command-init : goal.loop-command-init
+loop-command-init g c = writes_nothing _ nothing
+
+pub loop-command-preserved : goal.loop-command-preserved
+loop-command-preserved g c =
+    let commands : List Command = c.args.script.now.commands.items in
+    let at : ℕ = c.loop-command.command-index in
+    let within : at < length commands = omega arith in
+    let there : c.command-item.result ≡ get_or commands at c.command-item.result =
+    rw c.deref-command-items.ensures.value at c.command-item.is in
+    writes_append _ _ _ (λ a b done does. in_turn_next commands at c.command-item.result within there done does)
+    c.loop-command.invariant c.in_ok-traces.ensures.writes
+
+pub returns-clause-writes : goal.returns-clause-writes
+returns-clause-writes g c =
+    let commands : List Command = c.args.script.now.commands.items in
+    let ended : length commands ≤ c.loop-command.command-index = omega arith in
+    writes_then c.end_line.result.now (λ told done. record {
+      told = told;
+      at_rest = c.at_rest.result;
+      rest = c.at_rest.ensures;
+      traces = _;
+      commands = in_turn_all commands _ ended done;
+      whole = ap (λ w. told ++ w) c.end_line.ensures;
+    }) c.loop-command.invariant c.in_ok-write.ensures.writes

@@ -1,0 +1,138 @@
+-- What a script makes of a network, and what is printed.
+use Rattle.std.specs.declared.alloc.Global.{Global}
+use Rattle.std.specs.Prelude.{Vec, ◌≡◌, ◌≢◌, ◌⊎◌, ℕ, zero, suc, ◌+◌, ◌<◌, Bool, true, false, List, [], ◌∷◌, ◌++◌, Option, Some, None, Result, Ok, Err, codes}
+use Rattle.line_sim.specs.declared.line.Direction.TheVariants.{FromDte, FromDce}
+use Rattle.line_sim.specs.declared.event.Event.{Event}
+use Rattle.line_sim.specs.declared.event.Event.TheVariants.{Deliver}
+use Rattle.line_sim.specs.declared.event.Outcome.{Outcome}
+use Rattle.line_sim.specs.declared.event.Outcome.TheVariants.{Delivered}
+use Rattle.line_sim.specs.declared.event.Answer.{Answer}
+use Rattle.line_sim.specs.declared.event.StepFault.{StepFault}
+use Rattle.line_sim.specs.declared.event.StepFault.TheVariants.{OutOfMemory}
+use Rattle.line_sim.specs.declared.config.Config.{Config}
+use Rattle.line_sim.specs.Plan.{IsMade}
+use Rattle.line_sim.specs.NetState.{NetState, net_rests, net_elapsed}
+use Rattle.line_sim.specs.Due.{net_due}
+use Rattle.line_sim.specs.Runs.{Happens}
+use Rattle.net_files.specs.declared.fault.ProgFault.{ProgFault}
+use Rattle.net_files.specs.declared.script.Command.{Command}
+use Rattle.net_files.specs.declared.script.Command.TheVariants.{Events, Flow, Tick, Trace}
+use Rattle.net_files.specs.declared.script.Script.{Script}
+use Rattle.net_files.specs.Scripts.{Names}
+use Rattle.net_player.specs.Answers.{answer_text}
+use Rattle.net_player.specs.InTurn.{InTurn, Writes}
+
+-- whether a frame arrived
+abbrev pub has_arrived : Outcome → Bool
+has_arrived (Delivered arrived) = arrived
+has_arrived o = false
+
+abbrev pub brought_frame : Result Answer StepFault → Bool
+brought_frame (Ok answer) = has_arrived answer.outcome
+brought_frame (Err refusal) = false
+
+-- the event happens, not refused for want of memory, this is the text of its answer, and it brought a frame or not
+pub record Tells (F : Type 0) (names : Names) (traces : Bool) (arrived : Bool) (e : Event)
+    (s : NetState) (text : List ℕ) (t : NetState) : Type 0 where
+  pub answer : Result Answer StepFault
+  pub happens : Happens F e s answer t
+  pub had_memory : answer ≢ Err OutOfMemory
+  pub told : text ≡ answer_text names traces e answer
+  pub came : arrived ≡ brought_frame answer
+
+-- the same, whether it brought a frame or not
+pub record TellsEvent (F : Type 0) (names : Names) (traces : Bool) (e : Event) (s : NetState) (text : List ℕ) (t : NetState) : Type 0 where
+  pub arrived : Bool
+  pub tells : Tells F names traces arrived e s text t
+
+-- a network in a flow, and how many frames may still be delivered
+pub record Flowing : Type 0 where
+  pub left : ℕ
+  pub net : NetState
+
+-- a delivery in a flow: none where no more may be delivered, and one that brings a frame counts
+pub data Delivers (F : Type 0) (names : Names) (traces : Bool) : Event → Flowing → List ℕ → Flowing → Type 0 where
+  at_limit : {e : Event} {s : NetState}
+      → Delivers F names traces e (record { left = 0; net = s }) [] (record { left = 0; net = s })
+  arrives : {e : Event} {left : ℕ} {s t : NetState} {text : List ℕ}
+      → Tells F names traces true e s text t
+      → Delivers F names traces e (record { left = suc left; net = s }) text (record { left = left; net = t })
+  finds_none : {e : Event} {left : ℕ} {s t : NetState} {text : List ℕ}
+      → Tells F names traces false e s text t
+      → Delivers F names traces e (record { left = suc left; net = s }) text (record { left = suc left; net = t })
+
+-- deliveries on a number of lines, from this one on: on each line one from the DTE and one from the DCE
+abbrev pub deliveries_from : ℕ → ℕ → List Event
+deliveries_from line zero = []
+deliveries_from line (suc lines) = Deliver line FromDte ∷ Deliver line FromDce ∷ deliveries_from (line + 1) lines
+
+-- a pass over the lines in order
+abbrev pub Passes : (F : Type 0) → Names → (traces : Bool) → (lines : ℕ) → Flowing → List ℕ → Flowing → Type 0
+Passes F names traces lines s text t = InTurn Event Flowing (Delivers F names traces) (deliveries_from 0 lines) s text t
+
+-- passes, until one brings no frame
+pub data Flows (F : Type 0) (names : Names) (traces : Bool) (lines : ℕ) : Flowing → List ℕ → NetState → Type 0 where
+  last : {s t : Flowing} {text : List ℕ}
+      → Passes F names traces lines s text t → t.left ≡ s.left → Flows F names traces lines s text t.net
+  again : {s mid : Flowing} {first rest : List ℕ} {t : NetState}
+      → Passes F names traces lines s first mid → mid.left < s.left → Flows F names traces lines mid rest t
+      → Flows F names traces lines s (first ++ rest) t
+
+-- what is due expires, one timer after the other, until none is due
+pub data Expires (F : Type 0) (names : Names) (traces : Bool) : NetState → List ℕ → NetState → Type 0 where
+  none : {s : NetState} → net_due s ≡ None → Expires F names traces s [] s
+  next : {expiry : Event} {s mid t : NetState} {first rest : List ℕ}
+      → net_due s ≡ Some expiry → TellsEvent F names traces expiry s first mid → Expires F names traces mid rest t
+      → Expires F names traces s (first ++ rest) t
+
+-- so many ticks go by, and then what is due expires
+abbrev pub Ticks : (F : Type 0) → Names → (traces : Bool) → (ticks : ℕ) → NetState → List ℕ → NetState → Type 0
+Ticks F names traces ticks s text t = Expires F names traces (net_elapsed ticks s) text t
+
+-- a network on which a script is played, and whether frames are traced
+pub record Played : Type 0 where
+  pub net : NetState
+  pub traces : Bool
+
+-- what a command does: its events happen in order, at most 100,000 frames flow, time goes by, or frames are traced from here on,
+-- or not
+pub data DoesCommand (F : Type 0) (names : Names) (lines : ℕ) : Command → Played → List ℕ → Played → Type 0 where
+  events : {events : Vec Event Global} {traces : Bool} {s t : NetState} {text : List ℕ}
+      → InTurn Event NetState (TellsEvent F names traces) events.items s text t
+      → DoesCommand F names lines (Events events) (record { net = s; traces = traces }) text (record { net = t; traces = traces })
+  flow : {traces : Bool} {s t : NetState} {text : List ℕ}
+      → Flows F names traces lines (record { left = 100000; net = s }) text t
+      → DoesCommand F names lines Flow (record { net = s; traces = traces }) text (record { net = t; traces = traces })
+  tick : {ticks : ℕ} {traces : Bool} {s t : NetState} {text : List ℕ}
+      → Ticks F names traces ticks s text t
+      → DoesCommand F names lines (Tick ticks) (record { net = s; traces = traces }) text (record { net = t; traces = traces })
+  trace : {before after : Bool} {s : NetState}
+      → DoesCommand F names lines (Trace after) (record { net = s; traces = before }) [] (record { net = s; traces = after })
+
+-- a script stops for want of memory, or where its text cannot be written
+abbrev pub IsPlayFault : ProgFault → Type 0
+IsPlayFault fault = (fault ≡ ProgFault.OutOfMemory) ⊎ (fault ≡ ProgFault.Write)
+
+-- the last line
+abbrev pub end_line : (at_rest : Bool) → List ℕ
+end_line true = codes "end rest" ++ 10 ∷ []
+end_line false = codes "end busy" ++ 10 ∷ []
+
+-- the commands are done in order, and then comes the last line
+pub record Plays (F : Type 0) (script : Script) (s : NetState) (text : List ℕ) (t : NetState) : Type 0 where
+  pub told : List ℕ
+  pub at_rest : Bool
+  pub traces : Bool
+  pub commands :
+      InTurn Command Played (DoesCommand F script.names.items script.lines) script.commands.items (record { net = s; traces = false }) told (record { net = t; traces = traces })
+  pub rest : F → at_rest ≡ net_rests t
+  pub whole : text ≡ told ++ end_line at_rest
+
+-- a network was made, on faithful lines, a script played on it, and its text written behind what was known to be written
+pub record PlaysSome (before after : Option (List ℕ)) : Type 0 where
+  pub config : Config
+  pub start : NetState
+  pub made : IsMade (Unit {0}) config start
+  pub script : Script
+  pub ended : NetState
+  pub writes : Writes before after (λ text. Plays (Unit {0}) script start text ended)

@@ -1,0 +1,633 @@
+use line_sim::{Config, Event, LineConfig, MakeFault, Net, NodeConfig, NodeKind, mem_lines, run};
+use net_files::{Command, FIRST, ProgFault, Script, read_net, read_script};
+use net_player::{perform, play};
+use packet_codec::Address;
+use std::alloc::Global;
+use std::io;
+use std::io::{Read, Write};
+use std::process::Abort;
+use std::test::Fail;
+use x3_params::Profile;
+
+/// A script of the input, what is printed for it, and what is told of a fault.
+type Run = (&'static [u8], &'static [u8], &'static [u8]);
+
+const PLAYED: [Run; 25] = [
+    (b"", b"end rest\n", b""),
+    (b"\n\n\n", b"end rest\n", b""),
+    (b"flow", b"end rest\n", b""),
+    (
+        b"key pad 0 HEX\\7FLLO\\0D\nflow\ntake host 1\nflow\n",
+        b"host/1 data - \"HELLO\\0D\"\nend rest\n",
+        b"",
+    ),
+    (
+        b"key pad 0 A\nflow\ntake host 1\n",
+        b"host/1 none\nend rest\n",
+        b"",
+    ),
+    (b"take host 2\n", b"refused 3 NoSuchCall\nend rest\n", b""),
+    (
+        b"key pad 1 A\n",
+        b"refused 2 NoSuchTerminal\nend rest\n",
+        b"",
+    ),
+    (b"key host 0 A\n", b"refused 1 NoSuchNode\nend rest\n", b""),
+    (
+        b"key pad 0 A\r\nflow\ntake host 1\n",
+        b"host/1 data - \"A\\0D\"\nend busy\n",
+        b"",
+    ),
+    (b"key pad 0\ntake host 1\n", b"host/1 none\nend rest\n", b""),
+    (b"key pad 1\nkey pad 1 \n", b"end rest\n", b""),
+    (
+        b"key pad 0  \\0D\nflow\ntake host 1\n",
+        b"host/1 data - \" \\0D\"\nend busy\n",
+        b"",
+    ),
+    (
+        b"key pad 000 \\0d\nflow\ntake host 0001\n",
+        b"host/1 data - \"\\0D\"\nend busy\n",
+        b"",
+    ),
+    (
+        b"key pad 0 \\41\\\\\"\\0D\nflow\ntake host 1\n",
+        b"host/1 data - \"A\\\\\"\\0D\"\nend busy\n",
+        b"",
+    ),
+    (
+        b"key pad 0 \xC3\xA9\x80\xFF\xFE\x00\x09~\\0D\nflow\ntake host 1\n",
+        b"host/1 data - \"\\C3\\A9\\80\\FF\\FE\\00\\09~\\0D\"\nend busy\n",
+        b"",
+    ),
+    (
+        b"take host 65535\ntake pad 1\n",
+        b"refused 3 NoSuchCall\nrefused 1 NoSuchNode\nend rest\n",
+        b"",
+    ),
+    (
+        b"deliver 1 >\ndeliver 0 >\ndeliver 0 <\n",
+        b"refused 1 NoSuchNode\nend rest\n",
+        b"",
+    ),
+    (
+        b"key pad 0 A\\0D\ndeliver 0 >\ndeliver 0 <\ntake host 1\nflow\n",
+        b"host/1 data - \"A\\0D\"\nend rest\n",
+        b"",
+    ),
+    (b"flow\njump\n", b"", b"fault 2 line 2\n"),
+    (b"flow\n\nx\ny\n", b"", b"fault 2 line 3\n"),
+    (
+        b"key pad 0 \\0D\nflow\ntake host 1\nx\n",
+        b"",
+        b"fault 2 line 4\n",
+    ),
+    (b"flow\n   \nflow\n", b"", b"fault 2 line 2\n"),
+    (b"flow\n\r\n", b"", b"fault 2 line 2\n"),
+    (b"break pad 0\n", b"", b"fault 2 line 1\n"),
+    (
+        b"key pad 0 A\\0D\nlose 0 >\nexpire pad 0 T1\nflow\ntake host 1\nflow\n",
+        b"host/1 data - \"A\\0D\"\nend rest\n",
+        b"",
+    ),
+];
+
+/// A PAD and a host on a line on which no call stands.
+const DIRECT: &str = r#"
+[[node]]
+name = "pad"
+kind = "pad"
+
+[[node]]
+name = "host"
+kind = "host"
+
+[[line]]
+dte = "pad"
+dce = "host"
+"#;
+
+/// Plays a script on a network, and gives what is printed.
+pub(crate) fn played(rt: &HostRuntime, network: &str, script: &[u8]) -> Result<Vec<u8>, Fail> {
+    let config = read_net(rt.alloc(), network)?;
+    let script = read_script(rt.alloc(), script, &config)?;
+    played_on(rt, &config, &script)
+}
+
+fn played_on(rt: &HostRuntime, config: &Config, script: &Script) -> Result<Vec<u8>, Fail> {
+    let mut net = run(rt.alloc(), config, &[])?;
+    let mut out = Vec::new(rt.alloc());
+    play(rt.alloc(), &mut net, script, &mut out)?;
+    Ok(out)
+}
+
+/// The program on these words and this input ends with the status, what it prints and what it tells.
+fn ends<R: Read>(
+    rt: &impl Abort,
+    alloc: Global,
+    words: &[String],
+    input: &mut R,
+    status: u8,
+    printed: &[u8],
+    told: &[u8],
+) {
+    let mut out = Vec::new(alloc);
+    let mut err = Vec::new(alloc);
+    let ended = perform(alloc, words, input, &mut out, &mut err);
+    assert!(rt; ended == status, "{printed:?}");
+    assert_eq!(rt; out.as_slice(), printed);
+    assert_eq!(rt; err.as_slice(), told);
+}
+
+#[test]
+fn a_link_is_set_up_and_begins_with_restarts(rt: HostRuntime) -> Result<(), Fail> {
+    let printed = played(&rt, DIRECT, b"trace on\nflow\n")?;
+    let expected: &[u8] =
+        b"0 < 01 73\n0 > 01 11\n0 < 01 11\n0 < 03 00 10 00 FB 07 00\n0 > 01 00 10 00 FB 00 00\n0 < 01 21\n0 > 03 21\nend rest\n";
+    assert_eq!(rt; printed.as_slice(), expected);
+    Ok(())
+}
+
+#[test]
+fn a_link_window_of_eight_is_refused(rt: HostRuntime) -> Result<(), Fail> {
+    let text = format!(in rt.alloc(); "{DIRECT}k = 8\n")?;
+    let config = read_net(rt.alloc(), text.as_str())?;
+    let lines = mem_lines(rt.alloc(), config.lines.len())?;
+    let fault = Net::new(rt.alloc(), &config, lines).err();
+    assert_eq!(rt; fault, Some(MakeFault::BadConfig));
+    Ok(())
+}
+
+#[test]
+fn a_lost_link_closes_the_call(rt: HostRuntime) -> Result<(), Fail> {
+    let printed = played(
+        &rt,
+        FIRST,
+        b"key pad 0 OLD\\0D\nrelink 0\nflow\nkey pad 0 NEW\\0D\ntake host 1\nrestart host\nflow\n",
+    )?;
+    let expected: &[u8] = b"host/1 cleared 9 0\nhost/1 none\nend rest\n";
+    assert_eq!(rt; printed.as_slice(), expected);
+    Ok(())
+}
+
+#[test]
+fn scripts_are_played(rt: HostRuntime) -> Result<(), Fail> {
+    for (script, printed, told) in PLAYED {
+        let status = if told.is_empty() { 0 } else { 1 };
+        let mut input = script;
+        ends(&rt, rt.alloc(), &[], &mut input, status, printed, told);
+    }
+    Ok(())
+}
+
+/// Lines that are no commands.
+const NO_COMMANDS: [&[u8]; 35] = [
+    b"FLOW",
+    b" ",
+    b" flow",
+    b"flow ",
+    b"\tflow",
+    b"flow\r",
+    b"flow 1",
+    b"# flow",
+    b"fl\xFFow",
+    b"key",
+    b"key pad",
+    b"key  pad 0 A",
+    b"key pad  0 A",
+    b"key pod 0 A",
+    b"key PAD 0 A",
+    b"key p\xE9d 0 A",
+    b"key pad 65536 A",
+    b"key pad 99999999999999999999 A",
+    b"key pad -1 A",
+    b"key pad +0 A",
+    b"key pad 0x0 A",
+    b"key pad 0 A\\",
+    b"key pad 0 A\\4",
+    b"key pad 0 \\n",
+    b"key pad 0 \\+1",
+    b"key pad 0 \\ 1",
+    b"take",
+    b"take host",
+    b"take host 65536",
+    b"take host 1 1",
+    b"take host 1 ",
+    b"deliver 0",
+    b"deliver 0 ^",
+    b"deliver 0 ><",
+    b"deliver > 0",
+];
+
+/// Lines with the words of hosts that are no commands.
+const NO_HOST_COMMANDS: [&[u8]; 44] = [
+    b"call",
+    b"call host",
+    b"call host ",
+    b"call host  1",
+    b"call hast 1",
+    b"call host 12A",
+    b"call host 1234567890123456",
+    b"call host 1 12345678901234567",
+    b"call host 1 \\4",
+    b"answer",
+    b"answer host",
+    b"answer host x",
+    b"answer host 1 ",
+    b"answer host 1 1",
+    b"refuse 1",
+    b"reset host 65536",
+    b"clear host -1",
+    b"stop pod 1",
+    b"go host 1 A",
+    b"say host 1",
+    b"say host 1 ",
+    b"say host 1 x",
+    b"say host 1 dq A",
+    b"say host 1 -- A",
+    b"say host 1 Q A",
+    b"say host 1  - A",
+    b"say host - A",
+    b"say host 1 - \\",
+    b"int host",
+    b"int host 1 \\zz",
+    b"tick",
+    b"tick 1 ",
+    b"tick 65536",
+    b"tick host 1",
+    b"expire host 0",
+    b"expire host 0 T11",
+    b"expire host 0 T1 1",
+    b"expire host 0 T20 1",
+    b"expire host 0 T22 x",
+    b"expire host 0 t11 1",
+    b"expire host 0 T14 1",
+    b"expire pad 0 Idle 0",
+    b"print pad 0",
+    b"check",
+];
+
+#[test]
+fn lines_that_are_no_commands_are_refused(rt: HostRuntime) -> Result<(), Fail> {
+    let config = read_net(rt.alloc(), FIRST)?;
+    for line in NO_COMMANDS {
+        let fault = read_script(rt.alloc(), line, &config).err();
+        assert_eq!(rt; fault, Some(ProgFault::Script(1)), "{line:?}");
+    }
+    for line in NO_HOST_COMMANDS {
+        let fault = read_script(rt.alloc(), line, &config).err();
+        assert_eq!(rt; fault, Some(ProgFault::Script(1)), "{line:?}");
+    }
+    Ok(())
+}
+
+/// Lines, and the commands that they are.
+const COMMANDS: [(&[u8], &str); 30] = [
+    (
+        b"key host 65535 \\\\\\0d",
+        "Events([Key { node: 1, terminal: 65535, octet: 92 }, Key { node: 1, terminal: 65535, octet: 13 }])",
+    ),
+    (b"take pad 00007", "Events([Take { node: 0, channel: 7 }])"),
+    (
+        b"deliver 65535 <",
+        "Events([Deliver { line: 65535, direction: FromDce }])",
+    ),
+    (
+        b"lose 0 >",
+        "Events([Lose { line: 0, direction: FromDte }])",
+    ),
+    (b"relink 3", "Events([Relink { line: 3 }])"),
+    (b"restart host", "Events([Restart { node: 1 }])"),
+    (b"flow", "Flow"),
+    (b"trace on", "Trace(true)"),
+    (b"trace off", "Trace(false)"),
+    (b"tick 65535", "Tick(65535)"),
+    (
+        b"answer host 1",
+        "Events([Ask { node: 1, channel: 1, request: Answer }])",
+    ),
+    (
+        b"refuse pad 0",
+        "Events([Ask { node: 0, channel: 0, request: Refuse }])",
+    ),
+    (
+        b"reset host 65535",
+        "Events([Ask { node: 1, channel: 65535, request: Reset }])",
+    ),
+    (
+        b"clear host 2",
+        "Events([Ask { node: 1, channel: 2, request: Clear }])",
+    ),
+    (
+        b"stop host 3",
+        "Events([Ask { node: 1, channel: 3, request: Stop }])",
+    ),
+    (
+        b"go host 4",
+        "Events([Ask { node: 1, channel: 4, request: Go }])",
+    ),
+    (
+        b"say host 1 - A b",
+        "Events([Ask { node: 1, channel: 1, request: Say { octets: [65, 32, 98], qualified: false, delivery: false } }])",
+    ),
+    (
+        b"say host 1 q \\00",
+        "Events([Ask { node: 1, channel: 1, request: Say { octets: [0], qualified: true, delivery: false } }])",
+    ),
+    (
+        b"say host 1 d ",
+        "Events([Ask { node: 1, channel: 1, request: Say { octets: [], qualified: false, delivery: true } }])",
+    ),
+    (
+        b"say host 1 qd",
+        "Events([Ask { node: 1, channel: 1, request: Say { octets: [], qualified: true, delivery: true } }])",
+    ),
+    (
+        b"int host 1 \\FF",
+        "Events([Ask { node: 1, channel: 1, request: Interrupt { octets: [255] } }])",
+    ),
+    (
+        b"expire pad 0 T1",
+        "Events([Expire { node: 0, line: 0, timer: T1 }])",
+    ),
+    (
+        b"expire host 1 T10",
+        "Events([Expire { node: 1, line: 1, timer: T10 }])",
+    ),
+    (
+        b"expire pad 0 T20",
+        "Events([Expire { node: 0, line: 0, timer: T20 }])",
+    ),
+    (
+        b"expire host 0 T11 1",
+        "Events([Expire { node: 1, line: 0, timer: T11(1) }])",
+    ),
+    (
+        b"expire host 0 T12 0",
+        "Events([Expire { node: 1, line: 0, timer: T12(0) }])",
+    ),
+    (
+        b"expire host 0 T13 32",
+        "Events([Expire { node: 1, line: 0, timer: T13(32) }])",
+    ),
+    (
+        b"expire host 0 T21 33",
+        "Events([Expire { node: 1, line: 0, timer: T21(33) }])",
+    ),
+    (
+        b"expire host 0 T22 255",
+        "Events([Expire { node: 1, line: 0, timer: T22(255) }])",
+    ),
+    (
+        b"expire pad 0 T23 300",
+        "Events([Expire { node: 0, line: 0, timer: T23(255) }])",
+    ),
+];
+
+/// How the commands of a script are shown.
+fn shown(alloc: Global, text: &[u8], config: &Config) -> Result<String, Fail> {
+    let script = read_script(alloc, text, config)?;
+    let commands = script.commands.as_slice();
+    Ok(format!(in alloc; "{commands:?}")?)
+}
+
+#[test]
+fn lines_are_read(rt: HostRuntime) -> Result<(), Fail> {
+    let config = read_net(rt.alloc(), FIRST)?;
+    for (line, expected) in COMMANDS {
+        let shown = shown(rt.alloc(), line, &config)?;
+        let expected = format!(in rt.alloc(); "[{expected}]")?;
+        assert_eq!(rt; shown.as_str(), expected.as_str());
+    }
+    Ok(())
+}
+
+/// Whether a command is one call of a node, of this address and with so much user data.
+fn is_call(command: &Command, caller: usize, called: Address, octets: usize) -> bool {
+    let Command::Events(events) = command else {
+        return false;
+    };
+    match events.as_slice() {
+        [
+            Event::Call {
+                node,
+                address,
+                user_data,
+            },
+        ] => *node == caller && *address == called && user_data.len() == octets,
+        _ => false,
+    }
+}
+
+#[test]
+fn calls_are_read(rt: HostRuntime) -> Result<(), Fail> {
+    let config = read_net(rt.alloc(), FIRST)?;
+    let text = b"call pad 123456789012345\ncall host 2001 \\00 23456789012345";
+    let script = read_script(rt.alloc(), text, &config)?;
+    let long = Address::read(b"123456789012345")?;
+    let short = Address::read(b"2001")?;
+    assert!(rt;
+        match script.commands.as_slice() {
+            [first, second] => is_call(first, 0, long, 0) && is_call(second, 1, short, 16),
+            _ => false,
+        }
+    );
+    Ok(())
+}
+
+#[test]
+fn scripts_are_read(rt: HostRuntime) -> Result<(), Fail> {
+    let config = read_net(rt.alloc(), FIRST)?;
+    let text = b"\ndeliver 65535 <\nflow\nkey host 65535 A\n\ntake pad 00007";
+    let script = read_script(rt.alloc(), text, &config)?;
+    assert!(rt; script.lines == 1 && script.commands.len() == 4);
+    assert!(rt;
+        match script.names.as_slice() {
+            [pad, host] => pad.as_str() == "pad" && host.as_str() == "host",
+            _ => false,
+        }
+    );
+    Ok(())
+}
+
+const NODES: &str =
+    "[[node]]\nname = \"a\"\nkind = \"pad\"\n[[node]]\nname = \"b2\"\nkind = \"host\"\n[[node]]\nname = \"C\"\nkind = \"switch\"\n";
+
+/// What follows a list of nodes, each of which makes a text that is no network.
+const NO_NETWORKS: [&str; 45] = [
+    "x = 1",
+    "[[node]",
+    "[[route2]]",
+    "kind = \"host\"",
+    "colour = 1",
+    "terminals = 1",
+    "[[node]]\nkind = \"host\"",
+    "[[node]]\nname = \"d\"",
+    "[[node]]\nname = \"d\"\nkind = \"hub\"",
+    "[[node]]\nname = \"d\"\nkind = \"HOST\"",
+    "[[node]]\nname = \"d\"\nkind = 1",
+    "[[node]]\nname = 1\nkind = \"host\"",
+    "[[node]]\nname = \"\"\nkind = \"host\"",
+    "[[node]]\nname = \"d-1\"\nkind = \"host\"",
+    "[[node]]\nname = \"d e\"\nkind = \"host\"",
+    "[[node]]\nname = \"\u{e9}\"\nkind = \"host\"",
+    "[[node]]\nname = \"d\"\nkind = \"host\"\nspeed = 14",
+    "[[node]]\nname = \"d\"\nkind = \"pad\"\nterminals = 65536",
+    "[[node]]\nname = \"d\"\nkind = \"pad\"\nterminals = \"1\"",
+    "[[node]]\nname = \"d\"\nkind = \"pad\"\nspeed = -1",
+    "[[node]]\nname = \"d\"\nkind = \"pad\"\nprofile = \"simple\"",
+    "[[node]]\nname = \"d\"\nkind = \"pad\"\nprofile = 90",
+    "[[node]]\nname = \"d\"\nkind = \"pad\"\nset = \"2\"",
+    "[[node]]\nname = \"d\"\nkind = \"pad\"\nset = \"2:0,\"",
+    "[[node]]\nname = \"d\"\nkind = \"pad\"\nset = \"2:0, 3:2\"",
+    "[[node]]\nname = \"d\"\nkind = \"pad\"\nset = \"2:\"",
+    "[[node]]\nname = \"d\"\nkind = \"pad\"\nset = \"2:256\"",
+    "[[node]]\nname = \"d\"\nkind = \"pad\"\nset = \"0002:1\"",
+    "[[node]]\nname = \"d\"\nkind = \"pad\"\nset = \"+2:1\"",
+    "[[node]]\nname = \"d\"\nkind = \"pad\"\nset = \"2:0:1\"",
+    "[[node]]\nname = \"d\"\nkind = \"pad\"\nset = \"2:0,2:0,2:0,2:0,2:0,2:0,2:0,2:0,2:0,2:0,2:0,2:0,2:0,2:0,2:0,2:0,2:0,2:0,2:0\"",
+    "[[line]]\ndte = \"a\"",
+    "[[line]]\ndce = \"b2\"",
+    "[[line]]\ndte = \"a\"\ndce = \"c d\"",
+    "[[line]]\ndte = \"a\"\ndce = \"\"",
+    "[[line]]\ndte = \"a\"\ndce = \"b2\"\nk = \"7\"",
+    "[[line]]\ndte = \"a\"\ndce = \"b2\"\nk = 7.0",
+    "[[line]]\ndte = \"a\"\ndce = \"b2\"\nk = true",
+    "[[line]]\ndte = \"a\"\ndce = \"b2\"\nn2 = 99999999999999999999",
+    "[[line]]\ndte = \"a\"\ndce = \"b2\"\nstanding = 1",
+    "[[line]]\ndte = \"a\"\ndce = \"b2\"\naddress = \"12A\"",
+    "[[line]]\ndte = \"a\"\ndce = \"b2\"\naddress = \"1234567890123456\"",
+    "[[route]]\nswitch = \"C\"\nprefix = \"\"\nline = 0",
+    "[[route]]\nswitch = \"C\"\nprefix = \"1\"",
+    "[[route]]\nswitch = \"C\"\nprefix = \"1\"\nline = -1",
+];
+
+/// What follows a list of nodes and makes a text that is a network, though some of these have values outside their limits.
+const NETWORKS: [&str; 8] = [
+    "",
+    "# nothing more",
+    "[[node]]\nname = \"7\"\nkind = \"host\"\n[[node]]\nname = \"7\"\nkind = \"host\"",
+    "[[node]]\nname = \"d\"\nkind = \"pad\"\nterminals = 65535\nprofile = \"TRANSPARENT\"\nset = \"\"\nspeed = 0",
+    "[[node]]\nname = \"d\"\nkind = \"pad\"\nset = \"002:001,19:0,0:255\"",
+    "[[line]]\ndte = \"x\"\ndce = \"y\"\naddress = \"\"\nchannels = 0\nwindow = 0x8\nk = +0\nn2 = 65535\nstanding = false",
+    "[[line]]\ndte = \"a\"\ndce = \"C\"\naddress = \"123456789012345\"",
+    "[[route]]\nswitch = \"a\"\nprefix = \"0\"\nline = 65535",
+];
+
+#[test]
+fn networks_are_read(rt: HostRuntime) -> Result<(), Fail> {
+    for text in ["[node]", "node = 1", "node = [1]", "line = {}", "=", "a"] {
+        assert_eq!(rt;
+            read_net(rt.alloc(), text).err(),
+            Some(ProgFault::NetText),
+            "{text}"
+        );
+    }
+    for text in NO_NETWORKS {
+        let whole = format!(in rt.alloc(); "{NODES}{text}\n")?;
+        assert_eq!(rt;
+            read_net(rt.alloc(), whole.as_str()).err(),
+            Some(ProgFault::NetText),
+            "{text}"
+        );
+    }
+    for text in NETWORKS {
+        let whole = format!(in rt.alloc(); "{NODES}{text}\n")?;
+        assert_eq!(rt; read_net(rt.alloc(), whole.as_str()).err(), None, "{text}");
+    }
+    assert_eq!(rt; read_net(rt.alloc(), "node = []")?.nodes.len(), 0);
+    Ok(())
+}
+
+/// Whether the first node is a PAD of one terminal with two parameters set.
+fn is_first_pad(node: &NodeConfig) -> bool {
+    let NodeKind::Pad(pad) = &node.kind else {
+        return false;
+    };
+    let set = match pad.settings.as_slice() {
+        [first, second] => {
+            (first.number, first.value) == (3, 2) && (second.number, second.value) == (15, 1)
+        }
+        _ => false,
+    };
+    set && (pad.terminals, pad.profile, pad.speed) == (1, Profile::Simple, 14)
+}
+
+/// Whether the line is one of a standing call, with the values that it has where none are given.
+fn is_first_line(line: &LineConfig) -> bool {
+    (line.dte.as_str(), line.dce.as_str(), line.address.as_str()) == ("pad", "host", "")
+        && (line.channels, line.window, line.k, line.n2, line.standing) == (1, 2, 7, 3, true)
+}
+
+#[test]
+fn the_first_network_is_read(rt: HostRuntime) -> Result<(), Fail> {
+    let config = read_net(rt.alloc(), FIRST)?;
+    assert!(rt; config.nodes.len() == 2 && config.routes.is_empty());
+    assert!(rt; config.nodes.first().is_some_and(is_first_pad));
+    assert!(rt;
+        match config.lines.as_slice() {
+            [line] => is_first_line(line),
+            _ => false,
+        }
+    );
+    Ok(())
+}
+
+#[test]
+fn a_script_is_played_on_a_network(rt: HostRuntime) -> Result<(), Fail> {
+    let script = b"key pad 0 HEX\\7FLLO\\0D\nflow\ntake host 1\nflow\n";
+    let printed = played(&rt, FIRST, script)?;
+    let expected: &[u8] = b"host/1 data - \"HELLO\\0D\"\nend rest\n";
+    assert_eq!(rt; printed.as_slice(), expected);
+    Ok(())
+}
+
+/// A reader and writer that fails.
+#[derive(Clone, Copy)]
+struct Broken;
+
+impl Read for Broken {
+    fn read(&mut self, _buf: &mut [u8]) -> io::Result<usize> {
+        Err(io::Error::from(io::ErrorKind::BrokenPipe))
+    }
+}
+
+impl Write for Broken {
+    fn write(&mut self, _buf: &[u8]) -> io::Result<usize> {
+        Err(io::Error::from(io::ErrorKind::BrokenPipe))
+    }
+
+    fn flush(&mut self) -> io::Result<()> {
+        Ok(())
+    }
+}
+
+#[test]
+fn faults_are_told(rt: HostRuntime) -> Result<(), Fail> {
+    let words = vec![in rt.alloc(); String::from_str(rt.alloc(), "dance")?]?;
+    let mut flow: &[u8] = b"flow";
+    ends(
+        &rt,
+        rt.alloc(),
+        words.as_slice(),
+        &mut flow,
+        2,
+        b"",
+        b"bad words\n",
+    );
+    ends(&rt, rt.alloc(), &[], &mut Broken, 1, b"", b"fault 7\n");
+    let mut long = io::repeat(b'\n').take(1_048_577);
+    ends(&rt, rt.alloc(), &[], &mut long, 1, b"", b"fault 7\n");
+    let mut full = io::repeat(b'\n').take(1_048_576);
+    ends(&rt, rt.alloc(), &[], &mut full, 0, b"end rest\n", b"");
+    Ok(())
+}
+
+#[test]
+fn output_that_cannot_be_written_is_a_fault(rt: HostRuntime) {
+    let mut flow: &[u8] = b"flow";
+    let mut err = Vec::new(rt.alloc());
+    let status = perform(rt.alloc(), &[], &mut flow, &mut Broken, &mut err);
+    assert_eq!(rt; status, 1);
+    assert_eq!(rt; err.as_slice(), b"fault 5\n".as_slice());
+}
