@@ -1,34 +1,9 @@
 -- The grammar of frames: a text is a form of at most one frame, what is written reads back, and a text is a form
 -- of no frame
 -- exactly where it has a fault.
-use Rattle.std.proofs.Common.{
-  ◌≡◌,
-  ◌≢◌,
-  ℕ,
-  zero,
-  suc,
-  ◌+◌,
-  ◌*◌,
-  ◌/◌,
-  ◌%◌,
-  ◌<◌,
-  ◌≤◌,
-  Bool,
-  true,
-  false,
-  List,
-  [],
-  ◌∷◌,
-  length,
-  refl,
-  sym,
-  ◌∙◌,
-  ap,
-  subst,
-  arith,
-}
+use Rattle.std.proofs.Common.{◌≡◌, ◌≢◌, ℕ, suc, ◌+◌, ◌*◌, ◌/◌, ◌%◌, ◌<◌, ◌≤◌, Bool, true, false, List, [], ◌∷◌, length, refl, sym, ◌∙◌, ap, subst, arith}
 use Rattle.std.specs.Prelude.{Result, Ok, Err, nat_le, nat_eq, slice_index, if◌then◌else◌}
-use borrow.Author.Tests.{eqb-true, eqb-false, leb-true, leb-false, le-leb, lt-leb}
+use borrow.Author.Tests.{eqb-true, eqb-false, le-leb, lt-leb}
 use Rattle.link_timers.specs.declared.role.Role.{Role}
 use Rattle.link_timers.specs.declared.role.Role.TheVariants.{Dte, Dce}
 use Rattle.link_timers.specs.Role.{other_of}
@@ -43,30 +18,18 @@ use Rattle.frame_codec.specs.declared.fault.FrameFault.TheVariants.{
 use Rattle.frame_codec.specs.Frame.{
   Report,
   Content,
-  Information,
-  ReceiveReady,
-  ReceiveNotReady,
-  Reject,
-  SetMode,
-  Disconnect,
-  DisconnectedMode,
-  Acknowledgement,
-  FrameReject,
+  I,
+  Rr,
+  Rnr,
+  Rej,
+  Sabm,
+  Disc,
+  Dm,
+  Ua,
+  Frmr,
   FrameValue,
 }
-use Rattle.frame_codec.specs.Spelling.{
-  bit_of,
-  address_of,
-  control_of,
-  field_of,
-  states_of,
-  reasons_of,
-  spelling,
-  GoesAs,
-  HasNumbers,
-  FitsField,
-  HasSpelling,
-}
+use Rattle.frame_codec.specs.Spelling.{bit_of, address_of, control_of, field_of, states_of, reasons_of, spelling, HasNumbers, FitsField, HasSpelling}
 use Rattle.frame_codec.specs.FrameForm.{ReportForm, FieldForm, IsHead, FrameForm}
 use Rattle.frame_codec.specs.Faults.{IsNotAllowed, IsTooLong, HasFault, place_of, IsFirstFault}
 use Rattle.frame_codec.specs.Reading.{has_bit, bare, report_read, content_read, with_head, reading}
@@ -111,25 +74,25 @@ reason_bits w x y z spares =
     )
 
 -- the numbers of the second octet of a report
-report_states : (r : Bool) (send receive spare : ℕ) → send < 8 → spare < 2 →
-    ((receive * 32 + bit_of r * 16 + send * 2 + spare) / 2 % 8 ≡ send)
-    × ((receive * 32 + bit_of r * 16 + send * 2 + spare) / 32 ≡ receive)
-    × (has_bit (receive * 32 + bit_of r * 16 + send * 2 + spare) 16 ≡ r)
-report_states r send receive spare below low =
+report_states : (r : Bool) (ns nr spare : ℕ) → ns < 8 → spare < 2 →
+    ((nr * 32 + bit_of r * 16 + ns * 2 + spare) / 2 % 8 ≡ ns)
+    × ((nr * 32 + bit_of r * 16 + ns * 2 + spare) / 32 ≡ nr)
+    × (has_bit (nr * 32 + bit_of r * 16 + ns * 2 + spare) 16 ≡ r)
+report_states r ns nr spare below low =
     let a = bit_of_below r in
-    let middle : (receive * 32 + bit_of r * 16 + send * 2 + spare) / 16 % 2 ≡ bit_of r = omega arith in
+    let middle : (nr * 32 + bit_of r * 16 + ns * 2 + spare) / 16 % 2 ≡ bit_of r = omega arith in
     (omega arith, omega arith, ap (λ k. nat_eq k 1) middle ∙ tested r)
 
-report_reads : (report : Report) (field : List ℕ) → report.send < 8 → ReportForm report field → report_read field ≡
-    Ok (FrameReject report)
+report_reads : (report : Report) (field : List ℕ) → report.vs < 8 → ReportForm report field → report_read field ≡
+    Ok (Frmr report)
 report_reads report field below form =
-    let states = report_states report.response report.send report.receive form.spare below form.spare_bit in
+    let states = report_states report.response report.vs report.vr form.spare below form.spare_bit in
     let reasons = reason_bits report.w report.x report.y report.z form.spares in
     ap report_read form.octets
-    ∙ (λ i. Ok (FrameReject (record {
+    ∙ (λ i. Ok (Frmr (record {
       control = report.control;
-      send = states.0 i;
-      receive = states.1 i;
+      vs = states.0 i;
+      vr = states.1 i;
       response = states.2 i;
       w = reasons.0 i;
       x = reasons.1 i;
@@ -140,21 +103,21 @@ report_reads report field below form =
 -- a form of the information field is read as what the frame says there
 form_reads : (content : Content) (field : List ℕ) → HasNumbers content → FieldForm content field → field_read
     content field ≡ Ok content
-form_reads (Information send receive information) field numbers form =
-    rw (le-leb (length field) 145 form.1) (ap (λ octets. Ok (Information send receive octets)) form.0)
-form_reads (ReceiveReady receive) field numbers form = ap (bare (ReceiveReady receive)) form
-form_reads (ReceiveNotReady receive) field numbers form = ap (bare (ReceiveNotReady receive)) form
-form_reads (Reject receive) field numbers form = ap (bare (Reject receive)) form
-form_reads SetMode field numbers form = ap (bare SetMode) form
-form_reads Disconnect field numbers form = ap (bare Disconnect) form
-form_reads DisconnectedMode field numbers form = ap (bare DisconnectedMode) form
-form_reads Acknowledgement field numbers form = ap (bare Acknowledgement) form
-form_reads (FrameReject report) field numbers form = report_reads report field numbers.1 form
+form_reads (I ns nr information) field numbers form =
+    rw (le-leb (length field) 145 form.1) (ap (λ octets. Ok (I ns nr octets)) form.0)
+form_reads (Rr nr) field numbers form = ap (bare (Rr nr)) form
+form_reads (Rnr nr) field numbers form = ap (bare (Rnr nr)) form
+form_reads (Rej nr) field numbers form = ap (bare (Rej nr)) form
+form_reads Sabm field numbers form = ap (bare Sabm) form
+form_reads Disc field numbers form = ap (bare Disc) form
+form_reads Dm field numbers form = ap (bare Dm) form
+form_reads Ua field numbers form = ap (bare Ua) form
+form_reads (Frmr report) field numbers form = report_reads report field numbers.1 form
 
 -- a form of a frame is read as that frame
 pub reading_form : (at : Role) (bytes : List ℕ) (f : FrameValue) → FrameForm at bytes f → reading at bytes ≡ Ok f
 reading_form at bytes f form =
-    reading_at_head at bytes f form.field form.head ∙ ap (with_head f.response f.poll) (form_reads f.content
+    reading_at_head at bytes f form.field form.head ∙ ap (with_head f.response f.pf) (form_reads f.content
     form.field form.head.numbers form.form)
 
 -- an information field that the frame may not have
@@ -171,59 +134,59 @@ report_refused (a ∷ b ∷ c ∷ d ∷ field) other = refl
 
 refused : (content : Content) (field : List ℕ) → IsNotAllowed content field → field_read content field ≡ Err
     InfoNotAllowed
-refused (Information send receive information) field fault = absurd fault
-refused (ReceiveReady receive) field fault = bare_refused (ReceiveReady receive) field fault
-refused (ReceiveNotReady receive) field fault = bare_refused (ReceiveNotReady receive) field fault
-refused (Reject receive) field fault = bare_refused (Reject receive) field fault
-refused SetMode field fault = bare_refused SetMode field fault
-refused Disconnect field fault = bare_refused Disconnect field fault
-refused DisconnectedMode field fault = bare_refused DisconnectedMode field fault
-refused Acknowledgement field fault = bare_refused Acknowledgement field fault
-refused (FrameReject report) field fault = report_refused field fault
+refused (I ns nr information) field fault = absurd fault
+refused (Rr nr) field fault = bare_refused (Rr nr) field fault
+refused (Rnr nr) field fault = bare_refused (Rnr nr) field fault
+refused (Rej nr) field fault = bare_refused (Rej nr) field fault
+refused Sabm field fault = bare_refused Sabm field fault
+refused Disc field fault = bare_refused Disc field fault
+refused Dm field fault = bare_refused Dm field fault
+refused Ua field fault = bare_refused Ua field fault
+refused (Frmr report) field fault = report_refused field fault
 
 -- an I frame with too much information
 overlong : (content : Content) (field : List ℕ) → IsTooLong content field → field_read content field ≡ Err InfoTooLong
-overlong (Information send receive information) field fault = rw (lt-leb (length field) 145 fault) refl
-overlong (ReceiveReady receive) field fault = absurd fault
-overlong (ReceiveNotReady receive) field fault = absurd fault
-overlong (Reject receive) field fault = absurd fault
-overlong SetMode field fault = absurd fault
-overlong Disconnect field fault = absurd fault
-overlong DisconnectedMode field fault = absurd fault
-overlong Acknowledgement field fault = absurd fault
-overlong (FrameReject report) field fault = absurd fault
+overlong (I ns nr information) field fault = rw (lt-leb (length field) 145 fault) refl
+overlong (Rr nr) field fault = absurd fault
+overlong (Rnr nr) field fault = absurd fault
+overlong (Rej nr) field fault = absurd fault
+overlong Sabm field fault = absurd fault
+overlong Disc field fault = absurd fault
+overlong Dm field fault = absurd fault
+overlong Ua field fault = absurd fault
+overlong (Frmr report) field fault = absurd fault
 
 -- the control octet of a frame is known
-bare_known : (response poll : Bool) (content : Content) (field : List ℕ) → with_head response poll (bare content
+bare_known : (response pf : Bool) (content : Content) (field : List ℕ) → with_head response pf (bare content
     field) ≡ Err UnknownControl → ⊥
-bare_known response poll content [] e = absurd (cc)
-bare_known response poll content (octet ∷ octets) e = absurd (cc)
+bare_known response pf content [] e = absurd (cc)
+bare_known response pf content (octet ∷ octets) e = absurd (cc)
 
-report_known : (response poll : Bool) (field : List ℕ) → with_head response poll (report_read field) ≡ Err
+report_known : (response pf : Bool) (field : List ℕ) → with_head response pf (report_read field) ≡ Err
     UnknownControl → ⊥
-report_known response poll [] e = absurd (cc)
-report_known response poll (a ∷ []) e = absurd (cc)
-report_known response poll (a ∷ b ∷ []) e = absurd (cc)
-report_known response poll (a ∷ b ∷ c ∷ []) e = absurd (cc)
-report_known response poll (a ∷ b ∷ c ∷ d ∷ field) e = absurd (cc)
+report_known response pf [] e = absurd (cc)
+report_known response pf (a ∷ []) e = absurd (cc)
+report_known response pf (a ∷ b ∷ []) e = absurd (cc)
+report_known response pf (a ∷ b ∷ c ∷ []) e = absurd (cc)
+report_known response pf (a ∷ b ∷ c ∷ d ∷ field) e = absurd (cc)
 
-information_known : (response poll short : Bool) (content : Content) → with_head response poll (if short then Ok
+information_known : (response pf short : Bool) (content : Content) → with_head response pf (if short then Ok
     content else Err InfoTooLong) ≡ Err UnknownControl → ⊥
-information_known response poll true content e = absurd (cc)
-information_known response poll false content e = absurd (cc)
+information_known response pf true content e = absurd (cc)
+information_known response pf false content e = absurd (cc)
 
-known : (response poll : Bool) (content : Content) (field : List ℕ) → with_head response poll (field_read content
+known : (response pf : Bool) (content : Content) (field : List ℕ) → with_head response pf (field_read content
     field) ≡ Err UnknownControl → ⊥
-known response poll (Information send receive information) field e = information_known response poll (nat_le
-    (length field) 145) (Information send receive field) e
-known response poll (ReceiveReady receive) field e = bare_known response poll (ReceiveReady receive) field e
-known response poll (ReceiveNotReady receive) field e = bare_known response poll (ReceiveNotReady receive) field e
-known response poll (Reject receive) field e = bare_known response poll (Reject receive) field e
-known response poll SetMode field e = bare_known response poll SetMode field e
-known response poll Disconnect field e = bare_known response poll Disconnect field e
-known response poll DisconnectedMode field e = bare_known response poll DisconnectedMode field e
-known response poll Acknowledgement field e = bare_known response poll Acknowledgement field e
-known response poll (FrameReject report) field e = report_known response poll field e
+known response pf (I ns nr information) field e = information_known response pf (nat_le
+    (length field) 145) (I ns nr field) e
+known response pf (Rr nr) field e = bare_known response pf (Rr nr) field e
+known response pf (Rnr nr) field e = bare_known response pf (Rnr nr) field e
+known response pf (Rej nr) field e = bare_known response pf (Rej nr) field e
+known response pf Sabm field e = bare_known response pf Sabm field e
+known response pf Disc field e = bare_known response pf Disc field e
+known response pf Dm field e = bare_known response pf Dm field e
+known response pf Ua field e = bare_known response pf Ua field e
+known response pf (Frmr report) field e = report_known response pf field e
 
 -- the two address octets
 address_known : (from : Role) (response : Bool) (octet : ℕ) → octet ≡ address_of from response → octet ≢ 0x01 →
@@ -236,11 +199,11 @@ address_known Dce false octet e one three = three e
 -- a text with an information field that is not allowed is read so
 refused_is : (at : Role) (bytes : List ℕ) → HasFault InfoNotAllowed at bytes → reading at bytes ≡ Err InfoNotAllowed
 refused_is at bytes (f, field, head, fault) =
-    reading_at_head at bytes f field head ∙ ap (with_head f.response f.poll) (refused f.content field fault)
+    reading_at_head at bytes f field head ∙ ap (with_head f.response f.pf) (refused f.content field fault)
 
 overlong_is : (at : Role) (bytes : List ℕ) → HasFault InfoTooLong at bytes → reading at bytes ≡ Err InfoTooLong
 overlong_is at bytes (f, field, head, fault) =
-    reading_at_head at bytes f field head ∙ ap (with_head f.response f.poll) (overlong f.content field fault)
+    reading_at_head at bytes f field head ∙ ap (with_head f.response f.pf) (overlong f.content field fault)
 
 refused_read : (at : Role) (bytes : List ℕ) → HasFault InfoNotAllowed at bytes → reading at bytes ≡ Err InfoTooLong
     → ⊥
@@ -287,7 +250,7 @@ framed_decided at response address control field sent octet octets is_read =
     head : (content : Content) → IsNamed response control content → IsHead at (address ∷ control ∷ field) (record {
       content = content;
       response = response;
-      poll = has_bit control 16;
+      pf = has_bit control 16;
     }) field
     head content named = record {
       octets = λ i. sent i ∷ named.control_is i ∷ field;
@@ -307,33 +270,33 @@ framed_decided at response address control field sent octet octets is_read =
     go (Err TooShort) e outcome = absurd outcome
     go (Err WrongAddress) e outcome = absurd outcome
     go (Err UnknownControl) e outcome = record {
-      has = λ f rest h. known f.response f.poll f.content rest (sym (reading_at_head at (address ∷ control ∷ field)
+      has = λ f rest h. known f.response f.pf f.content rest (sym (reading_at_head at (address ∷ control ∷ field)
           f rest h) ∙ is_read ∙ ap (with_head response (has_bit control 16)) e);
       none_before = before_5 (λ other. HasFault other at (address ∷ control ∷ field)) 3 (omega arith) short wrong
           (λ less. absurd (omega arith)) (λ less. absurd (omega arith));
     }
     go (Err InfoNotAllowed) e outcome = record {
       has = (
-        record { content = outcome.0; response = response; poll = has_bit control 16 },
+        record { content = outcome.0; response = response; pf = has_bit control 16 },
         field,
         head outcome.0
             outcome.1,
         outcome.2,
       );
       none_before = before_5 (λ other. HasFault other at (address ∷ control ∷ field)) 4 (omega arith) short wrong
-          (λ less fault. fault (record { content = outcome.0; response = response; poll = has_bit control 16 })
+          (λ less fault. fault (record { content = outcome.0; response = response; pf = has_bit control 16 })
           field (head outcome.0 outcome.1)) (λ less. absurd (omega arith));
     }
     go (Err InfoTooLong) e outcome = record {
       has = (
-        record { content = outcome.0; response = response; poll = has_bit control 16 },
+        record { content = outcome.0; response = response; pf = has_bit control 16 },
         field,
         head outcome.0
             outcome.1,
         outcome.2,
       );
       none_before = before_5 (λ other. HasFault other at (address ∷ control ∷ field)) 5 (omega arith) short wrong
-          (λ less fault. fault (record { content = outcome.0; response = response; poll = has_bit control 16 })
+          (λ less fault. fault (record { content = outcome.0; response = response; pf = has_bit control 16 })
           field (head outcome.0 outcome.1))
           (λ less fault. refused_read at (address ∷ control ∷ field) fault (is_read ∙ ap (with_head response
           (has_bit control 16)) e));
@@ -439,15 +402,15 @@ form_unique at bytes f g p q = let a = reading_form at bytes f p in let b = read
 
 -- what is written is a form of what was meant, at the other end
 field_of_form : (content : Content) → FitsField content → FieldForm content (field_of content)
-field_of_form (Information send receive information) fits = (refl, fits)
-field_of_form (ReceiveReady receive) fits = refl
-field_of_form (ReceiveNotReady receive) fits = refl
-field_of_form (Reject receive) fits = refl
-field_of_form SetMode fits = refl
-field_of_form Disconnect fits = refl
-field_of_form DisconnectedMode fits = refl
-field_of_form Acknowledgement fits = refl
-field_of_form (FrameReject report) fits = record {
+field_of_form (I ns nr information) fits = (refl, fits)
+field_of_form (Rr nr) fits = refl
+field_of_form (Rnr nr) fits = refl
+field_of_form (Rej nr) fits = refl
+field_of_form Sabm fits = refl
+field_of_form Disc fits = refl
+field_of_form Dm fits = refl
+field_of_form Ua fits = refl
+field_of_form (Frmr report) fits = record {
   spare = 0;
   spares = 0;
   spare_bit = omega arith;
@@ -465,7 +428,7 @@ pub spelling_form : (from : Role) (f : FrameValue) → HasSpelling f → FrameFo
 spelling_form from f spelt = record {
   field = field_of f.content;
   head = record {
-    octets = ap (λ role. address_of role f.response ∷ control_of f.content f.poll ∷ field_of f.content) (sym
+    octets = ap (λ role. address_of role f.response ∷ control_of f.content f.pf ∷ field_of f.content) (sym
         (other_other from));
     goes_as = spelt.goes_as;
     numbers = spelt.numbers;
@@ -485,15 +448,15 @@ spelled_form from f bytes spelt e = subst (λ octets. FrameForm (other_of from) 
 
 -- what octets are a form of has a spelling
 fits_form : (content : Content) (field : List ℕ) → FieldForm content field → FitsField content
-fits_form (Information send receive information) field form = subst (λ octets. length octets ≤ 145) form.0 form.1
-fits_form (ReceiveReady receive) field form = tt
-fits_form (ReceiveNotReady receive) field form = tt
-fits_form (Reject receive) field form = tt
-fits_form SetMode field form = tt
-fits_form Disconnect field form = tt
-fits_form DisconnectedMode field form = tt
-fits_form Acknowledgement field form = tt
-fits_form (FrameReject report) field form = tt
+fits_form (I ns nr information) field form = subst (λ octets. length octets ≤ 145) form.0 form.1
+fits_form (Rr nr) field form = tt
+fits_form (Rnr nr) field form = tt
+fits_form (Rej nr) field form = tt
+fits_form Sabm field form = tt
+fits_form Disc field form = tt
+fits_form Dm field form = tt
+fits_form Ua field form = tt
+fits_form (Frmr report) field form = tt
 
 pub form_spelt : (at : Role) (bytes : List ℕ) (f : FrameValue) → FrameForm at bytes f → HasSpelling f
 form_spelt at bytes f form = record {

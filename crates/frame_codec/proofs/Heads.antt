@@ -1,73 +1,29 @@
 -- What an address and a control octet of a frame are read as: the frame, up to what its information field decides.
-use Rattle.std.proofs.Common.{
-  ◌≡◌,
-  ℕ,
-  ◌+◌,
-  ◌*◌,
-  ◌/◌,
-  ◌%◌,
-  ◌<◌,
-  Bool,
-  true,
-  false,
-  List,
-  [],
-  ◌∷◌,
-  length,
-  refl,
-  sym,
-  ◌∙◌,
-  ap,
-  subst,
-  arith,
-}
+use Rattle.std.proofs.Common.{◌≡◌, ℕ, ◌+◌, ◌*◌, ◌/◌, ◌%◌, ◌<◌, Bool, true, false, List, ◌∷◌, length, refl, sym, ◌∙◌, ap, subst, arith}
 use Rattle.std.specs.Prelude.{Result, Ok, Err, nat_le, nat_eq, if◌then◌else◌}
-use borrow.Author.Tests.{ne_eqb, eq-eqb}
+use borrow.Author.Tests.{ne_eqb}
 use Rattle.link_timers.specs.declared.role.Role.{Role}
 use Rattle.link_timers.specs.declared.role.Role.TheVariants.{Dte, Dce}
 use Rattle.link_timers.specs.Role.{other_of}
 use Rattle.frame_codec.specs.declared.fault.FrameFault.{FrameFault}
 use Rattle.frame_codec.specs.declared.fault.FrameFault.TheVariants.{InfoTooLong}
-use Rattle.frame_codec.specs.Frame.{
-  Report,
-  Content,
-  Information,
-  ReceiveReady,
-  ReceiveNotReady,
-  Reject,
-  SetMode,
-  Disconnect,
-  DisconnectedMode,
-  Acknowledgement,
-  FrameReject,
-  FrameValue,
-}
+use Rattle.frame_codec.specs.Frame.{Content, I, Rr, Rnr, Rej, Sabm, Disc, Dm, Ua, Frmr, FrameValue}
 use Rattle.frame_codec.specs.Spelling.{bit_of, address_of, control_of, GoesAs, HasNumbers}
 use Rattle.frame_codec.specs.FrameForm.{IsHead}
-use Rattle.frame_codec.specs.Reading.{
-  has_bit,
-  bare,
-  report_read,
-  information_read,
-  command_read,
-  response_read,
-  content_read,
-  with_head,
-  reading,
-}
+use Rattle.frame_codec.specs.Reading.{has_bit, bare, report_read, content_read, with_head, reading}
 
 -- what the information field makes of a frame with this control octet
 abbrev pub field_read : Content → List ℕ → Result Content FrameFault
-field_read (Information send receive information) field =
-    if nat_le (length field) 145 then Ok (Information send receive field) else Err InfoTooLong
-field_read (ReceiveReady receive) field = bare (ReceiveReady receive) field
-field_read (ReceiveNotReady receive) field = bare (ReceiveNotReady receive) field
-field_read (Reject receive) field = bare (Reject receive) field
-field_read SetMode field = bare SetMode field
-field_read Disconnect field = bare Disconnect field
-field_read DisconnectedMode field = bare DisconnectedMode field
-field_read Acknowledgement field = bare Acknowledgement field
-field_read (FrameReject report) field = report_read field
+field_read (I ns nr information) field =
+    if nat_le (length field) 145 then Ok (I ns nr field) else Err InfoTooLong
+field_read (Rr nr) field = bare (Rr nr) field
+field_read (Rnr nr) field = bare (Rnr nr) field
+field_read (Rej nr) field = bare (Rej nr) field
+field_read Sabm field = bare Sabm field
+field_read Disc field = bare Disc field
+field_read Dm field = bare Dm field
+field_read Ua field = bare Ua field
+field_read (Frmr report) field = report_read field
 
 -- a bit below two
 pub bit_of_below : (b : Bool) → bit_of b < 2
@@ -87,81 +43,81 @@ has_bit_16 b high low below =
     ap (λ n. nat_eq n 1) middle ∙ tested b
 
 -- the supervisory frames, by the low half of their control octet
-ready : (response : Bool) (control receive : ℕ) (field : List ℕ) → control % 16 ≡ 1 → control / 32 ≡ receive →
-    content_read response control field ≡ bare (ReceiveReady receive) field
-ready response control receive field low high = rw (low, high) refl
+ready : (response : Bool) (control nr : ℕ) (field : List ℕ) → control % 16 ≡ 1 → control / 32 ≡ nr →
+    content_read response control field ≡ bare (Rr nr) field
+ready response control nr field low high = rw (low, high) refl
 
-not_ready : (response : Bool) (control receive : ℕ) (field : List ℕ) → control % 16 ≡ 5 → control / 32 ≡ receive →
-    content_read response control field ≡ bare (ReceiveNotReady receive) field
-not_ready response control receive field low high = rw (low, high) refl
+not_ready : (response : Bool) (control nr : ℕ) (field : List ℕ) → control % 16 ≡ 5 → control / 32 ≡ nr →
+    content_read response control field ≡ bare (Rnr nr) field
+not_ready response control nr field low high = rw (low, high) refl
 
-rejects : (response : Bool) (control receive : ℕ) (field : List ℕ) → control % 16 ≡ 9 → control / 32 ≡ receive →
-    content_read response control field ≡ bare (Reject receive) field
-rejects response control receive field low high = rw (low, high) refl
+rejects : (response : Bool) (control nr : ℕ) (field : List ℕ) → control % 16 ≡ 9 → control / 32 ≡ nr →
+    content_read response control field ≡ bare (Rej nr) field
+rejects response control nr field low high = rw (low, high) refl
 
 -- an I frame, by the lowest bit of its control octet
-informs : (control send receive : ℕ) (field : List ℕ) → control % 2 ≡ 0 → control / 2 % 8 ≡ send → control / 32 ≡
-    receive → content_read false control field ≡ field_read (Information send receive field) field
-informs control send receive field even low high =
+informs : (control ns nr : ℕ) (field : List ℕ) → control % 2 ≡ 0 → control / 2 % 8 ≡ ns → control / 32 ≡
+    nr → content_read false control field ≡ field_read (I ns nr field) field
+informs control ns nr field even low high =
     let one : nat_eq (control % 16) 1 ≡ false = ne_eqb (control % 16) 1 (λ e. omega arith) in
     let five : nat_eq (control % 16) 5 ≡ false = ne_eqb (control % 16) 5 (λ e. omega arith) in
     let nine : nat_eq (control % 16) 9 ≡ false = ne_eqb (control % 16) 9 (λ e. omega arith) in
     rw (one, five, nine, even, low, high) refl
 
 -- the control octet of a frame, read in its direction
-pub content_read-control_of : (content : Content) (response poll : Bool) (field : List ℕ) → GoesAs content response
-    → HasNumbers content → content_read response (control_of content poll) field ≡ field_read content field
-content_read-control_of (Information send receive information) response poll field goes numbers =
-    let bound = bit_of_below poll in
-    subst (λ b. content_read b (receive * 32 + bit_of poll * 16 + send * 2) field ≡ field_read (Information send
-    receive information) field) (sym goes)
-    (informs (receive * 32 + bit_of poll * 16 + send * 2) send receive field (omega arith) (omega (
+pub content_read-control_of : (content : Content) (response pf : Bool) (field : List ℕ) → GoesAs content response
+    → HasNumbers content → content_read response (control_of content pf) field ≡ field_read content field
+content_read-control_of (I ns nr information) response pf field goes numbers =
+    let bound = bit_of_below pf in
+    subst (λ b. content_read b (nr * 32 + bit_of pf * 16 + ns * 2) field ≡ field_read (I ns
+    nr information) field) (sym goes)
+    (informs (nr * 32 + bit_of pf * 16 + ns * 2) ns nr field (omega arith) (omega (
       arith,
       numbers.0,
     )) (omega (arith, numbers.0)))
-content_read-control_of (ReceiveReady receive) response poll field goes numbers =
-    let bound = bit_of_below poll in ready response (receive * 32 + bit_of poll * 16 + 0x01) receive field (omega
+content_read-control_of (Rr nr) response pf field goes numbers =
+    let bound = bit_of_below pf in ready response (nr * 32 + bit_of pf * 16 + 0x01) nr field (omega
     arith) (omega arith)
-content_read-control_of (ReceiveNotReady receive) response poll field goes numbers =
-    let bound = bit_of_below poll in not_ready response (receive * 32 + bit_of poll * 16 + 0x05) receive field
+content_read-control_of (Rnr nr) response pf field goes numbers =
+    let bound = bit_of_below pf in not_ready response (nr * 32 + bit_of pf * 16 + 0x05) nr field
     (omega arith) (omega arith)
-content_read-control_of (Reject receive) response poll field goes numbers =
-    let bound = bit_of_below poll in rejects response (receive * 32 + bit_of poll * 16 + 0x09) receive field (omega
+content_read-control_of (Rej nr) response pf field goes numbers =
+    let bound = bit_of_below pf in rejects response (nr * 32 + bit_of pf * 16 + 0x09) nr field (omega
     arith) (omega arith)
-content_read-control_of SetMode true poll field goes numbers = absurd (cc)
-content_read-control_of SetMode false true field goes numbers = refl
-content_read-control_of SetMode false false field goes numbers = refl
-content_read-control_of Disconnect true poll field goes numbers = absurd (cc)
-content_read-control_of Disconnect false true field goes numbers = refl
-content_read-control_of Disconnect false false field goes numbers = refl
-content_read-control_of DisconnectedMode false poll field goes numbers = absurd (cc)
-content_read-control_of DisconnectedMode true true field goes numbers = refl
-content_read-control_of DisconnectedMode true false field goes numbers = refl
-content_read-control_of Acknowledgement false poll field goes numbers = absurd (cc)
-content_read-control_of Acknowledgement true true field goes numbers = refl
-content_read-control_of Acknowledgement true false field goes numbers = refl
-content_read-control_of (FrameReject report) false poll field goes numbers = absurd (cc)
-content_read-control_of (FrameReject report) true true field goes numbers = refl
-content_read-control_of (FrameReject report) true false field goes numbers = refl
+content_read-control_of Sabm true pf field goes numbers = absurd (cc)
+content_read-control_of Sabm false true field goes numbers = refl
+content_read-control_of Sabm false false field goes numbers = refl
+content_read-control_of Disc true pf field goes numbers = absurd (cc)
+content_read-control_of Disc false true field goes numbers = refl
+content_read-control_of Disc false false field goes numbers = refl
+content_read-control_of Dm false pf field goes numbers = absurd (cc)
+content_read-control_of Dm true true field goes numbers = refl
+content_read-control_of Dm true false field goes numbers = refl
+content_read-control_of Ua false pf field goes numbers = absurd (cc)
+content_read-control_of Ua true true field goes numbers = refl
+content_read-control_of Ua true false field goes numbers = refl
+content_read-control_of (Frmr report) false pf field goes numbers = absurd (cc)
+content_read-control_of (Frmr report) true true field goes numbers = refl
+content_read-control_of (Frmr report) true false field goes numbers = refl
 
 -- and its poll or final bit
-pub has_bit-control_of : (content : Content) (poll : Bool) → HasNumbers content → has_bit (control_of content poll)
-    16 ≡ poll
-has_bit-control_of (Information send receive information) poll numbers = has_bit_16 poll receive (send * 2) (omega
+pub has_bit-control_of : (content : Content) (pf : Bool) → HasNumbers content → has_bit (control_of content pf)
+    16 ≡ pf
+has_bit-control_of (I ns nr information) pf numbers = has_bit_16 pf nr (ns * 2) (omega
     (arith, numbers.0))
-has_bit-control_of (ReceiveReady receive) poll numbers = has_bit_16 poll receive 1 (omega arith)
-has_bit-control_of (ReceiveNotReady receive) poll numbers = has_bit_16 poll receive 5 (omega arith)
-has_bit-control_of (Reject receive) poll numbers = has_bit_16 poll receive 9 (omega arith)
-has_bit-control_of SetMode true numbers = refl
-has_bit-control_of SetMode false numbers = refl
-has_bit-control_of Disconnect true numbers = refl
-has_bit-control_of Disconnect false numbers = refl
-has_bit-control_of DisconnectedMode true numbers = refl
-has_bit-control_of DisconnectedMode false numbers = refl
-has_bit-control_of Acknowledgement true numbers = refl
-has_bit-control_of Acknowledgement false numbers = refl
-has_bit-control_of (FrameReject report) true numbers = refl
-has_bit-control_of (FrameReject report) false numbers = refl
+has_bit-control_of (Rr nr) pf numbers = has_bit_16 pf nr 1 (omega arith)
+has_bit-control_of (Rnr nr) pf numbers = has_bit_16 pf nr 5 (omega arith)
+has_bit-control_of (Rej nr) pf numbers = has_bit_16 pf nr 9 (omega arith)
+has_bit-control_of Sabm true numbers = refl
+has_bit-control_of Sabm false numbers = refl
+has_bit-control_of Disc true numbers = refl
+has_bit-control_of Disc false numbers = refl
+has_bit-control_of Dm true numbers = refl
+has_bit-control_of Dm false numbers = refl
+has_bit-control_of Ua true numbers = refl
+has_bit-control_of Ua false numbers = refl
+has_bit-control_of (Frmr report) true numbers = refl
+has_bit-control_of (Frmr report) false numbers = refl
 
 -- the address octet tells commands from responses
 pub reading-address_of : (at : Role) (response : Bool) (control : ℕ) (field : List ℕ) → reading at (address_of
@@ -174,11 +130,11 @@ reading-address_of Dce false control field = refl
 
 -- what a text is read as that begins with the head of a frame
 pub reading_at_head : (at : Role) (bytes : List ℕ) (f : FrameValue) (field : List ℕ) → IsHead at bytes f field →
-    reading at bytes ≡ with_head f.response f.poll (field_read f.content field)
+    reading at bytes ≡ with_head f.response f.pf (field_read f.content field)
 reading_at_head at bytes f field head =
     ap (reading at) head.octets
-    ∙ reading-address_of at f.response (control_of f.content f.poll) field
-    ∙ ap (λ poll. with_head f.response poll (content_read f.response (control_of f.content f.poll) field))
-    (has_bit-control_of f.content f.poll head.numbers)
-    ∙ ap (with_head f.response f.poll) (content_read-control_of f.content f.response f.poll field head.goes_as
+    ∙ reading-address_of at f.response (control_of f.content f.pf) field
+    ∙ ap (λ pf. with_head f.response pf (content_read f.response (control_of f.content f.pf) field))
+    (has_bit-control_of f.content f.pf head.numbers)
+    ∙ ap (with_head f.response f.pf) (content_read-control_of f.content f.response f.pf field head.goes_as
     head.numbers)

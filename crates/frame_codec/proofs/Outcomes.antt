@@ -1,33 +1,7 @@
 -- What a control octet and an information field are read as is what the table of frames says of them.
-use Rattle.std.proofs.Common.{
-  ◌≡◌,
-  ◌≢◌,
-  ℕ,
-  zero,
-  suc,
-  ◌+◌,
-  ◌*◌,
-  ◌/◌,
-  ◌%◌,
-  ◌<◌,
-  ◌≤◌,
-  Bool,
-  true,
-  false,
-  ◌||◌,
-  List,
-  [],
-  ◌∷◌,
-  length,
-  refl,
-  sym,
-  ◌∙◌,
-  ap,
-  subst,
-  arith,
-}
+use Rattle.std.proofs.Common.{◌≡◌, ◌≢◌, ℕ, zero, suc, ◌+◌, ◌*◌, ◌/◌, ◌%◌, ◌<◌, Bool, true, false, ◌||◌, List, [], ◌∷◌, length, refl, sym, subst, arith}
 use Rattle.std.specs.Prelude.{Result, Ok, Err, nat_le, nat_eq, slice_index, if◌then◌else◌}
-use borrow.Author.Tests.{eqb-true, eqb-false, leb-true, leb-false}
+use borrow.Author.Tests.{eqb-true, leb-true, leb-false}
 use Rattle.frame_codec.specs.declared.fault.FrameFault.{FrameFault}
 use Rattle.frame_codec.specs.declared.fault.FrameFault.TheVariants.{
   TooShort,
@@ -36,21 +10,8 @@ use Rattle.frame_codec.specs.declared.fault.FrameFault.TheVariants.{
   InfoNotAllowed,
   InfoTooLong,
 }
-use Rattle.frame_codec.specs.Frame.{
-  Report,
-  Content,
-  Information,
-  ReceiveReady,
-  ReceiveNotReady,
-  Reject,
-  SetMode,
-  Disconnect,
-  DisconnectedMode,
-  Acknowledgement,
-  FrameReject,
-  FrameValue,
-}
-use Rattle.frame_codec.specs.Spelling.{bit_of, control_of, states_of, reasons_of, GoesAs, HasNumbers}
+use Rattle.frame_codec.specs.Frame.{Report, Content, I, Rr, Rnr, Rej, Sabm, Disc, Dm, Ua, Frmr}
+use Rattle.frame_codec.specs.Spelling.{bit_of, control_of, GoesAs, HasNumbers}
 use Rattle.frame_codec.specs.FrameForm.{ReportForm, FieldForm}
 use Rattle.frame_codec.specs.Faults.{IsNotAllowed, IsTooLong}
 use Rattle.frame_codec.specs.Reading.{
@@ -108,22 +69,22 @@ bare_outcome response control content (octet ∷ octets) named form fault = (con
 information_outcome : (control : ℕ) (field : List ℕ) → control < 256 → control % 2 ≡ 0 → Outcome false control
     field (information_read control field)
 information_outcome control field octet even =
-    let named : IsNamed false control (Information (control / 2 % 8) (control / 32) field) = record {
+    let named : IsNamed false control (I (control / 2 % 8) (control / 32) field) = record {
       control_is = omega (arith, bit_of-has_bit control 16);
       goes_as = refl;
       numbers = (omega arith, omega arith);
     } in
-    cond_by (λ b. Outcome false control field (if b then Ok (Information (control / 2 % 8) (control / 32) field)
+    cond_by (λ b. Outcome false control field (if b then Ok (I (control / 2 % 8) (control / 32) field)
     else Err InfoTooLong)) (nat_le (length field) 145)
     (λ is. (named, (refl, leb-true (length field) 145 is)))
-    (λ isnt. (Information (control / 2 % 8) (control / 32) field, named, leb-false (length field) 145 isnt))
+    (λ isnt. (I (control / 2 % 8) (control / 32) field, named, leb-false (length field) 145 isnt))
 
 -- the octets of a report
 report_form : (control states reasons : ℕ) → states < 256 → reasons < 256 →
     ReportForm (record {
       control = control;
-      send = states / 2 % 8;
-      receive = states / 32;
+      vs = states / 2 % 8;
+      vr = states / 32;
       response = has_bit states
           16;
       w = has_bit reasons 1;
@@ -157,8 +118,8 @@ report_form control states reasons s r =
 abbrev no_report : Report
 no_report = record {
   control = 0;
-  send = 0;
-  receive = 0;
+  vs = 0;
+  vr = 0;
   response = false;
   w = false;
   x = false;
@@ -170,7 +131,7 @@ no_report = record {
 reject_outcome : (control : ℕ) (field : List ℕ) → AreOctets field → control ≡ bit_of (has_bit control 16) * 16 +
     0x87 → Outcome true control field (report_read field)
 reject_outcome control [] octets is = (
-  FrameReject no_report,
+  Frmr no_report,
   record {
     control_is = is;
     goes_as = refl;
@@ -180,7 +141,7 @@ reject_outcome control [] octets is = (
   λ e. omega arith,
 )
 reject_outcome control (a ∷ []) octets is = (
-  FrameReject no_report,
+  Frmr no_report,
   record {
     control_is = is;
     goes_as = refl;
@@ -189,7 +150,7 @@ reject_outcome control (a ∷ []) octets is = (
   λ e. omega arith,
 )
 reject_outcome control (a ∷ b ∷ []) octets is = (
-  FrameReject no_report,
+  Frmr no_report,
   record {
     control_is = is;
     goes_as = refl;
@@ -206,7 +167,7 @@ reject_outcome control (a ∷ b ∷ c ∷ []) octets is =
           second third,
     )
 reject_outcome control (a ∷ b ∷ c ∷ d ∷ field) octets is = (
-  FrameReject no_report,
+  Frmr no_report,
   record {
     control_is = is;
     goes_as = refl;
@@ -236,38 +197,38 @@ command_outcome : (control : ℕ) (field : List ℕ) → control < 256 → Outco
     control field)
 command_outcome control field octet =
     cond_by (λ b. Outcome false control field (if b then information_read control field else if nat_eq control 0x2F
-    || nat_eq control 0x3F then bare SetMode field else if nat_eq control 0x43 || nat_eq control 0x53 then bare
-    Disconnect field else Err UnknownControl)) (nat_eq (control % 2) 0)
+    || nat_eq control 0x3F then bare Sabm field else if nat_eq control 0x43 || nat_eq control 0x53 then bare
+    Disc field else Err UnknownControl)) (nat_eq (control % 2) 0)
     (λ is. information_outcome control field octet (eqb-true (control % 2) 0 is))
-    (λ _. either_by (λ b. Outcome false control field (if b then bare SetMode field else if nat_eq control 0x43 ||
-    nat_eq control 0x53 then bare Disconnect field else Err UnknownControl)) control 0x2F 0x3F
-    (λ e. bare_outcome false control SetMode field (named_at false control 0x2F SetMode e refl refl tt) (λ p. p) (λ
+    (λ _. either_by (λ b. Outcome false control field (if b then bare Sabm field else if nat_eq control 0x43 ||
+    nat_eq control 0x53 then bare Disc field else Err UnknownControl)) control 0x2F 0x3F
+    (λ e. bare_outcome false control Sabm field (named_at false control 0x2F Sabm e refl refl tt) (λ p. p) (λ
     p. p))
-    (λ e. bare_outcome false control SetMode field (named_at false control 0x3F SetMode e refl refl tt) (λ p. p) (λ
+    (λ e. bare_outcome false control Sabm field (named_at false control 0x3F Sabm e refl refl tt) (λ p. p) (λ
     p. p))
-    (either_by (λ b. Outcome false control field (if b then bare Disconnect field else Err UnknownControl)) control
+    (either_by (λ b. Outcome false control field (if b then bare Disc field else Err UnknownControl)) control
     0x43 0x53
-    (λ e. bare_outcome false control Disconnect field (named_at false control 0x43 Disconnect e refl refl tt) (λ p.
+    (λ e. bare_outcome false control Disc field (named_at false control 0x43 Disc e refl refl tt) (λ p.
     p) (λ p. p))
-    (λ e. bare_outcome false control Disconnect field (named_at false control 0x53 Disconnect e refl refl tt) (λ p.
+    (λ e. bare_outcome false control Disc field (named_at false control 0x53 Disc e refl refl tt) (λ p.
     p) (λ p. p))
     tt))
 
 response_outcome : (control : ℕ) (field : List ℕ) → AreOctets field → Outcome true control field (response_read
     control field)
 response_outcome control field octets =
-    either_by (λ b. Outcome true control field (if b then bare DisconnectedMode field else if nat_eq control 0x63
-    || nat_eq control 0x73 then bare Acknowledgement field else if nat_eq control 0x87 || nat_eq control 0x97
+    either_by (λ b. Outcome true control field (if b then bare Dm field else if nat_eq control 0x63
+    || nat_eq control 0x73 then bare Ua field else if nat_eq control 0x87 || nat_eq control 0x97
     then report_read field else Err UnknownControl)) control 0x0F 0x1F
-    (λ e. bare_outcome true control DisconnectedMode field (named_at true control 0x0F DisconnectedMode e refl refl
+    (λ e. bare_outcome true control Dm field (named_at true control 0x0F Dm e refl refl
     tt) (λ p. p) (λ p. p))
-    (λ e. bare_outcome true control DisconnectedMode field (named_at true control 0x1F DisconnectedMode e refl refl
+    (λ e. bare_outcome true control Dm field (named_at true control 0x1F Dm e refl refl
     tt) (λ p. p) (λ p. p))
-    (either_by (λ b. Outcome true control field (if b then bare Acknowledgement field else if nat_eq control 0x87
+    (either_by (λ b. Outcome true control field (if b then bare Ua field else if nat_eq control 0x87
     || nat_eq control 0x97 then report_read field else Err UnknownControl)) control 0x63 0x73
-    (λ e. bare_outcome true control Acknowledgement field (named_at true control 0x63 Acknowledgement e refl refl
+    (λ e. bare_outcome true control Ua field (named_at true control 0x63 Ua e refl refl
     tt) (λ p. p) (λ p. p))
-    (λ e. bare_outcome true control Acknowledgement field (named_at true control 0x73 Acknowledgement e refl refl
+    (λ e. bare_outcome true control Ua field (named_at true control 0x73 Ua e refl refl
     tt) (λ p. p) (λ p. p))
     (either_by (λ b. Outcome true control field (if b then report_read field else Err UnknownControl)) control 0x87
     0x97
@@ -285,22 +246,22 @@ supervisory_named response control low content spelt is goes numbers =
 pub content_outcome : (response : Bool) (control : ℕ) (field : List ℕ) → control < 256 → AreOctets field → Outcome
     response control field (content_read response control field)
 content_outcome response control field octet octets =
-    cond_by (λ b. Outcome response control field (if b then bare (ReceiveReady (control / 32)) field else if nat_eq
-    (control % 16) 0x05 then bare (ReceiveNotReady (control / 32)) field else if nat_eq (control % 16) 0x09
-    then bare (Reject (control / 32)) field else if response then response_read control field else command_read
+    cond_by (λ b. Outcome response control field (if b then bare (Rr (control / 32)) field else if nat_eq
+    (control % 16) 0x05 then bare (Rnr (control / 32)) field else if nat_eq (control % 16) 0x09
+    then bare (Rej (control / 32)) field else if response then response_read control field else command_read
     control field)) (nat_eq (control % 16) 0x01)
-    (λ is. bare_outcome response control (ReceiveReady (control / 32)) field (supervisory_named response control
-    0x01 (ReceiveReady (control / 32)) refl (eqb-true (control % 16) 0x01 is) tt (omega arith)) (λ p. p) (λ p. p))
-    (λ _. cond_by (λ b. Outcome response control field (if b then bare (ReceiveNotReady (control / 32)) field else
-    if nat_eq (control % 16) 0x09 then bare (Reject (control / 32)) field else if response then response_read
+    (λ is. bare_outcome response control (Rr (control / 32)) field (supervisory_named response control
+    0x01 (Rr (control / 32)) refl (eqb-true (control % 16) 0x01 is) tt (omega arith)) (λ p. p) (λ p. p))
+    (λ _. cond_by (λ b. Outcome response control field (if b then bare (Rnr (control / 32)) field else
+    if nat_eq (control % 16) 0x09 then bare (Rej (control / 32)) field else if response then response_read
     control field else command_read control field)) (nat_eq (control % 16) 0x05)
-    (λ is. bare_outcome response control (ReceiveNotReady (control / 32)) field (supervisory_named response control
-    0x05 (ReceiveNotReady (control / 32)) refl (eqb-true (control % 16) 0x05 is) tt (omega arith)) (λ p. p) (λ
+    (λ is. bare_outcome response control (Rnr (control / 32)) field (supervisory_named response control
+    0x05 (Rnr (control / 32)) refl (eqb-true (control % 16) 0x05 is) tt (omega arith)) (λ p. p) (λ
     p. p))
-    (λ _. cond_by (λ b. Outcome response control field (if b then bare (Reject (control / 32)) field else if
+    (λ _. cond_by (λ b. Outcome response control field (if b then bare (Rej (control / 32)) field else if
     response then response_read control field else command_read control field)) (nat_eq (control % 16) 0x09)
-    (λ is. bare_outcome response control (Reject (control / 32)) field (supervisory_named response control 0x09
-    (Reject (control / 32)) refl (eqb-true (control % 16) 0x09 is) tt (omega arith)) (λ p. p) (λ p. p))
+    (λ is. bare_outcome response control (Rej (control / 32)) field (supervisory_named response control 0x09
+    (Rej (control / 32)) refl (eqb-true (control % 16) 0x09 is) tt (omega arith)) (λ p. p) (λ p. p))
     (λ _. elim response as (λ b. Outcome b control field (if b then response_read control field else command_read
     control field)) [
       | true ↦ response_outcome control field octets

@@ -1,5 +1,5 @@
 -- What is wrong with octets that are no form of a frame, and which of several faults is answered.
-use Rattle.std.specs.Prelude.{◌≡◌, ◌≢◌, ℕ, ◌<◌, List, [], length, slice_index}
+use Rattle.std.specs.Prelude.{◌≢◌, ℕ, ◌<◌, List, [], length, slice_index}
 use Rattle.link_timers.specs.declared.role.Role.{Role}
 use Rattle.frame_codec.specs.declared.fault.FrameFault.{FrameFault}
 use Rattle.frame_codec.specs.declared.fault.FrameFault.TheVariants.{
@@ -11,42 +11,42 @@ use Rattle.frame_codec.specs.declared.fault.FrameFault.TheVariants.{
 }
 use Rattle.frame_codec.specs.Frame.{
   Content,
-  Information,
-  ReceiveReady,
-  ReceiveNotReady,
-  Reject,
-  SetMode,
-  Disconnect,
-  DisconnectedMode,
-  Acknowledgement,
-  FrameReject,
+  I,
+  Rr,
+  Rnr,
+  Rej,
+  Sabm,
+  Disc,
+  Dm,
+  Ua,
+  Frmr,
   FrameValue,
 }
 use Rattle.frame_codec.specs.FrameForm.{IsHead}
 
 -- the frame may not have this information field, whatever the length of what an I frame carries
 abbrev pub IsNotAllowed : Content → List ℕ → Type 0
-IsNotAllowed (Information send receive information) field = ⊥
-IsNotAllowed (ReceiveReady receive) field = field ≢ []
-IsNotAllowed (ReceiveNotReady receive) field = field ≢ []
-IsNotAllowed (Reject receive) field = field ≢ []
-IsNotAllowed SetMode field = field ≢ []
-IsNotAllowed Disconnect field = field ≢ []
-IsNotAllowed DisconnectedMode field = field ≢ []
-IsNotAllowed Acknowledgement field = field ≢ []
-IsNotAllowed (FrameReject report) field = length field ≢ 3
+IsNotAllowed (I ns nr information) field = ⊥
+IsNotAllowed (Rr nr) field = field ≢ []
+IsNotAllowed (Rnr nr) field = field ≢ []
+IsNotAllowed (Rej nr) field = field ≢ []
+IsNotAllowed Sabm field = field ≢ []
+IsNotAllowed Disc field = field ≢ []
+IsNotAllowed Dm field = field ≢ []
+IsNotAllowed Ua field = field ≢ []
+IsNotAllowed (Frmr report) field = length field ≢ 3
 
 -- an I frame with more than 145 octets of information
 abbrev pub IsTooLong : Content → List ℕ → Type 0
-IsTooLong (Information send receive information) field = 145 < length field
-IsTooLong (ReceiveReady receive) field = ⊥
-IsTooLong (ReceiveNotReady receive) field = ⊥
-IsTooLong (Reject receive) field = ⊥
-IsTooLong SetMode field = ⊥
-IsTooLong Disconnect field = ⊥
-IsTooLong DisconnectedMode field = ⊥
-IsTooLong Acknowledgement field = ⊥
-IsTooLong (FrameReject report) field = ⊥
+IsTooLong (I ns nr information) field = 145 < length field
+IsTooLong (Rr nr) field = ⊥
+IsTooLong (Rnr nr) field = ⊥
+IsTooLong (Rej nr) field = ⊥
+IsTooLong Sabm field = ⊥
+IsTooLong Disc field = ⊥
+IsTooLong Dm field = ⊥
+IsTooLong Ua field = ⊥
+IsTooLong (Frmr report) field = ⊥
 
 -- the octets, received at an end of this role, have the fault
 abbrev pub HasFault : FrameFault → Role → List ℕ → Type 0

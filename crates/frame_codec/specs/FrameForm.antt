@@ -5,15 +5,15 @@ use Rattle.link_timers.specs.Role.{other_of}
 use Rattle.frame_codec.specs.Frame.{
   Report,
   Content,
-  Information,
-  ReceiveReady,
-  ReceiveNotReady,
-  Reject,
-  SetMode,
-  Disconnect,
-  DisconnectedMode,
-  Acknowledgement,
-  FrameReject,
+  I,
+  Rr,
+  Rnr,
+  Rej,
+  Sabm,
+  Disc,
+  Dm,
+  Ua,
+  Frmr,
   FrameValue,
 }
 use Rattle.frame_codec.specs.Spelling.{address_of, control_of, states_of, reasons_of, GoesAs, HasNumbers}
@@ -28,20 +28,20 @@ pub record ReportForm (report : Report) (field : List ℕ) : Type 0 where
 
 -- the information field is a form of what the frame says there
 abbrev pub FieldForm : Content → List ℕ → Type 0
-FieldForm (Information send receive information) field = (field ≡ information) × (length field ≤ 145)
-FieldForm (ReceiveReady receive) field = field ≡ []
-FieldForm (ReceiveNotReady receive) field = field ≡ []
-FieldForm (Reject receive) field = field ≡ []
-FieldForm SetMode field = field ≡ []
-FieldForm Disconnect field = field ≡ []
-FieldForm DisconnectedMode field = field ≡ []
-FieldForm Acknowledgement field = field ≡ []
-FieldForm (FrameReject report) field = ReportForm report field
+FieldForm (I ns nr information) field = (field ≡ information) × (length field ≤ 145)
+FieldForm (Rr nr) field = field ≡ []
+FieldForm (Rnr nr) field = field ≡ []
+FieldForm (Rej nr) field = field ≡ []
+FieldForm Sabm field = field ≡ []
+FieldForm Disc field = field ≡ []
+FieldForm Dm field = field ≡ []
+FieldForm Ua field = field ≡ []
+FieldForm (Frmr report) field = ReportForm report field
 
 -- the text begins with the address and the control octet of a frame that the other end may send, and this field
 -- follows
 pub record IsHead (at : Role) (bytes : List ℕ) (f : FrameValue) (field : List ℕ) : Type 0 where
-  pub octets : bytes ≡ address_of (other_of at) f.response ∷ control_of f.content f.poll ∷ field
+  pub octets : bytes ≡ address_of (other_of at) f.response ∷ control_of f.content f.pf ∷ field
   pub goes_as : GoesAs f.content f.response
   pub numbers : HasNumbers f.content
 

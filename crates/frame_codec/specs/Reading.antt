@@ -28,20 +28,7 @@ use Rattle.frame_codec.specs.declared.fault.FrameFault.TheVariants.{
   InfoNotAllowed,
   InfoTooLong,
 }
-use Rattle.frame_codec.specs.Frame.{
-  Report,
-  Content,
-  Information,
-  ReceiveReady,
-  ReceiveNotReady,
-  Reject,
-  SetMode,
-  Disconnect,
-  DisconnectedMode,
-  Acknowledgement,
-  FrameReject,
-  FrameValue,
-}
+use Rattle.frame_codec.specs.Frame.{Content, I, Rr, Rnr, Rej, Sabm, Disc, Dm, Ua, Frmr, FrameValue}
 use Rattle.frame_codec.specs.Spelling.{address_of}
 
 -- whether the bit is set that stands for this power of two
@@ -56,15 +43,15 @@ bare content (octet ∷ octets) = Err InfoNotAllowed
 -- an I frame
 abbrev pub information_read : ℕ → List ℕ → Result Content FrameFault
 information_read control field =
-    if nat_le (length field) 145 then Ok (Information (control / 2 % 8) (control / 32) field) else Err InfoTooLong
+    if nat_le (length field) 145 then Ok (I (control / 2 % 8) (control / 32) field) else Err InfoTooLong
 
 -- the report of a Frame Reject
 abbrev pub report_read : List ℕ → Result Content FrameFault
 report_read (control ∷ states ∷ reasons ∷ []) =
-    Ok (FrameReject (record {
+    Ok (Frmr (record {
       control = control;
-      send = states / 2 % 8;
-      receive = states / 32;
+      vs = states / 2 % 8;
+      vr = states / 32;
       response = has_bit states 16;
       w = has_bit reasons 1;
       x = has_bit reasons 2;
@@ -77,31 +64,31 @@ report_read field = Err InfoNotAllowed
 abbrev pub command_read : ℕ → List ℕ → Result Content FrameFault
 command_read control field =
     if control % 2 == 0 then information_read control field
-    else if control == 0x2F || control == 0x3F then bare SetMode field
-    else if control == 0x43 || control == 0x53 then bare Disconnect field
+    else if control == 0x2F || control == 0x3F then bare Sabm field
+    else if control == 0x43 || control == 0x53 then bare Disc field
     else Err UnknownControl
 
 -- what is a response alone
 abbrev pub response_read : ℕ → List ℕ → Result Content FrameFault
 response_read control field =
-    if control == 0x0F || control == 0x1F then bare DisconnectedMode field
-    else if control == 0x63 || control == 0x73 then bare Acknowledgement field
+    if control == 0x0F || control == 0x1F then bare Dm field
+    else if control == 0x63 || control == 0x73 then bare Ua field
     else if control == 0x87 || control == 0x97 then report_read field
     else Err UnknownControl
 
 -- what a frame says, by its direction, its control octet and its information field
 abbrev pub content_read : (response : Bool) → ℕ → List ℕ → Result Content FrameFault
 content_read response control field =
-    if control % 16 == 0x01 then bare (ReceiveReady (control / 32)) field
-    else if control % 16 == 0x05 then bare (ReceiveNotReady (control / 32)) field
-    else if control % 16 == 0x09 then bare (Reject (control / 32)) field
+    if control % 16 == 0x01 then bare (Rr (control / 32)) field
+    else if control % 16 == 0x05 then bare (Rnr (control / 32)) field
+    else if control % 16 == 0x09 then bare (Rej (control / 32)) field
     else if response then response_read control field
     else command_read control field
 
 -- the whole frame, with its poll or final bit
-abbrev pub with_head : (response poll : Bool) → Result Content FrameFault → Result FrameValue FrameFault
-with_head response poll (Ok content) = Ok (record { content = content; response = response; poll = poll })
-with_head response poll (Err fault) = Err fault
+abbrev pub with_head : (response pf : Bool) → Result Content FrameFault → Result FrameValue FrameFault
+with_head response pf (Ok content) = Ok (record { content = content; response = response; pf = pf })
+with_head response pf (Err fault) = Err fault
 
 -- the octets that an end of this role receives
 abbrev pub reading : Role → List ℕ → Result FrameValue FrameFault

@@ -5,15 +5,15 @@ use Rattle.link_timers.specs.declared.role.Role.TheVariants.{Dte, Dce}
 use Rattle.frame_codec.specs.Frame.{
   Report,
   Content,
-  Information,
-  ReceiveReady,
-  ReceiveNotReady,
-  Reject,
-  SetMode,
-  Disconnect,
-  DisconnectedMode,
-  Acknowledgement,
-  FrameReject,
+  I,
+  Rr,
+  Rnr,
+  Rej,
+  Sabm,
+  Disc,
+  Dm,
+  Ua,
+  Frmr,
   FrameValue,
 }
 
@@ -34,20 +34,20 @@ address_of Dte true = 0x03
 -- the control octet: N(R) in bits 6 to 8, the poll or final bit in bit 5 and N(S) in bits 2 to 4 of an I frame;
 -- N(R) and the
 -- poll or final bit in a supervisory frame; the poll or final bit alone in all else (ISO 7776 4.3, table 1)
-abbrev pub control_of : Content → (poll : Bool) → ℕ
-control_of (Information send receive information) poll = receive * 32 + bit_of poll * 16 + send * 2
-control_of (ReceiveReady receive) poll = receive * 32 + bit_of poll * 16 + 0x01
-control_of (ReceiveNotReady receive) poll = receive * 32 + bit_of poll * 16 + 0x05
-control_of (Reject receive) poll = receive * 32 + bit_of poll * 16 + 0x09
-control_of SetMode poll = bit_of poll * 16 + 0x2F
-control_of Disconnect poll = bit_of poll * 16 + 0x43
-control_of DisconnectedMode poll = bit_of poll * 16 + 0x0F
-control_of Acknowledgement poll = bit_of poll * 16 + 0x63
-control_of (FrameReject report) poll = bit_of poll * 16 + 0x87
+abbrev pub control_of : Content → (pf : Bool) → ℕ
+control_of (I ns nr information) pf = nr * 32 + bit_of pf * 16 + ns * 2
+control_of (Rr nr) pf = nr * 32 + bit_of pf * 16 + 0x01
+control_of (Rnr nr) pf = nr * 32 + bit_of pf * 16 + 0x05
+control_of (Rej nr) pf = nr * 32 + bit_of pf * 16 + 0x09
+control_of Sabm pf = bit_of pf * 16 + 0x2F
+control_of Disc pf = bit_of pf * 16 + 0x43
+control_of Dm pf = bit_of pf * 16 + 0x0F
+control_of Ua pf = bit_of pf * 16 + 0x63
+control_of (Frmr report) pf = bit_of pf * 16 + 0x87
 
 -- the second octet of a report: V(S) in bits 2 to 4, whether a response was rejected in bit 5, V(R) in bits 6 to 8
 abbrev pub states_of : Report → ℕ
-states_of report = report.receive * 32 + bit_of report.response * 16 + report.send * 2
+states_of report = report.vr * 32 + bit_of report.response * 16 + report.vs * 2
 
 -- the third octet of a report: W, X, Y and Z in bits 1 to 4
 abbrev pub reasons_of : Report → ℕ
@@ -55,55 +55,55 @@ reasons_of report = bit_of report.z * 8 + bit_of report.y * 4 + bit_of report.x 
 
 -- the information field: what an I frame carries, the three octets of a Frame Reject (ISO 7776 5.2), and else nothing
 abbrev pub field_of : Content → List ℕ
-field_of (Information send receive information) = information
-field_of (ReceiveReady receive) = []
-field_of (ReceiveNotReady receive) = []
-field_of (Reject receive) = []
-field_of SetMode = []
-field_of Disconnect = []
-field_of DisconnectedMode = []
-field_of Acknowledgement = []
-field_of (FrameReject report) = report.control ∷ states_of report ∷ reasons_of report ∷ []
+field_of (I ns nr information) = information
+field_of (Rr nr) = []
+field_of (Rnr nr) = []
+field_of (Rej nr) = []
+field_of Sabm = []
+field_of Disc = []
+field_of Dm = []
+field_of Ua = []
+field_of (Frmr report) = report.control ∷ states_of report ∷ reasons_of report ∷ []
 
 -- the octets of a frame that an end of this role sends
 abbrev pub spelling : Role → FrameValue → List ℕ
-spelling from f = address_of from f.response ∷ control_of f.content f.poll ∷ field_of f.content
+spelling from f = address_of from f.response ∷ control_of f.content f.pf ∷ field_of f.content
 
 -- an I frame, SABM and DISC are commands, DM, UA and FRMR are responses, and a supervisory frame is either
 abbrev pub GoesAs : Content → (response : Bool) → Type 0
-GoesAs (Information send receive information) response = response ≡ false
-GoesAs (ReceiveReady receive) response = Unit {0}
-GoesAs (ReceiveNotReady receive) response = Unit {0}
-GoesAs (Reject receive) response = Unit {0}
-GoesAs SetMode response = response ≡ false
-GoesAs Disconnect response = response ≡ false
-GoesAs DisconnectedMode response = response ≡ true
-GoesAs Acknowledgement response = response ≡ true
-GoesAs (FrameReject report) response = response ≡ true
+GoesAs (I ns nr information) response = response ≡ false
+GoesAs (Rr nr) response = Unit {0}
+GoesAs (Rnr nr) response = Unit {0}
+GoesAs (Rej nr) response = Unit {0}
+GoesAs Sabm response = response ≡ false
+GoesAs Disc response = response ≡ false
+GoesAs Dm response = response ≡ true
+GoesAs Ua response = response ≡ true
+GoesAs (Frmr report) response = response ≡ true
 
 -- its sequence numbers are numbers modulo 8, and what a report repeats is an octet and two such numbers
 abbrev pub HasNumbers : Content → Type 0
-HasNumbers (Information send receive information) = (send < 8) × (receive < 8)
-HasNumbers (ReceiveReady receive) = receive < 8
-HasNumbers (ReceiveNotReady receive) = receive < 8
-HasNumbers (Reject receive) = receive < 8
-HasNumbers SetMode = Unit {0}
-HasNumbers Disconnect = Unit {0}
-HasNumbers DisconnectedMode = Unit {0}
-HasNumbers Acknowledgement = Unit {0}
-HasNumbers (FrameReject report) = (report.control < 256) × (report.send < 8) × (report.receive < 8)
+HasNumbers (I ns nr information) = (ns < 8) × (nr < 8)
+HasNumbers (Rr nr) = nr < 8
+HasNumbers (Rnr nr) = nr < 8
+HasNumbers (Rej nr) = nr < 8
+HasNumbers Sabm = Unit {0}
+HasNumbers Disc = Unit {0}
+HasNumbers Dm = Unit {0}
+HasNumbers Ua = Unit {0}
+HasNumbers (Frmr report) = (report.control < 256) × (report.vs < 8) × (report.vr < 8)
 
 -- an I frame carries at most 145 octets
 abbrev pub FitsField : Content → Type 0
-FitsField (Information send receive information) = length information ≤ 145
-FitsField (ReceiveReady receive) = Unit {0}
-FitsField (ReceiveNotReady receive) = Unit {0}
-FitsField (Reject receive) = Unit {0}
-FitsField SetMode = Unit {0}
-FitsField Disconnect = Unit {0}
-FitsField DisconnectedMode = Unit {0}
-FitsField Acknowledgement = Unit {0}
-FitsField (FrameReject report) = Unit {0}
+FitsField (I ns nr information) = length information ≤ 145
+FitsField (Rr nr) = Unit {0}
+FitsField (Rnr nr) = Unit {0}
+FitsField (Rej nr) = Unit {0}
+FitsField Sabm = Unit {0}
+FitsField Disc = Unit {0}
+FitsField Dm = Unit {0}
+FitsField Ua = Unit {0}
+FitsField (Frmr report) = Unit {0}
 
 -- what has a spelling
 pub record HasSpelling (f : FrameValue) : Type 0 where

@@ -8,23 +8,23 @@ use Rattle.frame_codec.specs.declared.frame.Rejection.{Rejection}
 use Rattle.frame_codec.specs.Frame.{
   Report,
   Content,
-  Information,
-  ReceiveReady,
-  ReceiveNotReady,
-  Reject,
-  SetMode,
-  Disconnect,
-  DisconnectedMode,
-  Acknowledgement,
-  FrameReject,
+  I,
+  Rr,
+  Rnr,
+  Rej,
+  Sabm,
+  Disc,
+  Dm,
+  Ua,
+  Frmr,
   FrameValue,
 }
 
 abbrev pub report_of : Rejection → Report
 report_of r = record {
   control = r.control;
-  send = r.vs;
-  receive = r.vr;
+  vs = r.vs;
+  vr = r.vr;
   response = r.response;
   w = r.w;
   x = r.x;
@@ -34,18 +34,18 @@ report_of r = record {
 }
 
 abbrev pub content_of : FrameKind → Content
-content_of (kinds.I ns nr information) = Information ns nr information.now
-content_of (kinds.Rr nr) = ReceiveReady nr
-content_of (kinds.Rnr nr) = ReceiveNotReady nr
-content_of (kinds.Rej nr) = Reject nr
-content_of kinds.Sabm = SetMode
-content_of kinds.Disc = Disconnect
-content_of kinds.Dm = DisconnectedMode
-content_of kinds.Ua = Acknowledgement
-content_of (kinds.Frmr report) = FrameReject (report_of report)
+content_of (kinds.I ns nr information) = I ns nr information.now
+content_of (kinds.Rr nr) = Rr nr
+content_of (kinds.Rnr nr) = Rnr nr
+content_of (kinds.Rej nr) = Rej nr
+content_of kinds.Sabm = Sabm
+content_of kinds.Disc = Disc
+content_of kinds.Dm = Dm
+content_of kinds.Ua = Ua
+content_of (kinds.Frmr report) = Frmr (report_of report)
 
 abbrev pub value_of : Frame → FrameValue
-value_of f = record { content = content_of f.kind; response = f.response; poll = f.pf }
+value_of f = record { content = content_of f.kind; response = f.response; pf = f.pf }
 
 -- the kind that was read, or the fault
 abbrev pub kind_read : Result FrameKind FrameFault → Result Content FrameFault

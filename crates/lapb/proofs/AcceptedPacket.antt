@@ -15,15 +15,15 @@ use Rattle.frame_codec.specs.Frame.{
   FrameValue,
   Content,
   Report,
-  Information,
-  ReceiveReady,
-  ReceiveNotReady,
-  Reject,
-  SetMode,
-  Disconnect,
-  DisconnectedMode,
-  Acknowledgement,
-  FrameReject,
+  I,
+  Rr,
+  Rnr,
+  Rej,
+  Sabm,
+  Disc,
+  Dm,
+  Ua,
+  Frmr,
 }
 use Rattle.frame_codec.specs.FrameForm.{FrameForm, FieldForm}
 use Rattle.frame_codec.specs.Reading.{reading}
@@ -39,15 +39,15 @@ cond_by P false holds fails = fails refl
 
 -- the packet that a frame carries
 abbrev pub packet_in : Content → Option Octets
-packet_in (Information send receive packet) = Some packet
-packet_in (ReceiveReady receive) = None
-packet_in (ReceiveNotReady receive) = None
-packet_in (Reject receive) = None
-packet_in SetMode = None
-packet_in Disconnect = None
-packet_in DisconnectedMode = None
-packet_in Acknowledgement = None
-packet_in (FrameReject report) = None
+packet_in (I ns nr packet) = Some packet
+packet_in (Rr nr) = None
+packet_in (Rnr nr) = None
+packet_in (Rej nr) = None
+packet_in Sabm = None
+packet_in Disc = None
+packet_in Dm = None
+packet_in Ua = None
+packet_in (Frmr report) = None
 
 -- what is accepted is what the frame carries
 abbrev Accepts : Option Octets → Step → Type 0
@@ -57,56 +57,56 @@ nothing_accepted : (carried : Option Octets) (step : Step) → step.accepted ≡
 nothing_accepted carried step none = λ packet e. let both : ◌≡◌ {A = Option Octets} None (Some packet) = sym none ∙
     e in absurd (cc)
 
-rejects : (carried : Option Octets) (role : Role) (l : Link) (report : Report) (poll : Bool) → Accepts carried
-    (reject_as role l report poll)
-rejects carried Dte l report poll = nothing_accepted carried (reject_as Dte l report poll) refl
-rejects carried Dce l report poll = nothing_accepted carried (reject_as Dce l report poll) refl
+rejects : (carried : Option Octets) (role : Role) (l : Link) (report : Report) (pf : Bool) → Accepts carried
+    (reject_as role l report pf)
+rejects carried Dte l report pf = nothing_accepted carried (reject_as Dte l report pf) refl
+rejects carried Dce l report pf = nothing_accepted carried (reject_as Dce l report pf) refl
 
-checks : (carried : Option Octets) (l : Link) (content : Content) (r p : Bool) (receive : ℕ) (taken : Step) →
-    Accepts carried taken → Accepts carried (checked l content r p receive taken)
-checks carried l content r p receive taken of =
-    cond_by (λ b. Accepts carried (if b then record taken { anew = nat_lt 0 (ahead l.oldest receive) } else
-    reject_number l content r p)) (is_valid l receive)
+checks : (carried : Option Octets) (l : Link) (content : Content) (r p : Bool) (nr : ℕ) (taken : Step) →
+    Accepts carried taken → Accepts carried (checked l content r p nr taken)
+checks carried l content r p nr taken of =
+    cond_by (λ b. Accepts carried (if b then record taken { anew = nat_lt 0 (ahead l.oldest nr) } else
+    reject_number l content r p)) (is_valid l nr)
     (λ _. of) (λ _. rejects carried l.role l _ _)
 
-informs : (l : Link) (send : ℕ) (p : Bool) (packet : Octets) → Accepts (Some packet) (on_information l send p packet)
-informs l send p packet =
-    cond_by (λ b. Accepts (Some packet) (if b then accept l p packet else discard l p)) (send == l.expected)
+informs : (l : Link) (ns : ℕ) (p : Bool) (packet : Octets) → Accepts (Some packet) (on_information l ns p packet)
+informs l ns p packet =
+    cond_by (λ b. Accepts (Some packet) (if b then accept l p packet else discard l p)) (ns == l.expected)
     (λ _ other e. e) (λ _. nothing_accepted (Some packet) (discard l p) refl)
 
 up_accepts : (role : Role) (l : Link) (content : Content) (r p : Bool) → Accepts (packet_in content) (in_up role l
     content r p)
-up_accepts role l (Information send receive packet) r p = checks (Some packet) l (Information send receive packet)
-    r p receive (on_information (acknowledged l receive) send p packet) (informs (acknowledged l receive) send p
+up_accepts role l (I ns nr packet) r p = checks (Some packet) l (I ns nr packet)
+    r p nr (on_information (acknowledged l nr) ns p packet) (informs (acknowledged l nr) ns p
     packet)
-up_accepts role l (ReceiveReady receive) r p = checks None l (ReceiveReady receive) r p receive (on_supervisory
-    (acknowledged l receive) false false r p) (nothing_accepted None (on_supervisory (acknowledged l receive) false
+up_accepts role l (Rr nr) r p = checks None l (Rr nr) r p nr (on_supervisory
+    (acknowledged l nr) false false r p) (nothing_accepted None (on_supervisory (acknowledged l nr) false
     false r p) refl)
-up_accepts role l (ReceiveNotReady receive) r p = checks None l (ReceiveNotReady receive) r p receive
-    (on_supervisory (acknowledged l receive) true false r p) (nothing_accepted None (on_supervisory (acknowledged l
-    receive) true false r p) refl)
-up_accepts role l (Reject receive) r p = checks None l (Reject receive) r p receive (on_supervisory (acknowledged l
-    receive) false true r p) (nothing_accepted None (on_supervisory (acknowledged l receive) false true r p) refl)
-up_accepts role l Disconnect r p = nothing_accepted None (in_up role l Disconnect r p) refl
-up_accepts role l Acknowledgement r p = nothing_accepted None (in_up role l Acknowledgement r p) refl
-up_accepts Dte l SetMode r p = nothing_accepted None (in_up Dte l SetMode r p) refl
-up_accepts Dce l SetMode r p = nothing_accepted None (in_up Dce l SetMode r p) refl
-up_accepts Dte l DisconnectedMode r p = nothing_accepted None (in_up Dte l DisconnectedMode r p) refl
-up_accepts Dce l DisconnectedMode r p = nothing_accepted None (in_up Dce l DisconnectedMode r p) refl
-up_accepts Dte l (FrameReject report) r p = nothing_accepted None (in_up Dte l (FrameReject report) r p) refl
-up_accepts Dce l (FrameReject report) r p = nothing_accepted None (in_up Dce l (FrameReject report) r p) refl
+up_accepts role l (Rnr nr) r p = checks None l (Rnr nr) r p nr
+    (on_supervisory (acknowledged l nr) true false r p) (nothing_accepted None (on_supervisory (acknowledged l
+    nr) true false r p) refl)
+up_accepts role l (Rej nr) r p = checks None l (Rej nr) r p nr (on_supervisory (acknowledged l
+    nr) false true r p) (nothing_accepted None (on_supervisory (acknowledged l nr) false true r p) refl)
+up_accepts role l Disc r p = nothing_accepted None (in_up role l Disc r p) refl
+up_accepts role l Ua r p = nothing_accepted None (in_up role l Ua r p) refl
+up_accepts Dte l Sabm r p = nothing_accepted None (in_up Dte l Sabm r p) refl
+up_accepts Dce l Sabm r p = nothing_accepted None (in_up Dce l Sabm r p) refl
+up_accepts Dte l Dm r p = nothing_accepted None (in_up Dte l Dm r p) refl
+up_accepts Dce l Dm r p = nothing_accepted None (in_up Dce l Dm r p) refl
+up_accepts Dte l (Frmr report) r p = nothing_accepted None (in_up Dte l (Frmr report) r p) refl
+up_accepts Dce l (Frmr report) r p = nothing_accepted None (in_up Dce l (Frmr report) r p) refl
 
 setting_up_accepts : (l : Link) (content : Content) (r p : Bool) → (in_setting_up l content r p).accepted ≡ None
-setting_up_accepts l Acknowledgement r p = cond_by (λ b. ◌≡◌ {A = Option Octets} (if b then come_up l else still
+setting_up_accepts l Ua r p = cond_by (λ b. ◌≡◌ {A = Option Octets} (if b then come_up l else still
     l).accepted None) (is_same p l.bit) (λ _. refl) (λ _. refl)
-setting_up_accepts l (Information send receive packet) r p = refl
-setting_up_accepts l (ReceiveReady receive) r p = refl
-setting_up_accepts l (ReceiveNotReady receive) r p = refl
-setting_up_accepts l (Reject receive) r p = refl
-setting_up_accepts l SetMode r p = refl
-setting_up_accepts l Disconnect r p = refl
-setting_up_accepts l DisconnectedMode r p = refl
-setting_up_accepts l (FrameReject report) r p = refl
+setting_up_accepts l (I ns nr packet) r p = refl
+setting_up_accepts l (Rr nr) r p = refl
+setting_up_accepts l (Rnr nr) r p = refl
+setting_up_accepts l (Rej nr) r p = refl
+setting_up_accepts l Sabm r p = refl
+setting_up_accepts l Disc r p = refl
+setting_up_accepts l Dm r p = refl
+setting_up_accepts l (Frmr report) r p = refl
 
 asked : (l : Link) (frame : FrameValue) (due : Bool) → ◌≡◌ {A = Option Octets} (if due then sends l frame else
     still l).accepted None
@@ -114,24 +114,24 @@ asked l frame true = refl
 asked l frame false = refl
 
 down_accepts : (role : Role) (l : Link) (content : Content) (r p : Bool) → (in_down role l content r p).accepted ≡ None
-down_accepts Dte l SetMode r p = refl
-down_accepts Dte l DisconnectedMode r p = refl
-down_accepts Dce l SetMode r p = asked l _ (p && not r)
-down_accepts Dce l DisconnectedMode r p = asked l _ (p && not r)
-down_accepts Dte l Disconnect r p = refl
-down_accepts Dce l Disconnect r p = refl
-down_accepts Dte l (Information send receive packet) r p = asked l _ (p && not r)
-down_accepts Dce l (Information send receive packet) r p = asked l _ (p && not r)
-down_accepts Dte l (ReceiveReady receive) r p = asked l _ (p && not r)
-down_accepts Dce l (ReceiveReady receive) r p = asked l _ (p && not r)
-down_accepts Dte l (ReceiveNotReady receive) r p = asked l _ (p && not r)
-down_accepts Dce l (ReceiveNotReady receive) r p = asked l _ (p && not r)
-down_accepts Dte l (Reject receive) r p = asked l _ (p && not r)
-down_accepts Dce l (Reject receive) r p = asked l _ (p && not r)
-down_accepts Dte l Acknowledgement r p = asked l _ (p && not r)
-down_accepts Dce l Acknowledgement r p = asked l _ (p && not r)
-down_accepts Dte l (FrameReject report) r p = asked l _ (p && not r)
-down_accepts Dce l (FrameReject report) r p = asked l _ (p && not r)
+down_accepts Dte l Sabm r p = refl
+down_accepts Dte l Dm r p = refl
+down_accepts Dce l Sabm r p = asked l _ (p && not r)
+down_accepts Dce l Dm r p = asked l _ (p && not r)
+down_accepts Dte l Disc r p = refl
+down_accepts Dce l Disc r p = refl
+down_accepts Dte l (I ns nr packet) r p = asked l _ (p && not r)
+down_accepts Dce l (I ns nr packet) r p = asked l _ (p && not r)
+down_accepts Dte l (Rr nr) r p = asked l _ (p && not r)
+down_accepts Dce l (Rr nr) r p = asked l _ (p && not r)
+down_accepts Dte l (Rnr nr) r p = asked l _ (p && not r)
+down_accepts Dce l (Rnr nr) r p = asked l _ (p && not r)
+down_accepts Dte l (Rej nr) r p = asked l _ (p && not r)
+down_accepts Dce l (Rej nr) r p = asked l _ (p && not r)
+down_accepts Dte l Ua r p = asked l _ (p && not r)
+down_accepts Dce l Ua r p = asked l _ (p && not r)
+down_accepts Dte l (Frmr report) r p = asked l _ (p && not r)
+down_accepts Dce l (Frmr report) r p = asked l _ (p && not r)
 
 repeated : (l : Link) (frame : FrameValue) (due : Bool) → ◌≡◌ {A = Option Octets} (if due then still l else sends l
     frame).accepted None
@@ -139,15 +139,15 @@ repeated l frame true = refl
 repeated l frame false = refl
 
 rejecting_accepts : (l : Link) (content : Content) (r p : Bool) → (in_rejecting l content r p).accepted ≡ None
-rejecting_accepts l Disconnect r p = refl
-rejecting_accepts l (Information send receive packet) r p = repeated l _ r
-rejecting_accepts l (ReceiveReady receive) r p = repeated l _ r
-rejecting_accepts l (ReceiveNotReady receive) r p = repeated l _ r
-rejecting_accepts l (Reject receive) r p = repeated l _ r
-rejecting_accepts l SetMode r p = repeated l _ r
-rejecting_accepts l DisconnectedMode r p = repeated l _ r
-rejecting_accepts l Acknowledgement r p = repeated l _ r
-rejecting_accepts l (FrameReject report) r p = repeated l _ r
+rejecting_accepts l Disc r p = refl
+rejecting_accepts l (I ns nr packet) r p = repeated l _ r
+rejecting_accepts l (Rr nr) r p = repeated l _ r
+rejecting_accepts l (Rnr nr) r p = repeated l _ r
+rejecting_accepts l (Rej nr) r p = repeated l _ r
+rejecting_accepts l Sabm r p = repeated l _ r
+rejecting_accepts l Dm r p = repeated l _ r
+rejecting_accepts l Ua r p = repeated l _ r
+rejecting_accepts l (Frmr report) r p = repeated l _ r
 
 phase_accepts : (phase : Phase) (role : Role) (l : Link) (content : Content) (r p : Bool) → Accepts (packet_in
     content) (in_phase phase role l content r p)
@@ -161,17 +161,17 @@ phase_accepts Phase.Rejecting role l content r p = nothing_accepted (packet_in c
 
 content_accepts : (content : Content) (role : Role) (l : Link) (r p : Bool) → Accepts (packet_in content)
     (on_content content role l r p)
-content_accepts SetMode Dce l r p = nothing_accepted None (on_content SetMode Dce l r p) refl
-content_accepts SetMode Dte l r p = phase_accepts l.phase Dte l SetMode r p
-content_accepts (Information send receive packet) role l r p = phase_accepts l.phase role l (Information send
-    receive packet) r p
-content_accepts (ReceiveReady receive) role l r p = phase_accepts l.phase role l (ReceiveReady receive) r p
-content_accepts (ReceiveNotReady receive) role l r p = phase_accepts l.phase role l (ReceiveNotReady receive) r p
-content_accepts (Reject receive) role l r p = phase_accepts l.phase role l (Reject receive) r p
-content_accepts Disconnect role l r p = phase_accepts l.phase role l Disconnect r p
-content_accepts DisconnectedMode role l r p = phase_accepts l.phase role l DisconnectedMode r p
-content_accepts Acknowledgement role l r p = phase_accepts l.phase role l Acknowledgement r p
-content_accepts (FrameReject report) role l r p = phase_accepts l.phase role l (FrameReject report) r p
+content_accepts Sabm Dce l r p = nothing_accepted None (on_content Sabm Dce l r p) refl
+content_accepts Sabm Dte l r p = phase_accepts l.phase Dte l Sabm r p
+content_accepts (I ns nr packet) role l r p = phase_accepts l.phase role l (I ns
+    nr packet) r p
+content_accepts (Rr nr) role l r p = phase_accepts l.phase role l (Rr nr) r p
+content_accepts (Rnr nr) role l r p = phase_accepts l.phase role l (Rnr nr) r p
+content_accepts (Rej nr) role l r p = phase_accepts l.phase role l (Rej nr) r p
+content_accepts Disc role l r p = phase_accepts l.phase role l Disc r p
+content_accepts Dm role l r p = phase_accepts l.phase role l Dm r p
+content_accepts Ua role l r p = phase_accepts l.phase role l Ua r p
+content_accepts (Frmr report) role l r p = phase_accepts l.phase role l (Frmr report) r p
 
 defect_accepts : (phase : Phase) (l : Link) (defect : Defect) (control : ℕ) (r : Bool) → Accepts None (on_defect_in
     phase l defect control r)
@@ -193,15 +193,15 @@ packet_is : (at : Role) (bytes : Octets) (f : FrameValue) → FrameForm at bytes
 packet_is at bytes f form packet e = go f.content form.form e ∙ sym (ap (drop 2) form.head.octets)
   where
     go : (content : Content) → FieldForm content form.field → packet_in content ≡ Some packet → packet ≡ form.field
-    go (Information send receive other) field e = let same : other ≡ packet = cc in sym same ∙ sym field.0
-    go (ReceiveReady receive) field e = absurd (cc)
-    go (ReceiveNotReady receive) field e = absurd (cc)
-    go (Reject receive) field e = absurd (cc)
-    go SetMode field e = absurd (cc)
-    go Disconnect field e = absurd (cc)
-    go DisconnectedMode field e = absurd (cc)
-    go Acknowledgement field e = absurd (cc)
-    go (FrameReject report) field e = absurd (cc)
+    go (I ns nr other) field e = let same : other ≡ packet = cc in sym same ∙ sym field.0
+    go (Rr nr) field e = absurd (cc)
+    go (Rnr nr) field e = absurd (cc)
+    go (Rej nr) field e = absurd (cc)
+    go Sabm field e = absurd (cc)
+    go Disc field e = absurd (cc)
+    go Dm field e = absurd (cc)
+    go Ua field e = absurd (cc)
+    go (Frmr report) field e = absurd (cc)
 
 pub accepted_is : (l : Link) (bytes : Octets) → AreOctets bytes → (packet : Octets) → (on_octets l bytes).accepted
     ≡ Some packet → packet ≡ drop 2 bytes
@@ -210,6 +210,6 @@ accepted_is l bytes octets packet e = go (reading l.role bytes) (reading_decided
     go : (read : Result FrameValue FrameFault) → IsDecided l.role bytes read → (on_reading l bytes read).accepted ≡
         Some packet → packet ≡ drop 2 bytes
     go (Ok frame) form accepted = packet_is l.role bytes frame form packet (content_accepts frame.content l.role l
-        frame.response frame.poll packet accepted)
+        frame.response frame.pf packet accepted)
     go (Err fault) first accepted = let none : ◌≡◌ {A = Option Octets} None (Some packet) = fault_accepts l fault
         bytes packet accepted in absurd (cc)

@@ -26,15 +26,15 @@ use Rattle.std.proofs.lemmas.Bool.{eqb-false}
 use Rattle.link_timers.specs.declared.role.Role.TheVariants.{Dte, Dce}
 use Rattle.frame_codec.specs.Frame.{FrameValue, Content}
 use Rattle.frame_codec.specs.Frame.Content.{
-  Information,
-  ReceiveReady,
-  ReceiveNotReady,
-  Reject,
-  SetMode,
-  Disconnect,
-  DisconnectedMode,
-  Acknowledgement,
-  FrameReject,
+  I,
+  Rr,
+  Rnr,
+  Rej,
+  Sabm,
+  Disc,
+  Dm,
+  Ua,
+  Frmr,
 }
 use Rattle.lapb.specs.declared.phase.Phase.{Phase}
 use Rattle.lapb.specs.Machine.{Octets, Link, Step, response, cleared, offer, is_full}
@@ -48,8 +48,8 @@ use Rattle.lapb.specs.World.{
   kept_of,
   offered,
   dce_does,
-  is_set_mode,
-  is_acknowledgement,
+  is_sabm,
+  is_ua,
   IsPrefix,
 }
 use Rattle.lapb.proofs.Cases.{cond_by, Each, each-kept, each-weaken, prefix-refl}
@@ -70,7 +70,7 @@ use Rattle.lapb.proofs.Flights.{
   flight-append,
   flight-stamped,
   flight-weaken,
-  NoSabm,
+  NoSabmOf,
   NoNumbered,
   NoneOf,
   Stamped,
@@ -100,28 +100,28 @@ use Rattle.lapb.proofs.DteSteps.{IsPlain, half-sent_plain, half-told_plain, IsDm
 
 -- ---- a DCE that is up goes on
 
-of_down-numbered : (n : ℕ) (p : Bool) (t : ℕ) (content : Content) (final : Bool) → is_numbered content ≡ true → OfDown
-    n p t content final
-of_down-numbered n p t (Information send receive packet) final e = tt
-of_down-numbered n p t (ReceiveReady receive) final e = tt
-of_down-numbered n p t (ReceiveNotReady receive) final e = tt
-of_down-numbered n p t (Reject receive) final e = tt
-of_down-numbered n p t DisconnectedMode final e = tt
-of_down-numbered n p t SetMode final e = absurd (cc)
-of_down-numbered n p t Disconnect final e = absurd (cc)
-of_down-numbered n p t Acknowledgement final e = absurd (cc)
-of_down-numbered n p t (FrameReject report) final e = absurd (cc)
+of_down-numbered : (n : ℕ) (p : Bool) (t : ℕ) (content : Content) (pf : Bool) → is_numbered content ≡ true → OfDown
+    n p t content pf
+of_down-numbered n p t (I ns nr packet) pf e = tt
+of_down-numbered n p t (Rr nr) pf e = tt
+of_down-numbered n p t (Rnr nr) pf e = tt
+of_down-numbered n p t (Rej nr) pf e = tt
+of_down-numbered n p t Dm pf e = tt
+of_down-numbered n p t Sabm pf e = absurd (cc)
+of_down-numbered n p t Disc pf e = absurd (cc)
+of_down-numbered n p t Ua pf e = absurd (cc)
+of_down-numbered n p t (Frmr report) pf e = absurd (cc)
 
-numbered-no_answer : (content : Content) → is_numbered content ≡ true → is_acknowledgement content ≡ false
-numbered-no_answer (Information send receive packet) e = refl
-numbered-no_answer (ReceiveReady receive) e = refl
-numbered-no_answer (ReceiveNotReady receive) e = refl
-numbered-no_answer (Reject receive) e = refl
-numbered-no_answer DisconnectedMode e = refl
-numbered-no_answer SetMode e = refl
-numbered-no_answer Disconnect e = refl
-numbered-no_answer Acknowledgement e = absurd (cc)
-numbered-no_answer (FrameReject report) e = refl
+numbered-no_answer : (content : Content) → is_numbered content ≡ true → is_ua content ≡ false
+numbered-no_answer (I ns nr packet) e = refl
+numbered-no_answer (Rr nr) e = refl
+numbered-no_answer (Rnr nr) e = refl
+numbered-no_answer (Rej nr) e = refl
+numbered-no_answer Dm e = refl
+numbered-no_answer Sabm e = refl
+numbered-no_answer Disc e = refl
+numbered-no_answer Ua e = absurd (cc)
+numbered-no_answer (Frmr report) e = refl
 
 stamped-own : (c : ℕ) (frames : List FrameValue) → Stamped c (stamped c frames)
 stamped-own c [] = tt
@@ -131,7 +131,7 @@ pub dce_goes : (w : World) (kept : List Bool) (step : Step) → Inv (dce_in w Ph
     GoesStep w.session (dce_in w Phase.Up).dce w.dte (w.dce_offered w.session) (w.dte_accepted w.session)
     (w.dte_offered w.session)
     (w.dce_accepted w.session) w.down w.up true step →
-    NoSabm w.session w.up → (w.dte.phase ≡ Phase.SettingUp → w.act ≡ w.session → ⊥) → Inv (dce_does (dce_in w
+    NoSabmOf w.session w.up → (w.dte.phase ≡ Phase.SettingUp → w.act ≡ w.session → ⊥) → Inv (dce_does (dce_in w
     Phase.Up) kept step)
 dce_goes w kept step i g off not_setting =
     let c : ℕ = w.session in
@@ -163,8 +163,8 @@ dce_goes w kept step i g off not_setting =
           (w.dte_accepted c) (w.down ++ stamped c frames) w.up) (sym g.phase) there;
       ups = i.ups;
       downs = downs-more c w.act w.dte.bit 0 w.down frames (omega arith) i.downs
-          (each-weaken (λ f. is_numbered f.content ≡ true) (λ f. OfDown w.act w.dte.bit c f.content f.poll)
-          (λ f. of_down-numbered w.act w.dte.bit c f.content f.poll) frames numbered);
+          (each-weaken (λ f. is_numbered f.content ≡ true) (λ f. OfDown w.act w.dte.bit c f.content f.pf)
+          (λ f. of_down-numbered w.act w.dte.bit c f.content f.pf) frames numbered);
       up_in = λ e. let j = i.up_in e in record {
         act_is = j.act_is;
         own_is = j.own_is;
@@ -172,9 +172,9 @@ dce_goes w kept step i g off not_setting =
       };
       down_out = λ e. let j = i.down_out e in (
         j.0,
-        flight-append (λ s. is_acknowledgement s.frame.content ≡ false) w.down (stamped c frames) j.1
-            (flight-stamped (λ s. is_acknowledgement s.frame.content ≡ false) c frames
-            (each-weaken (λ f. is_numbered f.content ≡ true) (λ f. is_acknowledgement f.content ≡ false)
+        flight-append (λ s. is_ua s.frame.content ≡ false) w.down (stamped c frames) j.1
+            (flight-stamped (λ s. is_ua s.frame.content ≡ false) c frames
+            (each-weaken (λ f. is_numbered f.content ≡ true) (λ f. is_ua f.content ≡ false)
             (λ f. numbered-no_answer f.content) frames numbered)),
       );
       setting = λ e f. absurd (not_setting e f);
@@ -248,20 +248,20 @@ dce_offers w packet i =
 
 -- ---- a DCE that is down, or goes down, sends DM
 
-of_down-dm : (n : ℕ) (p : Bool) (t : ℕ) (f : FrameValue) → IsDm f → OfDown n p t f.content f.poll
-of_down-dm n p t f e = subst (λ (x : Content). OfDown n p t x f.poll) (sym e) tt
+of_down-dm : (n : ℕ) (p : Bool) (t : ℕ) (f : FrameValue) → IsDm f → OfDown n p t f.content f.pf
+of_down-dm n p t f e = subst (λ (x : Content). OfDown n p t x f.pf) (sym e) tt
 
-pub dce_declines : (w : World) (kept : List Bool) (link : Link) (final : Bool) → Inv w → link.role ≡ Dce → link.k ≤ 7
+pub dce_declines : (w : World) (kept : List Bool) (link : Link) (pf : Bool) → Inv w → link.role ≡ Dce → link.k ≤ 7
     → link.phase ≡ Phase.Down →
     Inv (record w {
       dce = link;
-      down = w.down ++ stamped w.session (kept_of kept (response DisconnectedMode final ∷
+      down = w.down ++ stamped w.session (kept_of kept (response Dm pf ∷
           []));
     })
-dce_declines w kept link final i role k down =
+dce_declines w kept link pf i role k down =
     let c : ℕ = w.session in
-    let frames : List FrameValue = kept_of kept (response DisconnectedMode final ∷ []) in
-    let dm : Each IsDm frames = each-kept IsDm kept (response DisconnectedMode final ∷ []) (refl, tt) in
+    let frames : List FrameValue = kept_of kept (response Dm pf ∷ []) in
+    let dm : Each IsDm frames = each-kept IsDm kept (response Dm pf ∷ []) (refl, tt) in
     let plain : Each IsPlain frames = dm-plain frames dm in
     let not_up : link.phase ≡ Phase.Up → ⊥ = λ e. cc in
     let none : NoneOf c w.down → NoneOf c (w.down ++ stamped c frames) =
@@ -294,7 +294,7 @@ dce_declines w kept link final i role k down =
           (w.dte_accepted c) c frames w.down w.up i.back plain);
       ups = i.ups;
       downs = downs-more c w.act w.dte.bit 0 w.down frames (omega arith) i.downs
-          (each-weaken IsDm (λ f. OfDown w.act w.dte.bit c f.content f.poll) (of_down-dm w.act w.dte.bit c) frames
+          (each-weaken IsDm (λ f. OfDown w.act w.dte.bit c f.content f.pf) (of_down-dm w.act w.dte.bit c) frames
           dm);
       up_in = λ e. let j = i.up_in e in record {
         act_is = j.act_is;
@@ -303,9 +303,9 @@ dce_declines w kept link final i role k down =
       };
       down_out = λ e. let j = i.down_out e in (
         j.0,
-        flight-append (λ s. is_acknowledgement s.frame.content ≡ false) w.down (stamped c frames) j.1
-            (flight-stamped (λ s. is_acknowledgement s.frame.content ≡ false) c frames
-            (each-weaken IsDm (λ f. is_acknowledgement f.content ≡ false) (λ f e. ap is_acknowledgement e) frames
+        flight-append (λ s. is_ua s.frame.content ≡ false) w.down (stamped c frames) j.1
+            (flight-stamped (λ s. is_ua s.frame.content ≡ false) c frames
+            (each-weaken IsDm (λ f. is_ua f.content ≡ false) (λ f e. ap is_ua e) frames
             dm)),
       );
       setting = λ e f. let j = i.setting e f in record {
@@ -331,26 +331,26 @@ emptied-other lists t u other =
 
 carries-none : (o : List Octets) (lo hi : ℕ) (content : Content) → is_numbered content ≡ false → Carries o lo hi
     content
-carries-none o lo hi (Information send receive packet) e = absurd (cc)
-carries-none o lo hi (ReceiveReady receive) e = tt
-carries-none o lo hi (ReceiveNotReady receive) e = tt
-carries-none o lo hi (Reject receive) e = tt
-carries-none o lo hi SetMode e = tt
-carries-none o lo hi Disconnect e = tt
-carries-none o lo hi DisconnectedMode e = tt
-carries-none o lo hi Acknowledgement e = tt
-carries-none o lo hi (FrameReject report) e = tt
+carries-none o lo hi (I ns nr packet) e = absurd (cc)
+carries-none o lo hi (Rr nr) e = tt
+carries-none o lo hi (Rnr nr) e = tt
+carries-none o lo hi (Rej nr) e = tt
+carries-none o lo hi Sabm e = tt
+carries-none o lo hi Disc e = tt
+carries-none o lo hi Dm e = tt
+carries-none o lo hi Ua e = tt
+carries-none o lo hi (Frmr report) e = tt
 
 tells-none : (count : ℕ) (content : Content) → is_numbered content ≡ false → Tells count content
-tells-none count (Information send receive packet) e = absurd (cc)
-tells-none count (ReceiveReady receive) e = absurd (cc)
-tells-none count (ReceiveNotReady receive) e = absurd (cc)
-tells-none count (Reject receive) e = absurd (cc)
-tells-none count SetMode e = tt
-tells-none count Disconnect e = tt
-tells-none count DisconnectedMode e = tt
-tells-none count Acknowledgement e = tt
-tells-none count (FrameReject report) e = tt
+tells-none count (I ns nr packet) e = absurd (cc)
+tells-none count (Rr nr) e = absurd (cc)
+tells-none count (Rnr nr) e = absurd (cc)
+tells-none count (Rej nr) e = absurd (cc)
+tells-none count Sabm e = tt
+tells-none count Disc e = tt
+tells-none count Dm e = tt
+tells-none count Ua e = tt
+tells-none count (Frmr report) e = tt
 
 data-none : (c : ℕ) (o : List Octets) (flow : List Sent) → NoneOf c flow → Data c o 0 0 flow
 data-none c o [] none = tt
@@ -397,7 +397,7 @@ acks-zero c top lo acks e a = acks-lower c 0 lo 0 acks (omega arith) (subst (λ 
 zero-mod : (v n : ℕ) → v ≡ n % 8 → n ≡ 0 → v ≡ 0
 zero-mod v n e f = omega arith
 
-enters_again : (w : World) (s : Sent) (rest : List Sent) → Inv (record w { up = s ∷ rest }) → is_set_mode
+enters_again : (w : World) (s : Sent) (rest : List Sent) → Inv (record w { up = s ∷ rest }) → is_sabm
     s.frame.content ≡ true →
     s.act ≡ w.session → Enters w w.session rest
 enters_again w s rest i is same =
@@ -465,11 +465,11 @@ entered w t rest p kept = record w {
   session = t;
   dce_offered = emptied true w.dce_offered t;
   dce_accepted = emptied true w.dce_accepted t;
-  down = w.down ++ stamped t (kept_of kept (response Acknowledgement p ∷ []));
+  down = w.down ++ stamped t (kept_of kept (response Ua p ∷ []));
 }
 
 IsAnswer : Bool → FrameValue → Type 0
-IsAnswer p f = (f.content ≡ Acknowledgement) × (f.poll ≡ p)
+IsAnswer p f = (f.content ≡ Ua) × (f.pf ≡ p)
 
 enters : (w : World) (t : ℕ) (rest : List Sent) (p : Bool) (kept : List Bool) → w.dte.role ≡ Dte → w.dce.role ≡ Dce →
     w.dte.k ≤ 7 → w.dce.k ≤ 7 →
@@ -480,8 +480,8 @@ enters : (w : World) (t : ℕ) (rest : List Sent) (p : Bool) (kept : List Bool) 
     kept)
 unfolding IsAnswer
 enters w t rest p kept dte_role dce_role dte_k dce_k rejecting down_out downs lists which n =
-    let frames : List FrameValue = kept_of kept (response Acknowledgement p ∷ []) in
-    let answer : Each (IsAnswer p) frames = each-kept (IsAnswer p) kept (response Acknowledgement p ∷ []) (
+    let frames : List FrameValue = kept_of kept (response Ua p ∷ []) in
+    let answer : Each (IsAnswer p) frames = each-kept (IsAnswer p) kept (response Ua p ∷ []) (
       (
         refl,
         refl,
@@ -536,8 +536,8 @@ enters w t rest p kept dte_role dce_role dte_k dce_k rejecting down_out downs li
       ups = n.ups;
       downs = downs-more t w.act w.dte.bit 0 w.down frames (omega arith) (downs-raise w.session t w.act w.dte.bit 0
           w.down n.from downs)
-          (each-weaken (IsAnswer p) (λ f. OfDown w.act w.dte.bit t f.content f.poll)
-          (λ f e. subst (λ (x : Content). OfDown w.act w.dte.bit t x f.poll) (sym e.0)
+          (each-weaken (IsAnswer p) (λ f. OfDown w.act w.dte.bit t f.content f.pf)
+          (λ f e. subst (λ (x : Content). OfDown w.act w.dte.bit t x f.pf) (sym e.0)
           (subst (λ b. ((t ≡ w.act) × (b ≡ w.dte.bit)) ⊎ ((t < w.act) × (b ≡ not w.dte.bit))) (sym e.1) which)) frames
           answer);
       up_in = λ e. let j = n.up_in e in record {
@@ -571,33 +571,33 @@ enters w t rest p kept dte_role dce_role dte_k dce_k rejecting down_out downs li
     }
 
 -- the content of a SABM
-is_set_mode-is : (content : Content) → is_set_mode content ≡ true → content ≡ SetMode
-is_set_mode-is SetMode e = refl
-is_set_mode-is (Information send receive packet) e = absurd (cc)
-is_set_mode-is (ReceiveReady receive) e = absurd (cc)
-is_set_mode-is (ReceiveNotReady receive) e = absurd (cc)
-is_set_mode-is (Reject receive) e = absurd (cc)
-is_set_mode-is Disconnect e = absurd (cc)
-is_set_mode-is DisconnectedMode e = absurd (cc)
-is_set_mode-is Acknowledgement e = absurd (cc)
-is_set_mode-is (FrameReject report) e = absurd (cc)
+is_sabm-is : (content : Content) → is_sabm content ≡ true → content ≡ Sabm
+is_sabm-is Sabm e = refl
+is_sabm-is (I ns nr packet) e = absurd (cc)
+is_sabm-is (Rr nr) e = absurd (cc)
+is_sabm-is (Rnr nr) e = absurd (cc)
+is_sabm-is (Rej nr) e = absurd (cc)
+is_sabm-is Disc e = absurd (cc)
+is_sabm-is Dm e = absurd (cc)
+is_sabm-is Ua e = absurd (cc)
+is_sabm-is (Frmr report) e = absurd (cc)
 
 pub dce_enters_act : (w : World) (s : Sent) (rest : List Sent) (kept : List Bool) → Inv (record w { up = s ∷ rest }) →
-    is_set_mode s.frame.content ≡ true → Inv (entered w s.act rest s.frame.poll kept)
+    is_sabm s.frame.content ≡ true → Inv (entered w s.act rest s.frame.pf kept)
 dce_enters_act w s rest kept i is =
     let from : w.session ≤ s.act = i.ups.0 in
     let out : w.dte.phase ≡ Phase.Down → ⊥ = λ e. let none = (i.down_out e).0.0 in cc in
-    let set : OfUp w.session w.act w.dte.bit s.act rest SetMode s.frame.poll =
-    subst (λ (x : Content). OfUp w.session w.act w.dte.bit s.act rest x s.frame.poll) (is_set_mode-is s.frame.content
+    let set : OfUp w.session w.act w.dte.bit s.act rest Sabm s.frame.pf =
+    subst (λ (x : Content). OfUp w.session w.act w.dte.bit s.act rest x s.frame.pf) (is_sabm-is s.frame.content
     is) i.ups.2 in
-    let which : ((s.act ≡ w.act) × (s.frame.poll ≡ w.dte.bit)) ⊎ ((s.act < w.act) × (s.frame.poll ≡ not w.dte.bit)) =
+    let which : ((s.act ≡ w.act) × (s.frame.pf ≡ w.dte.bit)) ⊎ ((s.act < w.act) × (s.frame.pf ≡ not w.dte.bit)) =
     elim set [ inl e ↦ inl e | inr e ↦ inr (e.1, e.2) ] in
     let known : Enters w s.act rest =
     cond_by (λ _. Enters w s.act rest) (s.act == w.session)
     (λ e. let same = eqb-true s.act w.session e in
     subst (λ (t : ℕ). Enters w t rest) (sym same) (enters_again w s rest i is same))
     (λ e. let other = eqb-false s.act w.session e in enters_later w s rest i (less s.act w.session from other)) in
-    enters w s.act rest s.frame.poll kept i.dte_role i.dce_role i.dte_k i.dce_k i.dte_phase out i.downs i.lists which
+    enters w s.act rest s.frame.pf kept i.dte_role i.dce_role i.dte_k i.dce_k i.dte_phase out i.downs i.lists which
     known
   where
     less : (t c : ℕ) → c ≤ t → (t ≡ c → ⊥) → c < t

@@ -28,15 +28,15 @@ use Rattle.std.proofs.Common.{refl, sym, ap, ◌∙◌, subst, inl, inr, arith, 
 use Rattle.std.proofs.lemmas.Bool.{eqb-false}
 use Rattle.frame_codec.specs.Frame.{FrameValue, Content}
 use Rattle.frame_codec.specs.Frame.Content.{
-  Information,
-  ReceiveReady,
-  ReceiveNotReady,
-  Reject,
-  SetMode,
-  Disconnect,
-  DisconnectedMode,
-  Acknowledgement,
-  FrameReject,
+  I,
+  Rr,
+  Rnr,
+  Rej,
+  Sabm,
+  Disc,
+  Dm,
+  Ua,
+  Frmr,
 }
 use Rattle.lapb.specs.declared.phase.Phase.{Phase}
 use Rattle.lapb.specs.declared.note.Note.{Note}
@@ -53,7 +53,7 @@ use Rattle.lapb.specs.World.{
   dte_does,
   is_setting_up,
   is_up_note,
-  is_set_mode,
+  is_sabm,
   IsPrefix,
 }
 use Rattle.lapb.proofs.Cases.{cond_by, Each, each-kept, each-weaken}
@@ -73,7 +73,7 @@ use Rattle.lapb.proofs.Flights.{
   OfDown,
   flight-append,
   flight-stamped,
-  NoSabm,
+  NoSabmOf,
   NoNumbered,
   Stamped,
   Ups,
@@ -95,26 +95,26 @@ use Rattle.lapb.proofs.Inv.{IsFresh, Inv, dte_in, lists-change, logged-other, lo
 -- ---- frames that carry no number
 
 carries-plain : (o : List Octets) (m : ℕ) (content : Content) → is_numbered content ≡ false → Carries o m m content
-carries-plain o m (Information send receive packet) e = absurd (cc)
-carries-plain o m (ReceiveReady receive) e = tt
-carries-plain o m (ReceiveNotReady receive) e = tt
-carries-plain o m (Reject receive) e = tt
-carries-plain o m SetMode e = tt
-carries-plain o m Disconnect e = tt
-carries-plain o m DisconnectedMode e = tt
-carries-plain o m Acknowledgement e = tt
-carries-plain o m (FrameReject report) e = tt
+carries-plain o m (I ns nr packet) e = absurd (cc)
+carries-plain o m (Rr nr) e = tt
+carries-plain o m (Rnr nr) e = tt
+carries-plain o m (Rej nr) e = tt
+carries-plain o m Sabm e = tt
+carries-plain o m Disc e = tt
+carries-plain o m Dm e = tt
+carries-plain o m Ua e = tt
+carries-plain o m (Frmr report) e = tt
 
 tells-plain : (count : ℕ) (content : Content) → is_numbered content ≡ false → Tells count content
-tells-plain count (Information send receive packet) e = absurd (cc)
-tells-plain count (ReceiveReady receive) e = absurd (cc)
-tells-plain count (ReceiveNotReady receive) e = absurd (cc)
-tells-plain count (Reject receive) e = absurd (cc)
-tells-plain count SetMode e = tt
-tells-plain count Disconnect e = tt
-tells-plain count DisconnectedMode e = tt
-tells-plain count Acknowledgement e = tt
-tells-plain count (FrameReject report) e = tt
+tells-plain count (I ns nr packet) e = absurd (cc)
+tells-plain count (Rr nr) e = absurd (cc)
+tells-plain count (Rnr nr) e = absurd (cc)
+tells-plain count (Rej nr) e = absurd (cc)
+tells-plain count Sabm e = tt
+tells-plain count Disc e = tt
+tells-plain count Dm e = tt
+tells-plain count Ua e = tt
+tells-plain count (Frmr report) e = tt
 
 abbrev pub IsPlain : FrameValue → Type 0
 IsPlain f = is_numbered f.content ≡ false
@@ -142,15 +142,15 @@ half-told_plain c xphase va next top queue yphase vr o acc t frames flow acks h 
 -- ---- a DTE that is up goes on
 
 speaks-numbered : (c n : ℕ) (content : Content) → n ≡ c → is_numbered content ≡ true → Speaks c n content
-speaks-numbered c n (Information send receive packet) e f = e
-speaks-numbered c n (ReceiveReady receive) e f = e
-speaks-numbered c n (ReceiveNotReady receive) e f = e
-speaks-numbered c n (Reject receive) e f = e
-speaks-numbered c n SetMode e f = absurd (cc)
-speaks-numbered c n Disconnect e f = absurd (cc)
-speaks-numbered c n DisconnectedMode e f = absurd (cc)
-speaks-numbered c n Acknowledgement e f = absurd (cc)
-speaks-numbered c n (FrameReject report) e f = absurd (cc)
+speaks-numbered c n (I ns nr packet) e f = e
+speaks-numbered c n (Rr nr) e f = e
+speaks-numbered c n (Rnr nr) e f = e
+speaks-numbered c n (Rej nr) e f = e
+speaks-numbered c n Sabm e f = absurd (cc)
+speaks-numbered c n Disc e f = absurd (cc)
+speaks-numbered c n Dm e f = absurd (cc)
+speaks-numbered c n Ua e f = absurd (cc)
+speaks-numbered c n (Frmr report) e f = absurd (cc)
 
 module _ (w : World) (kept : List Bool) (step : Step) where
   -- the world after a step that stays up
@@ -182,7 +182,7 @@ pub dte_goes : (w : World) (kept : List Bool) (step : Step) (h : Bool) → Inv (
     GoesStep w.session (dte_in w Phase.Up).dte w.dce (w.dte_offered w.session) (w.dce_accepted w.session)
     (w.dce_offered w.session)
     (w.dte_accepted w.session) w.up w.down h step →
-    NoSabm w.session w.up ⊎ ((step.accepted ≡ None) × IsFresh w) → Inv (dte_does (dte_in w Phase.Up) kept step)
+    NoSabmOf w.session w.up ⊎ ((step.accepted ≡ None) × IsFresh w) → Inv (dte_does (dte_in w Phase.Up) kept step)
 dte_goes w kept step h i g which =
     let c : ℕ = w.session in
     let j = i.up_in refl in
@@ -202,8 +202,8 @@ dte_goes w kept step h i g which =
     let spoken : Each (λ f. Speaks c w.act f.content) frames = each-weaken (λ f. is_numbered f.content ≡ true) (λ f.
     Speaks c w.act f.content)
     (λ f. speaks-numbered c w.act f.content j.act_is) frames numbered in
-    let none : NoSabm c w.up → NoSabm c (w.up ++ stamped w.act frames) =
-    λ off. flight-append (λ s. s.act ≡ c → is_set_mode s.frame.content ≡ false) w.up (stamped w.act frames) off
+    let none : NoSabmOf c w.up → NoSabmOf c (w.up ++ stamped w.act frames) =
+    λ off. flight-append (λ s. s.act ≡ c → is_sabm s.frame.content ≡ false) w.up (stamped w.act frames) off
     (no_sabm-spoken c w.act frames spoken) in
     let not_up : (p : Phase) → (p ≡ Phase.Up → ⊥) → step.link.phase ≡ p → ⊥ = λ p other e. other (sym e ∙ g.phase) in
     subst Inv (dte_does-plain (dte_in w Phase.Up) kept step refl g.phase g.note_is) (record {
@@ -320,7 +320,7 @@ setting-not_up e = cc
 sets-plain : (p : Bool) (frames : List FrameValue) → Each (Sets p) frames → Each IsPlain frames
 sets-plain p frames all = each-weaken (Sets p) IsPlain (λ f s. ap is_numbered s.0) frames all
 
-sets-other : (c n : ℕ) (p : Bool) (frames : List FrameValue) → (n ≡ c → ⊥) → NoSabm c (stamped n frames)
+sets-other : (c n : ℕ) (p : Bool) (frames : List FrameValue) → (n ≡ c → ⊥) → NoSabmOf c (stamped n frames)
 sets-other c n p [] other = tt
 sets-other c n p (f ∷ frames) other = (λ e. absurd (other e), sets-other c n p frames other)
 
@@ -329,15 +329,15 @@ abbrev acted : World → Link → List Bool → World
 acted w link kept = record w {
   dte = link;
   act = w.act + 1;
-  up = w.up ++ stamped (w.act + 1) (kept_of kept (command SetMode link.bit ∷ []));
+  up = w.up ++ stamped (w.act + 1) (kept_of kept (command Sabm link.bit ∷ []));
 }
 
 act_begins : (w : World) (kept : List Bool) → Inv w → Ups w.session (w.act + 1) (not w.dte.bit) w.session w.up →
     Downs w.session (w.act + 1) (not w.dte.bit) 0 w.down → Inv (acted w (set_up w.dte).link kept)
 act_begins w kept i ups downs =
     let c : ℕ = w.session in
-    let frames : List FrameValue = kept_of kept (command SetMode (not w.dte.bit) ∷ []) in
-    let sets : Each (Sets (not w.dte.bit)) frames = each-kept (Sets (not w.dte.bit)) kept (command SetMode (not
+    let frames : List FrameValue = kept_of kept (command Sabm (not w.dte.bit) ∷ []) in
+    let sets : Each (Sets (not w.dte.bit)) frames = each-kept (Sets (not w.dte.bit)) kept (command Sabm (not
     w.dte.bit) ∷ []) ((refl, refl), tt) in
     let plain : Each IsPlain frames = sets-plain (not w.dte.bit) frames sets in
     let other : w.act + 1 ≡ c → ⊥ = λ e. let le = i.reached in omega arith in
@@ -367,7 +367,7 @@ act_begins w kept i ups downs =
       down_out = λ e. absurd (cc);
       setting = λ e f. absurd (other f);
       again = elim i.again [
-        | inl off ↦ inl (flight-append (λ s. s.act ≡ c → is_set_mode s.frame.content ≡ false) w.up (stamped (w.act +
+        | inl off ↦ inl (flight-append (λ s. s.act ≡ c → is_sabm s.frame.content ≡ false) w.up (stamped (w.act +
             1) frames) off
             (sets-other c (w.act + 1) (not w.dte.bit) frames other))
         | inr f ↦ inr f
@@ -403,7 +403,7 @@ dte_sets_up_from_down w kept i =
 
 pub dte_sets_again : (w : World) (kept : List Bool) → Inv (dte_in w Phase.SettingUp) →
     Inv (record (dte_in w Phase.SettingUp) {
-      up = w.up ++ stamped w.act (kept_of kept (command SetMode w.dte.bit ∷
+      up = w.up ++ stamped w.act (kept_of kept (command Sabm w.dte.bit ∷
           []));
     })
 dte_sets_again w kept i =
@@ -411,7 +411,7 @@ dte_sets_again w kept i =
     (λ e. let f = i.setting refl (eqb-true w.act w.session e) in again (inr f.none_sent) (inr f.fresh))
     (λ e. let other = eqb-false w.act w.session e in
     again (inl other) (elim i.again [
-      | inl off ↦ inl (flight-append (λ s. s.act ≡ c → is_set_mode s.frame.content ≡ false) w.up (stamped w.act
+      | inl off ↦ inl (flight-append (λ s. s.act ≡ c → is_sabm s.frame.content ≡ false) w.up (stamped w.act
           frames) off
           (sets-other c w.act w.dte.bit frames other))
       | inr f ↦ inr f
@@ -421,19 +421,19 @@ dte_sets_again w kept i =
     c = w.session
 
     frames : List FrameValue
-    frames = kept_of kept (command SetMode w.dte.bit ∷ [])
+    frames = kept_of kept (command Sabm w.dte.bit ∷ [])
 
-    sets : Each (Sets w.dte.bit) (kept_of kept (command SetMode w.dte.bit ∷ []))
-    sets = each-kept (Sets w.dte.bit) kept (command SetMode w.dte.bit ∷ []) ((refl, refl), tt)
+    sets : Each (Sets w.dte.bit) (kept_of kept (command Sabm w.dte.bit ∷ []))
+    sets = each-kept (Sets w.dte.bit) kept (command Sabm w.dte.bit ∷ []) ((refl, refl), tt)
 
     again : ((w.act ≡ w.session → ⊥) ⊎ NoNumbered w.up) →
-        NoSabm w.session (w.up ++ stamped w.act (kept_of kept (command SetMode w.dte.bit ∷ []))) ⊎ IsFresh w →
+        NoSabmOf w.session (w.up ++ stamped w.act (kept_of kept (command Sabm w.dte.bit ∷ []))) ⊎ IsFresh w →
         Inv (record (dte_in w Phase.SettingUp) {
-          up = w.up ++ stamped w.act (kept_of kept (command SetMode w.dte.bit ∷
+          up = w.up ++ stamped w.act (kept_of kept (command Sabm w.dte.bit ∷
               []));
         })
     again which fresh =
-        let plain = sets-plain w.dte.bit (kept_of kept (command SetMode w.dte.bit ∷ [])) sets in
+        let plain = sets-plain w.dte.bit (kept_of kept (command Sabm w.dte.bit ∷ [])) sets in
         record {
           dte_role = i.dte_role;
           dce_role = i.dce_role;
@@ -444,13 +444,13 @@ dte_sets_again w kept i =
           dce_set = i.dce_set;
           out = half-sent_plain w.session Phase.SettingUp w.dte.oldest w.dte.next w.dte.top w.dte.queue w.dce.phase
               w.dce.expected
-              (w.dte_offered w.session) (w.dce_accepted w.session) w.act (kept_of kept (command SetMode w.dte.bit ∷
+              (w.dte_offered w.session) (w.dce_accepted w.session) w.act (kept_of kept (command Sabm w.dte.bit ∷
               [])) w.up w.down i.out plain;
           back = half-told_plain w.session w.dce.phase w.dce.oldest w.dce.next w.dce.top w.dce.queue Phase.SettingUp
               w.dte.expected
-              (w.dce_offered w.session) (w.dte_accepted w.session) w.act (kept_of kept (command SetMode w.dte.bit ∷
+              (w.dce_offered w.session) (w.dte_accepted w.session) w.act (kept_of kept (command Sabm w.dte.bit ∷
               [])) w.down w.up i.back plain;
-          ups = ups-sets w.session w.act w.dte.bit w.session w.up (kept_of kept (command SetMode w.dte.bit ∷ []))
+          ups = ups-sets w.session w.act w.dte.bit w.session w.up (kept_of kept (command Sabm w.dte.bit ∷ []))
               i.reached which i.ups sets;
           downs = i.downs;
           up_in = λ e. absurd (cc);
@@ -459,8 +459,8 @@ dte_sets_again w kept i =
             fresh = g.fresh;
             none_offered = g.none_offered;
             none_sent = flight-append (λ s. is_numbered s.frame.content ≡ false) w.up
-                (stamped w.act (kept_of kept (command SetMode w.dte.bit ∷ []))) g.none_sent
-                (flight-stamped (λ s. is_numbered s.frame.content ≡ false) w.act (kept_of kept (command SetMode
+                (stamped w.act (kept_of kept (command Sabm w.dte.bit ∷ []))) g.none_sent
+                (flight-stamped (λ s. is_numbered s.frame.content ≡ false) w.act (kept_of kept (command Sabm
                 w.dte.bit ∷ [])) plain);
           };
           again = fresh;
@@ -471,25 +471,25 @@ dte_sets_again w kept i =
 
 -- DM, outside sessions
 abbrev pub IsDm : FrameValue → Type 0
-IsDm f = f.content ≡ DisconnectedMode
+IsDm f = f.content ≡ Dm
 
 pub dm-plain : (frames : List FrameValue) → Each IsDm frames → Each IsPlain frames
 dm-plain frames all = each-weaken IsDm IsPlain (λ f e. ap is_numbered e) frames all
 
-pub dte_declines : (w : World) (kept : List Bool) (final : Bool) → Inv (dte_in w Phase.Down) →
+pub dte_declines : (w : World) (kept : List Bool) (pf : Bool) → Inv (dte_in w Phase.Down) →
     Inv (record (dte_in w Phase.Down) {
-      up = w.up ++ stamped w.act (kept_of kept (response DisconnectedMode final ∷
+      up = w.up ++ stamped w.act (kept_of kept (response Dm pf ∷
           []));
     })
-dte_declines w kept final i =
-    let frames : List FrameValue = kept_of kept (response DisconnectedMode final ∷ []) in
-    let dm : Each IsDm frames = each-kept IsDm kept (response DisconnectedMode final ∷ []) (refl, tt) in
+dte_declines w kept pf i =
+    let frames : List FrameValue = kept_of kept (response Dm pf ∷ []) in
+    let dm : Each IsDm frames = each-kept IsDm kept (response Dm pf ∷ []) (refl, tt) in
     let plain : Each IsPlain frames = dm-plain frames dm in
     let spoken : Each (λ f. Speaks w.session w.act f.content) frames =
     each-weaken IsDm (λ f. Speaks w.session w.act f.content) (λ f e. subst (λ (x : Content). Speaks w.session w.act x)
     (sym e) tt) frames dm in
-    let none : Each (λ f. is_set_mode f.content ≡ false) frames =
-    each-weaken IsDm (λ f. is_set_mode f.content ≡ false) (λ f e. ap is_set_mode e) frames dm in
+    let none : Each (λ f. is_sabm f.content ≡ false) frames =
+    each-weaken IsDm (λ f. is_sabm f.content ≡ false) (λ f e. ap is_sabm e) frames dm in
     record {
       dte_role = i.dte_role;
       dce_role = i.dce_role;
@@ -508,13 +508,13 @@ dte_declines w kept final i =
       downs = i.downs;
       up_in = λ e. absurd (cc);
       down_out = λ e. let j = i.down_out e in (
-        flight-append (λ s. is_set_mode s.frame.content ≡ false) w.up (stamped w.act frames) j.0
-            (flight-stamped (λ s. is_set_mode s.frame.content ≡ false) w.act frames none),
+        flight-append (λ s. is_sabm s.frame.content ≡ false) w.up (stamped w.act frames) j.0
+            (flight-stamped (λ s. is_sabm s.frame.content ≡ false) w.act frames none),
         j.1,
       );
       setting = λ e f. absurd (cc);
       again = elim i.again [
-        | inl off ↦ inl (flight-append (λ s. s.act ≡ w.session → is_set_mode s.frame.content ≡ false) w.up (stamped
+        | inl off ↦ inl (flight-append (λ s. s.act ≡ w.session → is_sabm s.frame.content ≡ false) w.up (stamped
             w.act frames) off
             (no_sabm-spoken w.session w.act frames spoken))
         | inr f ↦ inr f
@@ -537,7 +537,7 @@ length-none xs e = ap (λ (ys : List Octets). length ys) e
 
 pub dte_comes_up : (w : World) (kept : List Bool) (s : Sent) (rest : List Sent) → Inv (record (dte_in w
     Phase.SettingUp) { down = s ∷ rest }) →
-    s.frame.content ≡ Acknowledgement → s.frame.poll ≡ w.dte.bit →
+    s.frame.content ≡ Ua → s.frame.pf ≡ w.dte.bit →
     Inv (dte_does (record (dte_in w Phase.SettingUp) { down = rest }) kept (come_up (dte_in w Phase.SettingUp).dte))
 dte_comes_up w kept s rest i is bit =
     let c : ℕ = w.session in
@@ -545,9 +545,9 @@ dte_comes_up w kept s rest i is bit =
     let le : s.act ≤ c = i.downs.1 in
     let reached : c ≤ w.act = i.reached in
     let stamp : s.act ≡ w.act =
-    elim (subst (λ (x : Content). OfDown w.act w.dte.bit s.act x s.frame.poll) is head) [
+    elim (subst (λ (x : Content). OfDown w.act w.dte.bit s.act x s.frame.pf) is head) [
       | inl e ↦ e.0
-      | inr e ↦ absurd (not-other s.frame.poll w.dte.bit bit e.1)
+      | inr e ↦ absurd (not-other s.frame.pf w.dte.bit bit e.1)
     ] in
     let act_is : w.act ≡ c = omega arith in
     let j = i.setting refl act_is in
@@ -560,7 +560,7 @@ dte_comes_up w kept s rest i is bit =
     let od_len : length (w.dte_offered c) ≡ 0 = length-none (w.dte_offered c) j.none_offered in
     let a_zero : h.a ≡ 0 = let l = h.a_le in omega arith in
     let m_zero : h.m ≡ 0 = let l = h.m_le in omega arith in
-    let frames : List FrameValue = kept_of kept (command (ReceiveReady 0) true ∷ []) in
+    let frames : List FrameValue = kept_of kept (command (Rr 0) true ∷ []) in
     let begun : Half' c Phase.Up 0 0 0 [] w.dce.phase w.dce.expected (w.dte_offered c) (w.dce_accepted c) w.up rest =
     record {
       a = h.a;
@@ -587,7 +587,7 @@ dte_comes_up w kept s rest i is bit =
     (w.dce_offered c)
     (w.dte_accepted c) rest w.up da_none lost.back in
     let numbered : Each (λ f. is_numbered f.content ≡ true) frames =
-    each-kept (λ f. is_numbered f.content ≡ true) kept (command (ReceiveReady 0) true ∷ []) (refl, tt) in
+    each-kept (λ f. is_numbered f.content ≡ true) kept (command (Rr 0) true ∷ []) (refl, tt) in
     let spoken : Each (λ f. Speaks c w.act f.content) frames =
     each-weaken (λ f. is_numbered f.content ≡ true) (λ f. Speaks c w.act f.content) (λ f. speaks-numbered c w.act
     f.content act_is) frames numbered in
@@ -601,12 +601,12 @@ dte_comes_up w kept s rest i is bit =
       dce_set = i.dce_set;
       out = half-sent c Phase.Up 0 0 0 [] w.dce.phase w.dce.expected (w.dte_offered c) (w.dce_accepted c) w.act frames
           w.up rest begun
-          (each-kept (λ f. Carries (w.dte_offered c) begun.m begun.m f.content) kept (command (ReceiveReady 0) true ∷
+          (each-kept (λ f. Carries (w.dte_offered c) begun.m begun.m f.content) kept (command (Rr 0) true ∷
           []) (tt, tt));
       back = half-told c w.dce.phase w.dce.oldest w.dce.next w.dce.top w.dce.queue Phase.Up 0 (w.dce_offered c)
           (w.dte_accepted c) w.act frames
           rest w.up back
-          (each-kept (λ f. Tells (length (w.dte_accepted c)) f.content) kept (command (ReceiveReady 0) true ∷ [])
+          (each-kept (λ f. Tells (length (w.dte_accepted c)) f.content) kept (command (Rr 0) true ∷ [])
           (ap (λ (n : ℕ). n % 8) (sym da_len), tt));
       ups = ups-speaks c w.act w.dte.bit c w.up frames reached i.ups spoken;
       downs = lost.downs;
@@ -619,7 +619,7 @@ dte_comes_up w kept s rest i is bit =
       down_out = λ e. absurd (cc);
       setting = λ e f. absurd (cc);
       again = elim lost.again [
-        | inl off ↦ inl (flight-append (λ x. x.act ≡ c → is_set_mode x.frame.content ≡ false) w.up (stamped w.act
+        | inl off ↦ inl (flight-append (λ x. x.act ≡ c → is_sabm x.frame.content ≡ false) w.up (stamped w.act
             frames) off
             (no_sabm-spoken c w.act frames spoken))
         | inr f ↦ inr f

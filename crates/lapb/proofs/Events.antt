@@ -20,15 +20,15 @@ use Rattle.std.proofs.Common.{refl, sym, subst, inl, inr}
 use Rattle.link_timers.specs.declared.role.Role.TheVariants.{Dte, Dce}
 use Rattle.frame_codec.specs.Frame.{Content}
 use Rattle.frame_codec.specs.Frame.Content.{
-  Information,
-  ReceiveReady,
-  ReceiveNotReady,
-  Reject,
-  SetMode,
-  Disconnect,
-  DisconnectedMode,
-  Acknowledgement,
-  FrameReject,
+  I,
+  Rr,
+  Rnr,
+  Rej,
+  Sabm,
+  Disc,
+  Dm,
+  Ua,
+  Frmr,
 }
 use Rattle.lapb.specs.declared.phase.Phase.{Phase}
 use Rattle.lapb.specs.Machine.{
@@ -73,7 +73,7 @@ use Rattle.lapb.specs.World.{
 }
 use Rattle.lapb.proofs.Cases.{cond_by}
 use Rattle.lapb.proofs.Steps.{is_numbered, goes_frame, goes_poll, goes_settle}
-use Rattle.lapb.proofs.Flights.{NoSabm, ups-numbered}
+use Rattle.lapb.proofs.Flights.{NoSabmOf, ups-numbered}
 use Rattle.lapb.proofs.Inv.{
   Inv,
   dte_in,
@@ -99,13 +99,13 @@ use Rattle.lapb.proofs.DteSteps.{
 use Rattle.lapb.proofs.DceSteps.{dce_goes, dce_offers, dce_declines, dce_enters_act}
 
 abbrev sent : Content → Bool → Bool → ℕ → Sent
-sent content r p t = record { frame = record { content = content; response = r; poll = p }; act = t }
+sent content r p t = record { frame = record { content = content; response = r; pf = p }; act = t }
 
 -- ---- the DTE takes a frame
 
 dte_polite : (w : World) (kept : List Bool) (due : Bool) → Inv (dte_in w Phase.Down) →
     Inv (dte_does (dte_in w Phase.Down) kept
-    (if due then sends (dte_in w Phase.Down).dte (response DisconnectedMode true) else still (dte_in w
+    (if due then sends (dte_in w Phase.Down).dte (response Dm true) else still (dte_in w
     Phase.Down).dte))
 dte_polite w kept true i = dte_declines w kept true i
 dte_polite w kept false i = dte_silent (dte_in w Phase.Down) kept i
@@ -114,26 +114,26 @@ dte_takes_down : (w : World) (kept : List Bool) (rest : List Sent) (content : Co
     Inv (record (dte_in w Phase.Down) { down = sent content r p t ∷ rest }) →
     Inv (dte_does (record (dte_in w Phase.Down) { down = rest }) kept (on_frame (dte_in w Phase.Down).dte (sent
     content r p t).frame))
-dte_takes_down w kept rest SetMode r p t i = absurd (i.downs.2)
-dte_takes_down w kept rest Disconnect r p t i = absurd (i.downs.2)
-dte_takes_down w kept rest (FrameReject report) r p t i = absurd (i.downs.2)
-dte_takes_down w kept rest DisconnectedMode r p t i =
-    dte_sets_up_from_down (record w { down = rest }) kept (lost_down (dte_in w Phase.Down) (sent DisconnectedMode r p
+dte_takes_down w kept rest Sabm r p t i = absurd (i.downs.2)
+dte_takes_down w kept rest Disc r p t i = absurd (i.downs.2)
+dte_takes_down w kept rest (Frmr report) r p t i = absurd (i.downs.2)
+dte_takes_down w kept rest Dm r p t i =
+    dte_sets_up_from_down (record w { down = rest }) kept (lost_down (dte_in w Phase.Down) (sent Dm r p
     t) rest i)
-dte_takes_down w kept rest Acknowledgement r p t i =
-    dte_polite (record w { down = rest }) kept (p && not r) (lost_down (dte_in w Phase.Down) (sent Acknowledgement r p
+dte_takes_down w kept rest Ua r p t i =
+    dte_polite (record w { down = rest }) kept (p && not r) (lost_down (dte_in w Phase.Down) (sent Ua r p
     t) rest i)
-dte_takes_down w kept rest (Information send receive packet) r p t i =
-    dte_polite (record w { down = rest }) kept (p && not r) (lost_down (dte_in w Phase.Down) (sent (Information send
-    receive packet) r p t) rest i)
-dte_takes_down w kept rest (ReceiveReady receive) r p t i =
-    dte_polite (record w { down = rest }) kept (p && not r) (lost_down (dte_in w Phase.Down) (sent (ReceiveReady
-    receive) r p t) rest i)
-dte_takes_down w kept rest (ReceiveNotReady receive) r p t i =
-    dte_polite (record w { down = rest }) kept (p && not r) (lost_down (dte_in w Phase.Down) (sent (ReceiveNotReady
-    receive) r p t) rest i)
-dte_takes_down w kept rest (Reject receive) r p t i =
-    dte_polite (record w { down = rest }) kept (p && not r) (lost_down (dte_in w Phase.Down) (sent (Reject receive) r
+dte_takes_down w kept rest (I ns nr packet) r p t i =
+    dte_polite (record w { down = rest }) kept (p && not r) (lost_down (dte_in w Phase.Down) (sent (I ns
+    nr packet) r p t) rest i)
+dte_takes_down w kept rest (Rr nr) r p t i =
+    dte_polite (record w { down = rest }) kept (p && not r) (lost_down (dte_in w Phase.Down) (sent (Rr
+    nr) r p t) rest i)
+dte_takes_down w kept rest (Rnr nr) r p t i =
+    dte_polite (record w { down = rest }) kept (p && not r) (lost_down (dte_in w Phase.Down) (sent (Rnr
+    nr) r p t) rest i)
+dte_takes_down w kept rest (Rej nr) r p t i =
+    dte_polite (record w { down = rest }) kept (p && not r) (lost_down (dte_in w Phase.Down) (sent (Rej nr) r
     p t) rest i)
 
 pub same_is : (a b : Bool) → is_same a b ≡ true → a ≡ b
@@ -152,23 +152,23 @@ dte_takes_setting_up : (w : World) (kept : List Bool) (rest : List Sent) (conten
     Inv (record (dte_in w Phase.SettingUp) { down = sent content r p t ∷ rest }) →
     Inv (dte_does (record (dte_in w Phase.SettingUp) { down = rest }) kept (on_frame (dte_in w Phase.SettingUp).dte
     (sent content r p t).frame))
-dte_takes_setting_up w kept rest Acknowledgement r p t i =
+dte_takes_setting_up w kept rest Ua r p t i =
     cond_by (λ b. Inv (dte_does (record (dte_in w Phase.SettingUp) { down = rest }) kept
     (if b then come_up (dte_in w Phase.SettingUp).dte else still (dte_in w Phase.SettingUp).dte))) (is_same p
     w.dte.bit)
-    (λ e. dte_comes_up w kept (sent Acknowledgement r p t) rest i refl (same_is p w.dte.bit e))
-    (λ _. dte_ignores w kept rest (sent Acknowledgement r p t) i)
-dte_takes_setting_up w kept rest Disconnect r p t i = absurd (i.downs.2)
-dte_takes_setting_up w kept rest SetMode r p t i = absurd (i.downs.2)
-dte_takes_setting_up w kept rest (FrameReject report) r p t i = absurd (i.downs.2)
-dte_takes_setting_up w kept rest DisconnectedMode r p t i = dte_ignores w kept rest (sent DisconnectedMode r p t) i
-dte_takes_setting_up w kept rest (Information send receive packet) r p t i = dte_ignores w kept rest (sent
-    (Information send receive packet) r p t) i
-dte_takes_setting_up w kept rest (ReceiveReady receive) r p t i = dte_ignores w kept rest (sent (ReceiveReady receive)
+    (λ e. dte_comes_up w kept (sent Ua r p t) rest i refl (same_is p w.dte.bit e))
+    (λ _. dte_ignores w kept rest (sent Ua r p t) i)
+dte_takes_setting_up w kept rest Disc r p t i = absurd (i.downs.2)
+dte_takes_setting_up w kept rest Sabm r p t i = absurd (i.downs.2)
+dte_takes_setting_up w kept rest (Frmr report) r p t i = absurd (i.downs.2)
+dte_takes_setting_up w kept rest Dm r p t i = dte_ignores w kept rest (sent Dm r p t) i
+dte_takes_setting_up w kept rest (I ns nr packet) r p t i = dte_ignores w kept rest (sent
+    (I ns nr packet) r p t) i
+dte_takes_setting_up w kept rest (Rr nr) r p t i = dte_ignores w kept rest (sent (Rr nr)
     r p t) i
-dte_takes_setting_up w kept rest (ReceiveNotReady receive) r p t i = dte_ignores w kept rest (sent (ReceiveNotReady
-    receive) r p t) i
-dte_takes_setting_up w kept rest (Reject receive) r p t i = dte_ignores w kept rest (sent (Reject receive) r p t) i
+dte_takes_setting_up w kept rest (Rnr nr) r p t i = dte_ignores w kept rest (sent (Rnr
+    nr) r p t) i
+dte_takes_setting_up w kept rest (Rej nr) r p t i = dte_ignores w kept rest (sent (Rej nr) r p t) i
 
 dte_takes_numbered : (w : World) (kept : List Bool) (rest : List Sent) (content : Content) (r p : Bool) (t : ℕ) →
     is_numbered content ≡ true →
@@ -187,21 +187,21 @@ dte_takes_up : (w : World) (kept : List Bool) (rest : List Sent) (content : Cont
     Inv (record (dte_in w Phase.Up) { down = sent content r p t ∷ rest }) →
     Inv (dte_does (record (dte_in w Phase.Up) { down = rest }) kept (on_frame (dte_in w Phase.Up).dte (sent content r
     p t).frame))
-dte_takes_up w kept rest (Information send receive packet) r p t i = dte_takes_numbered w kept rest (Information send
-    receive packet) r p t refl i
-dte_takes_up w kept rest (ReceiveReady receive) r p t i = dte_takes_numbered w kept rest (ReceiveReady receive) r p t
+dte_takes_up w kept rest (I ns nr packet) r p t i = dte_takes_numbered w kept rest (I ns
+    nr packet) r p t refl i
+dte_takes_up w kept rest (Rr nr) r p t i = dte_takes_numbered w kept rest (Rr nr) r p t
     refl i
-dte_takes_up w kept rest (ReceiveNotReady receive) r p t i = dte_takes_numbered w kept rest (ReceiveNotReady receive)
+dte_takes_up w kept rest (Rnr nr) r p t i = dte_takes_numbered w kept rest (Rnr nr)
     r p t refl i
-dte_takes_up w kept rest (Reject receive) r p t i = dte_takes_numbered w kept rest (Reject receive) r p t refl i
-dte_takes_up w kept rest SetMode r p t i = absurd (i.downs.2)
-dte_takes_up w kept rest Disconnect r p t i = absurd (i.downs.2)
-dte_takes_up w kept rest (FrameReject report) r p t i = absurd (i.downs.2)
-dte_takes_up w kept rest DisconnectedMode r p t i =
-    dte_sets_up_from_up (record w { down = rest }) kept (lost_down (dte_in w Phase.Up) (sent DisconnectedMode r p t)
+dte_takes_up w kept rest (Rej nr) r p t i = dte_takes_numbered w kept rest (Rej nr) r p t refl i
+dte_takes_up w kept rest Sabm r p t i = absurd (i.downs.2)
+dte_takes_up w kept rest Disc r p t i = absurd (i.downs.2)
+dte_takes_up w kept rest (Frmr report) r p t i = absurd (i.downs.2)
+dte_takes_up w kept rest Dm r p t i =
+    dte_sets_up_from_up (record w { down = rest }) kept (lost_down (dte_in w Phase.Up) (sent Dm r p t)
     rest i)
-dte_takes_up w kept rest Acknowledgement r p t i =
-    dte_silent (record (dte_in w Phase.Up) { down = rest }) kept (lost_down (dte_in w Phase.Up) (sent Acknowledgement
+dte_takes_up w kept rest Ua r p t i =
+    dte_silent (record (dte_in w Phase.Up) { down = rest }) kept (lost_down (dte_in w Phase.Up) (sent Ua
     r p t) rest i)
 
 dte_takes : (w : World) (kept : List Bool) (s : Sent) (rest : List Sent) → w.dte.role ≡ Dte → Inv (record w {
@@ -212,9 +212,9 @@ dte_takes : (w : World) (kept : List Bool) (s : Sent) (rest : List Sent) → w.d
 dte_takes w kept s rest role i =
     by_dte (λ v. Inv (record v { down = s ∷ rest }) → Inv (dte_does (record v { down = rest }) kept (on_frame v.dte
     s.frame))) w role
-    (dte_takes_down w kept rest s.frame.content s.frame.response s.frame.poll s.act)
-    (dte_takes_setting_up w kept rest s.frame.content s.frame.response s.frame.poll s.act)
-    (dte_takes_up w kept rest s.frame.content s.frame.response s.frame.poll s.act)
+    (dte_takes_down w kept rest s.frame.content s.frame.response s.frame.pf s.act)
+    (dte_takes_setting_up w kept rest s.frame.content s.frame.response s.frame.pf s.act)
+    (dte_takes_up w kept rest s.frame.content s.frame.response s.frame.pf s.act)
     (λ j. absurd (j.dte_phase refl)) i
 
 deliver_dte : (w : World) (kept : List Bool) (flow : List Sent) → w.down ≡ flow → Inv w → Inv (to_dte w kept flow)
@@ -227,7 +227,7 @@ deliver_dte w kept (s ∷ rest) e i = dte_takes w kept s rest i.dte_role (subst 
 
 dce_polite : (w : World) (kept : List Bool) (due : Bool) → Inv (dce_in w Phase.Down) →
     Inv (dce_does (dce_in w Phase.Down) kept
-    (if due then sends (dce_in w Phase.Down).dce (response DisconnectedMode true) else still (dce_in w
+    (if due then sends (dce_in w Phase.Down).dce (response Dm true) else still (dce_in w
     Phase.Down).dce))
 dce_polite w kept true i = dce_declines (dce_in w Phase.Down) kept (dce_in w Phase.Down).dce true i refl i.dce_k refl
 dce_polite w kept false i = dce_silent (dce_in w Phase.Down) kept i
@@ -236,25 +236,25 @@ dce_takes_down : (w : World) (kept : List Bool) (rest : List Sent) (content : Co
     Inv (record (dce_in w Phase.Down) { up = sent content r p t ∷ rest }) →
     Inv (dce_does (dce_enters (record (dce_in w Phase.Down) { up = rest }) (sent content r p t)) kept
     (on_frame (dce_in w Phase.Down).dce (sent content r p t).frame))
-dce_takes_down w kept rest SetMode r p t i = dce_enters_act (dce_in w Phase.Down) (sent SetMode r p t) rest kept i
+dce_takes_down w kept rest Sabm r p t i = dce_enters_act (dce_in w Phase.Down) (sent Sabm r p t) rest kept i
     refl
-dce_takes_down w kept rest Disconnect r p t i = absurd (i.ups.2)
-dce_takes_down w kept rest Acknowledgement r p t i = absurd (i.ups.2)
-dce_takes_down w kept rest (FrameReject report) r p t i = absurd (i.ups.2)
-dce_takes_down w kept rest DisconnectedMode r p t i =
-    dce_polite (record w { up = rest }) kept (p && not r) (lost_up (dce_in w Phase.Down) (sent DisconnectedMode r p t)
+dce_takes_down w kept rest Disc r p t i = absurd (i.ups.2)
+dce_takes_down w kept rest Ua r p t i = absurd (i.ups.2)
+dce_takes_down w kept rest (Frmr report) r p t i = absurd (i.ups.2)
+dce_takes_down w kept rest Dm r p t i =
+    dce_polite (record w { up = rest }) kept (p && not r) (lost_up (dce_in w Phase.Down) (sent Dm r p t)
     rest i)
-dce_takes_down w kept rest (Information send receive packet) r p t i =
-    dce_polite (record w { up = rest }) kept (p && not r) (lost_up (dce_in w Phase.Down) (sent (Information send
-    receive packet) r p t) rest i)
-dce_takes_down w kept rest (ReceiveReady receive) r p t i =
-    dce_polite (record w { up = rest }) kept (p && not r) (lost_up (dce_in w Phase.Down) (sent (ReceiveReady receive)
+dce_takes_down w kept rest (I ns nr packet) r p t i =
+    dce_polite (record w { up = rest }) kept (p && not r) (lost_up (dce_in w Phase.Down) (sent (I ns
+    nr packet) r p t) rest i)
+dce_takes_down w kept rest (Rr nr) r p t i =
+    dce_polite (record w { up = rest }) kept (p && not r) (lost_up (dce_in w Phase.Down) (sent (Rr nr)
     r p t) rest i)
-dce_takes_down w kept rest (ReceiveNotReady receive) r p t i =
-    dce_polite (record w { up = rest }) kept (p && not r) (lost_up (dce_in w Phase.Down) (sent (ReceiveNotReady
-    receive) r p t) rest i)
-dce_takes_down w kept rest (Reject receive) r p t i =
-    dce_polite (record w { up = rest }) kept (p && not r) (lost_up (dce_in w Phase.Down) (sent (Reject receive) r p t)
+dce_takes_down w kept rest (Rnr nr) r p t i =
+    dce_polite (record w { up = rest }) kept (p && not r) (lost_up (dce_in w Phase.Down) (sent (Rnr
+    nr) r p t) rest i)
+dce_takes_down w kept rest (Rej nr) r p t i =
+    dce_polite (record w { up = rest }) kept (p && not r) (lost_up (dce_in w Phase.Down) (sent (Rej nr) r p t)
     rest i)
 
 dce_takes_numbered : (w : World) (kept : List Bool) (rest : List Sent) (content : Content) (r p : Bool) (t : ℕ) →
@@ -274,20 +274,20 @@ dce_takes_up : (w : World) (kept : List Bool) (rest : List Sent) (content : Cont
     Inv (record (dce_in w Phase.Up) { up = sent content r p t ∷ rest }) →
     Inv (dce_does (dce_enters (record (dce_in w Phase.Up) { up = rest }) (sent content r p t)) kept
     (on_frame (dce_in w Phase.Up).dce (sent content r p t).frame))
-dce_takes_up w kept rest SetMode r p t i = dce_enters_act (dce_in w Phase.Up) (sent SetMode r p t) rest kept i refl
-dce_takes_up w kept rest Disconnect r p t i = absurd (i.ups.2)
-dce_takes_up w kept rest Acknowledgement r p t i = absurd (i.ups.2)
-dce_takes_up w kept rest (FrameReject report) r p t i = absurd (i.ups.2)
-dce_takes_up w kept rest DisconnectedMode r p t i =
-    dce_silent (record (dce_in w Phase.Up) { up = rest }) kept (lost_up (dce_in w Phase.Up) (sent DisconnectedMode r p
+dce_takes_up w kept rest Sabm r p t i = dce_enters_act (dce_in w Phase.Up) (sent Sabm r p t) rest kept i refl
+dce_takes_up w kept rest Disc r p t i = absurd (i.ups.2)
+dce_takes_up w kept rest Ua r p t i = absurd (i.ups.2)
+dce_takes_up w kept rest (Frmr report) r p t i = absurd (i.ups.2)
+dce_takes_up w kept rest Dm r p t i =
+    dce_silent (record (dce_in w Phase.Up) { up = rest }) kept (lost_up (dce_in w Phase.Up) (sent Dm r p
     t) rest i)
-dce_takes_up w kept rest (Information send receive packet) r p t i = dce_takes_numbered w kept rest (Information send
-    receive packet) r p t refl i
-dce_takes_up w kept rest (ReceiveReady receive) r p t i = dce_takes_numbered w kept rest (ReceiveReady receive) r p t
+dce_takes_up w kept rest (I ns nr packet) r p t i = dce_takes_numbered w kept rest (I ns
+    nr packet) r p t refl i
+dce_takes_up w kept rest (Rr nr) r p t i = dce_takes_numbered w kept rest (Rr nr) r p t
     refl i
-dce_takes_up w kept rest (ReceiveNotReady receive) r p t i = dce_takes_numbered w kept rest (ReceiveNotReady receive)
+dce_takes_up w kept rest (Rnr nr) r p t i = dce_takes_numbered w kept rest (Rnr nr)
     r p t refl i
-dce_takes_up w kept rest (Reject receive) r p t i = dce_takes_numbered w kept rest (Reject receive) r p t refl i
+dce_takes_up w kept rest (Rej nr) r p t i = dce_takes_numbered w kept rest (Rej nr) r p t refl i
 
 dce_takes : (w : World) (kept : List Bool) (s : Sent) (rest : List Sent) → w.dce.role ≡ Dce → Inv (record w {
   up = s ∷
@@ -297,9 +297,9 @@ dce_takes : (w : World) (kept : List Bool) (s : Sent) (rest : List Sent) → w.d
 dce_takes w kept s rest role i =
     by_dce (λ v. Inv (record v { up = s ∷ rest }) → Inv (dce_does (dce_enters (record v { up = rest }) s) kept
     (on_frame v.dce s.frame))) w role
-    (dce_takes_down w kept rest s.frame.content s.frame.response s.frame.poll s.act)
+    (dce_takes_down w kept rest s.frame.content s.frame.response s.frame.pf s.act)
     (λ j. absurd (j.dce_set refl))
-    (dce_takes_up w kept rest s.frame.content s.frame.response s.frame.poll s.act)
+    (dce_takes_up w kept rest s.frame.content s.frame.response s.frame.pf s.act)
     (λ j. absurd (j.dce_phase refl)) i
 
 deliver_dce : (w : World) (kept : List Bool) (flow : List Sent) → w.up ≡ flow → Inv w → Inv (to_dce w kept flow)
@@ -336,7 +336,7 @@ dte_expires w kept role i =
     (λ j. absurd (j.dte_phase refl)) i
 
 -- a DCE that heard the DTE is set up no more in this act
-heard-no_sabm : (w : World) → Inv (dce_in w Phase.Up) → w.dce.heard ≡ true → NoSabm w.session w.up
+heard-no_sabm : (w : World) → Inv (dce_in w Phase.Up) → w.dce.heard ≡ true → NoSabmOf w.session w.up
 heard-no_sabm w i h = elim i.again [ inl off ↦ off | inr f ↦ absurd (let u = f.unheard refl in cc) ]
 
 heard-not_setting : (w : World) → Inv (dce_in w Phase.Up) → w.dce.heard ≡ true → w.dte.phase ≡ Phase.SettingUp → w.act

@@ -32,15 +32,15 @@ use Rattle.frame_codec.specs.Frame.{
   FrameValue,
   Content,
   Report,
-  Information,
-  ReceiveReady,
-  ReceiveNotReady,
-  Reject,
-  SetMode,
-  Disconnect,
-  DisconnectedMode,
-  Acknowledgement,
-  FrameReject,
+  I,
+  Rr,
+  Rnr,
+  Rej,
+  Sabm,
+  Disc,
+  Dm,
+  Ua,
+  Frmr,
 }
 use Rattle.frame_codec.specs.Spelling.{spelling, HasSpelling, HasNumbers, control_of}
 use Rattle.frame_codec.specs.Reading.{reading}
@@ -130,36 +130,36 @@ Fitting step = IsFit step.link × Each HasSpelling step.frames
 
 -- ---- frames
 
-spelt-ready : (receive : ℕ) (r p : Bool) → receive < 8 → HasSpelling (record {
-  content = ReceiveReady receive;
+spelt-ready : (nr : ℕ) (r p : Bool) → nr < 8 → HasSpelling (record {
+  content = Rr nr;
   response = r;
-  poll = p;
+  pf = p;
 })
-spelt-ready receive r p low = record { goes_as = tt; numbers = low; fits = tt }
+spelt-ready nr r p low = record { goes_as = tt; numbers = low; fits = tt }
 
-spelt-reject : (receive : ℕ) (r p : Bool) → receive < 8 → HasSpelling (record {
-  content = Reject receive;
+spelt-reject : (nr : ℕ) (r p : Bool) → nr < 8 → HasSpelling (record {
+  content = Rej nr;
   response =
       r;
-  poll = p;
+  pf = p;
 })
-spelt-reject receive r p low = record { goes_as = tt; numbers = low; fits = tt }
+spelt-reject nr r p low = record { goes_as = tt; numbers = low; fits = tt }
 
-spelt-dm : (p : Bool) → HasSpelling (response DisconnectedMode p)
+spelt-dm : (p : Bool) → HasSpelling (response Dm p)
 spelt-dm p = record { goes_as = refl; numbers = tt; fits = tt }
 
-spelt-ua : (p : Bool) → HasSpelling (response Acknowledgement p)
+spelt-ua : (p : Bool) → HasSpelling (response Ua p)
 spelt-ua p = record { goes_as = refl; numbers = tt; fits = tt }
 
-spelt-sabm : (p : Bool) → HasSpelling (command SetMode p)
+spelt-sabm : (p : Bool) → HasSpelling (command Sabm p)
 spelt-sabm p = record { goes_as = refl; numbers = tt; fits = tt }
 
-spelt-frmr : (report : Report) (p : Bool) → ReportFits report → HasSpelling (response (FrameReject report) p)
-spelt-frmr report p f = record { goes_as = refl; numbers = (f.control, f.send, f.receive); fits = tt }
+spelt-frmr : (report : Report) (p : Bool) → ReportFits report → HasSpelling (response (Frmr report) p)
+spelt-frmr report p f = record { goes_as = refl; numbers = (f.control, f.vs, f.vr); fits = tt }
 
-spelt-answers : (due : Bool) (receive : ℕ) → receive < 8 → Each HasSpelling (answers due receive)
-spelt-answers true receive low = (spelt-ready receive true true low, tt)
-spelt-answers false receive low = tt
+spelt-answers : (due : Bool) (nr : ℕ) → nr < 8 → Each HasSpelling (answers due nr)
+spelt-answers true nr low = (spelt-ready nr true true low, tt)
+spelt-answers false nr low = tt
 
 -- ---- packets
 
@@ -173,12 +173,12 @@ short-append : (packets : List Octets) (packet : Octets) → AllShort packets �
 short-append [] packet all short = (short, tt)
 short-append (p ∷ packets) packet all short = (all.0, short-append packets packet all.1 short)
 
-spelt-numbered : (start receive : ℕ) (packets : List Octets) → receive < 8 → AllShort packets → Each HasSpelling
-    (numbered start receive packets)
-spelt-numbered start receive [] low all = tt
-spelt-numbered start receive (packet ∷ packets) low all = (
+spelt-numbered : (start nr : ℕ) (packets : List Octets) → nr < 8 → AllShort packets → Each HasSpelling
+    (numbered start nr packets)
+spelt-numbered start nr [] low all = tt
+spelt-numbered start nr (packet ∷ packets) low all = (
   record { goes_as = refl; numbers = (below start, low); fits = all.0 },
-  spelt-numbered (start + 1) receive packets
+  spelt-numbered (start + 1) nr packets
       low all.1,
 )
   where
@@ -241,41 +241,41 @@ fit-report : (l : Link) (control : ℕ) (a b c d e : Bool) → IsFit l → contr
     b c d e)
 fit-report l control a b c d e f low = record {
   control = low;
-  send = below (l.oldest + l.next);
-  receive = f.expected;
+  vs = below (l.oldest + l.next);
+  vr = f.expected;
 }
   where
     below : (n : ℕ) → n % 8 < 8
     below n = omega arith
 
 control-below : (content : Content) (p : Bool) → HasNumbers content → control_of content p < 256
-control-below (Information send receive packet) true n = let a = n.0 in let b = n.1 in omega arith
-control-below (Information send receive packet) false n = let a = n.0 in let b = n.1 in omega arith
-control-below (ReceiveReady receive) true n = omega (arith, n)
-control-below (ReceiveReady receive) false n = omega (arith, n)
-control-below (ReceiveNotReady receive) true n = omega (arith, n)
-control-below (ReceiveNotReady receive) false n = omega (arith, n)
-control-below (Reject receive) true n = omega (arith, n)
-control-below (Reject receive) false n = omega (arith, n)
-control-below SetMode true n = omega arith
-control-below SetMode false n = omega arith
-control-below Disconnect true n = omega arith
-control-below Disconnect false n = omega arith
-control-below DisconnectedMode true n = omega arith
-control-below DisconnectedMode false n = omega arith
-control-below Acknowledgement true n = omega arith
-control-below Acknowledgement false n = omega arith
-control-below (FrameReject report) true n = omega arith
-control-below (FrameReject report) false n = omega arith
+control-below (I ns nr packet) true n = let a = n.0 in let b = n.1 in omega arith
+control-below (I ns nr packet) false n = let a = n.0 in let b = n.1 in omega arith
+control-below (Rr nr) true n = omega (arith, n)
+control-below (Rr nr) false n = omega (arith, n)
+control-below (Rnr nr) true n = omega (arith, n)
+control-below (Rnr nr) false n = omega (arith, n)
+control-below (Rej nr) true n = omega (arith, n)
+control-below (Rej nr) false n = omega (arith, n)
+control-below Sabm true n = omega arith
+control-below Sabm false n = omega arith
+control-below Disc true n = omega arith
+control-below Disc false n = omega arith
+control-below Dm true n = omega arith
+control-below Dm false n = omega arith
+control-below Ua true n = omega arith
+control-below Ua false n = omega arith
+control-below (Frmr report) true n = omega arith
+control-below (Frmr report) false n = omega arith
 
 -- ---- a link that is up
 
-fit-acknowledged : (l : Link) (receive : ℕ) → receive < 8 → IsFit l → IsFit (acknowledged l receive)
-fit-acknowledged l receive low f =
+fit-acknowledged : (l : Link) (nr : ℕ) → nr < 8 → IsFit l → IsFit (acknowledged l nr)
+fit-acknowledged l nr low f =
     record {
       oldest = low;
       expected = f.expected;
-      short = short-drop (ahead l.oldest receive) l.queue f.short;
+      short = short-drop (ahead l.oldest nr) l.queue f.short;
       report
           = f.report;
     }
@@ -298,10 +298,10 @@ fit-accept l p packet f =
     below : (n : ℕ) → n % 8 < 8
     below n = omega arith
 
-spelt-discarded : (rejecting due : Bool) (receive : ℕ) → receive < 8 →
-    Each HasSpelling (if rejecting then answers due receive else response (Reject receive) due ∷ [])
-spelt-discarded true due receive low = spelt-answers due receive low
-spelt-discarded false due receive low = (spelt-reject receive true due low, tt)
+spelt-discarded : (rejecting due : Bool) (nr : ℕ) → nr < 8 →
+    Each HasSpelling (if rejecting then answers due nr else response (Rej nr) due ∷ [])
+spelt-discarded true due nr low = spelt-answers due nr low
+spelt-discarded false due nr low = (spelt-reject nr true due low, tt)
 
 fit-discard : (l : Link) (p : Bool) → IsFit l → Fitting (discard l p)
 fit-discard l p f = (
@@ -310,103 +310,103 @@ fit-discard l p f = (
       l.rejecting p l.expected f.expected,
 )
 
-fit-information : (l : Link) (send : ℕ) (p : Bool) (packet : Octets) → IsFit l → Fitting (on_information l send p
+fit-information : (l : Link) (ns : ℕ) (p : Bool) (packet : Octets) → IsFit l → Fitting (on_information l ns p
     packet)
-fit-information l send p packet f =
-    cond_by (λ b. Fitting (if b then accept l p packet else discard l p)) (send == l.expected)
+fit-information l ns p packet f =
+    cond_by (λ b. Fitting (if b then accept l p packet else discard l p)) (ns == l.expected)
     (λ _. fit-accept l p packet f) (λ _. fit-discard l p f)
 
-fit-checked : (l : Link) (content : Content) (r p : Bool) (receive : ℕ) (taken : Step) (anew : Bool) → IsFit l →
+fit-checked : (l : Link) (content : Content) (r p : Bool) (nr : ℕ) (taken : Step) (anew : Bool) → IsFit l →
     HasNumbers content →
-    Fitting taken → Fitting (if is_valid l receive then record taken { anew = anew } else reject_number l content r p)
-fit-checked l content r p receive taken anew f n t =
+    Fitting taken → Fitting (if is_valid l nr then record taken { anew = anew } else reject_number l content r p)
+fit-checked l content r p nr taken anew f n t =
     cond_by (λ b. Fitting (if b then record taken { anew = anew } else reject_number l content r p)) (is_valid l
-    receive)
+    nr)
     (λ _. t)
     (λ _. fit-reject l.role l (report_of l (control_of content p) r false false false true) (p && not r) f
     (fit-report l (control_of content p) r false false false true f (control-below content p n)))
 
 fit-in_up : (role : Role) (l : Link) (content : Content) (r p : Bool) → HasNumbers content → IsFit l → Fitting (in_up
     role l content r p)
-fit-in_up role l (Information send receive packet) r p n f =
-    fit-checked l (Information send receive packet) r p receive (on_information (acknowledged l receive) send p
+fit-in_up role l (I ns nr packet) r p n f =
+    fit-checked l (I ns nr packet) r p nr (on_information (acknowledged l nr) ns p
     packet) _ f n
-    (fit-information (acknowledged l receive) send p packet (fit-acknowledged l receive n.1 f))
-fit-in_up role l (ReceiveReady receive) r p n f =
-    fit-checked l (ReceiveReady receive) r p receive (on_supervisory (acknowledged l receive) false false r p) _ f n
-    (fit-supervisory (acknowledged l receive) false false r p (fit-acknowledged l receive n f))
-fit-in_up role l (ReceiveNotReady receive) r p n f =
-    fit-checked l (ReceiveNotReady receive) r p receive (on_supervisory (acknowledged l receive) true false r p) _ f n
-    (fit-supervisory (acknowledged l receive) true false r p (fit-acknowledged l receive n f))
-fit-in_up role l (Reject receive) r p n f =
-    fit-checked l (Reject receive) r p receive (on_supervisory (acknowledged l receive) false true r p) _ f n
-    (fit-supervisory (acknowledged l receive) false true r p (fit-acknowledged l receive n f))
-fit-in_up role l Disconnect r p n f = (fit-cleared l Phase.Down l.bit false false false 0 f, (spelt-ua p, tt))
-fit-in_up role l Acknowledgement r p n f = fit-still l f
-fit-in_up Dte l SetMode r p n f = fit-set_up l f
-fit-in_up Dte l DisconnectedMode r p n f = fit-set_up l f
-fit-in_up Dte l (FrameReject report) r p n f = fit-set_up l f
-fit-in_up Dce l SetMode r p n f = fit-still l f
-fit-in_up Dce l DisconnectedMode r p n f = fit-still l f
-fit-in_up Dce l (FrameReject report) r p n f = fit-disconnect l f
+    (fit-information (acknowledged l nr) ns p packet (fit-acknowledged l nr n.1 f))
+fit-in_up role l (Rr nr) r p n f =
+    fit-checked l (Rr nr) r p nr (on_supervisory (acknowledged l nr) false false r p) _ f n
+    (fit-supervisory (acknowledged l nr) false false r p (fit-acknowledged l nr n f))
+fit-in_up role l (Rnr nr) r p n f =
+    fit-checked l (Rnr nr) r p nr (on_supervisory (acknowledged l nr) true false r p) _ f n
+    (fit-supervisory (acknowledged l nr) true false r p (fit-acknowledged l nr n f))
+fit-in_up role l (Rej nr) r p n f =
+    fit-checked l (Rej nr) r p nr (on_supervisory (acknowledged l nr) false true r p) _ f n
+    (fit-supervisory (acknowledged l nr) false true r p (fit-acknowledged l nr n f))
+fit-in_up role l Disc r p n f = (fit-cleared l Phase.Down l.bit false false false 0 f, (spelt-ua p, tt))
+fit-in_up role l Ua r p n f = fit-still l f
+fit-in_up Dte l Sabm r p n f = fit-set_up l f
+fit-in_up Dte l Dm r p n f = fit-set_up l f
+fit-in_up Dte l (Frmr report) r p n f = fit-set_up l f
+fit-in_up Dce l Sabm r p n f = fit-still l f
+fit-in_up Dce l Dm r p n f = fit-still l f
+fit-in_up Dce l (Frmr report) r p n f = fit-disconnect l f
 
 -- ---- the other phases
 
-fit-polite : (l : Link) (due : Bool) → IsFit l → Fitting (if due then sends l (response DisconnectedMode true) else
+fit-polite : (l : Link) (due : Bool) → IsFit l → Fitting (if due then sends l (response Dm true) else
     still l)
-fit-polite l true f = fit-sends l (response DisconnectedMode true) f (spelt-dm true)
+fit-polite l true f = fit-sends l (response Dm true) f (spelt-dm true)
 fit-polite l false f = fit-still l f
 
 fit-in_down : (role : Role) (l : Link) (content : Content) (r p : Bool) → IsFit l → Fitting (in_down role l content r
     p)
-fit-in_down Dte l SetMode r p f = fit-set_up l f
-fit-in_down Dte l DisconnectedMode r p f = fit-set_up l f
-fit-in_down Dte l Disconnect r p f = fit-sends l (response DisconnectedMode p) f (spelt-dm p)
-fit-in_down Dte l (Information send receive packet) r p f = fit-polite l (p && not r) f
-fit-in_down Dte l (ReceiveReady receive) r p f = fit-polite l (p && not r) f
-fit-in_down Dte l (ReceiveNotReady receive) r p f = fit-polite l (p && not r) f
-fit-in_down Dte l (Reject receive) r p f = fit-polite l (p && not r) f
-fit-in_down Dte l Acknowledgement r p f = fit-polite l (p && not r) f
-fit-in_down Dte l (FrameReject report) r p f = fit-polite l (p && not r) f
-fit-in_down Dce l SetMode r p f = fit-polite l (p && not r) f
-fit-in_down Dce l DisconnectedMode r p f = fit-polite l (p && not r) f
-fit-in_down Dce l Disconnect r p f = fit-sends l (response DisconnectedMode p) f (spelt-dm p)
-fit-in_down Dce l (Information send receive packet) r p f = fit-polite l (p && not r) f
-fit-in_down Dce l (ReceiveReady receive) r p f = fit-polite l (p && not r) f
-fit-in_down Dce l (ReceiveNotReady receive) r p f = fit-polite l (p && not r) f
-fit-in_down Dce l (Reject receive) r p f = fit-polite l (p && not r) f
-fit-in_down Dce l Acknowledgement r p f = fit-polite l (p && not r) f
-fit-in_down Dce l (FrameReject report) r p f = fit-polite l (p && not r) f
+fit-in_down Dte l Sabm r p f = fit-set_up l f
+fit-in_down Dte l Dm r p f = fit-set_up l f
+fit-in_down Dte l Disc r p f = fit-sends l (response Dm p) f (spelt-dm p)
+fit-in_down Dte l (I ns nr packet) r p f = fit-polite l (p && not r) f
+fit-in_down Dte l (Rr nr) r p f = fit-polite l (p && not r) f
+fit-in_down Dte l (Rnr nr) r p f = fit-polite l (p && not r) f
+fit-in_down Dte l (Rej nr) r p f = fit-polite l (p && not r) f
+fit-in_down Dte l Ua r p f = fit-polite l (p && not r) f
+fit-in_down Dte l (Frmr report) r p f = fit-polite l (p && not r) f
+fit-in_down Dce l Sabm r p f = fit-polite l (p && not r) f
+fit-in_down Dce l Dm r p f = fit-polite l (p && not r) f
+fit-in_down Dce l Disc r p f = fit-sends l (response Dm p) f (spelt-dm p)
+fit-in_down Dce l (I ns nr packet) r p f = fit-polite l (p && not r) f
+fit-in_down Dce l (Rr nr) r p f = fit-polite l (p && not r) f
+fit-in_down Dce l (Rnr nr) r p f = fit-polite l (p && not r) f
+fit-in_down Dce l (Rej nr) r p f = fit-polite l (p && not r) f
+fit-in_down Dce l Ua r p f = fit-polite l (p && not r) f
+fit-in_down Dce l (Frmr report) r p f = fit-polite l (p && not r) f
 
 fit-in_setting_up : (l : Link) (content : Content) (r p : Bool) → IsFit l → Fitting (in_setting_up l content r p)
-fit-in_setting_up l Acknowledgement r p f =
+fit-in_setting_up l Ua r p f =
     cond_by (λ b. Fitting (if b then come_up l else still l)) (is_same p l.bit)
     (λ _. (fit-cleared l Phase.Up l.bit true true false 1 f, (spelt-ready 0 false true (omega arith), tt))) (λ _.
     fit-still l f)
-fit-in_setting_up l Disconnect r p f = fit-sends l (response DisconnectedMode p) f (spelt-dm p)
-fit-in_setting_up l SetMode r p f = fit-still l f
-fit-in_setting_up l DisconnectedMode r p f = fit-still l f
-fit-in_setting_up l (FrameReject report) r p f = fit-still l f
-fit-in_setting_up l (Information send receive packet) r p f = fit-still l f
-fit-in_setting_up l (ReceiveReady receive) r p f = fit-still l f
-fit-in_setting_up l (ReceiveNotReady receive) r p f = fit-still l f
-fit-in_setting_up l (Reject receive) r p f = fit-still l f
+fit-in_setting_up l Disc r p f = fit-sends l (response Dm p) f (spelt-dm p)
+fit-in_setting_up l Sabm r p f = fit-still l f
+fit-in_setting_up l Dm r p f = fit-still l f
+fit-in_setting_up l (Frmr report) r p f = fit-still l f
+fit-in_setting_up l (I ns nr packet) r p f = fit-still l f
+fit-in_setting_up l (Rr nr) r p f = fit-still l f
+fit-in_setting_up l (Rnr nr) r p f = fit-still l f
+fit-in_setting_up l (Rej nr) r p f = fit-still l f
 
-fit-again : (l : Link) (r p : Bool) → IsFit l → Fitting (if r then still l else sends l (response (FrameReject
+fit-again : (l : Link) (r p : Bool) → IsFit l → Fitting (if r then still l else sends l (response (Frmr
     l.report) p))
 fit-again l true p f = fit-still l f
-fit-again l false p f = fit-sends l (response (FrameReject l.report) p) f (spelt-frmr l.report p f.report)
+fit-again l false p f = fit-sends l (response (Frmr l.report) p) f (spelt-frmr l.report p f.report)
 
 fit-in_rejecting : (l : Link) (content : Content) (r p : Bool) → IsFit l → Fitting (in_rejecting l content r p)
-fit-in_rejecting l Disconnect r p f = (fit-cleared l Phase.Down l.bit false false false 0 f, (spelt-ua p, tt))
-fit-in_rejecting l SetMode r p f = fit-again l r p f
-fit-in_rejecting l DisconnectedMode r p f = fit-again l r p f
-fit-in_rejecting l Acknowledgement r p f = fit-again l r p f
-fit-in_rejecting l (FrameReject report) r p f = fit-again l r p f
-fit-in_rejecting l (Information send receive packet) r p f = fit-again l r p f
-fit-in_rejecting l (ReceiveReady receive) r p f = fit-again l r p f
-fit-in_rejecting l (ReceiveNotReady receive) r p f = fit-again l r p f
-fit-in_rejecting l (Reject receive) r p f = fit-again l r p f
+fit-in_rejecting l Disc r p f = (fit-cleared l Phase.Down l.bit false false false 0 f, (spelt-ua p, tt))
+fit-in_rejecting l Sabm r p f = fit-again l r p f
+fit-in_rejecting l Dm r p f = fit-again l r p f
+fit-in_rejecting l Ua r p f = fit-again l r p f
+fit-in_rejecting l (Frmr report) r p f = fit-again l r p f
+fit-in_rejecting l (I ns nr packet) r p f = fit-again l r p f
+fit-in_rejecting l (Rr nr) r p f = fit-again l r p f
+fit-in_rejecting l (Rnr nr) r p f = fit-again l r p f
+fit-in_rejecting l (Rej nr) r p f = fit-again l r p f
 
 fit-in_phase : (phase : Phase) (role : Role) (l : Link) (content : Content) (r p : Bool) → HasNumbers content → IsFit
     l →
@@ -418,21 +418,21 @@ fit-in_phase Phase.Rejecting role l content r p n f = fit-in_rejecting l content
 
 fit-on_content : (l : Link) (content : Content) (role : Role) (r p : Bool) → HasNumbers content → IsFit l → Fitting
     (on_content content role l r p)
-fit-on_content l SetMode Dce r p n f = (fit-cleared l Phase.Up l.bit false false false 0 f, (spelt-ua p, tt))
-fit-on_content l SetMode Dte r p n f = fit-in_phase l.phase Dte l SetMode r p n f
-fit-on_content l (Information send receive packet) role r p n f = fit-in_phase l.phase role l (Information send
-    receive packet) r p n f
-fit-on_content l (ReceiveReady receive) role r p n f = fit-in_phase l.phase role l (ReceiveReady receive) r p n f
-fit-on_content l (ReceiveNotReady receive) role r p n f = fit-in_phase l.phase role l (ReceiveNotReady receive) r p n
+fit-on_content l Sabm Dce r p n f = (fit-cleared l Phase.Up l.bit false false false 0 f, (spelt-ua p, tt))
+fit-on_content l Sabm Dte r p n f = fit-in_phase l.phase Dte l Sabm r p n f
+fit-on_content l (I ns nr packet) role r p n f = fit-in_phase l.phase role l (I ns
+    nr packet) r p n f
+fit-on_content l (Rr nr) role r p n f = fit-in_phase l.phase role l (Rr nr) r p n f
+fit-on_content l (Rnr nr) role r p n f = fit-in_phase l.phase role l (Rnr nr) r p n
     f
-fit-on_content l (Reject receive) role r p n f = fit-in_phase l.phase role l (Reject receive) r p n f
-fit-on_content l Disconnect role r p n f = fit-in_phase l.phase role l Disconnect r p n f
-fit-on_content l DisconnectedMode role r p n f = fit-in_phase l.phase role l DisconnectedMode r p n f
-fit-on_content l Acknowledgement role r p n f = fit-in_phase l.phase role l Acknowledgement r p n f
-fit-on_content l (FrameReject report) role r p n f = fit-in_phase l.phase role l (FrameReject report) r p n f
+fit-on_content l (Rej nr) role r p n f = fit-in_phase l.phase role l (Rej nr) r p n f
+fit-on_content l Disc role r p n f = fit-in_phase l.phase role l Disc r p n f
+fit-on_content l Dm role r p n f = fit-in_phase l.phase role l Dm r p n f
+fit-on_content l Ua role r p n f = fit-in_phase l.phase role l Ua r p n f
+fit-on_content l (Frmr report) role r p n f = fit-in_phase l.phase role l (Frmr report) r p n f
 
 pub fit_on_frame : (l : Link) (frame : FrameValue) → HasNumbers frame.content → IsFit l → Fitting (on_frame l frame)
-fit_on_frame l frame n f = fit-on_content l frame.content l.role frame.response frame.poll n f
+fit_on_frame l frame n f = fit-on_content l frame.content l.role frame.response frame.pf n f
 
 -- ---- faulty frames, T1, the end of an event, offers
 
@@ -465,12 +465,12 @@ fit-poll l f = (
 )
 
 fit-expire_in : (phase : Phase) (l : Link) → IsFit l → Fitting (expire_in phase l)
-fit-expire_in Phase.Down l f = fit-sends l (response DisconnectedMode false) f (spelt-dm false)
-fit-expire_in Phase.SettingUp l f = fit-sends l (command SetMode l.bit) f (spelt-sabm l.bit)
+fit-expire_in Phase.Down l f = fit-sends l (response Dm false) f (spelt-dm false)
+fit-expire_in Phase.SettingUp l f = fit-sends l (command Sabm l.bit) f (spelt-sabm l.bit)
 fit-expire_in Phase.Up l f =
     cond_by (λ b. Fitting (if b then relink l else poll l)) (nat_le l.n2 l.polls) (λ _. fit_relink l f) (λ _. fit-poll
     l f)
-fit-expire_in Phase.Rejecting l f = fit-sends l (response (FrameReject l.report) false) f (spelt-frmr l.report false
+fit-expire_in Phase.Rejecting l f = fit-sends l (response (Frmr l.report) false) f (spelt-frmr l.report false
     f.report)
 
 pub fit_on_t1 : (l : Link) → IsFit l → Fitting (on_t1 l)
@@ -478,10 +478,10 @@ fit_on_t1 l f =
     cond_by (λ b. Fitting (if b then expire_in l.phase l else still l)) (runs l) (λ _. fit-expire_in l.phase l f) (λ
     _. fit-still l f)
 
-spelt-owed : (due : Bool) (receive : ℕ) → receive < 8 → Each HasSpelling (if due then response (ReceiveReady receive)
+spelt-owed : (due : Bool) (nr : ℕ) → nr < 8 → Each HasSpelling (if due then response (Rr nr)
     false ∷ [] else [])
-spelt-owed true receive low = (spelt-ready receive true false low, tt)
-spelt-owed false receive low = tt
+spelt-owed true nr low = (spelt-ready nr true false low, tt)
+spelt-owed false nr low = tt
 
 fit-send_all : (l : Link) (packets : List Octets) → AllShort packets → IsFit l → Fitting (send_all l packets)
 fit-send_all l [] short f = (
@@ -519,7 +519,7 @@ fit_new role k n2 standing = record {
   oldest = omega arith;
   expected = omega arith;
   short = tt;
-  report = record { control = omega arith; send = omega arith; receive = omega arith };
+  report = record { control = omega arith; vs = omega arith; vr = omega arith };
 }
 
 -- ---- two links and their line

@@ -3,17 +3,17 @@ use Rattle.std.specs.Prelude.{◌≡◌, ℕ, ◌+◌, ◌<◌, ◌≤◌, Bool,
 use Rattle.std.proofs.Common.{refl, sym, ◌∙◌, subst, inl, inr, arith}
 use Rattle.frame_codec.specs.Frame.{FrameValue, Content}
 use Rattle.frame_codec.specs.Frame.Content.{
-  Information,
-  ReceiveReady,
-  ReceiveNotReady,
-  Reject,
-  SetMode,
-  Disconnect,
-  DisconnectedMode,
-  Acknowledgement,
-  FrameReject,
+  I,
+  Rr,
+  Rnr,
+  Rej,
+  Sabm,
+  Disc,
+  Dm,
+  Ua,
+  Frmr,
 }
-use Rattle.lapb.specs.World.{Sent, stamped, is_set_mode, is_acknowledgement, is_frame_reject, NoFrameReject}
+use Rattle.lapb.specs.World.{Sent, stamped, is_sabm, is_ua, is_frmr, NoFrmr}
 use Rattle.lapb.proofs.Cases.{Each}
 use Rattle.lapb.proofs.Steps.{is_numbered}
 
@@ -41,14 +41,14 @@ pub flight-stamped : (P : Sent → Type 0) (t : ℕ) (frames : List FrameValue) 
 flight-stamped P t [] all = tt
 flight-stamped P t (f ∷ frames) all = (all.0, flight-stamped P t frames all.1)
 
-abbrev pub NoSabm : ℕ → List Sent → Type 0
-NoSabm c = Flight (λ s. s.act ≡ c → is_set_mode s.frame.content ≡ false)
+abbrev pub NoSabmOf : ℕ → List Sent → Type 0
+NoSabmOf c = Flight (λ s. s.act ≡ c → is_sabm s.frame.content ≡ false)
 
-abbrev pub NoSetMode : List Sent → Type 0
-NoSetMode = Flight (λ s. is_set_mode s.frame.content ≡ false)
+abbrev pub NoSabm : List Sent → Type 0
+NoSabm = Flight (λ s. is_sabm s.frame.content ≡ false)
 
 abbrev pub NoAnswer : List Sent → Type 0
-NoAnswer = Flight (λ s. is_acknowledgement s.frame.content ≡ false)
+NoAnswer = Flight (λ s. is_ua s.frame.content ≡ false)
 
 abbrev pub NoNumbered : List Sent → Type 0
 NoNumbered = Flight (λ s. is_numbered s.frame.content ≡ false)
@@ -62,20 +62,20 @@ Stamped c = Flight (λ s. s.act ≡ c)
 -- ---- to the DCE, which stands in act c, from the DTE in act n, whose SABMs have P = p
 
 abbrev pub OfUp : (c n : ℕ) (p : Bool) (t : ℕ) (behind : List Sent) → Content → Bool → Type 0
-OfUp c n p t behind SetMode poll = ((t ≡ n) × (poll ≡ p)) ⊎ ((t ≡ c) × (t < n) × (poll ≡ not p))
-OfUp c n p t behind (Information send receive packet) poll = (t ≡ c) × NoSabm c behind
-OfUp c n p t behind (ReceiveReady receive) poll = (t ≡ c) × NoSabm c behind
-OfUp c n p t behind (ReceiveNotReady receive) poll = (t ≡ c) × NoSabm c behind
-OfUp c n p t behind (Reject receive) poll = (t ≡ c) × NoSabm c behind
-OfUp c n p t behind DisconnectedMode poll = Unit {0}
-OfUp c n p t behind Disconnect poll = ⊥
-OfUp c n p t behind Acknowledgement poll = ⊥
-OfUp c n p t behind (FrameReject report) poll = ⊥
+OfUp c n p t behind Sabm pf = ((t ≡ n) × (pf ≡ p)) ⊎ ((t ≡ c) × (t < n) × (pf ≡ not p))
+OfUp c n p t behind (I ns nr packet) pf = (t ≡ c) × NoSabmOf c behind
+OfUp c n p t behind (Rr nr) pf = (t ≡ c) × NoSabmOf c behind
+OfUp c n p t behind (Rnr nr) pf = (t ≡ c) × NoSabmOf c behind
+OfUp c n p t behind (Rej nr) pf = (t ≡ c) × NoSabmOf c behind
+OfUp c n p t behind Dm pf = Unit {0}
+OfUp c n p t behind Disc pf = ⊥
+OfUp c n p t behind Ua pf = ⊥
+OfUp c n p t behind (Frmr report) pf = ⊥
 
 -- the acts rise from lo to n
 abbrev pub Ups : (c n : ℕ) (p : Bool) (lo : ℕ) → List Sent → Type 0
 Ups c n p lo [] = Unit {0}
-Ups c n p lo (s ∷ rest) = (lo ≤ s.act) × (s.act ≤ n) × OfUp c n p s.act rest s.frame.content s.frame.poll × Ups c n p
+Ups c n p lo (s ∷ rest) = (lo ≤ s.act) × (s.act ≤ n) × OfUp c n p s.act rest s.frame.content s.frame.pf × Ups c n p
     s.act rest
 
 pub ups-lower : (c n : ℕ) (p : Bool) (lo lo' : ℕ) (up : List Sent) → lo' ≤ lo → Ups c n p lo up → Ups c n p lo' up
@@ -84,44 +84,44 @@ ups-lower c n p lo lo' (s ∷ rest) le u = (omega (arith, u.0), u.1, u.2, u.3)
 
 -- what a DTE sends that sets nothing up
 abbrev pub Speaks : ℕ → ℕ → Content → Type 0
-Speaks c n (Information send receive packet) = n ≡ c
-Speaks c n (ReceiveReady receive) = n ≡ c
-Speaks c n (ReceiveNotReady receive) = n ≡ c
-Speaks c n (Reject receive) = n ≡ c
-Speaks c n DisconnectedMode = Unit {0}
-Speaks c n SetMode = ⊥
-Speaks c n Disconnect = ⊥
-Speaks c n Acknowledgement = ⊥
-Speaks c n (FrameReject report) = ⊥
+Speaks c n (I ns nr packet) = n ≡ c
+Speaks c n (Rr nr) = n ≡ c
+Speaks c n (Rnr nr) = n ≡ c
+Speaks c n (Rej nr) = n ≡ c
+Speaks c n Dm = Unit {0}
+Speaks c n Sabm = ⊥
+Speaks c n Disc = ⊥
+Speaks c n Ua = ⊥
+Speaks c n (Frmr report) = ⊥
 
-speaks-no_set_mode : (c n : ℕ) (content : Content) → Speaks c n content → is_set_mode content ≡ false
-speaks-no_set_mode c n (Information send receive packet) s = refl
-speaks-no_set_mode c n (ReceiveReady receive) s = refl
-speaks-no_set_mode c n (ReceiveNotReady receive) s = refl
-speaks-no_set_mode c n (Reject receive) s = refl
-speaks-no_set_mode c n DisconnectedMode s = refl
-speaks-no_set_mode c n SetMode s = absurd s
-speaks-no_set_mode c n Disconnect s = absurd s
-speaks-no_set_mode c n Acknowledgement s = absurd s
-speaks-no_set_mode c n (FrameReject report) s = absurd s
+speaks-no_sabm : (c n : ℕ) (content : Content) → Speaks c n content → is_sabm content ≡ false
+speaks-no_sabm c n (I ns nr packet) s = refl
+speaks-no_sabm c n (Rr nr) s = refl
+speaks-no_sabm c n (Rnr nr) s = refl
+speaks-no_sabm c n (Rej nr) s = refl
+speaks-no_sabm c n Dm s = refl
+speaks-no_sabm c n Sabm s = absurd s
+speaks-no_sabm c n Disc s = absurd s
+speaks-no_sabm c n Ua s = absurd s
+speaks-no_sabm c n (Frmr report) s = absurd s
 
-pub no_sabm-spoken : (c n : ℕ) (frames : List FrameValue) → Each (λ f. Speaks c n f.content) frames → NoSabm c
+pub no_sabm-spoken : (c n : ℕ) (frames : List FrameValue) → Each (λ f. Speaks c n f.content) frames → NoSabmOf c
     (stamped n frames)
 no_sabm-spoken c n [] all = tt
-no_sabm-spoken c n (f ∷ frames) all = (λ _. speaks-no_set_mode c n f.content all.0, no_sabm-spoken c n frames all.1)
+no_sabm-spoken c n (f ∷ frames) all = (λ _. speaks-no_sabm c n f.content all.0, no_sabm-spoken c n frames all.1)
 
-of_up-spoken : (c n : ℕ) (p : Bool) (behind : List Sent) (content : Content) (poll : Bool) → Speaks c n content →
-    NoSabm c behind →
-    OfUp c n p n behind content poll
-of_up-spoken c n p behind (Information send receive packet) poll s none = (s, none)
-of_up-spoken c n p behind (ReceiveReady receive) poll s none = (s, none)
-of_up-spoken c n p behind (ReceiveNotReady receive) poll s none = (s, none)
-of_up-spoken c n p behind (Reject receive) poll s none = (s, none)
-of_up-spoken c n p behind DisconnectedMode poll s none = tt
-of_up-spoken c n p behind SetMode poll s none = absurd s
-of_up-spoken c n p behind Disconnect poll s none = absurd s
-of_up-spoken c n p behind Acknowledgement poll s none = absurd s
-of_up-spoken c n p behind (FrameReject report) poll s none = absurd s
+of_up-spoken : (c n : ℕ) (p : Bool) (behind : List Sent) (content : Content) (pf : Bool) → Speaks c n content →
+    NoSabmOf c behind →
+    OfUp c n p n behind content pf
+of_up-spoken c n p behind (I ns nr packet) pf s none = (s, none)
+of_up-spoken c n p behind (Rr nr) pf s none = (s, none)
+of_up-spoken c n p behind (Rnr nr) pf s none = (s, none)
+of_up-spoken c n p behind (Rej nr) pf s none = (s, none)
+of_up-spoken c n p behind Dm pf s none = tt
+of_up-spoken c n p behind Sabm pf s none = absurd s
+of_up-spoken c n p behind Disc pf s none = absurd s
+of_up-spoken c n p behind Ua pf s none = absurd s
+of_up-spoken c n p behind (Frmr report) pf s none = absurd s
 
 ups-spoken : (c n : ℕ) (p : Bool) (frames : List FrameValue) → Each (λ f. Speaks c n f.content) frames → Ups c n p n
     (stamped n frames)
@@ -129,37 +129,37 @@ ups-spoken c n p [] all = tt
 ups-spoken c n p (f ∷ frames) all = (
   omega arith,
   omega arith,
-  of_up-spoken c n p (stamped n frames) f.content f.poll all.0 (no_sabm-spoken c n frames
+  of_up-spoken c n p (stamped n frames) f.content f.pf all.0 (no_sabm-spoken c n frames
       all.1),
   ups-spoken c n p frames all.1,
 )
 
 -- what stands behind may grow by frames without a SABM of c
-of_up-more : (c n : ℕ) (p : Bool) (t : ℕ) (behind new : List Sent) (content : Content) (poll : Bool) → (is_numbered
-    content ≡ true → NoSabm c new) →
-    OfUp c n p t behind content poll → OfUp c n p t (behind ++ new) content poll
-of_up-more c n p t behind new (Information send receive packet) poll none u =
-    (u.0, flight-append (λ s. s.act ≡ c → is_set_mode s.frame.content ≡ false) behind new u.1 (none refl))
-of_up-more c n p t behind new (ReceiveReady receive) poll none u =
-    (u.0, flight-append (λ s. s.act ≡ c → is_set_mode s.frame.content ≡ false) behind new u.1 (none refl))
-of_up-more c n p t behind new (ReceiveNotReady receive) poll none u =
-    (u.0, flight-append (λ s. s.act ≡ c → is_set_mode s.frame.content ≡ false) behind new u.1 (none refl))
-of_up-more c n p t behind new (Reject receive) poll none u =
-    (u.0, flight-append (λ s. s.act ≡ c → is_set_mode s.frame.content ≡ false) behind new u.1 (none refl))
-of_up-more c n p t behind new DisconnectedMode poll none u = tt
-of_up-more c n p t behind new SetMode poll none u = u
-of_up-more c n p t behind new Disconnect poll none u = absurd u
-of_up-more c n p t behind new Acknowledgement poll none u = absurd u
-of_up-more c n p t behind new (FrameReject report) poll none u = absurd u
+of_up-more : (c n : ℕ) (p : Bool) (t : ℕ) (behind new : List Sent) (content : Content) (pf : Bool) → (is_numbered
+    content ≡ true → NoSabmOf c new) →
+    OfUp c n p t behind content pf → OfUp c n p t (behind ++ new) content pf
+of_up-more c n p t behind new (I ns nr packet) pf none u =
+    (u.0, flight-append (λ s. s.act ≡ c → is_sabm s.frame.content ≡ false) behind new u.1 (none refl))
+of_up-more c n p t behind new (Rr nr) pf none u =
+    (u.0, flight-append (λ s. s.act ≡ c → is_sabm s.frame.content ≡ false) behind new u.1 (none refl))
+of_up-more c n p t behind new (Rnr nr) pf none u =
+    (u.0, flight-append (λ s. s.act ≡ c → is_sabm s.frame.content ≡ false) behind new u.1 (none refl))
+of_up-more c n p t behind new (Rej nr) pf none u =
+    (u.0, flight-append (λ s. s.act ≡ c → is_sabm s.frame.content ≡ false) behind new u.1 (none refl))
+of_up-more c n p t behind new Dm pf none u = tt
+of_up-more c n p t behind new Sabm pf none u = u
+of_up-more c n p t behind new Disc pf none u = absurd u
+of_up-more c n p t behind new Ua pf none u = absurd u
+of_up-more c n p t behind new (Frmr report) pf none u = absurd u
 
-ups-append : (c n : ℕ) (p : Bool) (lo : ℕ) (up new : List Sent) → lo ≤ n → NoSabm c new ⊎ NoNumbered up → Ups c n p lo
+ups-append : (c n : ℕ) (p : Bool) (lo : ℕ) (up new : List Sent) → lo ≤ n → NoSabmOf c new ⊎ NoNumbered up → Ups c n p lo
     up → Ups c n p n new →
     Ups c n p lo (up ++ new)
 ups-append c n p lo [] new le which u v = ups-lower c n p n lo new le v
 ups-append c n p lo (s ∷ rest) new le which u v = (
   u.0,
   u.1,
-  of_up-more c n p s.act rest new s.frame.content s.frame.poll (λ e. elim which [
+  of_up-more c n p s.act rest new s.frame.content s.frame.pf (λ e. elim which [
     | inl none ↦ none
     | inr off ↦ absurd
         (cc (e, off.0))
@@ -175,18 +175,18 @@ ups-speaks c n p lo up frames le u all =
 
 -- the SABMs of the act
 abbrev pub Sets : Bool → FrameValue → Type 0
-Sets p f = (f.content ≡ SetMode) × (f.poll ≡ p)
+Sets p f = (f.content ≡ Sabm) × (f.pf ≡ p)
 
 ups-set : (c n : ℕ) (p : Bool) (frames : List FrameValue) → Each (Sets p) frames → Ups c n p n (stamped n frames)
 ups-set c n p [] all = tt
 ups-set c n p (f ∷ frames) all = (
   omega arith,
   omega arith,
-  subst (λ content. OfUp c n p n (stamped n frames) content f.poll) (sym all.0.0) (inl (refl, all.0.1)),
+  subst (λ content. OfUp c n p n (stamped n frames) content f.pf) (sym all.0.0) (inl (refl, all.0.1)),
   ups-set c n p frames all.1,
 )
 
-no_sabm-other : (c n : ℕ) (p : Bool) (frames : List FrameValue) → (n ≡ c → ⊥) → NoSabm c (stamped n frames)
+no_sabm-other : (c n : ℕ) (p : Bool) (frames : List FrameValue) → (n ≡ c → ⊥) → NoSabmOf c (stamped n frames)
 no_sabm-other c n p [] other = tt
 no_sabm-other c n p (f ∷ frames) other = (λ e. absurd (other e), no_sabm-other c n p frames other)
 
@@ -199,21 +199,21 @@ ups-sets c n p lo up frames le which u all =
     all)
 
 -- the DCE takes a SABM of a later act
-of_up-enters : (c t n : ℕ) (p : Bool) (u : ℕ) (behind : List Sent) (content : Content) (poll : Bool) → c < t → t ≤ u →
-    OfUp c n p u behind content poll → OfUp t n p u behind content poll
-of_up-enters c t n p u behind (Information send receive packet) poll l m o = absurd (let e = o.0 in omega arith)
-of_up-enters c t n p u behind (ReceiveReady receive) poll l m o = absurd (let e = o.0 in omega arith)
-of_up-enters c t n p u behind (ReceiveNotReady receive) poll l m o = absurd (let e = o.0 in omega arith)
-of_up-enters c t n p u behind (Reject receive) poll l m o = absurd (let e = o.0 in omega arith)
-of_up-enters c t n p u behind DisconnectedMode poll l m o = tt
-of_up-enters c t n p u behind SetMode poll l m o = elim o [
+of_up-enters : (c t n : ℕ) (p : Bool) (u : ℕ) (behind : List Sent) (content : Content) (pf : Bool) → c < t → t ≤ u →
+    OfUp c n p u behind content pf → OfUp t n p u behind content pf
+of_up-enters c t n p u behind (I ns nr packet) pf l m o = absurd (let e = o.0 in omega arith)
+of_up-enters c t n p u behind (Rr nr) pf l m o = absurd (let e = o.0 in omega arith)
+of_up-enters c t n p u behind (Rnr nr) pf l m o = absurd (let e = o.0 in omega arith)
+of_up-enters c t n p u behind (Rej nr) pf l m o = absurd (let e = o.0 in omega arith)
+of_up-enters c t n p u behind Dm pf l m o = tt
+of_up-enters c t n p u behind Sabm pf l m o = elim o [
   | inl e ↦ inl e
   | inr e ↦ absurd (let same = e.0 in omega
       arith)
 ]
-of_up-enters c t n p u behind Disconnect poll l m o = absurd o
-of_up-enters c t n p u behind Acknowledgement poll l m o = absurd o
-of_up-enters c t n p u behind (FrameReject report) poll l m o = absurd o
+of_up-enters c t n p u behind Disc pf l m o = absurd o
+of_up-enters c t n p u behind Ua pf l m o = absurd o
+of_up-enters c t n p u behind (Frmr report) pf l m o = absurd o
 
 pub ups-enters : (c t n : ℕ) (p : Bool) (lo : ℕ) (up : List Sent) → c < t → t ≤ lo → Ups c n p lo up → Ups t n p lo up
 ups-enters c t n p lo [] l m u = tt
@@ -221,29 +221,29 @@ ups-enters c t n p lo (s ∷ rest) l m u =
     let late : t ≤ s.act = omega (arith, u.0) in (
       u.0,
       u.1,
-      of_up-enters c t n p s.act rest s.frame.content s.frame.poll l late u.2,
+      of_up-enters c t n p s.act rest s.frame.content s.frame.pf l late u.2,
       ups-enters c t n p s.act rest
           l late u.3,
     )
 
 -- frames of a session are of the DCE's own
-of_up-numbered : (c n : ℕ) (p : Bool) (t : ℕ) (behind : List Sent) (content : Content) (poll : Bool) → OfUp c n p t
-    behind content poll →
-    is_numbered content ≡ true → (t ≡ c) × NoSabm c behind
-of_up-numbered c n p t behind (Information send receive packet) poll o e = o
-of_up-numbered c n p t behind (ReceiveReady receive) poll o e = o
-of_up-numbered c n p t behind (ReceiveNotReady receive) poll o e = o
-of_up-numbered c n p t behind (Reject receive) poll o e = o
-of_up-numbered c n p t behind DisconnectedMode poll o e = absurd (cc)
-of_up-numbered c n p t behind SetMode poll o e = absurd (cc)
-of_up-numbered c n p t behind Disconnect poll o e = absurd o
-of_up-numbered c n p t behind Acknowledgement poll o e = absurd o
-of_up-numbered c n p t behind (FrameReject report) poll o e = absurd o
+of_up-numbered : (c n : ℕ) (p : Bool) (t : ℕ) (behind : List Sent) (content : Content) (pf : Bool) → OfUp c n p t
+    behind content pf →
+    is_numbered content ≡ true → (t ≡ c) × NoSabmOf c behind
+of_up-numbered c n p t behind (I ns nr packet) pf o e = o
+of_up-numbered c n p t behind (Rr nr) pf o e = o
+of_up-numbered c n p t behind (Rnr nr) pf o e = o
+of_up-numbered c n p t behind (Rej nr) pf o e = o
+of_up-numbered c n p t behind Dm pf o e = absurd (cc)
+of_up-numbered c n p t behind Sabm pf o e = absurd (cc)
+of_up-numbered c n p t behind Disc pf o e = absurd o
+of_up-numbered c n p t behind Ua pf o e = absurd o
+of_up-numbered c n p t behind (Frmr report) pf o e = absurd o
 
 pub ups-numbered : (c n : ℕ) (p : Bool) (s : Sent) (rest : List Sent) (lo : ℕ) → Ups c n p lo (s ∷ rest) → is_numbered
     s.frame.content ≡ true →
-    (s.act ≡ c) × NoSabm c rest
-ups-numbered c n p s rest lo u e = of_up-numbered c n p s.act rest s.frame.content s.frame.poll u.2 e
+    (s.act ≡ c) × NoSabmOf c rest
+ups-numbered c n p s rest lo u e = of_up-numbered c n p s.act rest s.frame.content s.frame.pf u.2 e
 
 false_by : (b : Bool) → (b ≡ true → ⊥) → b ≡ false
 false_by true f = absurd (f refl)
@@ -255,7 +255,7 @@ no_numbered-late c t n p lo [] l m u = tt
 no_numbered-late c t n p lo (s ∷ rest) l m u =
     let late : t ≤ s.act = omega (arith, u.0) in (
       false_by (is_numbered s.frame.content)
-          (λ e. let same = (of_up-numbered c n p s.act rest s.frame.content s.frame.poll u.2 e).0 in omega arith),
+          (λ e. let same = (of_up-numbered c n p s.act rest s.frame.content s.frame.pf u.2 e).0 in omega arith),
       no_numbered-late c t n p s.act rest l late u.3,
     )
 
@@ -264,85 +264,85 @@ not-not : (b : Bool) → not (not b) ≡ b
 not-not true = refl
 not-not false = refl
 
-of_up-act : (n : ℕ) (p : Bool) (t : ℕ) (behind : List Sent) (content : Content) (poll : Bool) → OfUp n n p t behind
-    content poll →
-    OfUp n (n + 1) (not p) t behind content poll
-of_up-act n p t behind (Information send receive packet) poll o = o
-of_up-act n p t behind (ReceiveReady receive) poll o = o
-of_up-act n p t behind (ReceiveNotReady receive) poll o = o
-of_up-act n p t behind (Reject receive) poll o = o
-of_up-act n p t behind DisconnectedMode poll o = tt
-of_up-act n p t behind SetMode poll o =
+of_up-act : (n : ℕ) (p : Bool) (t : ℕ) (behind : List Sent) (content : Content) (pf : Bool) → OfUp n n p t behind
+    content pf →
+    OfUp n (n + 1) (not p) t behind content pf
+of_up-act n p t behind (I ns nr packet) pf o = o
+of_up-act n p t behind (Rr nr) pf o = o
+of_up-act n p t behind (Rnr nr) pf o = o
+of_up-act n p t behind (Rej nr) pf o = o
+of_up-act n p t behind Dm pf o = tt
+of_up-act n p t behind Sabm pf o =
     elim o [
       | inl e ↦ inr (e.0, (let same = e.0 in omega arith), e.1 ∙ sym (not-not p))
       | inr e ↦ absurd (let same =
           e.0 in let less = e.1 in omega arith)
     ]
-of_up-act n p t behind Disconnect poll o = absurd o
-of_up-act n p t behind Acknowledgement poll o = absurd o
-of_up-act n p t behind (FrameReject report) poll o = absurd o
+of_up-act n p t behind Disc pf o = absurd o
+of_up-act n p t behind Ua pf o = absurd o
+of_up-act n p t behind (Frmr report) pf o = absurd o
 
 pub ups-act : (n : ℕ) (p : Bool) (lo : ℕ) (up : List Sent) → Ups n n p lo up → Ups n (n + 1) (not p) lo up
 ups-act n p lo [] u = tt
 ups-act n p lo (s ∷ rest) u =
-    (u.0, omega (arith, u.1), of_up-act n p s.act rest s.frame.content s.frame.poll u.2, ups-act n p s.act rest u.3)
+    (u.0, omega (arith, u.1), of_up-act n p s.act rest s.frame.content s.frame.pf u.2, ups-act n p s.act rest u.3)
 
-of_up-quiet : (c n : ℕ) (p : Bool) (t : ℕ) (behind : List Sent) (content : Content) (poll : Bool) → is_set_mode
+of_up-quiet : (c n : ℕ) (p : Bool) (t : ℕ) (behind : List Sent) (content : Content) (pf : Bool) → is_sabm
     content ≡ false →
-    OfUp c n p t behind content poll → OfUp c (n + 1) (not p) t behind content poll
-of_up-quiet c n p t behind (Information send receive packet) poll e o = o
-of_up-quiet c n p t behind (ReceiveReady receive) poll e o = o
-of_up-quiet c n p t behind (ReceiveNotReady receive) poll e o = o
-of_up-quiet c n p t behind (Reject receive) poll e o = o
-of_up-quiet c n p t behind DisconnectedMode poll e o = tt
-of_up-quiet c n p t behind SetMode poll e o = absurd (cc)
-of_up-quiet c n p t behind Disconnect poll e o = absurd o
-of_up-quiet c n p t behind Acknowledgement poll e o = absurd o
-of_up-quiet c n p t behind (FrameReject report) poll e o = absurd o
+    OfUp c n p t behind content pf → OfUp c (n + 1) (not p) t behind content pf
+of_up-quiet c n p t behind (I ns nr packet) pf e o = o
+of_up-quiet c n p t behind (Rr nr) pf e o = o
+of_up-quiet c n p t behind (Rnr nr) pf e o = o
+of_up-quiet c n p t behind (Rej nr) pf e o = o
+of_up-quiet c n p t behind Dm pf e o = tt
+of_up-quiet c n p t behind Sabm pf e o = absurd (cc)
+of_up-quiet c n p t behind Disc pf e o = absurd o
+of_up-quiet c n p t behind Ua pf e o = absurd o
+of_up-quiet c n p t behind (Frmr report) pf e o = absurd o
 
-pub ups-quiet : (c n : ℕ) (p : Bool) (lo : ℕ) (up : List Sent) → NoSetMode up → Ups c n p lo up → Ups c (n + 1) (not
+pub ups-quiet : (c n : ℕ) (p : Bool) (lo : ℕ) (up : List Sent) → NoSabm up → Ups c n p lo up → Ups c (n + 1) (not
     p) lo up
 ups-quiet c n p lo [] off u = tt
 ups-quiet c n p lo (s ∷ rest) off u = (
   u.0,
   omega (arith, u.1),
-  of_up-quiet c n p s.act rest s.frame.content s.frame.poll off.0 u.2,
+  of_up-quiet c n p s.act rest s.frame.content s.frame.pf off.0 u.2,
   ups-quiet c n p
       s.act rest off.1 u.3,
 )
 
-pub ups-no_reject : (c n : ℕ) (p : Bool) (lo : ℕ) (up : List Sent) → Ups c n p lo up → NoFrameReject up
+pub ups-no_reject : (c n : ℕ) (p : Bool) (lo : ℕ) (up : List Sent) → Ups c n p lo up → NoFrmr up
 ups-no_reject c n p lo [] u = tt
 ups-no_reject c n p lo (s ∷ rest) u = (one s.frame.content u.2, ups-no_reject c n p s.act rest u.3)
   where
-    one : (content : Content) → OfUp c n p s.act rest content s.frame.poll → is_frame_reject content ≡ false
-    one (Information send receive packet) o = refl
-    one (ReceiveReady receive) o = refl
-    one (ReceiveNotReady receive) o = refl
-    one (Reject receive) o = refl
-    one DisconnectedMode o = refl
-    one SetMode o = refl
-    one Disconnect o = absurd o
-    one Acknowledgement o = absurd o
-    one (FrameReject report) o = absurd o
+    one : (content : Content) → OfUp c n p s.act rest content s.frame.pf → is_frmr content ≡ false
+    one (I ns nr packet) o = refl
+    one (Rr nr) o = refl
+    one (Rnr nr) o = refl
+    one (Rej nr) o = refl
+    one Dm o = refl
+    one Sabm o = refl
+    one Disc o = absurd o
+    one Ua o = absurd o
+    one (Frmr report) o = absurd o
 
 -- ---- to the DTE
 
 abbrev pub OfDown : (n : ℕ) (p : Bool) (t : ℕ) → Content → Bool → Type 0
-OfDown n p t Acknowledgement final = ((t ≡ n) × (final ≡ p)) ⊎ ((t < n) × (final ≡ not p))
-OfDown n p t (Information send receive packet) final = Unit {0}
-OfDown n p t (ReceiveReady receive) final = Unit {0}
-OfDown n p t (ReceiveNotReady receive) final = Unit {0}
-OfDown n p t (Reject receive) final = Unit {0}
-OfDown n p t DisconnectedMode final = Unit {0}
-OfDown n p t SetMode final = ⊥
-OfDown n p t Disconnect final = ⊥
-OfDown n p t (FrameReject report) final = ⊥
+OfDown n p t Ua pf = ((t ≡ n) × (pf ≡ p)) ⊎ ((t < n) × (pf ≡ not p))
+OfDown n p t (I ns nr packet) pf = Unit {0}
+OfDown n p t (Rr nr) pf = Unit {0}
+OfDown n p t (Rnr nr) pf = Unit {0}
+OfDown n p t (Rej nr) pf = Unit {0}
+OfDown n p t Dm pf = Unit {0}
+OfDown n p t Sabm pf = ⊥
+OfDown n p t Disc pf = ⊥
+OfDown n p t (Frmr report) pf = ⊥
 
 -- the acts rise from lo to c
 abbrev pub Downs : (c n : ℕ) (p : Bool) (lo : ℕ) → List Sent → Type 0
 Downs c n p lo [] = Unit {0}
-Downs c n p lo (s ∷ rest) = (lo ≤ s.act) × (s.act ≤ c) × OfDown n p s.act s.frame.content s.frame.poll × Downs c n p
+Downs c n p lo (s ∷ rest) = (lo ≤ s.act) × (s.act ≤ c) × OfDown n p s.act s.frame.content s.frame.pf × Downs c n p
     s.act rest
 
 pub downs-lower : (c n : ℕ) (p : Bool) (lo lo' : ℕ) (down : List Sent) → lo' ≤ lo → Downs c n p lo down → Downs c n p
@@ -361,14 +361,14 @@ downs-append : (c n : ℕ) (p : Bool) (lo : ℕ) (down new : List Sent) → lo �
 downs-append c n p lo [] new le d m = downs-lower c n p c lo new le m
 downs-append c n p lo (s ∷ rest) new le d m = (d.0, d.1, d.2, downs-append c n p s.act rest new d.1 d.3 m)
 
-downs-each : (c n : ℕ) (p : Bool) (frames : List FrameValue) → Each (λ f. OfDown n p c f.content f.poll) frames →
+downs-each : (c n : ℕ) (p : Bool) (frames : List FrameValue) → Each (λ f. OfDown n p c f.content f.pf) frames →
     Downs c n p c (stamped c frames)
 downs-each c n p [] all = tt
 downs-each c n p (f ∷ frames) all = (omega arith, omega arith, all.0, downs-each c n p frames all.1)
 
 pub downs-more : (c n : ℕ) (p : Bool) (lo : ℕ) (down : List Sent) (frames : List FrameValue) → lo ≤ c → Downs c n p lo
     down →
-    Each (λ f. OfDown n p c f.content f.poll) frames → Downs c n p lo (down ++ stamped c frames)
+    Each (λ f. OfDown n p c f.content f.pf) frames → Downs c n p lo (down ++ stamped c frames)
 downs-more c n p lo down frames le d all = downs-append c n p lo down (stamped c frames) le d (downs-each c n p frames
     all)
 
@@ -382,55 +382,55 @@ pub none_of-later : (c t n : ℕ) (p : Bool) (lo : ℕ) (down : List Sent) → c
 none_of-later c t n p lo [] l d = tt
 none_of-later c t n p lo (s ∷ rest) l d = (λ e. absurd (omega (arith, d.1)), none_of-later c t n p s.act rest l d.3)
 
-of_down-act : (n : ℕ) (p : Bool) (t : ℕ) (content : Content) (final : Bool) → t ≡ n → OfDown n p t content final →
-    OfDown (n + 1) (not p) t content final
-of_down-act n p t Acknowledgement final e o =
+of_down-act : (n : ℕ) (p : Bool) (t : ℕ) (content : Content) (pf : Bool) → t ≡ n → OfDown n p t content pf →
+    OfDown (n + 1) (not p) t content pf
+of_down-act n p t Ua pf e o =
     elim o [ inl a ↦ inr (omega arith, a.1 ∙ sym (not-not p)) | inr b ↦ absurd (let less = b.0 in omega arith) ]
-of_down-act n p t (Information send receive packet) final e o = tt
-of_down-act n p t (ReceiveReady receive) final e o = tt
-of_down-act n p t (ReceiveNotReady receive) final e o = tt
-of_down-act n p t (Reject receive) final e o = tt
-of_down-act n p t DisconnectedMode final e o = tt
-of_down-act n p t SetMode final e o = absurd o
-of_down-act n p t Disconnect final e o = absurd o
-of_down-act n p t (FrameReject report) final e o = absurd o
+of_down-act n p t (I ns nr packet) pf e o = tt
+of_down-act n p t (Rr nr) pf e o = tt
+of_down-act n p t (Rnr nr) pf e o = tt
+of_down-act n p t (Rej nr) pf e o = tt
+of_down-act n p t Dm pf e o = tt
+of_down-act n p t Sabm pf e o = absurd o
+of_down-act n p t Disc pf e o = absurd o
+of_down-act n p t (Frmr report) pf e o = absurd o
 
 pub downs-act : (n : ℕ) (p : Bool) (lo : ℕ) (down : List Sent) → Stamped n down → Downs n n p lo down → Downs n (n +
     1) (not p) lo down
 downs-act n p lo [] same d = tt
 downs-act n p lo (s ∷ rest) same d =
-    (d.0, d.1, of_down-act n p s.act s.frame.content s.frame.poll same.0 d.2, downs-act n p s.act rest same.1 d.3)
+    (d.0, d.1, of_down-act n p s.act s.frame.content s.frame.pf same.0 d.2, downs-act n p s.act rest same.1 d.3)
 
-of_down-quiet : (n : ℕ) (p : Bool) (t : ℕ) (content : Content) (final : Bool) → is_acknowledgement content ≡ false →
-    OfDown n p t content final →
-    OfDown (n + 1) (not p) t content final
-of_down-quiet n p t Acknowledgement final e o = absurd (cc)
-of_down-quiet n p t (Information send receive packet) final e o = tt
-of_down-quiet n p t (ReceiveReady receive) final e o = tt
-of_down-quiet n p t (ReceiveNotReady receive) final e o = tt
-of_down-quiet n p t (Reject receive) final e o = tt
-of_down-quiet n p t DisconnectedMode final e o = tt
-of_down-quiet n p t SetMode final e o = absurd o
-of_down-quiet n p t Disconnect final e o = absurd o
-of_down-quiet n p t (FrameReject report) final e o = absurd o
+of_down-quiet : (n : ℕ) (p : Bool) (t : ℕ) (content : Content) (pf : Bool) → is_ua content ≡ false →
+    OfDown n p t content pf →
+    OfDown (n + 1) (not p) t content pf
+of_down-quiet n p t Ua pf e o = absurd (cc)
+of_down-quiet n p t (I ns nr packet) pf e o = tt
+of_down-quiet n p t (Rr nr) pf e o = tt
+of_down-quiet n p t (Rnr nr) pf e o = tt
+of_down-quiet n p t (Rej nr) pf e o = tt
+of_down-quiet n p t Dm pf e o = tt
+of_down-quiet n p t Sabm pf e o = absurd o
+of_down-quiet n p t Disc pf e o = absurd o
+of_down-quiet n p t (Frmr report) pf e o = absurd o
 
 pub downs-quiet : (c n : ℕ) (p : Bool) (lo : ℕ) (down : List Sent) → NoAnswer down → Downs c n p lo down → Downs c (n
     + 1) (not p) lo down
 downs-quiet c n p lo [] off d = tt
 downs-quiet c n p lo (s ∷ rest) off d =
-    (d.0, d.1, of_down-quiet n p s.act s.frame.content s.frame.poll off.0 d.2, downs-quiet c n p s.act rest off.1 d.3)
+    (d.0, d.1, of_down-quiet n p s.act s.frame.content s.frame.pf off.0 d.2, downs-quiet c n p s.act rest off.1 d.3)
 
-pub downs-no_reject : (c n : ℕ) (p : Bool) (lo : ℕ) (down : List Sent) → Downs c n p lo down → NoFrameReject down
+pub downs-no_reject : (c n : ℕ) (p : Bool) (lo : ℕ) (down : List Sent) → Downs c n p lo down → NoFrmr down
 downs-no_reject c n p lo [] d = tt
 downs-no_reject c n p lo (s ∷ rest) d = (one s.frame.content d.2, downs-no_reject c n p s.act rest d.3)
   where
-    one : (content : Content) → OfDown n p s.act content s.frame.poll → is_frame_reject content ≡ false
-    one (Information send receive packet) o = refl
-    one (ReceiveReady receive) o = refl
-    one (ReceiveNotReady receive) o = refl
-    one (Reject receive) o = refl
-    one DisconnectedMode o = refl
-    one Acknowledgement o = refl
-    one SetMode o = absurd o
-    one Disconnect o = absurd o
-    one (FrameReject report) o = absurd o
+    one : (content : Content) → OfDown n p s.act content s.frame.pf → is_frmr content ≡ false
+    one (I ns nr packet) o = refl
+    one (Rr nr) o = refl
+    one (Rnr nr) o = refl
+    one (Rej nr) o = refl
+    one Dm o = refl
+    one Ua o = refl
+    one Sabm o = absurd o
+    one Disc o = absurd o
+    one (Frmr report) o = absurd o

@@ -32,7 +32,7 @@ use Rattle.std.specs.Prelude.{Some, slice_get, nat_le, if◌then◌else◌}
 use Rattle.std.proofs.lemmas.Bool.{leb-true, leb-false}
 use Rattle.flow_window.specs.Window.{Window, taken}
 use Rattle.link_timers.specs.declared.role.Role.{Role}
-use Rattle.frame_codec.specs.Frame.{Information}
+use Rattle.frame_codec.specs.Frame.{I}
 use Rattle.frame_codec.specs.Spelling.{spelling}
 use Rattle.lapb.specs.Machine.{Octets, Link, command, numbered, send_all}
 use Rattle.lapb.specs.Out.{Out, with_frames}
@@ -75,15 +75,15 @@ drop-slice_get (suc place) (y ∷ xs) x e = drop-slice_get place xs x e
 -- one I frame more, and those after it
 pub sent_one_more : (role : Role) (oldest nr place : ℕ) (queue : List Octets) (packet : Octets) (frames : List
     Octets) → slice_get queue place ≡ Some packet →
-    with_frames (with_frames frames (spelling role (command (Information ((oldest + place) % 8) nr packet) false) ∷
+    with_frames (with_frames frames (spelling role (command (I ((oldest + place) % 8) nr packet) false) ∷
     [])) (map (spelling role) (numbered (oldest + (place + 1)) nr (drop (place + 1) queue)))
     ≡ with_frames frames (map (spelling role) (numbered (oldest + place) nr (drop place queue)))
 sent_one_more role oldest nr place queue packet frames at =
     let next : oldest + place + 1 ≡ oldest + (place + 1) = omega arith in
     let rest : drop place queue ≡ packet ∷ drop (place + 1) queue = rw add-one (drop-slice_get place queue packet at) in
-    take_again 9 frames (spelling role (command (Information ((oldest + place) % 8) nr packet) false)) (map
+    take_again 9 frames (spelling role (command (I ((oldest + place) % 8) nr packet) false)) (map
     (spelling role) (numbered (oldest + (place + 1)) nr (drop (place + 1) queue)))
-    ∙ ap (λ n. with_frames frames (map (spelling role) (command (Information ((oldest + place) % 8) nr packet)
+    ∙ ap (λ n. with_frames frames (map (spelling role) (command (I ((oldest + place) % 8) nr packet)
     false ∷ numbered n nr (drop (place + 1) queue)))) (sym next)
     ∙ ap (λ ps. with_frames frames (map (spelling role) (numbered (oldest + place) nr ps))) (sym rest)
 

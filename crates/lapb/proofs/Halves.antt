@@ -27,15 +27,15 @@ use Rattle.std.proofs.Common.{refl, sym, ap, ◌∙◌, subst, arith, length-app
 use Rattle.std.proofs.lemmas.List.{drop-append-le}
 use Rattle.frame_codec.specs.Frame.{FrameValue, Content}
 use Rattle.frame_codec.specs.Frame.Content.{
-  Information,
-  ReceiveReady,
-  ReceiveNotReady,
-  Reject,
-  SetMode,
-  Disconnect,
-  DisconnectedMode,
-  Acknowledgement,
-  FrameReject,
+  I,
+  Rr,
+  Rnr,
+  Rej,
+  Sabm,
+  Disc,
+  Dm,
+  Ua,
+  Frmr,
 }
 use Rattle.lapb.specs.declared.phase.Phase.{Phase}
 use Rattle.lapb.specs.Machine.{Octets, Link, ahead, numbered}
@@ -44,7 +44,7 @@ use Rattle.lapb.proofs.Cases.{Each, each-kept, slice_get-append, prefix-append, 
 
 -- an I frame of place n, where the receiver has accepted at least lo and will have been able to accept hi
 abbrev pub Carries : List Octets → ℕ → ℕ → Content → Type 0
-Carries o lo hi (Information send receive packet) = (n : ℕ) × (send ≡ n % 8) × (lo ≤ n + 7) × (n < hi) × (slice_get o
+Carries o lo hi (I ns nr packet) = (n : ℕ) × (ns ≡ n % 8) × (lo ≤ n + 7) × (n < hi) × (slice_get o
     n ≡ Some packet)
 Carries o lo hi _ = Unit {0}
 
@@ -56,10 +56,10 @@ Data c o m lo (s ∷ rest) = (hi : ℕ) × (lo ≤ hi) × (hi ≤ m) × (s.act �
 
 -- N(R) is this count
 abbrev pub Tells : ℕ → Content → Type 0
-Tells count (Information send receive packet) = receive ≡ count % 8
-Tells count (ReceiveReady receive) = receive ≡ count % 8
-Tells count (ReceiveNotReady receive) = receive ≡ count % 8
-Tells count (Reject receive) = receive ≡ count % 8
+Tells count (I ns nr packet) = nr ≡ count % 8
+Tells count (Rr nr) = nr ≡ count % 8
+Tells count (Rnr nr) = nr ≡ count % 8
+Tells count (Rej nr) = nr ≡ count % 8
 Tells count _ = Unit {0}
 
 -- the counts that come back do not fall, from lo up to top
@@ -98,18 +98,18 @@ Half c x y o acc flow acks = Half' c x.phase x.oldest x.next x.top x.queue y.pha
 -- ---- frames on the way
 
 carries-lower : (o : List Octets) (lo lo' hi : ℕ) (f : Content) → lo' ≤ lo → Carries o lo hi f → Carries o lo' hi f
-carries-lower o lo lo' hi (Information send receive packet) le d = (d.0, d.1, omega (arith, d.2), d.3, d.4)
-carries-lower o lo lo' hi (ReceiveReady receive) le d = tt
-carries-lower o lo lo' hi (ReceiveNotReady receive) le d = tt
-carries-lower o lo lo' hi (Reject receive) le d = tt
-carries-lower o lo lo' hi SetMode le d = tt
-carries-lower o lo lo' hi Disconnect le d = tt
-carries-lower o lo lo' hi DisconnectedMode le d = tt
-carries-lower o lo lo' hi Acknowledgement le d = tt
-carries-lower o lo lo' hi (FrameReject report) le d = tt
+carries-lower o lo lo' hi (I ns nr packet) le d = (d.0, d.1, omega (arith, d.2), d.3, d.4)
+carries-lower o lo lo' hi (Rr nr) le d = tt
+carries-lower o lo lo' hi (Rnr nr) le d = tt
+carries-lower o lo lo' hi (Rej nr) le d = tt
+carries-lower o lo lo' hi Sabm le d = tt
+carries-lower o lo lo' hi Disc le d = tt
+carries-lower o lo lo' hi Dm le d = tt
+carries-lower o lo lo' hi Ua le d = tt
+carries-lower o lo lo' hi (Frmr report) le d = tt
 
 carries-grow : (o more : List Octets) (lo hi : ℕ) (f : Content) → Carries o lo hi f → Carries (o ++ more) lo hi f
-carries-grow o more lo hi (Information send receive packet) d = (
+carries-grow o more lo hi (I ns nr packet) d = (
   d.0,
   d.1,
   d.2,
@@ -117,14 +117,14 @@ carries-grow o more lo hi (Information send receive packet) d = (
   slice_get-append o more d.0
       packet d.4,
 )
-carries-grow o more lo hi (ReceiveReady receive) d = tt
-carries-grow o more lo hi (ReceiveNotReady receive) d = tt
-carries-grow o more lo hi (Reject receive) d = tt
-carries-grow o more lo hi SetMode d = tt
-carries-grow o more lo hi Disconnect d = tt
-carries-grow o more lo hi DisconnectedMode d = tt
-carries-grow o more lo hi Acknowledgement d = tt
-carries-grow o more lo hi (FrameReject report) d = tt
+carries-grow o more lo hi (Rr nr) d = tt
+carries-grow o more lo hi (Rnr nr) d = tt
+carries-grow o more lo hi (Rej nr) d = tt
+carries-grow o more lo hi Sabm d = tt
+carries-grow o more lo hi Disc d = tt
+carries-grow o more lo hi Dm d = tt
+carries-grow o more lo hi Ua d = tt
+carries-grow o more lo hi (Frmr report) d = tt
 
 pub data-lower : (c : ℕ) (o : List Octets) (m lo lo' : ℕ) (flow : List Sent) → lo' ≤ lo → Data c o m lo flow → Data c
     o m lo' flow
@@ -389,13 +389,13 @@ half-acked c va next top queue yphase vr o acc flow s rest nr h at tells =
 
 pub half-accepted : (c : ℕ) (xphase : Phase) (va next top : ℕ) (queue : List Octets) (vr : ℕ) (o acc : List Octets) (s
     : Sent)
-    (rest acks : List Sent) (send receive : ℕ) (packet : Octets) →
-    Half' c xphase va next top queue Phase.Up vr o acc (s ∷ rest) acks → s.act ≡ c → s.frame.content ≡ Information
-    send receive packet →
-    send ≡ vr → Half' c xphase va next top queue Phase.Up ((vr + 1) % 8) o (acc ++ packet ∷ []) rest acks
-half-accepted c xphase va next top queue vr o acc s rest acks send receive packet h at is same =
+    (rest acks : List Sent) (ns nr : ℕ) (packet : Octets) →
+    Half' c xphase va next top queue Phase.Up vr o acc (s ∷ rest) acks → s.act ≡ c → s.frame.content ≡ I
+    ns nr packet →
+    ns ≡ vr → Half' c xphase va next top queue Phase.Up ((vr + 1) % 8) o (acc ++ packet ∷ []) rest acks
+half-accepted c xphase va next top queue vr o acc s rest acks ns nr packet h at is same =
     let hi = h.carried.0 in
-    let d : Carries o (length acc) hi (Information send receive packet) =
+    let d : Carries o (length acc) hi (I ns nr packet) =
     subst (λ (f : Content). Carries o (length acc) hi f) is (h.carried.3 at) in
     let n = d.0 in
     let vr_is : vr ≡ length acc % 8 = h.takes refl in
@@ -494,28 +494,28 @@ drop-first (y ∷ o) (suc i) x xs e =
     let more = drop-first o i x xs e in
     (more.0, more.1, omega (arith, more.2))
 
-numbered-carry : (o : List Octets) (receive start i : ℕ) (packets : List Octets) → drop i o ≡ packets → length o ≤ i +
+numbered-carry : (o : List Octets) (nr start i : ℕ) (packets : List Octets) → drop i o ≡ packets → length o ≤ i +
     7 →
-    start % 8 ≡ i % 8 → Each (λ f. Carries o (length o) (length o) f.content) (numbered start receive packets)
-numbered-carry o receive start i [] e few same = tt
-numbered-carry o receive start i (packet ∷ packets) e few same =
+    start % 8 ≡ i % 8 → Each (λ f. Carries o (length o) (length o) f.content) (numbered start nr packets)
+numbered-carry o nr start i [] e few same = tt
+numbered-carry o nr start i (packet ∷ packets) e few same =
     let first = drop-first o i packet packets e in (
       (i, same, few, first.2, first.0),
-      numbered-carry o receive (start + 1) (suc i) packets first.1 (omega arith)
+      numbered-carry o nr (start + 1) (suc i) packets first.1 (omega arith)
           (omega (arith, same)),
     )
 
-pub numbered-tell : (receive count start : ℕ) (packets : List Octets) → receive ≡ count % 8 →
-    Each (λ f. Tells count f.content) (numbered start receive packets)
-numbered-tell receive count start [] e = tt
-numbered-tell receive count start (packet ∷ packets) e = (e, numbered-tell receive count (start + 1) packets e)
+pub numbered-tell : (nr count start : ℕ) (packets : List Octets) → nr ≡ count % 8 →
+    Each (λ f. Tells count f.content) (numbered start nr packets)
+numbered-tell nr count start [] e = tt
+numbered-tell nr count start (packet ∷ packets) e = (e, numbered-tell nr count (start + 1) packets e)
 
 pub half-sends_all : (c va next top : ℕ) (queue : List Octets) (yphase : Phase) (vr : ℕ) (o acc : List Octets) (flow
     acks : List Sent)
-    (t receive : ℕ) (kept : List Bool) → Half' c Phase.Up va next top queue yphase vr o acc flow acks →
+    (t nr : ℕ) (kept : List Bool) → Half' c Phase.Up va next top queue yphase vr o acc flow acks →
     Half' c Phase.Up va (length queue) (if nat_le top (length queue) then length queue else top) queue yphase vr o acc
-    (flow ++ stamped t (kept_of kept (numbered (va + next) receive (drop next queue)))) acks
-half-sends_all c va next top queue yphase vr o acc flow acks t receive kept h =
+    (flow ++ stamped t (kept_of kept (numbered (va + next) nr (drop next queue)))) acks
+half-sends_all c va next top queue yphase vr o acc flow acks t nr kept h =
     let sends = h.sends refl in
     let len : length queue ≡ length o - h.a = ap (λ (q : List Octets). length q) sends.queue_is ∙ length-drop h.a o in
     let a_le : h.a ≤ length o = omega (arith, h.a_le, h.acc_le, h.m_le) in
@@ -541,13 +541,13 @@ half-sends_all c va next top queue yphase vr o acc flow acks t receive kept h =
     } in
     let rest_is : drop (h.a + next) o ≡ drop next queue =
     sym (drop-drop next h.a o) ∙ ap (λ (q : List Octets). drop next q) (sym sends.queue_is) in
-    let all : Each (λ f. Carries o (length o) (length o) f.content) (numbered (va + next) receive (drop next queue)) =
-    numbered-carry o receive (va + next) (h.a + next) (drop next queue) rest_is (omega (arith, sends.few)) (omega
+    let all : Each (λ f. Carries o (length o) (length o) f.content) (numbered (va + next) nr (drop next queue)) =
+    numbered-carry o nr (va + next) (h.a + next) (drop next queue) rest_is (omega (arith, sends.few)) (omega
     (arith, sends.oldest)) in
     subst (λ b. Half' c Phase.Up va (length queue) (if b then length queue else top) queue yphase vr o acc
-    (flow ++ stamped t (kept_of kept (numbered (va + next) receive (drop next queue)))) acks) (sym (le-leb top (length
+    (flow ++ stamped t (kept_of kept (numbered (va + next) nr (drop next queue)))) acks) (sym (le-leb top (length
     queue) top_le))
     (half-sent c Phase.Up va (length queue) (length queue) queue yphase vr o acc t (kept_of kept (numbered (va + next)
-    receive (drop next queue)))
-    flow acks raised (each-kept (λ f. Carries o (length o) (length o) f.content) kept (numbered (va + next) receive
+    nr (drop next queue)))
+    flow acks raised (each-kept (λ f. Carries o (length o) (length o) f.content) kept (numbered (va + next) nr
     (drop next queue)) all))

@@ -30,8 +30,8 @@ use Rattle.lapb.specs.World.{Sent, World, logged, stamped, kept_of, remade, IsPr
 use Rattle.lapb.proofs.Cases.{cond_by, phase_by}
 use Rattle.lapb.proofs.Halves.{Half, half-lost, half-lost_back, half-emptied, half-x_out, half-y_out}
 use Rattle.lapb.proofs.Flights.{
+  NoSabmOf,
   NoSabm,
-  NoSetMode,
   NoAnswer,
   NoNumbered,
   NoneOf,
@@ -92,9 +92,9 @@ pub record Inv (w : World) : Type 0 where
   pub ups : Ups w.session w.act w.dte.bit w.session w.up
   pub downs : Downs w.session w.act w.dte.bit 0 w.down
   pub up_in : w.dte.phase ≡ Phase.Up → InSession w.act w.own w.session w.down
-  pub down_out : w.dte.phase ≡ Phase.Down → NoSetMode w.up × NoAnswer w.down
+  pub down_out : w.dte.phase ≡ Phase.Down → NoSabm w.up × NoAnswer w.down
   pub setting : w.dte.phase ≡ Phase.SettingUp → w.act ≡ w.session → Answered w
-  pub again : NoSabm w.session w.up ⊎ IsFresh w
+  pub again : NoSabmOf w.session w.up ⊎ IsFresh w
   pub mute : w.dce.phase ≡ Phase.Up → w.dce.heard ≡ false → Mute w.dce.owed w.dce.top w.dce.polling w.dce.busy
   pub lists : Lists w.session w.dte_offered w.dte_accepted w.dce_offered w.dce_accepted
   pub reached : w.session ≤ w.act

@@ -5,15 +5,15 @@ use Rattle.std.proofs.lemmas.Bool.{eqb-false}
 use Rattle.link_timers.specs.declared.role.Role.TheVariants.{Dte, Dce}
 use Rattle.frame_codec.specs.Frame.{Content}
 use Rattle.frame_codec.specs.Frame.Content.{
-  Information,
-  ReceiveReady,
-  ReceiveNotReady,
-  Reject,
-  SetMode,
-  Disconnect,
-  DisconnectedMode,
-  Acknowledgement,
-  FrameReject,
+  I,
+  Rr,
+  Rnr,
+  Rej,
+  Sabm,
+  Disc,
+  Dm,
+  Ua,
+  Frmr,
 }
 use Rattle.lapb.specs.declared.phase.Phase.{Phase}
 use Rattle.lapb.specs.declared.note.Note.{Note}
@@ -30,7 +30,7 @@ use Rattle.lapb.specs.Machine.{
   is_same,
   come_up,
 }
-use Rattle.lapb.specs.World.{Sent, World, Params, Event, Offer, Deliver, Lose, Expire, Relink, Settle, Restart, dte_does, to_dte, to_dce, act_after, is_setting_up, is_set_mode, is_acknowledgement, happens, run, opening, Always, InOrder, IsQuiet, AllQuiet, AreUp, answer_to, ComesUp, BeginsFresh}
+use Rattle.lapb.specs.World.{Sent, World, Params, Event, Offer, Deliver, Lose, Expire, Relink, Settle, Restart, dte_does, to_dte, to_dce, act_after, is_setting_up, is_sabm, is_ua, happens, run, opening, Always, InOrder, IsQuiet, AllQuiet, AreUp, answer_to, ComesUp, BeginsFresh}
 use Rattle.lapb.proofs.Cases.{cond_by, prefix-refl}
 use Rattle.lapb.proofs.Flights.{OfDown, ups-no_reject, downs-no_reject}
 use Rattle.lapb.proofs.Inv.{IsFresh, Inv, dte_in, by_dte, by_dce}
@@ -123,7 +123,7 @@ in_order standing dte dce few few' events =
 
 -- ---- a session begins fresh
 
-fresh_at_dce : (w : World) (s : Sent) (rest : List Sent) → Inv (record w { up = s ∷ rest }) → is_set_mode
+fresh_at_dce : (w : World) (s : Sent) (rest : List Sent) → Inv (record w { up = s ∷ rest }) → is_sabm
     s.frame.content ≡ true →
     (w.dte_accepted s.act ≡ []) × (w.dce_accepted s.act ≡ [])
 fresh_at_dce w s rest i is =
@@ -145,17 +145,17 @@ not_other false true e f = absurd (cc)
 not_other false false e f = absurd (cc)
 
 -- a UA with the bit of the DTE's act is of that act
-ua-act : (n : ℕ) (p : Bool) (t : ℕ) (final : Bool) → OfDown n p t Acknowledgement final → final ≡ p → t ≡ n
-ua-act n p t final o same = elim o [ inl e ↦ e.0 | inr e ↦ absurd (not_other final p same e.1) ]
+ua-act : (n : ℕ) (p : Bool) (t : ℕ) (pf : Bool) → OfDown n p t Ua pf → pf ≡ p → t ≡ n
+ua-act n p t pf o same = elim o [ inl e ↦ e.0 | inr e ↦ absurd (not_other pf p same e.1) ]
 
 -- the UA that brings the DTE up is of its act
 act_at_dte : (w : World) (s : Sent) (rest : List Sent) → Inv (record w { down = s ∷ rest }) → (on_frame w.dte
     s.frame).note ≡ Note.Up → s.act ≡ w.act
 act_at_dte w s rest i up =
     let b = dte_begins w.dte s.frame i.dte_role i.dte_phase up in
-    let head : OfDown w.act w.dte.bit s.act Acknowledgement s.frame.poll =
-    subst (λ (x : Content). OfDown w.act w.dte.bit s.act x s.frame.poll) b.1 i.downs.2 in
-    ua-act w.act w.dte.bit s.act s.frame.poll head (same_is s.frame.poll w.dte.bit b.2)
+    let head : OfDown w.act w.dte.bit s.act Ua s.frame.pf =
+    subst (λ (x : Content). OfDown w.act w.dte.bit s.act x s.frame.pf) b.1 i.downs.2 in
+    ua-act w.act w.dte.bit s.act s.frame.pf head (same_is s.frame.pf w.dte.bit b.2)
 
 fresh_at_dte : (w : World) (s : Sent) (rest : List Sent) → Inv (record w { down = s ∷ rest }) → (on_frame w.dte
     s.frame).note ≡ Note.Up →
@@ -259,19 +259,19 @@ pending-run : (n : ℕ) (events : List Event) (w : World) → AllQuiet events �
 pending-run n [] w q p = p
 pending-run n (event ∷ events) w q p = pending-run n events (happens w event) q.1 (pending-quiet n w event q.0 p)
 
-acknowledgement_is : (x : Content) → is_acknowledgement x ≡ true → x ≡ Acknowledgement
-acknowledgement_is Acknowledgement e = refl
-acknowledgement_is SetMode e = absurd (cc)
-acknowledgement_is (Information send receive packet) e = absurd (cc)
-acknowledgement_is (ReceiveReady receive) e = absurd (cc)
-acknowledgement_is (ReceiveNotReady receive) e = absurd (cc)
-acknowledgement_is (Reject receive) e = absurd (cc)
-acknowledgement_is Disconnect e = absurd (cc)
-acknowledgement_is DisconnectedMode e = absurd (cc)
-acknowledgement_is (FrameReject report) e = absurd (cc)
+ua_is : (x : Content) → is_ua x ≡ true → x ≡ Ua
+ua_is Ua e = refl
+ua_is Sabm e = absurd (cc)
+ua_is (I ns nr packet) e = absurd (cc)
+ua_is (Rr nr) e = absurd (cc)
+ua_is (Rnr nr) e = absurd (cc)
+ua_is (Rej nr) e = absurd (cc)
+ua_is Disc e = absurd (cc)
+ua_is Dm e = absurd (cc)
+ua_is (Frmr report) e = absurd (cc)
 
 -- the DTE takes the UA, or is up already
-are_up : (n : ℕ) (s : Sent) (rest : List Sent) (w : World) (kept : List Bool) → s.frame.content ≡ Acknowledgement →
+are_up : (n : ℕ) (s : Sent) (rest : List Sent) (w : World) (kept : List Bool) → s.frame.content ≡ Ua →
     s.act ≡ n → w.down ≡ s ∷ rest → Pending n w → AreUp (happens w (Deliver Dte kept))
 are_up n s rest w kept is at front p =
     subst (λ (flow : List Sent). AreUp (to_dte w kept flow)) (sym front)
@@ -281,32 +281,32 @@ are_up n s rest w kept is at front p =
     at_phase : (v : World) → v.dte.role ≡ Dte → Inv (record v { down = s ∷ rest }) → v.dce.phase ≡ Phase.Up → v.act ≡ n
         → v.session ≡ n →
         AreUp (dte_does (record v { down = rest }) kept (on_frame v.dte (record {
-          content = Acknowledgement;
+          content = Ua;
           response =
               s.frame.response;
-          poll = s.frame.poll;
+          pf = s.frame.pf;
         })))
     at_phase v role =
         by_dte (λ u. Inv (record u { down = s ∷ rest }) → u.dce.phase ≡ Phase.Up → u.act ≡ n → u.session ≡ n →
         AreUp (dte_does (record u { down = rest }) kept (on_frame u.dte (record {
-          content = Acknowledgement;
+          content = Ua;
           response =
               s.frame.response;
-          poll = s.frame.poll;
+          pf = s.frame.pf;
         }))))
         v role
-        (λ i up act session. absurd (let none = (i.down_out refl).1.0 in let x : true ≡ false = ap is_acknowledgement
+        (λ i up act session. absurd (let none = (i.down_out refl).1.0 in let x : true ≡ false = ap is_ua
         (sym is) ∙ none in cc))
         (λ i up act session.
-        let head : OfDown v.act v.dte.bit s.act Acknowledgement s.frame.poll =
-        subst (λ (x : Content). OfDown v.act v.dte.bit s.act x s.frame.poll) is i.downs.2 in
-        let bit : s.frame.poll ≡ v.dte.bit = elim head [
+        let head : OfDown v.act v.dte.bit s.act Ua s.frame.pf =
+        subst (λ (x : Content). OfDown v.act v.dte.bit s.act x s.frame.pf) is i.downs.2 in
+        let bit : s.frame.pf ≡ v.dte.bit = elim head [
           | inl e ↦ e.1
           | inr e ↦ absurd (let less = e.0 in omega arith)
         ] in
         subst (λ b. AreUp (dte_does (record (dte_in v Phase.SettingUp) { down = rest }) kept
         (if b then come_up (dte_in v Phase.SettingUp).dte else still (dte_in v Phase.SettingUp).dte)))
-        (sym (same_bits s.frame.poll v.dte.bit bit))
+        (sym (same_bits s.frame.pf v.dte.bit bit))
         (record { dte = refl; dce = up; own = refl; session = session ∙ sym act }))
         (λ i up act session.
         let j = i.up_in refl in
@@ -322,61 +322,61 @@ are_up n s rest w kept is at front p =
     taken : Inv (record w { down = s ∷ rest }) → AreUp (to_dte w kept (s ∷ rest))
     taken i =
         subst (λ (x : Content). AreUp (dte_does (record w { down = rest }) kept
-        (on_frame w.dte (record { content = x; response = s.frame.response; poll = s.frame.poll })))) (sym is)
+        (on_frame w.dte (record { content = x; response = s.frame.response; pf = s.frame.pf })))) (sym is)
         (at_phase w p.inv.dte_role i p.dce_up p.act_is p.session_is)
 
 -- the DCE takes the SABM
 pending-first : (w : World) (s : Sent) (rest : List Sent) (sent : List Bool) → Inv (record w { up = s ∷ rest }) →
-    is_set_mode s.frame.content ≡ true → s.act ≡ w.act →
+    is_sabm s.frame.content ≡ true → s.act ≡ w.act →
     Pending w.act (to_dce (record w { up = s ∷ rest }) sent (s ∷ rest))
-pending-first w s rest sent i is at = by_content s.frame.content s.frame.response s.frame.poll s.act at is i
+pending-first w s rest sent i is at = by_content s.frame.content s.frame.response s.frame.pf s.act at is i
   where
     as_sent : (content : Content) (r p : Bool) (t : ℕ) → Sent
-    as_sent content r p t = record { frame = record { content = content; response = r; poll = p }; act = t }
+    as_sent content r p t = record { frame = record { content = content; response = r; pf = p }; act = t }
 
-    by_content : (content : Content) (r p : Bool) (t : ℕ) → t ≡ w.act → is_set_mode content ≡ true →
+    by_content : (content : Content) (r p : Bool) (t : ℕ) → t ≡ w.act → is_sabm content ≡ true →
         Inv (record w { up = as_sent content r p t ∷ rest }) →
         Pending w.act (to_dce (record w { up = as_sent content r p t ∷ rest }) sent (as_sent content r p t ∷ rest))
-    by_content SetMode r p t at is i =
-        by_dce (λ v. Inv (record v { up = as_sent SetMode r p t ∷ rest }) → t ≡ v.act →
-        Pending v.act (to_dce (record v { up = as_sent SetMode r p t ∷ rest }) sent (as_sent SetMode r p t ∷ rest)))
+    by_content Sabm r p t at is i =
+        by_dce (λ v. Inv (record v { up = as_sent Sabm r p t ∷ rest }) → t ≡ v.act →
+        Pending v.act (to_dce (record v { up = as_sent Sabm r p t ∷ rest }) sent (as_sent Sabm r p t ∷ rest)))
         w i.dce_role
         (λ j e. record { inv = happens-keeps _ (Deliver Dce sent) j; act_is = refl; session_is = e; dce_up = refl })
         (λ j e. record { inv = happens-keeps _ (Deliver Dce sent) j; act_is = refl; session_is = e; dce_up = refl })
         (λ j e. record { inv = happens-keeps _ (Deliver Dce sent) j; act_is = refl; session_is = e; dce_up = refl })
         (λ j e. record { inv = happens-keeps _ (Deliver Dce sent) j; act_is = refl; session_is = e; dce_up = refl })
         i at
-    by_content (Information send receive packet) r p t at is i = absurd (cc)
-    by_content (ReceiveReady receive) r p t at is i = absurd (cc)
-    by_content (ReceiveNotReady receive) r p t at is i = absurd (cc)
-    by_content (Reject receive) r p t at is i = absurd (cc)
-    by_content Disconnect r p t at is i = absurd (cc)
-    by_content DisconnectedMode r p t at is i = absurd (cc)
-    by_content Acknowledgement r p t at is i = absurd (cc)
-    by_content (FrameReject report) r p t at is i = absurd (cc)
+    by_content (I ns nr packet) r p t at is i = absurd (cc)
+    by_content (Rr nr) r p t at is i = absurd (cc)
+    by_content (Rnr nr) r p t at is i = absurd (cc)
+    by_content (Rej nr) r p t at is i = absurd (cc)
+    by_content Disc r p t at is i = absurd (cc)
+    by_content Dm r p t at is i = absurd (cc)
+    by_content Ua r p t at is i = absurd (cc)
+    by_content (Frmr report) r p t at is i = absurd (cc)
 
 -- and answers it
-answered_by : (w : World) (s : Sent) (rest : List Sent) → w.dce.role ≡ Dce → is_set_mode s.frame.content ≡ true →
+answered_by : (w : World) (s : Sent) (rest : List Sent) → w.dce.role ≡ Dce → is_sabm s.frame.content ≡ true →
     (to_dce (record w { up = s ∷ rest }) [] (s ∷ rest)).down ≡ w.down ++ answer_to s ∷ []
-answered_by w s rest role is = by_content s.frame.content s.frame.response s.frame.poll s.act is
+answered_by w s rest role is = by_content s.frame.content s.frame.response s.frame.pf s.act is
   where
     as_sent : (content : Content) (r p : Bool) (t : ℕ) → Sent
-    as_sent content r p t = record { frame = record { content = content; response = r; poll = p }; act = t }
+    as_sent content r p t = record { frame = record { content = content; response = r; pf = p }; act = t }
 
-    by_content : (content : Content) (r p : Bool) (t : ℕ) → is_set_mode content ≡ true →
+    by_content : (content : Content) (r p : Bool) (t : ℕ) → is_sabm content ≡ true →
         (to_dce (record w { up = as_sent content r p t ∷ rest }) [] (as_sent content r p t ∷ rest)).down
         ≡ w.down ++ answer_to (as_sent content r p t) ∷ []
-    by_content SetMode r p t is =
-        by_dce (λ v. (to_dce (record v { up = as_sent SetMode r p t ∷ rest }) [] (as_sent SetMode r p t ∷ rest)).down
-        ≡ v.down ++ answer_to (as_sent SetMode r p t) ∷ []) w role refl refl refl refl
-    by_content (Information send receive packet) r p t is = absurd (cc)
-    by_content (ReceiveReady receive) r p t is = absurd (cc)
-    by_content (ReceiveNotReady receive) r p t is = absurd (cc)
-    by_content (Reject receive) r p t is = absurd (cc)
-    by_content Disconnect r p t is = absurd (cc)
-    by_content DisconnectedMode r p t is = absurd (cc)
-    by_content Acknowledgement r p t is = absurd (cc)
-    by_content (FrameReject report) r p t is = absurd (cc)
+    by_content Sabm r p t is =
+        by_dce (λ v. (to_dce (record v { up = as_sent Sabm r p t ∷ rest }) [] (as_sent Sabm r p t ∷ rest)).down
+        ≡ v.down ++ answer_to (as_sent Sabm r p t) ∷ []) w role refl refl refl refl
+    by_content (I ns nr packet) r p t is = absurd (cc)
+    by_content (Rr nr) r p t is = absurd (cc)
+    by_content (Rnr nr) r p t is = absurd (cc)
+    by_content (Rej nr) r p t is = absurd (cc)
+    by_content Disc r p t is = absurd (cc)
+    by_content Dm r p t is = absurd (cc)
+    by_content Ua r p t is = absurd (cc)
+    by_content (Frmr report) r p t is = absurd (cc)
 
 pub inv-comes_up : (w : World) → Inv w → ComesUp w
 inv-comes_up w i = record {
@@ -391,7 +391,7 @@ inv-comes_up w i = record {
       let Q : World → Type 0 = λ v. Inv v → Pending v.act (happens v (Deliver Dce sent)) in
       let q : Q w = subst Q same (λ j. pending-first w s rest sent j is at) in
       are_up w.act answer behind (run between (happens w (Deliver Dce sent))) kept
-      (acknowledgement_is answer.frame.content ack) stamp front
+      (ua_is answer.frame.content ack) stamp front
       (pending-run w.act between (happens w (Deliver Dce sent)) quiet (q i));
 }
 

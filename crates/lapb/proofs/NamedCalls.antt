@@ -11,15 +11,15 @@ use Rattle.frame_codec.specs.declared.fault.FrameFault.TheVariants.{
 use Rattle.frame_codec.specs.Frame.{
   FrameValue,
   Content,
-  Information,
-  ReceiveReady,
-  ReceiveNotReady,
-  Reject,
-  SetMode,
-  Disconnect,
-  DisconnectedMode,
-  Acknowledgement,
-  FrameReject,
+  I,
+  Rr,
+  Rnr,
+  Rej,
+  Sabm,
+  Disc,
+  Dm,
+  Ua,
+  Frmr,
 }
 use Rattle.frame_codec.specs.Spelling.{HasNumbers}
 use Rattle.frame_codec.specs.Reading.{reading}
@@ -32,15 +32,15 @@ use Rattle.lapb.specs.NamedOctets.{NamesAfterReading, NamesAfterOctets}
 use Rattle.lapb.proofs.Naming.{named_on_frame, named_on_defect}
 
 in_range : (content : Content) → HasNumbers content → IsInRange content
-in_range (Information send receive packet) numbers = numbers.1
-in_range (ReceiveReady receive) numbers = numbers
-in_range (ReceiveNotReady receive) numbers = numbers
-in_range (Reject receive) numbers = numbers
-in_range SetMode numbers = tt
-in_range Disconnect numbers = tt
-in_range DisconnectedMode numbers = tt
-in_range Acknowledgement numbers = tt
-in_range (FrameReject report) numbers = tt
+in_range (I ns nr packet) numbers = numbers.1
+in_range (Rr nr) numbers = numbers
+in_range (Rnr nr) numbers = numbers
+in_range (Rej nr) numbers = numbers
+in_range Sabm numbers = tt
+in_range Disc numbers = tt
+in_range Dm numbers = tt
+in_range Ua numbers = tt
+in_range (Frmr report) numbers = tt
 
 keeps_on_fault : (l : Link) (fault : FrameFault) (bytes : Octets) → Keeps l (on_fault l fault bytes)
 keeps_on_fault l TooShort bytes = λ s agrees. (agrees, tt)

@@ -49,15 +49,15 @@ use Rattle.link_timers.specs.declared.role.Role.TheVariants.{Dte, Dce}
 use Rattle.frame_codec.specs.Spelling.{control_of}
 use Rattle.frame_codec.specs.Frame.{FrameValue, Content, Report}
 use Rattle.frame_codec.specs.Frame.Content.{
-  Information,
-  ReceiveReady,
-  ReceiveNotReady,
-  Reject,
-  SetMode,
-  Disconnect,
-  DisconnectedMode,
-  Acknowledgement,
-  FrameReject,
+  I,
+  Rr,
+  Rnr,
+  Rej,
+  Sabm,
+  Disc,
+  Dm,
+  Ua,
+  Frmr,
 }
 use Rattle.lapb.specs.declared.phase.Phase.{Phase}
 use Rattle.lapb.specs.declared.note.Note.{Note}
@@ -78,8 +78,8 @@ use Rattle.lapb.specs.Machine.{
   relink,
   relink_as,
   come_up,
-  take_set_mode,
-  take_disconnect,
+  take_sabm,
+  take_disc,
   reject_as,
   reject_number,
   report_of,
@@ -135,15 +135,15 @@ use Rattle.lapb.proofs.Steps.{is_numbered}
 -- ---- frames without numbers, outside sessions
 
 named-plain : (s : Session) (content : Content) → is_numbered content ≡ false → IsNamed s content
-named-plain s (Information send receive packet) e = absurd (cc)
-named-plain s (ReceiveReady receive) e = absurd (cc)
-named-plain s (ReceiveNotReady receive) e = absurd (cc)
-named-plain s (Reject receive) e = absurd (cc)
-named-plain s SetMode e = tt
-named-plain s Disconnect e = tt
-named-plain s DisconnectedMode e = tt
-named-plain s Acknowledgement e = tt
-named-plain s (FrameReject report) e = tt
+named-plain s (I ns nr packet) e = absurd (cc)
+named-plain s (Rr nr) e = absurd (cc)
+named-plain s (Rnr nr) e = absurd (cc)
+named-plain s (Rej nr) e = absurd (cc)
+named-plain s Sabm e = tt
+named-plain s Disc e = tt
+named-plain s Dm e = tt
+named-plain s Ua e = tt
+named-plain s (Frmr report) e = tt
 
 are_named-plain : (s : Session) (frames : List FrameValue) → Each (λ f. is_numbered f.content ≡ false) frames →
     AreNamed s frames
@@ -184,16 +184,16 @@ good-out s count step out =
 
 -- ---- a link that is up
 
-counts-acked : (l : Link) (s : Session) (receive : ℕ) → receive < 8 → Counts l s → is_valid l receive ≡ true →
-    Counts (acknowledged l receive) (record s { taken = s.taken + ahead l.oldest receive })
-counts-acked l s receive low c valid =
-    let far : ℕ = ahead l.oldest receive in
+counts-acked : (l : Link) (s : Session) (nr : ℕ) → nr < 8 → Counts l s → is_valid l nr ≡ true →
+    Counts (acknowledged l nr) (record s { taken = s.taken + ahead l.oldest nr })
+counts-acked l s nr low c valid =
+    let far : ℕ = ahead l.oldest nr in
     let within : far ≤ l.top = leb-true far l.top valid in
     let len : length l.queue ≡ length s.offered - s.taken = ap (λ (q : List Octets). length q) c.queue ∙ length-drop
     s.taken s.offered in
     let rest : length (drop far l.queue) ≡ length l.queue - far = length-drop far l.queue in
     record {
-      oldest = place l.oldest s.taken receive low c.oldest;
+      oldest = place l.oldest s.taken nr low c.oldest;
       queue = ap (λ (q : List Octets). drop far q) c.queue ∙ drop-drop far s.taken s.offered;
       taken = omega (arith, len, within, c.top, c.taken);
       next = omega (arith, c.next);
@@ -202,14 +202,14 @@ counts-acked l s receive low c valid =
       expected = c.expected;
     }
   where
-    place : (oldest taken receive : ℕ) → receive < 8 → oldest ≡ taken % 8 → receive ≡ (taken + (receive + 8 - oldest)
+    place : (oldest taken nr : ℕ) → nr < 8 → oldest ≡ taken % 8 → nr ≡ (taken + (nr + 8 - oldest)
         % 8) % 8
-    place oldest taken receive low e = omega arith
+    place oldest taken nr low e = omega arith
 
-named-answers : (s : Session) (due : Bool) (receive : ℕ) → receive ≡ length s.accepted % 8 → AreNamed s (answers due
-    receive)
-named-answers s true receive e = (e, tt)
-named-answers s false receive e = tt
+named-answers : (s : Session) (due : Bool) (nr : ℕ) → nr ≡ length s.accepted % 8 → AreNamed s (answers due
+    nr)
+named-answers s true nr e = (e, tt)
+named-answers s false nr e = tt
 
 back-le : (back : Bool) (next top : ℕ) → next ≤ top → (if back then 0 else next) ≤ top
 back-le true next top le = omega arith
@@ -255,10 +255,10 @@ good-accept l s count p packet c =
           ((l.expected + 1) % 8) told,
     )
 
-named-discarded : (s : Session) (rejecting due : Bool) (receive : ℕ) → receive ≡ length s.accepted % 8 →
-    AreNamed s (if rejecting then answers due receive else response (Reject receive) due ∷ [])
-named-discarded s true due receive e = named-answers s due receive e
-named-discarded s false due receive e = (e, tt)
+named-discarded : (s : Session) (rejecting due : Bool) (nr : ℕ) → nr ≡ length s.accepted % 8 →
+    AreNamed s (if rejecting then answers due nr else response (Rej nr) due ∷ [])
+named-discarded s true due nr e = named-answers s due nr e
+named-discarded s false due nr e = (e, tt)
 
 good-discard : (l : Link) (s : Session) (count : ℕ) (p : Bool) → Counts l (record s { taken = s.taken + count }) →
     Good s count (discard l p)
@@ -275,27 +275,27 @@ good-discard l s count p c = (
   named-discarded (record s { taken = s.taken + count }) l.rejecting p l.expected c.expected,
 )
 
-good-information : (l : Link) (s : Session) (count send : ℕ) (p : Bool) (packet : Octets) → Counts l (record s {
+good-information : (l : Link) (s : Session) (count ns : ℕ) (p : Bool) (packet : Octets) → Counts l (record s {
   taken
       = s.taken + count;
 }) →
-    Good s count (on_information l send p packet)
-good-information l s count send p packet c =
-    cond_by (λ b. Good s count (if b then accept l p packet else discard l p)) (send == l.expected)
+    Good s count (on_information l ns p packet)
+good-information l s count ns p packet c =
+    cond_by (λ b. Good s count (if b then accept l p packet else discard l p)) (ns == l.expected)
     (λ _. good-accept l s count p packet c) (λ _. good-discard l s count p c)
 
 out-reject : (role : Role) (l : Link) (report : Report) (p : Bool) → IsOut (reject_as role l report p)
 out-reject Dte l report p = record { off = λ e. cc; plain = (refl, tt) }
 out-reject Dce l report p = record { off = λ e. cc; plain = (refl, tt) }
 
-good-checked : (l : Link) (s : Session) (content : Content) (r p : Bool) (receive : ℕ) (taken : Step) (anew : Bool) →
-    (is_valid l receive ≡ true → Good s (ahead l.oldest receive) taken) →
-    Good s (if is_valid l receive then ahead l.oldest receive else 0)
-    (if is_valid l receive then record taken { anew = anew } else reject_number l content r p)
-good-checked l s content r p receive taken anew good =
-    cond_by (λ b. Good s (if b then ahead l.oldest receive else 0) (if b then record taken { anew = anew } else
+good-checked : (l : Link) (s : Session) (content : Content) (r p : Bool) (nr : ℕ) (taken : Step) (anew : Bool) →
+    (is_valid l nr ≡ true → Good s (ahead l.oldest nr) taken) →
+    Good s (if is_valid l nr then ahead l.oldest nr else 0)
+    (if is_valid l nr then record taken { anew = anew } else reject_number l content r p)
+good-checked l s content r p nr taken anew good =
+    cond_by (λ b. Good s (if b then ahead l.oldest nr else 0) (if b then record taken { anew = anew } else
     reject_number l content r p))
-    (is_valid l receive) (λ e. good e)
+    (is_valid l nr) (λ e. good e)
     (λ _. good-out s 0 (reject_number l content r p)
     (out-reject l.role l (report_of l (control_of content p) r false false false true) (p && not r)))
 
@@ -319,44 +319,44 @@ good-still l s c = (
 good-in_up : (role : Role) (l : Link) (s : Session) (content : Content) (r p : Bool) → IsInRange content → l.phase ≡
     Phase.Up → Counts l s →
     Good s (newly l content) (in_up role l content r p)
-good-in_up role l s (Information send receive packet) r p low up c =
-    good-checked l s (Information send receive packet) r p receive (on_information (acknowledged l receive) send p
+good-in_up role l s (I ns nr packet) r p low up c =
+    good-checked l s (I ns nr packet) r p nr (on_information (acknowledged l nr) ns p
     packet) _
-    (λ valid. good-information (acknowledged l receive) s (ahead l.oldest receive) send p packet (counts-acked l s
-    receive low c valid))
-good-in_up role l s (ReceiveReady receive) r p low up c =
-    good-checked l s (ReceiveReady receive) r p receive (on_supervisory (acknowledged l receive) false false r p) _
-    (λ valid. good-supervisory (acknowledged l receive) s (ahead l.oldest receive) false false r p (counts-acked l s
-    receive low c valid))
-good-in_up role l s (ReceiveNotReady receive) r p low up c =
-    good-checked l s (ReceiveNotReady receive) r p receive (on_supervisory (acknowledged l receive) true false r p) _
-    (λ valid. good-supervisory (acknowledged l receive) s (ahead l.oldest receive) true false r p (counts-acked l s
-    receive low c valid))
-good-in_up role l s (Reject receive) r p low up c =
-    good-checked l s (Reject receive) r p receive (on_supervisory (acknowledged l receive) false true r p) _
-    (λ valid. good-supervisory (acknowledged l receive) s (ahead l.oldest receive) false true r p (counts-acked l s
-    receive low c valid))
-good-in_up role l s Disconnect r p low up c = good-out s 0 (take_disconnect l p) (record {
+    (λ valid. good-information (acknowledged l nr) s (ahead l.oldest nr) ns p packet (counts-acked l s
+    nr low c valid))
+good-in_up role l s (Rr nr) r p low up c =
+    good-checked l s (Rr nr) r p nr (on_supervisory (acknowledged l nr) false false r p) _
+    (λ valid. good-supervisory (acknowledged l nr) s (ahead l.oldest nr) false false r p (counts-acked l s
+    nr low c valid))
+good-in_up role l s (Rnr nr) r p low up c =
+    good-checked l s (Rnr nr) r p nr (on_supervisory (acknowledged l nr) true false r p) _
+    (λ valid. good-supervisory (acknowledged l nr) s (ahead l.oldest nr) true false r p (counts-acked l s
+    nr low c valid))
+good-in_up role l s (Rej nr) r p low up c =
+    good-checked l s (Rej nr) r p nr (on_supervisory (acknowledged l nr) false true r p) _
+    (λ valid. good-supervisory (acknowledged l nr) s (ahead l.oldest nr) false true r p (counts-acked l s
+    nr low c valid))
+good-in_up role l s Disc r p low up c = good-out s 0 (take_disc l p) (record {
   off = λ e. cc;
   plain =
       (refl, tt);
 })
-good-in_up role l s Acknowledgement r p low up c = good-still l s c
-good-in_up Dte l s SetMode r p low up c = good-out s 0 (set_up l) (record { off = λ e. cc; plain = (refl, tt) })
-good-in_up Dte l s DisconnectedMode r p low up c = good-out s 0 (set_up l) (record {
+good-in_up role l s Ua r p low up c = good-still l s c
+good-in_up Dte l s Sabm r p low up c = good-out s 0 (set_up l) (record { off = λ e. cc; plain = (refl, tt) })
+good-in_up Dte l s Dm r p low up c = good-out s 0 (set_up l) (record {
   off = λ e. cc;
   plain = (refl, tt);
 })
-good-in_up Dte l s (FrameReject report) r p low up c = good-out s 0 (set_up l) (record {
+good-in_up Dte l s (Frmr report) r p low up c = good-out s 0 (set_up l) (record {
   off = λ e. cc;
   plain = (
     refl,
     tt,
   );
 })
-good-in_up Dce l s SetMode r p low up c = good-still l s c
-good-in_up Dce l s DisconnectedMode r p low up c = good-still l s c
-good-in_up Dce l s (FrameReject report) r p low up c = good-out s 0 (disconnect l) (record {
+good-in_up Dce l s Sabm r p low up c = good-still l s c
+good-in_up Dce l s Dm r p low up c = good-still l s c
+good-in_up Dce l s (Frmr report) r p low up c = good-out s 0 (disconnect l) (record {
   off = λ e. cc;
   plain =
       (refl, tt);
@@ -376,31 +376,31 @@ not_setting l e f = let x : Phase.SettingUp ≡ Phase.Up = sym e ∙ f in cc
 not_rejecting : (l : Link) → l.phase ≡ Phase.Rejecting → l.phase ≡ Phase.Up → ⊥
 not_rejecting l e f = let x : Phase.Rejecting ≡ Phase.Up = sym e ∙ f in cc
 
-out-polite : (l : Link) (due : Bool) → l.phase ≡ Phase.Down → IsOut (if due then sends l (response DisconnectedMode
+out-polite : (l : Link) (due : Bool) → l.phase ≡ Phase.Down → IsOut (if due then sends l (response Dm
     true) else still l)
 out-polite l true e = record { off = not_down l e; plain = (refl, tt) }
 out-polite l false e = out-still l (not_down l e)
 
 out-in_down : (role : Role) (l : Link) (content : Content) (r p : Bool) → l.phase ≡ Phase.Down → IsOut (in_down role l
     content r p)
-out-in_down Dte l SetMode r p e = record { off = λ f. cc; plain = (refl, tt) }
-out-in_down Dte l DisconnectedMode r p e = record { off = λ f. cc; plain = (refl, tt) }
-out-in_down Dte l Disconnect r p e = record { off = not_down l e; plain = (refl, tt) }
-out-in_down Dte l (Information send receive packet) r p e = out-polite l (p && not r) e
-out-in_down Dte l (ReceiveReady receive) r p e = out-polite l (p && not r) e
-out-in_down Dte l (ReceiveNotReady receive) r p e = out-polite l (p && not r) e
-out-in_down Dte l (Reject receive) r p e = out-polite l (p && not r) e
-out-in_down Dte l Acknowledgement r p e = out-polite l (p && not r) e
-out-in_down Dte l (FrameReject report) r p e = out-polite l (p && not r) e
-out-in_down Dce l SetMode r p e = out-polite l (p && not r) e
-out-in_down Dce l DisconnectedMode r p e = out-polite l (p && not r) e
-out-in_down Dce l Disconnect r p e = record { off = not_down l e; plain = (refl, tt) }
-out-in_down Dce l (Information send receive packet) r p e = out-polite l (p && not r) e
-out-in_down Dce l (ReceiveReady receive) r p e = out-polite l (p && not r) e
-out-in_down Dce l (ReceiveNotReady receive) r p e = out-polite l (p && not r) e
-out-in_down Dce l (Reject receive) r p e = out-polite l (p && not r) e
-out-in_down Dce l Acknowledgement r p e = out-polite l (p && not r) e
-out-in_down Dce l (FrameReject report) r p e = out-polite l (p && not r) e
+out-in_down Dte l Sabm r p e = record { off = λ f. cc; plain = (refl, tt) }
+out-in_down Dte l Dm r p e = record { off = λ f. cc; plain = (refl, tt) }
+out-in_down Dte l Disc r p e = record { off = not_down l e; plain = (refl, tt) }
+out-in_down Dte l (I ns nr packet) r p e = out-polite l (p && not r) e
+out-in_down Dte l (Rr nr) r p e = out-polite l (p && not r) e
+out-in_down Dte l (Rnr nr) r p e = out-polite l (p && not r) e
+out-in_down Dte l (Rej nr) r p e = out-polite l (p && not r) e
+out-in_down Dte l Ua r p e = out-polite l (p && not r) e
+out-in_down Dte l (Frmr report) r p e = out-polite l (p && not r) e
+out-in_down Dce l Sabm r p e = out-polite l (p && not r) e
+out-in_down Dce l Dm r p e = out-polite l (p && not r) e
+out-in_down Dce l Disc r p e = record { off = not_down l e; plain = (refl, tt) }
+out-in_down Dce l (I ns nr packet) r p e = out-polite l (p && not r) e
+out-in_down Dce l (Rr nr) r p e = out-polite l (p && not r) e
+out-in_down Dce l (Rnr nr) r p e = out-polite l (p && not r) e
+out-in_down Dce l (Rej nr) r p e = out-polite l (p && not r) e
+out-in_down Dce l Ua r p e = out-polite l (p && not r) e
+out-in_down Dce l (Frmr report) r p e = out-polite l (p && not r) e
 
 -- a session that begins
 counts-begun : (l : Link) → l.oldest ≡ 0 → l.next ≡ 0 → l.top ≡ 0 → l.expected ≡ 0 → l.queue ≡ [] → Counts l begun
@@ -421,42 +421,42 @@ good-come_up l s = (λ _. counts-begun (come_up l).link refl refl refl refl refl
 
 good-in_setting_up : (l : Link) (s : Session) (content : Content) (r p : Bool) → l.phase ≡ Phase.SettingUp →
     Good s (newly l content) (in_setting_up l content r p)
-good-in_setting_up l s Acknowledgement r p e =
+good-in_setting_up l s Ua r p e =
     cond_by (λ b. Good s 0 (if b then come_up l else still l)) (is_same p l.bit) (λ _. good-come_up l s)
     (λ _. good-out s 0 (still l) (out-still l (not_setting l e)))
-good-in_setting_up l s Disconnect r p e = good-out s 0 (sends l (response DisconnectedMode p)) (record {
+good-in_setting_up l s Disc r p e = good-out s 0 (sends l (response Dm p)) (record {
   off =
       not_setting l e;
   plain = (refl, tt);
 })
-good-in_setting_up l s SetMode r p e = good-out s 0 (still l) (out-still l (not_setting l e))
-good-in_setting_up l s DisconnectedMode r p e = good-out s 0 (still l) (out-still l (not_setting l e))
-good-in_setting_up l s (FrameReject report) r p e = good-out s 0 (still l) (out-still l (not_setting l e))
-good-in_setting_up l s (Information send receive packet) r p e =
-    good-out s (newly l (Information send receive packet)) (still l) (out-still l (not_setting l e))
-good-in_setting_up l s (ReceiveReady receive) r p e = good-out s (newly l (ReceiveReady receive)) (still l) (out-still
+good-in_setting_up l s Sabm r p e = good-out s 0 (still l) (out-still l (not_setting l e))
+good-in_setting_up l s Dm r p e = good-out s 0 (still l) (out-still l (not_setting l e))
+good-in_setting_up l s (Frmr report) r p e = good-out s 0 (still l) (out-still l (not_setting l e))
+good-in_setting_up l s (I ns nr packet) r p e =
+    good-out s (newly l (I ns nr packet)) (still l) (out-still l (not_setting l e))
+good-in_setting_up l s (Rr nr) r p e = good-out s (newly l (Rr nr)) (still l) (out-still
     l (not_setting l e))
-good-in_setting_up l s (ReceiveNotReady receive) r p e = good-out s (newly l (ReceiveNotReady receive)) (still l)
+good-in_setting_up l s (Rnr nr) r p e = good-out s (newly l (Rnr nr)) (still l)
     (out-still l (not_setting l e))
-good-in_setting_up l s (Reject receive) r p e = good-out s (newly l (Reject receive)) (still l) (out-still l
+good-in_setting_up l s (Rej nr) r p e = good-out s (newly l (Rej nr)) (still l) (out-still l
     (not_setting l e))
 
 out-again : (l : Link) (r p : Bool) → l.phase ≡ Phase.Rejecting → IsOut (if r then still l else sends l (response
-    (FrameReject l.report) p))
+    (Frmr l.report) p))
 out-again l true p e = out-still l (not_rejecting l e)
 out-again l false p e = record { off = not_rejecting l e; plain = (refl, tt) }
 
 out-in_rejecting : (l : Link) (content : Content) (r p : Bool) → l.phase ≡ Phase.Rejecting → IsOut (in_rejecting l
     content r p)
-out-in_rejecting l Disconnect r p e = record { off = λ f. cc; plain = (refl, tt) }
-out-in_rejecting l SetMode r p e = out-again l r p e
-out-in_rejecting l DisconnectedMode r p e = out-again l r p e
-out-in_rejecting l Acknowledgement r p e = out-again l r p e
-out-in_rejecting l (FrameReject report) r p e = out-again l r p e
-out-in_rejecting l (Information send receive packet) r p e = out-again l r p e
-out-in_rejecting l (ReceiveReady receive) r p e = out-again l r p e
-out-in_rejecting l (ReceiveNotReady receive) r p e = out-again l r p e
-out-in_rejecting l (Reject receive) r p e = out-again l r p e
+out-in_rejecting l Disc r p e = record { off = λ f. cc; plain = (refl, tt) }
+out-in_rejecting l Sabm r p e = out-again l r p e
+out-in_rejecting l Dm r p e = out-again l r p e
+out-in_rejecting l Ua r p e = out-again l r p e
+out-in_rejecting l (Frmr report) r p e = out-again l r p e
+out-in_rejecting l (I ns nr packet) r p e = out-again l r p e
+out-in_rejecting l (Rr nr) r p e = out-again l r p e
+out-in_rejecting l (Rnr nr) r p e = out-again l r p e
+out-in_rejecting l (Rej nr) r p e = out-again l r p e
 
 good-in_phase : (phase : Phase) (role : Role) (l : Link) (s : Session) (content : Content) (r p : Bool) → IsInRange
     content → l.phase ≡ phase →
@@ -468,25 +468,25 @@ good-in_phase Phase.Up role l s content r p low e c = good-in_up role l s conten
 good-in_phase Phase.Rejecting role l s content r p low e c =
     good-out s (newly l content) (in_rejecting l content r p) (out-in_rejecting l content r p e)
 
-good-take_set_mode : (l : Link) (s : Session) (p : Bool) → Good s 0 (take_set_mode l p)
-good-take_set_mode l s p = (λ _. counts-begun (take_set_mode l p).link refl refl refl refl refl, (tt, tt))
+good-take_sabm : (l : Link) (s : Session) (p : Bool) → Good s 0 (take_sabm l p)
+good-take_sabm l s p = (λ _. counts-begun (take_sabm l p).link refl refl refl refl refl, (tt, tt))
 
 good-on_content : (l : Link) (s : Session) (content : Content) (role : Role) (r p : Bool) → IsInRange content → Agrees
     l s →
     Good s (newly l content) (on_content content role l r p)
-good-on_content l s SetMode Dce r p low c = good-take_set_mode l s p
-good-on_content l s SetMode Dte r p low c = good-in_phase l.phase Dte l s SetMode r p low refl c
-good-on_content l s (Information send receive packet) role r p low c = good-in_phase l.phase role l s (Information
-    send receive packet) r p low refl c
-good-on_content l s (ReceiveReady receive) role r p low c = good-in_phase l.phase role l s (ReceiveReady receive) r p
+good-on_content l s Sabm Dce r p low c = good-take_sabm l s p
+good-on_content l s Sabm Dte r p low c = good-in_phase l.phase Dte l s Sabm r p low refl c
+good-on_content l s (I ns nr packet) role r p low c = good-in_phase l.phase role l s (I
+    ns nr packet) r p low refl c
+good-on_content l s (Rr nr) role r p low c = good-in_phase l.phase role l s (Rr nr) r p
     low refl c
-good-on_content l s (ReceiveNotReady receive) role r p low c = good-in_phase l.phase role l s (ReceiveNotReady
-    receive) r p low refl c
-good-on_content l s (Reject receive) role r p low c = good-in_phase l.phase role l s (Reject receive) r p low refl c
-good-on_content l s Disconnect role r p low c = good-in_phase l.phase role l s Disconnect r p low refl c
-good-on_content l s DisconnectedMode role r p low c = good-in_phase l.phase role l s DisconnectedMode r p low refl c
-good-on_content l s Acknowledgement role r p low c = good-in_phase l.phase role l s Acknowledgement r p low refl c
-good-on_content l s (FrameReject report) role r p low c = good-in_phase l.phase role l s (FrameReject report) r p low
+good-on_content l s (Rnr nr) role r p low c = good-in_phase l.phase role l s (Rnr
+    nr) r p low refl c
+good-on_content l s (Rej nr) role r p low c = good-in_phase l.phase role l s (Rej nr) r p low refl c
+good-on_content l s Disc role r p low c = good-in_phase l.phase role l s Disc r p low refl c
+good-on_content l s Dm role r p low c = good-in_phase l.phase role l s Dm r p low refl c
+good-on_content l s Ua role r p low c = good-in_phase l.phase role l s Ua r p low refl c
+good-on_content l s (Frmr report) role r p low c = good-in_phase l.phase role l s (Frmr report) r p low
     refl c
 
 -- ---- what the calls make of a session
@@ -497,7 +497,7 @@ named_on_frame l frame low s c =
     let step : Step = on_frame l frame in
     subst (λ (t : Session). Agrees step.link t × AreNamed t step.frames) (grown-is step.note s l frame.content
     step.accepted)
-    (good-on_content l s frame.content l.role frame.response frame.poll low c)
+    (good-on_content l s frame.content l.role frame.response frame.pf low c)
 
 keeps-out : (l : Link) (step : Step) → IsOut step → Keeps l step
 keeps-out l step out s c = (λ e. absurd (out.off e), are_named-plain s step.frames out.plain)
@@ -572,19 +572,19 @@ named_on_defect l defect control r = keeps-on_defect_in l.phase l defect control
 
 -- ---- the end of an event
 
-named-owed : (s : Session) (due : Bool) (receive : ℕ) → receive ≡ length s.accepted % 8 →
-    AreNamed s (if due then response (ReceiveReady receive) false ∷ [] else [])
-named-owed s true receive e = (e, tt)
-named-owed s false receive e = tt
+named-owed : (s : Session) (due : Bool) (nr : ℕ) → nr ≡ length s.accepted % 8 →
+    AreNamed s (if due then response (Rr nr) false ∷ [] else [])
+named-owed s true nr e = (e, tt)
+named-owed s false nr e = tt
 
-named-numbered : (s : Session) (receive start place : ℕ) (packets : List Octets) → drop place s.offered ≡ packets →
-    length s.offered ≤ s.taken + 7 → s.taken ≤ place → start % 8 ≡ place % 8 → receive ≡ length s.accepted % 8 →
-    AreNamed s (numbered start receive packets)
-named-numbered s receive start place [] e few from same told = tt
-named-numbered s receive start place (packet ∷ packets) e few from same told =
+named-numbered : (s : Session) (nr start place : ℕ) (packets : List Octets) → drop place s.offered ≡ packets →
+    length s.offered ≤ s.taken + 7 → s.taken ≤ place → start % 8 ≡ place % 8 → nr ≡ length s.accepted % 8 →
+    AreNamed s (numbered start nr packets)
+named-numbered s nr start place [] e few from same told = tt
+named-numbered s nr start place (packet ∷ packets) e few from same told =
     let first = drop-first s.offered place packet packets e in (
       ((place, same, from, omega (arith, first.2), first.0), told),
-      named-numbered s receive (start + 1) (suc place) packets first.1 few (omega arith) (omega (arith, same)) told,
+      named-numbered s nr (start + 1) (suc place) packets first.1 few (omega arith) (omega (arith, same)) told,
     )
 
 keeps-send_all : (l : Link) (packets : List Octets) → packets ≡ [] ⊎ (packets ≡ drop l.next l.queue) → l.phase ≡

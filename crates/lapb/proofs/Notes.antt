@@ -6,15 +6,15 @@ use Rattle.link_timers.specs.declared.role.Role.{Role}
 use Rattle.link_timers.specs.declared.role.Role.TheVariants.{Dte, Dce}
 use Rattle.frame_codec.specs.Frame.{FrameValue, Content, Report}
 use Rattle.frame_codec.specs.Frame.Content.{
-  Information,
-  ReceiveReady,
-  ReceiveNotReady,
-  Reject,
-  SetMode,
-  Disconnect,
-  DisconnectedMode,
-  Acknowledgement,
-  FrameReject,
+  I,
+  Rr,
+  Rnr,
+  Rej,
+  Sabm,
+  Disc,
+  Dm,
+  Ua,
+  Frmr,
 }
 use Rattle.lapb.specs.declared.phase.Phase.{Phase}
 use Rattle.lapb.specs.declared.note.Note.{Note}
@@ -33,18 +33,18 @@ stays-reject : (role : Role) (l : Link) (report : Report) (p : Bool) → l.phase
 stays-reject Dte l report p up = leaves (λ e. cc) (ap left up) refl
 stays-reject Dce l report p up = leaves (λ e. cc) (ap left up) refl
 
-stays-information : (l : Link) (send : ℕ) (p : Bool) (packet : Octets) → l.phase ≡ Phase.Up → Stays (on_information l
-    send p packet)
-stays-information l send p packet up =
-    cond_by (λ b. Stays (if b then accept l p packet else discard l p)) (send == l.expected) (λ _. goes_on up refl) (λ
+stays-information : (l : Link) (ns : ℕ) (p : Bool) (packet : Octets) → l.phase ≡ Phase.Up → Stays (on_information l
+    ns p packet)
+stays-information l ns p packet up =
+    cond_by (λ b. Stays (if b then accept l p packet else discard l p)) (ns == l.expected) (λ _. goes_on up refl) (λ
     _. goes_on up refl)
 
-stays-checked : (l : Link) (content : Content) (r p : Bool) (receive : ℕ) (taken : Step) (anew : Bool) → l.phase ≡
+stays-checked : (l : Link) (content : Content) (r p : Bool) (nr : ℕ) (taken : Step) (anew : Bool) → l.phase ≡
     Phase.Up → Stays taken →
-    Stays (if is_valid l receive then record taken { anew = anew } else reject_number l content r p)
-stays-checked l content r p receive taken anew up stays =
+    Stays (if is_valid l nr then record taken { anew = anew } else reject_number l content r p)
+stays-checked l content r p nr taken anew up stays =
     cond_by (λ b. Stays (if b then record taken { anew = anew } else reject_number l content r p)) (is_valid l
-    receive)
+    nr)
     (λ _. again taken anew stays) (λ _. stays-reject l.role l (report_of l (control content) r false false false true)
     (p && not r) up)
   where
@@ -57,27 +57,27 @@ stays-checked l content r p receive taken anew up stays =
 
 pub stays-in_up : (role : Role) (l : Link) (content : Content) (r p : Bool) → l.phase ≡ Phase.Up → Stays (in_up role l
     content r p)
-stays-in_up role l (Information send receive packet) r p up =
-    stays-checked l (Information send receive packet) r p receive (on_information (acknowledged l receive) send p
+stays-in_up role l (I ns nr packet) r p up =
+    stays-checked l (I ns nr packet) r p nr (on_information (acknowledged l nr) ns p
     packet) _ up
-    (stays-information (acknowledged l receive) send p packet up)
-stays-in_up role l (ReceiveReady receive) r p up =
-    stays-checked l (ReceiveReady receive) r p receive (on_supervisory (acknowledged l receive) false false r p) _ up
+    (stays-information (acknowledged l nr) ns p packet up)
+stays-in_up role l (Rr nr) r p up =
+    stays-checked l (Rr nr) r p nr (on_supervisory (acknowledged l nr) false false r p) _ up
     (goes_on up refl)
-stays-in_up role l (ReceiveNotReady receive) r p up =
-    stays-checked l (ReceiveNotReady receive) r p receive (on_supervisory (acknowledged l receive) true false r p) _
+stays-in_up role l (Rnr nr) r p up =
+    stays-checked l (Rnr nr) r p nr (on_supervisory (acknowledged l nr) true false r p) _
     up (goes_on up refl)
-stays-in_up role l (Reject receive) r p up =
-    stays-checked l (Reject receive) r p receive (on_supervisory (acknowledged l receive) false true r p) _ up
+stays-in_up role l (Rej nr) r p up =
+    stays-checked l (Rej nr) r p nr (on_supervisory (acknowledged l nr) false true r p) _ up
     (goes_on up refl)
-stays-in_up role l Disconnect r p up = leaves (λ e. cc) (ap left up) refl
-stays-in_up role l Acknowledgement r p up = goes_on up refl
-stays-in_up Dte l SetMode r p up = leaves (λ e. cc) (ap left up) refl
-stays-in_up Dte l DisconnectedMode r p up = leaves (λ e. cc) (ap left up) refl
-stays-in_up Dte l (FrameReject report) r p up = leaves (λ e. cc) (ap left up) refl
-stays-in_up Dce l SetMode r p up = goes_on up refl
-stays-in_up Dce l DisconnectedMode r p up = goes_on up refl
-stays-in_up Dce l (FrameReject report) r p up = leaves (λ e. cc) (ap left up) refl
+stays-in_up role l Disc r p up = leaves (λ e. cc) (ap left up) refl
+stays-in_up role l Ua r p up = goes_on up refl
+stays-in_up Dte l Sabm r p up = leaves (λ e. cc) (ap left up) refl
+stays-in_up Dte l Dm r p up = leaves (λ e. cc) (ap left up) refl
+stays-in_up Dte l (Frmr report) r p up = leaves (λ e. cc) (ap left up) refl
+stays-in_up Dce l Sabm r p up = goes_on up refl
+stays-in_up Dce l Dm r p up = goes_on up refl
+stays-in_up Dce l (Frmr report) r p up = leaves (λ e. cc) (ap left up) refl
 
 -- ---- what a step says
 
@@ -95,65 +95,65 @@ says-stays step (goes_on up none) = continues refl none up
 says-stays step (leaves off down none) = ends refl down off none
 
 says-down : (l : Link) (due : Bool) → l.phase ≡ Phase.Down → Says Phase.Down (if due then sends l (response
-    DisconnectedMode true) else still l)
+    Dm true) else still l)
 says-down l true e = stays_out (λ f. cc) refl (λ f. absurd (let x = sym e ∙ f in cc)) refl
 says-down l false e = stays_out (λ f. cc) refl (λ f. absurd (let x = sym e ∙ f in cc)) refl
 
 says-in_down : (role : Role) (l : Link) (content : Content) (r p : Bool) → l.phase ≡ Phase.Down → Says Phase.Down
     (in_down role l content r p)
-says-in_down Dte l SetMode r p e = stays_out (λ f. cc) (ap left e) (λ f. cc) refl
-says-in_down Dte l DisconnectedMode r p e = stays_out (λ f. cc) (ap left e) (λ f. cc) refl
-says-in_down Dte l Disconnect r p e = stays_out (λ f. cc) refl (λ f. absurd (let x = sym e ∙ f in cc)) refl
-says-in_down Dte l (Information send receive packet) r p e = says-down l (p && not r) e
-says-in_down Dte l (ReceiveReady receive) r p e = says-down l (p && not r) e
-says-in_down Dte l (ReceiveNotReady receive) r p e = says-down l (p && not r) e
-says-in_down Dte l (Reject receive) r p e = says-down l (p && not r) e
-says-in_down Dte l Acknowledgement r p e = says-down l (p && not r) e
-says-in_down Dte l (FrameReject report) r p e = says-down l (p && not r) e
-says-in_down Dce l SetMode r p e = says-down l (p && not r) e
-says-in_down Dce l DisconnectedMode r p e = says-down l (p && not r) e
-says-in_down Dce l Disconnect r p e = stays_out (λ f. cc) refl (λ f. absurd (let x = sym e ∙ f in cc)) refl
-says-in_down Dce l (Information send receive packet) r p e = says-down l (p && not r) e
-says-in_down Dce l (ReceiveReady receive) r p e = says-down l (p && not r) e
-says-in_down Dce l (ReceiveNotReady receive) r p e = says-down l (p && not r) e
-says-in_down Dce l (Reject receive) r p e = says-down l (p && not r) e
-says-in_down Dce l Acknowledgement r p e = says-down l (p && not r) e
-says-in_down Dce l (FrameReject report) r p e = says-down l (p && not r) e
+says-in_down Dte l Sabm r p e = stays_out (λ f. cc) (ap left e) (λ f. cc) refl
+says-in_down Dte l Dm r p e = stays_out (λ f. cc) (ap left e) (λ f. cc) refl
+says-in_down Dte l Disc r p e = stays_out (λ f. cc) refl (λ f. absurd (let x = sym e ∙ f in cc)) refl
+says-in_down Dte l (I ns nr packet) r p e = says-down l (p && not r) e
+says-in_down Dte l (Rr nr) r p e = says-down l (p && not r) e
+says-in_down Dte l (Rnr nr) r p e = says-down l (p && not r) e
+says-in_down Dte l (Rej nr) r p e = says-down l (p && not r) e
+says-in_down Dte l Ua r p e = says-down l (p && not r) e
+says-in_down Dte l (Frmr report) r p e = says-down l (p && not r) e
+says-in_down Dce l Sabm r p e = says-down l (p && not r) e
+says-in_down Dce l Dm r p e = says-down l (p && not r) e
+says-in_down Dce l Disc r p e = stays_out (λ f. cc) refl (λ f. absurd (let x = sym e ∙ f in cc)) refl
+says-in_down Dce l (I ns nr packet) r p e = says-down l (p && not r) e
+says-in_down Dce l (Rr nr) r p e = says-down l (p && not r) e
+says-in_down Dce l (Rnr nr) r p e = says-down l (p && not r) e
+says-in_down Dce l (Rej nr) r p e = says-down l (p && not r) e
+says-in_down Dce l Ua r p e = says-down l (p && not r) e
+says-in_down Dce l (Frmr report) r p e = says-down l (p && not r) e
 
 says-still : (l : Link) (phase : Phase) → l.phase ≡ phase → (phase ≡ Phase.Up → ⊥) → Says phase (still l)
 says-still l phase e off = stays_out off refl (λ f. off (sym e ∙ f)) refl
 
 says-in_setting_up : (l : Link) (content : Content) (r p : Bool) → l.phase ≡ Phase.SettingUp → Says Phase.SettingUp
     (in_setting_up l content r p)
-says-in_setting_up l Acknowledgement r p e =
+says-in_setting_up l Ua r p e =
     cond_by (λ b. Says Phase.SettingUp (if b then come_up l else still l)) (is_same p l.bit) (λ _. begins refl refl
     refl)
     (λ _. says-still l Phase.SettingUp e (λ f. cc))
-says-in_setting_up l Disconnect r p e = stays_out (λ f. cc) refl (λ f. absurd (let x = sym e ∙ f in cc)) refl
-says-in_setting_up l SetMode r p e = says-still l Phase.SettingUp e (λ f. cc)
-says-in_setting_up l DisconnectedMode r p e = says-still l Phase.SettingUp e (λ f. cc)
-says-in_setting_up l (FrameReject report) r p e = says-still l Phase.SettingUp e (λ f. cc)
-says-in_setting_up l (Information send receive packet) r p e = says-still l Phase.SettingUp e (λ f. cc)
-says-in_setting_up l (ReceiveReady receive) r p e = says-still l Phase.SettingUp e (λ f. cc)
-says-in_setting_up l (ReceiveNotReady receive) r p e = says-still l Phase.SettingUp e (λ f. cc)
-says-in_setting_up l (Reject receive) r p e = says-still l Phase.SettingUp e (λ f. cc)
+says-in_setting_up l Disc r p e = stays_out (λ f. cc) refl (λ f. absurd (let x = sym e ∙ f in cc)) refl
+says-in_setting_up l Sabm r p e = says-still l Phase.SettingUp e (λ f. cc)
+says-in_setting_up l Dm r p e = says-still l Phase.SettingUp e (λ f. cc)
+says-in_setting_up l (Frmr report) r p e = says-still l Phase.SettingUp e (λ f. cc)
+says-in_setting_up l (I ns nr packet) r p e = says-still l Phase.SettingUp e (λ f. cc)
+says-in_setting_up l (Rr nr) r p e = says-still l Phase.SettingUp e (λ f. cc)
+says-in_setting_up l (Rnr nr) r p e = says-still l Phase.SettingUp e (λ f. cc)
+says-in_setting_up l (Rej nr) r p e = says-still l Phase.SettingUp e (λ f. cc)
 
 says-again : (l : Link) (r p : Bool) → l.phase ≡ Phase.Rejecting → Says Phase.Rejecting (if r then still l else sends
-    l (response (FrameReject l.report) p))
+    l (response (Frmr l.report) p))
 says-again l true p e = says-still l Phase.Rejecting e (λ f. cc)
 says-again l false p e = stays_out (λ f. cc) refl (λ f. absurd (let x = sym e ∙ f in cc)) refl
 
 says-in_rejecting : (l : Link) (content : Content) (r p : Bool) → l.phase ≡ Phase.Rejecting → Says Phase.Rejecting
     (in_rejecting l content r p)
-says-in_rejecting l Disconnect r p e = stays_out (λ f. cc) (ap left e) (λ f. cc) refl
-says-in_rejecting l SetMode r p e = says-again l r p e
-says-in_rejecting l Acknowledgement r p e = says-again l r p e
-says-in_rejecting l DisconnectedMode r p e = says-again l r p e
-says-in_rejecting l (FrameReject report) r p e = says-again l r p e
-says-in_rejecting l (Information send receive packet) r p e = says-again l r p e
-says-in_rejecting l (ReceiveReady receive) r p e = says-again l r p e
-says-in_rejecting l (ReceiveNotReady receive) r p e = says-again l r p e
-says-in_rejecting l (Reject receive) r p e = says-again l r p e
+says-in_rejecting l Disc r p e = stays_out (λ f. cc) (ap left e) (λ f. cc) refl
+says-in_rejecting l Sabm r p e = says-again l r p e
+says-in_rejecting l Ua r p e = says-again l r p e
+says-in_rejecting l Dm r p e = says-again l r p e
+says-in_rejecting l (Frmr report) r p e = says-again l r p e
+says-in_rejecting l (I ns nr packet) r p e = says-again l r p e
+says-in_rejecting l (Rr nr) r p e = says-again l r p e
+says-in_rejecting l (Rnr nr) r p e = says-again l r p e
+says-in_rejecting l (Rej nr) r p e = says-again l r p e
 
 says-in_phase : (phase : Phase) (role : Role) (l : Link) (content : Content) (r p : Bool) → l.phase ≡ phase → Says
     phase (in_phase phase role l content r p)
@@ -165,17 +165,17 @@ says-in_phase Phase.Rejecting role l content r p e = says-in_rejecting l content
 -- a frame
 pub says_on_frame : (l : Link) (content : Content) (role : Role) (r p : Bool) → Says l.phase (on_content content role
     l r p)
-says_on_frame l SetMode Dce r p = begins refl refl refl
-says_on_frame l SetMode Dte r p = says-in_phase l.phase Dte l SetMode r p refl
-says_on_frame l (Information send receive packet) role r p = says-in_phase l.phase role l (Information send receive
+says_on_frame l Sabm Dce r p = begins refl refl refl
+says_on_frame l Sabm Dte r p = says-in_phase l.phase Dte l Sabm r p refl
+says_on_frame l (I ns nr packet) role r p = says-in_phase l.phase role l (I ns nr
     packet) r p refl
-says_on_frame l (ReceiveReady receive) role r p = says-in_phase l.phase role l (ReceiveReady receive) r p refl
-says_on_frame l (ReceiveNotReady receive) role r p = says-in_phase l.phase role l (ReceiveNotReady receive) r p refl
-says_on_frame l (Reject receive) role r p = says-in_phase l.phase role l (Reject receive) r p refl
-says_on_frame l Disconnect role r p = says-in_phase l.phase role l Disconnect r p refl
-says_on_frame l DisconnectedMode role r p = says-in_phase l.phase role l DisconnectedMode r p refl
-says_on_frame l Acknowledgement role r p = says-in_phase l.phase role l Acknowledgement r p refl
-says_on_frame l (FrameReject report) role r p = says-in_phase l.phase role l (FrameReject report) r p refl
+says_on_frame l (Rr nr) role r p = says-in_phase l.phase role l (Rr nr) r p refl
+says_on_frame l (Rnr nr) role r p = says-in_phase l.phase role l (Rnr nr) r p refl
+says_on_frame l (Rej nr) role r p = says-in_phase l.phase role l (Rej nr) r p refl
+says_on_frame l Disc role r p = says-in_phase l.phase role l Disc r p refl
+says_on_frame l Dm role r p = says-in_phase l.phase role l Dm r p refl
+says_on_frame l Ua role r p = says-in_phase l.phase role l Ua r p refl
+says_on_frame l (Frmr report) role r p = says-in_phase l.phase role l (Frmr report) r p refl
 
 -- ---- T1, relinks, the end of an event, frames that could not be read
 
@@ -238,22 +238,22 @@ says_on_defect l defect control r = says-on_defect_in l.phase l defect control r
 
 -- ---- which frame begins a session
 
-quiet-down : (l : Link) (due : Bool) → (if due then sends l (response DisconnectedMode true) else still l).note ≡
+quiet-down : (l : Link) (due : Bool) → (if due then sends l (response Dm true) else still l).note ≡
     Note.Nothing
 quiet-down l true = refl
 quiet-down l false = refl
 
 quiet-in_down : (l : Link) (content : Content) (r p : Bool) → l.phase ≡ Phase.Down → (in_down Dte l content r p).note
     ≡ Note.Nothing
-quiet-in_down l SetMode r p e = ap left e
-quiet-in_down l DisconnectedMode r p e = ap left e
-quiet-in_down l Disconnect r p e = refl
-quiet-in_down l (Information send receive packet) r p e = quiet-down l (p && not r)
-quiet-in_down l (ReceiveReady receive) r p e = quiet-down l (p && not r)
-quiet-in_down l (ReceiveNotReady receive) r p e = quiet-down l (p && not r)
-quiet-in_down l (Reject receive) r p e = quiet-down l (p && not r)
-quiet-in_down l Acknowledgement r p e = quiet-down l (p && not r)
-quiet-in_down l (FrameReject report) r p e = quiet-down l (p && not r)
+quiet-in_down l Sabm r p e = ap left e
+quiet-in_down l Dm r p e = ap left e
+quiet-in_down l Disc r p e = refl
+quiet-in_down l (I ns nr packet) r p e = quiet-down l (p && not r)
+quiet-in_down l (Rr nr) r p e = quiet-down l (p && not r)
+quiet-in_down l (Rnr nr) r p e = quiet-down l (p && not r)
+quiet-in_down l (Rej nr) r p e = quiet-down l (p && not r)
+quiet-in_down l Ua r p e = quiet-down l (p && not r)
+quiet-in_down l (Frmr report) r p e = quiet-down l (p && not r)
 
 quiet-stays : (step : Step) → Stays step → step.note ≡ Note.Up → ⊥
 quiet-stays step (goes_on up none) e = cc
@@ -261,25 +261,25 @@ quiet-stays step (leaves off down none) e = cc
 
 -- at a DTE that is setting up: the UA of its act alone
 pub up_at_setting_up : (l : Link) (content : Content) (r p : Bool) → (in_setting_up l content r p).note ≡ Note.Up →
-    (content ≡ Acknowledgement) × (is_same p l.bit ≡ true)
-up_at_setting_up l Acknowledgement r p e = (
+    (content ≡ Ua) × (is_same p l.bit ≡ true)
+up_at_setting_up l Ua r p e = (
   refl,
   cond_by (λ b. (if b then come_up l else still l).note ≡ Note.Up → b ≡ true) (is_same p l.bit) (λ _ _. refl)
       (λ _ f. absurd (cc)) e,
 )
-up_at_setting_up l Disconnect r p e = absurd (cc)
-up_at_setting_up l SetMode r p e = absurd (cc)
-up_at_setting_up l DisconnectedMode r p e = absurd (cc)
-up_at_setting_up l (FrameReject report) r p e = absurd (cc)
-up_at_setting_up l (Information send receive packet) r p e = absurd (cc)
-up_at_setting_up l (ReceiveReady receive) r p e = absurd (cc)
-up_at_setting_up l (ReceiveNotReady receive) r p e = absurd (cc)
-up_at_setting_up l (Reject receive) r p e = absurd (cc)
+up_at_setting_up l Disc r p e = absurd (cc)
+up_at_setting_up l Sabm r p e = absurd (cc)
+up_at_setting_up l Dm r p e = absurd (cc)
+up_at_setting_up l (Frmr report) r p e = absurd (cc)
+up_at_setting_up l (I ns nr packet) r p e = absurd (cc)
+up_at_setting_up l (Rr nr) r p e = absurd (cc)
+up_at_setting_up l (Rnr nr) r p e = absurd (cc)
+up_at_setting_up l (Rej nr) r p e = absurd (cc)
 
 up_at_phase : (phase : Phase) (l : Link) (content : Content) (r p : Bool) → (phase ≡ Phase.Rejecting → ⊥) → l.phase ≡
     phase →
     (in_phase phase Dte l content r p).note ≡ Note.Up →
-    (phase ≡ Phase.SettingUp) × (content ≡ Acknowledgement) × (is_same p l.bit ≡ true)
+    (phase ≡ Phase.SettingUp) × (content ≡ Ua) × (is_same p l.bit ≡ true)
 up_at_phase Phase.Down l content r p off e n = absurd (let q = quiet-in_down l content r p e in let x : Note.Nothing ≡
     Note.Up = sym q ∙ n in cc)
 up_at_phase Phase.SettingUp l content r p off e n = let u = up_at_setting_up l content r p n in (refl, u.0, u.1)
@@ -289,22 +289,22 @@ up_at_phase Phase.Rejecting l content r p off e n = absurd (off refl)
 
 dte-content : (l : Link) (content : Content) (r p : Bool) → on_content content Dte l r p ≡ in_phase l.phase Dte l
     content r p
-dte-content l SetMode r p = refl
-dte-content l (Information send receive packet) r p = refl
-dte-content l (ReceiveReady receive) r p = refl
-dte-content l (ReceiveNotReady receive) r p = refl
-dte-content l (Reject receive) r p = refl
-dte-content l Disconnect r p = refl
-dte-content l DisconnectedMode r p = refl
-dte-content l Acknowledgement r p = refl
-dte-content l (FrameReject report) r p = refl
+dte-content l Sabm r p = refl
+dte-content l (I ns nr packet) r p = refl
+dte-content l (Rr nr) r p = refl
+dte-content l (Rnr nr) r p = refl
+dte-content l (Rej nr) r p = refl
+dte-content l Disc r p = refl
+dte-content l Dm r p = refl
+dte-content l Ua r p = refl
+dte-content l (Frmr report) r p = refl
 
 -- a DTE begins a session by the UA of its act, and by nothing else
 pub dte_begins : (l : Link) (frame : FrameValue) → l.role ≡ Dte → (l.phase ≡ Phase.Rejecting → ⊥) → (on_frame l
     frame).note ≡ Note.Up →
-    (l.phase ≡ Phase.SettingUp) × (frame.content ≡ Acknowledgement) × (is_same frame.poll l.bit ≡ true)
+    (l.phase ≡ Phase.SettingUp) × (frame.content ≡ Ua) × (is_same frame.pf l.bit ≡ true)
 dte_begins l frame role off n =
-    let m : (on_content frame.content Dte l frame.response frame.poll).note ≡ Note.Up =
-    subst (λ (r : Role). (on_content frame.content r l frame.response frame.poll).note ≡ Note.Up) role n in
-    up_at_phase l.phase l frame.content frame.response frame.poll off refl
-    (subst (λ (step : Step). step.note ≡ Note.Up) (dte-content l frame.content frame.response frame.poll) m)
+    let m : (on_content frame.content Dte l frame.response frame.pf).note ≡ Note.Up =
+    subst (λ (r : Role). (on_content frame.content r l frame.response frame.pf).note ≡ Note.Up) role n in
+    up_at_phase l.phase l frame.content frame.response frame.pf off refl
+    (subst (λ (step : Step). step.note ≡ Note.Up) (dte-content l frame.content frame.response frame.pf) m)

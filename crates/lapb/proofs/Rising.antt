@@ -13,15 +13,15 @@ use Rattle.frame_codec.specs.declared.fault.FrameFault.TheVariants.{
 }
 use Rattle.frame_codec.specs.Frame.{FrameValue, Content, Report}
 use Rattle.frame_codec.specs.Frame.Content.{
-  Information,
-  ReceiveReady,
-  ReceiveNotReady,
-  Reject,
-  SetMode,
-  Disconnect,
-  DisconnectedMode,
-  Acknowledgement,
-  FrameReject,
+  I,
+  Rr,
+  Rnr,
+  Rej,
+  Sabm,
+  Disc,
+  Dm,
+  Ua,
+  Frmr,
 }
 use Rattle.frame_codec.specs.Reading.{reading}
 use Rattle.frame_codec.specs.Spelling.{spelling}
@@ -29,7 +29,7 @@ use Rattle.lapb.specs.declared.phase.Phase.{Phase}
 use Rattle.lapb.specs.declared.note.Note.{Note}
 use Rattle.lapb.specs.Machine.{Octets, Link, Step, left, answers, response, still, sends, relink, relink_as, come_up, reject_as, reject_number, is_valid, acknowledged, on_supervisory, accept, discard, on_information, in_up, in_setting_up, in_down, in_rejecting, in_phase, on_content, on_frame, on_t1, expire_in, runs, poll, numbered, send_all, sendable, settle, settle_in, is_same, is_up}
 use Rattle.lapb.specs.Octets.{on_octets, on_reading, on_fault}
-use Rattle.lapb.specs.World.{Sent, World, Params, Event, Offer, Deliver, Lose, Expire, Relink, Settle, Restart, stamped, kept_of, is_set_mode, is_setting_up, is_up_note, act_after, dte_does, to_dte, to_dce, without_first, happens, run, opening, Always}
+use Rattle.lapb.specs.World.{Sent, World, Params, Event, Offer, Deliver, Lose, Expire, Relink, Settle, Restart, stamped, kept_of, is_sabm, is_setting_up, is_up_note, act_after, dte_does, to_dte, to_dce, without_first, happens, run, opening, Always}
 use Rattle.lapb.specs.Reach.{Reached}
 use Rattle.lapb.specs.Fits.{AllSpelt, octets_of}
 use Rattle.lapb.specs.Line.{StandsIn}
@@ -91,7 +91,7 @@ says-tells before step (stays_out was note off none) = record {
 
 -- a frame, octets
 pub tells_on_frame : (l : Link) (frame : FrameValue) → Tells l (on_frame l frame)
-tells_on_frame l frame = says-tells l (on_frame l frame) (says_on_frame l frame.content l.role frame.response frame.poll)
+tells_on_frame l frame = says-tells l (on_frame l frame) (says_on_frame l frame.content l.role frame.response frame.pf)
 
 tells-still : (l : Link) → Tells l (still l)
 tells-still l = record {
@@ -181,111 +181,111 @@ calls_tell l = record {
 -- ---- a SABM is sent by a link that is setting up alone
 
 abbrev NoSets : List FrameValue → Type 0
-NoSets = Each (λ f. is_set_mode f.content ≡ false)
+NoSets = Each (λ f. is_sabm f.content ≡ false)
 
 abbrev MaySet : Step → Type 0
 MaySet step = (step.link.phase ≡ Phase.SettingUp) ⊎ NoSets step.frames
 
-none-answers : (due : Bool) (receive : ℕ) → NoSets (answers due receive)
-none-answers true receive = (refl, tt)
-none-answers false receive = tt
+none-answers : (due : Bool) (nr : ℕ) → NoSets (answers due nr)
+none-answers true nr = (refl, tt)
+none-answers false nr = tt
 
-none-numbered : (send receive : ℕ) (packets : List Octets) → NoSets (numbered send receive packets)
-none-numbered send receive [] = tt
-none-numbered send receive (packet ∷ packets) = (refl, none-numbered (send + 1) receive packets)
+none-numbered : (ns nr : ℕ) (packets : List Octets) → NoSets (numbered ns nr packets)
+none-numbered ns nr [] = tt
+none-numbered ns nr (packet ∷ packets) = (refl, none-numbered (ns + 1) nr packets)
 
 sets-reject : (role : Role) (l : Link) (report : Report) (p : Bool) → MaySet (reject_as role l report p)
 sets-reject Dte l report p = inl refl
 sets-reject Dce l report p = inr (refl, tt)
 
-sets-information : (l : Link) (send : ℕ) (p : Bool) (packet : Octets) → MaySet (on_information l send p packet)
-sets-information l send p packet =
-    cond_by (λ b. MaySet (if b then accept l p packet else discard l p)) (send == l.expected)
+sets-information : (l : Link) (ns : ℕ) (p : Bool) (packet : Octets) → MaySet (on_information l ns p packet)
+sets-information l ns p packet =
+    cond_by (λ b. MaySet (if b then accept l p packet else discard l p)) (ns == l.expected)
     (λ _. inr (none-answers p _))
-    (λ _. inr (cond_by (λ b. NoSets (if b then answers p l.expected else response (Reject l.expected) p ∷ [])) l.rejecting
+    (λ _. inr (cond_by (λ b. NoSets (if b then answers p l.expected else response (Rej l.expected) p ∷ [])) l.rejecting
     (λ _. none-answers p l.expected) (λ _. (refl, tt))))
 
-sets-checked : (l : Link) (content : Content) (r p : Bool) (receive : ℕ) (taken : Step) (anew : Bool) → MaySet taken →
-    MaySet (if is_valid l receive then record taken { anew = anew } else reject_number l content r p)
-sets-checked l content r p receive taken anew sets =
-    cond_by (λ b. MaySet (if b then record taken { anew = anew } else reject_number l content r p)) (is_valid l receive)
+sets-checked : (l : Link) (content : Content) (r p : Bool) (nr : ℕ) (taken : Step) (anew : Bool) → MaySet taken →
+    MaySet (if is_valid l nr then record taken { anew = anew } else reject_number l content r p)
+sets-checked l content r p nr taken anew sets =
+    cond_by (λ b. MaySet (if b then record taken { anew = anew } else reject_number l content r p)) (is_valid l nr)
     (λ _. sets) (λ _. sets-reject l.role l _ _)
 
 sets-supervisory : (l : Link) (busy back r p : Bool) → MaySet (on_supervisory l busy back r p)
 sets-supervisory l busy back r p = inr (none-answers (p && not r) l.expected)
 
 sets-in_up : (role : Role) (l : Link) (content : Content) (r p : Bool) → MaySet (in_up role l content r p)
-sets-in_up role l (Information send receive packet) r p =
-    sets-checked l (Information send receive packet) r p receive (on_information (acknowledged l receive) send p packet) _
-    (sets-information (acknowledged l receive) send p packet)
-sets-in_up role l (ReceiveReady receive) r p =
-    sets-checked l (ReceiveReady receive) r p receive (on_supervisory (acknowledged l receive) false false r p) _
-    (sets-supervisory (acknowledged l receive) false false r p)
-sets-in_up role l (ReceiveNotReady receive) r p =
-    sets-checked l (ReceiveNotReady receive) r p receive (on_supervisory (acknowledged l receive) true false r p) _
-    (sets-supervisory (acknowledged l receive) true false r p)
-sets-in_up role l (Reject receive) r p =
-    sets-checked l (Reject receive) r p receive (on_supervisory (acknowledged l receive) false true r p) _
-    (sets-supervisory (acknowledged l receive) false true r p)
-sets-in_up role l Disconnect r p = inr (refl, tt)
-sets-in_up role l Acknowledgement r p = inr tt
-sets-in_up Dte l SetMode r p = inl refl
-sets-in_up Dte l DisconnectedMode r p = inl refl
-sets-in_up Dte l (FrameReject report) r p = inl refl
-sets-in_up Dce l SetMode r p = inr tt
-sets-in_up Dce l DisconnectedMode r p = inr tt
-sets-in_up Dce l (FrameReject report) r p = inr (refl, tt)
+sets-in_up role l (I ns nr packet) r p =
+    sets-checked l (I ns nr packet) r p nr (on_information (acknowledged l nr) ns p packet) _
+    (sets-information (acknowledged l nr) ns p packet)
+sets-in_up role l (Rr nr) r p =
+    sets-checked l (Rr nr) r p nr (on_supervisory (acknowledged l nr) false false r p) _
+    (sets-supervisory (acknowledged l nr) false false r p)
+sets-in_up role l (Rnr nr) r p =
+    sets-checked l (Rnr nr) r p nr (on_supervisory (acknowledged l nr) true false r p) _
+    (sets-supervisory (acknowledged l nr) true false r p)
+sets-in_up role l (Rej nr) r p =
+    sets-checked l (Rej nr) r p nr (on_supervisory (acknowledged l nr) false true r p) _
+    (sets-supervisory (acknowledged l nr) false true r p)
+sets-in_up role l Disc r p = inr (refl, tt)
+sets-in_up role l Ua r p = inr tt
+sets-in_up Dte l Sabm r p = inl refl
+sets-in_up Dte l Dm r p = inl refl
+sets-in_up Dte l (Frmr report) r p = inl refl
+sets-in_up Dce l Sabm r p = inr tt
+sets-in_up Dce l Dm r p = inr tt
+sets-in_up Dce l (Frmr report) r p = inr (refl, tt)
 
 sets-in_setting_up : (l : Link) (content : Content) (r p : Bool) → MaySet (in_setting_up l content r p)
-sets-in_setting_up l Acknowledgement r p =
+sets-in_setting_up l Ua r p =
     cond_by (λ b. MaySet (if b then come_up l else still l)) (is_same p l.bit) (λ _. inr (refl, tt)) (λ _. inr tt)
-sets-in_setting_up l Disconnect r p = inr (refl, tt)
-sets-in_setting_up l SetMode r p = inr tt
-sets-in_setting_up l DisconnectedMode r p = inr tt
-sets-in_setting_up l (FrameReject report) r p = inr tt
-sets-in_setting_up l (Information send receive packet) r p = inr tt
-sets-in_setting_up l (ReceiveReady receive) r p = inr tt
-sets-in_setting_up l (ReceiveNotReady receive) r p = inr tt
-sets-in_setting_up l (Reject receive) r p = inr tt
+sets-in_setting_up l Disc r p = inr (refl, tt)
+sets-in_setting_up l Sabm r p = inr tt
+sets-in_setting_up l Dm r p = inr tt
+sets-in_setting_up l (Frmr report) r p = inr tt
+sets-in_setting_up l (I ns nr packet) r p = inr tt
+sets-in_setting_up l (Rr nr) r p = inr tt
+sets-in_setting_up l (Rnr nr) r p = inr tt
+sets-in_setting_up l (Rej nr) r p = inr tt
 
-sets-polite : (l : Link) (due : Bool) → MaySet (if due then sends l (response DisconnectedMode true) else still l)
+sets-polite : (l : Link) (due : Bool) → MaySet (if due then sends l (response Dm true) else still l)
 sets-polite l true = inr (refl, tt)
 sets-polite l false = inr tt
 
 sets-in_down : (role : Role) (l : Link) (content : Content) (r p : Bool) → MaySet (in_down role l content r p)
-sets-in_down Dte l SetMode r p = inl refl
-sets-in_down Dte l DisconnectedMode r p = inl refl
-sets-in_down Dte l Disconnect r p = inr (refl, tt)
-sets-in_down Dte l (Information send receive packet) r p = sets-polite l (p && not r)
-sets-in_down Dte l (ReceiveReady receive) r p = sets-polite l (p && not r)
-sets-in_down Dte l (ReceiveNotReady receive) r p = sets-polite l (p && not r)
-sets-in_down Dte l (Reject receive) r p = sets-polite l (p && not r)
-sets-in_down Dte l Acknowledgement r p = sets-polite l (p && not r)
-sets-in_down Dte l (FrameReject report) r p = sets-polite l (p && not r)
-sets-in_down Dce l SetMode r p = sets-polite l (p && not r)
-sets-in_down Dce l DisconnectedMode r p = sets-polite l (p && not r)
-sets-in_down Dce l Disconnect r p = inr (refl, tt)
-sets-in_down Dce l (Information send receive packet) r p = sets-polite l (p && not r)
-sets-in_down Dce l (ReceiveReady receive) r p = sets-polite l (p && not r)
-sets-in_down Dce l (ReceiveNotReady receive) r p = sets-polite l (p && not r)
-sets-in_down Dce l (Reject receive) r p = sets-polite l (p && not r)
-sets-in_down Dce l Acknowledgement r p = sets-polite l (p && not r)
-sets-in_down Dce l (FrameReject report) r p = sets-polite l (p && not r)
+sets-in_down Dte l Sabm r p = inl refl
+sets-in_down Dte l Dm r p = inl refl
+sets-in_down Dte l Disc r p = inr (refl, tt)
+sets-in_down Dte l (I ns nr packet) r p = sets-polite l (p && not r)
+sets-in_down Dte l (Rr nr) r p = sets-polite l (p && not r)
+sets-in_down Dte l (Rnr nr) r p = sets-polite l (p && not r)
+sets-in_down Dte l (Rej nr) r p = sets-polite l (p && not r)
+sets-in_down Dte l Ua r p = sets-polite l (p && not r)
+sets-in_down Dte l (Frmr report) r p = sets-polite l (p && not r)
+sets-in_down Dce l Sabm r p = sets-polite l (p && not r)
+sets-in_down Dce l Dm r p = sets-polite l (p && not r)
+sets-in_down Dce l Disc r p = inr (refl, tt)
+sets-in_down Dce l (I ns nr packet) r p = sets-polite l (p && not r)
+sets-in_down Dce l (Rr nr) r p = sets-polite l (p && not r)
+sets-in_down Dce l (Rnr nr) r p = sets-polite l (p && not r)
+sets-in_down Dce l (Rej nr) r p = sets-polite l (p && not r)
+sets-in_down Dce l Ua r p = sets-polite l (p && not r)
+sets-in_down Dce l (Frmr report) r p = sets-polite l (p && not r)
 
-sets-again : (l : Link) (r p : Bool) → MaySet (if r then still l else sends l (response (FrameReject l.report) p))
+sets-again : (l : Link) (r p : Bool) → MaySet (if r then still l else sends l (response (Frmr l.report) p))
 sets-again l true p = inr tt
 sets-again l false p = inr (refl, tt)
 
 sets-in_rejecting : (l : Link) (content : Content) (r p : Bool) → MaySet (in_rejecting l content r p)
-sets-in_rejecting l Disconnect r p = inr (refl, tt)
-sets-in_rejecting l SetMode r p = sets-again l r p
-sets-in_rejecting l DisconnectedMode r p = sets-again l r p
-sets-in_rejecting l Acknowledgement r p = sets-again l r p
-sets-in_rejecting l (FrameReject report) r p = sets-again l r p
-sets-in_rejecting l (Information send receive packet) r p = sets-again l r p
-sets-in_rejecting l (ReceiveReady receive) r p = sets-again l r p
-sets-in_rejecting l (ReceiveNotReady receive) r p = sets-again l r p
-sets-in_rejecting l (Reject receive) r p = sets-again l r p
+sets-in_rejecting l Disc r p = inr (refl, tt)
+sets-in_rejecting l Sabm r p = sets-again l r p
+sets-in_rejecting l Dm r p = sets-again l r p
+sets-in_rejecting l Ua r p = sets-again l r p
+sets-in_rejecting l (Frmr report) r p = sets-again l r p
+sets-in_rejecting l (I ns nr packet) r p = sets-again l r p
+sets-in_rejecting l (Rr nr) r p = sets-again l r p
+sets-in_rejecting l (Rnr nr) r p = sets-again l r p
+sets-in_rejecting l (Rej nr) r p = sets-again l r p
 
 sets-in_phase : (phase : Phase) (role : Role) (l : Link) (content : Content) (r p : Bool) →
     MaySet (in_phase phase role l content r p)
@@ -295,19 +295,19 @@ sets-in_phase Phase.Up role l content r p = sets-in_up role l content r p
 sets-in_phase Phase.Rejecting role l content r p = sets-in_rejecting l content r p
 
 sets-content : (content : Content) (role : Role) (l : Link) (r p : Bool) → MaySet (on_content content role l r p)
-sets-content SetMode Dce l r p = inr (refl, tt)
-sets-content SetMode Dte l r p = sets-in_phase l.phase Dte l SetMode r p
-sets-content (Information send receive packet) role l r p = sets-in_phase l.phase role l (Information send receive packet) r p
-sets-content (ReceiveReady receive) role l r p = sets-in_phase l.phase role l (ReceiveReady receive) r p
-sets-content (ReceiveNotReady receive) role l r p = sets-in_phase l.phase role l (ReceiveNotReady receive) r p
-sets-content (Reject receive) role l r p = sets-in_phase l.phase role l (Reject receive) r p
-sets-content Disconnect role l r p = sets-in_phase l.phase role l Disconnect r p
-sets-content DisconnectedMode role l r p = sets-in_phase l.phase role l DisconnectedMode r p
-sets-content Acknowledgement role l r p = sets-in_phase l.phase role l Acknowledgement r p
-sets-content (FrameReject report) role l r p = sets-in_phase l.phase role l (FrameReject report) r p
+sets-content Sabm Dce l r p = inr (refl, tt)
+sets-content Sabm Dte l r p = sets-in_phase l.phase Dte l Sabm r p
+sets-content (I ns nr packet) role l r p = sets-in_phase l.phase role l (I ns nr packet) r p
+sets-content (Rr nr) role l r p = sets-in_phase l.phase role l (Rr nr) r p
+sets-content (Rnr nr) role l r p = sets-in_phase l.phase role l (Rnr nr) r p
+sets-content (Rej nr) role l r p = sets-in_phase l.phase role l (Rej nr) r p
+sets-content Disc role l r p = sets-in_phase l.phase role l Disc r p
+sets-content Dm role l r p = sets-in_phase l.phase role l Dm r p
+sets-content Ua role l r p = sets-in_phase l.phase role l Ua r p
+sets-content (Frmr report) role l r p = sets-in_phase l.phase role l (Frmr report) r p
 
 sets-frame : (l : Link) (frame : FrameValue) → MaySet (on_frame l frame)
-sets-frame l frame = sets-content frame.content l.role l frame.response frame.poll
+sets-frame l frame = sets-content frame.content l.role l frame.response frame.pf
 
 sets-relink_as : (role : Role) (phase : Phase) (l : Link) → MaySet (relink_as role phase l)
 sets-relink_as Dte Phase.SettingUp l = inr tt
@@ -331,7 +331,7 @@ sets-t1 l = cond_by (λ b. MaySet (if b then expire_in l.phase l else still l)) 
     (λ _. sets-expire_in l.phase l refl) (λ _. inr tt)
 
 sets-send_all : (l : Link) (packets : List Octets) → MaySet (send_all l packets)
-sets-send_all l [] = inr (cond_by (λ b. NoSets (if b then response (ReceiveReady l.expected) false ∷ [] else [])) l.owed
+sets-send_all l [] = inr (cond_by (λ b. NoSets (if b then response (Rr l.expected) false ∷ [] else [])) l.owed
     (λ _. (refl, tt)) (λ _. tt))
 sets-send_all l (packet ∷ packets) = inr (none-numbered (l.oldest + l.next) l.expected (packet ∷ packets))
 
@@ -347,7 +347,7 @@ sets-settle l = sets-settle_in l.phase l
 -- ---- acts and sessions
 
 abbrev Begun : List Sent → Type 0
-Begun = Flight (λ s. is_set_mode s.frame.content ≡ true → 1 ≤ s.act)
+Begun = Flight (λ s. is_sabm s.frame.content ≡ true → 1 ≤ s.act)
 
 -- over the parts of a world
 pub record Rises' (own session act : ℕ) (phase : Phase) (up : List Sent) : Type 0 where
@@ -402,14 +402,14 @@ own-later w step le later (stays_out was note off none) e =
 begun-sent : (t : ℕ) (kept : List Bool) (step : Step) → (step.link.phase ≡ Phase.SettingUp → 1 ≤ t) → MaySet step →
     Begun (stamped t (kept_of kept step.frames))
 begun-sent t kept step acts sets =
-    flight-stamped (λ s. is_set_mode s.frame.content ≡ true → 1 ≤ s.act) t (kept_of kept step.frames)
-    (each-kept (λ f. is_set_mode f.content ≡ true → 1 ≤ t) kept step.frames (elim sets [
+    flight-stamped (λ s. is_sabm s.frame.content ≡ true → 1 ≤ s.act) t (kept_of kept step.frames)
+    (each-kept (λ f. is_sabm f.content ≡ true → 1 ≤ t) kept step.frames (elim sets [
       | inl e ↦ all (acts e) step.frames
-      | inr none ↦ each-weaken (λ f. is_set_mode f.content ≡ false) (λ f. is_set_mode f.content ≡ true → 1 ≤ t)
+      | inr none ↦ each-weaken (λ f. is_sabm f.content ≡ false) (λ f. is_sabm f.content ≡ true → 1 ≤ t)
           (λ f off is. absurd (cc)) step.frames none
     ]))
   where
-    all : 1 ≤ t → (frames : List FrameValue) → Each (λ f. is_set_mode f.content ≡ true → 1 ≤ t) frames
+    all : 1 ≤ t → (frames : List FrameValue) → Each (λ f. is_sabm f.content ≡ true → 1 ≤ t) frames
     all le [] = tt
     all le (f ∷ frames) = (λ _. le, all le frames)
 
@@ -424,7 +424,7 @@ dte-rises w kept step le says sets i r =
     record {
       own_before = own-before w step before (λ up. (i.up_in up).own_is) says;
       later = later;
-      begun = flight-append (λ s. is_set_mode s.frame.content ≡ true → 1 ≤ s.act) w.up
+      begun = flight-append (λ s. is_sabm s.frame.content ≡ true → 1 ≤ s.act) w.up
           (stamped (act_after w step) (kept_of kept step.frames)) r.begun
           (begun-sent (act_after w step) kept step (λ e. let less = later e in omega arith) sets);
     }
@@ -434,7 +434,7 @@ dte-takes : (w : World) (kept : List Bool) (flow : List Sent) → w.session ≤ 
 dte-takes w kept [] le i r = r
 dte-takes w kept (s ∷ rest) le i r =
     dte-rises (record w { down = rest }) kept (on_frame w.dte s.frame) le
-    (says_on_frame w.dte s.frame.content w.dte.role s.frame.response s.frame.poll) (sets-frame w.dte s.frame) i r
+    (says_on_frame w.dte s.frame.content w.dte.role s.frame.response s.frame.pf) (sets-frame w.dte s.frame) i r
 
 -- the DCE
 session-later : (b : Bool) (session act : ℕ) → session ≤ act → session ≤ (if b then act else session)
@@ -446,7 +446,7 @@ dce-takes : (w : World) (kept : List Bool) (flow : List Sent) → w.up ≡ flow 
 dce-takes w kept [] e u r = r
 dce-takes w kept (s ∷ rest) e u r =
     let begun : Begun (s ∷ rest) = subst Begun e r.begun in
-    let more = session-later (is_set_mode s.frame.content) w.session s.act u.0 in
+    let more = session-later (is_sabm s.frame.content) w.session s.act u.0 in
     let before = r.own_before in
     record { own_before = omega arith; later = r.later; begun = begun.1 }
 
@@ -515,7 +515,7 @@ never-falls w (Deliver Dce kept) i r = taken w.up i.ups
     taken : (flow : List Sent) → Ups w.session w.act w.dte.bit w.session flow →
         (w.own ≤ (to_dce w kept flow).own) × (w.session ≤ (to_dce w kept flow).session)
     taken [] u = (same w.own, same w.session)
-    taken (s ∷ rest) u = (same w.own, session-later (is_set_mode s.frame.content) w.session s.act u.0)
+    taken (s ∷ rest) u = (same w.own, session-later (is_sabm s.frame.content) w.session s.act u.0)
 never-falls w (Lose Dte) i r = (same w.own, same w.session)
 never-falls w (Lose Dce) i r = (same w.own, same w.session)
 never-falls w (Expire Dte kept) i r =
@@ -581,7 +581,7 @@ of_act_at_dce w dte dce up down bytes kept s up_note = go w.up refl s.fit.up s.u
         let step : on_frame w.dce x.frame ≡ on_octets dce bytes =
         sym (octets_taken w.dce Dte x.frame (reached_inv w s.reached).dce_role all.0) ∙ ap (on_octets w.dce) head ∙ ap
         (λ l. on_octets l bytes) s.dce_is in
-        let set : is_set_mode x.frame.content ≡ true =
+        let set : is_sabm x.frame.content ≡ true =
         sym (rise.at_dce x flow is) ∙ ap (λ (t : Step). is_up_note t.note) step ∙ ap is_up_note up_note in
         let asked : AsksInOrder w (x ∷ flow) = subst (λ (f : List Sent). AsksInOrder w f) is rise.asked in
         subst (λ b. 1 ≤ (if b then x.act else w.session)) (sym set) (asked.0 set).0

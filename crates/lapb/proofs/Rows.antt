@@ -4,7 +4,7 @@ use Rattle.std.proofs.Common.{refl, sym, ap, ◌∙◌}
 use Rattle.link_timers.specs.declared.role.Role.{Role}
 use Rattle.link_timers.specs.declared.role.Role.TheVariants.{Dte, Dce}
 use Rattle.frame_codec.specs.Spelling.{control_of}
-use Rattle.frame_codec.specs.Frame.Content.{ReceiveReady, SetMode, Acknowledgement, FrameReject}
+use Rattle.frame_codec.specs.Frame.Content.{Rr, Sabm, Ua, Frmr}
 use Rattle.lapb.specs.declared.phase.Phase.{Phase}
 use Rattle.lapb.specs.declared.note.Note.{Note}
 use Rattle.lapb.specs.declared.note.Timing.{Timing}
@@ -38,7 +38,7 @@ use Rattle.lapb.specs.World.{
   Settle,
   run,
   opening,
-  is_set_mode,
+  is_sabm,
   AllQuiet,
   happens,
   answer_to,
@@ -47,7 +47,7 @@ use Rattle.lapb.specs.World.{
 
 abbrev controls : List Sent → List ℕ
 controls [] = []
-controls (s ∷ rest) = control_of s.frame.content s.frame.poll ∷ controls rest
+controls (s ∷ rest) = control_of s.frame.content s.frame.pf ∷ controls rest
 
 -- an event at a link, with the end of its node's event
 abbrev at_end : Role → Event → List Event
@@ -230,24 +230,24 @@ heard = up_both.dce
 abbrev undefined : Step
 undefined = on_defect heard UndefinedControl 0xFF false
 
-undefined_is : (undefined.frames ≡ response (FrameReject (record no_report { control = 0xFF; w = true })) true ∷ []) ×
+undefined_is : (undefined.frames ≡ response (Frmr (record no_report { control = 0xFF; w = true })) true ∷ []) ×
     (undefined.note ≡ Note.Down) × (undefined.link.phase ≡ Phase.Rejecting) × (timing heard undefined ≡ Timing.Start)
 undefined_is = (refl, refl, refl, refl)
 
-again_is : (on_frame undefined.link (record { content = ReceiveReady 0; response = false; poll = true })).frames ≡
-    response (FrameReject (record no_report { control = 0xFF; w = true })) true ∷ []
+again_is : (on_frame undefined.link (record { content = Rr 0; response = false; pf = true })).frames ≡
+    response (Frmr (record no_report { control = 0xFF; w = true })) true ∷ []
 again_is = refl
 
 not_allowed_is : (on_defect heard InformationNotAllowed 0x3F false).frames ≡
-    response (FrameReject (record no_report { control = 0x3F; w = true; x = true })) true ∷ []
+    response (Frmr (record no_report { control = 0x3F; w = true; x = true })) true ∷ []
 not_allowed_is = refl
 
 too_long_is : (on_defect heard InformationTooLong 0x00 false).frames ≡
-    response (FrameReject (record no_report { y = true })) false ∷ []
+    response (Frmr (record no_report { y = true })) false ∷ []
 too_long_is = refl
 
-wrong_number_is : (on_frame heard (record { content = ReceiveReady 1; response = false; poll = false })).frames ≡
-    response (FrameReject (record no_report { control = 0x21; z = true })) false ∷ []
+wrong_number_is : (on_frame heard (record { content = Rr 1; response = false; pf = false })).frames ≡
+    response (Frmr (record no_report { control = 0x21; z = true })) false ∷ []
 wrong_number_is = refl
 
 -- ---- a standing line
@@ -308,18 +308,18 @@ may_carry p q = (
 -- the premises of coming up are met: as the SABM comes, a DM is on the way to the DTE; it is lost, while packets are offered and
 -- events end
 abbrev asked : Sent
-asked = record { frame = command SetMode true; act = 1 }
+asked = record { frame = command Sabm true; act = 1 }
 
 abbrev between : List Event
 between = Settle Dce [] ∷ Lose Dte ∷ offers Dce letters
 
-met : (started.up ≡ asked ∷ []) × (is_set_mode asked.frame.content ≡ true) × (asked.act ≡ started.act) × AllQuiet between ×
+met : (started.up ≡ asked ∷ []) × (is_sabm asked.frame.content ≡ true) × (asked.act ≡ started.act) × AllQuiet between ×
     ((run between (happens started (Deliver Dce []))).down ≡ answer_to asked ∷ [])
 met = (refl, refl, refl, (tt, (tt, (tt, (tt, (tt, (tt, (tt, (tt, (tt, (tt, tt)))))))))), refl)
 
 -- and those of a fresh beginning, at both ends
-begun_dce : is_set_mode (command SetMode true).content ≡ true
+begun_dce : is_sabm (command Sabm true).content ≡ true
 begun_dce = refl
 
-begun_dte : (on_frame started.dte (response Acknowledgement true)).note ≡ Note.Up
+begun_dte : (on_frame started.dte (response Ua true)).note ≡ Note.Up
 begun_dte = refl

@@ -3,12 +3,12 @@ use Rattle.std.specs.Prelude.{◌≡◌, ℕ, Bool, true, false, not, ◌&&◌, 
 use Rattle.std.proofs.Common.{refl, sym, ap, ◌∙◌, subst}
 use Rattle.link_timers.specs.declared.role.Role.{Role}
 use Rattle.link_timers.specs.declared.role.Role.TheVariants.{Dte, Dce}
-use Rattle.frame_codec.specs.Frame.{FrameValue, Content, Information, ReceiveReady, ReceiveNotReady, Reject, SetMode, Disconnect, DisconnectedMode, Acknowledgement, FrameReject}
+use Rattle.frame_codec.specs.Frame.{FrameValue, Content, I, Rr, Rnr, Rej, Sabm, Disc, Dm, Ua, Frmr}
 use Rattle.frame_codec.specs.Spelling.{spelling}
 use Rattle.lapb.specs.declared.phase.Phase.{Phase}
 use Rattle.lapb.specs.declared.note.Note.{Note}
 use Rattle.lapb.specs.Machine.{Octets, Link, Step, response, still, sends, left, in_phase, in_up, in_down, in_rejecting, on_content, on_frame}
-use Rattle.lapb.specs.World.{Sent, World, Deliver, logged, emptied, is_set_mode, is_up_note, to_dte, to_dce, happens}
+use Rattle.lapb.specs.World.{Sent, World, Deliver, logged, emptied, is_sabm, is_up_note, to_dte, to_dce, happens}
 use Rattle.lapb.specs.Octets.{on_octets}
 use Rattle.lapb.specs.Fits.{AllSpelt, octets_of}
 use Rattle.lapb.specs.Line.{StandsIn}
@@ -19,38 +19,38 @@ use Rattle.lapb.proofs.Fitting.{octets_taken}
 
 -- ---- a DCE begins a session by a SABM, and by nothing else
 
-quiet-down : (l : Link) (due : Bool) → (if due then sends l (response DisconnectedMode true) else still l).note
+quiet-down : (l : Link) (due : Bool) → (if due then sends l (response Dm true) else still l).note
     ≡ Note.Nothing
 quiet-down l true = refl
 quiet-down l false = refl
 
 quiet-in_down : (l : Link) (content : Content) (r p : Bool) → (in_down Dce l content r p).note ≡ Note.Nothing
-quiet-in_down l SetMode r p = quiet-down l (p && not r)
-quiet-in_down l Disconnect r p = refl
-quiet-in_down l DisconnectedMode r p = quiet-down l (p && not r)
-quiet-in_down l (Information send receive packet) r p = quiet-down l (p && not r)
-quiet-in_down l (ReceiveReady receive) r p = quiet-down l (p && not r)
-quiet-in_down l (ReceiveNotReady receive) r p = quiet-down l (p && not r)
-quiet-in_down l (Reject receive) r p = quiet-down l (p && not r)
-quiet-in_down l Acknowledgement r p = quiet-down l (p && not r)
-quiet-in_down l (FrameReject report) r p = quiet-down l (p && not r)
+quiet-in_down l Sabm r p = quiet-down l (p && not r)
+quiet-in_down l Disc r p = refl
+quiet-in_down l Dm r p = quiet-down l (p && not r)
+quiet-in_down l (I ns nr packet) r p = quiet-down l (p && not r)
+quiet-in_down l (Rr nr) r p = quiet-down l (p && not r)
+quiet-in_down l (Rnr nr) r p = quiet-down l (p && not r)
+quiet-in_down l (Rej nr) r p = quiet-down l (p && not r)
+quiet-in_down l Ua r p = quiet-down l (p && not r)
+quiet-in_down l (Frmr report) r p = quiet-down l (p && not r)
 
-quiet-again : (l : Link) (r p : Bool) → (if r then still l else sends l (response (FrameReject l.report) p)).note
+quiet-again : (l : Link) (r p : Bool) → (if r then still l else sends l (response (Frmr l.report) p)).note
     ≡ Note.Nothing
 quiet-again l true p = refl
 quiet-again l false p = refl
 
 quiet-in_rejecting : (l : Link) (content : Content) (r p : Bool) → l.phase ≡ Phase.Rejecting →
     (in_rejecting l content r p).note ≡ Note.Nothing
-quiet-in_rejecting l Disconnect r p e = ap left e
-quiet-in_rejecting l SetMode r p e = quiet-again l r p
-quiet-in_rejecting l DisconnectedMode r p e = quiet-again l r p
-quiet-in_rejecting l (Information send receive packet) r p e = quiet-again l r p
-quiet-in_rejecting l (ReceiveReady receive) r p e = quiet-again l r p
-quiet-in_rejecting l (ReceiveNotReady receive) r p e = quiet-again l r p
-quiet-in_rejecting l (Reject receive) r p e = quiet-again l r p
-quiet-in_rejecting l Acknowledgement r p e = quiet-again l r p
-quiet-in_rejecting l (FrameReject report) r p e = quiet-again l r p
+quiet-in_rejecting l Disc r p e = ap left e
+quiet-in_rejecting l Sabm r p e = quiet-again l r p
+quiet-in_rejecting l Dm r p e = quiet-again l r p
+quiet-in_rejecting l (I ns nr packet) r p e = quiet-again l r p
+quiet-in_rejecting l (Rr nr) r p e = quiet-again l r p
+quiet-in_rejecting l (Rnr nr) r p e = quiet-again l r p
+quiet-in_rejecting l (Rej nr) r p e = quiet-again l r p
+quiet-in_rejecting l Ua r p e = quiet-again l r p
+quiet-in_rejecting l (Frmr report) r p e = quiet-again l r p
 
 no-up : (note : Note) → note ≡ Note.Nothing → is_up_note note ≡ false
 no-up note e = ap is_up_note e
@@ -69,24 +69,24 @@ quiet-in_phase Phase.Rejecting l content r p off e = no-up (in_rejecting l conte
     (quiet-in_rejecting l content r p e)
 
 dce_content : (l : Link) (content : Content) (r p : Bool) → (l.phase ≡ Phase.SettingUp → ⊥) →
-    is_up_note (on_content content Dce l r p).note ≡ is_set_mode content
-dce_content l SetMode r p off = refl
-dce_content l Disconnect r p off = quiet-in_phase l.phase l Disconnect r p off refl
-dce_content l DisconnectedMode r p off = quiet-in_phase l.phase l DisconnectedMode r p off refl
-dce_content l (Information send receive packet) r p off = quiet-in_phase l.phase l
-    (Information send receive packet) r p off refl
-dce_content l (ReceiveReady receive) r p off = quiet-in_phase l.phase l (ReceiveReady receive) r p off refl
-dce_content l (ReceiveNotReady receive) r p off = quiet-in_phase l.phase l (ReceiveNotReady receive) r p off refl
-dce_content l (Reject receive) r p off = quiet-in_phase l.phase l (Reject receive) r p off refl
-dce_content l Acknowledgement r p off = quiet-in_phase l.phase l Acknowledgement r p off refl
-dce_content l (FrameReject report) r p off = quiet-in_phase l.phase l (FrameReject report) r p off refl
+    is_up_note (on_content content Dce l r p).note ≡ is_sabm content
+dce_content l Sabm r p off = refl
+dce_content l Disc r p off = quiet-in_phase l.phase l Disc r p off refl
+dce_content l Dm r p off = quiet-in_phase l.phase l Dm r p off refl
+dce_content l (I ns nr packet) r p off = quiet-in_phase l.phase l
+    (I ns nr packet) r p off refl
+dce_content l (Rr nr) r p off = quiet-in_phase l.phase l (Rr nr) r p off refl
+dce_content l (Rnr nr) r p off = quiet-in_phase l.phase l (Rnr nr) r p off refl
+dce_content l (Rej nr) r p off = quiet-in_phase l.phase l (Rej nr) r p off refl
+dce_content l Ua r p off = quiet-in_phase l.phase l Ua r p off refl
+dce_content l (Frmr report) r p off = quiet-in_phase l.phase l (Frmr report) r p off refl
 
 pub dce_begins : (l : Link) (frame : FrameValue) → l.role ≡ Dce → (l.phase ≡ Phase.SettingUp → ⊥) →
-    is_up_note (on_frame l frame).note ≡ is_set_mode frame.content
+    is_up_note (on_frame l frame).note ≡ is_sabm frame.content
 dce_begins l frame role off =
-    subst (λ (r : Role). is_up_note (on_content frame.content r l frame.response frame.poll).note
-    ≡ is_set_mode frame.content) (sym role)
-    (dce_content l frame.content frame.response frame.poll off)
+    subst (λ (r : Role). is_up_note (on_content frame.content r l frame.response frame.pf).note
+    ≡ is_sabm frame.content) (sym role)
+    (dce_content l frame.content frame.response frame.pf off)
 
 -- ---- what taking octets makes of the sessions of a line
 
@@ -148,17 +148,17 @@ taken_at_dce w dte dce up down bytes kept s = go w.up refl s.fit.up s.up_is
         let step : on_frame w.dce x.frame ≡ on_octets dce bytes =
         sym (octets_taken w.dce Dte x.frame i.dce_role all.0) ∙ ap (on_octets w.dce) head ∙ ap
         (λ l. on_octets l bytes) s.dce_is in
-        let set : is_set_mode x.frame.content ≡ is_up_note (on_octets dce bytes).note =
+        let set : is_sabm x.frame.content ≡ is_up_note (on_octets dce bytes).note =
         sym (dce_begins w.dce x.frame i.dce_role i.dce_set) ∙ ap (λ (t : Step). is_up_note t.note) step in (
           x.act,
           record {
             own = refl;
             session = ap (λ b. if b then x.act else w.session) set;
             accepted = ap (λ b. logged (emptied b w.dce_accepted x.act)
-                (if is_set_mode x.frame.content then x.act else w.session)
+                (if is_sabm x.frame.content then x.act else w.session)
                 (on_frame w.dce x.frame).accepted) set ∙
                 ap (λ (t : Step). logged (emptied (is_up_note (on_octets dce bytes).note) w.dce_accepted x.act)
-                (if is_set_mode x.frame.content then x.act else w.session) t.accepted) step;
+                (if is_sabm x.frame.content then x.act else w.session) t.accepted) step;
             offered = ap (λ b. emptied b w.dce_offered x.act) set;
             dte_accepted = refl;
             dte_offered = refl;

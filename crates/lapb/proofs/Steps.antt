@@ -28,15 +28,15 @@ use Rattle.std.proofs.Common.{refl, sym, subst, inl, inr, eqb-true}
 use Rattle.link_timers.specs.declared.role.Role.{Role}
 use Rattle.frame_codec.specs.Frame.{FrameValue, Content}
 use Rattle.frame_codec.specs.Frame.Content.{
-  Information,
-  ReceiveReady,
-  ReceiveNotReady,
-  Reject,
-  SetMode,
-  Disconnect,
-  DisconnectedMode,
-  Acknowledgement,
-  FrameReject,
+  I,
+  Rr,
+  Rnr,
+  Rej,
+  Sabm,
+  Disc,
+  Dm,
+  Ua,
+  Frmr,
 }
 use Rattle.lapb.specs.declared.phase.Phase.{Phase}
 use Rattle.lapb.specs.declared.note.Note.{Note}
@@ -80,10 +80,10 @@ use Rattle.lapb.proofs.Halves.{
 }
 
 abbrev pub is_numbered : Content → Bool
-is_numbered (Information send receive packet) = true
-is_numbered (ReceiveReady receive) = true
-is_numbered (ReceiveNotReady receive) = true
-is_numbered (Reject receive) = true
+is_numbered (I ns nr packet) = true
+is_numbered (Rr nr) = true
+is_numbered (Rnr nr) = true
+is_numbered (Rej nr) = true
 is_numbered _ = false
 
 -- the link stays up in its session c, and its frames carry N(R)
@@ -109,56 +109,56 @@ GoesStep c l r o acc o' acc' out rest h step = Goes c l r o acc o' acc' out rest
 
 -- ---- frames that carry no packet
 
-answers-carry : (o : List Octets) (m receive : ℕ) (due : Bool) → Each (λ f. Carries o m m f.content) (answers due
-    receive)
-answers-carry o m receive true = (tt, tt)
-answers-carry o m receive false = tt
+answers-carry : (o : List Octets) (m nr : ℕ) (due : Bool) → Each (λ f. Carries o m m f.content) (answers due
+    nr)
+answers-carry o m nr true = (tt, tt)
+answers-carry o m nr false = tt
 
-answers-tell : (count receive : ℕ) (due : Bool) → receive ≡ count % 8 → Each (λ f. Tells count f.content) (answers due
-    receive)
-answers-tell count receive true e = (e, tt)
-answers-tell count receive false e = tt
+answers-tell : (count nr : ℕ) (due : Bool) → nr ≡ count % 8 → Each (λ f. Tells count f.content) (answers due
+    nr)
+answers-tell count nr true e = (e, tt)
+answers-tell count nr false e = tt
 
-answers-numbered : (receive : ℕ) (due : Bool) → Each (λ f. is_numbered f.content ≡ true) (answers due receive)
-answers-numbered receive true = (refl, tt)
-answers-numbered receive false = tt
+answers-numbered : (nr : ℕ) (due : Bool) → Each (λ f. is_numbered f.content ≡ true) (answers due nr)
+answers-numbered nr true = (refl, tt)
+answers-numbered nr false = tt
 
-discarded-carry : (o : List Octets) (m receive : ℕ) (rejecting due : Bool) →
-    Each (λ f. Carries o m m f.content) (if rejecting then answers due receive else response (Reject receive) due ∷
+discarded-carry : (o : List Octets) (m nr : ℕ) (rejecting due : Bool) →
+    Each (λ f. Carries o m m f.content) (if rejecting then answers due nr else response (Rej nr) due ∷
     [])
-discarded-carry o m receive true due = answers-carry o m receive due
-discarded-carry o m receive false due = (tt, tt)
+discarded-carry o m nr true due = answers-carry o m nr due
+discarded-carry o m nr false due = (tt, tt)
 
-discarded-tell : (count receive : ℕ) (rejecting due : Bool) → receive ≡ count % 8 →
-    Each (λ f. Tells count f.content) (if rejecting then answers due receive else response (Reject receive) due ∷ [])
-discarded-tell count receive true due e = answers-tell count receive due e
-discarded-tell count receive false due e = (e, tt)
+discarded-tell : (count nr : ℕ) (rejecting due : Bool) → nr ≡ count % 8 →
+    Each (λ f. Tells count f.content) (if rejecting then answers due nr else response (Rej nr) due ∷ [])
+discarded-tell count nr true due e = answers-tell count nr due e
+discarded-tell count nr false due e = (e, tt)
 
-discarded-numbered : (receive : ℕ) (rejecting due : Bool) →
-    Each (λ f. is_numbered f.content ≡ true) (if rejecting then answers due receive else response (Reject receive) due
+discarded-numbered : (nr : ℕ) (rejecting due : Bool) →
+    Each (λ f. is_numbered f.content ≡ true) (if rejecting then answers due nr else response (Rej nr) due
     ∷ [])
-discarded-numbered receive true due = answers-numbered receive due
-discarded-numbered receive false due = (refl, tt)
+discarded-numbered nr true due = answers-numbered nr due
+discarded-numbered nr false due = (refl, tt)
 
-owed-carry : (o : List Octets) (m receive : ℕ) (due : Bool) →
-    Each (λ f. Carries o m m f.content) (if due then response (ReceiveReady receive) false ∷ [] else [])
-owed-carry o m receive true = (tt, tt)
-owed-carry o m receive false = tt
+owed-carry : (o : List Octets) (m nr : ℕ) (due : Bool) →
+    Each (λ f. Carries o m m f.content) (if due then response (Rr nr) false ∷ [] else [])
+owed-carry o m nr true = (tt, tt)
+owed-carry o m nr false = tt
 
-owed-tell : (count receive : ℕ) (due : Bool) → receive ≡ count % 8 →
-    Each (λ f. Tells count f.content) (if due then response (ReceiveReady receive) false ∷ [] else [])
-owed-tell count receive true e = (e, tt)
-owed-tell count receive false e = tt
+owed-tell : (count nr : ℕ) (due : Bool) → nr ≡ count % 8 →
+    Each (λ f. Tells count f.content) (if due then response (Rr nr) false ∷ [] else [])
+owed-tell count nr true e = (e, tt)
+owed-tell count nr false e = tt
 
-owed-numbered : (receive : ℕ) (due : Bool) →
-    Each (λ f. is_numbered f.content ≡ true) (if due then response (ReceiveReady receive) false ∷ [] else [])
-owed-numbered receive true = (refl, tt)
-owed-numbered receive false = tt
+owed-numbered : (nr : ℕ) (due : Bool) →
+    Each (λ f. is_numbered f.content ≡ true) (if due then response (Rr nr) false ∷ [] else [])
+owed-numbered nr true = (refl, tt)
+owed-numbered nr false = tt
 
-numbered-numbered : (start receive : ℕ) (packets : List Octets) → Each (λ f. is_numbered f.content ≡ true) (numbered
-    start receive packets)
-numbered-numbered start receive [] = tt
-numbered-numbered start receive (packet ∷ packets) = (refl, numbered-numbered (start + 1) receive packets)
+numbered-numbered : (start nr : ℕ) (packets : List Octets) → Each (λ f. is_numbered f.content ≡ true) (numbered
+    start nr packets)
+numbered-numbered start nr [] = tt
+numbered-numbered start nr (packet ∷ packets) = (refl, numbered-numbered (start + 1) nr packets)
 
 module _ (c : ℕ) (l r : Link) (o acc o' acc' : List Octets) (out : List Sent) where
   abbrev There : Link → List Sent → Type 0
@@ -230,7 +230,7 @@ module _ (c : ℕ) (l r : Link) (o acc o' acc' : List Octets) (out : List Sent) 
   goes_discard : (g : Link) (rest : List Sent) (p : Bool) → g.phase ≡ Phase.Up → g.role ≡ l.role → g.k ≡ l.k →
       g.bit ≡ l.bit → There g rest → Back g acc' rest → GoesStep c l r o acc o' acc' out rest g.heard (discard g p)
   goes_discard g rest p up role k bit there ins =
-      let frames : List FrameValue = if g.rejecting then answers p g.expected else response (Reject g.expected) p ∷ []
+      let frames : List FrameValue = if g.rejecting then answers p g.expected else response (Rej g.expected) p ∷ []
       in
       record {
         heard = refl;
@@ -250,29 +250,29 @@ module _ (c : ℕ) (l r : Link) (o acc o' acc' : List Octets) (out : List Sent) 
             (discarded-tell (length acc') g.expected g.rejecting p (ins.takes refl)));
       }
 
-  goes_information : (s : Sent) (rest : List Sent) (g : Link) (send receive : ℕ) (p : Bool) (packet : Octets) →
+  goes_information : (s : Sent) (rest : List Sent) (g : Link) (ns nr : ℕ) (p : Bool) (packet : Octets) →
       g.phase ≡ Phase.Up →
       g.role ≡ l.role → g.k ≡ l.k → g.bit ≡ l.bit → There g rest → Back g acc' (s ∷ rest) → s.act ≡ c →
-      s.frame.content ≡ Information send receive packet →
-      GoesStep c l r o acc o' acc' out rest g.heard (on_information g send p packet)
-  goes_information s rest g send receive p packet up role k bit there ins at is =
+      s.frame.content ≡ I ns nr packet →
+      GoesStep c l r o acc o' acc' out rest g.heard (on_information g ns p packet)
+  goes_information s rest g ns nr p packet up role k bit there ins at is =
       cond_by (λ b. GoesStep c l r o acc o' acc' out rest g.heard (if b then accept g p packet else discard g p))
-      (send == g.expected)
+      (ns == g.expected)
       (λ e. goes_accept g rest p packet up role k bit there
-      (half-accepted c r.phase r.oldest r.next r.top r.queue g.expected o' acc' s rest out send receive packet ins at
-      is (eqb-true send g.expected e)))
+      (half-accepted c r.phase r.oldest r.next r.top r.queue g.expected o' acc' s rest out ns nr packet ins at
+      is (eqb-true ns g.expected e)))
       (λ _. goes_discard g rest p up role k bit there
       (half-lost c r.phase r.oldest r.next r.top r.queue Phase.Up g.expected o' acc' s rest out ins))
 
   -- ---- a frame with N(R)
 
-  goes_checked : (rest : List Sent) (content : Content) (is_response p : Bool) (receive : ℕ) (taken : Step) → is_valid
-      l receive ≡ true →
+  goes_checked : (rest : List Sent) (content : Content) (is_response p : Bool) (nr : ℕ) (taken : Step) → is_valid
+      l nr ≡ true →
       GoesStep c l r o acc o' acc' out rest true taken →
-      GoesStep c l r o acc o' acc' out rest true (checked l content is_response p receive taken)
-  goes_checked rest content is_response p receive taken valid goes =
+      GoesStep c l r o acc o' acc' out rest true (checked l content is_response p nr taken)
+  goes_checked rest content is_response p nr taken valid goes =
       subst (λ b. GoesStep c l r o acc o' acc' out rest true
-      (if b then record taken { anew = nat_lt 0 (ahead l.oldest receive) } else reject_number l content is_response
+      (if b then record taken { anew = nat_lt 0 (ahead l.oldest nr) } else reject_number l content is_response
       p))
       (sym valid) goes
 
@@ -280,45 +280,45 @@ module _ (c : ℕ) (l r : Link) (o acc o' acc' : List Octets) (out : List Sent) 
       is_numbered content ≡ true →
       s.frame.content ≡ content → s.act ≡ c → l.phase ≡ Phase.Up → There l (s ∷ rest) → Back l acc' (s ∷ rest) →
       GoesStep c l r o acc o' acc' out rest true (in_up role l content is_response p)
-  goes_frame role s rest (Information send receive packet) rr p e is at up there ins =
-      let acked = half-acked c l.oldest l.next l.top l.queue r.phase r.expected o acc out s rest receive there at
+  goes_frame role s rest (I ns nr packet) rr p e is at up there ins =
+      let acked = half-acked c l.oldest l.next l.top l.queue r.phase r.expected o acc out s rest nr there at
       (λ hi t. subst (λ (f : Content). Tells hi f) is t) in
-      goes_checked rest (Information send receive packet) rr p receive (on_information (acknowledged l receive) send p
+      goes_checked rest (I ns nr packet) rr p nr (on_information (acknowledged l nr) ns p
       packet) acked.0
-      (goes_information s rest (acknowledged l receive) send receive p packet up refl refl refl acked.1 ins at is)
-  goes_frame role s rest (ReceiveReady receive) rr p e is at up there ins =
-      let acked = half-acked c l.oldest l.next l.top l.queue r.phase r.expected o acc out s rest receive there at
+      (goes_information s rest (acknowledged l nr) ns nr p packet up refl refl refl acked.1 ins at is)
+  goes_frame role s rest (Rr nr) rr p e is at up there ins =
+      let acked = half-acked c l.oldest l.next l.top l.queue r.phase r.expected o acc out s rest nr there at
       (λ hi t. subst (λ (f : Content). Tells hi f) is t) in
-      goes_checked rest (ReceiveReady receive) rr p receive (on_supervisory (acknowledged l receive) false false rr p)
+      goes_checked rest (Rr nr) rr p nr (on_supervisory (acknowledged l nr) false false rr p)
       acked.0
-      (goes_supervisory (acknowledged l receive) rest false false rr p up refl refl refl acked.1
+      (goes_supervisory (acknowledged l nr) rest false false rr p up refl refl refl acked.1
       (half-lost c r.phase r.oldest r.next r.top r.queue Phase.Up l.expected o' acc' s rest out ins))
-  goes_frame role s rest (ReceiveNotReady receive) rr p e is at up there ins =
-      let acked = half-acked c l.oldest l.next l.top l.queue r.phase r.expected o acc out s rest receive there at
+  goes_frame role s rest (Rnr nr) rr p e is at up there ins =
+      let acked = half-acked c l.oldest l.next l.top l.queue r.phase r.expected o acc out s rest nr there at
       (λ hi t. subst (λ (f : Content). Tells hi f) is t) in
-      goes_checked rest (ReceiveNotReady receive) rr p receive (on_supervisory (acknowledged l receive) true false rr
+      goes_checked rest (Rnr nr) rr p nr (on_supervisory (acknowledged l nr) true false rr
       p) acked.0
-      (goes_supervisory (acknowledged l receive) rest true false rr p up refl refl refl acked.1
+      (goes_supervisory (acknowledged l nr) rest true false rr p up refl refl refl acked.1
       (half-lost c r.phase r.oldest r.next r.top r.queue Phase.Up l.expected o' acc' s rest out ins))
-  goes_frame role s rest (Reject receive) rr p e is at up there ins =
-      let acked = half-acked c l.oldest l.next l.top l.queue r.phase r.expected o acc out s rest receive there at
+  goes_frame role s rest (Rej nr) rr p e is at up there ins =
+      let acked = half-acked c l.oldest l.next l.top l.queue r.phase r.expected o acc out s rest nr there at
       (λ hi t. subst (λ (f : Content). Tells hi f) is t) in
-      goes_checked rest (Reject receive) rr p receive (on_supervisory (acknowledged l receive) false true rr p)
+      goes_checked rest (Rej nr) rr p nr (on_supervisory (acknowledged l nr) false true rr p)
       acked.0
-      (goes_supervisory (acknowledged l receive) rest false true rr p up refl refl refl acked.1
+      (goes_supervisory (acknowledged l nr) rest false true rr p up refl refl refl acked.1
       (half-lost c r.phase r.oldest r.next r.top r.queue Phase.Up l.expected o' acc' s rest out ins))
-  goes_frame role s rest SetMode rr p e is at up there ins = absurd (cc)
-  goes_frame role s rest Disconnect rr p e is at up there ins = absurd (cc)
-  goes_frame role s rest DisconnectedMode rr p e is at up there ins = absurd (cc)
-  goes_frame role s rest Acknowledgement rr p e is at up there ins = absurd (cc)
-  goes_frame role s rest (FrameReject report) rr p e is at up there ins = absurd (cc)
+  goes_frame role s rest Sabm rr p e is at up there ins = absurd (cc)
+  goes_frame role s rest Disc rr p e is at up there ins = absurd (cc)
+  goes_frame role s rest Dm rr p e is at up there ins = absurd (cc)
+  goes_frame role s rest Ua rr p e is at up there ins = absurd (cc)
+  goes_frame role s rest (Frmr report) rr p e is at up there ins = absurd (cc)
 
   -- ---- T1, and the end of an event
 
   pub goes_poll : (ins : List Sent) → l.phase ≡ Phase.Up → There l ins → Back l acc' ins → GoesStep c l r o acc o'
       acc' out ins l.heard (poll l)
   goes_poll ins up there back =
-      let frames : List FrameValue = command (ReceiveReady l.expected) true ∷ [] in
+      let frames : List FrameValue = command (Rr l.expected) true ∷ [] in
       record {
         heard = refl;
         phase = up;
@@ -339,7 +339,7 @@ module _ (c : ℕ) (l r : Link) (o acc o' acc' : List Octets) (out : List Sent) 
       ≡ Phase.Up →
       There l ins → Back l acc' ins → GoesStep c l r o acc o' acc' out ins l.heard (send_all l packets)
   goes_send_all ins [] which up there back =
-      let frames : List FrameValue = if l.owed then response (ReceiveReady l.expected) false ∷ [] else [] in
+      let frames : List FrameValue = if l.owed then response (Rr l.expected) false ∷ [] else [] in
       record {
         heard = refl;
         phase = up;

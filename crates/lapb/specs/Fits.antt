@@ -13,8 +13,8 @@ AllShort (packet ∷ packets) = (length packet ≤ 145) × AllShort packets
 
 pub record ReportFits (report : Report) : Type 0 where
   pub control : report.control < 256
-  pub send : report.send < 8
-  pub receive : report.receive < 8
+  pub vs : report.vs < 8
+  pub vr : report.vr < 8
 
 pub record IsFit (l : Link) : Type 0 where
   pub oldest : l.oldest < 8

@@ -30,8 +30,8 @@ link_of a = record {
 -- the report repeats an octet and two numbers modulo 8
 pub record IsReport (report : Rejection) : Type 0 where
   pub control : report.control < 256
-  pub send : report.vs < 8
-  pub receive : report.vr < 8
+  pub vs : report.vs < 8
+  pub vr : report.vr < 8
 
 pub record IsLink (a : Inside) : Type 0 where
   pub sent : a.window.top ≤ length a.queue

@@ -4,15 +4,15 @@ use Rattle.link_timers.specs.declared.role.Role.{Role}
 use Rattle.link_timers.specs.declared.role.Role.TheVariants.{Dte, Dce}
 use Rattle.frame_codec.specs.Frame.{FrameValue, Content, Report}
 use Rattle.frame_codec.specs.Frame.Content.{
-  Information,
-  ReceiveReady,
-  ReceiveNotReady,
-  Reject,
-  SetMode,
-  Disconnect,
-  DisconnectedMode,
-  Acknowledgement,
-  FrameReject,
+  I,
+  Rr,
+  Rnr,
+  Rej,
+  Sabm,
+  Disc,
+  Dm,
+  Ua,
+  Frmr,
 }
 use Rattle.frame_codec.specs.Spelling.{control_of}
 use Rattle.lapb.specs.declared.phase.Phase.{Phase}
@@ -63,14 +63,14 @@ is_same true bit = bit
 is_same false bit = not bit
 
 abbrev pub command : Content → Bool → FrameValue
-command content poll = record { content = content; response = false; poll = poll }
+command content pf = record { content = content; response = false; pf = pf }
 
 abbrev pub response : Content → Bool → FrameValue
-response content final = record { content = content; response = true; poll = final }
+response content pf = record { content = content; response = true; pf = pf }
 
 -- V(S) modulo 8
-abbrev pub send_number : Link → ℕ
-send_number l = (l.oldest + l.next) % 8
+abbrev pub next_number : Link → ℕ
+next_number l = (l.oldest + l.next) % 8
 
 -- ---- steps that most rules are made of
 
@@ -84,8 +84,8 @@ sends l frame = record { link = l; frames = frame ∷ []; note = Note.Nothing; a
 
 -- RR as a response with F = 1, if it is due
 abbrev pub answers : Bool → ℕ → List FrameValue
-answers true receive = response (ReceiveReady receive) true ∷ []
-answers false receive = []
+answers true nr = response (Rr nr) true ∷ []
+answers false nr = []
 
 -- the state at a session's beginning and outside sessions: numbers 0, nothing unacknowledged, owed or outstanding
 abbrev pub cleared : Link → Phase → Link
@@ -116,7 +116,7 @@ left _ = Note.Nothing
 abbrev pub set_up : Link → Step
 set_up l = record {
   link = record (cleared l Phase.SettingUp) { bit = not l.bit };
-  frames = command SetMode (not l.bit) ∷ [];
+  frames = command Sabm (not l.bit) ∷ [];
   note = left l.phase;
   accepted = None;
   anew = true;
@@ -126,7 +126,7 @@ set_up l = record {
 abbrev pub disconnect : Link → Step
 disconnect l = record {
   link = record (cleared l Phase.Down) { repeats = true };
-  frames = response DisconnectedMode false ∷ [];
+  frames = response Dm false ∷ [];
   note = left l.phase;
   accepted = None;
   anew = true;
@@ -141,10 +141,10 @@ abbrev pub relink : Link → Step
 relink l = relink_as l.role l.phase l
 
 -- a DCE takes a SABM; it sends no I frame before it hears the DTE
-abbrev pub take_set_mode : Link → Bool → Step
-take_set_mode l poll = record {
+abbrev pub take_sabm : Link → Bool → Step
+take_sabm l pf = record {
   link = cleared l Phase.Up;
-  frames = response Acknowledgement poll ∷ [];
+  frames = response Ua pf ∷ [];
   note = Note.Up;
   accepted = None;
   anew = false;
@@ -154,17 +154,17 @@ take_set_mode l poll = record {
 abbrev pub come_up : Link → Step
 come_up l = record {
   link = record (cleared l Phase.Up) { heard = true; polling = true; polls = 1 };
-  frames = command (ReceiveReady 0) true ∷ [];
+  frames = command (Rr 0) true ∷ [];
   note = Note.Up;
   accepted = None;
   anew = true;
 }
 
 -- DISC is answered by UA
-abbrev pub take_disconnect : Link → Bool → Step
-take_disconnect l poll = record {
+abbrev pub take_disc : Link → Bool → Step
+take_disc l pf = record {
   link = cleared l Phase.Down;
-  frames = response Acknowledgement poll ∷ [];
+  frames = response Ua pf ∷ [];
   note = left l.phase;
   accepted = None;
   anew = false;
@@ -174,10 +174,10 @@ take_disconnect l poll = record {
 
 -- a DTE sets the link up again, a DCE reports the frame by FRMR
 abbrev pub reject_as : Role → Link → Report → Bool → Step
-reject_as Dte l report poll = set_up l
-reject_as Dce l report poll = record {
+reject_as Dte l report pf = set_up l
+reject_as Dce l report pf = record {
   link = record (cleared l Phase.Rejecting) { report = report };
-  frames = response (FrameReject report) poll ∷ [];
+  frames = response (Frmr report) pf ∷ [];
   note = left l.phase;
   accepted = None;
   anew = true;
@@ -186,8 +186,8 @@ reject_as Dce l report poll = record {
 abbrev pub report_of : Link → ℕ → Bool → Bool → Bool → Bool → Bool → Report
 report_of l control is_response w x y z = record {
   control = control;
-  send = send_number l;
-  receive = l.expected;
+  vs = next_number l;
+  vr = l.expected;
   response = is_response;
   w = w;
   x = x;
@@ -197,8 +197,8 @@ report_of l control is_response w x y z = record {
 
 -- N(R) of no number from V(A) to V(M)
 abbrev pub reject_number : Link → Content → Bool → Bool → Step
-reject_number l content is_response poll =
-    reject_as l.role l (report_of l (control_of content poll) is_response false false false true) (poll && not
+reject_number l content is_response pf =
+    reject_as l.role l (report_of l (control_of content pf) is_response false false false true) (pf && not
     is_response)
 
 -- why a frame of this line could not be read
@@ -230,30 +230,30 @@ on_defect l defect control is_response = on_defect_in l.phase l defect control i
 
 -- N(R) from V(A) to V(M)
 abbrev pub is_valid : Link → ℕ → Bool
-is_valid l receive = nat_le (ahead l.oldest receive) l.top
+is_valid l nr = nat_le (ahead l.oldest nr) l.top
 
 -- what N(R) acknowledges; where V(S) is passed, it becomes N(R) (X.25 2.4.5.5)
 abbrev pub acknowledged : Link → ℕ → Link
-acknowledged l receive = record l {
-  oldest = receive;
-  next = l.next - ahead l.oldest receive;
-  top = l.top - ahead l.oldest receive;
-  queue = drop (ahead l.oldest receive) l.queue;
+acknowledged l nr = record l {
+  oldest = nr;
+  next = l.next - ahead l.oldest nr;
+  top = l.top - ahead l.oldest nr;
+  queue = drop (ahead l.oldest nr) l.queue;
   heard = true;
 }
 
 -- RR, RNR and REJ, where N(R) was taken. RNR makes the partner busy. REJ sets V(S) back to N(R), as a response with
 -- F = 1 does, which ends the poll. A command with P = 1 is answered (X.25 2.4.5.6, 2.4.5.7, 2.4.5.9)
-abbrev pub on_supervisory : Link → (busy back is_response poll : Bool) → Step
-on_supervisory l busy back is_response poll = record {
+abbrev pub on_supervisory : Link → (busy back is_response pf : Bool) → Step
+on_supervisory l busy back is_response pf = record {
   link = record l {
     busy = busy;
-    next = if back || is_response && poll then 0 else l.next;
-    polling = l.polling && not (is_response && poll);
-    polls = if is_response && poll then 0 else l.polls;
-    owed = l.owed && not (poll && not is_response);
+    next = if back || is_response && pf then 0 else l.next;
+    polling = l.polling && not (is_response && pf);
+    polls = if is_response && pf then 0 else l.polls;
+    owed = l.owed && not (pf && not is_response);
   };
-  frames = answers (poll && not is_response) l.expected;
+  frames = answers (pf && not is_response) l.expected;
   note = Note.Nothing;
   accepted = None;
   anew = false;
@@ -261,9 +261,9 @@ on_supervisory l busy back is_response poll = record {
 
 -- an I frame in sequence is accepted (X.25 2.4.5.2)
 abbrev pub accept : Link → Bool → Octets → Step
-accept l poll packet = record {
-  link = record l { expected = (l.expected + 1) % 8; rejecting = false; owed = not poll };
-  frames = answers poll ((l.expected + 1) % 8);
+accept l pf packet = record {
+  link = record l { expected = (l.expected + 1) % 8; rejecting = false; owed = not pf };
+  frames = answers pf ((l.expected + 1) % 8);
   note = Note.Nothing;
   accepted = Some packet;
   anew = false;
@@ -271,71 +271,71 @@ accept l poll packet = record {
 
 -- an I frame out of sequence is discarded, and the first such one answered by REJ (X.25 2.4.5.4)
 abbrev pub discard : Link → Bool → Step
-discard l poll = record {
-  link = record l { rejecting = true; owed = l.owed && l.rejecting && not poll };
-  frames = if l.rejecting then answers poll l.expected else response (Reject l.expected) poll ∷ [];
+discard l pf = record {
+  link = record l { rejecting = true; owed = l.owed && l.rejecting && not pf };
+  frames = if l.rejecting then answers pf l.expected else response (Rej l.expected) pf ∷ [];
   note = Note.Nothing;
   accepted = None;
   anew = false;
 }
 
 abbrev pub on_information : Link → ℕ → Bool → Octets → Step
-on_information l send poll packet = if send == l.expected then accept l poll packet else discard l poll
+on_information l ns pf packet = if ns == l.expected then accept l pf packet else discard l pf
 
 -- N(R) is tested first; one that acknowledges starts T1 anew
-abbrev pub checked : Link → Content → (is_response poll : Bool) → ℕ → Step → Step
-checked l content is_response poll receive taken =
-    if is_valid l receive then record taken { anew = nat_lt 0 (ahead l.oldest receive) }
-    else reject_number l content is_response poll
+abbrev pub checked : Link → Content → (is_response pf : Bool) → ℕ → Step → Step
+checked l content is_response pf nr taken =
+    if is_valid l nr then record taken { anew = nat_lt 0 (ahead l.oldest nr) }
+    else reject_number l content is_response pf
 
-abbrev pub in_up : Role → Link → Content → (is_response poll : Bool) → Step
-in_up role l (Information send receive packet) r p =
-    checked l (Information send receive packet) r p receive (on_information (acknowledged l receive) send p packet)
-in_up role l (ReceiveReady receive) r p =
-    checked l (ReceiveReady receive) r p receive (on_supervisory (acknowledged l receive) false false r p)
-in_up role l (ReceiveNotReady receive) r p =
-    checked l (ReceiveNotReady receive) r p receive (on_supervisory (acknowledged l receive) true false r p)
-in_up role l (Reject receive) r p =
-    checked l (Reject receive) r p receive (on_supervisory (acknowledged l receive) false true r p)
-in_up role l Disconnect r p = take_disconnect l p
-in_up role l Acknowledgement r p = still l
+abbrev pub in_up : Role → Link → Content → (is_response pf : Bool) → Step
+in_up role l (I ns nr packet) r p =
+    checked l (I ns nr packet) r p nr (on_information (acknowledged l nr) ns p packet)
+in_up role l (Rr nr) r p =
+    checked l (Rr nr) r p nr (on_supervisory (acknowledged l nr) false false r p)
+in_up role l (Rnr nr) r p =
+    checked l (Rnr nr) r p nr (on_supervisory (acknowledged l nr) true false r p)
+in_up role l (Rej nr) r p =
+    checked l (Rej nr) r p nr (on_supervisory (acknowledged l nr) false true r p)
+in_up role l Disc r p = take_disc l p
+in_up role l Ua r p = still l
 in_up Dte l _ r p = set_up l
-in_up Dce l (FrameReject report) r p = disconnect l
+in_up Dce l (Frmr report) r p = disconnect l
 in_up Dce l _ r p = still l
 
 -- ---- the other phases (X.25 2.4.4.1, 2.4.4.4, 2.4.7.3)
 
-abbrev pub in_setting_up : Link → Content → (is_response poll : Bool) → Step
-in_setting_up l Acknowledgement r p = if is_same p l.bit then come_up l else still l
-in_setting_up l Disconnect r p = sends l (response DisconnectedMode p)
+abbrev pub in_setting_up : Link → Content → (is_response pf : Bool) → Step
+in_setting_up l Ua r p = if is_same p l.bit then come_up l else still l
+in_setting_up l Disc r p = sends l (response Dm p)
 in_setting_up l _ r p = still l
 
 -- DISC and a command with P = 1 are answered by DM; DM or SABM begins an act at a DTE
-abbrev pub in_down : Role → Link → Content → (is_response poll : Bool) → Step
-in_down Dte l SetMode r p = set_up l
-in_down Dte l DisconnectedMode r p = set_up l
-in_down role l Disconnect r p = sends l (response DisconnectedMode p)
-in_down role l _ r p = if p && not r then sends l (response DisconnectedMode true) else still l
+abbrev pub in_down : Role → Link → Content → (is_response pf : Bool) → Step
+in_down Dte l Sabm r p = set_up l
+in_down Dte l Dm r p = set_up l
+in_down role l Disc r p = sends l (response Dm p)
+in_down role l _ r p = if p && not r then sends l (response Dm true) else still l
 
 -- a DCE that sent FRMR sends it again at each command
-abbrev pub in_rejecting : Link → Content → (is_response poll : Bool) → Step
-in_rejecting l Disconnect r p = take_disconnect l p
-in_rejecting l _ r p = if r then still l else sends l (response (FrameReject l.report) p)
+abbrev pub in_rejecting : Link → Content → (is_response pf : Bool) → Step
+in_rejecting l Disc r p = take_disc l p
+in_rejecting l _ r p = if r then still l else sends l (response (Frmr l.report) p)
 
-abbrev pub in_phase : Phase → Role → Link → Content → (is_response poll : Bool) → Step
+abbrev pub in_phase : Phase → Role → Link → Content → (is_response pf : Bool) → Step
 in_phase Phase.Down role l content r p = in_down role l content r p
 in_phase Phase.SettingUp role l content r p = in_setting_up l content r p
 in_phase Phase.Up role l content r p = in_up role l content r p
 in_phase Phase.Rejecting role l content r p = in_rejecting l content r p
 
 -- a DCE takes a SABM in any phase
-abbrev pub on_content : Content → Role → Link → (is_response poll : Bool) → Step
-on_content SetMode Dce l r p = take_set_mode l p
+abbrev pub on_content : Content → Role → Link → (is_response pf : Bool) → Step
+on_content Sabm Dce l r p = take_sabm l p
 on_content content role l r p = in_phase l.phase role l content r p
 
 -- a frame that could be read
 abbrev pub on_frame : Link → FrameValue → Step
-on_frame l frame = on_content frame.content l.role l frame.response frame.poll
+on_frame l frame = on_content frame.content l.role l frame.response frame.pf
 
 -- ---- T1 (X.25 2.4.5.9, 2.4.8.1)
 
@@ -352,17 +352,17 @@ runs l = runs_in l.phase l
 abbrev pub poll : Link → Step
 poll l = record {
   link = record l { polling = true; polls = l.polls + 1 };
-  frames = command (ReceiveReady l.expected) true ∷ [];
+  frames = command (Rr l.expected) true ∷ [];
   note = Note.Nothing;
   accepted = None;
   anew = true;
 }
 
 abbrev pub expire_in : Phase → Link → Step
-expire_in Phase.Down l = record (sends l (response DisconnectedMode false)) { anew = true }
-expire_in Phase.SettingUp l = record (sends l (command SetMode l.bit)) { anew = true }
+expire_in Phase.Down l = record (sends l (response Dm false)) { anew = true }
+expire_in Phase.SettingUp l = record (sends l (command Sabm l.bit)) { anew = true }
 expire_in Phase.Up l = if nat_le l.n2 l.polls then relink l else poll l
-expire_in Phase.Rejecting l = record (sends l (response (FrameReject l.report) false)) { anew = true }
+expire_in Phase.Rejecting l = record (sends l (response (Frmr l.report) false)) { anew = true }
 
 -- an expiry of T1, which changes nothing where T1 does not run
 abbrev pub on_t1 : Link → Step
@@ -382,9 +382,9 @@ timing_after first second = second
 
 -- I frames with these packets, from N(S) on
 abbrev pub numbered : ℕ → ℕ → List Octets → List FrameValue
-numbered send receive [] = []
-numbered send receive (packet ∷ packets) =
-    command (Information (send % 8) receive packet) false ∷ numbered (send + 1) receive packets
+numbered ns nr [] = []
+numbered ns nr (packet ∷ packets) =
+    command (I (ns % 8) nr packet) false ∷ numbered (ns + 1) nr packets
 
 -- the packets that may be sent now
 abbrev pub sendable : Link → List Octets
@@ -397,7 +397,7 @@ is_empty _ = false
 abbrev pub send_all : Link → List Octets → Step
 send_all l [] = record {
   link = record l { owed = false };
-  frames = if l.owed then response (ReceiveReady l.expected) false ∷ [] else [];
+  frames = if l.owed then response (Rr l.expected) false ∷ [] else [];
   note = Note.Nothing;
   accepted = None;
   anew = false;
@@ -451,8 +451,8 @@ first_phase false = Phase.Down
 abbrev pub no_report : Report
 no_report = record {
   control = 0;
-  send = 0;
-  receive = 0;
+  vs = 0;
+  vr = 0;
   response = false;
   w = false;
   x = false;

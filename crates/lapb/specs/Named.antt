@@ -19,7 +19,7 @@ use Rattle.std.specs.Prelude.{
   slice_get,
 }
 use Rattle.frame_codec.specs.Frame.{FrameValue, Content}
-use Rattle.frame_codec.specs.Frame.Content.{Information, ReceiveReady, ReceiveNotReady, Reject}
+use Rattle.frame_codec.specs.Frame.Content.{I, Rr, Rnr, Rej}
 use Rattle.lapb.specs.declared.phase.Phase.{Phase}
 use Rattle.lapb.specs.declared.note.Note.{Note}
 use Rattle.lapb.specs.Machine.{Octets, Link, Step, ahead, is_valid, on_frame, can_offer}
@@ -50,13 +50,13 @@ Agrees l s = l.phase ≡ Phase.Up → Counts l s
 -- N(S) names the place of the packet among the offered ones, the one place within eight from the oldest unacknowledged packet on;
 -- N(R) names how many packets were accepted
 abbrev pub IsNamed : Session → Content → Type 0
-IsNamed s (Information send receive packet) =
-    ((place : ℕ) × (send ≡ place % 8) × (s.taken ≤ place) × (place < s.taken + 8) × (slice_get s.offered place ≡ Some
+IsNamed s (I ns nr packet) =
+    ((place : ℕ) × (ns ≡ place % 8) × (s.taken ≤ place) × (place < s.taken + 8) × (slice_get s.offered place ≡ Some
     packet)) ×
-    (receive ≡ length s.accepted % 8)
-IsNamed s (ReceiveReady receive) = receive ≡ length s.accepted % 8
-IsNamed s (ReceiveNotReady receive) = receive ≡ length s.accepted % 8
-IsNamed s (Reject receive) = receive ≡ length s.accepted % 8
+    (nr ≡ length s.accepted % 8)
+IsNamed s (Rr nr) = nr ≡ length s.accepted % 8
+IsNamed s (Rnr nr) = nr ≡ length s.accepted % 8
+IsNamed s (Rej nr) = nr ≡ length s.accepted % 8
 IsNamed s _ = Unit {0}
 
 abbrev pub AreNamed : Session → List FrameValue → Type 0
@@ -71,10 +71,10 @@ with_packet packets (Some packet) = packets ++ packet ∷ []
 
 -- how many offered packets a frame acknowledges
 abbrev pub newly : Link → Content → ℕ
-newly l (Information send receive packet) = if is_valid l receive then ahead l.oldest receive else 0
-newly l (ReceiveReady receive) = if is_valid l receive then ahead l.oldest receive else 0
-newly l (ReceiveNotReady receive) = if is_valid l receive then ahead l.oldest receive else 0
-newly l (Reject receive) = if is_valid l receive then ahead l.oldest receive else 0
+newly l (I ns nr packet) = if is_valid l nr then ahead l.oldest nr else 0
+newly l (Rr nr) = if is_valid l nr then ahead l.oldest nr else 0
+newly l (Rnr nr) = if is_valid l nr then ahead l.oldest nr else 0
+newly l (Rej nr) = if is_valid l nr then ahead l.oldest nr else 0
 newly l _ = 0
 
 abbrev pub session_after : Note → Session → Link → Content → Option Octets → Session
@@ -95,10 +95,10 @@ after_offer l packet s = record s { offered = if can_offer l then s.offered ++ p
 
 -- its N(R) is a number modulo 8
 abbrev pub IsInRange : Content → Type 0
-IsInRange (Information send receive packet) = receive < 8
-IsInRange (ReceiveReady receive) = receive < 8
-IsInRange (ReceiveNotReady receive) = receive < 8
-IsInRange (Reject receive) = receive < 8
+IsInRange (I ns nr packet) = nr < 8
+IsInRange (Rr nr) = nr < 8
+IsInRange (Rnr nr) = nr < 8
+IsInRange (Rej nr) = nr < 8
 IsInRange _ = Unit {0}
 
 -- ---- in every frame that a link sends, the numbers name places and counts of its session, whichever agrees with it

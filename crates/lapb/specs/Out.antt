@@ -78,17 +78,17 @@ gathered out before step = with_effect out before.role (runs before) (runs step.
 
 -- RR as a response with F = 1, if it is due, and nothing else
 abbrev pub answered : Bool → ℕ → Effect
-answered due receive = record no_effect { frames = answers due receive }
+answered due nr = record no_effect { frames = answers due nr }
 
 -- a frame with this control octet is rejected for its N(R)
-abbrev pub number_rejected : Link → (control : ℕ) → (is_response poll : Bool) → Step
-number_rejected l control is_response poll =
-    reject_as l.role l (report_of l control is_response false false false true) (poll && not is_response)
+abbrev pub number_rejected : Link → (control : ℕ) → (is_response pf : Bool) → Step
+number_rejected l control is_response pf =
+    reject_as l.role l (report_of l control is_response false false false true) (pf && not is_response)
 
 -- RR, RNR and REJ: the first makes the partner not busy, the second busy, the third sets V(S) back to N(R)
-abbrev pub supervisory_taken : Link → (receive low : ℕ) → (busy back is_response poll : Bool) → Step
-supervisory_taken l receive low busy back is_response poll =
-    if is_valid l receive then record (on_supervisory (acknowledged l receive) busy back is_response poll) {
-      anew = nat_lt 0 (ahead l.oldest receive);
+abbrev pub supervisory_taken : Link → (nr low : ℕ) → (busy back is_response pf : Bool) → Step
+supervisory_taken l nr low busy back is_response pf =
+    if is_valid l nr then record (on_supervisory (acknowledged l nr) busy back is_response pf) {
+      anew = nat_lt 0 (ahead l.oldest nr);
     }
-    else number_rejected l (receive * 32 + bit_of poll * 16 + low) is_response poll
+    else number_rejected l (nr * 32 + bit_of pf * 16 + low) is_response pf

@@ -5,13 +5,13 @@ use Rattle.lapb.specs.declared.phase.Phase.{Phase}
 use Rattle.lapb.specs.declared.note.Note.{Note}
 use Rattle.lapb.specs.Machine.{Octets, Link, Step, on_frame, on_t1, relink, settle, offer, is_up}
 use Rattle.lapb.specs.Octets.{on_octets}
-use Rattle.lapb.specs.World.{Sent, World, Event, is_set_mode, is_up_note, happens}
+use Rattle.lapb.specs.World.{Sent, World, Event, is_sabm, is_up_note, happens}
 
 -- each SABM on the way was sent in an act that is not before the DCE's session
 abbrev pub AsksInOrder : World → List Sent → Type 0
 AsksInOrder w [] = Unit {0}
 AsksInOrder w (s ∷ rest) =
-    (is_set_mode s.frame.content ≡ true → (1 ≤ s.act) × (w.session ≤ s.act) × (s.act ≤ w.act)) × AsksInOrder w rest
+    (is_sabm s.frame.content ≡ true → (1 ≤ s.act) × (w.session ≤ s.act) × (s.act ≤ w.act)) × AsksInOrder w rest
 
 -- The DTE's session is not after the DCE's, nor that one after the DTE's last act. By no event does an end come to stand in an earlier
 -- session than before; a DTE that comes up does so in a later one, and a frame brings the DCE up exactly where it is a SABM.
@@ -24,7 +24,7 @@ pub record SessionsRise (w : World) : Type 0 where
   pub never_falls : (event : Event) → (w.own ≤ (happens w event).own) × (w.session ≤ (happens w event).session)
   pub at_dte : (s : Sent) (rest : List Sent) → w.down ≡ s ∷ rest → (on_frame w.dte s.frame).note ≡ Note.Up → w.own < w.act
   pub at_dce : (s : Sent) (rest : List Sent) → w.up ≡ s ∷ rest → is_up_note (on_frame w.dce s.frame).note
-      ≡ is_set_mode s.frame.content
+      ≡ is_sabm s.frame.content
 
 -- what a call tells of the link's session. It ends where the link was up and is up no more, and begins where it comes up; nothing is
 -- told where it stays up or stays out of a session. A packet is accepted inside a session alone.

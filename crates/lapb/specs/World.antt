@@ -22,7 +22,7 @@ use Rattle.std.specs.Prelude.{
 use Rattle.link_timers.specs.declared.role.Role.{Role}
 use Rattle.link_timers.specs.declared.role.Role.TheVariants.{Dte, Dce}
 use Rattle.frame_codec.specs.Frame.{FrameValue, Content}
-use Rattle.frame_codec.specs.Frame.Content.{SetMode, Acknowledgement, FrameReject}
+use Rattle.frame_codec.specs.Frame.Content.{Sabm, Ua, Frmr}
 use Rattle.lapb.specs.declared.phase.Phase.{Phase}
 use Rattle.lapb.specs.declared.note.Note.{Note}
 use Rattle.lapb.specs.Machine.{Octets, Link, Step, response, on_frame, on_t1, relink, settle, offer, can_offer, new}
@@ -81,17 +81,17 @@ abbrev pub stamped : ℕ → List FrameValue → List Sent
 stamped act [] = []
 stamped act (frame ∷ frames) = record { frame = frame; act = act } ∷ stamped act frames
 
-abbrev pub is_set_mode : Content → Bool
-is_set_mode SetMode = true
-is_set_mode _ = false
+abbrev pub is_sabm : Content → Bool
+is_sabm Sabm = true
+is_sabm _ = false
 
-abbrev pub is_acknowledgement : Content → Bool
-is_acknowledgement Acknowledgement = true
-is_acknowledgement _ = false
+abbrev pub is_ua : Content → Bool
+is_ua Ua = true
+is_ua _ = false
 
-abbrev pub is_frame_reject : Content → Bool
-is_frame_reject (FrameReject report) = true
-is_frame_reject _ = false
+abbrev pub is_frmr : Content → Bool
+is_frmr (Frmr report) = true
+is_frmr _ = false
 
 -- ---- what a step of one end makes of the world
 
@@ -126,9 +126,9 @@ dce_does w kept step = record w {
 -- by a SABM the DCE comes to stand in the act of that SABM, and its two lists of that session are emptied
 abbrev pub dce_enters : World → Sent → World
 dce_enters w s = record w {
-  session = if is_set_mode s.frame.content then s.act else w.session;
-  dce_offered = emptied (is_set_mode s.frame.content) w.dce_offered s.act;
-  dce_accepted = emptied (is_set_mode s.frame.content) w.dce_accepted s.act;
+  session = if is_sabm s.frame.content then s.act else w.session;
+  dce_offered = emptied (is_sabm s.frame.content) w.dce_offered s.act;
+  dce_accepted = emptied (is_sabm s.frame.content) w.dce_accepted s.act;
 }
 
 -- the frame at the front comes to the DTE, if there is one
@@ -204,16 +204,16 @@ Always P = (standing : Bool) (dte dce : Params) → dte.k ≤ 7 → dce.k ≤ 7 
 abbrev pub IsPrefix : List Octets → List Octets → Type 0
 IsPrefix front whole = (rest : List Octets) × (front ++ rest ≡ whole)
 
-abbrev pub NoFrameReject : List Sent → Type 0
-NoFrameReject [] = Unit {0}
-NoFrameReject (s ∷ rest) = (is_frame_reject s.frame.content ≡ false) × NoFrameReject rest
+abbrev pub NoFrmr : List Sent → Type 0
+NoFrmr [] = Unit {0}
+NoFrmr (s ∷ rest) = (is_frmr s.frame.content ≡ false) × NoFrmr rest
 
 -- in each session the accepted packets of an end begin the list of those offered at the other one, and no FRMR is sent
 pub record InOrder (w : World) : Type 0 where
   pub at_dce : (session : ℕ) → IsPrefix (w.dce_accepted session) (w.dte_offered session)
   pub at_dte : (session : ℕ) → IsPrefix (w.dte_accepted session) (w.dce_offered session)
-  pub none_up : NoFrameReject w.up
-  pub none_down : NoFrameReject w.down
+  pub none_up : NoFrmr w.up
+  pub none_down : NoFrmr w.down
 
 -- an offer, the end of a node's event, or a loss on the line
 abbrev pub IsQuiet : Event → Type 0
@@ -235,23 +235,23 @@ pub record AreUp (w : World) : Type 0 where
 
 -- the UA by which a DCE answers this SABM, in the act of the SABM
 abbrev pub answer_to : Sent → Sent
-answer_to s = record { frame = response Acknowledgement s.frame.poll; act = s.act }
+answer_to s = record { frame = response Ua s.frame.pf; act = s.act }
 
 -- A SABM of the DTE's last act that comes to the DCE is answered by its UA and nothing else; and if a UA of that act is what comes
 -- to the DTE next, while packets are offered, events end and frames are lost, both ends are up in that session.
 pub record ComesUp (w : World) : Type 0 where
-  pub answers : (s : Sent) (rest : List Sent) → w.up ≡ s ∷ rest → is_set_mode s.frame.content ≡ true → s.act ≡ w.act →
+  pub answers : (s : Sent) (rest : List Sent) → w.up ≡ s ∷ rest → is_sabm s.frame.content ≡ true → s.act ≡ w.act →
       (happens w (Deliver Dce [])).down ≡ w.down ++ answer_to s ∷ []
-  pub both_up : (s : Sent) (rest : List Sent) → w.up ≡ s ∷ rest → is_set_mode s.frame.content ≡ true → s.act ≡ w.act →
+  pub both_up : (s : Sent) (rest : List Sent) → w.up ≡ s ∷ rest → is_sabm s.frame.content ≡ true → s.act ≡ w.act →
       (sent : List Bool) (between : List Event) → AllQuiet between → (answer : Sent) (behind : List Sent) →
-      (run between (happens w (Deliver Dce sent))).down ≡ answer ∷ behind → is_acknowledgement answer.frame.content ≡ true →
+      (run between (happens w (Deliver Dce sent))).down ≡ answer ∷ behind → is_ua answer.frame.content ≡ true →
       answer.act ≡ w.act → (kept : List Bool) →
       AreUp (happens (run between (happens w (Deliver Dce sent))) (Deliver Dte kept))
 
 -- Where the DCE takes a SABM, neither end has accepted anything in the session of that act. Where the DTE takes the UA that brings
 -- it up, that UA is of its last act, neither end has accepted anything in that session, and the DTE has offered nothing in it.
 pub record BeginsFresh (w : World) : Type 0 where
-  pub dce : (s : Sent) (rest : List Sent) → w.up ≡ s ∷ rest → is_set_mode s.frame.content ≡ true →
+  pub dce : (s : Sent) (rest : List Sent) → w.up ≡ s ∷ rest → is_sabm s.frame.content ≡ true →
       (w.dte_accepted s.act ≡ []) × (w.dce_accepted s.act ≡ [])
   pub of_act : (s : Sent) (rest : List Sent) → w.down ≡ s ∷ rest → (on_frame w.dte s.frame).note ≡ Note.Up → s.act ≡ w.act
   pub dte : (s : Sent) (rest : List Sent) → w.down ≡ s ∷ rest → (on_frame w.dte s.frame).note ≡ Note.Up →

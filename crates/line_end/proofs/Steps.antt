@@ -8,7 +8,7 @@ use Rattle.link_timers.specs.declared.role.Role.TheVariants.{Dte, Dce}
 use Rattle.frame_codec.specs.declared.fault.FrameFault.{FrameFault}
 use Rattle.frame_codec.specs.declared.fault.FrameFault.TheVariants.{TooShort, WrongAddress, UnknownControl, InfoNotAllowed, InfoTooLong}
 use Rattle.frame_codec.specs.Frame.{FrameValue, Content, Report}
-use Rattle.frame_codec.specs.Frame.Content.{Information, ReceiveReady, ReceiveNotReady, Reject, SetMode, Disconnect, DisconnectedMode, Acknowledgement, FrameReject}
+use Rattle.frame_codec.specs.Frame.Content.{I, Rr, Rnr, Rej, Sabm, Disc, Dm, Ua, Frmr}
 use Rattle.frame_codec.specs.Reading.{reading}
 use Rattle.lapb.specs.declared.phase.Phase.{Phase}
 use Rattle.lapb.specs.Machine.{Octets, Link, Step, Defect, UndefinedControl, InformationNotAllowed, InformationTooLong, response, answers, still, sends, set_up, relink, relink_as, come_up, reject_as, reject_number, is_same, is_valid, ahead, acknowledged, on_supervisory, accept, discard, on_information, checked, in_up, in_setting_up, in_down, in_rejecting, in_phase, on_content, on_defect_in, on_t1, runs, expire_in, poll, numbered, send_all, settle_in, settle, offer, is_full, is_up}
@@ -55,9 +55,9 @@ sends_reject Dte l report p = sends_set_up l
 sends_reject Dce l report p =
     record { keeps = record { role = refl; k = refl; n2 = refl; queue = omega arith }; few = omega arith }
 
-few_answers : (due : Bool) (receive : ℕ) → length (answers due receive) ≤ 1
-few_answers true receive = omega arith
-few_answers false receive = omega arith
+few_answers : (due : Bool) (nr : ℕ) → length (answers due nr) ≤ 1
+few_answers true nr = omega arith
+few_answers false nr = omega arith
 
 -- ---- the information transfer phase
 
@@ -65,13 +65,13 @@ shorter : (l : Link) (n : ℕ) → length (drop n l.queue) ≤ length l.queue
 shorter l n = omega (arith, length-drop n l.queue)
 
 -- behind the acknowledgement of N(R)
-sends_behind : (l : Link) (receive : ℕ) (step : Step) → Sends (acknowledged l receive) step → Sends l step
-sends_behind l receive step s = record {
+sends_behind : (l : Link) (nr : ℕ) (step : Step) → Sends (acknowledged l nr) step → Sends l step
+sends_behind l nr step s = record {
   keeps = record {
     role = s.keeps.role;
     k = s.keeps.k;
     n2 = s.keeps.n2;
-    queue = omega (arith, s.keeps.queue, shorter l (ahead l.oldest receive));
+    queue = omega (arith, s.keeps.queue, shorter l (ahead l.oldest nr));
   };
   few = s.few;
 }
@@ -91,91 +91,91 @@ sends_accept l p packet = record {
 sends_discard : (l : Link) (p : Bool) → Sends l (discard l p)
 sends_discard l p = record {
   keeps = record { role = refl; k = refl; n2 = refl; queue = omega arith };
-  few = cond_by (λ b. length (if b then answers p l.expected else response (Reject l.expected) p ∷ []) ≤ 1) l.rejecting
+  few = cond_by (λ b. length (if b then answers p l.expected else response (Rej l.expected) p ∷ []) ≤ 1) l.rejecting
       (λ _. few_answers p l.expected) (λ _. omega arith);
 }
 
-sends_information : (l : Link) (send : ℕ) (p : Bool) (packet : Octets) → Sends l (on_information l send p packet)
-sends_information l send p packet =
-    cond_by (λ b. Sends l (if b then accept l p packet else discard l p)) (send == l.expected) (λ _. sends_accept l p packet)
+sends_information : (l : Link) (ns : ℕ) (p : Bool) (packet : Octets) → Sends l (on_information l ns p packet)
+sends_information l ns p packet =
+    cond_by (λ b. Sends l (if b then accept l p packet else discard l p)) (ns == l.expected) (λ _. sends_accept l p packet)
     (λ _. sends_discard l p)
 
-sends_checked : (l : Link) (content : Content) (r p : Bool) (receive : ℕ) (taken : Step) → Sends (acknowledged l receive) taken →
-    Sends l (checked l content r p receive taken)
-sends_checked l content r p receive taken s =
-    cond_by (λ b. Sends l (if b then record taken { anew = nat_lt 0 (ahead l.oldest receive) } else reject_number l content r p))
-    (is_valid l receive) (λ _. again (sends_behind l receive taken s)) (λ _. sends_reject l.role l _ _)
+sends_checked : (l : Link) (content : Content) (r p : Bool) (nr : ℕ) (taken : Step) → Sends (acknowledged l nr) taken →
+    Sends l (checked l content r p nr taken)
+sends_checked l content r p nr taken s =
+    cond_by (λ b. Sends l (if b then record taken { anew = nat_lt 0 (ahead l.oldest nr) } else reject_number l content r p))
+    (is_valid l nr) (λ _. again (sends_behind l nr taken s)) (λ _. sends_reject l.role l _ _)
   where
-    again : Sends l taken → Sends l (record taken { anew = nat_lt 0 (ahead l.oldest receive) })
+    again : Sends l taken → Sends l (record taken { anew = nat_lt 0 (ahead l.oldest nr) })
     again s = record { keeps = s.keeps; few = s.few }
 
 sends_in_up : (role : Role) (l : Link) (content : Content) (r p : Bool) → Sends l (in_up role l content r p)
-sends_in_up role l (Information send receive packet) r p =
-    sends_checked l (Information send receive packet) r p receive _ (sends_information (acknowledged l receive) send p packet)
-sends_in_up role l (ReceiveReady receive) r p =
-    sends_checked l (ReceiveReady receive) r p receive _ (sends_supervisory (acknowledged l receive) false false r p)
-sends_in_up role l (ReceiveNotReady receive) r p =
-    sends_checked l (ReceiveNotReady receive) r p receive _ (sends_supervisory (acknowledged l receive) true false r p)
-sends_in_up role l (Reject receive) r p =
-    sends_checked l (Reject receive) r p receive _ (sends_supervisory (acknowledged l receive) false true r p)
-sends_in_up role l Disconnect r p =
+sends_in_up role l (I ns nr packet) r p =
+    sends_checked l (I ns nr packet) r p nr _ (sends_information (acknowledged l nr) ns p packet)
+sends_in_up role l (Rr nr) r p =
+    sends_checked l (Rr nr) r p nr _ (sends_supervisory (acknowledged l nr) false false r p)
+sends_in_up role l (Rnr nr) r p =
+    sends_checked l (Rnr nr) r p nr _ (sends_supervisory (acknowledged l nr) true false r p)
+sends_in_up role l (Rej nr) r p =
+    sends_checked l (Rej nr) r p nr _ (sends_supervisory (acknowledged l nr) false true r p)
+sends_in_up role l Disc r p =
     record { keeps = record { role = refl; k = refl; n2 = refl; queue = omega arith }; few = omega arith }
-sends_in_up role l Acknowledgement r p = sends_still l
-sends_in_up Dte l SetMode r p = sends_set_up l
-sends_in_up Dte l DisconnectedMode r p = sends_set_up l
-sends_in_up Dte l (FrameReject report) r p = sends_set_up l
-sends_in_up Dce l SetMode r p = sends_still l
-sends_in_up Dce l DisconnectedMode r p = sends_still l
-sends_in_up Dce l (FrameReject report) r p =
+sends_in_up role l Ua r p = sends_still l
+sends_in_up Dte l Sabm r p = sends_set_up l
+sends_in_up Dte l Dm r p = sends_set_up l
+sends_in_up Dte l (Frmr report) r p = sends_set_up l
+sends_in_up Dce l Sabm r p = sends_still l
+sends_in_up Dce l Dm r p = sends_still l
+sends_in_up Dce l (Frmr report) r p =
     record { keeps = record { role = refl; k = refl; n2 = refl; queue = omega arith }; few = omega arith }
 
 -- ---- the other phases
 
 sends_in_setting_up : (l : Link) (content : Content) (r p : Bool) → Sends l (in_setting_up l content r p)
-sends_in_setting_up l Acknowledgement r p =
+sends_in_setting_up l Ua r p =
     cond_by (λ b. Sends l (if b then come_up l else still l)) (is_same p l.bit)
     (λ _. record { keeps = record { role = refl; k = refl; n2 = refl; queue = omega arith }; few = omega arith })
     (λ _. sends_still l)
-sends_in_setting_up l Disconnect r p = sends_one l _
-sends_in_setting_up l (Information send receive packet) r p = sends_still l
-sends_in_setting_up l (ReceiveReady receive) r p = sends_still l
-sends_in_setting_up l (ReceiveNotReady receive) r p = sends_still l
-sends_in_setting_up l (Reject receive) r p = sends_still l
-sends_in_setting_up l SetMode r p = sends_still l
-sends_in_setting_up l DisconnectedMode r p = sends_still l
-sends_in_setting_up l (FrameReject report) r p = sends_still l
+sends_in_setting_up l Disc r p = sends_one l _
+sends_in_setting_up l (I ns nr packet) r p = sends_still l
+sends_in_setting_up l (Rr nr) r p = sends_still l
+sends_in_setting_up l (Rnr nr) r p = sends_still l
+sends_in_setting_up l (Rej nr) r p = sends_still l
+sends_in_setting_up l Sabm r p = sends_still l
+sends_in_setting_up l Dm r p = sends_still l
+sends_in_setting_up l (Frmr report) r p = sends_still l
 
 sends_in_down : (role : Role) (l : Link) (content : Content) (r p : Bool) → Sends l (in_down role l content r p)
-sends_in_down Dte l SetMode r p = sends_set_up l
-sends_in_down Dte l DisconnectedMode r p = sends_set_up l
-sends_in_down Dce l SetMode r p = sends_asked l _ (p && not r)
-sends_in_down Dce l DisconnectedMode r p = sends_asked l _ (p && not r)
-sends_in_down Dte l Disconnect r p = sends_one l _
-sends_in_down Dce l Disconnect r p = sends_one l _
-sends_in_down Dte l (Information send receive packet) r p = sends_asked l _ (p && not r)
-sends_in_down Dce l (Information send receive packet) r p = sends_asked l _ (p && not r)
-sends_in_down Dte l (ReceiveReady receive) r p = sends_asked l _ (p && not r)
-sends_in_down Dce l (ReceiveReady receive) r p = sends_asked l _ (p && not r)
-sends_in_down Dte l (ReceiveNotReady receive) r p = sends_asked l _ (p && not r)
-sends_in_down Dce l (ReceiveNotReady receive) r p = sends_asked l _ (p && not r)
-sends_in_down Dte l (Reject receive) r p = sends_asked l _ (p && not r)
-sends_in_down Dce l (Reject receive) r p = sends_asked l _ (p && not r)
-sends_in_down Dte l Acknowledgement r p = sends_asked l _ (p && not r)
-sends_in_down Dce l Acknowledgement r p = sends_asked l _ (p && not r)
-sends_in_down Dte l (FrameReject report) r p = sends_asked l _ (p && not r)
-sends_in_down Dce l (FrameReject report) r p = sends_asked l _ (p && not r)
+sends_in_down Dte l Sabm r p = sends_set_up l
+sends_in_down Dte l Dm r p = sends_set_up l
+sends_in_down Dce l Sabm r p = sends_asked l _ (p && not r)
+sends_in_down Dce l Dm r p = sends_asked l _ (p && not r)
+sends_in_down Dte l Disc r p = sends_one l _
+sends_in_down Dce l Disc r p = sends_one l _
+sends_in_down Dte l (I ns nr packet) r p = sends_asked l _ (p && not r)
+sends_in_down Dce l (I ns nr packet) r p = sends_asked l _ (p && not r)
+sends_in_down Dte l (Rr nr) r p = sends_asked l _ (p && not r)
+sends_in_down Dce l (Rr nr) r p = sends_asked l _ (p && not r)
+sends_in_down Dte l (Rnr nr) r p = sends_asked l _ (p && not r)
+sends_in_down Dce l (Rnr nr) r p = sends_asked l _ (p && not r)
+sends_in_down Dte l (Rej nr) r p = sends_asked l _ (p && not r)
+sends_in_down Dce l (Rej nr) r p = sends_asked l _ (p && not r)
+sends_in_down Dte l Ua r p = sends_asked l _ (p && not r)
+sends_in_down Dce l Ua r p = sends_asked l _ (p && not r)
+sends_in_down Dte l (Frmr report) r p = sends_asked l _ (p && not r)
+sends_in_down Dce l (Frmr report) r p = sends_asked l _ (p && not r)
 
 sends_in_rejecting : (l : Link) (content : Content) (r p : Bool) → Sends l (in_rejecting l content r p)
-sends_in_rejecting l Disconnect r p =
+sends_in_rejecting l Disc r p =
     record { keeps = record { role = refl; k = refl; n2 = refl; queue = omega arith }; few = omega arith }
-sends_in_rejecting l (Information send receive packet) r p = sends_unless l _ r
-sends_in_rejecting l (ReceiveReady receive) r p = sends_unless l _ r
-sends_in_rejecting l (ReceiveNotReady receive) r p = sends_unless l _ r
-sends_in_rejecting l (Reject receive) r p = sends_unless l _ r
-sends_in_rejecting l SetMode r p = sends_unless l _ r
-sends_in_rejecting l DisconnectedMode r p = sends_unless l _ r
-sends_in_rejecting l Acknowledgement r p = sends_unless l _ r
-sends_in_rejecting l (FrameReject report) r p = sends_unless l _ r
+sends_in_rejecting l (I ns nr packet) r p = sends_unless l _ r
+sends_in_rejecting l (Rr nr) r p = sends_unless l _ r
+sends_in_rejecting l (Rnr nr) r p = sends_unless l _ r
+sends_in_rejecting l (Rej nr) r p = sends_unless l _ r
+sends_in_rejecting l Sabm r p = sends_unless l _ r
+sends_in_rejecting l Dm r p = sends_unless l _ r
+sends_in_rejecting l Ua r p = sends_unless l _ r
+sends_in_rejecting l (Frmr report) r p = sends_unless l _ r
 
 sends_in_phase : (phase : Phase) (role : Role) (l : Link) (content : Content) (r p : Bool) → Sends l
     (in_phase phase role l content r p)
@@ -185,18 +185,18 @@ sends_in_phase Phase.Up role l content r p = sends_in_up role l content r p
 sends_in_phase Phase.Rejecting role l content r p = sends_in_rejecting l content r p
 
 sends_on_content : (content : Content) (role : Role) (l : Link) (r p : Bool) → Sends l (on_content content role l r p)
-sends_on_content SetMode Dce l r p =
+sends_on_content Sabm Dce l r p =
     record { keeps = record { role = refl; k = refl; n2 = refl; queue = omega arith }; few = omega arith }
-sends_on_content SetMode Dte l r p = sends_in_phase l.phase Dte l SetMode r p
-sends_on_content (Information send receive packet) role l r p =
-    sends_in_phase l.phase role l (Information send receive packet) r p
-sends_on_content (ReceiveReady receive) role l r p = sends_in_phase l.phase role l (ReceiveReady receive) r p
-sends_on_content (ReceiveNotReady receive) role l r p = sends_in_phase l.phase role l (ReceiveNotReady receive) r p
-sends_on_content (Reject receive) role l r p = sends_in_phase l.phase role l (Reject receive) r p
-sends_on_content Disconnect role l r p = sends_in_phase l.phase role l Disconnect r p
-sends_on_content DisconnectedMode role l r p = sends_in_phase l.phase role l DisconnectedMode r p
-sends_on_content Acknowledgement role l r p = sends_in_phase l.phase role l Acknowledgement r p
-sends_on_content (FrameReject report) role l r p = sends_in_phase l.phase role l (FrameReject report) r p
+sends_on_content Sabm Dte l r p = sends_in_phase l.phase Dte l Sabm r p
+sends_on_content (I ns nr packet) role l r p =
+    sends_in_phase l.phase role l (I ns nr packet) r p
+sends_on_content (Rr nr) role l r p = sends_in_phase l.phase role l (Rr nr) r p
+sends_on_content (Rnr nr) role l r p = sends_in_phase l.phase role l (Rnr nr) r p
+sends_on_content (Rej nr) role l r p = sends_in_phase l.phase role l (Rej nr) r p
+sends_on_content Disc role l r p = sends_in_phase l.phase role l Disc r p
+sends_on_content Dm role l r p = sends_in_phase l.phase role l Dm r p
+sends_on_content Ua role l r p = sends_in_phase l.phase role l Ua r p
+sends_on_content (Frmr report) role l r p = sends_in_phase l.phase role l (Frmr report) r p
 
 sends_on_defect : (phase : Phase) (l : Link) (defect : Defect) (control : ℕ) (r : Bool) → Sends l
     (on_defect_in phase l defect control r)
@@ -213,7 +213,7 @@ sends_on_fault l InfoNotAllowed octets = sends_on_defect l.phase l InformationNo
 sends_on_fault l InfoTooLong octets = sends_on_defect l.phase l InformationTooLong _ _
 
 sends_on_reading : (l : Link) (octets : Octets) (read : Result FrameValue FrameFault) → Sends l (on_reading l octets read)
-sends_on_reading l octets (Ok frame) = sends_on_content frame.content l.role l frame.response frame.poll
+sends_on_reading l octets (Ok frame) = sends_on_content frame.content l.role l frame.response frame.pf
 sends_on_reading l octets (Err fault) = sends_on_fault l fault octets
 
 pub sends_on_octets : (l : Link) (octets : Octets) → Sends l (on_octets l octets)
@@ -247,9 +247,9 @@ sends_on_t1 l =
 
 -- ---- the end of an event, and offers
 
-length-numbered : (send receive : ℕ) (packets : List Octets) → length (numbered send receive packets) ≡ length packets
-length-numbered send receive [] = refl
-length-numbered send receive (packet ∷ packets) = omega (arith, length-numbered (send + 1) receive packets)
+length-numbered : (ns nr : ℕ) (packets : List Octets) → length (numbered ns nr packets) ≡ length packets
+length-numbered ns nr [] = refl
+length-numbered ns nr (packet ∷ packets) = omega (arith, length-numbered (ns + 1) nr packets)
 
 -- no more frames than packets, or one
 pub record Settles (l : Link) (step : Step) : Type 0 where

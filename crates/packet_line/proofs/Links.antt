@@ -11,7 +11,7 @@ use Rattle.lapb.specs.declared.note.Note.{Note}
 use Rattle.lapb.specs.declared.note.Note.TheVariants.{Nothing, Up, Down}
 use Rattle.lapb.specs.Machine.{Octets, Link, Step, is_up, can_offer, is_full, on_frame, on_t1, relink, relink_as, settle, settle_in, send_all, sendable, offer}
 use Rattle.lapb.specs.Octets.{on_octets}
-use Rattle.lapb.specs.World.{Sent, World, Offer, Deliver, Lose, Expire, Relink, Settle, Restart, IsPrefix, happens, dte_does, dce_does, to_dce, logged, emptied, is_set_mode, is_up_note, offered, remade}
+use Rattle.lapb.specs.World.{Sent, World, Offer, Deliver, Lose, Expire, Relink, Settle, Restart, IsPrefix, happens, dte_does, dce_does, to_dce, logged, emptied, is_sabm, is_up_note, offered, remade}
 use Rattle.lapb.specs.Fits.{AllSpelt, octets_of}
 use Rattle.lapb.specs.Line.{chosen, StandsIn}
 use Rattle.lapb.specs.Rising.{AsksInOrder, Tells, IsPlain}
@@ -373,7 +373,7 @@ taken_first w dte dce up down bytes s = go w.up refl s.fit.up s.up_is
         let head : spelling Dte x.frame ≡ bytes = cc in
         let step : on_frame w.dce x.frame ≡ on_octets dce bytes =
         sym (octets_taken w.dce Dte x.frame i.dce_role all.0) ∙ ap (on_octets w.dce) head ∙ ap (λ l. on_octets l bytes) s.dce_is in
-        let set : is_set_mode x.frame.content ≡ is_up_note (on_octets dce bytes).note =
+        let set : is_sabm x.frame.content ≡ is_up_note (on_octets dce bytes).note =
         sym (dce_begins w.dce x.frame i.dce_role i.dce_set) ∙ ap (λ (t : Step). is_up_note t.note) step in
         let asks : AsksInOrder w (x ∷ flow) = subst (λ (q : List Sent). AsksInOrder w q) is (reached_rise w s.reached).asked in
         record {
@@ -381,9 +381,9 @@ taken_first w dte dce up down bytes s = go w.up refl s.fit.up s.up_is
             own = refl;
             session = ap (λ b. if b then x.act else w.session) set;
             accepted =
-                ap (λ b. logged (emptied b w.dce_accepted x.act) (if is_set_mode x.frame.content then x.act else w.session) (on_frame w.dce x.frame).accepted) set
+                ap (λ b. logged (emptied b w.dce_accepted x.act) (if is_sabm x.frame.content then x.act else w.session) (on_frame w.dce x.frame).accepted) set
                 ∙ ap (λ (t : Step). logged (emptied (is_up_note (on_octets dce bytes).note) w.dce_accepted x.act)
-                (if is_set_mode x.frame.content then x.act else w.session) t.accepted) step;
+                (if is_sabm x.frame.content then x.act else w.session) t.accepted) step;
             offered = ap (λ b. emptied b w.dce_offered x.act) set;
             dte_accepted = refl;
             dte_offered = refl;

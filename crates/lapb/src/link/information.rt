@@ -154,9 +154,9 @@ impl Link {
     ) -> Effect<'a>
         requires ns { ns < 8 }
         requires nr { nr < 8 }
-        ensures link { self.new ≡ (machine.in_up self.old.role self.old (spec.Information ns nr packet.now)
+        ensures link { self.new ≡ (machine.in_up self.old.role self.old (spec.I ns nr packet.now)
             is_response pf).link }
-        ensures effect { result ≡ effect_of (machine.in_up self.old.role self.old (spec.Information ns nr
+        ensures effect { result ≡ effect_of (machine.in_up self.old.role self.old (spec.I ns nr
             packet.now) is_response pf) }
     {
         let Some(newly) = self.acknowledge(nr) else {
@@ -210,7 +210,7 @@ impl Link {
             FrameKind::Rr { nr } => self.take_supervisory(nr, READY, is_response, pf),
             FrameKind::Rnr { nr } => self.take_supervisory(nr, NOT_READY, is_response, pf),
             FrameKind::Rej { nr } => self.take_supervisory(nr, REJECT, is_response, pf),
-            FrameKind::Disc => self.take_disconnect(pf),
+            FrameKind::Disc => self.take_disc(pf),
             FrameKind::Ua => Effect::nothing(),
             FrameKind::Sabm | FrameKind::Dm => match self.role {
                 Role::Dte => self.set_up(),

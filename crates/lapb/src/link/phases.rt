@@ -21,7 +21,7 @@ impl Link {
         ensures effect { result ≡ effect_of (machine.on_frame self.old (value_of frame.now)) }
     {
         match (frame.kind, self.role) {
-            (FrameKind::Sabm, Role::Dce) => return self.take_set_mode(frame.pf),
+            (FrameKind::Sabm, Role::Dce) => return self.take_sabm(frame.pf),
             (FrameKind::Sabm, Role::Dte)
             | (FrameKind::I { .. }, _)
             | (FrameKind::Rr { .. }, _)
@@ -108,7 +108,7 @@ impl Link {
             frame.now.response frame.now.pf) }
     {
         match frame.kind {
-            FrameKind::Disc => self.take_disconnect(frame.pf),
+            FrameKind::Disc => self.take_disc(frame.pf),
             FrameKind::I { .. }
             | FrameKind::Rr { .. }
             | FrameKind::Rnr { .. }
@@ -128,7 +128,7 @@ impl Link {
 
     // The Frame Reject that was sent last, again.
     pub(crate) fn sends_report(&self, pf: bool) -> Effect<'static>
-        ensures { result ≡ effect_of (machine.sends self.now (machine.response (spec.FrameReject self.now.report) pf)) }
+        ensures { result ≡ effect_of (machine.sends self.now (machine.response (spec.Frmr self.now.report) pf)) }
     {
         Effect {
             frame: Some(response(FrameKind::Frmr(self.report), pf)),
@@ -140,7 +140,7 @@ impl Link {
 }
 
 pub(crate) fn sends_disconnected(pf: bool) -> Effect<'static>
-    ensures { result ≡ record no_effect { frames = machine.response spec.DisconnectedMode pf ∷ [] } }
+    ensures { result ≡ record no_effect { frames = machine.response spec.Dm pf ∷ [] } }
 {
     Effect {
         frame: Some(response(FrameKind::Dm, pf)),

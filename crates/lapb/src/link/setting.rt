@@ -74,9 +74,9 @@ impl Link {
     }
 
     // A DCE takes a SABM; it sends no I frame before it hears the DTE.
-    pub(crate) fn take_set_mode(&mut self, pf: bool) -> Effect<'static>
-        ensures link { self.new ≡ (machine.take_set_mode self.old pf).link }
-        ensures effect { result ≡ effect_of (machine.take_set_mode self.old pf) }
+    pub(crate) fn take_sabm(&mut self, pf: bool) -> Effect<'static>
+        ensures link { self.new ≡ (machine.take_sabm self.old pf).link }
+        ensures effect { result ≡ effect_of (machine.take_sabm self.old pf) }
     {
         self.clear(Phase::Up);
         Effect {
@@ -105,9 +105,9 @@ impl Link {
     }
 
     // DISC is answered by UA.
-    pub(crate) fn take_disconnect(&mut self, pf: bool) -> Effect<'static>
-        ensures link { self.new ≡ (machine.take_disconnect self.old pf).link }
-        ensures effect { result ≡ effect_of (machine.take_disconnect self.old pf) }
+    pub(crate) fn take_disc(&mut self, pf: bool) -> Effect<'static>
+        ensures link { self.new ≡ (machine.take_disc self.old pf).link }
+        ensures effect { result ≡ effect_of (machine.take_disc self.old pf) }
     {
         let note = left(self.phase);
         self.clear(Phase::Down);

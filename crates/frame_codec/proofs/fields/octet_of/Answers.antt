@@ -1,4 +1,4 @@
-use Rattle.std.proofs.Common.{◌≡◌, ℕ, ◌+◌, ◌*◌, ◌%◌, ◌<◌, ◌∙◌, ap, arith, true, false, Bool, refl}
+use Rattle.std.proofs.Common.{◌≡◌, ℕ, ◌+◌, ◌*◌, ◌%◌, ◌<◌, arith, true, false, Bool, refl}
 use mir.Val.{bool_byte}
 use Rattle.frame_codec.specs.Spelling.{bit_of}
 use Rattle.std.specs.Prelude.{bit_or}

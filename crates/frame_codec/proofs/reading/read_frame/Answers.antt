@@ -5,7 +5,6 @@ use Rattle.frame_codec.specs.declared.fault.FrameFault.{FrameFault}
 use Rattle.frame_codec.specs.declared.frame.Frame.{Frame}
 use Rattle.frame_codec.specs.FrameForm.{FrameForm}
 use Rattle.frame_codec.specs.Faults.{IsFirstFault}
-use Rattle.frame_codec.specs.Reading.{reading}
 use Rattle.frame_codec.specs.Views.{value_of, frame_read}
 use Rattle.frame_codec.proofs.Grammar.{IsDecided, reading_decided, reading_form, reading_fault}
 use Rattle.frame_codec.proofs.reading.read_frame.Goals as goal

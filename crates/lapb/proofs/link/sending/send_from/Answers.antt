@@ -1,5 +1,5 @@
 use Rattle.std.proofs.Common.{◌≡◌, ◌+◌, ◌%◌, ◌∷◌, [], drop, map, ap, ◌∙◌, false}
-use Rattle.frame_codec.specs.Frame.{Information}
+use Rattle.frame_codec.specs.Frame.{I}
 use Rattle.frame_codec.specs.Spelling.{spelling}
 use Rattle.flow_window.specs.Window.{Window}
 use Rattle.lapb.specs.Machine.{command, numbered}
@@ -20,7 +20,7 @@ loop-place-preserved c =
           ap (λ (o : Out). with_frames o.frames (map (spelling c.args.role) (numbered (c.args.window.now.oldest +
           (c.loop-place.place + 1)) c.args.nr (drop (c.loop-place.place + 1) c.args.queue.now))))
           c.put.ensures.out
-          ∙ ap (λ n. with_frames (with_frames c.loop-place.out.frames (spelling c.args.role (command (Information n
+          ∙ ap (λ n. with_frames (with_frames c.loop-place.out.frames (spelling c.args.role (command (I n
           c.args.nr c.packet-information.result.now) false) ∷ []))
           (map (spelling c.args.role) (numbered (c.args.window.now.oldest + (c.loop-place.place + 1)) c.args.nr
           (drop (c.loop-place.place + 1) c.args.queue.now)))) number
