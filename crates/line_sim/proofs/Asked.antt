@@ -9,8 +9,8 @@ use Rattle.packet_end.specs.PacketEnd.{PacketEnd}
 use Rattle.packet_host.specs.Host.{call_parts}
 use Rattle.packet_pad.specs.Pad.{PadState}
 use Rattle.call_records.specs.Book.{Book}
-use Rattle.network_laws.specs.Kept.{Setting, Kept, coming_to}
-use Rattle.network_laws.specs.Happens.{with_event}
+use Rattle.line_record_laws.specs.Kept.{Setting, Kept, coming_to}
+use Rattle.line_record_laws.specs.Happens.{with_event}
 use Rattle.node_laws.specs.Nodes.{StandsAt}
 use Rattle.node_laws.specs.Quiet.{IsQuiet}
 use Rattle.pad_laws.specs.PadHolds.{NodeHolds}
@@ -112,7 +112,7 @@ far-asked n e channel Clear b h = far_law.far_asks_kept Dte n e channel (ask.Cle
 far-asked n e channel Stop b h = far_law.far_asks_kept Dte n e channel (ask.Stopping true) b h
 far-asked n e channel Go b h = far_law.far_asks_kept Dte n e channel (ask.Stopping false) b h
 
-keeps-asked : (k : Setting) (b : Book) (l : Rattle.packet_line.specs.PacketLine.Line) (role : Role) (e : PacketEnd) (channel : ℕ) (r : Request) (kept : List Bool) → StandsAt role l (Host e) → Kept k b l
+keeps-asked : (k : Setting) (b : Book) (l : Rattle.line_laws.specs.Line.Line) (role : Role) (e : PacketEnd) (channel : ℕ) (r : Request) (kept : List Bool) → StandsAt role l (Host e) → Kept k b l
     → Kept k (asked_turn role e channel r b).book (with_event role (end_of (asked_turn role e channel r b).node) kept (coming_to role l) l)
 keeps-asked k b l role e channel Answer kept at h = (asking_law.asks_keeps k b l role e channel ask.Accept kept at h).kept
 keeps-asked k b l role e channel Refuse kept at h = (asking_law.refuses_keeps k b l role e channel kept at h).kept

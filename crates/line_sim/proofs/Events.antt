@@ -6,10 +6,10 @@ use Rattle.link_timers.specs.declared.role.Role.TheVariants.{Dte, Dce}
 use Rattle.link_timers.specs.declared.timers.TimerId.{TimerId}
 use Rattle.lapb.specs.Machine.{Octets}
 use Rattle.packet_end.specs.PacketEnd.{PacketEnd}
-use Rattle.packet_line.specs.PacketLine as line
+use Rattle.line_laws.specs.Line as line
 use Rattle.call_records.specs.Book.{Book}
-use Rattle.network_laws.specs.Kept.{Kept, coming_to}
-use Rattle.network_laws.specs.Happens.{sent, with_event, with_restart}
+use Rattle.line_record_laws.specs.Kept.{Kept, coming_to}
+use Rattle.line_record_laws.specs.Happens.{sent, with_event, with_restart}
 use Rattle.pad_laws.specs.PadHolds.{NodeHolds}
 use Rattle.line_nodes.specs.Node.{NodeState, Pad, Host, end_of, is_pad, drained, frames_of}
 use Rattle.line_nodes.specs.Turn.{Turn}
@@ -29,7 +29,7 @@ use Rattle.line_sim.proofs.Turns.{same, kind-hears, kind-expires, kind-relinks, 
 use Rattle.pad_laws.proofs.Nodes.{nodes_stay}
 use Rattle.pad_laws.proofs.FarTurns as far_law
 use Rattle.node_laws.proofs.Hearing as hearing_law
-use Rattle.network_laws.proofs.Keeping as keeping_law
+use Rattle.line_record_laws.proofs.Keeping as keeping_law
 use Rattle.node_laws.proofs.QuietTurns as quiet_law
 use Rattle.pad_laws.proofs.Turns as typed_law
 

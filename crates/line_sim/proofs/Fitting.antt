@@ -4,9 +4,9 @@ use Rattle.link_timers.specs.declared.role.Role.{Role}
 use Rattle.link_timers.specs.declared.role.Role.TheVariants.{Dte, Dce}
 use Rattle.lapb.specs.Machine.{Octets}
 use Rattle.lapb.specs.Line.{chosen}
-use Rattle.packet_line.specs.PacketLine as line
-use Rattle.network_laws.specs.Kept.{Setting, Kept, coming_to}
-use Rattle.network_laws.specs.Happens.{sent, with_event}
+use Rattle.line_laws.specs.Line as line
+use Rattle.line_record_laws.specs.Kept.{Setting, Kept, coming_to}
+use Rattle.line_record_laws.specs.Happens.{sent, with_event}
 use Rattle.node_laws.specs.Nodes.{StandsAt}
 use Rattle.node_laws.specs.Quiet.{IsQuiet}
 use Rattle.pad_laws.specs.PadHolds.{NodeHolds}

@@ -7,7 +7,7 @@ use Rattle.lapb.specs.Line.{chosen}
 use Rattle.packet_end.specs.Params.{AreParams}
 use Rattle.call_records.specs.Records.{RecordValue}
 use Rattle.call_records.specs.Book.{Book, made_book}
-use Rattle.network_laws.specs.Kept.{Setting, Kept}
+use Rattle.line_record_laws.specs.Kept.{Setting, Kept}
 use Rattle.node_laws.specs.Quiet.{IsQuiet}
 use Rattle.node_laws.specs.Clauses.{elapsed_line, first_line}
 use Rattle.pad_laws.specs.Typed.{IsTyped}
@@ -21,7 +21,7 @@ use Rattle.line_sim.specs.Headline.{Headline}
 use Rattle.line_sim.specs.IsNet.{line_of, IsNet}
 use Rattle.line_sim.proofs.Flying.{landed}
 use Rattle.line_sim.proofs.Fitting.{end-drained}
-use Rattle.network_laws.proofs.Keeping as keeping_law
+use Rattle.line_record_laws.proofs.Keeping as keeping_law
 use Rattle.node_laws.proofs.Making as making_law
 use Rattle.node_laws.proofs.QuietTurns as quiet_law
 use Rattle.pad_laws.proofs.Turns as typed_law

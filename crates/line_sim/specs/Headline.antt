@@ -1,7 +1,7 @@
 -- What the network promises.
 use Rattle.std.specs.Prelude.{◌≡◌, ℕ, true, slice_get, Some}
 use Rattle.call_records.specs.Records.{RecordValue}
-use Rattle.call_laws.specs.Headline.{BookHolds}
+use Rattle.book_laws.specs.Headline.{BookHolds}
 use Rattle.pad_laws.specs.Typed.{IsTyped}
 use Rattle.line_nodes.specs.Node.{is_pad}
 use Rattle.line_sim.specs.NetState.{NetState}

@@ -1,8 +1,8 @@
 -- What holds of a network between its events.
 use Rattle.std.specs.Prelude.{◌≡◌, ◌≢◌, false}
 use Rattle.link_timers.specs.declared.role.Role.TheVariants.{Dte}
-use Rattle.packet_line.specs.PacketLine as line
-use Rattle.network_laws.specs.Kept.{Setting, Kept}
+use Rattle.line_laws.specs.Line as line
+use Rattle.line_record_laws.specs.Kept.{Setting, Kept}
 use Rattle.node_laws.specs.Quiet.{IsQuiet}
 use Rattle.pad_laws.specs.PadHolds.{NodeHolds}
 use Rattle.line_nodes.specs.Node.{end_of, is_pad}

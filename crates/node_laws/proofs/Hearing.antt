@@ -9,18 +9,18 @@ use Rattle.lapb.specs.Machine.{Octets}
 use Rattle.packet_layer.specs.Packets.{Note}
 use Rattle.packet_end.specs.PacketEnd as end
 use Rattle.packet_end.specs.PacketEnd.{PacketEnd, begun, received, after_timer, relinked, finished, asked, runs_at}
-use Rattle.packet_line.specs.PacketLine.{Line}
-use Rattle.packet_line.proofs.Finishing.{none_waits}
+use Rattle.line_laws.specs.Line.{Line}
+use Rattle.line_laws.proofs.Finishing.{none_waits}
 use Rattle.packet_host.specs.Host as host
 use Rattle.packet_pad.specs.Pad as pad
 use Rattle.packet_pad.specs.Pad.{PadState, refusing, stands, after_finish}
 use Rattle.pad_editing.specs.Edited.{limit}
 use Rattle.call_records.specs.Book.{Book, all_told}
-use Rattle.network_laws.specs.Kept.{Setting, Kept, end_at, coming_to}
-use Rattle.network_laws.specs.Happens.{sent, with_event, with_restart}
-use Rattle.network_laws.proofs.Views.{KeptAt, seen}
-use Rattle.network_laws.proofs.Acting.{begins_at, hears_at, expires_at, relinks_at, requests_at}
-use Rattle.network_laws.proofs.Happening.{ends_on, frame_kept, expiry_kept, relink_kept, restarted_kept}
+use Rattle.line_record_laws.specs.Kept.{Setting, Kept, end_at, coming_to}
+use Rattle.line_record_laws.specs.Happens.{sent, with_event, with_restart}
+use Rattle.line_record_laws.proofs.Views.{KeptAt, seen}
+use Rattle.line_record_laws.proofs.Acting.{begins_at, hears_at, expires_at, relinks_at, requests_at}
+use Rattle.line_record_laws.proofs.Happening.{ends_on, frame_kept, expiry_kept, relink_kept, restarted_kept}
 use Rattle.line_nodes.specs.Node.{NodeState, Pad, Host, end_of, drained, all_read}
 use Rattle.line_nodes.specs.Turn.{unchanged, told}
 use Rattle.line_nodes.specs.PadTurns.{last_incoming, without_call, closed_call, pad_read, pad_event}

@@ -15,7 +15,7 @@ use Rattle.packet_pad.specs.Keys.{KeyEffect, message, is_control, edited_by, key
 use Rattle.pad_editing.specs.Edited.{Effect, after_key}
 use Rattle.call_records.specs.Book.{Book}
 use Rattle.call_records.specs.Room.{opening_notes}
-use Rattle.network_laws.proofs.Opening.{more_none, finished_same, frame_opens, expiry_opens, relink_opens, end_opens, read_kept}
+use Rattle.line_record_laws.proofs.Opening.{more_none, finished_same, frame_opens, expiry_opens, relink_opens, end_opens, read_kept}
 use Rattle.line_nodes.specs.Node.{Pad, Host, all_read}
 use Rattle.line_nodes.specs.Turn.{unchanged, told}
 use Rattle.line_nodes.specs.HostTurns.{taken_turn}

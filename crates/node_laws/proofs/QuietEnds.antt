@@ -17,8 +17,8 @@ use Rattle.packet_end.specs.PacketEnd as end
 use Rattle.packet_end.specs.PacketEnd.{PacketEnd, begun, heeded, after_packet, received, runs_at, after_timer, relinked, relinked_if_due, with_next, offered, all_offered, finished, asked, called}
 use Rattle.packet_host.specs.Host.{ended, unless_refused, refuse_refusal, after_call, after_request, after_refuse, after_say, let_go, taken_as, after_take}
 use Rattle.packet_host.specs.Saying.{queued, cut, say_refusal}
-use Rattle.packet_line.proofs.Unread.{request_unread, call_unread}
-use Rattle.packet_line.proofs.Layers.{next_silent}
+use Rattle.line_laws.proofs.Unread.{request_unread, call_unread}
+use Rattle.line_laws.proofs.Layers.{next_silent}
 
 abbrev pub IsUnread : PacketEnd → Type 0
 IsUnread e = e.layer.notes ≡ []

@@ -12,7 +12,7 @@ use Rattle.packet_pad.specs.Pad as pad
 use Rattle.packet_pad.specs.Pad.{PadState}
 use Rattle.call_records.specs.Book.{Book}
 use Rattle.call_records.specs.Room.{opening_notes}
-use Rattle.network_laws.proofs.Opening.{more_none, finished_same, expiry_opens}
+use Rattle.line_record_laws.proofs.Opening.{more_none, finished_same, expiry_opens}
 use Rattle.line_nodes.specs.Node.{NodeState, Pad, Host}
 use Rattle.line_nodes.specs.Turn.{Turn, unchanged, told}
 use Rattle.line_nodes.specs.LineTurns.{hears, expires, relinks, restarts}

@@ -12,14 +12,14 @@ use Rattle.packet_end.specs.PacketEnd as end
 use Rattle.packet_end.specs.PacketEnd.{PacketEnd, finished, all_offered}
 use Rattle.packet_end.specs.declared.params.EndParams.{EndParams}
 use Rattle.packet_end.specs.Params.{AreParams}
-use Rattle.packet_line.specs.PacketLine.{Line}
+use Rattle.line_laws.specs.Line.{Line}
 use Rattle.packet_host.specs.Host.{call_parts}
 use Rattle.call_records.specs.Records.{RecordValue}
 use Rattle.call_records.specs.Book.{Book, packet_of, made_book}
-use Rattle.call_laws.specs.Headline.{BookHolds}
-use Rattle.network_laws.specs.Kept.{Setting, IsSetting, Kept, end_at, coming_to}
-use Rattle.network_laws.specs.Happens.{with_event}
-use Rattle.network_laws.proofs.Keeping.{holds_kept}
+use Rattle.book_laws.specs.Headline.{BookHolds}
+use Rattle.line_record_laws.specs.Kept.{Setting, IsSetting, Kept, end_at, coming_to}
+use Rattle.line_record_laws.specs.Happens.{with_event}
+use Rattle.line_record_laws.proofs.Keeping.{holds_kept}
 use Rattle.line_nodes.specs.Node.{NodeState, Host, end_of, drained}
 use Rattle.line_nodes.specs.Turn.{Turn}
 use Rattle.line_nodes.specs.LineTurns.{hears}

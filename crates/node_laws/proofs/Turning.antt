@@ -7,11 +7,11 @@ use Rattle.link_timers.specs.Role.{other_of}
 use Rattle.lapb.specs.Machine.{Octets}
 use Rattle.packet_layer.specs.Packets.{Note}
 use Rattle.packet_end.specs.PacketEnd.{PacketEnd}
-use Rattle.packet_line.specs.PacketLine.{Line, Sends}
+use Rattle.line_laws.specs.Line.{Line, Sends}
 use Rattle.call_records.specs.Book.{Book, all_told}
-use Rattle.network_laws.specs.Kept.{Setting, Kept, end_at, coming_to}
-use Rattle.network_laws.specs.Happens.{with_event}
-use Rattle.network_laws.proofs.Keeping.{silent_kept, like_kept}
+use Rattle.line_record_laws.specs.Kept.{Setting, Kept, end_at, coming_to}
+use Rattle.line_record_laws.specs.Happens.{with_event}
+use Rattle.line_record_laws.proofs.Keeping.{silent_kept, like_kept}
 use Rattle.line_nodes.specs.Node.{NodeState, Pad, Host, end_of, drained, all_read, without_notes}
 use Rattle.line_nodes.specs.Turn.{unchanged, told}
 use Rattle.node_laws.specs.Nodes.{HoldsNoBlock, IsNode, StandsAt, KeepsWith, KeepsBy}

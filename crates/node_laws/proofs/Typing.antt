@@ -15,15 +15,15 @@ use Rattle.packet_layer.specs.Channel.{Channel, Refusal, refused_if, in_transfer
 use Rattle.packet_layer.specs.Channel.Request.{Sending}
 use Rattle.packet_layer.specs.Layer.{channel_of, refusal_at, request_refusal, room_at, room}
 use Rattle.packet_end.specs.PacketEnd.{PacketEnd, begun, finished, asked}
-use Rattle.packet_line.specs.PacketLine.{Line}
+use Rattle.line_laws.specs.Line.{Line}
 use Rattle.packet_pad.specs.Pad.{PadState, stands}
 use Rattle.packet_pad.specs.Keys.{KeyEffect, message, is_control, edited_by, key_dropped, key_without_effect, typed, with_block}
 use Rattle.call_records.specs.Book.{Book, all_told, sends, edits}
 use Rattle.call_records.specs.Carried.{unless_refused}
-use Rattle.network_laws.specs.Kept.{Setting, Kept, end_at, coming_to}
-use Rattle.network_laws.specs.Happens.{with_event}
-use Rattle.network_laws.proofs.Keeping.{edit_kept}
-use Rattle.network_laws.proofs.Happening.{requested_kept}
+use Rattle.line_record_laws.specs.Kept.{Setting, Kept, end_at, coming_to}
+use Rattle.line_record_laws.specs.Happens.{with_event}
+use Rattle.line_record_laws.proofs.Keeping.{edit_kept}
+use Rattle.line_record_laws.proofs.Happening.{requested_kept}
 use Rattle.line_nodes.specs.Node.{Pad}
 use Rattle.line_nodes.specs.Turn.{told}
 use Rattle.line_nodes.specs.PadTurns.{keyed}

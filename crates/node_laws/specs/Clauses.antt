@@ -9,7 +9,7 @@ use Rattle.packet_codec.specs.Address.{AreDigits}
 use Rattle.packet_layer.specs.Channel.{Request}
 use Rattle.packet_end.specs.PacketEnd as end
 use Rattle.packet_end.specs.PacketEnd.{PacketEnd}
-use Rattle.packet_line.specs.PacketLine.{Line}
+use Rattle.line_laws.specs.Line.{Line}
 use Rattle.packet_host.specs.Host.{call_parts}
 use Rattle.packet_host.specs.Making as host
 use Rattle.packet_host.specs.declared.config.HostConfig.{HostConfig}
@@ -17,8 +17,8 @@ use Rattle.packet_pad.specs.Pad.{PadState}
 use Rattle.packet_pad.specs.Making as pad
 use Rattle.packet_pad.specs.declared.config.PadConfig.{PadConfig}
 use Rattle.call_records.specs.Book.{Book, made_book}
-use Rattle.network_laws.specs.Kept.{Setting, IsSetting, Kept, coming_to}
-use Rattle.network_laws.specs.Happens.{sent, with_restart}
+use Rattle.line_record_laws.specs.Kept.{Setting, IsSetting, Kept, coming_to}
+use Rattle.line_record_laws.specs.Happens.{sent, with_restart}
 use Rattle.line_nodes.specs.Node.{NodeState, Pad, Host, end_of, drained, node_elapsed}
 use Rattle.line_nodes.specs.LineTurns.{hears, expires, relinks, restarts}
 use Rattle.line_nodes.specs.HostTurns.{host_calls, host_asks, host_refuses, host_says, host_takes}

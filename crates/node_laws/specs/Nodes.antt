@@ -3,10 +3,10 @@ use Rattle.std.specs.Prelude.{◌≡◌, ◌<◌, Bool, List, [], length}
 use Rattle.link_timers.specs.declared.role.Role.{Role}
 use Rattle.link_timers.specs.Role.{other_of}
 use Rattle.lapb.specs.Machine.{Octets}
-use Rattle.packet_line.specs.PacketLine.{Line}
+use Rattle.line_laws.specs.Line.{Line}
 use Rattle.pad_editing.specs.Edited.{limit}
-use Rattle.network_laws.specs.Kept.{Setting, Kept, end_at, coming_to}
-use Rattle.network_laws.specs.Happens.{with_event}
+use Rattle.line_record_laws.specs.Kept.{Setting, Kept, end_at, coming_to}
+use Rattle.line_record_laws.specs.Happens.{with_event}
 use Rattle.line_nodes.specs.Node.{NodeState, Pad, Host, end_of, drained}
 use Rattle.line_nodes.specs.Turn.{Turn}
 

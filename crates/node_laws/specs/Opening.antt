@@ -7,11 +7,11 @@ use Rattle.lapb.specs.Machine.{Octets}
 use Rattle.packet_layer.specs.Packets.{CallParts}
 use Rattle.packet_layer.specs.Channel.{Request}
 use Rattle.packet_end.specs.PacketEnd.{PacketEnd}
-use Rattle.packet_line.specs.PacketLine.{Line}
+use Rattle.line_laws.specs.Line.{Line}
 use Rattle.packet_pad.specs.Pad.{PadState}
 use Rattle.call_records.specs.Book.{Book}
 use Rattle.call_records.specs.Room.{opening_notes}
-use Rattle.network_laws.specs.Kept.{Setting, Kept}
+use Rattle.line_record_laws.specs.Kept.{Setting, Kept}
 use Rattle.line_nodes.specs.Node.{NodeState, Pad, Host}
 use Rattle.line_nodes.specs.Turn.{Turn}
 use Rattle.line_nodes.specs.LineTurns.{hears, expires, relinks}

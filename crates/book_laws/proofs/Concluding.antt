@@ -1,0 +1,226 @@
+-- What is right of the book of a line, with the law of the line, gives what the book promises.
+use Rattle.std.specs.Prelude.{◌≡◌, ℕ, suc, ◌⊎◌, Bool, true, false, ◌||◌, List, [], ◌∷◌, ◌++◌, map, slice_get, Some}
+use Rattle.std.proofs.Common.{inl, inr, refl, sym, ap, subst, ◌∙◌, arith, true≢false}
+use Rattle.std.proofs.lemmas.Option.{slice_get_within}
+use Rattle.link_timers.specs.declared.role.Role.{Role}
+use Rattle.link_timers.specs.declared.role.Role.TheVariants.{Dte, Dce}
+use Rattle.link_timers.specs.Role.{other_of}
+use Rattle.epochs.specs.Item.{DataPacket, all_items}
+use Rattle.epochs.specs.Epoch as epochs
+use Rattle.epochs.specs.Epoch.{SentEpoch, TakenEpoch, taken_epoch, sent_epoch, IsEmpty, IsPrefixOf}
+use Rattle.epochs.specs.Match.{Match}
+use Rattle.epochs.specs.Match.Match.{nothing, drop_empty, join}
+use Rattle.epochs.proofs.Prefixes.{empty-prefix, all_items-prefix}
+use Rattle.packet_layer.specs.Packets.{Datum}
+use Rattle.packet_laws.specs.History.{Epoch}
+use Rattle.packet_laws.specs.Law.{Aligned, HasNoLogs}
+use Rattle.call_records.specs.Records.{RecordValue, PairValue, sent_epochs, taken_epochs}
+use Rattle.call_records.specs.Book.{Book, side_of, packet_of}
+use Rattle.book_laws.specs.Headline.{AreEnds, PairHolds, IsIn, TookNothing, BookHolds}
+use Rattle.book_laws.proofs.Basics.{twice, get_there}
+use Rattle.book_laws.proofs.Scenes.{Face, Spot, Kind, Tag, shelf_of, IsLive, Tells, IsCaller, IsCallee, IsPaired, IsRight, caller_of, callee_of, epoch_at, answered_at, sent_of, taken_of, nth_sent, nth_taken, all_sent, all_taken, Passed, nothing_passed}
+use Rattle.book_laws.proofs.Scenes.Kind.{Caller, Callee, Cancelled}
+use Rattle.book_laws.proofs.Carrying.{same_tag}
+use Rattle.book_laws.proofs.Cancelling.{caller_not_callee, caller_not_cancelled, callee_not_cancelled}
+
+-- what the law of the line says of each use that may have a call
+pub record LineSays (faces : Role → Face) : Type 0 where
+  pub aligned : (y : Role) (k : Spot) (g : ℕ) → (faces y).begun k ≡ true → Aligned (epoch_at (faces y) k g) (epoch_at (faces (other_of y)) k g)
+  pub aligned_back : (y : Role) (k : Spot) (g : ℕ) → (faces y).begun k ≡ true → Aligned (epoch_at (faces (other_of y)) k g) (epoch_at (faces y) k g)
+  pub answers : (y : Role) (k : Spot) (g : ℕ) → (faces y).begun k ≡ true → (HasNoLogs (epoch_at (faces y) k g) → ⊥)
+      → (answered_at (faces y) k || answered_at (faces (other_of y)) k) ≡ true
+
+-- ---- lists that agree number by number
+
+abbrev epoch_of : Passed → epochs.Epoch
+epoch_of p = record { items = all_items p.packets; interrupts = p.interrupts }
+
+empty : epochs.IsEmpty (epoch_of nothing_passed)
+empty = record { items = refl; interrupts = refl }
+
+numbered : (ss : List SentEpoch) (ts : List TakenEpoch) → ((g : ℕ) → IsPrefixOf (epoch_of (nth_taken ts g)) (epoch_of (nth_sent ss g))) → Match (map taken_epoch ts) (map sent_epoch ss)
+numbered [] [] h = nothing
+numbered [] (t ∷ ts) h = drop_empty (empty-prefix (h 0) empty) (numbered [] ts (λ g. h (suc g)))
+numbered (s ∷ ss) [] h = nothing
+numbered (s ∷ ss) (t ∷ ts) h = join (h 0) (numbered ss ts (λ g. h (suc g)))
+
+map_append : (xs ys : List Datum) → map packet_of (xs ++ ys) ≡ map packet_of xs ++ map packet_of ys
+map_append [] ys = refl
+map_append (x ∷ xs) ys = ap (λ (l : List DataPacket). packet_of x ∷ l) (map_append xs ys)
+
+begins : (e f : Epoch) → Aligned e f → IsPrefixOf (epoch_of (taken_of f)) (epoch_of (sent_of e))
+begins e f a = record {
+  items = all_items-prefix (record { rest = map packet_of a.packets.0; whole = sym (map_append f.taken a.packets.0) ∙ ap (λ (l : List Datum). map packet_of l) a.packets.1 });
+  interrupts = record { rest = a.interrupts.0; whole = a.interrupts.1 };
+}
+
+match_of : (f y : Face) (k : Spot) (s t : RecordValue) → ((g : ℕ) → Aligned (epoch_at f k g) (epoch_at y k g)) → Tells f k s → Tells y k t → Match (taken_epochs t) (sent_epochs s)
+match_of f y k s t a mine yours = numbered (all_sent s) (all_taken t)
+    (λ g. subst (λ (z : Passed). IsPrefixOf (epoch_of (nth_taken (all_taken t) g)) (epoch_of z)) (sym (mine.sent g))
+    (subst (λ (z : Passed). IsPrefixOf (epoch_of z) (epoch_of (sent_of (epoch_at f k g)))) (sym (yours.taken g)) (begins (epoch_at f k g) (epoch_at y k g) (a g))))
+
+-- ---- what was taken
+
+-- something was taken in the epoch
+abbrev Took : Passed → Type 0
+Took t = (t.packets ≡ []) × (t.interrupts ≡ []) → ⊥
+
+cons_not_nil : {X : Type 0} (x : X) (xs : List X) → x ∷ xs ≡ [] → ⊥
+cons_not_nil x xs e = cc
+
+took_one : (packets : List DataPacket) (interrupts : List (List ℕ)) (released : ℕ)
+    → IsEmpty (taken_epoch (record { packets = packets; interrupts = interrupts; released = released })) ⊎ Took (record { packets = packets; interrupts = interrupts })
+took_one [] [] released = inl (record { items = refl; interrupts = refl })
+took_one (p ∷ ps) is released = inr (λ h. cons_not_nil p ps h.0)
+took_one [] (i ∷ is) released = inr (λ h. cons_not_nil i is h.1)
+
+took_any : (ts : List TakenEpoch) → TookNothing (map taken_epoch ts) ⊎ ((g : ℕ) × Took (nth_taken ts g))
+took_any [] = inl tt
+took_any (t ∷ ts) =
+    elim (took_one t.packets t.interrupts t.released) [
+      | inl e ↦ elim (took_any ts) [
+        | inl h ↦ inl (e, h)
+        | inr h ↦ inr (suc h.0, h.1)
+      ]
+      | inr h ↦ inr (0, h)
+    ]
+
+no_logs_took_nothing : (e : Epoch) → HasNoLogs e → Took (taken_of e) → ⊥
+no_logs_took_nothing e h t = t (ap (λ (z : Epoch). map packet_of z.taken) h, ap (λ (z : Epoch). z.interrupts_taken) h)
+
+or_cases : (a b : Bool) → (a || b) ≡ true → (a ≡ true) ⊎ (b ≡ true)
+or_cases true b e = inl refl
+or_cases false b e = inr e
+
+pub kind_cases : (k : Kind) → (k ≡ Caller) ⊎ (((a : ℕ) × (k ≡ Callee a)) ⊎ (k ≡ Cancelled))
+kind_cases Caller = inl refl
+kind_cases (Callee a) = inr (inl (a, refl))
+kind_cases Cancelled = inr (inr refl)
+
+abbrev InPair : List PairValue → ℕ → Type 0
+InPair pairs n = (i : ℕ) × (p : PairValue) × (slice_get pairs i ≡ Some p) × IsIn p n
+
+from_caller : (pairs : List PairValue) (n : ℕ) → IsPaired caller_of pairs n → InPair pairs n
+from_caller pairs n p = (p.0, p.1, p.2, inl p.3)
+
+from_callee : (pairs : List PairValue) (n : ℕ) → IsPaired callee_of pairs n → InPair pairs n
+from_callee pairs n p = (p.0, p.1, p.2, inr p.3)
+
+ends_are : (b : Book) (t : Role) → AreEnds b (side_of (other_of t) b).node (side_of t b).node
+ends_are b Dte = inr (refl, refl)
+ends_are b Dce = inl (refl, refl)
+
+module _ (faces : Role → Face) (b : Book) (tags : List Tag) (w : IsRight faces (shelf_of b) tags) (says : LineSays faces) where
+  record_of : (n : ℕ) (t : Tag) → slice_get tags n ≡ Some t → (r : RecordValue) × (slice_get b.records n ≡ Some r)
+  record_of n t e = get_there b.records n (let h = slice_get_within tags n t e in let c = w.count in omega arith)
+
+  pair_holds : (i : ℕ) (p : PairValue) → slice_get b.pairs i ≡ Some p → PairHolds b p
+  pair_holds i p e =
+      let o = w.pairs i p e in
+      let t = o.tag in
+      let m = (w.means p.callee t o.there).callee p.caller o.kind in
+      let u = m.mate in
+      let mine = record_of p.caller u m.there in
+      let yours = record_of p.callee t o.there in
+      let fm = w.fits p.caller u mine.0 m.there mine.1 in
+      let fy = w.fits p.callee t yours.0 o.there yours.1 in
+      let lm : IsLive u.kind = λ h. caller_not_cancelled (sym m.calls ∙ h) in
+      let ly : IsLive t.kind = λ h. callee_not_cancelled p.caller (sym o.kind ∙ h) in
+      let begun = (w.stands p.callee t o.there).begun in
+      let tells : Tells (faces (other_of t.role)) t.spot mine.0 = subst (λ (y : Role). Tells (faces y) t.spot mine.0) m.role (subst (λ (k : Spot). Tells (faces u.role) k mine.0) m.spot (fm.tells lm)) in
+      record {
+        caller = mine.0;
+        callee = yours.0;
+        caller_there = mine.1;
+        callee_there = yours.1;
+        matches = record {
+          onward = match_of (faces (other_of t.role)) (faces t.role) t.spot mine.0 yours.0 (λ g. says.aligned_back t.role t.spot g begun) tells (fy.tells ly);
+          backward = match_of (faces t.role) (faces (other_of t.role)) t.spot yours.0 mine.0 (λ g. says.aligned t.role t.spot g begun) (fy.tells ly) tells;
+        };
+        is_right = record {
+          order = let a = fm.number in let c = fy.number in let l = m.order in omega arith;
+          ends = subst (λ (n : ℕ). AreEnds b n yours.0.node) (sym (fm.node_is ∙ ap (λ (y : Role). (side_of y b).node) m.role))
+              (subst (λ (n : ℕ). AreEnds b (side_of (other_of t.role) b).node n) (sym fy.node_is) (ends_are b t.role));
+          address = fy.own ∙ sym m.address ∙ sym fm.far;
+          caller_own = fm.own ∙ ((w.means p.caller u m.there).caller m.calls).own;
+          callee_far = fy.far ∙ m.far;
+        };
+      }
+
+  number_of : (i : ℕ) (r : RecordValue) → slice_get b.records i ≡ Some r → r.number ≡ i
+  number_of i r e =
+      let t = get_there tags i (let h = slice_get_within b.records i r e in let c = w.count in omega arith) in
+      (w.fits i t.0 r t.1 e).number
+
+  -- a caller is in one pair at most
+  same_caller : (i j : ℕ) (p q : PairValue) → slice_get b.pairs i ≡ Some p → slice_get b.pairs j ≡ Some q → p.caller ≡ q.caller → i ≡ j
+  same_caller i j p q ei ej e =
+      let o = w.pairs i p ei in
+      let v = w.pairs j q ej in
+      let m = (w.means p.callee o.tag o.there).callee p.caller o.kind in
+      let n = (w.means q.callee v.tag v.there).callee q.caller v.kind in
+      let same : m.mate ≡ n.mate = same_tag tags q.caller m.mate n.mate (ap (λ (k : ℕ). slice_get tags k) (sym e) ∙ m.there) n.there in
+      let roles : o.tag.role ≡ v.tag.role = sym (twice o.tag.role) ∙ ap other_of (sym m.role ∙ ap (λ (u : Tag). u.role) same ∙ n.role) ∙ twice v.tag.role in
+      let spots : o.tag.spot ≡ v.tag.spot = sym m.spot ∙ ap (λ (u : Tag). u.spot) same ∙ n.spot in
+      w.once i j p q ei ej (w.alone p.callee q.callee o.tag v.tag o.there v.there
+      (λ h. callee_not_cancelled p.caller (sym o.kind ∙ h)) (λ h. callee_not_cancelled q.caller (sym v.kind ∙ h)) roles spots)
+
+  -- a caller of a pair is no callee
+  not_both : (i j : ℕ) (p q : PairValue) → slice_get b.pairs i ≡ Some p → slice_get b.pairs j ≡ Some q → p.caller ≡ q.callee → ⊥
+  not_both i j p q ei ej e =
+      let o = w.pairs i p ei in
+      let v = w.pairs j q ej in
+      let m = (w.means p.callee o.tag o.there).callee p.caller o.kind in
+      let same : m.mate ≡ v.tag = same_tag tags q.callee m.mate v.tag (ap (λ (k : ℕ). slice_get tags k) (sym e) ∙ m.there) v.there in
+      caller_not_callee q.caller (sym m.calls ∙ ap (λ (u : Tag). u.kind) same ∙ v.kind)
+
+  in_one : (i j : ℕ) (p q : PairValue) (n : ℕ) → slice_get b.pairs i ≡ Some p → slice_get b.pairs j ≡ Some q → IsIn p n → IsIn q n → i ≡ j
+  in_one i j p q n ei ej (inl a) (inl c) = same_caller i j p q ei ej (a ∙ sym c)
+  in_one i j p q n ei ej (inl a) (inr c) = absurd (not_both i j p q ei ej (a ∙ sym c))
+  in_one i j p q n ei ej (inr a) (inl c) = absurd (not_both j i q p ej ei (c ∙ sym a))
+  in_one i j p q n ei ej (inr a) (inr c) = w.once i j p q ei ej (a ∙ sym c)
+
+  took_caller : (n : ℕ) (t : Tag) → IsCaller (faces t.role) (faces (other_of t.role)) b.pairs n t → (answered_at (faces t.role) t.spot || answered_at (faces (other_of t.role)) t.spot) ≡ true → InPair b.pairs n
+  took_caller n t z a =
+      elim (or_cases (answered_at (faces t.role) t.spot) (answered_at (faces (other_of t.role)) t.spot) a) [
+        | inl h ↦ absurd (true≢false (sym h ∙ z.not_answered))
+        | inr h ↦ from_caller b.pairs n (z.paired h)
+      ]
+
+  took_callee : (n k : ℕ) (t : Tag) → IsCallee (faces t.role) b.pairs tags n k t → (answered_at (faces t.role) t.spot || answered_at (faces (other_of t.role)) t.spot) ≡ true → InPair b.pairs n
+  took_callee n k t z a =
+      elim (or_cases (answered_at (faces t.role) t.spot) (answered_at (faces (other_of t.role)) t.spot) a) [
+        | inl h ↦ from_callee b.pairs n (z.paired h)
+        | inr h ↦ absurd (true≢false (sym h ∙ ap (λ (y : Role). answered_at (faces y) t.spot) (sym z.role) ∙ ap (λ (s : Spot). answered_at (faces z.mate.role) s) (sym z.spot)
+            ∙ ((w.means k z.mate z.there).caller z.calls).not_answered))
+      ]
+
+  took_live : (n : ℕ) (t : Tag) (r : RecordValue) (g : ℕ) → slice_get tags n ≡ Some t → slice_get b.records n ≡ Some r → IsLive t.kind → Took (nth_taken (all_taken r) g) → (answered_at (faces t.role) t.spot || answered_at (faces (other_of t.role)) t.spot) ≡ true
+  took_live n t r g there got live took =
+      let f = w.fits n t r there got in
+      says.answers t.role t.spot g (w.stands n t there).begun
+      (λ h. no_logs_took_nothing (epoch_at (faces t.role) t.spot g) h (subst (λ (z : Passed). Took z) ((f.tells live).taken g) took))
+
+  took_some : (n : ℕ) (t : Tag) (r : RecordValue) (g : ℕ) → slice_get tags n ≡ Some t → slice_get b.records n ≡ Some r → Took (nth_taken (all_taken r) g) → InPair b.pairs n
+  took_some n t r g there got took =
+      elim (kind_cases t.kind) [
+        | inl h ↦ took_caller n t ((w.means n t there).caller h) (took_live n t r g there got (λ e. caller_not_cancelled (sym h ∙ e)) took)
+        | inr (inl h) ↦ took_callee n h.0 t ((w.means n t there).callee h.0 h.1) (took_live n t r g there got (λ e. callee_not_cancelled h.0 (sym h.1 ∙ e)) took)
+        | inr (inr h) ↦ absurd (subst (λ (z : Passed). Took z) ((w.fits n t r there got).none h g) took (refl, refl))
+      ]
+
+  took_of : (n : ℕ) (r : RecordValue) → slice_get b.records n ≡ Some r → TookNothing (taken_epochs r) ⊎ InPair b.pairs n
+  took_of n r e =
+      let t = get_there tags n (let h = slice_get_within b.records n r e in let c = w.count in omega arith) in
+      elim (took_any (all_taken r)) [
+        | inl h ↦ inl h
+        | inr h ↦ inr (took_some n t.0 r h.0 t.1 e h.1)
+      ]
+
+  pub concluded : BookHolds b
+  concluded = record {
+    pairs_hold = pair_holds;
+    numbers = number_of;
+    in_one = in_one;
+    took = took_of;
+  }

@@ -1,0 +1,238 @@
+-- Whatever happens at the two ends of a line keeps its book right.
+use Rattle.std.specs.Prelude.{◌≡◌, ℕ, zero, suc, ◌≤◌, Bool, true, false, cond, ◌&&◌, ◌||◌, List, [], ◌∷◌, length, Option, Some, None}
+use Rattle.std.proofs.Common.{inl, inr, refl, sym, ap, subst, ◌∙◌, arith, true≢false}
+use Rattle.std.proofs.lemmas.Bool.{ltb-true}
+use Rattle.link_timers.specs.declared.role.Role.{Role}
+use Rattle.link_timers.specs.declared.role.Role.TheVariants.{Dte, Dce}
+use Rattle.link_timers.specs.Role.{other_of}
+use Rattle.pad_editing.specs.Edited.{Step}
+use Rattle.packet_layer.specs.Packets.{Packet}
+use Rattle.packet_layer.specs.Layer.{link_up, runs, channel_given}
+use Rattle.packet_laws.specs.Law.{Holds, HasNoLogs, Aligned}
+use Rattle.packet_laws.specs.Line.{End, Line, Event, Happening, turned, happens, after, may_begin, begun, offers, accepts, arrives_in, next_of_session}
+use Rattle.packet_laws.specs.Line.Event.{Up, Down, Calls, Requests, Expires, Offers, Arrives}
+use Rattle.packet_laws.specs.Line.Happening.{Here, There}
+use Rattle.call_records.specs.Records.{with_step}
+use Rattle.call_records.specs.Book.{Book, Slot, slot_at, edits, all_told}
+use Rattle.book_laws.specs.Told.{World, Move, notes_in, notes_by_packet, written, top_after, after_move, after_all, InOrder, IsAllowed, AreAllowed}
+use Rattle.book_laws.specs.Told.Move.{Happens, Edits}
+use Rattle.book_laws.specs.Headline.{BookHolds}
+use Rattle.book_laws.proofs.Basics.{all_same}
+use Rattle.book_laws.proofs.Scenes.{Face, Spot, IsRight, shelf_of, answered_at, epoch_at}
+use Rattle.book_laws.proofs.Writing.{Closes, size_changed, slot_changed, pairs_changed, count_changed, kept_changed}
+use Rattle.book_laws.proofs.Faces.{face_of, faces_of, within, has_come, end_step}
+use Rattle.book_laws.proofs.Steps.{story_refl}
+use Rattle.book_laws.proofs.Moving.{KeptAt, Facts, sized, top_of}
+use Rattle.book_laws.proofs.Layers.{next_same, either_way}
+use Rattle.book_laws.proofs.Ends.{quiet_step}
+use Rattle.book_laws.proofs.Events.{requests_kept, begun_rises, same_rises, same_end_is}
+use Rattle.book_laws.proofs.Placing.{calls_given, timer_runs, down_kept, up_kept}
+use Rattle.book_laws.proofs.Coming.{accepts_kept}
+use Rattle.book_laws.proofs.Concluding.{LineSays, concluded}
+
+-- ---- an event at `me`
+
+up_by : (n : ℕ) (e y : End) (te ty : ℕ) (b : Book) (s : ℕ) (v : Bool) → KeptAt n e.layer.role e y te ty b → te ≤ s → may_begin s (record { me = e; you = y }) ≡ v
+    → KeptAt n e.layer.role (cond {A = Line} v (record { me = begun s e; you = y }) (record { me = e; you = y })).me y (cond v s te) ty (all_told e.layer.role (cond v (link_up e.layer).notes []) b)
+up_by n e y te ty b s true k le may = up_kept n e y te ty b s k le may
+up_by n e y te ty b s false k le may = k
+
+offers_by : (n : ℕ) (e y : End) (te ty : ℕ) (b : Book) (o : Option ℕ) → KeptAt n e.layer.role e y te ty b → KeptAt n e.layer.role (offers o e) y te ty b
+offers_by n e y te ty b None k = k
+offers_by n e y te ty b (Some s) k =
+    let l = next_same e.layer.role e.layer in
+    quiet_step n e.layer.role e (offers (Some s) e) y te ty b k (record {
+      session = refl;
+      mood = l.mood;
+      story = λ i c. story_refl (e.stories i c);
+      begun = begun_rises e.layer.role e (offers (Some s) e) (same_rises e) l.count;
+    }) (same_end_is n e (offers (Some s) e) k.here refl (same_rises e) l.role l.phase l.count)
+
+accepts_by : (n : ℕ) (e y : End) (te ty : ℕ) (b : Book) (s : ℕ) (o : Option Packet) → KeptAt n e.layer.role e y te ty b → Facts n e y → e.session ≡ Some s → next_of_session (record { me = e; you = y }) s ≡ o → ty ≤ s
+    → KeptAt n e.layer.role (accepts s o e) y te ty (all_told e.layer.role (notes_by_packet e.layer o) b)
+accepts_by n e y te ty b s None k facts up next order = k
+accepts_by n e y te ty b s (Some p) k facts up next order = accepts_kept n e y te ty b s p k facts up next order
+
+arrives_by : (n : ℕ) (e y : End) (te ty : ℕ) (b : Book) (o : Option ℕ) → KeptAt n e.layer.role e y te ty b → Facts n e y → e.session ≡ o → InOrder Arrives o te ty
+    → KeptAt n e.layer.role (arrives_in o (record { me = e; you = y })).me y te ty (all_told e.layer.role (notes_in o (record { me = e; you = y })) b)
+arrives_by n e y te ty b None k facts up order = k
+arrives_by n e y te ty b (Some s) k facts up order = accepts_by n e y te ty b s (next_of_session (record { me = e; you = y }) s) k facts up refl order
+
+pub event_kept : (n : ℕ) (e y : End) (te ty : ℕ) (b : Book) (event : Event) → KeptAt n e.layer.role e y te ty b → Facts n e y → InOrder event e.session te ty
+    → KeptAt n e.layer.role (happens event (record { me = e; you = y })).me y (top_after event (record { me = e; you = y }) te) ty (written e.layer.role event (record { me = e; you = y }) b)
+event_kept n e y te ty b (Up s) k facts order = up_by n e y te ty b s (may_begin s (record { me = e; you = y })) k order refl
+event_kept n e y te ty b Down k facts order = down_kept n e y te ty b k
+event_kept n e y te ty b (Calls parts) k facts order = calls_given n e y te ty b parts k facts order (channel_given e.layer e.layer.phase) refl
+event_kept n e y te ty b (Requests d r) k facts order = requests_kept n e y te ty b d r k facts
+event_kept n e y te ty b (Expires t) k facts order = timer_runs n e y te ty b t k facts (runs e.layer t) refl
+event_kept n e y te ty b Offers k facts order = offers_by n e y te ty b e.session k
+event_kept n e y te ty b Arrives k facts order = arrives_by n e y te ty b e.session k facts refl order
+
+-- the other end stays as it is
+arrives_you : (o : Option ℕ) (w : Line) → (arrives_in o w).you ≡ w.you
+arrives_you None w = refl
+arrives_you (Some s) w = refl
+
+happens_you : (event : Event) (w : Line) → (happens event w).you ≡ w.you
+happens_you (Up s) w = either_way (λ (v : Line). v.you ≡ w.you) (may_begin s w) (record w { me = begun s w.me }) w refl refl
+happens_you Down w = refl
+happens_you (Calls parts) w = refl
+happens_you (Requests d r) w = refl
+happens_you (Expires t) w = refl
+happens_you Offers w = refl
+happens_you Arrives w = arrives_you w.me.session w
+
+-- at an end of this role
+event_at : (n : ℕ) (x : Role) (e y : End) (te ty : ℕ) (b : Book) (event : Event) → KeptAt n x e y te ty b → Facts n e y → InOrder event e.session te ty
+    → KeptAt n x (happens event (record { me = e; you = y })).me (happens event (record { me = e; you = y })).you (top_after event (record { me = e; you = y }) te) ty (written x event (record { me = e; you = y }) b)
+event_at n x e y te ty b event k facts order =
+    let w : Line = record { me = e; you = y } in
+    subst (λ (z : End). KeptAt n x (happens event w).me z (top_after event w te) ty (written x event w b)) (sym (happens_you event w))
+    (subst (λ (r : Role). KeptAt n r (happens event w).me y (top_after event w te) ty (written r event w b)) k.here.role
+    (event_kept n e y te ty b event (subst (λ (r : Role). KeptAt n r e y te ty b) (sym k.here.role) k) facts order))
+
+-- ---- the two ends change places
+
+turned_faces : (e y : End) (te ty : ℕ) → faces_of Dte e y te ty ≡ faces_of Dce y e ty te
+turned_faces e y te ty = all_same (faces_of Dte e y te ty) (faces_of Dce y e ty te) (λ r. by_role r)
+  where
+    by_role : (r : Role) → faces_of Dte e y te ty r ≡ faces_of Dce y e ty te r
+    by_role Dte = refl
+    by_role Dce = refl
+
+turned_there : (n : ℕ) (e y : End) (te ty : ℕ) (b : Book) → KeptAt n Dte e y te ty b → KeptAt n Dce y e ty te b
+turned_there n e y te ty b k = record {
+  tags = k.tags;
+  right = subst (λ (f : Role → Face). IsRight f (shelf_of b) k.tags) (turned_faces e y te ty) k.right;
+  sizes = k.sizes;
+  here = k.there;
+  there = k.here;
+}
+
+turned_back : (n : ℕ) (e y : End) (te ty : ℕ) (b : Book) → KeptAt n Dce y e ty te b → KeptAt n Dte e y te ty b
+turned_back n e y te ty b k = record {
+  tags = k.tags;
+  right = subst (λ (f : Role → Face). IsRight f (shelf_of b) k.tags) (sym (turned_faces e y te ty)) k.right;
+  sizes = k.sizes;
+  here = k.there;
+  there = k.here;
+}
+
+-- ---- a step of editing
+
+edit_kept : (n : ℕ) (e y : End) (te ty : ℕ) (b : Book) (role : Role) (channel : ℕ) (step : Step) → KeptAt n Dte e y te ty b → KeptAt n Dte e y te ty (edits role channel step b)
+edit_kept n e y te ty b role channel step k =
+    let o : Option ℕ = (slot_at role channel b).present in
+    let b' : Book = edits role channel step b in
+    let closed : Closes Dte b b' = record {
+      size = size_changed o (with_step step) b;
+      pairs = pairs_changed o (with_step step) b;
+      there = λ c. slot_changed Dce c o (with_step step) b;
+      placed = λ c. ap (λ (z : Slot). z.placed) (slot_changed Dte c o (with_step step) b);
+      present = λ c. inr (slot_changed Dte c o (with_step step) b);
+      count = count_changed o (with_step step) b;
+      kept = kept_changed o (with_step step) b (λ r. record { head = record { number = refl; node = refl; own = refl; far = refl }; sent_before = refl; sent = refl; taken_before = refl; taken = refl });
+    } in
+    record {
+      tags = k.tags;
+      right = end_step Dte e e y te te ty b b' k.tags (record {
+        epochs = λ s c r u g. refl;
+        begun = λ z h. h;
+        top = omega arith;
+        up = λ s up. top_of Dte e y te ty b k.tags s k.right up;
+        how = inl (record {
+          session = refl;
+          channels = λ c. inl (record { mood = refl; restart = λ s up. refl; uses = λ s up. refl; epoch = λ s up. refl; slot_is = slot_changed Dte c o (with_step step) b });
+        });
+        closed = closed;
+      }) k.right;
+      sizes = sized n b b' closed.size k.sizes;
+      here = k.here;
+      there = k.there;
+    }
+
+-- ---- all moves
+
+-- the law of the line, from a line on
+abbrev pub Laws : ℕ → Line → Type 0
+Laws n w = (hs : List Happening) (s c : ℕ) → 1 ≤ c → c ≤ n → Holds (after hs w) s c
+
+facts_here : (n : ℕ) (w : Line) → Laws n w → Facts n w.me w.you
+facts_here n w law = record {
+  here = λ s c lo hi. (law [] s c lo hi).here;
+  there = λ s c lo hi. (law [] s c lo hi).there;
+  answers_there = λ s c lo hi. (law [] s c lo hi).answers_there;
+  call = λ s c parts lo hi a. (law [] s c lo hi).call_here parts a;
+}
+
+facts_there : (n : ℕ) (w : Line) → Laws n w → Facts n w.you w.me
+facts_there n w law = record {
+  here = λ s c lo hi. (law [] s c lo hi).there;
+  there = λ s c lo hi. (law [] s c lo hi).here;
+  answers_there = λ s c lo hi. (law [] s c lo hi).answers_here;
+  call = λ s c parts lo hi a. (law [] s c lo hi).call_there parts a;
+}
+
+abbrev pub KeptIn : ℕ → World → Type 0
+KeptIn n v = KeptAt n Dte v.line.me v.line.you v.top_me v.top_you v.book
+
+move_kept : (n : ℕ) (m : Move) (v : World) → KeptIn n v → Laws n v.line → IsAllowed m v → KeptIn n (after_move m v)
+move_kept n (Happens (Here event)) v k law a = event_at n Dte v.line.me v.line.you v.top_me v.top_you v.book event k (facts_here n v.line law) a
+move_kept n (Happens (There event)) v k law a =
+    turned_back n (happens event (turned v.line)).you (happens event (turned v.line)).me v.top_me (top_after event (turned v.line) v.top_you) (written Dce event (turned v.line) v.book)
+    (event_at n Dce v.line.you v.line.me v.top_you v.top_me v.book event (turned_there n v.line.me v.line.you v.top_me v.top_you v.book k) (facts_there n v.line law) a)
+move_kept n (Edits role channel step) v k law a = edit_kept n v.line.me v.line.you v.top_me v.top_you v.book role channel step k
+
+move_laws : (n : ℕ) (m : Move) (v : World) → Laws n v.line → Laws n (after_move m v).line
+move_laws n (Happens (Here event)) v law = λ hs. law (Here event ∷ hs)
+move_laws n (Happens (There event)) v law = λ hs. law (There event ∷ hs)
+move_laws n (Edits role channel step) v law = law
+
+pub all_kept : (n : ℕ) (ms : List Move) (v : World) → KeptIn n v → Laws n v.line → AreAllowed ms v → KeptIn n (after_all ms v) × Laws n (after_all ms v).line
+all_kept n [] v k law a = (k, law)
+all_kept n (m ∷ ms) v k law a = all_kept n ms (after_move m v) (move_kept n m v k law a.0) (move_laws n m v law) a.1
+
+-- ---- what the line says of the uses that may have a call
+
+range_of : (n c : ℕ) → within n c ≡ true → (1 ≤ c) × (c ≤ n)
+range_of n zero e = absurd (true≢false (sym e))
+range_of n (suc i) e = let h = ltb-true i n e in (omega arith, omega arith)
+
+and_second : (a b : Bool) → (a && b) ≡ true → b ≡ true
+and_second true b e = e
+and_second false b e = absurd (true≢false (sym e))
+
+in_line : (n : ℕ) (x : Role) (e : End) (te : ℕ) (k : Spot) → length e.layer.channels ≡ n → (face_of x e te).begun k ≡ true → (1 ≤ k.channel) × (k.channel ≤ n)
+in_line n x e te k count h = range_of n k.channel (ap (λ (m : ℕ). within m k.channel) (sym count) ∙ and_second (has_come e k.session) (within (length e.layer.channels) k.channel) h)
+
+pub says_of : (n : ℕ) (e y : End) (te ty : ℕ) → length e.layer.channels ≡ n → length y.layer.channels ≡ n → ((s c : ℕ) → 1 ≤ c → c ≤ n → Holds (record { me = e; you = y }) s c) → LineSays (faces_of Dte e y te ty)
+says_of n e y te ty here there law = record {
+  aligned = λ z k g h. aligned z k g h;
+  aligned_back = λ z k g h. back z k g h;
+  answers = λ z k g h. answers z k g h;
+}
+  where
+    aligned : (z : Role) (k : Spot) (g : ℕ) → (faces_of Dte e y te ty z).begun k ≡ true → Aligned (epoch_at (faces_of Dte e y te ty z) k g) (epoch_at (faces_of Dte e y te ty (other_of z)) k g)
+    aligned Dte k g h = let r = in_line n Dte e te k here h in (law k.session k.channel r.0 r.1).forth k.restart k.use_ g
+    aligned Dce k g h = let r = in_line n Dce y ty k there h in (law k.session k.channel r.0 r.1).back k.restart k.use_ g
+
+    back : (z : Role) (k : Spot) (g : ℕ) → (faces_of Dte e y te ty z).begun k ≡ true → Aligned (epoch_at (faces_of Dte e y te ty (other_of z)) k g) (epoch_at (faces_of Dte e y te ty z) k g)
+    back Dte k g h = let r = in_line n Dte e te k here h in (law k.session k.channel r.0 r.1).back k.restart k.use_ g
+    back Dce k g h = let r = in_line n Dce y ty k there h in (law k.session k.channel r.0 r.1).forth k.restart k.use_ g
+
+    answers : (z : Role) (k : Spot) (g : ℕ) → (faces_of Dte e y te ty z).begun k ≡ true → (HasNoLogs (epoch_at (faces_of Dte e y te ty z) k g) → ⊥)
+        → (answered_at (faces_of Dte e y te ty z) k || answered_at (faces_of Dte e y te ty (other_of z)) k) ≡ true
+    answers Dte k g h some =
+        let r = in_line n Dte e te k here h in
+        let w = law k.session k.channel r.0 r.1 in
+        ap (λ (a : Bool). a || answered_at (face_of Dce y ty) k) (w.here.one_call.answered k.restart k.use_ 0 g) ∙ ap (λ (a : Bool). ((e.stories k.session k.channel).epochs k.restart k.use_ g).answered || a) (w.there.one_call.answered k.restart k.use_ 0 g)
+        ∙ w.answers_here.answered k.restart k.use_ g some
+    answers Dce k g h some =
+        let r = in_line n Dce y ty k there h in
+        let w = law k.session k.channel r.0 r.1 in
+        ap (λ (a : Bool). a || answered_at (face_of Dte e te) k) (w.there.one_call.answered k.restart k.use_ 0 g) ∙ ap (λ (a : Bool). ((y.stories k.session k.channel).epochs k.restart k.use_ g).answered || a) (w.here.one_call.answered k.restart k.use_ 0 g)
+        ∙ w.answers_there.answered k.restart k.use_ g some
+
+pub kept_holds : (n : ℕ) (v : World) → KeptIn n v → Laws n v.line → BookHolds v.book
+kept_holds n v k law = concluded (faces_of Dte v.line.me v.line.you v.top_me v.top_you) v.book k.tags k.right
+    (says_of n v.line.me v.line.you v.top_me v.top_you k.here.count k.there.count (λ s c lo hi. law [] s c lo hi))

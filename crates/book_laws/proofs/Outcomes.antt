@@ -1,0 +1,460 @@
+-- What a step of one channel comes to for its call, its story and the book.
+use Rattle.std.specs.Prelude.{◌≡◌, ◌≢◌, ℕ, zero, suc, ◌+◌, Bool, true, false, cond, not, ◌==◌, List, [], ◌∷◌, ◌++◌, length, map, Option, Some, None}
+use Rattle.std.proofs.Common.{inl, inr, refl, sym, ap, ◌∙◌, arith}
+use Rattle.std.proofs.lemmas.Option.{none-some}
+use Rattle.link_timers.specs.declared.role.Role.{Role}
+use Rattle.link_timers.specs.declared.role.Role.TheVariants.{Dte, Dce}
+use Rattle.epochs.specs.Item.{DataPacket}
+use Rattle.epochs.specs.Epoch.{SentEpoch, TakenEpoch, nothing_sent, nothing_taken}
+use Rattle.packet_layer.specs.Packets.{CallParts, Datum, Body}
+use Rattle.packet_layer.specs.Packets.Body.{Call, Accepted, Clear, ClearConfirmation, Data, Interrupt, InterruptConfirmation, ReceiveReady, ReceiveNotReady, Reset, ResetConfirmation}
+use Rattle.packet_layer.specs.Packets.Note.{Covered}
+use Rattle.packet_layer.specs.Traffic.{Traffic, Heard, Taken, front, may_release, hears}
+use Rattle.packet_layer.specs.Traffic.Heard.{Keeps, Confirms, Wrong}
+use Rattle.packet_layer.specs.Traffic.Taken.{TakenInterrupt, TakenPacket}
+use Rattle.packet_layer.specs.Channel.{CallState, Channel, Request, Refusal, received, received_in, after_heard, in_own_reset, in_flow_ready, carried_out, refusal, refused_if, may_accept, in_transfer}
+use Rattle.packet_layer.specs.Channel.Request.{Accept, Clearing, Resetting, Sending, Interrupting, Stopping, Taking, Releasing, Confirming}
+use Rattle.packet_layer.specs.Channel.CallState.{Ready, OwnWaiting, FarWaiting, Transfer, Collision, OwnClear}
+use Rattle.packet_laws.specs.History.{Epoch, Story, opened, heard_story, received_story, grown, logged, logged_heard, with_taken, call_accepted, next_use_of, next_epoch_of}
+use Rattle.call_records.specs.Records.{RecordValue, with_sent, with_interrupt_sent, with_interrupt_taken, with_released, with_covered, with_epoch, changed_at}
+use Rattle.call_records.specs.Records as records
+use Rattle.call_records.specs.Book.{Book, slot_at, with_change, changed, answers, closes, packet_of, all_told}
+use Rattle.call_records.specs.Book as book
+use Rattle.book_laws.specs.Told.{carried}
+use Rattle.book_laws.proofs.Scenes.{HasEpochs, sent_of, taken_of, Passed, passed_sent, passed_taken, nth_sent, nth_taken, all_sent, all_taken}
+use Rattle.book_laws.proofs.Scenes.Mood.{Idle, OwnCall, FarCall, Open}
+use Rattle.book_laws.proofs.Carrying.{SameHead}
+use Rattle.book_laws.proofs.Ending.{Further}
+use Rattle.book_laws.proofs.Faces.{mood_of, StoryGrows}
+use Rattle.book_laws.proofs.Steps.{SameStory, story_refl}
+use Rattle.book_laws.proofs.Stories.{grown_cases, grown_keeps}
+use Rattle.book_laws.proofs.Basics.{length_pushed}
+
+-- ---- what a step comes to
+
+pub record EndsUse (st st' : Story) : Type 0 where
+  pub further : Further st st'
+  pub epochs : (r u g : ℕ) → st'.epochs r u g ≡ st.epochs r u g
+
+-- a record has what a story has in the present use of another one
+pub record TellsIn (z st : Story) (r : RecordValue) : Type 0 where
+  pub sent : (g : ℕ) → nth_sent (all_sent r) g ≡ sent_of (z.epochs st.restart st.use_ g)
+  pub taken : (g : ℕ) → nth_taken (all_taken r) g ≡ taken_of (z.epochs st.restart st.use_ g)
+
+pub record RecordGrows (st st' : Story) (r r' : RecordValue) : Type 0 where
+  pub head : SameHead r r'
+  pub tells : TellsIn st st r → HasEpochs r st.epoch → TellsIn st' st r'
+  pub epochs : HasEpochs r st.epoch → HasEpochs r' st'.epoch
+
+pub data Outcome (x : Role) (d : ℕ) (ch ch' : Channel) (told : Story → Story) (write : Book → Book) (came : CallParts → Type 0) : Type 0 where
+  stays : mood_of x ch'.state ≡ mood_of x ch.state → ((st : Story) → SameStory st (told st)) → ((b : Book) → write b ≡ b) → Outcome x d ch ch' told write came
+  ends : mood_of x ch'.state ≡ Idle → ((st : Story) → EndsUse st (told st)) → ((b : Book) → write b ≡ closes x d b) → Outcome x d ch ch' told write came
+  ends_none : mood_of x ch.state ≡ Idle → mood_of x ch'.state ≡ Idle → ((st : Story) → EndsUse st (told st)) → ((b : Book) → write b ≡ b) → Outcome x d ch ch' told write came
+  goes : (change : RecordValue → RecordValue) → mood_of x ch.state ≡ Open → mood_of x ch'.state ≡ Open → ((st : Story) → StoryGrows st (told st)) → ((st : Story) (r : RecordValue) → RecordGrows st (told st) r (change r))
+      → ((b : Book) → write b ≡ changed x d change b) → Outcome x d ch ch' told write came
+  connects : mood_of x ch.state ≡ OwnCall → mood_of x ch'.state ≡ Open → ((st : Story) → SameStory st (told st)) → ((b : Book) → write b ≡ b) → Outcome x d ch ch' told write came
+  accepts : mood_of x ch.state ≡ FarCall → mood_of x ch'.state ≡ Open → ((st : Story) → told st ≡ call_accepted st) → ((b : Book) → write b ≡ answers x d b) → Outcome x d ch ch' told write came
+  comes : (parts : CallParts) → came parts → ch.state ≡ Ready → mood_of x ch'.state ≡ FarCall → ((st : Story) → SameStory st (told st)) → ((b : Book) → write b ≡ book.comes x d parts b) → Outcome x d ch ch' told write came
+  collides : (parts : CallParts) → came parts → x ≡ Dce → ch.state ≡ OwnWaiting → mood_of x ch'.state ≡ FarCall → ((st : Story) → SameStory st (told st)) → ((b : Book) → write b ≡ book.comes x d parts (closes x d b)) → Outcome x d ch ch' told write came
+
+pub next_use : (st : Story) → EndsUse st (next_use_of st)
+next_use st = record { further = inr (refl, omega arith); epochs = λ r u g. refl }
+
+-- ---- lists of epochs
+
+nth_more : (es : List SentEpoch) (g : ℕ) → nth_sent (es ++ nothing_sent ∷ []) g ≡ nth_sent es g
+nth_more [] zero = refl
+nth_more [] (suc g) = refl
+nth_more (e ∷ es) zero = refl
+nth_more (e ∷ es) (suc g) = nth_more es g
+
+nth_more_taken : (es : List TakenEpoch) (g : ℕ) → nth_taken (es ++ nothing_taken ∷ []) g ≡ nth_taken es g
+nth_more_taken [] zero = refl
+nth_more_taken [] (suc g) = refl
+nth_more_taken (e ∷ es) zero = refl
+nth_more_taken (e ∷ es) (suc g) = nth_more_taken es g
+
+nth_at : (es : List SentEpoch) (e : SentEpoch) → nth_sent (es ++ e ∷ []) (length es) ≡ passed_sent e
+nth_at [] e = refl
+nth_at (f ∷ es) e = nth_at es e
+
+nth_at_taken : (es : List TakenEpoch) (e : TakenEpoch) → nth_taken (es ++ e ∷ []) (length es) ≡ passed_taken e
+nth_at_taken [] e = refl
+nth_at_taken (f ∷ es) e = nth_at_taken es e
+
+nth_else : (es : List SentEpoch) (e f : SentEpoch) (g : ℕ) → g ≢ length es → nth_sent (es ++ e ∷ []) g ≡ nth_sent (es ++ f ∷ []) g
+nth_else [] e f zero h = absurd (h refl)
+nth_else [] e f (suc g) h = refl
+nth_else (a ∷ es) e f zero h = refl
+nth_else (a ∷ es) e f (suc g) h = nth_else es e f g (λ k. h (ap suc k))
+
+nth_else_taken : (es : List TakenEpoch) (e f : TakenEpoch) (g : ℕ) → g ≢ length es → nth_taken (es ++ e ∷ []) g ≡ nth_taken (es ++ f ∷ []) g
+nth_else_taken [] e f zero h = absurd (h refl)
+nth_else_taken [] e f (suc g) h = refl
+nth_else_taken (a ∷ es) e f zero h = refl
+nth_else_taken (a ∷ es) e f (suc g) h = nth_else_taken es e f g (λ k. h (ap suc k))
+
+-- ---- records that grow
+
+same_head : (r : RecordValue) → SameHead r r
+same_head r = record { number = refl; node = refl; own = refl; far = refl }
+
+-- a reset opens an epoch
+pub record OpensEpoch (st st' : Story) : Type 0 where
+  pub restart : st'.restart ≡ st.restart
+  pub uses : st'.use_ ≡ st.use_
+  pub epoch : st'.epoch ≡ suc st.epoch
+  pub epochs : (r u g : ℕ) → st'.epochs r u g ≡ st.epochs r u g
+
+opens_grows : (st st' : Story) → OpensEpoch st st' → StoryGrows st st'
+opens_grows st st' o = record {
+  restart = o.restart;
+  uses = o.uses;
+  calls = λ r u g. (ap (λ (e : Epoch). e.called) (o.epochs r u g), ap (λ (e : Epoch). e.answered) (o.epochs r u g));
+  logs = λ r u g h. o.epochs r u g;
+}
+
+opens_record : (st st' : Story) (r : RecordValue) → OpensEpoch st st' → RecordGrows st st' r (with_epoch r)
+opens_record st st' r o = record {
+  head = record { number = refl; node = refl; own = refl; far = refl };
+  tells = λ t h. record {
+    sent = λ g. nth_more (all_sent r) g ∙ t.sent g ∙ ap sent_of (sym (o.epochs st.restart st.use_ g));
+    taken = λ g. nth_more_taken (all_taken r) g ∙ t.taken g ∙ ap taken_of (sym (o.epochs st.restart st.use_ g));
+  };
+  epochs = λ h. record {
+    sent = length_pushed r.sent_before r.sent ∙ ap suc h.sent ∙ sym o.epoch;
+    taken = length_pushed r.taken_before r.taken ∙ ap suc h.taken ∙ sym o.epoch;
+  };
+}
+
+pub opens : (st : Story) → OpensEpoch st (next_epoch_of st)
+opens st = record { restart = refl; uses = refl; epoch = omega arith; epochs = λ r u g. refl }
+
+-- what is sent or taken in the present epoch
+pub record GrowsBy (f : Epoch → Epoch) (change : RecordValue → RecordValue) : Type 0 where
+  pub called : (e : Epoch) → (f e).called ≡ e.called
+  pub answered : (e : Epoch) → (f e).answered ≡ e.answered
+  pub head : (r : RecordValue) → SameHead r (change r)
+  pub sent_before : (r : RecordValue) → (change r).sent_before ≡ r.sent_before
+  pub taken_before : (r : RecordValue) → (change r).taken_before ≡ r.taken_before
+  pub sent : (r : RecordValue) (e : Epoch) → passed_sent r.sent ≡ sent_of e → passed_sent (change r).sent ≡ sent_of (f e)
+  pub taken : (r : RecordValue) (e : Epoch) → passed_taken r.taken ≡ taken_of e → passed_taken (change r).taken ≡ taken_of (f e)
+
+grown_grows : (f : Epoch → Epoch) (change : RecordValue → RecordValue) → GrowsBy f change → (st : Story) → StoryGrows st (grown f st)
+grown_grows f change q st = record {
+  restart = refl;
+  uses = refl;
+  calls = λ r u g. (grown_keeps (λ e. e.called) f st q.called r u g, grown_keeps (λ e. e.answered) f st q.answered r u g);
+  logs = λ r u g h. elim (grown_cases f st r u g) [
+    | inl a ↦ absurd (h (a.0.0, a.0.1))
+    | inr a ↦ a.1
+  ];
+}
+
+grown_sent : (f : Epoch → Epoch) (change : RecordValue → RecordValue) → GrowsBy f change → (st : Story) (r : RecordValue) → TellsIn st st r → HasEpochs r st.epoch → (g : ℕ) → nth_sent (all_sent (change r)) g ≡ sent_of ((grown f st).epochs st.restart st.use_ g)
+grown_sent f change q st r t h g =
+    elim (grown_cases f st st.restart st.use_ g) [
+      | inl a ↦
+          let at : g ≡ length r.sent_before = a.0.2 ∙ sym h.sent in
+          let now : passed_sent r.sent ≡ sent_of (st.epochs st.restart st.use_ g) = sym (nth_at r.sent_before r.sent) ∙ ap (λ (n : ℕ). nth_sent (all_sent r) n) (sym at) ∙ t.sent g in
+          ap (λ (l : List SentEpoch). nth_sent (l ++ (change r).sent ∷ []) g) (q.sent_before r) ∙ ap (λ (n : ℕ). nth_sent (r.sent_before ++ (change r).sent ∷ []) n) at ∙ nth_at r.sent_before (change r).sent
+          ∙ q.sent r (st.epochs st.restart st.use_ g) now ∙ ap sent_of (sym a.1)
+      | inr a ↦
+          let other : g ≢ length r.sent_before = λ k. a.0 (refl, refl, k ∙ h.sent) in
+          ap (λ (l : List SentEpoch). nth_sent (l ++ (change r).sent ∷ []) g) (q.sent_before r) ∙ nth_else r.sent_before (change r).sent r.sent g other ∙ t.sent g ∙ ap sent_of (sym a.1)
+    ]
+
+grown_taken : (f : Epoch → Epoch) (change : RecordValue → RecordValue) → GrowsBy f change → (st : Story) (r : RecordValue) → TellsIn st st r → HasEpochs r st.epoch → (g : ℕ) → nth_taken (all_taken (change r)) g ≡ taken_of ((grown f st).epochs st.restart st.use_ g)
+grown_taken f change q st r t h g =
+    elim (grown_cases f st st.restart st.use_ g) [
+      | inl a ↦
+          let at : g ≡ length r.taken_before = a.0.2 ∙ sym h.taken in
+          let now : passed_taken r.taken ≡ taken_of (st.epochs st.restart st.use_ g) = sym (nth_at_taken r.taken_before r.taken) ∙ ap (λ (n : ℕ). nth_taken (all_taken r) n) (sym at) ∙ t.taken g in
+          ap (λ (l : List TakenEpoch). nth_taken (l ++ (change r).taken ∷ []) g) (q.taken_before r) ∙ ap (λ (n : ℕ). nth_taken (r.taken_before ++ (change r).taken ∷ []) n) at ∙ nth_at_taken r.taken_before (change r).taken
+          ∙ q.taken r (st.epochs st.restart st.use_ g) now ∙ ap taken_of (sym a.1)
+      | inr a ↦
+          let other : g ≢ length r.taken_before = λ k. a.0 (refl, refl, k ∙ h.taken) in
+          ap (λ (l : List TakenEpoch). nth_taken (l ++ (change r).taken ∷ []) g) (q.taken_before r) ∙ nth_else_taken r.taken_before (change r).taken r.taken g other ∙ t.taken g ∙ ap taken_of (sym a.1)
+    ]
+
+grown_record : (f : Epoch → Epoch) (change : RecordValue → RecordValue) → GrowsBy f change → (st : Story) (r : RecordValue) → RecordGrows st (grown f st) r (change r)
+grown_record f change q st r = record {
+  head = q.head r;
+  tells = λ t h. record { sent = grown_sent f change q st r t h; taken = grown_taken f change q st r t h };
+  epochs = λ h. record { sent = ap length (q.sent_before r) ∙ h.sent; taken = ap length (q.taken_before r) ∙ h.taken };
+}
+
+-- a growth by nothing
+grown_same : (f : Epoch → Epoch) → ((e : Epoch) → f e ≡ e) → (st : Story) → SameStory st (grown f st)
+grown_same f h st = record { restart = refl; uses = refl; epoch = refl; epochs = grown_keeps (λ e. e) f st h }
+
+map_pushed : (ds : List Datum) (d : Datum) → map packet_of (ds ++ d ∷ []) ≡ map packet_of ds ++ packet_of d ∷ []
+map_pushed [] d = refl
+map_pushed (x ∷ ds) d = ap (λ (l : List DataPacket). packet_of x ∷ l) (map_pushed ds d)
+
+by_sending : (d : Datum) → GrowsBy (λ e. record e { sent = e.sent ++ d ∷ [] }) (λ r. with_sent (packet_of d) r)
+by_sending d = record {
+  called = λ e. refl;
+  answered = λ e. refl;
+  head = λ r. record { number = refl; node = refl; own = refl; far = refl };
+  sent_before = λ r. refl;
+  taken_before = λ r. refl;
+  sent = λ r e h. ap (λ (p : Passed). record { packets = p.packets ++ packet_of d ∷ []; interrupts = p.interrupts }) h
+      ∙ ap (λ (l : List DataPacket). record { packets = l; interrupts = e.interrupts_sent }) (sym (map_pushed e.sent d));
+  taken = λ r e h. h;
+}
+
+by_interrupting : (octets : List ℕ) → GrowsBy (λ e. record e { interrupts_sent = e.interrupts_sent ++ octets ∷ [] }) (λ r. with_interrupt_sent octets r)
+by_interrupting octets = record {
+  called = λ e. refl;
+  answered = λ e. refl;
+  head = λ r. record { number = refl; node = refl; own = refl; far = refl };
+  sent_before = λ r. refl;
+  taken_before = λ r. refl;
+  sent = λ r e h. ap (λ (p : Passed). record { packets = p.packets; interrupts = p.interrupts ++ octets ∷ [] }) h;
+  taken = λ r e h. h;
+}
+
+by_taking : (d : Datum) → GrowsBy (λ e. record e { taken = e.taken ++ d ∷ [] }) (λ r. records.with_taken (packet_of d) r)
+by_taking d = record {
+  called = λ e. refl;
+  answered = λ e. refl;
+  head = λ r. record { number = refl; node = refl; own = refl; far = refl };
+  sent_before = λ r. refl;
+  taken_before = λ r. refl;
+  sent = λ r e h. h;
+  taken = λ r e h. ap (λ (p : Passed). record { packets = p.packets ++ packet_of d ∷ []; interrupts = p.interrupts }) h
+      ∙ ap (λ (l : List DataPacket). record { packets = l; interrupts = e.interrupts_taken }) (sym (map_pushed e.taken d));
+}
+
+by_interrupt_taken : (octets : List ℕ) → GrowsBy (λ e. record e { interrupts_taken = e.interrupts_taken ++ octets ∷ [] }) (λ r. with_interrupt_taken octets r)
+by_interrupt_taken octets = record {
+  called = λ e. refl;
+  answered = λ e. refl;
+  head = λ r. record { number = refl; node = refl; own = refl; far = refl };
+  sent_before = λ r. refl;
+  taken_before = λ r. refl;
+  sent = λ r e h. h;
+  taken = λ r e h. ap (λ (p : Passed). record { packets = p.packets; interrupts = p.interrupts ++ octets ∷ [] }) h;
+}
+
+by_covering : (n : ℕ) → GrowsBy (λ e. record e { covered = e.covered + n }) (λ r. with_covered n r)
+by_covering n = record {
+  called = λ e. refl;
+  answered = λ e. refl;
+  head = λ r. record { number = refl; node = refl; own = refl; far = refl };
+  sent_before = λ r. refl;
+  taken_before = λ r. refl;
+  sent = λ r e h. h;
+  taken = λ r e h. h;
+}
+
+by_covering_none : (n : ℕ) → GrowsBy (λ e. record e { covered = e.covered + n }) (λ r. r)
+by_covering_none n = record {
+  called = λ e. refl;
+  answered = λ e. refl;
+  head = λ r. record { number = refl; node = refl; own = refl; far = refl };
+  sent_before = λ r. refl;
+  taken_before = λ r. refl;
+  sent = λ r e h. h;
+  taken = λ r e h. h;
+}
+
+by_releasing : (v : Bool) (n : ℕ) → GrowsBy (λ e. cond v (record e { released = e.released + n }) e) (λ r. with_released n r)
+by_releasing true n = record {
+  called = λ e. refl;
+  answered = λ e. refl;
+  head = λ r. record { number = refl; node = refl; own = refl; far = refl };
+  sent_before = λ r. refl;
+  taken_before = λ r. refl;
+  sent = λ r e h. h;
+  taken = λ r e h. h;
+}
+by_releasing false n = record {
+  called = λ e. refl;
+  answered = λ e. refl;
+  head = λ r. record { number = refl; node = refl; own = refl; far = refl };
+  sent_before = λ r. refl;
+  taken_before = λ r. refl;
+  sent = λ r e h. h;
+  taken = λ r e h. h;
+}
+
+-- ---- a record that does not change
+
+changed_same : (n : ℕ) (rs : List RecordValue) → changed_at n (λ r. r) rs ≡ rs
+changed_same n [] = refl
+changed_same zero (r ∷ rs) = refl
+changed_same (suc n) (r ∷ rs) = ap (λ (l : List RecordValue). r ∷ l) (changed_same n rs)
+
+unchanged : (o : Option ℕ) (b : Book) → b ≡ with_change o (λ r. r) b
+unchanged None b = refl
+unchanged (Some n) b = ap (λ (l : List RecordValue). record b { records = l }) (sym (changed_same n b.records))
+
+-- ---- a packet that comes in
+
+abbrev Got : CallState → Role → ℕ → ℕ → Channel → Body → Type 0
+Got s x w d ch body = Outcome x d ch (received_in s x w d ch body).channel (λ st. opened (received_in s x w d ch body).owes (heard_story s ch.resetting (hears w ch.traffic body) st))
+    (λ b. all_told x (received_in s x w d ch body).notes b) (λ parts. body ≡ Call parts)
+
+got_ready : (x : Role) (w d : ℕ) (ch : Channel) → ch.state ≡ Ready → (body : Body) → Got Ready x w d ch body
+got_ready x w d ch e (Call parts) = comes parts refl e refl (λ st. story_refl st) (λ b. refl)
+got_ready x w d ch e (Clear cause diagnostic) = ends_none (ap (mood_of x) e) (ap (mood_of x) e) next_use (λ b. refl)
+got_ready x w d ch e body = ends_none (ap (mood_of x) e) refl next_use (λ b. refl)
+
+got_call : (x : Role) (w d : ℕ) (ch : Channel) → ch.state ≡ OwnWaiting → (parts : CallParts) → Got OwnWaiting x w d ch (Call parts)
+got_call Dte w d ch e parts = stays (sym (ap (mood_of Dte) e)) (λ st. story_refl st) (λ b. refl)
+got_call Dce w d ch e parts = collides parts refl refl e refl (λ st. story_refl st) (λ b. refl)
+
+got_own_waiting : (x : Role) (w d : ℕ) (ch : Channel) → ch.state ≡ OwnWaiting → (body : Body) → Got OwnWaiting x w d ch body
+got_own_waiting x w d ch e Accepted = connects (ap (mood_of x) e) refl (λ st. story_refl st) (λ b. refl)
+got_own_waiting x w d ch e (Call parts) = got_call x w d ch e parts
+got_own_waiting x w d ch e (Clear cause diagnostic) = ends refl next_use (λ b. refl)
+got_own_waiting x w d ch e body = ends refl next_use (λ b. refl)
+
+got_far_waiting : (x : Role) (w d : ℕ) (ch : Channel) → (body : Body) → Got FarWaiting x w d ch body
+got_far_waiting x w d ch (Clear cause diagnostic) = ends refl next_use (λ b. refl)
+got_far_waiting x w d ch body = ends refl next_use (λ b. refl)
+
+got_collision : (x : Role) (w d : ℕ) (ch : Channel) → ch.state ≡ Collision → (body : Body) → Got Collision x w d ch body
+got_collision Dte w d ch e Accepted = connects (ap (mood_of Dte) e) refl (λ st. story_refl st) (λ b. refl)
+got_collision Dte w d ch e (Clear cause diagnostic) = ends refl next_use (λ b. refl)
+got_collision Dte w d ch e body = ends refl next_use (λ b. refl)
+got_collision Dce w d ch e (Clear cause diagnostic) = ends refl next_use (λ b. refl)
+got_collision Dce w d ch e body = ends refl next_use (λ b. refl)
+
+got_own_clear : (x : Role) (w d : ℕ) (ch : Channel) → ch.state ≡ OwnClear → (body : Body) → Got OwnClear x w d ch body
+got_own_clear x w d ch e (Clear cause diagnostic) = stays (sym (ap (mood_of x) e)) (λ st. story_refl st) (λ b. refl)
+got_own_clear x w d ch e ClearConfirmation = stays (sym (ap (mood_of x) e)) (λ st. story_refl st) (λ b. refl)
+got_own_clear x w d ch e body = stays refl (λ st. story_refl st) (λ b. refl)
+
+-- in data transfer
+abbrev GotIn : Bool → Role → ℕ → ℕ → Channel → Body → Type 0
+GotIn v x w d ch body = Outcome x d ch (cond v (in_own_reset x d ch body) (in_flow_ready x w d ch body)).channel
+    (λ st. opened (cond v (in_own_reset x d ch body) (in_flow_ready x w d ch body)).owes (heard_story Transfer v (hears w ch.traffic body) st))
+    (λ b. all_told x (cond v (in_own_reset x d ch body) (in_flow_ready x w d ch body)).notes b) (λ parts. body ≡ Call parts)
+
+got_resetting : (x : Role) (w d : ℕ) (ch : Channel) → (body : Body) → GotIn true x w d ch body
+got_resetting x w d ch (Clear cause diagnostic) = ends refl next_use (λ b. refl)
+got_resetting x w d ch (Reset cause diagnostic) = stays refl (λ st. story_refl st) (λ b. refl)
+got_resetting x w d ch ResetConfirmation = stays refl (λ st. story_refl st) (λ b. refl)
+got_resetting x w d ch (Data send receive datum) = stays refl (λ st. story_refl st) (λ b. refl)
+got_resetting x w d ch (ReceiveReady receive) = stays refl (λ st. story_refl st) (λ b. refl)
+got_resetting x w d ch (ReceiveNotReady receive) = stays refl (λ st. story_refl st) (λ b. refl)
+got_resetting x w d ch (Interrupt octets) = stays refl (λ st. story_refl st) (λ b. refl)
+got_resetting x w d ch InterruptConfirmation = stays refl (λ st. story_refl st) (λ b. refl)
+got_resetting x w d ch body = ends refl next_use (λ b. refl)
+
+-- a reset, by either end
+resets : (x : Role) (d : ℕ) (ch ch' : Channel) (write : Book → Book) (came : CallParts → Type 0) → mood_of x ch.state ≡ Open → mood_of x ch'.state ≡ Open → ((b : Book) → write b ≡ changed x d with_epoch b)
+    → Outcome x d ch ch' (λ st. next_epoch_of st) write came
+resets x d ch ch' write came e f h = goes with_epoch e f (λ st. opens_grows st (next_epoch_of st) (opens st)) (λ st r. opens_record st (next_epoch_of st) r (opens st)) h
+
+got_keeps : (v : Bool) (x : Role) (d n : ℕ) (ch : Channel) (t : Traffic) (came : CallParts → Type 0) → mood_of x ch.state ≡ Open
+    → Outcome x d ch (record ch { traffic = t }) (λ st. grown (λ e. logged_heard (Keeps n t) e) st) (λ b. all_told x (cond v [] (Covered d n ∷ [])) b) came
+got_keeps true x d n ch t came e = goes (λ r. r) e e (grown_grows (λ z. record z { covered = z.covered + n }) (λ r. r) (by_covering_none n)) (grown_record (λ z. record z { covered = z.covered + n }) (λ r. r) (by_covering_none n))
+    (λ b. unchanged (slot_at x d b).present b)
+got_keeps false x d n ch t came e = goes (λ r. with_covered n r) e e (grown_grows (λ z. record z { covered = z.covered + n }) (λ r. with_covered n r) (by_covering n)) (grown_record (λ z. record z { covered = z.covered + n }) (λ r. with_covered n r) (by_covering n))
+    (λ b. refl)
+
+got_heard : (x : Role) (d : ℕ) (ch : Channel) (came : CallParts → Type 0) → mood_of x ch.state ≡ Open → (h : Heard)
+    → Outcome x d ch (after_heard x d ch h).channel (λ st. opened (after_heard x d ch h).owes (heard_story Transfer false h st)) (λ b. all_told x (after_heard x d ch h).notes b) came
+got_heard x d ch came e (Keeps n t) = got_keeps (n == 0) x d n ch t came e
+got_heard x d ch came e (Confirms t) = stays refl (grown_same (λ z. z) (λ z. refl)) (λ b. refl)
+got_heard x d ch came e (Wrong diagnostic) = resets x d ch (record ch { resetting = true; traffic = Rattle.packet_layer.specs.Traffic.fresh }) (λ b. all_told x (after_heard x d ch (Wrong diagnostic)).notes b) came e e (λ b. refl)
+
+got_ready_flow : (x : Role) (w d : ℕ) (ch : Channel) → mood_of x ch.state ≡ Open → (body : Body) → GotIn false x w d ch body
+got_ready_flow x w d ch e (Clear cause diagnostic) = ends refl next_use (λ b. refl)
+got_ready_flow x w d ch e (Reset cause diagnostic) = resets x d ch (in_flow_ready x w d ch (Reset cause diagnostic)).channel (λ b. all_told x (in_flow_ready x w d ch (Reset cause diagnostic)).notes b) (λ parts. Reset cause diagnostic ≡ Call parts) e e (λ b. refl)
+got_ready_flow x w d ch e ResetConfirmation = resets x d ch (in_flow_ready x w d ch ResetConfirmation).channel (λ b. all_told x (in_flow_ready x w d ch ResetConfirmation).notes b) (λ parts. ResetConfirmation ≡ Call parts) e e (λ b. refl)
+got_ready_flow x w d ch e (Data send receive datum) = got_heard x d ch (λ parts. Data send receive datum ≡ Call parts) e (hears w ch.traffic (Data send receive datum))
+got_ready_flow x w d ch e (ReceiveReady receive) = got_heard x d ch (λ parts. ReceiveReady receive ≡ Call parts) e (hears w ch.traffic (ReceiveReady receive))
+got_ready_flow x w d ch e (ReceiveNotReady receive) = got_heard x d ch (λ parts. ReceiveNotReady receive ≡ Call parts) e (hears w ch.traffic (ReceiveNotReady receive))
+got_ready_flow x w d ch e (Interrupt octets) = got_heard x d ch (λ parts. Interrupt octets ≡ Call parts) e (hears w ch.traffic (Interrupt octets))
+got_ready_flow x w d ch e InterruptConfirmation = got_heard x d ch (λ parts. InterruptConfirmation ≡ Call parts) e (hears w ch.traffic InterruptConfirmation)
+got_ready_flow x w d ch e body = ends refl next_use (λ b. refl)
+
+got_transfer : (v : Bool) (x : Role) (w d : ℕ) (ch : Channel) → mood_of x ch.state ≡ Open → (body : Body) → GotIn v x w d ch body
+got_transfer true x w d ch e body = got_resetting x w d ch body
+got_transfer false x w d ch e body = got_ready_flow x w d ch e body
+
+got_by : (s : CallState) (x : Role) (w d : ℕ) (ch : Channel) → ch.state ≡ s → (body : Body) → Got s x w d ch body
+got_by Ready x w d ch e body = got_ready x w d ch e body
+got_by OwnWaiting x w d ch e body = got_own_waiting x w d ch e body
+got_by FarWaiting x w d ch e body = got_far_waiting x w d ch body
+got_by Transfer x w d ch e body = got_transfer ch.resetting x w d ch (ap (mood_of x) e) body
+got_by Collision x w d ch e body = got_collision x w d ch e body
+got_by OwnClear x w d ch e body = got_own_clear x w d ch e body
+
+pub received_outcome : (x : Role) (w d : ℕ) (ch : Channel) (body : Body)
+    → Outcome x d ch (received x w d ch body).channel (λ st. received_story x w d ch body st) (λ b. all_told x (received x w d ch body).notes b) (λ parts. body ≡ Call parts)
+received_outcome x w d ch body = got_by ch.state x w d ch refl body
+
+-- ---- a request
+
+transfer_of : (s : CallState) (more : Option Refusal) (x : Role) → refused_if (not (in_transfer s)) Refusal.NoCall more ≡ None → mood_of x s ≡ Open
+transfer_of Transfer more x e = refl
+transfer_of Ready more x e = absurd (none-some Refusal.NoCall (sym e))
+transfer_of OwnWaiting more x e = absurd (none-some Refusal.NoCall (sym e))
+transfer_of FarWaiting more x e = absurd (none-some Refusal.NoCall (sym e))
+transfer_of Collision more x e = absurd (none-some Refusal.NoCall (sym e))
+transfer_of OwnClear more x e = absurd (none-some Refusal.NoCall (sym e))
+
+accept_of : (x : Role) (s : CallState) → refused_if (not (may_accept x s)) Refusal.NoCall None ≡ None → mood_of x s ≡ FarCall
+accept_of x FarWaiting e = refl
+accept_of Dce Collision e = refl
+accept_of Dte Collision e = absurd (none-some Refusal.NoCall (sym e))
+accept_of x Ready e = absurd (none-some Refusal.NoCall (sym e))
+accept_of x OwnWaiting e = absurd (none-some Refusal.NoCall (sym e))
+accept_of x Transfer e = absurd (none-some Refusal.NoCall (sym e))
+accept_of x OwnClear e = absurd (none-some Refusal.NoCall (sym e))
+
+-- the epoch opened after a growth by nothing
+opens_after : (st : Story) → OpensEpoch st (next_epoch_of (grown (λ e. e) st))
+opens_after st = record { restart = refl; uses = refl; epoch = omega arith; epochs = grown_keeps (λ e. e) (λ e. e) st (λ e. refl) }
+
+ends_after : (st : Story) → EndsUse st (next_use_of (grown (λ e. e) st))
+ends_after st = record { further = inr (refl, omega arith); epochs = grown_keeps (λ e. e) (λ e. e) st (λ e. refl) }
+
+abbrev pub NoCalls : CallParts → Type 0
+NoCalls parts = ⊥
+
+-- what was at the front is taken
+asked_taking : (x : Role) (d : ℕ) (ch ch' : Channel) (o : Option Taken) → mood_of x ch.state ≡ Open → mood_of x ch'.state ≡ Open
+    → Outcome x d ch ch' (λ st. grown (λ e. with_taken o e) st) (λ b. book.takes x d o b) NoCalls
+asked_taking x d ch ch' None e f = stays (f ∙ sym e) (grown_same (λ z. z) (λ z. refl)) (λ b. refl)
+asked_taking x d ch ch' (Some (TakenInterrupt octets)) e f =
+    goes (λ r. with_interrupt_taken octets r) e f (grown_grows (λ z. record z { interrupts_taken = z.interrupts_taken ++ octets ∷ [] }) (λ r. with_interrupt_taken octets r) (by_interrupt_taken octets))
+    (grown_record (λ z. record z { interrupts_taken = z.interrupts_taken ++ octets ∷ [] }) (λ r. with_interrupt_taken octets r) (by_interrupt_taken octets)) (λ b. refl)
+asked_taking x d ch ch' (Some (TakenPacket datum)) e f =
+    goes (λ r. records.with_taken (packet_of datum) r) e f (grown_grows (λ z. record z { taken = z.taken ++ datum ∷ [] }) (λ r. records.with_taken (packet_of datum) r) (by_taking datum))
+    (grown_record (λ z. record z { taken = z.taken ++ datum ∷ [] }) (λ r. records.with_taken (packet_of datum) r) (by_taking datum)) (λ b. refl)
+
+-- the story of a request that is not refused
+abbrev story_of : Channel → Request → Story → Story
+story_of ch Accept st = call_accepted st
+story_of ch r st = opened (carried_out ch r).owes (grown (λ e. logged ch.traffic r e) st)
+
+pub asked : (x : Role) (d : ℕ) (ch : Channel) (r : Request) → refusal x ch r ≡ None
+    → Outcome x d ch (carried_out ch r).channel (λ st. story_of ch r st) (λ b. carried x d r (front ch.traffic) b) NoCalls
+asked x d ch Accept e = accepts (accept_of x ch.state e) refl (λ st. refl) (λ b. refl)
+asked x d ch (Clearing cause diagnostic) e = ends refl ends_after (λ b. refl)
+asked x d ch (Resetting cause diagnostic) e =
+    let open_ = transfer_of ch.state (refused_if ch.resetting Refusal.IsResetting None) x e in
+    goes with_epoch open_ open_ (λ st. opens_grows st (next_epoch_of (grown (λ z. z) st)) (opens_after st)) (λ st r. opens_record st (next_epoch_of (grown (λ z. z) st)) r (opens_after st)) (λ b. refl)
+asked x d ch (Sending datum) e =
+    let open_ = transfer_of ch.state _ x e in
+    goes (λ r. with_sent (packet_of datum) r) open_ open_ (grown_grows (λ z. record z { sent = z.sent ++ datum ∷ [] }) (λ r. with_sent (packet_of datum) r) (by_sending datum))
+    (grown_record (λ z. record z { sent = z.sent ++ datum ∷ [] }) (λ r. with_sent (packet_of datum) r) (by_sending datum)) (λ b. refl)
+asked x d ch (Interrupting octets) e =
+    let open_ = transfer_of ch.state _ x e in
+    goes (λ r. with_interrupt_sent octets r) open_ open_ (grown_grows (λ z. record z { interrupts_sent = z.interrupts_sent ++ octets ∷ [] }) (λ r. with_interrupt_sent octets r) (by_interrupting octets))
+    (grown_record (λ z. record z { interrupts_sent = z.interrupts_sent ++ octets ∷ [] }) (λ r. with_interrupt_sent octets r) (by_interrupting octets)) (λ b. refl)
+asked x d ch (Stopping v) e = stays refl (grown_same (λ z. z) (λ z. refl)) (λ b. refl)
+asked x d ch Taking e = let open_ = transfer_of ch.state None x e in asked_taking x d ch (carried_out ch Taking).channel (front ch.traffic) open_ open_
+asked x d ch (Releasing n) e =
+    let open_ = transfer_of ch.state None x e in
+    let v = may_release n ch.traffic in
+    goes (λ r. with_released n r) open_ open_ (grown_grows (λ z. cond v (record z { released = z.released + n }) z) (λ r. with_released n r) (by_releasing v n))
+    (grown_record (λ z. cond v (record z { released = z.released + n }) z) (λ r. with_released n r) (by_releasing v n)) (λ b. refl)
+asked x d ch Confirming e = stays refl (grown_same (λ z. z) (λ z. refl)) (λ b. refl)

@@ -1,0 +1,331 @@
+-- The book of a line as it is made is right, standing or not.
+use Rattle.std.specs.Prelude.{◌≡◌, ◌≢◌, ℕ, zero, suc, ◌≤◌, ◌⊎◌, Bool, true, false, List, [], ◌∷◌, length, replicate, slice_get, is_some, Some, None}
+use Rattle.std.proofs.Common.{inl, inr, refl, sym, ap, subst, ◌∙◌, arith, true≢false}
+use Rattle.std.specs.Option.{IsSome}
+use Rattle.std.proofs.lemmas.Option.{none-some, same_Some}
+use Rattle.std.proofs.lemmas.Bool.{lt-ltb}
+use Rattle.link_timers.specs.declared.role.Role.{Role}
+use Rattle.link_timers.specs.declared.role.Role.TheVariants.{Dte, Dce}
+use Rattle.link_timers.specs.Role.{other_of}
+use Rattle.packet_layer.specs.Channel.{closed_channel}
+use Rattle.packet_layer.specs.Layer.{nth_channel}
+use Rattle.packet_laws.specs.History.{Epoch, new_story, with_call, with_answer}
+use Rattle.packet_laws.specs.Line.{End, start_end, start_story, no_parts}
+use Rattle.call_records.specs.Records.{RecordValue, PairValue, new_record}
+use Rattle.call_records.specs.Book.{Book, Slot, free_slot, slot_at, side_of, nth_slot, new_book, standing_book}
+use Rattle.book_laws.specs.Told.{start}
+use Rattle.book_laws.proofs.Basics.{dte_not_dce}
+use Rattle.book_laws.proofs.Scenes.{Face, Mood, Spot, Tag, shelf_of, IsLive, IsCallee, Stands, Means, Fits, SlotIs, PlacedIs, UpTo, IsPair, IsRight, called_at}
+use Rattle.book_laws.proofs.Scenes.Mood.{Idle}
+use Rattle.book_laws.proofs.Scenes.Kind.{Caller, Callee}
+use Rattle.book_laws.proofs.Cancelling.{caller_not_callee, caller_not_cancelled, callee_not_cancelled}
+use Rattle.book_laws.proofs.Calling.{none_sent, none_taken, callee_number}
+use Rattle.book_laws.proofs.Faces.{mood_at, face_of, faces_of}
+use Rattle.book_laws.proofs.Stories.{in_use_cases, in_use_keeps}
+use Rattle.book_laws.proofs.Moving.{KeptAt}
+use Rattle.book_laws.proofs.Placing.{no_session_not_ready}
+use Rattle.book_laws.proofs.Lines.{KeptIn}
+
+-- ---- free channels
+
+idle_at : (x : Role) (n i : ℕ) → mood_at x (slice_get (replicate n closed_channel) i) ≡ Idle
+idle_at x zero i = refl
+idle_at x (suc n) zero = refl
+idle_at x (suc n) (suc i) = idle_at x n i
+
+idle_all : (x : Role) (n c : ℕ) → mood_at x (nth_channel (replicate n closed_channel) c) ≡ Idle
+idle_all x n zero = refl
+idle_all x n (suc i) = idle_at x n i
+
+free_all : (n c : ℕ) → nth_slot (replicate n free_slot) c ≡ free_slot
+free_all n zero = refl
+free_all zero (suc i) = refl
+free_all (suc n) (suc zero) = refl
+free_all (suc n) (suc (suc i)) = free_all n (suc i)
+
+slots_length : (n : ℕ) → length (replicate n free_slot) ≡ n
+slots_length zero = refl
+slots_length (suc n) = ap suc (slots_length n)
+
+channels_length : (n : ℕ) → length (replicate n closed_channel) ≡ n
+channels_length zero = refl
+channels_length (suc n) = ap suc (channels_length n)
+
+-- ---- a line that is not up
+
+module _ (a b n window : ℕ) where
+  abbrev me : End
+  me = start_end Dte n window false
+
+  abbrev you : End
+  you = start_end Dce n window false
+
+  down_slot : (x : Role) (c : ℕ) → SlotIs ((faces_of Dte me you 0 0 x).mood c) (faces_of Dte me you 0 0 x) [] x c (slot_at x c (new_book a b n))
+  down_slot Dte c = subst (λ (m : Mood). SlotIs m (face_of Dte me 0) [] Dte c (slot_at Dte c (new_book a b n))) (sym (idle_all Dte n c)) (ap (λ (z : Slot). z.present) (free_all n c))
+  down_slot Dce c = subst (λ (m : Mood). SlotIs m (face_of Dce you 0) [] Dce c (slot_at Dce c (new_book a b n))) (sym (idle_all Dce n c)) (ap (λ (z : Slot). z.present) (free_all n c))
+
+  down_placed : (x : Role) (c : ℕ) → PlacedIs (slot_at x c (new_book a b n)).placed (faces_of Dte me you 0 0 x) [] x c
+  down_placed Dte c = subst (λ (z : Slot). PlacedIs z.placed (face_of Dte me 0) [] Dte c) (sym (free_all n c)) (λ k e. refl)
+  down_placed Dce c = subst (λ (z : Slot). PlacedIs z.placed (face_of Dce you 0) [] Dce c) (sym (free_all n c)) (λ k e. refl)
+
+  down_tops : (x : Role) (s : ℕ) → (faces_of Dte me you 0 0 x).session ≡ Some s → s ≡ (faces_of Dte me you 0 0 x).top
+  down_tops Dte s e = absurd (none-some s e)
+  down_tops Dce s e = absurd (none-some s e)
+
+  down_right : IsRight (faces_of Dte me you 0 0) (shelf_of (new_book a b n)) []
+  down_right = record {
+    stands = λ i t e. absurd (none-some t e);
+    means = λ i t e. absurd (none-some t e);
+    fits = λ i t r e g. absurd (none-some t e);
+    slot = down_slot;
+    placed = down_placed;
+    tops = down_tops;
+    alone = λ i j t u e g. absurd (none-some t e);
+    pairs = λ i p e. absurd (none-some p e);
+    once = λ i j p q e g. absurd (none-some p e);
+    count = refl;
+  }
+
+  down_sizes : (z : Role) → length (side_of z (new_book a b n)).slots ≡ n
+  down_sizes Dte = slots_length n
+  down_sizes Dce = slots_length n
+
+  pub down_kept : KeptAt n Dte me you 0 0 (new_book a b n)
+  down_kept = record {
+    tags = [];
+    right = down_right;
+    sizes = down_sizes;
+    here = record { role = refl; count = channels_length n; up = λ p. absurd (no_session_not_ready p) };
+    there = record { role = refl; count = channels_length n; up = λ p. absurd (no_session_not_ready p) };
+  }
+
+-- ---- a standing line
+
+-- the use of the standing call
+abbrev first : Spot
+first = record { session = 0; channel = 1; restart = 0; use_ = 0 }
+
+abbrev caller_tag : Tag
+caller_tag = record { role = Dte; spot = first; kind = Caller; own = None; far = None }
+
+abbrev callee_tag : Tag
+callee_tag = record { role = Dce; spot = first; kind = Callee 0; own = None; far = None }
+
+abbrev both : List Tag
+both = caller_tag ∷ callee_tag ∷ []
+
+two_cases : {X : Type 0} (a b : X) (n : ℕ) (t : X) → slice_get (a ∷ b ∷ []) n ≡ Some t → ((n ≡ 0) × (t ≡ a)) ⊎ ((n ≡ 1) × (t ≡ b))
+two_cases a b zero t e = inl (refl, sym (same_Some a t e))
+two_cases a b (suc zero) t e = inr (refl, sym (same_Some b t e))
+two_cases a b (suc (suc n)) t e = absurd (none-some t e)
+
+one_case : {X : Type 0} (a : X) (n : ℕ) (t : X) → slice_get (a ∷ []) n ≡ Some t → (n ≡ 0) × (t ≡ a)
+one_case a zero t e = (refl, sym (same_Some a t e))
+one_case a (suc n) t e = absurd (none-some t e)
+
+-- what was called before anything happened
+dte_called : (s c r u : ℕ) → is_some ((start_story Dte true s c).epochs r u 0).called ≡ true → (s ≡ 0) × (c ≡ 1) × (r ≡ 0) × (u ≡ 0)
+dte_called zero (suc zero) r u e =
+    elim (in_use_cases (λ z. with_call no_parts z) new_story r u) [
+      | inl h ↦ (refl, refl, h.0.0, h.0.1)
+      | inr h ↦ absurd (true≢false (sym e ∙ ap (λ (z : Epoch). is_some z.called) (h.1 0)))
+    ]
+dte_called zero zero r u e = absurd (true≢false (sym e))
+dte_called zero (suc (suc c)) r u e = absurd (true≢false (sym e))
+dte_called (suc s) c r u e = absurd (true≢false (sym e))
+
+dte_none : (s c r u : ℕ) → c ≢ 1 → ((start_story Dte true s c).epochs r u 0).called ≡ None
+dte_none zero zero r u h = refl
+dte_none zero (suc zero) r u h = absurd (h refl)
+dte_none zero (suc (suc c)) r u h = refl
+dte_none (suc s) c r u h = refl
+
+dce_none : (s c r u : ℕ) → ((start_story Dce true s c).epochs r u 0).called ≡ None
+dce_none zero zero r u = refl
+dce_none zero (suc zero) r u = in_use_keeps (λ z. z.called) (λ z. with_answer z) new_story (λ z. refl) r u 0
+dce_none zero (suc (suc c)) r u = refl
+dce_none (suc s) c r u = refl
+
+module _ (a b m window : ℕ) where
+  abbrev me_up : End
+  me_up = start_end Dte (suc m) window true
+
+  abbrev you_up : End
+  you_up = start_end Dce (suc m) window true
+
+  abbrev book_up : Book
+  book_up = standing_book (new_book a b (suc m))
+
+  abbrev up_faces : Role → Face
+  up_faces = faces_of Dte me_up you_up 0 0
+
+  up_stands : (n : ℕ) (t : Tag) → slice_get both n ≡ Some t → Stands (up_faces t.role) (λ c. slot_at t.role c book_up) n t
+  up_stands n t e =
+      elim (two_cases caller_tag callee_tag n t e) [
+        | inl h ↦ subst (λ (u : Tag). Stands (up_faces u.role) (λ c. slot_at u.role c book_up) n u) (sym h.1) (subst (λ (i : ℕ). Stands (up_faces Dte) (λ c. slot_at Dte c book_up) i caller_tag) (sym h.0)
+            (record { begun = lt-ltb 0 (suc (length (replicate m closed_channel))) (omega arith); past = λ up. record { restarts = omega arith; uses = λ k. omega arith }; present = λ up is live. refl }))
+        | inr h ↦ subst (λ (u : Tag). Stands (up_faces u.role) (λ c. slot_at u.role c book_up) n u) (sym h.1) (subst (λ (i : ℕ). Stands (up_faces Dce) (λ c. slot_at Dce c book_up) i callee_tag) (sym h.0)
+            (record { begun = lt-ltb 0 (suc (length (replicate m closed_channel))) (omega arith); past = λ up. record { restarts = omega arith; uses = λ k. omega arith }; present = λ up is live. refl }))
+      ]
+
+  caller_means : Means (up_faces Dte) (up_faces Dce) book_up.pairs both 0 caller_tag
+  caller_means = record {
+    caller = λ e. record { own = refl; not_answered = refl; paired = λ v. (0, record { caller = 0; callee = 1 }, refl, refl) };
+    callee = λ k e. absurd (caller_not_callee k e);
+    cancelled = λ e. absurd (caller_not_cancelled e);
+  }
+
+  callee_means : Means (up_faces Dce) (up_faces Dte) book_up.pairs both 1 callee_tag
+  callee_means = record {
+    caller = λ e. absurd (caller_not_callee 0 (sym e));
+    callee = λ k e. subst (λ (i : ℕ). IsCallee (up_faces Dce) book_up.pairs both 1 i callee_tag) (callee_number 0 k e) (record {
+      far = refl;
+      order = omega arith;
+      mate = caller_tag;
+      there = refl;
+      calls = refl;
+      role = refl;
+      spot = refl;
+      address = refl;
+      free = λ d. absurd (dte_not_dce (sym d));
+      paired = λ v. (0, record { caller = 0; callee = 1 }, refl, refl);
+    });
+    cancelled = λ e. absurd (callee_not_cancelled 0 e);
+  }
+
+  up_means : (n : ℕ) (t : Tag) → slice_get both n ≡ Some t → Means (up_faces t.role) (up_faces (other_of t.role)) book_up.pairs both n t
+  up_means n t e =
+      elim (two_cases caller_tag callee_tag n t e) [
+        | inl h ↦ subst (λ (u : Tag). Means (up_faces u.role) (up_faces (other_of u.role)) book_up.pairs both n u) (sym h.1) (subst (λ (i : ℕ). Means (up_faces Dte) (up_faces Dce) book_up.pairs both i caller_tag) (sym h.0) caller_means)
+        | inr h ↦ subst (λ (u : Tag). Means (up_faces u.role) (up_faces (other_of u.role)) book_up.pairs both n u) (sym h.1) (subst (λ (i : ℕ). Means (up_faces Dce) (up_faces Dte) book_up.pairs both i callee_tag) (sym h.0) callee_means)
+      ]
+
+  caller_fits : Fits (up_faces Dte) a 0 caller_tag (new_record 0 a None None)
+  caller_fits = record {
+    number = refl;
+    node_is = refl;
+    own = refl;
+    far = refl;
+    tells = λ live. record { sent = λ g. none_sent g; taken = λ g. none_taken g };
+    none = λ k. absurd (caller_not_cancelled k);
+    epochs = λ up is live. record { sent = refl; taken = refl };
+  }
+
+  callee_fits : Fits (up_faces Dce) b 1 callee_tag (new_record 1 b None None)
+  callee_fits = record {
+    number = refl;
+    node_is = refl;
+    own = refl;
+    far = refl;
+    tells = λ live. record { sent = λ g. none_sent g; taken = λ g. none_taken g };
+    none = λ k. absurd (callee_not_cancelled 0 k);
+    epochs = λ up is live. record { sent = refl; taken = refl };
+  }
+
+  abbrev node_of : Role → ℕ
+  node_of z = (side_of z book_up).node
+
+  up_fits : (n : ℕ) (t : Tag) (r : RecordValue) → slice_get both n ≡ Some t → slice_get book_up.records n ≡ Some r → Fits (up_faces t.role) (node_of t.role) n t r
+  up_fits n t r e g =
+      elim (two_cases caller_tag callee_tag n t e) [
+        | inl h ↦
+            let is : r ≡ new_record 0 a None None = sym (same_Some (new_record 0 a None None) r (ap (λ (i : ℕ). slice_get book_up.records i) (sym h.0) ∙ g)) in
+            subst (λ (z : RecordValue). Fits (up_faces t.role) (node_of t.role) n t z) (sym is)
+            (subst (λ (u : Tag). Fits (up_faces u.role) (node_of u.role) n u (new_record 0 a None None)) (sym h.1) (subst (λ (i : ℕ). Fits (up_faces Dte) a i caller_tag (new_record 0 a None None)) (sym h.0) caller_fits))
+        | inr h ↦
+            let is : r ≡ new_record 1 b None None = sym (same_Some (new_record 1 b None None) r (ap (λ (i : ℕ). slice_get book_up.records i) (sym h.0) ∙ g)) in
+            subst (λ (z : RecordValue). Fits (up_faces t.role) (node_of t.role) n t z) (sym is)
+            (subst (λ (u : Tag). Fits (up_faces u.role) (node_of u.role) n u (new_record 1 b None None)) (sym h.1) (subst (λ (i : ℕ). Fits (up_faces Dce) b i callee_tag (new_record 1 b None None)) (sym h.0) callee_fits))
+      ]
+
+  up_slot : (x : Role) (c : ℕ) → SlotIs ((up_faces x).mood c) (up_faces x) both x c (slot_at x c book_up)
+  up_slot Dte zero = refl
+  up_slot Dte (suc zero) = record { session = 0; number = 0; tag = caller_tag; up = refl; is_present = refl; there = refl; role = refl; spot = refl; live = caller_not_cancelled }
+  up_slot Dte (suc (suc i)) = subst (λ (v : Mood). SlotIs v (up_faces Dte) both Dte (suc (suc i)) (slot_at Dte (suc (suc i)) book_up)) (sym (idle_at Dte m i)) (ap (λ (z : Slot). z.present) (free_all m (suc i)))
+  up_slot Dce zero = refl
+  up_slot Dce (suc zero) = record { session = 0; number = 1; tag = callee_tag; up = refl; is_present = refl; there = refl; role = refl; spot = refl; live = callee_not_cancelled 0 }
+  up_slot Dce (suc (suc i)) = subst (λ (v : Mood). SlotIs v (up_faces Dce) both Dce (suc (suc i)) (slot_at Dce (suc (suc i)) book_up)) (sym (idle_at Dce m i)) (ap (λ (z : Slot). z.present) (free_all m (suc i)))
+
+  up_last : (k : Spot) → k.channel ≡ 1 → IsSome (called_at (up_faces Dte) k) → UpTo k first
+  up_last k e some =
+      let h = dte_called k.session k.channel k.restart k.use_ some in
+      let s = h.0 in let r = h.2 in let u = h.3 in
+      record { sessions = omega arith; restarts = λ z. omega arith; uses = λ z v. omega arith }
+
+  two_up : (i : ℕ) → ◌≡◌ {A = ℕ} (suc (suc i)) 1 → ⊥
+  two_up i e = omega arith
+
+  zero_up : ◌≡◌ {A = ℕ} 0 1 → ⊥
+  zero_up e = omega arith
+
+  up_placed : (x : Role) (c : ℕ) → PlacedIs (slot_at x c book_up).placed (up_faces x) both x c
+  up_placed Dte zero = λ k e. dte_none k.session k.channel k.restart k.use_ (λ h. zero_up (sym e ∙ h))
+  up_placed Dte (suc zero) = record {
+    tag = caller_tag;
+    parts = no_parts;
+    there = refl;
+    role = refl;
+    channel = refl;
+    session = omega arith;
+    called = refl;
+    calling = refl;
+    far = refl;
+    placed = λ k e. caller_not_callee k e;
+    last = up_last;
+  }
+  up_placed Dte (suc (suc i)) = subst (λ (z : Slot). PlacedIs z.placed (up_faces Dte) both Dte (suc (suc i))) (sym (free_all m (suc i))) (λ k e. dte_none k.session k.channel k.restart k.use_ (λ h. two_up i (sym e ∙ h)))
+  up_placed Dce zero = λ k e. dce_none k.session k.channel k.restart k.use_
+  up_placed Dce (suc zero) = λ k e. dce_none k.session k.channel k.restart k.use_
+  up_placed Dce (suc (suc i)) = subst (λ (z : Slot). PlacedIs z.placed (up_faces Dce) both Dce (suc (suc i))) (sym (free_all m (suc i))) (λ k e. dce_none k.session k.channel k.restart k.use_)
+
+  up_tops : (x : Role) (s : ℕ) → (up_faces x).session ≡ Some s → s ≡ (up_faces x).top
+  up_tops Dte s e = sym (same_Some 0 s e)
+  up_tops Dce s e = sym (same_Some 0 s e)
+
+  up_alone : (i j : ℕ) (t u : Tag) → slice_get both i ≡ Some t → slice_get both j ≡ Some u → IsLive t.kind → IsLive u.kind → t.role ≡ u.role → t.spot ≡ u.spot → i ≡ j
+  up_alone i j t u ei ej lt lu role spot =
+      elim (two_cases caller_tag callee_tag i t ei) [
+        | inl h ↦ elim (two_cases caller_tag callee_tag j u ej) [
+          | inl g ↦ h.0 ∙ sym g.0
+          | inr g ↦ absurd (dte_not_dce (ap (λ (z : Tag). z.role) (sym h.1) ∙ role ∙ ap (λ (z : Tag). z.role) g.1))
+        ]
+        | inr h ↦ elim (two_cases caller_tag callee_tag j u ej) [
+          | inl g ↦ absurd (dte_not_dce (ap (λ (z : Tag). z.role) (sym g.1) ∙ sym role ∙ ap (λ (z : Tag). z.role) h.1))
+          | inr g ↦ h.0 ∙ sym g.0
+        ]
+      ]
+
+  abbrev the_pair : PairValue
+  the_pair = record { caller = 0; callee = 1 }
+
+  up_right : IsRight up_faces (shelf_of book_up) both
+  up_right = record {
+    stands = up_stands;
+    means = up_means;
+    fits = up_fits;
+    slot = up_slot;
+    placed = up_placed;
+    tops = up_tops;
+    alone = up_alone;
+    pairs = λ i p e. subst (λ (z : PairValue). IsPair up_faces both z) (sym (one_case the_pair i p e).1) (record { tag = callee_tag; there = refl; kind = refl; answered = refl });
+    once = λ i j p q e g h. (one_case the_pair i p e).0 ∙ sym (one_case the_pair j q g).0;
+    count = refl;
+  }
+
+  up_sizes : (z : Role) → length (side_of z book_up).slots ≡ suc m
+  up_sizes Dte = ap suc (slots_length m)
+  up_sizes Dce = ap suc (slots_length m)
+
+  pub up_kept : KeptAt (suc m) Dte me_up you_up 0 0 book_up
+  up_kept = record {
+    tags = both;
+    right = up_right;
+    sizes = up_sizes;
+    here = record { role = refl; count = ap suc (channels_length m); up = λ p. (0, refl, refl) };
+    there = record { role = refl; count = ap suc (channels_length m); up = λ p. (0, refl, refl) };
+  }
+
+pub start_kept : (a b n window : ℕ) (standing : Bool) → 1 ≤ n → KeptIn n (start a b n window standing)
+start_kept a b n window false some = down_kept a b n window
+start_kept a b zero window true some = absurd (omega arith)
+start_kept a b (suc m) window true some = up_kept a b m window

@@ -1,0 +1,85 @@
+-- What the book of a line promises of its calls.
+use Rattle.std.specs.Prelude.{◌≡◌, ℕ, ◌<◌, ◌≤◌, ◌⊎◌, Bool, false, List, [], ◌∷◌, length, slice_get, Option, Some, None, is_some}
+use Rattle.link_timers.specs.declared.role.Role.{Role}
+use Rattle.link_timers.specs.declared.role.Role.TheVariants.{Dte, Dce}
+use Rattle.packet_layer.specs.Channel.{Channel}
+use Rattle.packet_layer.specs.Layer.{Layer, channel_of, had_call}
+use Rattle.epochs.specs.Epoch.{Epoch, IsEmpty}
+use Rattle.epochs.specs.Match.{Match}
+use Rattle.call_records.specs.Records.{RecordValue, PairValue, sent_epochs, taken_epochs}
+use Rattle.call_records.specs.Book.{Book, side_of, slot_at}
+use Rattle.book_laws.specs.Told.{World, Move, after_all, AreAllowed, start}
+
+-- the epochs that one end of a call took match those that the other end sent, both ways
+pub record PairMatches (caller callee : RecordValue) : Type 0 where
+  pub onward : Match (taken_epochs callee) (sent_epochs caller)
+  pub backward : Match (taken_epochs caller) (sent_epochs callee)
+
+-- two nodes are those of the line's two ends
+abbrev pub AreEnds : Book → (a b : ℕ) → Type 0
+AreEnds book a b = ((a ≡ book.dte.node) × (b ≡ book.dce.node)) ⊎ ((a ≡ book.dce.node) × (b ≡ book.dte.node))
+
+-- the caller's record was made first; the callee's node is the other one of the line, and its own address is the one that was called;
+-- a line without a switch has no address, so the caller has none and the callee knows none
+pub record PairIsRight (book : Book) (caller callee : RecordValue) : Type 0 where
+  pub order : caller.number < callee.number
+  pub ends : AreEnds book caller.node callee.node
+  pub address : callee.own ≡ caller.far
+  pub caller_own : caller.own ≡ None
+  pub callee_far : callee.far ≡ None
+
+-- the two records of a pair are there, what was taken matches what was sent, both ways, and the pair is right
+pub record PairHolds (book : Book) (pair : PairValue) : Type 0 where
+  pub caller : RecordValue
+  pub callee : RecordValue
+  pub caller_there : slice_get book.records pair.caller ≡ Some caller
+  pub callee_there : slice_get book.records pair.callee ≡ Some callee
+  pub matches : PairMatches caller callee
+  pub is_right : PairIsRight book caller callee
+
+-- the record of this number is in the pair
+abbrev pub IsIn : PairValue → ℕ → Type 0
+IsIn pair number = (pair.caller ≡ number) ⊎ (pair.callee ≡ number)
+
+-- each epoch that was taken is empty
+abbrev pub TookNothing : List Epoch → Type 0
+TookNothing [] = Unit {0}
+TookNothing (e ∷ es) = IsEmpty e × TookNothing es
+
+pub record BookHolds (book : Book) : Type 0 where
+  -- each pair holds
+  pub pairs_hold : (i : ℕ) (pair : PairValue) → slice_get book.pairs i ≡ Some pair → PairHolds book pair
+  -- the record of each number is at that place
+  pub numbers : (i : ℕ) (r : RecordValue) → slice_get book.records i ≡ Some r → r.number ≡ i
+  -- no record is in two pairs, and each that took anything is in one
+  pub in_one : (i j : ℕ) (p q : PairValue) (number : ℕ)
+      → slice_get book.pairs i ≡ Some p → slice_get book.pairs j ≡ Some q → IsIn p number → IsIn q number → i ≡ j
+  pub took : (n : ℕ) (r : RecordValue) → slice_get book.records n ≡ Some r
+      → TookNothing (taken_epochs r) ⊎ ((i : ℕ) × (p : PairValue) × (slice_get book.pairs i ≡ Some p) × IsIn p n)
+
+-- whatever happens on a line whose sessions come in rising order
+abbrev pub BookLaw : Type 0
+BookLaw = (dte_node dce_node channels window : ℕ) (standing : Bool) → 1 ≤ channels → window ≤ 7
+    → (ms : List Move) → AreAllowed ms (start dte_node dce_node channels window standing)
+    → BookHolds (after_all ms (start dte_node dce_node channels window standing)).book
+
+-- ---- the book beside the packet layers
+
+abbrev pub layer_at : Role → World → Layer
+layer_at Dte w = w.line.me.layer
+layer_at Dce w = w.line.you.layer
+
+-- a channel has a call
+abbrev pub has_call : Option Channel → Bool
+has_call None = false
+has_call (Some ch) = had_call ch.state
+
+-- at each end the book has the channels of the layer, and a present record exactly where the layer has a call
+pub record IsBeside (w : World) : Type 0 where
+  pub channels : (role : Role) → length (side_of role w.book).slots ≡ length (layer_at role w).channels
+  pub present : (role : Role) (c : ℕ) → is_some (slot_at role c w.book).present ≡ has_call (channel_of (layer_at role w) c)
+
+abbrev pub PresentLaw : Type 0
+PresentLaw = (dte_node dce_node channels window : ℕ) (standing : Bool) → 1 ≤ channels → window ≤ 7
+    → (ms : List Move) → AreAllowed ms (start dte_node dce_node channels window standing)
+    → IsBeside (after_all ms (start dte_node dce_node channels window standing))

@@ -1,6 +1,0 @@
-use Rattle.call_laws.proofs.BookHolds.{book_holds}
-use Rattle.call_laws.proofs.Beside.{is_beside}
-use Rattle.call_laws.proofs.law.book_law.Goals as goal
-
-pub returns : goal.returns
-returns c = record { book = book_holds; present = is_beside }

@@ -1,0 +1,6 @@
+pub mod Line
+pub mod Events
+pub mod Fit
+pub mod Joint
+pub mod Steps
+pub mod Law

@@ -1,0 +1,22 @@
+use Rattle.line_record_laws.proofs.Keeping.{made_kept, tells_kept, silent_kept, restart_kept, call_kept, request_kept, loss_kept, edit_kept, like_kept, holds_kept, present_kept, transfer_kept, asked_kept, front_kept, channels_kept, closing_kept}
+use Rattle.line_record_laws.proofs.line_record_law.Goals as goal
+
+pub returns : goal.returns
+returns c = record {
+  made = made_kept;
+  tells = tells_kept;
+  silent = silent_kept;
+  restarts = restart_kept;
+  calls = call_kept;
+  requests = request_kept;
+  loses = loss_kept;
+  edits = edit_kept;
+  like = like_kept;
+  holds = holds_kept;
+  present = present_kept;
+  transfer = transfer_kept;
+  asked = asked_kept;
+  front = front_kept;
+  channels = channels_kept;
+  closing = closing_kept;
+}

@@ -1,6 +1,0 @@
-pub mod PacketLine
-pub mod Events
-pub mod Fit
-pub mod Joint
-pub mod Steps
-pub mod Law
