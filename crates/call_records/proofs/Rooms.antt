@@ -3,8 +3,8 @@ use Rattle.std.proofs.Common.{◌≡◌, ℕ, zero, suc, ◌+◌, ◌-◌, ◌<�
 use Rattle.std.specs.Prelude.{◌⊎◌, Some, None}
 use Rattle.link_timers.specs.declared.role.Role.{Role}
 use Rattle.link_timers.specs.declared.role.Role.TheVariants.{Dte, Dce}
-use Rattle.packet_layer.specs.declared.taken.Taken.{Taken}
-use Rattle.packet_layer.specs.declared.taken.Taken.TheVariants.{Interrupt, «Data»}
+use Rattle.packet_channel.specs.declared.taken.Taken.{Taken}
+use Rattle.packet_channel.specs.declared.taken.Taken.TheVariants.{Interrupt, «Data»}
 use Rattle.packet_layer.specs.Packets.{Datum}
 use Rattle.packet_layer.specs.TakenView.{taken_of}
 use Rattle.epochs.specs.Item.{DataPacket}

@@ -6,7 +6,7 @@ use Rattle.packet_layer.specs.Channel.{Refusal}
 use Rattle.packet_layer.specs.Channel.{Request as ask}
 use Rattle.packet_layer.specs.Layer.{call_refusal, request_refusal}
 use Rattle.packet_layer.specs.declared.fault.CallFault.TheVariants as call_fault
-use Rattle.packet_layer.specs.declared.fault.ChannelFault.TheVariants as channel_fault
+use Rattle.packet_channel.specs.declared.fault.ChannelFault.TheVariants as channel_fault
 use Rattle.packet_end.specs.PacketEnd.{PacketEnd}
 use Rattle.packet_host.specs.Host.{refuse_refusal}
 use Rattle.packet_host.specs.Saying.{say_refusal}

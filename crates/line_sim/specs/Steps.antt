@@ -4,7 +4,7 @@ use Rattle.link_timers.specs.declared.role.Role.{Role}
 use Rattle.link_timers.specs.declared.role.Role.TheVariants.{Dte, Dce}
 use Rattle.link_timers.specs.declared.timers.TimerId.{TimerId}
 use Rattle.packet_codec.specs.Address.{AreDigits}
-use Rattle.packet_layer.specs.declared.taken.Taken as taken
+use Rattle.packet_channel.specs.declared.taken.Taken as taken
 use Rattle.packet_layer.specs.TakenView.{maybe_taken}
 use Rattle.packet_layer.specs.Layer.{channel_given, front_on}
 use Rattle.packet_layer.specs.Channel.{Request as ask}

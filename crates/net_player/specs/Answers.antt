@@ -5,9 +5,9 @@ use Rattle.std.specs.List.{flat_map}
 use Rattle.std.specs.declared.alloc.Global.{Global}
 use Rattle.packet_layer.specs.Packets.{Datum}
 use Rattle.packet_layer.specs.declared.fault.CallFault.TheVariants.{NotReady, NoChannel}
-use Rattle.packet_layer.specs.declared.fault.ChannelFault.TheVariants.{NoCall, Resetting, QueueFull, TooLong, InterruptPending}
-use Rattle.packet_layer.specs.declared.taken.Taken.{Taken}
-use Rattle.packet_layer.specs.declared.taken.Taken.TheVariants as taken
+use Rattle.packet_channel.specs.declared.fault.ChannelFault.TheVariants.{NoCall, Resetting, QueueFull, TooLong, InterruptPending}
+use Rattle.packet_channel.specs.declared.taken.Taken.{Taken}
+use Rattle.packet_channel.specs.declared.taken.Taken.TheVariants as taken
 use Rattle.line_nodes.specs.declared.fault.NodeFault.{NodeFault}
 use Rattle.line_nodes.specs.declared.fault.NodeFault.TheVariants.{Call, Channel}
 use Rattle.line_nodes.specs.declared.pad.KeyAnswer.TheVariants.{Dropped}

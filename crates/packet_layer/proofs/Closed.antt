@@ -1,8 +1,8 @@
 -- Closing the channels one by one.
 use Rattle.std.proofs.Common.{◌≡◌, ℕ, zero, suc, ◌+◌, ◌<◌, true, false, List, [], ◌∷◌, ◌++◌, length, set, take, drop, map, refl, sym, ap, ◌∙◌, arith, add-one, append_assoc, length-append}
 use Rattle.std.specs.Prelude.{Some, slice_get}
-use Rattle.packet_layer.specs.Packets.{Note, Reason, Closed}
-use Rattle.packet_layer.specs.Channel.{Channel, closed_channel}
+use Rattle.packet_channel.specs.Packets.{Note, Reason, Closed}
+use Rattle.packet_channel.specs.Channel.{Channel, closed_channel}
 use Rattle.packet_layer.specs.Layer.{closing_notes, had_call}
 
 -- the first i closed

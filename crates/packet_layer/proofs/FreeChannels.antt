@@ -1,7 +1,7 @@
 -- The lowest and the highest free channel of a list, found by going along it.
 use Rattle.std.proofs.Common.{◌≡◌, ℕ, zero, suc, ◌+◌, Bool, true, false, List, [], ◌∷◌, take, refl, add-one}
 use Rattle.std.specs.Prelude.{Option, Some, None, slice_get}
-use Rattle.packet_layer.specs.Channel.{Channel}
+use Rattle.packet_channel.specs.Channel.{Channel}
 use Rattle.packet_layer.specs.Layer.{is_free, lowest_free, highest_free, raised, either_of, itself_if}
 
 -- the lowest of a list is none exactly where that of each part is

@@ -3,16 +3,16 @@ use Rattle.std.proofs.Common.{◌≡◌, ℕ, zero, suc, ◌+◌, ◌<◌, Bool,
 use Rattle.std.specs.Prelude.{Option, Some, None, slice_get, ◌&&◌, ◌==◌}
 use Rattle.std.proofs.lemmas.List.{append-nil}
 use Rattle.link_timers.specs.declared.role.Role.{Role}
-use Rattle.packet_layer.specs.Packets.{Body, CallParts, Call}
-use Rattle.packet_layer.specs.Channel.CallState.{Ready, OwnWaiting, FarWaiting, Transfer, Collision, OwnClear}
-use Rattle.packet_layer.specs.Channel.{CallState, Channel, Step, Request, Refusal, unless, refusal, requested, carried_out, received}
-use Rattle.packet_layer.specs.Channel.Request.{Accept, Clearing, Resetting, Sending, Interrupting, Stopping, Taking, Releasing, Confirming}
+use Rattle.packet_channel.specs.Packets.{Body, CallParts, Call}
+use Rattle.packet_channel.specs.Channel.CallState.{Ready, OwnWaiting, FarWaiting, Transfer, Collision, OwnClear}
+use Rattle.packet_channel.specs.Channel.{CallState, Channel, Step, Request, Refusal, unless, refusal, requested, carried_out, received}
+use Rattle.packet_channel.specs.Channel.Request.{Accept, Clearing, Resetting, Sending, Interrupting, Stopping, Taking, Releasing, Confirming}
 use Rattle.packet_layer.specs.Layer as machine
-use Rattle.packet_layer.specs.Effects.{Outcome, outcome_of}
+use Rattle.packet_channel.specs.Effects.{Outcome, outcome_of}
 use Rattle.packet_layer.specs.Layer.Phase.{PacketReady}
 use Rattle.packet_layer.specs.Layer.{Layer, Phase, on_channel, is_ready, is_free, free_channel, placing, nth_channel, channel_of, on_found, owing, passes_limit, set_if, with_owed}
-use Rattle.packet_layer.specs.Answers.{CarriedOut, Refused}
-use Rattle.packet_layer.specs.declared.fault.ChannelFault.{ChannelFault}
+use Rattle.packet_channel.specs.Answers.{CarriedOut, Refused}
+use Rattle.packet_channel.specs.declared.fault.ChannelFault.{ChannelFault}
 
 pub channel_at : (chs : List Channel) (c place : ℕ) → place + 1 ≡ c → nth_channel chs c ≡ slice_get chs place
 channel_at chs zero place e = absurd (omega arith)

@@ -3,14 +3,15 @@ use Rattle.std.specs.Prelude.{ℕ, zero, suc, ◌-◌, Bool, true, false, cond, 
 use Rattle.std.specs.List.{list_all}
 use Rattle.link_timers.specs.declared.role.Role.{Role}
 use Rattle.link_timers.specs.declared.role.Role.TheVariants.{Dte, Dce}
-use Rattle.packet_layer.specs.Packets.{CallParts, Body, Packet, Received, Note, Reason}
-use Rattle.packet_layer.specs.Packets.Body.{Call, Restart, RestartConfirmation}
-use Rattle.packet_layer.specs.Packets.Received.{Whole, Unknown, Faulty}
-use Rattle.packet_layer.specs.Packets.Note.{Closed}
-use Rattle.packet_layer.specs.Packets.Reason.{LinkLost, FarRestart, LocalFault}
-use Rattle.packet_layer.specs.Traffic.{Taken, says, front, rests}
-use Rattle.packet_layer.specs.Channel.{CallState, Channel, Step, Request, Refusal, closed_channel, entered, moved, error_cause, clear_error, received, unreadable, requested, refusal, has_flow, in_transfer, refused_if, may_accept}
-use Rattle.packet_layer.specs.Channel.CallState.{Ready, OwnWaiting, Transfer, Collision, OwnClear}
+use Rattle.packet_channel.specs.Packets.{CallParts, Body, Packet, Received, Note, Reason}
+use Rattle.packet_channel.specs.Packets.Body.{Call, Restart, RestartConfirmation}
+use Rattle.packet_channel.specs.Packets.Received.{Whole, Unknown, Faulty}
+use Rattle.packet_channel.specs.Packets.Note.{Closed}
+use Rattle.packet_channel.specs.Packets.Reason.{LinkLost, FarRestart, LocalFault}
+use Rattle.packet_channel.specs.Traffic.{Taken, front}
+use Rattle.packet_channel.specs.Channel.{Channel, Step, Request, Refusal, closed_channel, entered, error_cause, clear_error, received, unreadable, requested, refusal, has_flow, in_transfer, refused_if, may_accept}
+use Rattle.packet_channel.specs.Channel.CallState.{Transfer}
+pub use Rattle.packet_channel.specs.Channel.{is_full, with_owed, passes_limit, owing, had_call, waits_for_call, waits_for_clear, ChannelNext, next_owed, next_of, is_ready, is_free, placing, channel_rests}
 
 -- no session of the link; r2 of a DTE or r3 of a DCE; r1
 pub data Phase : Type 0 where
@@ -68,23 +69,9 @@ made role channels window standing = record {
 
 -- ---- what a layer owes. A fifth owed packet asks for a relink, after which nothing goes to the link until `link_down` or `link_up`
 
-abbrev pub is_full : List Body → Bool
-is_full owed = nat_le 4 (length owed)
-
-abbrev pub with_owed : List Body → Option Body → List Body
-with_owed owed None = owed
-with_owed owed (Some b) = cond (is_full owed) owed (owed ++ b ∷ [])
-
-abbrev pub passes_limit : List Body → Option Body → Bool
-passes_limit owed None = false
-passes_limit owed (Some b) = is_full owed
-
 abbrev pub set_if : Bool → Bool → Bool
 set_if true old = true
 set_if false old = old
-
-abbrev pub owing : Step → Channel
-owing st = record st.channel { owed = with_owed st.channel.owed st.owes }
 
 -- the layer after a step of channel c
 abbrev pub after_step : Layer → ℕ → Step → Layer
@@ -94,11 +81,6 @@ abbrev pub owes_restart : Option Body → Layer → Layer
 owes_restart o l = record l { owed = with_owed l.owed o; relink = set_if (passes_limit l.owed o) l.relink }
 
 -- ---- restart: all calls close, in rising order of channels
-
-abbrev pub had_call : CallState → Bool
-had_call Ready = false
-had_call OwnClear = false
-had_call _ = true
 
 abbrev pub closing_notes : ℕ → Reason → List Channel → List Note
 closing_notes c reason [] = []
@@ -169,15 +151,6 @@ abbrev pub in_own_restart : Phase → Bool
 in_own_restart OwnRestart = true
 in_own_restart _ = false
 
-abbrev pub waits_for_call : Role → CallState → Bool
-waits_for_call role OwnWaiting = true
-waits_for_call Dte Collision = true
-waits_for_call role _ = false
-
-abbrev pub waits_for_clear : CallState → Bool
-waits_for_clear OwnClear = true
-waits_for_clear _ = false
-
 abbrev pub runs_at : (Channel → Bool) → Phase → Option Channel → Bool
 runs_at test PacketReady (Some ch) = test ch
 runs_at test phase found = false
@@ -208,20 +181,6 @@ abbrev pub packet_of : ℕ → Option Body → Option Packet
 packet_of c None = None
 packet_of c (Some b) = Some (record { channel = c; body = b })
 
-pub record ChannelNext : Type 0 where
-  pub channel : Channel
-  pub body : Option Body
-
-abbrev pub next_owed : ℕ → List Body → Channel → ChannelNext
-next_owed window (b ∷ bs) ch = record { channel = record ch { owed = bs }; body = Some b }
-next_owed window [] ch =
-    cond (has_flow ch)
-    (record { channel = moved (says window ch.traffic).traffic ch; body = (says window ch.traffic).body })
-    (record { channel = ch; body = None })
-
-abbrev pub next_of : ℕ → Channel → ChannelNext
-next_of window ch = next_owed window ch.owed ch
-
 abbrev pub next_number : Layer → ℕ → ℕ
 next_number l c = cond (nat_le (length l.channels) c) 1 (suc c)
 
@@ -251,14 +210,6 @@ next_packet l = next_in l.phase l.relink l
 
 -- ---- calls of the user
 
--- a channel can be given to a new call in p1, once all its control packets went; a DTE looks from the top, a DCE from below
-abbrev pub is_ready : CallState → Bool
-is_ready Ready = true
-is_ready _ = false
-
-abbrev pub is_free : Channel → Bool
-is_free ch = is_ready ch.state && (length ch.owed == 0)
-
 abbrev pub raised : Option ℕ → Option ℕ
 raised None = None
 raised (Some n) = Some (suc n)
@@ -287,9 +238,6 @@ free_channel Dce chs = lowest_free chs
 abbrev pub channel_given : Layer → Phase → Option ℕ
 channel_given l PacketReady = free_channel l.role l.channels
 channel_given l phase = None
-
-abbrev pub placing : CallParts → Channel → Step
-placing parts ch = record { channel = entered OwnWaiting ch; owes = Some (Call parts); notes = [] }
 
 abbrev pub placed_on : Layer → CallParts → Option ℕ → Layer
 placed_on l parts None = l
@@ -355,10 +303,6 @@ confirmed_at (Some ch) = in_transfer ch.state && (ch.traffic.undelivered == 0)
 
 abbrev pub confirmed : Layer → ℕ → Bool
 confirmed l c = confirmed_at (channel_of l c)
-
--- nothing is owed or to be told, and nothing waits to be sent or taken
-abbrev pub channel_rests : Channel → Bool
-channel_rests ch = (length ch.owed == 0) && rests ch.traffic
 
 abbrev pub at_rest : Layer → Bool
 at_rest l = (length l.owed == 0) && list_all channel_rests l.channels

@@ -1,6 +1,6 @@
 //! The packet layer of one line (X.25 3 to 5).
 ghost use Rattle.std.specs.Prelude.{◌≡◌, ◌<◌, ◌≤◌, ◌+◌, ◌++◌, MatchResult, MatchOption, IfOk, None, false, Bool, [], length, drop, replicate, slice_get};
-ghost use Rattle.packet_layer.specs.Channel.{Channel as ChannelValue, closed_channel};
+ghost use Rattle.packet_channel.specs.Channel.{Channel as ChannelValue, closed_channel};
 ghost use Rattle.packet_layer.specs.Layer as machine;
 ghost use Rattle.packet_layer.specs.Params.{AreParams, MadeNot};
 
@@ -12,14 +12,12 @@ mod serving;
 mod sessions;
 mod timers;
 
-use crate::channel::Channel;
-use crate::effect::Outcome;
 use crate::fault::MakeFault;
-use crate::note::{LayerNote, Notes};
+use crate::notes::Notes;
 use crate::params::LayerParams;
 use crate::restart::{OwedRestarts, Phase};
-use crate::state::End;
 use link_timers::Role;
+use packet_channel::{Channel, End, LayerNote, Outcome};
 use std::alloc::{AllocError, Global};
 use std::marker::Model;
 
@@ -59,7 +57,7 @@ fn closed_channels(alloc: Global, count: u8) -> Result<Vec<Channel>, AllocError>
 }
 
 impl Layer {
-    ghost use Rattle.packet_layer.specs.NoteView.{maybe_note};
+    ghost use Rattle.packet_channel.specs.NoteView.{maybe_note};
 
     /// A packet layer without a session of the link, or on a standing line one in data transfer on channel 1. It takes all the
     /// memory that it ever uses.

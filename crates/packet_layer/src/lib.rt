@@ -2,24 +2,16 @@
 //! (X.25 sections 3 to 5).
 #![tactic(auto)]
 
-mod channel;
-mod control;
-mod effect;
 mod fault;
-mod heard;
 mod layer;
-mod note;
+mod notes;
 mod params;
 mod restart;
-mod state;
-mod taken;
-mod traffic;
-mod user_data;
 mod write;
 
-pub use fault::{CallFault, ChannelFault, MakeFault};
+pub use fault::{CallFault, MakeFault};
 pub use layer::Layer;
-pub use note::{LayerNote, Reason};
+pub use packet_channel::{
+    ChannelFault, Front, InterruptData, LayerNote, Reason, Taken, UserData,
+};
 pub use params::LayerParams;
-pub use taken::{Front, Taken};
-pub use user_data::{InterruptData, UserData};

@@ -1,8 +1,8 @@
 //! The restart packets that a packet layer owes to the link.
 ghost use Rattle.std.specs.Prelude.{◌≡◌, ◌==◌, [], is_some, Some, length};
 ghost use Rattle.packet_layer.specs.Layer.{with_owed, passes_limit};
-ghost use Rattle.packet_layer.specs.Octets.{written, ReadsAs};
-ghost use Rattle.packet_layer.specs.ControlView.{first_of, rest_of};
+ghost use Rattle.packet_channel.specs.Octets.{written, ReadsAs};
+ghost use Rattle.packet_channel.specs.ControlView.{first_of, rest_of};
 ghost use Rattle.packet_layer.specs.RestartView.{restart_body};
 
 use crate::write::{write_restart, write_restart_confirmation};
@@ -42,7 +42,7 @@ pub(crate) struct OwedRestarts {
 
 impl Model for OwedRestarts {
     ghost use Rattle.std.specs.Prelude.{List};
-    ghost use Rattle.packet_layer.specs.Packets.{Body};
+    ghost use Rattle.packet_channel.specs.Packets.{Body};
 
     ghost Value = { List Body };
 

@@ -2,19 +2,18 @@
 ghost use Rattle.std.specs.Prelude.{◌≡◌, ◌<◌, ◌≤◌, ◌+◌, true, false, Some, None, MatchResult, MatchOption, length};
 ghost use Rattle.packet_codec.specs.Packet.{IsCallValue};
 ghost use Rattle.packet_codec.specs.View.{call_view};
-ghost use Rattle.packet_layer.specs.Channel.{Request as asked};
+ghost use Rattle.packet_channel.specs.Channel.{Request as asked};
 ghost use Rattle.packet_layer.specs.Layer as machine;
-ghost use Rattle.packet_layer.specs.Octets.{parts_of};
+ghost use Rattle.packet_channel.specs.Octets.{parts_of};
 ghost use Rattle.packet_layer.specs.RequestView.{request_of, refusal_of, call_refusal_of};
-ghost use Rattle.packet_layer.specs.TakenView.{maybe_taken};
+ghost use Rattle.packet_channel.specs.TakenView.{maybe_taken};
 ghost use Rattle.packet_layer.specs.Free.{IsFreeAt};
 
-use crate::channel::{Channel, Request};
-use crate::fault::{CallFault, ChannelFault};
+use crate::fault::CallFault;
 use crate::layer::Layer;
 use crate::restart::Phase;
-use crate::taken::Taken;
 use link_timers::Role;
+use packet_channel::{Channel, ChannelFault, Request, Taken};
 use packet_codec::{CallBuf, CallData};
 
 fn lowest_free(channels: &[Channel]) -> Option<usize>

@@ -1,11 +1,11 @@
 //! All calls of a line close (X.25 3.3, 4.6).
 ghost use Rattle.std.specs.Prelude.{◌≡◌, ◌≤◌, [], map, length};
-ghost use Rattle.packet_layer.specs.Channel.{closed_channel};
+ghost use Rattle.packet_channel.specs.Channel.{closed_channel};
 ghost use Rattle.packet_layer.specs.Layer.{closing_notes};
-ghost use Rattle.packet_layer.specs.NoteView.{reason_of};
+ghost use Rattle.packet_channel.specs.NoteView.{reason_of};
 
-use crate::channel::Channel;
-use crate::note::{LayerNote, Notes, Reason};
+use crate::notes::Notes;
+use packet_channel::{Channel, LayerNote, Reason};
 
 /// Closes all channels, and notes each call that there was, in rising order of channels.
 pub(crate) fn close_channels(channels: &mut [Channel], notes: &mut Notes, reason: Reason)

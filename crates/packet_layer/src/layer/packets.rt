@@ -4,14 +4,13 @@ ghost use Rattle.packet_codec.specs.Packet.{IsPacket};
 ghost use Rattle.packet_codec.specs.Reading.{named_channel};
 ghost use Rattle.packet_codec.specs.View.{view, content_view};
 ghost use Rattle.packet_layer.specs.Layer as machine;
-ghost use Rattle.packet_layer.specs.Channel.{received};
-ghost use Rattle.packet_layer.specs.Octets.{body_of, unreadable_as};
+ghost use Rattle.packet_channel.specs.Channel.{received};
+ghost use Rattle.packet_channel.specs.Octets.{body_of, unreadable_as};
 ghost use Rattle.packet_layer.specs.Events.{on_octets, after_hearing};
 
 use crate::layer::Layer;
-use crate::note::Reason;
 use crate::restart::{Phase, RestartPacket};
-use crate::state::{End, error_cause};
+use packet_channel::{Reason, error_cause};
 use packet_codec::{Content, Numbering, Packet, PacketFault, logical_channel, read_packet};
 
 impl Layer {

@@ -3,11 +3,10 @@ ghost use Rattle.std.specs.Prelude.{◌≡◌, Some, None, MatchResult};
 ghost use Rattle.std.specs.List.{list_all};
 ghost use Rattle.packet_layer.specs.Layer as machine;
 ghost use Rattle.packet_layer.specs.RequestView.{refusal_of};
-ghost use Rattle.packet_layer.specs.TakenView.{maybe_front};
+ghost use Rattle.packet_channel.specs.TakenView.{maybe_front};
 
-use crate::fault::ChannelFault;
 use crate::layer::Layer;
-use crate::taken::Front;
+use packet_channel::{ChannelFault, Front};
 
 impl Layer {
     /// Whether `accept` takes a call on the channel: one came in and is not answered.

@@ -1,14 +1,14 @@
 //! The sessions of the link, and the restart procedure (X.25 3).
 ghost use Rattle.std.specs.Prelude.{◌≡◌, [], Some};
 ghost use Rattle.packet_layer.specs.Layer as machine;
-ghost use Rattle.packet_layer.specs.NoteView.{reason_of};
+ghost use Rattle.packet_channel.specs.NoteView.{reason_of};
 ghost use Rattle.packet_layer.specs.RestartView.{restart_body};
 
 use crate::layer::Layer;
 use crate::layer::closing::close_channels;
-use crate::note::Reason;
 use crate::restart::{Phase, RestartPacket};
 use link_timers::Role;
+use packet_channel::Reason;
 
 impl Layer {
     /// A session of the link begins: all calls close, and this end restarts the packet layer, a DTE with cause 0 and a DCE with

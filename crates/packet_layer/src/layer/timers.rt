@@ -5,10 +5,9 @@ ghost use Rattle.packet_layer.specs.Events.{timer_named, runs_named, on_named};
 ghost use Rattle.packet_layer.specs.TimerView.{maybe_timer, timer_of};
 
 use crate::layer::Layer;
-use crate::note::Reason;
 use crate::restart::Phase;
-use crate::state::error_cause;
 use link_timers::{Role, TimerId};
+use packet_channel::{Reason, error_cause};
 
 /// A timer of the packet layer: of the own restart, or by channel of the own call, the own reset or the own clear.
 #[derive(Clone, Copy)]

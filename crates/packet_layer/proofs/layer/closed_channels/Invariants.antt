@@ -1,6 +1,6 @@
 use Rattle.std.proofs.Common.{◌≡◌}
 use Rattle.std.specs.Prelude.{replicate}
-use Rattle.packet_layer.specs.Channel.{closed_channel}
+use Rattle.packet_channel.specs.Channel.{closed_channel}
 use Rattle.packet_layer.proofs.layer.closed_channels.Given as goal
 
 abbrev pub invariant-loop : goal.invariant-loop

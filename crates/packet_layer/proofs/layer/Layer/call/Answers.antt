@@ -4,7 +4,7 @@ use Rattle.packet_layer.specs.Layer.{Layer, free_channel, owing, placing}
 use Rattle.packet_layer.specs.LayerView.{layer_of}
 use Rattle.packet_codec.specs.Packet.{CallValue}
 use Rattle.packet_codec.specs.View.{call_view}
-use Rattle.packet_layer.specs.Octets.{parts_of}
+use Rattle.packet_channel.specs.Octets.{parts_of}
 use Rattle.packet_layer.specs.RestartView.{phase_of}
 use Rattle.packet_layer.proofs.Places.{item_at, kept, call_done, free_ready}
 use Rattle.packet_layer.proofs.layer.Layer.call.Goals as goal

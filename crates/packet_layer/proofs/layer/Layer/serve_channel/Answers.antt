@@ -3,7 +3,7 @@ use Rattle.std.proofs.Common.{set}
 use Rattle.std.specs.Prelude.{slice_get, is_some, true, false}
 use Rattle.packet_layer.specs.Layer.{Layer, Next, next_of}
 use Rattle.packet_layer.specs.LayerView.{layer_of}
-use Rattle.packet_layer.specs.Channel.{Channel}
+use Rattle.packet_channel.specs.Channel.{Channel}
 use Rattle.packet_layer.specs.Events.{written_packet, ReadsBack}
 use Rattle.packet_layer.proofs.Places.{item_at, unchanged}
 use Rattle.packet_layer.proofs.Serving.{silent_at, says_at, written_none, written_of, said_of, reads_of}

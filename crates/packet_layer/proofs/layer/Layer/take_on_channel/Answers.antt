@@ -2,7 +2,7 @@ use Rattle.std.proofs.Common.{◌≡◌, ◌∙◌, ap, sym, subst, Some, ◌<�
 use Rattle.std.specs.Prelude.{slice_get}
 use Rattle.packet_codec.specs.View.{content_view}
 use Rattle.packet_layer.specs.Layer.{Layer}
-use Rattle.packet_layer.specs.Octets.{body_of}
+use Rattle.packet_channel.specs.Octets.{body_of}
 use Rattle.packet_layer.specs.LayerView.{layer_of}
 use Rattle.packet_layer.specs.RestartView.{phase_of}
 use Rattle.packet_layer.proofs.Places.{item_at, packet_taken}

@@ -1,6 +1,6 @@
 use Rattle.std.proofs.Common.{◌≡◌, ◌∙◌, ◌+◌, ◌<◌, sym, Some, None, Option, ℕ, List, take, length, arith, subst}
 use Rattle.std.specs.Prelude.{slice_get, true, MatchOption}
-use Rattle.packet_layer.specs.Channel.{Channel}
+use Rattle.packet_channel.specs.Channel.{Channel}
 use Rattle.packet_layer.specs.Layer.{is_free, highest_free}
 use Rattle.packet_layer.specs.Free.{IsFreeAt}
 use Rattle.packet_layer.proofs.Places.{at_place}

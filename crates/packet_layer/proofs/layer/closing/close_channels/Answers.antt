@@ -1,9 +1,9 @@
 use Rattle.std.proofs.Common.{◌≡◌, ◌∙◌, ◌+◌, ◌≤◌, ◌++◌, ◌<◌, [], ◌∷◌, List, ap, sym, subst, Some, length, take, drop, map, arith}
 use Rattle.std.specs.Prelude.{slice_get}
-use Rattle.packet_layer.specs.Packets.{Note, Closed}
-use Rattle.packet_layer.specs.Channel.{Channel}
+use Rattle.packet_channel.specs.Packets.{Note, Closed}
+use Rattle.packet_channel.specs.Channel.{Channel}
 use Rattle.packet_layer.specs.Layer.{closing_notes, had_call}
-use Rattle.packet_layer.specs.NoteView.{reason_of}
+use Rattle.packet_channel.specs.NoteView.{reason_of}
 use Rattle.packet_layer.proofs.Places.{item_at}
 use Rattle.packet_layer.proofs.Closed.{length_more, closed_more, closed_next, notes_with_call, notes_without_call}
 use Rattle.packet_layer.proofs.layer.closing.close_channels.Goals as goal

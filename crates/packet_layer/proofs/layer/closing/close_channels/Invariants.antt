@@ -1,7 +1,7 @@
 use Rattle.std.proofs.Common.{◌≡◌, ◌+◌, ◌≤◌, ◌++◌, map, take, drop, length}
-use Rattle.packet_layer.specs.Channel.{closed_channel}
+use Rattle.packet_channel.specs.Channel.{closed_channel}
 use Rattle.packet_layer.specs.Layer.{closing_notes}
-use Rattle.packet_layer.specs.NoteView.{reason_of}
+use Rattle.packet_channel.specs.NoteView.{reason_of}
 use Rattle.packet_layer.proofs.layer.closing.close_channels.Given as goal
 
 abbrev pub invariant-loop-place : goal.invariant-loop-place

@@ -2,8 +2,8 @@
 //! the partner does not know the present P(R) or whether this end is stopped (X.25 4.3, 4.4).
 ghost use Rattle.std.specs.Bool.{OnFalse};
 ghost use Rattle.std.specs.Prelude.{◌≡◌, ◌<◌, ◌≤◌, is_some};
-ghost use Rattle.packet_layer.specs.Traffic as machine;
-ghost use Rattle.packet_layer.specs.Octets.{written, ReadsAs};
+ghost use Rattle.packet_channel.specs.Traffic as machine;
+ghost use Rattle.packet_channel.specs.Octets.{written, ReadsAs};
 
 use crate::traffic::Traffic;
 use crate::write::{write_data, write_interrupt, write_interrupt_confirmation, write_ready};

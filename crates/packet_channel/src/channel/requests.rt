@@ -1,8 +1,8 @@
 //! What the user asks of a channel (X.25 4.1 to 4.4).
 ghost use Rattle.link_timers.specs.declared.role.Role.{Role as RoleValue};
-ghost use Rattle.packet_layer.specs.Channel as machine;
-ghost use Rattle.packet_layer.specs.Answers.{Answers};
-ghost use Rattle.packet_layer.specs.RequestView.{request_of};
+ghost use Rattle.packet_channel.specs.Channel as machine;
+ghost use Rattle.packet_channel.specs.Answers.{Answers};
+ghost use Rattle.packet_channel.specs.RequestView.{request_of};
 
 use crate::channel::Channel;
 use crate::control::Control;
@@ -15,7 +15,7 @@ use packet_codec::{MAX_INTERRUPT, MAX_USER_DATA};
 
 /// What a user asks of the call on a channel.
 #[derive(Clone, Copy)]
-pub(crate) enum Request<'a> {
+pub enum Request<'a> {
     Accept,
     Clear {
         cause: u8,
@@ -39,7 +39,7 @@ pub(crate) enum Request<'a> {
 
 impl Channel {
     /// Does what is asked, if it is not refused, and answers whether one control packet too many is owed.
-    pub(crate) fn request(
+    pub fn request(
         &mut self,
         role: Role,
         request: &Request<'_>,

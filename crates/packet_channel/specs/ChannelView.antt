@@ -1,9 +1,9 @@
 -- What contracts see of the code's channel, and what always holds of it.
 use Rattle.std.specs.Prelude.{◌≡◌, false}
-use Rattle.packet_layer.specs.Traffic.{fresh}
-use Rattle.packet_layer.specs.Channel.{Channel, in_transfer}
-use Rattle.packet_layer.specs.StateView.{state_of}
-use Rattle.packet_layer.specs.declared.channel.Channel.TheInside.{Inside}
+use Rattle.packet_channel.specs.Traffic.{fresh}
+use Rattle.packet_channel.specs.Channel.{Channel, in_transfer}
+use Rattle.packet_channel.specs.StateView.{state_of}
+use Rattle.packet_channel.specs.declared.channel.Channel.TheInside.{Inside}
 
 abbrev pub channel_of : Inside → Channel
 channel_of a = record { state = state_of a.state; resetting = a.resetting; owed = a.owed; traffic = a.traffic }

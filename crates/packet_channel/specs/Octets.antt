@@ -5,8 +5,8 @@ use Rattle.packet_codec.specs.declared.fault.PacketFault.TheVariants.{TooShort, 
 use Rattle.packet_codec.specs.Packet.{PacketValue, ContentValue, CallValue, DataValue, spelling}
 use Rattle.packet_codec.specs.Packet.{ContentValue as content}
 use Rattle.packet_codec.specs.Reading.{reading, named_channel}
-use Rattle.packet_layer.specs.Packets.{CallParts, Datum, Body, Received}
-use Rattle.packet_layer.specs.Packets.{Body as body}
+use Rattle.packet_channel.specs.Packets.{CallParts, Datum, Body, Received}
+use Rattle.packet_channel.specs.Packets.{Body as body}
 
 -- ---- packets as the codec and as the layer names them
 

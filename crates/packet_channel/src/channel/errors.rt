@@ -1,8 +1,8 @@
 //! Procedure errors (X.25 tables C-3 and C-4).
 ghost use Rattle.std.specs.Prelude.{◌≡◌, true};
-ghost use Rattle.packet_layer.specs.Channel as machine;
-ghost use Rattle.packet_layer.specs.StateView.{state_of};
-ghost use Rattle.packet_layer.specs.Effects.{effect_of};
+ghost use Rattle.packet_channel.specs.Channel as machine;
+ghost use Rattle.packet_channel.specs.StateView.{state_of};
+ghost use Rattle.packet_channel.specs.Effects.{effect_of};
 
 use crate::channel::Channel;
 use crate::control::Control;

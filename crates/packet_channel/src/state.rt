@@ -1,14 +1,13 @@
 //! Where a logical channel stands in call set-up and clearing (X.25 tables C-1 and C-2), seen from one end.
 ghost use Rattle.std.specs.Prelude.{◌≡◌, ◌≤◌};
-ghost use Rattle.packet_layer.specs.Channel as machine;
-ghost use Rattle.packet_layer.specs.Layer as layer;
-ghost use Rattle.packet_layer.specs.StateView.{state_of};
+ghost use Rattle.packet_channel.specs.Channel as machine;
+ghost use Rattle.packet_channel.specs.StateView.{state_of};
 
 use link_timers::Role;
 
 /// The states p1 to p7 of a channel. "Own" is what this end began, "far" what the other end did.
 #[derive(Clone, Copy, Debug, PartialEq, Eq)]
-pub(crate) enum CallState {
+pub enum CallState {
     /// p1.
     Ready,
     /// p2 of a DTE, p3 of a DCE.
@@ -41,7 +40,7 @@ impl CallState {
     }
 
     /// Whether the user may accept a call.
-    pub(crate) fn may_accept(self, role: Role) -> bool
+    pub fn may_accept(self, role: Role) -> bool
         ensures { result ≡ machine.may_accept role (state_of self) }
     {
         match (self, role) {
@@ -55,9 +54,9 @@ impl CallState {
     }
 
     /// Whether there is a call, being set up or in data transfer.
-    pub(crate) fn has_call(self) -> bool
+    pub fn has_call(self) -> bool
         ensures clears { result ≡ machine.may_clear (state_of self) }
-        ensures had { result ≡ layer.had_call (state_of self) }
+        ensures had { result ≡ machine.had_call (state_of self) }
     {
         match self {
             CallState::Ready | CallState::OwnClear => false,
@@ -68,7 +67,7 @@ impl CallState {
         }
     }
 
-    pub(crate) fn in_transfer(self) -> bool
+    pub fn in_transfer(self) -> bool
         ensures { result ≡ machine.in_transfer (state_of self) }
     {
         match self {
@@ -82,7 +81,7 @@ impl CallState {
     }
 
     pub(crate) fn is_ready(self) -> bool
-        ensures { result ≡ layer.is_ready (state_of self) }
+        ensures { result ≡ machine.is_ready (state_of self) }
     {
         match self {
             CallState::Ready => true,
@@ -95,8 +94,8 @@ impl CallState {
     }
 
     /// Whether the own call waits for its answer.
-    pub(crate) fn waits_for_call(self, role: Role) -> bool
-        ensures { result ≡ layer.waits_for_call role (state_of self) }
+    pub fn waits_for_call(self, role: Role) -> bool
+        ensures { result ≡ machine.waits_for_call role (state_of self) }
     {
         match (self, role) {
             (CallState::OwnWaiting, _) | (CallState::Collision, Role::Dte) => true,
@@ -109,8 +108,8 @@ impl CallState {
     }
 
     /// Whether the own clear waits for its confirmation.
-    pub(crate) fn waits_for_clear(self) -> bool
-        ensures { result ≡ layer.waits_for_clear (state_of self) }
+    pub fn waits_for_clear(self) -> bool
+        ensures { result ≡ machine.waits_for_clear (state_of self) }
     {
         match self {
             CallState::OwnClear => true,
@@ -125,14 +124,14 @@ impl CallState {
 
 /// The end of a line at which a channel is seen: its role, the window of the line, at most 7, and the channel's number.
 #[derive(Clone, Copy)]
-pub(crate) struct End {
-    pub(crate) role: Role,
-    pub(crate) window: u8,
-    pub(crate) channel: u8,
+pub struct End {
+    pub role: Role,
+    pub window: u8,
+    pub channel: u8,
 }
 
 /// The cause of a procedure error: a DTE sends 0 (X.25 5.2.3, 5.4.3, 5.5.1).
-pub(crate) fn error_cause(role: Role, cause: u8) -> u8
+pub fn error_cause(role: Role, cause: u8) -> u8
     ensures { result ≡ machine.error_cause role cause }
 {
     match role {

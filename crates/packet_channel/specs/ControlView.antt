@@ -1,9 +1,9 @@
 -- Control packets that are owed, as the code has them.
 use Rattle.std.specs.Prelude.{List, [], ◌∷◌, map, Option, Some, None}
-use Rattle.packet_layer.specs.Packets.{Body}
-use Rattle.packet_layer.specs.Octets.{parts_of}
-use Rattle.packet_layer.specs.declared.control.Control.{Control}
-use Rattle.packet_layer.specs.declared.control.Control.TheVariants as control
+use Rattle.packet_channel.specs.Packets.{Body}
+use Rattle.packet_channel.specs.Octets.{parts_of}
+use Rattle.packet_channel.specs.declared.control.Control.{Control}
+use Rattle.packet_channel.specs.declared.control.Control.TheVariants as control
 
 abbrev pub control_body : Control → Body
 control_body (control.Call call) = Body.Call (parts_of call)

@@ -2,10 +2,10 @@
 ghost use Rattle.std.specs.Prelude.{◌≡◌, ◌<◌, ◌≤◌, length};
 ghost use Rattle.packet_codec.specs.Packet.{IsDataValue};
 ghost use Rattle.packet_codec.specs.View.{data_view};
-ghost use Rattle.packet_layer.specs.Packets.{Body as body};
-ghost use Rattle.packet_layer.specs.Traffic as machine;
-ghost use Rattle.packet_layer.specs.Octets.{datum_of};
-ghost use Rattle.packet_layer.specs.HeardView.{heard_of};
+ghost use Rattle.packet_channel.specs.Packets.{Body as body};
+ghost use Rattle.packet_channel.specs.Traffic as machine;
+ghost use Rattle.packet_channel.specs.Octets.{datum_of};
+ghost use Rattle.packet_channel.specs.HeardView.{heard_of};
 
 use crate::heard::Heard;
 use crate::traffic::Traffic;

@@ -1,8 +1,7 @@
 -- What a step of a channel does besides changing it.
 use Rattle.std.specs.Prelude.{Bool, List, Option}
-use Rattle.packet_layer.specs.Packets.{Body, Note}
-use Rattle.packet_layer.specs.Channel.{Step}
-use Rattle.packet_layer.specs.Layer.{passes_limit}
+use Rattle.packet_channel.specs.Packets.{Body, Note}
+use Rattle.packet_channel.specs.Channel.{Step, passes_limit}
 
 pub record Effect : Type 0 where
   pub owes : Option Body

@@ -2,11 +2,11 @@
 ghost use Rattle.std.specs.Prelude.{◌≡◌, ◌≤◌, true, false};
 ghost use Rattle.packet_codec.specs.Packet.{IsPacket};
 ghost use Rattle.packet_codec.specs.View.{view, content_view};
-ghost use Rattle.packet_layer.specs.Packets.{Body as body};
-ghost use Rattle.packet_layer.specs.Channel as machine;
-ghost use Rattle.packet_layer.specs.Octets.{body_of};
-ghost use Rattle.packet_layer.specs.HeardView.{heard_of};
-ghost use Rattle.packet_layer.specs.Effects.{effect_of};
+ghost use Rattle.packet_channel.specs.Packets.{Body as body};
+ghost use Rattle.packet_channel.specs.Channel as machine;
+ghost use Rattle.packet_channel.specs.Octets.{body_of};
+ghost use Rattle.packet_channel.specs.HeardView.{heard_of};
+ghost use Rattle.packet_channel.specs.Effects.{effect_of};
 
 use crate::channel::Channel;
 use crate::control::Control;

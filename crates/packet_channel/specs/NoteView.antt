@@ -1,11 +1,11 @@
 -- Notes, as the code has them.
 use Rattle.std.specs.Prelude.{List, [], ◌∷◌, map, Option, Some, None}
-use Rattle.packet_layer.specs.Packets as spec
-use Rattle.packet_layer.specs.Octets.{parts_of}
-use Rattle.packet_layer.specs.declared.note.Reason.{Reason}
-use Rattle.packet_layer.specs.declared.note.Reason.TheVariants as reason
-use Rattle.packet_layer.specs.declared.note.LayerNote.{LayerNote}
-use Rattle.packet_layer.specs.declared.note.LayerNote.TheVariants as note
+use Rattle.packet_channel.specs.Packets as spec
+use Rattle.packet_channel.specs.Octets.{parts_of}
+use Rattle.packet_channel.specs.declared.note.Reason.{Reason}
+use Rattle.packet_channel.specs.declared.note.Reason.TheVariants as reason
+use Rattle.packet_channel.specs.declared.note.LayerNote.{LayerNote}
+use Rattle.packet_channel.specs.declared.note.LayerNote.TheVariants as note
 
 abbrev pub reason_of : Reason → spec.Reason
 reason_of reason.FarEnd = spec.Reason.FarEnd

@@ -1,7 +1,7 @@
 -- The states of a channel, as the code has them.
-use Rattle.packet_layer.specs.Channel as spec
-use Rattle.packet_layer.specs.declared.state.CallState.{CallState}
-use Rattle.packet_layer.specs.declared.state.CallState.TheVariants as state
+use Rattle.packet_channel.specs.Channel as spec
+use Rattle.packet_channel.specs.declared.state.CallState.{CallState}
+use Rattle.packet_channel.specs.declared.state.CallState.TheVariants as state
 
 abbrev pub state_of : CallState → spec.CallState
 state_of state.Ready = spec.CallState.Ready

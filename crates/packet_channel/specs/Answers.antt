@@ -1,10 +1,9 @@
 -- What a channel answers to a request: whether one control packet too many is owed, or why the request is refused.
 use Rattle.std.specs.Prelude.{◌≡◌, Bool, Result, Ok, Err, Some, None}
 use Rattle.link_timers.specs.declared.role.Role.{Role}
-use Rattle.packet_layer.specs.Channel.{Channel, Request, refusal, carried_out}
-use Rattle.packet_layer.specs.Layer.{owing, passes_limit}
-use Rattle.packet_layer.specs.RequestView.{refusal_of}
-use Rattle.packet_layer.specs.declared.fault.ChannelFault.{ChannelFault}
+use Rattle.packet_channel.specs.Channel.{Channel, Request, refusal, carried_out, owing, passes_limit}
+use Rattle.packet_channel.specs.RequestView.{refusal_of}
+use Rattle.packet_channel.specs.declared.fault.ChannelFault.{ChannelFault}
 
 pub record CarriedOut (role : Role) (old : Channel) (r : Request) (relink : Bool) (new : Channel) : Type 0 where
   pub allowed : refusal role old r ≡ None

@@ -1,7 +1,7 @@
 //! What a step of a channel does besides changing it.
 ghost use Rattle.std.specs.Prelude.{◌≡◌, [], ◌∷◌, Some, None};
-ghost use Rattle.packet_layer.specs.ControlView.{control_body, maybe_body};
-ghost use Rattle.packet_layer.specs.NoteView.{note_of, listed};
+ghost use Rattle.packet_channel.specs.ControlView.{control_body, maybe_body};
+ghost use Rattle.packet_channel.specs.NoteView.{note_of, listed};
 
 use crate::control::Control;
 use crate::note::LayerNote;
@@ -16,11 +16,11 @@ pub(crate) struct Effect {
 }
 
 impl Model for Effect {
-    ghost use Rattle.packet_layer.specs.Effects as effects;
+    ghost use Rattle.packet_channel.specs.Effects as effects;
 
     ghost Value = { effects.Effect };
 
-    ghost use Rattle.packet_layer.specs.EffectView.{effect_view};
+    ghost use Rattle.packet_channel.specs.EffectView.{effect_view};
 
     ghost view = { effect_view };
 }
@@ -74,18 +74,18 @@ impl Effect {
 /// What a whole step tells the layer: whether it owes one packet too many, so that the link has to be set up anew, and what it
 /// notes, in order.
 #[derive(Drop)]
-pub(crate) struct Outcome {
-    pub(crate) relink: bool,
-    pub(crate) first: Option<LayerNote>,
-    pub(crate) second: Option<LayerNote>,
+pub struct Outcome {
+    pub relink: bool,
+    pub first: Option<LayerNote>,
+    pub second: Option<LayerNote>,
 }
 
 impl Model for Outcome {
-    ghost use Rattle.packet_layer.specs.Effects as effects;
+    ghost use Rattle.packet_channel.specs.Effects as effects;
 
     ghost Value = { effects.Outcome };
 
-    ghost use Rattle.packet_layer.specs.EffectView.{outcome_view};
+    ghost use Rattle.packet_channel.specs.EffectView.{outcome_view};
 
     ghost view = { outcome_view };
 }

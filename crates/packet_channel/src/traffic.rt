@@ -1,6 +1,6 @@
 //! Data transfer on a channel from one reset to the next (X.25 4.3, 4.4).
 ghost use Rattle.std.specs.Prelude.{◌≡◌, ◌<◌, ◌≤◌, IfOk, length, ◌==◌, if◌then◌else◌};
-ghost use Rattle.packet_layer.specs.Traffic as machine;
+ghost use Rattle.packet_channel.specs.Traffic as machine;
 
 mod hearing;
 mod saying;
@@ -44,11 +44,11 @@ pub(crate) struct Traffic {
 }
 
 impl Model for Traffic {
-    ghost use Rattle.packet_layer.specs.Traffic as machine;
+    ghost use Rattle.packet_channel.specs.Traffic as machine;
 
     ghost Value = { machine.Traffic };
 
-    ghost use Rattle.packet_layer.specs.TrafficView.{traffic_of, IsTraffic};
+    ghost use Rattle.packet_channel.specs.TrafficView.{traffic_of, IsTraffic};
 
     ghost view = { traffic_of };
 
@@ -56,7 +56,7 @@ impl Model for Traffic {
 }
 
 impl Traffic {
-    ghost use Rattle.packet_layer.specs.TakenView.{maybe_taken, maybe_front};
+    ghost use Rattle.packet_channel.specs.TakenView.{maybe_taken, maybe_front};
 
     /// As a call begins it.
     pub(crate) fn new(alloc: Global) -> Result<Self, AllocError>

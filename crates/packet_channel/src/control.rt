@@ -1,9 +1,9 @@
 //! Control packets that are owed to the link.
 ghost use Rattle.std.specs.Bool.{OnFalse};
 ghost use Rattle.std.specs.Prelude.{◌≡◌, ◌<◌, [], ◌==◌, length, is_some};
-ghost use Rattle.packet_layer.specs.Layer.{with_owed, passes_limit};
-ghost use Rattle.packet_layer.specs.Octets.{written, ReadsAs};
-ghost use Rattle.packet_layer.specs.ControlView.{maybe_body, first_of, rest_of};
+ghost use Rattle.packet_channel.specs.Channel.{with_owed, passes_limit};
+ghost use Rattle.packet_channel.specs.Octets.{written, ReadsAs};
+ghost use Rattle.packet_channel.specs.ControlView.{maybe_body, first_of, rest_of};
 
 use crate::write::{
     write_accepted, write_call, write_clear, write_clear_confirmation, write_reset,
@@ -53,11 +53,11 @@ pub(crate) struct Owed {
 
 impl Model for Owed {
     ghost use Rattle.std.specs.Prelude.{List, ◌≤◌, length};
-    ghost use Rattle.packet_layer.specs.Packets.{Body};
+    ghost use Rattle.packet_channel.specs.Packets.{Body};
 
     ghost Value = { List Body };
 
-    ghost use Rattle.packet_layer.specs.ControlView.{bodies_of};
+    ghost use Rattle.packet_channel.specs.ControlView.{bodies_of};
 
     ghost view = { λ o. bodies_of o.packets.items };
 }

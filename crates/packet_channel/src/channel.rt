@@ -1,11 +1,10 @@
 //! One logical channel (X.25 4, tables C-1 to C-4).
 ghost use Rattle.std.specs.Bool.{OnFalse};
 ghost use Rattle.std.specs.Prelude.{◌≡◌, ◌<◌, ◌≤◌, IfOk, Some, is_some, ◌-◌, ◌==◌, ◌&&◌, true, if◌then◌else◌, length};
-ghost use Rattle.packet_layer.specs.Channel as machine;
-ghost use Rattle.packet_layer.specs.Layer as layer;
-ghost use Rattle.packet_layer.specs.StateView.{state_of};
-ghost use Rattle.packet_layer.specs.Octets.{body_of, parts_of, written, ReadsAs};
-ghost use Rattle.packet_layer.specs.Packets.{Body as body};
+ghost use Rattle.packet_channel.specs.Channel as machine;
+ghost use Rattle.packet_channel.specs.StateView.{state_of};
+ghost use Rattle.packet_channel.specs.Octets.{body_of, parts_of, written, ReadsAs};
+ghost use Rattle.packet_channel.specs.Packets.{Body as body};
 ghost use Rattle.packet_codec.specs.Packet.{IsPacket};
 ghost use Rattle.packet_codec.specs.View.{view, content_view};
 
@@ -19,14 +18,14 @@ use crate::state::{CallState, End};
 use crate::taken::{Front, Taken};
 use crate::traffic::Traffic;
 use packet_codec::{CallBuf, Packet, PacketBuf};
-pub(crate) use requests::Request;
+pub use requests::Request;
 use std::alloc::{AllocError, Global};
 use std::marker::Model;
 
 /// A logical channel: the state of its call, in p4 whether the own reset is not confirmed, the control packets that are owed to
 /// the link, and what is in transfer.
 #[derive(Drop)]
-pub(crate) struct Channel {
+pub struct Channel {
     state: CallState,
     resetting: bool,
     owed: Owed,
@@ -34,11 +33,11 @@ pub(crate) struct Channel {
 }
 
 impl Model for Channel {
-    ghost use Rattle.packet_layer.specs.Channel as machine;
+    ghost use Rattle.packet_channel.specs.Channel as machine;
 
     ghost Value = { machine.Channel };
 
-    ghost use Rattle.packet_layer.specs.ChannelView.{channel_of, IsChannel};
+    ghost use Rattle.packet_channel.specs.ChannelView.{channel_of, IsChannel};
 
     ghost view = { channel_of };
 
@@ -47,12 +46,12 @@ impl Model for Channel {
 
 impl Channel {
     ghost use Rattle.link_timers.specs.declared.role.Role.{Role};
-    ghost use Rattle.packet_layer.specs.Traffic as traffic;
-    ghost use Rattle.packet_layer.specs.TakenView.{maybe_taken, maybe_front};
-    ghost use Rattle.packet_layer.specs.Effects.{outcome_of};
+    ghost use Rattle.packet_channel.specs.Traffic as traffic;
+    ghost use Rattle.packet_channel.specs.TakenView.{maybe_taken, maybe_front};
+    ghost use Rattle.packet_channel.specs.Effects.{outcome_of};
 
     /// A channel without a call.
-    pub(crate) fn new(alloc: Global) -> Result<Self, AllocError>
+    pub fn new(alloc: Global) -> Result<Self, AllocError>
         ensures { IfOk result (λ c. c ≡ machine.closed_channel) }
     {
         let traffic = Traffic::new(alloc)?;
@@ -65,14 +64,14 @@ impl Channel {
     }
 
     /// Enters the state of a call that stands.
-    pub(crate) fn stand(&mut self)
+    pub fn stand(&mut self)
         ensures { self.new ≡ machine.entered machine.CallState.Transfer self.old }
     {
         self.state = CallState::Transfer;
     }
 
     /// Ends the call and drops all that is owed, as a restart does.
-    pub(crate) fn close(&mut self)
+    pub fn close(&mut self)
         ensures { self.new ≡ machine.closed_channel }
     {
         self.state = CallState::Ready;
@@ -82,21 +81,21 @@ impl Channel {
     }
 
     /// The state of the call.
-    pub(crate) fn state(&self) -> CallState
+    pub fn state(&self) -> CallState
         ensures { state_of result ≡ self.now.state }
     {
         self.state
     }
 
     /// Whether a call may be placed: there is none, and nothing is owed.
-    pub(crate) fn is_free(&self) -> bool
-        ensures { result ≡ layer.is_free self.now }
+    pub fn is_free(&self) -> bool
+        ensures { result ≡ machine.is_free self.now }
     {
         self.state.is_ready() && self.owed.is_empty()
     }
 
     /// Whether the own reset waits for its confirmation.
-    pub(crate) fn waits_for_reset(&self) -> bool
+    pub fn waits_for_reset(&self) -> bool
         ensures { result ≡ (machine.in_transfer self.now.state && self.now.resetting) }
     {
         self.state.in_transfer() && self.resetting
@@ -110,7 +109,7 @@ impl Channel {
     }
 
     /// Free places of the send queue.
-    pub(crate) fn room(&self) -> u8
+    pub fn room(&self) -> u8
         ensures { result ≡ (if machine.has_flow self.now then 8 - length self.now.traffic.waiting else 0) }
     {
         if self.has_flow() {
@@ -121,16 +120,16 @@ impl Channel {
     }
 
     /// What `take` would give.
-    pub(crate) fn front(&self) -> Option<Front>
+    pub fn front(&self) -> Option<Front>
         ensures { result ≡ maybe_front (traffic.front self.now.traffic) }
     {
         self.traffic.front()
     }
 
     /// Takes the interrupt that waits, or else the first packet.
-    pub(crate) fn take(&mut self) -> Option<Taken>
+    pub fn take(&mut self) -> Option<Taken>
         ensures taken { maybe_taken result ≡ traffic.front self.old.traffic }
-        ensures channel { (role : Role) → self.new ≡ layer.owing (machine.requested role self.old machine.Request.Taking) }
+        ensures channel { (role : Role) → self.new ≡ machine.owing (machine.requested role self.old machine.Request.Taking) }
     {
         if !self.state.in_transfer() {
             return None;
@@ -139,27 +138,27 @@ impl Channel {
     }
 
     /// Whether there is a call in which each packet with D = 1 is covered.
-    pub(crate) fn is_confirmed(&self) -> bool
+    pub fn is_confirmed(&self) -> bool
         ensures { result ≡ (machine.in_transfer self.now.state && (self.now.traffic.undelivered == 0)) }
     {
         self.state.in_transfer() && self.traffic.is_delivered()
     }
 
     /// Whether nothing is owed or to be told, and nothing waits to be sent or taken.
-    pub(crate) fn is_at_rest(&self) -> bool
-        ensures { result ≡ layer.channel_rests self.now }
+    pub fn is_at_rest(&self) -> bool
+        ensures { result ≡ machine.channel_rests self.now }
     {
         self.owed.is_empty() && self.traffic.is_at_rest()
     }
 
     /// Writes the packet that goes to the link next, if there is one.
-    pub(crate) fn next_packet(&mut self, window: u8, channel: u8, buf: &mut PacketBuf) -> bool
+    pub fn next_packet(&mut self, window: u8, channel: u8, buf: &mut PacketBuf) -> bool
         requires window { window ≤ 7 }
         requires channel { 0 < channel }
-        ensures channel { self.new ≡ (layer.next_of window self.old).channel }
-        ensures said { result ≡ is_some (layer.next_of window self.old).body }
-        ensures octets { buf.new.items ≡ written channel (layer.next_of window self.old).body buf.old.items }
-        ensures reads_back { ReadsAs channel (layer.next_of window self.old).body buf.new.items }
+        ensures channel { self.new ≡ (machine.next_of window self.old).channel }
+        ensures said { result ≡ is_some (machine.next_of window self.old).body }
+        ensures octets { buf.new.items ≡ written channel (machine.next_of window self.old).body buf.old.items }
+        ensures reads_back { ReadsAs channel (machine.next_of window self.old).body buf.new.items }
         ensures same { OnFalse result (self.new ≡ self.old) }
     {
         if self.owed.next_packet(channel, buf) {
@@ -172,10 +171,10 @@ impl Channel {
     }
 
     /// Takes a packet that the link brings.
-    pub(crate) fn take_packet(&mut self, end: End, packet: &Packet<'_>) -> Outcome
+    pub fn take_packet(&mut self, end: End, packet: &Packet<'_>) -> Outcome
         requires window { end.window ≤ 7 }
         requires fits { IsPacket (view packet.now) }
-        ensures channel { self.new ≡ layer.owing (machine.received end.role end.window end.channel self.old
+        ensures channel { self.new ≡ machine.owing (machine.received end.role end.window end.channel self.old
             (body_of (content_view packet.now.content))) }
         ensures outcome { result ≡ outcome_of (machine.received end.role end.window end.channel self.old
             (body_of (content_view packet.now.content))) }
@@ -185,8 +184,8 @@ impl Channel {
     }
 
     /// Takes octets that are no packet.
-    pub(crate) fn take_unreadable(&mut self, end: End, unknown: bool) -> Outcome
-        ensures channel { self.new ≡ layer.owing (machine.unreadable end.role end.channel unknown self.old) }
+    pub fn take_unreadable(&mut self, end: End, unknown: bool) -> Outcome
+        ensures channel { self.new ≡ machine.owing (machine.unreadable end.role end.channel unknown self.old) }
         ensures outcome { result ≡ outcome_of (machine.unreadable end.role end.channel unknown self.old) }
     {
         let effect = self.unreadable(end, unknown);
@@ -194,8 +193,8 @@ impl Channel {
     }
 
     /// Clears the call whose timer expired.
-    pub(crate) fn expire(&mut self, end: End) -> Outcome
-        ensures channel { self.new ≡ layer.owing (machine.clear_error end.role end.channel 0 true self.old) }
+    pub fn expire(&mut self, end: End) -> Outcome
+        ensures channel { self.new ≡ machine.owing (machine.clear_error end.role end.channel 0 true self.old) }
         ensures outcome { result ≡ outcome_of (machine.clear_error end.role end.channel 0 true self.old) }
     {
         let effect = self.clear_error(end, 0, true);
@@ -203,10 +202,10 @@ impl Channel {
     }
 
     /// Places a call on a free channel, and answers whether one control packet too many is owed.
-    pub(crate) fn place_call(&mut self, call: CallBuf) -> bool
+    pub fn place_call(&mut self, call: CallBuf) -> bool
         requires { self.old.state ≡ machine.CallState.Ready }
-        ensures channel { self.new ≡ layer.owing (layer.placing (parts_of call) self.old) }
-        ensures passes { result ≡ layer.passes_limit self.old.owed (Some (body.Call (parts_of call))) }
+        ensures channel { self.new ≡ machine.owing (machine.placing (parts_of call) self.old) }
+        ensures passes { result ≡ machine.passes_limit self.old.owed (Some (body.Call (parts_of call))) }
     {
         self.state = CallState::OwnWaiting;
         self.owed.owe(Some(Control::Call(call)))
@@ -214,8 +213,8 @@ impl Channel {
 
     // Owes what a step owes.
     fn settle(&mut self, effect: Effect) -> Outcome
-        ensures channel { self.new ≡ record self.old { owed = layer.with_owed self.old.owed effect.owes } }
-        ensures outcome { result ≡ record { relink = layer.passes_limit self.old.owed effect.owes; notes = effect.notes } }
+        ensures channel { self.new ≡ record self.old { owed = machine.with_owed self.old.owed effect.owes } }
+        ensures outcome { result ≡ record { relink = machine.passes_limit self.old.owed effect.owes; notes = effect.notes } }
     {
         let Effect {
             owes,

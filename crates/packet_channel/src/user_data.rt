@@ -15,7 +15,7 @@ pub struct UserData {
 
 impl Model for UserData {
     ghost use Rattle.std.specs.Prelude.{◌≤◌, length};
-    ghost use Rattle.packet_layer.specs.Packets.{Datum};
+    ghost use Rattle.packet_channel.specs.Packets.{Datum};
 
     ghost Value = { Datum };
 

@@ -1,14 +1,14 @@
 -- One logical channel: the state tables of call set-up, clearing and reset (X.25 tables C-1 to C-4, 4.1, 4.4.3), seen from
 -- one end: "own" is what this end began, "far" what the other end did.
-use Rattle.std.specs.Prelude.{ℕ, ◌+◌, Bool, true, false, cond, not, ◌&&◌, ◌||◌, ◌==◌, nat_lt, nat_le, List, [], ◌∷◌, length, Option, Some, None}
+use Rattle.std.specs.Prelude.{ℕ, ◌+◌, Bool, true, false, cond, not, ◌&&◌, ◌||◌, ◌==◌, nat_lt, nat_le, List, [], ◌∷◌, ◌++◌, length, Option, Some, None}
 use Rattle.link_timers.specs.declared.role.Role.{Role}
 use Rattle.link_timers.specs.declared.role.Role.TheVariants.{Dte, Dce}
-use Rattle.packet_layer.specs.Packets.{CallParts, Datum, Body, Note}
-use Rattle.packet_layer.specs.Packets.Body.{Call, Accepted, Clear, ClearConfirmation, Data, Interrupt, InterruptConfirmation, ReceiveReady, ReceiveNotReady, Reset, ResetConfirmation}
-use Rattle.packet_layer.specs.Packets.Note.{Incoming, Connected, Closed, WasReset, InterruptConfirmed, Covered}
-use Rattle.packet_layer.specs.Packets.Reason.{FarEnd, LocalFault, Cancelled}
-use Rattle.packet_layer.specs.Traffic.{Traffic, Heard, fresh, queue, queue_interrupt, interrupt_pending, stopping, taking, may_release, releasing, confirming, hears}
-use Rattle.packet_layer.specs.Traffic.Heard.{Keeps, Confirms, Wrong}
+use Rattle.packet_channel.specs.Packets.{CallParts, Datum, Body, Note}
+use Rattle.packet_channel.specs.Packets.Body.{Call, Accepted, Clear, ClearConfirmation, Data, Interrupt, InterruptConfirmation, ReceiveReady, ReceiveNotReady, Reset, ResetConfirmation}
+use Rattle.packet_channel.specs.Packets.Note.{Incoming, Connected, Closed, WasReset, InterruptConfirmed, Covered}
+use Rattle.packet_channel.specs.Packets.Reason.{FarEnd, LocalFault, Cancelled}
+use Rattle.packet_channel.specs.Traffic.{Traffic, Heard, fresh, queue, queue_interrupt, interrupt_pending, stopping, taking, may_release, releasing, confirming, hears, says, rests}
+use Rattle.packet_channel.specs.Traffic.Heard.{Keeps, Confirms, Wrong}
 
 -- p1; p2 of a DTE or p3 of a DCE; p3 of a DTE or p2 of a DCE; p4; p5; p6 of a DTE or p7 of a DCE
 pub data CallState : Type 0 where
@@ -254,3 +254,68 @@ requested role ch r = unless (refusal role ch r) (carried_out ch r) ch
 -- data may be queued: a call in p4 without a reset of the own end unconfirmed
 abbrev pub has_flow : Channel → Bool
 has_flow ch = in_transfer ch.state && not ch.resetting
+
+-- ---- what a channel owes: a fifth control packet is one too many, and is not kept
+
+abbrev pub is_full : List Body → Bool
+is_full owed = nat_le 4 (length owed)
+
+abbrev pub with_owed : List Body → Option Body → List Body
+with_owed owed None = owed
+with_owed owed (Some b) = cond (is_full owed) owed (owed ++ b ∷ [])
+
+abbrev pub passes_limit : List Body → Option Body → Bool
+passes_limit owed None = false
+passes_limit owed (Some b) = is_full owed
+
+abbrev pub owing : Step → Channel
+owing st = record st.channel { owed = with_owed st.channel.owed st.owes }
+
+-- ---- what goes to the link: a control packet or, where none is owed, what the traffic says
+
+pub record ChannelNext : Type 0 where
+  pub channel : Channel
+  pub body : Option Body
+
+abbrev pub next_owed : ℕ → List Body → Channel → ChannelNext
+next_owed window (b ∷ bs) ch = record { channel = record ch { owed = bs }; body = Some b }
+next_owed window [] ch =
+    cond (has_flow ch)
+    (record { channel = moved (says window ch.traffic).traffic ch; body = (says window ch.traffic).body })
+    (record { channel = ch; body = None })
+
+abbrev pub next_of : ℕ → Channel → ChannelNext
+next_of window ch = next_owed window ch.owed ch
+
+-- ---- placing a call
+
+-- a channel can be given to a new call in p1, once all its control packets went
+abbrev pub is_ready : CallState → Bool
+is_ready Ready = true
+is_ready _ = false
+
+abbrev pub is_free : Channel → Bool
+is_free ch = is_ready ch.state && (length ch.owed == 0)
+
+abbrev pub placing : CallParts → Channel → Step
+placing parts ch = record { channel = entered OwnWaiting ch; owes = Some (Call parts); notes = [] }
+
+-- ---- questions
+
+abbrev pub had_call : CallState → Bool
+had_call Ready = false
+had_call OwnClear = false
+had_call _ = true
+
+abbrev pub waits_for_call : Role → CallState → Bool
+waits_for_call role OwnWaiting = true
+waits_for_call Dte Collision = true
+waits_for_call role _ = false
+
+abbrev pub waits_for_clear : CallState → Bool
+waits_for_clear OwnClear = true
+waits_for_clear _ = false
+
+-- nothing is owed or to be told, and nothing waits to be sent or taken
+abbrev pub channel_rests : Channel → Bool
+channel_rests ch = (length ch.owed == 0) && rests ch.traffic

@@ -1,7 +1,7 @@
 -- What contracts see of the code's traffic, and what always holds of it.
 use Rattle.std.specs.Prelude.{◌≡◌, ◌+◌, ◌%◌, ◌<◌, ◌≤◌, length}
-use Rattle.packet_layer.specs.Traffic.{Traffic, distance}
-use Rattle.packet_layer.specs.declared.traffic.Traffic.TheInside.{Inside}
+use Rattle.packet_channel.specs.Traffic.{Traffic, distance}
+use Rattle.packet_channel.specs.declared.traffic.Traffic.TheInside.{Inside}
 
 abbrev pub traffic_of : Inside → Traffic
 traffic_of a = record {

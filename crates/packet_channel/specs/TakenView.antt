@@ -1,10 +1,10 @@
 -- What is taken, as the code has it.
 use Rattle.std.specs.Prelude.{Option, Some, None, length}
-use Rattle.packet_layer.specs.Traffic as spec
-use Rattle.packet_layer.specs.declared.taken.Taken.{Taken}
-use Rattle.packet_layer.specs.declared.taken.Taken.TheVariants.{Interrupt, «Data»}
-use Rattle.packet_layer.specs.declared.taken.Front.{Front}
-use Rattle.packet_layer.specs.declared.taken.Front.TheVariants as front
+use Rattle.packet_channel.specs.Traffic as spec
+use Rattle.packet_channel.specs.declared.taken.Taken.{Taken}
+use Rattle.packet_channel.specs.declared.taken.Taken.TheVariants.{Interrupt, «Data»}
+use Rattle.packet_channel.specs.declared.taken.Front.{Front}
+use Rattle.packet_channel.specs.declared.taken.Front.TheVariants as front
 
 abbrev pub taken_of : Taken → spec.Taken
 taken_of (Interrupt octets) = spec.Taken.TakenInterrupt octets

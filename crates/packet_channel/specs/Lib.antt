@@ -1,0 +1,15 @@
+pub mod Packets
+pub mod Traffic
+pub mod Channel
+pub mod Octets
+pub mod TakenView
+pub mod TrafficView
+pub mod HeardView
+pub mod ControlView
+pub mod NoteView
+pub mod StateView
+pub mod Effects
+pub mod EffectView
+pub mod ChannelView
+pub mod RequestView
+pub mod Answers

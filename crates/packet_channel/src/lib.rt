@@ -1,0 +1,23 @@
+//! One logical channel of the packet layer: the state of its call, its data in transfer, the control packets that it owes to the
+//! link, what its user asks, and what a packet from the link makes of it (X.25 sections 4 and 5).
+#![tactic(auto)]
+
+mod channel;
+mod control;
+mod effect;
+mod fault;
+mod heard;
+mod note;
+mod state;
+mod taken;
+mod traffic;
+mod user_data;
+mod write;
+
+pub use channel::{Channel, Request};
+pub use effect::Outcome;
+pub use fault::ChannelFault;
+pub use note::{LayerNote, Reason};
+pub use state::{CallState, End, error_cause};
+pub use taken::{Front, Taken};
+pub use user_data::{InterruptData, UserData};
