@@ -31,6 +31,12 @@ impl Model for Params {
 }
 
 impl Clone for Params {
+    ghost use Rattle.std.specs.Prelude.{◌≡◌, ⊤};
+
+    ghost is_clone = { λ params copy. copy ≡ params };
+
+    ghost is_infallible = { λ _. ⊤ };
+
     fn clone(&self) -> Result<Params, AllocError> {
         Ok(*self)
     }
