@@ -135,7 +135,7 @@ impl Book {
     }
 
     /// An end places a call to an address (X.25 4.1.2). No room is left, since the new record has none.
-    pub fn places(&mut self, role: Role, channel: u8, called: &Address)
+    pub fn place(&mut self, role: Role, channel: u8, called: &Address)
         requires { 1 ≤ self.old.room }
         ensures { self.new ≡ record { book = places role channel called.now self.old.book; room = 0 } }
     {
@@ -153,7 +153,7 @@ impl Book {
     }
 
     // A call comes in at an end: it is the one that the other end placed last on this channel.
-    fn comes(&mut self, role: Role, channel: u8, call: &CallBuf)
+    fn receive_call(&mut self, role: Role, channel: u8, call: &CallBuf)
         requires { 1 ≤ self.old.room }
         ensures { self.new ≡ record { book = comes role channel (parts_of call.now) self.old.book; room = 0 } }
     {
@@ -180,7 +180,7 @@ impl Book {
     }
 
     /// An end accepts the call that came in (X.25 4.1.4): its record and that of the end that placed it are a pair.
-    pub fn answers(&mut self, role: Role, channel: u8)
+    pub fn answer(&mut self, role: Role, channel: u8)
         requires { 1 ≤ self.old.room }
         ensures { self.new ≡ record { book = answers role channel self.old.book; room = self.old.room - 1 } }
     {
@@ -197,7 +197,7 @@ impl Book {
     }
 
     /// The present call is over for an end (X.25 4.1.7, 4.1.8).
-    pub fn closes(&mut self, role: Role, channel: u8)
+    pub fn close(&mut self, role: Role, channel: u8)
         ensures { self.new ≡ record { book = closes role channel self.old.book; room = self.old.room } }
     {
         self.grow(role, channel, Growth::Closed);
@@ -217,13 +217,13 @@ impl Book {
         let channels = self.ends.of(role).channels();
         for place in 0..channels {
             if self.present(role, place + 1).is_some() {
-                self.closes(role, place + 1);
+                self.close(role, place + 1);
             }
         }
     }
 
     /// The present call was reset (X.25 4.4.3): an epoch begins, sent and taken. No room is left, since the new epoch has none.
-    pub fn renews(&mut self, role: Role, channel: u8)
+    pub fn renew(&mut self, role: Role, channel: u8)
         requires { 1 ≤ self.old.room }
         ensures { self.new ≡ record { book = renews role channel self.old.book; room = 0 } }
     {
@@ -231,7 +231,7 @@ impl Book {
     }
 
     /// A Data packet of at most 128 octets was accepted to be sent, with its bits M, Q and D (X.25 4.3).
-    pub fn sends(
+    pub fn send(
         &mut self,
         role: Role,
         channel: u8,
@@ -249,7 +249,7 @@ impl Book {
     }
 
     /// An interrupt of at most 32 octets was accepted to be sent (X.25 4.3.7).
-    pub fn interrupts(&mut self, role: Role, channel: u8, octets: &[u8])
+    pub fn interrupt(&mut self, role: Role, channel: u8, octets: &[u8])
         requires room { 1 ≤ self.old.room }
         requires fits { length octets.now ≤ 32 }
         ensures { self.new ≡ record { book = interrupts role channel octets.now self.old.book; room = self.old.room - 1 } }
@@ -258,7 +258,7 @@ impl Book {
     }
 
     /// A packet or an interrupt was taken.
-    pub fn takes(&mut self, role: Role, channel: u8, taken: &Taken)
+    pub fn take(&mut self, role: Role, channel: u8, taken: &Taken)
         requires { 1 ≤ self.old.room }
         ensures { self.new ≡ record { book = takes role channel (Some (taken_of taken.now)) self.old.book; room = self.old.room - 1 } }
     {
@@ -280,21 +280,21 @@ impl Book {
     }
 
     /// So many more of the packets taken are released, at most all of them (X.25 4.4.1.3).
-    pub fn releases(&mut self, role: Role, channel: u8, count: usize)
+    pub fn release(&mut self, role: Role, channel: u8, count: usize)
         ensures { self.new ≡ record { book = releases role channel count self.old.book; room = self.old.room } }
     {
         self.grow(role, channel, Growth::Released(count));
     }
 
     /// So many more of the packets sent are covered, at most all of them (X.25 4.4.1.3).
-    pub fn covers(&mut self, role: Role, channel: u8, count: usize)
+    pub fn cover(&mut self, role: Role, channel: u8, count: usize)
         ensures { self.new ≡ record { book = covers role channel count self.old.book; room = self.old.room } }
     {
         self.grow(role, channel, Growth::Covered(count));
     }
 
     /// A PAD took a step of editing on its call.
-    pub fn edits(&mut self, role: Role, channel: u8, step: EditStep)
+    pub fn edit(&mut self, role: Role, channel: u8, step: EditStep)
         requires { 1 ≤ self.old.room }
         ensures { self.new ≡ record { book = edits role channel (step_of step) self.old.book; room = self.old.room - 1 } }
     {
@@ -302,17 +302,17 @@ impl Book {
     }
 
     /// An end's packet layer told something. A note of a call that came in and one of a reset need room, and leave none.
-    pub fn told(&mut self, role: Role, note: &LayerNote)
+    pub fn tell(&mut self, role: Role, note: &LayerNote)
         requires { IsTrue (opens (note_of note.now)) → 1 ≤ self.old.room }
         ensures { self.new ≡ record { book = told role (note_of note.now) self.old.book; room = room_after (note_of note.now) self.old.room } }
     {
         match note {
-            LayerNote::Incoming(channel, call) => self.comes(role, *channel, call),
+            LayerNote::Incoming(channel, call) => self.receive_call(role, *channel, call),
             LayerNote::Connected(_) | LayerNote::InterruptConfirmed(_) => {}
-            LayerNote::Closed { channel, .. } => self.closes(role, *channel),
-            LayerNote::Reset { channel, .. } => self.renews(role, *channel),
+            LayerNote::Closed { channel, .. } => self.close(role, *channel),
+            LayerNote::Reset { channel, .. } => self.renew(role, *channel),
             LayerNote::Covered { channel, count } => {
-                self.covers(role, *channel, usize::from(*count));
+                self.cover(role, *channel, usize::from(*count));
             }
         }
     }

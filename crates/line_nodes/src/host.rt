@@ -50,7 +50,7 @@ pub fn call(
     ensures err { OnErr result ((host.new ≡ host.old) × (book.new ≡ book.old) × (notes.new.items ≡ [])) }
 {
     let channel = host.call(address, user_data)?;
-    book.places(at.role, channel, &address);
+    book.place(at.role, channel, &address);
     tell(host, at, book, notes);
     Ok(channel)
 }
@@ -76,7 +76,7 @@ pub fn answer(
     ensures err { OnErr result ((host.new ≡ host.old) × (book.new ≡ book.old) × (notes.new.items ≡ [])) }
 {
     host.answer(channel)?;
-    book.answers(at.role, channel);
+    book.answer(at.role, channel);
     tell(host, at, book, notes);
     Ok(())
 }
@@ -101,7 +101,7 @@ pub fn refuse(
     ensures err { OnErr result ((host.new ≡ host.old) × (book.new ≡ book.old) × (notes.new.items ≡ [])) }
 {
     host.refuse(channel)?;
-    book.closes(at.role, channel);
+    book.close(at.role, channel);
     tell(host, at, book, notes);
     Ok(())
 }
@@ -126,7 +126,7 @@ pub fn clear(
     ensures err { OnErr result ((host.new ≡ host.old) × (book.new ≡ book.old) × (notes.new.items ≡ [])) }
 {
     host.clear(channel)?;
-    book.closes(at.role, channel);
+    book.close(at.role, channel);
     tell(host, at, book, notes);
     Ok(())
 }
@@ -152,7 +152,7 @@ pub fn reset(
     ensures err { OnErr result ((host.new ≡ host.old) × (book.new ≡ book.old) × (notes.new.items ≡ [])) }
 {
     host.reset(channel)?;
-    book.renews(at.role, channel);
+    book.renew(at.role, channel);
     tell(host, at, book, notes);
     Ok(())
 }
@@ -180,7 +180,7 @@ pub fn interrupt(
     ensures err { OnErr result ((host.new ≡ host.old) × (book.new ≡ book.old) × (notes.new.items ≡ [])) }
 {
     host.interrupt(channel, octets)?;
-    book.interrupts(at.role, channel, octets);
+    book.interrupt(at.role, channel, octets);
     tell(host, at, book, notes);
     Ok(())
 }
@@ -250,9 +250,9 @@ pub fn take(
     ensures turned { HostTurned at.node (host_takes at.role host.old channel book.old.book) host.new book.new.book notes.new.items }
 {
     let taken = host.take(channel)?;
-    book.takes(at.role, channel, &taken);
+    book.take(at.role, channel, &taken);
     if let Taken::Data(_) = &taken {
-        book.releases(at.role, channel, 1);
+        book.release(at.role, channel, 1);
     }
     tell(host, at, book, notes);
     Some(taken)
@@ -321,7 +321,7 @@ fn tell(host: &mut Host, at: Place, book: &mut Book, notes: &mut Vec<HostNote>)
     // at most 96 notes wait
     let _ = host.waiting_notes();
     while let Some(note) = host.notes() {
-        book.told(at.role, &note);
+        book.tell(at.role, &note);
         if let Some(kept) = HostNote::of(at.node, &note) {
             notes.push_reserved(kept);
         }

@@ -27,7 +27,7 @@ pub enum Node {
 impl Node {
     /// Takes the octets of a received frame, and writes what follows into the book. `notes` lists what a host is told, in order; it
     /// is empty before, with 96 places.
-    pub fn hears(&mut self, at: Place, octets: &[u8], book: &mut Book, notes: &mut Vec<HostNote>)
+    pub fn hear(&mut self, at: Place, octets: &[u8], book: &mut Book, notes: &mut Vec<HostNote>)
         requires opening { opening_notes (hears at.role (node_of self.old) octets.now book.old.book).notes ≤ 1 }
         requires room { 1 ≤ book.old.room }
         requires empty { notes.old.items ≡ [] }
@@ -42,8 +42,8 @@ impl Node {
         }
     }
 
-    /// Takes an expiry of a timer, and answers whether it ran. Where it did not nothing happens. It writes and lists as `hears`.
-    pub fn expires(
+    /// Takes an expiry of a timer, and answers whether it ran. Where it did not nothing happens. It writes and lists as `hear`.
+    pub fn expire(
         &mut self,
         at: Place,
         id: TimerId,
@@ -65,8 +65,8 @@ impl Node {
         }
     }
 
-    /// Gives the link up and sets it up again: all calls close. It writes and lists as `hears`.
-    pub fn relinks(&mut self, at: Place, book: &mut Book, notes: &mut Vec<HostNote>)
+    /// Gives the link up and sets it up again: all calls close. It writes and lists as `hear`.
+    pub fn relink(&mut self, at: Place, book: &mut Book, notes: &mut Vec<HostNote>)
         requires opening { opening_notes (relinks at.role (node_of self.old) book.old.book).notes ≤ 1 }
         requires room { 1 ≤ book.old.room }
         requires empty { notes.old.items ≡ [] }
@@ -82,7 +82,7 @@ impl Node {
     }
 
     /// Begins anew: its calls are over for it, and are closed in the book. Nobody is told.
-    pub fn restarts(&mut self, role: Role, book: &mut Book)
+    pub fn restart(&mut self, role: Role, book: &mut Book)
         ensures node { node_of self.new ≡ (restarts role (node_of self.old) book.old.book).node }
         ensures book { book.new.book ≡ (restarts role (node_of self.old) book.old.book).book }
     {

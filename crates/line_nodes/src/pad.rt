@@ -38,9 +38,9 @@ pub fn key(pad: &mut Pad, role: Role, octet: u8, book: &mut Book) -> KeyAnswer
         KeyResult::Dropped => KeyAnswer::Dropped,
         KeyResult::NoStep => KeyAnswer::Taken,
         KeyResult::Step(block) => {
-            book.edits(role, CHANNEL, EditStep::Key { octet, params });
+            book.edit(role, CHANNEL, EditStep::Key { octet, params });
             if let Some(block) = block {
-                book.sends(role, CHANNEL, block.as_slice(), false, false, false);
+                book.send(role, CHANNEL, block.as_slice(), false, false, false);
             }
             let _ = tell(pad, role, book);
             KeyAnswer::Taken
@@ -103,7 +103,7 @@ fn refuse_call(pad: &mut Pad, role: Role, incoming: Option<u8>, book: &mut Book)
         return;
     };
     if pad.refuse(channel) {
-        book.closes(role, channel);
+        book.close(role, channel);
     }
 }
 
@@ -118,7 +118,7 @@ fn tell(pad: &mut Pad, role: Role, book: &mut Book) -> Option<u8>
 {
     let mut incoming = None;
     while let Some(note) = pad.notes() {
-        book.told(role, &note);
+        book.tell(role, &note);
         if let LayerNote::Incoming(channel, _) = &note {
             incoming = Some(*channel);
         }

@@ -260,9 +260,9 @@ fn closes_by_restarts(
     assert!(rt; pad.is_pad() && !host.is_pad());
     assert!(rt; pad.is_at_rest() && host.is_at_rest());
     assert!(rt; host.confirmed(1) && !pad.confirmed(1));
-    host.restarts(Role::Dce, book);
+    host.restart(Role::Dce, book);
     assert!(rt; !is_closed(book, 0) && is_closed(book, 1));
-    pad.restarts(Role::Dte, book);
+    pad.restart(Role::Dte, book);
     assert!(rt; is_closed(book, 0));
     assert_eq!(rt; pad.waiting_frames(), 1);
     let mut frame = FrameBuf::new();

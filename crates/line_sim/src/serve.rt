@@ -66,12 +66,12 @@ fn call_node(
     ensures notes { notes.new.items ≡ user_notes (node_of node.old) at.node (line_turn (call_of call.entry) at.role (node_of node.old) book.old.book).notes }
 {
     match call {
-        LineCall::Hears(octets) => node.hears(at, octets, book, notes),
+        LineCall::Hears(octets) => node.hear(at, octets, book, notes),
         LineCall::Expires(timer) => {
-            let _ = node.expires(at, timer, book, notes);
+            let _ = node.expire(at, timer, book, notes);
         }
-        LineCall::Relinks => node.relinks(at, book, notes),
-        LineCall::Restarts => node.restarts(at.role, book),
+        LineCall::Relinks => node.relink(at, book, notes),
+        LineCall::Restarts => node.restart(at.role, book),
     }
 }
 

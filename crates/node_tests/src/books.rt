@@ -24,19 +24,19 @@ fn new_book(alloc: Global, standing: bool) -> Result<Book, AllocError> {
 
 fn places(book: &mut Book, role: Role, channel: u8) -> Result<(), AllocError> {
     book.reserve(1)?;
-    book.places(role, channel, &Address::new(&CALLED));
+    book.place(role, channel, &Address::new(&CALLED));
     Ok(())
 }
 
 fn answers(book: &mut Book, role: Role, channel: u8) -> Result<(), AllocError> {
     book.reserve(1)?;
-    book.answers(role, channel);
+    book.answer(role, channel);
     Ok(())
 }
 
 fn tells(book: &mut Book, role: Role, note: &LayerNote) -> Result<(), AllocError> {
     book.reserve(1)?;
-    book.told(role, note);
+    book.tell(role, note);
     Ok(())
 }
 
@@ -45,14 +45,14 @@ fn sends(book: &mut Book, role: Role, octets: &[u8]) -> Result<(), AllocError>
     requires { length octets.now ≤ 128 }
 {
     book.reserve(1)?;
-    book.sends(role, 1, octets, true, false, true);
+    book.send(role, 1, octets, true, false, true);
     Ok(())
 }
 
 fn takes(book: &mut Book, role: Role, taken: &Option<Taken>) -> Result<(), AllocError> {
     book.reserve(1)?;
     if let Some(taken) = taken {
-        book.takes(role, 1, taken);
+        book.take(role, 1, taken);
     }
     Ok(())
 }
@@ -174,7 +174,7 @@ fn a_call_comes_and_goes(rt: &impl Abort, book: &mut Book) -> Result<(), Fail> {
     answers(book, Role::Dce, 2)?;
     tells(book, Role::Dte, &LayerNote::Connected(2))?;
     assert!(rt; has_pair(book, 0, 1));
-    book.closes(Role::Dte, 2);
+    book.close(Role::Dte, 2);
     assert!(rt; is_closed(book, 0) && !is_closed(book, 1));
     tells(book, Role::Dce, &closed(2, Reason::FarEnd))?;
     assert!(rt; is_closed(book, 1) && book.present(Role::Dce, 2).is_none());
@@ -235,10 +235,10 @@ fn all_is_written(
     sends(book, Role::Dte, b"AB")?;
     sends(book, Role::Dte, b"C")?;
     book.reserve(1)?;
-    book.interrupts(Role::Dte, 1, &[7]);
+    book.interrupt(Role::Dte, 1, &[7]);
     takes(book, Role::Dce, interrupt)?;
     takes(book, Role::Dce, packet)?;
-    book.releases(Role::Dce, 1, 1);
+    book.release(Role::Dce, 1, 1);
     let covered = LayerNote::Covered {
         channel: 1,
         count: 1,
@@ -259,8 +259,8 @@ fn all_is_written(
     assert!(rt; are_packets(dce.taken.packets.as_slice(), &[b"AB".as_slice()]));
     assert!(rt; is_one_interrupt(dce.taken.interrupts.as_slice(), &[7]) && dce.taken.released == 1);
     assert!(rt; dce.sent.packets.is_empty() && dce.sent.interrupts.is_empty());
-    book.releases(Role::Dce, 1, 5);
-    book.covers(Role::Dte, 1, 5);
+    book.release(Role::Dce, 1, 5);
+    book.cover(Role::Dte, 1, 5);
     let [dte, dce] = book.records() else {
         assert!(rt; false, "a standing call has two records");
         return Ok(());
@@ -278,9 +278,9 @@ fn packets_and_interrupts_pass(rt: HostRuntime) -> Result<(), Fail> {
 
 fn epochs_open(rt: &impl Abort, book: &mut Book) -> Result<(), Fail> {
     sends(book, Role::Dte, b"AB")?;
-    book.covers(Role::Dte, 1, 1);
+    book.cover(Role::Dte, 1, 1);
     book.reserve(1)?;
-    book.renews(Role::Dte, 1);
+    book.renew(Role::Dte, 1);
     let told = LayerNote::Reset {
         channel: 1,
         cause: 0,
@@ -331,8 +331,8 @@ fn keys_are_written(rt: &impl Abort, book: &mut Book) -> Result<(), Fail> {
     let params = Params::profile(Profile::Simple, 14);
     book.reserve(3)?;
     assert_eq!(rt; book.room(), 3);
-    book.edits(Role::Dte, 1, EditStep::Key { octet: 65, params });
-    book.edits(Role::Dte, 1, EditStep::Key { octet: 13, params });
+    book.edit(Role::Dte, 1, EditStep::Key { octet: 65, params });
+    book.edit(Role::Dte, 1, EditStep::Key { octet: 13, params });
     assert_eq!(rt; book.room(), 1);
     let [dte, dce] = book.records() else {
         assert!(rt; false, "a standing call has two records");
@@ -361,8 +361,8 @@ fn nothing_is_kept(rt: &impl Abort, book: &mut Book) -> Result<(), Fail> {
     places(book, Role::Dte, 5)?;
     assert!(rt; book.records().len() == 1 && book.present(Role::Dte, 5).is_none());
     book.reserve(1)?;
-    book.sends(Role::Dte, 5, b"AB", false, false, false);
-    book.closes(Role::Dte, 5);
+    book.send(Role::Dte, 5, b"AB", false, false, false);
+    book.close(Role::Dte, 5);
     assert!(rt; is_open(book, 0, DTE_NODE, &[], &CALLED));
     Ok(())
 }

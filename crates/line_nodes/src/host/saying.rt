@@ -61,10 +61,10 @@ fn write_packets(
     let mut rest = octets;
     for _ in 0..full_packets(octets) {
         let (packet, others) = rest.split_at(MAX_USER_DATA);
-        book.sends(role, channel, packet, true, qualified, false);
+        book.send(role, channel, packet, true, qualified, false);
         rest = others;
     }
-    book.sends(role, channel, rest, false, qualified, delivery);
+    book.send(role, channel, rest, false, qualified, delivery);
 }
 
 // How many full packets go before the last one.

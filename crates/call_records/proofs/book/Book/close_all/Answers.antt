@@ -15,9 +15,9 @@ loop-place-preserved c =
     let rest = closed_next n i role b c.loop-place-test.true ∙ c.loop-place.invariant.closed in
     elim c.if-is_some.branch [
       | then-is_some w ↦ record {
-        closed = ap (λ (s : BookState). closed_from (n - (i + 1)) (i + 1 + 1) role s.book) (w.self-is ∙ w.closes.ensures)
+        closed = ap (λ (s : BookState). closed_from (n - (i + 1)) (i + 1 + 1) role s.book) (w.self-is ∙ w.close.ensures)
             ∙ ap (λ (x : Book). closed_from (n - (i + 1)) (i + 1 + 1) role x) (close_some role (i + 1) b c.present.result c.present.ensures (sym c.is_some.ensures ∙ w.if-is_some.true)) ∙ rest;
-        room = ap (λ (s : BookState). s.room) (w.self-is ∙ w.closes.ensures) ∙ c.loop-place.invariant.room;
+        room = ap (λ (s : BookState). s.room) (w.self-is ∙ w.close.ensures) ∙ c.loop-place.invariant.room;
       }
       | else-is_some w ↦ record {
         closed = ap (λ (s : BookState). closed_from (n - (i + 1)) (i + 1 + 1) role s.book) w.self-is

@@ -9,8 +9,8 @@ use Rattle.line_nodes.proofs.host.saying.write_packets.Goals as goal
 pub loop-preserved : goal.loop-preserved
 loop-preserved c =
     let left = c.full_packets-end.result - (c.loop.counter + 1) in
-    let book : c.sends.new.self.book ≡ sends c.args.role c.args.channel (record { octets = take 128 c.loop.rest.now; more = true; qualified = c.args.qualified; delivery = false }) c.loop.book.book =
-    ap (λ (s : BookState). s.book) c.sends.ensures
+    let book : c.send.new.self.book ≡ sends c.args.role c.args.channel (record { octets = take 128 c.loop.rest.now; more = true; qualified = c.args.qualified; delivery = false }) c.loop.book.book =
+    ap (λ (s : BookState). s.book) c.send.ensures
     ∙ ap (λ (octets : List ℕ). sends c.args.role c.args.channel (record { octets = octets; more = true; qualified = c.args.qualified; delivery = false }) c.loop.book.book) c.split_at.ensures.front in
     record {
       end = c.loop.invariant.end;
@@ -18,7 +18,7 @@ loop-preserved c =
           (omega (arith, length-drop 128 c.loop.rest.now, c.loop.invariant.least, c.loop-test.true));
       most = rw c.split_at.ensures.back
           (omega (arith, length-drop 128 c.loop.rest.now, c.loop.invariant.most, c.loop-test.true));
-      room = rw c.sends.ensures (omega (arith, c.loop.invariant.room, c.loop-test.true));
+      room = rw c.send.ensures (omega (arith, c.loop.invariant.room, c.loop-test.true));
       written =
           ap (λ (b : Book). all_sent c.args.role c.args.channel (cut_after left c.split_at.result.1.now c.args.qualified c.args.delivery) b) book
           ∙ ap (λ (octets : List ℕ). all_sent c.args.role c.args.channel (cut_after left octets c.args.qualified c.args.delivery)

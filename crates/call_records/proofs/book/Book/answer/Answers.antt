@@ -1,6 +1,6 @@
 use Rattle.std.proofs.Common.{◌-◌, arith}
 use Rattle.call_records.proofs.Rooms.{less_room}
-use Rattle.call_records.proofs.book.Book.answers.Goals as goal
+use Rattle.call_records.proofs.book.Book.answer.Goals as goal
 
 pub invariant_of-self : goal.invariant_of-self
 invariant_of-self c = less_room c.self.inside (c.self.inside.room - 1) (omega arith) c.self.invariant

@@ -1,6 +1,6 @@
 use Rattle.std.proofs.Common.{◌∙◌, refl}
 use Rattle.call_records.proofs.Rooms.{takes_interrupt, takes_packet}
-use Rattle.call_records.proofs.book.Book.takes.Goals as goal
+use Rattle.call_records.proofs.book.Book.take.Goals as goal
 
 pub returns-in-Interrupt : goal.returns-in-Interrupt
 returns-in-Interrupt c =

@@ -1,6 +1,6 @@
 use Rattle.std.proofs.Common.{refl}
 use Rattle.call_records.proofs.Rooms.{put_room}
-use Rattle.call_records.proofs.book.Book.closes.Goals as goal
+use Rattle.call_records.proofs.book.Book.close.Goals as goal
 
 pub invariant_of-self : goal.invariant_of-self
 invariant_of-self c = put_room c.self.inside c.put.new.self c.args.role c.args.channel _ (c.put.ensures _ _) refl c.self.invariant
