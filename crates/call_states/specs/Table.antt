@@ -7,6 +7,7 @@ use Rattle.link_timers.specs.declared.role.Role.TheVariants.{Dte, Dce}
 use Rattle.packet_codec.specs.declared.packet_type.PacketType.{PacketType}
 use Rattle.packet_codec.specs.declared.packet_type.PacketType.TheVariants as types
 use Rattle.packet_codec.specs.PacketType.{is_among}
+use Rattle.packet_codec.specs.Diagnostic.{not_allowed_in_p}
 use Rattle.call_states.specs.declared.state.CallState.{CallState}
 use Rattle.call_states.specs.declared.table.CallEvent.{CallEvent}
 use Rattle.call_states.specs.declared.table.CallEvent.TheVariants.{User, Received, Unreadable}
@@ -122,9 +123,8 @@ row_for role place event = find (covers role place event) table
 abbrev pub call_step : CallState → Option PacketType → CallNote → Option ℕ → CallStep
 call_step state owed note error = record { state = state; owed = owed; note = note; error = error }
 
--- 20 to 26 for p1 to p7
 abbrev pub diagnostic_of : CallState → ℕ
-diagnostic_of state = 19 + state_number state
+diagnostic_of state = not_allowed_in_p (state_number state)
 
 abbrev pub done_by : Role → Place → Row → CallStep
 done_by role place r = record {

@@ -7,7 +7,7 @@ ghost use Rattle.call_states.specs.Table.{call_step, diagnostic_of, step_at, ste
 
 use crate::state::CallState;
 use link_timers::Role;
-use packet_codec::PacketType;
+use packet_codec::{PacketType, diagnostic};
 
 /// What the user of this end does.
 #[derive(Clone, Copy, Debug, PartialEq, Eq)]
@@ -137,7 +137,7 @@ fn refuses(role: Role, state: CallState, note: CallNote) -> CallStep
         state: CallState::own_clear(role),
         owed: Some(PacketType::ClearRequest),
         note,
-        error: Some(19 + state.number()),
+        error: Some(diagnostic::NOT_ALLOWED_IN_P + state.number()),
     }
 }
 

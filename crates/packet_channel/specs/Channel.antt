@@ -3,6 +3,9 @@
 use Rattle.std.specs.Prelude.{ℕ, ◌+◌, Bool, true, false, cond, not, ◌&&◌, ◌||◌, ◌==◌, nat_lt, nat_le, List, [], ◌∷◌, ◌++◌, length, Option, Some, None}
 use Rattle.link_timers.specs.declared.role.Role.{Role}
 use Rattle.link_timers.specs.declared.role.Role.TheVariants.{Dte, Dce}
+use Rattle.packet_codec.specs.ClearCause as clear_cause
+use Rattle.packet_codec.specs.ResetCause as reset_cause
+use Rattle.packet_codec.specs.Diagnostic.{no_information, not_allowed_in_p, not_allowed_in_d1}
 use Rattle.packet_channel.specs.Packets.{CallParts, Datum, Body, Note}
 use Rattle.packet_channel.specs.Packets.Body.{Call, Accepted, Clear, ClearConfirmation, Data, Interrupt, InterruptConfirmation, ReceiveReady, ReceiveNotReady, Reset, ResetConfirmation}
 use Rattle.packet_channel.specs.Packets.Note.{Incoming, Connected, Closed, WasReset, InterruptConfirmed, Covered}
@@ -51,9 +54,9 @@ pub record Step : Type 0 where
 abbrev pub quiet : Channel → Step
 quiet ch = record { channel = ch; owes = None; notes = [] }
 
--- causes of procedure errors: 19 (clear), 5 (reset), 1 (restart) are a DCE's; a DTE sends 0
+-- the cause of a procedure error is a DCE's; a DTE sends that it began
 abbrev pub error_cause : Role → ℕ → ℕ
-error_cause Dte cause = 0
+error_cause Dte cause = clear_cause.dte_originated
 error_cause Dce cause = cause
 
 abbrev pub entered : CallState → Channel → Channel
@@ -73,14 +76,22 @@ moved t ch = record ch { traffic = t }
 -- ---- procedure errors
 
 abbrev pub clear_error : Role → ℕ → ℕ → Bool → Channel → Step
-clear_error role c diagnostic had_call ch = record { channel = ended OwnClear ch; owes = Some (Clear (error_cause role 19) diagnostic); notes = cond had_call (Closed c 19 diagnostic LocalFault ∷ []) [] }
+clear_error role c diagnostic had_call ch = record {
+  channel = ended OwnClear ch;
+  owes = Some (Clear (error_cause role clear_cause.local_procedure_error) diagnostic);
+  notes = cond had_call (Closed c clear_cause.local_procedure_error diagnostic LocalFault ∷ []) [];
+}
 
 abbrev pub reset_error : Role → ℕ → ℕ → Channel → Step
-reset_error role c diagnostic ch = record { channel = renewed true ch; owes = Some (Reset (error_cause role 5) diagnostic); notes = WasReset c 5 diagnostic LocalFault ∷ [] }
+reset_error role c diagnostic ch = record {
+  channel = renewed true ch;
+  owes = Some (Reset (error_cause role reset_cause.local_procedure_error) diagnostic);
+  notes = WasReset c reset_cause.local_procedure_error diagnostic LocalFault ∷ [];
+}
 
 -- a packet that has no place in this state
 abbrev pub not_allowed : Role → ℕ → Channel → Step
-not_allowed role c ch = clear_error role c (19 + p_number role ch.state) true ch
+not_allowed role c ch = clear_error role c (not_allowed_in_p (p_number role ch.state)) true ch
 
 -- ---- packets received in d1 and in the own reset
 
@@ -98,7 +109,7 @@ after_heard role c ch (Wrong diagnostic) = reset_error role c diagnostic ch
 abbrev pub in_flow_ready : Role → ℕ → ℕ → Channel → Body → Step
 in_flow_ready role window c ch (Clear cause diagnostic) = far_cleared c cause diagnostic ch
 in_flow_ready role window c ch (Reset cause diagnostic) = record { channel = renewed false ch; owes = Some ResetConfirmation; notes = WasReset c cause diagnostic FarEnd ∷ [] }
-in_flow_ready role window c ch ResetConfirmation = reset_error role c 27 ch
+in_flow_ready role window c ch ResetConfirmation = reset_error role c not_allowed_in_d1 ch
 in_flow_ready role window c ch (Data send receive d) = after_heard role c ch (hears window ch.traffic (Data send receive d))
 in_flow_ready role window c ch (ReceiveReady receive) = after_heard role c ch (hears window ch.traffic (ReceiveReady receive))
 in_flow_ready role window c ch (ReceiveNotReady receive) = after_heard role c ch (hears window ch.traffic (ReceiveNotReady receive))
@@ -122,12 +133,12 @@ in_own_reset role c ch _ = not_allowed role c ch
 abbrev pub in_ready : Role → ℕ → Channel → Body → Step
 in_ready role c ch (Call parts) = record { channel = entered FarWaiting ch; owes = None; notes = Incoming c parts ∷ [] }
 in_ready role c ch (Clear cause diagnostic) = record { channel = ch; owes = Some ClearConfirmation; notes = [] }
-in_ready role c ch _ = clear_error role c 20 false ch
+in_ready role c ch _ = clear_error role c (not_allowed_in_p 1) false ch
 
 -- in a call collision the DCE's own call is cancelled
 abbrev pub collision_notes : Role → ℕ → CallParts → List Note
 collision_notes Dte c parts = []
-collision_notes Dce c parts = Closed c 1 0 Cancelled ∷ Incoming c parts ∷ []
+collision_notes Dce c parts = Closed c clear_cause.number_busy no_information Cancelled ∷ Incoming c parts ∷ []
 
 abbrev pub in_own_waiting : Role → ℕ → Channel → Body → Step
 in_own_waiting role c ch Accepted = record { channel = entered Transfer ch; owes = None; notes = Connected c ∷ [] }
@@ -160,13 +171,19 @@ received_in OwnClear role window c ch body = in_own_clear ch body
 abbrev pub received : Role → ℕ → ℕ → Channel → Body → Step
 received role window c ch body = received_in ch.state role window c ch body
 
--- an unreadable packet counts as one that the state does not allow: in d1 a reset with 27, else a clear with the state's
--- number; where its fault is not an unknown type, with diagnostic 0
+-- an unreadable packet counts as one that the state does not allow: in d1 it resets the call, and else it clears it
+abbrev pub diagnostic_if : (unknown : Bool) → ℕ → ℕ
+diagnostic_if unknown diagnostic = cond unknown diagnostic no_information
+
 abbrev pub unreadable_in : CallState → Role → ℕ → Bool → Channel → Step
-unreadable_in Ready role c unknown ch = clear_error role c (cond unknown 20 0) false ch
+unreadable_in Ready role c unknown ch = clear_error role c (diagnostic_if unknown (not_allowed_in_p 1)) false ch
 unreadable_in OwnClear role c unknown ch = quiet ch
-unreadable_in Transfer role c unknown ch = cond ch.resetting (clear_error role c (cond unknown 23 0) true ch) (reset_error role c (cond unknown 27 0) ch)
-unreadable_in s role c unknown ch = clear_error role c (cond unknown (19 + p_number role s) 0) true ch
+unreadable_in Transfer role c unknown ch =
+    cond ch.resetting
+    (clear_error role c (diagnostic_if unknown (not_allowed_in_p 4)) true ch)
+    (reset_error role c (diagnostic_if unknown not_allowed_in_d1) ch)
+unreadable_in s role c unknown ch =
+    clear_error role c (diagnostic_if unknown (not_allowed_in_p (p_number role s))) true ch
 
 abbrev pub unreadable : Role → ℕ → Bool → Channel → Step
 unreadable role c unknown ch = unreadable_in ch.state role c unknown ch

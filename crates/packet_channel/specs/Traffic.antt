@@ -1,6 +1,7 @@
 -- Data transfer on a channel from one reset to the next (X.25 4.3 and 4.4): queues, P(S) and P(R), the window, busy states,
 -- interrupts.
 use Rattle.std.specs.Prelude.{ℕ, ◌+◌, ◌-◌, ◌%◌, Bool, true, false, cond, not, ◌&&◌, ◌||◌, ◌==◌, nat_lt, nat_le, List, [], ◌∷◌, ◌++◌, length, Option, Some, None, is_some}
+use Rattle.packet_codec.specs.Diagnostic.{no_information, invalid_send_number, invalid_receive_number}
 use Rattle.packet_channel.specs.Packets.{Datum, Body}
 use Rattle.packet_channel.specs.Packets.Body.{Data, Interrupt, InterruptConfirmation, ReceiveReady, ReceiveNotReady}
 
@@ -162,7 +163,7 @@ abbrev pub covers : ℕ → Traffic → Heard
 covers receive t =
     cond (nat_le (distance t.covered receive) (in_flight t))
     (Heard.Keeps (distance t.covered receive) (record t { covered = receive; undelivered = t.undelivered - distance t.covered receive }))
-    (Heard.Wrong 2)
+    (Heard.Wrong invalid_receive_number)
 
 abbrev pub keeps : (Traffic → Traffic) → Heard → Heard
 keeps f (Heard.Keeps n t) = Heard.Keeps n (f t)
@@ -181,9 +182,9 @@ interrupted t = is_some t.interrupt_arrived || (t.interrupt_taken || t.confirmat
 
 -- a Data packet needs the expected P(S), room in the window of what is not released, and then a valid P(R)
 abbrev pub hears : ℕ → Traffic → Body → Heard
-hears window t (Data send receive d) = cond ((send == t.receive_number) && nat_lt (unreleased t) window) (keeps (λ u. arrives d u) (covers receive t)) (Heard.Wrong 1)
+hears window t (Data send receive d) = cond ((send == t.receive_number) && nat_lt (unreleased t) window) (keeps (λ u. arrives d u) (covers receive t)) (Heard.Wrong invalid_send_number)
 hears window t (ReceiveReady receive) = keeps (λ u. partner_says false u) (covers receive t)
 hears window t (ReceiveNotReady receive) = keeps (λ u. partner_says true u) (covers receive t)
-hears window t (Interrupt octets) = cond (interrupted t) (Heard.Wrong 0) (Heard.Keeps 0 (record t { interrupt_arrived = Some octets }))
-hears window t InterruptConfirmation = cond t.interrupt_unconfirmed (Heard.Confirms (record t { interrupt_unconfirmed = false })) (Heard.Wrong 0)
-hears window t _ = Heard.Wrong 0
+hears window t (Interrupt octets) = cond (interrupted t) (Heard.Wrong no_information) (Heard.Keeps 0 (record t { interrupt_arrived = Some octets }))
+hears window t InterruptConfirmation = cond t.interrupt_unconfirmed (Heard.Confirms (record t { interrupt_unconfirmed = false })) (Heard.Wrong no_information)
+hears window t _ = Heard.Wrong no_information

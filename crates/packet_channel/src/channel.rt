@@ -7,6 +7,7 @@ ghost use Rattle.packet_channel.specs.Octets.{body_of, parts_of, written, ReadsA
 ghost use Rattle.packet_channel.specs.Packets.{Body as body};
 ghost use Rattle.packet_codec.specs.Packet.{IsPacket};
 ghost use Rattle.packet_codec.specs.View.{view, content_view};
+ghost use Rattle.packet_codec.specs.Diagnostic.{no_information};
 
 mod errors;
 mod receiving;
@@ -17,7 +18,7 @@ use crate::effect::{Effect, Outcome};
 use crate::state::{CallState, End};
 use crate::taken::{Front, Taken};
 use crate::traffic::Traffic;
-use packet_codec::{CallBuf, Packet, PacketBuf};
+use packet_codec::{CallBuf, Packet, PacketBuf, diagnostic};
 pub use requests::Request;
 use std::alloc::{AllocError, Global};
 use std::marker::Model;
@@ -194,10 +195,10 @@ impl Channel {
 
     /// Clears the call whose timer expired.
     pub fn expire(&mut self, end: End) -> Outcome
-        ensures channel { self.new ≡ machine.owing (machine.clear_error end.role end.channel 0 true self.old) }
-        ensures outcome { result ≡ outcome_of (machine.clear_error end.role end.channel 0 true self.old) }
+        ensures channel { self.new ≡ machine.owing (machine.clear_error end.role end.channel no_information true self.old) }
+        ensures outcome { result ≡ outcome_of (machine.clear_error end.role end.channel no_information true self.old) }
     {
-        let effect = self.clear_error(end, 0, true);
+        let effect = self.clear_error(end, diagnostic::NO_INFORMATION, true);
         self.settle(effect)
     }
 

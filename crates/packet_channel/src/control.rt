@@ -5,12 +5,8 @@ ghost use Rattle.packet_channel.specs.Channel.{with_owed, passes_limit};
 ghost use Rattle.packet_channel.specs.Octets.{written, ReadsAs};
 ghost use Rattle.packet_channel.specs.ControlView.{maybe_body, first_of, rest_of};
 
-use crate::write::{
-    write_accepted, write_call, write_clear, write_clear_confirmation, write_reset,
-    write_reset_confirmation,
-};
 use arrayvec::ArrayVec;
-use packet_codec::{CallBuf, PacketBuf};
+use packet_codec::{CallBuf, Content, Packet, PacketBuf, write_packet};
 use std::marker::Model;
 
 /// A packet of call set-up, clearing or reset (X.25 5.2, 5.4.3).
@@ -35,14 +31,25 @@ fn write_control(channel: u8, control: &Control, buf: &mut PacketBuf)
     ensures octets { buf.new.items ≡ written channel (maybe_body (Some control.now)) buf.old.items }
     ensures reads_back { ReadsAs channel (maybe_body (Some control.now)) buf.new.items }
 {
-    match control {
-        Control::Call(call) => write_call(channel, call, buf),
-        Control::Accepted => write_accepted(channel, buf),
-        Control::Clear { cause, diagnostic } => write_clear(channel, *cause, *diagnostic, buf),
-        Control::ClearConfirmation => write_clear_confirmation(channel, buf),
-        Control::Reset { cause, diagnostic } => write_reset(channel, *cause, *diagnostic, buf),
-        Control::ResetConfirmation => write_reset_confirmation(channel, buf),
-    }
+    let content = match control {
+        Control::Call(call) => Content::CallRequest(call.data()),
+        Control::Accepted => Content::CallAccepted,
+        Control::Clear { cause, diagnostic } => Content::ClearRequest {
+            cause: *cause,
+            diagnostic: *diagnostic,
+        },
+        Control::ClearConfirmation => Content::ClearConfirmation,
+        Control::Reset { cause, diagnostic } => Content::ResetRequest {
+            cause: *cause,
+            diagnostic: *diagnostic,
+        },
+        Control::ResetConfirmation => Content::ResetConfirmation,
+    };
+    let packet = Packet {
+        channel: u16::from(channel),
+        content,
+    };
+    write_packet(&packet, buf);
 }
 
 /// The control packets that a channel owes, in order: at most four.

@@ -12,7 +12,6 @@ mod state;
 mod taken;
 mod traffic;
 mod user_data;
-mod write;
 
 pub use channel::{Channel, Request};
 pub use effect::Outcome;

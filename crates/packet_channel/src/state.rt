@@ -4,6 +4,7 @@ ghost use Rattle.packet_channel.specs.Channel as machine;
 ghost use Rattle.packet_channel.specs.StateView.{state_of};
 
 use link_timers::Role;
+use packet_codec::clear_cause;
 
 /// The states p1 to p7 of a channel. "Own" is what this end began, "far" what the other end did.
 #[derive(Clone, Copy, Debug, PartialEq, Eq)]
@@ -130,12 +131,12 @@ pub struct End {
     pub channel: u8,
 }
 
-/// The cause of a procedure error: a DTE sends 0 (X.25 5.2.3, 5.4.3, 5.5.1).
+/// The cause of a procedure error: a DTE sends that it began (X.25 5.2.3, 5.4.3, 5.5.1).
 pub fn error_cause(role: Role, cause: u8) -> u8
     ensures { result ≡ machine.error_cause role cause }
 {
     match role {
-        Role::Dte => 0,
+        Role::Dte => clear_cause::DTE_ORIGINATED,
         Role::Dce => cause,
     }
 }

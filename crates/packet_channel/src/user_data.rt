@@ -26,7 +26,7 @@ impl Model for UserData {
 
 impl UserData {
     /// Keeps at most 128 octets with their bits.
-    pub(crate) fn new(octets: &[u8], more: bool, qualified: bool, delivery: bool) -> Self
+    pub fn new(octets: &[u8], more: bool, qualified: bool, delivery: bool) -> Self
         requires { length octets.now ≤ 128 }
         ensures { result ≡ record { octets = octets.now; more = more; qualified = qualified; delivery = delivery } }
     {
@@ -91,7 +91,7 @@ impl Model for InterruptData {
 
 impl InterruptData {
     /// Keeps 1 to 32 octets.
-    pub(crate) fn new(octets: &[u8]) -> Self
+    pub fn new(octets: &[u8]) -> Self
         requires least { 1 ≤ length octets.now }
         requires most { length octets.now ≤ 32 }
         ensures { result ≡ octets.now }

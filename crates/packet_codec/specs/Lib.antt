@@ -5,3 +5,7 @@ pub mod Packet
 pub mod PacketType
 pub mod Reading
 pub mod View
+pub mod ClearCause
+pub mod ResetCause
+pub mod RestartCause
+pub mod Diagnostic

@@ -4,10 +4,14 @@
 mod address;
 mod call_block;
 mod call_buf;
+pub mod clear_cause;
+pub mod diagnostic;
 mod fault;
 mod packet;
 mod packet_type;
 mod reading;
+pub mod reset_cause;
+pub mod restart_cause;
 mod writing;
 
 pub use address::{Address, AddressFault};

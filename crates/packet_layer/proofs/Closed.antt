@@ -1,6 +1,8 @@
 -- Closing the channels one by one.
 use Rattle.std.proofs.Common.{◌≡◌, ℕ, zero, suc, ◌+◌, ◌<◌, true, false, List, [], ◌∷◌, ◌++◌, length, set, take, drop, map, refl, sym, ap, ◌∙◌, arith, add-one, append_assoc, length-append}
 use Rattle.std.specs.Prelude.{Some, slice_get}
+use Rattle.packet_codec.specs.ClearCause.{out_of_order}
+use Rattle.packet_codec.specs.Diagnostic.{no_information}
 use Rattle.packet_channel.specs.Packets.{Note, Reason, Closed}
 use Rattle.packet_channel.specs.Channel.{Channel, closed_channel}
 use Rattle.packet_layer.specs.Layer.{closing_notes, had_call}
@@ -31,13 +33,13 @@ closed_more chs now i h e = rw (e, add-one) (more chs i h)
 pub closed_next : (chs now : List Channel) (i : ℕ) (ch : Channel) → now ≡ closed_to i chs → slice_get now i ≡ Some ch → slice_get chs i ≡ Some ch
 closed_next chs now i ch e h = sym (next chs i) ∙ (rw e at h)
 
-with_call : (chs : List Channel) (i j k : ℕ) (ch : Channel) (reason : Reason) (notes : List Note) → j ≡ suc i → k ≡ suc j → slice_get chs i ≡ Some ch → had_call ch.state ≡ true → (notes ++ Closed j 9 0 reason ∷ []) ++ closing_notes k reason (drop j chs) ≡ notes ++ closing_notes j reason (drop i chs)
+with_call : (chs : List Channel) (i j k : ℕ) (ch : Channel) (reason : Reason) (notes : List Note) → j ≡ suc i → k ≡ suc j → slice_get chs i ≡ Some ch → had_call ch.state ≡ true → (notes ++ Closed j out_of_order no_information reason ∷ []) ++ closing_notes k reason (drop j chs) ≡ notes ++ closing_notes j reason (drop i chs)
 with_call chs i j k ch reason notes e f h call = rw (split chs i ch h, call, append_assoc, f, e) refl
 
 without_call : (chs : List Channel) (i j k : ℕ) (ch : Channel) (reason : Reason) (notes : List Note) → j ≡ suc i → k ≡ suc j → slice_get chs i ≡ Some ch → had_call ch.state ≡ false → notes ++ closing_notes k reason (drop j chs) ≡ notes ++ closing_notes j reason (drop i chs)
 without_call chs i j k ch reason notes e f h call = rw (split chs i ch h, call, f, e) refl
 
-pub notes_with_call : (chs : List Channel) (i : ℕ) (ch : Channel) (reason : Reason) (notes : List Note) → slice_get chs i ≡ Some ch → had_call ch.state ≡ true → (notes ++ Closed (i + 1) 9 0 reason ∷ []) ++ closing_notes (i + 1 + 1) reason (drop (i + 1) chs) ≡ notes ++ closing_notes (i + 1) reason (drop i chs)
+pub notes_with_call : (chs : List Channel) (i : ℕ) (ch : Channel) (reason : Reason) (notes : List Note) → slice_get chs i ≡ Some ch → had_call ch.state ≡ true → (notes ++ Closed (i + 1) out_of_order no_information reason ∷ []) ++ closing_notes (i + 1 + 1) reason (drop (i + 1) chs) ≡ notes ++ closing_notes (i + 1) reason (drop i chs)
 notes_with_call chs i ch reason notes h call = with_call chs i (i + 1) (i + 1 + 1) ch reason notes (omega arith) (omega arith) h call
 
 pub notes_without_call : (chs : List Channel) (i : ℕ) (ch : Channel) (reason : Reason) (notes : List Note) → slice_get chs i ≡ Some ch → had_call ch.state ≡ false → notes ++ closing_notes (i + 1 + 1) reason (drop (i + 1) chs) ≡ notes ++ closing_notes (i + 1) reason (drop i chs)

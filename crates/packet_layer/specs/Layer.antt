@@ -3,6 +3,9 @@ use Rattle.std.specs.Prelude.{ℕ, zero, suc, ◌-◌, Bool, true, false, cond, 
 use Rattle.std.specs.List.{list_all}
 use Rattle.link_timers.specs.declared.role.Role.{Role}
 use Rattle.link_timers.specs.declared.role.Role.TheVariants.{Dte, Dce}
+use Rattle.packet_codec.specs.ClearCause as clear_cause
+use Rattle.packet_codec.specs.RestartCause as restart_cause
+use Rattle.packet_codec.specs.Diagnostic.{no_information, not_allowed_in_r1}
 use Rattle.packet_channel.specs.Packets.{CallParts, Body, Packet, Received, Note, Reason}
 use Rattle.packet_channel.specs.Packets.Body.{Call, Restart, RestartConfirmation}
 use Rattle.packet_channel.specs.Packets.Received.{Whole, Unknown, Faulty}
@@ -84,7 +87,10 @@ owes_restart o l = record l { owed = with_owed l.owed o; relink = set_if (passes
 
 abbrev pub closing_notes : ℕ → Reason → List Channel → List Note
 closing_notes c reason [] = []
-closing_notes c reason (ch ∷ chs) = cond (had_call ch.state) (Closed c 9 0 reason ∷ closing_notes (suc c) reason chs) (closing_notes (suc c) reason chs)
+closing_notes c reason (ch ∷ chs) = 
+    cond (had_call ch.state)
+    (Closed c clear_cause.out_of_order no_information reason ∷ closing_notes (suc c) reason chs)
+    (closing_notes (suc c) reason chs)
 
 abbrev pub all_closed : Reason → Layer → Layer
 all_closed reason l = record l { channels = map (λ ch. closed_channel) l.channels; notes = l.notes ++ closing_notes 1 reason l.channels }
@@ -100,11 +106,13 @@ unread l = record l { notes = [] }
 -- ---- the link's session begins and ends
 
 abbrev pub start_cause : Role → ℕ
-start_cause Dte = 0
-start_cause Dce = 7
+start_cause Dte = restart_cause.dte_originated
+start_cause Dce = restart_cause.network_operational
 
 abbrev pub link_up : Layer → Layer
-link_up l = restarting (start_cause l.role) 0 (record (all_closed LinkLost (unread l)) { owed = []; relink = false })
+link_up l =
+    restarting (start_cause l.role) no_information
+    (record (all_closed LinkLost (unread l)) { owed = []; relink = false })
 
 abbrev pub link_down : Layer → Layer
 link_down l = record (all_closed LinkLost (unread l)) { phase = NoSession; owed = []; relink = false }
@@ -113,7 +121,8 @@ link_down l = record (all_closed LinkLost (unread l)) { phase = NoSession; owed 
 
 abbrev pub restart_packet : Phase → Body → Layer → Layer
 restart_packet PacketReady (Restart cause diagnostic) l = owes_restart (Some RestartConfirmation) (record (all_closed FarRestart l) { served_last = 0 })
-restart_packet PacketReady RestartConfirmation l = restarting (error_cause l.role 1) 17 (all_closed LocalFault l)
+restart_packet PacketReady RestartConfirmation l = 
+    restarting (error_cause l.role restart_cause.local_procedure_error) not_allowed_in_r1 (all_closed LocalFault l)
 restart_packet OwnRestart (Restart cause diagnostic) l = record l { phase = PacketReady; served_last = 0 }
 restart_packet OwnRestart RestartConfirmation l = record l { phase = PacketReady; served_last = 0 }
 restart_packet phase _ l = l
@@ -163,9 +172,9 @@ runs l (ClearTimer c) = runs_at (λ ch. waits_for_clear ch.state) l.phase (chann
 
 abbrev pub expired : Layer → Timer → Layer
 expired l RestartTimer = record l { relink = true }
-expired l (CallTimer c) = on_found l c (λ ch. clear_error l.role c 0 true ch) (channel_of l c)
-expired l (ResetTimer c) = on_found l c (λ ch. clear_error l.role c 0 true ch) (channel_of l c)
-expired l (ClearTimer c) = restarting (error_cause l.role 1) 0 (all_closed LocalFault l)
+expired l (CallTimer c) = on_found l c (λ ch. clear_error l.role c no_information true ch) (channel_of l c)
+expired l (ResetTimer c) = on_found l c (λ ch. clear_error l.role c no_information true ch) (channel_of l c)
+expired l (ClearTimer c) = restarting (error_cause l.role restart_cause.local_procedure_error) no_information (all_closed LocalFault l)
 
 abbrev pub on_timer : Layer → Timer → Layer
 on_timer l t = cond (runs l t) (expired (unread l) t) l

@@ -7,11 +7,8 @@ mod layer;
 mod notes;
 mod params;
 mod restart;
-mod write;
 
 pub use fault::{CallFault, MakeFault};
 pub use layer::Layer;
-pub use packet_channel::{
-    ChannelFault, Front, InterruptData, LayerNote, Reason, Taken, UserData,
-};
+pub use packet_channel::{ChannelFault, Front, InterruptData, LayerNote, Reason, Taken, UserData};
 pub use params::LayerParams;

@@ -5,9 +5,8 @@ ghost use Rattle.packet_channel.specs.Octets.{written, ReadsAs};
 ghost use Rattle.packet_channel.specs.ControlView.{first_of, rest_of};
 ghost use Rattle.packet_layer.specs.RestartView.{restart_body};
 
-use crate::write::{write_restart, write_restart_confirmation};
 use arrayvec::ArrayVec;
-use packet_codec::PacketBuf;
+use packet_codec::{Content, Packet, PacketBuf, write_packet};
 use std::marker::Model;
 
 /// Where the restart procedure stands (X.25 table C-1).
@@ -94,10 +93,17 @@ impl OwedRestarts {
         if self.packets.is_empty() {
             return false;
         }
-        match self.packets.remove(0) {
-            RestartPacket::Restart { cause, diagnostic } => write_restart(cause, diagnostic, buf),
-            RestartPacket::Confirmation => write_restart_confirmation(buf),
-        }
+        let content = match self.packets.remove(0) {
+            RestartPacket::Restart { cause, diagnostic } => {
+                Content::RestartRequest { cause, diagnostic }
+            }
+            RestartPacket::Confirmation => Content::RestartConfirmation,
+        };
+        let packet = Packet {
+            channel: 0,
+            content,
+        };
+        write_packet(&packet, buf);
         true
     }
 }

@@ -6,6 +6,7 @@ use Rattle.link_timers.specs.declared.role.Role.TheVariants.{Dte, Dce}
 use Rattle.packet_codec.specs.declared.packet_type.PacketType.{PacketType}
 use Rattle.packet_codec.specs.declared.packet_type.PacketType.TheVariants as types
 use Rattle.packet_codec.specs.PacketType.{is_among}
+use Rattle.packet_codec.specs.Diagnostic.{not_allowed_in_d1}
 use Rattle.reset_restart.specs.declared.reset.ResetState.{ResetState}
 use Rattle.reset_restart.specs.declared.reset.ResetState.TheVariants as states
 use Rattle.reset_restart.specs.declared.reset.ResetEvent.{ResetEvent}
@@ -66,8 +67,8 @@ abbrev pub table : List Row
 table =
     row Ready UserResets OwnReset (Some types.ResetRequest) Nothing None
     ∷ row Ready (Packets (types.ResetRequest ∷ [])) Ready (Some types.ResetConfirmation) Reset None
-    ∷ row Ready (Packets (types.ResetConfirmation ∷ [])) OwnReset (Some types.ResetRequest) Reset (Some 27)
-    ∷ row Ready UnreadablePacket OwnReset (Some types.ResetRequest) Reset (Some 27)
+    ∷ row Ready (Packets (types.ResetConfirmation ∷ [])) OwnReset (Some types.ResetRequest) Reset (Some not_allowed_in_d1)
+    ∷ row Ready UnreadablePacket OwnReset (Some types.ResetRequest) Reset (Some not_allowed_in_d1)
     ∷ row OwnReset (Packets (types.ResetRequest ∷ types.ResetConfirmation ∷ [])) Ready None Nothing None
     ∷ row OwnReset (Packets flow) OwnReset None Discarded None
     ∷ []

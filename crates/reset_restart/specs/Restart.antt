@@ -6,6 +6,7 @@ use Rattle.link_timers.specs.declared.role.Role.TheVariants.{Dte, Dce}
 use Rattle.packet_codec.specs.declared.packet_type.PacketType.{PacketType}
 use Rattle.packet_codec.specs.declared.packet_type.PacketType.TheVariants as types
 use Rattle.packet_codec.specs.PacketType.{is_among}
+use Rattle.packet_codec.specs.Diagnostic.{not_allowed_in_r1}
 use Rattle.reset_restart.specs.declared.restart.RestartState.{RestartState}
 use Rattle.reset_restart.specs.declared.restart.RestartState.TheVariants as states
 use Rattle.reset_restart.specs.declared.restart.RestartNote.{RestartNote}
@@ -58,7 +59,7 @@ row state packets new owed note error =
 abbrev pub table : List Row
 table =
     row Ready (Types (types.RestartRequest ∷ [])) Ready (Some types.RestartConfirmation) CallsClosed None
-    ∷ row Ready (Types (types.RestartConfirmation ∷ [])) OwnRestart (Some types.RestartRequest) CallsClosed (Some 17)
+    ∷ row Ready (Types (types.RestartConfirmation ∷ [])) OwnRestart (Some types.RestartRequest) CallsClosed (Some not_allowed_in_r1)
     ∷ row OwnRestart (Types (types.RestartRequest ∷ types.RestartConfirmation ∷ [])) Ready None Nothing None
     ∷ row OwnRestart AnyOther OwnRestart None Discarded None
     ∷ []

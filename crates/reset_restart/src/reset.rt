@@ -5,7 +5,7 @@ ghost use Rattle.reset_restart.specs.Reset.{own_reset, place_of, reset_step, ste
 ghost use Rattle.reset_restart.specs.Reset.Place.{Ready, OwnReset};
 
 use link_timers::Role;
-use packet_codec::PacketType;
+use packet_codec::{PacketType, diagnostic};
 
 /// The state of a channel in data transfer (X.25 4.4.3).
 #[derive(Clone, Copy, Debug, PartialEq, Eq)]
@@ -118,7 +118,7 @@ fn in_flow_control_ready(role: Role, event: ResetEvent) -> ResetStep
             state: ResetState::own(role),
             owed: Some(PacketType::ResetRequest),
             note: ResetNote::Reset,
-            error: Some(27),
+            error: Some(diagnostic::NOT_ALLOWED_IN_D1),
         },
         ResetEvent::Received(_) => unreachable!(),
     }

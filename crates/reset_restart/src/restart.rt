@@ -5,7 +5,7 @@ ghost use Rattle.reset_restart.specs.Restart.{own_restart, place_of, restart_ste
 ghost use Rattle.reset_restart.specs.Restart.Place.{Ready, OwnRestart};
 
 use link_timers::Role;
-use packet_codec::PacketType;
+use packet_codec::{PacketType, diagnostic};
 
 /// The state of a line's packet layer (X.25 3).
 #[derive(Clone, Copy, Debug, PartialEq, Eq)]
@@ -96,7 +96,7 @@ fn in_packet_layer_ready(role: Role, event: PacketType) -> RestartStep
             state: RestartState::own(role),
             owed: Some(PacketType::RestartRequest),
             note: RestartNote::CallsClosed,
-            error: Some(17),
+            error: Some(diagnostic::NOT_ALLOWED_IN_R1),
         },
         _ => unreachable!(),
     }

@@ -9,6 +9,18 @@ use crate::control::Control;
 use crate::effect::Effect;
 use crate::note::{LayerNote, Reason};
 use crate::state::{CallState, End, error_cause};
+use packet_codec::{clear_cause, diagnostic, reset_cause};
+
+// The diagnostic of a packet of a type that is not known. None is given for another fault.
+fn diagnostic_if(unknown: bool, diagnostic: u8) -> u8
+    ensures { result ≡ machine.diagnostic_if unknown diagnostic }
+{
+    if unknown {
+        diagnostic
+    } else {
+        diagnostic::NO_INFORMATION
+    }
+}
 
 impl Channel {
     /// Ends the call and what is in transfer.
@@ -27,7 +39,7 @@ impl Channel {
     {
         self.end_call(CallState::OwnClear);
         let clear = Control::Clear {
-            cause: error_cause(end.role, 19),
+            cause: error_cause(end.role, clear_cause::LOCAL_PROCEDURE_ERROR),
             diagnostic,
         };
         if !had_call {
@@ -37,7 +49,7 @@ impl Channel {
             clear,
             LayerNote::Closed {
                 channel: end.channel,
-                cause: 19,
+                cause: clear_cause::LOCAL_PROCEDURE_ERROR,
                 diagnostic,
                 reason: Reason::LocalFault,
             },
@@ -54,12 +66,12 @@ impl Channel {
         self.traffic.clear();
         Effect::both(
             Control::Reset {
-                cause: error_cause(end.role, 5),
+                cause: error_cause(end.role, reset_cause::LOCAL_PROCEDURE_ERROR),
                 diagnostic,
             },
             LayerNote::Reset {
                 channel: end.channel,
-                cause: 5,
+                cause: reset_cause::LOCAL_PROCEDURE_ERROR,
                 diagnostic,
                 reason: Reason::LocalFault,
             },
@@ -72,7 +84,7 @@ impl Channel {
         ensures effect { result ≡ effect_of (machine.not_allowed end.role end.channel self.old) }
     {
         let number = self.state.number(end.role);
-        self.clear_error(end, 19 + number, true)
+        self.clear_error(end, diagnostic::NOT_ALLOWED_IN_P + number, true)
     }
 
     /// The far end clears the call.
@@ -99,17 +111,17 @@ impl Channel {
         ensures effect { result ≡ effect_of (machine.unreadable end.role end.channel unknown self.old) }
     {
         let number = self.state.number(end.role);
-        let diagnostic = if unknown { 19 + number } else { 0 };
+        let in_state = diagnostic_if(unknown, diagnostic::NOT_ALLOWED_IN_P + number);
         match self.state {
-            CallState::Ready => self.clear_error(end, diagnostic, false),
+            CallState::Ready => self.clear_error(end, in_state, false),
             CallState::OwnClear => Effect::nothing(),
             CallState::Transfer if !self.resetting => {
-                self.reset_error(end, if unknown { 27 } else { 0 })
+                self.reset_error(end, diagnostic_if(unknown, diagnostic::NOT_ALLOWED_IN_D1))
             }
             CallState::Transfer
             | CallState::OwnWaiting
             | CallState::FarWaiting
-            | CallState::Collision => self.clear_error(end, diagnostic, true),
+            | CallState::Collision => self.clear_error(end, in_state, true),
         }
     }
 }

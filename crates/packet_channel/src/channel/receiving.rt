@@ -15,7 +15,7 @@ use crate::heard::Heard;
 use crate::note::{LayerNote, Reason};
 use crate::state::{CallState, End};
 use link_timers::Role;
-use packet_codec::{CallBuf, Content, Packet};
+use packet_codec::{CallBuf, Content, Packet, clear_cause, diagnostic};
 
 impl Channel {
     /// Takes a packet of the channel.
@@ -52,7 +52,7 @@ impl Channel {
                 Effect::noting(LayerNote::Incoming(end.channel, CallBuf::new(call)))
             }
             Content::ClearRequest { .. } => Effect::owing(Control::ClearConfirmation),
-            _ => self.clear_error(end, 20, false),
+            _ => self.clear_error(end, diagnostic::NOT_ALLOWED_IN_P1, false),
         }
     }
 
@@ -78,8 +78,8 @@ impl Channel {
                         owes: None,
                         first: Some(LayerNote::Closed {
                             channel: end.channel,
-                            cause: 1,
-                            diagnostic: 0,
+                            cause: clear_cause::NUMBER_BUSY,
+                            diagnostic: diagnostic::NO_INFORMATION,
                             reason: Reason::Cancelled,
                         }),
                         second: Some(LayerNote::Incoming(end.channel, CallBuf::new(call))),
@@ -172,7 +172,7 @@ impl Channel {
         match packet.content {
             Content::ClearRequest { cause, diagnostic } => self.far_cleared(end, cause, diagnostic),
             Content::ResetRequest { cause, diagnostic } => self.far_reset(end, cause, diagnostic),
-            Content::ResetConfirmation => self.reset_error(end, 27),
+            Content::ResetConfirmation => self.reset_error(end, diagnostic::NOT_ALLOWED_IN_D1),
             Content::Data(packet) => {
                 let heard = self.traffic.hear_data(end.window, &packet);
                 self.after_heard(end, heard)

@@ -39,11 +39,7 @@ pub enum Request<'a> {
 
 impl Channel {
     /// Does what is asked, if it is not refused, and answers whether one control packet too many is owed.
-    pub fn request(
-        &mut self,
-        role: Role,
-        request: &Request<'_>,
-    ) -> Result<bool, ChannelFault>
+    pub fn request(&mut self, role: Role, request: &Request<'_>) -> Result<bool, ChannelFault>
         ensures { Answers role self.old (request_of request.now) result self.new }
     {
         match request {

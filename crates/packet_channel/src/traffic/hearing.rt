@@ -10,7 +10,7 @@ ghost use Rattle.packet_channel.specs.HeardView.{heard_of};
 use crate::heard::Heard;
 use crate::traffic::Traffic;
 use crate::user_data::{InterruptData, UserData};
-use packet_codec::DataPacket;
+use packet_codec::{DataPacket, diagnostic};
 
 impl Traffic {
     /// Takes a Data packet, with a window of at most 7.
@@ -21,10 +21,10 @@ impl Traffic {
             (body.Data packet.now.send packet.now.receive (datum_of (data_view packet.now))) }
     {
         if packet.send != self.expected.number() || self.unreleased() >= window {
-            return Heard::Wrong(1);
+            return Heard::Wrong(diagnostic::INVALID_SEND_NUMBER);
         }
         let Ok(newly) = self.send.ack(packet.receive) else {
-            return Heard::Wrong(2);
+            return Heard::Wrong(diagnostic::INVALID_RECEIVE_NUMBER);
         };
         self.undelivered = self.undelivered.saturating_sub(newly);
         self.expected = self.expected.next();
@@ -44,7 +44,7 @@ impl Traffic {
         ensures { heard_of result self.new ≡ machine.keeps (λ u. machine.partner_says busy u) (machine.covers receive self.old) }
     {
         let Ok(newly) = self.send.ack(receive) else {
-            return Heard::Wrong(2);
+            return Heard::Wrong(diagnostic::INVALID_RECEIVE_NUMBER);
         };
         self.undelivered = self.undelivered.saturating_sub(newly);
         self.partner_busy = busy;
@@ -58,7 +58,7 @@ impl Traffic {
         ensures { heard_of result self.new ≡ machine.hears 0 self.old (body.Interrupt octets.now) }
     {
         if self.interrupt_arrived.is_some() || self.interrupt_taken || self.confirmation_due {
-            return Heard::Wrong(0);
+            return Heard::Wrong(diagnostic::NO_INFORMATION);
         }
         self.interrupt_arrived = Some(InterruptData::new(octets));
         Heard::Keeps(0)
@@ -69,7 +69,7 @@ impl Traffic {
         ensures { heard_of result self.new ≡ machine.hears 0 self.old body.InterruptConfirmation }
     {
         if !self.interrupt_unconfirmed {
-            return Heard::Wrong(0);
+            return Heard::Wrong(diagnostic::NO_INFORMATION);
         }
         self.interrupt_unconfirmed = false;
         Heard::Confirms

@@ -6,8 +6,7 @@ ghost use Rattle.packet_channel.specs.Traffic as machine;
 ghost use Rattle.packet_channel.specs.Octets.{written, ReadsAs};
 
 use crate::traffic::Traffic;
-use crate::write::{write_data, write_interrupt, write_interrupt_confirmation, write_ready};
-use packet_codec::{DataPacket, PacketBuf};
+use packet_codec::{Content, DataPacket, Packet, PacketBuf, write_packet};
 
 impl Traffic {
     /// Writes the next packet, if there is one, with a window of at most 7.
@@ -23,7 +22,11 @@ impl Traffic {
         if !self.confirmation_due {
             return self.next_interrupt(window, channel, buf);
         }
-        write_interrupt_confirmation(channel, buf);
+        let packet = Packet {
+            channel: u16::from(channel),
+            content: Content::InterruptConfirmation,
+        };
+        write_packet(&packet, buf);
         self.confirmation_due = false;
         true
     }
@@ -40,7 +43,11 @@ impl Traffic {
         let Some(interrupt) = &self.interrupt_waiting else {
             return self.next_data(window, channel, buf);
         };
-        write_interrupt(channel, interrupt.octets(), buf);
+        let packet = Packet {
+            channel: u16::from(channel),
+            content: Content::Interrupt(interrupt.octets()),
+        };
+        write_packet(&packet, buf);
         self.interrupt_waiting = None;
         self.interrupt_unconfirmed = true;
         true
@@ -69,7 +76,11 @@ impl Traffic {
             receive: self.released.number(),
             user_data: data.octets(),
         };
-        write_data(channel, packet, buf);
+        let packet = Packet {
+            channel: u16::from(channel),
+            content: Content::Data(packet),
+        };
+        write_packet(&packet, buf);
         let _ = self.send.take_number();
         let _ = self.waiting.pop_front();
         self.untold = false;
@@ -87,7 +98,17 @@ impl Traffic {
         if !self.untold && self.told_stopped == self.stopped {
             return false;
         }
-        write_ready(channel, self.stopped, self.released.number(), buf);
+        let receive = self.released.number();
+        let content = if self.stopped {
+            Content::ReceiveNotReady(receive)
+        } else {
+            Content::ReceiveReady(receive)
+        };
+        let packet = Packet {
+            channel: u16::from(channel),
+            content,
+        };
+        write_packet(&packet, buf);
         self.untold = false;
         self.told_stopped = self.stopped;
         true

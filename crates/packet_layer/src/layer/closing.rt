@@ -6,6 +6,7 @@ ghost use Rattle.packet_channel.specs.NoteView.{reason_of};
 
 use crate::notes::Notes;
 use packet_channel::{Channel, LayerNote, Reason};
+use packet_codec::{clear_cause, diagnostic};
 
 /// Closes all channels, and notes each call that there was, in rising order of channels.
 pub(crate) fn close_channels(channels: &mut [Channel], notes: &mut Notes, reason: Reason)
@@ -20,8 +21,8 @@ pub(crate) fn close_channels(channels: &mut [Channel], notes: &mut Notes, reason
         if channel.state().has_call() {
             notes.add(Some(LayerNote::Closed {
                 channel: place as u8 + 1,
-                cause: 9,
-                diagnostic: 0,
+                cause: clear_cause::OUT_OF_ORDER,
+                diagnostic: diagnostic::NO_INFORMATION,
                 reason,
             }));
         }

@@ -11,7 +11,9 @@ ghost use Rattle.packet_layer.specs.Events.{on_octets, after_hearing};
 use crate::layer::Layer;
 use crate::restart::{Phase, RestartPacket};
 use packet_channel::{Reason, error_cause};
-use packet_codec::{Content, Numbering, Packet, PacketFault, logical_channel, read_packet};
+use packet_codec::{
+    Content, Numbering, Packet, PacketFault, diagnostic, logical_channel, read_packet, restart_cause,
+};
 
 impl Layer {
     /// Takes the octets that the link brings as a packet (X.25 5).
@@ -56,7 +58,8 @@ impl Layer {
             }
             (Phase::PacketReady, Content::RestartConfirmation) => {
                 self.close_all(Reason::LocalFault);
-                self.restart(error_cause(self.role, 1), 17);
+                let cause = error_cause(self.role, restart_cause::LOCAL_PROCEDURE_ERROR);
+                self.restart(cause, diagnostic::NOT_ALLOWED_IN_R1);
             }
             (Phase::OwnRestart, Content::RestartRequest { .. } | Content::RestartConfirmation) => {
                 self.phase = Phase::PacketReady;

@@ -9,10 +9,11 @@ use crate::layer::closing::close_channels;
 use crate::restart::{Phase, RestartPacket};
 use link_timers::Role;
 use packet_channel::Reason;
+use packet_codec::{diagnostic, restart_cause};
 
 impl Layer {
-    /// A session of the link begins: all calls close, and this end restarts the packet layer, a DTE with cause 0 and a DCE with
-    /// cause 7 (X.25 3.3).
+    /// A session of the link begins: all calls close, and this end restarts the packet layer, a DTE as originated
+    /// by a DTE and a DCE as network operational (X.25 3.3).
     pub fn link_up(&mut self)
         ensures { self.new ≡ machine.link_up self.old }
     {
@@ -21,10 +22,10 @@ impl Layer {
         self.owed.clear();
         self.relink = false;
         let cause = match self.role {
-            Role::Dte => 0,
-            Role::Dce => 7,
+            Role::Dte => restart_cause::DTE_ORIGINATED,
+            Role::Dce => restart_cause::NETWORK_OPERATIONAL,
         };
-        self.restart(cause, 0);
+        self.restart(cause, diagnostic::NO_INFORMATION);
     }
 
     /// The session of the link has ended: all calls close, and nothing goes to the link or is taken from it until `link_up`.

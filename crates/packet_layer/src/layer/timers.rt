@@ -8,6 +8,7 @@ use crate::layer::Layer;
 use crate::restart::Phase;
 use link_timers::{Role, TimerId};
 use packet_channel::{Reason, error_cause};
+use packet_codec::{diagnostic, restart_cause};
 
 /// A timer of the packet layer: of the own restart, or by channel of the own call, the own reset or the own clear.
 #[derive(Clone, Copy)]
@@ -93,7 +94,8 @@ impl Layer {
             Timer::Call(channel) | Timer::Reset(channel) => self.clear_expired(channel),
             Timer::Clear(_) => {
                 self.close_all(Reason::LocalFault);
-                self.restart(error_cause(self.role, 1), 0);
+                let cause = error_cause(self.role, restart_cause::LOCAL_PROCEDURE_ERROR);
+                self.restart(cause, diagnostic::NO_INFORMATION);
             }
         }
     }
