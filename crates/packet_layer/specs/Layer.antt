@@ -87,7 +87,7 @@ owes_restart o l = record l { owed = with_owed l.owed o; relink = set_if (passes
 
 abbrev pub closing_notes : ℕ → Reason → List Channel → List Note
 closing_notes c reason [] = []
-closing_notes c reason (ch ∷ chs) = 
+closing_notes c reason (ch ∷ chs) =
     cond (had_call ch.state)
     (Closed c clear_cause.out_of_order no_information reason ∷ closing_notes (suc c) reason chs)
     (closing_notes (suc c) reason chs)
@@ -121,7 +121,7 @@ link_down l = record (all_closed LinkLost (unread l)) { phase = NoSession; owed 
 
 abbrev pub restart_packet : Phase → Body → Layer → Layer
 restart_packet PacketReady (Restart cause diagnostic) l = owes_restart (Some RestartConfirmation) (record (all_closed FarRestart l) { served_last = 0 })
-restart_packet PacketReady RestartConfirmation l = 
+restart_packet PacketReady RestartConfirmation l =
     restarting (error_cause l.role restart_cause.local_procedure_error) not_allowed_in_r1 (all_closed LocalFault l)
 restart_packet OwnRestart (Restart cause diagnostic) l = record l { phase = PacketReady; served_last = 0 }
 restart_packet OwnRestart RestartConfirmation l = record l { phase = PacketReady; served_last = 0 }

@@ -12,7 +12,8 @@ use crate::layer::Layer;
 use crate::restart::{Phase, RestartPacket};
 use packet_channel::{Reason, error_cause};
 use packet_codec::{
-    Content, Numbering, Packet, PacketFault, diagnostic, logical_channel, read_packet, restart_cause,
+    Content, Numbering, Packet, PacketFault, diagnostic, logical_channel, read_packet,
+    restart_cause,
 };
 
 impl Layer {
