@@ -1,7 +1,7 @@
 -- The laws of matching.
-use Rattle.std.proofs.Common.{◌≡◌, ℕ, List, [], ◌∷◌, ◌++◌, refl}
+use Rattle.std.proofs.Common.{List, [], ◌∷◌, ◌++◌, refl}
 use Rattle.std.specs.Prelude.{map}
-use Rattle.epochs.specs.Epoch.{Epoch, SentEpoch, TakenEpoch, IsPrefixOf, IsEmpty, IsAligned, AreAligned, nothing_sent, nothing_taken, sent_epoch, taken_epoch}
+use Rattle.epochs.specs.Epoch.{Epoch, SentEpoch, TakenEpoch, IsPrefixOf, IsEmpty, IsAligned, AreAligned, sent_epoch, taken_epoch}
 use Rattle.epochs.specs.Match.{Match}
 use Rattle.epochs.specs.Match.Match.{nothing, drop_empty, join, skip}
 use Rattle.epochs.proofs.Prefixes.{prefix-refl, prefix-trans, empty-prefix, all_items-prefix}

@@ -1,6 +1,5 @@
 -- Prefixes of lists and of epochs: reflexive, transitive, and kept by the items of packets.
 use Rattle.std.proofs.Common.{◌≡◌, ℕ, List, [], ◌∷◌, ◌++◌, refl, sym, ap, ◌∙◌, append_assoc}
-use Rattle.std.specs.Prelude.{true, false, map, if◌then◌else◌}
 use Rattle.epochs.specs.Prefix.{IsListPrefix}
 use Rattle.epochs.specs.Item.{Item, DataPacket, items_of, all_items}
 use Rattle.epochs.specs.Epoch.{Epoch, IsPrefixOf, IsEmpty}

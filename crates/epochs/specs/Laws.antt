@@ -1,5 +1,5 @@
 -- The laws of matching.
-use Rattle.std.specs.Prelude.{List, [], ◌∷◌, ◌++◌, map}
+use Rattle.std.specs.Prelude.{◌≡◌, ℕ, ◌<◌, List, [], ◌∷◌, ◌++◌, Some, map, slice_get}
 use Rattle.epochs.specs.Epoch.{Epoch, SentEpoch, TakenEpoch, IsPrefixOf, IsEmpty, sent_epoch, taken_epoch, AreAligned}
 use Rattle.epochs.specs.Match.{Match}
 
@@ -29,3 +29,20 @@ IsKeptByBothOpening =
 abbrev pub AlignedListsMatch : Type 0
 AlignedListsMatch =
     (sent : List SentEpoch) (taken : List TakenEpoch) → AreAligned sent taken → Match (map taken_epoch taken) (map sent_epoch sent)
+
+-- the epoch of this place is there, and something passed in it
+pub record HasPassed (es : List Epoch) (place : ℕ) (e : Epoch) : Type 0 where
+  pub there : slice_get es place ≡ Some e
+  pub not_empty : IsEmpty e → ⊥
+
+-- each taken epoch in which anything passed came of the sent epoch of one place, which it begins, and later ones
+-- of later places
+pub record ComesOf (place : ℕ → ℕ) (taken sent : List Epoch) : Type 0 where
+  pub begins : (i : ℕ) (e : Epoch) → HasPassed taken i e
+      → (f : Epoch) × (slice_get sent (place i) ≡ Some f) × IsPrefixOf e f
+  pub rises : (i j : ℕ) (d e : Epoch) → HasPassed taken i d → HasPassed taken j e → i < j
+      → place i < place j
+
+-- what matches has such places
+abbrev pub HasRisingPlaces : Type 0
+HasRisingPlaces = (taken sent : List Epoch) → Match taken sent → (place : ℕ → ℕ) × ComesOf place taken sent

@@ -1,7 +1,8 @@
 //! What the two ends of a call send and take between resets, and when the one matches the other.
 #![tactic(auto)]
 
-ghost use Rattle.epochs.specs.Laws.{IsReflexive, IsTransitive, IsKeptByGrowth, IsKeptByOpening, IsKeptByBothOpening, AlignedListsMatch};
+ghost use Rattle.epochs.specs.Laws.{IsReflexive, IsTransitive, IsKeptByGrowth, IsKeptByOpening, IsKeptByBothOpening};
+ghost use Rattle.epochs.specs.Laws.{AlignedListsMatch, HasRisingPlaces};
 
 /// The laws of matching, as a contract: it does nothing.
 pub fn match_laws()
@@ -11,4 +12,5 @@ pub fn match_laws()
     ensures opens { IsKeptByOpening }
     ensures both_open { IsKeptByBothOpening }
     ensures aligned { AlignedListsMatch }
+    ensures rising { HasRisingPlaces }
 {}

@@ -1,4 +1,5 @@
 use Rattle.epochs.proofs.Matching.{match-refl, match-trans, match-grows, match-opens, match-both_open, aligned-match}
+use Rattle.epochs.proofs.Rising.{match-rising}
 use Rattle.epochs.proofs.match_laws.Goals as goal
 
 pub returns : goal.returns
@@ -9,4 +10,5 @@ returns c = record {
   opens = match-opens;
   both_open = match-both_open;
   aligned = aligned-match;
+  rising = match-rising;
 }
