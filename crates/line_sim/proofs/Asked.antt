@@ -19,6 +19,7 @@ use Rattle.line_nodes.specs.Turn.{Turn}
 use Rattle.line_nodes.specs.HostTurns.{host_calls, host_takes}
 use Rattle.line_nodes.specs.PadTurns.{pad_keys}
 use Rattle.line_nodes.specs.declared.note.HostNote.{HostNote}
+use Rattle.memory_line.specs.Lines.{LineService}
 use Rattle.line_sim.specs.declared.event.Put.{Put}
 use Rattle.line_sim.specs.declared.event.Request.{Request}
 use Rattle.line_sim.specs.declared.event.Request.TheVariants.{Answer, Refuse, Say, Interrupt, Reset, Clear, Stop, Go}
@@ -59,13 +60,13 @@ host-leaves Dce s turn host same quiet kind far = record { same = same; quiet = 
 
 -- ---- calls
 
-pub calls-net : (F : Type 0) (role : Role) (s : NetState) (address user_data : List ℕ) (frames : List Put) (notes : List HostNote) (t : NetState)
-    → IsNet F s → is_pad (node_at role s) ≡ false → AreDigits address → length user_data ≤ 16
-    → NodeStep F role (host_calls role (end_of (node_at role s)) (call_parts address user_data) s.book) s.line s frames notes t → IsNet F t
-calls-net F role s address user_data frames notes t n host digits few step =
+pub calls-net : (L : LineService) (role : Role) (s : NetState) (address user_data : List ℕ) (frames : List Put) (notes : List HostNote) (t : NetState)
+    → IsNet L s → is_pad (node_at role s) ≡ false → AreDigits address → length user_data ≤ 16
+    → NodeStep L role (host_calls role (end_of (node_at role s)) (call_parts address user_data) s.book) s.line s frames notes t → IsNet L t
+calls-net L role s address user_data frames notes t n host digits few step =
     let e = end_of (node_at role s) in
     let parts = call_parts address user_data in
-    by-turn F role s (host_calls role e parts s.book) frames notes t n
+    by-turn L role s (host_calls role e parts s.book) frames notes t n
     (host-leaves role s (host_calls role e parts s.book) host (same s.book (host_calls role e parts s.book).book (nodes_stay.calls role e parts s.book)) (quiet_law.quiet-calls role e parts s.book (quiet-host (node_at role s) host (quiet-at role s n.quiet))) refl
     (λ dce. let P : Role → Type 0 = λ r. NodeHolds Dte s.dte (host_calls r e parts s.book).book in subst P (sym dce) (far_law.far_calls_kept Dte s.dte e parts s.book n.typed)))
     (λ k kept. (asking_law.calls_keeps k.setting s.book (line_of s) role e address user_data kept digits few (host-stands role s n.quiet host) k.kept).kept) step
@@ -123,11 +124,11 @@ keeps-asked k b l role e channel Clear kept at h = (asking_law.asks_keeps k b l 
 keeps-asked k b l role e channel Stop kept at h = (asking_law.asks_keeps k b l role e channel (ask.Stopping true) kept at h).kept
 keeps-asked k b l role e channel Go kept at h = (asking_law.asks_keeps k b l role e channel (ask.Stopping false) kept at h).kept
 
-pub asks-net : (F : Type 0) (role : Role) (s : NetState) (channel : ℕ) (r : Request) (frames : List Put) (notes : List HostNote) (t : NetState)
-    → IsNet F s → is_pad (node_at role s) ≡ false → NodeStep F role (asked_turn role (end_of (node_at role s)) channel r s.book) s.line s frames notes t → IsNet F t
-asks-net F role s channel r frames notes t n host step =
+pub asks-net : (L : LineService) (role : Role) (s : NetState) (channel : ℕ) (r : Request) (frames : List Put) (notes : List HostNote) (t : NetState)
+    → IsNet L s → is_pad (node_at role s) ≡ false → NodeStep L role (asked_turn role (end_of (node_at role s)) channel r s.book) s.line s frames notes t → IsNet L t
+asks-net L role s channel r frames notes t n host step =
     let e = end_of (node_at role s) in
-    by-turn F role s (asked_turn role e channel r s.book) frames notes t n
+    by-turn L role s (asked_turn role e channel r s.book) frames notes t n
     (host-leaves role s (asked_turn role e channel r s.book) host (same-asked role e channel r s.book)
     (quiet-asked role e channel r s.book (quiet-host (node_at role s) host (quiet-at role s n.quiet))) (kind-asked role e channel r s.book)
     (λ dce. let P : Role → Type 0 = λ x. NodeHolds Dte s.dte (asked_turn x e channel r s.book).book in subst P (sym dce) (far-asked s.dte e channel r s.book n.typed)))
@@ -135,11 +136,11 @@ asks-net F role s channel r frames notes t n host step =
 
 -- ---- takes
 
-pub takes-net : (F : Type 0) (role : Role) (s : NetState) (channel : ℕ) (frames : List Put) (notes : List HostNote) (t : NetState)
-    → IsNet F s → is_pad (node_at role s) ≡ false → NodeStep F role (host_takes role (end_of (node_at role s)) channel s.book) s.line s frames notes t → IsNet F t
-takes-net F role s channel frames notes t n host step =
+pub takes-net : (L : LineService) (role : Role) (s : NetState) (channel : ℕ) (frames : List Put) (notes : List HostNote) (t : NetState)
+    → IsNet L s → is_pad (node_at role s) ≡ false → NodeStep L role (host_takes role (end_of (node_at role s)) channel s.book) s.line s frames notes t → IsNet L t
+takes-net L role s channel frames notes t n host step =
     let e = end_of (node_at role s) in
-    by-turn F role s (host_takes role e channel s.book) frames notes t n
+    by-turn L role s (host_takes role e channel s.book) frames notes t n
     (host-leaves role s (host_takes role e channel s.book) host (same s.book (host_takes role e channel s.book).book (nodes_stay.takes role e channel s.book))
     (quiet_law.quiet-takes role e channel s.book (quiet-host (node_at role s) host (quiet-at role s n.quiet))) (kind-takes role e channel s.book)
     (λ dce. let P : Role → Type 0 = λ x. NodeHolds Dte s.dte (host_takes x e channel s.book).book in subst P (sym dce) (far_law.far_takes_kept Dte s.dte e channel s.book n.typed)))
@@ -161,10 +162,10 @@ keys-leaves s (Host e) octet is q typed = record {
   typed = tt;
 }
 
-pub keys-net : (F : Type 0) (s : NetState) (p : PadState) (octet : ℕ) (frames : List Put) (notes : List HostNote) (t : NetState)
-    → IsNet F s → s.dte ≡ Pad p → NodeStep F Dte (keys_turn Dte s.dte octet s.book) s.line s frames notes t → IsNet F t
-keys-net F s p octet frames notes t n is step =
-    by-turn F Dte s (keys_turn Dte s.dte octet s.book) frames notes t n (keys-leaves s s.dte octet refl n.quiet.dte n.typed)
+pub keys-net : (L : LineService) (s : NetState) (p : PadState) (octet : ℕ) (frames : List Put) (notes : List HostNote) (t : NetState)
+    → IsNet L s → s.dte ≡ Pad p → NodeStep L Dte (keys_turn Dte s.dte octet s.book) s.line s frames notes t → IsNet L t
+keys-net L s p octet frames notes t n is step =
+    by-turn L Dte s (keys_turn Dte s.dte octet s.book) frames notes t n (keys-leaves s s.dte octet refl n.quiet.dte n.typed)
     (λ k kept.
     let P : NodeState → Type 0 = λ x. Kept k.setting (keys_turn Dte x octet s.book).book (with_event Dte (end_of (keys_turn Dte x octet s.book).node) kept (coming_to Dte (line_of s)) (line_of s)) in
     subst P (sym is) (typing_law.keys_keeps k.setting s.book (line_of s) Dte p octet kept (subst (StandsAt Dte (line_of s)) is (stands Dte s n.quiet)) k.kept).kept) step

@@ -15,10 +15,10 @@ use Rattle.line_nodes.specs.Node.{NodeState, Pad, Host, end_of, is_pad, drained,
 use Rattle.line_nodes.specs.Turn.{Turn}
 use Rattle.line_nodes.specs.LineTurns.{hears, expires, relinks, restarts}
 use Rattle.line_nodes.specs.declared.note.HostNote.{HostNote}
-use Rattle.line_sim.specs.declared.line.Direction.{Direction}
-use Rattle.line_sim.specs.declared.line.Direction.TheVariants.{FromDte, FromDce}
+use Rattle.memory_line.specs.declared.line.Direction.{Direction}
+use Rattle.memory_line.specs.declared.line.Direction.TheVariants.{FromDte, FromDce}
 use Rattle.line_sim.specs.declared.event.Put.{Put}
-use Rattle.line_sim.specs.Lines.{Flights, no_flights, flying, without_first}
+use Rattle.memory_line.specs.Lines.{Flights, no_flights, flying, without_first, LineService}
 use Rattle.line_sim.specs.Sends.{ArePut}
 use Rattle.line_sim.specs.NetState.{NetState, node_at, with_turn}
 use Rattle.line_sim.specs.Steps.{direction_of, hearer, NodeStep}
@@ -35,20 +35,20 @@ use Rattle.pad_laws.proofs.Turns as typed_law
 
 -- ---- one turn
 
-pub node-net : (F : Type 0) (role : Role) (s : NetState) (turn : Turn) (mid : Flights) (coming : List Octets) (frames : List Put) (notes : List HostNote) (t : NetState)
-    → IsNet F s → Leaves role s turn → (F → Comes role s mid coming)
+pub node-net : (L : LineService) (role : Role) (s : NetState) (turn : Turn) (mid : Flights) (coming : List Octets) (frames : List Put) (notes : List HostNote) (t : NetState)
+    → IsNet L s → Leaves role s turn → (L.faithful → Comes role s mid coming)
     → ((k : IsKept s) (kept : List Bool) → Kept k.setting turn.book (with_event role (end_of turn.node) kept coming (line_of s)))
-    → NodeStep F role turn mid s frames notes t → IsNet F t
-node-net F role s turn mid coming frames notes t n w c keeps d =
-    subst (IsNet F) (sym d.others)
-    (after-turn F role s turn t.line n w (λ f. let k = n.kept f in kept-after role s turn mid t.line coming (c f) (d.sends.put f) k.setting (keeps k)))
+    → NodeStep L role turn mid s frames notes t → IsNet L t
+node-net L role s turn mid coming frames notes t n w c keeps d =
+    subst (IsNet L) (sym d.others)
+    (after-turn L role s turn t.line n w (λ f. let k = n.kept f in kept-after L role s turn mid t.line coming (c f) (d.sends.put f) k.setting (keeps k)))
 
 -- where nothing was taken from the line before
-pub by-turn : (F : Type 0) (role : Role) (s : NetState) (turn : Turn) (frames : List Put) (notes : List HostNote) (t : NetState)
-    → IsNet F s → Leaves role s turn
+pub by-turn : (L : LineService) (role : Role) (s : NetState) (turn : Turn) (frames : List Put) (notes : List HostNote) (t : NetState)
+    → IsNet L s → Leaves role s turn
     → ((k : IsKept s) (kept : List Bool) → Kept k.setting turn.book (with_event role (end_of turn.node) kept (coming_to role (line_of s)) (line_of s)))
-    → NodeStep F role turn s.line s frames notes t → IsNet F t
-by-turn F role s turn frames notes t n w keeps d = node-net F role s turn s.line (coming_to role (line_of s)) frames notes t n w (λ f. comes-same role s) keeps d
+    → NodeStep L role turn s.line s frames notes t → IsNet L t
+by-turn L role s turn frames notes t n w keeps d = node-net L role s turn s.line (coming_to role (line_of s)) frames notes t n w (λ f. comes-same role s) keeps d
 
 -- ---- what a PAD's law says after a turn of either node
 
@@ -81,25 +81,25 @@ none-of [] e = refl
 none-of (y ∷ ys) e = absurd (cc)
 
 -- a frame that is taken from the line arrives
-pub heard-net : (F : Type 0) (d : Direction) (s : NetState) (mid : Flights) (octets : Octets) (frames : List Put) (notes : List HostNote) (t : NetState)
-    → IsNet F s → (F → Some octets ≡ slice_get (flying d s.line) 0) → (F → mid ≡ without_first d s.line)
-    → NodeStep F (hearer d) (hears (hearer d) (node_at (hearer d) s) octets s.book) mid s frames notes t → IsNet F t
-heard-net F FromDce s mid octets frames notes t n first rest step =
-    subst (IsNet F) (sym step.others)
-    (after-turn F Dte s (hears Dte s.dte octets s.book) t.line n (hears-leaves Dte s octets n.quiet n.typed)
-    (λ f. let k = n.kept f in kept-after Dte s (hears Dte s.dte octets s.book) mid t.line (drop 1 s.line.from_dce)
+pub heard-net : (L : LineService) (d : Direction) (s : NetState) (mid : Flights) (octets : Octets) (frames : List Put) (notes : List HostNote) (t : NetState)
+    → IsNet L s → (L.faithful → Some octets ≡ slice_get (flying d s.line) 0) → (L.faithful → mid ≡ without_first d s.line)
+    → NodeStep L (hearer d) (hears (hearer d) (node_at (hearer d) s) octets s.book) mid s frames notes t → IsNet L t
+heard-net L FromDce s mid octets frames notes t n first rest step =
+    subst (IsNet L) (sym step.others)
+    (after-turn L Dte s (hears Dte s.dte octets s.book) t.line n (hears-leaves Dte s octets n.quiet n.typed)
+    (λ f. let k = n.kept f in kept-after L Dte s (hears Dte s.dte octets s.book) mid t.line (drop 1 s.line.from_dce)
     (record { own = ap (λ (x : Flights). x.from_dte) (rest f); other = ap (λ (x : Flights). x.from_dce) (rest f) }) (step.sends.put f) k.setting
     (λ kept. (hearing_law.hears_keeps k.setting s.book (line_of s) Dte s.dte octets (drop 1 s.line.from_dce) kept (first-of s.line.from_dce octets (sym (first f))) (stands Dte s n.quiet) k.kept).kept)))
-heard-net F FromDte s mid octets frames notes t n first rest step =
-    subst (IsNet F) (sym step.others)
-    (after-turn F Dce s (hears Dce s.dce octets s.book) t.line n (hears-leaves Dce s octets n.quiet n.typed)
-    (λ f. let k = n.kept f in kept-after Dce s (hears Dce s.dce octets s.book) mid t.line (drop 1 s.line.from_dte)
+heard-net L FromDte s mid octets frames notes t n first rest step =
+    subst (IsNet L) (sym step.others)
+    (after-turn L Dce s (hears Dce s.dce octets s.book) t.line n (hears-leaves Dce s octets n.quiet n.typed)
+    (λ f. let k = n.kept f in kept-after L Dce s (hears Dce s.dce octets s.book) mid t.line (drop 1 s.line.from_dte)
     (record { own = ap (λ (x : Flights). x.from_dce) (rest f); other = ap (λ (x : Flights). x.from_dte) (rest f) }) (step.sends.put f) k.setting
     (λ kept. (hearing_law.hears_keeps k.setting s.book (line_of s) Dce s.dce octets (drop 1 s.line.from_dte) kept (first-of s.line.from_dte octets (sym (first f))) (stands Dce s n.quiet) k.kept).kept)))
 
 -- another line under the same nodes and book
-with-line : (F : Type 0) (s : NetState) (l : Flights) → IsNet F s → (F → IsKept (record s { line = l })) → IsNet F (record s { line = l })
-with-line F s l n kept = record {
+with-line : (L : LineService) (s : NetState) (l : Flights) → IsNet L s → (L.faithful → IsKept (record s { line = l })) → IsNet L (record s { line = l })
+with-line L s l n kept = record {
   apart = n.apart;
   dte_node = n.dte_node;
   dce_node = n.dce_node;
@@ -110,18 +110,18 @@ with-line F s l n kept = record {
 }
 
 -- nothing was in flight
-pub empty-net : (F : Type 0) (d : Direction) (s : NetState) (l : Flights) → IsNet F s → (F → None ≡ slice_get (flying d s.line) 0) → (F → l ≡ without_first d s.line) → IsNet F (record s { line = l })
-empty-net F d s l n first rest = with-line F s l n (λ f. let K : Flights → Type 0 = λ x. IsKept (record s { line = x }) in subst K (sym (rest f ∙ still d s.line (sym (first f)))) (n.kept f))
+pub empty-net : (L : LineService) (d : Direction) (s : NetState) (l : Flights) → IsNet L s → (L.faithful → None ≡ slice_get (flying d s.line) 0) → (L.faithful → l ≡ without_first d s.line) → IsNet L (record s { line = l })
+empty-net L d s l n first rest = with-line L s l n (λ f. let K : Flights → Type 0 = λ x. IsKept (record s { line = x }) in subst K (sym (rest f ∙ still d s.line (sym (first f)))) (n.kept f))
   where
     still : (d : Direction) (x : Flights) → slice_get (flying d x) 0 ≡ None → without_first d x ≡ x
     still FromDte x e = ap (λ (y : List Octets). record x { from_dte = y }) (none-of x.from_dte e)
     still FromDce x e = ap (λ (y : List Octets). record x { from_dce = y }) (none-of x.from_dce e)
 
 -- the first frame in flight is lost
-pub lost-net : (F : Type 0) (d : Direction) (s : NetState) (l : Flights) → IsNet F s → (F → l ≡ without_first d s.line) → IsNet F (record s { line = l })
-lost-net F FromDte s l n rest = with-line F s l n (λ f. let k = n.kept f in let K : Flights → Type 0 = λ x. IsKept (record s { line = x }) in
+pub lost-net : (L : LineService) (d : Direction) (s : NetState) (l : Flights) → IsNet L s → (L.faithful → l ≡ without_first d s.line) → IsNet L (record s { line = l })
+lost-net L FromDte s l n rest = with-line L s l n (λ f. let k = n.kept f in let K : Flights → Type 0 = λ x. IsKept (record s { line = x }) in
     subst K (sym (rest f)) (record { setting = k.setting; kept = keeping_law.loss_kept k.setting s.book (line_of s) Dce k.kept }))
-lost-net F FromDce s l n rest = with-line F s l n (λ f. let k = n.kept f in let K : Flights → Type 0 = λ x. IsKept (record s { line = x }) in
+lost-net L FromDce s l n rest = with-line L s l n (λ f. let k = n.kept f in let K : Flights → Type 0 = λ x. IsKept (record s { line = x }) in
     subst K (sym (rest f)) (record { setting = k.setting; kept = keeping_law.loss_kept k.setting s.book (line_of s) Dte k.kept }))
 
 expires-leaves : (role : Role) (s : NetState) (id : TimerId) → AreQuiet s → NodeHolds Dte s.dte s.book → Leaves role s (expires role (node_at role s) id s.book)
@@ -138,10 +138,10 @@ expires-leaves Dce s id q typed = record {
   typed = far_law.far_expires_kept Dte s.dte s.dce id s.book typed;
 }
 
-pub expires-net : (F : Type 0) (role : Role) (s : NetState) (id : TimerId) (frames : List Put) (notes : List HostNote) (t : NetState)
-    → IsNet F s → NodeStep F role (expires role (node_at role s) id s.book) s.line s frames notes t → IsNet F t
-expires-net F role s id frames notes t n step =
-    by-turn F role s (expires role (node_at role s) id s.book) frames notes t n (expires-leaves role s id n.quiet n.typed)
+pub expires-net : (L : LineService) (role : Role) (s : NetState) (id : TimerId) (frames : List Put) (notes : List HostNote) (t : NetState)
+    → IsNet L s → NodeStep L role (expires role (node_at role s) id s.book) s.line s frames notes t → IsNet L t
+expires-net L role s id frames notes t n step =
+    by-turn L role s (expires role (node_at role s) id s.book) frames notes t n (expires-leaves role s id n.quiet n.typed)
     (λ k kept. (hearing_law.expires_keeps k.setting s.book (line_of s) role (node_at role s) id kept (stands role s n.quiet) k.kept).kept) step
 
 relinks-leaves : (role : Role) (s : NetState) → AreQuiet s → NodeHolds Dte s.dte s.book → Leaves role s (relinks role (node_at role s) s.book)
@@ -158,10 +158,10 @@ relinks-leaves Dce s q typed = record {
   typed = far_law.far_relinks_kept Dte s.dte s.dce s.book typed;
 }
 
-pub relinks-net : (F : Type 0) (role : Role) (s : NetState) (frames : List Put) (notes : List HostNote) (t : NetState)
-    → IsNet F s → NodeStep F role (relinks role (node_at role s) s.book) s.line s frames notes t → IsNet F t
-relinks-net F role s frames notes t n step =
-    by-turn F role s (relinks role (node_at role s) s.book) frames notes t n (relinks-leaves role s n.quiet n.typed)
+pub relinks-net : (L : LineService) (role : Role) (s : NetState) (frames : List Put) (notes : List HostNote) (t : NetState)
+    → IsNet L s → NodeStep L role (relinks role (node_at role s) s.book) s.line s frames notes t → IsNet L t
+relinks-net L role s frames notes t n step =
+    by-turn L role s (relinks role (node_at role s) s.book) frames notes t n (relinks-leaves role s n.quiet n.typed)
     (λ k kept. (hearing_law.relinks_keeps k.setting s.book (line_of s) role (node_at role s) kept (stands role s n.quiet) k.kept).kept) step
 
 -- ---- a restart
@@ -208,26 +208,26 @@ restart-line Dce s mid l q none w =
     (ap (λ (f : Flights). f.from_dce) w.is ∙ ap (λ (f : Flights). f.from_dce ++ Rattle.lapb.specs.Line.chosen w.kept (frames_of (Rattle.line_nodes.specs.LineTurns.restarted s.dce))) none
     ∙ ap (λ (fs : List Octets). Rattle.lapb.specs.Line.chosen w.kept fs) (restarted-frames s.dce))
 
-restart-kept : (role : Role) (s : NetState) (mid l : Flights) → AreQuiet s → mid ≡ no_flights
-    → ArePut (direction_of role) (frames_of (restarts role (node_at role s) s.book).node) mid l → IsKept s → IsKept (with_turn role (restarts role (node_at role s) s.book) l s)
-restart-kept Dte s mid l q none put k =
-    let w = landed FromDte (frames_of (restarts Dte s.dte s.book).node) mid l put in
+restart-kept : (L : LineService) (role : Role) (s : NetState) (mid l : Flights) → AreQuiet s → mid ≡ no_flights
+    → ArePut L (direction_of role) (frames_of (restarts role (node_at role s) s.book).node) mid l → IsKept s → IsKept (with_turn role (restarts role (node_at role s) s.book) l s)
+restart-kept L Dte s mid l q none put k =
+    let w = landed L FromDte (frames_of (restarts Dte s.dte s.book).node) mid l put in
     record {
       setting = k.setting;
       kept = subst (Kept k.setting (restarts Dte s.dte s.book).book) (sym (restart-line Dte s mid l q none w))
           (hearing_law.restarts_keeps k.setting s.book (line_of s) Dte s.dte w.kept (stands Dte s q) k.kept).kept;
     }
-restart-kept Dce s mid l q none put k =
-    let w = landed FromDce (frames_of (restarts Dce s.dce s.book).node) mid l put in
+restart-kept L Dce s mid l q none put k =
+    let w = landed L FromDce (frames_of (restarts Dce s.dce s.book).node) mid l put in
     record {
       setting = k.setting;
       kept = subst (Kept k.setting (restarts Dce s.dce s.book).book) (sym (restart-line Dce s mid l q none w))
           (hearing_law.restarts_keeps k.setting s.book (line_of s) Dce s.dce w.kept (stands Dce s q) k.kept).kept;
     }
 
-pub restarts-net : (F : Type 0) (role : Role) (s : NetState) (mid : Flights) (frames : List Put) (notes : List HostNote) (t : NetState)
-    → IsNet F s → (F → mid ≡ no_flights) → NodeStep F role (restarts role (node_at role s) s.book) mid s frames notes t → IsNet F t
-restarts-net F role s mid frames notes t n none step =
-    subst (IsNet F) (sym step.others)
-    (after-turn F role s (restarts role (node_at role s) s.book) t.line n (restarts-leaves role s n.quiet n.typed)
-    (λ f. restart-kept role s mid t.line n.quiet (none f) (step.sends.put f) (n.kept f)))
+pub restarts-net : (L : LineService) (role : Role) (s : NetState) (mid : Flights) (frames : List Put) (notes : List HostNote) (t : NetState)
+    → IsNet L s → (L.faithful → mid ≡ no_flights) → NodeStep L role (restarts role (node_at role s) s.book) mid s frames notes t → IsNet L t
+restarts-net L role s mid frames notes t n none step =
+    subst (IsNet L) (sym step.others)
+    (after-turn L role s (restarts role (node_at role s) s.book) t.line n (restarts-leaves role s n.quiet n.typed)
+    (λ f. restart-kept L role s mid t.line n.quiet (none f) (step.sends.put f) (n.kept f)))

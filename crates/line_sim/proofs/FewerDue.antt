@@ -17,9 +17,9 @@ use Rattle.line_sim.specs.declared.event.Put.{Put}
 use Rattle.line_sim.specs.declared.event.StepFault.{StepFault}
 use Rattle.line_sim.specs.declared.event.StepFault.TheVariants.{OutOfMemory}
 use Rattle.line_sim.specs.declared.event.Answer.{Answer}
-use Rattle.line_sim.specs.Lines.{Flights}
+use Rattle.memory_line.specs.Lines.{Flights, LineService}
 use Rattle.line_sim.specs.NetState.{NetState, node_at, place_at, with_turn}
-use Rattle.line_sim.specs.Faults.{role_of, is_node, step_fault, where_there_is}
+use Rattle.line_sim.specs.Faults.{role_of, is_node, step_fault, where_there_is, MayWant}
 use Rattle.line_sim.specs.Steps.{NodeStep}
 use Rattle.line_sim.specs.Runs.{Happens}
 use Rattle.line_sim.specs.Due.{expiry, either, net_due, net_due_count, FewerDue}
@@ -78,30 +78,30 @@ counts : (role : Role) (s : NetState) (turn : Turn) (l : Flights) → due_count 
 counts Dte s turn l h = (less (due_count (end_of (drained turn.node))) (due_count (end_of s.dte)) (due_count (end_of s.dce)) h).0
 counts Dce s turn l h = (less (due_count (end_of (drained turn.node))) (due_count (end_of s.dce)) (due_count (end_of s.dte)) h).1
 
-expired : (F : Type 0) (role : Role) (s : NetState) (id : TimerId) (frames : List Put) (notes : List HostNote) (t : NetState)
-    → IsNet F s → node_due (node_at role s) ≡ Some id → NodeStep F role (expires role (node_at role s) id s.book) s.line s frames notes t
+expired : (L : LineService) (role : Role) (s : NetState) (id : TimerId) (frames : List Put) (notes : List HostNote) (t : NetState)
+    → IsNet L s → node_due (node_at role s) ≡ Some id → NodeStep L role (expires role (node_at role s) id s.book) s.line s frames notes t
     → net_due_count t < net_due_count s
-expired F role s id frames notes t n due step =
+expired L role s id frames notes t n due step =
     let turn : Turn = expires role (node_at role s) id s.book in
     subst (λ (x : NetState). net_due_count x < net_due_count s) (sym step.others)
     (counts role s turn t.line (expiry_law.fewer-due role (node_at role s) id s.book (quiet-at role s n.quiet) due))
 
-happened : (F : Type 0) (role : Role) (s : NetState) (id : TimerId) (r : Result Answer StepFault) (t : NetState)
-    → IsNet F s → node_due (node_at role s) ≡ Some id → Happens F (Expire (place_at role s) 0 id) s r t → r ≢ Err OutOfMemory
+happened : (L : LineService) (role : Role) (s : NetState) (id : TimerId) (r : Result Answer StepFault) (t : NetState)
+    → IsNet L s → node_due (node_at role s) ≡ Some id → Happens L (Expire (place_at role s) 0 id) s r t → r ≢ Err OutOfMemory
     → net_due_count t < net_due_count s
-happened F role s id (Ok a) t n due h memory =
-    let P : Role → Type 0 = λ x. NodeStep F x (expires x (node_at x s) id s.book) s.line s a.frames.items a.notes.items t in
-    expired F role s id a.frames.items a.notes.items t n due (subst P (its-role role s n.apart) h.1.does)
-happened F role s id (Err fault) t n due h memory = by h.0
+happened L role s id (Ok a) t n due h memory =
+    let P : Role → Type 0 = λ x. NodeStep L x (expires x (node_at x s) id s.book) s.line s a.frames.items a.notes.items t in
+    expired L role s id a.frames.items a.notes.items t n due (subst P (its-role role s n.apart) h.1.does)
+happened L role s id (Err fault) t n due h memory = by h.0
   where
-    by : (step_fault (Expire (place_at role s) 0 id) s ≡ Some fault) ⊎ Rattle.line_sim.specs.Faults.MayWant (step_fault (Expire (place_at role s) 0 id) s) × (fault ≡ OutOfMemory)
+    by : (step_fault (Expire (place_at role s) 0 id) s ≡ Some fault) ⊎ MayWant (Expire (place_at role s) 0 id) s × (fault ≡ OutOfMemory)
         → net_due_count t < net_due_count s
     by (inl own) = absurd (let none = no-fault role s id in cc)
     by (inr want) = absurd (memory (ap Err want.1))
 
-pub fewer-due : (F : Type 0) (e : Event) (s : NetState) (r : Result Answer StepFault) (t : NetState) → IsNet F s → Happens F e s r t → FewerDue e s r t
-fewer-due F e s r t n h due memory = by (due-at s e due)
+pub fewer-due : (L : LineService) (e : Event) (s : NetState) (r : Result Answer StepFault) (t : NetState) → IsNet L s → Happens L e s r t → FewerDue e s r t
+fewer-due L e s r t n h due memory = by (due-at s e due)
   where
     by : IsDueAt Dte s e ⊎ IsDueAt Dce s e → net_due_count t < net_due_count s
-    by (inl d) = happened F Dte s d.timer r t n d.due (subst (λ (x : Event). Happens F x s r t) (sym d.is) h) memory
-    by (inr d) = happened F Dce s d.timer r t n d.due (subst (λ (x : Event). Happens F x s r t) (sym d.is) h) memory
+    by (inl d) = happened L Dte s d.timer r t n d.due (subst (λ (x : Event). Happens L x s r t) (sym d.is) h) memory
+    by (inr d) = happened L Dce s d.timer r t n d.due (subst (λ (x : Event). Happens L x s r t) (sym d.is) h) memory

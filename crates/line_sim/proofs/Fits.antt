@@ -4,14 +4,14 @@ use Rattle.std.specs.Prelude.{◌==◌, ◌&&◌, not, nat_lt, if◌then◌else�
 use Rattle.link_timers.specs.declared.role.Role.TheVariants.{Dte}
 use Rattle.packet_layer.specs.Layer.{call_refusal}
 use Rattle.line_nodes.specs.Node.{NodeState, Pad, Host, end_of, is_pad}
-use Rattle.line_sim.specs.declared.line.Direction.{Direction}
+use Rattle.memory_line.specs.declared.line.Direction.{Direction}
 use Rattle.line_sim.specs.declared.event.Event.{Event}
 use Rattle.line_sim.specs.declared.event.Event.TheVariants.{Key, Call, Ask, Take, Deliver, Lose, Expire, Relink, Restart}
 use Rattle.line_sim.specs.declared.event.StepFault.{StepFault}
 use Rattle.line_sim.specs.declared.event.StepFault.TheVariants.{NoSuchNode, NoSuchTerminal}
 use Rattle.line_sim.specs.declared.event.Outcome.{Outcome}
 use Rattle.line_sim.specs.declared.event.Answer.{Answer}
-use Rattle.line_sim.specs.Lines.{Flights, flying, without_first}
+use Rattle.memory_line.specs.Lines.{Flights, flying, without_first, LineService}
 use Rattle.line_sim.specs.NetState.{NetState, node_at}
 use Rattle.line_sim.specs.Faults.{step_fault, role_of, is_node, is_host_at, on_channel, call_fault_of, channel_fault_of, ask_refusal}
 use Rattle.line_sim.specs.Steps.{hearer, KeyStep, IdleStep, Hears, LineStep, EmptyDelivery, StepOf}
@@ -40,41 +40,41 @@ pad-there node terminal s e = by (node == s.dte_place) (is_pad s.dte) e
 
 -- ---- each event
 
-idle-net : (F : Type 0) (o : Outcome) (s : NetState) (a : Answer) (t : NetState) → IdleStep o s a t → IsNet F s → IsNet F t
-idle-net F o s a t d n = subst (IsNet F) (sym d.others) n
+idle-net : (L : LineService) (o : Outcome) (s : NetState) (a : Answer) (t : NetState) → IdleStep o s a t → IsNet L s → IsNet L t
+idle-net L o s a t d n = subst (IsNet L) (sym d.others) n
 
-key-net : (F : Type 0) (octet : ℕ) (s : NetState) (a : Answer) (t : NetState) → is_pad s.dte ≡ true → KeyStep F octet s a t → IsNet F s → IsNet F t
-key-net F octet s a t pad d n = by s.dte refl
+key-net : (L : LineService) (octet : ℕ) (s : NetState) (a : Answer) (t : NetState) → is_pad s.dte ≡ true → KeyStep L octet s a t → IsNet L s → IsNet L t
+key-net L octet s a t pad d n = by s.dte refl
   where
-    by : (x : NodeState) → s.dte ≡ x → IsNet F t
-    by (Pad p) is = keys-net F s p octet a.frames.items a.notes.items t n is d.does
+    by : (x : NodeState) → s.dte ≡ x → IsNet L t
+    by (Pad p) is = keys-net L s p octet a.frames.items a.notes.items t n is d.does
     by (Host e) is = (let no : is_pad s.dte ≡ false = ap is_pad is in let bad : true ≡ false = sym pad ∙ no in absurd (cc))
 
-keyed-net : (F : Type 0) (b : Bool) (o : Outcome) (octet : ℕ) (s : NetState) (a : Answer) (t : NetState) → is_pad s.dte ≡ true → MatchBool b (KeyStep F octet s a t) (IdleStep o s a t) → IsNet F s → IsNet F t
-keyed-net F true o octet s a t pad d n = key-net F octet s a t pad d n
-keyed-net F false o octet s a t pad d n = idle-net F o s a t d n
+keyed-net : (L : LineService) (b : Bool) (o : Outcome) (octet : ℕ) (s : NetState) (a : Answer) (t : NetState) → is_pad s.dte ≡ true → MatchBool b (KeyStep L octet s a t) (IdleStep o s a t) → IsNet L s → IsNet L t
+keyed-net L true o octet s a t pad d n = key-net L octet s a t pad d n
+keyed-net L false o octet s a t pad d n = idle-net L o s a t d n
 
-delivered-net : (F : Type 0) (d : Direction) (s : NetState) (line : Flights) (came : Option (List ℕ)) (a : Answer) (t : NetState) → IsNet F s
-    → (F → came ≡ slice_get (flying d s.line) 0) → (F → line ≡ without_first d s.line)
-    → MatchOption came (EmptyDelivery line s a t) (λ octets. LineStep F (hearer d) (Hears octets) line s a t) → IsNet F t
-delivered-net F d s line None a t n first rest heard = subst (IsNet F) (sym heard.others) (empty-net F d s line n first rest)
-delivered-net F d s line (Some octets) a t n first rest heard = heard-net F d s line octets a.frames.items a.notes.items t n first rest heard
+delivered-net : (L : LineService) (d : Direction) (s : NetState) (line : Flights) (came : Option (List ℕ)) (a : Answer) (t : NetState) → IsNet L s
+    → (L.faithful → came ≡ slice_get (flying d s.line) 0) → (L.faithful → line ≡ without_first d s.line)
+    → MatchOption came (EmptyDelivery line s a t) (λ octets. LineStep L (hearer d) (Hears octets) line s a t) → IsNet L t
+delivered-net L d s line None a t n first rest heard = subst (IsNet L) (sym heard.others) (empty-net L d s line n first rest)
+delivered-net L d s line (Some octets) a t n first rest heard = heard-net L d s line octets a.frames.items a.notes.items t n first rest heard
 
-pub fits : (F : Type 0) (e : Event) (s : NetState) (a : Answer) (t : NetState) → step_fault e s ≡ None → StepOf F e s a t → IsNet F s → IsNet F t
-fits F (Key node terminal octet) s a t none d n = keyed-net F (terminal == 0) _ octet s a t (pad-there node terminal s none) d n
-fits F (Call node address user_data) s a t none d n =
+pub fits : (L : LineService) (e : Event) (s : NetState) (a : Answer) (t : NetState) → step_fault e s ≡ None → StepOf L e s a t → IsNet L s → IsNet L t
+fits L (Key node terminal octet) s a t none d n = keyed-net L (terminal == 0) _ octet s a t (pad-there node terminal s none) d n
+fits L (Call node address user_data) s a t none d n =
     let l = (end_of (node_at (role_of node s) s)).layer in
-    calls-net F (role_of node s) s address user_data.items a.frames.items a.notes.items t n (host-there node s (call_fault_of (call_refusal l l.phase)) none) d.digits d.few d.does
-fits F (Ask node channel request) s a t none d n =
-    asks-net F (role_of node s) s channel request a.frames.items a.notes.items t n
+    calls-net L (role_of node s) s address user_data.items a.frames.items a.notes.items t n (host-there node s (call_fault_of (call_refusal l l.phase)) none) d.digits d.few d.does
+fits L (Ask node channel request) s a t none d n =
+    asks-net L (role_of node s) s channel request a.frames.items a.notes.items t n
     (host-there node s (on_channel channel s (channel_fault_of (ask_refusal (end_of (node_at (role_of node s) s)) channel request))) none) d.does
-fits F (Take node channel) s a t none d n = takes-net F (role_of node s) s channel a.frames.items a.notes.items t n (host-there node s (on_channel channel s None) none) d.does
-fits F (Deliver line direction) s a t none d n = delivered-net F direction s d.line d.came a t n d.first d.rest d.heard
-fits F (Lose line direction) s a t none d n = subst (IsNet F) (sym d.others) (lost-net F direction s t.line n d.rest)
-fits F (Expire node line timer) s a t none d n = expires-net F (role_of node s) s timer a.frames.items a.notes.items t n d.does
-fits F (Relink line) s a t none d n = relinks-net F Dte s a.frames.items a.notes.items t n d.does
-fits F (Restart node) s a t none d n = restarts-net F (role_of node s) s d.line a.frames.items a.notes.items t n d.emptied d.does
+fits L (Take node channel) s a t none d n = takes-net L (role_of node s) s channel a.frames.items a.notes.items t n (host-there node s (on_channel channel s None) none) d.does
+fits L (Deliver line direction) s a t none d n = delivered-net L direction s d.line d.came a t n d.first d.rest d.heard
+fits L (Lose line direction) s a t none d n = subst (IsNet L) (sym d.others) (lost-net L direction s t.line n d.rest)
+fits L (Expire node line timer) s a t none d n = expires-net L (role_of node s) s timer a.frames.items a.notes.items t n d.does
+fits L (Relink line) s a t none d n = relinks-net L Dte s a.frames.items a.notes.items t n d.does
+fits L (Restart node) s a t none d n = restarts-net L (role_of node s) s d.line a.frames.items a.notes.items t n d.emptied d.does
 
-pub happens-net : (F : Type 0) (e : Event) (s : NetState) (r : Result Answer StepFault) (t : NetState) → Happens F e s r t → IsNet F s → IsNet F t
-happens-net F e s (Ok a) t h n = fits F e s a t h.0 h.1 n
-happens-net F e s (Err fault) t h n = subst (IsNet F) (sym h.1) n
+pub happens-net : (L : LineService) (e : Event) (s : NetState) (r : Result Answer StepFault) (t : NetState) → Happens L e s r t → IsNet L s → IsNet L t
+happens-net L e s (Ok a) t h n = fits L e s a t h.0 h.1 n
+happens-net L e s (Err fault) t h n = subst (IsNet L) (sym h.1) n

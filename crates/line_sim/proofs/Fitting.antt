@@ -12,8 +12,8 @@ use Rattle.node_laws.specs.Quiet.{IsQuiet}
 use Rattle.pad_laws.specs.PadHolds.{NodeHolds}
 use Rattle.line_nodes.specs.Node.{NodeState, Pad, Host, end_of, is_pad, drained, frames_of}
 use Rattle.line_nodes.specs.Turn.{Turn}
-use Rattle.line_sim.specs.declared.line.Direction.TheVariants.{FromDte, FromDce}
-use Rattle.line_sim.specs.Lines.{Flights, flying}
+use Rattle.memory_line.specs.declared.line.Direction.TheVariants.{FromDte, FromDce}
+use Rattle.memory_line.specs.Lines.{Flights, flying, LineService}
 use Rattle.line_sim.specs.Sends.{ArePut}
 use Rattle.line_sim.specs.NetState.{NetState, node_at, with_turn}
 use Rattle.line_sim.specs.Steps.{direction_of}
@@ -43,8 +43,8 @@ pub end-drained : (n : NodeState) → end_of (drained n) ≡ sent (end_of n)
 end-drained (Pad p) = refl
 end-drained (Host e) = refl
 
-pub after-turn : (F : Type 0) (role : Role) (s : NetState) (turn : Turn) (l : Flights) → IsNet F s → Leaves role s turn → (F → IsKept (with_turn role turn l s)) → IsNet F (with_turn role turn l s)
-after-turn F Dte s turn l n w kept = record {
+pub after-turn : (L : LineService) (role : Role) (s : NetState) (turn : Turn) (l : Flights) → IsNet L s → Leaves role s turn → (L.faithful → IsKept (with_turn role turn l s)) → IsNet L (with_turn role turn l s)
+after-turn L Dte s turn l n w kept = record {
   apart = n.apart;
   dte_node = w.same.dte ∙ n.dte_node;
   dce_node = w.same.dce ∙ n.dce_node;
@@ -53,7 +53,7 @@ after-turn F Dte s turn l n w kept = record {
   typed = w.typed;
   kept = kept;
 }
-after-turn F Dce s turn l n w kept = record {
+after-turn L Dce s turn l n w kept = record {
   apart = n.apart;
   dte_node = w.same.dte ∙ n.dte_node;
   dce_node = w.same.dce ∙ n.dce_node;
@@ -90,15 +90,15 @@ pub comes-same : (role : Role) (s : NetState) → Comes role s s.line (coming_to
 comes-same Dte s = record { own = refl; other = refl }
 comes-same Dce s = record { own = refl; other = refl }
 
-pub kept-after : (role : Role) (s : NetState) (turn : Turn) (mid l : Flights) (coming : List Octets) → Comes role s mid coming
-    → ArePut (direction_of role) (frames_of turn.node) mid l
+pub kept-after : (L : LineService) (role : Role) (s : NetState) (turn : Turn) (mid l : Flights) (coming : List Octets) → Comes role s mid coming
+    → ArePut L (direction_of role) (frames_of turn.node) mid l
     → (setting : Setting) → ((kept : List Bool) → Kept setting turn.book (with_event role (end_of turn.node) kept coming (line_of s)))
     → IsKept (with_turn role turn l s)
-kept-after Dte s turn mid l coming c put setting keeps =
-    let w = landed FromDte (frames_of turn.node) mid l put in
+kept-after L Dte s turn mid l coming c put setting keeps =
+    let w = landed L FromDte (frames_of turn.node) mid l put in
     record { setting = setting; kept = subst (Kept setting turn.book) (sym (line-after Dte s turn mid l coming c w)) (keeps w.kept) }
-kept-after Dce s turn mid l coming c put setting keeps =
-    let w = landed FromDce (frames_of turn.node) mid l put in
+kept-after L Dce s turn mid l coming c put setting keeps =
+    let w = landed L FromDce (frames_of turn.node) mid l put in
     record { setting = setting; kept = subst (Kept setting turn.book) (sym (line-after Dce s turn mid l coming c w)) (keeps w.kept) }
 
 -- ---- the nodes stand at their ends

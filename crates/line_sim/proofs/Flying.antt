@@ -3,9 +3,9 @@ use Rattle.std.proofs.Common.{◌≡◌, Bool, true, false, List, [], ◌∷◌,
 use Rattle.std.proofs.lemmas.List.{append-nil}
 use Rattle.lapb.specs.Machine.{Octets}
 use Rattle.lapb.specs.Line.{chosen}
-use Rattle.line_sim.specs.declared.line.Direction.{Direction}
-use Rattle.line_sim.specs.declared.line.Direction.TheVariants.{FromDte, FromDce}
-use Rattle.line_sim.specs.Lines.{Flights, flying, with_flying}
+use Rattle.memory_line.specs.declared.line.Direction.{Direction}
+use Rattle.memory_line.specs.declared.line.Direction.TheVariants.{FromDte, FromDce}
+use Rattle.memory_line.specs.Lines.{Flights, LineService, flying, with_flying}
 use Rattle.line_sim.specs.Sends.{ArePut}
 
 -- these of the frames were not lost
@@ -22,10 +22,10 @@ more : (d : Direction) (f : Octets) (rest : List Octets) (old : Flights)
 more FromDte f rest old = ap (λ (l : List Octets). record old { from_dte = l }) (append_assoc {A = Octets} old.from_dte (f ∷ []) rest)
 more FromDce f rest old = ap (λ (l : List Octets). record old { from_dce = l }) (append_assoc {A = Octets} old.from_dce (f ∷ []) rest)
 
-pub landed : (d : Direction) (frames : List Octets) (old new : Flights) → ArePut d frames old new → Landed d frames old new
-landed d [] old new e = record { kept = []; is = e ∙ nothing d old }
-landed d (f ∷ frames) old new (mid, put, rest) =
-    let w = landed d frames mid new rest in
+pub landed : (L : LineService) (d : Direction) (frames : List Octets) (old new : Flights) → ArePut L d frames old new → Landed d frames old new
+landed L d [] old new e = record { kept = []; is = e ∙ nothing d old }
+landed L d (f ∷ frames) old new (mid, put, rest) =
+    let w = landed L d frames mid new rest in
     elim put [
       | inl is ↦ record {
         kept = true ∷ w.kept;
@@ -33,6 +33,6 @@ landed d (f ∷ frames) old new (mid, put, rest) =
       }
       | inr is ↦ record {
         kept = false ∷ w.kept;
-        is = w.is ∙ ap (λ (m : Flights). with_flying d (flying d m ++ chosen w.kept frames) m) is;
+        is = w.is ∙ ap (λ (m : Flights). with_flying d (flying d m ++ chosen w.kept frames) m) is.1;
       }
     ]

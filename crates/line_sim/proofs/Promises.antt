@@ -13,8 +13,8 @@ use Rattle.node_laws.specs.Clauses.{elapsed_line, first_line}
 use Rattle.pad_laws.specs.Typed.{IsTyped}
 use Rattle.pad_laws.specs.PadHolds.{NodeHolds}
 use Rattle.line_nodes.specs.Node.{NodeState, Pad, Host, end_of, is_pad, drained, frames_of, node_elapsed}
-use Rattle.line_sim.specs.declared.line.Direction.TheVariants.{FromDte, FromDce}
-use Rattle.line_sim.specs.Lines.{Flights, no_flights}
+use Rattle.memory_line.specs.declared.line.Direction.TheVariants.{FromDte, FromDce}
+use Rattle.memory_line.specs.Lines.{Flights, no_flights, LineService}
 use Rattle.line_sim.specs.NetState.{NetState, net_elapsed}
 use Rattle.line_sim.specs.Plan.{Plan, DtePlan, PadPlan, HostPlan, dte_of, new_dte, new_dce, opening, IsBegun, IsMadeOf}
 use Rattle.line_sim.specs.Headline.{Headline}
@@ -33,8 +33,8 @@ typed-so : (n : NodeState) (b : Book) → NodeHolds Dte n b → is_pad n ≡ tru
 typed-so (Pad p) b h e i r at node = h.typed i r at node
 typed-so (Host x) b h e i r at node = absurd (cc)
 
-pub promises : (F : Type 0) (s : NetState) → IsNet F s → F → Headline s
-promises F s n f = record {
+pub promises : (L : LineService) (s : NetState) → IsNet L s → L.faithful → Headline s
+promises L s n f = record {
   calls = (let k = n.kept f in keeping_law.holds_kept k.setting s.book (line_of s) k.kept);
   dte_node = n.dte_node;
   dce_node = n.dce_node;
@@ -54,8 +54,8 @@ elapsed-kind ticks (Host e) = refl
 elapsed-line : (ticks : ℕ) (s : NetState) → line_of (net_elapsed ticks s) ≡ elapsed_line ticks (line_of s)
 elapsed-line ticks s = λ i. record { dte = elapsed-end ticks s.dte i; dce = elapsed-end ticks s.dce i; up = s.line.from_dte; down = s.line.from_dce }
 
-pub elapses-net : (F : Type 0) (s : NetState) (ticks : ℕ) → IsNet F s → IsNet F (net_elapsed ticks s)
-elapses-net F s ticks n = record {
+pub elapses-net : (L : LineService) (s : NetState) (ticks : ℕ) → IsNet L s → IsNet L (net_elapsed ticks s)
+elapses-net L s ticks n = record {
   apart = n.apart;
   dte_node = n.dte_node;
   dce_node = n.dce_node;
@@ -92,23 +92,23 @@ abbrev setting-of : Plan → Setting
 setting-of plan = record { dte = plan.line; dce = plan.line; dte_node = plan.dte_place; dce_node = plan.dce_place }
 
 -- the first frames of both ends
-first-line : (plan : Plan) (l : Flights) (b : IsBegun (new_dte plan) (new_dce plan) l)
-    → let up = landed FromDte (frames_of (new_dte plan)) no_flights b.between b.from_dte in
-    let down = landed FromDce (frames_of (new_dce plan)) b.between l b.from_dce in
+first-line : (L : LineService) (plan : Plan) (l : Flights) (b : IsBegun L (new_dte plan) (new_dce plan) l)
+    → let up = landed L FromDte (frames_of (new_dte plan)) no_flights b.between b.from_dte in
+    let down = landed L FromDce (frames_of (new_dce plan)) b.between l b.from_dce in
     line_of (record (opening plan) { line = l }) ≡ first_line (end_of (new_dte plan)) (end_of (new_dce plan)) up.kept down.kept
-first-line plan l b =
-    let up = landed FromDte (frames_of (new_dte plan)) no_flights b.between b.from_dte in
-    let down = landed FromDce (frames_of (new_dce plan)) b.between l b.from_dce in
+first-line L plan l b =
+    let up = landed L FromDte (frames_of (new_dte plan)) no_flights b.between b.from_dte in
+    let down = landed L FromDce (frames_of (new_dce plan)) b.between l b.from_dce in
     let going : l.from_dte ≡ chosen up.kept (end_of (new_dte plan)).line.frames = ap (λ (x : Flights). x.from_dte) down.is ∙ ap (λ (x : Flights). x.from_dte) up.is in
     let coming : l.from_dce ≡ chosen down.kept (end_of (new_dce plan)).line.frames =
     ap (λ (x : Flights). x.from_dce) down.is ∙ ap (λ (x : Flights). x.from_dce ++ chosen down.kept (end_of (new_dce plan)).line.frames) up.is in
     λ i. record { dte = end-drained (new_dte plan) i; dce = end-drained (new_dce plan) i; up = going i; down = coming i }
 
-pub made-net : (F : Type 0) (plan : Plan) (s : NetState) → plan.dte_place ≢ plan.dce_place → AreParams plan.line → IsMadeOf F plan s → IsNet F s
-made-net F plan s apart params made =
+pub made-net : (L : LineService) (plan : Plan) (s : NetState) → plan.dte_place ≢ plan.dce_place → AreParams plan.line → IsMadeOf L plan s → IsNet L s
+made-net L plan s apart params made =
     let book : Book = made_book plan.dte_place plan.dce_place plan.line.channels plan.line.standing in
     let nodes = book-nodes plan.dte_place plan.dce_place plan.line.channels plan.line.standing in
-    subst (IsNet F) (sym made.state) (record {
+    subst (IsNet L) (sym made.state) (record {
       apart = apart;
       dte_node = nodes.0;
       dce_node = nodes.1;
@@ -117,11 +117,11 @@ made-net F plan s apart params made =
       typed = made-typed plan.dte plan.line plan.dte_place plan.dce_place plan.line.channels plan.line.standing apart;
       kept = λ f.
           let b = made.begun f in
-          let up = landed FromDte (frames_of (new_dte plan)) no_flights b.between b.from_dte in
-          let down = landed FromDce (frames_of (new_dce plan)) b.between made.line b.from_dce in
+          let up = landed L FromDte (frames_of (new_dte plan)) no_flights b.between b.from_dte in
+          let down = landed L FromDce (frames_of (new_dce plan)) b.between made.line b.from_dce in
           record {
             setting = setting-of plan;
-            kept = subst (Kept (setting-of plan) book) (sym (first-line plan made.line b))
+            kept = subst (Kept (setting-of plan) book) (sym (first-line L plan made.line b))
                 (making_law.making_keeps (setting-of plan) (new_dte plan) (new_dce plan) up.kept down.kept
                 (record { dte = params; dce = params; alike = record { channels = refl; window = refl; standing = refl } }) (made-end plan.dte plan.line, refl)).kept;
           };

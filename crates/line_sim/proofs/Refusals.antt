@@ -1,12 +1,13 @@
 -- When an event is refused, by what happened.
 use Rattle.std.proofs.Common.{◌≡◌, Option, Some, None, Result, Ok, Err, sym, ap, inl, inr}
 use Rattle.std.specs.Prelude.{◌⊎◌}
+use Rattle.memory_line.specs.Lines.{LineService}
 use Rattle.line_sim.specs.declared.event.Event.{Event}
 use Rattle.line_sim.specs.declared.event.StepFault.{StepFault}
 use Rattle.line_sim.specs.declared.event.StepFault.TheVariants.{NoSuchNode, NoSuchTerminal, NoSuchCall, Refused, OutOfMemory}
 use Rattle.line_sim.specs.declared.event.Answer.{Answer}
 use Rattle.line_sim.specs.NetState.{NetState}
-use Rattle.line_sim.specs.Faults.{step_fault, MayWant}
+use Rattle.line_sim.specs.Faults.{step_fault, IsLeftToNode, MayWant}
 use Rattle.line_sim.specs.Runs.{Happens, IsRefusedSo}
 
 own : (fault f : StepFault) → f ≡ fault → IsRefusedSo (Some f) (Err fault)
@@ -16,13 +17,18 @@ own fault NoSuchCall e = ap Err (sym e)
 own fault (Refused x) e = inl (ap Err (sym e))
 own fault OutOfMemory e = ap Err (sym e)
 
-pub refusals : (F : Type 0) (e : Event) (s : NetState) (r : Result Answer StepFault) (t : NetState) → Happens F e s r t → IsRefusedSo (step_fault e s) r
-refusals F e s (Ok answer) t h = by (step_fault e s) h.0 where
+pub refusals : (L : LineService) (e : Event) (s : NetState) (r : Result Answer StepFault) (t : NetState) → Happens L e s r t → IsRefusedSo (step_fault e s) r
+refusals L e s (Ok answer) t h = by (step_fault e s) h.0 where
   by : (o : Option StepFault) → o ≡ None → IsRefusedSo o (Ok answer)
   by None o = tt
   by (Some f) o = absurd (cc)
-refusals F e s (Err fault) t h = by (step_fault e s) h.0 where
-  by : (o : Option StepFault) → (o ≡ Some fault) ⊎ MayWant o × (fault ≡ OutOfMemory) → IsRefusedSo o (Err fault)
+refusals L e s (Err fault) t h = by (step_fault e s) (left h.0) where
+  left : (step_fault e s ≡ Some fault) ⊎ MayWant e s × (fault ≡ OutOfMemory)
+      → (step_fault e s ≡ Some fault) ⊎ IsLeftToNode (step_fault e s) × (fault ≡ OutOfMemory)
+  left (inl own) = inl own
+  left (inr want) = inr (want.0.1, want.1)
+
+  by : (o : Option StepFault) → (o ≡ Some fault) ⊎ IsLeftToNode o × (fault ≡ OutOfMemory) → IsRefusedSo o (Err fault)
   by None (inl o) = absurd (cc)
   by None (inr o) = o.1
   by (Some f) (inl o) = let same : f ≡ fault = cc in own fault f same

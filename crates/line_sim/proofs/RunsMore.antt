@@ -2,6 +2,7 @@
 use Rattle.std.proofs.Common.{◌≡◌, Bool, ℕ, zero, suc, ◌+◌, ◌<◌, List, [], ◌∷◌, ◌++◌, take, length, get_or, Option, Some, None, Result, Ok, Err, refl, sym, ap, ◌∙◌, subst, inl, inr, arith}
 use Rattle.std.specs.Prelude.{◌&&◌, ◌==◌, nat_lt, true, false, if◌then◌else◌}
 use Rattle.std.proofs.lemmas.Option.{slice_get-get_or}
+use Rattle.memory_line.specs.Lines.{LineService, memory_service}
 use Rattle.line_sim.specs.declared.config.Config.{Config}
 use Rattle.line_sim.specs.declared.event.Event.{Event}
 use Rattle.line_sim.specs.declared.event.Event.TheVariants.{Key, Call, Ask, Take, Deliver, Lose, Expire, Relink, Restart}
@@ -12,22 +13,22 @@ use Rattle.packet_layer.specs.Channel.{Refusal}
 use Rattle.packet_layer.specs.Layer.{call_refusal}
 use Rattle.line_nodes.specs.Node.{end_of, is_pad}
 use Rattle.line_sim.specs.NetState.{NetState, node_at}
-use Rattle.line_sim.specs.Faults.{step_fault, is_host_at, is_node, is_channel, on_channel, role_of, call_fault_of, channel_fault_of, ask_refusal, where_there_is, MayWant}
+use Rattle.line_sim.specs.Faults.{step_fault, is_host_at, is_node, is_channel, on_channel, role_of, call_fault_of, channel_fault_of, ask_refusal, where_there_is, takes_memory, MayWant}
 use Rattle.line_sim.specs.Runs.{Happens, Happened, Ran, HasRun, HasStopped}
 
 -- what was answered, or refused for another reason than want of memory, happened
-pub happened : (F : Type 0) (e : Event) (s : NetState) (r : Result Answer StepFault) (t : NetState) → Happens F e s r t → (r ≡ Err OutOfMemory → ⊥) → Happened F e s (step_fault e s) t
-happened F e s (Ok answer) t h not_memory = let P : Option StepFault → Type 0 = λ o. Happened F e s o t in subst P (sym h.0) (answer, h.1)
-happened F e s (Err fault) t h not_memory =
-    let P : Option StepFault → Type 0 = λ o. Happened F e s o t in
+pub happened : (L : LineService) (e : Event) (s : NetState) (r : Result Answer StepFault) (t : NetState) → Happens L e s r t → (r ≡ Err OutOfMemory → ⊥) → Happened L e s (step_fault e s) t
+happened L e s (Ok answer) t h not_memory = let P : Option StepFault → Type 0 = λ o. Happened L e s o t in subst P (sym h.0) (answer, h.1)
+happened L e s (Err fault) t h not_memory =
+    let P : Option StepFault → Type 0 = λ o. Happened L e s o t in
     elim h.0 [
       | inl is ↦ subst P (sym is) h.1
       | inr memory ↦ absurd (not_memory (ap Err memory.1))
     ]
 
-pub ran-more : (F : Type 0) (es : List Event) (s t : NetState) (e : Event) (u : NetState) → Ran F s es t → Happened F e t (step_fault e t) u → Ran F s (es ++ e ∷ []) u
-ran-more F [] s t e u r h = let P : NetState → Type 0 = λ x. Happened F e x (step_fault e x) u in (u, subst P (sym r) h, refl)
-ran-more F (x ∷ es) s t e u r h = (r.0, r.1, ran-more F es r.0 t e u r.2 h)
+pub ran-more : (L : LineService) (es : List Event) (s t : NetState) (e : Event) (u : NetState) → Ran L s es t → Happened L e t (step_fault e t) u → Ran L s (es ++ e ∷ []) u
+ran-more L [] s t e u r h = let P : NetState → Type 0 = λ x. Happened L e x (step_fault e x) u in (u, subst P (sym r) h, refl)
+ran-more L (x ∷ es) s t e u r h = (r.0, r.1, ran-more L es r.0 t e u r.2 h)
 
 take-more : {A : Type 0} (xs : List A) (i : ℕ) (x d : A) → i < length xs → x ≡ get_or xs i d → take (suc i) xs ≡ take i xs ++ x ∷ []
 take-more [] i x d h e = absurd (omega arith)
@@ -35,14 +36,14 @@ take-more (y ∷ ys) zero x d h e = ap (λ z. z ∷ []) (sym e)
 take-more (y ∷ ys) (suc i) x d h e = ap (λ zs. y ∷ zs) (take-more ys i x d (omega arith) e)
 
 pub run-more : (config : Config) (events : List Event) (i : ℕ) (d e : Event) (t u : NetState) → i < length events → e ≡ get_or events i d
-    → HasRun config (take i events) t → Happened (Unit {0}) e t (step_fault e t) u → HasRun config (take (i + 1) events) u
+    → HasRun config (take i events) t → Happened memory_service e t (step_fault e t) u → HasRun config (take (i + 1) events) u
 run-more config events i d e t u h is run happens =
-    let P : List Event → Type 0 = λ es. Ran (Unit {0}) run.start es u in
+    let P : List Event → Type 0 = λ es. Ran memory_service run.start es u in
     let next : take (i + 1) events ≡ take i events ++ e ∷ [] = (let same : i + 1 ≡ suc i = omega arith in ap (λ n. take n events) same ∙ take-more events i e d h is) in
     record {
       start = run.start;
       made = run.made;
-      ran = subst P (sym next) (ran-more (Unit {0}) (take i events) run.start t e u run.ran happens);
+      ran = subst P (sym next) (ran-more memory_service (take i events) run.start t e u run.ran happens);
     }
 
 no-such : (a : Bool) → where_there_is a ≡ Some OutOfMemory → ⊥
@@ -101,15 +102,20 @@ not-memory (Relink line) s e = no-such (line == 0) e
 not-memory (Restart node) s e = no-such (is_node node s) e
 
 -- where memory was wanting, the network itself does not refuse the event
-pub wanting : (F : Type 0) (e : Event) (s : NetState) (r : Result Answer StepFault) (t : NetState) → Happens F e s r t → r ≡ Err OutOfMemory → MayWant (step_fault e s)
-wanting F e s (Ok answer) t h memory = absurd (cc)
-wanting F e s (Err fault) t h memory =
+pub wanting : (L : LineService) (e : Event) (s : NetState) (r : Result Answer StepFault) (t : NetState) → Happens L e s r t → r ≡ Err OutOfMemory → MayWant e s
+wanting L e s (Ok answer) t h memory = absurd (cc)
+wanting L e s (Err fault) t h memory =
     elim h.0 [
       | inl is ↦ absurd (not-memory e s (let same : fault ≡ OutOfMemory = cc in is ∙ ap Some same))
       | inr o ↦ o.0
     ]
 
+-- an event that takes no memory finds no want of it
+pub has-memory : (L : LineService) (e : Event) (s : NetState) (r : Result Answer StepFault) (t : NetState) → Happens L e s r t
+    → takes_memory e ≡ false → r ≡ Err OutOfMemory → ⊥
+has-memory L e s r t h none memory = absurd (let takes = (wanting L e s r t h memory).0 in cc)
+
 pub stops : (config : Config) (events : List Event) (i : ℕ) (d e : Event) (t : NetState) → i < length events → e ≡ get_or events i d
-    → HasRun config (take i events) t → MayWant (step_fault e t) → HasStopped config events i
+    → HasRun config (take i events) t → MayWant e t → HasStopped config events i
 stops config events i d e t h is run may =
     record { net = t; event = e; before = run; is_next = slice_get-get_or events i d h ∙ ap Some (sym is); may_want = may }

@@ -1,23 +1,24 @@
 -- The loop by which a node puts its frames.
-use Rattle.std.proofs.Common.{◌≡◌, List, [], ◌∷◌, ◌++◌, drop, refl, sym, ap, ◌∙◌, subst, append_assoc}
+use Rattle.std.proofs.Common.{◌≡◌, ◌<◌, Bool, true, false, arith, length, List, [], ◌∷◌, ◌++◌, drop, refl, sym, ap, ◌∙◌, subst, append_assoc}
+use Rattle.std.specs.Bool.{OnTrue, OnFalse}
 use Rattle.std.proofs.lemmas.List.{append-nil}
 use Rattle.lapb.specs.Machine.{Octets}
 use Rattle.packet_end.specs.PacketEnd.{without_first_frame}
 use Rattle.line_nodes.specs.Node.{NodeState, Pad, Host, end_of, with_end, frames_of, drained}
-use Rattle.line_sim.specs.declared.line.Direction.{Direction}
+use Rattle.memory_line.specs.declared.line.Direction.{Direction}
 use Rattle.line_sim.specs.declared.event.Put.{Put}
-use Rattle.line_sim.specs.Lines.{Flights, IsPut}
+use Rattle.memory_line.specs.Lines.{Flights, IsPut, LineService}
 use Rattle.line_sim.specs.Sends.{IsPutOf, ArePutsOf, ArePut, Sends}
 
 -- frames that are being put: these are, those are left
-pub record Putting (F : Type 0) (d : Direction) (start : List Octets) (before : Flights) (puts : List Put) (left : List Octets) (now : Flights) : Type 0 where
+pub record Putting (L : LineService) (d : Direction) (start : List Octets) (before : Flights) (puts : List Put) (left : List Octets) (now : Flights) : Type 0 where
   pub done : List Octets
   pub split : start ≡ done ++ left
   pub listed : ArePutsOf d 0 done puts
-  pub put : F → ArePut d done before now
+  pub put : L.faithful → ArePut L d done before now
 
-pub putting-begins : (F : Type 0) (d : Direction) (start : List Octets) (before : Flights) (puts : List Put) → puts ≡ [] → Putting F d start before puts start before
-putting-begins F d start before puts e = record {
+pub putting-begins : (L : LineService) (d : Direction) (start : List Octets) (before : Flights) (puts : List Put) → puts ≡ [] → Putting L d start before puts start before
+putting-begins L d start before puts e = record {
   done = [];
   split = refl;
   listed = (let P : List Put → Type 0 = λ ps. ArePutsOf d 0 [] ps in subst P (sym e) tt);
@@ -30,25 +31,35 @@ listed-more d [] (q ∷ puts) x p l i = absurd l
 listed-more d (y ∷ done) [] x p l i = absurd l
 listed-more d (y ∷ done) (q ∷ puts) x p l i = (l.0, listed-more d done puts x p l.1 i)
 
-put-more : (d : Direction) (done : List Octets) (x : Octets) (before mid now : Flights) → ArePut d done before mid → IsPut d x mid now → ArePut d (done ++ x ∷ []) before now
-put-more d [] x before mid now e i = let P : Flights → Type 0 = λ l. IsPut d x l now in (now, subst P e i, refl)
-put-more d (y ∷ done) x before mid now e i = (e.0, e.1, put-more d done x e.0 mid now e.2 i)
+put-more : (L : LineService) (d : Direction) (done : List Octets) (x : Octets) (before mid now : Flights) → ArePut L d done before mid → IsPut L d x mid now → ArePut L d (done ++ x ∷ []) before now
+put-more L d [] x before mid now e i = let P : Flights → Type 0 = λ l. IsPut L d x l now in (now, subst P e i, refl)
+put-more L d (y ∷ done) x before mid now e i = (e.0, e.1, put-more L d done x e.0 mid now e.2 i)
 
-pub putting-more : (F : Type 0) (d : Direction) (start : List Octets) (before : Flights) (puts more : List Put) (left : List Octets) (x : Octets) (rest : List Octets) (mid now : Flights) (p : Put)
-    → Putting F d start before puts left mid → left ≡ x ∷ rest → more ≡ puts ++ p ∷ [] → IsPutOf d 0 x p → (F → IsPut d x mid now) → Putting F d start before more rest now
-putting-more F d start before puts more left x rest mid now p w e m i put = record {
+pub putting-more : (L : LineService) (d : Direction) (start : List Octets) (before : Flights) (puts more : List Put) (left : List Octets) (x : Octets) (rest : List Octets) (mid now : Flights) (p : Put)
+    → Putting L d start before puts left mid → left ≡ x ∷ rest → more ≡ puts ++ p ∷ [] → IsPutOf d 0 x p → (L.faithful → IsPut L d x mid now) → Putting L d start before more rest now
+putting-more L d start before puts more left x rest mid now p w e m i put = record {
   done = w.done ++ x ∷ [];
   split = w.split ∙ ap (λ (l : List Octets). w.done ++ l) e ∙ sym (append_assoc {A = Octets} w.done (x ∷ []) rest);
   listed = (let P : List Put → Type 0 = λ ps. ArePutsOf d 0 (w.done ++ x ∷ []) ps in subst P (sym m) (listed-more d w.done puts x p w.listed i));
-  put = λ f. put-more d w.done x before mid now (w.put f) (put f);
+  put = λ f. put-more L d w.done x before mid now (w.put f) (put f);
 }
 
-pub putting-ends : (F : Type 0) (d : Direction) (start : List Octets) (before : Flights) (puts : List Put) (left : List Octets) (now : Flights) → Putting F d start before puts left now → left ≡ [] → Sends F d start before puts now
-putting-ends F d start before puts left now w e =
+pub putting-ends : (L : LineService) (d : Direction) (start : List Octets) (before : Flights) (puts : List Put) (left : List Octets) (now : Flights) → Putting L d start before puts left now → left ≡ [] → Sends L d start before puts now
+putting-ends L d start before puts left now w e =
     let all : start ≡ w.done = w.split ∙ ap (λ (l : List Octets). w.done ++ l) e ∙ append-nil w.done in
     let P : List Octets → Type 0 = λ l. ArePutsOf d 0 l puts in
-    let Q : List Octets → Type 0 = λ l. F → ArePut d l before now in
+    let Q : List Octets → Type 0 = λ l. L.faithful → ArePut L d l before now in
     record { puts_are = subst P (sym all) w.listed; put = subst Q (sym all) w.put }
+
+-- where frames are left, the one that is given is the first of them
+pub given : (b : Bool) (frames : List Octets) (frame : Octets) (rest : List Octets) → OnTrue b (frames ≡ frame ∷ rest) → OnFalse b (frames ≡ [])
+    → 0 < length frames → frames ≡ frame ∷ rest
+given true frames frame rest first none some = first
+given false frames frame rest first none some = absurd (let no : length frames ≡ 0 = ap length none in omega (arith, no, some))
+
+pub none-left : (frames : List Octets) → length frames ≡ 0 → frames ≡ []
+none-left [] e = refl
+none-left (x ∷ frames) e = absurd (omega (arith, e))
 
 -- a node with these frames left
 abbrev pub with_frames : List Octets → NodeState → NodeState

@@ -1,5 +1,5 @@
 -- When an event is refused (X.25 is silent: these are the network's own, or the node's).
-use Rattle.std.specs.Prelude.{ℕ, ◌==◌, ◌&&◌, ◌||◌, not, Bool, true, false, Option, Some, None, nat_lt, if◌then◌else◌}
+use Rattle.std.specs.Prelude.{ℕ, ◌≡◌, ◌==◌, ◌&&◌, ◌||◌, not, Bool, true, false, Option, Some, None, nat_lt, if◌then◌else◌}
 use Rattle.link_timers.specs.declared.role.Role.{Role}
 use Rattle.link_timers.specs.declared.role.Role.TheVariants.{Dte, Dce}
 use Rattle.packet_layer.specs.Channel.{Refusal}
@@ -94,8 +94,21 @@ step_fault (Expire node line timer) s = where_there_is (is_node node s && (line 
 step_fault (Relink line) s = where_there_is (line == 0)
 step_fault (Restart node) s = where_there_is (is_node node s)
 
--- memory may be wanting where the network itself has no fault: it is looked for before the node is asked
-abbrev pub MayWant : Option StepFault → Type 0
-MayWant None = Unit {0}
-MayWant (Some (Refused fault)) = Unit {0}
-MayWant (Some fault) = ⊥
+-- ---- want of memory
+
+-- whether an event takes memory where the network itself does not refuse it: all do but a key at a terminal without a call, and the
+-- loss of a frame
+abbrev pub takes_memory : Event → Bool
+takes_memory (Key node terminal octet) = terminal == 0
+takes_memory (Lose line direction) = false
+takes_memory _ = true
+
+-- the network itself does not refuse the event, though the node may
+abbrev pub IsLeftToNode : Option StepFault → Type 0
+IsLeftToNode None = Unit {0}
+IsLeftToNode (Some (Refused fault)) = Unit {0}
+IsLeftToNode (Some fault) = ⊥
+
+-- memory may be wanting: it is looked for behind what the network itself refuses, and before the node is asked
+abbrev pub MayWant : Event → NetState → Type 0
+MayWant e s = (takes_memory e ≡ true) × IsLeftToNode (step_fault e s)

@@ -6,6 +6,7 @@ use Rattle.line_record_laws.specs.Kept.{Setting, Kept}
 use Rattle.node_laws.specs.Quiet.{IsQuiet}
 use Rattle.pad_laws.specs.PadHolds.{NodeHolds}
 use Rattle.line_nodes.specs.Node.{end_of, is_pad}
+use Rattle.memory_line.specs.Lines.{LineService}
 use Rattle.line_sim.specs.NetState.{NetState}
 
 -- the line with its two ends
@@ -22,12 +23,12 @@ pub record AreQuiet (s : NetState) : Type 0 where
   pub dte : IsQuiet s.dte
   pub dce : IsQuiet s.dce
 
--- F says that the line is faithful
-pub record IsNet (F : Type 0) (s : NetState) : Type 0 where
+-- L says that the line is faithful
+pub record IsNet (L : LineService) (s : NetState) : Type 0 where
   pub apart : s.dte_place ≢ s.dce_place
   pub dte_node : s.book.dte.node ≡ s.dte_place
   pub dce_node : s.book.dce.node ≡ s.dce_place
   pub host : is_pad s.dce ≡ false
   pub quiet : AreQuiet s
   pub typed : NodeHolds Dte s.dte s.book
-  pub kept : F → IsKept s
+  pub kept : L.faithful → IsKept s

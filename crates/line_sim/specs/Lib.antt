@@ -1,4 +1,4 @@
-pub mod Lines
+pub use Rattle.memory_line.specs.Lines
 pub mod NetState
 pub mod Faults
 pub mod Sends

@@ -5,7 +5,7 @@ use Rattle.link_timers.specs.declared.role.Role.TheVariants.{Dte, Dce}
 use Rattle.call_records.specs.Book.{Book}
 use Rattle.line_nodes.specs.Node.{NodeState, drained, node_rests, node_elapsed}
 use Rattle.line_nodes.specs.Turn.{Turn}
-use Rattle.line_sim.specs.Lines.{Flights}
+use Rattle.memory_line.specs.Lines.{Flights}
 
 -- the places of the two nodes in the configuration, how many terminals the DTE and channels the line has; the nodes, the line,
 -- and the book of the calls

@@ -12,14 +12,14 @@ use Rattle.line_sim.specs.declared.config.PadConfig.{PadConfig}
 use Rattle.line_sim.specs.declared.config.LineConfig.{LineConfig}
 use Rattle.line_sim.specs.declared.config.RouteConfig.{RouteConfig}
 use Rattle.line_sim.specs.declared.config.Setting.{Setting}
-use Rattle.line_sim.specs.Lines.{Flights, no_flights}
+use Rattle.memory_line.specs.Lines.{Flights, no_flights, LineService}
 use Rattle.link_timers.specs.declared.role.Role.TheVariants.{Dte, Dce}
 use Rattle.packet_end.specs.declared.params.EndParams.{EndParams}
 use Rattle.packet_host.specs.Making as host
 use Rattle.packet_pad.specs.Making as pad
 use Rattle.call_records.specs.Book.{made_book}
 use Rattle.line_nodes.specs.Node.{NodeState, Pad, Host, frames_of, drained}
-use Rattle.line_sim.specs.declared.line.Direction.TheVariants.{FromDte, FromDce}
+use Rattle.memory_line.specs.declared.line.Direction.TheVariants.{FromDte, FromDce}
 use Rattle.line_sim.specs.Sends.{ArePut}
 use Rattle.line_sim.specs.NetState.{NetState}
 
@@ -138,25 +138,25 @@ abbrev pub with_nodes : (dte dce : NodeState) → Flights → NetState → NetSt
 with_nodes dte dce line s = record s { dte = dte; dce = dce; line = line }
 
 -- what two nodes have to send is put on an empty line, first that of the DTE
-pub record IsBegun (dte dce : NodeState) (line : Flights) : Type 0 where
+pub record IsBegun (L : LineService) (dte dce : NodeState) (line : Flights) : Type 0 where
   pub between : Flights
-  pub from_dte : ArePut FromDte (frames_of dte) no_flights between
-  pub from_dce : ArePut FromDce (frames_of dce) between line
+  pub from_dte : ArePut L FromDte (frames_of dte) no_flights between
+  pub from_dce : ArePut L FromDce (frames_of dce) between line
 
 -- the nodes of a network have sent that
-pub record Begins (F : Type 0) (s t : NetState) : Type 0 where
+pub record Begins (L : LineService) (s t : NetState) : Type 0 where
   pub line : Flights
   pub state : t ≡ with_nodes (drained s.dte) (drained s.dce) line s
-  pub begun : F → IsBegun s.dte s.dce line
+  pub begun : L.faithful → IsBegun L s.dte s.dce line
 
 -- the network is as it is made by a plan
-pub record IsMadeOf (F : Type 0) (plan : Plan) (net : NetState) : Type 0 where
+pub record IsMadeOf (L : LineService) (plan : Plan) (net : NetState) : Type 0 where
   pub line : Flights
   pub state : net ≡ record (opening plan) { line = line }
-  pub begun : F → IsBegun (new_dte plan) (new_dce plan) line
+  pub begun : L.faithful → IsBegun L (new_dte plan) (new_dce plan) line
 
 -- and by a configuration
-pub record IsMade (F : Type 0) (config : Config) (net : NetState) : Type 0 where
+pub record IsMade (L : LineService) (config : Config) (net : NetState) : Type 0 where
   pub plan : Plan
   pub planned_so : plan_of config ≡ Some plan
-  pub made : IsMadeOf F plan net
+  pub made : IsMadeOf L plan net

@@ -1,8 +1,8 @@
 -- What a node sends at the end of an event: all frames that it has to send, in order, each put on the line.
 use Rattle.std.specs.Prelude.{◌≡◌, ℕ, List, [], ◌∷◌}
-use Rattle.line_sim.specs.declared.line.Direction.{Direction}
+use Rattle.memory_line.specs.declared.line.Direction.{Direction}
 use Rattle.line_sim.specs.declared.event.Put.{Put}
-use Rattle.line_sim.specs.Lines.{Flights, IsPut}
+use Rattle.memory_line.specs.Lines.{Flights, IsPut, LineService}
 
 -- a frame that was put: on this line, in this direction, with these octets
 pub record IsPutOf (d : Direction) (line : ℕ) (octets : List ℕ) (put : Put) : Type 0 where
@@ -16,12 +16,12 @@ ArePutsOf d line [] [] = Unit {0}
 ArePutsOf d line (octets ∷ frames) (put ∷ puts) = IsPutOf d line octets put × ArePutsOf d line frames puts
 ArePutsOf d line _ _ = ⊥
 
--- the frames are put on the line in order, each behind the others or lost
-abbrev pub ArePut : Direction → List (List ℕ) → Flights → Flights → Type 0
-ArePut d [] old new = new ≡ old
-ArePut d (octets ∷ frames) old new = (mid : Flights) × IsPut d octets old mid × ArePut d frames mid new
+-- the frames are put on the line in order, each behind the others, or lost where the line may lose it
+abbrev pub ArePut : LineService → Direction → List (List ℕ) → Flights → Flights → Type 0
+ArePut L d [] old new = new ≡ old
+ArePut L d (octets ∷ frames) old new = (mid : Flights) × IsPut L d octets old mid × ArePut L d frames mid new
 
 -- all these frames are put
-pub record Sends (F : Type 0) (d : Direction) (frames : List (List ℕ)) (before : Flights) (puts : List Put) (after : Flights) : Type 0 where
+pub record Sends (L : LineService) (d : Direction) (frames : List (List ℕ)) (before : Flights) (puts : List Put) (after : Flights) : Type 0 where
   pub puts_are : ArePutsOf d 0 frames puts
-  pub put : F → ArePut d frames before after
+  pub put : L.faithful → ArePut L d frames before after

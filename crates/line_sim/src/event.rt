@@ -1,9 +1,9 @@
 //! The events of a network, and what answers them.
-use crate::line::Direction;
 use arrayvec::ArrayVec;
 use frame_codec::FrameBuf;
 use line_nodes::{HostNote, KeyAnswer, NodeFault};
 use link_timers::TimerId;
+use memory_line::Direction;
 use packet_codec::Address;
 use packet_layer::{CallFault, ChannelFault, Taken};
 use std::alloc::AllocError;

@@ -1,10 +1,11 @@
 //! The network, and what it promises.
-ghost use Rattle.std.specs.Prelude.{◌≡◌, map, IsOkUnless, IfOk, OnErr, MatchOption, vec_len};
+ghost use Rattle.std.specs.Prelude.{◌≡◌, ◌≢◌, false, map, Err, IsOkUnless, IfOk, OnErr, MatchOption, vec_len};
 ghost use Rattle.call_records.specs.RecordView.{shown, pair_of};
 ghost use Rattle.line_sim.specs.declared.event.MakeFault.TheVariants as make_fault_is;
+ghost use Rattle.line_sim.specs.declared.event.StepFault.TheVariants as step_fault_is;
 ghost use Rattle.line_sim.specs.NetState.{NetState, net_rests, net_elapsed};
 ghost use Rattle.line_sim.specs.Plan.{plan_of, IsMade};
-ghost use Rattle.line_sim.specs.Faults.{step_fault};
+ghost use Rattle.line_sim.specs.Faults.{step_fault, takes_memory};
 ghost use Rattle.line_sim.specs.Runs.{Happens, IsRefusedSo};
 ghost use Rattle.line_sim.specs.Due.{net_due, FewerDue};
 ghost use Rattle.line_sim.specs.Questions.{net_confirmed};
@@ -12,10 +13,10 @@ ghost use Rattle.line_sim.specs.Headline.{Headline};
 
 use crate::config::Config;
 use crate::event::{Answer, Event, MakeFault, StepFault};
-use crate::line::Line;
 use crate::nodes::Nodes;
 use crate::plan::plan_of;
 use call_records::{Pair, Record};
+use memory_line::Line;
 use std::alloc::Global;
 use std::marker::Model;
 
@@ -34,7 +35,7 @@ impl<L: Line> Model for Net<L> {
 
     ghost view = { λ n. n.nodes };
 
-    ghost invariant = { λ n. IsNet L.faithful n.nodes };
+    ghost invariant = { λ n. IsNet L.service n.nodes };
 }
 
 impl<L: Line> Net<L> {
@@ -43,7 +44,8 @@ impl<L: Line> Net<L> {
     pub fn new(alloc: Global, config: &Config, lines: Vec<L>) -> Result<Self, MakeFault>
         requires { vec_len lines ≡ vec_len config.now.lines }
         ensures faults { MatchOption (plan_of config.now) (result ≡ Err make_fault_is.BadConfig) (λ plan. IsOkUnless result make_fault_is.OutOfMemory) }
-        ensures ok { IfOk result (IsMade L.faithful config.now) }
+        ensures ok { IfOk result (IsMade L.service config.now) }
+        ensures headline { IfOk result (λ net. L.service.faithful → Headline net) }
     {
         let Some(plan) = plan_of(config) else {
             return Err(MakeFault::BadConfig);
@@ -72,7 +74,7 @@ impl<L: Line> Net<L> {
 
     /// Whether nothing is in flight, unacknowledged, owed, or waits to be sent or taken.
     pub fn at_rest(&self) -> bool
-        ensures { L.faithful → result ≡ net_rests self.now }
+        ensures { L.service.faithful → result ≡ net_rests self.now }
     {
         self.nodes.is_at_rest()
     }
@@ -87,7 +89,8 @@ impl<L: Line> Net<L> {
 
     /// Lets ticks pass, each a twentieth of a second: each timer that runs has so many less, not below 0.
     pub fn elapse(&mut self, ticks: u16)
-        ensures { self.new ≡ net_elapsed ticks self.old }
+        ensures passes { self.new ≡ net_elapsed ticks self.old }
+        ensures headline { L.service.faithful → Headline self.new }
     {
         self.nodes.elapse(ticks);
     }
@@ -99,27 +102,20 @@ impl<L: Line> Net<L> {
         self.nodes.next_due()
     }
 
-    /// On a faithful line each network that comes of `new`, `elapse` and steps keeps the promise.
-    pub(crate) fn keeps(&self)
-        ensures { L.faithful → Headline self.now }
-    {
-        let _ = &self.nodes;
-    }
-
     /// Handles an event. Refusals come in the order of [`StepFault`]: where no node or line has the number or the node is of
     /// another kind, then where the PAD has no such terminal, then where the channel is 0 or beyond those of the line. Want of
-    /// memory comes after these and before the node is called, which may refuse what it is asked. A refused event changes nothing.
+    /// memory comes after these and before the node is called, which may refuse what it is asked; the loss of a frame takes no memory,
+    /// nor does a key at a terminal that has no call. A refused event changes nothing.
     pub fn step(&mut self, event: &Event) -> Result<Answer, StepFault>
         ensures faults { IsRefusedSo (step_fault event.now self.old) result }
-        ensures happens { Happens L.faithful event.now self.old result self.new }
+        ensures happens { Happens L.service event.now self.old result self.new }
         ensures err { OnErr result (self.new ≡ self.old) }
+        ensures memory { takes_memory event.now ≡ false → result ≢ Err step_fault_is.OutOfMemory }
 
         // What is due comes to an end, on any line.
         ensures fewer_due { FewerDue event.now self.old result self.new }
-        ensures headline { L.faithful → Headline self.new }
+        ensures headline { L.service.faithful → Headline self.new }
     {
-        let result = self.nodes.happen(event);
-        self.keeps();
-        result
+        self.nodes.happen(event)
     }
 }

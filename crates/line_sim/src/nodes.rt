@@ -7,10 +7,10 @@ mod questions;
 mod serving;
 
 use crate::event::{Answer, Event, StepFault};
-use crate::line::Line;
 use call_records::Book;
 use line_nodes::{Node, Place};
 use link_timers::Role;
+use memory_line::Line;
 use std::alloc::Global;
 use std::marker::Model;
 
@@ -105,7 +105,7 @@ impl<L: Line> Nodes<L> {
     /// Handles an event.
     pub(crate) fn happen(&mut self, event: &Event) -> Result<Answer, StepFault>
         requires { AreQuiet self.old }
-        ensures { Happens L.faithful event.now self.old result self.new }
+        ensures { Happens L.service event.now self.old result self.new }
     {
         match event {
             Event::Key {

@@ -5,9 +5,9 @@ ghost use Rattle.line_nodes.specs.NodeView.{node_of};
 ghost use Rattle.line_sim.specs.Sends.{Sends};
 
 use crate::event::Put;
-use crate::line::{Direction, Line};
 use frame_codec::FrameBuf;
 use line_nodes::Node;
+use memory_line::{Direction, Line};
 
 /// A node sends no more frames than this at the end of an event.
 pub(crate) const MOST_FRAMES: usize = 9;
@@ -30,17 +30,16 @@ pub(crate) fn put_frames<L: Line>(
     requires empty { puts.old.items ≡ [] }
     requires room { MOST_FRAMES ≤ vec_capacity puts.old }
     ensures node { node_of node.new ≡ drained (node_of node.old) }
-    ensures puts { Sends L.faithful direction (frames_of (node_of node.old)) (L.flights line.old) puts.new.items (L.flights line.new) }
+    ensures puts { Sends L.service direction (frames_of (node_of node.old)) (L.flights line.old) puts.new.items (L.flights line.new) }
 {
-    let _waiting = node.waiting_frames();
-    let mut frame = FrameBuf::new();
-    'frames: while node.out(&mut frame) {
+    for _ in 0..node.waiting_frames() {
+        let mut frame = FrameBuf::new();
+        node.out(&mut frame);
         line.put(direction, copy_of(&frame));
         puts.push_reserved(Put {
             line: 0,
             direction,
             octets: frame,
         });
-        frame = FrameBuf::new();
     }
 }

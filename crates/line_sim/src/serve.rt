@@ -16,12 +16,12 @@ ghost use Rattle.line_sim.specs.CallView.{call_of};
 ghost use Rattle.line_sim.specs.Served.{Served};
 
 use crate::event::Request;
-use crate::line::{Direction, Line};
 use crate::room::{MOST_NOTES, Room};
 use crate::send::{MOST_FRAMES, put_frames};
 use call_records::Book;
 use line_nodes::{HostNote, KeyAnswer, Node, Place, host, pad};
 use link_timers::{Role, TimerId};
+use memory_line::{Direction, Line};
 use packet_codec::Address;
 use packet_host::Host;
 use packet_layer::{CallFault, ChannelFault, Taken};
@@ -90,7 +90,7 @@ pub(crate) fn serve<L: Line>(
     requires notes { room.old.notes.items ≡ [] }
     requires frame_room { MOST_FRAMES ≤ vec_capacity room.old.frames }
     requires note_room { MOST_NOTES ≤ vec_capacity room.old.notes }
-    ensures { Served L.faithful at.role at.node (node_of node.old) (line_turn (call_of call.entry) at.role (node_of node.old) book.old.book) (L.flights line.old) room.new.frames.items room.new.notes.items (node_of node.new) (L.flights line.new) book.new.book }
+    ensures { Served L.service at.role at.node (node_of node.old) (line_turn (call_of call.entry) at.role (node_of node.old) book.old.book) (L.flights line.old) room.new.frames.items room.new.notes.items (node_of node.new) (L.flights line.new) book.new.book }
 {
     call_node(node, at, call, book, &mut room.notes);
     put_frames(node, line, direction_of(at.role), &mut room.frames);
@@ -162,7 +162,7 @@ pub(crate) fn serve_ask<L: Line>(
     ensures answer { MatchResult result
         (λ _. ask_refusal (end_of (node_of node.old)) channel request.now ≡ None)
         (λ fault. ask_refusal (end_of (node_of node.old)) channel request.now ≡ Some (refusal_of fault)) }
-    ensures ok { OnOk result (Served L.faithful at.role at.node (node_of node.old) (asked_turn at.role (end_of (node_of node.old)) channel request.now book.old.book) (L.flights line.old) room.new.frames.items room.new.notes.items (node_of node.new) (L.flights line.new) book.new.book) }
+    ensures ok { OnOk result (Served L.service at.role at.node (node_of node.old) (asked_turn at.role (end_of (node_of node.old)) channel request.now book.old.book) (L.flights line.old) room.new.frames.items room.new.notes.items (node_of node.new) (L.flights line.new) book.new.book) }
     ensures node { OnErr result (node_of node.new ≡ node_of node.old) }
     ensures line { OnErr result (line.new ≡ line.old) }
     ensures book { OnErr result (book.new.book ≡ book.old.book) }
@@ -196,7 +196,7 @@ pub(crate) fn serve_call<L: Line>(
     ensures answer { MatchResult result
         (λ channel. channel_given (end_of (node_of node.old)).layer (end_of (node_of node.old)).layer.phase ≡ Some channel)
         (λ fault. call_refusal (end_of (node_of node.old)).layer (end_of (node_of node.old)).layer.phase ≡ Some (call_refusal_of fault)) }
-    ensures ok { OnOk result (Served L.faithful at.role at.node (node_of node.old) (host_calls at.role (end_of (node_of node.old)) (call_parts address user_data.now) book.old.book) (L.flights line.old) room.new.frames.items room.new.notes.items (node_of node.new) (L.flights line.new) book.new.book) }
+    ensures ok { OnOk result (Served L.service at.role at.node (node_of node.old) (host_calls at.role (end_of (node_of node.old)) (call_parts address user_data.now) book.old.book) (L.flights line.old) room.new.frames.items room.new.notes.items (node_of node.new) (L.flights line.new) book.new.book) }
     ensures node { OnErr result (node_of node.new ≡ node_of node.old) }
     ensures line { OnErr result (line.new ≡ line.old) }
     ensures book { OnErr result (book.new.book ≡ book.old.book) }
@@ -226,7 +226,7 @@ pub(crate) fn serve_take<L: Line>(
     requires frame_room { MOST_FRAMES ≤ vec_capacity room.old.frames }
     requires note_room { MOST_NOTES ≤ vec_capacity room.old.notes }
     ensures taken { maybe_taken result ≡ front_on (end_of (node_of node.old)).layer channel }
-    ensures served { Served L.faithful at.role at.node (node_of node.old) (host_takes at.role (end_of (node_of node.old)) channel book.old.book) (L.flights line.old) room.new.frames.items room.new.notes.items (node_of node.new) (L.flights line.new) book.new.book }
+    ensures served { Served L.service at.role at.node (node_of node.old) (host_takes at.role (end_of (node_of node.old)) channel book.old.book) (L.flights line.old) room.new.frames.items room.new.notes.items (node_of node.new) (L.flights line.new) book.new.book }
 {
     let taken = match node {
         Node::Pad(_) => unreachable!(),
@@ -252,7 +252,7 @@ pub(crate) fn serve_key<L: Line>(
     requires notes { room.old.notes.items ≡ [] }
     requires frame_room { MOST_FRAMES ≤ vec_capacity room.old.frames }
     ensures answer { IsKeyAnswer octet (node_of node.old) result }
-    ensures served { Served L.faithful at.role at.node (node_of node.old) (keys_turn at.role (node_of node.old) octet book.old.book) (L.flights line.old) room.new.frames.items room.new.notes.items (node_of node.new) (L.flights line.new) book.new.book }
+    ensures served { Served L.service at.role at.node (node_of node.old) (keys_turn at.role (node_of node.old) octet book.old.book) (L.flights line.old) room.new.frames.items room.new.notes.items (node_of node.new) (L.flights line.new) book.new.book }
 {
     let answer = match node {
         Node::Pad(pad) => pad::key(pad, at.role, octet, book),

@@ -1,6 +1,7 @@
 -- Deliveries in a flow, and passes over the lines.
 use Rattle.std.proofs.Common.{Bool, ◌≡◌, ℕ, zero, suc, ◌+◌, ◌-◌, ◌<◌, List, [], ◌∷◌, ◌++◌, true, false, Option, refl, sym, ap, subst, append_assoc, arith}
-use Rattle.line_sim.specs.declared.line.Direction.TheVariants.{FromDte, FromDce}
+use Rattle.memory_line.specs.declared.line.Direction.TheVariants.{FromDte, FromDce}
+use Rattle.memory_line.specs.Lines.{LineService}
 use Rattle.line_sim.specs.declared.event.Event.{Event}
 use Rattle.line_sim.specs.declared.event.Event.TheVariants.{Deliver}
 use Rattle.line_sim.specs.NetState.{NetState}
@@ -12,27 +13,27 @@ use Rattle.net_player.specs.Playing.Flows.{again}
 use Rattle.net_player.proofs.Turns.{in_turn_append, in_turn_one, writes_append}
 
 -- no more may be delivered
-pub delivers_at_limit : {F : Type 0} {names : Names} {traces : Bool} {e : Event} {s : NetState} (left : ℕ) → left ≡ 0
-    → Delivers F names traces e (record { left = left; net = s }) [] (record { left = 0; net = s })
-delivers_at_limit {F} {names} {traces} {e} {s} left none =
-    let P : ℕ → Type 0 = λ n. Delivers F names traces e (record { left = n; net = s }) [] (record { left = 0; net = s }) in
+pub delivers_at_limit : {L : LineService} {names : Names} {traces : Bool} {e : Event} {s : NetState} (left : ℕ) → left ≡ 0
+    → Delivers L names traces e (record { left = left; net = s }) [] (record { left = 0; net = s })
+delivers_at_limit {L} {names} {traces} {e} {s} left none =
+    let P : ℕ → Type 0 = λ n. Delivers L names traces e (record { left = n; net = s }) [] (record { left = 0; net = s }) in
     subst P (sym none) at_limit
 
 -- a frame was delivered
-pub delivers_one : {F : Type 0} {names : Names} {traces : Bool} {e : Event} {s t : NetState} {text : List ℕ} (left : ℕ) → 0 < left
-    → Tells F names traces true e s text t
-    → Delivers F names traces e (record { left = left; net = s }) text (record { left = left - 1; net = t })
+pub delivers_one : {L : LineService} {names : Names} {traces : Bool} {e : Event} {s t : NetState} {text : List ℕ} (left : ℕ) → 0 < left
+    → Tells L names traces true e s text t
+    → Delivers L names traces e (record { left = left; net = s }) text (record { left = left - 1; net = t })
 delivers_one zero some tells = absurd (omega arith)
-delivers_one {F} {names} {traces} {e} {s} {t} {text} (suc n) some tells =
+delivers_one {L} {names} {traces} {e} {s} {t} {text} (suc n) some tells =
     let P : ℕ → Type 0 =
-    λ m. Delivers F names traces e (record { left = suc n; net = s }) text (record { left = m; net = t }) in
+    λ m. Delivers L names traces e (record { left = suc n; net = s }) text (record { left = m; net = t }) in
     let one : n ≡ suc n - 1 = omega arith in
     subst P one (arrives tells)
 
 -- there was none
-pub delivers_none : {F : Type 0} {names : Names} {traces : Bool} {e : Event} {s t : NetState} {text : List ℕ} (left : ℕ) → 0 < left
-    → Tells F names traces false e s text t
-    → Delivers F names traces e (record { left = left; net = s }) text (record { left = left; net = t })
+pub delivers_none : {L : LineService} {names : Names} {traces : Bool} {e : Event} {s t : NetState} {text : List ℕ} (left : ℕ) → 0 < left
+    → Tells L names traces false e s text t
+    → Delivers L names traces e (record { left = left; net = s }) text (record { left = left; net = t })
 delivers_none zero some tells = absurd (omega arith)
 delivers_none (suc n) some tells = finds_none tells
 
@@ -52,13 +53,13 @@ deliveries_more line (suc lines) =
     rw along (ap (λ es. Deliver line FromDte ∷ Deliver line FromDce ∷ es) (deliveries_more (line + 1) lines))
 
 -- one line more is passed
-pub pass_more : {F : Type 0} {names : Names} {traces : Bool} {s m n t : Flowing} (line : ℕ) (a b c d : Option (List ℕ))
-    → Writes a b (λ text. Passes F names traces line s text m)
-    → Writes b c (λ text. Delivers F names traces (Deliver line FromDte) m text n)
-    → Writes c d (λ text. Delivers F names traces (Deliver line FromDce) n text t)
-    → Writes a d (λ text. Passes F names traces (line + 1) s text t)
-pass_more {F} {names} {traces} {s} {m} {n} {t} line a b c d passed from_dte from_dce =
-    let both : Writes b d (λ text. InTurn Event Flowing (Delivers F names traces) (deliveries_on line) m text t) =
+pub pass_more : {L : LineService} {names : Names} {traces : Bool} {s m n t : Flowing} (line : ℕ) (a b c d : Option (List ℕ))
+    → Writes a b (λ text. Passes L names traces line s text m)
+    → Writes b c (λ text. Delivers L names traces (Deliver line FromDte) m text n)
+    → Writes c d (λ text. Delivers L names traces (Deliver line FromDce) n text t)
+    → Writes a d (λ text. Passes L names traces (line + 1) s text t)
+pass_more {L} {names} {traces} {s} {m} {n} {t} line a b c d passed from_dte from_dce =
+    let both : Writes b d (λ text. InTurn Event Flowing (Delivers L names traces) (deliveries_on line) m text t) =
     writes_append b c d (λ x y p q. in_turn_append (in_turn_one p) _ _ _ (in_turn_one q)) from_dte from_dce in
     writes_append a b d (λ x y p q. joined x y (in_turn_append p _ _ _ q)) passed both
   where
@@ -71,17 +72,17 @@ pass_more {F} {names} {traces} {s} {m} {n} {t} line a b c d passed from_dte from
         rw (after, deliveries_more 0 line, zero_line line) refl
 
     joined : (x y : List ℕ)
-        → InTurn Event Flowing (Delivers F names traces) (deliveries_from 0 line ++ deliveries_on line) s (x ++ y) t
-        → Passes F names traces (line + 1) s (x ++ y) t
+        → InTurn Event Flowing (Delivers L names traces) (deliveries_from 0 line ++ deliveries_on line) s (x ++ y) t
+        → Passes L names traces (line + 1) s (x ++ y) t
     joined x y h =
-        let P : List Event → Type 0 = λ es. InTurn Event Flowing (Delivers F names traces) es s (x ++ y) t in
+        let P : List Event → Type 0 = λ es. InTurn Event Flowing (Delivers L names traces) es s (x ++ y) t in
         subst P (sym more) h
 
 -- what a pass writes, and what the passes after it will write, is what the flow from before it writes
-pub flow_onward : {F : Type 0} {names : Names} {traces : Bool} {lines : ℕ} {start s m : Flowing} (told first : List ℕ)
-    → ((rest : List ℕ) (t : NetState) → Flows F names traces lines s rest t → Flows F names traces lines start (told ++ rest) t)
-    → Passes F names traces lines s first m → m.left < s.left
-    → (rest : List ℕ) (t : NetState) → Flows F names traces lines m rest t
-    → Flows F names traces lines start ((told ++ first) ++ rest) t
+pub flow_onward : {L : LineService} {names : Names} {traces : Bool} {lines : ℕ} {start s m : Flowing} (told first : List ℕ)
+    → ((rest : List ℕ) (t : NetState) → Flows L names traces lines s rest t → Flows L names traces lines start (told ++ rest) t)
+    → Passes L names traces lines s first m → m.left < s.left
+    → (rest : List ℕ) (t : NetState) → Flows L names traces lines m rest t
+    → Flows L names traces lines start ((told ++ first) ++ rest) t
 flow_onward told first onward passed fewer rest t flows =
     rw (append_assoc told first rest) (onward (first ++ rest) t (again passed fewer flows))

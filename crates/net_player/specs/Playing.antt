@@ -1,7 +1,8 @@
 -- What a script makes of a network, and what is printed.
 use Rattle.std.specs.declared.alloc.Global.{Global}
 use Rattle.std.specs.Prelude.{Vec, ◌≡◌, ◌≢◌, ◌⊎◌, ℕ, zero, suc, ◌+◌, ◌<◌, Bool, true, false, List, [], ◌∷◌, ◌++◌, Option, Some, None, Result, Ok, Err, codes}
-use Rattle.line_sim.specs.declared.line.Direction.TheVariants.{FromDte, FromDce}
+use Rattle.memory_line.specs.declared.line.Direction.TheVariants.{FromDte, FromDce}
+use Rattle.memory_line.specs.Lines.{LineService, memory_service}
 use Rattle.line_sim.specs.declared.event.Event.{Event}
 use Rattle.line_sim.specs.declared.event.Event.TheVariants.{Deliver}
 use Rattle.line_sim.specs.declared.event.Outcome.{Outcome}
@@ -32,18 +33,18 @@ brought_frame (Ok answer) = has_arrived answer.outcome
 brought_frame (Err refusal) = false
 
 -- the event happens, not refused for want of memory, this is the text of its answer, and it brought a frame or not
-pub record Tells (F : Type 0) (names : Names) (traces : Bool) (arrived : Bool) (e : Event)
+pub record Tells (L : LineService) (names : Names) (traces : Bool) (arrived : Bool) (e : Event)
     (s : NetState) (text : List ℕ) (t : NetState) : Type 0 where
   pub answer : Result Answer StepFault
-  pub happens : Happens F e s answer t
+  pub happens : Happens L e s answer t
   pub had_memory : answer ≢ Err OutOfMemory
   pub told : text ≡ answer_text names traces e answer
   pub came : arrived ≡ brought_frame answer
 
 -- the same, whether it brought a frame or not
-pub record TellsEvent (F : Type 0) (names : Names) (traces : Bool) (e : Event) (s : NetState) (text : List ℕ) (t : NetState) : Type 0 where
+pub record TellsEvent (L : LineService) (names : Names) (traces : Bool) (e : Event) (s : NetState) (text : List ℕ) (t : NetState) : Type 0 where
   pub arrived : Bool
-  pub tells : Tells F names traces arrived e s text t
+  pub tells : Tells L names traces arrived e s text t
 
 -- a network in a flow, and how many frames may still be delivered
 pub record Flowing : Type 0 where
@@ -51,15 +52,15 @@ pub record Flowing : Type 0 where
   pub net : NetState
 
 -- a delivery in a flow: none where no more may be delivered, and one that brings a frame counts
-pub data Delivers (F : Type 0) (names : Names) (traces : Bool) : Event → Flowing → List ℕ → Flowing → Type 0 where
+pub data Delivers (L : LineService) (names : Names) (traces : Bool) : Event → Flowing → List ℕ → Flowing → Type 0 where
   at_limit : {e : Event} {s : NetState}
-      → Delivers F names traces e (record { left = 0; net = s }) [] (record { left = 0; net = s })
+      → Delivers L names traces e (record { left = 0; net = s }) [] (record { left = 0; net = s })
   arrives : {e : Event} {left : ℕ} {s t : NetState} {text : List ℕ}
-      → Tells F names traces true e s text t
-      → Delivers F names traces e (record { left = suc left; net = s }) text (record { left = left; net = t })
+      → Tells L names traces true e s text t
+      → Delivers L names traces e (record { left = suc left; net = s }) text (record { left = left; net = t })
   finds_none : {e : Event} {left : ℕ} {s t : NetState} {text : List ℕ}
-      → Tells F names traces false e s text t
-      → Delivers F names traces e (record { left = suc left; net = s }) text (record { left = suc left; net = t })
+      → Tells L names traces false e s text t
+      → Delivers L names traces e (record { left = suc left; net = s }) text (record { left = suc left; net = t })
 
 -- deliveries on a number of lines, from this one on: on each line one from the DTE and one from the DCE
 abbrev pub deliveries_from : ℕ → ℕ → List Event
@@ -67,27 +68,27 @@ deliveries_from line zero = []
 deliveries_from line (suc lines) = Deliver line FromDte ∷ Deliver line FromDce ∷ deliveries_from (line + 1) lines
 
 -- a pass over the lines in order
-abbrev pub Passes : (F : Type 0) → Names → (traces : Bool) → (lines : ℕ) → Flowing → List ℕ → Flowing → Type 0
-Passes F names traces lines s text t = InTurn Event Flowing (Delivers F names traces) (deliveries_from 0 lines) s text t
+abbrev pub Passes : (L : LineService) → Names → (traces : Bool) → (lines : ℕ) → Flowing → List ℕ → Flowing → Type 0
+Passes L names traces lines s text t = InTurn Event Flowing (Delivers L names traces) (deliveries_from 0 lines) s text t
 
 -- passes, until one brings no frame
-pub data Flows (F : Type 0) (names : Names) (traces : Bool) (lines : ℕ) : Flowing → List ℕ → NetState → Type 0 where
+pub data Flows (L : LineService) (names : Names) (traces : Bool) (lines : ℕ) : Flowing → List ℕ → NetState → Type 0 where
   last : {s t : Flowing} {text : List ℕ}
-      → Passes F names traces lines s text t → t.left ≡ s.left → Flows F names traces lines s text t.net
+      → Passes L names traces lines s text t → t.left ≡ s.left → Flows L names traces lines s text t.net
   again : {s mid : Flowing} {first rest : List ℕ} {t : NetState}
-      → Passes F names traces lines s first mid → mid.left < s.left → Flows F names traces lines mid rest t
-      → Flows F names traces lines s (first ++ rest) t
+      → Passes L names traces lines s first mid → mid.left < s.left → Flows L names traces lines mid rest t
+      → Flows L names traces lines s (first ++ rest) t
 
 -- what is due expires, one timer after the other, until none is due
-pub data Expires (F : Type 0) (names : Names) (traces : Bool) : NetState → List ℕ → NetState → Type 0 where
-  none : {s : NetState} → net_due s ≡ None → Expires F names traces s [] s
+pub data Expires (L : LineService) (names : Names) (traces : Bool) : NetState → List ℕ → NetState → Type 0 where
+  none : {s : NetState} → net_due s ≡ None → Expires L names traces s [] s
   next : {expiry : Event} {s mid t : NetState} {first rest : List ℕ}
-      → net_due s ≡ Some expiry → TellsEvent F names traces expiry s first mid → Expires F names traces mid rest t
-      → Expires F names traces s (first ++ rest) t
+      → net_due s ≡ Some expiry → TellsEvent L names traces expiry s first mid → Expires L names traces mid rest t
+      → Expires L names traces s (first ++ rest) t
 
 -- so many ticks go by, and then what is due expires
-abbrev pub Ticks : (F : Type 0) → Names → (traces : Bool) → (ticks : ℕ) → NetState → List ℕ → NetState → Type 0
-Ticks F names traces ticks s text t = Expires F names traces (net_elapsed ticks s) text t
+abbrev pub Ticks : (L : LineService) → Names → (traces : Bool) → (ticks : ℕ) → NetState → List ℕ → NetState → Type 0
+Ticks L names traces ticks s text t = Expires L names traces (net_elapsed ticks s) text t
 
 -- a network on which a script is played, and whether frames are traced
 pub record Played : Type 0 where
@@ -96,18 +97,18 @@ pub record Played : Type 0 where
 
 -- what a command does: its events happen in order, at most 100,000 frames flow, time goes by, or frames are traced from here on,
 -- or not
-pub data DoesCommand (F : Type 0) (names : Names) (lines : ℕ) : Command → Played → List ℕ → Played → Type 0 where
+pub data DoesCommand (L : LineService) (names : Names) (lines : ℕ) : Command → Played → List ℕ → Played → Type 0 where
   events : {events : Vec Event Global} {traces : Bool} {s t : NetState} {text : List ℕ}
-      → InTurn Event NetState (TellsEvent F names traces) events.items s text t
-      → DoesCommand F names lines (Events events) (record { net = s; traces = traces }) text (record { net = t; traces = traces })
+      → InTurn Event NetState (TellsEvent L names traces) events.items s text t
+      → DoesCommand L names lines (Events events) (record { net = s; traces = traces }) text (record { net = t; traces = traces })
   flow : {traces : Bool} {s t : NetState} {text : List ℕ}
-      → Flows F names traces lines (record { left = 100000; net = s }) text t
-      → DoesCommand F names lines Flow (record { net = s; traces = traces }) text (record { net = t; traces = traces })
+      → Flows L names traces lines (record { left = 100000; net = s }) text t
+      → DoesCommand L names lines Flow (record { net = s; traces = traces }) text (record { net = t; traces = traces })
   tick : {ticks : ℕ} {traces : Bool} {s t : NetState} {text : List ℕ}
-      → Ticks F names traces ticks s text t
-      → DoesCommand F names lines (Tick ticks) (record { net = s; traces = traces }) text (record { net = t; traces = traces })
+      → Ticks L names traces ticks s text t
+      → DoesCommand L names lines (Tick ticks) (record { net = s; traces = traces }) text (record { net = t; traces = traces })
   trace : {before after : Bool} {s : NetState}
-      → DoesCommand F names lines (Trace after) (record { net = s; traces = before }) [] (record { net = s; traces = after })
+      → DoesCommand L names lines (Trace after) (record { net = s; traces = before }) [] (record { net = s; traces = after })
 
 -- a script stops for want of memory, or where its text cannot be written
 abbrev pub IsPlayFault : ProgFault → Type 0
@@ -119,20 +120,20 @@ end_line true = codes "end rest" ++ 10 ∷ []
 end_line false = codes "end busy" ++ 10 ∷ []
 
 -- the commands are done in order, and then comes the last line
-pub record Plays (F : Type 0) (script : Script) (s : NetState) (text : List ℕ) (t : NetState) : Type 0 where
+pub record Plays (L : LineService) (script : Script) (s : NetState) (text : List ℕ) (t : NetState) : Type 0 where
   pub told : List ℕ
   pub at_rest : Bool
   pub traces : Bool
   pub commands :
-      InTurn Command Played (DoesCommand F script.names.items script.lines) script.commands.items (record { net = s; traces = false }) told (record { net = t; traces = traces })
-  pub rest : F → at_rest ≡ net_rests t
+      InTurn Command Played (DoesCommand L script.names.items script.lines) script.commands.items (record { net = s; traces = false }) told (record { net = t; traces = traces })
+  pub rest : L.faithful → at_rest ≡ net_rests t
   pub whole : text ≡ told ++ end_line at_rest
 
 -- a network was made, on faithful lines, a script played on it, and its text written behind what was known to be written
 pub record PlaysSome (before after : Option (List ℕ)) : Type 0 where
   pub config : Config
   pub start : NetState
-  pub made : IsMade (Unit {0}) config start
+  pub made : IsMade memory_service config start
   pub script : Script
   pub ended : NetState
-  pub writes : Writes before after (λ text. Plays (Unit {0}) script start text ended)
+  pub writes : Writes before after (λ text. Plays memory_service script start text ended)

@@ -1,10 +1,9 @@
 //! The program.
-ghost use Rattle.std.specs.Prelude.{◌≡◌, ◌≢◌, ◌≤◌, ◌↔◌, [], OnOk, IfOk};
-ghost use Rattle.line_sim.specs.Plan.{IsMade};
+ghost use Rattle.std.specs.Prelude.{◌≡◌, ◌≢◌, ◌≤◌, ◌↔◌, [], OnOk};
 ghost use Rattle.net_player.specs.Playing.{PlaysSome};
 
 use crate::player::play;
-use line_sim::{Config, MemLine, Net, mem_lines};
+use line_sim::{Config, Net};
 use net_files::{FIRST, ProgFault, Script, read_net, read_script};
 use std::alloc::Global;
 use std::io;
@@ -65,17 +64,9 @@ fn play_on<W: Write>(
 ) -> Result<(), ProgFault>
     ensures { OnOk result (PlaysSome (W.contents out.old) (W.contents out.new)) }
 {
-    let mut net = made(alloc, config)?;
+    let mut net = Net::on_memory_lines(alloc, config)?;
     play(alloc, &mut net, script, out)?;
     Ok(())
-}
-
-/// The network of a configuration, over memory lines.
-fn made(alloc: Global, config: &Config) -> Result<Net<MemLine>, ProgFault>
-    ensures { IfOk result (IsMade (Unit {0}) config.now) }
-{
-    let lines = mem_lines(alloc, config.lines.len())?;
-    Ok(Net::new(alloc, config, lines)?)
 }
 
 /// Reads the script that the input has.

@@ -5,13 +5,13 @@ ghost use Rattle.line_sim.specs.IsNet.{AreQuiet};
 ghost use Rattle.line_sim.specs.Runs.{Happens};
 
 use crate::event::{Answer, Outcome, Request, StepFault};
-use crate::line::Line;
 use crate::nodes::Nodes;
 use crate::room::{Room, bare_answer};
 use crate::serve::{serve_ask, serve_call, serve_key, serve_take};
 use arrayvec::ArrayVec;
 use line_nodes::{KeyAnswer, Place};
 use link_timers::Role;
+use memory_line::Line;
 use packet_codec::Address;
 
 /// A key is written by its step of editing and by the packet that it makes.
@@ -24,7 +24,7 @@ impl<L: Line> Nodes<L> {
     /// A key at a terminal of the PAD. The call is that of terminal 0.
     pub(super) fn key(&mut self, node: usize, terminal: u16, octet: u8) -> Result<Answer, StepFault>
         requires { AreQuiet self.old }
-        ensures { Happens L.faithful (event_is.Key node terminal octet) self.old result self.new }
+        ensures { Happens L.service (event_is.Key node terminal octet) self.old result self.new }
     {
         if node != self.dte_place || !self.dte.is_pad() {
             return Err(StepFault::NoSuchNode);
@@ -60,7 +60,7 @@ impl<L: Line> Nodes<L> {
         user_data: &ArrayVec<u8, 16>,
     ) -> Result<Answer, StepFault>
         requires { AreQuiet self.old }
-        ensures { Happens L.faithful (event_is.Call node address user_data.now) self.old result self.new }
+        ensures { Happens L.service (event_is.Call node address user_data.now) self.old result self.new }
     {
         if !self.is_host_at(node) {
             return Err(StepFault::NoSuchNode);
@@ -87,7 +87,7 @@ impl<L: Line> Nodes<L> {
         request: &Request,
     ) -> Result<Answer, StepFault>
         requires { AreQuiet self.old }
-        ensures { Happens L.faithful (event_is.Ask node channel request.now) self.old result self.new }
+        ensures { Happens L.service (event_is.Ask node channel request.now) self.old result self.new }
     {
         if !self.is_host_at(node) {
             return Err(StepFault::NoSuchNode);
@@ -109,7 +109,7 @@ impl<L: Line> Nodes<L> {
     /// A host takes what waits on a channel.
     pub(super) fn take(&mut self, node: usize, channel: u16) -> Result<Answer, StepFault>
         requires { AreQuiet self.old }
-        ensures { Happens L.faithful (event_is.Take node channel) self.old result self.new }
+        ensures { Happens L.service (event_is.Take node channel) self.old result self.new }
     {
         if !self.is_host_at(node) {
             return Err(StepFault::NoSuchNode);

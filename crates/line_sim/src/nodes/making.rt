@@ -9,7 +9,6 @@ ghost use Rattle.line_sim.specs.Plan.{dte_of, new_dte, new_dce, terminals_of, op
 ghost use Rattle.line_sim.specs.PlanView.{dte_value, plan_value, IsLimited};
 
 use crate::event::MakeFault;
-use crate::line::{Direction, Line};
 use crate::nodes::Nodes;
 use crate::plan::{DtePlan, Plan};
 use crate::room::Room;
@@ -17,6 +16,7 @@ use crate::send::put_frames;
 use call_records::Book;
 use line_nodes::Node;
 use link_timers::Role;
+use memory_line::{Direction, Line};
 use packet_end::EndParams;
 use packet_host::{Host, HostConfig, HostFault};
 use packet_pad::{Pad, PadConfig, PadFault};
@@ -64,7 +64,7 @@ impl<L: Line> Nodes<L> {
     /// Makes the nodes on a line, which is emptied first; where no call stands both ends send a frame to begin with.
     pub(crate) fn new(alloc: Global, plan: &Plan, line: L) -> Result<Self, MakeFault>
         requires { IsLimited plan.now }
-        ensures ok { IfOk result (IsMadeOf L.faithful (plan_value plan.now)) }
+        ensures ok { IfOk result (IsMadeOf L.service (plan_value plan.now)) }
         ensures err { IfErr result (λ fault. fault ≡ make_fault_is.OutOfMemory) }
     {
         let mut nodes = Nodes::made(alloc, plan, line)?;
@@ -101,7 +101,7 @@ impl<L: Line> Nodes<L> {
 
     /// Empties the line, and puts what the nodes have to send, that of the DTE first.
     fn begin(&mut self) -> Result<(), AllocError>
-        ensures { OnOk result (Begins L.faithful self.old self.new) }
+        ensures { OnOk result (Begins L.service self.old self.new) }
     {
         let mut first = Room::new(self.alloc)?;
         let mut second = Room::new(self.alloc)?;

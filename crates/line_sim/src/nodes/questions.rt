@@ -6,10 +6,10 @@ ghost use Rattle.line_sim.specs.Due.{expiry, net_due};
 ghost use Rattle.line_sim.specs.Questions.{net_confirmed};
 
 use crate::event::Event;
-use crate::line::{Direction, Line};
 use crate::nodes::Nodes;
 use call_records::{Pair, Record};
 use link_timers::{Role, TimerId};
+use memory_line::{Direction, Line};
 
 /// The expiry of a timer of the node at this place, on the one line.
 fn expiry(node: usize, timer: Option<TimerId>) -> Option<Event>
@@ -38,7 +38,7 @@ impl<L: Line> Nodes<L> {
 
     /// Whether nothing is in flight, unacknowledged, owed, or waits to be sent or taken.
     pub(crate) fn is_at_rest(&self) -> bool
-        ensures { L.faithful → result ≡ net_rests self.now }
+        ensures { L.service.faithful → result ≡ net_rests self.now }
     {
         !self.line.in_flight(Direction::FromDte)
             && !self.line.in_flight(Direction::FromDce)

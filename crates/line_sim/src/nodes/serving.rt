@@ -5,18 +5,18 @@ ghost use Rattle.line_sim.specs.IsNet.{AreQuiet};
 ghost use Rattle.line_sim.specs.Runs.{Happens};
 
 use crate::event::{Answer, Outcome, StepFault};
-use crate::line::{Direction, Line};
 use crate::nodes::Nodes;
 use crate::room::{Room, bare_answer};
 use crate::serve::{LineCall, serve};
 use line_nodes::Place;
 use link_timers::{Role, TimerId};
+use memory_line::{Direction, Line};
 
 impl<L: Line> Nodes<L> {
     /// The first frame in flight in a direction arrives.
     pub(super) fn deliver(&mut self, line: usize, direction: Direction) -> Result<Answer, StepFault>
         requires { AreQuiet self.old }
-        ensures { Happens L.faithful (event_is.Deliver line direction) self.old result self.new }
+        ensures { Happens L.service (event_is.Deliver line direction) self.old result self.new }
     {
         if line != 0 {
             return Err(StepFault::NoSuchNode);
@@ -49,7 +49,7 @@ impl<L: Line> Nodes<L> {
 
     /// The first frame in flight in a direction is lost.
     pub(super) fn lose(&mut self, line: usize, direction: Direction) -> Result<Answer, StepFault>
-        ensures { Happens L.faithful (event_is.Lose line direction) self.old result self.new }
+        ensures { Happens L.service (event_is.Lose line direction) self.old result self.new }
     {
         if line != 0 {
             return Err(StepFault::NoSuchNode);
@@ -66,7 +66,7 @@ impl<L: Line> Nodes<L> {
         timer: TimerId,
     ) -> Result<Answer, StepFault>
         requires { AreQuiet self.old }
-        ensures { Happens L.faithful (event_is.Expire node line timer) self.old result self.new }
+        ensures { Happens L.service (event_is.Expire node line timer) self.old result self.new }
     {
         if !self.is_node(node) || line != 0 {
             return Err(StepFault::NoSuchNode);
@@ -86,7 +86,7 @@ impl<L: Line> Nodes<L> {
     /// The DTE gives its link up and sets it up again.
     pub(super) fn relink(&mut self, line: usize) -> Result<Answer, StepFault>
         requires { AreQuiet self.old }
-        ensures { Happens L.faithful (event_is.Relink line) self.old result self.new }
+        ensures { Happens L.service (event_is.Relink line) self.old result self.new }
     {
         if line != 0 {
             return Err(StepFault::NoSuchNode);
@@ -111,7 +111,7 @@ impl<L: Line> Nodes<L> {
     /// A node begins anew, and the line loses all frames.
     pub(super) fn restart(&mut self, node: usize) -> Result<Answer, StepFault>
         requires { AreQuiet self.old }
-        ensures { Happens L.faithful (event_is.Restart node) self.old result self.new }
+        ensures { Happens L.service (event_is.Restart node) self.old result self.new }
     {
         if !self.is_node(node) {
             return Err(StepFault::NoSuchNode);

@@ -1,18 +1,30 @@
-use Rattle.std.proofs.Common.{◌≡◌, ℕ, suc, List, length, refl, ap, subst, arith}
+use Rattle.std.proofs.Common.{◌≡◌, ◌+◌, ◌<◌, ℕ, [], List, length, refl, ap, subst, sym, arith}
 use Rattle.line_nodes.specs.Node.{frames_of}
 use Rattle.line_nodes.specs.NodeView.{node_of}
-use Rattle.line_sim.specs.Lines.{IsPut}
-use Rattle.line_sim.proofs.Sending.{putting-more, frames-kept}
+use Rattle.memory_line.specs.Lines.{IsPut}
+use Rattle.line_sim.proofs.Sending.{putting-more, putting-ends, frames-kept, frames-end, given, none-left}
 use Rattle.line_sim.proofs.send.put_frames.Goals as goal
 
-pub frames-preserved : goal.frames-preserved
-frames-preserved g c =
-    let l : length (frames_of (node_of c.frames.node)) ≡ suc (length (frames_of (node_of c.out.new.self))) = ap length c.frames-test.ensures.frame in
+pub loop-preserved : goal.loop-preserved
+loop-preserved g c =
+    let some : 0 < length (frames_of (node_of c.loop.node)) = omega (arith, c.loop.invariant.left, c.loop-test.true) in
+    let first = given c.out.result (frames_of (node_of c.loop.node)) c.out.new.frame (frames_of (node_of c.out.new.self)) c.out.ensures.frame c.out.ensures.nothing some in
     record {
       putting =
-          putting-more _ _ _ _ c.frames.puts.items _ _ c.out.new.frame (frames_of (node_of c.out.new.self)) _ _ (record { line = 0; direction = c.args.direction; octets = c.out.new.frame }) c.frames.invariant.putting
-          c.frames-test.ensures.frame c.push_reserved.ensures.items (record { on = refl; to = refl; as_octets = refl })
-          (λ f. let P : List ℕ → Type 0 = λ o. IsPut c.args.direction o (g.L.Line.flights c.frames.line) (g.L.Line.flights c.put.new.self) in subst P c.copy_of.ensures (c.put.ensures f));
-      node_is = frames-kept (node_of c.args.node.now) (node_of c.frames.node) (node_of c.out.new.self) c.frames.invariant.node_is c.out.ensures.node;
-      room = omega (arith, l, c.frames.invariant.room, c.push_reserved.ensures.len, c.push_reserved.ensures.capacity);
+          putting-more _ _ _ _ c.loop.puts.items _ _ c.out.new.frame (frames_of (node_of c.out.new.self)) _ _ (record { line = 0; direction = c.args.direction; octets = c.out.new.frame }) c.loop.invariant.putting
+          first c.push_reserved.ensures.items (record { on = refl; to = refl; as_octets = refl })
+          (λ f. let P : List ℕ → Type 0 = λ o. IsPut g.L.Line.service c.args.direction o (g.L.Line.flights c.loop.line) (g.L.Line.flights c.put.new.self) in subst P c.copy_of.ensures (c.put.ensures f));
+      node_is = frames-kept (node_of c.args.node.now) (node_of c.loop.node) (node_of c.out.new.self) c.loop.invariant.node_is c.out.ensures.node;
+      left = (let l = ap length first in omega (arith, l, c.loop.invariant.left));
+      most = c.loop.invariant.most;
+      put = omega (arith, c.loop.invariant.put, c.push_reserved.ensures.len);
+      room = omega (arith, c.loop.invariant.room, c.push_reserved.ensures.capacity);
+    }
+
+pub returns : goal.returns
+returns g c =
+    let none : frames_of (node_of c.loop.node) ≡ [] = none-left _ (omega (arith, c.loop.invariant.left, c.loop-test.false)) in
+    record {
+      node = frames-end _ _ c.loop.invariant.node_is none;
+      puts = putting-ends _ _ _ _ _ _ _ c.loop.invariant.putting none;
     }

@@ -4,12 +4,12 @@ use Rattle.line_nodes.specs.NodeView.{node_of}
 use Rattle.line_sim.proofs.Sending.{Putting, with_frames}
 use Rattle.line_sim.proofs.send.put_frames.Given as goal
 
-abbrev pub invariant-frames : goal.invariant-frames
-invariant-frames g l = record {
-  putting : Putting g.L.Line.faithful l.direction (frames_of (node_of l.initial.node)) (g.L.Line.flights l.initial.line) l.puts.items (frames_of (node_of l.node)) (g.L.Line.flights l.line);
+abbrev pub invariant-loop : goal.invariant-loop
+invariant-loop g l = record {
+  putting : Putting g.L.Line.service l.direction (frames_of (node_of l.initial.node)) (g.L.Line.flights l.initial.line) l.puts.items (frames_of (node_of l.node)) (g.L.Line.flights l.line);
   node_is : node_of l.node ≡ with_frames (frames_of (node_of l.node)) (node_of l.initial.node);
-  room : vec_len l.puts + length (frames_of (node_of l.node)) ≤ vec_capacity l.puts;
+  left : length (frames_of (node_of l.node)) + l.counter ≡ l.end;
+  most : l.end ≤ 9;
+  put : vec_len l.puts ≡ l.counter;
+  room : 9 ≤ vec_capacity l.puts;
 }
-
-abbrev pub decreases-frames : goal.decreases-frames
-decreases-frames g l = length (frames_of (node_of l.node))

@@ -1,11 +1,11 @@
-use Rattle.std.proofs.Common.{arith, length, ◌<◌, ◌≤◌, ◌≡◌, ◌++◌, ap, List, ℕ, get_or}
+use Rattle.std.proofs.Common.{arith, length, ◌<◌, ◌≤◌, ◌≡◌, ◌++◌, ap, refl, List, ℕ, get_or}
 use Rattle.net_player.specs.InTurn.InTurn.{nothing}
 use Rattle.net_player.proofs.Turns.{in_turn_all, in_turn_next, writes_nothing, writes_append, writes_then}
 use Rattle.net_files.specs.declared.script.Command.{Command}
 use Rattle.net_player.proofs.player.play.Goals as goal
 
 pub loop-command-init : goal.loop-command-init
-loop-command-init g c = writes_nothing _ nothing
+loop-command-init g c = record { done = writes_nothing _ nothing; names = c.as_slice.ensures.value; lines = refl }
 
 pub loop-command-preserved : goal.loop-command-preserved
 loop-command-preserved g c =
@@ -14,8 +14,13 @@ loop-command-preserved g c =
     let within : at < length commands = omega arith in
     let there : c.command-item.result ≡ get_or commands at c.command-item.result =
     rw c.deref-command-items.ensures.value at c.command-item.is in
-    writes_append _ _ _ (λ a b done does. in_turn_next commands at c.command-item.result within there done does)
-    c.loop-command.invariant c.in_ok-traces.ensures.writes
+    record {
+      done =
+          writes_append _ _ _ (λ a b done does. in_turn_next commands at c.command-item.result within there done does)
+          c.loop-command.invariant.done (rw (c.loop-command.invariant.names, c.loop-command.invariant.lines) at c.in_ok-player.ensures.writes);
+      names = c.loop-command.invariant.names;
+      lines = c.loop-command.invariant.lines;
+    }
 
 pub returns-clause-writes : goal.returns-clause-writes
 returns-clause-writes g c =
@@ -28,4 +33,4 @@ returns-clause-writes g c =
       traces = _;
       commands = in_turn_all commands _ ended done;
       whole = ap (λ w. told ++ w) c.end_line.ensures;
-    }) c.loop-command.invariant c.in_ok-write.ensures.writes
+    }) c.loop-command.invariant.done c.in_ok-write.ensures.writes

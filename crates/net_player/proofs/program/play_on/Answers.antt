@@ -4,7 +4,7 @@ pub returns : goal.returns
 returns g c = record {
   config = _;
   start = _;
-  made = c.in_ok-net.ensures;
+  made = c.in_ok-net.ensures.ok;
   script = _;
   ended = _;
   writes = c.in_ok-play.ensures.writes;

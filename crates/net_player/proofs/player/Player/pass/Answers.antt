@@ -2,7 +2,7 @@ use Rattle.std.proofs.Common.{arith, ◌≤◌}
 use Rattle.net_player.specs.InTurn.InTurn.{nothing}
 use Rattle.net_player.proofs.Turns.{writes_nothing}
 use Rattle.net_player.proofs.Deliveries.{pass_more}
-use Rattle.net_player.proofs.player.pass.Goals as goal
+use Rattle.net_player.proofs.player.Player.pass.Goals as goal
 
 pub loop-line-init : goal.loop-line-init
 loop-line-init g c = (writes_nothing _ nothing, omega arith)

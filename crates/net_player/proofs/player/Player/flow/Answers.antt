@@ -2,7 +2,7 @@ use Rattle.std.proofs.Common.{arith, ◌≤◌, ◌<◌}
 use Rattle.net_player.specs.Playing.Flows.{last}
 use Rattle.net_player.proofs.Turns.{writes_append}
 use Rattle.net_player.proofs.Deliveries.{flow_onward}
-use Rattle.net_player.proofs.player.flow.Goals as goal
+use Rattle.net_player.proofs.player.Player.flow.Goals as goal
 
 pub returns-then-still_left-left-clause-writes : goal.returns-then-still_left-left-clause-writes
 returns-then-still_left-left-clause-writes g c =

@@ -1,7 +1,7 @@
 use Rattle.std.proofs.Common.{◌<◌, arith}
 use Rattle.net_player.proofs.Turns.{writes_nothing, writes_as}
 use Rattle.net_player.proofs.Deliveries.{delivers_at_limit, delivers_one, delivers_none}
-use Rattle.net_player.proofs.player.deliver.Goals as goal
+use Rattle.net_player.proofs.player.Player.deliver.Goals as goal
 
 pub returns-then-left-eq0-clause-delivers : goal.returns-then-left-eq0-clause-delivers
 returns-then-left-eq0-clause-delivers g c = writes_nothing _ (delivers_at_limit _ (omega arith))

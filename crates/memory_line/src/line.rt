@@ -1,6 +1,6 @@
 //! Lines: each hands over whole frames or nothing, for each direction in order.
 ghost use Rattle.std.specs.Prelude.{◌≡◌, ◌≢◌, ◌+◌, ◌<◌, ◌≤◌, ◌↔◌, ◌⊎◌, [], ◌∷◌, ◌++◌, length, map, slice_get, IsTrue, IfOk, replicate, vec_len};
-ghost use Rattle.line_sim.specs.Lines.{Flights, no_flights, flying, with_flying, without_first, IsPut};
+ghost use Rattle.memory_line.specs.Lines.{Flights, LineService, memory_service, no_flights, flying, with_flying, without_first, IsPut};
 
 use circular_buffer::HeapCircularBuffer;
 use frame_codec::FrameBuf;
@@ -18,28 +18,28 @@ pub enum Direction {
 }
 
 /// A line between two nodes. It is faithful where it hands over, for each direction, the frames that were put, in their
-/// order, without those that it lost, and nothing else.
+/// order, without those that it lost, and nothing else; and it loses a frame that is put only where it may.
 pub trait Line: Drop {
     ghost flights: { Self → Flights };
 
-    ghost faithful: { Type 0 };
+    ghost service: { LineService };
 
-    /// Sends a frame: it comes behind those in flight, or is lost.
+    /// Sends a frame: it comes behind those in flight, or is lost where the line may lose it.
     fn put(&mut self, direction: Direction, frame: FrameBuf)
-        ensures { faithful → IsPut direction frame (flights self.old) (flights self.new) };
+        ensures { service.faithful → IsPut service direction frame (flights self.old) (flights self.new) };
 
     /// Takes the first frame in flight, if there is one.
     fn take(&mut self, direction: Direction) -> Option<FrameBuf>
-        ensures taken { faithful → result ≡ slice_get (flying direction (flights self.old)) 0 }
-        ensures others { faithful → flights self.new ≡ without_first direction (flights self.old) };
+        ensures taken { service.faithful → result ≡ slice_get (flying direction (flights self.old)) 0 }
+        ensures others { service.faithful → flights self.new ≡ without_first direction (flights self.old) };
 
     /// Loses all frames in flight, in both directions.
     fn empty(&mut self)
-        ensures { faithful → flights self.new ≡ no_flights };
+        ensures { service.faithful → flights self.new ≡ no_flights };
 
     /// Whether a frame is in flight in this direction.
     fn in_flight(&self, direction: Direction) -> bool
-        ensures { faithful → IsTrue result ↔ (flying direction (flights self.now) ≢ []) };
+        ensures { service.faithful → IsTrue result ↔ (flying direction (flights self.now) ≢ []) };
 }
 
 /// A line in memory, which holds 64 frames for each direction: a frame put beyond these is lost. It is faithful.
@@ -51,7 +51,7 @@ pub struct MemLine {
 
 impl Model for MemLine {
     ghost use Rattle.std.specs.Prelude.{◌≡◌};
-    ghost use Rattle.line_sim.specs.Lines.{Flights};
+    ghost use Rattle.memory_line.specs.Lines.{Flights};
 
     ghost Value = { Flights };
 
@@ -74,10 +74,10 @@ impl MemLine {
 impl Line for MemLine {
     ghost flights = { λ l. l };
 
-    ghost faithful = { Unit {0} };
+    ghost service = { memory_service };
 
     fn put(&mut self, direction: Direction, frame: FrameBuf)
-        ensures puts { IsPut direction frame self.old self.new }
+        ensures puts { IsPut memory_service direction frame self.old self.new }
         ensures room { length (flying direction self.old) < 64
             → self.new ≡ with_flying direction (flying direction self.old ++ frame ∷ []) self.old }
         ensures beyond { 64 ≤ length (flying direction self.old) → self.new ≡ self.old }

@@ -2,7 +2,7 @@ use Rattle.std.proofs.Common.{arith, length, ◌<◌, ◌≡◌, List, ℕ, get_
 use Rattle.line_sim.specs.declared.event.Event.{Event}
 use Rattle.net_player.specs.InTurn.InTurn.{nothing}
 use Rattle.net_player.proofs.Turns.{in_turn_next, writes_nothing, writes_append}
-use Rattle.net_player.proofs.player.play_events.Goals as goal
+use Rattle.net_player.proofs.player.Player.play_events.Goals as goal
 
 pub loop-event-init : goal.loop-event-init
 loop-event-init g c = writes_nothing _ nothing

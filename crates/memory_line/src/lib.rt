@@ -1,0 +1,6 @@
+//! Lines between two nodes, and such a line in memory.
+#![tactic(auto)]
+
+mod line;
+
+pub use line::{Direction, FRAMES_IN_FLIGHT, Line, MemLine, mem_lines};
