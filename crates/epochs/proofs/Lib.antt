@@ -1,3 +1,4 @@
 pub mod Prefixes
 pub mod Matching
 pub mod Rising
+pub mod Placing

@@ -1,5 +1,5 @@
 -- The laws of matching.
-use Rattle.std.specs.Prelude.{◌≡◌, ℕ, ◌<◌, List, [], ◌∷◌, ◌++◌, Some, map, slice_get}
+use Rattle.std.specs.Prelude.{◌≡◌, ℕ, ◌<◌, ◌↔◌, List, [], ◌∷◌, ◌++◌, Some, map, slice_get}
 use Rattle.epochs.specs.Epoch.{Epoch, SentEpoch, TakenEpoch, IsPrefixOf, IsEmpty, sent_epoch, taken_epoch, AreAligned}
 use Rattle.epochs.specs.Match.{Match}
 
@@ -43,6 +43,6 @@ pub record ComesOf (place : ℕ → ℕ) (taken sent : List Epoch) : Type 0 wher
   pub rises : (i j : ℕ) (d e : Epoch) → HasPassed taken i d → HasPassed taken j e → i < j
       → place i < place j
 
--- what matches has such places
+-- what matches has such places, and what has such places matches
 abbrev pub HasRisingPlaces : Type 0
-HasRisingPlaces = (taken sent : List Epoch) → Match taken sent → (place : ℕ → ℕ) × ComesOf place taken sent
+HasRisingPlaces = (taken sent : List Epoch) → Match taken sent ↔ ((place : ℕ → ℕ) × ComesOf place taken sent)

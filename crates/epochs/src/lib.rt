@@ -12,5 +12,6 @@ pub fn match_laws()
     ensures opens { IsKeptByOpening }
     ensures both_open { IsKeptByBothOpening }
     ensures aligned { AlignedListsMatch }
+    // What a match is, and so what it refuses: two taken epochs of one sent epoch, or of two in the other order.
     ensures rising { HasRisingPlaces }
 {}

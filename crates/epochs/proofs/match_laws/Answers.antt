@@ -1,5 +1,6 @@
 use Rattle.epochs.proofs.Matching.{match-refl, match-trans, match-grows, match-opens, match-both_open, aligned-match}
 use Rattle.epochs.proofs.Rising.{match-rising}
+use Rattle.epochs.proofs.Placing.{rising-match}
 use Rattle.epochs.proofs.match_laws.Goals as goal
 
 pub returns : goal.returns
@@ -10,5 +11,5 @@ returns c = record {
   opens = match-opens;
   both_open = match-both_open;
   aligned = aligned-match;
-  rising = match-rising;
+  rising = λ taken sent. (match-rising taken sent, λ p. rising-match taken p.0 sent p.1);
 }
