@@ -113,7 +113,7 @@ closes role channel b =
 -- ---- what passes on a call
 
 abbrev pub packet_of : Datum → DataPacket
-packet_of d = record { octets = d.octets; more = d.more; qualified = d.qualified; confirm = d.delivery }
+packet_of d = record { octets = d.octets; more = d.more; qualified = d.qualified; delivery = d.delivery }
 
 abbrev pub renews : Role → (channel : ℕ) → Book → Book
 renews role channel b = changed role channel with_epoch b

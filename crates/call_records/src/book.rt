@@ -12,11 +12,11 @@ ghost use Rattle.call_records.specs.BookView.{CallsHavePlaces};
 ghost use Rattle.call_records.specs.RecordView.{shown, pair_of, step_of, grown, needed, left, PlacesAt};
 
 use crate::ends::{Ends, Side, Slot};
-use crate::packet::{Interrupt, UserPacket};
+use crate::interrupt::Interrupt;
 use crate::record::{EditStep, Growth, Pair, Record};
 use link_timers::Role;
 use packet_codec::{Address, CallBuf, CallData};
-use packet_layer::{LayerNote, Taken};
+use packet_layer::{LayerNote, Taken, UserData};
 use std::alloc::{AllocError, Global};
 use std::marker::Model;
 
@@ -244,7 +244,7 @@ impl Book {
         requires fits { length octets.now ≤ 128 }
         ensures { self.new ≡ record { book = sends role channel (record { octets = octets.now; more = more; qualified = qualified; delivery = delivery }) self.old.book; room = self.old.room - 1 } }
     {
-        let packet = UserPacket::new(octets, more, qualified, delivery);
+        let packet = UserData::new(octets, more, qualified, delivery);
         self.grow(role, channel, Growth::Sent(packet));
     }
 
@@ -268,7 +268,7 @@ impl Book {
                 self.grow(role, channel, Growth::InterruptTaken(interrupt));
             }
             Taken::Data(data) => {
-                let packet = UserPacket::new(
+                let packet = UserData::new(
                     data.octets(),
                     data.more(),
                     data.qualified(),

@@ -3,9 +3,9 @@
 
 mod book;
 mod ends;
-mod packet;
+mod interrupt;
 mod record;
 
 pub use book::Book;
-pub use packet::{Interrupt, UserPacket};
+pub use interrupt::Interrupt;
 pub use record::{EditStep, Pair, Record, SentEpoch, TakenEpoch};

@@ -4,8 +4,9 @@ ghost use Rattle.epochs.specs.Epoch.{nothing_sent, nothing_taken};
 ghost use Rattle.call_records.specs.Records.{new_record, with_epoch};
 ghost use Rattle.call_records.specs.RecordView.{shown, sent_of, taken_of, grown, needed, left, HasPlaces};
 
-use crate::packet::{Interrupt, UserPacket};
+use crate::interrupt::Interrupt;
 use packet_codec::Address;
+use packet_layer::UserData;
 use std::alloc::{AllocError, Global};
 use std::mem;
 use x3_params::Params;
@@ -14,7 +15,7 @@ use x3_params::Params;
 /// packets a received P(R) covered.
 #[derive(Drop)]
 pub struct SentEpoch {
-    pub packets: Vec<UserPacket>,
+    pub packets: Vec<UserData>,
     pub interrupts: Vec<Interrupt>,
     pub covered: usize,
 }
@@ -22,7 +23,7 @@ pub struct SentEpoch {
 /// What an end took in an epoch of its call: the packets and the interrupts, and how many of the packets were released.
 #[derive(Drop)]
 pub struct TakenEpoch {
-    pub packets: Vec<UserPacket>,
+    pub packets: Vec<UserData>,
     pub interrupts: Vec<Interrupt>,
     pub released: usize,
 }
@@ -69,11 +70,11 @@ pub struct Pair {
 #[derive(Drop)]
 pub(crate) enum Growth {
     /// A packet that was accepted to be sent.
-    Sent(UserPacket),
+    Sent(UserData),
     /// An interrupt that was accepted to be sent.
     InterruptSent(Interrupt),
     /// A packet that was taken.
-    Taken(UserPacket),
+    Taken(UserData),
     /// An interrupt that was taken.
     InterruptTaken(Interrupt),
     /// So many more of the packets sent are covered.

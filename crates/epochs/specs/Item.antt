@@ -13,7 +13,7 @@ pub record DataPacket : Type 0 where
   pub octets : List ℕ
   pub more : Bool
   pub qualified : Bool
-  pub confirm : Bool
+  pub delivery : Bool
 
 -- the items of a packet: each of its octets, then, where M = 0, an end; the Q bit says of which kind they are, and the D bit is left out
 abbrev pub items_of : DataPacket → List Item
@@ -37,4 +37,4 @@ user_items (QualifiedEnd ∷ is) = user_items is
 
 -- a packet that is a whole user message by itself
 abbrev pub message : List ℕ → DataPacket
-message octets = record { octets = octets; more = false; qualified = false; confirm = false }
+message octets = record { octets = octets; more = false; qualified = false; delivery = false }

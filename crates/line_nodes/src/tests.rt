@@ -2,13 +2,13 @@
 ghost use Rattle.std.specs.Prelude.{◌≡◌, ◌≤◌, [], IfOk, OnOk, vec_capacity};
 
 use super::*;
-use call_records::{Book, UserPacket};
+use call_records::Book;
 use frame_codec::FrameBuf;
 use link_timers::Role;
 use packet_codec::{Address, CallBuf, CallData};
 use packet_end::EndParams;
 use packet_host::{Host, HostConfig};
-use packet_layer::{CallFault, ChannelFault, LayerNote};
+use packet_layer::{CallFault, ChannelFault, LayerNote, UserData};
 use packet_pad::{Pad, PadConfig};
 use std::alloc::{AllocError, Global};
 use std::process::Abort;
@@ -138,13 +138,13 @@ fn types(pad: &mut Pad, octet: u8, book: &mut Book) -> Result<KeyAnswer, AllocEr
     Ok(pad::key(pad, Role::Dte, octet, book))
 }
 
-fn is_packet(packet: Option<&UserPacket>, octets: &[u8], more: bool, confirm: bool) -> bool {
+fn is_packet(packet: Option<&UserData>, octets: &[u8], more: bool, delivery: bool) -> bool {
     match packet {
         Some(packet) => {
             packet.octets() == octets
                 && packet.more() == more
                 && !packet.qualified()
-                && packet.confirm() == confirm
+                && packet.delivery() == delivery
         }
         None => false,
     }

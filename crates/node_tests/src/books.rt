@@ -1,10 +1,10 @@
 //! Little books, write by write.
 ghost use Rattle.std.specs.Prelude.{◌≤◌, length};
 
-use call_records::{Book, EditStep, Interrupt, Pair, Record, UserPacket};
+use call_records::{Book, EditStep, Interrupt, Pair, Record};
 use link_timers::Role;
 use packet_codec::{Address, CallBuf, CallData, PacketBuf};
-use packet_layer::{Layer, LayerNote, LayerParams, MakeFault, Reason, Taken};
+use packet_layer::{Layer, LayerNote, LayerParams, MakeFault, Reason, Taken, UserData};
 use std::alloc::{AllocError, Global};
 use std::process::Abort;
 use std::test::Fail;
@@ -132,12 +132,12 @@ fn has_pair(book: &Book, caller: usize, callee: usize) -> bool {
 }
 
 // Whether these are packets with M = 1 and D = 1 and the octets, one packet each.
-fn are_packets(packets: &[UserPacket], each: &[&[u8]]) -> bool {
+fn are_packets(packets: &[UserData], each: &[&[u8]]) -> bool {
     if packets.len() != each.len() {
         return false;
     }
     for (packet, octets) in packets.iter().zip(each) {
-        let bits = (packet.more(), packet.qualified(), packet.confirm());
+        let bits = (packet.more(), packet.qualified(), packet.delivery());
         if packet.octets() != *octets || bits != (true, false, true) {
             return false;
         }

@@ -1,5 +1,6 @@
 -- The packets of one line as its packet layers see them (X.25 5). Numbers are modulo 8.
-use Rattle.std.specs.Prelude.{ℕ, Bool, List}
+use Rattle.std.specs.Prelude.{ℕ, List}
+use Rattle.epochs.specs.Item.{DataPacket}
 
 -- what a Call Request and an Incoming Call carry (X.25 5.2.1): digits of both addresses, facilities, user data
 pub record CallParts : Type 0 where
@@ -9,11 +10,8 @@ pub record CallParts : Type 0 where
   pub user_part : List ℕ
 
 -- what a Data packet carries (X.25 4.3): octets, the more-data mark M, the qualifier Q, the delivery bit D
-pub record Datum : Type 0 where
-  pub octets : List ℕ
-  pub more : Bool
-  pub qualified : Bool
-  pub delivery : Bool
+abbrev pub Datum : Type 0
+Datum = DataPacket
 
 -- a packet apart from its channel (X.25 table 5-2)
 pub data Body : Type 0 where
