@@ -1,5 +1,5 @@
 -- The timers of an end of a line, as a map from those that run to the ticks that they have left.
-use Rattle.std.specs.Prelude.{ℕ, ◌+◌, ◌-◌, ◌≤◌, Bool, false, ◌&&◌, List, [], ◌∷◌, map, replicate, Option, Some, None, slice_index_or, slice_set, nat_le, nat_lt, ◌==◌, if◌then◌else◌}
+use Rattle.std.specs.Prelude.{◌≡◌, ℕ, ◌+◌, ◌-◌, ◌≤◌, Bool, false, ◌&&◌, List, [], ◌∷◌, length, map, replicate, Option, Some, None, slice_index_or, slice_set, nat_le, nat_lt, ◌==◌, if◌then◌else◌}
 use Rattle.link_timers.specs.declared.timers.TimerId.{TimerId}
 use Rattle.link_timers.specs.declared.timers.TimerId.TheVariants.{T1, T10, T20, T11, T12, T13, T21, T22, T23, Idle}
 
@@ -7,7 +7,7 @@ use Rattle.link_timers.specs.declared.timers.TimerId.TheVariants.{T1, T10, T20, 
 abbrev pub Places : Type 0
 Places = List (Option ℕ)
 
--- how many places there are
+-- how many places there are: for T1, T10 and T20, six timers of each channel, and one of each terminal
 abbrev pub places : ℕ
 places = 211
 
@@ -98,3 +98,8 @@ due_timers timers = due_from 0 timers
 abbrev pub first_of : List TimerId → Option TimerId
 first_of [] = None
 first_of (id ∷ ids) = Some id
+
+-- what always holds of the places and of the number of those that have no ticks left
+pub record AreTimers (timers : Places) (due : ℕ) : Type 0 where
+  pub whole : length timers ≡ places
+  pub count : due ≡ length (due_timers timers)

@@ -5,7 +5,7 @@ mod role;
 mod timers;
 
 pub use role::Role;
-pub use timers::{TimerId, Timers};
+pub use timers::{MOST_TIMERS, TimerId, Timers};
 
 #[cfg(test)]
 mod tests;

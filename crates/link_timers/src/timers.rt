@@ -1,6 +1,7 @@
-ghost use Rattle.std.specs.Prelude.{◌≡◌, ◌≢◌, ◌≤◌, ◌<◌, ◌+◌, ◌↔◌, map, length, Some, None, is_some, MatchOption, Contains};
+ghost use Rattle.std.specs.Prelude.{◌≡◌, ◌≢◌, ◌≤◌, ◌<◌, ◌+◌, ◌↔◌, false, map, length, slice_set, Some, None, is_some, MatchOption, Contains};
 ghost use Rattle.link_timers.specs.declared.timers.TimerId.{TimerId};
 ghost use Rattle.link_timers.specs.Timers.{
+  places,
   place_of,
   place_in,
   timer_at,
@@ -15,6 +16,7 @@ ghost use Rattle.link_timers.specs.Timers.{
   due_from,
   due_timers,
   first_of,
+  AreTimers,
 };
 
 use arrayvec::ArrayVec;
@@ -51,15 +53,21 @@ const CHANNELS: u8 = 32;
 
 const TERMINALS: u8 = 16;
 
+/// How many timers an end of a line has: T1, T10 and T20, six of each channel, one of each terminal.
+pub const MOST_TIMERS: usize = 211;
+
 /// Which timers run, and how many ticks each has left. Twenty ticks are a second.
 #[derive(Drop)]
 pub struct Timers {
-    left: [Option<u16>; 211],
+    left: [Option<u16>; MOST_TIMERS],
+    /// How many of them have no tick left.
+    due: u8,
 }
 
 impl Model for Timers {
-    ghost use Rattle.std.specs.Prelude.{◌≡◌, ℕ, List, Option, length};
+    ghost use Rattle.std.specs.Prelude.{ℕ, List, Option};
     ghost use Rattle.std.specs.Coded.{coded_list, coded_option, coded_ℕ};
+    ghost use Rattle.link_timers.specs.Timers.{AreTimers};
 
     ghost Value = { List (Option ℕ) };
 
@@ -67,7 +75,7 @@ impl Model for Timers {
 
     ghost view = { λ t. t.left };
 
-    ghost invariant = { λ t. length t.left ≡ 211 };
+    ghost invariant = { λ t. AreTimers t.left t.due };
 }
 
 impl Timers {
@@ -76,7 +84,10 @@ impl Timers {
         ensures places { result ≡ none_running }
         ensures left { (id : TimerId) → left_of result id ≡ None }
     {
-        Timers { left: [None; 211] }
+        Timers {
+            left: [None; MOST_TIMERS],
+            due: 0,
+        }
     }
 
     /// Starts a timer, or starts it anew, with this many ticks left.
@@ -89,9 +100,7 @@ impl Timers {
         ensures left { left_of self.new id ≡ Some ticks }
         ensures others { (other : TimerId) → other ≢ id → left_of self.new other ≡ left_of self.old other }
     {
-        if let Some(place) = place(id) {
-            self.left[place] = Some(ticks);
-        }
+        self.put(id, Some(ticks));
     }
 
     /// Stops a timer, if it runs.
@@ -100,9 +109,7 @@ impl Timers {
         ensures left { left_of self.new id ≡ None }
         ensures others { (other : TimerId) → other ≢ id → left_of self.new other ≡ left_of self.old other }
     {
-        if let Some(place) = place(id) {
-            self.left[place] = None;
-        }
+        self.put(id, None);
     }
 
     /// Whether a timer runs, also with no tick left.
@@ -130,7 +137,7 @@ impl Timers {
     /// Lets ticks pass: each timer that runs has so many less, not below 0. Gives those that have none left, in the
     /// order of [`TimerId`] and then by number. They run until they are fired.
     #[tactic(auto, using(crate::proofs::DueLaws::due_members))]
-    pub fn tick(&mut self, ticks: u16) -> ArrayVec<TimerId, 211>
+    pub fn tick(&mut self, ticks: u16) -> ArrayVec<TimerId, MOST_TIMERS>
         ensures places { self.new ≡ after_ticks self.old ticks }
         ensures left { (id : TimerId) → left_of self.new id ≡ lowered ticks (left_of self.old id) }
         ensures due { result.items ≡ due_timers self.new }
@@ -139,11 +146,13 @@ impl Timers {
         ensures members { (id : TimerId) → Contains result.items id ↔ (left_of self.new id ≡ Some 0) }
     {
         lower(&mut self.left, ticks);
-        due_in(&self.left)
+        let due = due_in(&self.left);
+        self.due = due.len() as u8;
+        due
     }
 
     /// The first timer that has no tick left, in the order of `tick`.
-    #[tactic(auto, using(crate::proofs::DueLaws::first_due))]
+    #[tactic(auto, using(crate::proofs::DueLaws::first_due, crate::proofs::DueLaws::none_counted))]
     pub fn due(&self) -> Option<TimerId>
         ensures first { result ≡ first_of (due_timers self.now) }
 
@@ -151,7 +160,24 @@ impl Timers {
         ensures member { MatchOption result ((id : TimerId) → left_of self.now id ≢ Some 0)
             (λ id. left_of self.now id ≡ Some 0) }
     {
-        due_in(&self.left).as_slice().first().copied()
+        if self.due == 0 {
+            return None;
+        }
+        first_due_in(&self.left)
+    }
+
+    // Lets a timer run with ticks left, or not run.
+    fn put(&mut self, id: TimerId, left: Option<u16>)
+        requires { is_due left ≡ false }
+        ensures places { self.new ≡ slice_set self.old (place_of id) left }
+        ensures whole { length self.old ≡ places }
+    {
+        if let Some(place) = place(id) {
+            if self.left[place] == Some(0) {
+                self.due -= 1;
+            }
+            self.left[place] = left;
+        }
     }
 }
 
@@ -169,8 +195,8 @@ fn lower_one(left: Option<u16>, ticks: u16) -> Option<u16>
     Some(left?.saturating_sub(ticks))
 }
 
-fn due_in(timers: &[Option<u16>]) -> ArrayVec<TimerId, 211>
-    requires { length timers.now ≡ 211 }
+fn due_in(timers: &[Option<u16>]) -> ArrayVec<TimerId, MOST_TIMERS>
+    requires { length timers.now ≡ places }
     ensures { result.items ≡ due_timers timers.now }
 {
     let mut due = ArrayVec::new();
@@ -182,9 +208,21 @@ fn due_in(timers: &[Option<u16>]) -> ArrayVec<TimerId, 211>
     due
 }
 
+fn first_due_in(timers: &[Option<u16>]) -> Option<TimerId>
+    requires { length timers.now ≡ places }
+    ensures { result ≡ first_of (due_timers timers.now) }
+{
+    for (place, ticks) in timers.iter().enumerate() {
+        if *ticks == Some(0) {
+            return Some(timer(place));
+        }
+    }
+    None
+}
+
 // The place of a timer, if there is its channel or terminal.
 fn place(id: TimerId) -> Option<usize>
-    ensures { MatchOption result (place_of id ≡ 211) (λ place. (place ≡ place_of id) × (place < 211)) }
+    ensures { MatchOption result (place_of id ≡ places) (λ place. (place ≡ place_of id) × (place < places)) }
 {
     match id {
         TimerId::T1 => Some(0),
@@ -202,8 +240,8 @@ fn place(id: TimerId) -> Option<usize>
 
 fn channel_place(first: usize, channel: u8) -> Option<usize>
     requires { first ≤ 163 }
-    ensures { MatchOption result (place_in first 1 32 channel ≡ 211) (λ place. (place ≡ place_in first 1 32
-        channel) × (place < 211)) }
+    ensures { MatchOption result (place_in first 1 32 channel ≡ places) (λ place. (place ≡ place_in first 1 32
+        channel) × (place < places)) }
 {
     if channel < 1 || channel > CHANNELS {
         return None;
@@ -212,8 +250,8 @@ fn channel_place(first: usize, channel: u8) -> Option<usize>
 }
 
 fn terminal_place(terminal: u8) -> Option<usize>
-    ensures { MatchOption result (place_in 195 0 15 terminal ≡ 211) (λ place. (place ≡ place_in 195 0 15 terminal)
-        × (place < 211)) }
+    ensures { MatchOption result (place_in 195 0 15 terminal ≡ places) (λ place. (place ≡ place_in 195 0 15 terminal)
+        × (place < places)) }
 {
     if terminal >= TERMINALS {
         return None;
@@ -223,7 +261,7 @@ fn terminal_place(terminal: u8) -> Option<usize>
 
 // The timer at a place.
 fn timer(place: usize) -> TimerId
-    requires { place < 211 }
+    requires { place < places }
     ensures { result ≡ timer_at place }
 {
     match place {
