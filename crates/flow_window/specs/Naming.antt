@@ -7,6 +7,10 @@ use Rattle.std.proofs.lemmas.Bool.{cases_lt}
 use Rattle.flow_window.specs.Window.{ahead}
 use Rattle.flow_window.specs.Counts.{Names, NamesOne}
 
+-- a modulus that is one more than a number has a number 0
+pub has_zero : (highest : ℕ) → 0 < highest + 1
+has_zero highest = omega arith
+
 -- two counts with one number that are less than the modulus apart are one
 pub one_count : (modulus b c : ℕ) → 0 < modulus → b % modulus ≡ c % modulus → b ≤ c → c < b + modulus → b ≡ c
 one_count modulus b c pos e least most = grind arith

@@ -1,6 +1,6 @@
-ghost use Rattle.std.specs.Prelude.{◌≡◌, ◌≤◌, ℕ};
+ghost use Rattle.std.specs.Prelude.{◌≡◌, ◌<◌, ◌≤◌, ℕ};
 ghost use Rattle.flow_window.specs.Counts.{NamesOne};
-ghost use Rattle.flow_window.specs.Naming.{names_one};
+ghost use Rattle.flow_window.specs.Naming.{names_one, has_zero};
 
 /// The modulus of sequence numbers.
 pub trait Modulus {
@@ -14,6 +14,9 @@ pub trait Modulus {
 
     // A number of a window names one count.
     ghost names_one: { NamesOne modulus };
+
+    // There is a number 0.
+    ghost has_zero: { 0 < modulus };
 }
 
 /// Numbers from 0 to 7.
@@ -24,6 +27,8 @@ impl Modulus for Mod8 {
     ghost modulus = { 8 };
 
     ghost names_one = { names_one 8 };
+
+    ghost has_zero = { has_zero 7 };
 
     fn modulus() -> u8 {
         8
@@ -38,6 +43,8 @@ impl Modulus for Mod128 {
     ghost modulus = { 128 };
 
     ghost names_one = { names_one 128 };
+
+    ghost has_zero = { has_zero 127 };
 
     fn modulus() -> u8 {
         128

@@ -29,7 +29,6 @@ impl<M: Modulus> Seq<M> {
     pub fn zero() -> Self
         ensures { result ≡ 0 }
     {
-        let _modulus = M::modulus();
         Seq {
             number: 0,
             of: PhantomData,
