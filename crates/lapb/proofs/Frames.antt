@@ -52,17 +52,17 @@ take_room zero xs x e = absurd (omega arith)
 take_room {X = X} (suc n) [] x e = ap (λ zs. x ∷ zs) (take_none X n)
 take_room (suc n) (y ∷ xs) x e = ap (λ zs. y ∷ zs) (take_room n xs x (omega arith))
 
-pub take_short : {X : Type 0} (n : ℕ) (xs : List X) → length xs ≤ n → take n (xs ++ []) ≡ xs
-take_short zero [] e = refl
-take_short zero (x ∷ xs) e = absurd (omega arith)
-take_short (suc n) [] e = refl
-take_short (suc n) (x ∷ xs) e = ap (λ zs. x ∷ zs) (take_short n xs (omega arith))
-
 take_again : {X : Type 0} (n : ℕ) (xs : List X) (x : X) (ys : List X) → take n (take n (xs ++ x ∷ []) ++ ys) ≡ take
     n (xs ++ x ∷ ys)
 take_again zero xs x ys = refl
 take_again {X = X} (suc n) [] x ys = ap (λ zs. x ∷ take n (zs ++ ys)) (take_none X n)
 take_again (suc n) (y ∷ xs) x ys = ap (λ zs. y ∷ zs) (take_again n xs x ys)
+
+-- one frame, and those after it
+frames_again : (frames : List Octets) (frame : Octets) (more : List Octets) →
+    with_frames (with_frames frames (frame ∷ [])) more ≡ with_frames frames (frame ∷ more)
+frames_again frames frame [] = refl
+frames_again frames frame (next ∷ more) = take_again 9 frames frame (next ∷ more)
 
 -- the packet at a place, and those after it
 pub drop-slice_get : {X : Type 0} (place : ℕ) (xs : List X) (x : X) → slice_get xs place ≡ Some x → drop place xs ≡
@@ -81,7 +81,7 @@ pub sent_one_more : (role : Role) (oldest nr place : ℕ) (queue : List Octets) 
 sent_one_more role oldest nr place queue packet frames at =
     let next : oldest + place + 1 ≡ oldest + (place + 1) = omega arith in
     let rest : drop place queue ≡ packet ∷ drop (place + 1) queue = rw add-one (drop-slice_get place queue packet at) in
-    take_again 9 frames (spelling role (command (I ((oldest + place) % 8) nr packet) false)) (map
+    frames_again frames (spelling role (command (I ((oldest + place) % 8) nr packet) false)) (map
     (spelling role) (numbered (oldest + (place + 1)) nr (drop (place + 1) queue)))
     ∙ ap (λ n. with_frames frames (map (spelling role) (command (I ((oldest + place) % 8) nr packet)
     false ∷ numbered n nr (drop (place + 1) queue)))) (sym next)
@@ -138,3 +138,12 @@ sent_link l some = go (drop l.next l.queue) (omega (arith, length-drop l.next l.
           l.top (length l.queue)) refl) i;
       owed = false;
     }
+
+-- the frames in which its packets are sent
+pub sent_frames : (l : Link) → l.next < length l.queue →
+    numbered (l.oldest + l.next) l.expected (drop l.next l.queue) ≡ (send_all l (drop l.next l.queue)).frames
+sent_frames l some = go (drop l.next l.queue) (omega (arith, length-drop l.next l.queue))
+  where
+    go : (packets : List Octets) → 0 < length packets → numbered (l.oldest + l.next) l.expected packets ≡ (send_all l packets).frames
+    go [] none = absurd (omega arith)
+    go (packet ∷ packets) _ = refl

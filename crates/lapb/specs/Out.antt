@@ -30,9 +30,14 @@ pub record Out : Type 0 where
 abbrev pub no_out : Out
 no_out = record { frames = []; note = Note.Nothing; accepted = false; timer = Timing.Keep }
 
--- the frames with more of them, of which a tenth and more are dropped, as lost
+-- how many frames an event has room for: one of each of two calls, and the seven I frames of the widest window
+abbrev pub most_frames : ℕ
+most_frames = 9
+
+-- the frames with more of them, of which those past the most are dropped, as lost
 abbrev pub with_frames : List Octets → List Octets → List Octets
-with_frames old more = take 9 (old ++ more)
+with_frames old [] = old
+with_frames old (frame ∷ more) = take most_frames (old ++ frame ∷ more)
 
 -- what a rule does besides changing the link
 pub record Effect : Type 0 where

@@ -12,5 +12,5 @@ mod phase;
 pub use law::link_law;
 pub use link::{BadParams, Link, LinkParams, OfferFault};
 pub use note::{Note, Timing};
-pub use out::LinkOut;
+pub use out::{LinkOut, MOST_FRAMES};
 pub use phase::Phase;

@@ -1,7 +1,7 @@
 ghost use Rattle.std.specs.Prelude.{◌≡◌, ◌∷◌, ◌++◌, [], length, map, false, ◌≤◌};
 ghost use Rattle.frame_codec.specs.Spelling.{spelling, HasSpelling};
 ghost use Rattle.frame_codec.specs.Views.{value_of};
-ghost use Rattle.lapb.specs.Out.{no_out, with_frames, with_effect, timing_by, AreSpelt};
+ghost use Rattle.lapb.specs.Out.{most_frames, no_out, with_frames, with_effect, timing_by, AreSpelt};
 ghost use Rattle.lapb.specs.EffectView.{frames_value};
 ghost use Rattle.lapb.specs.Machine.{timing_after};
 
@@ -12,13 +12,16 @@ use frame_codec::{Frame, FrameBuf, write_frame};
 use link_timers::Role;
 use std::marker::Model;
 
-/// What the calls of a link give: up to nine frames in order, the note and whether a packet was accepted by the last
+/// How many frames an event has room for: one of each of two calls, and the seven I frames of the widest window.
+pub const MOST_FRAMES: usize = 9;
+
+/// What the calls of a link give: up to [`MOST_FRAMES`] frames in order, the note and whether a packet was accepted by the last
 /// call, and what becomes of T1.
 ///
 /// The packet that is accepted is the information field of the I frame that was taken: its octets from the third on.
 #[derive(Drop)]
 pub struct LinkOut {
-    frames: ArrayVec<FrameBuf, 9>,
+    frames: ArrayVec<FrameBuf, MOST_FRAMES>,
     note: Note,
     accepted: bool,
     timer: Timing,
@@ -30,11 +33,12 @@ impl Model for LinkOut {
     ghost Value = { out.Out };
 
     ghost use Rattle.std.specs.Prelude.{◌≤◌, length};
+    ghost use Rattle.lapb.specs.Out.{most_frames};
     ghost use Rattle.lapb.specs.OutView.{out_of};
 
     ghost view = { out_of };
 
-    ghost invariant = { λ a. length a.frames.items ≤ 9 };
+    ghost invariant = { λ a. length a.frames.items ≤ most_frames };
 }
 
 impl LinkOut {
@@ -63,7 +67,7 @@ impl LinkOut {
     /// The frames that are to be sent, in order.
     pub fn frames(&self) -> &[FrameBuf]
         ensures value { result.now ≡ self.now.frames }
-        ensures most { length result.now ≤ 9 }
+        ensures most { length result.now ≤ most_frames }
     {
         self.frames.as_slice()
     }
@@ -112,17 +116,9 @@ impl LinkOut {
               (frames_value frame.entry));
         } }
     {
-        match frame {
-            Some(frame) => self.put(role, &frame),
-            None => self.put_none(),
+        if let Some(frame) = frame {
+            self.put(role, &frame);
         }
-    }
-
-    /// Appends no frame.
-    pub(crate) fn put_none(&self)
-        ensures { with_frames self.now.frames [] ≡ self.now.frames }
-    {
-        let _ = self.frames.len();
     }
 
     /// Ends a call that tells nothing of the link. T1 ran before it, and is to run now.
@@ -150,14 +146,12 @@ impl LinkOut {
         }
     }
 
-    /// Appends a frame. A tenth one is dropped, as a lost frame.
+    /// Appends a frame. One for which there is no room is dropped, as a lost frame.
     pub(crate) fn put(&mut self, role: Role, frame: &Frame<'_>)
         requires { HasSpelling (value_of frame.now) }
-        ensures out { self.new ≡ record self.old {
-          frames = with_frames self.old.frames (spelling role (value_of
-              frame.now) ∷ []);
+        ensures { self.new ≡ record self.old {
+          frames = with_frames self.old.frames (spelling role (value_of frame.now) ∷ []);
         } }
-        ensures most { length self.new.frames ≤ 9 }
     {
         if self.frames.is_full() {
             return;

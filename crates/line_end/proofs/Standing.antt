@@ -61,13 +61,14 @@ record Parted (kept : List Bool) (frames more : List Octets) : Type 0 where
   is : (front : List Octets) → front ++ chosen before frames ++ chosen behind more ≡ front ++ chosen kept (with_frames frames more)
 
 parted : (kept : List Bool) (frames more : List Octets) → Parted kept frames more
-parted kept frames more =
-    let all = within 9 kept (frames ++ more) in
+parted kept frames [] = record { before = kept; behind = []; is = λ front. append-nil (front ++ chosen kept frames) }
+parted kept frames (frame ∷ more) =
+    let all = within 9 kept (frames ++ frame ∷ more) in
     record {
       before = all.0;
       behind = drop (length frames) all.0;
-      is = λ front. append_assoc front (chosen all.0 frames) (chosen (drop (length frames) all.0) more) ∙
-          ap (λ (xs : List Octets). front ++ xs) (sym (chosen-append all.0 frames more) ∙ sym all.1);
+      is = λ front. append_assoc front (chosen all.0 frames) (chosen (drop (length frames) all.0) (frame ∷ more)) ∙
+          ap (λ (xs : List Octets). front ++ xs) (sym (chosen-append all.0 frames (frame ∷ more)) ∙ sym all.1);
     }
 
 -- ---- the DTE

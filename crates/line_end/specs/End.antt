@@ -10,7 +10,7 @@ use Rattle.lapb.specs.declared.note.Timing.{Timing}
 use Rattle.lapb.specs.Machine as machine
 use Rattle.lapb.specs.Machine.{Octets, Link, Step, timing}
 use Rattle.lapb.specs.Octets.{on_octets}
-use Rattle.lapb.specs.Out.{with_frames}
+use Rattle.lapb.specs.Out.{most_frames, with_frames}
 
 pub record End : Type 0 where
   pub link : Link
@@ -33,7 +33,7 @@ runs_then Timing.Keep ran = ran
 runs_then Timing.Start ran = true
 runs_then Timing.Stop ran = false
 
--- A step of the link: its frames go out behind those that were not taken yet, of which a tenth and more are dropped, as lost,
+-- A step of the link: its frames go out behind those that were not taken yet, of which those past the most are dropped, as lost,
 -- and T1 does what the step asks for.
 abbrev pub did : End → Step → End
 did e step = record {
@@ -45,7 +45,7 @@ did e step = record {
 -- a step that sends at most so many frames, of which none is dropped where there is room for so many
 pub record SendsUpTo (most : ℕ) (e : End) (step : Step) : Type 0 where
   pub few : length step.frames ≤ most
-  pub all : length e.frames + most ≤ 9 → (did e step).frames ≡ e.frames ++ map (spelling e.link.role) step.frames
+  pub all : length e.frames + most ≤ most_frames → (did e step).frames ≡ e.frames ++ map (spelling e.link.role) step.frames
 
 -- the frames that were not taken are dropped, as lost
 abbrev pub without_frames : End → End

@@ -11,15 +11,12 @@ ghost use Rattle.line_end.specs.End.{timed, runs_then, made, without_frames, rec
 
 use arrayvec::ArrayVec;
 use frame_codec::FrameBuf;
-use lapb::{BadParams, Link, LinkOut, LinkParams, Note, OfferFault, Phase, Timing};
+use lapb::{BadParams, Link, LinkOut, LinkParams, MOST_FRAMES, Note, OfferFault, Phase, Timing};
 use link_timers::{Role, TimerId, Timers};
 use std::marker::Model;
 
 /// How long T1 runs, in ticks of a twentieth of a second (X.25 2.4.8.1).
 const T1_TICKS: u16 = 60;
-
-/// How many frames may wait to go out. One event of a node sends fewer.
-pub const MOST_FRAMES: usize = 9;
 
 /// What a received frame tells the packet layer.
 #[derive(Drop)]
@@ -33,8 +30,8 @@ pub struct Received<'a> {
 /// The end of a line: the link (X.25 2.4), the timers, and the frames that go out.
 ///
 /// A node calls it in this order in each of its events: `drop_frames`, what happens at this line (a frame, an expiry, a
-/// relink), an offer of each packet that may go, `settle`; then it takes the frames by `out`. Up to nine frames wait to be
-/// taken; a tenth is dropped, as a lost frame, which no event with at most two calls before `settle` comes to.
+/// relink), an offer of each packet that may go, `settle`; then it takes the frames by `out`. Up to [`MOST_FRAMES`] frames
+/// wait to be taken; one more is dropped, as a lost frame, which no event with at most two calls before `settle` comes to.
 #[derive(Drop)]
 pub struct LineEnd {
     role: Role,
@@ -268,7 +265,6 @@ fn carry_out(out: &LinkOut, timers: &mut Timers, frames: &mut ArrayVec<FrameBuf,
 fn append(more: &[FrameBuf], frames: &mut ArrayVec<FrameBuf, MOST_FRAMES>)
     ensures { frames.new.items ≡ with_frames frames.old.items more.now }
 {
-    let _ = frames.len();
     for frame in more {
         if !frames.is_full() {
             frames.push(copy_of(frame));

@@ -3,4 +3,5 @@
 
 mod end;
 
-pub use end::{LineEnd, MOST_FRAMES, Received};
+pub use end::{LineEnd, Received};
+pub use lapb::MOST_FRAMES;

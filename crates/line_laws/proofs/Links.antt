@@ -1,6 +1,6 @@
 -- What each call at an end makes of a world of two links, as the end and the other one see it.
 use Rattle.std.specs.Prelude.{◌≡◌, ℕ, zero, suc, ◌≤◌, Bool, true, false, not, ◌&&◌, ◌==◌, if◌then◌else◌, List, [], ◌∷◌, ◌++◌, length, map, take, slice_get, Option, Some, None}
-use Rattle.std.proofs.Common.{refl, sym, ap, ◌∙◌, subst, arith, append_assoc}
+use Rattle.std.proofs.Common.{refl, sym, ap, ◌∙◌, subst, arith, append_assoc, append-nil}
 use Rattle.std.proofs.lemmas.Bool.{eq-eqb, eqb-true}
 use Rattle.link_timers.specs.declared.role.Role.{Role}
 use Rattle.link_timers.specs.declared.role.Role.TheVariants.{Dte, Dce}
@@ -11,6 +11,7 @@ use Rattle.lapb.specs.declared.note.Note.{Note}
 use Rattle.lapb.specs.declared.note.Note.TheVariants.{Nothing, Up, Down}
 use Rattle.lapb.specs.Machine.{Octets, Link, Step, is_up, can_offer, is_full, on_frame, on_t1, relink, relink_as, settle, settle_in, send_all, sendable, offer}
 use Rattle.lapb.specs.Octets.{on_octets}
+use Rattle.lapb.specs.Out.{with_frames}
 use Rattle.lapb.specs.World.{Sent, World, Offer, Deliver, Lose, Expire, Relink, Settle, Restart, IsPrefix, happens, dte_does, dce_does, to_dce, logged, emptied, is_sabm, is_up_note, offered, remade}
 use Rattle.lapb.specs.Fits.{AllSpelt, octets_of}
 use Rattle.lapb.specs.Line.{chosen, StandsIn}
@@ -83,13 +84,15 @@ pub goes_none : (role : Role) (mine yours : Link) (front waiting coming : List O
 goes_none role mine yours front waiting coming x y g =
     subst (λ (q : List Octets). Goes role mine yours (front ++ q) coming x y) (cut-none waiting) (goes_thin role mine yours front waiting coming x y (cut zero waiting) g)
 
--- frames that come behind those that wait, of which nine are kept
+-- frames that come behind those that wait, as far as there is room
 pub goes_behind : (role : Role) (mine yours : Link) (front waiting new coming : List Octets) (x y : Side) →
-    Goes role mine yours ((front ++ waiting) ++ new) coming x y → Goes role mine yours (front ++ take 9 (waiting ++ new)) coming x y
-goes_behind role mine yours front waiting new coming x y g =
-    subst (λ (q : List Octets). Goes role mine yours (front ++ q) coming x y) (cut-is 9 (waiting ++ new))
-    (goes_thin role mine yours front (waiting ++ new) coming x y (cut 9 (waiting ++ new))
-    (subst (λ (q : List Octets). Goes role mine yours q coming x y) (append_assoc {A = Octets} front waiting new) g))
+    Goes role mine yours ((front ++ waiting) ++ new) coming x y → Goes role mine yours (front ++ with_frames waiting new) coming x y
+goes_behind role mine yours front waiting [] coming x y g =
+    subst (λ (q : List Octets). Goes role mine yours q coming x y) (append-nil (front ++ waiting)) g
+goes_behind role mine yours front waiting (frame ∷ new) coming x y g =
+    subst (λ (q : List Octets). Goes role mine yours (front ++ q) coming x y) (cut-is 9 (waiting ++ frame ∷ new))
+    (goes_thin role mine yours front (waiting ++ frame ∷ new) coming x y (cut 9 (waiting ++ frame ∷ new))
+    (subst (λ (q : List Octets). Goes role mine yours q coming x y) (append_assoc {A = Octets} front waiting (frame ∷ new)) g))
 
 -- ---- calls that begin no session and accept nothing
 

@@ -41,7 +41,7 @@ impl Link {
     {
         match self.phase {
             Phase::Up => self.send_up(out),
-            Phase::Down | Phase::SettingUp | Phase::Rejecting => out.put_none(),
+            Phase::Down | Phase::SettingUp | Phase::Rejecting => {}
         }
     }
 
@@ -72,7 +72,7 @@ impl Link {
         } }
     {
         if !self.owed {
-            return out.put_none();
+            return;
         }
         self.owed = false;
         let nr = self.receive.expected();

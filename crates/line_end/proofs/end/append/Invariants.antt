@@ -1,9 +1,6 @@
-use Rattle.std.proofs.Common.{◌≡◌, drop, length, ◌≤◌}
+use Rattle.std.proofs.Common.{◌≡◌, drop}
 use Rattle.lapb.specs.Out.{with_frames}
 use Rattle.line_end.proofs.end.append.Given as goal
 
 abbrev pub invariant-loop-frame : goal.invariant-loop-frame
-invariant-loop-frame l = record {
-  most : length l.frames.items ≤ 9;
-  frames : with_frames l.frames.items (drop l.frame-index l.more) ≡ with_frames l.fn.frames.items l.more;
-}
+invariant-loop-frame l = with_frames l.frames.items (drop l.frame-index l.more) ≡ with_frames l.fn.frames.items l.more

@@ -14,12 +14,11 @@ loop-place-preserved c =
     record {
       window = one_more_used c.loop-place.place c.args.window.now c.loop-place.window _
           c.loop-place.invariant.window c.take_number-ns.ensures.window;
-      others = frames_alone c.args.out.now c.loop-place.out _ _ c.loop-place.invariant.others c.put.ensures.out;
-      most = λ _. c.put.ensures.most;
+      others = frames_alone c.args.out.now c.loop-place.out _ _ c.loop-place.invariant.others c.put.ensures;
       frames =
           ap (λ (o : Out). with_frames o.frames (map (spelling c.args.role) (numbered (c.args.window.now.oldest +
           (c.loop-place.place + 1)) c.args.nr (drop (c.loop-place.place + 1) c.args.queue.now))))
-          c.put.ensures.out
+          c.put.ensures
           ∙ ap (λ n. with_frames (with_frames c.loop-place.out.frames (spelling c.args.role (command (I n
           c.args.nr c.packet-information.result.now) false) ∷ []))
           (map (spelling c.args.role) (numbered (c.args.window.now.oldest + (c.loop-place.place + 1)) c.args.nr

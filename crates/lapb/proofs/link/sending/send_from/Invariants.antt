@@ -8,7 +8,6 @@ abbrev pub invariant-loop-place : goal.invariant-loop-place
 invariant-loop-place l = record {
   window : l.window ≡ record l.fn.window { next = l.place; top = max l.fn.window.top l.place };
   others : l.out ≡ record l.fn.out { frames = l.out.frames };
-  most : l.fn.window.next < l.place → length l.out.frames ≤ 9;
   frames : with_frames l.out.frames (map (spelling l.role) (numbered (l.fn.window.oldest + l.place) l.nr (drop
       l.place l.queue)))
       ≡ with_frames l.fn.out.frames (map (spelling l.role) (numbered (l.fn.window.oldest + l.fn.window.next) l.nr
