@@ -3,7 +3,7 @@ use Rattle.std.proofs.Common.{◌≡◌, ℕ, zero, suc, ◌+◌, ◌<◌, ◌�
 use Rattle.std.specs.Prelude.{MatchOption, ◌⊎◌}
 use Rattle.std.specs.Option.{option_map}
 use Rattle.std.specs.FinMap.{get}
-use Rattle.address_routes.specs.declared.routes.LineNo.{LineNo}
+use Rattle.address_routes.specs.declared.line_no.LineNo.{LineNo}
 use Rattle.address_routes.specs.Routes.{RouteMap, Begins, IsLongest, NoneBegins, or_else, line_within, line_for}
 
 length-take-all : (xs : List ℕ) (n : ℕ) → n ≤ length xs → length (take n xs) ≡ n

@@ -1,6 +1,7 @@
 -- Routes as a map from prefixes to lines, and the longest prefix of an address.
-use Rattle.std.specs.Prelude.{◌≡◌, ℕ, zero, suc, ◌≤◌, ◌==◌, ◌++◌, List, length, take, Option, Some, None, nat_le, if◌then◌else◌}
-use Rattle.std.specs.FinMap.{FinMap, get, len, contains_key}
+use Rattle.std.specs.Prelude.{◌≡◌, ℕ, zero, suc, ◌+◌, ◌≤◌, Bool, ◌++◌, List, length, take, Option, Some, None, eqb, nat_le, if◌then◌else◌}
+use Rattle.std.specs.List.{list_any, starts_with}
+use Rattle.std.specs.FinMap.{FinMap, get, len, contains_key, keys}
 use Rattle.std.specs.Cmp.Lexicographic.{slice_cmp}
 use Rattle.std.specs.Ordering.{nat_cmp}
 use Rattle.std.specs.declared.cmp.Ordering.{Ordering}
@@ -45,6 +46,20 @@ line_within (suc n) routes address = or_else (get routes (take (suc n) address))
 -- the line that calls to the address go to
 abbrev pub line_for : RouteMap → List ℕ → Option ℕ
 line_for routes address = line_within (length address) routes address
+
+-- whether some route's prefix begins with the digits
+abbrev pub begins_a_route : RouteMap → List ℕ → Bool
+begins_a_route routes digits = list_any (λ prefix. starts_with eqb prefix digits) (keys routes)
+
+-- how many beginnings of the address, of at most so many digits, begin some route's prefix
+abbrev pub beginnings : ℕ → RouteMap → List ℕ → ℕ
+beginnings zero routes address = 0
+beginnings (suc n) routes address =
+    beginnings n routes address + (if begins_a_route routes (take (suc n) address) then 1 else 0)
+
+-- how many nodes are looked at for the address: the root, and one for each such beginning
+abbrev pub looks_for : RouteMap → List ℕ → ℕ
+looks_for routes address = 1 + beginnings (length address) routes address
 
 -- why a route is not added, but for want of memory
 abbrev pub add_fault : List ℕ → RouteMap → Option RouteFault

@@ -1,16 +1,64 @@
--- Which map a list of routes is.
-use Rattle.std.specs.Prelude.{◌≡◌, ℕ, ◌≤◌, List, length, map}
-use Rattle.std.specs.FinMap.{from_entries, len}
-use Rattle.address_routes.specs.declared.routes.Route.{Route}
+-- Which map a tree of digits is.
+use Rattle.std.specs.Prelude.{◌≡◌, ℕ, zero, suc, ◌+◌, ◌*◌, ◌<◌, ◌≤◌, List, [], ◌∷◌, ◌++◌, length, map, Option, Some, None}
+use Rattle.std.specs.List.{flat_map}
+use Rattle.std.specs.FinMap.{from_entries, len, get}
+use Rattle.address_routes.specs.declared.tree.Node.{Node}
+use Rattle.address_routes.specs.declared.tree.NodeNo.{NodeNo}
 use Rattle.address_routes.specs.Routes.{by_digits, RouteMap}
+use Rattle.address_routes.specs.Tree.{node_at, child, line_of}
 
-abbrev pub entry_of : Route → List ℕ × ℕ
-entry_of route = (route.prefix, route.line.0)
+abbrev pub ten_digits : List ℕ
+ten_digits = 0 ∷ 1 ∷ 2 ∷ 3 ∷ 4 ∷ 5 ∷ 6 ∷ 7 ∷ 8 ∷ 9 ∷ []
 
-abbrev pub map_of : List Route → RouteMap
-map_of routes = from_entries (map entry_of routes)
+-- the lists of so many decimal digits
+unfoldable pub of_length : ℕ → List (List ℕ)
+of_length zero = [] ∷ []
+of_length (suc n) = flat_map (λ digit. map (λ digits. digit ∷ digits) (of_length n)) ten_digits
 
--- each prefix stands once, and there are at most 256 routes
-pub record AreRoutes (routes : List Route) : Type 0 where
-  pub once : len (map_of routes) ≡ length routes
-  pub most : length routes ≤ 256
+-- the lists of one to so many decimal digits
+unfoldable pub up_to : ℕ → List (List ℕ)
+up_to zero = []
+up_to (suc n) = of_length (suc n) ++ up_to n
+
+-- all that may be a prefix
+unfoldable pub prefixes : List (List ℕ)
+prefixes = up_to 15
+
+abbrev pub with_line : List ℕ → Option ℕ → List (List ℕ × ℕ) → List (List ℕ × ℕ)
+with_line prefix None entries = entries
+with_line prefix (Some line) entries = (prefix, line) ∷ entries
+
+-- those prefixes that have a line, each with its line
+abbrev pub entries_of : (List ℕ → Option ℕ) → List (List ℕ) → List (List ℕ × ℕ)
+entries_of has_line [] = []
+entries_of has_line (prefix ∷ others) = with_line prefix (has_line prefix) (entries_of has_line others)
+
+abbrev pub collected : (List ℕ → Option ℕ) → RouteMap
+collected has_line = from_entries (entries_of has_line prefixes)
+
+-- each prefix that leads to a node with a line, with this line
+abbrev pub map_of : List Node → RouteMap
+map_of nodes = collected (line_of nodes)
+
+-- some route's prefix begins with the digits
+pub record BeginsRoute (routes : RouteMap) (digits : List ℕ) : Type 0 where
+  pub further : List ℕ
+  pub line : ℕ
+  pub has_route : get routes (digits ++ further) ≡ Some line
+
+-- each node has ten places and the digits that lead to it, its path, and each node but the root is of use
+pub record IsTree (IsUsed : List ℕ → Type 0) (nodes : List Node) : Type 0 where
+  pub path : ℕ → List ℕ
+  pub root : path 0 ≡ []
+  pub edges : (n digit : ℕ) (c : NodeNo) → child nodes n digit ≡ Some c
+      → (c.0 < length nodes) × (path c.0 ≡ path n ++ digit ∷ [])
+  pub used : (n : ℕ) → 0 < n → n < length nodes → IsUsed (path n)
+  pub some : 0 < length nodes
+  pub ten : (n : ℕ) → n < length nodes → length (node_at nodes n).next ≡ 10
+
+-- a tree in which each node but the root begins some route's prefix, and so many routes, at most 256
+pub record AreRoutes (nodes : List Node) (count : ℕ) : Type 0 where
+  pub tree : IsTree (BeginsRoute (map_of nodes)) nodes
+  pub counted : len (map_of nodes) ≡ count
+  pub most : count ≤ 256
+  pub size : length nodes ≤ 1 + 15 * count

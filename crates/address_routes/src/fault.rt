@@ -1,5 +1,5 @@
 //! Why a route is not added.
-use std::alloc::AllocFailed;
+use std::alloc::AllocError;
 use thiserror::Error;
 
 /// Why a route is not added.
@@ -16,13 +16,13 @@ pub enum RouteFault {
     OutOfMemory,
 }
 
-impl<T: Drop> From<AllocFailed<T>> for RouteFault {
+impl From<AllocError> for RouteFault {
     ghost use Rattle.std.specs.Prelude.{◌≡◌};
     ghost use Rattle.address_routes.specs.declared.fault.RouteFault.TheVariants.{OutOfMemory};
 
     ghost from_gives = { λ _ fault. fault ≡ OutOfMemory };
 
-    fn from(_: AllocFailed<T>) -> Self {
+    fn from(_: AllocError) -> Self {
         RouteFault::OutOfMemory
     }
 }

@@ -2,10 +2,13 @@
 #![tactic(auto)]
 
 mod fault;
+mod line_no;
 mod routes;
+mod tree;
 
 pub use fault::RouteFault;
-pub use routes::{LineNo, MAX_ROUTES, Routes};
+pub use line_no::LineNo;
+pub use routes::{MAX_ROUTES, Routes};
 
 #[cfg(test)]
 mod tests;
