@@ -13,7 +13,7 @@ use Rattle.address_routes.specs.declared.fault.RouteFault.TheVariants.{Duplicate
 use Rattle.address_routes.specs.declared.line_no.LineNo.{LineNo}
 use Rattle.address_routes.specs.declared.tree.Node.{Node}
 use Rattle.address_routes.specs.Routes.{RouteMap, by_digits, add_fault}
-use Rattle.address_routes.specs.Tree.{and_then, node_at, child, walk, line_at, line_of, grown, end_of, lined}
+use Rattle.address_routes.specs.Tree.{and_then, node_at, child, walk, line_at, line_of, with_nodes, last_node, with_line}
 use Rattle.address_routes.specs.RoutesView.{map_of, BeginsRoute, IsTree, AreRoutes}
 use Rattle.address_routes.proofs.Walks.{walk_within}
 use Rattle.address_routes.proofs.Collecting.{same, same_is, same_itself, collected_more, get_prefix, is_prefix}
@@ -123,8 +123,8 @@ pub record Added (nodes news : List Node) (count : ℕ) (digits : List ℕ) (lin
 -- the tree with nodes for the further digits, and how it was come to
 pub grown_tree : (nodes : List Node) (count : ℕ) (digits further : List ℕ) (known n line : ℕ) → AreRoutes nodes count → AreDigits digits
     → Stops nodes digits known n → take known digits ++ further ≡ digits
-    → Grown (BeginsRoute (insert (map_of nodes) digits line)) nodes (grown nodes n further) (take known digits ++ further)
-    (end_of (length nodes) n further) (length further)
+    → Grown (BeginsRoute (insert (map_of nodes) digits line)) nodes (with_nodes nodes n further) (take known digits ++ further)
+    (last_node (length nodes) n further) (length further)
 grown_tree nodes count digits further known n line are are_digits s whole =
     let Q : List ℕ → Type 0 = BeginsRoute (insert (map_of nodes) digits line) in
     let here : get (insert (map_of nodes) digits line) digits ≡ Some line =
@@ -137,27 +137,27 @@ grown_tree nodes count digits further known n line are are_digits s whole =
 
 -- the last node is there
 pub last_within : (nodes : List Node) (count : ℕ) (digits further : List ℕ) (known n : ℕ) → AreRoutes nodes count → AreDigits digits
-    → Stops nodes digits known n → take known digits ++ further ≡ digits → end_of (length nodes) n further < length (grown nodes n further)
+    → Stops nodes digits known n → take known digits ++ further ≡ digits → last_node (length nodes) n further < length (with_nodes nodes n further)
 last_within nodes count digits further known n are are_digits s whole =
     let g = grown_tree nodes count digits further known n 0 are are_digits s whole in
-    walk_within (grown nodes n further) (linked _ (grown nodes n further) g.tree) (take known digits ++ further) 0 (end_of (length nodes) n further)
+    walk_within (with_nodes nodes n further) (linked _ (with_nodes nodes n further) g.tree) (take known digits ++ further) 0 (last_node (length nodes) n further)
     g.tree.some g.walked
 
 pub added : (nodes : List Node) (count : ℕ) (digits further : List ℕ) (known n : ℕ) (line : LineNo) → AreRoutes nodes count → AreDigits digits
     → Stops nodes digits known n → take known digits ++ further ≡ digits → line_of nodes digits ≡ None → count < 256
-    → Added nodes (lined (grown nodes n further) (end_of (length nodes) n further) line) count digits line.0
+    → Added nodes (with_line (with_nodes nodes n further) (last_node (length nodes) n further) line) count digits line.0
 added nodes count digits further known n line are are_digits s whole none few =
     let Q : List ℕ → Type 0 = BeginsRoute (insert (map_of nodes) digits line.0) in
-    let news : List Node = grown nodes n further in
-    let last : ℕ = end_of (length nodes) n further in
+    let news : List Node = with_nodes nodes n further in
+    let last : ℕ = last_node (length nodes) n further in
     let g : Grown Q nodes news (take known digits ++ further) last (length further) =
     grown_tree nodes count digits further known n line.0 are are_digits s whole in
     let leads : walk news digits 0 ≡ Some last = ap (λ p. walk news p 0) (sym whole) ∙ g.walked in
     let within : last < length news = walk_within news (linked Q news g.tree) digits 0 last g.tree.some leads in
-    let map : map_of (lined news last line) ≡ insert (map_of nodes) digits line.0 =
-    collected_more (line_of nodes) (line_of (lined news last line)) digits line.0 (is_prefix digits are_digits.2 are_digits.0 are_digits.1)
+    let map : map_of (with_line news last line) ≡ insert (map_of nodes) digits line.0 =
+    collected_more (line_of nodes) (line_of (with_line news last line)) digits line.0 (is_prefix digits are_digits.2 are_digits.0 are_digits.1)
     (λ q. line_of_lined Q news last digits line g.tree leads q ∙ ap (cond (same q digits) (Some line.0)) (g.kept q)) in
-    let T : RouteMap → Type 0 = λ routes. IsTree (BeginsRoute routes) (lined news last line) in
+    let T : RouteMap → Type 0 = λ routes. IsTree (BeginsRoute routes) (with_line news last line) in
     let further_most : length (take known digits) + length further ≡ length digits = sym (length-append (take known digits) further) ∙ ap length whole in
     let new : contains_key (map_of nodes) digits ≡ false = ap is_some (get_address nodes digits are_digits ∙ none) in
     record {
@@ -171,7 +171,7 @@ added nodes count digits further known n line are are_digits s whole none few =
         most = omega arith;
         size = (let old : length nodes ≤ 1 + 15 * count = are.size in
             let longer : length news ≡ length nodes + length further = g.longer in
-            let lines : length (lined news last line) ≡ length news = length-set news last _ in
+            let lines : length (with_line news last line) ≡ length news = length-set news last _ in
             let most : length digits ≤ 15 = are_digits.1 in
             omega arith);
       };
@@ -184,24 +184,24 @@ further_of digits known = take (length digits - known) (drop known digits)
 
 -- the last node is there, as the code has it
 pub last_there : (nodes middle : List Node) (count : ℕ) (digits address : List ℕ) (known n last : ℕ) → AreRoutes nodes count → digits ≡ address
-    → AreDigits address → Stops nodes digits known n → middle ≡ grown nodes n (further_of digits known)
-    → last ≡ end_of (length nodes) n (further_of digits known) → last < length middle
+    → AreDigits address → Stops nodes digits known n → middle ≡ with_nodes nodes n (further_of digits known)
+    → last ≡ last_node (length nodes) n (further_of digits known) → last < length middle
 last_there nodes middle count digits address known n last are is are_digits s grows ends =
     let P : ℕ → List Node → Type 0 = λ k news. k < length news in
     subst (λ k. P k middle) (sym ends)
-    (subst (P (end_of (length nodes) n (further_of digits known))) (sym grows)
+    (subst (P (last_node (length nodes) n (further_of digits known))) (sym grows)
     (last_within nodes count digits (further_of digits known) known n are (subst AreDigits (sym is) are_digits) s (whole_of digits known)))
 
 -- the routes that the code makes
 pub made : (nodes middle news : List Node) (count : ℕ) (digits address : List ℕ) (known n last : ℕ) (line : LineNo) (whole : Option LineNo)
     → AreRoutes nodes count → digits ≡ address → AreDigits address → Stops nodes digits known n
     → option_map (λ line. line.0) whole ≡ line_of nodes digits → is_some whole ≡ false → count < 256
-    → middle ≡ grown nodes n (further_of digits known) → last ≡ end_of (length nodes) n (further_of digits known)
-    → news ≡ lined middle last line → Added nodes news count address line.0
+    → middle ≡ with_nodes nodes n (further_of digits known) → last ≡ last_node (length nodes) n (further_of digits known)
+    → news ≡ with_line middle last line → Added nodes news count address line.0
 made nodes middle news count digits address known n last line whole are is are_digits s has none few grows ends lines =
-    let all : Added nodes (lined (grown nodes n (further_of digits known)) (end_of (length nodes) n (further_of digits known)) line) count digits line.0 =
+    let all : Added nodes (with_line (with_nodes nodes n (further_of digits known)) (last_node (length nodes) n (further_of digits known)) line) count digits line.0 =
     added nodes count digits (further_of digits known) known n line are (subst AreDigits (sym is) are_digits) s (whole_of digits known)
     (unrouted nodes digits whole has none) few in
-    let same : lined (grown nodes n (further_of digits known)) (end_of (length nodes) n (further_of digits known)) line ≡ news =
-    ap (λ k. lined (grown nodes n (further_of digits known)) k line) (sym ends) ∙ ap (λ ns. lined ns last line) (sym grows) ∙ sym lines in
+    let same : with_line (with_nodes nodes n (further_of digits known)) (last_node (length nodes) n (further_of digits known)) line ≡ news =
+    ap (λ k. with_line (with_nodes nodes n (further_of digits known)) k line) (sym ends) ∙ ap (λ ns. with_line ns last line) (sym grows) ∙ sym lines in
     subst (λ address. Added nodes news count address line.0) is (subst (λ news. Added nodes news count digits line.0) same all)

@@ -11,7 +11,7 @@ use Rattle.std.proofs.lemmas.List.Folds.{list_any-append}
 use Rattle.std.proofs.lemmas.Bool.{and_parts, or_left, or_right, cond-true}
 use Rattle.packet_codec.specs.Address.{are_decimal}
 use Rattle.address_routes.specs.Routes.{by_digits, RouteMap}
-use Rattle.address_routes.specs.RoutesView.{ten_digits, of_length, up_to, prefixes, with_line, entries_of, collected}
+use Rattle.address_routes.specs.RoutesView.{ten_digits, of_length, up_to, prefixes, with_entry, entries_of, collected}
 
 -- the same digits, by the test of the map
 abbrev pub same : List ℕ → List ℕ → Bool
@@ -99,7 +99,7 @@ twice false o = refl
 
 found : (line : List ℕ → Option ℕ) (p q : List ℕ) (ps : List (List ℕ)) (o : Option ℕ) → line q ≡ o → (b : Bool) → same p q ≡ b
     → find by_digits p (entries_of line ps) ≡ cond (among ps p) (line p) None
-    → find by_digits p (with_line q o (entries_of line ps)) ≡ cond (b || among ps p) (line p) None
+    → find by_digits p (with_entry q o (entries_of line ps)) ≡ cond (b || among ps p) (line p) None
 found line p q ps None is true at later =
     later ∙ ap (λ o. cond (among ps p) o None) (ap line (same_is p q at) ∙ is) ∙ sym (twice (among ps p) None) ∙ sym (ap line (same_is p q at) ∙ is)
 found line p q ps None is false at later = later

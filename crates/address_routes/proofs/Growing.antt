@@ -10,7 +10,7 @@ use Rattle.address_routes.specs.declared.line_no.LineNo.{LineNo}
 use Rattle.address_routes.specs.declared.tree.Node.{Node}
 use Rattle.address_routes.specs.declared.tree.NodeNo.{NodeNo}
 use Rattle.address_routes.specs.Routes.{RouteMap, by_digits}
-use Rattle.address_routes.specs.Tree.{and_then, new_node, no_node, node_at, child, walk, line_at, line_of, with_child, grown, end_of, lined, IsLinked}
+use Rattle.address_routes.specs.Tree.{and_then, new_node, no_node, node_at, child, walk, line_at, line_of, with_child, with_nodes, last_node, with_line, IsLinked}
 use Rattle.address_routes.specs.RoutesView.{map_of, collected, prefixes, BeginsRoute, IsTree, AreRoutes}
 use Rattle.address_routes.proofs.Walks.{child_push, walk-append, walk_on, walk_one, walk_within, child_past, length-with_child, child_new, child_either, walk_keeps, new_leads_nowhere, value_keeps, ten_with_child}
 use Rattle.address_routes.proofs.Collecting.{same, same_is, same_itself, among, collected_none, collected_more, get_prefix}
@@ -109,7 +109,7 @@ pub record Grown (P : List ℕ → Type 0) (nodes news : List Node) (p : List �
 
 pub grow : (P : List ℕ → Type 0) (nodes : List Node) (n : ℕ) (p digits : List ℕ) → IsTree P nodes → walk nodes p 0 ≡ Some n
     → are_decimal digits ≡ true → StartsNothing nodes n digits → ((q r : List ℕ) → q ++ r ≡ p ++ digits → P q)
-    → Grown P nodes (grown nodes n digits) (p ++ digits) (end_of (length nodes) n digits) (length digits)
+    → Grown P nodes (with_nodes nodes n digits) (p ++ digits) (last_node (length nodes) n digits) (length digits)
 grow P nodes n p [] t leads decimal nothing uses = record {
   tree = t;
   walked = ap (λ q. walk nodes q 0) (append-nil p) ∙ leads;
@@ -127,54 +127,54 @@ grow P nodes n p (d ∷ digits) t leads decimal nothing uses =
     let leads1 : walk (with_child nodes n d) (p ++ d ∷ []) 0 ≡ Some (length nodes) =
     walk_on (with_child nodes n d) p (d ∷ []) 0 (Some n) (walk_keeps nodes n d within none p 0 n leads)
     ∙ walk_one (with_child nodes n d) n d (Some (record { 0 = length nodes })) (child_new nodes n d within fits) in
-    let rest : Grown P (with_child nodes n d) (grown (with_child nodes n d) (length nodes) digits) ((p ++ d ∷ []) ++ digits)
-    (end_of (length (with_child nodes n d)) (length nodes) digits) (length digits) =
+    let rest : Grown P (with_child nodes n d) (with_nodes (with_child nodes n d) (length nodes) digits) ((p ++ d ∷ []) ++ digits)
+    (last_node (length (with_child nodes n d)) (length nodes) digits) (length digits) =
     grow P (with_child nodes n d) (length nodes) (p ++ d ∷ []) digits t1 leads1 parts.1 (λ e es _. new_leads_nowhere nodes n d e within)
     (λ q r is. uses q r (is ∙ append_assoc p (d ∷ []) digits)) in
     let count : length (with_child nodes n d) ≡ length nodes + 1 = length-with_child nodes n d in
     record {
       tree = rest.tree;
       walked =
-          ap (λ q. walk (grown (with_child nodes n d) (length nodes) digits) q 0) (sym (append_assoc p (d ∷ []) digits))
+          ap (λ q. walk (with_nodes (with_child nodes n d) (length nodes) digits) q 0) (sym (append_assoc p (d ∷ []) digits))
           ∙ rest.walked
-          ∙ ap (λ k. Some (end_of k (length nodes) digits)) count;
+          ∙ ap (λ k. Some (last_node k (length nodes) digits)) count;
       kept = λ q. rest.kept q ∙ value_keeps nodes n d within fits none q 0;
       longer = (let more = rest.longer in omega arith);
     }
 
 -- a line at a node
 at_lined : (nodes : List Node) (n : ℕ) (line : LineNo) → n < length nodes
-    → node_at (lined nodes n line) n ≡ record (node_at nodes n) { line = Some line }
+    → node_at (with_line nodes n line) n ≡ record (node_at nodes n) { line = Some line }
 at_lined nodes n line h = get_or-set_same nodes n _ no_node h
 
-others_lined : (nodes : List Node) (n m : ℕ) (line : LineNo) → m ≢ n → node_at (lined nodes n line) m ≡ node_at nodes m
+others_lined : (nodes : List Node) (n m : ℕ) (line : LineNo) → m ≢ n → node_at (with_line nodes n line) m ≡ node_at nodes m
 others_lined nodes n m line apart = get_or-set_other nodes n m _ no_node apart
 
-next_lined : (nodes : List Node) (n m : ℕ) (line : LineNo) → n < length nodes → (node_at (lined nodes n line) m).next ≡ (node_at nodes m).next
+next_lined : (nodes : List Node) (n m : ℕ) (line : LineNo) → n < length nodes → (node_at (with_line nodes n line) m).next ≡ (node_at nodes m).next
 next_lined nodes n m line h =
     elim (cases_eq m n) [
       | inl is ↦
-          ap (λ k. (node_at (lined nodes n line) k).next) is ∙ ap (λ node. node.next) (at_lined nodes n line h)
+          ap (λ k. (node_at (with_line nodes n line) k).next) is ∙ ap (λ node. node.next) (at_lined nodes n line h)
           ∙ ap (λ k. (node_at nodes k).next) (sym is)
       | inr other ↦ ap (λ node. node.next) (others_lined nodes n m line other)
     ]
 
-child_lined : (nodes : List Node) (n m e : ℕ) (line : LineNo) → n < length nodes → child (lined nodes n line) m e ≡ child nodes m e
+child_lined : (nodes : List Node) (n m e : ℕ) (line : LineNo) → n < length nodes → child (with_line nodes n line) m e ≡ child nodes m e
 child_lined nodes n m e line h = ap (λ next. get_or next e None) (next_lined nodes n m line h)
 
 walk_lined : (nodes : List Node) (n : ℕ) (line : LineNo) → n < length nodes → (q : List ℕ) (m : ℕ)
-    → walk (lined nodes n line) q m ≡ walk nodes q m
+    → walk (with_line nodes n line) q m ≡ walk nodes q m
 walk_lined nodes n line h [] m = refl
 walk_lined nodes n line h (e ∷ q) m =
-    ap (λ o. and_then o (λ c. walk (lined nodes n line) q c.0)) (child_lined nodes n m e line h)
-    ∙ elim (child nodes m e) as (λ o. and_then o (λ c. walk (lined nodes n line) q c.0) ≡ and_then o (λ c. walk nodes q c.0)) [
+    ap (λ o. and_then o (λ c. walk (with_line nodes n line) q c.0)) (child_lined nodes n m e line h)
+    ∙ elim (child nodes m e) as (λ o. and_then o (λ c. walk (with_line nodes n line) q c.0) ≡ and_then o (λ c. walk nodes q c.0)) [
       | None ↦ refl
       | Some c ↦ walk_lined nodes n line h q c.0
     ]
 
-pub tree_lined : (P : List ℕ → Type 0) (nodes : List Node) (n : ℕ) (line : LineNo) → n < length nodes → IsTree P nodes → IsTree P (lined nodes n line)
+pub tree_lined : (P : List ℕ → Type 0) (nodes : List Node) (n : ℕ) (line : LineNo) → n < length nodes → IsTree P nodes → IsTree P (with_line nodes n line)
 tree_lined P nodes n line h t =
-    let count : length (lined nodes n line) ≡ length nodes = length-set nodes n _ in
+    let count : length (with_line nodes n line) ≡ length nodes = length-set nodes n _ in
     record {
       path = t.path;
       root = t.root;
@@ -186,15 +186,15 @@ tree_lined P nodes n line h t =
     }
 
 line_there : (nodes : List Node) (n m : ℕ) (line : LineNo) → n < length nodes → (b : Bool) → (b ≡ true → m ≡ n) → (m ≡ n → b ≡ true)
-    → line_at (lined nodes n line) m ≡ cond b (Some line.0) (line_at nodes m)
+    → line_at (with_line nodes n line) m ≡ cond b (Some line.0) (line_at nodes m)
 line_there nodes n m line h true is at =
-    ap (λ k. line_at (lined nodes n line) k) (is refl) ∙ ap (λ node. option_map (λ line. line.0) node.line) (at_lined nodes n line h)
+    ap (λ k. line_at (with_line nodes n line) k) (is refl) ∙ ap (λ node. option_map (λ line. line.0) node.line) (at_lined nodes n line h)
 line_there nodes n m line h false is at =
     ap (λ node. option_map (λ line. line.0) node.line) (others_lined nodes n m line (λ same. let wrong : false ≡ true = at same in absurd (cc)))
 
 line_of_ends : (P : List ℕ → Type 0) (nodes : List Node) (t : IsTree P nodes) (n : ℕ) (prefix : List ℕ) (line : LineNo) → n < length nodes
     → walk nodes prefix 0 ≡ Some n → (q : List ℕ) (o : Option ℕ) → walk nodes q 0 ≡ o
-    → and_then o (line_at (lined nodes n line)) ≡ cond (same q prefix) (Some line.0) (and_then o (line_at nodes))
+    → and_then o (line_at (with_line nodes n line)) ≡ cond (same q prefix) (Some line.0) (and_then o (line_at nodes))
 line_of_ends P nodes t n prefix line h leads q None is =
     sym (cond-false (same q prefix) (Some line.0) None (false_from_ne_true (same q prefix) (λ at.
     let here : walk nodes q 0 ≡ walk nodes prefix 0 = ap (λ p. walk nodes p 0) (same_is q prefix at) in cc)))
@@ -207,10 +207,10 @@ line_of_ends P nodes t n prefix line h leads q (Some m) is =
 
 -- the digits that lead to it have the line, and no others have another
 pub line_of_lined : (P : List ℕ → Type 0) (nodes : List Node) (n : ℕ) (prefix : List ℕ) (line : LineNo) → IsTree P nodes → walk nodes prefix 0 ≡ Some n
-    → (q : List ℕ) → line_of (lined nodes n line) q ≡ cond (same q prefix) (Some line.0) (line_of nodes q)
+    → (q : List ℕ) → line_of (with_line nodes n line) q ≡ cond (same q prefix) (Some line.0) (line_of nodes q)
 line_of_lined P nodes n prefix line t leads q =
     let within : n < length nodes = walk_within nodes (linked P nodes t) prefix 0 n t.some leads in
-    ap (λ o. and_then o (line_at (lined nodes n line))) (walk_lined nodes n line within q 0)
+    ap (λ o. and_then o (line_at (with_line nodes n line))) (walk_lined nodes n line within q 0)
     ∙ line_of_ends P nodes t n prefix line within leads q (walk nodes q 0) refl
 
 nothing_leads : (o : Option NodeNo) (c : NodeNo) → o ≡ Some c → o ≡ None → ⊥

@@ -6,7 +6,7 @@ use Rattle.std.proofs.lemmas.Bool.{cases_eq}
 use Rattle.address_routes.specs.declared.line_no.LineNo.{LineNo}
 use Rattle.address_routes.specs.declared.tree.Node.{Node}
 use Rattle.address_routes.specs.declared.tree.NodeNo.{NodeNo}
-use Rattle.address_routes.specs.Tree.{and_then, new_node, no_node, node_at, child, walk, line_at, line_of, leading, with_child, lined, IsLinked, line_to}
+use Rattle.address_routes.specs.Tree.{and_then, new_node, no_node, node_at, child, walk, line_at, line_of, leading, with_child, with_line, IsLinked, line_to}
 use Rattle.address_routes.specs.Routes.{or_else}
 
 pub walk-append : (nodes : List Node) (p q : List ℕ) (n : ℕ)

@@ -24,14 +24,14 @@ up_to (suc n) = of_length (suc n) ++ up_to n
 unfoldable pub prefixes : List (List ℕ)
 prefixes = up_to 15
 
-abbrev pub with_line : List ℕ → Option ℕ → List (List ℕ × ℕ) → List (List ℕ × ℕ)
-with_line prefix None entries = entries
-with_line prefix (Some line) entries = (prefix, line) ∷ entries
+abbrev pub with_entry : List ℕ → Option ℕ → List (List ℕ × ℕ) → List (List ℕ × ℕ)
+with_entry prefix None entries = entries
+with_entry prefix (Some line) entries = (prefix, line) ∷ entries
 
 -- those prefixes that have a line, each with its line
 abbrev pub entries_of : (List ℕ → Option ℕ) → List (List ℕ) → List (List ℕ × ℕ)
 entries_of has_line [] = []
-entries_of has_line (prefix ∷ others) = with_line prefix (has_line prefix) (entries_of has_line others)
+entries_of has_line (prefix ∷ others) = with_entry prefix (has_line prefix) (entries_of has_line others)
 
 abbrev pub collected : (List ℕ → Option ℕ) → RouteMap
 collected has_line = from_entries (entries_of has_line prefixes)

@@ -58,15 +58,15 @@ with_child nodes n digit =
     set (nodes ++ new_node ∷ []) n (leading (node_at (nodes ++ new_node ∷ []) n) digit (length nodes))
 
 -- a new node for each of the digits, from a node on
-abbrev pub grown : List Node → ℕ → List ℕ → List Node
-grown nodes n [] = nodes
-grown nodes n (digit ∷ digits) = grown (with_child nodes n digit) (length nodes) digits
+abbrev pub with_nodes : List Node → ℕ → List ℕ → List Node
+with_nodes nodes n [] = nodes
+with_nodes nodes n (digit ∷ digits) = with_nodes (with_child nodes n digit) (length nodes) digits
 
 -- the last of them, where so many nodes were there
-abbrev pub end_of : ℕ → ℕ → List ℕ → ℕ
-end_of count n [] = n
-end_of count n (digit ∷ digits) = end_of (count + 1) count digits
+abbrev pub last_node : ℕ → ℕ → List ℕ → ℕ
+last_node count n [] = n
+last_node count n (digit ∷ digits) = last_node (count + 1) count digits
 
 -- with a line at a node
-abbrev pub lined : List Node → ℕ → LineNo → List Node
-lined nodes n line = set nodes n (record (node_at nodes n) { line = Some line })
+abbrev pub with_line : List Node → ℕ → LineNo → List Node
+with_line nodes n line = set nodes n (record (node_at nodes n) { line = Some line })

@@ -69,7 +69,7 @@ impl Routes {
         if self.count >= MAX_ROUTES {
             return Err(RouteFault::Full);
         }
-        let node = self.tree.lead(walk.node, &digits[walk.digits..])?;
+        let node = self.tree.add_nodes(walk.node, &digits[walk.digits..])?;
         self.tree.set_line(node, line);
         self.count += 1;
         Ok(())

@@ -2,17 +2,17 @@
 ghost use Rattle.std.specs.Prelude.{◌≡◌, ◌+◌, ◌^◌, ◌<◌, ◌≤◌, [], ◌∷◌, Some, None, IfOk, OnOk, OnErr, IsTrue, length, take, slice_index, vec_len, vec_capacity};
 ghost use Rattle.std.specs.Option.{option_map};
 ghost use Rattle.packet_codec.specs.Address.{are_decimal};
-ghost use Rattle.address_routes.specs.Tree.{new_node, node_at, child, walk as walked, line_to, line_of, IsLinked, with_child, grown, end_of, lined};
+ghost use Rattle.address_routes.specs.Tree.{new_node, node_at, child, walk as walked, line_to, line_of, IsLinked, with_child, with_nodes, last_node, with_line};
 
 use crate::line_no::LineNo;
 use std::alloc::{AllocError, Global};
 
 /// The number of a node.
-#[derive(Clone, Copy, Debug, PartialEq, Eq)]
+#[derive(Clone, Copy)]
 pub(crate) struct NodeNo(u16);
 
 /// A node: to which node each further digit leads, and the line of the digits that lead here, if they have a route.
-#[derive(Clone, Copy, Debug)]
+#[derive(Clone, Copy)]
 struct Node {
     next: [Option<NodeNo>; 10],
     line: Option<LineNo>,
@@ -101,12 +101,12 @@ impl Tree {
     }
 
     /// Adds a node for each digit, from a node on, and gives the last. Memory is taken for all of them before any is added.
-    pub(crate) fn lead(&mut self, node: NodeNo, digits: &[u8]) -> Result<NodeNo, AllocError>
+    pub(crate) fn add_nodes(&mut self, node: NodeNo, digits: &[u8]) -> Result<NodeNo, AllocError>
         requires node_in { node.0 < length self.old.nodes.items }
         requires decimal { IsTrue (are_decimal digits.now) }
         requires numbers { length self.old.nodes.items + length digits.now ≤ 2 ^ 16 }
-        ensures nodes { OnOk result (self.new.nodes.items ≡ grown self.old.nodes.items node.0 digits.now) }
-        ensures end { IfOk result (λ last. last.0 ≡ end_of (length self.old.nodes.items) node.0 digits.now) }
+        ensures nodes { OnOk result (self.new.nodes.items ≡ with_nodes self.old.nodes.items node.0 digits.now) }
+        ensures end { IfOk result (λ last. last.0 ≡ last_node (length self.old.nodes.items) node.0 digits.now) }
         ensures err { OnErr result (self.new.nodes.items ≡ self.old.nodes.items) }
     {
         self.nodes.reserve(digits.len())?;
@@ -143,7 +143,7 @@ impl Tree {
     /// Gives a node a line.
     pub(crate) fn set_line(&mut self, node: NodeNo, line: LineNo)
         requires { node.0 < length self.old.nodes.items }
-        ensures { self.new.nodes.items ≡ lined self.old.nodes.items node.0 line }
+        ensures { self.new.nodes.items ≡ with_line self.old.nodes.items node.0 line }
     {
         self.nodes[usize::from(node.0)].line = Some(line);
     }

@@ -3,7 +3,7 @@ use Rattle.std.specs.FinMap.{insert, len}
 use Rattle.std.proofs.lemmas.List.{take_rest}
 use Rattle.address_routes.specs.declared.tree.Node.{Node}
 use Rattle.address_routes.specs.declared.fault.RouteFault.TheVariants.{Duplicate, Full, OutOfMemory}
-use Rattle.address_routes.specs.Tree.{lined, grown, end_of}
+use Rattle.address_routes.specs.Tree.{with_line, with_nodes, last_node}
 use Rattle.address_routes.specs.RoutesView.{map_of, AreRoutes}
 use Rattle.address_routes.proofs.Walks.{walk_within}
 use Rattle.address_routes.proofs.Growing.{linked}
@@ -26,13 +26,13 @@ returns-then-self-ge-MAX_ROUTES-clause-faults c =
     let count : len c.args.self.now ≡ c.self.inside.count = ap len (sym c.self.view_is) ∙ c.self.invariant.counted in
     says _ Full _ _ (full c.args.self.now c.args.prefix.now (known ∙ sym c.if-is_some.ensures) (omega arith)) refl
 
-pub lead-requires-clause-node_in : goal.lead-requires-clause-node_in
-lead-requires-clause-node_in c =
+pub add_nodes-requires-clause-node_in : goal.add_nodes-requires-clause-node_in
+add_nodes-requires-clause-node_in c =
     walk_within c.self.inside.tree.nodes.items (linked _ _ c.self.invariant.tree) _ 0 c.walk-walk.result.node.0 c.self.invariant.tree.some
     c.walk-walk.ensures.reached
 
-pub lead-requires-clause-decimal : goal.lead-requires-clause-decimal
-lead-requires-clause-decimal c =
+pub add_nodes-requires-clause-decimal : goal.add_nodes-requires-clause-decimal
+add_nodes-requires-clause-decimal c =
     decimal_rest c.digits-digits.result.now c.args.prefix.now c.walk-walk.result.digits c.digits-digits.ensures.value c.digits-digits.ensures.fits
 
 pub returns-in_err-node-clause-faults : goal.returns-in_err-node-clause-faults
@@ -46,7 +46,7 @@ pub set_line-requires : goal.set_line-requires
 set_line-requires c =
     let walked = c.walk-walk.ensures in
     let led = c.in_ok-node.ensures in
-    last_there c.self.inside.tree.nodes.items c.lead.new.self.nodes.items c.self.inside.count c.digits-digits.result.now c.args.prefix.now
+    last_there c.self.inside.tree.nodes.items c.add_nodes.new.self.nodes.items c.self.inside.count c.digits-digits.result.now c.args.prefix.now
     c.walk-walk.result.digits c.walk-walk.result.node.0 c.in_ok-node.node.0 c.self.invariant c.digits-digits.ensures.value c.digits-digits.ensures.fits
     (record { reached = walked.reached; within = walked.within; last = walked.last }) led.nodes led.end
 
@@ -55,7 +55,7 @@ invariant_of-self-2 c =
     let walked = c.walk-walk.ensures in
     let led = c.in_ok-node.ensures in
     let all =
-    made c.self.inside.tree.nodes.items c.lead.new.self.nodes.items c.set_line.new.self.nodes.items c.self.inside.count c.digits-digits.result.now
+    made c.self.inside.tree.nodes.items c.add_nodes.new.self.nodes.items c.set_line.new.self.nodes.items c.self.inside.count c.digits-digits.result.now
     c.args.prefix.now c.walk-walk.result.digits c.walk-walk.result.node.0 c.in_ok-node.node.0 c.args.line c.walk-walk.result.whole c.self.invariant
     c.digits-digits.ensures.value c.digits-digits.ensures.fits
     (record { reached = walked.reached; within = walked.within; last = walked.last }) walked.whole (sym c.if-is_some.ensures) (omega arith)
@@ -74,7 +74,7 @@ returns-clause-ok c =
     let walked = c.walk-walk.ensures in
     let led = c.in_ok-node.ensures in
     let all =
-    made c.self.inside.tree.nodes.items c.lead.new.self.nodes.items c.set_line.new.self.nodes.items c.self.inside.count c.digits-digits.result.now
+    made c.self.inside.tree.nodes.items c.add_nodes.new.self.nodes.items c.set_line.new.self.nodes.items c.self.inside.count c.digits-digits.result.now
     c.args.prefix.now c.walk-walk.result.digits c.walk-walk.result.node.0 c.in_ok-node.node.0 c.args.line c.walk-walk.result.whole c.self.invariant
     c.digits-digits.ensures.value c.digits-digits.ensures.fits
     (record { reached = walked.reached; within = walked.within; last = walked.last }) walked.whole (sym c.if-is_some.ensures) (omega arith)
