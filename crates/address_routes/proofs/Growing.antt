@@ -1,28 +1,29 @@
 -- A tree with one route more.
-use Rattle.std.proofs.Common.{◌≡◌, ◌≢◌, ◌⊎◌, inl, inr, ℕ, zero, suc, ◌+◌, ◌*◌, ◌<◌, ◌≤◌, Bool, true, false, cond, eqb, List, [], ◌∷◌, ◌++◌, length, get_or, set, take, drop, replicate, Option, Some, None, refl, sym, ap, ◌∙◌, subst, append_assoc, append-nil, arith, length-set, leb, leb-true, eqb-true, eq-eqb, ne_eqb}
+use Rattle.std.proofs.Common.{◌≡◌, ◌≢◌, inl, inr, ℕ, zero, suc, ◌+◌, ◌<◌, ◌≤◌, Bool, true, false, cond, eqb, List, [], ◌∷◌, ◌++◌, length, get_or, Option, Some, None, refl, sym, ap, ◌∙◌, subst, append_assoc, append-nil, arith, length-set, leb, leb-true, eq-eqb, ne_eqb}
 use Rattle.std.specs.Option.{option_map}
-use Rattle.std.specs.FinMap.{get, len, insert, empty, contains_key, len-empty, get-insert, len-insert}
-use Rattle.std.specs.Cmp.Lexicographic.{nat_list_cmp_total}
+use Rattle.std.specs.FinMap.{len, empty, len-empty}
 use Rattle.std.proofs.lemmas.List.{get_or-set_same, get_or-set_other}
-use Rattle.std.proofs.lemmas.Bool.{cases_eq, cases_lt, and_parts, cond-true, cond-false, false_from_ne_true}
+use Rattle.std.proofs.lemmas.Bool.{cases_eq, cases_lt, and_parts, cond-false, false_from_ne_true}
 use Rattle.packet_codec.specs.Address.{are_decimal}
 use Rattle.address_routes.specs.declared.line_no.LineNo.{LineNo}
 use Rattle.address_routes.specs.declared.tree.Node.{Node}
 use Rattle.address_routes.specs.declared.tree.NodeNo.{NodeNo}
-use Rattle.address_routes.specs.Routes.{RouteMap, by_digits}
+use Rattle.address_routes.specs.Routes.{by_digits}
 use Rattle.address_routes.specs.Tree.{and_then, new_node, no_node, node_at, child, walk, line_at, line_of, with_child, with_nodes, last_node, with_line, IsLinked}
-use Rattle.address_routes.specs.RoutesView.{map_of, collected, prefixes, BeginsRoute, IsTree, AreRoutes}
-use Rattle.address_routes.proofs.Walks.{child_push, walk-append, walk_on, walk_one, walk_within, child_past, length-with_child, child_new, child_either, walk_keeps, new_leads_nowhere, value_keeps, ten_with_child}
-use Rattle.address_routes.proofs.Collecting.{same, same_is, same_itself, among, collected_none, collected_more, get_prefix}
+use Rattle.address_routes.specs.RoutesView.{map_of, IsTree, AreRoutes}
+use Rattle.address_routes.proofs.Walks.{child_push, walk_on, walk_one, walk_within, child_past, length-with_child, child_new, child_either, walk_keeps, new_leads_nowhere, value_keeps, ten_with_child}
+use Rattle.address_routes.proofs.Collecting.{same, same_is, same_itself, collected_none}
 
 pub linked : (P : List ℕ → Type 0) (nodes : List Node) → IsTree P nodes → IsLinked nodes
 linked P nodes t = (t.some, λ n digit c leads. (t.edges n digit c leads).0)
 
 -- digits that lead to a node are its path
-pub path_along : (P : List ℕ → Type 0) (nodes : List Node) (t : IsTree P nodes) (p : List ℕ) (n m : ℕ) → walk nodes p n ≡ Some m → t.path m ≡ t.path n ++ p
+pub path_along : (P : List ℕ → Type 0) (nodes : List Node) (t : IsTree P nodes) (p : List ℕ) (n m : ℕ)
+    → walk nodes p n ≡ Some m → t.path m ≡ t.path n ++ p
 path_along P nodes t [] n m is = (let same : n ≡ m = cc in ap t.path (sym same) ∙ sym (append-nil (t.path n)))
 path_along P nodes t (d ∷ p) n m is =
-    elim (child nodes n d) as (λ o. child nodes n d ≡ o → and_then o (λ c. walk nodes p c.0) ≡ Some m → t.path m ≡ t.path n ++ (d ∷ p)) [
+    elim (child nodes n d) as
+    (λ o. child nodes n d ≡ o → and_then o (λ c. walk nodes p c.0) ≡ Some m → t.path m ≡ t.path n ++ (d ∷ p)) [
       | None ↦ λ _ arrives. absurd (cc)
       | Some c ↦ λ leads arrives.
           path_along P nodes t p c.0 m arrives
@@ -30,11 +31,13 @@ path_along P nodes t (d ∷ p) n m is =
           ∙ append_assoc (t.path n) (d ∷ []) p
     ] refl is
 
-pub path_of : (P : List ℕ → Type 0) (nodes : List Node) (t : IsTree P nodes) (p : List ℕ) (m : ℕ) → walk nodes p 0 ≡ Some m → t.path m ≡ p
+pub path_of : (P : List ℕ → Type 0) (nodes : List Node) (t : IsTree P nodes) (p : List ℕ) (m : ℕ)
+    → walk nodes p 0 ≡ Some m → t.path m ≡ p
 path_of P nodes t p m is = path_along P nodes t p 0 m is ∙ ap (λ q. q ++ p) t.root
 
 -- a use that follows from another
-pub used_for : (P Q : List ℕ → Type 0) (nodes : List Node) → ((p : List ℕ) → P p → Q p) → IsTree P nodes → IsTree Q nodes
+pub used_for : (P Q : List ℕ → Type 0) (nodes : List Node) → ((p : List ℕ) → P p → Q p) → IsTree P nodes
+    → IsTree Q nodes
 used_for P Q nodes follows t = record {
   path = t.path;
   root = t.root;
@@ -55,7 +58,8 @@ new_number : (k : ℕ) (c : NodeNo) (o : Option NodeNo) → o ≡ Some (record {
 new_number k c o new is = cc
 
 old_edge : (P : List ℕ → Type 0) (nodes : List Node) (t : IsTree P nodes) (m e : ℕ) (c : NodeNo) (path : ℕ → List ℕ)
-    → ((k : ℕ) → k < length nodes → path k ≡ t.path k) → (count : ℕ) → count ≡ length nodes + 1 → child nodes m e ≡ Some c
+    → ((k : ℕ) → k < length nodes → path k ≡ t.path k) → (count : ℕ) → count ≡ length nodes + 1
+    → child nodes m e ≡ Some c
     → (c.0 < count) × (path c.0 ≡ path m ++ e ∷ [])
 old_edge P nodes t m e c path there count is leads =
     let edge = t.edges m e c leads in
@@ -68,7 +72,8 @@ one_node : (P : List ℕ → Type 0) (nodes : List Node) (n d : ℕ) (p : List �
 one_node P nodes n d p t h fits none leads is_used =
     let count = length-with_child nodes n d in
     let path : ℕ → List ℕ = λ k. cond (eqb k (length nodes)) (p ++ d ∷ []) (t.path k) in
-    let here : path (length nodes) ≡ p ++ d ∷ [] = ap (λ b. cond b (p ++ d ∷ []) (t.path (length nodes))) (eq-eqb (length nodes) (length nodes) refl) in
+    let here : path (length nodes) ≡ p ++ d ∷ [] =
+    ap (λ b. cond b (p ++ d ∷ []) (t.path (length nodes))) (eq-eqb (length nodes) (length nodes) refl) in
     let there : (k : ℕ) → k < length nodes → path k ≡ t.path k =
     λ k l. ap (λ b. cond b (p ++ d ∷ []) (t.path k)) (ne_eqb k (length nodes) (λ is. absurd (omega arith))) in
     record {
@@ -77,7 +82,8 @@ one_node P nodes n d p t h fits none leads is_used =
       edges = λ m e c is.
           elim (child_either nodes n d m e h (let ten = t.ten n h in omega arith)) [
             | inl at ↦
-                (let number : length nodes ≡ c.0 = new_number (length nodes) c (child (with_child nodes n d) m e) at.2 is in (
+                (let number : length nodes ≡ c.0 =
+                new_number (length nodes) c (child (with_child nodes n d) m e) at.2 is in (
                   omega arith,
                   ap path (sym number) ∙ here
                       ∙ ap (λ q. q ++ d ∷ []) (sym (path_of P nodes t p n leads))
@@ -107,7 +113,8 @@ pub record Grown (P : List ℕ → Type 0) (nodes news : List Node) (p : List �
   pub kept : (q : List ℕ) → line_of news q ≡ line_of nodes q
   pub longer : length news ≡ length nodes + count
 
-pub grow : (P : List ℕ → Type 0) (nodes : List Node) (n : ℕ) (p digits : List ℕ) → IsTree P nodes → walk nodes p 0 ≡ Some n
+pub grow : (P : List ℕ → Type 0) (nodes : List Node) (n : ℕ) (p digits : List ℕ) → IsTree P nodes
+    → walk nodes p 0 ≡ Some n
     → are_decimal digits ≡ true → StartsNothing nodes n digits → ((q r : List ℕ) → q ++ r ≡ p ++ digits → P q)
     → Grown P nodes (with_nodes nodes n digits) (p ++ digits) (last_node (length nodes) n digits) (length digits)
 grow P nodes n p [] t leads decimal nothing uses = record {
@@ -123,19 +130,23 @@ grow P nodes n p (d ∷ digits) t leads decimal nothing uses =
     let none : child nodes n d ≡ None = nothing d digits refl in
     let fits : d < length (node_at nodes n).next = (let ten = t.ten n within in omega arith) in
     let t1 : IsTree P (with_child nodes n d) =
-    one_node P nodes n d p t within (omega arith) none leads (uses (p ++ d ∷ []) digits (append_assoc p (d ∷ []) digits)) in
+    one_node P nodes n d p t within (omega arith) none leads
+    (uses (p ++ d ∷ []) digits (append_assoc p (d ∷ []) digits)) in
     let leads1 : walk (with_child nodes n d) (p ++ d ∷ []) 0 ≡ Some (length nodes) =
     walk_on (with_child nodes n d) p (d ∷ []) 0 (Some n) (walk_keeps nodes n d within none p 0 n leads)
     ∙ walk_one (with_child nodes n d) n d (Some (record { 0 = length nodes })) (child_new nodes n d within fits) in
-    let rest : Grown P (with_child nodes n d) (with_nodes (with_child nodes n d) (length nodes) digits) ((p ++ d ∷ []) ++ digits)
+    let rest : Grown P (with_child nodes n d) (with_nodes (with_child nodes n d) (length nodes) digits)
+    ((p ++ d ∷ []) ++ digits)
     (last_node (length (with_child nodes n d)) (length nodes) digits) (length digits) =
-    grow P (with_child nodes n d) (length nodes) (p ++ d ∷ []) digits t1 leads1 parts.1 (λ e es _. new_leads_nowhere nodes n d e within)
+    grow P (with_child nodes n d) (length nodes) (p ++ d ∷ []) digits t1 leads1 parts.1
+    (λ e es _. new_leads_nowhere nodes n d e within)
     (λ q r is. uses q r (is ∙ append_assoc p (d ∷ []) digits)) in
     let count : length (with_child nodes n d) ≡ length nodes + 1 = length-with_child nodes n d in
     record {
       tree = rest.tree;
       walked =
-          ap (λ q. walk (with_nodes (with_child nodes n d) (length nodes) digits) q 0) (sym (append_assoc p (d ∷ []) digits))
+          ap (λ q. walk (with_nodes (with_child nodes n d) (length nodes) digits) q 0)
+          (sym (append_assoc p (d ∷ []) digits))
           ∙ rest.walked
           ∙ ap (λ k. Some (last_node k (length nodes) digits)) count;
       kept = λ q. rest.kept q ∙ value_keeps nodes n d within fits none q 0;
@@ -147,10 +158,12 @@ at_lined : (nodes : List Node) (n : ℕ) (line : LineNo) → n < length nodes
     → node_at (with_line nodes n line) n ≡ record (node_at nodes n) { line = Some line }
 at_lined nodes n line h = get_or-set_same nodes n _ no_node h
 
-others_lined : (nodes : List Node) (n m : ℕ) (line : LineNo) → m ≢ n → node_at (with_line nodes n line) m ≡ node_at nodes m
+others_lined : (nodes : List Node) (n m : ℕ) (line : LineNo) → m ≢ n
+    → node_at (with_line nodes n line) m ≡ node_at nodes m
 others_lined nodes n m line apart = get_or-set_other nodes n m _ no_node apart
 
-next_lined : (nodes : List Node) (n m : ℕ) (line : LineNo) → n < length nodes → (node_at (with_line nodes n line) m).next ≡ (node_at nodes m).next
+next_lined : (nodes : List Node) (n m : ℕ) (line : LineNo) → n < length nodes
+    → (node_at (with_line nodes n line) m).next ≡ (node_at nodes m).next
 next_lined nodes n m line h =
     elim (cases_eq m n) [
       | inl is ↦
@@ -159,7 +172,8 @@ next_lined nodes n m line h =
       | inr other ↦ ap (λ node. node.next) (others_lined nodes n m line other)
     ]
 
-child_lined : (nodes : List Node) (n m e : ℕ) (line : LineNo) → n < length nodes → child (with_line nodes n line) m e ≡ child nodes m e
+child_lined : (nodes : List Node) (n m e : ℕ) (line : LineNo) → n < length nodes
+    → child (with_line nodes n line) m e ≡ child nodes m e
 child_lined nodes n m e line h = ap (λ next. get_or next e None) (next_lined nodes n m line h)
 
 walk_lined : (nodes : List Node) (n : ℕ) (line : LineNo) → n < length nodes → (q : List ℕ) (m : ℕ)
@@ -167,12 +181,14 @@ walk_lined : (nodes : List Node) (n : ℕ) (line : LineNo) → n < length nodes 
 walk_lined nodes n line h [] m = refl
 walk_lined nodes n line h (e ∷ q) m =
     ap (λ o. and_then o (λ c. walk (with_line nodes n line) q c.0)) (child_lined nodes n m e line h)
-    ∙ elim (child nodes m e) as (λ o. and_then o (λ c. walk (with_line nodes n line) q c.0) ≡ and_then o (λ c. walk nodes q c.0)) [
+    ∙ elim (child nodes m e) as
+    (λ o. and_then o (λ c. walk (with_line nodes n line) q c.0) ≡ and_then o (λ c. walk nodes q c.0)) [
       | None ↦ refl
       | Some c ↦ walk_lined nodes n line h q c.0
     ]
 
-pub tree_lined : (P : List ℕ → Type 0) (nodes : List Node) (n : ℕ) (line : LineNo) → n < length nodes → IsTree P nodes → IsTree P (with_line nodes n line)
+pub tree_lined : (P : List ℕ → Type 0) (nodes : List Node) (n : ℕ) (line : LineNo) → n < length nodes → IsTree P nodes
+    → IsTree P (with_line nodes n line)
 tree_lined P nodes n line h t =
     let count : length (with_line nodes n line) ≡ length nodes = length-set nodes n _ in
     record {
@@ -185,14 +201,18 @@ tree_lined P nodes n line h t =
       ten = λ m within. ap length (next_lined nodes n m line h) ∙ t.ten m (omega arith);
     }
 
-line_there : (nodes : List Node) (n m : ℕ) (line : LineNo) → n < length nodes → (b : Bool) → (b ≡ true → m ≡ n) → (m ≡ n → b ≡ true)
+line_there : (nodes : List Node) (n m : ℕ) (line : LineNo) → n < length nodes → (b : Bool) → (b ≡ true → m ≡ n)
+    → (m ≡ n → b ≡ true)
     → line_at (with_line nodes n line) m ≡ cond b (Some line.0) (line_at nodes m)
 line_there nodes n m line h true is at =
-    ap (λ k. line_at (with_line nodes n line) k) (is refl) ∙ ap (λ node. option_map (λ line. line.0) node.line) (at_lined nodes n line h)
+    ap (λ k. line_at (with_line nodes n line) k) (is refl)
+    ∙ ap (λ node. option_map (λ line. line.0) node.line) (at_lined nodes n line h)
 line_there nodes n m line h false is at =
-    ap (λ node. option_map (λ line. line.0) node.line) (others_lined nodes n m line (λ same. let wrong : false ≡ true = at same in absurd (cc)))
+    ap (λ node. option_map (λ line. line.0) node.line)
+    (others_lined nodes n m line (λ same. let wrong : false ≡ true = at same in absurd (cc)))
 
-line_of_ends : (P : List ℕ → Type 0) (nodes : List Node) (t : IsTree P nodes) (n : ℕ) (prefix : List ℕ) (line : LineNo) → n < length nodes
+line_of_ends : (P : List ℕ → Type 0) (nodes : List Node) (t : IsTree P nodes) (n : ℕ) (prefix : List ℕ) (line : LineNo)
+    → n < length nodes
     → walk nodes prefix 0 ≡ Some n → (q : List ℕ) (o : Option ℕ) → walk nodes q 0 ≡ o
     → and_then o (line_at (with_line nodes n line)) ≡ cond (same q prefix) (Some line.0) (and_then o (line_at nodes))
 line_of_ends P nodes t n prefix line h leads q None is =
@@ -206,7 +226,8 @@ line_of_ends P nodes t n prefix line h leads q (Some m) is =
     ap (λ p. same p prefix) here ∙ same_itself prefix)
 
 -- the digits that lead to it have the line, and no others have another
-pub line_of_lined : (P : List ℕ → Type 0) (nodes : List Node) (n : ℕ) (prefix : List ℕ) (line : LineNo) → IsTree P nodes → walk nodes prefix 0 ≡ Some n
+pub line_of_lined : (P : List ℕ → Type 0) (nodes : List Node) (n : ℕ) (prefix : List ℕ) (line : LineNo)
+    → IsTree P nodes → walk nodes prefix 0 ≡ Some n
     → (q : List ℕ) → line_of (with_line nodes n line) q ≡ cond (same q prefix) (Some line.0) (line_of nodes q)
 line_of_lined P nodes n prefix line t leads q =
     let within : n < length nodes = walk_within nodes (linked P nodes t) prefix 0 n t.some leads in
@@ -225,7 +246,8 @@ root_ten (suc n) h = absurd (omega arith)
 
 no_line : (q : List ℕ) → line_of (new_node ∷ []) q ≡ None
 no_line [] = refl
-no_line (d ∷ q) = ap (λ o. and_then (and_then o (λ c. walk (new_node ∷ []) q c.0)) (line_at (new_node ∷ []))) (root_leads_nowhere 0 d)
+no_line (d ∷ q) =
+    ap (λ o. and_then (and_then o (λ c. walk (new_node ∷ []) q c.0)) (line_at (new_node ∷ []))) (root_leads_nowhere 0 d)
 
 -- a root alone has no lines
 pub no_lines : map_of (new_node ∷ []) ≡ empty

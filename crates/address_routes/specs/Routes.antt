@@ -22,12 +22,14 @@ pub record Begins (digits address : List ℕ) : Type 0 where
   pub rest : List ℕ
   pub is : address ≡ digits ++ rest
 
--- **the line of the longest prefix**: a prefix has a route to the line, it begins the address, and no longer one that has a route does
+-- **the line of the longest prefix**: a prefix has a route to the line, it begins the address, and no longer one that
+-- has a route does
 pub record IsLongest (routes : RouteMap) (address : List ℕ) (line : ℕ) : Type 0 where
   pub prefix : List ℕ
   pub has_route : get routes prefix ≡ Some line
   pub begins : Begins prefix address
-  pub longest : (other : List ℕ) → (far : ℕ) → get routes other ≡ Some far → Begins other address → length other ≤ length prefix
+  pub longest : (other : List ℕ) → (far : ℕ) → get routes other ≡ Some far → Begins other address
+      → length other ≤ length prefix
 
 -- no prefix that has a route begins the address
 abbrev pub NoneBegins : RouteMap → List ℕ → Type 0

@@ -4,7 +4,7 @@ use Rattle.std.specs.List.{flat_map}
 use Rattle.std.specs.FinMap.{from_entries, len, get}
 use Rattle.address_routes.specs.declared.tree.Node.{Node}
 use Rattle.address_routes.specs.declared.tree.NodeNo.{NodeNo}
-use Rattle.address_routes.specs.Routes.{by_digits, RouteMap}
+use Rattle.address_routes.specs.Routes.{RouteMap}
 use Rattle.address_routes.specs.Tree.{node_at, child, line_of}
 
 abbrev pub ten_digits : List ℕ

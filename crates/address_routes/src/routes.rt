@@ -17,8 +17,8 @@ pub const MAX_ROUTES: usize = 256;
 
 /// The routes of a switch, at most 256, each prefix with one line (X.121).
 ///
-/// They stand in a tree of digits, so that to find one looks at one node a digit: at most 3,841 nodes, the root and fifteen
-/// for each route.
+/// They stand in a tree of digits, so that a look-up looks at one node a digit. The tree has at most 3,841 nodes: the
+/// root and fifteen for each route.
 #[derive(Drop)]
 pub struct Routes {
     tree: Tree,
@@ -53,8 +53,8 @@ impl Routes {
         })
     }
 
-    /// Adds a route to the line for the calls to addresses that begin with the prefix. `Duplicate` where the prefix has a
-    /// route, then `Full` where there are 256 routes, then `OutOfMemory`; refused, it changes nothing.
+    /// Adds a route to the line for the calls to addresses that begin with the prefix. `Duplicate` where the prefix has
+    /// a route, then `Full` where there are 256 routes, then `OutOfMemory`; refused, it changes nothing.
     pub fn add(&mut self, prefix: &Address, line: LineNo) -> Result<(), RouteFault>
         ensures faults { MatchOption (add_fault prefix.now self.old) (IsOkUnless result route_fault_is.OutOfMemory)
             (λ fault. result ≡ Err fault) }
@@ -84,8 +84,8 @@ impl Routes {
         self.find_looks(address).0
     }
 
-    /// What `find` answers, and how many nodes of the tree it looks at: the root, and one for each beginning of the address
-    /// that begins the prefix of some route.
+    /// What `find` answers, and how many nodes of the tree it looks at: the root, and one for each beginning of the
+    /// address that begins the prefix of some route.
     pub fn find_looks(&self, address: &Address) -> (Option<LineNo>, u8)
         ensures longest { MatchOption result.0 (NoneBegins self.now address.now)
             (λ line. IsLongest self.now address.now line.0) }

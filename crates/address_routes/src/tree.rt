@@ -1,8 +1,10 @@
 //! The tree of digits that the routes stand in.
-ghost use Rattle.std.specs.Prelude.{◌≡◌, ◌+◌, ◌^◌, ◌<◌, ◌≤◌, [], ◌∷◌, Some, None, IfOk, OnOk, OnErr, IsTrue, length, take, slice_index, vec_len, vec_capacity};
+ghost use Rattle.std.specs.Prelude.{◌≡◌, ◌+◌, ◌^◌, ◌<◌, ◌≤◌, [], ◌∷◌, Some, None, IfOk, OnOk, OnErr, IsTrue};
+ghost use Rattle.std.specs.Prelude.{length, take, slice_index, vec_len, vec_capacity};
 ghost use Rattle.std.specs.Option.{option_map};
 ghost use Rattle.packet_codec.specs.Address.{are_decimal};
-ghost use Rattle.address_routes.specs.Tree.{new_node, node_at, child, walk as walked, line_to, line_of, IsLinked, with_child, with_nodes, last_node, with_line};
+ghost use Rattle.address_routes.specs.Tree.{new_node, node_at, child, walk as walked, line_to, line_of, IsLinked};
+ghost use Rattle.address_routes.specs.Tree.{with_child, with_nodes, last_node, with_line};
 
 use crate::line_no::LineNo;
 use std::alloc::{AllocError, Global};
@@ -100,7 +102,8 @@ impl Tree {
         self.nodes[usize::from(node.0)].line
     }
 
-    /// Adds a node for each digit, from a node on, and gives the last. Memory is taken for all of them before any is added.
+    /// Adds a node for each digit, from a node on, and gives the last. Memory for all of them is taken before any is
+    /// added.
     pub(crate) fn add_nodes(&mut self, node: NodeNo, digits: &[u8]) -> Result<NodeNo, AllocError>
         requires node_in { node.0 < length self.old.nodes.items }
         requires decimal { IsTrue (are_decimal digits.now) }

@@ -1,4 +1,4 @@
-use Rattle.std.proofs.Common.{◌≡◌, List, ap, sym, ◌∙◌, subst}
+use Rattle.std.proofs.Common.{List, ap, sym, ◌∙◌, subst}
 use Rattle.address_routes.specs.declared.tree.Node.{Node}
 use Rattle.address_routes.specs.RoutesView.{AreRoutes, map_of}
 use Rattle.address_routes.proofs.Growing.{root_alone, no_lines}

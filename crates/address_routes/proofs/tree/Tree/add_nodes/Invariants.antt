@@ -1,4 +1,4 @@
-use Rattle.std.proofs.Common.{◌≡◌, ◌+◌, ◌<◌, ◌≤◌, length, drop, vec_len, vec_capacity}
+use Rattle.std.proofs.Common.{◌≡◌, ◌+◌, ◌<◌, ◌≤◌, length, drop, vec_capacity}
 use Rattle.address_routes.specs.Tree.{with_nodes, last_node}
 use Rattle.address_routes.proofs.tree.Tree.add_nodes.Given as goal
 
@@ -6,8 +6,10 @@ use Rattle.address_routes.proofs.tree.Tree.add_nodes.Given as goal
 abbrev pub invariant-loop-digit : goal.invariant-loop-digit
 invariant-loop-digit l = record {
   node_in : l.last.0 < length l.self.nodes.items;
-  nodes : with_nodes l.self.nodes.items l.last.0 (drop l.digit-index l.digits) ≡ with_nodes l.fn.self.nodes.items l.fn.node.0 l.digits;
-  end : last_node (length l.self.nodes.items) l.last.0 (drop l.digit-index l.digits) ≡ last_node (length l.fn.self.nodes.items) l.fn.node.0 l.digits;
+  nodes : with_nodes l.self.nodes.items l.last.0 (drop l.digit-index l.digits)
+      ≡ with_nodes l.fn.self.nodes.items l.fn.node.0 l.digits;
+  end : last_node (length l.self.nodes.items) l.last.0 (drop l.digit-index l.digits)
+      ≡ last_node (length l.fn.self.nodes.items) l.fn.node.0 l.digits;
   count : length l.self.nodes.items ≡ length l.fn.self.nodes.items + l.digit-index;
   memory : length l.fn.self.nodes.items + length l.digits ≤ vec_capacity l.self.nodes;
 }
