@@ -161,8 +161,9 @@ child_keeps : (nodes : List Node) (n d : ℕ) → n < length nodes → child nod
     → child nodes m e ≡ Some c → child (with_child nodes n d) m e ≡ Some c
 child_keeps nodes n d h none m e c leads =
     elim (which m n e d) [
-      | inl at ↦ absurd
-          (let also : child nodes m e ≡ child nodes n d = ap (λ k. child nodes k e) at.0 ∙ ap (child nodes n) at.1 in cc)
+      | inl at ↦
+          (let also : child nodes m e ≡ child nodes n d = ap (λ k. child nodes k e) at.0 ∙ ap (child nodes n) at.1 in
+          absurd (cc))
       | inr apart ↦ child_other nodes n d m e h apart ∙ leads
     ]
 
