@@ -1,17 +1,18 @@
 //! Worked examples: two packet layers on one line, by the octets of their packets.
 
+use crate::steps::{Step, Told, Turn, first_misfit};
 use link_timers::{Role, TimerId};
-use packet_codec::{Address, CallData, PacketBuf};
-use packet_layer::{
-    CallFault, ChannelFault, Front, Layer, LayerNote, LayerParams, MakeFault, Reason, Taken,
-};
+use packet_layer::{CallFault, ChannelFault, Front, Layer, LayerParams, MakeFault, Reason};
 use std::alloc::Global;
-use std::process::Abort;
 use std::test::Fail;
 
 const RESTART_OF_DTE: &[u8] = &[0x10, 0x00, 0xfb, 0x00, 0x00];
 
 const RESTART_OF_DCE: &[u8] = &[0x10, 0x00, 0xfb, 0x07, 0x00];
+
+const RESET: &[u8] = &[0x10, 0x01, 0x1b, 0x00, 0x00];
+
+const CALL: &[u8] = &[0x10, 0x01, 0x0b, 0x04, 0x20, 0x01, 0x00];
 
 fn params(channels: u8, window: u8, standing: bool) -> LayerParams {
     LayerParams {
@@ -21,102 +22,20 @@ fn params(channels: u8, window: u8, standing: bool) -> LayerParams {
     }
 }
 
-// Whether these octets and no others go to the link next.
-fn says(layer: &mut Layer, octets: &[u8]) -> bool {
-    let mut buf = PacketBuf::new();
-    layer.next_packet(&mut buf) && buf.as_slice() == octets
-}
-
-fn is_silent(layer: &mut Layer) -> bool {
-    let mut buf = PacketBuf::new();
-    !layer.next_packet(&mut buf)
-}
-
-// Takes the next packet over the line, and answers whether it has these octets.
-fn delivers(from: &mut Layer, to: &mut Layer, octets: &[u8]) -> bool {
-    let mut buf = PacketBuf::new();
-    if !from.next_packet(&mut buf) {
-        return false;
-    }
-    to.on_packet(buf.as_slice());
-    buf.as_slice() == octets
-}
-
-fn is_connected(note: Option<LayerNote>, expected: u8) -> bool {
-    match note {
-        Some(LayerNote::Connected(channel)) => channel == expected,
-        _ => false,
-    }
-}
-
-// Whether a call came in on the channel, to address 2001 and with no user data.
-fn is_incoming(note: Option<LayerNote>, expected: u8) -> bool {
-    match note {
-        Some(LayerNote::Incoming(channel, call)) => {
-            let call = call.data();
-            channel == expected
-                && call.called.digits() == [2, 0, 0, 1].as_slice()
-                && call.calling.is_none()
-                && call.user_data.is_empty()
-        }
-        _ => false,
-    }
-}
-
-fn is_closed(note: Option<LayerNote>, numbers: (u8, u8, u8), why: Reason) -> bool {
-    match note {
-        Some(
-            LayerNote::Closed {
-                channel,
-                cause,
-                diagnostic,
-                reason,
-            },
-        ) => (channel, cause, diagnostic) == numbers && reason == why,
-        _ => false,
-    }
-}
-
-fn is_reset(note: Option<LayerNote>, numbers: (u8, u8, u8), why: Reason) -> bool {
-    match note {
-        Some(
-            LayerNote::Reset {
-                channel,
-                cause,
-                diagnostic,
-                reason,
-            },
-        ) => (channel, cause, diagnostic) == numbers && reason == why,
-        _ => false,
-    }
-}
-
-fn call_2001(layer: &mut Layer) -> Result<u8, CallFault> {
-    layer.call(&CallData {
-        called: Address::new(&[2, 0, 0, 1]),
-        calling: None,
-        facilities: &[],
-        user_data: &[],
-    })
-}
-
-// A DTE and a DCE in r1.
-fn ready(alloc: Global, channels: u8) -> Result<(Layer, Layer), MakeFault> {
-    let mut dte = Layer::new(alloc, Role::Dte, params(channels, 2, false))?;
-    let mut dce = Layer::new(alloc, Role::Dce, params(channels, 2, false))?;
-    dte.link_up();
-    dce.link_up();
-    let _ = delivers(&mut dte, &mut dce, RESTART_OF_DTE);
-    let _ = delivers(&mut dce, &mut dte, RESTART_OF_DCE);
+// A DTE and a DCE, standing with a call on channel 1 or without a session.
+fn layers(alloc: Global, channels: u8, standing: bool) -> Result<(Layer, Layer), MakeFault> {
+    let dte = Layer::new(alloc, Role::Dte, params(channels, 2, standing))?;
+    let dce = Layer::new(alloc, Role::Dce, params(channels, 2, standing))?;
     Ok((dte, dce))
 }
 
-// The same with a call on channel 1.
-fn connected(alloc: Global) -> Result<(Layer, Layer), MakeFault> {
-    let dte = Layer::new(alloc, Role::Dte, params(4, 2, true))?;
-    let dce = Layer::new(alloc, Role::Dce, params(4, 2, true))?;
-    Ok((dte, dce))
-}
+// The turns by which both come to r1.
+const SET_UP: [Turn; 4] = [
+    Turn::Dte(Step::LinkUp),
+    Turn::Dce(Step::LinkUp),
+    Turn::ToDce(RESTART_OF_DTE),
+    Turn::ToDte(RESTART_OF_DCE),
+];
 
 #[test]
 fn parameters_have_ranges(rt: HostRuntime) {
@@ -134,309 +53,298 @@ fn parameters_have_ranges(rt: HostRuntime) {
     }
 }
 
-fn begins_a_session(rt: &impl Abort, dte: &mut Layer, dce: &mut Layer) {
-    assert!(rt; is_silent(dte));
-    assert_eq!(rt; call_2001(dte), Err(CallFault::NotReady));
-    dte.link_up();
-    dce.link_up();
-    assert!(rt; dte.runs(TimerId::T20) && !dte.runs(TimerId::T10) && dce.runs(TimerId::T10));
-    assert!(rt; delivers(dte, dce, RESTART_OF_DTE));
-    assert!(rt; delivers(dce, dte, RESTART_OF_DCE));
-    assert!(rt; is_silent(dte) && is_silent(dce));
-    assert!(rt; !dte.runs(TimerId::T20) && !dce.runs(TimerId::T10));
-    dte.link_up();
-    dte.on_timer(TimerId::T20);
-    assert!(rt; dte.must_relink() && is_silent(dte));
-    dte.link_down();
-    assert!(rt; !dte.must_relink() && is_silent(dte));
-}
-
 #[test]
 fn a_session_begins_with_a_restart(rt: HostRuntime) -> Result<(), Fail> {
-    let mut dte = Layer::new(rt.alloc(), Role::Dte, params(4, 2, false))?;
-    let mut dce = Layer::new(rt.alloc(), Role::Dce, params(4, 2, false))?;
-    begins_a_session(&rt, &mut dte, &mut dce);
+    let (mut dte, mut dce) = layers(rt.alloc(), 4, false)?;
+    let turns = [
+        Turn::Dte(Step::SayNothing),
+        Turn::Dte(Step::Call(Err(CallFault::NotReady))),
+        Turn::Dte(Step::LinkUp),
+        Turn::Dce(Step::LinkUp),
+        Turn::Dte(Step::Runs(TimerId::T20, true)),
+        Turn::Dte(Step::Runs(TimerId::T10, false)),
+        Turn::Dce(Step::Runs(TimerId::T10, true)),
+        Turn::ToDce(RESTART_OF_DTE),
+        Turn::ToDte(RESTART_OF_DCE),
+        Turn::Dte(Step::SayNothing),
+        Turn::Dce(Step::SayNothing),
+        Turn::Dte(Step::Runs(TimerId::T20, false)),
+        Turn::Dce(Step::Runs(TimerId::T10, false)),
+        Turn::Dte(Step::LinkUp),
+        Turn::Dte(Step::Expire(TimerId::T20)),
+        Turn::Dte(Step::MustRelink(true)),
+        Turn::Dte(Step::SayNothing),
+        Turn::Dte(Step::LinkDown),
+        Turn::Dte(Step::MustRelink(false)),
+        Turn::Dte(Step::SayNothing),
+    ];
+    assert_eq!(rt; first_misfit(&mut dte, &mut dce, &turns), None);
     Ok(())
-}
-
-fn sets_up_and_clears_a_call(rt: &impl Abort, dte: &mut Layer, dce: &mut Layer) {
-    assert_eq!(rt; call_2001(dte), Ok(4));
-    assert!(rt; dte.runs(TimerId::T21(4)));
-    assert!(rt; delivers(dte, dce, &[0x10, 0x04, 0x0b, 0x04, 0x20, 0x01, 0x00]));
-    assert!(rt; is_incoming(dce.notes(), 4));
-    assert_eq!(rt; dce.accept(4), Ok(()));
-    assert!(rt; delivers(dce, dte, &[0x10, 0x04, 0x0f]));
-    assert!(rt; is_connected(dte.notes(), 4) && dte.notes().is_none());
-    assert_eq!(rt; dte.clear(4, 0, 0), Ok(()));
-    assert_eq!(rt;
-        dte.send(4, b"X", false, false, false),
-        Err(ChannelFault::NoCall)
-    );
-    assert!(rt; delivers(dte, dce, &[0x10, 0x04, 0x13, 0x00, 0x00]));
-    assert!(rt; is_closed(dce.notes(), (4, 0, 0), Reason::FarEnd));
-    assert!(rt; delivers(dce, dte, &[0x10, 0x04, 0x17]));
-    assert!(rt; dte.notes().is_none());
-    assert_eq!(rt; call_2001(dce), Ok(1));
-    assert_eq!(rt; call_2001(dte), Ok(4));
 }
 
 #[test]
 fn a_call_is_set_up_and_cleared(rt: HostRuntime) -> Result<(), Fail> {
-    let (mut dte, mut dce) = ready(rt.alloc(), 4)?;
-    sets_up_and_clears_a_call(&rt, &mut dte, &mut dce);
+    let (mut dte, mut dce) = layers(rt.alloc(), 4, false)?;
+    assert_eq!(rt; first_misfit(&mut dte, &mut dce, &SET_UP), None);
+    let turns = [
+        Turn::Dte(Step::Call(Ok(4))),
+        Turn::Dte(Step::Runs(TimerId::T21(4), true)),
+        Turn::ToDce(&[0x10, 0x04, 0x0b, 0x04, 0x20, 0x01, 0x00]),
+        Turn::Dce(Step::Note(Told::Incoming(4))),
+        Turn::Dce(Step::Accept(4, Ok(()))),
+        Turn::ToDte(&[0x10, 0x04, 0x0f]),
+        Turn::Dte(Step::Note(Told::Connected(4))),
+        Turn::Dte(Step::NoNote),
+        Turn::Dte(Step::Clear(4)),
+        Turn::Dte(Step::Send(4, b"X", Err(ChannelFault::NoCall))),
+        Turn::ToDce(&[0x10, 0x04, 0x13, 0x00, 0x00]),
+        Turn::Dce(Step::Note(Told::Closed(4, 0, 0, Reason::FarEnd))),
+        Turn::ToDte(&[0x10, 0x04, 0x17]),
+        Turn::Dte(Step::NoNote),
+        Turn::Dce(Step::Call(Ok(1))),
+        Turn::Dte(Step::Call(Ok(4))),
+    ];
+    assert_eq!(rt; first_misfit(&mut dte, &mut dce, &turns), None);
     Ok(())
-}
-
-fn crosses_resets(rt: &impl Abort, dte: &mut Layer, dce: &mut Layer) {
-    let reset: &[u8] = &[0x10, 0x01, 0x1b, 0x00, 0x00];
-    assert_eq!(rt; dte.reset(1, 0, 0), Ok(()));
-    assert_eq!(rt; dte.reset(1, 0, 0), Err(ChannelFault::Resetting));
-    assert_eq!(rt; dce.reset(1, 0, 0), Ok(()));
-    assert!(rt; dte.runs(TimerId::T22(1)) && dce.runs(TimerId::T12(1)));
-    assert!(rt; says(dte, reset) && says(dce, reset));
-    dte.on_packet(reset);
-    dce.on_packet(reset);
-    assert!(rt; dte.notes().is_none() && dce.notes().is_none());
-    assert!(rt; is_silent(dte) && is_silent(dce));
-    assert_eq!(rt; dte.send(1, b"X", false, false, false), Ok(()));
-    assert!(rt; delivers(dte, dce, &[0x10, 0x01, 0x00, 0x58]));
 }
 
 #[test]
 fn resets_cross(rt: HostRuntime) -> Result<(), Fail> {
-    let (mut dte, mut dce) = connected(rt.alloc())?;
-    crosses_resets(&rt, &mut dte, &mut dce);
+    let (mut dte, mut dce) = layers(rt.alloc(), 4, true)?;
+    let turns = [
+        Turn::Dte(Step::Reset(1, Ok(()))),
+        Turn::Dte(Step::Reset(1, Err(ChannelFault::Resetting))),
+        Turn::Dce(Step::Reset(1, Ok(()))),
+        Turn::Dte(Step::Runs(TimerId::T22(1), true)),
+        Turn::Dce(Step::Runs(TimerId::T12(1), true)),
+        Turn::Dte(Step::Say(RESET)),
+        Turn::Dce(Step::Say(RESET)),
+        Turn::Dte(Step::Hear(RESET)),
+        Turn::Dce(Step::Hear(RESET)),
+        Turn::Dte(Step::NoNote),
+        Turn::Dce(Step::NoNote),
+        Turn::Dte(Step::SayNothing),
+        Turn::Dce(Step::SayNothing),
+        Turn::Dte(Step::Send(1, b"X", Ok(()))),
+        Turn::ToDce(&[0x10, 0x01, 0x00, 0x58]),
+    ];
+    assert_eq!(rt; first_misfit(&mut dte, &mut dce, &turns), None);
     Ok(())
-}
-
-fn makes_calls_collide(rt: &impl Abort, dte: &mut Layer, dce: &mut Layer) {
-    let call: &[u8] = &[0x10, 0x01, 0x0b, 0x04, 0x20, 0x01, 0x00];
-    assert_eq!(rt; call_2001(dte), Ok(1));
-    assert_eq!(rt; call_2001(dce), Ok(1));
-    assert_eq!(rt; call_2001(dce), Err(CallFault::NoChannel));
-    assert!(rt; says(dte, call) && says(dce, call));
-    dte.on_packet(call);
-    assert!(rt; dte.notes().is_none());
-    assert_eq!(rt; dte.accept(1), Err(ChannelFault::NoCall));
-    dce.on_packet(call);
-    assert!(rt; is_closed(dce.notes(), (1, 1, 0), Reason::Cancelled));
-    assert!(rt; is_incoming(dce.notes(), 1) && dce.notes().is_none());
-    assert_eq!(rt; dce.accept(1), Ok(()));
-    assert!(rt; delivers(dce, dte, &[0x10, 0x01, 0x0f]));
-    assert!(rt; is_connected(dte.notes(), 1));
 }
 
 #[test]
 fn calls_collide(rt: HostRuntime) -> Result<(), Fail> {
-    let (mut dte, mut dce) = ready(rt.alloc(), 1)?;
-    makes_calls_collide(&rt, &mut dte, &mut dce);
+    let (mut dte, mut dce) = layers(rt.alloc(), 1, false)?;
+    assert_eq!(rt; first_misfit(&mut dte, &mut dce, &SET_UP), None);
+    let turns = [
+        Turn::Dte(Step::Call(Ok(1))),
+        Turn::Dce(Step::Call(Ok(1))),
+        Turn::Dce(Step::Call(Err(CallFault::NoChannel))),
+        Turn::Dte(Step::Say(CALL)),
+        Turn::Dce(Step::Say(CALL)),
+        Turn::Dte(Step::Hear(CALL)),
+        Turn::Dte(Step::NoNote),
+        Turn::Dte(Step::Accept(1, Err(ChannelFault::NoCall))),
+        Turn::Dce(Step::Hear(CALL)),
+        Turn::Dce(Step::Note(Told::Closed(1, 1, 0, Reason::Cancelled))),
+        Turn::Dce(Step::Note(Told::Incoming(1))),
+        Turn::Dce(Step::NoNote),
+        Turn::Dce(Step::Accept(1, Ok(()))),
+        Turn::ToDte(&[0x10, 0x01, 0x0f]),
+        Turn::Dte(Step::Note(Told::Connected(1))),
+    ];
+    assert_eq!(rt; first_misfit(&mut dte, &mut dce, &turns), None);
     Ok(())
-}
-
-fn fills_the_send_queue(rt: &impl Abort, dte: &mut Layer) {
-    assert_eq!(rt; dte.room(1), 8);
-    assert_eq!(rt; dte.room(2), 0);
-    for _ in 0..2 {
-        assert_eq!(rt; dte.send(1, b"X", false, false, false), Ok(()));
-    }
-    assert!(rt; says(dte, &[0x10, 0x01, 0x00, 0x58]));
-    assert!(rt; says(dte, &[0x10, 0x01, 0x02, 0x58]));
-    for _ in 0..8 {
-        assert_eq!(rt; dte.send(1, b"X", false, false, false), Ok(()));
-    }
-    assert!(rt; is_silent(dte));
-    assert_eq!(rt; dte.room(1), 0);
-    assert_eq!(rt;
-        dte.send(1, b"X", false, false, false),
-        Err(ChannelFault::QueueFull)
-    );
-    assert_eq!(rt;
-        dte.send(2, b"X", false, false, false),
-        Err(ChannelFault::NoCall)
-    );
-    dte.on_packet(&[0x10, 0x01, 0x21]);
-    match dte.notes() {
-        Some(LayerNote::Covered { channel, count }) => assert!(rt; channel == 1 && count == 1),
-        _ => assert!(rt; false, "a packet is covered"),
-    }
-    assert!(rt; says(dte, &[0x10, 0x01, 0x04, 0x58]) && is_silent(dte));
-    dte.on_packet(&[0x10, 0x01, 0x65]);
-    assert!(rt; is_silent(dte));
-    assert_eq!(rt;
-        dte.send(1, &[0; 129], false, false, false),
-        Err(ChannelFault::TooLong)
-    );
 }
 
 #[test]
 fn the_send_queue_has_eight_places(rt: HostRuntime) -> Result<(), Fail> {
-    let (mut dte, _) = connected(rt.alloc())?;
-    fills_the_send_queue(&rt, &mut dte);
+    let (mut dte, mut dce) = layers(rt.alloc(), 4, true)?;
+    let turns = [
+        Turn::Dte(Step::Room(1, 8)),
+        Turn::Dte(Step::Room(2, 0)),
+        Turn::Dte(Step::Send(1, b"X", Ok(()))),
+        Turn::Dte(Step::Send(1, b"X", Ok(()))),
+        Turn::Dte(Step::Say(&[0x10, 0x01, 0x00, 0x58])),
+        Turn::Dte(Step::Say(&[0x10, 0x01, 0x02, 0x58])),
+        Turn::Dte(Step::Send(1, b"X", Ok(()))),
+        Turn::Dte(Step::Send(1, b"X", Ok(()))),
+        Turn::Dte(Step::Send(1, b"X", Ok(()))),
+        Turn::Dte(Step::Send(1, b"X", Ok(()))),
+        Turn::Dte(Step::Send(1, b"X", Ok(()))),
+        Turn::Dte(Step::Send(1, b"X", Ok(()))),
+        Turn::Dte(Step::Send(1, b"X", Ok(()))),
+        Turn::Dte(Step::Send(1, b"X", Ok(()))),
+        Turn::Dte(Step::SayNothing),
+        Turn::Dte(Step::Room(1, 0)),
+        Turn::Dte(Step::Send(1, b"X", Err(ChannelFault::QueueFull))),
+        Turn::Dte(Step::Send(2, b"X", Err(ChannelFault::NoCall))),
+        Turn::Dte(Step::Hear(&[0x10, 0x01, 0x21])),
+        Turn::Dte(Step::Note(Told::Covered(1, 1))),
+        Turn::Dte(Step::Say(&[0x10, 0x01, 0x04, 0x58])),
+        Turn::Dte(Step::SayNothing),
+        Turn::Dte(Step::Hear(&[0x10, 0x01, 0x65])),
+        Turn::Dte(Step::SayNothing),
+        Turn::Dte(Step::Send(1, &[0; 129], Err(ChannelFault::TooLong))),
+    ];
+    assert_eq!(rt; first_misfit(&mut dte, &mut dce, &turns), None);
     Ok(())
 }
 
-fn confirms_delivery(rt: &impl Abort, dte: &mut Layer, dce: &mut Layer) {
-    assert!(rt; dce.confirmed(1) && !dce.confirmed(2));
-    assert_eq!(rt; dce.send(1, b"HI", false, false, true), Ok(()));
-    assert!(rt; !dce.confirmed(1));
-    assert!(rt; delivers(dce, dte, &[0x50, 0x01, 0x00, 0x48, 0x49]));
+#[test]
+fn delivery_is_confirmed_by_the_release(rt: HostRuntime) -> Result<(), Fail> {
+    let (mut dte, mut dce) = layers(rt.alloc(), 4, true)?;
     let waiting = Front::Data {
         length: 2,
         more: false,
         qualified: false,
         delivery: true,
     };
-    assert_eq!(rt; dte.front(1), Some(waiting));
-    match dte.take(1) {
-        Some(Taken::Data(data)) => assert!(rt;
-            data.octets() == b"HI".as_slice() && data.delivery()
-        ),
-        _ => assert!(rt; false, "a packet waits"),
-    }
-    assert!(rt; dte.take(1).is_none() && is_silent(dte) && !dce.confirmed(1));
-    dte.release(1, 1);
-    assert!(rt; delivers(dte, dce, &[0x10, 0x01, 0x21]));
-    assert!(rt; dce.confirmed(1) && is_silent(dte));
-    dte.release(1, 1);
-    assert!(rt; is_silent(dte));
-}
-
-#[test]
-fn delivery_is_confirmed_by_the_release(rt: HostRuntime) -> Result<(), Fail> {
-    let (mut dte, mut dce) = connected(rt.alloc())?;
-    confirms_delivery(&rt, &mut dte, &mut dce);
+    let turns = [
+        Turn::Dce(Step::Confirmed(1, true)),
+        Turn::Dce(Step::Confirmed(2, false)),
+        Turn::Dce(Step::SendToConfirm(1, b"HI")),
+        Turn::Dce(Step::Confirmed(1, false)),
+        Turn::ToDte(&[0x50, 0x01, 0x00, 0x48, 0x49]),
+        Turn::Dte(Step::Front(1, waiting)),
+        Turn::Dte(Step::Take(1, Some(b"HI"))),
+        Turn::Dte(Step::Take(1, None)),
+        Turn::Dte(Step::SayNothing),
+        Turn::Dce(Step::Confirmed(1, false)),
+        Turn::Dte(Step::Release(1)),
+        Turn::ToDce(&[0x10, 0x01, 0x21]),
+        Turn::Dce(Step::Confirmed(1, true)),
+        Turn::Dte(Step::SayNothing),
+        Turn::Dte(Step::Release(1)),
+        Turn::Dte(Step::SayNothing),
+    ];
+    assert_eq!(rt; first_misfit(&mut dte, &mut dce, &turns), None);
     Ok(())
-}
-
-fn confirms_interrupts(rt: &impl Abort, dte: &mut Layer, dce: &mut Layer) {
-    assert_eq!(rt; dte.interrupt(1, &[]), Err(ChannelFault::TooLong));
-    assert_eq!(rt; dte.interrupt(1, &[1]), Ok(()));
-    assert_eq!(rt; dte.interrupt(1, &[1]), Err(ChannelFault::InterruptPending));
-    assert!(rt; delivers(dte, dce, &[0x10, 0x01, 0x23, 0x01]));
-    assert_eq!(rt; dce.front(1), Some(Front::Interrupt));
-    match dce.take(1) {
-        Some(Taken::Interrupt(data)) => assert!(rt; data.octets() == [1].as_slice()),
-        _ => assert!(rt; false, "an interrupt waits"),
-    }
-    assert!(rt; is_silent(dce));
-    dce.confirm_interrupt(1);
-    assert!(rt; delivers(dce, dte, &[0x10, 0x01, 0x27]));
-    match dte.notes() {
-        Some(LayerNote::InterruptConfirmed(channel)) => assert_eq!(rt; channel, 1),
-        _ => assert!(rt; false, "the interrupt is confirmed"),
-    }
 }
 
 #[test]
 fn interrupts_are_confirmed(rt: HostRuntime) -> Result<(), Fail> {
-    let (mut dte, mut dce) = connected(rt.alloc())?;
-    confirms_interrupts(&rt, &mut dte, &mut dce);
+    let (mut dte, mut dce) = layers(rt.alloc(), 4, true)?;
+    let turns = [
+        Turn::Dte(Step::Interrupt(1, &[], Err(ChannelFault::TooLong))),
+        Turn::Dte(Step::Interrupt(1, &[1], Ok(()))),
+        Turn::Dte(Step::Interrupt(1, &[1], Err(ChannelFault::InterruptPending))),
+        Turn::ToDce(&[0x10, 0x01, 0x23, 0x01]),
+        Turn::Dce(Step::Front(1, Front::Interrupt)),
+        Turn::Dce(Step::Take(1, Some(&[1]))),
+        Turn::Dce(Step::SayNothing),
+        Turn::Dce(Step::ConfirmInterrupt(1)),
+        Turn::ToDte(&[0x10, 0x01, 0x27]),
+        Turn::Dte(Step::Note(Told::InterruptConfirmed(1))),
+    ];
+    assert_eq!(rt; first_misfit(&mut dte, &mut dce, &turns), None);
     Ok(())
-}
-
-fn stops_its_partner(rt: &impl Abort, dte: &mut Layer, dce: &mut Layer) {
-    assert_eq!(rt; dte.stop(1), Ok(()));
-    assert!(rt; delivers(dte, dce, &[0x10, 0x01, 0x05]));
-    assert_eq!(rt; dce.send(1, b"X", false, false, false), Ok(()));
-    assert!(rt; is_silent(dce));
-    assert_eq!(rt; dte.go(1), Ok(()));
-    assert!(rt; delivers(dte, dce, &[0x10, 0x01, 0x01]));
-    assert!(rt; says(dce, &[0x10, 0x01, 0x00, 0x58]));
-    assert_eq!(rt; dte.go(3), Err(ChannelFault::NoCall));
 }
 
 #[test]
 fn an_end_stops_its_partner(rt: HostRuntime) -> Result<(), Fail> {
-    let (mut dte, mut dce) = connected(rt.alloc())?;
-    stops_its_partner(&rt, &mut dte, &mut dce);
-    Ok(())
-}
-
-fn answers_or_ignores_errors(rt: &impl Abort, dte: &mut Layer) {
-    let ignored: [&[u8]; 5] = [
-        &[0x10, 0x05, 0x0b, 0x04, 0x20, 0x01, 0x00],
-        &[0x10],
-        &[0x20, 0x01, 0x00],
-        &[0x10, 0x00, 0xf1],
-        &[0x10, 0x05, 0xf1],
+    let (mut dte, mut dce) = layers(rt.alloc(), 4, true)?;
+    let turns = [
+        Turn::Dte(Step::Stop(1)),
+        Turn::ToDce(&[0x10, 0x01, 0x05]),
+        Turn::Dce(Step::Send(1, b"X", Ok(()))),
+        Turn::Dce(Step::SayNothing),
+        Turn::Dte(Step::Go(1, Ok(()))),
+        Turn::ToDce(&[0x10, 0x01, 0x01]),
+        Turn::Dce(Step::Say(&[0x10, 0x01, 0x00, 0x58])),
+        Turn::Dte(Step::Go(3, Err(ChannelFault::NoCall))),
     ];
-    for octets in ignored {
-        dte.on_packet(octets);
-        assert!(rt; dte.notes().is_none() && is_silent(dte), "{octets:?}");
-    }
-    dte.on_packet(&[0x10, 0x01, 0xf1]);
-    assert!(rt; is_reset(dte.notes(), (1, 5, 27), Reason::LocalFault));
-    assert!(rt; says(dte, &[0x10, 0x01, 0x1b, 0x00, 0x1b]));
-    dte.on_packet(&[0x10, 0x01, 0x0f, 0x01]);
-    assert!(rt; is_closed(dte.notes(), (1, 19, 0), Reason::LocalFault));
-    assert!(rt; says(dte, &[0x10, 0x01, 0x13, 0x00, 0x00]));
-    dte.on_timer(TimerId::T23(1));
-    assert!(rt; says(dte, RESTART_OF_DTE) && dte.notes().is_none());
+    assert_eq!(rt; first_misfit(&mut dte, &mut dce, &turns), None);
+    Ok(())
 }
 
 #[test]
 fn errors_are_answered_or_ignored(rt: HostRuntime) -> Result<(), Fail> {
-    let (mut dte, _) = connected(rt.alloc())?;
-    answers_or_ignores_errors(&rt, &mut dte);
+    let (mut dte, mut dce) = layers(rt.alloc(), 4, true)?;
+    let turns = [
+        Turn::Dte(Step::Hear(&[0x10, 0x05, 0x0b, 0x04, 0x20, 0x01, 0x00])),
+        Turn::Dte(Step::NoNote),
+        Turn::Dte(Step::SayNothing),
+        Turn::Dte(Step::Hear(&[0x10])),
+        Turn::Dte(Step::NoNote),
+        Turn::Dte(Step::SayNothing),
+        Turn::Dte(Step::Hear(&[0x20, 0x01, 0x00])),
+        Turn::Dte(Step::NoNote),
+        Turn::Dte(Step::SayNothing),
+        Turn::Dte(Step::Hear(&[0x10, 0x00, 0xf1])),
+        Turn::Dte(Step::NoNote),
+        Turn::Dte(Step::SayNothing),
+        Turn::Dte(Step::Hear(&[0x10, 0x05, 0xf1])),
+        Turn::Dte(Step::NoNote),
+        Turn::Dte(Step::SayNothing),
+        Turn::Dte(Step::Hear(&[0x10, 0x01, 0xf1])),
+        Turn::Dte(Step::Note(Told::Reset(1, 5, 27, Reason::LocalFault))),
+        Turn::Dte(Step::Say(&[0x10, 0x01, 0x1b, 0x00, 0x1b])),
+        Turn::Dte(Step::Hear(&[0x10, 0x01, 0x0f, 0x01])),
+        Turn::Dte(Step::Note(Told::Closed(1, 19, 0, Reason::LocalFault))),
+        Turn::Dte(Step::Say(&[0x10, 0x01, 0x13, 0x00, 0x00])),
+        Turn::Dte(Step::Expire(TimerId::T23(1))),
+        Turn::Dte(Step::Say(RESTART_OF_DTE)),
+        Turn::Dte(Step::NoNote),
+    ];
+    assert_eq!(rt; first_misfit(&mut dte, &mut dce, &turns), None);
     Ok(())
-}
-
-fn asks_for_a_relink(rt: &impl Abort, dce: &mut Layer) {
-    for _ in 0..4 {
-        dce.on_packet(&[0x10, 0x01, 0x13, 0x00, 0x00]);
-        assert!(rt; !dce.must_relink());
-    }
-    assert_eq!(rt; call_2001(dce), Err(CallFault::NoChannel));
-    dce.on_packet(&[0x10, 0x01, 0x13, 0x00, 0x00]);
-    assert!(rt; dce.must_relink() && is_silent(dce));
-    dce.link_up();
-    assert!(rt; !dce.must_relink() && says(dce, RESTART_OF_DCE));
 }
 
 #[test]
 fn a_fifth_owed_packet_asks_for_a_relink(rt: HostRuntime) -> Result<(), Fail> {
-    let (_, mut dce) = ready(rt.alloc(), 1)?;
-    asks_for_a_relink(&rt, &mut dce);
+    let (mut dte, mut dce) = layers(rt.alloc(), 1, false)?;
+    assert_eq!(rt; first_misfit(&mut dte, &mut dce, &SET_UP), None);
+    let turns = [
+        Turn::Dce(Step::Hear(&[0x10, 0x01, 0x13, 0x00, 0x00])),
+        Turn::Dce(Step::Hear(&[0x10, 0x01, 0x13, 0x00, 0x00])),
+        Turn::Dce(Step::Hear(&[0x10, 0x01, 0x13, 0x00, 0x00])),
+        Turn::Dce(Step::Hear(&[0x10, 0x01, 0x13, 0x00, 0x00])),
+        Turn::Dce(Step::MustRelink(false)),
+        Turn::Dce(Step::Call(Err(CallFault::NoChannel))),
+        Turn::Dce(Step::Hear(&[0x10, 0x01, 0x13, 0x00, 0x00])),
+        Turn::Dce(Step::MustRelink(true)),
+        Turn::Dce(Step::SayNothing),
+        Turn::Dce(Step::LinkUp),
+        Turn::Dce(Step::MustRelink(false)),
+        Turn::Dce(Step::Say(RESTART_OF_DCE)),
+    ];
+    assert_eq!(rt; first_misfit(&mut dte, &mut dce, &turns), None);
     Ok(())
-}
-
-fn closes_all_calls(rt: &impl Abort, dte: &mut Layer, dce: &mut Layer) {
-    assert_eq!(rt; call_2001(dte), Ok(4));
-    dte.link_down();
-    assert!(rt; is_closed(dte.notes(), (1, 9, 0), Reason::LinkLost));
-    assert!(rt; is_closed(dte.notes(), (4, 9, 0), Reason::LinkLost));
-    assert!(rt; dte.notes().is_none());
-    dce.on_packet(RESTART_OF_DTE);
-    assert!(rt; is_closed(dce.notes(), (1, 9, 0), Reason::FarRestart));
-    assert!(rt; says(dce, &[0x10, 0x00, 0xff]));
 }
 
 #[test]
 fn a_session_that_ends_closes_all_calls(rt: HostRuntime) -> Result<(), Fail> {
-    let (mut dte, mut dce) = connected(rt.alloc())?;
-    closes_all_calls(&rt, &mut dte, &mut dce);
+    let (mut dte, mut dce) = layers(rt.alloc(), 4, true)?;
+    let turns = [
+        Turn::Dte(Step::Call(Ok(4))),
+        Turn::Dte(Step::LinkDown),
+        Turn::Dte(Step::Note(Told::Closed(1, 9, 0, Reason::LinkLost))),
+        Turn::Dte(Step::Note(Told::Closed(4, 9, 0, Reason::LinkLost))),
+        Turn::Dte(Step::NoNote),
+        Turn::Dce(Step::Hear(RESTART_OF_DTE)),
+        Turn::Dce(Step::Note(Told::Closed(1, 9, 0, Reason::FarRestart))),
+        Turn::Dce(Step::Say(&[0x10, 0x00, 0xff])),
+    ];
+    assert_eq!(rt; first_misfit(&mut dte, &mut dce, &turns), None);
     Ok(())
 }
 
-// A DCE with a call from the DTE on channel 4, after its answer went.
-fn in_call(alloc: Global) -> Result<Layer, Fail> {
-    let (_, mut dce) = ready(alloc, 4)?;
-    dce.on_packet(&[0x10, 0x04, 0x0b, 0x04, 0x20, 0x01, 0x00]);
-    let _ = dce.accept(4);
-    let _ = says(&mut dce, &[0x10, 0x04, 0x0f]);
-    Ok(dce)
-}
+// A call from the DTE comes to the DCE on channel 4, which accepts it.
+const ANSWER: [Turn; 3] = [
+    Turn::Dce(Step::Hear(&[0x10, 0x04, 0x0b, 0x04, 0x20, 0x01, 0x00])),
+    Turn::Dce(Step::Accept(4, Ok(()))),
+    Turn::Dce(Step::Say(&[0x10, 0x04, 0x0f])),
+];
 
-// A packet arrives, and this one and no other is sent.
-fn answers(rt: &impl Abort, layer: &mut Layer, octets: &[u8], answer: &[u8]) {
-    layer.on_packet(octets);
-    assert!(rt; says(layer, answer) && is_silent(layer), "{octets:?}");
-}
-
-// A packet arrives, and none is sent.
-fn ignores(rt: &impl Abort, layer: &mut Layer, octets: &[u8]) {
-    layer.on_packet(octets);
-    assert!(rt; is_silent(layer), "{octets:?}");
+// Whether a DCE in this call plays the turns.
+fn plays(alloc: Global, turns: &[Turn<'_>]) -> Result<bool, Fail> {
+    let (mut dte, mut dce) = layers(alloc, 4, false)?;
+    Ok(
+        first_misfit(&mut dte, &mut dce, &SET_UP).is_none()
+            && first_misfit(&mut dte, &mut dce, &ANSWER).is_none()
+            && first_misfit(&mut dte, &mut dce, turns).is_none(),
+    )
 }
 
 #[test]
@@ -454,22 +362,34 @@ fn a_stranger_gets_the_answers_of_the_tables(rt: HostRuntime) -> Result<(), Fail
         (&[0x10, 0x00, 0xff], &[0x10, 0x00, 0xfb, 0x01, 0x11]),
     ];
     for (octets, answer) in rows {
-        let mut dce = in_call(rt.alloc())?;
-        answers(&rt, &mut dce, octets, answer);
+        let turns = [
+            Turn::Dce(Step::Hear(octets)),
+            Turn::Dce(Step::Say(answer)),
+            Turn::Dce(Step::SayNothing),
+        ];
+        let fits = plays(rt.alloc(), &turns)?;
+        assert!(rt; fits, "{octets:?}");
     }
     let ignored: [&[u8]; 3] = [&[0x10, 0x09, 0x00], &[0x10, 0x00, 0x0b], &[0x10, 0x04]];
     for octets in ignored {
-        let mut dce = in_call(rt.alloc())?;
-        ignores(&rt, &mut dce, octets);
+        let turns = [Turn::Dce(Step::Hear(octets)), Turn::Dce(Step::SayNothing)];
+        let fits = plays(rt.alloc(), &turns)?;
+        assert!(rt; fits, "{octets:?}");
     }
     Ok(())
 }
 
 #[test]
 fn a_second_interrupt_before_the_confirmation_is_an_error(rt: HostRuntime) -> Result<(), Fail> {
-    let mut dce = in_call(rt.alloc())?;
     let interrupt: &[u8] = &[0x10, 0x04, 0x23, 0x01];
-    ignores(&rt, &mut dce, interrupt);
-    answers(&rt, &mut dce, interrupt, &[0x10, 0x04, 0x1b, 0x05, 0x00]);
+    let turns = [
+        Turn::Dce(Step::Hear(interrupt)),
+        Turn::Dce(Step::SayNothing),
+        Turn::Dce(Step::Hear(interrupt)),
+        Turn::Dce(Step::Say(&[0x10, 0x04, 0x1b, 0x05, 0x00])),
+        Turn::Dce(Step::SayNothing),
+    ];
+    let fits = plays(rt.alloc(), &turns)?;
+    assert!(rt; fits);
     Ok(())
 }

@@ -5,3 +5,5 @@
 mod layers;
 #[cfg(test)]
 mod packets;
+#[cfg(test)]
+mod steps;
