@@ -6,28 +6,28 @@ use Rattle.link_timers.specs.declared.role.Role.TheVariants.{Dte, Dce}
 use Rattle.packet_layer.specs.Channel.{Channel, CallState}
 use Rattle.packet_layer.specs.Channel.CallState.{Ready, OwnWaiting, FarWaiting, Transfer, Collision, OwnClear}
 use Rattle.packet_layer.specs.Layer.{channel_of, had_call}
-use Rattle.packet_laws.proofs.LineHolds.{line_holds}
+use Rattle.packet_laws.proofs.Line.LineHolds.{line_holds}
 use Rattle.call_records.specs.Book.{Slot, side_of, slot_at}
 use Rattle.book_laws.specs.Told.{World, after_all, start}
 use Rattle.book_laws.specs.Headline.{PresentLaw, IsBeside, has_call, layer_at}
-use Rattle.book_laws.proofs.Scenes.{Face, Mood, Tag, SlotIs}
-use Rattle.book_laws.proofs.Scenes.Mood.{Idle, OwnCall, FarCall, Open}
-use Rattle.book_laws.proofs.Faces.{mood_of, mood_at, met_mood}
+use Rattle.book_laws.proofs.Invariant.{EndView, CallStatus, Tag, SlotIs}
+use Rattle.book_laws.proofs.Invariant.CallStatus.{Idle, OwnCall, FarCall, Open}
+use Rattle.book_laws.proofs.EndSteps.{status_of, status_at, met_status}
 use Rattle.book_laws.proofs.Lines.{all_kept, KeptIn}
 use Rattle.book_laws.proofs.Starting.{start_kept}
 
--- a mood of a call
-abbrev is_call : Mood → Bool
+-- a status of a call
+abbrev is_call : CallStatus → Bool
 is_call Idle = false
 is_call OwnCall = true
 is_call FarCall = true
 is_call Open = true
 
-met_call : (x : Role) → is_call (met_mood x) ≡ true
+met_call : (x : Role) → is_call (met_status x) ≡ true
 met_call Dte = refl
 met_call Dce = refl
 
-state_call : (x : Role) (s : CallState) → is_call (mood_of x s) ≡ had_call s
+state_call : (x : Role) (s : CallState) → is_call (status_of x s) ≡ had_call s
 state_call x Ready = refl
 state_call x OwnWaiting = refl
 state_call x FarWaiting = refl
@@ -35,11 +35,11 @@ state_call x Transfer = refl
 state_call x Collision = met_call x
 state_call x OwnClear = refl
 
-mood_call : (x : Role) (o : Option Channel) → is_call (mood_at x o) ≡ has_call o
-mood_call x None = refl
-mood_call x (Some ch) = state_call x ch.state
+status_call : (x : Role) (o : Option Channel) → is_call (status_at x o) ≡ has_call o
+status_call x None = refl
+status_call x (Some ch) = state_call x ch.state
 
-slot_call : (m : Mood) (f : Face) (tags : List Tag) (x : Role) (c : ℕ) (slot : Slot) → SlotIs m f tags x c slot → is_some slot.present ≡ is_call m
+slot_call : (m : CallStatus) (f : EndView) (tags : List Tag) (x : Role) (c : ℕ) (slot : Slot) → SlotIs m f tags x c slot → is_some slot.present ≡ is_call m
 slot_call Idle f tags x c slot h = ap is_some h
 slot_call OwnCall f tags x c slot h = ap is_some h.0.is_present
 slot_call FarCall f tags x c slot h = ap is_some h.0.is_present
@@ -53,8 +53,8 @@ kept_beside n w k = record { channels = λ role. channels role; present = λ rol
     channels Dce = k.sizes Dce ∙ sym k.there.count
 
     present : (role : Role) (c : ℕ) → is_some (slot_at role c w.book).present ≡ has_call (channel_of (layer_at role w) c)
-    present Dte c = slot_call (mood_at Dte (channel_of w.line.me.layer c)) _ k.tags Dte c (slot_at Dte c w.book) (k.right.slot Dte c) ∙ mood_call Dte (channel_of w.line.me.layer c)
-    present Dce c = slot_call (mood_at Dce (channel_of w.line.you.layer c)) _ k.tags Dce c (slot_at Dce c w.book) (k.right.slot Dce c) ∙ mood_call Dce (channel_of w.line.you.layer c)
+    present Dte c = slot_call (status_at Dte (channel_of w.line.me.layer c)) _ k.tags Dte c (slot_at Dte c w.book) (k.right.slot Dte c) ∙ status_call Dte (channel_of w.line.me.layer c)
+    present Dce c = slot_call (status_at Dce (channel_of w.line.you.layer c)) _ k.tags Dce c (slot_at Dce c w.book) (k.right.slot Dce c) ∙ status_call Dce (channel_of w.line.you.layer c)
 
 pub is_beside : PresentLaw
 is_beside dte_node dce_node channels window standing some small ms allowed =

@@ -1,7 +1,7 @@
 -- The law of the book of a line.
 use Rattle.book_laws.specs.Told.{after_all, start}
 use Rattle.book_laws.specs.Headline.{BookLaw}
-use Rattle.packet_laws.proofs.LineHolds.{line_holds}
+use Rattle.packet_laws.proofs.Line.LineHolds.{line_holds}
 use Rattle.book_laws.proofs.Lines.{all_kept, kept_holds}
 use Rattle.book_laws.proofs.Starting.{start_kept}
 

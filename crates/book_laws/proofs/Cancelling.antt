@@ -10,9 +10,9 @@ use Rattle.std.specs.Option.{IsSome}
 use Rattle.call_records.specs.Records.{RecordValue, PairValue}
 use Rattle.call_records.specs.Book.{Slot}
 use Rattle.book_laws.proofs.Basics.{is_role, number_is, twice, get_set, set_here, set_elsewhere, length_set}
-use Rattle.book_laws.proofs.Scenes.{Face, Mood, Spot, Kind, Tag, Shelf, IsLive, Stands, Means, Fits, Present, SlotIs, PlacedIs, UpTo, IsPair, IsRight, epoch_at, called_at, now, taken_of, nothing_passed}
-use Rattle.book_laws.proofs.Scenes.Mood.{Idle, OwnCall, FarCall, Open}
-use Rattle.book_laws.proofs.Scenes.Kind.{Caller, Callee, Cancelled}
+use Rattle.book_laws.proofs.Invariant.{EndView, CallStatus, ChannelUse, Kind, Tag, BookParts, IsLive, Stands, Means, Fits, Present, SlotIs, PlacedIs, UpTo, IsPair, IsRight, epoch_at, called_at, now, taken_of, nothing_passed}
+use Rattle.book_laws.proofs.Invariant.CallStatus.{Idle, OwnCall, FarCall, Open}
+use Rattle.book_laws.proofs.Invariant.Kind.{Caller, Callee, Cancelled}
 use Rattle.book_laws.proofs.Carrying.{is_present, same_tag}
 use Rattle.book_laws.proofs.Ending.{Alike}
 
@@ -49,42 +49,42 @@ none_is_not_some o e h = true≢false (sym (subst (λ (p : Option CallParts). Is
 abbrev pub cancelled_tag : Tag → Tag
 cancelled_tag t = record t { kind = Cancelled }
 
-pub record Cancels (x : Role) (c : ℕ) (faces : Role → Face) (mood : Role → ℕ → Mood) (b : Shelf) (slots : Role → ℕ → Slot) (records : List RecordValue) (tags : List Tag) : Type 0 where
+pub record Cancels (x : Role) (c : ℕ) (views : Role → EndView) (status : Role → ℕ → CallStatus) (b : BookParts) (slots : Role → ℕ → Slot) (records : List RecordValue) (tags : List Tag) : Type 0 where
   pub role : x ≡ Dce
-  pub own : Present (faces x) tags x c (b.slots x c)
+  pub own : Present (views x) tags x c (b.slots x c)
   pub kind : own.tag.kind ≡ Caller
-  pub met : IsSome (called_at (faces (other_of x)) (now (faces x) own.session c))
-  pub nothing : (g : ℕ) → taken_of (epoch_at (faces x) (now (faces x) own.session c) g) ≡ nothing_passed
-  pub idle : mood x c ≡ Idle
-  pub mood_else : (y : Role) (d : ℕ) → ((y ≡ x) × (d ≡ c) → ⊥) → mood y d ≡ (faces y).mood d
+  pub met : IsSome (called_at (views (other_of x)) (now (views x) own.session c))
+  pub nothing : (g : ℕ) → taken_of (epoch_at (views x) (now (views x) own.session c) g) ≡ nothing_passed
+  pub idle : status x c ≡ Idle
+  pub status_else : (y : Role) (d : ℕ) → ((y ≡ x) × (d ≡ c) → ⊥) → status y d ≡ (views y).status d
   pub free : (slots x c).present ≡ None
   pub placed : (slots x c).placed ≡ (b.slots x c).placed
   pub slots_else : (y : Role) (d : ℕ) → ((y ≡ x) × (d ≡ c) → ⊥) → slots y d ≡ b.slots y d
   pub count : length records ≡ length b.records
   pub kept : (n : ℕ) (r' : RecordValue) → slice_get records n ≡ Some r' → (r : RecordValue) × (slice_get b.records n ≡ Some r) × Alike r r'
 
-abbrev pub with_moods : (Role → ℕ → Mood) → (Role → Face) → Role → Face
-with_moods mood faces y = record (faces y) { mood = mood y }
+abbrev pub with_statuses : (Role → ℕ → CallStatus) → (Role → EndView) → Role → EndView
+with_statuses status views y = record (views y) { status = status y }
 
-placed_kind : (o : Option ℕ) (f : Face) (m : ℕ → Mood) (tags : List Tag) (n : ℕ) (t : Tag) (x : Role) (c : ℕ) → slice_get tags n ≡ Some t → PlacedIs o f tags x c → PlacedIs o (record f { mood = m }) (set tags n (cancelled_tag t)) x c
+placed_kind : (o : Option ℕ) (f : EndView) (m : ℕ → CallStatus) (tags : List Tag) (n : ℕ) (t : Tag) (x : Role) (c : ℕ) → slice_get tags n ≡ Some t → PlacedIs o f tags x c → PlacedIs o (record f { status = m }) (set tags n (cancelled_tag t)) x c
 placed_kind None f m tags n t x c there w = w
 placed_kind (Some k) f m tags n t x c there w =
     elim (number_is k n) [
       | inl e ↦
           let is : w.tag ≡ t = same_tag tags n w.tag t (ap (λ (i : ℕ). slice_get tags i) (sym e) ∙ w.there) there in
-          let spot : w.tag.spot ≡ t.spot = ap (λ (u : Tag). u.spot) is in
+          let channel_use : w.tag.channel_use ≡ t.channel_use = ap (λ (u : Tag). u.channel_use) is in
           record {
             tag = cancelled_tag t;
             parts = w.parts;
             there = ap (λ (i : ℕ). slice_get (set tags n (cancelled_tag t)) i) e ∙ set_here tags n (cancelled_tag t) t there;
             role = ap (λ (u : Tag). u.role) (sym is) ∙ w.role;
-            channel = ap (λ (u : Spot). u.channel) (sym spot) ∙ w.channel;
-            session = subst (λ (u : Spot). u.session ≤ f.top) spot w.session;
-            called = ap (λ (u : Spot). called_at f u) (sym spot) ∙ w.called;
+            channel = ap (λ (u : ChannelUse). u.channel) (sym channel_use) ∙ w.channel;
+            session = subst (λ (u : ChannelUse). u.session ≤ f.top) channel_use w.session;
+            called = ap (λ (u : ChannelUse). called_at f u) (sym channel_use) ∙ w.called;
             calling = w.calling;
             far = ap (λ (u : Tag). u.far) (sym is) ∙ w.far;
             placed = λ a e. callee_not_cancelled a (sym e);
-            last = λ h ch some. subst (λ (u : Spot). UpTo h u) spot (w.last h ch some);
+            last = λ h ch some. subst (λ (u : ChannelUse). UpTo h u) channel_use (w.last h ch some);
           }
       | inr e ↦ record {
         tag = w.tag;
@@ -101,7 +101,7 @@ placed_kind (Some k) f m tags n t x c there w =
       }
     ]
 
-abbrev present_else : (f : Face) (m : ℕ → Mood) (tags : List Tag) (n : ℕ) (t : Tag) (x : Role) (c : ℕ) (slot : Slot) → (p : Present f tags x c slot) → p.number ≢ n → Present (record f { mood = m }) (set tags n t) x c slot
+abbrev present_else : (f : EndView) (m : ℕ → CallStatus) (tags : List Tag) (n : ℕ) (t : Tag) (x : Role) (c : ℕ) (slot : Slot) → (p : Present f tags x c slot) → p.number ≢ n → Present (record f { status = m }) (set tags n t) x c slot
 present_else f m tags n t x c slot p e = record {
   session = p.session;
   number = p.number;
@@ -110,17 +110,17 @@ present_else f m tags n t x c slot p e = record {
   is_present = p.is_present;
   there = set_elsewhere tags n p.number t e ∙ p.there;
   role = p.role;
-  spot = p.spot;
+  channel_use = p.channel_use;
   live = p.live;
 }
 
-slot_else : (mo : Mood) (f : Face) (m : ℕ → Mood) (tags : List Tag) (n : ℕ) (t : Tag) (x : Role) (c : ℕ) (slot : Slot) → ((p : Present f tags x c slot) → p.number ≢ n) → SlotIs mo f tags x c slot → SlotIs mo (record f { mood = m }) (set tags n t) x c slot
+slot_else : (mo : CallStatus) (f : EndView) (m : ℕ → CallStatus) (tags : List Tag) (n : ℕ) (t : Tag) (x : Role) (c : ℕ) (slot : Slot) → ((p : Present f tags x c slot) → p.number ≢ n) → SlotIs mo f tags x c slot → SlotIs mo (record f { status = m }) (set tags n t) x c slot
 slot_else Idle f m tags n t x c slot e w = w
 slot_else OwnCall f m tags n t x c slot e w = (present_else f m tags n t x c slot w.0 (e w.0), w.1)
 slot_else FarCall f m tags n t x c slot e w = (present_else f m tags n t x c slot w.0 (e w.0), w.1, w.2, w.3)
 slot_else Open f m tags n t x c slot e w = present_else f m tags n t x c slot w (e w)
 
-module _ (x : Role) (c : ℕ) (faces : Role → Face) (mood : Role → ℕ → Mood) (b : Shelf) (slots : Role → ℕ → Slot) (records : List RecordValue) (tags : List Tag) (w : IsRight faces b tags) (q : Cancels x c faces mood b slots records tags) where
+module _ (x : Role) (c : ℕ) (views : Role → EndView) (status : Role → ℕ → CallStatus) (b : BookParts) (slots : Role → ℕ → Slot) (records : List RecordValue) (tags : List Tag) (w : IsRight views b tags) (q : Cancels x c views status b slots records tags) where
   abbrev number : ℕ
   number = q.own.number
 
@@ -130,38 +130,38 @@ module _ (x : Role) (c : ℕ) (faces : Role → Face) (mood : Role → ℕ → M
   abbrev tags' : List Tag
   tags' = set tags q.own.number (cancelled_tag q.own.tag)
 
-  stands_else : (n : ℕ) (t : Tag) → slice_get tags n ≡ Some t → n ≢ q.own.number → Stands (with_moods mood faces t.role) (slots t.role) n t
+  stands_else : (n : ℕ) (t : Tag) → slice_get tags n ≡ Some t → n ≢ q.own.number → Stands (with_statuses status views t.role) (slots t.role) n t
   stands_else n t there other =
       let o = w.stands n t there in
       record {
         begun = o.begun;
         past = o.past;
         present = λ up is live. elim (is_role x t.role) [
-          | inl e ↦ elim (number_is t.spot.channel c) [
-            | inl h ↦ absurd (other (is_present (faces x) (b.slots x) tags x c q.own n t (subst (λ (y : Role). Stands (faces y) (b.slots y) n t) e o)
+          | inl e ↦ elim (number_is t.channel_use.channel c) [
+            | inl h ↦ absurd (other (is_present (views x) (b.slots x) tags x c q.own n t (subst (λ (y : Role). Stands (views y) (b.slots y) n t) e o)
                 (at_now t e h up is) live))
-            | inr h ↦ ap (λ (z : Slot). z.present) (q.slots_else t.role t.spot.channel (λ p. h p.1)) ∙ o.present up is live
+            | inr h ↦ ap (λ (z : Slot). z.present) (q.slots_else t.role t.channel_use.channel (λ p. h p.1)) ∙ o.present up is live
           ]
-          | inr e ↦ ap (λ (z : Slot). z.present) (q.slots_else t.role t.spot.channel (λ p. e p.0)) ∙ o.present up is live
+          | inr e ↦ ap (λ (z : Slot). z.present) (q.slots_else t.role t.channel_use.channel (λ p. e p.0)) ∙ o.present up is live
         ];
       }
     where
-      at_now : (t : Tag) → t.role ≡ x → t.spot.channel ≡ c → (faces t.role).session ≡ Some t.spot.session → t.spot ≡ now (faces t.role) t.spot.session t.spot.channel → t.spot ≡ now (faces x) q.own.session c
+      at_now : (t : Tag) → t.role ≡ x → t.channel_use.channel ≡ c → (views t.role).session ≡ Some t.channel_use.session → t.channel_use ≡ now (views t.role) t.channel_use.session t.channel_use.channel → t.channel_use ≡ now (views x) q.own.session c
       at_now t e h up is =
-          let when : t.spot.session ≡ q.own.session = same_Some t.spot.session q.own.session (sym up ∙ ap (λ (y : Role). (faces y).session) e ∙ q.own.up) in
-          is ∙ ap (λ (y : Role). now (faces y) t.spot.session t.spot.channel) e ∙ ap (λ (d : ℕ). now (faces x) t.spot.session d) h ∙ ap (λ (s : ℕ). now (faces x) s c) when
+          let when : t.channel_use.session ≡ q.own.session = same_Some t.channel_use.session q.own.session (sym up ∙ ap (λ (y : Role). (views y).session) e ∙ q.own.up) in
+          is ∙ ap (λ (y : Role). now (views y) t.channel_use.session t.channel_use.channel) e ∙ ap (λ (d : ℕ). now (views x) t.channel_use.session d) h ∙ ap (λ (s : ℕ). now (views x) s c) when
 
-  mate_else : (n a : ℕ) (t : Tag) (mate : Tag) → slice_get tags a ≡ Some mate → mate.role ≡ other_of t.role → mate.spot ≡ t.spot → (t.role ≡ Dte → called_at (faces t.role) t.spot ≡ None) → a ≢ q.own.number
-  mate_else n a t mate there role spot free e =
+  mate_else : (n a : ℕ) (t : Tag) (mate : Tag) → slice_get tags a ≡ Some mate → mate.role ≡ other_of t.role → mate.channel_use ≡ t.channel_use → (t.role ≡ Dte → called_at (views t.role) t.channel_use ≡ None) → a ≢ q.own.number
+  mate_else n a t mate there role channel_use free e =
       let is : mate ≡ q.own.tag = same_tag tags q.own.number mate q.own.tag (ap (λ (i : ℕ). slice_get tags i) (sym e) ∙ there) q.own.there in
-      let at : t.spot ≡ now (faces x) q.own.session c = sym spot ∙ ap (λ (u : Tag). u.spot) is ∙ q.own.spot in
+      let at : t.channel_use ≡ now (views x) q.own.session c = sym channel_use ∙ ap (λ (u : Tag). u.channel_use) is ∙ q.own.channel_use in
       let mine : other_of t.role ≡ x = sym role ∙ ap (λ (u : Tag). u.role) is ∙ q.own.role in
       let yours : t.role ≡ other_of x = sym (twice t.role) ∙ ap other_of mine in
       let dte : t.role ≡ Dte = yours ∙ ap other_of q.role in
-      none_is_not_some (called_at (faces t.role) t.spot) (free dte)
-      (subst (λ (k : Spot). IsSome (called_at (faces t.role) k)) (sym at) (subst (λ (y : Role). IsSome (called_at (faces y) (now (faces x) q.own.session c))) (sym yours) q.met))
+      none_is_not_some (called_at (views t.role) t.channel_use) (free dte)
+      (subst (λ (k : ChannelUse). IsSome (called_at (views t.role) k)) (sym at) (subst (λ (y : Role). IsSome (called_at (views y) (now (views x) q.own.session c))) (sym yours) q.met))
 
-  means_else : (n : ℕ) (t : Tag) → slice_get tags n ≡ Some t → Means (with_moods mood faces t.role) (with_moods mood faces (other_of t.role)) b.pairs tags' n t
+  means_else : (n : ℕ) (t : Tag) → slice_get tags n ≡ Some t → Means (with_statuses status views t.role) (with_statuses status views (other_of t.role)) b.pairs tags' n t
   means_else n t there =
       let o = w.means n t there in
       record {
@@ -170,10 +170,10 @@ module _ (x : Role) (c : ℕ) (faces : Role → Face) (mood : Role → ℕ → M
           far = z.far;
           order = z.order;
           mate = z.mate;
-          there = set_elsewhere tags q.own.number a (cancelled_tag q.own.tag) (mate_else n a t z.mate z.there z.role z.spot z.free) ∙ z.there;
+          there = set_elsewhere tags q.own.number a (cancelled_tag q.own.tag) (mate_else n a t z.mate z.there z.role z.channel_use z.free) ∙ z.there;
           calls = z.calls;
           role = z.role;
-          spot = z.spot;
+          channel_use = z.channel_use;
           address = z.address;
           free = z.free;
           paired = z.paired;
@@ -181,7 +181,7 @@ module _ (x : Role) (c : ℕ) (faces : Role → Face) (mood : Role → ℕ → M
         cancelled = λ e. let z = o.cancelled e in record { role = z.role; met = z.met };
       }
 
-  fits_alike : (n : ℕ) (t : Tag) (r r' : RecordValue) → Alike r r' → Fits (faces t.role) (b.nodes t.role) n t r → Fits (with_moods mood faces t.role) (b.nodes t.role) n t r'
+  fits_alike : (n : ℕ) (t : Tag) (r r' : RecordValue) → Alike r r' → Fits (views t.role) (b.nodes t.role) n t r → Fits (with_statuses status views t.role) (b.nodes t.role) n t r'
   fits_alike n t r r' a o = record {
     number = a.head.number ∙ o.number;
     node_is = a.head.node ∙ o.node_is;
@@ -198,76 +198,76 @@ module _ (x : Role) (c : ℕ) (faces : Role → Face) (mood : Role → ℕ → M
   own_live : IsLive q.own.tag.kind
   own_live e = caller_not_cancelled (sym q.kind ∙ e)
 
-  fits_own : (r r' : RecordValue) → Alike r r' → Fits (faces x) (b.nodes x) q.own.number q.own.tag r → Fits (with_moods mood faces x) (b.nodes x) q.own.number (cancelled_tag q.own.tag) r'
+  fits_own : (r r' : RecordValue) → Alike r r' → Fits (views x) (b.nodes x) q.own.number q.own.tag r → Fits (with_statuses status views x) (b.nodes x) q.own.number (cancelled_tag q.own.tag) r'
   fits_own r r' a o = record {
     number = a.head.number ∙ o.number;
     node_is = a.head.node ∙ o.node_is;
     own = a.head.own ∙ o.own;
     far = a.head.far ∙ o.far;
     tells = λ live. absurd (live refl);
-    none = λ e g. rw (a.taken_before, a.taken) ((o.tells own_live).taken g) ∙ ap (λ (k : Spot). taken_of (epoch_at (faces x) k g)) q.own.spot ∙ q.nothing g;
+    none = λ e g. rw (a.taken_before, a.taken) ((o.tells own_live).taken g) ∙ ap (λ (k : ChannelUse). taken_of (epoch_at (views x) k g)) q.own.channel_use ∙ q.nothing g;
     epochs = λ up is live. absurd (live refl);
   }
 
-  stands_own : Stands (with_moods mood faces x) (slots x) q.own.number (cancelled_tag q.own.tag)
+  stands_own : Stands (with_statuses status views x) (slots x) q.own.number (cancelled_tag q.own.tag)
   stands_own =
-      let o : Stands (faces x) (b.slots x) q.own.number q.own.tag = subst (λ (y : Role). Stands (faces y) (b.slots y) q.own.number q.own.tag) q.own.role (w.stands q.own.number q.own.tag q.own.there) in
+      let o : Stands (views x) (b.slots x) q.own.number q.own.tag = subst (λ (y : Role). Stands (views y) (b.slots y) q.own.number q.own.tag) q.own.role (w.stands q.own.number q.own.tag q.own.there) in
       record { begun = o.begun; past = o.past; present = λ up is live. absurd (live refl) }
 
-  means_own : Means (with_moods mood faces x) (with_moods mood faces (other_of x)) b.pairs tags' q.own.number (cancelled_tag q.own.tag)
+  means_own : Means (with_statuses status views x) (with_statuses status views (other_of x)) b.pairs tags' q.own.number (cancelled_tag q.own.tag)
   means_own = record {
     caller = λ e. absurd (caller_not_cancelled (sym e));
     callee = λ a e. absurd (callee_not_cancelled a (sym e));
-    cancelled = λ e. record { role = q.own.role ∙ q.role; met = subst (λ (k : Spot). IsSome (called_at (faces (other_of x)) k)) (sym q.own.spot) q.met };
+    cancelled = λ e. record { role = q.own.role ∙ q.role; met = subst (λ (k : ChannelUse). IsSome (called_at (views (other_of x)) k)) (sym q.own.channel_use) q.met };
   }
 
-  stands_of : (n : ℕ) (t : Tag) → slice_get tags' n ≡ Some t → Stands (with_moods mood faces t.role) (slots t.role) n t
+  stands_of : (n : ℕ) (t : Tag) → slice_get tags' n ≡ Some t → Stands (with_statuses status views t.role) (slots t.role) n t
   stands_of n t e =
       elim (get_set tags q.own.number (cancelled_tag q.own.tag) n t e) [
-        | inl h ↦ subst (λ (u : Tag). Stands (with_moods mood faces u.role) (slots u.role) n u) (sym h.1)
-            (subst (λ (y : Role). Stands (with_moods mood faces y) (slots y) n (cancelled_tag q.own.tag)) (sym q.own.role) (subst (λ (i : ℕ). Stands (with_moods mood faces x) (slots x) i (cancelled_tag q.own.tag)) (sym h.0) stands_own))
+        | inl h ↦ subst (λ (u : Tag). Stands (with_statuses status views u.role) (slots u.role) n u) (sym h.1)
+            (subst (λ (y : Role). Stands (with_statuses status views y) (slots y) n (cancelled_tag q.own.tag)) (sym q.own.role) (subst (λ (i : ℕ). Stands (with_statuses status views x) (slots x) i (cancelled_tag q.own.tag)) (sym h.0) stands_own))
         | inr h ↦ stands_else n t h.1 h.0
       ]
 
-  means_of : (n : ℕ) (t : Tag) → slice_get tags' n ≡ Some t → Means (with_moods mood faces t.role) (with_moods mood faces (other_of t.role)) b.pairs tags' n t
+  means_of : (n : ℕ) (t : Tag) → slice_get tags' n ≡ Some t → Means (with_statuses status views t.role) (with_statuses status views (other_of t.role)) b.pairs tags' n t
   means_of n t e =
       elim (get_set tags q.own.number (cancelled_tag q.own.tag) n t e) [
-        | inl h ↦ subst (λ (u : Tag). Means (with_moods mood faces u.role) (with_moods mood faces (other_of u.role)) b.pairs tags' n u) (sym h.1)
-            (subst (λ (y : Role). Means (with_moods mood faces y) (with_moods mood faces (other_of y)) b.pairs tags' n (cancelled_tag q.own.tag)) (sym q.own.role) (subst (λ (i : ℕ). Means (with_moods mood faces x) (with_moods mood faces (other_of x)) b.pairs tags' i (cancelled_tag q.own.tag)) (sym h.0) means_own))
+        | inl h ↦ subst (λ (u : Tag). Means (with_statuses status views u.role) (with_statuses status views (other_of u.role)) b.pairs tags' n u) (sym h.1)
+            (subst (λ (y : Role). Means (with_statuses status views y) (with_statuses status views (other_of y)) b.pairs tags' n (cancelled_tag q.own.tag)) (sym q.own.role) (subst (λ (i : ℕ). Means (with_statuses status views x) (with_statuses status views (other_of x)) b.pairs tags' i (cancelled_tag q.own.tag)) (sym h.0) means_own))
         | inr h ↦ means_else n t h.1
       ]
 
-  fits_of : (n : ℕ) (t : Tag) (r' : RecordValue) → slice_get tags' n ≡ Some t → slice_get records n ≡ Some r' → Fits (with_moods mood faces t.role) (b.nodes t.role) n t r'
+  fits_of : (n : ℕ) (t : Tag) (r' : RecordValue) → slice_get tags' n ≡ Some t → slice_get records n ≡ Some r' → Fits (with_statuses status views t.role) (b.nodes t.role) n t r'
   fits_of n t r' e got =
       let k = q.kept n r' got in
       elim (get_set tags q.own.number (cancelled_tag q.own.tag) n t e) [
-        | inl h ↦ subst (λ (u : Tag). Fits (with_moods mood faces u.role) (b.nodes u.role) n u r') (sym h.1)
-            (subst (λ (y : Role). Fits (with_moods mood faces y) (b.nodes y) n (cancelled_tag q.own.tag) r') (sym q.own.role)
-            (subst (λ (i : ℕ). Fits (with_moods mood faces x) (b.nodes x) i (cancelled_tag q.own.tag) r') (sym h.0)
-            (fits_own k.0 r' k.2 (subst (λ (y : Role). Fits (faces y) (b.nodes y) q.own.number q.own.tag k.0) q.own.role
+        | inl h ↦ subst (λ (u : Tag). Fits (with_statuses status views u.role) (b.nodes u.role) n u r') (sym h.1)
+            (subst (λ (y : Role). Fits (with_statuses status views y) (b.nodes y) n (cancelled_tag q.own.tag) r') (sym q.own.role)
+            (subst (λ (i : ℕ). Fits (with_statuses status views x) (b.nodes x) i (cancelled_tag q.own.tag) r') (sym h.0)
+            (fits_own k.0 r' k.2 (subst (λ (y : Role). Fits (views y) (b.nodes y) q.own.number q.own.tag k.0) q.own.role
             (w.fits q.own.number q.own.tag k.0 q.own.there (ap (λ (i : ℕ). slice_get b.records i) (sym h.0) ∙ k.1))))))
         | inr h ↦ fits_alike n t k.0 r' k.2 (w.fits n t k.0 h.1 k.1)
       ]
 
-  slot_own : SlotIs (mood x c) (with_moods mood faces x) tags' x c (slots x c)
-  slot_own = subst (λ (m : Mood). SlotIs m (with_moods mood faces x) tags' x c (slots x c)) (sym q.idle) q.free
+  slot_own : SlotIs (status x c) (with_statuses status views x) tags' x c (slots x c)
+  slot_own = subst (λ (m : CallStatus). SlotIs m (with_statuses status views x) tags' x c (slots x c)) (sym q.idle) q.free
 
-  differs : (y : Role) (d : ℕ) → ((y ≡ x) × (d ≡ c) → ⊥) → (p : Present (faces y) tags y d (b.slots y d)) → p.number ≢ q.own.number
+  differs : (y : Role) (d : ℕ) → ((y ≡ x) × (d ≡ c) → ⊥) → (p : Present (views y) tags y d (b.slots y d)) → p.number ≢ q.own.number
   differs y d other p e =
       let is : p.tag ≡ q.own.tag = same_tag tags q.own.number p.tag q.own.tag (ap (λ (i : ℕ). slice_get tags i) (sym e) ∙ p.there) q.own.there in
-      other (sym p.role ∙ ap (λ (u : Tag). u.role) is ∙ q.own.role, ap (λ (k : Spot). k.channel) (sym p.spot) ∙ ap (λ (u : Tag). u.spot.channel) is ∙ ap (λ (k : Spot). k.channel) q.own.spot)
+      other (sym p.role ∙ ap (λ (u : Tag). u.role) is ∙ q.own.role, ap (λ (k : ChannelUse). k.channel) (sym p.channel_use) ∙ ap (λ (u : Tag). u.channel_use.channel) is ∙ ap (λ (k : ChannelUse). k.channel) q.own.channel_use)
 
-  slot_other : (y : Role) (d : ℕ) → ((y ≡ x) × (d ≡ c) → ⊥) → SlotIs (mood y d) (with_moods mood faces y) tags' y d (slots y d)
+  slot_other : (y : Role) (d : ℕ) → ((y ≡ x) × (d ≡ c) → ⊥) → SlotIs (status y d) (with_statuses status views y) tags' y d (slots y d)
   slot_other y d other =
-      subst (λ (m : Mood). SlotIs m (with_moods mood faces y) tags' y d (slots y d)) (sym (q.mood_else y d other))
-      (subst (λ (z : Slot). SlotIs ((faces y).mood d) (with_moods mood faces y) tags' y d z) (sym (q.slots_else y d other))
-      (slot_else ((faces y).mood d) (faces y) (mood y) tags q.own.number (cancelled_tag q.own.tag) y d (b.slots y d) (differs y d other) (w.slot y d)))
+      subst (λ (m : CallStatus). SlotIs m (with_statuses status views y) tags' y d (slots y d)) (sym (q.status_else y d other))
+      (subst (λ (z : Slot). SlotIs ((views y).status d) (with_statuses status views y) tags' y d z) (sym (q.slots_else y d other))
+      (slot_else ((views y).status d) (views y) (status y) tags q.own.number (cancelled_tag q.own.tag) y d (b.slots y d) (differs y d other) (w.slot y d)))
 
-  slot_of : (y : Role) (d : ℕ) → SlotIs (mood y d) (with_moods mood faces y) tags' y d (slots y d)
+  slot_of : (y : Role) (d : ℕ) → SlotIs (status y d) (with_statuses status views y) tags' y d (slots y d)
   slot_of y d =
       elim (is_role x y) [
         | inl e ↦ elim (number_is d c) [
-          | inl h ↦ subst (λ (z : Role). SlotIs (mood z d) (with_moods mood faces z) tags' z d (slots z d)) (sym e) (subst (λ (k : ℕ). SlotIs (mood x k) (with_moods mood faces x) tags' x k (slots x k)) (sym h) slot_own)
+          | inl h ↦ subst (λ (z : Role). SlotIs (status z d) (with_statuses status views z) tags' z d (slots z d)) (sym e) (subst (λ (k : ℕ). SlotIs (status x k) (with_statuses status views x) tags' x k (slots x k)) (sym h) slot_own)
           | inr h ↦ slot_other y d (λ p. h p.1)
         ]
         | inr e ↦ slot_other y d (λ p. e p.0)
@@ -283,9 +283,9 @@ module _ (x : Role) (c : ℕ) (faces : Role → Face) (mood : Role → ℕ → M
         | inr e ↦ ap (λ (z : Slot). z.placed) (q.slots_else y d (λ p. e p.0))
       ]
 
-  placed_of : (y : Role) (d : ℕ) → PlacedIs (slots y d).placed (with_moods mood faces y) tags' y d
-  placed_of y d = subst (λ (o : Option ℕ). PlacedIs o (with_moods mood faces y) tags' y d) (sym (same_placed y d))
-      (placed_kind (b.slots y d).placed (faces y) (mood y) tags q.own.number q.own.tag y d q.own.there (w.placed y d))
+  placed_of : (y : Role) (d : ℕ) → PlacedIs (slots y d).placed (with_statuses status views y) tags' y d
+  placed_of y d = subst (λ (o : Option ℕ). PlacedIs o (with_statuses status views y) tags' y d) (sym (same_placed y d))
+      (placed_kind (b.slots y d).placed (views y) (status y) tags q.own.number q.own.tag y d q.own.there (w.placed y d))
 
   old_live : (i : ℕ) (t : Tag) → slice_get tags' i ≡ Some t → IsLive t.kind → slice_get tags i ≡ Some t
   old_live i t e live =
@@ -294,7 +294,7 @@ module _ (x : Role) (c : ℕ) (faces : Role → Face) (mood : Role → ℕ → M
         | inr h ↦ h.1
       ]
 
-  pairs_of : (i : ℕ) (p : PairValue) → slice_get b.pairs i ≡ Some p → IsPair (with_moods mood faces) tags' p
+  pairs_of : (i : ℕ) (p : PairValue) → slice_get b.pairs i ≡ Some p → IsPair (with_statuses status views) tags' p
   pairs_of i p e =
       let o = w.pairs i p e in
       let other : p.callee ≢ q.own.number = λ h.
@@ -306,7 +306,7 @@ module _ (x : Role) (c : ℕ) (faces : Role → Face) (mood : Role → ℕ → M
         answered = o.answered;
       }
 
-  pub cancelled_right : IsRight (with_moods mood faces) (record b { slots = slots; records = records }) (set tags q.own.number (cancelled_tag q.own.tag))
+  pub cancelled_right : IsRight (with_statuses status views) (record b { slots = slots; records = records }) (set tags q.own.number (cancelled_tag q.own.tag))
   cancelled_right = record {
     stands = stands_of;
     means = means_of;

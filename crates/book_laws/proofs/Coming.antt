@@ -11,19 +11,19 @@ use Rattle.packet_layer.specs.Channel.{CallState, Channel, Step, closed_channel,
 use Rattle.packet_layer.specs.Channel.CallState.{Ready, OwnWaiting}
 use Rattle.packet_layer.specs.Layer.{Phase, Layer, nth_channel, channel_of, closing_notes, unread, restart_packet, on_found, on_channel, on_packet, after_step, owing}
 use Rattle.packet_layer.specs.Layer.Phase.{NoSession, OwnRestart, PacketReady}
-use Rattle.packet_laws.specs.History.{Story, received_story, packet_story, restart_story, channel_story, next_restart_of}
+use Rattle.packet_laws.specs.History.{History, received_history, packet_history, restart_history, channel_history, next_restart_of}
 use Rattle.packet_laws.specs.Law.{TakesCall}
 use Rattle.packet_laws.specs.Line.{End, accepts, next_of_session, is_session}
 use Rattle.call_records.specs.Book.{Book, all_told}
 use Rattle.book_laws.proofs.Basics.{by_true}
 use Rattle.book_laws.proofs.Ending.{Further}
-use Rattle.book_laws.proofs.Faces.{mood_at, has_come}
-use Rattle.book_laws.proofs.Steps.{SameStory, story_refl}
+use Rattle.book_laws.proofs.EndSteps.{status_at, has_come}
+use Rattle.book_laws.proofs.Steps.{SameHistory, history_refl}
 use Rattle.book_laws.proofs.Moving.{KeptAt, Facts, Arrival}
 use Rattle.book_laws.proofs.Outcomes.{received_outcome}
 use Rattle.book_laws.proofs.Layers.{closed_length, told_here, either_way}
 use Rattle.book_laws.proofs.Ends.{restart_step}
-use Rattle.book_laws.proofs.Events.{moved_end, begun_rises, same_end_is, on_one, still, else_story, here_story, Rises}
+use Rattle.book_laws.proofs.Events.{moved_end, begun_rises, same_end_is, on_one, still, else_history, here_history, Rises}
 
 -- ---- one more packet of the session was accepted
 
@@ -58,25 +58,25 @@ step_of l p ch = received l.role l.window p.channel ch p.body
 abbrev layer_at : Bool → Phase → Option Channel → Layer → Packet → Layer
 layer_at v ph o l p = cond v (restart_packet ph p.body (unread l)) (on_by ph (unread l) p.channel (λ ch. step_of l p ch) o)
 
-abbrev story_at : Bool → Phase → Option Channel → Layer → Packet → ℕ → Story → Story
-story_at v ph o l p c st = cond v (restart_story ph p.body st) (cond (c == p.channel) (channel_story ph o (λ ch z. received_story l.role l.window p.channel ch p.body z) st) st)
+abbrev history_at : Bool → Phase → Option Channel → Layer → Packet → ℕ → History → History
+history_at v ph o l p c st = cond v (restart_history ph p.body st) (cond (c == p.channel) (channel_history ph o (λ ch z. received_history l.role l.window p.channel ch p.body z) st) st)
 
 abbrev arrived : Bool → Phase → Option Channel → End → ℕ → Packet → End
-arrived v ph o e s p = moved_end e (layer_at v ph o e.layer p) (λ c st. story_at v ph o e.layer p c st) (one_more e s)
+arrived v ph o e s p = moved_end e (layer_at v ph o e.layer p) (λ c st. history_at v ph o e.layer p c st) (one_more e s)
 
 abbrev Arrived : ℕ → End → End → ℕ → ℕ → Book → ℕ → Packet → Bool → Phase → Option Channel → Type 0
 Arrived n e y te ty b s p v ph o = KeptAt n e.layer.role (arrived v ph o e s p) y te ty (all_told e.layer.role (layer_at v ph o e.layer p).notes b)
 
 -- nothing but the count changes
-counts_only : (n : ℕ) (e y : End) (te ty : ℕ) (b : Book) (s : ℕ) (l' : Layer) (f : ℕ → Story → Story) → KeptAt n e.layer.role e y te ty b → l'.channels ≡ e.layer.channels → l'.role ≡ e.layer.role → l'.phase ≡ e.layer.phase → ((c : ℕ) (st : Story) → SameStory st (f c st))
+counts_only : (n : ℕ) (e y : End) (te ty : ℕ) (b : Book) (s : ℕ) (l' : Layer) (f : ℕ → History → History) → KeptAt n e.layer.role e y te ty b → l'.channels ≡ e.layer.channels → l'.role ≡ e.layer.role → l'.phase ≡ e.layer.phase → ((c : ℕ) (st : History) → SameHistory st (f c st))
     → KeptAt n e.layer.role (moved_end e l' f (one_more e s)) y te ty b
-counts_only n e y te ty b s l' f k chs role phase story =
-    still n e y te ty b l' f (one_more e s) k (λ c. ap (λ (l : List Channel). mood_at e.layer.role (nth_channel l c)) chs) story (more_rises e s) (ap length chs)
+counts_only n e y te ty b s l' f k chs role phase history =
+    still n e y te ty b l' f (one_more e s) k (λ c. ap (λ (l : List Channel). status_at e.layer.role (nth_channel l c)) chs) history (more_rises e s) (ap length chs)
     (same_end_is n e (moved_end e l' f (one_more e s)) k.here refl (more_rises e s) role phase (ap length chs))
 
-same_if : (v : Bool) (st : Story) → SameStory st (cond v st st)
-same_if true st = story_refl st
-same_if false st = story_refl st
+same_if : (v : Bool) (st : History) → SameHistory st (cond v st st)
+same_if true st = history_refl st
+same_if false st = history_refl st
 
 -- a restart packet closes all calls
 closes_calls : (n : ℕ) (e y : End) (te ty : ℕ) (b : Book) (s : ℕ) (reason : Reason) (l' : Layer) → KeptAt n e.layer.role e y te ty b → l'.channels ≡ map (λ ch. closed_channel) e.layer.channels → l'.role ≡ e.layer.role → (l'.phase ≡ PacketReady → e.layer.phase ≡ PacketReady)
@@ -86,9 +86,9 @@ closes_calls n e y te ty b s reason l' k chs role phase =
     let count : length l'.channels ≡ length e.layer.channels = ap length chs ∙ closed_length e.layer.channels in
     restart_step n e.layer.role e e' y te ty b reason k (record {
       channels = chs;
-      epochs = λ i c p u g. either_way (λ (z : Story). z.epochs p u g ≡ (e.stories i c).epochs p u g) (is_session e.session i) (next_restart_of (e.stories i c)) (e.stories i c) refl refl;
+      epochs = λ i c p u g. either_way (λ (z : History). z.epochs p u g ≡ (e.histories i c).epochs p u g) (is_session e.session i) (next_restart_of (e.histories i c)) (e.histories i c) refl refl;
       begun = begun_rises e.layer.role e e' (more_rises e s) count;
-    }) refl (λ i c up. subst (λ (z : Story). Further (e.stories i c) z) (sym (told_here e i c (λ m st. next_restart_of st) up)) (inl (omega arith)))
+    }) refl (λ i c up. subst (λ (z : History). Further (e.histories i c) z) (sym (told_here e i c (λ m st. next_restart_of st) up)) (inl (omega arith)))
     (record {
       role = role;
       count = count ∙ k.here.count;
@@ -105,7 +105,7 @@ closes_calls n e y te ty b s reason l' k chs role phase =
 -- the own restart is over
 now_ready : (n : ℕ) (e y : End) (te ty : ℕ) (b : Book) (s : ℕ) (l' : Layer) → KeptAt n e.layer.role e y te ty b → e.session ≡ Some s → l'.channels ≡ e.layer.channels → l'.role ≡ e.layer.role → KeptAt n e.layer.role (moved_end e l' (λ c st. st) (one_more e s)) y te ty b
 now_ready n e y te ty b s l' k up chs role =
-    still n e y te ty b l' (λ c st. st) (one_more e s) k (λ c. ap (λ (l : List Channel). mood_at e.layer.role (nth_channel l c)) chs) (λ c st. story_refl st) (more_rises e s) (ap length chs)
+    still n e y te ty b l' (λ c st. st) (one_more e s) k (λ c. ap (λ (l : List Channel). status_at e.layer.role (nth_channel l c)) chs) (λ c st. history_refl st) (more_rises e s) (ap length chs)
     (record { role = role; count = ap length chs ∙ k.here.count; up = λ p. (s, up, come_now e s) })
 
 restart_in : (n : ℕ) (e y : End) (te ty : ℕ) (b : Book) (s c : ℕ) (o : Option Channel) (body : Body) (ph : Phase) → KeptAt n e.layer.role e y te ty b → e.session ≡ Some s → e.layer.phase ≡ ph → Arrived n e y te ty b s (record { channel = c; body = body }) true ph o
@@ -113,9 +113,9 @@ restart_in n e y te ty b s c o (Restart cause diagnostic) PacketReady k up phase
 restart_in n e y te ty b s c o RestartConfirmation PacketReady k up phase = closes_calls n e y te ty b s LocalFault (restart_packet PacketReady RestartConfirmation (unread e.layer)) k refl refl (λ p. phase)
 restart_in n e y te ty b s c o (Restart cause diagnostic) OwnRestart k up phase = now_ready n e y te ty b s (restart_packet OwnRestart (Restart cause diagnostic) (unread e.layer)) k up refl refl
 restart_in n e y te ty b s c o RestartConfirmation OwnRestart k up phase = now_ready n e y te ty b s (restart_packet OwnRestart RestartConfirmation (unread e.layer)) k up refl refl
-restart_in n e y te ty b s c o body PacketReady k up phase = counts_only n e y te ty b s (unread e.layer) (λ d st. st) k refl refl refl (λ d st. story_refl st)
-restart_in n e y te ty b s c o body OwnRestart k up phase = counts_only n e y te ty b s (unread e.layer) (λ d st. st) k refl refl refl (λ d st. story_refl st)
-restart_in n e y te ty b s c o body NoSession k up phase = counts_only n e y te ty b s (unread e.layer) (λ d st. st) k refl refl refl (λ d st. story_refl st)
+restart_in n e y te ty b s c o body PacketReady k up phase = counts_only n e y te ty b s (unread e.layer) (λ d st. st) k refl refl refl (λ d st. history_refl st)
+restart_in n e y te ty b s c o body OwnRestart k up phase = counts_only n e y te ty b s (unread e.layer) (λ d st. st) k refl refl refl (λ d st. history_refl st)
+restart_in n e y te ty b s c o body NoSession k up phase = counts_only n e y te ty b s (unread e.layer) (λ d st. st) k refl refl refl (λ d st. history_refl st)
 
 -- on a channel
 takes_call : (s : CallState) → (s ≡ Ready) ⊎ (s ≡ OwnWaiting) → TakesCall s
@@ -143,9 +143,9 @@ channel_in : (n : ℕ) (e y : End) (te ty : ℕ) (b : Book) (s d : ℕ) (body : 
     → channel_of e.layer d ≡ o → Arrived n e y te ty b s (record { channel = d; body = body }) false ph o
 channel_in n e y te ty b s d body PacketReady (Some ch) k facts up next order phase found =
     let st : Step = received e.layer.role e.layer.window d ch body in
-    on_one n e y te ty b s d ch (owing st) st.channel (after_step (unread e.layer) d st) (λ c z. cond (c == d) (received_story e.layer.role e.layer.window d ch body z) z) (one_more e s)
-    (λ z. received_story e.layer.role e.layer.window d ch body z) (λ v. all_told e.layer.role st.notes v) (λ parts. body ≡ Call parts) k facts up found refl refl refl refl
-    (λ z. here_story d (received_story e.layer.role e.layer.window d ch body z) z) (λ c z h. else_story c d (received_story e.layer.role e.layer.window d ch body z) z h) (more_rises e s)
+    on_one n e y te ty b s d ch (owing st) st.channel (after_step (unread e.layer) d st) (λ c z. cond (c == d) (received_history e.layer.role e.layer.window d ch body z) z) (one_more e s)
+    (λ z. received_history e.layer.role e.layer.window d ch body z) (λ v. all_told e.layer.role st.notes v) (λ parts. body ≡ Call parts) k facts up found refl refl refl refl
+    (λ z. here_history d (received_history e.layer.role e.layer.window d ch body z) z) (λ c z h. else_history c d (received_history e.layer.role e.layer.window d ch body z) z h) (more_rises e s)
     (arrival_of n e y te ty b s d body ch k up next order phase found) (received_outcome e.layer.role e.layer.window d ch body)
 channel_in n e y te ty b s d body PacketReady None k facts up next order phase found = counts_only n e y te ty b s (unread e.layer) (λ c st. cond (c == d) st st) k refl refl refl (λ c st. same_if (c == d) st)
 channel_in n e y te ty b s d body OwnRestart o k facts up next order phase found = counts_only n e y te ty b s (unread e.layer) (λ c st. cond (c == d) st st) k refl refl refl (λ c st. same_if (c == d) st)
@@ -163,5 +163,5 @@ layer_is l p = ap (λ (z : Layer). cond (p.channel == 0) (restart_packet l.phase
 pub accepts_kept : (n : ℕ) (e y : End) (te ty : ℕ) (b : Book) (s : ℕ) (p : Packet) → KeptAt n e.layer.role e y te ty b → Facts n e y → e.session ≡ Some s → next_of_session (record { me = e; you = y }) s ≡ Some p → ty ≤ s
     → KeptAt n e.layer.role (accepts s (Some p) e) y te ty (all_told e.layer.role (on_packet e.layer (Whole p)).notes b)
 accepts_kept n e y te ty b s p k facts up next order =
-    subst (λ (l : Layer). KeptAt n e.layer.role (moved_end e l (λ c st. packet_story e.layer p c st) (one_more e s)) y te ty (all_told e.layer.role l.notes b)) (layer_is e.layer p)
+    subst (λ (l : Layer). KeptAt n e.layer.role (moved_end e l (λ c st. packet_history e.layer p c st) (one_more e s)) y te ty (all_told e.layer.role l.notes b)) (layer_is e.layer p)
     (arrived_any n e y te ty b s p (p.channel == 0) k facts up next order)

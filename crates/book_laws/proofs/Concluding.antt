@@ -18,17 +18,17 @@ use Rattle.call_records.specs.Records.{RecordValue, PairValue, sent_epochs, take
 use Rattle.call_records.specs.Book.{Book, side_of, packet_of}
 use Rattle.book_laws.specs.Headline.{AreEnds, PairHolds, IsIn, TookNothing, BookHolds}
 use Rattle.book_laws.proofs.Basics.{twice, get_there}
-use Rattle.book_laws.proofs.Scenes.{Face, Spot, Kind, Tag, shelf_of, IsLive, Tells, IsCaller, IsCallee, IsPaired, IsRight, caller_of, callee_of, epoch_at, answered_at, sent_of, taken_of, nth_sent, nth_taken, all_sent, all_taken, Passed, nothing_passed}
-use Rattle.book_laws.proofs.Scenes.Kind.{Caller, Callee, Cancelled}
+use Rattle.book_laws.proofs.Invariant.{EndView, ChannelUse, Kind, Tag, book_parts, IsLive, Tells, IsCaller, IsCallee, IsPaired, IsRight, caller_of, callee_of, epoch_at, answered_at, sent_of, taken_of, nth_sent, nth_taken, all_sent, all_taken, Passed, nothing_passed}
+use Rattle.book_laws.proofs.Invariant.Kind.{Caller, Callee, Cancelled}
 use Rattle.book_laws.proofs.Carrying.{same_tag}
 use Rattle.book_laws.proofs.Cancelling.{caller_not_callee, caller_not_cancelled, callee_not_cancelled}
 
 -- what the law of the line says of each use that may have a call
-pub record LineSays (faces : Role → Face) : Type 0 where
-  pub aligned : (y : Role) (k : Spot) (g : ℕ) → (faces y).begun k ≡ true → Aligned (epoch_at (faces y) k g) (epoch_at (faces (other_of y)) k g)
-  pub aligned_back : (y : Role) (k : Spot) (g : ℕ) → (faces y).begun k ≡ true → Aligned (epoch_at (faces (other_of y)) k g) (epoch_at (faces y) k g)
-  pub answers : (y : Role) (k : Spot) (g : ℕ) → (faces y).begun k ≡ true → (HasNoLogs (epoch_at (faces y) k g) → ⊥)
-      → (answered_at (faces y) k || answered_at (faces (other_of y)) k) ≡ true
+pub record LineSays (views : Role → EndView) : Type 0 where
+  pub aligned : (y : Role) (k : ChannelUse) (g : ℕ) → (views y).begun k ≡ true → Aligned (epoch_at (views y) k g) (epoch_at (views (other_of y)) k g)
+  pub aligned_back : (y : Role) (k : ChannelUse) (g : ℕ) → (views y).begun k ≡ true → Aligned (epoch_at (views (other_of y)) k g) (epoch_at (views y) k g)
+  pub answers : (y : Role) (k : ChannelUse) (g : ℕ) → (views y).begun k ≡ true → (HasNoLogs (epoch_at (views y) k g) → ⊥)
+      → (answered_at (views y) k || answered_at (views (other_of y)) k) ≡ true
 
 -- ---- lists that agree number by number
 
@@ -54,7 +54,7 @@ begins e f a = record {
   interrupts = record { rest = a.interrupts.0; whole = a.interrupts.1 };
 }
 
-match_of : (f y : Face) (k : Spot) (s t : RecordValue) → ((g : ℕ) → Aligned (epoch_at f k g) (epoch_at y k g)) → Tells f k s → Tells y k t → Match (taken_epochs t) (sent_epochs s)
+match_of : (f y : EndView) (k : ChannelUse) (s t : RecordValue) → ((g : ℕ) → Aligned (epoch_at f k g) (epoch_at y k g)) → Tells f k s → Tells y k t → Match (taken_epochs t) (sent_epochs s)
 match_of f y k s t a mine yours = numbered (all_sent s) (all_taken t)
     (λ g. subst (λ (z : Passed). IsPrefixOf (epoch_of (nth_taken (all_taken t) g)) (epoch_of z)) (sym (mine.sent g))
     (subst (λ (z : Passed). IsPrefixOf (epoch_of z) (epoch_of (sent_of (epoch_at f k g)))) (sym (yours.taken g)) (begins (epoch_at f k g) (epoch_at y k g) (a g))))
@@ -110,7 +110,7 @@ ends_are : (b : Book) (t : Role) → AreEnds b (side_of (other_of t) b).node (si
 ends_are b Dte = inr (refl, refl)
 ends_are b Dce = inl (refl, refl)
 
-module _ (faces : Role → Face) (b : Book) (tags : List Tag) (w : IsRight faces (shelf_of b) tags) (says : LineSays faces) where
+module _ (views : Role → EndView) (b : Book) (tags : List Tag) (w : IsRight views (book_parts b) tags) (says : LineSays views) where
   record_of : (n : ℕ) (t : Tag) → slice_get tags n ≡ Some t → (r : RecordValue) × (slice_get b.records n ≡ Some r)
   record_of n t e = get_there b.records n (let h = slice_get_within tags n t e in let c = w.count in omega arith)
 
@@ -127,15 +127,15 @@ module _ (faces : Role → Face) (b : Book) (tags : List Tag) (w : IsRight faces
       let lm : IsLive u.kind = λ h. caller_not_cancelled (sym m.calls ∙ h) in
       let ly : IsLive t.kind = λ h. callee_not_cancelled p.caller (sym o.kind ∙ h) in
       let begun = (w.stands p.callee t o.there).begun in
-      let tells : Tells (faces (other_of t.role)) t.spot mine.0 = subst (λ (y : Role). Tells (faces y) t.spot mine.0) m.role (subst (λ (k : Spot). Tells (faces u.role) k mine.0) m.spot (fm.tells lm)) in
+      let tells : Tells (views (other_of t.role)) t.channel_use mine.0 = subst (λ (y : Role). Tells (views y) t.channel_use mine.0) m.role (subst (λ (k : ChannelUse). Tells (views u.role) k mine.0) m.channel_use (fm.tells lm)) in
       record {
         caller = mine.0;
         callee = yours.0;
         caller_there = mine.1;
         callee_there = yours.1;
         matches = record {
-          onward = match_of (faces (other_of t.role)) (faces t.role) t.spot mine.0 yours.0 (λ g. says.aligned_back t.role t.spot g begun) tells (fy.tells ly);
-          backward = match_of (faces t.role) (faces (other_of t.role)) t.spot yours.0 mine.0 (λ g. says.aligned t.role t.spot g begun) (fy.tells ly) tells;
+          onward = match_of (views (other_of t.role)) (views t.role) t.channel_use mine.0 yours.0 (λ g. says.aligned_back t.role t.channel_use g begun) tells (fy.tells ly);
+          backward = match_of (views t.role) (views (other_of t.role)) t.channel_use yours.0 mine.0 (λ g. says.aligned t.role t.channel_use g begun) (fy.tells ly) tells;
         };
         is_right = record {
           order = let a = fm.number in let c = fy.number in let l = m.order in omega arith;
@@ -161,7 +161,7 @@ module _ (faces : Role → Face) (b : Book) (tags : List Tag) (w : IsRight faces
       let n = (w.means q.callee v.tag v.there).callee q.caller v.kind in
       let same : m.mate ≡ n.mate = same_tag tags q.caller m.mate n.mate (ap (λ (k : ℕ). slice_get tags k) (sym e) ∙ m.there) n.there in
       let roles : o.tag.role ≡ v.tag.role = sym (twice o.tag.role) ∙ ap other_of (sym m.role ∙ ap (λ (u : Tag). u.role) same ∙ n.role) ∙ twice v.tag.role in
-      let spots : o.tag.spot ≡ v.tag.spot = sym m.spot ∙ ap (λ (u : Tag). u.spot) same ∙ n.spot in
+      let spots : o.tag.channel_use ≡ v.tag.channel_use = sym m.channel_use ∙ ap (λ (u : Tag). u.channel_use) same ∙ n.channel_use in
       w.once i j p q ei ej (w.alone p.callee q.callee o.tag v.tag o.there v.there
       (λ h. callee_not_cancelled p.caller (sym o.kind ∙ h)) (λ h. callee_not_cancelled q.caller (sym v.kind ∙ h)) roles spots)
 
@@ -180,26 +180,26 @@ module _ (faces : Role → Face) (b : Book) (tags : List Tag) (w : IsRight faces
   in_one i j p q n ei ej (inr a) (inl c) = absurd (not_both j i q p ej ei (c ∙ sym a))
   in_one i j p q n ei ej (inr a) (inr c) = w.once i j p q ei ej (a ∙ sym c)
 
-  took_caller : (n : ℕ) (t : Tag) → IsCaller (faces t.role) (faces (other_of t.role)) b.pairs n t → (answered_at (faces t.role) t.spot || answered_at (faces (other_of t.role)) t.spot) ≡ true → InPair b.pairs n
+  took_caller : (n : ℕ) (t : Tag) → IsCaller (views t.role) (views (other_of t.role)) b.pairs n t → (answered_at (views t.role) t.channel_use || answered_at (views (other_of t.role)) t.channel_use) ≡ true → InPair b.pairs n
   took_caller n t z a =
-      elim (or_cases (answered_at (faces t.role) t.spot) (answered_at (faces (other_of t.role)) t.spot) a) [
+      elim (or_cases (answered_at (views t.role) t.channel_use) (answered_at (views (other_of t.role)) t.channel_use) a) [
         | inl h ↦ absurd (true≢false (sym h ∙ z.not_answered))
         | inr h ↦ from_caller b.pairs n (z.paired h)
       ]
 
-  took_callee : (n k : ℕ) (t : Tag) → IsCallee (faces t.role) b.pairs tags n k t → (answered_at (faces t.role) t.spot || answered_at (faces (other_of t.role)) t.spot) ≡ true → InPair b.pairs n
+  took_callee : (n k : ℕ) (t : Tag) → IsCallee (views t.role) b.pairs tags n k t → (answered_at (views t.role) t.channel_use || answered_at (views (other_of t.role)) t.channel_use) ≡ true → InPair b.pairs n
   took_callee n k t z a =
-      elim (or_cases (answered_at (faces t.role) t.spot) (answered_at (faces (other_of t.role)) t.spot) a) [
+      elim (or_cases (answered_at (views t.role) t.channel_use) (answered_at (views (other_of t.role)) t.channel_use) a) [
         | inl h ↦ from_callee b.pairs n (z.paired h)
-        | inr h ↦ absurd (true≢false (sym h ∙ ap (λ (y : Role). answered_at (faces y) t.spot) (sym z.role) ∙ ap (λ (s : Spot). answered_at (faces z.mate.role) s) (sym z.spot)
+        | inr h ↦ absurd (true≢false (sym h ∙ ap (λ (y : Role). answered_at (views y) t.channel_use) (sym z.role) ∙ ap (λ (s : ChannelUse). answered_at (views z.mate.role) s) (sym z.channel_use)
             ∙ ((w.means k z.mate z.there).caller z.calls).not_answered))
       ]
 
-  took_live : (n : ℕ) (t : Tag) (r : RecordValue) (g : ℕ) → slice_get tags n ≡ Some t → slice_get b.records n ≡ Some r → IsLive t.kind → Took (nth_taken (all_taken r) g) → (answered_at (faces t.role) t.spot || answered_at (faces (other_of t.role)) t.spot) ≡ true
+  took_live : (n : ℕ) (t : Tag) (r : RecordValue) (g : ℕ) → slice_get tags n ≡ Some t → slice_get b.records n ≡ Some r → IsLive t.kind → Took (nth_taken (all_taken r) g) → (answered_at (views t.role) t.channel_use || answered_at (views (other_of t.role)) t.channel_use) ≡ true
   took_live n t r g there got live took =
       let f = w.fits n t r there got in
-      says.answers t.role t.spot g (w.stands n t there).begun
-      (λ h. no_logs_took_nothing (epoch_at (faces t.role) t.spot g) h (subst (λ (z : Passed). Took z) ((f.tells live).taken g) took))
+      says.answers t.role t.channel_use g (w.stands n t there).begun
+      (λ h. no_logs_took_nothing (epoch_at (views t.role) t.channel_use g) h (subst (λ (z : Passed). Took z) ((f.tells live).taken g) took))
 
   took_some : (n : ℕ) (t : Tag) (r : RecordValue) (g : ℕ) → slice_get tags n ≡ Some t → slice_get b.records n ≡ Some r → Took (nth_taken (all_taken r) g) → InPair b.pairs n
   took_some n t r g there got took =

@@ -9,12 +9,12 @@ use Rattle.packet_layer.specs.Channel.CallState.{Ready, OwnWaiting, FarWaiting, 
 use Rattle.packet_layer.specs.Layer.{nth_channel, channel_of, closing_notes, had_call}
 use Rattle.packet_laws.specs.Line.{End}
 use Rattle.call_records.specs.Book.{Book, Slot, slot_at, all_told}
-use Rattle.book_laws.proofs.Scenes.{Mood, Spot, SlotIs}
-use Rattle.book_laws.proofs.Scenes.Mood.{Idle}
+use Rattle.book_laws.proofs.Invariant.{CallStatus, ChannelUse, SlotIs}
+use Rattle.book_laws.proofs.Invariant.CallStatus.{Idle}
 use Rattle.book_laws.proofs.Ending.{Further}
 use Rattle.book_laws.proofs.Writing.{Closes, closes_none, closes_all, closed_all}
-use Rattle.book_laws.proofs.Faces.{mood_of, mood_at, within, has_come, face_of, end_step}
-use Rattle.book_laws.proofs.Steps.{SameStory}
+use Rattle.book_laws.proofs.EndSteps.{status_of, status_at, within, has_come, view_of, end_step}
+use Rattle.book_laws.proofs.Steps.{SameHistory}
 use Rattle.book_laws.proofs.Moving.{KeptAt, IsEnd, sized, slot_of, top_of}
 use Rattle.book_laws.proofs.Layers.{closed_idle}
 
@@ -22,25 +22,25 @@ use Rattle.book_laws.proofs.Layers.{closed_idle}
 
 pub record Quiet (x : Role) (e e' : End) : Type 0 where
   pub session : e'.session ≡ e.session
-  pub mood : (c : ℕ) → mood_at x (channel_of e'.layer c) ≡ mood_at x (channel_of e.layer c)
-  pub story : (s c : ℕ) → SameStory (e.stories s c) (e'.stories s c)
-  pub begun : (k : Spot) → (face_of x e 0).begun k ≡ true → (face_of x e' 0).begun k ≡ true
+  pub status : (c : ℕ) → status_at x (channel_of e'.layer c) ≡ status_at x (channel_of e.layer c)
+  pub history : (s c : ℕ) → SameHistory (e.histories s c) (e'.histories s c)
+  pub begun : (k : ChannelUse) → (view_of x e 0).begun k ≡ true → (view_of x e' 0).begun k ≡ true
 
 pub quiet_step : (n : ℕ) (x : Role) (e e' y : End) (te ty : ℕ) (b : Book) → KeptAt n x e y te ty b → Quiet x e e' → IsEnd n x e' → KeptAt n x e' y te ty b
 quiet_step n x e e' y te ty b k q end = record {
   tags = k.tags;
   right = end_step x e e' y te te ty b b k.tags (record {
-    epochs = λ s c r u g. (q.story s c).epochs r u g;
+    epochs = λ s c r u g. (q.history s c).epochs r u g;
     begun = q.begun;
     top = omega arith;
     up = λ s up. top_of x e y te ty b k.tags s k.right (sym q.session ∙ up);
     how = inl (record {
       session = q.session;
       channels = λ c. inl (record {
-        mood = q.mood c;
-        restart = λ s up. (q.story s c).restart;
-        uses = λ s up. (q.story s c).uses;
-        epoch = λ s up. (q.story s c).epoch;
+        status = q.status c;
+        restart = λ s up. (q.history s c).restart;
+        uses = λ s up. (q.history s c).uses;
+        epoch = λ s up. (q.history s c).epoch;
         slot_is = refl;
       });
     });
@@ -53,13 +53,13 @@ quiet_step n x e e' y te ty b k q end = record {
 
 -- ---- all calls of the end are over
 
-call_mood : (x : Role) (s : CallState) → (had_call s ≡ true) ⊎ (mood_of x s ≡ Idle)
-call_mood x Ready = inr refl
-call_mood x OwnWaiting = inl refl
-call_mood x FarWaiting = inl refl
-call_mood x Transfer = inl refl
-call_mood x Collision = inl refl
-call_mood x OwnClear = inr refl
+call_status : (x : Role) (s : CallState) → (had_call s ≡ true) ⊎ (status_of x s ≡ Idle)
+call_status x Ready = inr refl
+call_status x OwnWaiting = inl refl
+call_status x FarWaiting = inl refl
+call_status x Transfer = inl refl
+call_status x Collision = inl refl
+call_status x OwnClear = inr refl
 
 none_kept : (x : Role) (b b' : Book) (c : ℕ) → Closes x b b' → (slot_at x c b).present ≡ None → (slot_at x c b').present ≡ None
 none_kept x b b' c q e =
@@ -68,26 +68,26 @@ none_kept x b b' c q e =
       | inr h ↦ ap (λ (z : Slot). z.present) h ∙ e
     ]
 
-none_at : (x : Role) (e : End) (b : Book) (reason : Reason) (c : ℕ) (o : Option Channel) → nth_channel e.layer.channels c ≡ o → (mood_at x o ≡ Idle → (slot_at x c b).present ≡ None) → (slot_at x c (all_told x (closing_notes 1 reason e.layer.channels) b)).present ≡ None
+none_at : (x : Role) (e : End) (b : Book) (reason : Reason) (c : ℕ) (o : Option Channel) → nth_channel e.layer.channels c ≡ o → (status_at x o ≡ Idle → (slot_at x c b).present ≡ None) → (slot_at x c (all_told x (closing_notes 1 reason e.layer.channels) b)).present ≡ None
 none_at x e b reason c None found idle = none_kept x b (all_told x (closing_notes 1 reason e.layer.channels) b) c (closes_all x 1 reason e.layer.channels b) (idle refl)
 none_at x e b reason zero (Some ch) found idle = absurd (none-some ch found)
 none_at x e b reason (suc i) (Some ch) found idle =
-    elim (call_mood x ch.state) [
+    elim (call_status x ch.state) [
       | inl h ↦ let number : 1 + i ≡ suc i = omega arith in
           subst (λ (m : ℕ). (slot_at x m (all_told x (closing_notes 1 reason e.layer.channels) b)).present ≡ None) number (closed_all x 1 reason e.layer.channels b i ch found h)
       | inr h ↦ none_kept x b (all_told x (closing_notes 1 reason e.layer.channels) b) (suc i) (closes_all x 1 reason e.layer.channels b) (idle h)
     ]
 
 all_none : (n : ℕ) (x : Role) (e y : End) (te ty : ℕ) (b : Book) (reason : Reason) → KeptAt n x e y te ty b → (c : ℕ) → (slot_at x c (all_told x (closing_notes 1 reason e.layer.channels) b)).present ≡ None
-all_none n x e y te ty b reason k c = none_at x e b reason c (channel_of e.layer c) refl (λ h. subst (λ (m : Mood). SlotIs m (face_of x e te) k.tags x c (slot_at x c b)) h (slot_of x e y te ty b k.tags c k.right))
+all_none n x e y te ty b reason k c = none_at x e b reason c (channel_of e.layer c) refl (λ h. subst (λ (m : CallStatus). SlotIs m (view_of x e te) k.tags x c (slot_at x c b)) h (slot_of x e y te ty b k.tags c k.right))
 
 pub record AllOver (x : Role) (e e' : End) : Type 0 where
   pub channels : e'.layer.channels ≡ map (λ ch. closed_channel) e.layer.channels
-  pub epochs : (s c r u g : ℕ) → (e'.stories s c).epochs r u g ≡ (e.stories s c).epochs r u g
-  pub begun : (k : Spot) → (face_of x e 0).begun k ≡ true → (face_of x e' 0).begun k ≡ true
+  pub epochs : (s c r u g : ℕ) → (e'.histories s c).epochs r u g ≡ (e.histories s c).epochs r u g
+  pub begun : (k : ChannelUse) → (view_of x e 0).begun k ≡ true → (view_of x e' 0).begun k ≡ true
 
 -- by a restart
-pub restart_step : (n : ℕ) (x : Role) (e e' y : End) (te ty : ℕ) (b : Book) (reason : Reason) → KeptAt n x e y te ty b → AllOver x e e' → e'.session ≡ e.session → ((s c : ℕ) → e.session ≡ Some s → Further (e.stories s c) (e'.stories s c)) → IsEnd n x e'
+pub restart_step : (n : ℕ) (x : Role) (e e' y : End) (te ty : ℕ) (b : Book) (reason : Reason) → KeptAt n x e y te ty b → AllOver x e e' → e'.session ≡ e.session → ((s c : ℕ) → e.session ≡ Some s → Further (e.histories s c) (e'.histories s c)) → IsEnd n x e'
     → KeptAt n x e' y te ty (all_told x (closing_notes 1 reason e.layer.channels) b)
 restart_step n x e e' y te ty b reason k q same further end =
     let b' : Book = all_told x (closing_notes 1 reason e.layer.channels) b in
@@ -102,7 +102,7 @@ restart_step n x e e' y te ty b reason k q same further end =
         how = inl (record {
           session = same;
           channels = λ c. inr (record {
-            mood = ap (λ (l : List Channel). mood_at x (nth_channel l c)) q.channels ∙ closed_idle x e.layer.channels c;
+            status = ap (λ (l : List Channel). status_at x (nth_channel l c)) q.channels ∙ closed_idle x e.layer.channels c;
             further = λ s up. further s c up;
             present = all_none n x e y te ty b reason k c;
           });
@@ -129,7 +129,7 @@ session_step n x e e' y te te' ty b reason k q top new end =
         up = λ s up. (new s up).0;
         how = inr (record {
           fresh = λ z up. ap (λ (v : Bool). v && within (length e.layer.channels) z.channel) (new z.session up).1;
-          mood = λ c. ap (λ (l : List Channel). mood_at x (nth_channel l c)) q.channels ∙ closed_idle x e.layer.channels c;
+          status = λ c. ap (λ (l : List Channel). status_at x (nth_channel l c)) q.channels ∙ closed_idle x e.layer.channels c;
           present = λ c. all_none n x e y te ty b reason k c;
         });
         closed = closed;

@@ -10,18 +10,18 @@ use Rattle.packet_layer.specs.Channel.{Channel, Step, Request, Refusal, requeste
 use Rattle.packet_layer.specs.Channel.Request.{Accept, Clearing, Resetting, Sending, Interrupting, Stopping, Taking, Releasing, Confirming}
 use Rattle.packet_layer.specs.Channel.CallState.{Ready, OwnWaiting}
 use Rattle.packet_layer.specs.Layer.{Layer, nth_channel, channel_of, with_nth, on_found, after_step, owing, refusal_at, request_refusal, front_at, front_on}
-use Rattle.packet_laws.specs.History.{Story, opened, grown_unless, accepted_unless, logged, requested_story, found_story}
+use Rattle.packet_laws.specs.History.{History, opened, grown_unless, accepted_unless, logged, requested_history, found_history}
 use Rattle.packet_laws.specs.Line.{End, told, is_session}
 use Rattle.call_records.specs.Book.{Book, slot_at, closes}
 use Rattle.book_laws.specs.Told.{carried, unless_refused}
 use Rattle.book_laws.proofs.Basics.{number_is, by_true, by_false}
-use Rattle.book_laws.proofs.Scenes.{Mood, Spot, SlotIs}
+use Rattle.book_laws.proofs.Invariant.{CallStatus, ChannelUse, SlotIs}
 use Rattle.book_laws.proofs.Writing.{Closes, closes_none, closes_one, closed_else, closed_here}
-use Rattle.book_laws.proofs.Scenes.Mood.{Idle, OwnCall, FarCall, Open}
+use Rattle.book_laws.proofs.Invariant.CallStatus.{Idle, OwnCall, FarCall, Open}
 use Rattle.book_laws.proofs.Ending.{IsOver}
-use Rattle.book_laws.proofs.Faces.{mood_of, mood_at, within, has_come, face_of, end_step}
-use Rattle.book_laws.proofs.Steps.{SameStory, story_refl}
-use Rattle.book_laws.proofs.Moving.{KeptAt, IsEnd, Facts, Arrival, channel_step, sized, slot_of, mood_number}
+use Rattle.book_laws.proofs.EndSteps.{status_of, status_at, within, has_come, view_of, end_step}
+use Rattle.book_laws.proofs.Steps.{SameHistory, history_refl}
+use Rattle.book_laws.proofs.Moving.{KeptAt, IsEnd, Facts, Arrival, channel_step, sized, slot_of, status_number}
 use Rattle.book_laws.proofs.Outcomes.{Outcome, NoCalls, asked}
 use Rattle.book_laws.proofs.Outcomes.Outcome.{stays, ends, ends_none, goes, connects, accepts, comes as call_comes, collides}
 use Rattle.book_laws.proofs.Layers.{put_here, put_else, put_length, in_range, told_here, told_else, either_way}
@@ -29,8 +29,8 @@ use Rattle.book_laws.proofs.Ends.{quiet_step}
 
 -- ---- an end after an event
 
-abbrev pub moved_end : End → Layer → (ℕ → Story → Story) → (ℕ → ℕ) → End
-moved_end e l f acc = record e { layer = l; stories = (told f e).stories; accepted = acc }
+abbrev pub moved_end : End → Layer → (ℕ → History → History) → (ℕ → ℕ) → End
+moved_end e l f acc = record e { layer = l; histories = (told f e).histories; accepted = acc }
 
 abbrev pub Rises : End → (ℕ → ℕ) → Type 0
 Rises e acc = (i : ℕ) → nat_lt 0 (e.accepted i) ≡ true → nat_lt 0 (acc i) ≡ true
@@ -46,7 +46,7 @@ and_rises false b c v h s e = absurd (true≢false (sym e))
 come_rises : (e : End) (acc : ℕ → ℕ) → Rises e acc → (s : ℕ) → has_come e s ≡ true → ((s == 0) || nat_lt 0 (acc s)) ≡ true
 come_rises e acc r s h = or_rises (s == 0) (nat_lt 0 (e.accepted s)) (nat_lt 0 (acc s)) (r s) h
 
-pub begun_rises : (x : Role) (e e' : End) → Rises e e'.accepted → length e'.layer.channels ≡ length e.layer.channels → (k : Spot) → (face_of x e 0).begun k ≡ true → (face_of x e' 0).begun k ≡ true
+pub begun_rises : (x : Role) (e e' : End) → Rises e e'.accepted → length e'.layer.channels ≡ length e.layer.channels → (k : ChannelUse) → (view_of x e 0).begun k ≡ true → (view_of x e' 0).begun k ≡ true
 begun_rises x e e' r same k h =
     and_rises (has_come e k.session) (has_come e' k.session) (within (length e.layer.channels) k.channel) (within (length e'.layer.channels) k.channel)
     (come_rises e e'.accepted r k.session) (ap (λ (m : ℕ). within m k.channel) (sym same)) h
@@ -60,9 +60,9 @@ same_end_is n e e' h ses r role phase count = record {
 
 -- ---- a step on one channel
 
-pub on_one : (n : ℕ) (e y : End) (te ty : ℕ) (b : Book) (s d : ℕ) (ch ch2 ch' : Channel) (l' : Layer) (f : ℕ → Story → Story) (acc : ℕ → ℕ) (told_ : Story → Story) (write : Book → Book) (came : CallParts → Type 0)
+pub on_one : (n : ℕ) (e y : End) (te ty : ℕ) (b : Book) (s d : ℕ) (ch ch2 ch' : Channel) (l' : Layer) (f : ℕ → History → History) (acc : ℕ → ℕ) (told_ : History → History) (write : Book → Book) (came : CallParts → Type 0)
     → KeptAt n e.layer.role e y te ty b → Facts n e y → e.session ≡ Some s → channel_of e.layer d ≡ Some ch → l'.channels ≡ with_nth e.layer.channels d ch2 → ch2.state ≡ ch'.state → l'.role ≡ e.layer.role → l'.phase ≡ e.layer.phase
-    → ((st : Story) → f d st ≡ told_ st) → ((c : ℕ) (st : Story) → c ≢ d → f c st ≡ st) → Rises e acc
+    → ((st : History) → f d st ≡ told_ st) → ((c : ℕ) (st : History) → c ≢ d → f c st ≡ st) → Rises e acc
     → ((parts : CallParts) → came parts → (ch.state ≡ Ready) ⊎ (ch.state ≡ OwnWaiting) → Arrival e y s d ty parts) → Outcome e.layer.role d ch ch' told_ write came
     → KeptAt n e.layer.role (moved_end e l' f acc) y te ty (write b)
 on_one n e y te ty b s d ch ch2 ch' l' f acc told_ write came k facts up found chs state role phase here else rises arrival out =
@@ -74,34 +74,34 @@ on_one n e y te ty b s d ch ch2 ch' l' f acc told_ write came k facts up found c
         session = refl;
         up = up;
         begun = begun_rises e.layer.role e e' rises count;
-        mood = λ c h. ap (λ (l : List Channel). mood_at e.layer.role (nth_channel l c)) chs ∙ ap (mood_at e.layer.role) (put_else e.layer.channels d c ch2 h);
-        else = λ i c h. either_story i c h;
+        status = λ c h. ap (λ (l : List Channel). status_at e.layer.role (nth_channel l c)) chs ∙ ap (status_at e.layer.role) (put_else e.layer.channels d c ch2 h);
+        else = λ i c h. either_history i c h;
       };
       found = found;
-      found_after = ap (λ (l : List Channel). mood_at e.layer.role (nth_channel l d)) chs ∙ ap (mood_at e.layer.role) (put_here e.layer.channels d ch ch2 found) ∙ ap (mood_of e.layer.role) state;
-      story = told_here e s d f up ∙ here (e.stories s d);
+      found_after = ap (λ (l : List Channel). status_at e.layer.role (nth_channel l d)) chs ∙ ap (status_at e.layer.role) (put_here e.layer.channels d ch ch2 found) ∙ ap (status_of e.layer.role) state;
+      history = told_here e s d f up ∙ here (e.histories s d);
       end_is = same_end_is n e e' k.here refl rises role phase count;
       least = range.0;
       most = let h = range.1 in let c = k.here.count in omega arith;
       arrival = arrival;
     }) out
   where
-    either_story : (i c : ℕ) → ((i ≡ s) × (c ≡ d) → ⊥) → (moved_end e l' f acc).stories i c ≡ e.stories i c
-    either_story i c h =
+    either_history : (i c : ℕ) → ((i ≡ s) × (c ≡ d) → ⊥) → (moved_end e l' f acc).histories i c ≡ e.histories i c
+    either_history i c h =
         elim (number_is i s) [
-          | inl a ↦ subst (λ (j : ℕ). (told f e).stories j c ≡ e.stories j c) (sym a) (told_here e s c f up ∙ else c (e.stories s c) (λ z. h (a, z)))
+          | inl a ↦ subst (λ (j : ℕ). (told f e).histories j c ≡ e.histories j c) (sym a) (told_here e s c f up ∙ else c (e.histories s c) (λ z. h (a, z)))
           | inr a ↦ told_else e s i c f up a
         ]
 
 -- ---- an event that changes no call
 
-pub still : (n : ℕ) (e y : End) (te ty : ℕ) (b : Book) (l' : Layer) (f : ℕ → Story → Story) (acc : ℕ → ℕ) → KeptAt n e.layer.role e y te ty b → ((c : ℕ) → mood_at e.layer.role (channel_of l' c) ≡ mood_at e.layer.role (channel_of e.layer c))
-    → ((c : ℕ) (st : Story) → SameStory st (f c st)) → Rises e acc → length l'.channels ≡ length e.layer.channels → IsEnd n e.layer.role (moved_end e l' f acc) → KeptAt n e.layer.role (moved_end e l' f acc) y te ty b
-still n e y te ty b l' f acc k mood story rises count end =
+pub still : (n : ℕ) (e y : End) (te ty : ℕ) (b : Book) (l' : Layer) (f : ℕ → History → History) (acc : ℕ → ℕ) → KeptAt n e.layer.role e y te ty b → ((c : ℕ) → status_at e.layer.role (channel_of l' c) ≡ status_at e.layer.role (channel_of e.layer c))
+    → ((c : ℕ) (st : History) → SameHistory st (f c st)) → Rises e acc → length l'.channels ≡ length e.layer.channels → IsEnd n e.layer.role (moved_end e l' f acc) → KeptAt n e.layer.role (moved_end e l' f acc) y te ty b
+still n e y te ty b l' f acc k status history rises count end =
     quiet_step n e.layer.role e (moved_end e l' f acc) y te ty b k (record {
       session = refl;
-      mood = mood;
-      story = λ s c. either_way (λ (z : Story). SameStory (e.stories s c) z) (is_session e.session s) (f c (e.stories s c)) (e.stories s c) (story c (e.stories s c)) (story_refl (e.stories s c));
+      status = status;
+      history = λ s c. either_way (λ (z : History). SameHistory (e.histories s c) z) (is_session e.session s) (f c (e.histories s c)) (e.histories s c) (history c (e.histories s c)) (history_refl (e.histories s c));
       begun = begun_rises e.layer.role e (moved_end e l' f acc) rises count;
     }) end
 
@@ -110,11 +110,11 @@ same_rises e i h = h
 
 -- ---- the user asks something of a channel
 
-abbrev told_of : Option Refusal → Request → Channel → Story → Story
+abbrev told_of : Option Refusal → Request → Channel → History → History
 told_of o Accept ch st = accepted_unless o st
 told_of o r ch st = opened (unless o (carried_out ch r) ch).owes (grown_unless o (λ e. logged ch.traffic r e) st)
 
-told_is : (x : Role) (ch : Channel) (r : Request) (st : Story) → requested_story x ch r st ≡ told_of (refusal x ch r) r ch st
+told_is : (x : Role) (ch : Channel) (r : Request) (st : History) → requested_history x ch r st ≡ told_of (refusal x ch r) r ch st
 told_is x ch Accept st = refl
 told_is x ch (Clearing cause diagnostic) st = refl
 told_is x ch (Resetting cause diagnostic) st = refl
@@ -125,16 +125,16 @@ told_is x ch Taking st = refl
 told_is x ch (Releasing n) st = refl
 told_is x ch Confirming st = refl
 
-refused_told : (z : Refusal) (ch : Channel) (r : Request) (st : Story) → SameStory st (told_of (Some z) r ch st)
-refused_told z ch Accept st = story_refl st
-refused_told z ch (Clearing cause diagnostic) st = story_refl st
-refused_told z ch (Resetting cause diagnostic) st = story_refl st
-refused_told z ch (Sending d) st = story_refl st
-refused_told z ch (Interrupting octets) st = story_refl st
-refused_told z ch (Stopping v) st = story_refl st
-refused_told z ch Taking st = story_refl st
-refused_told z ch (Releasing n) st = story_refl st
-refused_told z ch Confirming st = story_refl st
+refused_told : (z : Refusal) (ch : Channel) (r : Request) (st : History) → SameHistory st (told_of (Some z) r ch st)
+refused_told z ch Accept st = history_refl st
+refused_told z ch (Clearing cause diagnostic) st = history_refl st
+refused_told z ch (Resetting cause diagnostic) st = history_refl st
+refused_told z ch (Sending d) st = history_refl st
+refused_told z ch (Interrupting octets) st = history_refl st
+refused_told z ch (Stopping v) st = history_refl st
+refused_told z ch Taking st = history_refl st
+refused_told z ch (Releasing n) st = history_refl st
+refused_told z ch Confirming st = history_refl st
 
 abbrev Asked : Role → ℕ → Channel → Request → Option Refusal → Type 0
 Asked x d ch r o = Outcome x d ch (unless o (carried_out ch r) ch).channel (λ st. told_of o r ch st) (λ b. unless_refused o (carried x d r (front ch.traffic) b) b) NoCalls
@@ -154,38 +154,38 @@ asked_any : (x : Role) (d : ℕ) (ch : Channel) (r : Request) (o : Option Refusa
 asked_any x d ch r None e = asked_of x d ch r e
 asked_any x d ch r (Some z) e = stays refl (λ st. refused_told z ch r st) (λ b. refl)
 
--- the story of another channel
-pub else_story : (c d : ℕ) (a st : Story) → c ≢ d → cond (c == d) a st ≡ st
-else_story c d a st h = by_false (c == d) a st (ne_eqb c d h)
+-- the history of another channel
+pub else_history : (c d : ℕ) (a st : History) → c ≢ d → cond (c == d) a st ≡ st
+else_history c d a st h = by_false (c == d) a st (ne_eqb c d h)
 
-pub here_story : (d : ℕ) (a st : Story) → cond (d == d) a st ≡ a
-here_story d a st = by_true (d == d) a st (eq-eqb d d refl)
+pub here_history : (d : ℕ) (a st : History) → cond (d == d) a st ≡ a
+here_history d a st = by_true (d == d) a st (eq-eqb d d refl)
 
 -- with no session a channel has no call
-no_session : (n : ℕ) (e y : End) (te ty : ℕ) (b : Book) (d : ℕ) (ch : Channel) → KeptAt n e.layer.role e y te ty b → channel_of e.layer d ≡ Some ch → e.session ≡ None → mood_of e.layer.role ch.state ≡ Idle
+no_session : (n : ℕ) (e y : End) (te ty : ℕ) (b : Book) (d : ℕ) (ch : Channel) → KeptAt n e.layer.role e y te ty b → channel_of e.layer d ≡ Some ch → e.session ≡ None → status_of e.layer.role ch.state ≡ Idle
 no_session n e y te ty b d ch k found none =
-    idle_of (mood_of e.layer.role ch.state) (subst (λ (o : Option Channel). SlotIs (mood_at e.layer.role o) (face_of e.layer.role e te) k.tags e.layer.role d (slot_at e.layer.role d b)) found (slot_of e.layer.role e y te ty b k.tags d k.right))
+    idle_of (status_of e.layer.role ch.state) (subst (λ (o : Option Channel). SlotIs (status_at e.layer.role o) (view_of e.layer.role e te) k.tags e.layer.role d (slot_at e.layer.role d b)) found (slot_of e.layer.role e y te ty b k.tags d k.right))
   where
-    idle_of : (m : Mood) → SlotIs m (face_of e.layer.role e te) k.tags e.layer.role d (slot_at e.layer.role d b) → m ≡ Idle
+    idle_of : (m : CallStatus) → SlotIs m (view_of e.layer.role e te) k.tags e.layer.role d (slot_at e.layer.role d b) → m ≡ Idle
     idle_of Idle w = refl
     idle_of OwnCall w = absurd (none-some w.0.session (sym none ∙ w.0.up))
     idle_of FarCall w = absurd (none-some w.0.session (sym none ∙ w.0.up))
     idle_of Open w = absurd (none-some w.session (sym none ∙ w.up))
 
-told_none : (e : End) (f : ℕ → Story → Story) (s c : ℕ) → e.session ≡ None → (told f e).stories s c ≡ e.stories s c
-told_none e f s c none = ap (λ (o : Option ℕ). cond (is_session o s) (f c (e.stories s c)) (e.stories s c)) none
+told_none : (e : End) (f : ℕ → History → History) (s c : ℕ) → e.session ≡ None → (told f e).histories s c ≡ e.histories s c
+told_none e f s c none = ap (λ (o : Option ℕ). cond (is_session o s) (f c (e.histories s c)) (e.histories s c)) none
 
 not_open : Idle ≡ Open → ⊥
-not_open e = let h : ◌≡◌ {A = ℕ} 0 3 = ap mood_number e in omega arith
+not_open e = let h : ◌≡◌ {A = ℕ} 0 3 = ap status_number e in omega arith
 
 not_far : Idle ≡ FarCall → ⊥
-not_far e = let h : ◌≡◌ {A = ℕ} 0 2 = ap mood_number e in omega arith
+not_far e = let h : ◌≡◌ {A = ℕ} 0 2 = ap status_number e in omega arith
 
 not_own : Idle ≡ OwnCall → ⊥
-not_own e = let h : ◌≡◌ {A = ℕ} 0 1 = ap mood_number e in omega arith
+not_own e = let h : ◌≡◌ {A = ℕ} 0 1 = ap status_number e in omega arith
 
 -- what is owed further changes nothing of this
-owed_same : (x : Role) (d : ℕ) (ch : Channel) (st : Step) (told_ : Story → Story) (write : Book → Book) → Outcome x d ch st.channel told_ write NoCalls → Outcome x d ch (owing st) told_ write NoCalls
+owed_same : (x : Role) (d : ℕ) (ch : Channel) (st : Step) (told_ : History → History) (write : Book → Book) → Outcome x d ch st.channel told_ write NoCalls → Outcome x d ch (owing st) told_ write NoCalls
 owed_same x d ch st told_ write (stays m same h) = stays m same h
 owed_same x d ch st told_ write (ends m uses h) = ends m uses h
 owed_same x d ch st told_ write (ends_none m m' uses h) = ends_none m m' uses h
@@ -195,7 +195,7 @@ owed_same x d ch st told_ write (accepts m m' s h) = accepts m m' s h
 owed_same x d ch st told_ write (call_comes parts c r m s h) = absurd c
 owed_same x d ch st told_ write (collides parts c z o m s h) = absurd c
 
-module _ (n : ℕ) (e y : End) (te ty : ℕ) (b : Book) (d : ℕ) (ch ch' : Channel) (l' : Layer) (f : ℕ → Story → Story) (k : KeptAt n e.layer.role e y te ty b) (none : e.session ≡ None) (idle : mood_of e.layer.role ch.state ≡ Idle)
+module _ (n : ℕ) (e y : End) (te ty : ℕ) (b : Book) (d : ℕ) (ch ch' : Channel) (l' : Layer) (f : ℕ → History → History) (k : KeptAt n e.layer.role e y te ty b) (none : e.session ≡ None) (idle : status_of e.layer.role ch.state ≡ Idle)
     (found : channel_of e.layer d ≡ Some ch) (chs : l'.channels ≡ with_nth e.layer.channels d ch') (role : l'.role ≡ e.layer.role) (phase : l'.phase ≡ e.layer.phase) where
   abbrev after : End
   after = moved_end e l' f e.accepted
@@ -203,27 +203,27 @@ module _ (n : ℕ) (e y : End) (te ty : ℕ) (b : Book) (d : ℕ) (ch ch' : Chan
   none_count : length l'.channels ≡ length e.layer.channels
   none_count = ap length chs ∙ put_length e.layer.channels d ch'
 
-  mood_else : (c : ℕ) → c ≢ d → mood_at e.layer.role (channel_of l' c) ≡ mood_at e.layer.role (channel_of e.layer c)
-  mood_else c h = ap (λ (l : List Channel). mood_at e.layer.role (nth_channel l c)) chs ∙ ap (mood_at e.layer.role) (put_else e.layer.channels d c ch' h)
+  status_else : (c : ℕ) → c ≢ d → status_at e.layer.role (channel_of l' c) ≡ status_at e.layer.role (channel_of e.layer c)
+  status_else c h = ap (λ (l : List Channel). status_at e.layer.role (nth_channel l c)) chs ∙ ap (status_at e.layer.role) (put_else e.layer.channels d c ch' h)
 
-  mood_there : mood_at e.layer.role (channel_of l' d) ≡ mood_of e.layer.role ch'.state
-  mood_there = ap (λ (l : List Channel). mood_at e.layer.role (nth_channel l d)) chs ∙ ap (mood_at e.layer.role) (put_here e.layer.channels d ch ch' found)
+  status_there : status_at e.layer.role (channel_of l' d) ≡ status_of e.layer.role ch'.state
+  status_there = ap (λ (l : List Channel). status_at e.layer.role (nth_channel l d)) chs ∙ ap (status_at e.layer.role) (put_here e.layer.channels d ch ch' found)
 
-  none_over : (b' : Book) → Closes e.layer.role b b' → ((c : ℕ) → c ≢ d → slot_at e.layer.role c b' ≡ slot_at e.layer.role c b) → (slot_at e.layer.role d b').present ≡ None → mood_of e.layer.role ch'.state ≡ Idle → KeptAt n e.layer.role after y te ty b'
-  none_over b' closed same present mood = record {
+  none_over : (b' : Book) → Closes e.layer.role b b' → ((c : ℕ) → c ≢ d → slot_at e.layer.role c b' ≡ slot_at e.layer.role c b) → (slot_at e.layer.role d b').present ≡ None → status_of e.layer.role ch'.state ≡ Idle → KeptAt n e.layer.role after y te ty b'
+  none_over b' closed same present status = record {
     tags = k.tags;
     right = end_step e.layer.role e after y te te ty b b' k.tags (record {
-      epochs = λ s c r u g. ap (λ (z : Story). z.epochs r u g) (told_none e f s c none);
+      epochs = λ s c r u g. ap (λ (z : History). z.epochs r u g) (told_none e f s c none);
       begun = begun_rises e.layer.role e after (same_rises e) none_count;
       top = omega arith;
       up = λ s up. absurd (none-some s (sym none ∙ up));
       how = inl (record {
         session = refl;
         channels = λ c. elim (number_is c d) [
-          | inl h ↦ inr (subst (λ (m : ℕ). IsOver (face_of e.layer.role e te) (face_of e.layer.role after te) m (slot_at e.layer.role m b) (slot_at e.layer.role m b')) (sym h)
-              (record { mood = mood_there ∙ mood; further = λ s up. absurd (none-some s (sym none ∙ up)); present = present }))
+          | inl h ↦ inr (subst (λ (m : ℕ). IsOver (view_of e.layer.role e te) (view_of e.layer.role after te) m (slot_at e.layer.role m b) (slot_at e.layer.role m b')) (sym h)
+              (record { status = status_there ∙ status; further = λ s up. absurd (none-some s (sym none ∙ up)); present = present }))
           | inr h ↦ inl (record {
-            mood = mood_else c h;
+            status = status_else c h;
             restart = λ s up. absurd (none-some s (sym none ∙ up));
             uses = λ s up. absurd (none-some s (sym none ∙ up));
             epoch = λ s up. absurd (none-some s (sym none ∙ up));
@@ -239,9 +239,9 @@ module _ (n : ℕ) (e y : End) (te ty : ℕ) (b : Book) (d : ℕ) (ch ch' : Chan
   }
 
   free_there : (slot_at e.layer.role d b).present ≡ None
-  free_there = subst (λ (m : Mood). SlotIs m (face_of e.layer.role e te) k.tags e.layer.role d (slot_at e.layer.role d b)) (ap (mood_at e.layer.role) found ∙ idle) (slot_of e.layer.role e y te ty b k.tags d k.right)
+  free_there = subst (λ (m : CallStatus). SlotIs m (view_of e.layer.role e te) k.tags e.layer.role d (slot_at e.layer.role d b)) (ap (status_at e.layer.role) found ∙ idle) (slot_of e.layer.role e y te ty b k.tags d k.right)
 
-  pub none_step : (told_ : Story → Story) (write : Book → Book) → Outcome e.layer.role d ch ch' told_ write NoCalls → KeptAt n e.layer.role after y te ty (write b)
+  pub none_step : (told_ : History → History) (write : Book → Book) → Outcome e.layer.role d ch ch' told_ write NoCalls → KeptAt n e.layer.role after y te ty (write b)
   none_step told_ write (stays m same h) = subst (λ (v : Book). KeptAt n e.layer.role after y te ty v) (sym (h b)) (none_over b (closes_none e.layer.role b) (λ c z. refl) free_there (m ∙ idle))
   none_step told_ write (ends m uses h) = subst (λ (v : Book). KeptAt n e.layer.role after y te ty v) (sym (h b)) (none_over (closes e.layer.role d b) (closes_one e.layer.role d b) (closed_else e.layer.role d b) (closed_here e.layer.role d b) m)
   none_step told_ write (ends_none m m' uses h) = subst (λ (v : Book). KeptAt n e.layer.role after y te ty v) (sym (h b)) (none_over b (closes_none e.layer.role b) (λ c z. refl) free_there m')
@@ -254,27 +254,27 @@ module _ (n : ℕ) (e y : End) (te ty : ℕ) (b : Book) (d : ℕ) (ch ch' : Chan
 -- ---- a request
 
 abbrev after_request : End → ℕ → Request → Option Channel → End
-after_request e d r o = moved_end e (on_found e.layer d (λ ch. requested e.layer.role ch r) o) (λ c st. cond (c == d) (found_story o (λ ch z. requested_story e.layer.role ch r z) st) st) e.accepted
+after_request e d r o = moved_end e (on_found e.layer d (λ ch. requested e.layer.role ch r) o) (λ c st. cond (c == d) (found_history o (λ ch z. requested_history e.layer.role ch r z) st) st) e.accepted
 
 abbrev after_refusal : End → ℕ → Request → Channel → Option Refusal → End
-after_refusal e d r ch o = moved_end e (after_step e.layer d (unless o (carried_out ch r) ch)) (λ c st. cond (c == d) (requested_story e.layer.role ch r st) st) e.accepted
+after_refusal e d r ch o = moved_end e (after_step e.layer d (unless o (carried_out ch r) ch)) (λ c st. cond (c == d) (requested_history e.layer.role ch r st) st) e.accepted
 
 request_on : (n : ℕ) (e y : End) (te ty : ℕ) (b : Book) (d : ℕ) (r : Request) (ch : Channel) → KeptAt n e.layer.role e y te ty b → Facts n e y → channel_of e.layer d ≡ Some ch → (o : Option Refusal) → refusal e.layer.role ch r ≡ o
     → (ses : Option ℕ) → e.session ≡ ses → KeptAt n e.layer.role (after_refusal e d r ch o) y te ty (unless_refused o (carried e.layer.role d r (front ch.traffic) b) b)
 request_on n e y te ty b d r ch k facts found o refused (Some s) up =
-    on_one n e y te ty b s d ch (owing (unless o (carried_out ch r) ch)) (unless o (carried_out ch r) ch).channel (after_step e.layer d (unless o (carried_out ch r) ch)) (λ c st. cond (c == d) (requested_story e.layer.role ch r st) st) e.accepted
+    on_one n e y te ty b s d ch (owing (unless o (carried_out ch r) ch)) (unless o (carried_out ch r) ch).channel (after_step e.layer d (unless o (carried_out ch r) ch)) (λ c st. cond (c == d) (requested_history e.layer.role ch r st) st) e.accepted
     (λ st. told_of o r ch st) (λ v. unless_refused o (carried e.layer.role d r (front ch.traffic) v) v) NoCalls k facts up found refl refl refl refl
-    (λ st. here_story d (requested_story e.layer.role ch r st) st ∙ told_is e.layer.role ch r st ∙ ap (λ (z : Option Refusal). told_of z r ch st) refused) (λ c st h. else_story c d (requested_story e.layer.role ch r st) st h) (same_rises e)
+    (λ st. here_history d (requested_history e.layer.role ch r st) st ∙ told_is e.layer.role ch r st ∙ ap (λ (z : Option Refusal). told_of z r ch st) refused) (λ c st h. else_history c d (requested_history e.layer.role ch r st) st h) (same_rises e)
     (λ parts c h. absurd c) (asked_any e.layer.role d ch r o refused)
 request_on n e y te ty b d r ch k facts found o refused None none =
-    none_step n e y te ty b d ch (owing (unless o (carried_out ch r) ch)) (after_step e.layer d (unless o (carried_out ch r) ch)) (λ c st. cond (c == d) (requested_story e.layer.role ch r st) st) k none
+    none_step n e y te ty b d ch (owing (unless o (carried_out ch r) ch)) (after_step e.layer d (unless o (carried_out ch r) ch)) (λ c st. cond (c == d) (requested_history e.layer.role ch r st) st) k none
     (no_session n e y te ty b d ch k found none) found refl refl refl (λ st. told_of o r ch st) (λ v. unless_refused o (carried e.layer.role d r (front ch.traffic) v) v)
     (owed_same e.layer.role d ch (unless o (carried_out ch r) ch) (λ st. told_of o r ch st) (λ v. unless_refused o (carried e.layer.role d r (front ch.traffic) v) v) (asked_any e.layer.role d ch r o refused))
 
 request_found : (n : ℕ) (e y : End) (te ty : ℕ) (b : Book) (d : ℕ) (r : Request) → KeptAt n e.layer.role e y te ty b → Facts n e y → (o : Option Channel) → channel_of e.layer d ≡ o
     → KeptAt n e.layer.role (after_request e d r o) y te ty (unless_refused (refusal_at e.layer.role r o) (carried e.layer.role d r (front_at o) b) b)
 request_found n e y te ty b d r k facts None found =
-    still n e y te ty b e.layer (λ c st. cond (c == d) st st) e.accepted k (λ c. refl) (λ c st. either_way (λ (z : Story). SameStory st z) (c == d) st st (story_refl st) (story_refl st)) (same_rises e) refl
+    still n e y te ty b e.layer (λ c st. cond (c == d) st st) e.accepted k (λ c. refl) (λ c st. either_way (λ (z : History). SameHistory st z) (c == d) st st (history_refl st) (history_refl st)) (same_rises e) refl
     (same_end_is n e (after_request e d r None) k.here refl (same_rises e) refl refl refl)
 request_found n e y te ty b d r k facts (Some ch) found = request_on n e y te ty b d r ch k facts found (refusal e.layer.role ch r) refl e.session refl
 

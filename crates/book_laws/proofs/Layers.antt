@@ -1,4 +1,4 @@
--- What the events at an end of a line make of its channels and stories.
+-- What the events at an end of a line make of its channels and histories.
 use Rattle.std.specs.Prelude.{◌≡◌, ◌≢◌, ℕ, zero, suc, ◌≤◌, Bool, true, false, cond, ◌&&◌, ◌==◌, List, [], ◌∷◌, length, map, is_some, Option, Some, None}
 use Rattle.std.proofs.Common.{inl, inr, refl, sym, ap, subst, ◌∙◌, arith, true≢false}
 use Rattle.std.proofs.lemmas.Option.{none-some, same_Some, slice_get_within}
@@ -10,11 +10,11 @@ use Rattle.packet_layer.specs.Channel.{CallState, Channel, closed_channel, has_f
 use Rattle.packet_layer.specs.Layer.{Phase, Layer, Next, ChannelNext, nth_channel, channel_of, with_nth, next_packet, next_in, next_restart, serve, serve_found, next_of, next_owed, next_number, is_free, is_ready, free_channel, lowest_free, highest_free, either_of, itself_if, raised}
 use Rattle.packet_layer.specs.Layer.Phase.{NoSession, OwnRestart, PacketReady}
 use Rattle.packet_layer.specs.Channel.CallState.{Ready, OwnWaiting, FarWaiting, Transfer, Collision, OwnClear}
-use Rattle.packet_laws.specs.History.{Story}
+use Rattle.packet_laws.specs.History.{History}
 use Rattle.packet_laws.specs.Line.{End, told, is_session}
 use Rattle.book_laws.proofs.Basics.{number_is, by_true, by_false, set_here, set_elsewhere, length_set}
-use Rattle.book_laws.proofs.Scenes.Mood.{Idle}
-use Rattle.book_laws.proofs.Faces.{mood_of, mood_at}
+use Rattle.book_laws.proofs.Invariant.CallStatus.{Idle}
+use Rattle.book_laws.proofs.EndSteps.{status_of, status_at}
 
 -- ---- channels
 
@@ -35,7 +35,7 @@ pub in_range : (chs : List Channel) (d : ℕ) (ch : Channel) → nth_channel chs
 in_range chs zero ch e = absurd (none-some ch e)
 in_range chs (suc i) ch e = let h = slice_get_within chs i ch e in (omega arith, omega arith)
 
-pub closed_idle : (x : Role) (chs : List Channel) (c : ℕ) → mood_at x (nth_channel (map (λ ch. closed_channel) chs) c) ≡ Idle
+pub closed_idle : (x : Role) (chs : List Channel) (c : ℕ) → status_at x (nth_channel (map (λ ch. closed_channel) chs) c) ≡ Idle
 closed_idle x chs zero = refl
 closed_idle x [] (suc i) = refl
 closed_idle x (ch ∷ chs) (suc zero) = refl
@@ -45,13 +45,13 @@ pub closed_length : (chs : List Channel) → length (map (λ ch. closed_channel)
 closed_length [] = refl
 closed_length (ch ∷ chs) = ap suc (closed_length chs)
 
--- ---- stories
+-- ---- histories
 
-pub told_here : (e : End) (s c : ℕ) (f : ℕ → Story → Story) → e.session ≡ Some s → (told f e).stories s c ≡ f c (e.stories s c)
-told_here e s c f up = ap (λ (o : Option ℕ). cond (is_session o s) (f c (e.stories s c)) (e.stories s c)) up ∙ by_true (s == s) (f c (e.stories s c)) (e.stories s c) (eq-eqb s s refl)
+pub told_here : (e : End) (s c : ℕ) (f : ℕ → History → History) → e.session ≡ Some s → (told f e).histories s c ≡ f c (e.histories s c)
+told_here e s c f up = ap (λ (o : Option ℕ). cond (is_session o s) (f c (e.histories s c)) (e.histories s c)) up ∙ by_true (s == s) (f c (e.histories s c)) (e.histories s c) (eq-eqb s s refl)
 
-pub told_else : (e : End) (s k c : ℕ) (f : ℕ → Story → Story) → e.session ≡ Some s → k ≢ s → (told f e).stories k c ≡ e.stories k c
-told_else e s k c f up h = ap (λ (o : Option ℕ). cond (is_session o k) (f c (e.stories k c)) (e.stories k c)) up ∙ by_false (k == s) (f c (e.stories k c)) (e.stories k c) (ne_eqb k s h)
+pub told_else : (e : End) (s k c : ℕ) (f : ℕ → History → History) → e.session ≡ Some s → k ≢ s → (told f e).histories k c ≡ e.histories k c
+told_else e s k c f up h = ap (λ (o : Option ℕ). cond (is_session o k) (f c (e.histories k c)) (e.histories k c)) up ∙ by_false (k == s) (f c (e.histories k c)) (e.histories k c) (ne_eqb k s h)
 
 pub either_way : {X : Type 0} (P : X → Type 0) (v : Bool) (a b : X) → P a → P b → P (cond v a b)
 either_way P true a b p q = p
@@ -101,24 +101,24 @@ free_is Dce chs d e = lowest_is chs d e
 -- ---- what goes to the link leaves all calls as they are
 
 pub record SameLayer (x : Role) (l l' : Layer) : Type 0 where
-  pub mood : (c : ℕ) → mood_at x (channel_of l' c) ≡ mood_at x (channel_of l c)
+  pub status : (c : ℕ) → status_at x (channel_of l' c) ≡ status_at x (channel_of l c)
   pub role : l'.role ≡ l.role
   pub phase : l'.phase ≡ l.phase
   pub count : length l'.channels ≡ length l.channels
 
 pub layer_refl : (x : Role) (l : Layer) → SameLayer x l l
-layer_refl x l = record { mood = λ c. refl; role = refl; phase = refl; count = refl }
+layer_refl x l = record { status = λ c. refl; role = refl; phase = refl; count = refl }
 
 next_state : (w : ℕ) (owed : List Body) (ch : Channel) → (next_owed w owed ch).channel.state ≡ ch.state
 next_state w (b ∷ bs) ch = refl
 next_state w [] ch = either_way (λ (n : ChannelNext). n.channel.state ≡ ch.state) (has_flow ch) _ _ refl refl
 
-put_mood : (x : Role) (chs : List Channel) (d : ℕ) (ch ch' : Channel) → nth_channel chs d ≡ Some ch → ch'.state ≡ ch.state → (c : ℕ) → mood_at x (nth_channel (with_nth chs d ch') c) ≡ mood_at x (nth_channel chs c)
-put_mood x chs d ch ch' found same c =
+put_status : (x : Role) (chs : List Channel) (d : ℕ) (ch ch' : Channel) → nth_channel chs d ≡ Some ch → ch'.state ≡ ch.state → (c : ℕ) → status_at x (nth_channel (with_nth chs d ch') c) ≡ status_at x (nth_channel chs c)
+put_status x chs d ch ch' found same c =
     elim (number_is c d) [
-      | inl h ↦ subst (λ (k : ℕ). mood_at x (nth_channel (with_nth chs d ch') k) ≡ mood_at x (nth_channel chs k)) (sym h)
-          (ap (mood_at x) (put_here chs d ch ch' found) ∙ ap (mood_of x) same ∙ sym (ap (mood_at x) found))
-      | inr h ↦ ap (mood_at x) (put_else chs d c ch' h)
+      | inl h ↦ subst (λ (k : ℕ). status_at x (nth_channel (with_nth chs d ch') k) ≡ status_at x (nth_channel chs k)) (sym h)
+          (ap (status_at x) (put_here chs d ch ch' found) ∙ ap (status_of x) same ∙ sym (ap (status_at x) found))
+      | inr h ↦ ap (status_at x) (put_else chs d c ch' h)
     ]
 
 serve_found_same : (x : Role) (k : ℕ) (l : Layer) (d : ℕ) (o : Option Channel) → channel_of l d ≡ o → SameLayer x l (serve k l (next_number l d)).layer → SameLayer x l (serve_found l d o (serve k l (next_number l d))).layer
@@ -126,7 +126,7 @@ serve_found_same x k l d None e h = h
 serve_found_same x k l d (Some ch) e h =
     either_way (λ (m : Next). SameLayer x l m.layer) (is_some (next_of l.window ch).body) _ (serve k l (next_number l d))
     (record {
-      mood = put_mood x l.channels d ch (next_of l.window ch).channel e (next_state l.window ch.owed ch);
+      status = put_status x l.channels d ch (next_of l.window ch).channel e (next_state l.window ch.owed ch);
       role = refl;
       phase = refl;
       count = put_length l.channels d (next_of l.window ch).channel;
@@ -137,7 +137,7 @@ serve_same x zero l d = layer_refl x l
 serve_same x (suc k) l d = serve_found_same x k l d (channel_of l d) refl (serve_same x k l (next_number l d))
 
 restart_same : (x : Role) (owed : List Body) (l : Layer) → SameLayer x l (next_restart owed l).layer
-restart_same x (b ∷ bs) l = record { mood = λ c. refl; role = refl; phase = refl; count = refl }
+restart_same x (b ∷ bs) l = record { status = λ c. refl; role = refl; phase = refl; count = refl }
 restart_same x [] l = serve_same x (length l.channels) l (next_number l l.served_last)
 
 next_in_same : (x : Role) (ph : Phase) (relink : Bool) (l : Layer) → SameLayer x l (next_in ph relink l).layer

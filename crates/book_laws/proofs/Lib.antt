@@ -1,5 +1,5 @@
 mod Basics
-mod Scenes
+mod Invariant
 mod Carrying
 mod Ending
 mod Adding
@@ -8,8 +8,8 @@ mod Answering
 mod Concluding
 mod Calling
 pub mod Writing
-mod Faces
-mod Stories
+mod EndSteps
+mod Histories
 mod Steps
 mod Meetings
 mod Outcomes

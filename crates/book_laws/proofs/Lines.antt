@@ -18,10 +18,10 @@ use Rattle.book_laws.specs.Told.{World, Move, notes_in, notes_by_packet, written
 use Rattle.book_laws.specs.Told.Move.{Happens, Edits}
 use Rattle.book_laws.specs.Headline.{BookHolds}
 use Rattle.book_laws.proofs.Basics.{all_same}
-use Rattle.book_laws.proofs.Scenes.{Face, Spot, IsRight, shelf_of, answered_at, epoch_at}
+use Rattle.book_laws.proofs.Invariant.{EndView, ChannelUse, IsRight, book_parts, answered_at, epoch_at}
 use Rattle.book_laws.proofs.Writing.{Closes, size_changed, slot_changed, pairs_changed, count_changed, kept_changed}
-use Rattle.book_laws.proofs.Faces.{face_of, faces_of, within, has_come, end_step}
-use Rattle.book_laws.proofs.Steps.{story_refl}
+use Rattle.book_laws.proofs.EndSteps.{view_of, views_of, within, has_come, end_step}
+use Rattle.book_laws.proofs.Steps.{history_refl}
 use Rattle.book_laws.proofs.Moving.{KeptAt, Facts, sized, top_of}
 use Rattle.book_laws.proofs.Layers.{next_same, either_way}
 use Rattle.book_laws.proofs.Ends.{quiet_step}
@@ -43,8 +43,8 @@ offers_by n e y te ty b (Some s) k =
     let l = next_same e.layer.role e.layer in
     quiet_step n e.layer.role e (offers (Some s) e) y te ty b k (record {
       session = refl;
-      mood = l.mood;
-      story = λ i c. story_refl (e.stories i c);
+      status = l.status;
+      history = λ i c. history_refl (e.histories i c);
       begun = begun_rises e.layer.role e (offers (Some s) e) (same_rises e) l.count;
     }) (same_end_is n e (offers (Some s) e) k.here refl (same_rises e) l.role l.phase l.count)
 
@@ -93,17 +93,17 @@ event_at n x e y te ty b event k facts order =
 
 -- ---- the two ends change places
 
-turned_faces : (e y : End) (te ty : ℕ) → faces_of Dte e y te ty ≡ faces_of Dce y e ty te
-turned_faces e y te ty = all_same (faces_of Dte e y te ty) (faces_of Dce y e ty te) (λ r. by_role r)
+turned_views : (e y : End) (te ty : ℕ) → views_of Dte e y te ty ≡ views_of Dce y e ty te
+turned_views e y te ty = all_same (views_of Dte e y te ty) (views_of Dce y e ty te) (λ r. by_role r)
   where
-    by_role : (r : Role) → faces_of Dte e y te ty r ≡ faces_of Dce y e ty te r
+    by_role : (r : Role) → views_of Dte e y te ty r ≡ views_of Dce y e ty te r
     by_role Dte = refl
     by_role Dce = refl
 
 turned_there : (n : ℕ) (e y : End) (te ty : ℕ) (b : Book) → KeptAt n Dte e y te ty b → KeptAt n Dce y e ty te b
 turned_there n e y te ty b k = record {
   tags = k.tags;
-  right = subst (λ (f : Role → Face). IsRight f (shelf_of b) k.tags) (turned_faces e y te ty) k.right;
+  right = subst (λ (f : Role → EndView). IsRight f (book_parts b) k.tags) (turned_views e y te ty) k.right;
   sizes = k.sizes;
   here = k.there;
   there = k.here;
@@ -112,7 +112,7 @@ turned_there n e y te ty b k = record {
 turned_back : (n : ℕ) (e y : End) (te ty : ℕ) (b : Book) → KeptAt n Dce y e ty te b → KeptAt n Dte e y te ty b
 turned_back n e y te ty b k = record {
   tags = k.tags;
-  right = subst (λ (f : Role → Face). IsRight f (shelf_of b) k.tags) (sym (turned_faces e y te ty)) k.right;
+  right = subst (λ (f : Role → EndView). IsRight f (book_parts b) k.tags) (sym (turned_views e y te ty)) k.right;
   sizes = k.sizes;
   here = k.there;
   there = k.here;
@@ -142,7 +142,7 @@ edit_kept n e y te ty b role channel step k =
         up = λ s up. top_of Dte e y te ty b k.tags s k.right up;
         how = inl (record {
           session = refl;
-          channels = λ c. inl (record { mood = refl; restart = λ s up. refl; uses = λ s up. refl; epoch = λ s up. refl; slot_is = slot_changed Dte c o (with_step step) b });
+          channels = λ c. inl (record { status = refl; restart = λ s up. refl; uses = λ s up. refl; epoch = λ s up. refl; slot_is = slot_changed Dte c o (with_step step) b });
         });
         closed = closed;
       }) k.right;
@@ -202,37 +202,37 @@ and_second : (a b : Bool) → (a && b) ≡ true → b ≡ true
 and_second true b e = e
 and_second false b e = absurd (true≢false (sym e))
 
-in_line : (n : ℕ) (x : Role) (e : End) (te : ℕ) (k : Spot) → length e.layer.channels ≡ n → (face_of x e te).begun k ≡ true → (1 ≤ k.channel) × (k.channel ≤ n)
+in_line : (n : ℕ) (x : Role) (e : End) (te : ℕ) (k : ChannelUse) → length e.layer.channels ≡ n → (view_of x e te).begun k ≡ true → (1 ≤ k.channel) × (k.channel ≤ n)
 in_line n x e te k count h = range_of n k.channel (ap (λ (m : ℕ). within m k.channel) (sym count) ∙ and_second (has_come e k.session) (within (length e.layer.channels) k.channel) h)
 
-pub says_of : (n : ℕ) (e y : End) (te ty : ℕ) → length e.layer.channels ≡ n → length y.layer.channels ≡ n → ((s c : ℕ) → 1 ≤ c → c ≤ n → Holds (record { me = e; you = y }) s c) → LineSays (faces_of Dte e y te ty)
+pub says_of : (n : ℕ) (e y : End) (te ty : ℕ) → length e.layer.channels ≡ n → length y.layer.channels ≡ n → ((s c : ℕ) → 1 ≤ c → c ≤ n → Holds (record { me = e; you = y }) s c) → LineSays (views_of Dte e y te ty)
 says_of n e y te ty here there law = record {
   aligned = λ z k g h. aligned z k g h;
   aligned_back = λ z k g h. back z k g h;
   answers = λ z k g h. answers z k g h;
 }
   where
-    aligned : (z : Role) (k : Spot) (g : ℕ) → (faces_of Dte e y te ty z).begun k ≡ true → Aligned (epoch_at (faces_of Dte e y te ty z) k g) (epoch_at (faces_of Dte e y te ty (other_of z)) k g)
+    aligned : (z : Role) (k : ChannelUse) (g : ℕ) → (views_of Dte e y te ty z).begun k ≡ true → Aligned (epoch_at (views_of Dte e y te ty z) k g) (epoch_at (views_of Dte e y te ty (other_of z)) k g)
     aligned Dte k g h = let r = in_line n Dte e te k here h in (law k.session k.channel r.0 r.1).forth k.restart k.use_ g
     aligned Dce k g h = let r = in_line n Dce y ty k there h in (law k.session k.channel r.0 r.1).back k.restart k.use_ g
 
-    back : (z : Role) (k : Spot) (g : ℕ) → (faces_of Dte e y te ty z).begun k ≡ true → Aligned (epoch_at (faces_of Dte e y te ty (other_of z)) k g) (epoch_at (faces_of Dte e y te ty z) k g)
+    back : (z : Role) (k : ChannelUse) (g : ℕ) → (views_of Dte e y te ty z).begun k ≡ true → Aligned (epoch_at (views_of Dte e y te ty (other_of z)) k g) (epoch_at (views_of Dte e y te ty z) k g)
     back Dte k g h = let r = in_line n Dte e te k here h in (law k.session k.channel r.0 r.1).back k.restart k.use_ g
     back Dce k g h = let r = in_line n Dce y ty k there h in (law k.session k.channel r.0 r.1).forth k.restart k.use_ g
 
-    answers : (z : Role) (k : Spot) (g : ℕ) → (faces_of Dte e y te ty z).begun k ≡ true → (HasNoLogs (epoch_at (faces_of Dte e y te ty z) k g) → ⊥)
-        → (answered_at (faces_of Dte e y te ty z) k || answered_at (faces_of Dte e y te ty (other_of z)) k) ≡ true
+    answers : (z : Role) (k : ChannelUse) (g : ℕ) → (views_of Dte e y te ty z).begun k ≡ true → (HasNoLogs (epoch_at (views_of Dte e y te ty z) k g) → ⊥)
+        → (answered_at (views_of Dte e y te ty z) k || answered_at (views_of Dte e y te ty (other_of z)) k) ≡ true
     answers Dte k g h some =
         let r = in_line n Dte e te k here h in
         let w = law k.session k.channel r.0 r.1 in
-        ap (λ (a : Bool). a || answered_at (face_of Dce y ty) k) (w.here.one_call.answered k.restart k.use_ 0 g) ∙ ap (λ (a : Bool). ((e.stories k.session k.channel).epochs k.restart k.use_ g).answered || a) (w.there.one_call.answered k.restart k.use_ 0 g)
+        ap (λ (a : Bool). a || answered_at (view_of Dce y ty) k) (w.here.one_call.answered k.restart k.use_ 0 g) ∙ ap (λ (a : Bool). ((e.histories k.session k.channel).epochs k.restart k.use_ g).answered || a) (w.there.one_call.answered k.restart k.use_ 0 g)
         ∙ w.answers_here.answered k.restart k.use_ g some
     answers Dce k g h some =
         let r = in_line n Dce y ty k there h in
         let w = law k.session k.channel r.0 r.1 in
-        ap (λ (a : Bool). a || answered_at (face_of Dte e te) k) (w.there.one_call.answered k.restart k.use_ 0 g) ∙ ap (λ (a : Bool). ((y.stories k.session k.channel).epochs k.restart k.use_ g).answered || a) (w.here.one_call.answered k.restart k.use_ 0 g)
+        ap (λ (a : Bool). a || answered_at (view_of Dte e te) k) (w.there.one_call.answered k.restart k.use_ 0 g) ∙ ap (λ (a : Bool). ((y.histories k.session k.channel).epochs k.restart k.use_ g).answered || a) (w.here.one_call.answered k.restart k.use_ 0 g)
         ∙ w.answers_there.answered k.restart k.use_ g some
 
 pub kept_holds : (n : ℕ) (v : World) → KeptIn n v → Laws n v.line → BookHolds v.book
-kept_holds n v k law = concluded (faces_of Dte v.line.me v.line.you v.top_me v.top_you) v.book k.tags k.right
+kept_holds n v k law = concluded (views_of Dte v.line.me v.line.you v.top_me v.top_you) v.book k.tags k.right
     (says_of n v.line.me v.line.you v.top_me v.top_you k.here.count k.there.count (λ s c lo hi. law [] s c lo hi))

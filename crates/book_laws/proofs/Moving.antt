@@ -12,20 +12,20 @@ use Rattle.packet_layer.specs.Channel.{CallState, Channel}
 use Rattle.packet_layer.specs.Channel.CallState.{Ready, OwnWaiting, FarWaiting, Transfer, Collision, OwnClear}
 use Rattle.packet_layer.specs.Layer.{channel_of}
 use Rattle.packet_layer.specs.Layer.Phase.{PacketReady}
-use Rattle.packet_laws.specs.History.{Epoch, Story, call_accepted}
+use Rattle.packet_laws.specs.History.{Epoch, History, call_accepted}
 use Rattle.packet_laws.specs.Law.{HoldsAt, OneAnswers, CallArrives, CallKnown, InUse, IsUnused, HasPlaced}
 use Rattle.packet_laws.specs.Line.{End}
 use Rattle.call_records.specs.Records.{RecordValue}
 use Rattle.call_records.specs.Book.{Book, slot_at, side_of, with_change, changed, answers, with_pair, closes, comes, with_record}
 use Rattle.book_laws.proofs.Basics.{number_is, order, dte_not_dce, get_changed}
-use Rattle.book_laws.proofs.Scenes.{Face, Mood, Spot, Tag, shelf_of, Present, SlotIs, IsPast, IsRight, HasEpochs, called_at, now, sent_of, taken_of}
-use Rattle.book_laws.proofs.Scenes.Mood.{Idle, OwnCall, FarCall, Open}
+use Rattle.book_laws.proofs.Invariant.{EndView, CallStatus, ChannelUse, Tag, book_parts, Present, SlotIs, IsPast, IsRight, HasEpochs, called_at, now, sent_of, taken_of}
+use Rattle.book_laws.proofs.Invariant.CallStatus.{Idle, OwnCall, FarCall, Open}
 use Rattle.book_laws.proofs.Carrying.{Grows}
 use Rattle.book_laws.proofs.Ending.{StandsStill, IsOver, Further}
 use Rattle.book_laws.proofs.Calling.{IsNew}
-use Rattle.book_laws.proofs.Writing.{SameSize, size_refl, size_trans, size_slot, size_changed, size_record, Closes, closes_none, closes_one, closed_here, closed_else, shelf_records, slot_changed, pairs_changed, count_changed}
-use Rattle.book_laws.proofs.Faces.{mood_of, mood_at, within, has_come, face_of, faces_of, end_step, OnChannel, at_else, StoryGrows, carry_step}
-use Rattle.book_laws.proofs.Steps.{SameStory, ComeStep, come_step, unused_new}
+use Rattle.book_laws.proofs.Writing.{SameSize, size_refl, size_trans, size_slot, size_changed, size_record, Closes, closes_none, closes_one, closed_here, closed_else, book_parts_records, slot_changed, pairs_changed, count_changed}
+use Rattle.book_laws.proofs.EndSteps.{status_of, status_at, within, has_come, view_of, views_of, end_step, OnChannel, at_else, HistoryGrows, carry_step}
+use Rattle.book_laws.proofs.Steps.{SameHistory, ComeStep, come_step, unused_new}
 use Rattle.book_laws.proofs.Meetings.{answer_step, collide_step}
 use Rattle.book_laws.proofs.Outcomes.{EndsUse, RecordGrows, Outcome}
 use Rattle.book_laws.proofs.Outcomes.Outcome.{stays, ends, ends_none, goes, connects, accepts, comes as call_comes, collides}
@@ -39,7 +39,7 @@ pub record IsEnd (n : ℕ) (x : Role) (e : End) : Type 0 where
 
 pub record KeptAt (n : ℕ) (x : Role) (e y : End) (te ty : ℕ) (b : Book) : Type 0 where
   pub tags : List Tag
-  pub right : IsRight (faces_of x e y te ty) (shelf_of b) tags
+  pub right : IsRight (views_of x e y te ty) (book_parts b) tags
   pub sizes : (z : Role) → length (side_of z b).slots ≡ n
   pub here : IsEnd n x e
   pub there : IsEnd n (other_of x) y
@@ -48,8 +48,8 @@ pub record KeptAt (n : ℕ) (x : Role) (e y : End) (te ty : ℕ) (b : Book) : Ty
 pub record Facts (n : ℕ) (e y : End) : Type 0 where
   pub here : (s c : ℕ) → 1 ≤ c → c ≤ n → HoldsAt e s c
   pub there : (s c : ℕ) → 1 ≤ c → c ≤ n → HoldsAt y s c
-  pub answers_there : (s c : ℕ) → 1 ≤ c → c ≤ n → OneAnswers (y.stories s c) (e.stories s c)
-  pub call : (s c : ℕ) (parts : CallParts) → 1 ≤ c → c ≤ n → CallArrives (record { me = e; you = y }) s c parts → CallKnown (e.stories s c) (y.stories s c) parts
+  pub answers_there : (s c : ℕ) → 1 ≤ c → c ≤ n → OneAnswers (y.histories s c) (e.histories s c)
+  pub call : (s c : ℕ) (parts : CallParts) → 1 ≤ c → c ≤ n → CallArrives (record { me = e; you = y }) s c parts → CallKnown (e.histories s c) (y.histories s c) parts
 
 -- ---- the step
 
@@ -59,21 +59,21 @@ pub record Arrival (e y : End) (s d ty : ℕ) (parts : CallParts) : Type 0 where
   pub order : ty ≤ s
   pub come : has_come e s ≡ true
 
-pub record ChannelStep (n : ℕ) (x : Role) (e e' y : End) (s d ty : ℕ) (ch ch' : Channel) (told : Story → Story) (came : CallParts → Type 0) : Type 0 where
+pub record ChannelStep (n : ℕ) (x : Role) (e e' y : End) (s d ty : ℕ) (ch ch' : Channel) (told : History → History) (came : CallParts → Type 0) : Type 0 where
   pub on : OnChannel x e e' s d
   pub found : channel_of e.layer d ≡ Some ch
-  pub found_after : mood_at x (channel_of e'.layer d) ≡ mood_of x ch'.state
-  pub story : e'.stories s d ≡ told (e.stories s d)
+  pub found_after : status_at x (channel_of e'.layer d) ≡ status_of x ch'.state
+  pub history : e'.histories s d ≡ told (e.histories s d)
   pub end_is : IsEnd n x e'
   pub least : 1 ≤ d
   pub most : d ≤ n
   pub arrival : (parts : CallParts) → came parts → (ch.state ≡ Ready) ⊎ (ch.state ≡ OwnWaiting) → Arrival e y s d ty parts
 
-abbrev pub mood_number : Mood → ℕ
-mood_number Idle = 0
-mood_number OwnCall = 1
-mood_number FarCall = 2
-mood_number Open = 3
+abbrev pub status_number : CallStatus → ℕ
+status_number Idle = 0
+status_number OwnCall = 1
+status_number FarCall = 2
+status_number Open = 3
 
 apart_02 : ◌≡◌ {A = ℕ} 0 2 → ⊥
 apart_02 e = omega arith
@@ -85,15 +85,15 @@ apart_32 : ◌≡◌ {A = ℕ} 3 2 → ⊥
 apart_32 e = omega arith
 
 not_far_idle : Idle ≡ FarCall → ⊥
-not_far_idle e = apart_02 (ap mood_number e)
+not_far_idle e = apart_02 (ap status_number e)
 
 not_far_own : OwnCall ≡ FarCall → ⊥
-not_far_own e = apart_12 (ap mood_number e)
+not_far_own e = apart_12 (ap status_number e)
 
 not_far_open : Open ≡ FarCall → ⊥
-not_far_open e = apart_32 (ap mood_number e)
+not_far_open e = apart_32 (ap status_number e)
 
-unanswered : (x : Role) (s : CallState) (st : Story) → mood_of x s ≡ FarCall → InUse x s st → (st.epochs st.restart st.use_ 0).answered ≡ false
+unanswered : (x : Role) (s : CallState) (st : History) → status_of x s ≡ FarCall → InUse x s st → (st.epochs st.restart st.use_ 0).answered ≡ false
 unanswered x FarWaiting st e u = ap (λ (z : Epoch). z.answered) (u.empty 0)
 unanswered x Collision st e u = ap (λ (z : Epoch). z.answered) (u.placed 0)
 unanswered x Ready st e u = absurd (not_far_idle e)
@@ -125,48 +125,48 @@ and_both : (a b : Bool) → a ≡ true → b ≡ true → (a && b) ≡ true
 and_both true b e h = h
 and_both false b e h = absurd (true≢false (sym e))
 
-pub begun_now : (x : Role) (e : End) (te n s d : ℕ) → length e.layer.channels ≡ n → has_come e s ≡ true → 1 ≤ d → d ≤ n → (face_of x e te).begun (now (face_of x e te) s d) ≡ true
+pub begun_now : (x : Role) (e : End) (te n s d : ℕ) → length e.layer.channels ≡ n → has_come e s ≡ true → 1 ≤ d → d ≤ n → (view_of x e te).begun (now (view_of x e te) s d) ≡ true
 begun_now x e te n s d count come lo hi = and_both (has_come e s) (within (length e.layer.channels) d) come (ap (λ (m : ℕ). within m d) count ∙ within_is n d lo hi)
 
 pub sized : (n : ℕ) (b b' : Book) → SameSize b b' → ((z : Role) → length (side_of z b).slots ≡ n) → (z : Role) → length (side_of z b').slots ≡ n
 sized n b b' s h z = s.size z ∙ h z
 
--- the face of an end at its own role
-face_here : (x : Role) (e y : End) (te ty : ℕ) (P : Face → Type 0) → P (faces_of x e y te ty x) → P (face_of x e te)
-face_here Dte e y te ty P h = h
-face_here Dce e y te ty P h = h
+-- the view of an end at its own role
+view_here : (x : Role) (e y : End) (te ty : ℕ) (P : EndView → Type 0) → P (views_of x e y te ty x) → P (view_of x e te)
+view_here Dte e y te ty P h = h
+view_here Dce e y te ty P h = h
 
-pub slot_of : (x : Role) (e y : End) (te ty : ℕ) (b : Book) (tags : List Tag) (c : ℕ) → IsRight (faces_of x e y te ty) (shelf_of b) tags → SlotIs (mood_at x (channel_of e.layer c)) (face_of x e te) tags x c (slot_at x c b)
-slot_of x e y te ty b tags c w = face_here x e y te ty (λ f. SlotIs (f.mood c) f tags x c (slot_at x c b)) (w.slot x c)
+pub slot_of : (x : Role) (e y : End) (te ty : ℕ) (b : Book) (tags : List Tag) (c : ℕ) → IsRight (views_of x e y te ty) (book_parts b) tags → SlotIs (status_at x (channel_of e.layer c)) (view_of x e te) tags x c (slot_at x c b)
+slot_of x e y te ty b tags c w = view_here x e y te ty (λ f. SlotIs (f.status c) f tags x c (slot_at x c b)) (w.slot x c)
 
-pub top_of : (x : Role) (e y : End) (te ty : ℕ) (b : Book) (tags : List Tag) (s : ℕ) → IsRight (faces_of x e y te ty) (shelf_of b) tags → e.session ≡ Some s → s ≡ te
-top_of x e y te ty b tags s w = face_here x e y te ty (λ f. f.session ≡ Some s → s ≡ f.top) (w.tops x s)
+pub top_of : (x : Role) (e y : End) (te ty : ℕ) (b : Book) (tags : List Tag) (s : ℕ) → IsRight (views_of x e y te ty) (book_parts b) tags → e.session ≡ Some s → s ≡ te
+top_of x e y te ty b tags s w = view_here x e y te ty (λ f. f.session ≡ Some s → s ≡ f.top) (w.tops x s)
 
-module _ (n : ℕ) (x : Role) (e e' y : End) (te ty : ℕ) (b : Book) (s d : ℕ) (ch ch' : Channel) (told : Story → Story) (came : CallParts → Type 0) (k : KeptAt n x e y te ty b) (facts : Facts n e y)
+module _ (n : ℕ) (x : Role) (e e' y : End) (te ty : ℕ) (b : Book) (s d : ℕ) (ch ch' : Channel) (told : History → History) (came : CallParts → Type 0) (k : KeptAt n x e y te ty b) (facts : Facts n e y)
     (q : ChannelStep n x e e' y s d ty ch ch' told came) where
-  mood_now : mood_at x (channel_of e.layer d) ≡ mood_of x ch.state
-  mood_now = ap (mood_at x) q.found
+  status_now : status_at x (channel_of e.layer d) ≡ status_of x ch.state
+  status_now = ap (status_at x) q.found
 
-  use_now : InUse x ch.state (e.stories s d)
-  use_now = subst (λ (r : Role). InUse r ch.state (e.stories s d)) k.here.role ((facts.here s d q.least q.most).in_use ch q.on.up q.found)
+  use_now : InUse x ch.state (e.histories s d)
+  use_now = subst (λ (r : Role). InUse r ch.state (e.histories s d)) k.here.role ((facts.here s d q.least q.most).in_use ch q.on.up q.found)
 
-  same_epochs : ((st : Story) (r u g : ℕ) → (told st).epochs r u g ≡ st.epochs r u g) → (a c r u g : ℕ) → (e'.stories a c).epochs r u g ≡ (e.stories a c).epochs r u g
-  same_epochs h a c r u g = at_else x e e' s d (λ (z v : Story). v.epochs r u g ≡ z.epochs r u g) q.on (λ z. refl) (ap (λ (z : Story). z.epochs r u g) q.story ∙ h (e.stories s d) r u g) a c
+  same_epochs : ((st : History) (r u g : ℕ) → (told st).epochs r u g ≡ st.epochs r u g) → (a c r u g : ℕ) → (e'.histories a c).epochs r u g ≡ (e.histories a c).epochs r u g
+  same_epochs h a c r u g = at_else x e e' s d (λ (z v : History). v.epochs r u g ≡ z.epochs r u g) q.on (λ z. refl) (ap (λ (z : History). z.epochs r u g) q.history ∙ h (e.histories s d) r u g) a c
 
-  still : (b' : Book) (c : ℕ) → c ≢ d → slot_at x c b' ≡ slot_at x c b → StandsStill (face_of x e te) (face_of x e' te) c (slot_at x c b) (slot_at x c b')
+  still : (b' : Book) (c : ℕ) → c ≢ d → slot_at x c b' ≡ slot_at x c b → StandsStill (view_of x e te) (view_of x e' te) c (slot_at x c b) (slot_at x c b')
   still b' c h same = record {
-    mood = q.on.mood c h;
-    restart = λ a up. ap (λ (z : Story). z.restart) (q.on.else a c (λ p. h p.1));
-    uses = λ a up. ap (λ (z : Story). z.use_) (q.on.else a c (λ p. h p.1));
-    epoch = λ a up. ap (λ (z : Story). z.epoch) (q.on.else a c (λ p. h p.1));
+    status = q.on.status c h;
+    restart = λ a up. ap (λ (z : History). z.restart) (q.on.else a c (λ p. h p.1));
+    uses = λ a up. ap (λ (z : History). z.use_) (q.on.else a c (λ p. h p.1));
+    epoch = λ a up. ap (λ (z : History). z.epoch) (q.on.else a c (λ p. h p.1));
     slot_is = same;
   }
 
   at_now : (P : ℕ → Type 0) → P s → (a : ℕ) → e.session ≡ Some a → P a
   at_now P h a up = subst P (same_Some s a (sym q.on.up ∙ up)) h
 
-  end_after : (b' : Book) → Closes x b b' → ((st : Story) (r u g : ℕ) → (told st).epochs r u g ≡ st.epochs r u g)
-      → ((c : ℕ) → StandsStill (face_of x e te) (face_of x e' te) c (slot_at x c b) (slot_at x c b') ⊎ IsOver (face_of x e te) (face_of x e' te) c (slot_at x c b) (slot_at x c b')) → KeptAt n x e' y te ty b'
+  end_after : (b' : Book) → Closes x b b' → ((st : History) (r u g : ℕ) → (told st).epochs r u g ≡ st.epochs r u g)
+      → ((c : ℕ) → StandsStill (view_of x e te) (view_of x e' te) c (slot_at x c b) (slot_at x c b') ⊎ IsOver (view_of x e te) (view_of x e' te) c (slot_at x c b) (slot_at x c b')) → KeptAt n x e' y te ty b'
   end_after b' closed same channels = record {
     tags = k.tags;
     right = end_step x e e' y te te ty b b' k.tags (record {
@@ -182,61 +182,61 @@ module _ (n : ℕ) (x : Role) (e e' y : End) (te ty : ℕ) (b : Book) (s d : ℕ
     there = k.there;
   }
 
-  stays_after : mood_of x ch'.state ≡ mood_of x ch.state → ((st : Story) → SameStory st (told st)) → KeptAt n x e' y te ty b
-  stays_after mood same = end_after b (closes_none x b) (λ st. (same st).epochs)
+  stays_after : status_of x ch'.state ≡ status_of x ch.state → ((st : History) → SameHistory st (told st)) → KeptAt n x e' y te ty b
+  stays_after status same = end_after b (closes_none x b) (λ st. (same st).epochs)
       (λ c. elim (number_is c d) [
-        | inl h ↦ inl (subst (λ (m : ℕ). StandsStill (face_of x e te) (face_of x e' te) m (slot_at x m b) (slot_at x m b)) (sym h) (record {
-          mood = q.found_after ∙ mood ∙ sym mood_now;
-          restart = at_now (λ a. (e'.stories a d).restart ≡ (e.stories a d).restart) (ap (λ (z : Story). z.restart) q.story ∙ (same (e.stories s d)).restart);
-          uses = at_now (λ a. (e'.stories a d).use_ ≡ (e.stories a d).use_) (ap (λ (z : Story). z.use_) q.story ∙ (same (e.stories s d)).uses);
-          epoch = at_now (λ a. (e'.stories a d).epoch ≡ (e.stories a d).epoch) (ap (λ (z : Story). z.epoch) q.story ∙ (same (e.stories s d)).epoch);
+        | inl h ↦ inl (subst (λ (m : ℕ). StandsStill (view_of x e te) (view_of x e' te) m (slot_at x m b) (slot_at x m b)) (sym h) (record {
+          status = q.found_after ∙ status ∙ sym status_now;
+          restart = at_now (λ a. (e'.histories a d).restart ≡ (e.histories a d).restart) (ap (λ (z : History). z.restart) q.history ∙ (same (e.histories s d)).restart);
+          uses = at_now (λ a. (e'.histories a d).use_ ≡ (e.histories a d).use_) (ap (λ (z : History). z.use_) q.history ∙ (same (e.histories s d)).uses);
+          epoch = at_now (λ a. (e'.histories a d).epoch ≡ (e.histories a d).epoch) (ap (λ (z : History). z.epoch) q.history ∙ (same (e.histories s d)).epoch);
           slot_is = refl;
         }))
         | inr h ↦ inl (still b c h refl)
       ])
 
-  over_after : (b' : Book) → Closes x b b' → ((c : ℕ) → c ≢ d → slot_at x c b' ≡ slot_at x c b) → (slot_at x d b').present ≡ None → mood_of x ch'.state ≡ Idle → ((st : Story) → EndsUse st (told st)) → KeptAt n x e' y te ty b'
-  over_after b' closed else none mood uses = end_after b' closed (λ st. (uses st).epochs)
+  over_after : (b' : Book) → Closes x b b' → ((c : ℕ) → c ≢ d → slot_at x c b' ≡ slot_at x c b) → (slot_at x d b').present ≡ None → status_of x ch'.state ≡ Idle → ((st : History) → EndsUse st (told st)) → KeptAt n x e' y te ty b'
+  over_after b' closed else none status uses = end_after b' closed (λ st. (uses st).epochs)
       (λ c. elim (number_is c d) [
-        | inl h ↦ inr (subst (λ (m : ℕ). IsOver (face_of x e te) (face_of x e' te) m (slot_at x m b) (slot_at x m b')) (sym h) (record {
-          mood = q.found_after ∙ mood;
-          further = at_now (λ a. Further (e.stories a d) (e'.stories a d)) (subst (λ (z : Story). Further (e.stories s d) z) (sym q.story) (uses (e.stories s d)).further);
+        | inl h ↦ inr (subst (λ (m : ℕ). IsOver (view_of x e te) (view_of x e' te) m (slot_at x m b) (slot_at x m b')) (sym h) (record {
+          status = q.found_after ∙ status;
+          further = at_now (λ a. Further (e.histories a d) (e'.histories a d)) (subst (λ (z : History). Further (e.histories s d) z) (sym q.history) (uses (e.histories s d)).further);
           present = none;
         }))
         | inr h ↦ inl (still b' c h (else c h))
       ])
 
-  idle_none : mood_of x ch.state ≡ Idle → (slot_at x d b).present ≡ None
-  idle_none m = subst (λ (z : Mood). SlotIs z (face_of x e te) k.tags x d (slot_at x d b)) (mood_now ∙ m) (slot_of x e y te ty b k.tags d k.right)
+  idle_none : status_of x ch.state ≡ Idle → (slot_at x d b).present ≡ None
+  idle_none m = subst (λ (z : CallStatus). SlotIs z (view_of x e te) k.tags x d (slot_at x d b)) (status_now ∙ m) (slot_of x e y te ty b k.tags d k.right)
 
   -- a call goes on
-  goes_after : (b' : Book) (p : Present (face_of x e te) k.tags x d (slot_at x d b)) → SlotIs (mood_at x (channel_of e'.layer d)) (face_of x e te) k.tags x d (slot_at x d b) → StoryGrows (e.stories s d) (told (e.stories s d)) → length b'.records ≡ length b.records
-      → ((m : ℕ) (r' : RecordValue) → slice_get b'.records m ≡ Some r' → (r : RecordValue) × (slice_get b.records m ≡ Some r) × (((m ≡ p.number) × Grows (face_of x e te) (face_of x e' te) p.session d r r') ⊎ ((m ≢ p.number) × (r' ≡ r))))
-      → record (shelf_of b) { records = b'.records } ≡ shelf_of b' → SameSize b b' → KeptAt n x e' y te ty b'
-  goes_after b' p opens grows count kept shelf size = record {
+  goes_after : (b' : Book) (p : Present (view_of x e te) k.tags x d (slot_at x d b)) → SlotIs (status_at x (channel_of e'.layer d)) (view_of x e te) k.tags x d (slot_at x d b) → HistoryGrows (e.histories s d) (told (e.histories s d)) → length b'.records ≡ length b.records
+      → ((m : ℕ) (r' : RecordValue) → slice_get b'.records m ≡ Some r' → (r : RecordValue) × (slice_get b.records m ≡ Some r) × (((m ≡ p.number) × Grows (view_of x e te) (view_of x e' te) p.session d r r') ⊎ ((m ≢ p.number) × (r' ≡ r))))
+      → record (book_parts b) { records = b'.records } ≡ book_parts b' → SameSize b b' → KeptAt n x e' y te ty b'
+  goes_after b' p opens grows count kept parts size = record {
     tags = k.tags;
-    right = carry_step x e e' y s d te ty b b' k.tags k.right p (record { on = q.on; opens = opens; story = subst (λ (z : Story). StoryGrows (e.stories s d) z) (sym q.story) grows; count = count; kept = kept }) shelf;
+    right = carry_step x e e' y s d te ty b b' k.tags k.right p (record { on = q.on; opens = opens; history = subst (λ (z : History). HistoryGrows (e.histories s d) z) (sym q.history) grows; count = count; kept = kept }) parts;
     sizes = sized n b b' size k.sizes;
     here = q.end_is;
     there = k.there;
   }
 
-  grows_at : (p : Present (face_of x e te) k.tags x d (slot_at x d b)) (r r' : RecordValue) → RecordGrows (e.stories s d) (told (e.stories s d)) r r' → Grows (face_of x e te) (face_of x e' te) p.session d r r'
+  grows_at : (p : Present (view_of x e te) k.tags x d (slot_at x d b)) (r r' : RecordValue) → RecordGrows (e.histories s d) (told (e.histories s d)) r r' → Grows (view_of x e te) (view_of x e' te) p.session d r r'
   grows_at p r r' g =
-      subst (λ (a : ℕ). Grows (face_of x e te) (face_of x e' te) a d r r') (same_Some s p.session (sym q.on.up ∙ p.up))
+      subst (λ (a : ℕ). Grows (view_of x e te) (view_of x e' te) a d r r') (same_Some s p.session (sym q.on.up ∙ p.up))
       (record {
         head = g.head;
         tells = λ t h.
             let after = g.tells (record { sent = t.sent; taken = t.taken }) h in
             record {
-              sent = λ i. after.sent i ∙ ap (λ (z : Story). sent_of (z.epochs (e.stories s d).restart (e.stories s d).use_ i)) (sym q.story);
-              taken = λ i. after.taken i ∙ ap (λ (z : Story). taken_of (z.epochs (e.stories s d).restart (e.stories s d).use_ i)) (sym q.story);
+              sent = λ i. after.sent i ∙ ap (λ (z : History). sent_of (z.epochs (e.histories s d).restart (e.histories s d).use_ i)) (sym q.history);
+              taken = λ i. after.taken i ∙ ap (λ (z : History). taken_of (z.epochs (e.histories s d).restart (e.histories s d).use_ i)) (sym q.history);
             };
-        epochs = λ h. subst (λ (z : Story). HasEpochs r' z.epoch) (sym q.story) (g.epochs h);
+        epochs = λ h. subst (λ (z : History). HasEpochs r' z.epoch) (sym q.history) (g.epochs h);
       })
 
-  kept_at : (o : Option ℕ) (change : RecordValue → RecordValue) (p : Present (face_of x e te) k.tags x d (slot_at x d b)) → o ≡ Some p.number → ((r : RecordValue) → RecordGrows (e.stories s d) (told (e.stories s d)) r (change r))
-      → (m : ℕ) (r' : RecordValue) → slice_get (with_change o change b).records m ≡ Some r' → (r : RecordValue) × (slice_get b.records m ≡ Some r) × (((m ≡ p.number) × Grows (face_of x e te) (face_of x e' te) p.session d r r') ⊎ ((m ≢ p.number) × (r' ≡ r)))
+  kept_at : (o : Option ℕ) (change : RecordValue → RecordValue) (p : Present (view_of x e te) k.tags x d (slot_at x d b)) → o ≡ Some p.number → ((r : RecordValue) → RecordGrows (e.histories s d) (told (e.histories s d)) r (change r))
+      → (m : ℕ) (r' : RecordValue) → slice_get (with_change o change b).records m ≡ Some r' → (r : RecordValue) × (slice_get b.records m ≡ Some r) × (((m ≡ p.number) × Grows (view_of x e te) (view_of x e' te) p.session d r r') ⊎ ((m ≢ p.number) × (r' ≡ r)))
   kept_at None change p e0 grows m r' got = absurd (none-some p.number e0)
   kept_at (Some i) change p e0 grows m r' got =
       let is : i ≡ p.number = same_Some i p.number e0 in
@@ -244,20 +244,20 @@ module _ (n : ℕ) (x : Role) (e e' y : End) (te ty : ℕ) (b : Book) (s d : ℕ
         g.0,
         g.1,
         elim g.2 [
-          | inl h ↦ inl (h.0 ∙ is, subst (λ (z : RecordValue). Grows (face_of x e te) (face_of x e' te) p.session d g.0 z) (sym h.1) (grows_at p g.0 (change g.0) (grows g.0)))
+          | inl h ↦ inl (h.0 ∙ is, subst (λ (z : RecordValue). Grows (view_of x e te) (view_of x e' te) p.session d g.0 z) (sym h.1) (grows_at p g.0 (change g.0) (grows g.0)))
           | inr h ↦ inr (λ a. h.0 (a ∙ sym is), h.1)
         ],
       )
 
-  changed_after : (change : RecordValue → RecordValue) → mood_of x ch.state ≡ Open → mood_of x ch'.state ≡ Open → ((st : Story) → StoryGrows st (told st)) → ((st : Story) (r : RecordValue) → RecordGrows st (told st) r (change r)) → KeptAt n x e' y te ty (changed x d change b)
+  changed_after : (change : RecordValue → RecordValue) → status_of x ch.state ≡ Open → status_of x ch'.state ≡ Open → ((st : History) → HistoryGrows st (told st)) → ((st : History) (r : RecordValue) → RecordGrows st (told st) r (change r)) → KeptAt n x e' y te ty (changed x d change b)
   changed_after change m m' grows rgrows =
       let o : Option ℕ = (slot_at x d b).present in
-      let p : Present (face_of x e te) k.tags x d (slot_at x d b) = subst (λ (z : Mood). SlotIs z (face_of x e te) k.tags x d (slot_at x d b)) (mood_now ∙ m) (slot_of x e y te ty b k.tags d k.right) in
-      goes_after (changed x d change b) p (subst (λ (z : Mood). SlotIs z (face_of x e te) k.tags x d (slot_at x d b)) (sym (q.found_after ∙ m')) p) (grows (e.stories s d)) (count_changed o change b)
-      (kept_at o change p p.is_present (λ r. rgrows (e.stories s d) r))
-      (shelf_records b (changed x d change b) (pairs_changed o change b) (size_changed o change b).node (λ z c. slot_changed z c o change b)) (size_changed o change b)
+      let p : Present (view_of x e te) k.tags x d (slot_at x d b) = subst (λ (z : CallStatus). SlotIs z (view_of x e te) k.tags x d (slot_at x d b)) (status_now ∙ m) (slot_of x e y te ty b k.tags d k.right) in
+      goes_after (changed x d change b) p (subst (λ (z : CallStatus). SlotIs z (view_of x e te) k.tags x d (slot_at x d b)) (sym (q.found_after ∙ m')) p) (grows (e.histories s d)) (count_changed o change b)
+      (kept_at o change p p.is_present (λ r. rgrows (e.histories s d) r))
+      (book_parts_records b (changed x d change b) (pairs_changed o change b) (size_changed o change b).node (λ z c. slot_changed z c o change b)) (size_changed o change b)
 
-  same_record : (st st' : Story) (r : RecordValue) → SameStory st st' → RecordGrows st st' r r
+  same_record : (st st' : History) (r : RecordValue) → SameHistory st st' → RecordGrows st st' r r
   same_record st st' r h = record {
     head = record { number = refl; node = refl; own = refl; far = refl };
     tells = λ t a. record {
@@ -267,7 +267,7 @@ module _ (n : ℕ) (x : Role) (e e' y : End) (te ty : ℕ) (b : Book) (s d : ℕ
     epochs = λ a. subst (λ (i : ℕ). HasEpochs r i) (sym h.epoch) a;
   }
 
-  same_grows : (st st' : Story) → SameStory st st' → StoryGrows st st'
+  same_grows : (st st' : History) → SameHistory st st' → HistoryGrows st st'
   same_grows st st' h = record {
     restart = h.restart;
     uses = h.uses;
@@ -275,38 +275,38 @@ module _ (n : ℕ) (x : Role) (e e' y : End) (te ty : ℕ) (b : Book) (s d : ℕ
     logs = λ r u g other. h.epochs r u g;
   }
 
-  connects_after : mood_of x ch.state ≡ OwnCall → mood_of x ch'.state ≡ Open → ((st : Story) → SameStory st (told st)) → KeptAt n x e' y te ty b
+  connects_after : status_of x ch.state ≡ OwnCall → status_of x ch'.state ≡ Open → ((st : History) → SameHistory st (told st)) → KeptAt n x e' y te ty b
   connects_after m m' same =
-      let w = subst (λ (z : Mood). SlotIs z (face_of x e te) k.tags x d (slot_at x d b)) (mood_now ∙ m) (slot_of x e y te ty b k.tags d k.right) in
-      goes_after b w.0 (subst (λ (z : Mood). SlotIs z (face_of x e te) k.tags x d (slot_at x d b)) (sym (q.found_after ∙ m')) w.0) (same_grows (e.stories s d) (told (e.stories s d)) (same (e.stories s d))) refl
+      let w = subst (λ (z : CallStatus). SlotIs z (view_of x e te) k.tags x d (slot_at x d b)) (status_now ∙ m) (slot_of x e y te ty b k.tags d k.right) in
+      goes_after b w.0 (subst (λ (z : CallStatus). SlotIs z (view_of x e te) k.tags x d (slot_at x d b)) (sym (q.found_after ∙ m')) w.0) (same_grows (e.histories s d) (told (e.histories s d)) (same (e.histories s d))) refl
       (λ i r' got. (
         r',
         got,
         elim (number_is i w.0.number) [
-          | inl h ↦ inl (h, grows_at w.0 r' r' (same_record (e.stories s d) (told (e.stories s d)) r' (same (e.stories s d))))
+          | inl h ↦ inl (h, grows_at w.0 r' r' (same_record (e.histories s d) (told (e.histories s d)) r' (same (e.histories s d))))
           | inr h ↦ inr (h, refl)
         ],
       )) refl (size_refl b)
 
-  answers_after : mood_of x ch.state ≡ FarCall → mood_of x ch'.state ≡ Open → ((st : Story) → told st ≡ call_accepted st) → KeptAt n x e' y te ty (answers x d b)
-  answers_after m m' story = record {
+  answers_after : status_of x ch.state ≡ FarCall → status_of x ch'.state ≡ Open → ((st : History) → told st ≡ call_accepted st) → KeptAt n x e' y te ty (answers x d b)
+  answers_after m m' history = record {
     tags = k.tags;
     right = answer_step x e e' y s d te ty b k.tags (record {
       on = q.on;
-      far = mood_now ∙ m;
+      far = status_now ∙ m;
       opens = q.found_after ∙ m';
-      story = q.story ∙ story (e.stories s d);
-      not_before = unanswered x ch.state (e.stories s d) m use_now;
+      history = q.history ∙ history (e.histories s d);
+      not_before = unanswered x ch.state (e.histories s d) m use_now;
     }) k.right;
     sizes = sized n b (answers x d b) (pair_size (slot_at x d b).caller (slot_at x d b).present b) k.sizes;
     here = q.end_is;
     there = k.there;
   }
 
-  new_use : IsUnused (e.stories s d) → has_come e s ≡ true → IsNew (face_of x e te) s d
+  new_use : IsUnused (e.histories s d) → has_come e s ≡ true → IsNew (view_of x e te) s d
   new_use u come = unused_new x e te s d (begun_now x e te n s d k.here.count come q.least q.most) u
 
-  placed_use : HasPlaced (e.stories s d) → has_come e s ≡ true → IsNew (face_of x e te) s d
+  placed_use : HasPlaced (e.histories s d) → has_come e s ≡ true → IsNew (view_of x e te) s d
   placed_use u come = record {
     begun = begun_now x e te n s d k.here.count come q.least q.most;
     first = u.first;
@@ -316,28 +316,28 @@ module _ (n : ℕ) (x : Role) (e e' y : End) (te ty : ℕ) (b : Book) (s d : ℕ
   }
 
   -- what the other end called is not later than the call that comes in
-  past_known : (parts : CallParts) → CallKnown (e.stories s d) (y.stories s d) parts → (z : Spot) → z.session ≡ s → z.channel ≡ d → IsSome (called_at (face_of (other_of x) y ty) z) → IsPast z (e.stories s d)
+  past_known : (parts : CallParts) → CallKnown (e.histories s d) (y.histories s d) parts → (z : ChannelUse) → z.session ≡ s → z.channel ≡ d → IsSome (called_at (view_of (other_of x) y ty) z) → IsPast z (e.histories s d)
   past_known parts known z a c some =
-      let there : IsSome ((y.stories s d).epochs z.restart z.use_ 0).called =
-      ap (λ (i : ℕ). is_some ((y.stories s i).epochs z.restart z.use_ 0).called) (sym c) ∙ ap (λ (j : ℕ). is_some ((y.stories j z.channel).epochs z.restart z.use_ 0).called) (sym a) ∙ some in
+      let there : IsSome ((y.histories s d).epochs z.restart z.use_ 0).called =
+      ap (λ (i : ℕ). is_some ((y.histories s i).epochs z.restart z.use_ 0).called) (sym c) ∙ ap (λ (j : ℕ). is_some ((y.histories j z.channel).epochs z.restart z.use_ 0).called) (sym a) ∙ some in
       record {
-        restarts = elim (order z.restart (e.stories s d).restart) [
+        restarts = elim (order z.restart (e.histories s d).restart) [
           | inl le ↦ le
           | inr lt ↦ absurd (true≢false (sym there ∙ ap (λ (o : Option CallParts). is_some o) (known.last_restart z.restart z.use_ 0 lt)))
         ];
-        uses = λ r. elim (order z.use_ (e.stories s d).use_) [
+        uses = λ r. elim (order z.use_ (e.histories s d).use_) [
           | inl le ↦ le
-          | inr lt ↦ absurd (true≢false (sym there ∙ ap (λ (i : ℕ). is_some ((y.stories s d).epochs i z.use_ 0).called) r ∙ ap (λ (o : Option CallParts). is_some o) (known.last_use z.use_ 0 lt)))
+          | inr lt ↦ absurd (true≢false (sym there ∙ ap (λ (i : ℕ). is_some ((y.histories s d).epochs i z.use_ 0).called) r ∙ ap (λ (o : Option CallParts). is_some o) (known.last_use z.use_ 0 lt)))
         ];
       }
 
-  come_at : (parts : CallParts) → Arrival e y s d ty parts → IsNew (face_of x e te) s d → mood_of x ch'.state ≡ FarCall → ((st : Story) → SameStory st (told st)) → ComeStep x e e' y s d te ty parts b
+  come_at : (parts : CallParts) → Arrival e y s d ty parts → IsNew (view_of x e te) s d → status_of x ch'.state ≡ FarCall → ((st : History) → SameHistory st (told st)) → ComeStep x e e' y s d te ty parts b
   come_at parts arrival new m' same =
       let known = facts.call s d parts q.least q.most arrival.arrives in
       record {
         on = q.on;
         far = q.found_after ∙ m';
-        story = subst (λ (z : Story). SameStory (e.stories s d) z) (sym q.story) (same (e.stories s d));
+        history = subst (λ (z : History). SameHistory (e.histories s d) z) (sym q.history) (same (e.histories s d));
         new = new;
         known = known.known 0;
         last = past_known parts known;
@@ -346,22 +346,22 @@ module _ (n : ℕ) (x : Role) (e e' y : End) (te ty : ℕ) (b : Book) (s d : ℕ
         most = let h = k.sizes x in let l = q.most in omega arith;
       }
 
-  comes_after : (parts : CallParts) → came parts → ch.state ≡ Ready → mood_of x ch'.state ≡ FarCall → ((st : Story) → SameStory st (told st)) → KeptAt n x e' y te ty (comes x d parts b)
+  comes_after : (parts : CallParts) → came parts → ch.state ≡ Ready → status_of x ch'.state ≡ FarCall → ((st : History) → SameHistory st (told st)) → KeptAt n x e' y te ty (comes x d parts b)
   comes_after parts c ready m' same =
       let arrival = q.arrival parts c (inl ready) in
-      let unused : IsUnused (e.stories s d) = subst (λ (z : CallState). InUse x z (e.stories s d)) ready use_now in
-      let r = come_step x e e' y s d te ty parts b k.tags (come_at parts arrival (new_use unused arrival.come) m' same) (mood_now ∙ ap (mood_of x) ready) unused k.right in
+      let unused : IsUnused (e.histories s d) = subst (λ (z : CallState). InUse x z (e.histories s d)) ready use_now in
+      let r = come_step x e e' y s d te ty parts b k.tags (come_at parts arrival (new_use unused arrival.come) m' same) (status_now ∙ ap (status_of x) ready) unused k.right in
       record { tags = r.0; right = r.1; sizes = sized n b (comes x d parts b) (comes_size x d parts b) k.sizes; here = q.end_is; there = k.there }
 
-pub collides_after : (n : ℕ) (x : Role) (e e' y : End) (te ty : ℕ) (b : Book) (s d : ℕ) (ch ch' : Channel) (told : Story → Story) (came : CallParts → Type 0) → KeptAt n x e y te ty b → Facts n e y → ChannelStep n x e e' y s d ty ch ch' told came
-    → (parts : CallParts) → came parts → x ≡ Dce → ch.state ≡ OwnWaiting → mood_of x ch'.state ≡ FarCall → ((st : Story) → SameStory st (told st)) → KeptAt n x e' y te ty (comes x d parts (closes x d b))
+pub collides_after : (n : ℕ) (x : Role) (e e' y : End) (te ty : ℕ) (b : Book) (s d : ℕ) (ch ch' : Channel) (told : History → History) (came : CallParts → Type 0) → KeptAt n x e y te ty b → Facts n e y → ChannelStep n x e e' y s d ty ch ch' told came
+    → (parts : CallParts) → came parts → x ≡ Dce → ch.state ≡ OwnWaiting → status_of x ch'.state ≡ FarCall → ((st : History) → SameHistory st (told st)) → KeptAt n x e' y te ty (comes x d parts (closes x d b))
 collides_after n Dte e e' y te ty b s d ch ch' told came k facts q parts c role own m' same = absurd (dte_not_dce role)
 collides_after n Dce e e' y te ty b s d ch ch' told came k facts q parts c role own m' same =
     let arrival = q.arrival parts c (inr own) in
-    let placed : HasPlaced (e.stories s d) = subst (λ (z : CallState). InUse Dce z (e.stories s d)) own (use_now n Dce e e' y te ty b s d ch ch' told came k facts q) in
+    let placed : HasPlaced (e.histories s d) = subst (λ (z : CallState). InUse Dce z (e.histories s d)) own (use_now n Dce e e' y te ty b s d ch ch' told came k facts q) in
     let r = collide_step e e' y s d te ty parts b k.tags
     (come_at n Dce e e' y te ty b s d ch ch' told came k facts q parts arrival (placed_use n Dce e e' y te ty b s d ch ch' told came k facts q placed arrival.come) m' same)
-    (ap (mood_at Dce) q.found ∙ ap (mood_of Dce) own) k.right in
+    (ap (status_at Dce) q.found ∙ ap (status_of Dce) own) k.right in
     record {
       tags = r.0;
       right = r.1;
@@ -370,7 +370,7 @@ collides_after n Dce e e' y te ty b s d ch ch' told came k facts q parts c role 
       there = k.there;
     }
 
-pub channel_step : (n : ℕ) (x : Role) (e e' y : End) (te ty : ℕ) (b : Book) (s d : ℕ) (ch ch' : Channel) (told : Story → Story) (write : Book → Book) (came : CallParts → Type 0) → KeptAt n x e y te ty b → Facts n e y → ChannelStep n x e e' y s d ty ch ch' told came
+pub channel_step : (n : ℕ) (x : Role) (e e' y : End) (te ty : ℕ) (b : Book) (s d : ℕ) (ch ch' : Channel) (told : History → History) (write : Book → Book) (came : CallParts → Type 0) → KeptAt n x e y te ty b → Facts n e y → ChannelStep n x e e' y s d ty ch ch' told came
     → Outcome x d ch ch' told write came → KeptAt n x e' y te ty (write b)
 channel_step n x e e' y te ty b s d ch ch' told write came k f q (stays m same h) =
     subst (λ (v : Book). KeptAt n x e' y te ty v) (sym (h b)) (stays_after n x e e' y te ty b s d ch ch' told came k f q m same)
@@ -382,8 +382,8 @@ channel_step n x e e' y te ty b s d ch ch' told write came k f q (goes change m 
     subst (λ (v : Book). KeptAt n x e' y te ty v) (sym (h b)) (changed_after n x e e' y te ty b s d ch ch' told came k f q change m m' grows rgrows)
 channel_step n x e e' y te ty b s d ch ch' told write came k f q (connects m m' same h) =
     subst (λ (v : Book). KeptAt n x e' y te ty v) (sym (h b)) (connects_after n x e e' y te ty b s d ch ch' told came k f q m m' same)
-channel_step n x e e' y te ty b s d ch ch' told write came k f q (accepts m m' story h) =
-    subst (λ (v : Book). KeptAt n x e' y te ty v) (sym (h b)) (answers_after n x e e' y te ty b s d ch ch' told came k f q m m' story)
+channel_step n x e e' y te ty b s d ch ch' told write came k f q (accepts m m' history h) =
+    subst (λ (v : Book). KeptAt n x e' y te ty v) (sym (h b)) (answers_after n x e e' y te ty b s d ch ch' told came k f q m m' history)
 channel_step n x e e' y te ty b s d ch ch' told write came k f q (call_comes parts c ready m' same h) =
     subst (λ (v : Book). KeptAt n x e' y te ty v) (sym (h b)) (comes_after n x e e' y te ty b s d ch ch' told came k f q parts c ready m' same)
 channel_step n x e e' y te ty b s d ch ch' told write came k f q (collides parts c role own m' same h) =

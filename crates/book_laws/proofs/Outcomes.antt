@@ -1,4 +1,4 @@
--- What a step of one channel comes to for its call, its story and the book.
+-- What a step of one channel comes to for its call, its history and the book.
 use Rattle.std.specs.Prelude.{◌≡◌, ◌≢◌, ℕ, zero, suc, ◌+◌, Bool, true, false, cond, not, ◌==◌, List, [], ◌∷◌, ◌++◌, length, map, Option, Some, None}
 use Rattle.std.proofs.Common.{inl, inr, refl, sym, ap, ◌∙◌, arith}
 use Rattle.std.proofs.lemmas.Option.{none-some}
@@ -15,49 +15,49 @@ use Rattle.packet_layer.specs.Traffic.Taken.{TakenInterrupt, TakenPacket}
 use Rattle.packet_layer.specs.Channel.{CallState, Channel, Request, Refusal, received, received_in, after_heard, in_own_reset, in_flow_ready, carried_out, refusal, refused_if, may_accept, in_transfer}
 use Rattle.packet_layer.specs.Channel.Request.{Accept, Clearing, Resetting, Sending, Interrupting, Stopping, Taking, Releasing, Confirming}
 use Rattle.packet_layer.specs.Channel.CallState.{Ready, OwnWaiting, FarWaiting, Transfer, Collision, OwnClear}
-use Rattle.packet_laws.specs.History.{Epoch, Story, opened, heard_story, received_story, grown, logged, logged_heard, with_taken, call_accepted, next_use_of, next_epoch_of}
+use Rattle.packet_laws.specs.History.{Epoch, History, opened, heard_history, received_history, grown, logged, logged_heard, with_taken, call_accepted, next_use_of, next_epoch_of}
 use Rattle.call_records.specs.Records.{RecordValue, with_sent, with_interrupt_sent, with_interrupt_taken, with_released, with_covered, with_epoch, changed_at}
 use Rattle.call_records.specs.Records as records
 use Rattle.call_records.specs.Book.{Book, slot_at, with_change, changed, answers, closes, packet_of, all_told}
 use Rattle.call_records.specs.Book as book
 use Rattle.book_laws.specs.Told.{carried}
-use Rattle.book_laws.proofs.Scenes.{HasEpochs, sent_of, taken_of, Passed, passed_sent, passed_taken, nth_sent, nth_taken, all_sent, all_taken}
-use Rattle.book_laws.proofs.Scenes.Mood.{Idle, OwnCall, FarCall, Open}
+use Rattle.book_laws.proofs.Invariant.{HasEpochs, sent_of, taken_of, Passed, passed_sent, passed_taken, nth_sent, nth_taken, all_sent, all_taken}
+use Rattle.book_laws.proofs.Invariant.CallStatus.{Idle, OwnCall, FarCall, Open}
 use Rattle.book_laws.proofs.Carrying.{SameHead}
 use Rattle.book_laws.proofs.Ending.{Further}
-use Rattle.book_laws.proofs.Faces.{mood_of, StoryGrows}
-use Rattle.book_laws.proofs.Steps.{SameStory, story_refl}
-use Rattle.book_laws.proofs.Stories.{grown_cases, grown_keeps}
+use Rattle.book_laws.proofs.EndSteps.{status_of, HistoryGrows}
+use Rattle.book_laws.proofs.Steps.{SameHistory, history_refl}
+use Rattle.book_laws.proofs.Histories.{grown_cases, grown_keeps}
 use Rattle.book_laws.proofs.Basics.{length_pushed}
 
 -- ---- what a step comes to
 
-pub record EndsUse (st st' : Story) : Type 0 where
+pub record EndsUse (st st' : History) : Type 0 where
   pub further : Further st st'
   pub epochs : (r u g : ℕ) → st'.epochs r u g ≡ st.epochs r u g
 
--- a record has what a story has in the present use of another one
-pub record TellsIn (z st : Story) (r : RecordValue) : Type 0 where
+-- a record has what a history has in the present use of another one
+pub record TellsIn (z st : History) (r : RecordValue) : Type 0 where
   pub sent : (g : ℕ) → nth_sent (all_sent r) g ≡ sent_of (z.epochs st.restart st.use_ g)
   pub taken : (g : ℕ) → nth_taken (all_taken r) g ≡ taken_of (z.epochs st.restart st.use_ g)
 
-pub record RecordGrows (st st' : Story) (r r' : RecordValue) : Type 0 where
+pub record RecordGrows (st st' : History) (r r' : RecordValue) : Type 0 where
   pub head : SameHead r r'
   pub tells : TellsIn st st r → HasEpochs r st.epoch → TellsIn st' st r'
   pub epochs : HasEpochs r st.epoch → HasEpochs r' st'.epoch
 
-pub data Outcome (x : Role) (d : ℕ) (ch ch' : Channel) (told : Story → Story) (write : Book → Book) (came : CallParts → Type 0) : Type 0 where
-  stays : mood_of x ch'.state ≡ mood_of x ch.state → ((st : Story) → SameStory st (told st)) → ((b : Book) → write b ≡ b) → Outcome x d ch ch' told write came
-  ends : mood_of x ch'.state ≡ Idle → ((st : Story) → EndsUse st (told st)) → ((b : Book) → write b ≡ closes x d b) → Outcome x d ch ch' told write came
-  ends_none : mood_of x ch.state ≡ Idle → mood_of x ch'.state ≡ Idle → ((st : Story) → EndsUse st (told st)) → ((b : Book) → write b ≡ b) → Outcome x d ch ch' told write came
-  goes : (change : RecordValue → RecordValue) → mood_of x ch.state ≡ Open → mood_of x ch'.state ≡ Open → ((st : Story) → StoryGrows st (told st)) → ((st : Story) (r : RecordValue) → RecordGrows st (told st) r (change r))
+pub data Outcome (x : Role) (d : ℕ) (ch ch' : Channel) (told : History → History) (write : Book → Book) (came : CallParts → Type 0) : Type 0 where
+  stays : status_of x ch'.state ≡ status_of x ch.state → ((st : History) → SameHistory st (told st)) → ((b : Book) → write b ≡ b) → Outcome x d ch ch' told write came
+  ends : status_of x ch'.state ≡ Idle → ((st : History) → EndsUse st (told st)) → ((b : Book) → write b ≡ closes x d b) → Outcome x d ch ch' told write came
+  ends_none : status_of x ch.state ≡ Idle → status_of x ch'.state ≡ Idle → ((st : History) → EndsUse st (told st)) → ((b : Book) → write b ≡ b) → Outcome x d ch ch' told write came
+  goes : (change : RecordValue → RecordValue) → status_of x ch.state ≡ Open → status_of x ch'.state ≡ Open → ((st : History) → HistoryGrows st (told st)) → ((st : History) (r : RecordValue) → RecordGrows st (told st) r (change r))
       → ((b : Book) → write b ≡ changed x d change b) → Outcome x d ch ch' told write came
-  connects : mood_of x ch.state ≡ OwnCall → mood_of x ch'.state ≡ Open → ((st : Story) → SameStory st (told st)) → ((b : Book) → write b ≡ b) → Outcome x d ch ch' told write came
-  accepts : mood_of x ch.state ≡ FarCall → mood_of x ch'.state ≡ Open → ((st : Story) → told st ≡ call_accepted st) → ((b : Book) → write b ≡ answers x d b) → Outcome x d ch ch' told write came
-  comes : (parts : CallParts) → came parts → ch.state ≡ Ready → mood_of x ch'.state ≡ FarCall → ((st : Story) → SameStory st (told st)) → ((b : Book) → write b ≡ book.comes x d parts b) → Outcome x d ch ch' told write came
-  collides : (parts : CallParts) → came parts → x ≡ Dce → ch.state ≡ OwnWaiting → mood_of x ch'.state ≡ FarCall → ((st : Story) → SameStory st (told st)) → ((b : Book) → write b ≡ book.comes x d parts (closes x d b)) → Outcome x d ch ch' told write came
+  connects : status_of x ch.state ≡ OwnCall → status_of x ch'.state ≡ Open → ((st : History) → SameHistory st (told st)) → ((b : Book) → write b ≡ b) → Outcome x d ch ch' told write came
+  accepts : status_of x ch.state ≡ FarCall → status_of x ch'.state ≡ Open → ((st : History) → told st ≡ call_accepted st) → ((b : Book) → write b ≡ answers x d b) → Outcome x d ch ch' told write came
+  comes : (parts : CallParts) → came parts → ch.state ≡ Ready → status_of x ch'.state ≡ FarCall → ((st : History) → SameHistory st (told st)) → ((b : Book) → write b ≡ book.comes x d parts b) → Outcome x d ch ch' told write came
+  collides : (parts : CallParts) → came parts → x ≡ Dce → ch.state ≡ OwnWaiting → status_of x ch'.state ≡ FarCall → ((st : History) → SameHistory st (told st)) → ((b : Book) → write b ≡ book.comes x d parts (closes x d b)) → Outcome x d ch ch' told write came
 
-pub next_use : (st : Story) → EndsUse st (next_use_of st)
+pub next_use : (st : History) → EndsUse st (next_use_of st)
 next_use st = record { further = inr (refl, omega arith); epochs = λ r u g. refl }
 
 -- ---- lists of epochs
@@ -100,13 +100,13 @@ same_head : (r : RecordValue) → SameHead r r
 same_head r = record { number = refl; node = refl; own = refl; far = refl }
 
 -- a reset opens an epoch
-pub record OpensEpoch (st st' : Story) : Type 0 where
+pub record OpensEpoch (st st' : History) : Type 0 where
   pub restart : st'.restart ≡ st.restart
   pub uses : st'.use_ ≡ st.use_
   pub epoch : st'.epoch ≡ suc st.epoch
   pub epochs : (r u g : ℕ) → st'.epochs r u g ≡ st.epochs r u g
 
-opens_grows : (st st' : Story) → OpensEpoch st st' → StoryGrows st st'
+opens_grows : (st st' : History) → OpensEpoch st st' → HistoryGrows st st'
 opens_grows st st' o = record {
   restart = o.restart;
   uses = o.uses;
@@ -114,7 +114,7 @@ opens_grows st st' o = record {
   logs = λ r u g h. o.epochs r u g;
 }
 
-opens_record : (st st' : Story) (r : RecordValue) → OpensEpoch st st' → RecordGrows st st' r (with_epoch r)
+opens_record : (st st' : History) (r : RecordValue) → OpensEpoch st st' → RecordGrows st st' r (with_epoch r)
 opens_record st st' r o = record {
   head = record { number = refl; node = refl; own = refl; far = refl };
   tells = λ t h. record {
@@ -127,7 +127,7 @@ opens_record st st' r o = record {
   };
 }
 
-pub opens : (st : Story) → OpensEpoch st (next_epoch_of st)
+pub opens : (st : History) → OpensEpoch st (next_epoch_of st)
 opens st = record { restart = refl; uses = refl; epoch = omega arith; epochs = λ r u g. refl }
 
 -- what is sent or taken in the present epoch
@@ -140,7 +140,7 @@ pub record GrowsBy (f : Epoch → Epoch) (change : RecordValue → RecordValue) 
   pub sent : (r : RecordValue) (e : Epoch) → passed_sent r.sent ≡ sent_of e → passed_sent (change r).sent ≡ sent_of (f e)
   pub taken : (r : RecordValue) (e : Epoch) → passed_taken r.taken ≡ taken_of e → passed_taken (change r).taken ≡ taken_of (f e)
 
-grown_grows : (f : Epoch → Epoch) (change : RecordValue → RecordValue) → GrowsBy f change → (st : Story) → StoryGrows st (grown f st)
+grown_grows : (f : Epoch → Epoch) (change : RecordValue → RecordValue) → GrowsBy f change → (st : History) → HistoryGrows st (grown f st)
 grown_grows f change q st = record {
   restart = refl;
   uses = refl;
@@ -151,7 +151,7 @@ grown_grows f change q st = record {
   ];
 }
 
-grown_sent : (f : Epoch → Epoch) (change : RecordValue → RecordValue) → GrowsBy f change → (st : Story) (r : RecordValue) → TellsIn st st r → HasEpochs r st.epoch → (g : ℕ) → nth_sent (all_sent (change r)) g ≡ sent_of ((grown f st).epochs st.restart st.use_ g)
+grown_sent : (f : Epoch → Epoch) (change : RecordValue → RecordValue) → GrowsBy f change → (st : History) (r : RecordValue) → TellsIn st st r → HasEpochs r st.epoch → (g : ℕ) → nth_sent (all_sent (change r)) g ≡ sent_of ((grown f st).epochs st.restart st.use_ g)
 grown_sent f change q st r t h g =
     elim (grown_cases f st st.restart st.use_ g) [
       | inl a ↦
@@ -164,7 +164,7 @@ grown_sent f change q st r t h g =
           ap (λ (l : List SentEpoch). nth_sent (l ++ (change r).sent ∷ []) g) (q.sent_before r) ∙ nth_else r.sent_before (change r).sent r.sent g other ∙ t.sent g ∙ ap sent_of (sym a.1)
     ]
 
-grown_taken : (f : Epoch → Epoch) (change : RecordValue → RecordValue) → GrowsBy f change → (st : Story) (r : RecordValue) → TellsIn st st r → HasEpochs r st.epoch → (g : ℕ) → nth_taken (all_taken (change r)) g ≡ taken_of ((grown f st).epochs st.restart st.use_ g)
+grown_taken : (f : Epoch → Epoch) (change : RecordValue → RecordValue) → GrowsBy f change → (st : History) (r : RecordValue) → TellsIn st st r → HasEpochs r st.epoch → (g : ℕ) → nth_taken (all_taken (change r)) g ≡ taken_of ((grown f st).epochs st.restart st.use_ g)
 grown_taken f change q st r t h g =
     elim (grown_cases f st st.restart st.use_ g) [
       | inl a ↦
@@ -177,7 +177,7 @@ grown_taken f change q st r t h g =
           ap (λ (l : List TakenEpoch). nth_taken (l ++ (change r).taken ∷ []) g) (q.taken_before r) ∙ nth_else_taken r.taken_before (change r).taken r.taken g other ∙ t.taken g ∙ ap taken_of (sym a.1)
     ]
 
-grown_record : (f : Epoch → Epoch) (change : RecordValue → RecordValue) → GrowsBy f change → (st : Story) (r : RecordValue) → RecordGrows st (grown f st) r (change r)
+grown_record : (f : Epoch → Epoch) (change : RecordValue → RecordValue) → GrowsBy f change → (st : History) (r : RecordValue) → RecordGrows st (grown f st) r (change r)
 grown_record f change q st r = record {
   head = q.head r;
   tells = λ t h. record { sent = grown_sent f change q st r t h; taken = grown_taken f change q st r t h };
@@ -185,7 +185,7 @@ grown_record f change q st r = record {
 }
 
 -- a growth by nothing
-grown_same : (f : Epoch → Epoch) → ((e : Epoch) → f e ≡ e) → (st : Story) → SameStory st (grown f st)
+grown_same : (f : Epoch → Epoch) → ((e : Epoch) → f e ≡ e) → (st : History) → SameHistory st (grown f st)
 grown_same f h st = record { restart = refl; uses = refl; epoch = refl; epochs = grown_keeps (λ e. e) f st h }
 
 map_pushed : (ds : List Datum) (d : Datum) → map packet_of (ds ++ d ∷ []) ≡ map packet_of ds ++ packet_of d ∷ []
@@ -294,20 +294,20 @@ unchanged (Some n) b = ap (λ (l : List RecordValue). record b { records = l }) 
 -- ---- a packet that comes in
 
 abbrev Got : CallState → Role → ℕ → ℕ → Channel → Body → Type 0
-Got s x w d ch body = Outcome x d ch (received_in s x w d ch body).channel (λ st. opened (received_in s x w d ch body).owes (heard_story s ch.resetting (hears w ch.traffic body) st))
+Got s x w d ch body = Outcome x d ch (received_in s x w d ch body).channel (λ st. opened (received_in s x w d ch body).owes (heard_history s ch.resetting (hears w ch.traffic body) st))
     (λ b. all_told x (received_in s x w d ch body).notes b) (λ parts. body ≡ Call parts)
 
 got_ready : (x : Role) (w d : ℕ) (ch : Channel) → ch.state ≡ Ready → (body : Body) → Got Ready x w d ch body
-got_ready x w d ch e (Call parts) = comes parts refl e refl (λ st. story_refl st) (λ b. refl)
-got_ready x w d ch e (Clear cause diagnostic) = ends_none (ap (mood_of x) e) (ap (mood_of x) e) next_use (λ b. refl)
-got_ready x w d ch e body = ends_none (ap (mood_of x) e) refl next_use (λ b. refl)
+got_ready x w d ch e (Call parts) = comes parts refl e refl (λ st. history_refl st) (λ b. refl)
+got_ready x w d ch e (Clear cause diagnostic) = ends_none (ap (status_of x) e) (ap (status_of x) e) next_use (λ b. refl)
+got_ready x w d ch e body = ends_none (ap (status_of x) e) refl next_use (λ b. refl)
 
 got_call : (x : Role) (w d : ℕ) (ch : Channel) → ch.state ≡ OwnWaiting → (parts : CallParts) → Got OwnWaiting x w d ch (Call parts)
-got_call Dte w d ch e parts = stays (sym (ap (mood_of Dte) e)) (λ st. story_refl st) (λ b. refl)
-got_call Dce w d ch e parts = collides parts refl refl e refl (λ st. story_refl st) (λ b. refl)
+got_call Dte w d ch e parts = stays (sym (ap (status_of Dte) e)) (λ st. history_refl st) (λ b. refl)
+got_call Dce w d ch e parts = collides parts refl refl e refl (λ st. history_refl st) (λ b. refl)
 
 got_own_waiting : (x : Role) (w d : ℕ) (ch : Channel) → ch.state ≡ OwnWaiting → (body : Body) → Got OwnWaiting x w d ch body
-got_own_waiting x w d ch e Accepted = connects (ap (mood_of x) e) refl (λ st. story_refl st) (λ b. refl)
+got_own_waiting x w d ch e Accepted = connects (ap (status_of x) e) refl (λ st. history_refl st) (λ b. refl)
 got_own_waiting x w d ch e (Call parts) = got_call x w d ch e parts
 got_own_waiting x w d ch e (Clear cause diagnostic) = ends refl next_use (λ b. refl)
 got_own_waiting x w d ch e body = ends refl next_use (λ b. refl)
@@ -317,53 +317,53 @@ got_far_waiting x w d ch (Clear cause diagnostic) = ends refl next_use (λ b. re
 got_far_waiting x w d ch body = ends refl next_use (λ b. refl)
 
 got_collision : (x : Role) (w d : ℕ) (ch : Channel) → ch.state ≡ Collision → (body : Body) → Got Collision x w d ch body
-got_collision Dte w d ch e Accepted = connects (ap (mood_of Dte) e) refl (λ st. story_refl st) (λ b. refl)
+got_collision Dte w d ch e Accepted = connects (ap (status_of Dte) e) refl (λ st. history_refl st) (λ b. refl)
 got_collision Dte w d ch e (Clear cause diagnostic) = ends refl next_use (λ b. refl)
 got_collision Dte w d ch e body = ends refl next_use (λ b. refl)
 got_collision Dce w d ch e (Clear cause diagnostic) = ends refl next_use (λ b. refl)
 got_collision Dce w d ch e body = ends refl next_use (λ b. refl)
 
 got_own_clear : (x : Role) (w d : ℕ) (ch : Channel) → ch.state ≡ OwnClear → (body : Body) → Got OwnClear x w d ch body
-got_own_clear x w d ch e (Clear cause diagnostic) = stays (sym (ap (mood_of x) e)) (λ st. story_refl st) (λ b. refl)
-got_own_clear x w d ch e ClearConfirmation = stays (sym (ap (mood_of x) e)) (λ st. story_refl st) (λ b. refl)
-got_own_clear x w d ch e body = stays refl (λ st. story_refl st) (λ b. refl)
+got_own_clear x w d ch e (Clear cause diagnostic) = stays (sym (ap (status_of x) e)) (λ st. history_refl st) (λ b. refl)
+got_own_clear x w d ch e ClearConfirmation = stays (sym (ap (status_of x) e)) (λ st. history_refl st) (λ b. refl)
+got_own_clear x w d ch e body = stays refl (λ st. history_refl st) (λ b. refl)
 
 -- in data transfer
 abbrev GotIn : Bool → Role → ℕ → ℕ → Channel → Body → Type 0
 GotIn v x w d ch body = Outcome x d ch (cond v (in_own_reset x d ch body) (in_flow_ready x w d ch body)).channel
-    (λ st. opened (cond v (in_own_reset x d ch body) (in_flow_ready x w d ch body)).owes (heard_story Transfer v (hears w ch.traffic body) st))
+    (λ st. opened (cond v (in_own_reset x d ch body) (in_flow_ready x w d ch body)).owes (heard_history Transfer v (hears w ch.traffic body) st))
     (λ b. all_told x (cond v (in_own_reset x d ch body) (in_flow_ready x w d ch body)).notes b) (λ parts. body ≡ Call parts)
 
 got_resetting : (x : Role) (w d : ℕ) (ch : Channel) → (body : Body) → GotIn true x w d ch body
 got_resetting x w d ch (Clear cause diagnostic) = ends refl next_use (λ b. refl)
-got_resetting x w d ch (Reset cause diagnostic) = stays refl (λ st. story_refl st) (λ b. refl)
-got_resetting x w d ch ResetConfirmation = stays refl (λ st. story_refl st) (λ b. refl)
-got_resetting x w d ch (Data send receive datum) = stays refl (λ st. story_refl st) (λ b. refl)
-got_resetting x w d ch (ReceiveReady receive) = stays refl (λ st. story_refl st) (λ b. refl)
-got_resetting x w d ch (ReceiveNotReady receive) = stays refl (λ st. story_refl st) (λ b. refl)
-got_resetting x w d ch (Interrupt octets) = stays refl (λ st. story_refl st) (λ b. refl)
-got_resetting x w d ch InterruptConfirmation = stays refl (λ st. story_refl st) (λ b. refl)
+got_resetting x w d ch (Reset cause diagnostic) = stays refl (λ st. history_refl st) (λ b. refl)
+got_resetting x w d ch ResetConfirmation = stays refl (λ st. history_refl st) (λ b. refl)
+got_resetting x w d ch (Data send receive datum) = stays refl (λ st. history_refl st) (λ b. refl)
+got_resetting x w d ch (ReceiveReady receive) = stays refl (λ st. history_refl st) (λ b. refl)
+got_resetting x w d ch (ReceiveNotReady receive) = stays refl (λ st. history_refl st) (λ b. refl)
+got_resetting x w d ch (Interrupt octets) = stays refl (λ st. history_refl st) (λ b. refl)
+got_resetting x w d ch InterruptConfirmation = stays refl (λ st. history_refl st) (λ b. refl)
 got_resetting x w d ch body = ends refl next_use (λ b. refl)
 
 -- a reset, by either end
-resets : (x : Role) (d : ℕ) (ch ch' : Channel) (write : Book → Book) (came : CallParts → Type 0) → mood_of x ch.state ≡ Open → mood_of x ch'.state ≡ Open → ((b : Book) → write b ≡ changed x d with_epoch b)
+resets : (x : Role) (d : ℕ) (ch ch' : Channel) (write : Book → Book) (came : CallParts → Type 0) → status_of x ch.state ≡ Open → status_of x ch'.state ≡ Open → ((b : Book) → write b ≡ changed x d with_epoch b)
     → Outcome x d ch ch' (λ st. next_epoch_of st) write came
 resets x d ch ch' write came e f h = goes with_epoch e f (λ st. opens_grows st (next_epoch_of st) (opens st)) (λ st r. opens_record st (next_epoch_of st) r (opens st)) h
 
-got_keeps : (v : Bool) (x : Role) (d n : ℕ) (ch : Channel) (t : Traffic) (came : CallParts → Type 0) → mood_of x ch.state ≡ Open
+got_keeps : (v : Bool) (x : Role) (d n : ℕ) (ch : Channel) (t : Traffic) (came : CallParts → Type 0) → status_of x ch.state ≡ Open
     → Outcome x d ch (record ch { traffic = t }) (λ st. grown (λ e. logged_heard (Keeps n t) e) st) (λ b. all_told x (cond v [] (Covered d n ∷ [])) b) came
 got_keeps true x d n ch t came e = goes (λ r. r) e e (grown_grows (λ z. record z { covered = z.covered + n }) (λ r. r) (by_covering_none n)) (grown_record (λ z. record z { covered = z.covered + n }) (λ r. r) (by_covering_none n))
     (λ b. unchanged (slot_at x d b).present b)
 got_keeps false x d n ch t came e = goes (λ r. with_covered n r) e e (grown_grows (λ z. record z { covered = z.covered + n }) (λ r. with_covered n r) (by_covering n)) (grown_record (λ z. record z { covered = z.covered + n }) (λ r. with_covered n r) (by_covering n))
     (λ b. refl)
 
-got_heard : (x : Role) (d : ℕ) (ch : Channel) (came : CallParts → Type 0) → mood_of x ch.state ≡ Open → (h : Heard)
-    → Outcome x d ch (after_heard x d ch h).channel (λ st. opened (after_heard x d ch h).owes (heard_story Transfer false h st)) (λ b. all_told x (after_heard x d ch h).notes b) came
+got_heard : (x : Role) (d : ℕ) (ch : Channel) (came : CallParts → Type 0) → status_of x ch.state ≡ Open → (h : Heard)
+    → Outcome x d ch (after_heard x d ch h).channel (λ st. opened (after_heard x d ch h).owes (heard_history Transfer false h st)) (λ b. all_told x (after_heard x d ch h).notes b) came
 got_heard x d ch came e (Keeps n t) = got_keeps (n == 0) x d n ch t came e
 got_heard x d ch came e (Confirms t) = stays refl (grown_same (λ z. z) (λ z. refl)) (λ b. refl)
 got_heard x d ch came e (Wrong diagnostic) = resets x d ch (record ch { resetting = true; traffic = Rattle.packet_layer.specs.Traffic.fresh }) (λ b. all_told x (after_heard x d ch (Wrong diagnostic)).notes b) came e e (λ b. refl)
 
-got_ready_flow : (x : Role) (w d : ℕ) (ch : Channel) → mood_of x ch.state ≡ Open → (body : Body) → GotIn false x w d ch body
+got_ready_flow : (x : Role) (w d : ℕ) (ch : Channel) → status_of x ch.state ≡ Open → (body : Body) → GotIn false x w d ch body
 got_ready_flow x w d ch e (Clear cause diagnostic) = ends refl next_use (λ b. refl)
 got_ready_flow x w d ch e (Reset cause diagnostic) = resets x d ch (in_flow_ready x w d ch (Reset cause diagnostic)).channel (λ b. all_told x (in_flow_ready x w d ch (Reset cause diagnostic)).notes b) (λ parts. Reset cause diagnostic ≡ Call parts) e e (λ b. refl)
 got_ready_flow x w d ch e ResetConfirmation = resets x d ch (in_flow_ready x w d ch ResetConfirmation).channel (λ b. all_told x (in_flow_ready x w d ch ResetConfirmation).notes b) (λ parts. ResetConfirmation ≡ Call parts) e e (λ b. refl)
@@ -374,7 +374,7 @@ got_ready_flow x w d ch e (Interrupt octets) = got_heard x d ch (λ parts. Inter
 got_ready_flow x w d ch e InterruptConfirmation = got_heard x d ch (λ parts. InterruptConfirmation ≡ Call parts) e (hears w ch.traffic InterruptConfirmation)
 got_ready_flow x w d ch e body = ends refl next_use (λ b. refl)
 
-got_transfer : (v : Bool) (x : Role) (w d : ℕ) (ch : Channel) → mood_of x ch.state ≡ Open → (body : Body) → GotIn v x w d ch body
+got_transfer : (v : Bool) (x : Role) (w d : ℕ) (ch : Channel) → status_of x ch.state ≡ Open → (body : Body) → GotIn v x w d ch body
 got_transfer true x w d ch e body = got_resetting x w d ch body
 got_transfer false x w d ch e body = got_ready_flow x w d ch e body
 
@@ -382,17 +382,17 @@ got_by : (s : CallState) (x : Role) (w d : ℕ) (ch : Channel) → ch.state ≡ 
 got_by Ready x w d ch e body = got_ready x w d ch e body
 got_by OwnWaiting x w d ch e body = got_own_waiting x w d ch e body
 got_by FarWaiting x w d ch e body = got_far_waiting x w d ch body
-got_by Transfer x w d ch e body = got_transfer ch.resetting x w d ch (ap (mood_of x) e) body
+got_by Transfer x w d ch e body = got_transfer ch.resetting x w d ch (ap (status_of x) e) body
 got_by Collision x w d ch e body = got_collision x w d ch e body
 got_by OwnClear x w d ch e body = got_own_clear x w d ch e body
 
 pub received_outcome : (x : Role) (w d : ℕ) (ch : Channel) (body : Body)
-    → Outcome x d ch (received x w d ch body).channel (λ st. received_story x w d ch body st) (λ b. all_told x (received x w d ch body).notes b) (λ parts. body ≡ Call parts)
+    → Outcome x d ch (received x w d ch body).channel (λ st. received_history x w d ch body st) (λ b. all_told x (received x w d ch body).notes b) (λ parts. body ≡ Call parts)
 received_outcome x w d ch body = got_by ch.state x w d ch refl body
 
 -- ---- a request
 
-transfer_of : (s : CallState) (more : Option Refusal) (x : Role) → refused_if (not (in_transfer s)) Refusal.NoCall more ≡ None → mood_of x s ≡ Open
+transfer_of : (s : CallState) (more : Option Refusal) (x : Role) → refused_if (not (in_transfer s)) Refusal.NoCall more ≡ None → status_of x s ≡ Open
 transfer_of Transfer more x e = refl
 transfer_of Ready more x e = absurd (none-some Refusal.NoCall (sym e))
 transfer_of OwnWaiting more x e = absurd (none-some Refusal.NoCall (sym e))
@@ -400,7 +400,7 @@ transfer_of FarWaiting more x e = absurd (none-some Refusal.NoCall (sym e))
 transfer_of Collision more x e = absurd (none-some Refusal.NoCall (sym e))
 transfer_of OwnClear more x e = absurd (none-some Refusal.NoCall (sym e))
 
-accept_of : (x : Role) (s : CallState) → refused_if (not (may_accept x s)) Refusal.NoCall None ≡ None → mood_of x s ≡ FarCall
+accept_of : (x : Role) (s : CallState) → refused_if (not (may_accept x s)) Refusal.NoCall None ≡ None → status_of x s ≡ FarCall
 accept_of x FarWaiting e = refl
 accept_of Dce Collision e = refl
 accept_of Dte Collision e = absurd (none-some Refusal.NoCall (sym e))
@@ -410,17 +410,17 @@ accept_of x Transfer e = absurd (none-some Refusal.NoCall (sym e))
 accept_of x OwnClear e = absurd (none-some Refusal.NoCall (sym e))
 
 -- the epoch opened after a growth by nothing
-opens_after : (st : Story) → OpensEpoch st (next_epoch_of (grown (λ e. e) st))
+opens_after : (st : History) → OpensEpoch st (next_epoch_of (grown (λ e. e) st))
 opens_after st = record { restart = refl; uses = refl; epoch = omega arith; epochs = grown_keeps (λ e. e) (λ e. e) st (λ e. refl) }
 
-ends_after : (st : Story) → EndsUse st (next_use_of (grown (λ e. e) st))
+ends_after : (st : History) → EndsUse st (next_use_of (grown (λ e. e) st))
 ends_after st = record { further = inr (refl, omega arith); epochs = grown_keeps (λ e. e) (λ e. e) st (λ e. refl) }
 
 abbrev pub NoCalls : CallParts → Type 0
 NoCalls parts = ⊥
 
 -- what was at the front is taken
-asked_taking : (x : Role) (d : ℕ) (ch ch' : Channel) (o : Option Taken) → mood_of x ch.state ≡ Open → mood_of x ch'.state ≡ Open
+asked_taking : (x : Role) (d : ℕ) (ch ch' : Channel) (o : Option Taken) → status_of x ch.state ≡ Open → status_of x ch'.state ≡ Open
     → Outcome x d ch ch' (λ st. grown (λ e. with_taken o e) st) (λ b. book.takes x d o b) NoCalls
 asked_taking x d ch ch' None e f = stays (f ∙ sym e) (grown_same (λ z. z) (λ z. refl)) (λ b. refl)
 asked_taking x d ch ch' (Some (TakenInterrupt octets)) e f =
@@ -430,13 +430,13 @@ asked_taking x d ch ch' (Some (TakenPacket datum)) e f =
     goes (λ r. records.with_taken (packet_of datum) r) e f (grown_grows (λ z. record z { taken = z.taken ++ datum ∷ [] }) (λ r. records.with_taken (packet_of datum) r) (by_taking datum))
     (grown_record (λ z. record z { taken = z.taken ++ datum ∷ [] }) (λ r. records.with_taken (packet_of datum) r) (by_taking datum)) (λ b. refl)
 
--- the story of a request that is not refused
-abbrev story_of : Channel → Request → Story → Story
-story_of ch Accept st = call_accepted st
-story_of ch r st = opened (carried_out ch r).owes (grown (λ e. logged ch.traffic r e) st)
+-- the history of a request that is not refused
+abbrev history_of : Channel → Request → History → History
+history_of ch Accept st = call_accepted st
+history_of ch r st = opened (carried_out ch r).owes (grown (λ e. logged ch.traffic r e) st)
 
 pub asked : (x : Role) (d : ℕ) (ch : Channel) (r : Request) → refusal x ch r ≡ None
-    → Outcome x d ch (carried_out ch r).channel (λ st. story_of ch r st) (λ b. carried x d r (front ch.traffic) b) NoCalls
+    → Outcome x d ch (carried_out ch r).channel (λ st. history_of ch r st) (λ b. carried x d r (front ch.traffic) b) NoCalls
 asked x d ch Accept e = accepts (accept_of x ch.state e) refl (λ st. refl) (λ b. refl)
 asked x d ch (Clearing cause diagnostic) e = ends refl ends_after (λ b. refl)
 asked x d ch (Resetting cause diagnostic) e =

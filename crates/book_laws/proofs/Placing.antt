@@ -12,7 +12,7 @@ use Rattle.packet_layer.specs.Layer as layer
 use Rattle.packet_layer.specs.Layer.{Phase, Layer, Timer, nth_channel, channel_of, with_nth, closing_notes, unread, on_found, after_step, owing, on_timer, expired, runs, runs_at, waits_for_call, waits_for_clear, placing, channel_given, free_channel, link_up, link_down}
 use Rattle.packet_layer.specs.Layer.Phase.{NoSession, OwnRestart, PacketReady}
 use Rattle.packet_layer.specs.Layer.Timer.{RestartTimer, CallTimer, ResetTimer, ClearTimer}
-use Rattle.packet_laws.specs.History.{Epoch, Story, placed, call_story, expired_story, next_restart_of, next_use_of}
+use Rattle.packet_laws.specs.History.{Epoch, History, placed, call_history, expired_history, next_restart_of, next_use_of}
 use Rattle.packet_laws.specs.Law.{InUse, IsUnused}
 use Rattle.packet_laws.specs.Line.{End, begun, may_begin, is_session}
 use Rattle.call_records.specs.Book.{Book, places, closes, with_record, all_told}
@@ -20,19 +20,19 @@ use Rattle.book_laws.specs.Told.{placed_on}
 use Rattle.book_laws.proofs.Basics.{number_is}
 use Rattle.book_laws.proofs.Ending.{Further}
 use Rattle.book_laws.proofs.Writing.{size_trans, size_record, size_slot, SameSize}
-use Rattle.book_laws.proofs.Faces.{mood_of, mood_at, has_come}
-use Rattle.book_laws.proofs.Steps.{story_refl, place_step}
+use Rattle.book_laws.proofs.EndSteps.{status_of, status_at, has_come}
+use Rattle.book_laws.proofs.Steps.{history_refl, place_step}
 use Rattle.book_laws.proofs.Moving.{KeptAt, Facts, begun_now, sized}
 use Rattle.book_laws.proofs.Outcomes.{NoCalls, next_use}
 use Rattle.book_laws.proofs.Outcomes.Outcome.{ends}
 use Rattle.book_laws.proofs.Layers.{put_here, put_else, put_length, in_range, closed_length, told_here, told_else, either_way, free_is}
 use Rattle.book_laws.proofs.Ends.{restart_step, session_step}
-use Rattle.book_laws.proofs.Events.{moved_end, begun_rises, same_end_is, same_rises, on_one, still, else_story, here_story}
+use Rattle.book_laws.proofs.Events.{moved_end, begun_rises, same_end_is, same_rises, on_one, still, else_history, here_history}
 
 -- ---- the user places a call
 
 abbrev pub after_call : End → CallParts → Option ℕ → End
-after_call e parts o = moved_end e (layer.placed_on e.layer parts o) (λ c st. call_story parts o c st) e.accepted
+after_call e parts o = moved_end e (layer.placed_on e.layer parts o) (λ c st. call_history parts o c st) e.accepted
 
 -- the channel is free in r1
 given_is : (l : Layer) (ph : Phase) (d : ℕ) → l.phase ≡ ph → channel_given l ph ≡ Some d → (l.phase ≡ PacketReady) × ((ch : Channel) × (nth_channel l.channels d ≡ Some ch) × (ch.state ≡ Ready))
@@ -44,44 +44,44 @@ places_size : (x : Role) (d : ℕ) (called : List ℕ) (b : Book) → SameSize b
 places_size x d called b = size_trans b (with_record _ b) (places x d called b) (size_record _ b) (size_slot x d _ (with_record _ b))
 
 -- nothing is answered where nothing was called
-not_answered_there : (n : ℕ) (e y : End) (s d : ℕ) → Facts n e y → 1 ≤ d → d ≤ n → IsUnused (e.stories s d) → (v : Bool) → ((y.stories s d).epochs (e.stories s d).restart (e.stories s d).use_ 0).answered ≡ v → v ≡ false
+not_answered_there : (n : ℕ) (e y : End) (s d : ℕ) → Facts n e y → 1 ≤ d → d ≤ n → IsUnused (e.histories s d) → (v : Bool) → ((y.histories s d).epochs (e.histories s d).restart (e.histories s d).use_ 0).answered ≡ v → v ≡ false
 not_answered_there n e y s d facts lo hi u false h = refl
 not_answered_there n e y s d facts lo hi u true h =
-    absurd (true≢false (sym ((facts.answers_there s d lo hi).was_called (e.stories s d).restart (e.stories s d).use_ 0 h) ∙ ap (λ (z : Epoch). is_some z.called) (u.empty 0)))
+    absurd (true≢false (sym ((facts.answers_there s d lo hi).was_called (e.histories s d).restart (e.histories s d).use_ 0 h) ∙ ap (λ (z : Epoch). is_some z.called) (u.empty 0)))
 
 call_on : (n : ℕ) (e y : End) (te ty : ℕ) (b : Book) (parts : CallParts) (d : ℕ) (ch : Channel) (found_ : Option Channel) → KeptAt n e.layer.role e y te ty b → Facts n e y → parts.calling ≡ [] → e.layer.phase ≡ PacketReady → channel_of e.layer d ≡ found_ → found_ ≡ Some ch → ch.state ≡ Ready
-    → KeptAt n e.layer.role (moved_end e (on_found e.layer d (λ z. placing parts z) found_) (λ c st. call_story parts (Some d) c st) e.accepted) y te ty (places e.layer.role d parts.called b)
+    → KeptAt n e.layer.role (moved_end e (on_found e.layer d (λ z. placing parts z) found_) (λ c st. call_history parts (Some d) c st) e.accepted) y te ty (places e.layer.role d parts.called b)
 call_on n e y te ty b parts d ch None k facts calling phase f is ready = absurd (none-some ch is)
 call_on n e y te ty b parts d ch0 (Some ch) k facts calling phase found is0 ready0 =
     let x : Role = e.layer.role in
     let ready : ch.state ≡ Ready = ap (λ (z : Channel). z.state) (same_Some ch ch0 is0) ∙ ready0 in
     let up = k.here.up phase in
     let s : ℕ = up.0 in
-    let e' : End = moved_end e (after_step e.layer d (placing parts ch)) (λ c st. call_story parts (Some d) c st) e.accepted in
+    let e' : End = moved_end e (after_step e.layer d (placing parts ch)) (λ c st. call_history parts (Some d) c st) e.accepted in
     let range = in_range e.layer.channels d ch found in
     let hi : d ≤ n = (let h = range.1 in let c = k.here.count in omega arith) in
     let count : length (with_nth e.layer.channels d (owing (placing parts ch))) ≡ length e.layer.channels = put_length e.layer.channels d (owing (placing parts ch)) in
     let at = facts.here s d range.0 hi in
-    let unused : IsUnused (e.stories s d) = subst (λ (z : CallState). InUse x z (e.stories s d)) ready (at.in_use ch up.1 found) in
+    let unused : IsUnused (e.histories s d) = subst (λ (z : CallState). InUse x z (e.histories s d)) ready (at.in_use ch up.1 found) in
     let r = place_step x e e' y s d te ty parts b k.tags (record {
       on = record {
         session = refl;
         up = up.1;
         begun = begun_rises x e e' (same_rises e) count;
-        mood = λ c h. ap (mood_at x) (put_else e.layer.channels d c (owing (placing parts ch)) h);
+        status = λ c h. ap (status_at x) (put_else e.layer.channels d c (owing (placing parts ch)) h);
         else = λ i c h. elim (number_is i s) [
-          | inl a ↦ subst (λ (j : ℕ). e'.stories j c ≡ e.stories j c) (sym a) (told_here e s c (λ m st. call_story parts (Some d) m st) up.1 ∙ else_story c d (placed parts (e.stories s c)) (e.stories s c) (λ z. h (a, z)))
-          | inr a ↦ told_else e s i c (λ m st. call_story parts (Some d) m st) up.1 a
+          | inl a ↦ subst (λ (j : ℕ). e'.histories j c ≡ e.histories j c) (sym a) (told_here e s c (λ m st. call_history parts (Some d) m st) up.1 ∙ else_history c d (placed parts (e.histories s c)) (e.histories s c) (λ z. h (a, z)))
+          | inr a ↦ told_else e s i c (λ m st. call_history parts (Some d) m st) up.1 a
         ];
       };
-      idle = ap (mood_at x) found ∙ ap (mood_of x) ready;
-      own = ap (mood_at x) (put_here e.layer.channels d ch (owing (placing parts ch)) found);
-      story = told_here e s d (λ m st. call_story parts (Some d) m st) up.1 ∙ here_story d (placed parts (e.stories s d)) (e.stories s d);
+      idle = ap (status_at x) found ∙ ap (status_of x) ready;
+      own = ap (status_at x) (put_here e.layer.channels d ch (owing (placing parts ch)) found);
+      history = told_here e s d (λ m st. call_history parts (Some d) m st) up.1 ∙ here_history d (placed parts (e.histories s d)) (e.histories s d);
       unused = unused;
-      begun_story = at.begun;
+      begun_history = at.begun;
       begun = begun_now x e te n s d k.here.count up.2 range.0 hi;
       calling = calling;
-      not_answered = not_answered_there n e y s d facts range.0 hi unused ((y.stories s d).epochs (e.stories s d).restart (e.stories s d).use_ 0).answered refl;
+      not_answered = not_answered_there n e y s d facts range.0 hi unused ((y.histories s d).epochs (e.histories s d).restart (e.histories s d).use_ 0).answered refl;
       least = range.0;
       most = let h = k.sizes x in omega arith;
     }) k.right in
@@ -96,7 +96,7 @@ call_on n e y te ty b parts d ch0 (Some ch) k facts calling phase found is0 read
 pub calls_given : (n : ℕ) (e y : End) (te ty : ℕ) (b : Book) (parts : CallParts) → KeptAt n e.layer.role e y te ty b → Facts n e y → parts.calling ≡ [] → (o : Option ℕ) → channel_given e.layer e.layer.phase ≡ o
     → KeptAt n e.layer.role (after_call e parts o) y te ty (placed_on e.layer.role o parts b)
 calls_given n e y te ty b parts k facts calling None given =
-    still n e y te ty b e.layer (λ c st. st) e.accepted k (λ c. refl) (λ c st. story_refl st) (same_rises e) refl (same_end_is n e (after_call e parts None) k.here refl (same_rises e) refl refl refl)
+    still n e y te ty b e.layer (λ c st. st) e.accepted k (λ c. refl) (λ c st. history_refl st) (same_rises e) refl (same_end_is n e (after_call e parts None) k.here refl (same_rises e) refl refl refl)
 calls_given n e y te ty b parts k facts calling (Some d) given =
     let g = given_is e.layer e.layer.phase d refl given in
     call_on n e y te ty b parts d g.1.0 (channel_of e.layer d) k facts calling g.0 refl g.1.1 g.1.2
@@ -104,7 +104,7 @@ calls_given n e y te ty b parts k facts calling (Some d) given =
 -- ---- a timer expires
 
 abbrev pub after_timer : End → Timer → Bool → End
-after_timer e t v = moved_end e (cond v (expired (unread e.layer) t) e.layer) (λ c st. cond v (expired_story t c st) st) e.accepted
+after_timer e t v = moved_end e (cond v (expired (unread e.layer) t) e.layer) (λ c st. cond v (expired_history t c st) st) e.accepted
 
 runs_found : (test : Channel → Bool) (ph : Phase) (o : Option Channel) → runs_at test ph o ≡ true → (ph ≡ PacketReady) × ((ch : Channel) × (o ≡ Some ch) × (test ch ≡ true))
 runs_found test PacketReady (Some ch) e = (refl, (ch, refl, e))
@@ -112,7 +112,7 @@ runs_found test PacketReady None e = absurd (true≢false (sym e))
 runs_found test OwnRestart o e = absurd (true≢false (sym e))
 runs_found test NoSession o e = absurd (true≢false (sym e))
 
-next_restart_further : (st : Story) → Further st (next_restart_of st)
+next_restart_further : (st : History) → Further st (next_restart_of st)
 next_restart_further st = inl (omega arith)
 
 -- the timer of a call or of a reset clears it
@@ -122,7 +122,7 @@ clears n e y te ty b d k facts phase None found ch0 is = absurd (none-some ch0 i
 clears n e y te ty b d k facts phase (Some ch) found ch0 is =
     let up = k.here.up phase in
     on_one n e y te ty b up.0 d ch (owing (clear_error e.layer.role d 0 true ch)) (clear_error e.layer.role d 0 true ch).channel (after_step (unread e.layer) d (clear_error e.layer.role d 0 true ch)) (λ c st. cond (c == d) (next_use_of st) st) e.accepted
-    next_use_of (λ v. closes e.layer.role d v) NoCalls k facts up.1 found refl refl refl refl (λ st. here_story d (next_use_of st) st) (λ c st h. else_story c d (next_use_of st) st h) (same_rises e) (λ parts c h. absurd c)
+    next_use_of (λ v. closes e.layer.role d v) NoCalls k facts up.1 found refl refl refl refl (λ st. here_history d (next_use_of st) st) (λ c st h. else_history c d (next_use_of st) st h) (same_rises e) (λ parts c h. absurd c)
     (ends refl next_use (λ v. refl))
 
 abbrev TimerNotes : End → Timer → Bool → List Note
@@ -130,9 +130,9 @@ TimerNotes e t v = cond v (cond v (expired (unread e.layer) t) e.layer).notes []
 
 pub timer_runs : (n : ℕ) (e y : End) (te ty : ℕ) (b : Book) (t : Timer) → KeptAt n e.layer.role e y te ty b → Facts n e y → (v : Bool) → runs e.layer t ≡ v → KeptAt n e.layer.role (after_timer e t v) y te ty (all_told e.layer.role (TimerNotes e t v) b)
 timer_runs n e y te ty b t k facts false r =
-    still n e y te ty b e.layer (λ c st. st) e.accepted k (λ c. refl) (λ c st. story_refl st) (same_rises e) refl (same_end_is n e (after_timer e t false) k.here refl (same_rises e) refl refl refl)
+    still n e y te ty b e.layer (λ c st. st) e.accepted k (λ c. refl) (λ c st. history_refl st) (same_rises e) refl (same_end_is n e (after_timer e t false) k.here refl (same_rises e) refl refl refl)
 timer_runs n e y te ty b RestartTimer k facts true r =
-    still n e y te ty b (expired (unread e.layer) RestartTimer) (λ c st. st) e.accepted k (λ c. refl) (λ c st. story_refl st) (same_rises e) refl (same_end_is n e (after_timer e RestartTimer true) k.here refl (same_rises e) refl refl refl)
+    still n e y te ty b (expired (unread e.layer) RestartTimer) (λ c st. st) e.accepted k (λ c. refl) (λ c st. history_refl st) (same_rises e) refl (same_end_is n e (after_timer e RestartTimer true) k.here refl (same_rises e) refl refl refl)
 timer_runs n e y te ty b (CallTimer d) k facts true r =
     let f = runs_found (λ ch. waits_for_call e.layer.role ch.state) e.layer.phase (channel_of e.layer d) r in
     clears n e y te ty b d k facts f.0 (channel_of e.layer d) refl f.1.0 f.1.1
@@ -144,9 +144,9 @@ timer_runs n e y te ty b (ClearTimer d) k facts true r =
     let count : length e'.layer.channels ≡ length e.layer.channels = closed_length e.layer.channels in
     restart_step n e.layer.role e e' y te ty b LocalFault k (record {
       channels = refl;
-      epochs = λ s c p u g. either_way (λ (z : Story). z.epochs p u g ≡ (e.stories s c).epochs p u g) (is_session e.session s) (next_restart_of (e.stories s c)) (e.stories s c) refl refl;
+      epochs = λ s c p u g. either_way (λ (z : History). z.epochs p u g ≡ (e.histories s c).epochs p u g) (is_session e.session s) (next_restart_of (e.histories s c)) (e.histories s c) refl refl;
       begun = begun_rises e.layer.role e e' (same_rises e) count;
-    }) refl (λ s c up. subst (λ (z : Story). Further (e.stories s c) z) (sym (told_here e s c (λ m st. next_restart_of st) up)) (next_restart_further (e.stories s c)))
+    }) refl (λ s c up. subst (λ (z : History). Further (e.histories s c) z) (sym (told_here e s c (λ m st. next_restart_of st) up)) (next_restart_further (e.histories s c)))
     (record { role = refl; count = count ∙ k.here.count; up = λ p. absurd (not_ready p) })
   where
     not_ready : OwnRestart ≡ PacketReady → ⊥

@@ -9,31 +9,31 @@ use Rattle.link_timers.specs.declared.role.Role.TheVariants.{Dte, Dce}
 use Rattle.link_timers.specs.Role.{other_of}
 use Rattle.packet_layer.specs.Channel.{closed_channel}
 use Rattle.packet_layer.specs.Layer.{nth_channel}
-use Rattle.packet_laws.specs.History.{Epoch, new_story, with_call, with_answer}
-use Rattle.packet_laws.specs.Line.{End, start_end, start_story, no_parts}
+use Rattle.packet_laws.specs.History.{Epoch, new_history, with_call, with_answer}
+use Rattle.packet_laws.specs.Line.{End, start_end, start_history, no_parts}
 use Rattle.call_records.specs.Records.{RecordValue, PairValue, new_record}
 use Rattle.call_records.specs.Book.{Book, Slot, free_slot, slot_at, side_of, nth_slot, new_book, standing_book}
 use Rattle.book_laws.specs.Told.{start}
 use Rattle.book_laws.proofs.Basics.{dte_not_dce}
-use Rattle.book_laws.proofs.Scenes.{Face, Mood, Spot, Tag, shelf_of, IsLive, IsCallee, Stands, Means, Fits, SlotIs, PlacedIs, UpTo, IsPair, IsRight, called_at}
-use Rattle.book_laws.proofs.Scenes.Mood.{Idle}
-use Rattle.book_laws.proofs.Scenes.Kind.{Caller, Callee}
+use Rattle.book_laws.proofs.Invariant.{EndView, CallStatus, ChannelUse, Tag, book_parts, IsLive, IsCallee, Stands, Means, Fits, SlotIs, PlacedIs, UpTo, IsPair, IsRight, called_at}
+use Rattle.book_laws.proofs.Invariant.CallStatus.{Idle}
+use Rattle.book_laws.proofs.Invariant.Kind.{Caller, Callee}
 use Rattle.book_laws.proofs.Cancelling.{caller_not_callee, caller_not_cancelled, callee_not_cancelled}
 use Rattle.book_laws.proofs.Calling.{none_sent, none_taken, callee_number}
-use Rattle.book_laws.proofs.Faces.{mood_at, face_of, faces_of}
-use Rattle.book_laws.proofs.Stories.{in_use_cases, in_use_keeps}
+use Rattle.book_laws.proofs.EndSteps.{status_at, view_of, views_of}
+use Rattle.book_laws.proofs.Histories.{in_use_cases, in_use_keeps}
 use Rattle.book_laws.proofs.Moving.{KeptAt}
 use Rattle.book_laws.proofs.Placing.{no_session_not_ready}
 use Rattle.book_laws.proofs.Lines.{KeptIn}
 
 -- ---- free channels
 
-idle_at : (x : Role) (n i : ℕ) → mood_at x (slice_get (replicate n closed_channel) i) ≡ Idle
+idle_at : (x : Role) (n i : ℕ) → status_at x (slice_get (replicate n closed_channel) i) ≡ Idle
 idle_at x zero i = refl
 idle_at x (suc n) zero = refl
 idle_at x (suc n) (suc i) = idle_at x n i
 
-idle_all : (x : Role) (n c : ℕ) → mood_at x (nth_channel (replicate n closed_channel) c) ≡ Idle
+idle_all : (x : Role) (n c : ℕ) → status_at x (nth_channel (replicate n closed_channel) c) ≡ Idle
 idle_all x n zero = refl
 idle_all x n (suc i) = idle_at x n i
 
@@ -60,19 +60,19 @@ module _ (a b n window : ℕ) where
   abbrev you : End
   you = start_end Dce n window false
 
-  down_slot : (x : Role) (c : ℕ) → SlotIs ((faces_of Dte me you 0 0 x).mood c) (faces_of Dte me you 0 0 x) [] x c (slot_at x c (new_book a b n))
-  down_slot Dte c = subst (λ (m : Mood). SlotIs m (face_of Dte me 0) [] Dte c (slot_at Dte c (new_book a b n))) (sym (idle_all Dte n c)) (ap (λ (z : Slot). z.present) (free_all n c))
-  down_slot Dce c = subst (λ (m : Mood). SlotIs m (face_of Dce you 0) [] Dce c (slot_at Dce c (new_book a b n))) (sym (idle_all Dce n c)) (ap (λ (z : Slot). z.present) (free_all n c))
+  down_slot : (x : Role) (c : ℕ) → SlotIs ((views_of Dte me you 0 0 x).status c) (views_of Dte me you 0 0 x) [] x c (slot_at x c (new_book a b n))
+  down_slot Dte c = subst (λ (m : CallStatus). SlotIs m (view_of Dte me 0) [] Dte c (slot_at Dte c (new_book a b n))) (sym (idle_all Dte n c)) (ap (λ (z : Slot). z.present) (free_all n c))
+  down_slot Dce c = subst (λ (m : CallStatus). SlotIs m (view_of Dce you 0) [] Dce c (slot_at Dce c (new_book a b n))) (sym (idle_all Dce n c)) (ap (λ (z : Slot). z.present) (free_all n c))
 
-  down_placed : (x : Role) (c : ℕ) → PlacedIs (slot_at x c (new_book a b n)).placed (faces_of Dte me you 0 0 x) [] x c
-  down_placed Dte c = subst (λ (z : Slot). PlacedIs z.placed (face_of Dte me 0) [] Dte c) (sym (free_all n c)) (λ k e. refl)
-  down_placed Dce c = subst (λ (z : Slot). PlacedIs z.placed (face_of Dce you 0) [] Dce c) (sym (free_all n c)) (λ k e. refl)
+  down_placed : (x : Role) (c : ℕ) → PlacedIs (slot_at x c (new_book a b n)).placed (views_of Dte me you 0 0 x) [] x c
+  down_placed Dte c = subst (λ (z : Slot). PlacedIs z.placed (view_of Dte me 0) [] Dte c) (sym (free_all n c)) (λ k e. refl)
+  down_placed Dce c = subst (λ (z : Slot). PlacedIs z.placed (view_of Dce you 0) [] Dce c) (sym (free_all n c)) (λ k e. refl)
 
-  down_tops : (x : Role) (s : ℕ) → (faces_of Dte me you 0 0 x).session ≡ Some s → s ≡ (faces_of Dte me you 0 0 x).top
+  down_tops : (x : Role) (s : ℕ) → (views_of Dte me you 0 0 x).session ≡ Some s → s ≡ (views_of Dte me you 0 0 x).top
   down_tops Dte s e = absurd (none-some s e)
   down_tops Dce s e = absurd (none-some s e)
 
-  down_right : IsRight (faces_of Dte me you 0 0) (shelf_of (new_book a b n)) []
+  down_right : IsRight (views_of Dte me you 0 0) (book_parts (new_book a b n)) []
   down_right = record {
     stands = λ i t e. absurd (none-some t e);
     means = λ i t e. absurd (none-some t e);
@@ -102,14 +102,14 @@ module _ (a b n window : ℕ) where
 -- ---- a standing line
 
 -- the use of the standing call
-abbrev first : Spot
+abbrev first : ChannelUse
 first = record { session = 0; channel = 1; restart = 0; use_ = 0 }
 
 abbrev caller_tag : Tag
-caller_tag = record { role = Dte; spot = first; kind = Caller; own = None; far = None }
+caller_tag = record { role = Dte; channel_use = first; kind = Caller; own = None; far = None }
 
 abbrev callee_tag : Tag
-callee_tag = record { role = Dce; spot = first; kind = Callee 0; own = None; far = None }
+callee_tag = record { role = Dce; channel_use = first; kind = Callee 0; own = None; far = None }
 
 abbrev both : List Tag
 both = caller_tag ∷ callee_tag ∷ []
@@ -124,9 +124,9 @@ one_case a zero t e = (refl, sym (same_Some a t e))
 one_case a (suc n) t e = absurd (none-some t e)
 
 -- what was called before anything happened
-dte_called : (s c r u : ℕ) → is_some ((start_story Dte true s c).epochs r u 0).called ≡ true → (s ≡ 0) × (c ≡ 1) × (r ≡ 0) × (u ≡ 0)
+dte_called : (s c r u : ℕ) → is_some ((start_history Dte true s c).epochs r u 0).called ≡ true → (s ≡ 0) × (c ≡ 1) × (r ≡ 0) × (u ≡ 0)
 dte_called zero (suc zero) r u e =
-    elim (in_use_cases (λ z. with_call no_parts z) new_story r u) [
+    elim (in_use_cases (λ z. with_call no_parts z) new_history r u) [
       | inl h ↦ (refl, refl, h.0.0, h.0.1)
       | inr h ↦ absurd (true≢false (sym e ∙ ap (λ (z : Epoch). is_some z.called) (h.1 0)))
     ]
@@ -134,15 +134,15 @@ dte_called zero zero r u e = absurd (true≢false (sym e))
 dte_called zero (suc (suc c)) r u e = absurd (true≢false (sym e))
 dte_called (suc s) c r u e = absurd (true≢false (sym e))
 
-dte_none : (s c r u : ℕ) → c ≢ 1 → ((start_story Dte true s c).epochs r u 0).called ≡ None
+dte_none : (s c r u : ℕ) → c ≢ 1 → ((start_history Dte true s c).epochs r u 0).called ≡ None
 dte_none zero zero r u h = refl
 dte_none zero (suc zero) r u h = absurd (h refl)
 dte_none zero (suc (suc c)) r u h = refl
 dte_none (suc s) c r u h = refl
 
-dce_none : (s c r u : ℕ) → ((start_story Dce true s c).epochs r u 0).called ≡ None
+dce_none : (s c r u : ℕ) → ((start_history Dce true s c).epochs r u 0).called ≡ None
 dce_none zero zero r u = refl
-dce_none zero (suc zero) r u = in_use_keeps (λ z. z.called) (λ z. with_answer z) new_story (λ z. refl) r u 0
+dce_none zero (suc zero) r u = in_use_keeps (λ z. z.called) (λ z. with_answer z) new_history (λ z. refl) r u 0
 dce_none zero (suc (suc c)) r u = refl
 dce_none (suc s) c r u = refl
 
@@ -156,36 +156,36 @@ module _ (a b m window : ℕ) where
   abbrev book_up : Book
   book_up = standing_book (new_book a b (suc m))
 
-  abbrev up_faces : Role → Face
-  up_faces = faces_of Dte me_up you_up 0 0
+  abbrev up_views : Role → EndView
+  up_views = views_of Dte me_up you_up 0 0
 
-  up_stands : (n : ℕ) (t : Tag) → slice_get both n ≡ Some t → Stands (up_faces t.role) (λ c. slot_at t.role c book_up) n t
+  up_stands : (n : ℕ) (t : Tag) → slice_get both n ≡ Some t → Stands (up_views t.role) (λ c. slot_at t.role c book_up) n t
   up_stands n t e =
       elim (two_cases caller_tag callee_tag n t e) [
-        | inl h ↦ subst (λ (u : Tag). Stands (up_faces u.role) (λ c. slot_at u.role c book_up) n u) (sym h.1) (subst (λ (i : ℕ). Stands (up_faces Dte) (λ c. slot_at Dte c book_up) i caller_tag) (sym h.0)
+        | inl h ↦ subst (λ (u : Tag). Stands (up_views u.role) (λ c. slot_at u.role c book_up) n u) (sym h.1) (subst (λ (i : ℕ). Stands (up_views Dte) (λ c. slot_at Dte c book_up) i caller_tag) (sym h.0)
             (record { begun = lt-ltb 0 (suc (length (replicate m closed_channel))) (omega arith); past = λ up. record { restarts = omega arith; uses = λ k. omega arith }; present = λ up is live. refl }))
-        | inr h ↦ subst (λ (u : Tag). Stands (up_faces u.role) (λ c. slot_at u.role c book_up) n u) (sym h.1) (subst (λ (i : ℕ). Stands (up_faces Dce) (λ c. slot_at Dce c book_up) i callee_tag) (sym h.0)
+        | inr h ↦ subst (λ (u : Tag). Stands (up_views u.role) (λ c. slot_at u.role c book_up) n u) (sym h.1) (subst (λ (i : ℕ). Stands (up_views Dce) (λ c. slot_at Dce c book_up) i callee_tag) (sym h.0)
             (record { begun = lt-ltb 0 (suc (length (replicate m closed_channel))) (omega arith); past = λ up. record { restarts = omega arith; uses = λ k. omega arith }; present = λ up is live. refl }))
       ]
 
-  caller_means : Means (up_faces Dte) (up_faces Dce) book_up.pairs both 0 caller_tag
+  caller_means : Means (up_views Dte) (up_views Dce) book_up.pairs both 0 caller_tag
   caller_means = record {
     caller = λ e. record { own = refl; not_answered = refl; paired = λ v. (0, record { caller = 0; callee = 1 }, refl, refl) };
     callee = λ k e. absurd (caller_not_callee k e);
     cancelled = λ e. absurd (caller_not_cancelled e);
   }
 
-  callee_means : Means (up_faces Dce) (up_faces Dte) book_up.pairs both 1 callee_tag
+  callee_means : Means (up_views Dce) (up_views Dte) book_up.pairs both 1 callee_tag
   callee_means = record {
     caller = λ e. absurd (caller_not_callee 0 (sym e));
-    callee = λ k e. subst (λ (i : ℕ). IsCallee (up_faces Dce) book_up.pairs both 1 i callee_tag) (callee_number 0 k e) (record {
+    callee = λ k e. subst (λ (i : ℕ). IsCallee (up_views Dce) book_up.pairs both 1 i callee_tag) (callee_number 0 k e) (record {
       far = refl;
       order = omega arith;
       mate = caller_tag;
       there = refl;
       calls = refl;
       role = refl;
-      spot = refl;
+      channel_use = refl;
       address = refl;
       free = λ d. absurd (dte_not_dce (sym d));
       paired = λ v. (0, record { caller = 0; callee = 1 }, refl, refl);
@@ -193,14 +193,14 @@ module _ (a b m window : ℕ) where
     cancelled = λ e. absurd (callee_not_cancelled 0 e);
   }
 
-  up_means : (n : ℕ) (t : Tag) → slice_get both n ≡ Some t → Means (up_faces t.role) (up_faces (other_of t.role)) book_up.pairs both n t
+  up_means : (n : ℕ) (t : Tag) → slice_get both n ≡ Some t → Means (up_views t.role) (up_views (other_of t.role)) book_up.pairs both n t
   up_means n t e =
       elim (two_cases caller_tag callee_tag n t e) [
-        | inl h ↦ subst (λ (u : Tag). Means (up_faces u.role) (up_faces (other_of u.role)) book_up.pairs both n u) (sym h.1) (subst (λ (i : ℕ). Means (up_faces Dte) (up_faces Dce) book_up.pairs both i caller_tag) (sym h.0) caller_means)
-        | inr h ↦ subst (λ (u : Tag). Means (up_faces u.role) (up_faces (other_of u.role)) book_up.pairs both n u) (sym h.1) (subst (λ (i : ℕ). Means (up_faces Dce) (up_faces Dte) book_up.pairs both i callee_tag) (sym h.0) callee_means)
+        | inl h ↦ subst (λ (u : Tag). Means (up_views u.role) (up_views (other_of u.role)) book_up.pairs both n u) (sym h.1) (subst (λ (i : ℕ). Means (up_views Dte) (up_views Dce) book_up.pairs both i caller_tag) (sym h.0) caller_means)
+        | inr h ↦ subst (λ (u : Tag). Means (up_views u.role) (up_views (other_of u.role)) book_up.pairs both n u) (sym h.1) (subst (λ (i : ℕ). Means (up_views Dce) (up_views Dte) book_up.pairs both i callee_tag) (sym h.0) callee_means)
       ]
 
-  caller_fits : Fits (up_faces Dte) a 0 caller_tag (new_record 0 a None None)
+  caller_fits : Fits (up_views Dte) a 0 caller_tag (new_record 0 a None None)
   caller_fits = record {
     number = refl;
     node_is = refl;
@@ -211,7 +211,7 @@ module _ (a b m window : ℕ) where
     epochs = λ up is live. record { sent = refl; taken = refl };
   }
 
-  callee_fits : Fits (up_faces Dce) b 1 callee_tag (new_record 1 b None None)
+  callee_fits : Fits (up_views Dce) b 1 callee_tag (new_record 1 b None None)
   callee_fits = record {
     number = refl;
     node_is = refl;
@@ -225,28 +225,28 @@ module _ (a b m window : ℕ) where
   abbrev node_of : Role → ℕ
   node_of z = (side_of z book_up).node
 
-  up_fits : (n : ℕ) (t : Tag) (r : RecordValue) → slice_get both n ≡ Some t → slice_get book_up.records n ≡ Some r → Fits (up_faces t.role) (node_of t.role) n t r
+  up_fits : (n : ℕ) (t : Tag) (r : RecordValue) → slice_get both n ≡ Some t → slice_get book_up.records n ≡ Some r → Fits (up_views t.role) (node_of t.role) n t r
   up_fits n t r e g =
       elim (two_cases caller_tag callee_tag n t e) [
         | inl h ↦
             let is : r ≡ new_record 0 a None None = sym (same_Some (new_record 0 a None None) r (ap (λ (i : ℕ). slice_get book_up.records i) (sym h.0) ∙ g)) in
-            subst (λ (z : RecordValue). Fits (up_faces t.role) (node_of t.role) n t z) (sym is)
-            (subst (λ (u : Tag). Fits (up_faces u.role) (node_of u.role) n u (new_record 0 a None None)) (sym h.1) (subst (λ (i : ℕ). Fits (up_faces Dte) a i caller_tag (new_record 0 a None None)) (sym h.0) caller_fits))
+            subst (λ (z : RecordValue). Fits (up_views t.role) (node_of t.role) n t z) (sym is)
+            (subst (λ (u : Tag). Fits (up_views u.role) (node_of u.role) n u (new_record 0 a None None)) (sym h.1) (subst (λ (i : ℕ). Fits (up_views Dte) a i caller_tag (new_record 0 a None None)) (sym h.0) caller_fits))
         | inr h ↦
             let is : r ≡ new_record 1 b None None = sym (same_Some (new_record 1 b None None) r (ap (λ (i : ℕ). slice_get book_up.records i) (sym h.0) ∙ g)) in
-            subst (λ (z : RecordValue). Fits (up_faces t.role) (node_of t.role) n t z) (sym is)
-            (subst (λ (u : Tag). Fits (up_faces u.role) (node_of u.role) n u (new_record 1 b None None)) (sym h.1) (subst (λ (i : ℕ). Fits (up_faces Dce) b i callee_tag (new_record 1 b None None)) (sym h.0) callee_fits))
+            subst (λ (z : RecordValue). Fits (up_views t.role) (node_of t.role) n t z) (sym is)
+            (subst (λ (u : Tag). Fits (up_views u.role) (node_of u.role) n u (new_record 1 b None None)) (sym h.1) (subst (λ (i : ℕ). Fits (up_views Dce) b i callee_tag (new_record 1 b None None)) (sym h.0) callee_fits))
       ]
 
-  up_slot : (x : Role) (c : ℕ) → SlotIs ((up_faces x).mood c) (up_faces x) both x c (slot_at x c book_up)
+  up_slot : (x : Role) (c : ℕ) → SlotIs ((up_views x).status c) (up_views x) both x c (slot_at x c book_up)
   up_slot Dte zero = refl
-  up_slot Dte (suc zero) = record { session = 0; number = 0; tag = caller_tag; up = refl; is_present = refl; there = refl; role = refl; spot = refl; live = caller_not_cancelled }
-  up_slot Dte (suc (suc i)) = subst (λ (v : Mood). SlotIs v (up_faces Dte) both Dte (suc (suc i)) (slot_at Dte (suc (suc i)) book_up)) (sym (idle_at Dte m i)) (ap (λ (z : Slot). z.present) (free_all m (suc i)))
+  up_slot Dte (suc zero) = record { session = 0; number = 0; tag = caller_tag; up = refl; is_present = refl; there = refl; role = refl; channel_use = refl; live = caller_not_cancelled }
+  up_slot Dte (suc (suc i)) = subst (λ (v : CallStatus). SlotIs v (up_views Dte) both Dte (suc (suc i)) (slot_at Dte (suc (suc i)) book_up)) (sym (idle_at Dte m i)) (ap (λ (z : Slot). z.present) (free_all m (suc i)))
   up_slot Dce zero = refl
-  up_slot Dce (suc zero) = record { session = 0; number = 1; tag = callee_tag; up = refl; is_present = refl; there = refl; role = refl; spot = refl; live = callee_not_cancelled 0 }
-  up_slot Dce (suc (suc i)) = subst (λ (v : Mood). SlotIs v (up_faces Dce) both Dce (suc (suc i)) (slot_at Dce (suc (suc i)) book_up)) (sym (idle_at Dce m i)) (ap (λ (z : Slot). z.present) (free_all m (suc i)))
+  up_slot Dce (suc zero) = record { session = 0; number = 1; tag = callee_tag; up = refl; is_present = refl; there = refl; role = refl; channel_use = refl; live = callee_not_cancelled 0 }
+  up_slot Dce (suc (suc i)) = subst (λ (v : CallStatus). SlotIs v (up_views Dce) both Dce (suc (suc i)) (slot_at Dce (suc (suc i)) book_up)) (sym (idle_at Dce m i)) (ap (λ (z : Slot). z.present) (free_all m (suc i)))
 
-  up_last : (k : Spot) → k.channel ≡ 1 → IsSome (called_at (up_faces Dte) k) → UpTo k first
+  up_last : (k : ChannelUse) → k.channel ≡ 1 → IsSome (called_at (up_views Dte) k) → UpTo k first
   up_last k e some =
       let h = dte_called k.session k.channel k.restart k.use_ some in
       let s = h.0 in let r = h.2 in let u = h.3 in
@@ -258,7 +258,7 @@ module _ (a b m window : ℕ) where
   zero_up : ◌≡◌ {A = ℕ} 0 1 → ⊥
   zero_up e = omega arith
 
-  up_placed : (x : Role) (c : ℕ) → PlacedIs (slot_at x c book_up).placed (up_faces x) both x c
+  up_placed : (x : Role) (c : ℕ) → PlacedIs (slot_at x c book_up).placed (up_views x) both x c
   up_placed Dte zero = λ k e. dte_none k.session k.channel k.restart k.use_ (λ h. zero_up (sym e ∙ h))
   up_placed Dte (suc zero) = record {
     tag = caller_tag;
@@ -273,17 +273,17 @@ module _ (a b m window : ℕ) where
     placed = λ k e. caller_not_callee k e;
     last = up_last;
   }
-  up_placed Dte (suc (suc i)) = subst (λ (z : Slot). PlacedIs z.placed (up_faces Dte) both Dte (suc (suc i))) (sym (free_all m (suc i))) (λ k e. dte_none k.session k.channel k.restart k.use_ (λ h. two_up i (sym e ∙ h)))
+  up_placed Dte (suc (suc i)) = subst (λ (z : Slot). PlacedIs z.placed (up_views Dte) both Dte (suc (suc i))) (sym (free_all m (suc i))) (λ k e. dte_none k.session k.channel k.restart k.use_ (λ h. two_up i (sym e ∙ h)))
   up_placed Dce zero = λ k e. dce_none k.session k.channel k.restart k.use_
   up_placed Dce (suc zero) = λ k e. dce_none k.session k.channel k.restart k.use_
-  up_placed Dce (suc (suc i)) = subst (λ (z : Slot). PlacedIs z.placed (up_faces Dce) both Dce (suc (suc i))) (sym (free_all m (suc i))) (λ k e. dce_none k.session k.channel k.restart k.use_)
+  up_placed Dce (suc (suc i)) = subst (λ (z : Slot). PlacedIs z.placed (up_views Dce) both Dce (suc (suc i))) (sym (free_all m (suc i))) (λ k e. dce_none k.session k.channel k.restart k.use_)
 
-  up_tops : (x : Role) (s : ℕ) → (up_faces x).session ≡ Some s → s ≡ (up_faces x).top
+  up_tops : (x : Role) (s : ℕ) → (up_views x).session ≡ Some s → s ≡ (up_views x).top
   up_tops Dte s e = sym (same_Some 0 s e)
   up_tops Dce s e = sym (same_Some 0 s e)
 
-  up_alone : (i j : ℕ) (t u : Tag) → slice_get both i ≡ Some t → slice_get both j ≡ Some u → IsLive t.kind → IsLive u.kind → t.role ≡ u.role → t.spot ≡ u.spot → i ≡ j
-  up_alone i j t u ei ej lt lu role spot =
+  up_alone : (i j : ℕ) (t u : Tag) → slice_get both i ≡ Some t → slice_get both j ≡ Some u → IsLive t.kind → IsLive u.kind → t.role ≡ u.role → t.channel_use ≡ u.channel_use → i ≡ j
+  up_alone i j t u ei ej lt lu role channel_use =
       elim (two_cases caller_tag callee_tag i t ei) [
         | inl h ↦ elim (two_cases caller_tag callee_tag j u ej) [
           | inl g ↦ h.0 ∙ sym g.0
@@ -298,7 +298,7 @@ module _ (a b m window : ℕ) where
   abbrev the_pair : PairValue
   the_pair = record { caller = 0; callee = 1 }
 
-  up_right : IsRight up_faces (shelf_of book_up) both
+  up_right : IsRight up_views (book_parts book_up) both
   up_right = record {
     stands = up_stands;
     means = up_means;
@@ -307,7 +307,7 @@ module _ (a b m window : ℕ) where
     placed = up_placed;
     tops = up_tops;
     alone = up_alone;
-    pairs = λ i p e. subst (λ (z : PairValue). IsPair up_faces both z) (sym (one_case the_pair i p e).1) (record { tag = callee_tag; there = refl; kind = refl; answered = refl });
+    pairs = λ i p e. subst (λ (z : PairValue). IsPair up_views both z) (sym (one_case the_pair i p e).1) (record { tag = callee_tag; there = refl; kind = refl; answered = refl });
     once = λ i j p q e g h. (one_case the_pair i p e).0 ∙ sym (one_case the_pair j q g).0;
     count = refl;
   }

@@ -7,23 +7,23 @@ use Rattle.link_timers.specs.declared.role.Role.TheVariants.{Dte, Dce}
 use Rattle.link_timers.specs.Role.{other_of}
 use Rattle.packet_layer.specs.Packets.{CallParts}
 use Rattle.packet_layer.specs.Layer.{channel_of}
-use Rattle.packet_laws.specs.History.{Epoch, Story, placed, with_call}
+use Rattle.packet_laws.specs.History.{Epoch, History, placed, with_call}
 use Rattle.packet_laws.specs.Law.{IsBegun, IsUnused}
 use Rattle.packet_laws.specs.Line.{End}
 use Rattle.call_records.specs.Records.{RecordValue, new_record}
 use Rattle.call_records.specs.Book.{Book, Slot, slot_at, side_of, with_record, places, comes, address_of}
 use Rattle.book_laws.proofs.Basics.{number_is, order}
-use Rattle.book_laws.proofs.Scenes.{Mood, Spot, Tag, Shelf, shelf_of, IsPast, IsRight, epoch_at, called_at, answered_at, now, sent_of, taken_of}
-use Rattle.book_laws.proofs.Scenes.Mood.{Idle, OwnCall, FarCall}
+use Rattle.book_laws.proofs.Invariant.{CallStatus, ChannelUse, Tag, BookParts, book_parts, IsPast, IsRight, epoch_at, called_at, answered_at, now, sent_of, taken_of}
+use Rattle.book_laws.proofs.Invariant.CallStatus.{Idle, OwnCall, FarCall}
 use Rattle.book_laws.proofs.Adding.{Adds}
-use Rattle.book_laws.proofs.Calling.{IsNew, placing_right, coming_right, spot_is}
-use Rattle.book_laws.proofs.Writing.{shelf_same, slot_here, slot_else, size_record, size_slot}
-use Rattle.book_laws.proofs.Faces.{mood_at, face_of, faces_of, OnChannel, at_else}
-use Rattle.book_laws.proofs.Stories.{in_use_cases, in_use_keeps}
+use Rattle.book_laws.proofs.Calling.{IsNew, placing_right, coming_right, channel_use_is}
+use Rattle.book_laws.proofs.Writing.{book_parts_same, slot_here, slot_else, size_record, size_slot}
+use Rattle.book_laws.proofs.EndSteps.{status_at, view_of, views_of, OnChannel, at_else}
+use Rattle.book_laws.proofs.Histories.{in_use_cases, in_use_keeps}
 
 -- ---- a use that nothing was done in
 
-pub unused_new : (x : Role) (e : End) (te s d : ℕ) → (face_of x e te).begun (now (face_of x e te) s d) ≡ true → IsUnused (e.stories s d) → IsNew (face_of x e te) s d
+pub unused_new : (x : Role) (e : End) (te s d : ℕ) → (view_of x e te).begun (now (view_of x e te) s d) ≡ true → IsUnused (e.histories s d) → IsNew (view_of x e te) s d
 unused_new x e te s d begun u = record {
   begun = begun;
   first = u.first;
@@ -32,8 +32,8 @@ unused_new x e te s d begun u = record {
   taken = λ g. ap taken_of (u.empty g);
 }
 
--- what is called in a story that is begun is not later than its present use
-pub past_of : (s d : ℕ) (st : Story) → IsBegun st → (r u : ℕ) → IsSome (st.epochs r u 0).called → (r ≤ st.restart) × (r ≡ st.restart → u ≤ st.use_)
+-- what is called in a history that is begun is not later than its present use
+pub past_of : (s d : ℕ) (st : History) → IsBegun st → (r u : ℕ) → IsSome (st.epochs r u 0).called → (r ≤ st.restart) × (r ≡ st.restart → u ≤ st.use_)
 past_of s d st h r u some = (
   elim (order r st.restart) [
     | inl le ↦ le
@@ -49,79 +49,79 @@ past_of s d st h r u some = (
 
 pub record PlaceStep (x : Role) (e e' y : End) (s d te ty : ℕ) (parts : CallParts) (b : Book) : Type 0 where
   pub on : OnChannel x e e' s d
-  pub idle : mood_at x (channel_of e.layer d) ≡ Idle
-  pub own : mood_at x (channel_of e'.layer d) ≡ OwnCall
-  pub story : e'.stories s d ≡ placed parts (e.stories s d)
-  pub unused : IsUnused (e.stories s d)
-  pub begun_story : IsBegun (e.stories s d)
-  pub begun : (face_of x e te).begun (now (face_of x e te) s d) ≡ true
+  pub idle : status_at x (channel_of e.layer d) ≡ Idle
+  pub own : status_at x (channel_of e'.layer d) ≡ OwnCall
+  pub history : e'.histories s d ≡ placed parts (e.histories s d)
+  pub unused : IsUnused (e.histories s d)
+  pub begun_history : IsBegun (e.histories s d)
+  pub begun : (view_of x e te).begun (now (view_of x e te) s d) ≡ true
   pub calling : parts.calling ≡ []
-  pub not_answered : answered_at (face_of (other_of x) y ty) (now (face_of x e te) s d) ≡ false
+  pub not_answered : answered_at (view_of (other_of x) y ty) (now (view_of x e te) s d) ≡ false
   pub least : 1 ≤ d
   pub most : d ≤ length (side_of x b).slots
 
 module _ (x : Role) (e e' y : End) (s d te ty : ℕ) (parts : CallParts) (b : Book) (q : PlaceStep x e e' y s d te ty parts b) where
-  keeps : {X : Type 0} (see : Epoch → X) → ((z : Epoch) → see (with_call parts z) ≡ see z) → (k : Spot) (g : ℕ) → see (epoch_at (face_of x e' te) k g) ≡ see (epoch_at (face_of x e te) k g)
-  keeps {X} see h k g = at_else x e e' s d (λ (a c : Story). see (c.epochs k.restart k.use_ g) ≡ see (a.epochs k.restart k.use_ g)) q.on (λ a. refl)
-      (ap (λ (z : Story). see (z.epochs k.restart k.use_ g)) q.story ∙ in_use_keeps see (λ z. with_call parts z) (e.stories s d) h k.restart k.use_ g) k.session k.channel
+  keeps : {X : Type 0} (see : Epoch → X) → ((z : Epoch) → see (with_call parts z) ≡ see z) → (k : ChannelUse) (g : ℕ) → see (epoch_at (view_of x e' te) k g) ≡ see (epoch_at (view_of x e te) k g)
+  keeps {X} see h k g = at_else x e e' s d (λ (a c : History). see (c.epochs k.restart k.use_ g) ≡ see (a.epochs k.restart k.use_ g)) q.on (λ a. refl)
+      (ap (λ (z : History). see (z.epochs k.restart k.use_ g)) q.history ∙ in_use_keeps see (λ z. with_call parts z) (e.histories s d) h k.restart k.use_ g) k.session k.channel
 
-  called : (k : Spot) → (called_at (face_of x e' te) k ≡ called_at (face_of x e te) k) ⊎ ((k ≡ now (face_of x e te) s d) × IsSome (called_at (face_of x e' te) k))
+  called : (k : ChannelUse) → (called_at (view_of x e' te) k ≡ called_at (view_of x e te) k) ⊎ ((k ≡ now (view_of x e te) s d) × IsSome (called_at (view_of x e' te) k))
   called k =
       elim (number_is k.session s) [
         | inl a ↦ elim (number_is k.channel d) [
-          | inl c ↦ elim (in_use_cases (λ z. with_call parts z) (e.stories s d) k.restart k.use_) [
+          | inl c ↦ elim (in_use_cases (λ z. with_call parts z) (e.histories s d) k.restart k.use_) [
             | inl h ↦ inr (
-              spot_is k (now (face_of x e te) s d) a c h.0.0 h.0.1,
-              ap (λ (m : ℕ). is_some ((e'.stories m k.channel).epochs k.restart k.use_ 0).called) a ∙ ap (λ (n : ℕ). is_some ((e'.stories s n).epochs k.restart k.use_ 0).called) c
-                  ∙ ap (λ (z : Story). is_some (z.epochs k.restart k.use_ 0).called) q.story ∙ ap (λ (z : Epoch). is_some z.called) (h.1 0),
+              channel_use_is k (now (view_of x e te) s d) a c h.0.0 h.0.1,
+              ap (λ (m : ℕ). is_some ((e'.histories m k.channel).epochs k.restart k.use_ 0).called) a ∙ ap (λ (n : ℕ). is_some ((e'.histories s n).epochs k.restart k.use_ 0).called) c
+                  ∙ ap (λ (z : History). is_some (z.epochs k.restart k.use_ 0).called) q.history ∙ ap (λ (z : Epoch). is_some z.called) (h.1 0),
             )
-            | inr h ↦ inl (ap (λ (m : ℕ). ((e'.stories m k.channel).epochs k.restart k.use_ 0).called) a ∙ ap (λ (n : ℕ). ((e'.stories s n).epochs k.restart k.use_ 0).called) c
-                ∙ ap (λ (z : Story). (z.epochs k.restart k.use_ 0).called) q.story ∙ ap (λ (z : Epoch). z.called) (h.1 0)
-                ∙ ap (λ (n : ℕ). ((e.stories s n).epochs k.restart k.use_ 0).called) (sym c) ∙ ap (λ (m : ℕ). ((e.stories m k.channel).epochs k.restart k.use_ 0).called) (sym a))
+            | inr h ↦ inl (ap (λ (m : ℕ). ((e'.histories m k.channel).epochs k.restart k.use_ 0).called) a ∙ ap (λ (n : ℕ). ((e'.histories s n).epochs k.restart k.use_ 0).called) c
+                ∙ ap (λ (z : History). (z.epochs k.restart k.use_ 0).called) q.history ∙ ap (λ (z : Epoch). z.called) (h.1 0)
+                ∙ ap (λ (n : ℕ). ((e.histories s n).epochs k.restart k.use_ 0).called) (sym c) ∙ ap (λ (m : ℕ). ((e.histories m k.channel).epochs k.restart k.use_ 0).called) (sym a))
           ]
-          | inr c ↦ inl (ap (λ (z : Story). (z.epochs k.restart k.use_ 0).called) (q.on.else k.session k.channel (λ h. c h.1)))
+          | inr c ↦ inl (ap (λ (z : History). (z.epochs k.restart k.use_ 0).called) (q.on.else k.session k.channel (λ h. c h.1)))
         ]
-        | inr a ↦ inl (ap (λ (z : Story). (z.epochs k.restart k.use_ 0).called) (q.on.else k.session k.channel (λ h. a h.0)))
+        | inr a ↦ inl (ap (λ (z : History). (z.epochs k.restart k.use_ 0).called) (q.on.else k.session k.channel (λ h. a h.0)))
       ]
 
-  place_adds : Adds (face_of x e te) (face_of x e' te) s d
+  place_adds : Adds (view_of x e te) (view_of x e' te) s d
   place_adds = record {
     session = q.on.session;
     up = q.on.up;
     top = refl;
     begun = q.on.begun;
-    restart = at_else x e e' s d (λ (a c : Story). c.restart ≡ a.restart) q.on (λ a. refl) (ap (λ (z : Story). z.restart) q.story);
-    uses = at_else x e e' s d (λ (a c : Story). c.use_ ≡ a.use_) q.on (λ a. refl) (ap (λ (z : Story). z.use_) q.story);
-    epoch = at_else x e e' s d (λ (a c : Story). c.epoch ≡ a.epoch) q.on (λ a. refl) (ap (λ (z : Story). z.epoch) q.story);
+    restart = at_else x e e' s d (λ (a c : History). c.restart ≡ a.restart) q.on (λ a. refl) (ap (λ (z : History). z.restart) q.history);
+    uses = at_else x e e' s d (λ (a c : History). c.use_ ≡ a.use_) q.on (λ a. refl) (ap (λ (z : History). z.use_) q.history);
+    epoch = at_else x e e' s d (λ (a c : History). c.epoch ≡ a.epoch) q.on (λ a. refl) (ap (λ (z : History). z.epoch) q.history);
     idle = q.idle;
-    mood = q.on.mood;
+    status = q.on.status;
     called = called;
     answered = λ k. keeps (λ z. z.answered) (λ z. refl) k 0;
     sent = λ k g. keeps sent_of (λ z. refl) k g;
     taken = λ k g. keeps taken_of (λ z. refl) k g;
   }
 
-  now_called : called_at (face_of x e' te) (now (face_of x e te) s d) ≡ Some parts
+  now_called : called_at (view_of x e' te) (now (view_of x e te) s d) ≡ Some parts
   now_called =
-      ap (λ (z : Story). (z.epochs (e.stories s d).restart (e.stories s d).use_ 0).called) q.story
-      ∙ elim (in_use_cases (λ z. with_call parts z) (e.stories s d) (e.stories s d).restart (e.stories s d).use_) [
+      ap (λ (z : History). (z.epochs (e.histories s d).restart (e.histories s d).use_ 0).called) q.history
+      ∙ elim (in_use_cases (λ z. with_call parts z) (e.histories s d) (e.histories s d).restart (e.histories s d).use_) [
         | inl h ↦ ap (λ (z : Epoch). z.called) (h.1 0)
         | inr h ↦ absurd (h.0 (refl, refl))
       ]
 
-  earlier : (k : Spot) → k.session ≡ s → k.channel ≡ d → IsSome (called_at (face_of x e te) k) → IsPast k (e.stories s d)
+  earlier : (k : ChannelUse) → k.session ≡ s → k.channel ≡ d → IsSome (called_at (view_of x e te) k) → IsPast k (e.histories s d)
   earlier k a c some =
-      let h = past_of s d (e.stories s d) q.begun_story k.restart k.use_
-      (ap (λ (n : ℕ). is_some ((e.stories s n).epochs k.restart k.use_ 0).called) (sym c) ∙ ap (λ (m : ℕ). is_some ((e.stories m k.channel).epochs k.restart k.use_ 0).called) (sym a) ∙ some) in
+      let h = past_of s d (e.histories s d) q.begun_history k.restart k.use_
+      (ap (λ (n : ℕ). is_some ((e.histories s n).epochs k.restart k.use_ 0).called) (sym c) ∙ ap (λ (m : ℕ). is_some ((e.histories m k.channel).epochs k.restart k.use_ 0).called) (sym a) ∙ some) in
       record { restarts = h.0; uses = h.1 }
 
-pub place_step : (x : Role) (e e' y : End) (s d te ty : ℕ) (parts : CallParts) (b : Book) (tags : List Tag) → PlaceStep x e e' y s d te ty parts b → IsRight (faces_of x e y te ty) (shelf_of b) tags
-    → (tags' : List Tag) × IsRight (faces_of x e' y te ty) (shelf_of (places x d parts.called b)) tags'
+pub place_step : (x : Role) (e e' y : End) (s d te ty : ℕ) (parts : CallParts) (b : Book) (tags : List Tag) → PlaceStep x e e' y s d te ty parts b → IsRight (views_of x e y te ty) (book_parts b) tags
+    → (tags' : List Tag) × IsRight (views_of x e' y te ty) (book_parts (places x d parts.called b)) tags'
 place_step Dte e e' y s d te ty parts b tags q w =
     let b' : Book = places Dte d parts.called b in
     let v : Book = with_record (new_record (length b.records) b.dte.node None (address_of parts.called)) b in
     let z : Slot = record { present = Some (length b.records); placed = Some (length b.records); caller = None } in
-    let r = placing_right Dte s d parts (faces_of Dte e y te ty) (faces_of Dte e' y te ty) (shelf_of b) (shelf_of b').slots tags w (record {
+    let r = placing_right Dte s d parts (views_of Dte e y te ty) (views_of Dte e' y te ty) (book_parts b) (book_parts b').slots tags w (record {
       there = refl;
       here = place_adds Dte e e' y s d te ty parts b q;
       new = unused_new Dte e te s d q.begun q.unused;
@@ -129,17 +129,17 @@ place_step Dte e e' y s d te ty parts b tags q w =
       calling = q.calling;
       not_answered = q.not_answered;
       earlier = earlier Dte e e' y s d te ty parts b q;
-      mood = q.own;
+      status = q.own;
       slot = slot_here Dte d z v q.least q.most;
       slots_else = λ c h. slot_else Dte d c z v h;
       slots_there = λ c. refl;
     }) in
-    (r.0, subst (λ (sh : Shelf). IsRight (faces_of Dte e' y te ty) sh r.0) (shelf_same b b' refl (λ k. (size_slot Dte d z v).node k ∙ (size_record (new_record (length b.records) b.dte.node None (address_of parts.called)) b).node k)) r.1)
+    (r.0, subst (λ (sh : BookParts). IsRight (views_of Dte e' y te ty) sh r.0) (book_parts_same b b' refl (λ k. (size_slot Dte d z v).node k ∙ (size_record (new_record (length b.records) b.dte.node None (address_of parts.called)) b).node k)) r.1)
 place_step Dce e e' y s d te ty parts b tags q w =
     let b' : Book = places Dce d parts.called b in
     let v : Book = with_record (new_record (length b.records) b.dce.node None (address_of parts.called)) b in
     let z : Slot = record { present = Some (length b.records); placed = Some (length b.records); caller = None } in
-    let r = placing_right Dce s d parts (faces_of Dce e y te ty) (faces_of Dce e' y te ty) (shelf_of b) (shelf_of b').slots tags w (record {
+    let r = placing_right Dce s d parts (views_of Dce e y te ty) (views_of Dce e' y te ty) (book_parts b) (book_parts b').slots tags w (record {
       there = refl;
       here = place_adds Dce e e' y s d te ty parts b q;
       new = unused_new Dce e te s d q.begun q.unused;
@@ -147,96 +147,96 @@ place_step Dce e e' y s d te ty parts b tags q w =
       calling = q.calling;
       not_answered = q.not_answered;
       earlier = earlier Dce e e' y s d te ty parts b q;
-      mood = q.own;
+      status = q.own;
       slot = slot_here Dce d z v q.least q.most;
       slots_else = λ c h. slot_else Dce d c z v h;
       slots_there = λ c. refl;
     }) in
-    (r.0, subst (λ (sh : Shelf). IsRight (faces_of Dce e' y te ty) sh r.0) (shelf_same b b' refl (λ k. (size_slot Dce d z v).node k ∙ (size_record (new_record (length b.records) b.dce.node None (address_of parts.called)) b).node k)) r.1)
+    (r.0, subst (λ (sh : BookParts). IsRight (views_of Dce e' y te ty) sh r.0) (book_parts_same b b' refl (λ k. (size_slot Dce d z v).node k ∙ (size_record (new_record (length b.records) b.dce.node None (address_of parts.called)) b).node k)) r.1)
 
 -- ---- a call comes in at an end
 
--- a story of which the same is told
-pub record SameStory (st st' : Story) : Type 0 where
+-- a history of which the same is told
+pub record SameHistory (st st' : History) : Type 0 where
   pub restart : st'.restart ≡ st.restart
   pub uses : st'.use_ ≡ st.use_
   pub epoch : st'.epoch ≡ st.epoch
   pub epochs : (r u g : ℕ) → st'.epochs r u g ≡ st.epochs r u g
 
-pub story_refl : (st : Story) → SameStory st st
-story_refl st = record { restart = refl; uses = refl; epoch = refl; epochs = λ r u g. refl }
+pub history_refl : (st : History) → SameHistory st st
+history_refl st = record { restart = refl; uses = refl; epoch = refl; epochs = λ r u g. refl }
 
 pub record ComeStep (x : Role) (e e' y : End) (s d te ty : ℕ) (parts : CallParts) (b : Book) : Type 0 where
   pub on : OnChannel x e e' s d
-  pub far : mood_at x (channel_of e'.layer d) ≡ FarCall
-  pub story : SameStory (e.stories s d) (e'.stories s d)
-  pub new : IsNew (face_of x e te) s d
-  pub known : called_at (face_of (other_of x) y ty) (now (face_of x e te) s d) ≡ Some parts
-  pub last : (k : Spot) → k.session ≡ s → k.channel ≡ d → IsSome (called_at (face_of (other_of x) y ty) k) → IsPast k (e.stories s d)
+  pub far : status_at x (channel_of e'.layer d) ≡ FarCall
+  pub history : SameHistory (e.histories s d) (e'.histories s d)
+  pub new : IsNew (view_of x e te) s d
+  pub known : called_at (view_of (other_of x) y ty) (now (view_of x e te) s d) ≡ Some parts
+  pub last : (k : ChannelUse) → k.session ≡ s → k.channel ≡ d → IsSome (called_at (view_of (other_of x) y ty) k) → IsPast k (e.histories s d)
   pub order : ty ≤ s
   pub least : 1 ≤ d
   pub most : d ≤ length (side_of x b).slots
 
 module _ (x : Role) (e e' y : End) (s d te ty : ℕ) (parts : CallParts) (b : Book) (q : ComeStep x e e' y s d te ty parts b) where
-  pub come_epochs : (k : Spot) (g : ℕ) → epoch_at (face_of x e' te) k g ≡ epoch_at (face_of x e te) k g
-  come_epochs k g = at_else x e e' s d (λ (a c : Story). c.epochs k.restart k.use_ g ≡ a.epochs k.restart k.use_ g) q.on (λ a. refl) (q.story.epochs k.restart k.use_ g) k.session k.channel
+  pub come_epochs : (k : ChannelUse) (g : ℕ) → epoch_at (view_of x e' te) k g ≡ epoch_at (view_of x e te) k g
+  come_epochs k g = at_else x e e' s d (λ (a c : History). c.epochs k.restart k.use_ g ≡ a.epochs k.restart k.use_ g) q.on (λ a. refl) (q.history.epochs k.restart k.use_ g) k.session k.channel
 
-  pub come_adds : (mood : ℕ → Mood) → mood d ≡ Idle → ((c : ℕ) → c ≢ d → mood c ≡ mood_at x (channel_of e.layer c)) → Adds (record (face_of x e te) { mood = mood }) (face_of x e' te) s d
-  come_adds mood idle same = record {
+  pub come_adds : (status : ℕ → CallStatus) → status d ≡ Idle → ((c : ℕ) → c ≢ d → status c ≡ status_at x (channel_of e.layer c)) → Adds (record (view_of x e te) { status = status }) (view_of x e' te) s d
+  come_adds status idle same = record {
     session = q.on.session;
     up = q.on.up;
     top = refl;
     begun = q.on.begun;
-    restart = at_else x e e' s d (λ (a c : Story). c.restart ≡ a.restart) q.on (λ a. refl) q.story.restart;
-    uses = at_else x e e' s d (λ (a c : Story). c.use_ ≡ a.use_) q.on (λ a. refl) q.story.uses;
-    epoch = at_else x e e' s d (λ (a c : Story). c.epoch ≡ a.epoch) q.on (λ a. refl) q.story.epoch;
+    restart = at_else x e e' s d (λ (a c : History). c.restart ≡ a.restart) q.on (λ a. refl) q.history.restart;
+    uses = at_else x e e' s d (λ (a c : History). c.use_ ≡ a.use_) q.on (λ a. refl) q.history.uses;
+    epoch = at_else x e e' s d (λ (a c : History). c.epoch ≡ a.epoch) q.on (λ a. refl) q.history.epoch;
     idle = idle;
-    mood = λ c h. q.on.mood c h ∙ sym (same c h);
+    status = λ c h. q.on.status c h ∙ sym (same c h);
     called = λ k. inl (ap (λ (z : Epoch). z.called) (come_epochs k 0));
     answered = λ k. ap (λ (z : Epoch). z.answered) (come_epochs k 0);
     sent = λ k g. ap sent_of (come_epochs k g);
     taken = λ k g. ap taken_of (come_epochs k g);
   }
 
-pub come_step : (x : Role) (e e' y : End) (s d te ty : ℕ) (parts : CallParts) (b : Book) (tags : List Tag) → ComeStep x e e' y s d te ty parts b → mood_at x (channel_of e.layer d) ≡ Idle → IsUnused (e.stories s d)
-    → IsRight (faces_of x e y te ty) (shelf_of b) tags → (tags' : List Tag) × IsRight (faces_of x e' y te ty) (shelf_of (comes x d parts b)) tags'
+pub come_step : (x : Role) (e e' y : End) (s d te ty : ℕ) (parts : CallParts) (b : Book) (tags : List Tag) → ComeStep x e e' y s d te ty parts b → status_at x (channel_of e.layer d) ≡ Idle → IsUnused (e.histories s d)
+    → IsRight (views_of x e y te ty) (book_parts b) tags → (tags' : List Tag) × IsRight (views_of x e' y te ty) (book_parts (comes x d parts b)) tags'
 come_step Dte e e' y s d te ty parts b tags q idle unused w =
     let b' : Book = comes Dte d parts b in
     let r0 : RecordValue = new_record (length b.records) b.dte.node (address_of parts.called) (address_of parts.calling) in
     let v : Book = with_record r0 b in
     let z : Slot = record { present = Some (length b.records); placed = (slot_at Dte d b).placed; caller = (slot_at Dce d b).placed } in
-    let r = coming_right Dte s d parts (faces_of Dte e y te ty) (faces_of Dte e' y te ty) (shelf_of b) (shelf_of b').slots tags w (record {
+    let r = coming_right Dte s d parts (views_of Dte e y te ty) (views_of Dte e' y te ty) (book_parts b) (book_parts b').slots tags w (record {
       there = refl;
-      here = come_adds Dte e e' y s d te ty parts b q (λ c. mood_at Dte (channel_of e.layer c)) idle (λ c h. refl);
+      here = come_adds Dte e e' y s d te ty parts b q (λ c. status_at Dte (channel_of e.layer c)) idle (λ c h. refl);
       new = q.new;
       known = q.known;
       last = q.last;
       order = q.order;
       free = λ k. ap (λ (n : Epoch). n.called) (unused.empty 0);
       called = λ k. ap (λ (n : Epoch). n.called) (come_epochs Dte e e' y s d te ty parts b q k 0);
-      mood = q.far;
+      status = q.far;
       slot = slot_here Dte d z v q.least q.most;
       slots_else = λ c h. slot_else Dte d c z v h;
       slots_there = λ c. refl;
     }) in
-    (r.0, subst (λ (sh : Shelf). IsRight (faces_of Dte e' y te ty) sh r.0) (shelf_same b b' refl (λ k. (size_slot Dte d z v).node k ∙ (size_record r0 b).node k)) r.1)
+    (r.0, subst (λ (sh : BookParts). IsRight (views_of Dte e' y te ty) sh r.0) (book_parts_same b b' refl (λ k. (size_slot Dte d z v).node k ∙ (size_record r0 b).node k)) r.1)
 come_step Dce e e' y s d te ty parts b tags q idle unused w =
     let b' : Book = comes Dce d parts b in
     let r0 : RecordValue = new_record (length b.records) b.dce.node (address_of parts.called) (address_of parts.calling) in
     let v : Book = with_record r0 b in
     let z : Slot = record { present = Some (length b.records); placed = (slot_at Dce d b).placed; caller = (slot_at Dte d b).placed } in
-    let r = coming_right Dce s d parts (faces_of Dce e y te ty) (faces_of Dce e' y te ty) (shelf_of b) (shelf_of b').slots tags w (record {
+    let r = coming_right Dce s d parts (views_of Dce e y te ty) (views_of Dce e' y te ty) (book_parts b) (book_parts b').slots tags w (record {
       there = refl;
-      here = come_adds Dce e e' y s d te ty parts b q (λ c. mood_at Dce (channel_of e.layer c)) idle (λ c h. refl);
+      here = come_adds Dce e e' y s d te ty parts b q (λ c. status_at Dce (channel_of e.layer c)) idle (λ c h. refl);
       new = q.new;
       known = q.known;
       last = q.last;
       order = q.order;
       free = λ k. ap (λ (n : Epoch). n.called) (unused.empty 0);
       called = λ k. ap (λ (n : Epoch). n.called) (come_epochs Dce e e' y s d te ty parts b q k 0);
-      mood = q.far;
+      status = q.far;
       slot = slot_here Dce d z v q.least q.most;
       slots_else = λ c h. slot_else Dce d c z v h;
       slots_there = λ c. refl;
     }) in
-    (r.0, subst (λ (sh : Shelf). IsRight (faces_of Dce e' y te ty) sh r.0) (shelf_same b b' refl (λ k. (size_slot Dce d z v).node k ∙ (size_record r0 b).node k)) r.1)
+    (r.0, subst (λ (sh : BookParts). IsRight (views_of Dce e' y te ty) sh r.0) (book_parts_same b b' refl (λ k. (size_slot Dce d z v).node k ∙ (size_record r0 b).node k)) r.1)

@@ -12,7 +12,7 @@ use Rattle.packet_layer.specs.Layer.{closing_notes, had_call}
 use Rattle.call_records.specs.Records.{RecordValue, PairValue, with_closed}
 use Rattle.call_records.specs.Book.{Book, Slot, side_of, nth_slot, with_nth, found_slot, slot_at, with_slot, with_change, changed, with_record, closes, all_told}
 use Rattle.book_laws.proofs.Basics.{all_same, get_changed, length_changed, length_set, set_elsewhere, set_here, get_there, number_is}
-use Rattle.book_laws.proofs.Scenes.{shelf_of}
+use Rattle.book_laws.proofs.Invariant.{book_parts}
 use Rattle.book_laws.proofs.Ending.{Alike, alike}
 
 -- ---- slots
@@ -101,13 +101,13 @@ size_record r b = record { size = λ y. size y; node = λ y. node y }
     node Dte = refl
     node Dce = refl
 
--- pairs stay, and the shelf is the old one with other slots and records
-pub shelf_same : (b b' : Book) → b'.pairs ≡ b.pairs → ((y : Role) → (side_of y b').node ≡ (side_of y b).node)
-    → record (shelf_of b) { slots = (shelf_of b').slots; records = b'.records } ≡ shelf_of b'
-shelf_same b b' p n =
-    let e : (shelf_of b).nodes ≡ (shelf_of b').nodes = all_same (shelf_of b).nodes (shelf_of b').nodes (λ y. sym (n y)) in
-    ap (λ (q : List PairValue). record { records = b'.records; pairs = q; slots = (shelf_of b').slots; nodes = (shelf_of b).nodes }) (sym p)
-    ∙ ap (λ (m : Role → ℕ). record { records = b'.records; pairs = b'.pairs; slots = (shelf_of b').slots; nodes = m }) e
+-- pairs stay, and the book has its old parts with other slots and records
+pub book_parts_same : (b b' : Book) → b'.pairs ≡ b.pairs → ((y : Role) → (side_of y b').node ≡ (side_of y b).node)
+    → record (book_parts b) { slots = (book_parts b').slots; records = b'.records } ≡ book_parts b'
+book_parts_same b b' p n =
+    let e : (book_parts b).nodes ≡ (book_parts b').nodes = all_same (book_parts b).nodes (book_parts b').nodes (λ y. sym (n y)) in
+    ap (λ (q : List PairValue). record { records = b'.records; pairs = q; slots = (book_parts b').slots; nodes = (book_parts b).nodes }) (sym p)
+    ∙ ap (λ (m : Role → ℕ). record { records = b'.records; pairs = b'.pairs; slots = (book_parts b').slots; nodes = m }) e
 
 -- ---- records
 
@@ -244,15 +244,15 @@ closed_else x d b c e = slot_else x d c (record (slot_at x d b) { present = None
 
 -- ---- shelves
 
-pub slots_same : (b b' : Book) → ((y : Role) (c : ℕ) → slot_at y c b' ≡ slot_at y c b) → (shelf_of b').slots ≡ (shelf_of b).slots
-slots_same b b' h = all_same (shelf_of b').slots (shelf_of b).slots (λ y. all_same ((shelf_of b').slots y) ((shelf_of b).slots y) (h y))
+pub slots_same : (b b' : Book) → ((y : Role) (c : ℕ) → slot_at y c b' ≡ slot_at y c b) → (book_parts b').slots ≡ (book_parts b).slots
+slots_same b b' h = all_same (book_parts b').slots (book_parts b).slots (λ y. all_same ((book_parts b').slots y) ((book_parts b).slots y) (h y))
 
--- the shelf is the old one with other records
-pub shelf_records : (b b' : Book) → b'.pairs ≡ b.pairs → ((y : Role) → (side_of y b').node ≡ (side_of y b).node) → ((y : Role) (c : ℕ) → slot_at y c b' ≡ slot_at y c b)
-    → record (shelf_of b) { records = b'.records } ≡ shelf_of b'
-shelf_records b b' p n h =
-    ap (λ (z : Role → ℕ → Slot). record { records = b'.records; pairs = b.pairs; slots = z; nodes = (shelf_of b).nodes }) (sym (slots_same b b' h))
-    ∙ shelf_same b b' p n
+-- the book has its old parts with other records
+pub book_parts_records : (b b' : Book) → b'.pairs ≡ b.pairs → ((y : Role) → (side_of y b').node ≡ (side_of y b).node) → ((y : Role) (c : ℕ) → slot_at y c b' ≡ slot_at y c b)
+    → record (book_parts b) { records = b'.records } ≡ book_parts b'
+book_parts_records b b' p n h =
+    ap (λ (z : Role → ℕ → Slot). record { records = b'.records; pairs = b.pairs; slots = z; nodes = (book_parts b).nodes }) (sym (slots_same b b' h))
+    ∙ book_parts_same b b' p n
 
 pair_slots : (b : Book) (ps : List PairValue) (y : Role) (c : ℕ) → slot_at y c (record b { pairs = ps }) ≡ slot_at y c b
 pair_slots b ps Dte c = refl
@@ -262,11 +262,11 @@ pair_nodes : (b : Book) (ps : List PairValue) (y : Role) → (side_of y (record 
 pair_nodes b ps Dte = refl
 pair_nodes b ps Dce = refl
 
-pub shelf_pairs : (b : Book) (ps : List PairValue) → record (shelf_of b) { pairs = ps } ≡ shelf_of (record b { pairs = ps })
-shelf_pairs b ps =
-    ap (λ (z : Role → ℕ → Slot). record { records = b.records; pairs = ps; slots = z; nodes = (shelf_of b).nodes }) (sym (slots_same b (record b { pairs = ps }) (pair_slots b ps)))
-    ∙ ap (λ (m : Role → ℕ). record { records = b.records; pairs = ps; slots = (shelf_of (record b { pairs = ps })).slots; nodes = m })
-    (all_same (shelf_of b).nodes (shelf_of (record b { pairs = ps })).nodes (λ y. sym (pair_nodes b ps y)))
+pub book_parts_pairs : (b : Book) (ps : List PairValue) → record (book_parts b) { pairs = ps } ≡ book_parts (record b { pairs = ps })
+book_parts_pairs b ps =
+    ap (λ (z : Role → ℕ → Slot). record { records = b.records; pairs = ps; slots = z; nodes = (book_parts b).nodes }) (sym (slots_same b (record b { pairs = ps }) (pair_slots b ps)))
+    ∙ ap (λ (m : Role → ℕ). record { records = b.records; pairs = ps; slots = (book_parts (record b { pairs = ps })).slots; nodes = m })
+    (all_same (book_parts b).nodes (book_parts (record b { pairs = ps })).nodes (λ y. sym (pair_nodes b ps y)))
 
 -- all calls of the channels from k on close
 pub closes_all : (x : Role) (k : ℕ) (reason : Reason) (chs : List Channel) (b : Book) → Closes x b (all_told x (closing_notes k reason chs) b)

@@ -15,7 +15,7 @@ use Rattle.packet_layer.specs.Layer as machine
 use Rattle.packet_laws.specs.Line as layers
 use Rattle.packet_laws.specs.Line.{Happening, start_line, turned}
 use Rattle.packet_laws.specs.Line.Happening.{Here, There}
-use Rattle.packet_laws.proofs.LineHolds.{line_holds}
+use Rattle.packet_laws.proofs.Line.LineHolds.{line_holds}
 use Rattle.packet_laws.proofs.Readable.{readable_made}
 use Rattle.packet_end.specs.PacketEnd.{PacketEnd}
 use Rattle.line_laws.specs.Line.{Line, Act, Begins, Hears, Expires, Relinks, RelinksIfDue, Restarts, Calls, Requests, Offers, Settles, Elapses, Sends, Event, At, Loses, happens, after, made}

@@ -9,7 +9,7 @@ use Rattle.packet_layer.specs.Packets.Received.{Whole}
 use Rattle.packet_layer.specs.Octets.{heard}
 use Rattle.packet_layer.specs.Events.{on_octets, after_hearing}
 use Rattle.packet_layer.specs.Channel.{Request}
-use Rattle.packet_laws.specs.History.{Story}
+use Rattle.packet_laws.specs.History.{History}
 use Rattle.packet_layer.specs.Layer.{Layer, Timer, unread, link_up, link_down, on_packet, on_timer, call, request, next_packet}
 use Rattle.packet_laws.specs.Line.{End, Line, begun, offers, accepts, arrives_in, handed_over, next_of_session, happens, with_layer, told}
 use Rattle.packet_laws.specs.Line.Event.{Up, Offers, Arrives}
@@ -108,7 +108,7 @@ follows_offers x l a s o p f e h = record {
 
 -- ---- calls of the user, expiries
 
-pub follows_told : (x : Side) (l m after : Layer) (a : End) (f : ℕ → Story → Story) → Follows x l a → unread m ≡ after → Follows x after (with_layer m (told f a))
+pub follows_told : (x : Side) (l m after : Layer) (a : End) (f : ℕ → History → History) → Follows x l a → unread m ≡ after → Follows x after (with_layer m (told f a))
 follows_told x l m after a f h e = record { session = h.session; offered = h.offered; accepted = h.accepted; layer = e }
 
 pub call_follows : (l : Layer) (a : End) (parts : CallParts) → unread a.layer ≡ l → unread (call a.layer parts) ≡ call l parts

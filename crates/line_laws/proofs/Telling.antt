@@ -12,7 +12,7 @@ use Rattle.packet_layer.specs.Packets.Received.{Whole}
 use Rattle.packet_layer.specs.Channel.{Request}
 use Rattle.packet_layer.specs.Events.{on_octets, after_hearing, on_named}
 use Rattle.packet_layer.specs.Layer.{Layer, Timer, unread, link_up, link_down, on_packet, on_timer, call, request, channel_given}
-use Rattle.packet_laws.specs.History.{call_story, request_story, timer_story}
+use Rattle.packet_laws.specs.History.{call_history, request_history, timer_history}
 use Rattle.packet_laws.specs.Line.{Line, Event, happens, begun, next_of_session}
 use Rattle.packet_laws.specs.Readable.{IsReadable, CanBePlaced}
 use Rattle.packet_laws.proofs.Readable.{readable_link_up, readable_link_down, readable_on_octets, readable_on_timer, readable_call, readable_request}
@@ -141,7 +141,7 @@ module _ (x y : Side) (m : Layer) (e : PacketEnd) (v : Line) (f : Follows x e.la
     session = refl;
   }
   told_timer timers (Some t) = record {
-    mine = follows_told x e.layer (on_timer v.me.layer t) (unread (on_timer e.layer t)) v.me (λ d st. timer_story v.me.layer t d st) f (timer_follows e.layer v.me t f.layer);
+    mine = follows_told x e.layer (on_timer v.me.layer t) (unread (on_timer e.layer t)) v.me (λ d st. timer_history v.me.layer t d st) f (timer_follows e.layer v.me t f.layer);
     yours = g;
     readable = readable_on_timer e.layer t r;
     notes = one_note (on_timer e.layer t).notes (on_timer (unread v.me.layer) t).notes (sym (ap (λ (q : Layer). (on_timer q t).notes) f.layer));
@@ -152,7 +152,7 @@ module _ (x y : Side) (m : Layer) (e : PacketEnd) (v : Line) (f : Follows x e.la
 
   pub told_call : (parts : CallParts) → CanBePlaced parts → Told x x y m e (called e parts) v (Event.Calls parts ∷ [])
   told_call parts fits = record {
-    mine = follows_told x e.layer (call v.me.layer parts) (call e.layer parts) v.me (λ d st. call_story parts (channel_given v.me.layer v.me.layer.phase) d st) f
+    mine = follows_told x e.layer (call v.me.layer parts) (call e.layer parts) v.me (λ d st. call_history parts (channel_given v.me.layer v.me.layer.phase) d st) f
         (call_follows e.layer v.me parts f.layer);
     yours = g;
     readable = readable_call e.layer parts fits r;
@@ -164,7 +164,7 @@ module _ (x y : Side) (m : Layer) (e : PacketEnd) (v : Line) (f : Follows x e.la
 
   pub told_request : (channel : ℕ) (q : Request) → Told x x y m e (asked e channel q) v (Event.Requests channel q ∷ [])
   told_request channel q = record {
-    mine = follows_told x e.layer (request v.me.layer channel q) (request e.layer channel q) v.me (λ d st. request_story v.me.layer channel q d st) f
+    mine = follows_told x e.layer (request v.me.layer channel q) (request e.layer channel q) v.me (λ d st. request_history v.me.layer channel q d st) f
         (request_follows e.layer v.me channel q f.layer);
     yours = g;
     readable = readable_request e.layer channel q r;

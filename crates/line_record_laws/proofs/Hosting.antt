@@ -29,8 +29,8 @@ use Rattle.line_record_laws.specs.Kept.{Setting, Kept, end_at, coming_to}
 use Rattle.line_record_laws.specs.Clauses.{requested_at}
 use Rattle.line_record_laws.specs.Happens.{with_event}
 use Rattle.line_record_laws.specs.Hosts.{sends_all, says, refuses, lets_go, takes_any, IsKeptAfter, HostExpiryLaw, HostCallLaw, HostRequestLaw, HostSayLaw, HostRefuseLaw, HostTakeLaw}
-use Rattle.line_record_laws.proofs.Calm.{found_open}
-use Rattle.line_record_laws.proofs.Views.{KeptAt, seen, kept_calm}
+use Rattle.line_record_laws.proofs.WaitsInTransfer.{found_open}
+use Rattle.line_record_laws.proofs.Views.{KeptAt, seen, kept_waits}
 use Rattle.line_record_laws.proofs.Acting.{sends_at, requests_at}
 use Rattle.line_record_laws.proofs.Keeping.{front_kept}
 use Rattle.line_record_laws.proofs.Happening.{on_line, asked_on, called_on, expiry_on}
@@ -157,7 +157,7 @@ module _ (s : Setting) (b : Book) (l : Line) (role : Role) (kept : List Bool) (n
 
   released : (channel : ℕ) (x : Taken) → front_on me.layer channel ≡ Some x → request_refusal (asked me channel Taking).layer channel (Releasing 1) ≡ None
   released channel x is =
-      let f = found_open me.layer channel x (channel_of me.layer channel) refl (kept_calm s b role me you going coming (seen s b role l k)) is in
+      let f = found_open me.layer channel x (channel_of me.layer channel) refl (kept_waits s b role me you going coming (seen s b role l k)) is in
       may_release_after me.layer channel f.0 f.1 f.2
 
   let_go_at : (channel : ℕ) (x : Taken) → front_on me.layer channel ≡ Some x →

@@ -32,8 +32,8 @@ use Rattle.book_laws.proofs.BookHolds.{book_holds}
 use Rattle.book_laws.proofs.Beside.{is_beside}
 use Rattle.line_record_laws.specs.Kept.{Setting, Kept, IsLike, beginning, end_at, coming_to}
 use Rattle.line_record_laws.specs.Clauses.{MadeLaw, Tells, TellsLaw, SilentLaw, RestartLaw, CallLaw, requested_at, RequestLaw, LossLaw, EditLaw, LikeLaw, HoldsLaw, PresentLaw, IsInTransfer, TransferLaw, AskedLaw, FrontLaw, ChannelsLaw, ClosingLaw}
-use Rattle.line_record_laws.proofs.Calm.{found_open}
-use Rattle.line_record_laws.proofs.Views.{kept_calm, KeptAt, seen, unseen}
+use Rattle.line_record_laws.proofs.WaitsInTransfer.{found_open}
+use Rattle.line_record_laws.proofs.Views.{kept_waits, KeptAt, seen, unseen}
 use Rattle.line_record_laws.proofs.Acting.{hears_at, expires_at, relinks_at, relinks_if_due_at, begins_at, settles_at, elapses_at, sends_at, offers_at, restarts_at, calls_at, requests_at, loses_at, edits_at, kept_happens, end_is}
 
 -- ---- the making
@@ -242,8 +242,8 @@ asked_kept s b l role channel r k h = present_kept s b l role channel k ∙ foun
 pub front_kept : FrontLaw
 front_kept s b l role channel x k is =
     let e : PacketEnd = end_at role l in
-    let calm = kept_calm s b role e (end_at (other_of role) l) (coming_to (other_of role) l) (coming_to role l) (seen s b role l k) in
-    let f = found_open e.layer channel x (channel_of e.layer channel) refl calm is in
+    let waits = kept_waits s b role e (end_at (other_of role) l) (coming_to (other_of role) l) (coming_to role l) (seen s b role l k) in
+    let f = found_open e.layer channel x (channel_of e.layer channel) refl waits is in
     ap (λ (o : Option Channel). refusal_at e.layer.role Taking o) f.1 ∙ ap (λ (v : Bool). refused_if (not v) Refusal.NoCall None) f.2
 
 pub channels_kept : ChannelsLaw

@@ -1,6 +1,6 @@
 mod Moving
 mod Telling
-mod Calm
+mod WaitsInTransfer
 pub mod Views
 pub mod Acting
 pub mod Keeping

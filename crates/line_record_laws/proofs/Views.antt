@@ -16,7 +16,7 @@ use Rattle.call_records.specs.Book.{Book}
 use Rattle.book_laws.specs.Told.{World, after_all}
 use Rattle.line_record_laws.specs.Kept.{Setting, IsSetting, Kept, beginning, end_at, coming_to}
 use Rattle.packet_layer.specs.Layer.{Layer}
-use Rattle.line_record_laws.proofs.Calm.{AllCalm, BothCalm, moves_calm, start_calm}
+use Rattle.line_record_laws.proofs.WaitsInTransfer.{AllWaitInTransfer, BothWaitInTransfer, moves_waits, start_waits}
 use Rattle.line_record_laws.proofs.Moving.{Reaches, world_at}
 
 pub record KeptAt (s : Setting) (b : Book) (role : Role) (me you : PacketEnd) (going coming : List Octets) : Type 0 where
@@ -97,12 +97,12 @@ unseen s b Dce me you going coming k =
     }
 
 -- outside data transfer nothing waits to be taken at the end
-mine_calm : (role : Role) (v : layers.Line) (b : Book) (mine yours : ℕ) → BothCalm (world_at role v b mine yours).line → AllCalm v.me.layer
-mine_calm Dte v b mine yours h = h.0
-mine_calm Dce v b mine yours h = h.1
+mine_waits : (role : Role) (v : layers.Line) (b : Book) (mine yours : ℕ) → BothWaitInTransfer (world_at role v b mine yours).line → AllWaitInTransfer v.me.layer
+mine_waits Dte v b mine yours h = h.0
+mine_waits Dce v b mine yours h = h.1
 
-pub kept_calm : (s : Setting) (b : Book) (role : Role) (me you : PacketEnd) (going coming : List Octets) → KeptAt s b role me you going coming → AllCalm me.layer
-kept_calm s b role me you going coming k =
-    subst (λ (l : Layer). AllCalm l) k.joint.mine.layer
-    (mine_calm role k.line b k.top_mine k.top_yours
-    (subst (λ (v : World). BothCalm v.line) k.reaches.ends (moves_calm k.reaches.moves (beginning s) (start_calm s.dte.channels s.dte.window s.dte.standing))))
+pub kept_waits : (s : Setting) (b : Book) (role : Role) (me you : PacketEnd) (going coming : List Octets) → KeptAt s b role me you going coming → AllWaitInTransfer me.layer
+kept_waits s b role me you going coming k =
+    subst (λ (l : Layer). AllWaitInTransfer l) k.joint.mine.layer
+    (mine_waits role k.line b k.top_mine k.top_yours
+    (subst (λ (v : World). BothWaitInTransfer v.line) k.reaches.ends (moves_waits k.reaches.moves (beginning s) (start_waits s.dte.channels s.dte.window s.dte.standing))))

@@ -9,9 +9,9 @@ use Rattle.packet_layer.specs.Channel.{Request, traffic_after}
 use Rattle.packet_layer.specs.Channel.Request.{Sending, Interrupting, Stopping, Taking, Releasing, Confirming}
 use Rattle.packet_laws.specs.History.{Epoch, logged, with_taken}
 use Rattle.packet_laws.specs.Counts.{NamesCounts, NamesPlace, NamesAfter, NamesNext, IsNumbered, AreDelivered, CountsLaw, or_first, through_delivery}
-use Rattle.packet_laws.proofs.Pipes.{more_mod}
-use Rattle.packet_laws.proofs.Saying.{by_cond, and_parts}
-use Rattle.packet_laws.proofs.Asking.{same_length}
+use Rattle.packet_laws.proofs.Call.Pipes.{more_mod}
+use Rattle.packet_laws.proofs.Call.Saying.{by_cond, and_parts}
+use Rattle.packet_laws.proofs.Call.Asking.{same_length}
 
 named_mod : (c r : ℕ) → r < 8 → r ≡ (c + distance (c % 8) r) % 8
 named_mod c r lt = omega arith

@@ -49,50 +49,50 @@ logged_heard _ e = e
 -- the epochs of a channel in one session of the link, by three numbers: of the restart, of the use of the channel since it,
 -- of the reset in that use. The next restart, use or epoch begins where the end owes the packet that asks for it or the one that
 -- confirms it; a packet that answers the end's own request begins none
-pub record Story : Type 0 where
+pub record History : Type 0 where
   pub restart : ℕ
   pub use_ : ℕ
   pub epoch : ℕ
   pub epochs : ℕ → ℕ → ℕ → Epoch
 
-abbrev pub new_story : Story
-new_story = record { restart = 0; use_ = 0; epoch = 0; epochs = λ r u g. empty_epoch }
+abbrev pub new_history : History
+new_history = record { restart = 0; use_ = 0; epoch = 0; epochs = λ r u g. empty_epoch }
 
-abbrev pub is_now : Story → ℕ → ℕ → ℕ → Bool
+abbrev pub is_now : History → ℕ → ℕ → ℕ → Bool
 is_now st r u g = (r == st.restart) && ((u == st.use_) && (g == st.epoch))
 
-abbrev pub grown : (Epoch → Epoch) → Story → Story
+abbrev pub grown : (Epoch → Epoch) → History → History
 grown f st = record st { epochs = λ r u g. cond (is_now st r u g) (f (st.epochs r u g)) (st.epochs r u g) }
 
 -- a call placed is known in the whole use, and so is that one was accepted
-abbrev pub is_use : Story → ℕ → ℕ → Bool
+abbrev pub is_use : History → ℕ → ℕ → Bool
 is_use st r u = (r == st.restart) && (u == st.use_)
 
-abbrev pub in_whole_use : (Epoch → Epoch) → Story → Story
+abbrev pub in_whole_use : (Epoch → Epoch) → History → History
 in_whole_use f st = record st { epochs = λ r u g. cond (is_use st r u) (f (st.epochs r u g)) (st.epochs r u g) }
 
 abbrev pub with_call : CallParts → Epoch → Epoch
 with_call parts e = record e { called = Some parts }
 
-abbrev pub placed : CallParts → Story → Story
+abbrev pub placed : CallParts → History → History
 placed parts st = in_whole_use (λ e. with_call parts e) st
 
 abbrev pub with_answer : Epoch → Epoch
 with_answer e = record e { answered = true }
 
-abbrev pub call_accepted : Story → Story
+abbrev pub call_accepted : History → History
 call_accepted st = in_whole_use (λ e. with_answer e) st
 
-abbrev pub next_restart_of : Story → Story
+abbrev pub next_restart_of : History → History
 next_restart_of st = record st { restart = st.restart + 1; use_ = 0; epoch = 0 }
 
-abbrev pub next_use_of : Story → Story
+abbrev pub next_use_of : History → History
 next_use_of st = record st { use_ = st.use_ + 1; epoch = 0 }
 
-abbrev pub next_epoch_of : Story → Story
+abbrev pub next_epoch_of : History → History
 next_epoch_of st = record st { epoch = st.epoch + 1 }
 
-abbrev pub opened : Option Body → Story → Story
+abbrev pub opened : Option Body → History → History
 opened (Some (Restart cause diagnostic)) st = next_restart_of st
 opened (Some RestartConfirmation) st = next_restart_of st
 opened (Some (Clear cause diagnostic)) st = next_use_of st
@@ -101,58 +101,58 @@ opened (Some (Reset cause diagnostic)) st = next_epoch_of st
 opened (Some ResetConfirmation) st = next_epoch_of st
 opened _ st = st
 
--- ---- the story of channel c over what happens to the layer
+-- ---- the history of channel c over what happens to the layer
 
-abbrev pub grown_unless : Option Refusal → (Epoch → Epoch) → Story → Story
+abbrev pub grown_unless : Option Refusal → (Epoch → Epoch) → History → History
 grown_unless None f st = grown f st
 grown_unless (Some r) f st = st
 
-abbrev pub accepted_unless : Option Refusal → Story → Story
+abbrev pub accepted_unless : Option Refusal → History → History
 accepted_unless None st = call_accepted st
 accepted_unless (Some r) st = st
 
-abbrev pub requested_story : Role → Channel → Request → Story → Story
-requested_story role ch Accept st = accepted_unless (refusal role ch Accept) st
-requested_story role ch r st = opened (requested role ch r).owes (grown_unless (refusal role ch r) (λ e. logged ch.traffic r e) st)
+abbrev pub requested_history : Role → Channel → Request → History → History
+requested_history role ch Accept st = accepted_unless (refusal role ch Accept) st
+requested_history role ch r st = opened (requested role ch r).owes (grown_unless (refusal role ch r) (λ e. logged ch.traffic r e) st)
 
-abbrev pub heard_story : CallState → Bool → Heard → Story → Story
-heard_story Transfer false (Wrong diagnostic) st = st
-heard_story Transfer false h st = grown (λ e. logged_heard h e) st
-heard_story s b h st = st
+abbrev pub heard_history : CallState → Bool → Heard → History → History
+heard_history Transfer false (Wrong diagnostic) st = st
+heard_history Transfer false h st = grown (λ e. logged_heard h e) st
+heard_history s b h st = st
 
-abbrev pub received_story : Role → ℕ → ℕ → Channel → Body → Story → Story
-received_story role window c ch body st = opened (received role window c ch body).owes (heard_story ch.state ch.resetting (hears window ch.traffic body) st)
+abbrev pub received_history : Role → ℕ → ℕ → Channel → Body → History → History
+received_history role window c ch body st = opened (received role window c ch body).owes (heard_history ch.state ch.resetting (hears window ch.traffic body) st)
 
-abbrev pub found_story : Option Channel → (Channel → Story → Story) → Story → Story
-found_story None f st = st
-found_story (Some ch) f st = f ch st
+abbrev pub found_history : Option Channel → (Channel → History → History) → History → History
+found_history None f st = st
+found_history (Some ch) f st = f ch st
 
-abbrev pub request_story : Layer → ℕ → Request → ℕ → Story → Story
-request_story l d r c st = cond (c == d) (found_story (channel_of l d) (λ ch s. requested_story l.role ch r s) st) st
+abbrev pub request_history : Layer → ℕ → Request → ℕ → History → History
+request_history l d r c st = cond (c == d) (found_history (channel_of l d) (λ ch s. requested_history l.role ch r s) st) st
 
-abbrev pub call_story : CallParts → Option ℕ → ℕ → Story → Story
-call_story parts None c st = st
-call_story parts (Some d) c st = cond (c == d) (placed parts st) st
+abbrev pub call_history : CallParts → Option ℕ → ℕ → History → History
+call_history parts None c st = st
+call_history parts (Some d) c st = cond (c == d) (placed parts st) st
 
-abbrev pub restart_story : Phase → Body → Story → Story
-restart_story PacketReady (Restart cause diagnostic) st = next_restart_of st
-restart_story PacketReady RestartConfirmation st = next_restart_of st
-restart_story phase body st = st
+abbrev pub restart_history : Phase → Body → History → History
+restart_history PacketReady (Restart cause diagnostic) st = next_restart_of st
+restart_history PacketReady RestartConfirmation st = next_restart_of st
+restart_history phase body st = st
 
-abbrev pub channel_story : Phase → Option Channel → (Channel → Story → Story) → Story → Story
-channel_story PacketReady found f st = found_story found f st
-channel_story phase found f st = st
+abbrev pub channel_history : Phase → Option Channel → (Channel → History → History) → History → History
+channel_history PacketReady found f st = found_history found f st
+channel_history phase found f st = st
 
-abbrev pub packet_story : Layer → Packet → ℕ → Story → Story
-packet_story l p c st =
-    cond (p.channel == 0) (restart_story l.phase p.body st)
-    (cond (c == p.channel) (channel_story l.phase (channel_of l p.channel) (λ ch s. received_story l.role l.window p.channel ch p.body s) st) st)
+abbrev pub packet_history : Layer → Packet → ℕ → History → History
+packet_history l p c st =
+    cond (p.channel == 0) (restart_history l.phase p.body st)
+    (cond (c == p.channel) (channel_history l.phase (channel_of l p.channel) (λ ch s. received_history l.role l.window p.channel ch p.body s) st) st)
 
-abbrev pub expired_story : Timer → ℕ → Story → Story
-expired_story RestartTimer c st = st
-expired_story (CallTimer d) c st = cond (c == d) (next_use_of st) st
-expired_story (ResetTimer d) c st = cond (c == d) (next_use_of st) st
-expired_story (ClearTimer d) c st = next_restart_of st
+abbrev pub expired_history : Timer → ℕ → History → History
+expired_history RestartTimer c st = st
+expired_history (CallTimer d) c st = cond (c == d) (next_use_of st) st
+expired_history (ResetTimer d) c st = cond (c == d) (next_use_of st) st
+expired_history (ClearTimer d) c st = next_restart_of st
 
-abbrev pub timer_story : Layer → Timer → ℕ → Story → Story
-timer_story l t c st = cond (runs l t) (expired_story t c st) st
+abbrev pub timer_history : Layer → Timer → ℕ → History → History
+timer_history l t c st = cond (runs l t) (expired_history t c st) st

@@ -8,7 +8,7 @@ use Rattle.packet_layer.specs.Channel.{CallState, Channel, received}
 use Rattle.packet_layer.specs.Channel.CallState.{Ready, OwnWaiting, FarWaiting, Transfer, Collision}
 use Rattle.packet_layer.specs.Layer.{Phase, Layer, channel_of}
 use Rattle.packet_layer.specs.Layer.Phase.{PacketReady}
-use Rattle.packet_laws.specs.History.{Epoch, Story, empty_epoch, with_call}
+use Rattle.packet_laws.specs.History.{Epoch, History, empty_epoch, with_call}
 use Rattle.packet_laws.specs.Line.{End, Line, Happening, turned, start_line, after, next_of_session}
 
 -- a list that begins another one
@@ -44,9 +44,9 @@ is_channel_fault phase l p = false
 abbrev pub is_fault : Layer → Packet → Bool
 is_fault l p = cond (p.channel == 0) (is_restart_fault l.phase p.body) (is_channel_fault l.phase l p)
 
--- the stories of two ends are in step: neither is more than one restart ahead, in the same restart neither more than one
+-- the histories of two ends are in step: neither is more than one restart ahead, in the same restart neither more than one
 -- use, in the same use neither more than one epoch
-pub record InStep (a b : Story) : Type 0 where
+pub record InStep (a b : History) : Type 0 where
   pub restarts : (a.restart ≤ b.restart + 1) × (b.restart ≤ a.restart + 1)
   pub uses : a.restart ≡ b.restart → (a.use_ ≤ b.use_ + 1) × (b.use_ ≤ a.use_ + 1)
   pub epochs : a.restart ≡ b.restart → a.use_ ≡ b.use_ → (a.epoch ≤ b.epoch + 1) × (b.epoch ≤ a.epoch + 1)
@@ -76,7 +76,7 @@ Together Collision Collision = Unit {0}
 Together Transfer Transfer = Unit {0}
 Together _ _ = ⊥
 
-abbrev pub epoch_now : Story → Epoch
+abbrev pub epoch_now : History → Epoch
 epoch_now st = st.epochs st.restart st.use_ st.epoch
 
 abbrev pub listed : Option (List ℕ) → List (List ℕ)
@@ -96,11 +96,11 @@ pub record AtRest (w : Line) (s c : ℕ) (a b : Channel) : Type 0 where
   pub together : Together a.state b.state
   pub no_reset_here : a.resetting ≡ false
   pub no_reset_there : b.resetting ≡ false
-  pub same_restart : (w.me.stories s c).restart ≡ (w.you.stories s c).restart
-  pub same_use : (w.me.stories s c).use_ ≡ (w.you.stories s c).use_
-  pub same_epoch : (w.me.stories s c).epoch ≡ (w.you.stories s c).epoch
-  pub forth : NothingMissing (epoch_now (w.me.stories s c)) (epoch_now (w.you.stories s c)) a b
-  pub back : NothingMissing (epoch_now (w.you.stories s c)) (epoch_now (w.me.stories s c)) b a
+  pub same_restart : (w.me.histories s c).restart ≡ (w.you.histories s c).restart
+  pub same_use : (w.me.histories s c).use_ ≡ (w.you.histories s c).use_
+  pub same_epoch : (w.me.histories s c).epoch ≡ (w.you.histories s c).epoch
+  pub forth : NothingMissing (epoch_now (w.me.histories s c)) (epoch_now (w.you.histories s c)) a b
+  pub back : NothingMissing (epoch_now (w.you.histories s c)) (epoch_now (w.me.histories s c)) b a
 
 -- a Call is about to arrive at `me` on channel c in session s, where the channel is free or meets the end's own call
 abbrev pub TakesCall : CallState → Type 0
@@ -118,7 +118,7 @@ pub record CallArrives (w : Line) (s c : ℕ) (parts : CallParts) : Type 0 where
 
 -- then the other end placed that very call in the same restart and use, and none in a later restart, nor in a later use of that
 -- restart, whether it began a further restart meanwhile or not
-pub record CallKnown (mine yours : Story) (parts : CallParts) : Type 0 where
+pub record CallKnown (mine yours : History) (parts : CallParts) : Type 0 where
   pub known : (g : ℕ) → (yours.epochs mine.restart mine.use_ g).called ≡ Some parts
   pub last_restart : (r u g : ℕ) → mine.restart < r → (yours.epochs r u g).called ≡ None
   pub last_use : (u g : ℕ) → mine.use_ < u → (yours.epochs mine.restart u g).called ≡ None
@@ -128,23 +128,23 @@ abbrev pub HasNoLogs : Epoch → Type 0
 HasNoLogs e = e ≡ record empty_epoch { called = e.called; answered = e.answered }
 
 -- nothing is known of a later restart, nor of a later use of the present restart, and nothing was done in a later epoch of the present use
-pub record IsBegun (st : Story) : Type 0 where
+pub record IsBegun (st : History) : Type 0 where
   pub restarts : (r u g : ℕ) → st.restart < r → st.epochs r u g ≡ empty_epoch
   pub uses : (u g : ℕ) → st.use_ < u → st.epochs st.restart u g ≡ empty_epoch
   pub epochs : (g : ℕ) → st.epoch < g → HasNoLogs (st.epochs st.restart st.use_ g)
 
 -- all epochs of a use say the same of its call
-pub record IsOneCall (st : Story) : Type 0 where
+pub record IsOneCall (st : History) : Type 0 where
   pub called : (r u g h : ℕ) → (st.epochs r u g).called ≡ (st.epochs r u h).called
   pub answered : (r u g h : ℕ) → (st.epochs r u g).answered ≡ (st.epochs r u h).answered
 
 -- in the present use this end placed no call, accepted none and did nothing
-pub record IsUnused (st : Story) : Type 0 where
+pub record IsUnused (st : History) : Type 0 where
   pub first : st.epoch ≡ 0
   pub empty : (g : ℕ) → st.epochs st.restart st.use_ g ≡ empty_epoch
 
 -- it placed a call and did nothing else
-pub record HasPlaced (st : Story) : Type 0 where
+pub record HasPlaced (st : History) : Type 0 where
   pub parts : CallParts
   pub first : st.epoch ≡ 0
   pub placed : (g : ℕ) → st.epochs st.restart st.use_ g ≡ with_call parts empty_epoch
@@ -157,7 +157,7 @@ HasCall role called answered = Unit {0}
 
 -- what the state of the channel at an end says of the present use: in p1, which is the state in r2 and r3 too, during the own clear, and
 -- while the other end's call waits, it is unused
-abbrev pub InUse : Role → CallState → Story → Type 0
+abbrev pub InUse : Role → CallState → History → Type 0
 InUse role OwnWaiting st = HasPlaced st
 InUse role Collision st = HasPlaced st
 InUse role Transfer st = HasCall role (epoch_now st).called (epoch_now st).answered
@@ -165,32 +165,32 @@ InUse role state st = IsUnused st
 
 -- in a use in which an end did anything, one of the two ends accepted a call, and never do both; where an end accepted one, the other
 -- end had placed one
-pub record OneAnswers (mine yours : Story) : Type 0 where
+pub record OneAnswers (mine yours : History) : Type 0 where
   pub answered : (r u g : ℕ) → (HasNoLogs (mine.epochs r u g) → ⊥) → ((mine.epochs r u g).answered || (yours.epochs r u g).answered) ≡ true
   pub never_both : (r u g : ℕ) → ((mine.epochs r u g).answered && (yours.epochs r u g).answered) ≡ false
   pub was_called : (r u g : ℕ) → (mine.epochs r u g).answered ≡ true → is_some (yours.epochs r u g).called ≡ true
 
 -- at one end, up in the session or not
 pub record HoldsAt (e : End) (s c : ℕ) : Type 0 where
-  pub begun : IsBegun (e.stories s c)
-  pub one_call : IsOneCall (e.stories s c)
-  pub in_use : (ch : Channel) → e.session ≡ Some s → channel_of e.layer c ≡ Some ch → InUse e.layer.role ch.state (e.stories s c)
+  pub begun : IsBegun (e.histories s c)
+  pub one_call : IsOneCall (e.histories s c)
+  pub in_use : (ch : Channel) → e.session ≡ Some s → channel_of e.layer c ≡ Some ch → InUse e.layer.role ch.state (e.histories s c)
 
 -- on channel c in session s, both ways: each epoch of the one end is aligned with the epoch of the same restart, use and reset at
--- the other end (which is empty where there is none); the stories are in step; where nothing is on its way, nothing is missing;
--- a Call that makes an Incoming Call is the one that the other end placed; at each end the story goes with the state of the channel,
+-- the other end (which is empty where there is none); the histories are in step; where nothing is on its way, nothing is missing;
+-- a Call that makes an Incoming Call is the one that the other end placed; at each end the history goes with the state of the channel,
 -- and of the two ends of a call one accepted it
 pub record Holds (w : Line) (s c : ℕ) : Type 0 where
-  pub forth : (r u g : ℕ) → Aligned ((w.me.stories s c).epochs r u g) ((w.you.stories s c).epochs r u g)
-  pub back : (r u g : ℕ) → Aligned ((w.you.stories s c).epochs r u g) ((w.me.stories s c).epochs r u g)
-  pub in_step : InStep (w.me.stories s c) (w.you.stories s c)
+  pub forth : (r u g : ℕ) → Aligned ((w.me.histories s c).epochs r u g) ((w.you.histories s c).epochs r u g)
+  pub back : (r u g : ℕ) → Aligned ((w.you.histories s c).epochs r u g) ((w.me.histories s c).epochs r u g)
+  pub in_step : InStep (w.me.histories s c) (w.you.histories s c)
   pub at_rest : (a b : Channel) → Quiet w s c a b → AtRest w s c a b
-  pub call_here : (parts : CallParts) → CallArrives w s c parts → CallKnown (w.me.stories s c) (w.you.stories s c) parts
-  pub call_there : (parts : CallParts) → CallArrives (turned w) s c parts → CallKnown (w.you.stories s c) (w.me.stories s c) parts
+  pub call_here : (parts : CallParts) → CallArrives w s c parts → CallKnown (w.me.histories s c) (w.you.histories s c) parts
+  pub call_there : (parts : CallParts) → CallArrives (turned w) s c parts → CallKnown (w.you.histories s c) (w.me.histories s c) parts
   pub here : HoldsAt w.me s c
   pub there : HoldsAt w.you s c
-  pub answers_here : OneAnswers (w.me.stories s c) (w.you.stories s c)
-  pub answers_there : OneAnswers (w.you.stories s c) (w.me.stories s c)
+  pub answers_here : OneAnswers (w.me.histories s c) (w.you.histories s c)
+  pub answers_there : OneAnswers (w.you.histories s c) (w.me.histories s c)
 
 -- no packet that arrives at an end is a procedure error there
 abbrev pub NoFault : Line → Type 0

@@ -7,16 +7,16 @@ use Rattle.packet_layer.specs.Packets.{CallParts, Packet}
 use Rattle.packet_layer.specs.Packets.Received.{Whole}
 use Rattle.packet_layer.specs.Channel.{Request}
 use Rattle.packet_layer.specs.Layer.{Layer, Timer, made, link_up, link_down, on_packet, on_timer, next_packet, call, channel_given, request}
-use Rattle.packet_laws.specs.History.{Story, new_story, placed, call_accepted, call_story, request_story, packet_story, timer_story}
+use Rattle.packet_laws.specs.History.{History, new_history, placed, call_accepted, call_history, request_history, packet_history, timer_history}
 
 -- one end: its layer, the session in which its link is up, and by session what it handed to the link, how many of the other
--- end's packets it accepted, and the stories of its channels
+-- end's packets it accepted, and the histories of its channels
 pub record End : Type 0 where
   pub layer : Layer
   pub session : Option ℕ
   pub offered : ℕ → List Packet
   pub accepted : ℕ → ℕ
-  pub stories : ℕ → ℕ → Story
+  pub histories : ℕ → ℕ → History
 
 pub record Line : Type 0 where
   pub me : End
@@ -34,16 +34,16 @@ start_session false = None
 abbrev pub no_parts : CallParts
 no_parts = record { called = []; calling = []; facilities = []; user_part = [] }
 
-abbrev pub standing_story : Role → Story
-standing_story Dte = placed no_parts new_story
-standing_story Dce = call_accepted new_story
+abbrev pub standing_history : Role → History
+standing_history Dte = placed no_parts new_history
+standing_history Dce = call_accepted new_history
 
-abbrev pub start_story : Role → Bool → ℕ → ℕ → Story
-start_story role true zero (suc zero) = standing_story role
-start_story role standing s c = new_story
+abbrev pub start_history : Role → Bool → ℕ → ℕ → History
+start_history role true zero (suc zero) = standing_history role
+start_history role standing s c = new_history
 
 abbrev pub start_end : Role → ℕ → ℕ → Bool → End
-start_end role channels window standing = record { layer = made role channels window standing; session = start_session standing; offered = λ s. []; accepted = λ s. 0; stories = λ s c. start_story role standing s c }
+start_end role channels window standing = record { layer = made role channels window standing; session = start_session standing; offered = λ s. []; accepted = λ s. 0; histories = λ s c. start_history role standing s c }
 
 abbrev pub start_line : ℕ → ℕ → Bool → Line
 start_line channels window standing = record { me = start_end Dte channels window standing; you = start_end Dce channels window standing }
@@ -65,9 +65,9 @@ abbrev pub is_session : Option ℕ → ℕ → Bool
 is_session None s = false
 is_session (Some now) s = s == now
 
--- the stories of the present session go on
-abbrev pub told : (ℕ → Story → Story) → End → End
-told f e = record e { stories = λ s c. cond (is_session e.session s) (f c (e.stories s c)) (e.stories s c) }
+-- the histories of the present session go on
+abbrev pub told : (ℕ → History → History) → End → End
+told f e = record e { histories = λ s c. cond (is_session e.session s) (f c (e.histories s c)) (e.histories s c) }
 
 abbrev pub with_layer : Layer → End → End
 with_layer l e = record e { layer = l }
@@ -89,7 +89,7 @@ offers (Some s) e = record e { layer = (next_packet e.layer).layer; offered = ha
 
 abbrev pub accepts : ℕ → Option Packet → End → End
 accepts s None e = e
-accepts s (Some p) e = record (told (λ c st. packet_story e.layer p c st) e) { layer = on_packet e.layer (Whole p); accepted = λ k. cond (k == s) (e.accepted k + 1) (e.accepted k) }
+accepts s (Some p) e = record (told (λ c st. packet_history e.layer p c st) e) { layer = on_packet e.layer (Whole p); accepted = λ k. cond (k == s) (e.accepted k + 1) (e.accepted k) }
 
 abbrev pub next_of_session : Line → ℕ → Option Packet
 next_of_session w s = slice_get (w.you.offered s) (w.me.accepted s)
@@ -103,9 +103,9 @@ abbrev pub happens : Event → Line → Line
 happens (Up s) w = cond (may_begin s w) (record w { me = begun s w.me }) w
 happens Down w = record w { me = record w.me { layer = link_down w.me.layer; session = None } }
 happens (Calls parts) w =
-    record w { me = with_layer (call w.me.layer parts) (told (λ d st. call_story parts (channel_given w.me.layer w.me.layer.phase) d st) w.me) }
-happens (Requests c r) w = record w { me = with_layer (request w.me.layer c r) (told (λ d st. request_story w.me.layer c r d st) w.me) }
-happens (Expires t) w = record w { me = with_layer (on_timer w.me.layer t) (told (λ d st. timer_story w.me.layer t d st) w.me) }
+    record w { me = with_layer (call w.me.layer parts) (told (λ d st. call_history parts (channel_given w.me.layer w.me.layer.phase) d st) w.me) }
+happens (Requests c r) w = record w { me = with_layer (request w.me.layer c r) (told (λ d st. request_history w.me.layer c r d st) w.me) }
+happens (Expires t) w = record w { me = with_layer (on_timer w.me.layer t) (told (λ d st. timer_history w.me.layer t d st) w.me) }
 happens Offers w = record w { me = offers w.me.session w.me }
 happens Arrives w = arrives_in w.me.session w
 

@@ -1,4 +1,4 @@
-use Rattle.packet_laws.proofs.LineHolds.{line_holds}
+use Rattle.packet_laws.proofs.Line.LineHolds.{line_holds}
 use Rattle.packet_laws.proofs.law.line_law.Goals as goal
 
 pub returns : goal.returns

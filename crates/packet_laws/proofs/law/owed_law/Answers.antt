@@ -1,4 +1,4 @@
-use Rattle.packet_laws.proofs.OwedHolds.{owed_holds}
+use Rattle.packet_laws.proofs.Owed.OwedHolds.{owed_holds}
 use Rattle.packet_laws.proofs.law.owed_law.Goals as goal
 
 pub returns : goal.returns

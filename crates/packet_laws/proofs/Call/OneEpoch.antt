@@ -1,0 +1,142 @@
+-- One epoch of a call at both ends: what is sent, on the way, waiting and taken; numbers modulo 8 and the counts they stand for;
+-- interrupts and their confirmations.
+use Rattle.std.proofs.Common.{◌≡◌, ℕ, suc, ◌+◌, ◌%◌, ◌≤◌, Bool, true, false, List, [], ◌∷◌, ◌++◌, length, Option, Some, None}
+use Rattle.packet_layer.specs.Packets.{Datum, Body}
+use Rattle.packet_layer.specs.Packets.Body.{Data, Interrupt, InterruptConfirmation, ReceiveReady, ReceiveNotReady}
+use Rattle.packet_layer.specs.Traffic.{Traffic, Heard, fresh, says, hears, interrupt_pending}
+use Rattle.packet_layer.specs.Traffic.Heard.{Keeps, Confirms, Wrong}
+use Rattle.packet_layer.specs.Channel.{Request, traffic_after}
+use Rattle.packet_layer.specs.Channel.Request.{Interrupting}
+use Rattle.packet_laws.specs.History.{Epoch, empty_epoch, logged, logged_heard}
+use Rattle.packet_laws.specs.Law.{listed}
+use Rattle.packet_laws.proofs.Handshakes.Handshake.{Two, Did}
+
+pub record Inner : Type 0 where
+  pub traffic : Traffic
+  pub epoch : Epoch
+
+abbrev pub begun_epoch : Inner
+begun_epoch = record { traffic = fresh; epoch = empty_epoch }
+
+abbrev pub heard_traffic : Heard → Traffic → Traffic
+heard_traffic (Keeps n t) old = t
+heard_traffic (Confirms t) old = t
+heard_traffic (Wrong d) old = old
+
+abbrev pub heard_inner : Heard → Inner → Inner
+heard_inner h i = record { traffic = heard_traffic h i.traffic; epoch = logged_heard h i.epoch }
+
+abbrev pub NotWrong : Heard → Type 0
+NotWrong (Wrong d) = ⊥
+NotWrong _ = Unit {0}
+
+abbrev pub inner_hears : ℕ → Inner → Body → Did Inner
+inner_hears window i b = record { end_ = heard_inner (hears window i.traffic b) i; says = None }
+
+abbrev pub inner_ok : ℕ → Inner → Body → Type 0
+inner_ok window i b = NotWrong (hears window i.traffic b)
+
+abbrev pub inner_says : ℕ → Inner → Did Inner
+inner_says window i = record { end_ = record i { traffic = (says window i.traffic).traffic }; says = (says window i.traffic).body }
+
+-- ---- what is in a pipe
+
+abbrev pub data_of : Body → List Datum
+data_of (Data s r d) = d ∷ []
+data_of _ = []
+
+abbrev pub datas : List Body → List Datum
+datas [] = []
+datas (t ∷ ts) = data_of t ++ datas ts
+
+abbrev pub interrupt_of : Body → List (List ℕ)
+interrupt_of (Interrupt octets) = octets ∷ []
+interrupt_of _ = []
+
+abbrev pub interrupts : List Body → List (List ℕ)
+interrupts [] = []
+interrupts (t ∷ ts) = interrupt_of t ++ interrupts ts
+
+abbrev pub confirmation_of : Body → ℕ
+confirmation_of InterruptConfirmation = 1
+confirmation_of _ = 0
+
+abbrev pub confirmations : List Body → ℕ
+confirmations [] = 0
+confirmations (t ∷ ts) = confirmation_of t + confirmations ts
+
+-- the P(S) on the way follow one another from count k on, and nothing but traffic is on the way
+abbrev pub NumberOf : Body → ℕ → (ℕ → Type 0) → Type 0
+NumberOf (Data s r d) k rest = (s ≡ k % 8) × rest (suc k)
+NumberOf (Interrupt octets) k rest = rest k
+NumberOf InterruptConfirmation k rest = rest k
+NumberOf (ReceiveReady r) k rest = rest k
+NumberOf (ReceiveNotReady r) k rest = rest k
+NumberOf _ k rest = ⊥
+
+abbrev pub Numbers : ℕ → List Body → Type 0
+Numbers k [] = Unit {0}
+Numbers k (t ∷ ts) = NumberOf t k (λ j. Numbers j ts)
+
+-- the P(R) on the way name counts that do not fall, from the last one covered to what is released
+abbrev pub AckOf : Body → ℕ → (ℕ → Type 0) → Type 0
+AckOf (Data s r d) c rest = (n : ℕ) × ((r ≡ n % 8) × (c ≤ n) × rest n)
+AckOf (ReceiveReady r) c rest = (n : ℕ) × ((r ≡ n % 8) × (c ≤ n) × rest n)
+AckOf (ReceiveNotReady r) c rest = (n : ℕ) × ((r ≡ n % 8) × (c ≤ n) × rest n)
+AckOf _ c rest = rest c
+
+abbrev pub Acks : ℕ → List Body → ℕ → Type 0
+Acks c [] f = c ≤ f
+Acks c (t ∷ ts) f = AckOf t c (λ n. Acks n ts f)
+
+-- ---- from the end x to the end y
+
+pub record Stream (taken arrived waiting sent : List Datum) (receive send : ℕ) (o : List Body) : Type 0 where
+  pub items : taken ++ (arrived ++ (datas o ++ waiting)) ≡ sent
+  pub numbers : Numbers (length taken + length arrived) o
+  pub expected : receive ≡ (length taken + length arrived) % 8
+  pub next : send ≡ (length taken + length arrived + length (datas o)) % 8
+
+pub record Acking (window wire taken covered covered_count released released_count : ℕ) (b : List Body) : Type 0 where
+  pub acks : Acks covered_count b released_count
+  pub covered_is : covered ≡ covered_count % 8
+  pub released_is : released ≡ released_count % 8
+  pub in_window : wire ≤ covered_count + window
+  pub released_taken : released_count ≤ taken
+
+abbrev pub one : Bool → ℕ
+one true = 1
+one false = 0
+
+abbrev pub Waits : Option (List ℕ) → Bool → Type 0
+Waits None b = Unit {0}
+Waits (Some x) b = b ≡ false
+
+pub record Urgent (taken sent : List (List ℕ)) (arrived waiting : Option (List ℕ)) (unconfirmed is_taken due : Bool) (o b : List Body) : Type 0 where
+  pub items : taken ++ (listed arrived ++ (interrupts o ++ listed waiting)) ≡ sent
+  pub pending : one unconfirmed ≡ length (interrupts o) + (length (listed arrived) + (one is_taken + (one due + confirmations b)))
+  pub waits : Waits waiting unconfirmed
+
+abbrev pub wire : List Datum → List Datum → List Body → ℕ
+wire taken arrived o = length taken + length arrived + length (datas o)
+
+pub record Way (window : ℕ) (x y : Inner) (o b : List Body) : Type 0 where
+  pub stream : Stream y.epoch.taken y.traffic.arrived x.traffic.waiting x.epoch.sent y.traffic.receive_number x.traffic.send_number o
+  pub acking : Acking window (wire y.epoch.taken y.traffic.arrived o) (length y.epoch.taken) x.traffic.covered x.epoch.covered y.traffic.released y.epoch.released b
+  pub urgent : Urgent y.epoch.interrupts_taken x.epoch.interrupts_sent y.traffic.interrupt_arrived x.traffic.interrupt_waiting x.traffic.interrupt_unconfirmed y.traffic.interrupt_taken y.traffic.confirmation_due o b
+
+-- both ways, with a window of at most 7
+pub record Epochs_agree (window : ℕ) (v : Two Inner) : Type 0 where
+  pub small : window ≤ 7
+  pub forth : Way window v.me v.you v.out v.back
+  pub back : Way window v.you v.me v.back v.out
+
+-- ---- what the user asks in the call
+
+abbrev pub inner_after : Request → Inner → Inner
+inner_after r i = record { traffic = traffic_after r i.traffic; epoch = logged i.traffic r i.epoch }
+
+-- an interrupt is asked for only when none is pending
+abbrev pub Askable : Request → Inner → Type 0
+Askable (Interrupting octets) i = interrupt_pending i.traffic ≡ false
+Askable _ i = Unit {0}

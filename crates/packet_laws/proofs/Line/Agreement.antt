@@ -1,0 +1,319 @@
+-- The layer's step on a packet that arrives in r1 is that of the channel's handshakes, and so is the history.
+use Rattle.std.proofs.Common.{◌≡◌, ℕ, ◌+◌, Bool, true, false, not, ◌==◌, List, Option, None, refl, sym, ap, subst, ◌∙◌, arith}
+use Rattle.link_timers.specs.declared.role.Role.{Role}
+use Rattle.link_timers.specs.declared.role.Role.TheVariants.{Dte, Dce}
+use Rattle.packet_layer.specs.Packets.{Body}
+use Rattle.packet_layer.specs.Packets.Body.{Call, Accepted, Clear, ClearConfirmation, Data, Interrupt, InterruptConfirmation, ReceiveReady, ReceiveNotReady, Reset, ResetConfirmation, Restart, RestartConfirmation}
+use Rattle.packet_layer.specs.Traffic.{Heard, hears}
+use Rattle.packet_layer.specs.Traffic.Heard.{Keeps, Confirms, Wrong}
+use Rattle.packet_layer.specs.Channel.{Channel, received, after_heard}
+use Rattle.packet_layer.specs.Channel.CallState.{Transfer}
+use Rattle.packet_laws.specs.History.{History, received_history, logged_heard, heard_history, opened, grown}
+use Rattle.packet_laws.specs.Law.{is_request}
+use Rattle.packet_laws.proofs.Handshakes.Handshake.{Kind, at, advanced}
+use Rattle.packet_laws.proofs.Handshakes.Handshake.Kind.{Payload}
+use Rattle.packet_laws.proofs.Handshakes.Keeping.{at_next}
+use Rattle.packet_laws.proofs.Call.SetUp.{Stage}
+use Rattle.packet_laws.proofs.Call.SetUp.Stage.{Free, Placed, Waiting, Collided, Open}
+use Rattle.packet_laws.proofs.Call.OneEpoch.{Inner, begun_epoch, heard_traffic, heard_inner, NotWrong}
+use Rattle.packet_laws.proofs.Call.Levels.{restart_kind, Epochs, CallUse, Whole, first_epoch, first_call, whole_hears, whole_ok}
+use Rattle.packet_laws.proofs.Line.Stored.{stored, stored_call, shown, Settled, SettledUses, HistoryTie, Laters, kept_history, grown_history, next_epoch_tie, same_in_use, grows_in_use, through_whole, look, marked, heard_marked}
+
+pub record Ties (role : Role) (window c : ℕ) (n : Whole) (owed : List Body) (b : Body) : Type 0 where
+  pub channel_is : (received role window c (shown (stored n) owed) b).channel ≡ shown (stored (whole_hears window role n b).end_) owed
+  pub owes_is : (received role window c (shown (stored n) owed) b).owes ≡ (whole_hears window role n b).says
+  pub no_fault : is_request (received role window c (shown (stored n) owed) b).owes ≡ false
+  pub ready : (whole_hears window role n b).end_.own ≡ false
+  pub settled : Settled (whole_hears window role n b).end_
+  pub history : (st : History) → HistoryTie n st → HistoryTie (whole_hears window role n b).end_ (received_history role window c (shown (stored n) owed) b st)
+
+-- a channel in r1, by the state of the clear, of the call and of the reset
+abbrev pub in_state : Bool → Stage → Bool → Whole → Whole
+in_state own s rs n = record n { own = false; now = record n.now { own = own; now = record n.now.now { stage = s; call = record n.now.now.call { own = rs } } } }
+
+not_payload : Kind.Request ≡ Kind.Payload → ⊥
+not_payload e = cc
+
+not_payload' : Kind.Confirmation ≡ Kind.Payload → ⊥
+not_payload' e = cc
+
+heard_channel : (role : Role) (c : ℕ) (ch : Channel) (h : Heard) → NotWrong h → (after_heard role c ch h).channel ≡ record ch { traffic = heard_traffic h ch.traffic }
+heard_channel role c ch (Keeps n t) ok = refl
+heard_channel role c ch (Confirms t) ok = refl
+heard_channel role c ch (Wrong d) ok = absurd ok
+
+heard_grown : (h : Heard) (st : History) → NotWrong h → grown (λ e. logged_heard h e) st ≡ heard_history Transfer false h st
+heard_grown (Keeps n t) st ok = refl
+heard_grown (Confirms t) st ok = refl
+heard_grown (Wrong d) st ok = absurd ok
+
+heard_owes : (role : Role) (c : ℕ) (ch : Channel) (h : Heard) → NotWrong h → (after_heard role c ch h).owes ≡ None
+heard_owes role c ch (Keeps n t) ok = refl
+heard_owes role c ch (Confirms t) ok = refl
+heard_owes role c ch (Wrong d) ok = absurd ok
+
+-- learning of a clear
+learnt_clear : (role : Role) (window c : ℕ) (s : Stage) (rs : Bool) (n : Whole) (cause diagnostic : ℕ) → Laters (in_state false s rs n)
+    → (st : History) → HistoryTie (in_state false s rs n) st → HistoryTie (whole_hears window role (in_state false s rs n) (Clear cause diagnostic)).end_ (record st { use_ = st.use_ + 1; epoch = 0 })
+learnt_clear role window c s rs n cause diagnostic l st t = record {
+  restart_is = t.restart_is;
+  use_is = let e = t.use_is in omega arith;
+  epoch_is = refl;
+  epochs_are = λ r u g. t.epochs_are r u g
+      ∙ sym (through_whole (r == n.number) (in_state false s rs n).now _ (n.past r) u g
+      (ap (λ (v : CallUse). look v g) (at_next CallUse first_call false (in_state false s rs n).now u l.later_uses)));
+}
+
+pub received_at : (role : Role) (window c : ℕ) (own : Bool) (s : Stage) (rs : Bool) (n : Whole) (owed : List Body) (b : Body) → restart_kind b ≡ Payload
+    → Laters (in_state own s rs n) → SettledUses own (in_state own s rs n).now.now → whole_ok window role (in_state own s rs n) b → Ties role window c (in_state own s rs n) owed b
+-- in the own clear
+received_at role window c true s rs n owed (Clear x y) plain l e ok = record {
+  channel_is = ap (λ (u : CallUse). shown (stored_call u.stage u.call) owed) (sym e);
+  owes_is = refl;
+  no_fault = refl;
+  ready = refl;
+  settled = tt;
+  history = λ st t. kept_history (in_state true s rs n) _ st refl refl refl (λ r u g. same_in_use (in_state true s rs n) _ false _ _ (λ g. refl) r u g) t;
+}
+received_at role window c true s rs n owed ClearConfirmation plain l e ok = record {
+  channel_is = ap (λ (u : CallUse). shown (stored_call u.stage u.call) owed) (sym e);
+  owes_is = refl;
+  no_fault = refl;
+  ready = refl;
+  settled = tt;
+  history = λ st t. kept_history (in_state true s rs n) _ st refl refl refl (λ r u g. same_in_use (in_state true s rs n) _ false _ _ (λ g. refl) r u g) t;
+}
+received_at role window c true s rs n owed (Restart x y) plain l e ok = absurd (not_payload plain)
+received_at role window c true s rs n owed RestartConfirmation plain l e ok = absurd (not_payload' plain)
+received_at role window c true s rs n owed _ plain l e ok = record {
+  channel_is = refl;
+  owes_is = refl;
+  no_fault = refl;
+  ready = refl;
+  settled = e;
+  history = λ st t. kept_history (in_state true s rs n) _ st refl refl refl (λ r u g. same_in_use (in_state true s rs n) _ true _ _ (λ g. refl) r u g) t;
+}
+-- p1
+received_at role window c false Free rs n owed (Call p) plain l e ok = record {
+  channel_is = refl;
+  owes_is = refl;
+  no_fault = refl;
+  ready = refl;
+  settled = tt;
+  history = λ st t. kept_history (in_state false Free rs n) _ st refl refl refl (λ r u g. same_in_use (in_state false Free rs n) _ false _ _ (λ g. refl) r u g) t;
+}
+received_at role window c false Free rs n owed (Clear x y) plain l e ok = record {
+  channel_is = refl;
+  owes_is = refl;
+  no_fault = refl;
+  ready = refl;
+  settled = tt;
+  history = λ st t. learnt_clear role window c Free rs n x y l st t;
+}
+received_at role window c false Free rs n owed (Restart x y) plain l e ok = absurd (not_payload plain)
+received_at role window c false Free rs n owed RestartConfirmation plain l e ok = absurd (not_payload' plain)
+received_at role window c false Free rs n owed _ plain l e ok = absurd ok
+-- the own call waits
+received_at role window c false Placed rs n owed (Call p) plain l e ok = record {
+  channel_is = refl;
+  owes_is = refl;
+  no_fault = refl;
+  ready = refl;
+  settled = tt;
+  history = λ st t. kept_history (in_state false Placed rs n) _ st refl refl refl (λ r u g. same_in_use (in_state false Placed rs n) _ false _ _ (λ g. refl) r u g) t;
+}
+received_at role window c false Placed rs n owed Accepted plain l e ok = record {
+  channel_is = refl;
+  owes_is = refl;
+  no_fault = refl;
+  ready = refl;
+  settled = tt;
+  history = λ st t. kept_history (in_state false Placed rs n) _ st refl refl (sym (ap (λ (v : Epochs). v.number) l.idle))
+      (λ r u g. same_in_use (in_state false Placed rs n) (record (in_state false Placed rs n).now.now { stage = Open true; call = first_epoch }) false _ _ (λ g. ap (λ (v : Epochs). marked (record { called = n.now.now.placed; answered = false }) (at v g).epoch) (sym l.idle)) r u g) t;
+}
+received_at role window c false Placed rs n owed (Clear x y) plain l e ok = record {
+  channel_is = refl;
+  owes_is = refl;
+  no_fault = refl;
+  ready = refl;
+  settled = tt;
+  history = λ st t. learnt_clear role window c Placed rs n x y l st t;
+}
+received_at role window c false Placed rs n owed (Restart x y) plain l e ok = absurd (not_payload plain)
+received_at role window c false Placed rs n owed RestartConfirmation plain l e ok = absurd (not_payload' plain)
+received_at role window c false Placed rs n owed _ plain l e ok = absurd ok
+-- the far end's call waits
+received_at role window c false Waiting rs n owed (Clear x y) plain l e ok = record {
+  channel_is = refl;
+  owes_is = refl;
+  no_fault = refl;
+  ready = refl;
+  settled = tt;
+  history = λ st t. learnt_clear role window c Waiting rs n x y l st t;
+}
+received_at role window c false Waiting rs n owed (Restart x y) plain l e ok = absurd (not_payload plain)
+received_at role window c false Waiting rs n owed RestartConfirmation plain l e ok = absurd (not_payload' plain)
+received_at Dte window c false Waiting rs n owed Accepted plain l e ok = absurd ok
+received_at Dce window c false Waiting rs n owed Accepted plain l e ok = absurd ok
+received_at role window c false Waiting rs n owed _ plain l e ok = absurd ok
+-- a collision
+received_at Dte window c false Collided rs n owed Accepted plain l e ok = record {
+  channel_is = refl;
+  owes_is = refl;
+  no_fault = refl;
+  ready = refl;
+  settled = tt;
+  history = λ st t. kept_history (in_state false Collided rs n) _ st refl refl (sym (ap (λ (v : Epochs). v.number) l.idle))
+      (λ r u g. same_in_use (in_state false Collided rs n) (record (in_state false Collided rs n).now.now { stage = Open true; call = first_epoch }) false _ _ (λ g. ap (λ (v : Epochs). marked (record { called = n.now.now.placed; answered = false }) (at v g).epoch) (sym l.idle)) r u g) t;
+}
+received_at Dce window c false Collided rs n owed Accepted plain l e ok = absurd ok
+received_at Dte window c false Collided rs n owed (Clear x y) plain l e ok = record {
+  channel_is = refl;
+  owes_is = refl;
+  no_fault = refl;
+  ready = refl;
+  settled = tt;
+  history = λ st t. learnt_clear Dte window c Collided rs n x y l st t;
+}
+received_at Dce window c false Collided rs n owed (Clear x y) plain l e ok = record {
+  channel_is = refl;
+  owes_is = refl;
+  no_fault = refl;
+  ready = refl;
+  settled = tt;
+  history = λ st t. learnt_clear Dce window c Collided rs n x y l st t;
+}
+received_at role window c false Collided rs n owed (Restart x y) plain l e ok = absurd (not_payload plain)
+received_at role window c false Collided rs n owed RestartConfirmation plain l e ok = absurd (not_payload' plain)
+received_at Dte window c false Collided rs n owed _ plain l e ok = absurd ok
+received_at Dce window c false Collided rs n owed _ plain l e ok = absurd ok
+-- in the own reset
+received_at role window c false (Open m) true n owed (Clear x y) plain l e ok = record {
+  channel_is = refl;
+  owes_is = refl;
+  no_fault = refl;
+  ready = refl;
+  settled = tt;
+  history = λ st t. learnt_clear role window c (Open m) true n x y l st t;
+}
+received_at role window c false (Open m) true n owed (Reset x y) plain l e ok = record {
+  channel_is = refl;
+  owes_is = refl;
+  no_fault = refl;
+  ready = refl;
+  settled = tt;
+  history = λ st t. kept_history (in_state false (Open m) true n) _ st refl refl refl (λ r u g. same_in_use (in_state false (Open m) true n) _ false _ _ (λ g. refl) r u g) t;
+}
+received_at role window c false (Open m) true n owed ResetConfirmation plain l e ok = record {
+  channel_is = refl;
+  owes_is = refl;
+  no_fault = refl;
+  ready = refl;
+  settled = tt;
+  history = λ st t. kept_history (in_state false (Open m) true n) _ st refl refl refl (λ r u g. same_in_use (in_state false (Open m) true n) _ false _ _ (λ g. refl) r u g) t;
+}
+received_at role window c false (Open m) true n owed (Restart x y) plain l e ok = absurd (not_payload plain)
+received_at role window c false (Open m) true n owed RestartConfirmation plain l e ok = absurd (not_payload' plain)
+received_at role window c false (Open m) true n owed (Call p) plain l e ok = absurd ok
+received_at Dte window c false (Open m) true n owed Accepted plain l e ok = absurd ok
+received_at Dce window c false (Open m) true n owed Accepted plain l e ok = absurd ok
+received_at role window c false (Open m) true n owed ClearConfirmation plain l e ok = absurd ok
+received_at role window c false (Open m) true n owed _ plain l e ok = record {
+  channel_is = refl;
+  owes_is = refl;
+  no_fault = refl;
+  ready = refl;
+  settled = tt;
+  history = λ st t. kept_history (in_state false (Open m) true n) _ st refl refl refl (λ r u g. same_in_use (in_state false (Open m) true n) _ false _ _ (λ g. refl) r u g) t;
+}
+-- in d1
+received_at role window c false (Open m) false n owed (Clear x y) plain l e ok = record {
+  channel_is = refl;
+  owes_is = refl;
+  no_fault = refl;
+  ready = refl;
+  settled = tt;
+  history = λ st t. learnt_clear role window c (Open m) false n x y l st t;
+}
+received_at role window c false (Open m) false n owed (Reset x y) plain l e ok = record {
+  channel_is = refl;
+  owes_is = refl;
+  no_fault = refl;
+  ready = refl;
+  settled = tt;
+  history = λ st t. next_epoch_tie (in_state false (Open m) false n) _ st refl refl refl
+      (λ r u g. same_in_use (in_state false (Open m) false n) (record (in_state false (Open m) false n).now.now { call = advanced begun_epoch false (in_state false (Open m) false n).now.now.call }) false _ _
+      (λ g. ap (λ (i : Inner). marked (record { called = n.now.now.placed; answered = not m }) i.epoch) (at_next Inner begun_epoch false (in_state false (Open m) false n).now.now.call g l.later_epochs)) r u g) t;
+}
+received_at role window c false (Open m) false n owed (Restart x y) plain l e ok = absurd (not_payload plain)
+received_at role window c false (Open m) false n owed RestartConfirmation plain l e ok = absurd (not_payload' plain)
+received_at role window c false (Open m) false n owed (Call p) plain l e ok = absurd ok
+received_at Dte window c false (Open m) false n owed Accepted plain l e ok = absurd ok
+received_at Dce window c false (Open m) false n owed Accepted plain l e ok = absurd ok
+received_at role window c false (Open m) false n owed ClearConfirmation plain l e ok = absurd ok
+received_at role window c false (Open m) false n owed ResetConfirmation plain l e ok = absurd ok
+received_at role window c false (Open m) false n owed (Data x y d) plain l e ok =
+    let N : Whole = in_state false (Open m) false n in
+    let h : Heard = hears window n.now.now.call.now.traffic (Data x y d) in
+    let ch : Channel = shown (stored N) owed in
+    record {
+      channel_is = heard_channel role c ch h ok;
+      owes_is = heard_owes role c ch h ok;
+      no_fault = ap (λ (o : Option Body). is_request o) (heard_owes role c ch h ok);
+      ready = refl;
+      settled = tt;
+      history = λ st t. subst (λ (o : Option Body). HistoryTie (whole_hears window role N (Data x y d)).end_ (opened o (heard_history Transfer false h st))) (sym (heard_owes role c ch h ok))
+          (subst (λ (z : History). HistoryTie (whole_hears window role N (Data x y d)).end_ z) (heard_grown h st ok) (grown_history (λ v. logged_heard h v) N (whole_hears window role N (Data x y d)).end_ st refl refl refl (λ r u g. grows_in_use (λ v. logged_heard h v) N (heard_inner h N.now.now.call.now) false false _ _ _ _ (λ q v. heard_marked h q v) refl r u g) t));
+    }
+received_at role window c false (Open m) false n owed (Interrupt x) plain l e ok =
+    let N : Whole = in_state false (Open m) false n in
+    let h : Heard = hears window n.now.now.call.now.traffic (Interrupt x) in
+    let ch : Channel = shown (stored N) owed in
+    record {
+      channel_is = heard_channel role c ch h ok;
+      owes_is = heard_owes role c ch h ok;
+      no_fault = ap (λ (o : Option Body). is_request o) (heard_owes role c ch h ok);
+      ready = refl;
+      settled = tt;
+      history = λ st t. subst (λ (o : Option Body). HistoryTie (whole_hears window role N (Interrupt x)).end_ (opened o (heard_history Transfer false h st))) (sym (heard_owes role c ch h ok))
+          (subst (λ (z : History). HistoryTie (whole_hears window role N (Interrupt x)).end_ z) (heard_grown h st ok) (grown_history (λ v. logged_heard h v) N (whole_hears window role N (Interrupt x)).end_ st refl refl refl (λ r u g. grows_in_use (λ v. logged_heard h v) N (heard_inner h N.now.now.call.now) false false _ _ _ _ (λ q v. heard_marked h q v) refl r u g) t));
+    }
+received_at role window c false (Open m) false n owed InterruptConfirmation plain l e ok =
+    let N : Whole = in_state false (Open m) false n in
+    let h : Heard = hears window n.now.now.call.now.traffic InterruptConfirmation in
+    let ch : Channel = shown (stored N) owed in
+    record {
+      channel_is = heard_channel role c ch h ok;
+      owes_is = heard_owes role c ch h ok;
+      no_fault = ap (λ (o : Option Body). is_request o) (heard_owes role c ch h ok);
+      ready = refl;
+      settled = tt;
+      history = λ st t. subst (λ (o : Option Body). HistoryTie (whole_hears window role N InterruptConfirmation).end_ (opened o (heard_history Transfer false h st))) (sym (heard_owes role c ch h ok))
+          (subst (λ (z : History). HistoryTie (whole_hears window role N InterruptConfirmation).end_ z) (heard_grown h st ok) (grown_history (λ v. logged_heard h v) N (whole_hears window role N InterruptConfirmation).end_ st refl refl refl (λ r u g. grows_in_use (λ v. logged_heard h v) N (heard_inner h N.now.now.call.now) false false _ _ _ _ (λ q v. heard_marked h q v) refl r u g) t));
+    }
+received_at role window c false (Open m) false n owed (ReceiveReady x) plain l e ok =
+    let N : Whole = in_state false (Open m) false n in
+    let h : Heard = hears window n.now.now.call.now.traffic (ReceiveReady x) in
+    let ch : Channel = shown (stored N) owed in
+    record {
+      channel_is = heard_channel role c ch h ok;
+      owes_is = heard_owes role c ch h ok;
+      no_fault = ap (λ (o : Option Body). is_request o) (heard_owes role c ch h ok);
+      ready = refl;
+      settled = tt;
+      history = λ st t. subst (λ (o : Option Body). HistoryTie (whole_hears window role N (ReceiveReady x)).end_ (opened o (heard_history Transfer false h st))) (sym (heard_owes role c ch h ok))
+          (subst (λ (z : History). HistoryTie (whole_hears window role N (ReceiveReady x)).end_ z) (heard_grown h st ok) (grown_history (λ v. logged_heard h v) N (whole_hears window role N (ReceiveReady x)).end_ st refl refl refl (λ r u g. grows_in_use (λ v. logged_heard h v) N (heard_inner h N.now.now.call.now) false false _ _ _ _ (λ q v. heard_marked h q v) refl r u g) t));
+    }
+received_at role window c false (Open m) false n owed (ReceiveNotReady x) plain l e ok =
+    let N : Whole = in_state false (Open m) false n in
+    let h : Heard = hears window n.now.now.call.now.traffic (ReceiveNotReady x) in
+    let ch : Channel = shown (stored N) owed in
+    record {
+      channel_is = heard_channel role c ch h ok;
+      owes_is = heard_owes role c ch h ok;
+      no_fault = ap (λ (o : Option Body). is_request o) (heard_owes role c ch h ok);
+      ready = refl;
+      settled = tt;
+      history = λ st t. subst (λ (o : Option Body). HistoryTie (whole_hears window role N (ReceiveNotReady x)).end_ (opened o (heard_history Transfer false h st))) (sym (heard_owes role c ch h ok))
+          (subst (λ (z : History). HistoryTie (whole_hears window role N (ReceiveNotReady x)).end_ z) (heard_grown h st ok) (grown_history (λ v. logged_heard h v) N (whole_hears window role N (ReceiveNotReady x)).end_ st refl refl refl (λ r u g. grows_in_use (λ v. logged_heard h v) N (heard_inner h N.now.now.call.now) false false _ _ _ _ (λ q v. heard_marked h q v) refl r u g) t));
+    }
