@@ -1,5 +1,6 @@
 -- What the book of a line promises of its calls.
-use Rattle.std.specs.Prelude.{◌≡◌, ℕ, ◌<◌, ◌≤◌, ◌⊎◌, Bool, false, List, [], ◌∷◌, length, slice_get, Option, Some, None, is_some}
+use Rattle.std.specs.Prelude.{◌≡◌, ℕ, ◌<◌, ◌≤◌, ◌⊎◌, Bool, false, List, [], ◌∷◌, length, slice_get, Option, Some, None}
+use Rattle.std.specs.Prelude.{is_some}
 use Rattle.link_timers.specs.declared.role.Role.{Role}
 use Rattle.link_timers.specs.declared.role.Role.TheVariants.{Dte, Dce}
 use Rattle.packet_layer.specs.Channel.{Channel}
@@ -19,8 +20,8 @@ pub record PairMatches (caller callee : RecordValue) : Type 0 where
 abbrev pub AreEnds : Book → (a b : ℕ) → Type 0
 AreEnds book a b = ((a ≡ book.dte.node) × (b ≡ book.dce.node)) ⊎ ((a ≡ book.dce.node) × (b ≡ book.dte.node))
 
--- the caller's record was made first; the callee's node is the other one of the line, and its own address is the one that was called;
--- a line without a switch has no address, so the caller has none and the callee knows none
+-- the caller's record was made first; the callee's node is the other one of the line, and its own address is the one
+-- that was called; a line without a switch has no address, so the caller has none and the callee knows none
 pub record PairIsRight (book : Book) (caller callee : RecordValue) : Type 0 where
   pub order : caller.number < callee.number
   pub ends : AreEnds book caller.node callee.node
@@ -77,7 +78,8 @@ has_call (Some ch) = had_call ch.state
 -- at each end the book has the channels of the layer, and a present record exactly where the layer has a call
 pub record IsBeside (w : World) : Type 0 where
   pub channels : (role : Role) → length (side_of role w.book).slots ≡ length (layer_at role w).channels
-  pub present : (role : Role) (c : ℕ) → is_some (slot_at role c w.book).present ≡ has_call (channel_of (layer_at role w) c)
+  pub present : (role : Role) (c : ℕ)
+      → is_some (slot_at role c w.book).present ≡ has_call (channel_of (layer_at role w) c)
 
 abbrev pub PresentLaw : Type 0
 PresentLaw = (dte_node dce_node channels window : ℕ) (standing : Bool) → 1 ≤ channels → window ≤ 7

@@ -6,7 +6,8 @@ use Rattle.pad_editing.specs.Edited.{Step}
 use Rattle.packet_layer.specs.Packets.{CallParts, Packet, Note}
 use Rattle.packet_layer.specs.Packets.Received.{Whole}
 use Rattle.packet_layer.specs.Channel.{Request}
-use Rattle.packet_layer.specs.Layer.{Layer, runs, link_up, link_down, on_packet, on_timer, channel_given, request_refusal, front_on}
+use Rattle.packet_layer.specs.Layer.{Layer, runs, link_up, link_down, on_packet, on_timer, channel_given}
+use Rattle.packet_layer.specs.Layer.{request_refusal, front_on}
 use Rattle.packet_laws.specs.Line.{Line, Event, Happening, turned, start_line, may_begin, next_of_session, after_one}
 use Rattle.packet_laws.specs.Line.Event.{Up, Down, Calls, Requests, Expires, Arrives}
 use Rattle.packet_laws.specs.Line.Happening.{Here, There}
@@ -78,8 +79,9 @@ abbrev pub after_all : List Move → World → World
 after_all [] v = v
 after_all (m ∷ ms) v = after_all ms (after_move m v)
 
--- ---- what the links promise of sessions: they come in rising order, and a packet that arrives in a session comes from an end
--- that was up in none later; and no end of a line without a switch names itself in a call
+-- ---- what the links promise
+-- of sessions: they come in rising order, and a packet that arrives in a session comes from an end that was up in none
+-- later; and no end of a line without a switch names itself in a call
 
 abbrev pub InOrder : Event → Option ℕ → (top other_top : ℕ) → Type 0
 InOrder (Up s) session top other_top = top ≤ s

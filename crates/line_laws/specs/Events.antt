@@ -13,7 +13,8 @@ use Rattle.packet_laws.specs.Line as layers
 use Rattle.packet_laws.specs.Line.{Event}
 use Rattle.packet_end.specs.PacketEnd.{PacketEnd, runs_at, with_next}
 use Rattle.line_laws.specs.Line.{Act}
-use Rattle.line_laws.specs.Line.Act.{Begins, Hears, Expires, Relinks, RelinksIfDue, Restarts, Calls, Requests, Offers, Settles, Elapses, Sends}
+use Rattle.line_laws.specs.Line.Act.{Begins, Hears, Expires, Relinks, RelinksIfDue, Restarts, Calls, Requests, Offers}
+use Rattle.line_laws.specs.Line.Act.{Settles, Elapses, Sends}
 
 -- ---- what a step of the link is, which may begin session s, and accept a packet
 
@@ -49,7 +50,8 @@ abbrev pub offer_events : (most : ℕ) → PacketEnd → List Event
 offer_events zero e = []
 offer_events (suc most) e =
     cond (can_offer e.line.link)
-    (cond (is_some (next_packet e.layer).packet) (Event.Offers ∷ offer_events most (with_next e (next_packet e.layer))) [])
+    (cond (is_some (next_packet e.layer).packet)
+    (Event.Offers ∷ offer_events most (with_next e (next_packet e.layer))) [])
     []
 
 -- ---- an act, by which the link may come up in session s
@@ -80,4 +82,5 @@ cleared v = record v { me = layers.with_layer (unread v.me.layer) v.me }
 
 abbrev pub notes_of : List Event → layers.Line → List packets.Note
 notes_of [] v = []
-notes_of (event ∷ events) v = (layers.happens event (cleared v)).me.layer.notes ++ notes_of events (layers.happens event v)
+notes_of (event ∷ events) v =
+    (layers.happens event (cleared v)).me.layer.notes ++ notes_of events (layers.happens event v)

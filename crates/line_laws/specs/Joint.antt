@@ -1,5 +1,5 @@
--- What ties the two ends of a line to a world of two links, which has the sessions and their lists, and to a line of two packet
--- layers.
+-- What ties the two ends of a line to a world of two links, which has the sessions and their lists, and to a line of
+-- two packet layers.
 use Rattle.std.specs.Prelude.{◌≡◌, ℕ, Bool, true, false, List, [], ◌∷◌, ◌++◌, length, Option, Some, None}
 use Rattle.link_timers.specs.declared.role.Role.{Role}
 use Rattle.link_timers.specs.declared.role.Role.TheVariants.{Dte, Dce}
@@ -19,8 +19,8 @@ use Rattle.packet_laws.specs.Readable.{IsReadable}
 
 -- ---- one end
 
--- an end of a link: whether it is up, the session in which it came up last, and by session what was offered at it and what it
--- accepted
+-- an end of a link: whether it is up, the session in which it came up last, and by session what was offered at it and
+-- what it accepted
 pub record Side : Type 0 where
   pub up : Bool
   pub session : ℕ
@@ -40,7 +40,12 @@ accepted_of Dte w = w.dte_accepted
 accepted_of Dce w = w.dce_accepted
 
 abbrev pub side : Role → World → Link → Side
-side role w l = record { up = is_up l.phase; session = session_of role w; offered = offered_of role w; accepted = accepted_of role w }
+side role w l = record {
+  up = is_up l.phase;
+  session = session_of role w;
+  offered = offered_of role w;
+  accepted = accepted_of role w;
+}
 
 -- the act in which the first frame was sent
 abbrev pub first_act : List Sent → ℕ
@@ -62,7 +67,8 @@ AreHeard [] [] = Unit {0}
 AreHeard (octets ∷ more) (packet ∷ packets) = (heard octets ≡ Some (Whole packet)) × AreHeard more packets
 AreHeard _ _ = ⊥
 
--- an end of two packet layers is that of a link with this layer, but for notes that it has not read, of which this one has none
+-- an end of two packet layers is that of a link with this layer, but for notes that it has not read, of which this one
+-- has none
 pub record Follows (x : Side) (l : Layer) (a : End) : Type 0 where
   pub session : a.session ≡ session_now x.up x.session
   pub offered : (s : ℕ) → AreHeard (x.offered s) (a.offered s)
@@ -86,12 +92,13 @@ abbrev pub part_of : PacketEnd → Part
 part_of e = record { link = e.line.link; waiting = e.line.frames; layer = e.layer }
 
 -- as the end of a role sees it: the frames that wait at an end are behind those on the way from it
-pub record JointOf (role : Role) (w : World) (v : layers.Line) (me you : Part) (going coming : List Octets) : Type 0 where
-  pub stands : Stands role w me.link you.link (going ++ me.waiting) (coming ++ you.waiting)
-  pub mine : Follows (side role w me.link) me.layer v.me
-  pub yours : Follows (side (other_of role) w you.link) you.layer v.you
-  pub readable_here : IsReadable me.layer
-  pub readable_there : IsReadable you.layer
+pub record JointOf (role : Role) (w : World) (v : layers.Line) (me you : Part) (going coming : List Octets) : Type 0
+  where
+    pub stands : Stands role w me.link you.link (going ++ me.waiting) (coming ++ you.waiting)
+    pub mine : Follows (side role w me.link) me.layer v.me
+    pub yours : Follows (side (other_of role) w you.link) you.layer v.you
+    pub readable_here : IsReadable me.layer
+    pub readable_there : IsReadable you.layer
 
 abbrev pub JointAt : Role → World → layers.Line → (me you : PacketEnd) → (going coming : List Octets) → Type 0
 JointAt role w v me you going coming = JointOf role w v (part_of me) (part_of you) going coming

@@ -15,29 +15,33 @@ use Rattle.line_laws.specs.Fit.{IsFit, AreFit}
 use Rattle.line_laws.specs.Joint.{Joint, JointAt, session_of}
 use Rattle.line_laws.specs.Steps.{Step}
 
--- some happenings at two packet layers, made with the channels and the window of these parameters, lead to the layers of this line, in step with its links, and
--- the law of a line holds there on each channel, in each session
+-- some happenings at two packet layers, made with the channels and the window of these parameters, lead to the layers
+-- of this line, in step with its links, and the law of a line holds there on each channel, in each session
 pub record Passes (p : EndParams) (l : Line) : Type 0 where
   pub world : World
   pub happenings : List Happening
   pub joint : Joint l world (layers.after happenings (start_line p.channels p.window p.standing))
-  pub holds : (s c : ℕ) → 1 ≤ c → c ≤ p.channels → Holds (layers.after happenings (start_line p.channels p.window p.standing)) s c
+  pub holds : (s c : ℕ) → 1 ≤ c → c ≤ p.channels
+      → Holds (layers.after happenings (start_line p.channels p.window p.standing)) s c
   pub no_fault_at_dte : NoFault (layers.after happenings (start_line p.channels p.window p.standing))
   pub no_fault_at_dce : NoFault (turned (layers.after happenings (start_line p.channels p.window p.standing)))
 
 -- whatever happens on a line whose parameters are in range and whose requests are fit
 abbrev pub LineEndsLaw : Type 0
-LineEndsLaw = (dte dce : EndParams) → AreParams dte → AreParams dce → AreAlike dte dce → (events : List Event) → AreFit events →
+LineEndsLaw = (dte dce : EndParams) → AreParams dte → AreParams dce → AreAlike dte dce → (events : List Event)
+    → AreFit events →
     Passes dte (after events (made dte dce))
 
--- whatever an end does, or comes to it, on a line in step with a world of links and a line of layers: these go on in step with it,
--- the layers by the events of that act, which give the notes that the end gains
+-- whatever an end does, or comes to it, on a line in step with a world of links and a line of layers: these go on in
+-- step with it, the layers by the events of that act, which give the notes that the end gains
 abbrev pub ActLaw : Type 0
-ActLaw = (role : Role) (act : Act) (w : World) (v : layers.Line) (me you : PacketEnd) (going coming : List Octets) → IsFit act →
+ActLaw = (role : Role) (act : Act) (w : World) (v : layers.Line) (me you : PacketEnd) (going coming : List Octets)
+    → IsFit act →
     JointAt role w v me you going coming → Step role act w v me you going coming
 
 -- and a frame that is lost changes nothing else
 abbrev pub LossLaw : Type 0
-LossLaw = (role : Role) (w : World) (v : layers.Line) (me you : PacketEnd) (going coming : List Octets) → JointAt role w v me you going coming →
+LossLaw = (role : Role) (w : World) (v : layers.Line) (me you : PacketEnd) (going coming : List Octets)
+    → JointAt role w v me you going coming →
     (next : World) × JointAt role next v me you going (drop 1 coming) × (session_of role next ≡ session_of role w) ×
     (session_of (other_of role) next ≡ session_of (other_of role) w)

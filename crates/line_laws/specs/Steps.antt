@@ -18,16 +18,16 @@ session_after [] s = s
 session_after (Event.Up n ∷ events) s = session_after events n
 session_after (event ∷ events) s = session_after events s
 
--- an end that came up last in session `mine` comes up neither in session 0 nor in an earlier one; and a packet arrives at it only
--- where the other one came up last in that session or before
+-- an end that came up last in session `mine` comes up neither in session 0 nor in an earlier one; and a packet arrives
+-- at it only where the other one came up last in that session or before
 abbrev pub Rise : List Event → (mine yours : ℕ) → Type 0
 Rise [] mine yours = Unit {0}
 Rise (Event.Up n ∷ events) mine yours = (1 ≤ n) × (mine ≤ n) × Rise events n yours
 Rise (Event.Arrives ∷ events) mine yours = (yours ≤ mine) × Rise events mine yours
 Rise (event ∷ events) mine yours = Rise events mine yours
 
--- the notes of the end are those that it had and those that the events give; where an event of the node begins, and after a
--- restart, there are none
+-- the notes of the end are those that it had and those that the events give; where an event of the node begins, and
+-- after a restart, there are none
 abbrev pub AreNotes : Act → (before given after : List Note) → Type 0
 AreNotes Begins before given after = after ≡ []
 AreNotes Restarts before given after = after ≡ []
@@ -37,9 +37,10 @@ AreNotes act before given after = after ≡ before ++ given
 abbrev pub events_at : Role → World → Act → (coming : List Octets) → PacketEnd → List Event
 events_at role w act coming me = events_of (coming_session role w) act coming me
 
--- the act of an end of this role, in step with a world of links and a line of layers: both go on in step with it, the layers by
--- the events of the act
-pub record Step (role : Role) (act : Act) (w : World) (v : layers.Line) (me you : PacketEnd) (going coming : List Octets) : Type 0 where
+-- the act of an end of this role, in step with a world of links and a line of layers: both go on in step with it, the
+-- layers by the events of the act
+pub record Step (role : Role) (act : Act) (w : World) (v : layers.Line) (me you : PacketEnd)
+    (going coming : List Octets) : Type 0 where
   pub world : World
   pub joint : JointAt role world (after_here (events_at role w act coming me) v)
       (does act coming me) (other_after act you) (going_after act me going) (coming_after act coming)

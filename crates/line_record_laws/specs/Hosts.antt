@@ -1,5 +1,5 @@
--- What each event of a host makes of what is kept of its line and of the book: what was asked is written where it was not refused, and
--- what is told. What is refused changes nothing.
+-- What each event of a host makes of what is kept of its line and of the book: what was asked is written where it was
+-- not refused, and what is told. What is refused changes nothing.
 use Rattle.std.specs.Prelude.{◌≡◌, ℕ, Bool, List, [], ◌∷◌, Option, Some, None}
 use Rattle.link_timers.specs.declared.role.Role.{Role}
 use Rattle.link_timers.specs.declared.timers.TimerId.{TimerId}
@@ -12,7 +12,8 @@ use Rattle.packet_laws.specs.Readable.{CanBePlaced}
 use Rattle.packet_end.specs.PacketEnd.{PacketEnd}
 use Rattle.line_laws.specs.Line.{Line}
 use Rattle.packet_host.specs.Saying.{cut, say_refusal}
-use Rattle.packet_host.specs.Host.{after_call, after_request, after_refuse, after_say, after_take, after_expiry, refuse_refusal}
+use Rattle.packet_host.specs.Host.{after_call, after_request, after_refuse, after_say, after_take, after_expiry}
+use Rattle.packet_host.specs.Host.{refuse_refusal}
 use Rattle.call_records.specs.Book.{Book, sends, closes, takes, releases, all_told}
 use Rattle.book_laws.specs.Told.{unless_refused, placed_on}
 use Rattle.line_record_laws.specs.Kept.{Setting, Kept, end_at, coming_to}
@@ -28,7 +29,8 @@ sends_all role channel (d ∷ ds) b = sends_all role channel ds (sends role chan
 -- a message of so many packets
 abbrev pub says : Role → (channel : ℕ) → List ℕ → (qualified delivery : Bool) → PacketEnd → Book → Book
 says role channel octets qualified delivery e b =
-    unless_refused (say_refusal e.layer channel octets qualified) (sends_all role channel (cut octets qualified delivery) b) b
+    unless_refused (say_refusal e.layer channel octets qualified)
+    (sends_all role channel (cut octets qualified delivery) b) b
 
 -- a call that came in and is not answered is cleared
 abbrev pub refuses : Role → (channel : ℕ) → PacketEnd → Book → Book
@@ -50,25 +52,37 @@ abbrev pub IsKeptAfter : Setting → Role → (e : PacketEnd) → Book → (kept
 IsKeptAfter s role e b kept l = Kept s (all_told role e.notes b) (with_event role e kept (coming_to role l) l)
 
 abbrev pub HostExpiryLaw : Type 0
-HostExpiryLaw = (s : Setting) (b : Book) (l : Line) (role : Role) (id : TimerId) (kept : List Bool) → (end_at role l).notes ≡ [] → Kept s b l
+HostExpiryLaw = (s : Setting) (b : Book) (l : Line) (role : Role) (id : TimerId) (kept : List Bool)
+    → (end_at role l).notes ≡ [] → Kept s b l
     → IsKeptAfter s role (after_expiry (end_at role l) id) b kept l
 
 abbrev pub HostCallLaw : Type 0
-HostCallLaw = (s : Setting) (b : Book) (l : Line) (role : Role) (parts : CallParts) (kept : List Bool) → CanBePlaced parts → parts.calling ≡ [] → (end_at role l).notes ≡ [] → Kept s b l
-    → let e = end_at role l in IsKeptAfter s role (after_call e parts) (placed_on role (channel_given e.layer e.layer.phase) parts b) kept l
+HostCallLaw = (s : Setting) (b : Book) (l : Line) (role : Role) (parts : CallParts) (kept : List Bool)
+    → CanBePlaced parts → parts.calling ≡ [] → (end_at role l).notes ≡ [] → Kept s b l
+    → let e = end_at role l in
+    IsKeptAfter s role (after_call e parts) (placed_on role (channel_given e.layer e.layer.phase) parts b) kept l
 
 abbrev pub HostRequestLaw : Type 0
-HostRequestLaw = (s : Setting) (b : Book) (l : Line) (role : Role) (channel : ℕ) (r : Request) (kept : List Bool) → (end_at role l).notes ≡ [] → Kept s b l
+HostRequestLaw = (s : Setting) (b : Book) (l : Line) (role : Role) (channel : ℕ) (r : Request) (kept : List Bool)
+    → (end_at role l).notes ≡ [] → Kept s b l
     → let e = end_at role l in IsKeptAfter s role (after_request e channel r) (requested_at role channel r e b) kept l
 
 abbrev pub HostSayLaw : Type 0
-HostSayLaw = (s : Setting) (b : Book) (l : Line) (role : Role) (channel : ℕ) (octets : List ℕ) (qualified delivery : Bool) (kept : List Bool) → (end_at role l).notes ≡ [] → Kept s b l
-    → let e = end_at role l in IsKeptAfter s role (after_say e channel octets qualified delivery) (says role channel octets qualified delivery e b) kept l
+HostSayLaw =
+    (s : Setting) (b : Book) (l : Line) (role : Role) (channel : ℕ) (octets : List ℕ) (qualified delivery : Bool)
+    (kept : List Bool)
+    → (end_at role l).notes ≡ [] → Kept s b l
+    → let e = end_at role l in
+    IsKeptAfter s role (after_say e channel octets qualified delivery)
+    (says role channel octets qualified delivery e b) kept l
 
 abbrev pub HostRefuseLaw : Type 0
-HostRefuseLaw = (s : Setting) (b : Book) (l : Line) (role : Role) (channel : ℕ) (kept : List Bool) → (end_at role l).notes ≡ [] → Kept s b l
+HostRefuseLaw = (s : Setting) (b : Book) (l : Line) (role : Role) (channel : ℕ) (kept : List Bool)
+    → (end_at role l).notes ≡ [] → Kept s b l
     → let e = end_at role l in IsKeptAfter s role (after_refuse e channel) (refuses role channel e b) kept l
 
 abbrev pub HostTakeLaw : Type 0
-HostTakeLaw = (s : Setting) (b : Book) (l : Line) (role : Role) (channel : ℕ) (kept : List Bool) → (end_at role l).notes ≡ [] → Kept s b l
-    → let e = end_at role l in IsKeptAfter s role (after_take e channel) (takes_any role channel (front_on e.layer channel) b) kept l
+HostTakeLaw = (s : Setting) (b : Book) (l : Line) (role : Role) (channel : ℕ) (kept : List Bool)
+    → (end_at role l).notes ≡ [] → Kept s b l
+    → let e = end_at role l in
+    IsKeptAfter s role (after_take e channel) (takes_any role channel (front_on e.layer channel) b) kept l

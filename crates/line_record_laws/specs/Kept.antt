@@ -1,4 +1,5 @@
--- What a network keeps of a line with both its ends and of the book of its calls, between the events of its nodes and during one.
+-- What a network keeps of a line with both its ends and of the book of its calls, between the events of its nodes and
+-- during one.
 use Rattle.std.specs.Prelude.{◌≡◌, ℕ, ◌≤◌, List, ◌++◌}
 use Rattle.link_timers.specs.declared.role.Role.{Role}
 use Rattle.link_timers.specs.declared.role.Role.TheVariants.{Dte, Dce}
@@ -42,9 +43,9 @@ coming_to Dce l = l.up
 
 -- ---- what is kept
 
--- some moves at the two packet layers, which the links allow, lead to layers in step with the line and to this book; neither layer
--- was up in a session after the last one of its link. The book has all that the layers were asked and told, also where it is still
--- to be written
+-- some moves at the two packet layers, which the links allow, lead to layers in step with the line and to this book;
+-- neither layer was up in a session after the last one of its link. The book has all that the layers were asked and
+-- told, also where it is still to be written
 pub record Kept (s : Setting) (b : Book) (l : Line) : Type 0 where
   pub setting : IsSetting s
   pub world : links.World
@@ -57,8 +58,8 @@ pub record Kept (s : Setting) (b : Book) (l : Line) : Type 0 where
 
 -- ---- lines of which the same is kept
 
--- the layers and the links are the same, and behind the frames on the way those that wait: timers, notes that were not read, and
--- whether a frame is on the way or still waits are all the same to it
+-- the layers and the links are the same, and behind the frames on the way those that wait: timers, notes that were not
+-- read, and whether a frame is on the way or still waits are all the same to it
 pub record IsLike (l m : Line) : Type 0 where
   pub dte_link : m.dte.line.link ≡ l.dte.line.link
   pub dce_link : m.dce.line.link ≡ l.dce.line.link

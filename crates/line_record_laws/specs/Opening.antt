@@ -11,15 +11,18 @@ use Rattle.line_record_laws.specs.Kept.{Setting, Kept, end_at}
 
 -- a frame that arrives gives one at most
 abbrev pub FrameOpens : Type 0
-FrameOpens = (e : PacketEnd) (octets : Octets) → (opening_notes (received (begun e) octets).notes ≤ 1) × (opening_notes (finished (received (begun e) octets)).notes ≤ 1)
+FrameOpens = (e : PacketEnd) (octets : Octets) → (opening_notes (received (begun e) octets).notes ≤ 1)
+    × (opening_notes (finished (received (begun e) octets)).notes ≤ 1)
 
 -- an expiry none, where no notes of the layer were left unread, nor a relink
 abbrev pub ExpiryOpens : Type 0
 ExpiryOpens = (e : PacketEnd) (id : TimerId) → e.layer.notes ≡ []
-    → (opening_notes (after_timer (begun e) id).notes ≡ 0) × (opening_notes (finished (after_timer (begun e) id)).notes ≡ 0)
+    → (opening_notes (after_timer (begun e) id).notes ≡ 0)
+    × (opening_notes (finished (after_timer (begun e) id)).notes ≡ 0)
 
 abbrev pub RelinkOpens : Type 0
-RelinkOpens = (e : PacketEnd) → (opening_notes (relinked (begun e)).notes ≡ 0) × (opening_notes (finished (relinked (begun e))).notes ≡ 0)
+RelinkOpens = (e : PacketEnd) → (opening_notes (relinked (begun e)).notes ≡ 0)
+    × (opening_notes (finished (relinked (begun e))).notes ≡ 0)
 
 -- nor the end of an event in which a user asked something
 abbrev pub EndOpens : Type 0

@@ -1,14 +1,17 @@
 //! What a network keeps of a line with both its ends and of the book of its calls, and that whatever happens keeps it.
 #![tactic(auto)]
 
-ghost use Rattle.line_record_laws.specs.Clauses.{MadeLaw, TellsLaw, SilentLaw, RestartLaw, CallLaw, RequestLaw, LossLaw, EditLaw, LikeLaw, HoldsLaw, PresentLaw, TransferLaw, AskedLaw, FrontLaw, ChannelsLaw, ClosingLaw};
+ghost use Rattle.line_record_laws.specs.Clauses.{MadeLaw, TellsLaw, SilentLaw, RestartLaw, CallLaw, RequestLaw};
+ghost use Rattle.line_record_laws.specs.Clauses.{LossLaw, EditLaw, LikeLaw, HoldsLaw, PresentLaw, TransferLaw};
+ghost use Rattle.line_record_laws.specs.Clauses.{AskedLaw, FrontLaw, ChannelsLaw, ClosingLaw};
 ghost use Rattle.line_record_laws.specs.Happens.{FrameLaw, ExpiryLaw, RelinkLaw, RestartedLaw, CalledLaw, RequestedLaw};
-ghost use Rattle.line_record_laws.specs.Hosts.{HostExpiryLaw, HostCallLaw, HostRequestLaw, HostSayLaw, HostRefuseLaw, HostTakeLaw};
+ghost use Rattle.line_record_laws.specs.Hosts.{HostExpiryLaw, HostCallLaw, HostRequestLaw, HostSayLaw, HostRefuseLaw};
+ghost use Rattle.line_record_laws.specs.Hosts.{HostTakeLaw};
 ghost use Rattle.line_record_laws.specs.Opening.{FrameOpens, ExpiryOpens, RelinkOpens, EndOpens, ReadLaw};
 
-/// The law of a line of a network and of its book, over definitions alone. From the making on, whatever is called at an end,
-/// whatever comes to it, whichever frames are lost and however often an end restarts: what its layer is asked and what it tells is
-/// written, and the book of the line holds then (X.25 2.4, 3, 4).
+/// The law of a line of a network and of its book, over definitions alone. From the making on, whatever is called at an
+/// end, whatever comes to it, whichever frames are lost and however often an end restarts: what its layer is asked and
+/// what it tells is written, and the book of the line holds then (X.25 2.4, 3, 4).
 pub fn line_record_law()
     ensures made { MadeLaw }
 
@@ -36,7 +39,8 @@ pub fn line_record_law()
     ensures closing { ClosingLaw }
 {}
 
-/// The same of whole events of a node: what comes to it or is asked at it, its end, and its frames, which go onto the line.
+/// The same of whole events of a node: what comes to it or is asked at it, its end, and its frames, which go onto the
+/// line.
 pub fn event_law()
     ensures frames { FrameLaw }
     ensures expiries { ExpiryLaw }
@@ -46,8 +50,8 @@ pub fn event_law()
     ensures requests { RequestedLaw }
 {}
 
-/// The same of the events of a host that its user asks for, or that may be refused or find nothing to do. A frame that arrives, a
-/// relink and a restart are as at any node.
+/// The same of the events of a host that its user asks for, or that may be refused or find nothing to do. A frame that
+/// arrives, a relink and a restart are as at any node.
 pub fn host_law()
     ensures expiries { HostExpiryLaw }
     ensures calls { HostCallLaw }

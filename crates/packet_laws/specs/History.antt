@@ -2,7 +2,8 @@
 use Rattle.std.specs.Prelude.{ℕ, ◌+◌, Bool, true, false, cond, ◌&&◌, ◌==◌, List, [], ◌∷◌, ◌++◌, Option, Some, None}
 use Rattle.link_timers.specs.declared.role.Role.{Role}
 use Rattle.packet_layer.specs.Packets.{CallParts, Datum, Body, Packet}
-use Rattle.packet_layer.specs.Packets.Body.{Clear, ClearConfirmation, Reset, ResetConfirmation, Restart, RestartConfirmation}
+use Rattle.packet_layer.specs.Packets.Body.{Clear, ClearConfirmation, Reset, ResetConfirmation, Restart}
+use Rattle.packet_layer.specs.Packets.Body.{RestartConfirmation}
 use Rattle.packet_layer.specs.Traffic.{Traffic, Taken, Heard, front, may_release, hears}
 use Rattle.packet_layer.specs.Traffic.Taken.{TakenInterrupt, TakenPacket}
 use Rattle.packet_layer.specs.Traffic.Heard.{Keeps, Wrong}
@@ -13,8 +14,8 @@ use Rattle.packet_layer.specs.Layer.{Phase, Layer, Timer, channel_of, runs}
 use Rattle.packet_layer.specs.Layer.Phase.{PacketReady}
 use Rattle.packet_layer.specs.Layer.Timer.{RestartTimer, CallTimer, ResetTimer, ClearTimer}
 
--- one epoch of one end: the packets that `send` accepted and `take` gave, the interrupts likewise, how many of the packets
--- sent a received P(R) covered, and how many of those taken were released
+-- one epoch of one end: the packets that `send` accepted and `take` gave, the interrupts likewise, how many of the
+-- packets sent a received P(R) covered, and how many of those taken were released
 pub record Epoch : Type 0 where
   pub sent : List Datum
   pub taken : List Datum
@@ -27,7 +28,16 @@ pub record Epoch : Type 0 where
   pub answered : Bool
 
 abbrev pub empty_epoch : Epoch
-empty_epoch = record { sent = []; taken = []; interrupts_sent = []; interrupts_taken = []; covered = 0; released = 0; called = None; answered = false }
+empty_epoch = record {
+  sent = [];
+  taken = [];
+  interrupts_sent = [];
+  interrupts_taken = [];
+  covered = 0;
+  released = 0;
+  called = None;
+  answered = false;
+}
 
 -- how an epoch grows: by a request that was not refused, by a packet heard in d1
 abbrev pub with_taken : Option Taken → Epoch → Epoch
@@ -46,9 +56,9 @@ abbrev pub logged_heard : Heard → Epoch → Epoch
 logged_heard (Keeps n t) e = record e { covered = e.covered + n }
 logged_heard _ e = e
 
--- the epochs of a channel in one session of the link, by three numbers: of the restart, of the use of the channel since it,
--- of the reset in that use. The next restart, use or epoch begins where the end owes the packet that asks for it or the one that
--- confirms it; a packet that answers the end's own request begins none
+-- the epochs of a channel in one session of the link, by three numbers: of the restart, of the use of the channel since
+-- it, of the reset in that use. The next restart, use or epoch begins where the end owes the packet that asks for it or
+-- the one that confirms it; a packet that answers the end's own request begins none
 pub record History : Type 0 where
   pub restart : ℕ
   pub use_ : ℕ
@@ -113,7 +123,8 @@ accepted_unless (Some r) st = st
 
 abbrev pub requested_history : Role → Channel → Request → History → History
 requested_history role ch Accept st = accepted_unless (refusal role ch Accept) st
-requested_history role ch r st = opened (requested role ch r).owes (grown_unless (refusal role ch r) (λ e. logged ch.traffic r e) st)
+requested_history role ch r st =
+    opened (requested role ch r).owes (grown_unless (refusal role ch r) (λ e. logged ch.traffic r e) st)
 
 abbrev pub heard_history : CallState → Bool → Heard → History → History
 heard_history Transfer false (Wrong diagnostic) st = st
@@ -121,14 +132,16 @@ heard_history Transfer false h st = grown (λ e. logged_heard h e) st
 heard_history s b h st = st
 
 abbrev pub received_history : Role → ℕ → ℕ → Channel → Body → History → History
-received_history role window c ch body st = opened (received role window c ch body).owes (heard_history ch.state ch.resetting (hears window ch.traffic body) st)
+received_history role window c ch body st =
+    opened (received role window c ch body).owes (heard_history ch.state ch.resetting (hears window ch.traffic body) st)
 
 abbrev pub found_history : Option Channel → (Channel → History → History) → History → History
 found_history None f st = st
 found_history (Some ch) f st = f ch st
 
 abbrev pub request_history : Layer → ℕ → Request → ℕ → History → History
-request_history l d r c st = cond (c == d) (found_history (channel_of l d) (λ ch s. requested_history l.role ch r s) st) st
+request_history l d r c st =
+    cond (c == d) (found_history (channel_of l d) (λ ch s. requested_history l.role ch r s) st) st
 
 abbrev pub call_history : CallParts → Option ℕ → ℕ → History → History
 call_history parts None c st = st
@@ -146,7 +159,9 @@ channel_history phase found f st = st
 abbrev pub packet_history : Layer → Packet → ℕ → History → History
 packet_history l p c st =
     cond (p.channel == 0) (restart_history l.phase p.body st)
-    (cond (c == p.channel) (channel_history l.phase (channel_of l p.channel) (λ ch s. received_history l.role l.window p.channel ch p.body s) st) st)
+    (cond (c == p.channel)
+    (channel_history l.phase (channel_of l p.channel)
+    (λ ch s. received_history l.role l.window p.channel ch p.body s) st) st)
 
 abbrev pub expired_history : Timer → ℕ → History → History
 expired_history RestartTimer c st = st

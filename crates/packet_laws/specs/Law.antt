@@ -1,5 +1,6 @@
 -- The law of a line: between two ends of this project, whatever happens.
-use Rattle.std.specs.Prelude.{◌≡◌, ℕ, ◌+◌, ◌≤◌, Bool, true, false, cond, ◌&&◌, ◌||◌, ◌==◌, List, [], ◌∷◌, ◌++◌, length, Option, Some, None, is_some, ◌<◌}
+use Rattle.std.specs.Prelude.{◌≡◌, ℕ, ◌+◌, ◌≤◌, Bool, true, false, cond, ◌&&◌, ◌||◌, ◌==◌, List, [], ◌∷◌, ◌++◌, length}
+use Rattle.std.specs.Prelude.{Option, Some, None, is_some, ◌<◌}
 use Rattle.link_timers.specs.declared.role.Role.{Role}
 use Rattle.link_timers.specs.declared.role.Role.TheVariants.{Dte}
 use Rattle.packet_layer.specs.Packets.{Body, Packet, CallParts}
@@ -44,15 +45,15 @@ is_channel_fault phase l p = false
 abbrev pub is_fault : Layer → Packet → Bool
 is_fault l p = cond (p.channel == 0) (is_restart_fault l.phase p.body) (is_channel_fault l.phase l p)
 
--- the histories of two ends are in step: neither is more than one restart ahead, in the same restart neither more than one
--- use, in the same use neither more than one epoch
+-- the histories of two ends are in step: neither is more than one restart ahead, in the same restart neither more than
+-- one use, in the same use neither more than one epoch
 pub record InStep (a b : History) : Type 0 where
   pub restarts : (a.restart ≤ b.restart + 1) × (b.restart ≤ a.restart + 1)
   pub uses : a.restart ≡ b.restart → (a.use_ ≤ b.use_ + 1) × (b.use_ ≤ a.use_ + 1)
   pub epochs : a.restart ≡ b.restart → a.use_ ≡ b.use_ → (a.epoch ≤ b.epoch + 1) × (b.epoch ≤ a.epoch + 1)
 
--- nothing of channel c is on its way in session s: both ends are up in it and ask for no relink, each accepted all that the other
--- one offered, and neither owes a restart packet or a control packet of the channel
+-- nothing of channel c is on its way in session s: both ends are up in it and ask for no relink, each accepted all that
+-- the other one offered, and neither owes a restart packet or a control packet of the channel
 pub record Quiet (w : Line) (s c : ℕ) (a b : Channel) : Type 0 where
   pub up_here : w.me.session ≡ Some s
   pub up_there : w.you.session ≡ Some s
@@ -83,13 +84,15 @@ abbrev pub listed : Option (List ℕ) → List (List ℕ)
 listed None = []
 listed (Some octets) = octets ∷ []
 
--- what one end sent in the present epoch is what the other one took, what waits there to be taken and what waits here to be sent
+-- what one end sent in the present epoch is what the other one took, what waits there to be taken and what waits here
+-- to be sent
 pub record NothingMissing (sender taker : Epoch) (a b : Channel) : Type 0 where
   pub packets : taker.taken ++ (b.traffic.arrived ++ a.traffic.waiting) ≡ sender.sent
-  pub interrupts : taker.interrupts_taken ++ (listed b.traffic.interrupt_arrived ++ listed a.traffic.interrupt_waiting) ≡ sender.interrupts_sent
+  pub interrupts : taker.interrupts_taken ++ (listed b.traffic.interrupt_arrived ++ listed a.traffic.interrupt_waiting)
+      ≡ sender.interrupts_sent
 
--- then both ends are in r1 and in states that belong together, in the same restart, use and epoch, no reset is unconfirmed, and
--- nothing is missing
+-- then both ends are in r1 and in states that belong together, in the same restart, use and epoch, no reset is
+-- unconfirmed, and nothing is missing
 pub record AtRest (w : Line) (s c : ℕ) (a b : Channel) : Type 0 where
   pub ready_here : w.me.layer.phase ≡ PacketReady
   pub ready_there : w.you.layer.phase ≡ PacketReady
@@ -116,8 +119,8 @@ pub record CallArrives (w : Line) (s c : ℕ) (parts : CallParts) : Type 0 where
   pub found : channel_of w.me.layer c ≡ Some channel
   pub takes : TakesCall channel.state
 
--- then the other end placed that very call in the same restart and use, and none in a later restart, nor in a later use of that
--- restart, whether it began a further restart meanwhile or not
+-- then the other end placed that very call in the same restart and use, and none in a later restart, nor in a later use
+-- of that restart, whether it began a further restart meanwhile or not
 pub record CallKnown (mine yours : History) (parts : CallParts) : Type 0 where
   pub known : (g : ℕ) → (yours.epochs mine.restart mine.use_ g).called ≡ Some parts
   pub last_restart : (r u g : ℕ) → mine.restart < r → (yours.epochs r u g).called ≡ None
@@ -127,7 +130,8 @@ pub record CallKnown (mine yours : History) (parts : CallParts) : Type 0 where
 abbrev pub HasNoLogs : Epoch → Type 0
 HasNoLogs e = e ≡ record empty_epoch { called = e.called; answered = e.answered }
 
--- nothing is known of a later restart, nor of a later use of the present restart, and nothing was done in a later epoch of the present use
+-- nothing is known of a later restart, nor of a later use of the present restart, and nothing was done in a later epoch
+-- of the present use
 pub record IsBegun (st : History) : Type 0 where
   pub restarts : (r u g : ℕ) → st.restart < r → st.epochs r u g ≡ empty_epoch
   pub uses : (u g : ℕ) → st.use_ < u → st.epochs st.restart u g ≡ empty_epoch
@@ -155,18 +159,19 @@ HasCall role None false = ⊥
 HasCall Dte (Some parts) true = ⊥
 HasCall role called answered = Unit {0}
 
--- what the state of the channel at an end says of the present use: in p1, which is the state in r2 and r3 too, during the own clear, and
--- while the other end's call waits, it is unused
+-- what the state of the channel at an end says of the present use: in p1, which is the state in r2 and r3 too, during
+-- the own clear, and while the other end's call waits, it is unused
 abbrev pub InUse : Role → CallState → History → Type 0
 InUse role OwnWaiting st = HasPlaced st
 InUse role Collision st = HasPlaced st
 InUse role Transfer st = HasCall role (epoch_now st).called (epoch_now st).answered
 InUse role state st = IsUnused st
 
--- in a use in which an end did anything, one of the two ends accepted a call, and never do both; where an end accepted one, the other
--- end had placed one
+-- in a use in which an end did anything, one of the two ends accepted a call, and never do both; where an end accepted
+-- one, the other end had placed one
 pub record OneAnswers (mine yours : History) : Type 0 where
-  pub answered : (r u g : ℕ) → (HasNoLogs (mine.epochs r u g) → ⊥) → ((mine.epochs r u g).answered || (yours.epochs r u g).answered) ≡ true
+  pub answered : (r u g : ℕ) → (HasNoLogs (mine.epochs r u g) → ⊥)
+      → ((mine.epochs r u g).answered || (yours.epochs r u g).answered) ≡ true
   pub never_both : (r u g : ℕ) → ((mine.epochs r u g).answered && (yours.epochs r u g).answered) ≡ false
   pub was_called : (r u g : ℕ) → (mine.epochs r u g).answered ≡ true → is_some (yours.epochs r u g).called ≡ true
 
@@ -174,19 +179,22 @@ pub record OneAnswers (mine yours : History) : Type 0 where
 pub record HoldsAt (e : End) (s c : ℕ) : Type 0 where
   pub begun : IsBegun (e.histories s c)
   pub one_call : IsOneCall (e.histories s c)
-  pub in_use : (ch : Channel) → e.session ≡ Some s → channel_of e.layer c ≡ Some ch → InUse e.layer.role ch.state (e.histories s c)
+  pub in_use : (ch : Channel) → e.session ≡ Some s → channel_of e.layer c ≡ Some ch
+      → InUse e.layer.role ch.state (e.histories s c)
 
--- on channel c in session s, both ways: each epoch of the one end is aligned with the epoch of the same restart, use and reset at
--- the other end (which is empty where there is none); the histories are in step; where nothing is on its way, nothing is missing;
--- a Call that makes an Incoming Call is the one that the other end placed; at each end the history goes with the state of the channel,
--- and of the two ends of a call one accepted it
+-- on channel c in session s, both ways: each epoch of the one end is aligned with the epoch of the same restart, use
+-- and reset at the other end (which is empty where there is none); the histories are in step; where nothing is on its
+-- way, nothing is missing; a Call that makes an Incoming Call is the one that the other end placed; at each end the
+-- history goes with the state of the channel, and of the two ends of a call one accepted it
 pub record Holds (w : Line) (s c : ℕ) : Type 0 where
   pub forth : (r u g : ℕ) → Aligned ((w.me.histories s c).epochs r u g) ((w.you.histories s c).epochs r u g)
   pub back : (r u g : ℕ) → Aligned ((w.you.histories s c).epochs r u g) ((w.me.histories s c).epochs r u g)
   pub in_step : InStep (w.me.histories s c) (w.you.histories s c)
   pub at_rest : (a b : Channel) → Quiet w s c a b → AtRest w s c a b
-  pub call_here : (parts : CallParts) → CallArrives w s c parts → CallKnown (w.me.histories s c) (w.you.histories s c) parts
-  pub call_there : (parts : CallParts) → CallArrives (turned w) s c parts → CallKnown (w.you.histories s c) (w.me.histories s c) parts
+  pub call_here : (parts : CallParts) → CallArrives w s c parts
+      → CallKnown (w.me.histories s c) (w.you.histories s c) parts
+  pub call_there : (parts : CallParts) → CallArrives (turned w) s c parts
+      → CallKnown (w.you.histories s c) (w.me.histories s c) parts
   pub here : HoldsAt w.me s c
   pub there : HoldsAt w.you s c
   pub answers_here : OneAnswers (w.me.histories s c) (w.you.histories s c)
@@ -196,6 +204,9 @@ pub record Holds (w : Line) (s c : ℕ) : Type 0 where
 abbrev pub NoFault : Line → Type 0
 NoFault w = (s : ℕ) (p : Packet) → w.me.session ≡ Some s → next_of_session w s ≡ Some p → is_fault w.me.layer p ≡ false
 
--- whatever happens on a line with any number of channels and a window of at most 7, standing or not, on each of its channels
+-- whatever happens on a line with any number of channels and a window of at most 7, standing or not, on each of its
+-- channels
 abbrev pub LineLaw : Type 0
-LineLaw = (channels window : ℕ) (standing : Bool) → 1 ≤ channels → window ≤ 7 → (hs : List Happening) → let w = after hs (start_line channels window standing) in ((s c : ℕ) → 1 ≤ c → c ≤ channels → Holds w s c) × NoFault w × NoFault (turned w)
+LineLaw = (channels window : ℕ) (standing : Bool) → 1 ≤ channels → window ≤ 7 → (hs : List Happening)
+    → let w = after hs (start_line channels window standing) in
+    ((s c : ℕ) → 1 ≤ c → c ≤ channels → Holds w s c) × NoFault w × NoFault (turned w)

@@ -1,16 +1,20 @@
--- A line: two packet layers and, session by session, the packets that each end handed to the link and how many of them the
--- other end accepted. The link keeps its promise: in a session an end accepts the next packet that the other end offered.
-use Rattle.std.specs.Prelude.{ℕ, zero, suc, ◌+◌, Bool, true, false, cond, not, ◌&&◌, ◌==◌, List, [], ◌∷◌, ◌++◌, slice_get, Option, Some, None}
+-- A line: two packet layers and, session by session, the packets that each end handed to the link and how many of them
+-- the other end accepted. The link keeps its promise: in a session an end accepts the next packet that the other end
+-- offered.
+use Rattle.std.specs.Prelude.{ℕ, zero, suc, ◌+◌, Bool, true, false, cond, not, ◌&&◌, ◌==◌, List, [], ◌∷◌, ◌++◌}
+use Rattle.std.specs.Prelude.{slice_get, Option, Some, None}
 use Rattle.link_timers.specs.declared.role.Role.{Role}
 use Rattle.link_timers.specs.declared.role.Role.TheVariants.{Dte, Dce}
 use Rattle.packet_layer.specs.Packets.{CallParts, Packet}
 use Rattle.packet_layer.specs.Packets.Received.{Whole}
 use Rattle.packet_layer.specs.Channel.{Request}
-use Rattle.packet_layer.specs.Layer.{Layer, Timer, made, link_up, link_down, on_packet, on_timer, next_packet, call, channel_given, request}
-use Rattle.packet_laws.specs.History.{History, new_history, placed, call_accepted, call_history, request_history, packet_history, timer_history}
+use Rattle.packet_layer.specs.Layer.{Layer, Timer, made, link_up, link_down, on_packet, on_timer, next_packet, call}
+use Rattle.packet_layer.specs.Layer.{channel_given, request}
+use Rattle.packet_laws.specs.History.{History, new_history, placed, call_accepted, call_history, request_history}
+use Rattle.packet_laws.specs.History.{packet_history, timer_history}
 
--- one end: its layer, the session in which its link is up, and by session what it handed to the link, how many of the other
--- end's packets it accepted, and the histories of its channels
+-- one end: its layer, the session in which its link is up, and by session what it handed to the link, how many of the
+-- other end's packets it accepted, and the histories of its channels
 pub record End : Type 0 where
   pub layer : Layer
   pub session : Option ℕ
@@ -43,10 +47,19 @@ start_history role true zero (suc zero) = standing_history role
 start_history role standing s c = new_history
 
 abbrev pub start_end : Role → ℕ → ℕ → Bool → End
-start_end role channels window standing = record { layer = made role channels window standing; session = start_session standing; offered = λ s. []; accepted = λ s. 0; histories = λ s c. start_history role standing s c }
+start_end role channels window standing = record {
+  layer = made role channels window standing;
+  session = start_session standing;
+  offered = λ s. [];
+  accepted = λ s. 0;
+  histories = λ s c. start_history role standing s c;
+}
 
 abbrev pub start_line : ℕ → ℕ → Bool → Line
-start_line channels window standing = record { me = start_end Dte channels window standing; you = start_end Dce channels window standing }
+start_line channels window standing = record {
+  me = start_end Dte channels window standing;
+  you = start_end Dce channels window standing;
+}
 
 -- what happens at an end
 pub data Event : Type 0 where
@@ -85,11 +98,17 @@ handed_over s (Some p) offered = λ k. cond (k == s) (offered k ++ p ∷ []) (of
 
 abbrev pub offers : Option ℕ → End → End
 offers None e = e
-offers (Some s) e = record e { layer = (next_packet e.layer).layer; offered = handed_over s (next_packet e.layer).packet e.offered }
+offers (Some s) e = record e {
+  layer = (next_packet e.layer).layer;
+  offered = handed_over s (next_packet e.layer).packet e.offered;
+}
 
 abbrev pub accepts : ℕ → Option Packet → End → End
 accepts s None e = e
-accepts s (Some p) e = record (told (λ c st. packet_history e.layer p c st) e) { layer = on_packet e.layer (Whole p); accepted = λ k. cond (k == s) (e.accepted k + 1) (e.accepted k) }
+accepts s (Some p) e = record (told (λ c st. packet_history e.layer p c st) e) {
+  layer = on_packet e.layer (Whole p);
+  accepted = λ k. cond (k == s) (e.accepted k + 1) (e.accepted k);
+}
 
 abbrev pub next_of_session : Line → ℕ → Option Packet
 next_of_session w s = slice_get (w.you.offered s) (w.me.accepted s)
@@ -103,9 +122,17 @@ abbrev pub happens : Event → Line → Line
 happens (Up s) w = cond (may_begin s w) (record w { me = begun s w.me }) w
 happens Down w = record w { me = record w.me { layer = link_down w.me.layer; session = None } }
 happens (Calls parts) w =
-    record w { me = with_layer (call w.me.layer parts) (told (λ d st. call_history parts (channel_given w.me.layer w.me.layer.phase) d st) w.me) }
-happens (Requests c r) w = record w { me = with_layer (request w.me.layer c r) (told (λ d st. request_history w.me.layer c r d st) w.me) }
-happens (Expires t) w = record w { me = with_layer (on_timer w.me.layer t) (told (λ d st. timer_history w.me.layer t d st) w.me) }
+    record w {
+      me =
+          with_layer (call w.me.layer parts)
+          (told (λ d st. call_history parts (channel_given w.me.layer w.me.layer.phase) d st) w.me);
+    }
+happens (Requests c r) w = record w {
+  me = with_layer (request w.me.layer c r) (told (λ d st. request_history w.me.layer c r d st) w.me);
+}
+happens (Expires t) w = record w {
+  me = with_layer (on_timer w.me.layer t) (told (λ d st. timer_history w.me.layer t d st) w.me);
+}
 happens Offers w = record w { me = offers w.me.session w.me }
 happens Arrives w = arrives_in w.me.session w
 

@@ -1,5 +1,5 @@
--- How much an end owes at most, and what makes it ask for a relink: between two ends of this project the limit on owed packets is never
--- passed.
+-- How much an end owes at most, and what makes it ask for a relink: between two ends of this project the limit on owed
+-- packets is never passed.
 use Rattle.std.specs.Prelude.{◌≡◌, ℕ, ◌≤◌, Bool, true, false, List, length, Some}
 use Rattle.packet_layer.specs.Channel.{CallState, Channel}
 use Rattle.packet_layer.specs.Channel.CallState.{Ready, OwnWaiting, FarWaiting, Transfer, Collision, OwnClear}
@@ -29,14 +29,16 @@ unasked w = record w { me = record w.me { layer = record w.me.layer { relink = f
 abbrev pub asks : Event → Line → Bool
 asks event w = (happens event (unasked w)).me.layer.relink
 
--- at the end `me`: what it owes; no event but an expiry of the restart timer makes it ask for a relink, so that none finds four packets
--- owed and owes a further one; and where it asks after such an event, it asked before
+-- at the end `me`: what it owes; no event but an expiry of the restart timer makes it ask for a relink, so that none
+-- finds four packets owed and owes a further one; and where it asks after such an event, it asked before
 pub record WithinLimit (w : Line) : Type 0 where
   pub restarts : length w.me.layer.owed ≤ 2
   pub controls : (c : ℕ) (ch : Channel) → channel_of w.me.layer c ≡ Some ch → length ch.owed ≤ most_owed ch.state
   pub no_limit_passed : (event : Event) → is_restart_expiry event ≡ false → asks event w ≡ false
-  pub asked_before : (event : Event) → is_restart_expiry event ≡ false → (happens event w).me.layer.relink ≡ true → w.me.layer.relink ≡ true
+  pub asked_before : (event : Event) → is_restart_expiry event ≡ false → (happens event w).me.layer.relink ≡ true
+      → w.me.layer.relink ≡ true
 
 -- whatever happens on a line with any number of channels and a window of at most 7, standing or not, at both its ends
 abbrev pub OwedLaw : Type 0
-OwedLaw = (channels window : ℕ) (standing : Bool) → 1 ≤ channels → window ≤ 7 → (hs : List Happening) → let w = after hs (start_line channels window standing) in WithinLimit w × WithinLimit (turned w)
+OwedLaw = (channels window : ℕ) (standing : Bool) → 1 ≤ channels → window ≤ 7 → (hs : List Happening)
+    → let w = after hs (start_line channels window standing) in WithinLimit w × WithinLimit (turned w)

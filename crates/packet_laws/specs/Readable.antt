@@ -56,6 +56,7 @@ pub record AllRead (channels : List Channel) (owed : List Body) : Type 0 where
 abbrev pub IsReadable : Layer → Type 0
 IsReadable l = AllRead l.channels l.owed
 
--- a call that can be placed: a called address, a calling one or none, at most 109 octets of facilities and 16 of user data
+-- a call that can be placed: a called address, a calling one or none, at most 109 octets of facilities and 16 of user
+-- data
 abbrev pub CanBePlaced : CallParts → Type 0
 CanBePlaced parts = IsCallValue (value_of_parts parts)

@@ -2,25 +2,25 @@ ghost use Rattle.packet_laws.specs.Counts.{CountsLaw};
 ghost use Rattle.packet_laws.specs.Law.{LineLaw};
 ghost use Rattle.packet_laws.specs.Owed.{OwedLaw};
 
-/// The law of a line, over the definitions of the layer alone: whatever is called at its two ends, whatever timers expire and
-/// however its link's sessions begin and end, what an end takes in an epoch of a call begins the other end's list of what it
-/// sent in that same epoch, what a P(R) covered was released at the other end, the epochs of the two ends stay in step, and no
-/// packet that arrives is a procedure error.
+/// The law of a line, over the definitions of the layer alone: whatever is called at its two ends, whatever timers
+/// expire and however its link's sessions begin and end, what an end takes in an epoch of a call begins the other end's
+/// list of what it sent in that same epoch, what a P(R) covered was released at the other end, the epochs of the two
+/// ends stay in step, and no packet that arrives is a procedure error.
 pub fn line_law()
     ensures { LineLaw }
 {}
 
-/// What the numbers of data transfer name, at one end and whatever its partner does: a Data packet carries the packet whose
-/// place in the epoch its P(S) names, and a P(R) names how many packets were released (X.25 4.4.1).
+/// What the numbers of data transfer name, at one end and whatever its partner does: a Data packet carries the packet
+/// whose place in the epoch its P(S) names, and a P(R) names how many packets were released (X.25 4.4.1).
 pub fn counts_law()
     ensures { CountsLaw }
 {}
 
-/// How much is owed between two ends of a line, over the definitions of the layer alone: whatever is called at its two ends,
-/// whatever timers expire and however its link's sessions begin and end, an end owes at most 2 restart packets, and on each
-/// channel at most 4 control packets: 3 in a call, 1 where it placed a call that is not answered. So the limit of 4 is never
-/// passed, and of all events only an expiry of the restart timer makes an end ask for a relink: a fifth owed packet is for
-/// strangers.
+/// How much is owed between two ends of a line, over the definitions of the layer alone: whatever is called at its two
+/// ends, whatever timers expire and however its link's sessions begin and end, an end owes at most 2 restart packets,
+/// and on each channel at most 4 control packets: 3 in a call, 1 where it placed a call that is not answered. So the
+/// limit of 4 is never passed, and of all events only an expiry of the restart timer makes an end ask for a relink: a
+/// fifth owed packet is for strangers.
 pub fn owed_law()
     ensures { OwedLaw }
 {}
