@@ -174,71 +174,43 @@ module _ (x : Role) (e e' : End) (s d te : ℕ) (b : Book) (records : List Recor
   pub goes_epoch : (k c : ℕ) → ((k ≡ p.session) × (c ≡ d) → ⊥) → (e'.histories k c).epoch ≡ (e.histories k c).epoch
   goes_epoch k c other = ap (λ (st : History). st.epoch) (q.on.else k c (λ h. other (h.0 ∙ sym session_is, h.1)))
 
+-- what holds of the end that went on, and of the other one as it is, holds of both
+of_both : (x : Role) (e e' y : End) (te ty : ℕ) (P : Role → EndView → EndView → Type 0) → P x (view_of x e te) (view_of x e' te)
+    → ((z : Role) → (z ≡ x → ⊥) → P z (view_of z y ty) (view_of z y ty)) → (z : Role) → P z (views_of x e y te ty z) (views_of x e' y te ty z)
+of_both Dte e e' y te ty P here there Dte = here
+of_both Dte e e' y te ty P here there Dce = there Dce (λ e. cc)
+of_both Dce e e' y te ty P here there Dte = there Dte (λ e. cc)
+of_both Dce e e' y te ty P here there Dce = here
+
 pub carry_step : (x : Role) (e e' y : End) (s d te ty : ℕ) (b b' : Book) (tags : List Tag) (w : IsRight (views_of x e y te ty) (book_parts b) tags) (p : Present (view_of x e te) tags x d (slot_at x d b)) → GoesOn x e e' s d te b b'.records tags p
     → record (book_parts b) { records = b'.records } ≡ book_parts b' → IsRight (views_of x e' y te ty) (book_parts b') tags
 carry_step Dte e e' y s d te ty b b' tags w p q same =
     subst (λ (v : BookParts). IsRight (views_of Dte e' y te ty) v tags) same
     (carried_right Dte d (views_of Dte e y te ty) (views_of Dte e' y te ty) (book_parts b) b'.records tags w (record {
-      same = λ z. dte_same z;
-      calls = λ z. dte_calls z;
-      status = λ z c h. dte_status z c h;
+      same = of_both Dte e e' y te ty (λ z v v'. SameEnd v v') (goes_same Dte e e' s d te b b'.records tags p q) (λ z no. same_end (view_of z y ty) (view_of z y ty) refl);
+      calls = of_both Dte e e' y te ty (λ z v v'. SameCalls v v') (goes_calls Dte e e' s d te b b'.records tags p q) (λ z no. same_calls (view_of z y ty) (view_of z y ty) refl);
+      status = of_both Dte e e' y te ty (λ z v v'. (c : ℕ) → ((z ≡ Dte) × (c ≡ d) → ⊥) → v'.status c ≡ v.status c) (λ c h. q.on.status c (λ k. h (refl, k))) (λ z no c h. refl);
       here = q.opens;
       now_there = p;
-      logs = λ z k g h. dte_logs z k g h;
-      epoch = λ z k c h. dte_epoch z k c h;
+      logs = of_both Dte e e' y te ty (λ z v v'. (k : ChannelUse) (g : ℕ) → IsElse Dte (view_of Dte e te) p.session d z k → epoch_at v' k g ≡ epoch_at v k g)
+          (λ k g h. goes_logs Dte e e' s d te b b'.records tags p q k g (λ a. h (refl, a))) (λ z no k g h. refl);
+      epoch = of_both Dte e e' y te ty (λ z v v'. (k c : ℕ) → ((z ≡ Dte) × (k ≡ p.session) × (c ≡ d) → ⊥) → (v'.histories k c).epoch ≡ (v.histories k c).epoch)
+          (λ k c h. goes_epoch Dte e e' s d te b b'.records tags p q k c (λ a. h (refl, a.0, a.1))) (λ z no k c h. refl);
       count = q.count;
       kept = q.kept;
     }))
-  where
-    dte_same : (z : Role) → SameEnd (views_of Dte e y te ty z) (views_of Dte e' y te ty z)
-    dte_same Dte = goes_same Dte e e' s d te b b'.records tags p q
-    dte_same Dce = same_end (view_of Dce y ty) (view_of Dce y ty) refl
-
-    dte_calls : (z : Role) → SameCalls (views_of Dte e y te ty z) (views_of Dte e' y te ty z)
-    dte_calls Dte = goes_calls Dte e e' s d te b b'.records tags p q
-    dte_calls Dce = same_calls (view_of Dce y ty) (view_of Dce y ty) refl
-
-    dte_status : (z : Role) (c : ℕ) → ((z ≡ Dte) × (c ≡ d) → ⊥) → (views_of Dte e' y te ty z).status c ≡ (views_of Dte e y te ty z).status c
-    dte_status Dte c h = q.on.status c (λ k. h (refl, k))
-    dte_status Dce c h = refl
-
-    dte_logs : (z : Role) (k : ChannelUse) (g : ℕ) → IsElse Dte (view_of Dte e te) p.session d z k → epoch_at (views_of Dte e' y te ty z) k g ≡ epoch_at (views_of Dte e y te ty z) k g
-    dte_logs Dte k g h = goes_logs Dte e e' s d te b b'.records tags p q k g (λ a. h (refl, a))
-    dte_logs Dce k g h = refl
-
-    dte_epoch : (z : Role) (k c : ℕ) → ((z ≡ Dte) × (k ≡ p.session) × (c ≡ d) → ⊥) → ((views_of Dte e' y te ty z).histories k c).epoch ≡ ((views_of Dte e y te ty z).histories k c).epoch
-    dte_epoch Dte k c h = goes_epoch Dte e e' s d te b b'.records tags p q k c (λ a. h (refl, a.0, a.1))
-    dte_epoch Dce k c h = refl
 carry_step Dce e e' y s d te ty b b' tags w p q same =
     subst (λ (v : BookParts). IsRight (views_of Dce e' y te ty) v tags) same
     (carried_right Dce d (views_of Dce e y te ty) (views_of Dce e' y te ty) (book_parts b) b'.records tags w (record {
-      same = λ z. dce_same z;
-      calls = λ z. dce_calls z;
-      status = λ z c h. dce_status z c h;
+      same = of_both Dce e e' y te ty (λ z v v'. SameEnd v v') (goes_same Dce e e' s d te b b'.records tags p q) (λ z no. same_end (view_of z y ty) (view_of z y ty) refl);
+      calls = of_both Dce e e' y te ty (λ z v v'. SameCalls v v') (goes_calls Dce e e' s d te b b'.records tags p q) (λ z no. same_calls (view_of z y ty) (view_of z y ty) refl);
+      status = of_both Dce e e' y te ty (λ z v v'. (c : ℕ) → ((z ≡ Dce) × (c ≡ d) → ⊥) → v'.status c ≡ v.status c) (λ c h. q.on.status c (λ k. h (refl, k))) (λ z no c h. refl);
       here = q.opens;
       now_there = p;
-      logs = λ z k g h. dce_logs z k g h;
-      epoch = λ z k c h. dce_epoch z k c h;
+      logs = of_both Dce e e' y te ty (λ z v v'. (k : ChannelUse) (g : ℕ) → IsElse Dce (view_of Dce e te) p.session d z k → epoch_at v' k g ≡ epoch_at v k g)
+          (λ k g h. goes_logs Dce e e' s d te b b'.records tags p q k g (λ a. h (refl, a))) (λ z no k g h. refl);
+      epoch = of_both Dce e e' y te ty (λ z v v'. (k c : ℕ) → ((z ≡ Dce) × (k ≡ p.session) × (c ≡ d) → ⊥) → (v'.histories k c).epoch ≡ (v.histories k c).epoch)
+          (λ k c h. goes_epoch Dce e e' s d te b b'.records tags p q k c (λ a. h (refl, a.0, a.1))) (λ z no k c h. refl);
       count = q.count;
       kept = q.kept;
     }))
-  where
-    dce_same : (z : Role) → SameEnd (views_of Dce e y te ty z) (views_of Dce e' y te ty z)
-    dce_same Dce = goes_same Dce e e' s d te b b'.records tags p q
-    dce_same Dte = same_end (view_of Dte y ty) (view_of Dte y ty) refl
-
-    dce_calls : (z : Role) → SameCalls (views_of Dce e y te ty z) (views_of Dce e' y te ty z)
-    dce_calls Dce = goes_calls Dce e e' s d te b b'.records tags p q
-    dce_calls Dte = same_calls (view_of Dte y ty) (view_of Dte y ty) refl
-
-    dce_status : (z : Role) (c : ℕ) → ((z ≡ Dce) × (c ≡ d) → ⊥) → (views_of Dce e' y te ty z).status c ≡ (views_of Dce e y te ty z).status c
-    dce_status Dce c h = q.on.status c (λ k. h (refl, k))
-    dce_status Dte c h = refl
-
-    dce_logs : (z : Role) (k : ChannelUse) (g : ℕ) → IsElse Dce (view_of Dce e te) p.session d z k → epoch_at (views_of Dce e' y te ty z) k g ≡ epoch_at (views_of Dce e y te ty z) k g
-    dce_logs Dce k g h = goes_logs Dce e e' s d te b b'.records tags p q k g (λ a. h (refl, a))
-    dce_logs Dte k g h = refl
-
-    dce_epoch : (z : Role) (k c : ℕ) → ((z ≡ Dce) × (k ≡ p.session) × (c ≡ d) → ⊥) → ((views_of Dce e' y te ty z).histories k c).epoch ≡ ((views_of Dce e y te ty z).histories k c).epoch
-    dce_epoch Dce k c h = goes_epoch Dce e e' s d te b b'.records tags p q k c (λ a. h (refl, a.0, a.1))
-    dce_epoch Dte k c h = refl

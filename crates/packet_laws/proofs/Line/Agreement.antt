@@ -6,14 +6,14 @@ use Rattle.packet_layer.specs.Packets.{Body}
 use Rattle.packet_layer.specs.Packets.Body.{Call, Accepted, Clear, ClearConfirmation, Data, Interrupt, InterruptConfirmation, ReceiveReady, ReceiveNotReady, Reset, ResetConfirmation, Restart, RestartConfirmation}
 use Rattle.packet_layer.specs.Traffic.{Heard, hears}
 use Rattle.packet_layer.specs.Traffic.Heard.{Keeps, Confirms, Wrong}
-use Rattle.packet_layer.specs.Channel.{Channel, received, after_heard}
+use Rattle.packet_layer.specs.Channel.{Channel, Step, received, after_heard}
 use Rattle.packet_layer.specs.Channel.CallState.{Transfer}
 use Rattle.packet_laws.specs.History.{History, received_history, logged_heard, heard_history, opened, grown}
 use Rattle.packet_laws.specs.Law.{is_request}
-use Rattle.packet_laws.proofs.Handshakes.Handshake.{Kind, at, advanced}
+use Rattle.packet_laws.proofs.Handshakes.Handshake.{Kind, Did, at, advanced, reacted}
 use Rattle.packet_laws.proofs.Handshakes.Handshake.Kind.{Payload}
 use Rattle.packet_laws.proofs.Handshakes.Keeping.{at_next}
-use Rattle.packet_laws.proofs.Call.SetUp.{Stage}
+use Rattle.packet_laws.proofs.Call.SetUp.{Stage, in_call}
 use Rattle.packet_laws.proofs.Call.SetUp.Stage.{Free, Placed, Waiting, Collided, Open}
 use Rattle.packet_laws.proofs.Call.OneEpoch.{Inner, begun_epoch, heard_traffic, heard_inner, NotWrong}
 use Rattle.packet_laws.proofs.Call.Levels.{restart_kind, Epochs, CallUse, Whole, first_epoch, first_call, whole_hears, whole_ok}
@@ -63,6 +63,37 @@ learnt_clear role window c s rs n cause diagnostic l st t = record {
       ∙ sym (through_whole (r == n.number) (in_state false s rs n).now _ (n.past r) u g
       (ap (λ (v : CallUse). look v g) (at_next CallUse first_call false (in_state false s rs n).now u l.later_uses)));
 }
+
+-- a packet that is heard in d1 and is no procedure error
+abbrev heard_whole : Heard → Whole → Did Whole
+heard_whole h n =
+    reacted (reacted (in_call (reacted (record { end_ = heard_inner h n.now.now.call.now; says = None }) n.now.now.call)
+    n.now.now) n.now) n
+
+flows : (role : Role) (window c : ℕ) (m : Bool) (n : Whole) (owed : List Body) (b : Body)
+    → let N = in_state false (Open m) false n in let h = hears window n.now.now.call.now.traffic b in
+    received role window c (shown (stored N) owed) b ≡ after_heard role c (shown (stored N) owed) h
+    → whole_hears window role N b ≡ heard_whole h N → NotWrong h → Ties role window c N owed b
+flows role window c m n owed b step is ok =
+    let N : Whole = in_state false (Open m) false n in
+    let h : Heard = hears window n.now.now.call.now.traffic b in
+    let ch : Channel = shown (stored N) owed in
+    let E : Whole = (heard_whole h N).end_ in
+    let owes : (received role window c ch b).owes ≡ None = ap (λ (s : Step). s.owes) step ∙ heard_owes role c ch h ok in
+    record {
+      channel_is = ap (λ (s : Step). s.channel) step ∙ heard_channel role c ch h ok
+          ∙ ap (λ (d : Did Whole). shown (stored d.end_) owed) (sym is);
+      owes_is = owes ∙ ap (λ (d : Did Whole). d.says) (sym is);
+      no_fault = ap (λ (o : Option Body). is_request o) owes;
+      ready = ap (λ (d : Did Whole). d.end_.own) is;
+      settled = subst (λ (d : Did Whole). Settled d.end_) (sym is) tt;
+      history = λ st t.
+          subst (λ (d : Did Whole). HistoryTie d.end_ (received_history role window c ch b st)) (sym is)
+          (subst (λ (o : Option Body). HistoryTie E (opened o (heard_history Transfer false h st))) (sym owes)
+          (subst (λ (z : History). HistoryTie E z) (heard_grown h st ok)
+          (grown_history (λ v. logged_heard h v) N E st refl refl refl
+          (λ r u g. grows_in_use (λ v. logged_heard h v) N (heard_inner h N.now.now.call.now) false false _ _ _ _ (λ q v. heard_marked h q v) refl r u g) t)));
+    }
 
 pub received_at : (role : Role) (window c : ℕ) (own : Bool) (s : Stage) (rs : Bool) (n : Whole) (owed : List Body) (b : Body) → restart_kind b ≡ Payload
     → Laters (in_state own s rs n) → SettledUses own (in_state own s rs n).now.now → whole_ok window role (in_state own s rs n) b → Ties role window c (in_state own s rs n) owed b
@@ -252,68 +283,8 @@ received_at Dte window c false (Open m) false n owed Accepted plain l e ok = abs
 received_at Dce window c false (Open m) false n owed Accepted plain l e ok = absurd ok
 received_at role window c false (Open m) false n owed ClearConfirmation plain l e ok = absurd ok
 received_at role window c false (Open m) false n owed ResetConfirmation plain l e ok = absurd ok
-received_at role window c false (Open m) false n owed (Data x y d) plain l e ok =
-    let N : Whole = in_state false (Open m) false n in
-    let h : Heard = hears window n.now.now.call.now.traffic (Data x y d) in
-    let ch : Channel = shown (stored N) owed in
-    record {
-      channel_is = heard_channel role c ch h ok;
-      owes_is = heard_owes role c ch h ok;
-      no_fault = ap (λ (o : Option Body). is_request o) (heard_owes role c ch h ok);
-      ready = refl;
-      settled = tt;
-      history = λ st t. subst (λ (o : Option Body). HistoryTie (whole_hears window role N (Data x y d)).end_ (opened o (heard_history Transfer false h st))) (sym (heard_owes role c ch h ok))
-          (subst (λ (z : History). HistoryTie (whole_hears window role N (Data x y d)).end_ z) (heard_grown h st ok) (grown_history (λ v. logged_heard h v) N (whole_hears window role N (Data x y d)).end_ st refl refl refl (λ r u g. grows_in_use (λ v. logged_heard h v) N (heard_inner h N.now.now.call.now) false false _ _ _ _ (λ q v. heard_marked h q v) refl r u g) t));
-    }
-received_at role window c false (Open m) false n owed (Interrupt x) plain l e ok =
-    let N : Whole = in_state false (Open m) false n in
-    let h : Heard = hears window n.now.now.call.now.traffic (Interrupt x) in
-    let ch : Channel = shown (stored N) owed in
-    record {
-      channel_is = heard_channel role c ch h ok;
-      owes_is = heard_owes role c ch h ok;
-      no_fault = ap (λ (o : Option Body). is_request o) (heard_owes role c ch h ok);
-      ready = refl;
-      settled = tt;
-      history = λ st t. subst (λ (o : Option Body). HistoryTie (whole_hears window role N (Interrupt x)).end_ (opened o (heard_history Transfer false h st))) (sym (heard_owes role c ch h ok))
-          (subst (λ (z : History). HistoryTie (whole_hears window role N (Interrupt x)).end_ z) (heard_grown h st ok) (grown_history (λ v. logged_heard h v) N (whole_hears window role N (Interrupt x)).end_ st refl refl refl (λ r u g. grows_in_use (λ v. logged_heard h v) N (heard_inner h N.now.now.call.now) false false _ _ _ _ (λ q v. heard_marked h q v) refl r u g) t));
-    }
-received_at role window c false (Open m) false n owed InterruptConfirmation plain l e ok =
-    let N : Whole = in_state false (Open m) false n in
-    let h : Heard = hears window n.now.now.call.now.traffic InterruptConfirmation in
-    let ch : Channel = shown (stored N) owed in
-    record {
-      channel_is = heard_channel role c ch h ok;
-      owes_is = heard_owes role c ch h ok;
-      no_fault = ap (λ (o : Option Body). is_request o) (heard_owes role c ch h ok);
-      ready = refl;
-      settled = tt;
-      history = λ st t. subst (λ (o : Option Body). HistoryTie (whole_hears window role N InterruptConfirmation).end_ (opened o (heard_history Transfer false h st))) (sym (heard_owes role c ch h ok))
-          (subst (λ (z : History). HistoryTie (whole_hears window role N InterruptConfirmation).end_ z) (heard_grown h st ok) (grown_history (λ v. logged_heard h v) N (whole_hears window role N InterruptConfirmation).end_ st refl refl refl (λ r u g. grows_in_use (λ v. logged_heard h v) N (heard_inner h N.now.now.call.now) false false _ _ _ _ (λ q v. heard_marked h q v) refl r u g) t));
-    }
-received_at role window c false (Open m) false n owed (ReceiveReady x) plain l e ok =
-    let N : Whole = in_state false (Open m) false n in
-    let h : Heard = hears window n.now.now.call.now.traffic (ReceiveReady x) in
-    let ch : Channel = shown (stored N) owed in
-    record {
-      channel_is = heard_channel role c ch h ok;
-      owes_is = heard_owes role c ch h ok;
-      no_fault = ap (λ (o : Option Body). is_request o) (heard_owes role c ch h ok);
-      ready = refl;
-      settled = tt;
-      history = λ st t. subst (λ (o : Option Body). HistoryTie (whole_hears window role N (ReceiveReady x)).end_ (opened o (heard_history Transfer false h st))) (sym (heard_owes role c ch h ok))
-          (subst (λ (z : History). HistoryTie (whole_hears window role N (ReceiveReady x)).end_ z) (heard_grown h st ok) (grown_history (λ v. logged_heard h v) N (whole_hears window role N (ReceiveReady x)).end_ st refl refl refl (λ r u g. grows_in_use (λ v. logged_heard h v) N (heard_inner h N.now.now.call.now) false false _ _ _ _ (λ q v. heard_marked h q v) refl r u g) t));
-    }
-received_at role window c false (Open m) false n owed (ReceiveNotReady x) plain l e ok =
-    let N : Whole = in_state false (Open m) false n in
-    let h : Heard = hears window n.now.now.call.now.traffic (ReceiveNotReady x) in
-    let ch : Channel = shown (stored N) owed in
-    record {
-      channel_is = heard_channel role c ch h ok;
-      owes_is = heard_owes role c ch h ok;
-      no_fault = ap (λ (o : Option Body). is_request o) (heard_owes role c ch h ok);
-      ready = refl;
-      settled = tt;
-      history = λ st t. subst (λ (o : Option Body). HistoryTie (whole_hears window role N (ReceiveNotReady x)).end_ (opened o (heard_history Transfer false h st))) (sym (heard_owes role c ch h ok))
-          (subst (λ (z : History). HistoryTie (whole_hears window role N (ReceiveNotReady x)).end_ z) (heard_grown h st ok) (grown_history (λ v. logged_heard h v) N (whole_hears window role N (ReceiveNotReady x)).end_ st refl refl refl (λ r u g. grows_in_use (λ v. logged_heard h v) N (heard_inner h N.now.now.call.now) false false _ _ _ _ (λ q v. heard_marked h q v) refl r u g) t));
-    }
+received_at role window c false (Open m) false n owed (Data x y d) plain l e ok = flows role window c m n owed (Data x y d) refl refl ok
+received_at role window c false (Open m) false n owed (Interrupt x) plain l e ok = flows role window c m n owed (Interrupt x) refl refl ok
+received_at role window c false (Open m) false n owed InterruptConfirmation plain l e ok = flows role window c m n owed InterruptConfirmation refl refl ok
+received_at role window c false (Open m) false n owed (ReceiveReady x) plain l e ok = flows role window c m n owed (ReceiveReady x) refl refl ok
+received_at role window c false (Open m) false n owed (ReceiveNotReady x) plain l e ok = flows role window c m n owed (ReceiveNotReady x) refl refl ok
