@@ -98,14 +98,7 @@ hears-reads window t (Interrupt octets) r =
     cond_by HeardReads (interrupted t) (Wrong 0) (Keeps 0 (record t { interrupt_arrived = Some octets })) (λ _. tt) (λ _. r)
 hears-reads window t InterruptConfirmation r =
     cond_by HeardReads t.interrupt_unconfirmed (Confirms (record t { interrupt_unconfirmed = false })) (Wrong 0) (λ _. r) (λ _. tt)
-hears-reads window t (Call parts) r = tt
-hears-reads window t Accepted r = tt
-hears-reads window t (Clear cause diagnostic) r = tt
-hears-reads window t ClearConfirmation r = tt
-hears-reads window t (Reset cause diagnostic) r = tt
-hears-reads window t ResetConfirmation r = tt
-hears-reads window t (Restart cause diagnostic) r = tt
-hears-reads window t RestartConfirmation r = tt
+hears-reads window t _ r = tt
 
 in_flow_ready-reads : (role : Role) (window c : ℕ) (ch : Channel) (b : Body) → ChannelReads ch → StepReads (in_flow_ready role window c ch b)
 in_flow_ready-reads role window c ch (Clear cause diagnostic) r = far_cleared-reads c cause diagnostic ch r
@@ -121,11 +114,7 @@ in_flow_ready-reads role window c ch (Interrupt octets) r =
     heard-reads role c ch (hears window ch.traffic (Interrupt octets)) r (hears-reads window ch.traffic (Interrupt octets) r.1)
 in_flow_ready-reads role window c ch InterruptConfirmation r =
     heard-reads role c ch (hears window ch.traffic InterruptConfirmation) r (hears-reads window ch.traffic InterruptConfirmation r.1)
-in_flow_ready-reads role window c ch (Call parts) r = clear-reads role c 0 true ch r
-in_flow_ready-reads role window c ch Accepted r = clear-reads role c 0 true ch r
-in_flow_ready-reads role window c ch ClearConfirmation r = clear-reads role c 0 true ch r
-in_flow_ready-reads role window c ch (Restart cause diagnostic) r = clear-reads role c 0 true ch r
-in_flow_ready-reads role window c ch RestartConfirmation r = clear-reads role c 0 true ch r
+in_flow_ready-reads role window c ch _ r = clear-reads role c 0 true ch r
 
 -- ---- what comes in the other states
 
@@ -138,99 +127,33 @@ in_own_reset-reads role c ch (ReceiveReady receive) r = (r, tt)
 in_own_reset-reads role c ch (ReceiveNotReady receive) r = (r, tt)
 in_own_reset-reads role c ch (Interrupt octets) r = (r, tt)
 in_own_reset-reads role c ch InterruptConfirmation r = (r, tt)
-in_own_reset-reads role c ch (Call parts) r = clear-reads role c 0 true ch r
-in_own_reset-reads role c ch Accepted r = clear-reads role c 0 true ch r
-in_own_reset-reads role c ch ClearConfirmation r = clear-reads role c 0 true ch r
-in_own_reset-reads role c ch (Restart cause diagnostic) r = clear-reads role c 0 true ch r
-in_own_reset-reads role c ch RestartConfirmation r = clear-reads role c 0 true ch r
+in_own_reset-reads role c ch _ r = clear-reads role c 0 true ch r
 
 in_ready-reads : (role : Role) (c : ℕ) (ch : Channel) (b : Body) → ChannelReads ch → StepReads (in_ready role c ch b)
 in_ready-reads role c ch (Call parts) r = (r, tt)
 in_ready-reads role c ch (Clear cause diagnostic) r = (r, λ channel is. is)
-in_ready-reads role c ch Accepted r = clear-reads role c 20 false ch r
-in_ready-reads role c ch ClearConfirmation r = clear-reads role c 20 false ch r
-in_ready-reads role c ch (Data send receive d) r = clear-reads role c 20 false ch r
-in_ready-reads role c ch (Interrupt octets) r = clear-reads role c 20 false ch r
-in_ready-reads role c ch InterruptConfirmation r = clear-reads role c 20 false ch r
-in_ready-reads role c ch (ReceiveReady receive) r = clear-reads role c 20 false ch r
-in_ready-reads role c ch (ReceiveNotReady receive) r = clear-reads role c 20 false ch r
-in_ready-reads role c ch (Reset cause diagnostic) r = clear-reads role c 20 false ch r
-in_ready-reads role c ch ResetConfirmation r = clear-reads role c 20 false ch r
-in_ready-reads role c ch (Restart cause diagnostic) r = clear-reads role c 20 false ch r
-in_ready-reads role c ch RestartConfirmation r = clear-reads role c 20 false ch r
+in_ready-reads role c ch _ r = clear-reads role c 20 false ch r
 
 in_own_waiting-reads : (role : Role) (c : ℕ) (ch : Channel) (b : Body) → ChannelReads ch → StepReads (in_own_waiting role c ch b)
 in_own_waiting-reads role c ch Accepted r = (r, tt)
 in_own_waiting-reads role c ch (Call parts) r = (r, tt)
 in_own_waiting-reads role c ch (Clear cause diagnostic) r = far_cleared-reads c cause diagnostic ch r
-in_own_waiting-reads role c ch ClearConfirmation r = clear-reads role c 0 true ch r
-in_own_waiting-reads role c ch (Data send receive d) r = clear-reads role c 0 true ch r
-in_own_waiting-reads role c ch (Interrupt octets) r = clear-reads role c 0 true ch r
-in_own_waiting-reads role c ch InterruptConfirmation r = clear-reads role c 0 true ch r
-in_own_waiting-reads role c ch (ReceiveReady receive) r = clear-reads role c 0 true ch r
-in_own_waiting-reads role c ch (ReceiveNotReady receive) r = clear-reads role c 0 true ch r
-in_own_waiting-reads role c ch (Reset cause diagnostic) r = clear-reads role c 0 true ch r
-in_own_waiting-reads role c ch ResetConfirmation r = clear-reads role c 0 true ch r
-in_own_waiting-reads role c ch (Restart cause diagnostic) r = clear-reads role c 0 true ch r
-in_own_waiting-reads role c ch RestartConfirmation r = clear-reads role c 0 true ch r
+in_own_waiting-reads role c ch _ r = clear-reads role c 0 true ch r
 
 in_far_waiting-reads : (role : Role) (c : ℕ) (ch : Channel) (b : Body) → ChannelReads ch → StepReads (in_far_waiting role c ch b)
 in_far_waiting-reads role c ch (Clear cause diagnostic) r = far_cleared-reads c cause diagnostic ch r
-in_far_waiting-reads role c ch (Call parts) r = clear-reads role c 0 true ch r
-in_far_waiting-reads role c ch Accepted r = clear-reads role c 0 true ch r
-in_far_waiting-reads role c ch ClearConfirmation r = clear-reads role c 0 true ch r
-in_far_waiting-reads role c ch (Data send receive d) r = clear-reads role c 0 true ch r
-in_far_waiting-reads role c ch (Interrupt octets) r = clear-reads role c 0 true ch r
-in_far_waiting-reads role c ch InterruptConfirmation r = clear-reads role c 0 true ch r
-in_far_waiting-reads role c ch (ReceiveReady receive) r = clear-reads role c 0 true ch r
-in_far_waiting-reads role c ch (ReceiveNotReady receive) r = clear-reads role c 0 true ch r
-in_far_waiting-reads role c ch (Reset cause diagnostic) r = clear-reads role c 0 true ch r
-in_far_waiting-reads role c ch ResetConfirmation r = clear-reads role c 0 true ch r
-in_far_waiting-reads role c ch (Restart cause diagnostic) r = clear-reads role c 0 true ch r
-in_far_waiting-reads role c ch RestartConfirmation r = clear-reads role c 0 true ch r
+in_far_waiting-reads role c ch _ r = clear-reads role c 0 true ch r
 
 in_collision-reads : (role : Role) (c : ℕ) (ch : Channel) (b : Body) → ChannelReads ch → StepReads (in_collision role c ch b)
 in_collision-reads Dte c ch Accepted r = (r, tt)
 in_collision-reads Dte c ch (Clear cause diagnostic) r = far_cleared-reads c cause diagnostic ch r
-in_collision-reads Dte c ch (Call parts) r = clear-reads Dte c 0 true ch r
-in_collision-reads Dte c ch ClearConfirmation r = clear-reads Dte c 0 true ch r
-in_collision-reads Dte c ch (Data send receive d) r = clear-reads Dte c 0 true ch r
-in_collision-reads Dte c ch (Interrupt octets) r = clear-reads Dte c 0 true ch r
-in_collision-reads Dte c ch InterruptConfirmation r = clear-reads Dte c 0 true ch r
-in_collision-reads Dte c ch (ReceiveReady receive) r = clear-reads Dte c 0 true ch r
-in_collision-reads Dte c ch (ReceiveNotReady receive) r = clear-reads Dte c 0 true ch r
-in_collision-reads Dte c ch (Reset cause diagnostic) r = clear-reads Dte c 0 true ch r
-in_collision-reads Dte c ch ResetConfirmation r = clear-reads Dte c 0 true ch r
-in_collision-reads Dte c ch (Restart cause diagnostic) r = clear-reads Dte c 0 true ch r
-in_collision-reads Dte c ch RestartConfirmation r = clear-reads Dte c 0 true ch r
-in_collision-reads Dce c ch Accepted r = clear-reads Dce c 0 true ch r
+in_collision-reads Dte c ch _ r = clear-reads Dte c 0 true ch r
 in_collision-reads Dce c ch (Clear cause diagnostic) r = far_cleared-reads c cause diagnostic ch r
-in_collision-reads Dce c ch (Call parts) r = clear-reads Dce c 0 true ch r
-in_collision-reads Dce c ch ClearConfirmation r = clear-reads Dce c 0 true ch r
-in_collision-reads Dce c ch (Data send receive d) r = clear-reads Dce c 0 true ch r
-in_collision-reads Dce c ch (Interrupt octets) r = clear-reads Dce c 0 true ch r
-in_collision-reads Dce c ch InterruptConfirmation r = clear-reads Dce c 0 true ch r
-in_collision-reads Dce c ch (ReceiveReady receive) r = clear-reads Dce c 0 true ch r
-in_collision-reads Dce c ch (ReceiveNotReady receive) r = clear-reads Dce c 0 true ch r
-in_collision-reads Dce c ch (Reset cause diagnostic) r = clear-reads Dce c 0 true ch r
-in_collision-reads Dce c ch ResetConfirmation r = clear-reads Dce c 0 true ch r
-in_collision-reads Dce c ch (Restart cause diagnostic) r = clear-reads Dce c 0 true ch r
-in_collision-reads Dce c ch RestartConfirmation r = clear-reads Dce c 0 true ch r
+in_collision-reads Dce c ch _ r = clear-reads Dce c 0 true ch r
 
 in_own_clear-reads : (ch : Channel) (b : Body) → ChannelReads ch → StepReads (in_own_clear ch b)
-in_own_clear-reads ch (Clear cause diagnostic) r = (r, tt)
 in_own_clear-reads ch ClearConfirmation r = (r, tt)
-in_own_clear-reads ch (Call parts) r = (r, tt)
-in_own_clear-reads ch Accepted r = (r, tt)
-in_own_clear-reads ch (Data send receive d) r = (r, tt)
-in_own_clear-reads ch (Interrupt octets) r = (r, tt)
-in_own_clear-reads ch InterruptConfirmation r = (r, tt)
-in_own_clear-reads ch (ReceiveReady receive) r = (r, tt)
-in_own_clear-reads ch (ReceiveNotReady receive) r = (r, tt)
-in_own_clear-reads ch (Reset cause diagnostic) r = (r, tt)
-in_own_clear-reads ch ResetConfirmation r = (r, tt)
-in_own_clear-reads ch (Restart cause diagnostic) r = (r, tt)
-in_own_clear-reads ch RestartConfirmation r = (r, tt)
+in_own_clear-reads ch _ r = (r, tt)
 
 received_in-reads : (s : CallState) (role : Role) (window c : ℕ) (ch : Channel) (b : Body) → ChannelReads ch →
     StepReads (received_in s role window c ch b)
@@ -391,43 +314,11 @@ without_owed chs owed r = record { few = r.few; channels_read = r.channels_read;
 restart-reads : (phase : Phase) (b : Body) (l : Layer) → IsReadable l → IsReadable (restart_packet phase b l)
 restart-reads PacketReady (Restart cause diagnostic) l r = owes-reads _ l.owed RestartConfirmation refl (closed l.channels l.owed r)
 restart-reads PacketReady RestartConfirmation l r = owes-reads _ l.owed (Restart _ 17) refl (closed l.channels l.owed r)
-restart-reads PacketReady (Call parts) l r = r
-restart-reads PacketReady Accepted l r = r
-restart-reads PacketReady (Clear cause diagnostic) l r = r
-restart-reads PacketReady ClearConfirmation l r = r
-restart-reads PacketReady (Data send receive d) l r = r
-restart-reads PacketReady (Interrupt octets) l r = r
-restart-reads PacketReady InterruptConfirmation l r = r
-restart-reads PacketReady (ReceiveReady receive) l r = r
-restart-reads PacketReady (ReceiveNotReady receive) l r = r
-restart-reads PacketReady (Reset cause diagnostic) l r = r
-restart-reads PacketReady ResetConfirmation l r = r
-restart-reads OwnRestart (Restart cause diagnostic) l r = r
+restart-reads PacketReady _ l r = r
 restart-reads OwnRestart RestartConfirmation l r = r
-restart-reads OwnRestart (Call parts) l r = r
-restart-reads OwnRestart Accepted l r = r
-restart-reads OwnRestart (Clear cause diagnostic) l r = r
-restart-reads OwnRestart ClearConfirmation l r = r
-restart-reads OwnRestart (Data send receive d) l r = r
-restart-reads OwnRestart (Interrupt octets) l r = r
-restart-reads OwnRestart InterruptConfirmation l r = r
-restart-reads OwnRestart (ReceiveReady receive) l r = r
-restart-reads OwnRestart (ReceiveNotReady receive) l r = r
-restart-reads OwnRestart (Reset cause diagnostic) l r = r
-restart-reads OwnRestart ResetConfirmation l r = r
-restart-reads NoSession (Restart cause diagnostic) l r = r
+restart-reads OwnRestart _ l r = r
 restart-reads NoSession RestartConfirmation l r = r
-restart-reads NoSession (Call parts) l r = r
-restart-reads NoSession Accepted l r = r
-restart-reads NoSession (Clear cause diagnostic) l r = r
-restart-reads NoSession ClearConfirmation l r = r
-restart-reads NoSession (Data send receive d) l r = r
-restart-reads NoSession (Interrupt octets) l r = r
-restart-reads NoSession InterruptConfirmation l r = r
-restart-reads NoSession (ReceiveReady receive) l r = r
-restart-reads NoSession (ReceiveNotReady receive) l r = r
-restart-reads NoSession (Reset cause diagnostic) l r = r
-restart-reads NoSession ResetConfirmation l r = r
+restart-reads NoSession _ l r = r
 
 -- ---- a layer as it is made, and what each call makes of it
 

@@ -117,15 +117,7 @@ turned_taken_back channels window role w m = (m.1.0, (m.0, (m.1.1.1.0, (m.1.1.0,
 
 other_instead : (event : Event) → OtherEvent (instead event)
 other_instead (Expires RestartTimer) = tt
-other_instead (Expires (CallTimer d)) = tt
-other_instead (Expires (ResetTimer d)) = tt
-other_instead (Expires (ClearTimer d)) = tt
-other_instead (Up k) = tt
-other_instead Down = tt
-other_instead (Calls p) = tt
-other_instead (Requests d r) = tt
-other_instead Offers = tt
-other_instead Arrives = tt
+other_instead _ = tt
 
 happens_taken_back : (channels window : ℕ) (role : Role) (event : Event) (w : Line) → TakenBack channels window role w → TakenBack channels window role (happens event w)
 happens_taken_back channels window role event w m =
@@ -167,15 +159,7 @@ fits_in_most false s rs o f = let l = ap (λ (q : List Body). length q) f.2 in o
 
 other_event : (event : Event) → is_restart_expiry event ≡ false → OtherEvent event
 other_event (Expires RestartTimer) e = absurd (true≢false e)
-other_event (Expires (CallTimer d)) e = tt
-other_event (Expires (ResetTimer d)) e = tt
-other_event (Expires (ClearTimer d)) e = tt
-other_event (Up k) e = tt
-other_event Down e = tt
-other_event (Calls p) e = tt
-other_event (Requests d r) e = tt
-other_event Offers e = tt
-other_event Arrives e = tt
+other_event _ e = tt
 
 -- no event reads the histories or the notes
 up_asks : (f g : ℕ → ℕ → History) (n m : List Note) (w : Line) (k : ℕ) (v : Bool) → (cond v (record (retold f g n m w) { me = begun k (retold f g n m w).me }) (retold f g n m w)).me.layer.relink ≡ (cond v (record (unasked w) { me = begun k (unasked w).me }) (unasked w)).me.layer.relink
