@@ -1,5 +1,5 @@
 -- A line and its book, side by side: whatever happens at an end's packet layer is written into the book.
-use Rattle.std.specs.Prelude.{◌≡◌, ℕ, ◌≤◌, Bool, cond, List, [], ◌∷◌, Option, Some, None}
+use Rattle.std.specs.Prelude.{◌≡◌, ℕ, ◌≤◌, Bool, if◌then◌else◌, List, [], ◌∷◌, Option, Some, None}
 use Rattle.link_timers.specs.declared.role.Role.{Role}
 use Rattle.link_timers.specs.declared.role.Role.TheVariants.{Dte, Dce}
 use Rattle.pad_editing.specs.Edited.{Step}
@@ -26,9 +26,9 @@ notes_in (Some s) w = notes_by_packet w.me.layer (next_of_session w s)
 
 -- at `me`
 abbrev pub notes_of : Event → Line → List Note
-notes_of (Up s) w = cond (may_begin s w) (link_up w.me.layer).notes []
+notes_of (Up s) w = if may_begin s w then (link_up w.me.layer).notes else []
 notes_of Down w = (link_down w.me.layer).notes
-notes_of (Expires t) w = cond (runs w.me.layer t) (on_timer w.me.layer t).notes []
+notes_of (Expires t) w = if runs w.me.layer t then (on_timer w.me.layer t).notes else []
 notes_of Arrives w = notes_in w.me.session w
 notes_of _ w = []
 
@@ -56,7 +56,7 @@ pub data Move : Type 0 where
   Edits : Role → (channel : ℕ) → Step → Move
 
 abbrev pub top_after : Event → Line → ℕ → ℕ
-top_after (Up s) w top = cond (may_begin s w) s top
+top_after (Up s) w top = if may_begin s w then s else top
 top_after event w top = top
 
 -- the DTE is `me`

@@ -1,5 +1,5 @@
 -- Which events of two packet layers an act at an end of a line is.
-use Rattle.std.specs.Prelude.{ℕ, zero, suc, cond, List, [], ◌∷◌, ◌++◌, Option, Some, None, is_some}
+use Rattle.std.specs.Prelude.{ℕ, zero, suc, if◌then◌else◌, List, [], ◌∷◌, ◌++◌, Option, Some, None, is_some}
 use Rattle.link_timers.specs.declared.timers.TimerId.{TimerId}
 use Rattle.link_timers.specs.declared.timers.TimerId.TheVariants.{T1}
 use Rattle.lapb.specs.declared.note.Note.{Note}
@@ -49,19 +49,20 @@ expiry_events s id e = timer_events (timer_named e.layer.role id)
 abbrev pub offer_events : (most : ℕ) → PacketEnd → List Event
 offer_events zero e = []
 offer_events (suc most) e =
-    cond (can_offer e.line.link)
-    (cond (is_some (next_packet e.layer).packet)
-    (Event.Offers ∷ offer_events most (with_next e (next_packet e.layer))) [])
-    []
+    if can_offer e.line.link
+    then (if is_some (next_packet e.layer).packet
+    then Event.Offers ∷ offer_events most (with_next e (next_packet e.layer))
+    else [])
+    else []
 
 -- ---- an act, by which the link may come up in session s
 
 abbrev pub events_of : (s : ℕ) → Act → (coming : List Octets) → PacketEnd → List Event
 events_of s Begins coming e = []
 events_of s Hears coming e = frame_events s coming e
-events_of s (Expires id) coming e = cond (runs_at e id) (expiry_events s id e) []
+events_of s (Expires id) coming e = if runs_at e id then expiry_events s id e else []
 events_of s Relinks coming e = Event.Down ∷ []
-events_of s RelinksIfDue coming e = cond e.layer.relink (Event.Down ∷ []) []
+events_of s RelinksIfDue coming e = if e.layer.relink then Event.Down ∷ [] else []
 events_of s Restarts coming e = Event.Down ∷ []
 events_of s (Calls parts) coming e = Event.Calls parts ∷ []
 events_of s (Requests channel r) coming e = Event.Requests channel r ∷ []

@@ -1,5 +1,6 @@
 -- What the numbers modulo 8 of data transfer name (X.25 4.4.1): at one end alone, whatever its partner is.
-use Rattle.std.specs.Prelude.{◌≡◌, ℕ, zero, suc, ◌+◌, ◌-◌, ◌%◌, ◌<◌, ◌≤◌, ◌↔◌, Bool, true, cond, List, [], ◌∷◌, ◌++◌}
+use Rattle.std.specs.Prelude.{◌≡◌, ℕ, zero, suc, ◌+◌, ◌-◌, ◌%◌, ◌<◌, ◌≤◌, ◌↔◌, Bool, true, if◌then◌else◌, List, [], ◌∷◌}
+use Rattle.std.specs.Prelude.{◌++◌}
 use Rattle.std.specs.Prelude.{length, Option, Some}
 use Rattle.packet_layer.specs.Packets.{Datum, Body}
 use Rattle.packet_layer.specs.Packets.Body.{Data, ReceiveReady, ReceiveNotReady}
@@ -10,7 +11,7 @@ use Rattle.packet_laws.specs.History.{Epoch, logged, logged_heard, empty_epoch}
 
 -- how many packets there are up to the last one with D = 1, none where there is no such packet
 abbrev pub or_first : Bool → ℕ → ℕ
-or_first delivery zero = cond delivery 1 0
+or_first delivery zero = if delivery then 1 else 0
 or_first delivery (suc n) = suc (suc n)
 
 abbrev pub through_delivery : List Datum → ℕ

@@ -1,5 +1,6 @@
 -- What the two ends of a line did on a channel, epoch by epoch, which no node stores: the laws speak of it.
-use Rattle.std.specs.Prelude.{ℕ, ◌+◌, Bool, true, false, cond, ◌&&◌, ◌==◌, List, [], ◌∷◌, ◌++◌, Option, Some, None}
+use Rattle.std.specs.Prelude.{ℕ, ◌+◌, Bool, true, false, if◌then◌else◌, ◌&&◌, ◌==◌, List, [], ◌∷◌, ◌++◌, Option, Some}
+use Rattle.std.specs.Prelude.{None}
 use Rattle.link_timers.specs.declared.role.Role.{Role}
 use Rattle.packet_layer.specs.Packets.{CallParts, Datum, Body, Packet}
 use Rattle.packet_layer.specs.Packets.Body.{Clear, ClearConfirmation, Reset, ResetConfirmation, Restart}
@@ -49,7 +50,7 @@ abbrev pub logged : Traffic → Request → Epoch → Epoch
 logged t (Sending d) e = record e { sent = e.sent ++ d ∷ [] }
 logged t (Interrupting octets) e = record e { interrupts_sent = e.interrupts_sent ++ octets ∷ [] }
 logged t Taking e = with_taken (front t) e
-logged t (Releasing n) e = cond (may_release n t) (record e { released = e.released + n }) e
+logged t (Releasing n) e = if may_release n t then record e { released = e.released + n } else e
 logged t _ e = e
 
 abbrev pub logged_heard : Heard → Epoch → Epoch
@@ -72,14 +73,14 @@ abbrev pub is_now : History → ℕ → ℕ → ℕ → Bool
 is_now st r u g = (r == st.restart) && ((u == st.use_) && (g == st.epoch))
 
 abbrev pub grown : (Epoch → Epoch) → History → History
-grown f st = record st { epochs = λ r u g. cond (is_now st r u g) (f (st.epochs r u g)) (st.epochs r u g) }
+grown f st = record st { epochs = λ r u g. if is_now st r u g then f (st.epochs r u g) else st.epochs r u g }
 
 -- a call placed is known in the whole use, and so is that one was accepted
 abbrev pub is_use : History → ℕ → ℕ → Bool
 is_use st r u = (r == st.restart) && (u == st.use_)
 
 abbrev pub in_whole_use : (Epoch → Epoch) → History → History
-in_whole_use f st = record st { epochs = λ r u g. cond (is_use st r u) (f (st.epochs r u g)) (st.epochs r u g) }
+in_whole_use f st = record st { epochs = λ r u g. if is_use st r u then f (st.epochs r u g) else st.epochs r u g }
 
 abbrev pub with_call : CallParts → Epoch → Epoch
 with_call parts e = record e { called = Some parts }
@@ -141,11 +142,11 @@ found_history (Some ch) f st = f ch st
 
 abbrev pub request_history : Layer → ℕ → Request → ℕ → History → History
 request_history l d r c st =
-    cond (c == d) (found_history (channel_of l d) (λ ch s. requested_history l.role ch r s) st) st
+    if c == d then found_history (channel_of l d) (λ ch s. requested_history l.role ch r s) st else st
 
 abbrev pub call_history : CallParts → Option ℕ → ℕ → History → History
 call_history parts None c st = st
-call_history parts (Some d) c st = cond (c == d) (placed parts st) st
+call_history parts (Some d) c st = if c == d then placed parts st else st
 
 abbrev pub restart_history : Phase → Body → History → History
 restart_history PacketReady (Restart cause diagnostic) st = next_restart_of st
@@ -158,16 +159,18 @@ channel_history phase found f st = st
 
 abbrev pub packet_history : Layer → Packet → ℕ → History → History
 packet_history l p c st =
-    cond (p.channel == 0) (restart_history l.phase p.body st)
-    (cond (c == p.channel)
-    (channel_history l.phase (channel_of l p.channel)
-    (λ ch s. received_history l.role l.window p.channel ch p.body s) st) st)
+    if p.channel == 0
+    then restart_history l.phase p.body st
+    else if c == p.channel
+    then channel_history l.phase (channel_of l p.channel)
+    (λ ch s. received_history l.role l.window p.channel ch p.body s) st
+    else st
 
 abbrev pub expired_history : Timer → ℕ → History → History
 expired_history RestartTimer c st = st
-expired_history (CallTimer d) c st = cond (c == d) (next_use_of st) st
-expired_history (ResetTimer d) c st = cond (c == d) (next_use_of st) st
+expired_history (CallTimer d) c st = if c == d then next_use_of st else st
+expired_history (ResetTimer d) c st = if c == d then next_use_of st else st
 expired_history (ClearTimer d) c st = next_restart_of st
 
 abbrev pub timer_history : Layer → Timer → ℕ → History → History
-timer_history l t c st = cond (runs l t) (expired_history t c st) st
+timer_history l t c st = if runs l t then expired_history t c st else st

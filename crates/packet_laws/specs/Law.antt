@@ -1,5 +1,6 @@
 -- The law of a line: between two ends of this project, whatever happens.
-use Rattle.std.specs.Prelude.{◌≡◌, ℕ, ◌+◌, ◌≤◌, Bool, true, false, cond, ◌&&◌, ◌||◌, ◌==◌, List, [], ◌∷◌, ◌++◌, length}
+use Rattle.std.specs.Prelude.{◌≡◌, ℕ, ◌+◌, ◌≤◌, Bool, true, false, if◌then◌else◌, ◌&&◌, ◌||◌, ◌==◌, List, [], ◌∷◌, ◌++◌}
+use Rattle.std.specs.Prelude.{length}
 use Rattle.std.specs.Prelude.{Option, Some, None, is_some, ◌<◌}
 use Rattle.link_timers.specs.declared.role.Role.{Role}
 use Rattle.link_timers.specs.declared.role.Role.TheVariants.{Dte}
@@ -43,7 +44,7 @@ is_channel_fault PacketReady l p = is_fault_on l p (channel_of l p.channel)
 is_channel_fault phase l p = false
 
 abbrev pub is_fault : Layer → Packet → Bool
-is_fault l p = cond (p.channel == 0) (is_restart_fault l.phase p.body) (is_channel_fault l.phase l p)
+is_fault l p = if p.channel == 0 then is_restart_fault l.phase p.body else is_channel_fault l.phase l p
 
 -- the histories of two ends are in step: neither is more than one restart ahead, in the same restart neither more than
 -- one use, in the same use neither more than one epoch

@@ -1,7 +1,7 @@
 -- A line: two packet layers and, session by session, the packets that each end handed to the link and how many of them
 -- the other end accepted. The link keeps its promise: in a session an end accepts the next packet that the other end
 -- offered.
-use Rattle.std.specs.Prelude.{ℕ, zero, suc, ◌+◌, Bool, true, false, cond, not, ◌&&◌, ◌==◌, List, [], ◌∷◌, ◌++◌}
+use Rattle.std.specs.Prelude.{ℕ, zero, suc, ◌+◌, Bool, true, false, if◌then◌else◌, not, ◌&&◌, ◌==◌, List, [], ◌∷◌, ◌++◌}
 use Rattle.std.specs.Prelude.{slice_get, Option, Some, None}
 use Rattle.link_timers.specs.declared.role.Role.{Role}
 use Rattle.link_timers.specs.declared.role.Role.TheVariants.{Dte, Dce}
@@ -80,21 +80,27 @@ is_session (Some now) s = s == now
 
 -- the histories of the present session go on
 abbrev pub told : (ℕ → History → History) → End → End
-told f e = record e { histories = λ s c. cond (is_session e.session s) (f c (e.histories s c)) (e.histories s c) }
+told f e = record e {
+  histories = λ s c. if is_session e.session s then f c (e.histories s c) else e.histories s c;
+}
 
 abbrev pub with_layer : Layer → End → End
 with_layer l e = record e { layer = l }
 
 -- when an end comes up in a session, neither end accepted anything in it before; what it offered in it is given up
 abbrev pub begun : ℕ → End → End
-begun s e = record e { layer = link_up e.layer; session = Some s; offered = λ k. cond (k == s) [] (e.offered k) }
+begun s e = record e {
+  layer = link_up e.layer;
+  session = Some s;
+  offered = λ k. if k == s then [] else e.offered k;
+}
 
 abbrev pub may_begin : ℕ → Line → Bool
 may_begin s w = not (s == 0) && ((w.me.accepted s == 0) && (w.you.accepted s == 0))
 
 abbrev pub handed_over : ℕ → Option Packet → (ℕ → List Packet) → ℕ → List Packet
 handed_over s None offered = offered
-handed_over s (Some p) offered = λ k. cond (k == s) (offered k ++ p ∷ []) (offered k)
+handed_over s (Some p) offered = λ k. if k == s then offered k ++ p ∷ [] else offered k
 
 abbrev pub offers : Option ℕ → End → End
 offers None e = e
@@ -107,7 +113,7 @@ abbrev pub accepts : ℕ → Option Packet → End → End
 accepts s None e = e
 accepts s (Some p) e = record (told (λ c st. packet_history e.layer p c st) e) {
   layer = on_packet e.layer (Whole p);
-  accepted = λ k. cond (k == s) (e.accepted k + 1) (e.accepted k);
+  accepted = λ k. if k == s then e.accepted k + 1 else e.accepted k;
 }
 
 abbrev pub next_of_session : Line → ℕ → Option Packet
@@ -119,7 +125,7 @@ arrives_in (Some s) w = record w { me = accepts s (next_of_session w s) w.me }
 
 -- at `me`
 abbrev pub happens : Event → Line → Line
-happens (Up s) w = cond (may_begin s w) (record w { me = begun s w.me }) w
+happens (Up s) w = if may_begin s w then record w { me = begun s w.me } else w
 happens Down w = record w { me = record w.me { layer = link_down w.me.layer; session = None } }
 happens (Calls parts) w =
     record w {
