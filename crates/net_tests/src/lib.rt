@@ -1,5 +1,9 @@
-//! Worked examples of networks, event by event.
+//! Worked examples of lines, networks and programs.
 #![tactic(auto)]
 
 #[cfg(test)]
+mod hosts;
+#[cfg(test)]
 mod networks;
+#[cfg(test)]
+mod programs;

@@ -1,20 +1,45 @@
-//! A call that stands between a PAD and a host on one line, event by event, and calls between two hosts.
-use arrayvec::ArrayVec;
+//! What networks keep of their calls, and a line in memory.
+use crate::programs::played_on;
 use frame_codec::FrameBuf;
 use line_sim::{
-    Config, Direction, Event, KeyAnswer, Line, MakeFault, MemLine, Net, Outcome, Pair, Put, Record,
-    Request, RunFault, StepFault, Taken, mem_lines, run,
+    Config, Direction, Event, Line, MakeFault, MemLine, Net, Pair, Record, RunFault, SentEpoch,
+    StepFault, TakenEpoch, run,
 };
 use net_files::{FIRST, read_net};
 use packet_codec::Address;
 use std::alloc::Global;
-use std::process::Abort;
 use std::test::Fail;
 
-/// The places of the two nodes.
-const PAD: usize = 0;
+/// Two hosts on one line of four channels.
+const PAIR: &str = r#"
+[[node]]
+name = "a"
+kind = "host"
 
-const HOST: usize = 1;
+[[node]]
+name = "b"
+kind = "host"
+
+[[line]]
+dte = "a"
+dce = "b"
+"#;
+
+/// The same with one channel.
+const NARROW: &str = r#"
+[[node]]
+name = "a"
+kind = "host"
+
+[[node]]
+name = "b"
+kind = "host"
+
+[[line]]
+dte = "a"
+dce = "b"
+channels = 1
+"#;
 
 /// Seventeen terminals are one more than a PAD has.
 const CROWDED: &str = r#"
@@ -33,132 +58,293 @@ dce = "host"
 standing = true
 "#;
 
-fn net_of(alloc: Global, config: &Config) -> Result<Net<MemLine>, Fail> {
-    let lines = mem_lines(alloc, config.lines.len())?;
-    Ok(Net::new(alloc, config, lines)?)
+/// What a record has: its node, the digits of its own address and of the far end's, how many epochs it sent and took
+/// before the last ones, the messages of these with how many are covered and released, whether it is closed, and how
+/// many steps of editing there were.
+#[derive(Clone, Copy)]
+struct Kept {
+    node: usize,
+    own: &'static [u8],
+    far: &'static [u8],
+    resets: (usize, usize),
+    sent: &'static [&'static [u8]],
+    covered: usize,
+    taken: &'static [&'static [u8]],
+    released: usize,
+    closed: bool,
+    steps: usize,
 }
 
-/// The network that a text tells.
-fn read(alloc: Global, text: &str) -> Result<Net<MemLine>, Fail> {
-    let config = read_net(alloc, text)?;
-    net_of(alloc, &config)
+/// A record in which nothing happened.
+const FRESH: Kept = Kept {
+    node: 0,
+    own: &[],
+    far: &[],
+    resets: (0, 0),
+    sent: &[],
+    covered: 0,
+    taken: &[],
+    released: 0,
+    closed: false,
+    steps: 0,
+};
+
+/// What is played on a network, what is printed for it, and what the network's pairs and records then are.
+#[derive(Clone, Copy)]
+struct Case {
+    network: &'static str,
+    script: &'static [u8],
+    printed: &'static str,
+    pairs: &'static [Pair],
+    records: &'static [Kept],
 }
 
-/// Whether these frames and no others were put on the line, in this direction.
-fn are_put(frames: &[Put], direction: Direction, expected: &[&[u8]]) -> bool {
-    let mut same = frames.len() == expected.len();
-    for (put, octets) in frames.iter().zip(expected) {
-        same = same
-            && put.line == 0
-            && put.direction == direction
-            && put.octets.as_slice() == *octets;
+/// The pair of the first two records.
+const FIRST_PAIR: Pair = Pair {
+    caller: 0,
+    callee: 1,
+};
+
+const CASES: [Case; 8] = [
+    // A network begins fresh.
+    Case {
+        network: FIRST,
+        script: b"",
+        printed: "end rest\n",
+        pairs: &[FIRST_PAIR],
+        records: &[FRESH, Kept { node: 1, ..FRESH }],
+    },
+    // A block goes when it is ended.
+    Case {
+        network: FIRST,
+        script: b"trace on\nkey pad 0 A\\0D\n",
+        printed: "0 > 01 00 10 01 00 41 0D\nend busy\n",
+        pairs: &[FIRST_PAIR],
+        records: &[
+            Kept {
+                sent: &[&[0x41, 0x0d]],
+                steps: 2,
+                ..FRESH
+            },
+            Kept { node: 1, ..FRESH },
+        ],
+    },
+    // A packet crosses the line, and an RR says that it was taken.
+    Case {
+        network: FIRST,
+        script: b"trace on\nkey pad 0 \\0D\ndeliver 0 >\ntake host 1\ndeliver 0 <\ndeliver 0 <\ndeliver 0 >\n",
+        printed: "0 > 01 00 10 01 00 0D\n0 < 01 21\n0 < 03 20 10 01 21\nhost/1 data - \"\\0D\"\n0 > 03 21\nend rest\n",
+        pairs: &[FIRST_PAIR],
+        records: &[
+            Kept {
+                sent: &[&[0x0d]],
+                covered: 1,
+                steps: 1,
+                ..FRESH
+            },
+            Kept {
+                node: 1,
+                taken: &[&[0x0d]],
+                released: 1,
+                ..FRESH
+            },
+        ],
+    },
+    // The window of two holds the third packet until one is taken.
+    Case {
+        network: FIRST,
+        script: b"trace on\nkey pad 0 \\0D\\0D\\0D\ndeliver 0 >\ndeliver 0 >\ntake host 1\ndeliver 0 <\ndeliver 0 <\ndeliver 0 <\n",
+        printed: "0 > 01 00 10 01 00 0D\n0 > 01 02 10 01 02 0D\n0 < 01 21\n0 < 01 41\n0 < 03 40 10 01 21\nhost/1 data - \"\\0D\"\n0 > 01 24 10 01 04 0D\nend busy\n",
+        pairs: &[FIRST_PAIR],
+        records: &[
+            Kept {
+                sent: &[&[0x0d], &[0x0d], &[0x0d]],
+                covered: 1,
+                steps: 3,
+                ..FRESH
+            },
+            Kept {
+                node: 1,
+                taken: &[&[0x0d]],
+                released: 1,
+                ..FRESH
+            },
+        ],
+    },
+    // Refused events change nothing.
+    Case {
+        network: FIRST,
+        script: b"key host 1 \\0D\nkey pad 1 \\0D\ntake pad 0\ntake host 0\ntake host 2\ndeliver 1 >\n",
+        printed: "refused 1 NoSuchNode\nrefused 2 NoSuchTerminal\nrefused 1 NoSuchNode\nrefused 3 NoSuchCall\nrefused 3 NoSuchCall\nrefused 1 NoSuchNode\nend rest\n",
+        pairs: &[FIRST_PAIR],
+        records: &[FRESH, Kept { node: 1, ..FRESH }],
+    },
+    // A call is placed and answered.
+    Case {
+        network: PAIR,
+        script: b"flow\ncall a 2001\nflow\nanswer b 4\nflow\n",
+        printed: "a/4 called\nb/4 incoming\na/4 connected\nend rest\n",
+        pairs: &[FIRST_PAIR],
+        records: &[
+            Kept {
+                far: &[2, 0, 0, 1],
+                ..FRESH
+            },
+            Kept {
+                node: 1,
+                own: &[2, 0, 0, 1],
+                ..FRESH
+            },
+        ],
+    },
+    // Resets of both ends open one epoch.
+    Case {
+        network: PAIR,
+        script: b"flow\ncall a 2001\nflow\nanswer b 4\nflow\ntrace on\nreset a 4\nreset b 4\nflow\n",
+        printed: "a/4 called\nb/4 incoming\na/4 connected\n0 > 01 44 10 04 1B 00 00\n0 < 03 44 10 04 1B 00 00\n0 < 01 61\n0 > 03 61\nend rest\n",
+        pairs: &[FIRST_PAIR],
+        records: &[
+            Kept {
+                far: &[2, 0, 0, 1],
+                resets: (1, 1),
+                ..FRESH
+            },
+            Kept {
+                node: 1,
+                own: &[2, 0, 0, 1],
+                resets: (1, 1),
+                ..FRESH
+            },
+        ],
+    },
+    // Of two calls that collide on the one channel that of the DCE is cancelled.
+    Case {
+        network: NARROW,
+        script: b"flow\ncall a 1\ncall b 1\nflow\nanswer b 1\nflow\n",
+        printed: "a/1 called\nb/1 called\nb/1 cleared 1 0\nb/1 incoming\na/1 connected\nend rest\n",
+        pairs: &[Pair {
+            caller: 0,
+            callee: 2,
+        }],
+        records: &[
+            Kept { far: &[1], ..FRESH },
+            Kept {
+                node: 1,
+                far: &[1],
+                closed: true,
+                ..FRESH
+            },
+            Kept {
+                node: 1,
+                own: &[1],
+                ..FRESH
+            },
+        ],
+    },
+];
+
+/// Whether the address has these digits, or there is none where these are none.
+fn is_address(address: Option<Address>, digits: &[u8]) -> bool {
+    match address {
+        Some(address) => address.digits() == digits,
+        None => digits.is_empty(),
+    }
+}
+
+fn has_sent(epoch: &SentEpoch, messages: &[&[u8]], covered: usize) -> bool {
+    let mut same = epoch.packets.len() == messages.len() && epoch.covered == covered;
+    for (packet, octets) in epoch.packets.iter().zip(messages) {
+        same = same && packet.octets() == *octets;
     }
     same
 }
 
-/// Whether the PAD takes a key, and these frames are put.
-fn types(net: &mut Net<MemLine>, octet: u8, expected: &[&[u8]]) -> bool {
-    let event = Event::Key {
-        node: PAD,
-        terminal: 0,
-        octet,
-    };
-    match net.step(&event) {
-        Ok(answer) => match answer.outcome {
-            Outcome::Keyed(KeyAnswer::Taken) => {
-                are_put(&answer.frames, Direction::FromDte, expected)
-            }
-            _ => false,
-        },
-        Err(_) => false,
+fn has_taken(epoch: &TakenEpoch, messages: &[&[u8]], released: usize) -> bool {
+    let mut same = epoch.packets.len() == messages.len() && epoch.released == released;
+    for (packet, octets) in epoch.packets.iter().zip(messages) {
+        same = same && packet.octets() == *octets;
     }
+    same
 }
 
-/// Whether a frame arrives at the host, and these frames are put.
-fn reaches_host(net: &mut Net<MemLine>, expected: &[&[u8]]) -> bool {
-    let event = Event::Deliver {
-        line: 0,
-        direction: Direction::FromDte,
-    };
-    match net.step(&event) {
-        Ok(answer) => match answer.outcome {
-            Outcome::Delivered(true) => are_put(&answer.frames, Direction::FromDce, expected),
-            _ => false,
-        },
-        Err(_) => false,
+fn is_kept(record: &Record, kept: &Kept) -> bool {
+    record.node == kept.node
+        && is_address(record.own, kept.own)
+        && is_address(record.far, kept.far)
+        && (record.sent_before.len(), record.taken_before.len()) == kept.resets
+        && has_sent(&record.sent, kept.sent, kept.covered)
+        && has_taken(&record.taken, kept.taken, kept.released)
+        && record.closed == kept.closed
+        && record.steps.len() == kept.steps
+}
+
+/// Whether these are the records, numbered in order.
+fn are_kept(records: &[Record], expected: &[Kept]) -> bool {
+    let mut same = records.len() == expected.len();
+    for (number, record) in records.iter().enumerate() {
+        same = same && record.number == number;
     }
-}
-
-/// Whether a frame arrives at the PAD, and these frames are put.
-fn reaches_pad(net: &mut Net<MemLine>, expected: &[&[u8]]) -> bool {
-    let event = Event::Deliver {
-        line: 0,
-        direction: Direction::FromDce,
-    };
-    match net.step(&event) {
-        Ok(answer) => match answer.outcome {
-            Outcome::Delivered(true) => are_put(&answer.frames, Direction::FromDte, expected),
-            _ => false,
-        },
-        Err(_) => false,
+    for (record, kept) in records.iter().zip(expected) {
+        same = same && is_kept(record, kept);
     }
+    same
 }
 
-/// Whether a whole message of these octets was taken.
-fn gives_message(outcome: &Outcome, octets: &[u8]) -> bool {
-    match outcome {
-        Outcome::Took(Some(Taken::Data(packet))) => {
-            packet.octets() == octets && !packet.more() && !packet.qualified() && !packet.delivery()
-        }
-        _ => false,
+/// Whether this is printed for the script of a case, and these are the pairs and records then.
+fn goes_so(alloc: Global, case: &Case) -> Result<bool, Fail> {
+    let config = read_net(alloc, case.network)?;
+    let mut net = Net::on_memory_lines(alloc, &config)?;
+    let printed = played_on(alloc, &mut net, &config, case.script)?;
+    Ok(
+        printed.as_slice() == case.printed.as_bytes()
+            && net.pairs() == case.pairs
+            && are_kept(net.records(), case.records),
+    )
+}
+
+#[test]
+fn networks_keep_records_and_pairs(rt: HostRuntime) -> Result<(), Fail> {
+    for case in &CASES {
+        let as_expected = goes_so(rt.alloc(), case)?;
+        let printed = case.printed;
+        assert!(rt; as_expected, "{printed}");
     }
+    Ok(())
 }
 
-/// Whether the host takes a message of these octets, and these frames are put.
-fn takes(net: &mut Net<MemLine>, octets: &[u8], expected: &[&[u8]]) -> bool {
-    let event = Event::Take {
-        node: HOST,
-        channel: 1,
-    };
-    match net.step(&event) {
-        Ok(answer) => {
-            gives_message(&answer.outcome, octets)
-                && are_put(&answer.frames, Direction::FromDce, expected)
-        }
-        Err(_) => false,
+/// What is played, and at which nodes the call on channel 4 is then confirmed: the first, the second, one that there is not.
+const CONFIRMED: [(&[u8], [bool; 3]); 3] = [
+    (
+        b"flow\ncall a 2001\nflow\nanswer b 4\nflow\n",
+        [true, true, false],
+    ),
+    (b"say a 4 d HI\nflow\n", [false, true, false]),
+    (b"take b 4\nflow\n", [true, true, false]),
+];
+
+#[test]
+fn delivery_is_confirmed(rt: HostRuntime) -> Result<(), Fail> {
+    let config = read_net(rt.alloc(), PAIR)?;
+    let mut net = Net::on_memory_lines(rt.alloc(), &config)?;
+    for (script, [first, second, none]) in CONFIRMED {
+        let _ = played_on(rt.alloc(), &mut net, &config, script)?;
+        assert!(rt;
+            (
+                net.confirmed(0, 4),
+                net.confirmed(1, 4),
+                net.confirmed(2, 4)
+            ) == (first, second, none)
+        );
     }
+    assert!(rt; !net.confirmed(0, 3));
+    Ok(())
 }
 
-/// Whether an epoch sent is this one message, of which so many are covered.
-fn has_sent(record: &Record, octets: &[u8], covered: usize) -> bool {
-    match record.sent.packets.as_slice() {
-        [packet] => packet.octets() == octets && record.sent.covered == covered,
-        _ => false,
-    }
-}
-
-/// Whether an epoch taken is this one message, which is released.
-fn has_taken(record: &Record, octets: &[u8]) -> bool {
-    match record.taken.packets.as_slice() {
-        [packet] => packet.octets() == octets && record.taken.released == 1,
-        _ => false,
-    }
-}
-
-/// Whether nothing was sent or taken, and no key edited.
-fn is_fresh(record: &Record) -> bool {
-    record.sent.packets.is_empty()
-        && record.sent.covered == 0
-        && record.taken.packets.is_empty()
-        && record.taken.released == 0
-        && record.steps.is_empty()
-}
-
-/// CR at a terminal.
-fn key(node: usize, terminal: u16) -> Event {
+/// CR at terminal 0 of a node.
+fn key(node: usize) -> Event {
     Event::Key {
         node,
-        terminal,
+        terminal: 0,
         octet: 0x0d,
     }
 }
@@ -168,428 +354,93 @@ fn take(node: usize, channel: u16) -> Event {
 }
 
 /// The first frame from the DTE arrives.
-fn deliver(line: usize) -> Event {
+fn deliver() -> Event {
     Event::Deliver {
-        line,
+        line: 0,
         direction: Direction::FromDte,
     }
 }
 
-/// Whether an event is refused so.
-fn is_refused(net: &mut Net<MemLine>, event: Event, fault: StepFault) -> bool {
-    net.step(&event).err() == Some(fault)
-}
-
-/// Whether the records are those of a call between the two nodes, of which neither end sent or took anything.
-fn are_fresh(records: &[Record]) -> bool {
-    match records {
-        [pad, host] => {
-            (pad.number, pad.node, host.number, host.node) == (0, PAD, 1, HOST)
-                && is_fresh(pad)
-                && is_fresh(host)
-        }
-        _ => false,
-    }
-}
-
-/// Whether there is one pair, of these two records.
-fn is_pair(pairs: &[Pair], caller: usize, callee: usize) -> bool {
-    match pairs {
-        [pair] => pair.caller == caller && pair.callee == callee,
-        _ => false,
-    }
-}
-
-fn is_fresh_network(net: &Net<MemLine>) -> bool {
-    net.at_rest() && is_pair(net.pairs(), 0, 1) && are_fresh(net.records())
-}
-
-#[test]
-fn a_network_begins_fresh(rt: HostRuntime) -> Result<(), Fail> {
-    let net = read(rt.alloc(), FIRST)?;
-    assert!(rt; is_fresh_network(&net));
-    Ok(())
-}
-
-/// Whether the first of two records sent a message, of which so many packets are covered, in so many steps.
-fn first_sent(records: &[Record], octets: &[u8], covered: usize, steps: usize) -> bool {
-    match records {
-        [first, _] => has_sent(first, octets, covered) && first.steps.len() == steps,
-        _ => false,
-    }
-}
-
-/// Whether the second of two records took a message.
-fn second_took(records: &[Record], octets: &[u8]) -> bool {
-    match records {
-        [_, second] => has_taken(second, octets),
-        _ => false,
-    }
-}
-
-fn sends_a_block(rt: &impl Abort, net: &mut Net<MemLine>) {
-    assert!(rt; types(net, 0x41, &[]));
-    assert!(rt; net.at_rest());
-    let frame: &[u8] = &[0x01, 0x00, 0x10, 0x01, 0x00, 0x41, 0x0d];
-    assert!(rt; types(net, 0x0d, &[frame]));
-    assert!(rt; !net.at_rest());
-    assert!(rt; first_sent(net.records(), &[0x41, 0x0d], 0, 2));
-}
-
-#[test]
-fn a_block_is_sent(rt: HostRuntime) -> Result<(), Fail> {
-    let mut net = read(rt.alloc(), FIRST)?;
-    sends_a_block(&rt, &mut net);
-    Ok(())
-}
-
-fn carries_a_packet(rt: &impl Abort, net: &mut Net<MemLine>) {
-    assert!(rt; types(net, 0x0d, &[&[0x01, 0x00, 0x10, 0x01, 0x00, 0x0d]]));
-    assert!(rt; reaches_host(net, &[&[0x01, 0x21]]));
-    assert!(rt; takes(net, &[0x0d], &[&[0x03, 0x20, 0x10, 0x01, 0x21]]));
-    assert!(rt; reaches_pad(net, &[]));
-    assert!(rt; reaches_pad(net, &[&[0x03, 0x21]]));
-    assert!(rt; reaches_host(net, &[]));
-    assert!(rt; net.at_rest());
-    assert!(rt; first_sent(net.records(), &[0x0d], 1, 1));
-    assert!(rt; second_took(net.records(), &[0x0d]));
-}
-
-#[test]
-fn a_packet_crosses(rt: HostRuntime) -> Result<(), Fail> {
-    let mut net = read(rt.alloc(), FIRST)?;
-    carries_a_packet(&rt, &mut net);
-    Ok(())
-}
-
-fn holds_a_third_packet(rt: &impl Abort, net: &mut Net<MemLine>) {
-    assert!(rt; types(net, 0x0d, &[&[0x01, 0x00, 0x10, 0x01, 0x00, 0x0d]]));
-    assert!(rt; types(net, 0x0d, &[&[0x01, 0x02, 0x10, 0x01, 0x02, 0x0d]]));
-    assert!(rt; types(net, 0x0d, &[]));
-    assert!(rt; reaches_host(net, &[&[0x01, 0x21]]));
-    assert!(rt; reaches_host(net, &[&[0x01, 0x41]]));
-    assert!(rt; takes(net, &[0x0d], &[&[0x03, 0x40, 0x10, 0x01, 0x21]]));
-    assert!(rt; reaches_pad(net, &[]));
-    assert!(rt; reaches_pad(net, &[]));
-    assert!(rt; reaches_pad(net, &[&[0x01, 0x24, 0x10, 0x01, 0x04, 0x0d]]));
-}
-
-#[test]
-fn the_window_holds_a_third_packet(rt: HostRuntime) -> Result<(), Fail> {
-    let mut net = read(rt.alloc(), FIRST)?;
-    holds_a_third_packet(&rt, &mut net);
-    Ok(())
-}
-
-fn refuses_events(rt: &impl Abort, net: &mut Net<MemLine>) {
-    assert!(rt; is_refused(net, key(HOST, 1), StepFault::NoSuchNode));
-    assert!(rt; is_refused(net, key(2, 0), StepFault::NoSuchNode));
-    assert!(rt; is_refused(net, key(PAD, 1), StepFault::NoSuchTerminal));
-    assert!(rt; is_refused(net, take(PAD, 0), StepFault::NoSuchNode));
-    assert!(rt; is_refused(net, take(HOST, 0), StepFault::NoSuchCall));
-    assert!(rt; is_refused(net, take(HOST, 2), StepFault::NoSuchCall));
-    assert!(rt; is_refused(net, deliver(1), StepFault::NoSuchNode));
-    assert!(rt; net.at_rest() && are_fresh(net.records()));
-}
-
-#[test]
-fn refused_events_change_nothing(rt: HostRuntime) -> Result<(), Fail> {
-    let mut net = read(rt.alloc(), FIRST)?;
-    refuses_events(&rt, &mut net);
-    Ok(())
-}
-
-fn has_run(net: &Net<MemLine>) -> bool {
-    !net.at_rest()
-        && first_sent(net.records(), &[0x0d], 0, 1)
-        && second_took(net.records(), &[0x0d])
-}
+/// The host takes what the PAD sent.
+const CROSSED: [Kept; 2] = [
+    Kept {
+        sent: &[&[0x0d]],
+        steps: 1,
+        ..FRESH
+    },
+    Kept {
+        node: 1,
+        taken: &[&[0x0d]],
+        released: 1,
+        ..FRESH
+    },
+];
 
 #[test]
 fn events_run_in_order(rt: HostRuntime) -> Result<(), Fail> {
     let config = read_net(rt.alloc(), FIRST)?;
-    let events = [key(PAD, 0), take(HOST, 2), deliver(0), take(HOST, 1)];
-    let net = run(rt.alloc(), &config, &events)?;
-    assert!(rt; has_run(&net));
+    let events = [key(0), key(2), take(1, 2), deliver(), take(1, 1)];
+    let mut net = run(rt.alloc(), &config, &events)?;
+    assert!(rt; !net.at_rest() && are_kept(net.records(), &CROSSED));
+    assert_eq!(rt; net.step(&key(2)).err(), Some(StepFault::NoSuchNode));
     Ok(())
 }
 
 #[test]
 fn seventeen_terminals_are_refused(rt: HostRuntime) -> Result<(), Fail> {
     let config = read_net(rt.alloc(), CROWDED)?;
-    let bad = Some(RunFault::Made(MakeFault::BadConfig));
-    assert_eq!(rt; run(rt.alloc(), &config, &[]).err(), bad);
+    let bad = RunFault::Made(MakeFault::BadConfig);
+    assert_eq!(rt; run(rt.alloc(), &config, &[]).err(), Some(bad));
     Ok(())
 }
 
-#[test]
-fn no_network_of_seventeen_terminals_is_made(rt: HostRuntime) -> Result<(), Fail> {
-    let config = read_net(rt.alloc(), CROWDED)?;
-    let lines = mem_lines(rt.alloc(), config.lines.len())?;
-    let fault = Net::new(rt.alloc(), &config, lines).err();
-    assert_eq!(rt; fault, Some(MakeFault::BadConfig));
-    Ok(())
+/// What is done with a line: a frame of this octet alone is put, or comes where one does, or all frames are lost.
+#[derive(Clone, Copy)]
+enum LineStep {
+    Put(Direction, u8),
+    Comes(Direction, Option<u8>),
+    Empty,
 }
 
-/// A frame of one octet.
-fn frame(octet: u8) -> FrameBuf {
-    let mut frame = FrameBuf::new();
-    frame.push(octet);
-    frame
-}
+use LineStep::{Comes, Empty, Put};
 
-/// Whether the first frame in flight is of this octet alone, or none where there is none.
-fn comes(line: &mut MemLine, direction: Direction, octet: Option<u8>) -> bool {
-    match (line.take(direction), octet) {
-        (None, None) => true,
-        (Some(frame), Some(octet)) => frame.as_slice() == [octet].as_slice(),
-        _ => false,
+const LINE_STEPS: [LineStep; 8] = [
+    Put(Direction::FromDte, 1),
+    Put(Direction::FromDte, 2),
+    Put(Direction::FromDce, 3),
+    Comes(Direction::FromDte, Some(1)),
+    Comes(Direction::FromDce, Some(3)),
+    Comes(Direction::FromDce, None),
+    Empty,
+    Comes(Direction::FromDte, None),
+];
+
+/// Whether the line does the step so.
+fn does(line: &mut MemLine, step: LineStep) -> bool {
+    match step {
+        Put(direction, octet) => {
+            let mut frame = FrameBuf::new();
+            frame.push(octet);
+            line.put(direction, frame);
+            line.in_flight(direction)
+        }
+        Comes(direction, None) => !line.in_flight(direction) && line.take(direction).is_none(),
+        Comes(direction, Some(octet)) => match line.take(direction) {
+            Some(frame) => frame.as_slice() == [octet].as_slice(),
+            None => false,
+        },
+        Empty => {
+            line.empty();
+            true
+        }
     }
-}
-
-fn keeps_order(rt: &impl Abort, line: &mut MemLine) {
-    line.put(Direction::FromDte, frame(1));
-    line.put(Direction::FromDte, frame(2));
-    assert!(rt; line.in_flight(Direction::FromDte) && !line.in_flight(Direction::FromDce));
-    line.put(Direction::FromDce, frame(3));
-    assert!(rt; comes(line, Direction::FromDte, Some(1)));
-    assert!(rt; comes(line, Direction::FromDce, Some(3)));
-    assert!(rt; comes(line, Direction::FromDce, None));
-    line.empty();
-    assert!(rt; !line.in_flight(Direction::FromDte));
-    assert!(rt; comes(line, Direction::FromDte, None));
 }
 
 #[test]
 fn a_line_keeps_frames_in_order(rt: HostRuntime) -> Result<(), Fail> {
     let mut line = MemLine::new(rt.alloc())?;
-    keeps_order(&rt, &mut line);
-    Ok(())
-}
-
-/// The places of two hosts.
-const DTE_HOST: usize = 0;
-
-const DCE_HOST: usize = 1;
-
-/// Two hosts on one line of four channels.
-const PAIR: &str = r#"
-[[node]]
-name = "first"
-kind = "host"
-
-[[node]]
-name = "second"
-kind = "host"
-
-[[line]]
-dte = "first"
-dce = "second"
-"#;
-
-/// The same with one channel.
-const NARROW: &str = r#"
-[[node]]
-name = "first"
-kind = "host"
-
-[[node]]
-name = "second"
-kind = "host"
-
-[[line]]
-dte = "first"
-dce = "second"
-channels = 1
-"#;
-
-/// Delivers one frame in each direction, pass after pass.
-fn flow(net: &mut Net<MemLine>) {
-    for _ in 0..20 {
-        let _ = net.step(&deliver(0));
-        let _ = net.step(&Event::Deliver {
-            line: 0,
-            direction: Direction::FromDce,
-        });
+    for step in LINE_STEPS {
+        assert!(rt; does(&mut line, step));
     }
-}
-
-/// Two hosts whose line is up.
-fn hosts_net(alloc: Global, text: &str) -> Result<Net<MemLine>, Fail> {
-    let mut net = read(alloc, text)?;
-    flow(&mut net);
-    Ok(net)
-}
-
-/// Whether a host places a call.
-fn calls(net: &mut Net<MemLine>, node: usize, called: Address) -> bool {
-    let event = Event::Call {
-        node,
-        address: called,
-        user_data: ArrayVec::new(),
-    };
-    net.step(&event).is_ok()
-}
-
-fn ask(node: usize, channel: u16, request: Request) -> Event {
-    Event::Ask {
-        node,
-        channel,
-        request,
-    }
-}
-
-/// Whether what a host asks is done.
-fn asks(net: &mut Net<MemLine>, node: usize, channel: u16, request: Request) -> bool {
-    let event = ask(node, channel, request);
-    net.step(&event).is_ok()
-}
-
-/// The host at the DTE calls this address on channel 4, and the other one answers.
-fn connects(rt: &impl Abort, net: &mut Net<MemLine>, called: Address) {
-    assert!(rt; calls(net, DTE_HOST, called));
-    flow(net);
-    assert!(rt; asks(net, DCE_HOST, 4, Request::Answer));
-    flow(net);
-    assert!(rt; net.at_rest());
-}
-
-/// Whether the records are those of a call to this address.
-fn are_of_call(records: &[Record], called: Address) -> bool {
-    match records {
-        [caller, callee] => {
-            (caller.node, callee.node) == (DTE_HOST, DCE_HOST)
-                && caller.far == Some(called)
-                && callee.own == Some(called)
-        }
-        _ => false,
-    }
-}
-
-fn places_a_call(rt: &impl Abort, net: &mut Net<MemLine>, called: Address) {
-    connects(rt, net, called);
-    assert!(rt; is_pair(net.pairs(), 0, 1) && are_of_call(net.records(), called));
-}
-
-#[test]
-fn a_call_is_placed_and_answered(rt: HostRuntime) -> Result<(), Fail> {
-    let mut net = hosts_net(rt.alloc(), PAIR)?;
-    places_a_call(&rt, &mut net, Address::new(&[2, 0, 0, 1]));
-    Ok(())
-}
-
-/// Whether one frame was put, with this packet.
-fn is_put(frames: &[Put], packet: &[u8]) -> bool {
-    match frames {
-        [put] => put.octets.as_slice().ends_with(packet),
-        _ => false,
-    }
-}
-
-/// Whether a host resets its call on channel 4 by a Reset Request.
-fn resets(net: &mut Net<MemLine>, node: usize) -> bool {
-    let event = ask(node, 4, Request::Reset);
-    match net.step(&event) {
-        Ok(answer) => is_put(&answer.frames, &[0x10, 0x04, 0x1b, 0x00, 0x00]),
-        Err(_) => false,
-    }
-}
-
-/// Whether each of two records has one epoch that is over, sent and taken.
-fn were_reset_once(records: &[Record]) -> bool {
-    match records {
-        [first, second] => {
-            (first.sent_before.len(), first.taken_before.len()) == (1, 1)
-                && (second.sent_before.len(), second.taken_before.len()) == (1, 1)
-        }
-        _ => false,
-    }
-}
-
-/// Both ends reset the call that was placed.
-fn resets_twice(rt: &impl Abort, net: &mut Net<MemLine>) {
-    connects(rt, net, Address::new(&[2, 0, 0, 1]));
-    assert!(rt; resets(net, DTE_HOST) && resets(net, DCE_HOST));
-    flow(net);
-    assert!(rt; net.at_rest() && were_reset_once(net.records()));
-}
-
-#[test]
-fn resets_of_both_ends_open_an_epoch(rt: HostRuntime) -> Result<(), Fail> {
-    let mut net = hosts_net(rt.alloc(), PAIR)?;
-    resets_twice(&rt, &mut net);
-    Ok(())
-}
-
-/// Whether the second of three records alone is closed.
-fn is_second_closed(records: &[Record]) -> bool {
-    match records {
-        [first, second, third] => !first.closed && second.closed && !third.closed,
-        _ => false,
-    }
-}
-
-/// Both hosts call on the one channel.
-fn collides(rt: &impl Abort, net: &mut Net<MemLine>, called: Address) {
-    assert!(rt; calls(net, DTE_HOST, called) && calls(net, DCE_HOST, called));
-    flow(net);
-    assert!(rt; asks(net, DCE_HOST, 1, Request::Answer));
-    flow(net);
-    assert!(rt; is_second_closed(net.records()) && is_pair(net.pairs(), 0, 2));
-}
-
-#[test]
-fn the_call_of_the_dce_is_cancelled_in_a_collision(rt: HostRuntime) -> Result<(), Fail> {
-    let mut net = hosts_net(rt.alloc(), NARROW)?;
-    collides(&rt, &mut net, Address::new(&[1]));
-    Ok(())
-}
-
-/// Whether the host at the DTE says HI on channel 4, and wants its delivery confirmed.
-fn says(net: &mut Net<MemLine>, alloc: Global) -> bool {
-    let Ok(octets) = b"HI".to_vec(alloc) else {
-        return false;
-    };
-    let say = Request::Say {
-        octets,
-        qualified: false,
-        delivery: true,
-    };
-    let event = ask(DTE_HOST, 4, say);
-    let frame: &[u8] = &[0x01, 0x44, 0x50, 0x04, 0x00, 0x48, 0x49];
-    match net.step(&event) {
-        Ok(answer) => are_put(&answer.frames, Direction::FromDte, &[frame]),
-        Err(_) => false,
-    }
-}
-
-/// What is said is confirmed when it was taken.
-fn confirms(rt: &impl Abort, net: &mut Net<MemLine>, alloc: Global) {
-    assert!(rt; says(net, alloc));
-    flow(net);
-    assert!(rt; !net.confirmed(DTE_HOST, 4));
-    assert!(rt; net.step(&take(DCE_HOST, 4)).is_ok());
-    flow(net);
-    assert!(rt; net.confirmed(DTE_HOST, 4) && net.confirmed(DCE_HOST, 4));
-    assert!(rt; !net.confirmed(DTE_HOST, 3));
-}
-
-#[test]
-fn delivery_is_confirmed(rt: HostRuntime) -> Result<(), Fail> {
-    let mut net = hosts_net(rt.alloc(), PAIR)?;
-    connects(&rt, &mut net, Address::new(&[2, 0, 0, 1]));
-    confirms(&rt, &mut net, rt.alloc());
-    Ok(())
-}
-
-/// The call that stands is confirmed at the host, since nothing was sent there, and at no other node.
-fn is_confirmed_at_the_host(net: &Net<MemLine>) -> bool {
-    net.confirmed(HOST, 1) && !net.confirmed(PAD, 1) && !net.confirmed(2, 1)
-}
-
-#[test]
-fn no_call_of_another_node_is_confirmed(rt: HostRuntime) -> Result<(), Fail> {
-    let net = read(rt.alloc(), FIRST)?;
-    assert!(rt; is_confirmed_at_the_host(&net));
     Ok(())
 }

@@ -1,5 +1,5 @@
-use line_sim::{Config, Event, LineConfig, MakeFault, Net, NodeConfig, NodeKind, mem_lines, run};
-use net_files::{Command, FIRST, ProgFault, Script, read_net, read_script};
+use line_sim::{Config, Event, LineConfig, MakeFault, MemLine, Net, NodeConfig, NodeKind};
+use net_files::{Command, FIRST, ProgFault, read_net, read_script};
 use net_player::{perform, play};
 use packet_codec::Address;
 use std::alloc::Global;
@@ -107,17 +107,23 @@ dte = "pad"
 dce = "host"
 "#;
 
-/// Plays a script on a network, and gives what is printed.
-pub(crate) fn played(rt: &HostRuntime, network: &str, script: &[u8]) -> Result<Vec<u8>, Fail> {
-    let config = read_net(rt.alloc(), network)?;
-    let script = read_script(rt.alloc(), script, &config)?;
-    played_on(rt, &config, &script)
+/// Plays a script on a network of this text, and gives what is printed.
+pub(crate) fn played(alloc: Global, network: &str, script: &[u8]) -> Result<Vec<u8>, Fail> {
+    let config = read_net(alloc, network)?;
+    let mut net = Net::on_memory_lines(alloc, &config)?;
+    played_on(alloc, &mut net, &config, script)
 }
 
-fn played_on(rt: &HostRuntime, config: &Config, script: &Script) -> Result<Vec<u8>, Fail> {
-    let mut net = run(rt.alloc(), config, &[])?;
-    let mut out = Vec::new(rt.alloc());
-    play(rt.alloc(), &mut net, script, &mut out)?;
+/// Plays a script on a network of this configuration, and gives what is printed.
+pub(crate) fn played_on(
+    alloc: Global,
+    net: &mut Net<MemLine>,
+    config: &Config,
+    script: &[u8],
+) -> Result<Vec<u8>, Fail> {
+    let script = read_script(alloc, script, config)?;
+    let mut out = Vec::new(alloc);
+    play(alloc, net, &script, &mut out)?;
     Ok(out)
 }
 
@@ -141,7 +147,7 @@ fn ends<R: Read>(
 
 #[test]
 fn a_link_is_set_up_and_begins_with_restarts(rt: HostRuntime) -> Result<(), Fail> {
-    let printed = played(&rt, DIRECT, b"trace on\nflow\n")?;
+    let printed = played(rt.alloc(), DIRECT, b"trace on\nflow\n")?;
     let expected: &[u8] =
         b"0 < 01 73\n0 > 01 11\n0 < 01 11\n0 < 03 00 10 00 FB 07 00\n0 > 01 00 10 00 FB 00 00\n0 < 01 21\n0 > 03 21\nend rest\n";
     assert_eq!(rt; printed.as_slice(), expected);
@@ -152,8 +158,7 @@ fn a_link_is_set_up_and_begins_with_restarts(rt: HostRuntime) -> Result<(), Fail
 fn a_link_window_of_eight_is_refused(rt: HostRuntime) -> Result<(), Fail> {
     let text = format!(in rt.alloc(); "{DIRECT}k = 8\n")?;
     let config = read_net(rt.alloc(), text.as_str())?;
-    let lines = mem_lines(rt.alloc(), config.lines.len())?;
-    let fault = Net::new(rt.alloc(), &config, lines).err();
+    let fault = Net::on_memory_lines(rt.alloc(), &config).err();
     assert_eq!(rt; fault, Some(MakeFault::BadConfig));
     Ok(())
 }
@@ -161,7 +166,7 @@ fn a_link_window_of_eight_is_refused(rt: HostRuntime) -> Result<(), Fail> {
 #[test]
 fn a_lost_link_closes_the_call(rt: HostRuntime) -> Result<(), Fail> {
     let printed = played(
-        &rt,
+        rt.alloc(),
         FIRST,
         b"key pad 0 OLD\\0D\nrelink 0\nflow\nkey pad 0 NEW\\0D\ntake host 1\nrestart host\nflow\n",
     )?;
@@ -570,15 +575,6 @@ fn the_first_network_is_read(rt: HostRuntime) -> Result<(), Fail> {
             _ => false,
         }
     );
-    Ok(())
-}
-
-#[test]
-fn a_script_is_played_on_a_network(rt: HostRuntime) -> Result<(), Fail> {
-    let script = b"key pad 0 HEX\\7FLLO\\0D\nflow\ntake host 1\nflow\n";
-    let printed = played(&rt, FIRST, script)?;
-    let expected: &[u8] = b"host/1 data - \"HELLO\\0D\"\nend rest\n";
-    assert_eq!(rt; printed.as_slice(), expected);
     Ok(())
 }
 

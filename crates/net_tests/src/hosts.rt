@@ -67,7 +67,7 @@ const PLAYED: [(&str, &str, &str); 7] = [
 fn hosts_call_each_other(rt: HostRuntime) -> Result<(), Fail> {
     for (more, script, printed) in PLAYED {
         let network = format!(in rt.alloc(); "{PAIR}{more}")?;
-        let out = played(&rt, network.as_str(), script.as_bytes())?;
+        let out = played(rt.alloc(), network.as_str(), script.as_bytes())?;
         assert_eq!(rt; from_utf8(out.as_slice())?, printed);
     }
     Ok(())
@@ -90,7 +90,7 @@ dce = "host"
 
 #[test]
 fn a_pad_refuses_a_call(rt: HostRuntime) -> Result<(), Fail> {
-    let out = played(&rt, PAD_AND_HOST, b"flow\ncall host 1\nflow\n")?;
+    let out = played(rt.alloc(), PAD_AND_HOST, b"flow\ncall host 1\nflow\n")?;
     assert_eq!(rt;
         from_utf8(out.as_slice())?,
         "host/1 called\nhost/1 cleared 0 0\nend rest\n"
@@ -152,7 +152,7 @@ const IN_A_CALL: [(&str, &str); 8] = [
 fn hosts_use_a_call(rt: HostRuntime) -> Result<(), Fail> {
     for (script, printed) in IN_A_CALL {
         let whole = format!(in rt.alloc(); "{CALL}{script}")?;
-        let out = played(&rt, PAIR, whole.as_bytes())?;
+        let out = played(rt.alloc(), PAIR, whole.as_bytes())?;
         let expected = format!(in rt.alloc(); "{CALLED}{printed}")?;
         assert_eq!(rt; from_utf8(out.as_slice())?, expected.as_str());
     }
