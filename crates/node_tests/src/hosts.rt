@@ -13,32 +13,251 @@ use std::process::Abort;
 // The frames that one direction of a line carries, in order.
 type Frames = ArrayVec<FrameBuf, 16>;
 
-// What the notes of a host said so far.
-#[derive(Clone, Copy, Debug, PartialEq, Eq)]
-struct Seen {
-    incoming: u8,
-    connected: u8,
-    closed: Option<(u8, u8)>,
-    closed_first: bool,
-    reset: bool,
-    interrupt_confirmed: bool,
+// What a host is told of a call: of a clear the cause and the diagnostic.
+#[derive(Clone, Copy, Debug, Default, PartialEq, Eq)]
+enum Told {
+    Incoming(u8),
+    Connected(u8),
+    Closed(u8, u8),
+    #[default]
+    Reset,
+    InterruptConfirmed,
+    Covered,
 }
 
-const NOTHING_SEEN: Seen = Seen {
-    incoming: 0,
-    connected: 0,
-    closed: None,
-    closed_first: false,
-    reset: false,
-    interrupt_confirmed: false,
-};
-
-// A host, the frames that it has sent and what it was told.
+// A host, the frames that it has sent and what it was told, until these are looked at.
 #[derive(Drop)]
 struct Station {
     host: Host,
     sent: Frames,
-    seen: Seen,
+    told: ArrayVec<Told, 16>,
+}
+
+// The two ends of a line.
+#[derive(Drop)]
+struct Line {
+    dte: Station,
+    dce: Station,
+}
+
+// What a user asks of the call on a channel.
+#[derive(Clone, Copy)]
+enum Request {
+    Answer,
+    Refuse,
+    Clear,
+    Reset,
+    Stop,
+    Go,
+}
+
+// What is done at a host or looked at, with the answer that it must give.
+#[derive(Clone, Copy)]
+enum Act<'a> {
+    Call(&'a [u8], Result<u8, CallFault>),
+    Ask(Request, u8, Result<(), ChannelFault>),
+    // octets without Q, and with D or not
+    Say(&'a [u8], bool, Result<(), ChannelFault>),
+    SayQualified(&'a [u8], Result<(), ChannelFault>),
+    SayOn(u8, Result<(), ChannelFault>),
+    Interrupt(&'a [u8], Result<(), ChannelFault>),
+    // a packet of these octets with M, Q and D
+    Take(&'a [u8], bool, bool, bool),
+    TakeInterrupt(&'a [u8]),
+    TakeNothing,
+    Confirmed(bool),
+    Told(&'a [Told]),
+    // the one frame that was sent and not delivered, or the packet in it
+    Sent(&'a [u8]),
+    SentPacket(&'a [u8]),
+    SentNothing,
+    Hear(&'a [u8]),
+    Elapse(u16),
+    Due(Option<TimerId>),
+    Expire(TimerId, bool),
+    Relink,
+    Restart,
+}
+
+// A step of an example.
+#[derive(Clone, Copy)]
+enum Step<'a> {
+    // at the host of this role
+    At(Role, Act<'a>),
+    // the first frame that the host of this role has sent arrives
+    Deliver(Role),
+    // all frames arrive, and those that they are answered by
+    Flow,
+}
+
+use Act::{
+    Ask, Call, Confirmed, Due, Elapse, Expire, Hear, Interrupt, Relink, Restart, Say, SayOn,
+    SayQualified, Sent, SentNothing, SentPacket, Take, TakeInterrupt, TakeNothing,
+};
+use Role::{Dce, Dte};
+use Step::{At, Deliver, Flow};
+
+// The channel of most calls: a DTE takes the highest one of four.
+const CHANNEL: u8 = 4;
+
+fn told_of(note: &LayerNote) -> Told {
+    match note {
+        LayerNote::Incoming(channel, _) => Told::Incoming(*channel),
+        LayerNote::Connected(channel) => Told::Connected(*channel),
+        LayerNote::Closed {
+            cause,
+            diagnostic,
+            ..
+        } => Told::Closed(*cause, *diagnostic),
+        LayerNote::Reset { .. } => Told::Reset,
+        LayerNote::InterruptConfirmed(_) => Told::InterruptConfirmed,
+        LayerNote::Covered { .. } => Told::Covered,
+    }
+}
+
+// Takes the frames and notes of an event.
+fn collect(station: &mut Station) {
+    for _ in 0..station.host.waiting_frames() {
+        let mut frame = FrameBuf::new();
+        if station.host.out(&mut frame) && !station.sent.is_full() {
+            station.sent.push(frame);
+        }
+    }
+    for _ in 0..station.host.waiting_notes() {
+        if let Some(note) = station.host.notes()
+            && !station.told.is_full()
+        {
+            station.told.push(told_of(&note));
+        }
+    }
+}
+
+// Delivers the first frame that one host has sent to the other.
+fn deliver(from: &mut Station, to: &mut Station) {
+    if from.sent.is_empty() {
+        return;
+    }
+    let frame = from.sent.remove(0);
+    to.host.on_frame(frame.as_slice());
+    collect(to);
+}
+
+fn number(text: &[u8]) -> Address {
+    match Address::read(text) {
+        Ok(address) => address,
+        Err(_) => Address::new(&[0]),
+    }
+}
+
+fn ask(host: &mut Host, request: Request, channel: u8) -> Result<(), ChannelFault> {
+    match request {
+        Request::Answer => host.answer(channel),
+        Request::Refuse => host.refuse(channel),
+        Request::Clear => host.clear(channel),
+        Request::Reset => host.reset(channel),
+        Request::Stop => host.stop(channel),
+        Request::Go => host.go(channel),
+    }
+}
+
+fn takes(host: &mut Host, octets: &[u8], more: bool, qualified: bool, delivery: bool) -> bool {
+    match host.take(CHANNEL) {
+        Some(Taken::Data(data)) => {
+            data.octets() == octets
+                && data.more() == more
+                && data.qualified() == qualified
+                && data.delivery() == delivery
+        }
+        _ => false,
+    }
+}
+
+fn takes_interrupt(host: &mut Host, octets: &[u8]) -> bool {
+    match host.take(CHANNEL) {
+        Some(Taken::Interrupt(interrupt)) => interrupt.octets() == octets,
+        _ => false,
+    }
+}
+
+fn has_sent(frames: &Frames, octets: &[u8]) -> bool {
+    frames.len() == 1 && frames[0].as_slice() == octets
+}
+
+fn has_sent_packet(frames: &Frames, octets: &[u8]) -> bool {
+    frames.len() == 1 && frames[0].as_slice().get(2..) == Some(octets)
+}
+
+// Performs an act, and answers whether it fits.
+fn perform(station: &mut Station, act: Act<'_>) -> bool {
+    let host = &mut station.host;
+    match act {
+        Call(address, answer) => host.call(number(address), &[]) == answer,
+        Ask(request, channel, answer) => ask(host, request, channel) == answer,
+        Say(octets, delivery, answer) => host.say(CHANNEL, octets, false, delivery) == answer,
+        SayQualified(octets, answer) => host.say(CHANNEL, octets, true, false) == answer,
+        SayOn(channel, answer) => host.say(channel, b"X", false, false) == answer,
+        Interrupt(octets, answer) => host.interrupt(CHANNEL, octets) == answer,
+        Take(octets, more, qualified, delivery) => takes(host, octets, more, qualified, delivery),
+        TakeInterrupt(octets) => takes_interrupt(host, octets),
+        TakeNothing => host.take(CHANNEL).is_none(),
+        Confirmed(answer) => host.confirmed(CHANNEL) == answer,
+        Act::Told(notes) => station.told.take().as_slice() == notes,
+        Sent(octets) => has_sent(&station.sent, octets),
+        SentPacket(octets) => has_sent_packet(&station.sent, octets),
+        SentNothing => station.sent.is_empty(),
+        Hear(octets) => {
+            host.on_frame(octets);
+            true
+        }
+        Elapse(ticks) => {
+            host.elapse(ticks);
+            true
+        }
+        Due(timer) => host.due() == timer,
+        Expire(timer, ran) => host.on_timer(timer) == ran,
+        Relink => {
+            host.relink();
+            true
+        }
+        Restart => {
+            host.restart();
+            true
+        }
+    }
+}
+
+fn perform_at(station: &mut Station, act: Act<'_>) -> bool {
+    let fits = perform(station, act);
+    collect(station);
+    fits
+}
+
+fn fits(line: &mut Line, step: Step<'_>) -> bool {
+    match step {
+        At(Dte, act) => return perform_at(&mut line.dte, act),
+        At(Dce, act) => return perform_at(&mut line.dce, act),
+        Deliver(Dte) => deliver(&mut line.dte, &mut line.dce),
+        Deliver(Dce) => deliver(&mut line.dce, &mut line.dte),
+        Flow => flow(line),
+    }
+    true
+}
+
+fn flow(line: &mut Line) {
+    for _ in 0..40 {
+        deliver(&mut line.dte, &mut line.dce);
+        deliver(&mut line.dce, &mut line.dte);
+    }
+}
+
+// Goes through the steps, and answers the place of the first one that does not fit.
+fn misfit(line: &mut Line, steps: &[Step<'_>]) -> Option<usize> {
+    for (place, step) in steps.iter().enumerate() {
+        if !fits(line, *step) {
+            return Some(place);
+        }
+    }
+    None
 }
 
 fn config(role: Role, channels: u8) -> HostConfig {
@@ -58,403 +277,248 @@ fn new_station(alloc: Global, role: Role, channels: u8) -> Result<Station, HostF
     let mut station = Station {
         host: Host::new(alloc, config(role, channels))?,
         sent: ArrayVec::new(),
-        seen: NOTHING_SEEN,
+        told: ArrayVec::new(),
     };
     collect(&mut station);
     Ok(station)
 }
 
-fn see(seen: Seen, note: &LayerNote) -> Seen {
-    match note {
-        LayerNote::Incoming(channel, _) => Seen {
-            incoming: *channel,
-            closed_first: seen.closed.is_some(),
-            ..seen
-        },
-        LayerNote::Connected(channel) => Seen {
-            connected: *channel,
-            ..seen
-        },
-        LayerNote::Closed {
-            cause,
-            diagnostic,
-            ..
-        } => Seen {
-            closed: Some((*cause, *diagnostic)),
-            ..seen
-        },
-        LayerNote::Reset { .. } => Seen {
-            reset: true,
-            ..seen
-        },
-        LayerNote::InterruptConfirmed(_) => Seen {
-            interrupt_confirmed: true,
-            ..seen
-        },
-        LayerNote::Covered { .. } => seen,
-    }
+fn new_line(alloc: Global, channels: u8) -> Result<Line, HostFault> {
+    Ok(Line {
+        dte: new_station(alloc, Dte, channels)?,
+        dce: new_station(alloc, Dce, channels)?,
+    })
 }
 
-// Takes the frames and notes of an event.
-fn collect(station: &mut Station) {
-    for _ in 0..9 {
-        let mut frame = FrameBuf::new();
-        if station.host.out(&mut frame) && !station.sent.is_full() {
-            station.sent.push(frame);
+// The steps hold on a line whose link is up, and behind a first list of steps.
+fn plays(rt: &impl Abort, alloc: Global, channels: u8, first: &[Step<'_>], steps: &[Step<'_>]) {
+    match new_line(alloc, channels) {
+        Ok(mut line) => {
+            flow(&mut line);
+            assert_eq!(rt; misfit(&mut line, first), None);
+            assert_eq!(rt; misfit(&mut line, steps), None);
         }
-    }
-    for _ in 0..33 {
-        if let Some(note) = station.host.notes() {
-            station.seen = see(station.seen, &note);
-        }
+        Err(_) => panic!(rt; "a host is made"),
     }
 }
 
-// Delivers the first frame that one host has sent to the other.
-fn deliver(from: &mut Station, to: &mut Station) {
-    if from.sent.is_empty() {
-        return;
-    }
-    let frame = from.sent.remove(0);
-    to.host.on_frame(frame.as_slice());
-    collect(to);
-}
-
-fn flow(a: &mut Station, b: &mut Station) {
-    for _ in 0..40 {
-        deliver(a, b);
-        deliver(b, a);
-    }
-}
-
-// Whether the last event sent this frame, and no other waits.
-fn sends(station: &mut Station, octets: &[u8]) -> bool {
-    collect(station);
-    station.sent.len() == 1 && station.sent[0].as_slice() == octets
-}
-
-// Whether the last event sent an I frame with this packet, and no other frame waits.
-fn sends_packet(station: &mut Station, octets: &[u8]) -> bool {
-    collect(station);
-    station.sent.len() == 1 && station.sent[0].as_slice().get(2..) == Some(octets)
-}
-
-fn pair(rt: &impl Abort, alloc: Global, channels: u8) -> (Station, Station) {
-    match (
-        new_station(alloc, Role::Dte, channels),
-        new_station(alloc, Role::Dce, channels),
-    ) {
-        (Ok(mut a), Ok(mut b)) => {
-            flow(&mut a, &mut b);
-            (a, b)
-        }
-        _ => panic!(rt; "a host is made"),
-    }
-}
-
-fn number(digits: &[u8; 4]) -> Address {
-    match Address::read(digits) {
-        Ok(address) => address,
-        Err(_) => Address::new(&[0]),
-    }
-}
-
-// Two hosts with a call on channel 4.
-fn connected(rt: &impl Abort, alloc: Global) -> (Station, Station) {
-    let (mut a, mut b) = pair(rt, alloc, 4);
-    let _ = a.host.call(number(b"2001"), &[]);
-    collect(&mut a);
-    flow(&mut a, &mut b);
-    let _ = b.host.answer(4);
-    collect(&mut b);
-    flow(&mut a, &mut b);
-    (a, b)
-}
-
-fn is_data(
-    taken: &Option<Taken>,
-    octets: &[u8],
-    more: bool,
-    qualified: bool,
-    delivery: bool,
-) -> bool {
-    match taken {
-        Some(Taken::Data(data)) => {
-            data.octets() == octets
-                && data.more() == more
-                && data.qualified() == qualified
-                && data.delivery() == delivery
-        }
-        _ => false,
-    }
-}
-
-fn sets_a_call_up(rt: &impl Abort, a: &mut Station, b: &mut Station) {
-    assert_eq!(rt; a.host.call(number(b"2001"), &[]), Ok(4));
-    assert!(rt; sends(a, &[0x01, 0x22, 0x10, 0x04, 0x0B, 0x04, 0x20, 0x01, 0x00]));
-    deliver(a, b);
-    assert!(rt; sends(b, &[0x01, 0x41]));
-    assert_eq!(rt; b.seen.incoming, 4);
-    flow(a, b);
-    assert_eq!(rt; b.host.answer(4), Ok(()));
-    assert!(rt; sends(b, &[0x03, 0x42, 0x10, 0x04, 0x0F]));
-    deliver(b, a);
-    assert!(rt; sends(a, &[0x03, 0x41]));
-    assert_eq!(rt; a.seen.connected, 4);
-    assert_eq!(rt; b.host.answer(4), Err(ChannelFault::NoCall));
-    assert_eq!(rt; b.host.refuse(4), Err(ChannelFault::NoCall));
-}
+// The DTE calls the DCE on channel 4.
+const CONNECTED: &[Step<'static>] = &[
+    At(Dte, Call(b"2001", Ok(4))),
+    Flow,
+    At(Dce, Ask(Request::Answer, 4, Ok(()))),
+    Flow,
+    At(Dte, Act::Told(&[Told::Connected(4)])),
+    At(Dce, Act::Told(&[Told::Incoming(4)])),
+];
 
 #[test]
 fn a_call_is_set_up(rt: HostRuntime) {
-    let (mut a, mut b) = pair(&rt, rt.alloc(), 4);
-    sets_a_call_up(&rt, &mut a, &mut b);
+    let steps = [
+        At(Dte, Call(b"2001", Ok(4))),
+        At(
+            Dte,
+            Sent(&[0x01, 0x22, 0x10, 0x04, 0x0B, 0x04, 0x20, 0x01, 0x00]),
+        ),
+        Deliver(Dte),
+        At(Dce, Sent(&[0x01, 0x41])),
+        At(Dce, Act::Told(&[Told::Incoming(4)])),
+        Flow,
+        At(Dce, Ask(Request::Answer, 4, Ok(()))),
+        At(Dce, Sent(&[0x03, 0x42, 0x10, 0x04, 0x0F])),
+        Deliver(Dce),
+        At(Dte, Sent(&[0x03, 0x41])),
+        At(Dte, Act::Told(&[Told::Connected(4)])),
+        At(Dce, Ask(Request::Answer, 4, Err(ChannelFault::NoCall))),
+        At(Dce, Ask(Request::Refuse, 4, Err(ChannelFault::NoCall))),
+    ];
+    plays(&rt, rt.alloc(), 4, &[], &steps);
 }
 
 #[test]
 fn a_packet_without_a_type_is_acknowledged_and_ignored(rt: HostRuntime) {
-    let (_, mut b) = pair(&rt, rt.alloc(), 4);
-    b.host.on_frame(&[0x01, 0x22, 0x10, 0x01]);
-    assert!(rt; sends(&mut b, &[0x01, 0x41]));
-    assert_eq!(rt; b.seen, NOTHING_SEEN);
-}
-
-fn crosses_resets(rt: &impl Abort, a: &mut Station, b: &mut Station) {
-    assert_eq!(rt; a.host.reset(4), Ok(()));
-    assert!(rt; sends_packet(a, &[0x10, 0x04, 0x1B, 0x00, 0x00]));
-    assert_eq!(rt; b.host.reset(4), Ok(()));
-    assert!(rt; sends_packet(b, &[0x10, 0x04, 0x1B, 0x00, 0x00]));
-    assert_eq!(rt; a.host.reset(4), Err(ChannelFault::Resetting));
-    flow(a, b);
-    assert!(rt; !a.seen.reset && !b.seen.reset);
-    assert_eq!(rt; a.host.say(4, b"X", false, false), Ok(()));
-    collect(a);
-    flow(a, b);
-    assert!(rt; is_data(&b.host.take(4), b"X", false, false, false));
-    assert!(rt; b.host.take(4).is_none());
+    let steps = [
+        At(Dce, Hear(&[0x01, 0x22, 0x10, 0x01])),
+        At(Dce, Sent(&[0x01, 0x41])),
+        At(Dce, Act::Told(&[])),
+    ];
+    plays(&rt, rt.alloc(), 4, &[], &steps);
 }
 
 #[test]
 fn resets_cross(rt: HostRuntime) {
-    let (mut a, mut b) = connected(&rt, rt.alloc());
-    crosses_resets(&rt, &mut a, &mut b);
-}
-
-fn makes_calls_collide(rt: &impl Abort, a: &mut Station, b: &mut Station) {
-    assert_eq!(rt; a.host.call(number(b"0001"), &[]), Ok(1));
-    collect(a);
-    assert_eq!(rt; b.host.call(number(b"0002"), &[]), Ok(1));
-    collect(b);
-    assert_eq!(rt;
-        a.host.call(number(b"0003"), &[]),
-        Err(CallFault::NoChannel)
-    );
-    flow(a, b);
-    assert_eq!(rt; b.seen.closed, Some((1, 0)));
-    assert!(rt; b.seen.closed_first && b.seen.incoming == 1);
-    assert_eq!(rt; b.host.answer(1), Ok(()));
-    collect(b);
-    flow(a, b);
-    assert_eq!(rt; a.seen.connected, 1);
-    assert_eq!(rt; a.seen.closed, None);
+    let steps = [
+        At(Dte, Ask(Request::Reset, 4, Ok(()))),
+        At(Dte, SentPacket(&[0x10, 0x04, 0x1B, 0x00, 0x00])),
+        At(Dce, Ask(Request::Reset, 4, Ok(()))),
+        At(Dce, SentPacket(&[0x10, 0x04, 0x1B, 0x00, 0x00])),
+        At(Dte, Ask(Request::Reset, 4, Err(ChannelFault::Resetting))),
+        Flow,
+        At(Dte, Act::Told(&[])),
+        At(Dce, Act::Told(&[])),
+        At(Dte, Say(b"X", false, Ok(()))),
+        Flow,
+        At(Dce, Take(b"X", false, false, false)),
+        At(Dce, TakeNothing),
+    ];
+    plays(&rt, rt.alloc(), 4, CONNECTED, &steps);
 }
 
 #[test]
 fn calls_collide(rt: HostRuntime) {
-    let (mut a, mut b) = pair(&rt, rt.alloc(), 1);
-    makes_calls_collide(&rt, &mut a, &mut b);
-}
-
-fn fills_the_send_queue(rt: &impl Abort, a: &mut Station) {
-    for _ in 0..10 {
-        assert_eq!(rt; a.host.say(4, b"X", false, false), Ok(()));
-    }
-    assert_eq!(rt;
-        a.host.say(4, b"X", false, false),
-        Err(ChannelFault::QueueFull)
-    );
-    assert_eq!(rt;
-        a.host.say(3, b"X", false, false),
-        Err(ChannelFault::NoCall)
-    );
-    assert_eq!(rt;
-        a.host.say(9, b"X", false, false),
-        Err(ChannelFault::NoCall)
-    );
+    let steps = [
+        At(Dte, Call(b"0001", Ok(1))),
+        At(Dce, Call(b"0002", Ok(1))),
+        At(Dte, Call(b"0003", Err(CallFault::NoChannel))),
+        Flow,
+        At(Dce, Act::Told(&[Told::Closed(1, 0), Told::Incoming(1)])),
+        At(Dce, Ask(Request::Answer, 1, Ok(()))),
+        Flow,
+        At(Dte, Act::Told(&[Told::Connected(1)])),
+    ];
+    plays(&rt, rt.alloc(), 1, &[], &steps);
 }
 
 #[test]
 fn the_send_queue_fills(rt: HostRuntime) {
-    let (mut a, _b) = connected(&rt, rt.alloc());
-    fills_the_send_queue(&rt, &mut a);
-}
-
-fn confirms_delivery(rt: &impl Abort, a: &mut Station, b: &mut Station) {
-    assert_eq!(rt; a.host.say(4, b"HI", false, true), Ok(()));
-    assert!(rt; sends_packet(a, &[0x50, 0x04, 0x00, b'H', b'I']));
-    assert!(rt; !a.host.confirmed(4));
-    flow(a, b);
-    assert!(rt; !a.host.confirmed(4));
-    assert!(rt; is_data(&b.host.take(4), b"HI", false, false, true));
-    assert!(rt; sends_packet(b, &[0x10, 0x04, 0x21]));
-    flow(a, b);
-    assert!(rt; a.host.confirmed(4));
+    // two packets fill the window, and eight wait
+    let said = [At(Dte, SayOn(4, Ok(()))); 10];
+    let steps = [
+        At(Dte, SayOn(4, Err(ChannelFault::QueueFull))),
+        At(Dte, SayOn(3, Err(ChannelFault::NoCall))),
+        At(Dte, SayOn(9, Err(ChannelFault::NoCall))),
+    ];
+    match new_line(rt.alloc(), 4) {
+        Ok(mut line) => {
+            flow(&mut line);
+            for list in [CONNECTED, &said, &steps] {
+                assert_eq!(rt; misfit(&mut line, list), None);
+            }
+        }
+        Err(_) => panic!(rt; "a host is made"),
+    }
 }
 
 #[test]
 fn delivery_is_confirmed(rt: HostRuntime) {
-    let (mut a, mut b) = connected(&rt, rt.alloc());
-    confirms_delivery(&rt, &mut a, &mut b);
-}
-
-fn cuts_messages(rt: &impl Abort, a: &mut Station, b: &mut Station) {
-    assert_eq!(rt; a.host.say(4, &[b'X'; 129], false, true), Ok(()));
-    collect(a);
-    flow(a, b);
-    assert!(rt; is_data(&b.host.take(4), &[b'X'; 128], true, false, false));
-    collect(b);
-    assert!(rt; is_data(&b.host.take(4), b"X", false, false, true));
-    collect(b);
-    flow(a, b);
-    assert_eq!(rt; a.host.say(4, &[], true, false), Ok(()));
-    assert!(rt; sends_packet(a, &[0x90, 0x04, 0x04]));
-    flow(a, b);
-    assert!(rt; is_data(&b.host.take(4), &[], false, true, false));
-    collect(b);
-    flow(a, b);
-    assert_eq!(rt;
-        a.host.say(4, &[b'X'; 1025], false, false),
-        Err(ChannelFault::TooLong)
-    );
-    assert_eq!(rt;
-        a.host.say(4, &[b'X'; 129], true, false),
-        Err(ChannelFault::TooLong)
-    );
-    assert_eq!(rt; a.host.say(4, &[b'X'; 1024], false, false), Ok(()));
-    assert_eq!(rt;
-        a.host.say(4, &[b'X'; 257], false, false),
-        Err(ChannelFault::QueueFull)
-    );
-    assert_eq!(rt; a.host.say(4, &[b'X'; 256], false, false), Ok(()));
+    let steps = [
+        At(Dte, Say(b"HI", true, Ok(()))),
+        At(Dte, SentPacket(&[0x50, 0x04, 0x00, b'H', b'I'])),
+        At(Dte, Confirmed(false)),
+        Flow,
+        At(Dte, Confirmed(false)),
+        At(Dce, Take(b"HI", false, false, true)),
+        At(Dce, SentPacket(&[0x10, 0x04, 0x21])),
+        Flow,
+        At(Dte, Confirmed(true)),
+    ];
+    plays(&rt, rt.alloc(), 4, CONNECTED, &steps);
 }
 
 #[test]
 fn messages_are_cut(rt: HostRuntime) {
-    let (mut a, mut b) = connected(&rt, rt.alloc());
-    cuts_messages(&rt, &mut a, &mut b);
-}
-
-fn confirms_interrupts(rt: &impl Abort, a: &mut Station, b: &mut Station) {
-    assert_eq!(rt; a.host.interrupt(4, &[]), Err(ChannelFault::TooLong));
-    assert_eq!(rt; a.host.interrupt(4, &[1]), Ok(()));
-    assert!(rt; sends_packet(a, &[0x10, 0x04, 0x23, 0x01]));
-    assert_eq!(rt;
-        a.host.interrupt(4, &[2]),
-        Err(ChannelFault::InterruptPending)
-    );
-    flow(a, b);
-    match b.host.take(4) {
-        Some(Taken::Interrupt(octets)) => assert_eq!(rt; octets.octets(), [1u8].as_slice()),
-        _ => assert!(rt; false, "the interrupt is taken"),
-    }
-    assert!(rt; sends_packet(b, &[0x10, 0x04, 0x27]));
-    flow(a, b);
-    assert!(rt; a.seen.interrupt_confirmed);
+    let steps = [
+        At(Dte, Say(&[b'X'; 129], true, Ok(()))),
+        Flow,
+        At(Dce, Take(&[b'X'; 128], true, false, false)),
+        At(Dce, Take(b"X", false, false, true)),
+        Flow,
+        At(Dte, SayQualified(&[], Ok(()))),
+        At(Dte, SentPacket(&[0x90, 0x04, 0x04])),
+        Flow,
+        At(Dce, Take(&[], false, true, false)),
+        Flow,
+        At(Dte, Say(&[b'X'; 1025], false, Err(ChannelFault::TooLong))),
+        At(Dte, SayQualified(&[b'X'; 129], Err(ChannelFault::TooLong))),
+        At(Dte, Say(&[b'X'; 1024], false, Ok(()))),
+        At(Dte, Say(&[b'X'; 257], false, Err(ChannelFault::QueueFull))),
+        At(Dte, Say(&[b'X'; 256], false, Ok(()))),
+    ];
+    plays(&rt, rt.alloc(), 4, CONNECTED, &steps);
 }
 
 #[test]
 fn interrupts_are_confirmed_when_taken(rt: HostRuntime) {
-    let (mut a, mut b) = connected(&rt, rt.alloc());
-    confirms_interrupts(&rt, &mut a, &mut b);
-}
-
-fn stops_its_partner(rt: &impl Abort, a: &mut Station, b: &mut Station) {
-    assert_eq!(rt; b.host.stop(4), Ok(()));
-    assert!(rt; sends_packet(b, &[0x10, 0x04, 0x05]));
-    flow(a, b);
-    assert_eq!(rt; a.host.say(4, b"X", false, false), Ok(()));
-    collect(a);
-    assert!(rt; a.sent.is_empty());
-    assert_eq!(rt; b.host.go(4), Ok(()));
-    assert!(rt; sends_packet(b, &[0x10, 0x04, 0x01]));
-    flow(a, b);
-    assert!(rt; is_data(&b.host.take(4), b"X", false, false, false));
+    let steps = [
+        At(Dte, Interrupt(&[], Err(ChannelFault::TooLong))),
+        At(Dte, Interrupt(&[1], Ok(()))),
+        At(Dte, SentPacket(&[0x10, 0x04, 0x23, 0x01])),
+        At(Dte, Interrupt(&[2], Err(ChannelFault::InterruptPending))),
+        Flow,
+        At(Dce, TakeInterrupt(&[1])),
+        At(Dce, SentPacket(&[0x10, 0x04, 0x27])),
+        Flow,
+        At(Dte, Act::Told(&[Told::InterruptConfirmed])),
+    ];
+    plays(&rt, rt.alloc(), 4, CONNECTED, &steps);
 }
 
 #[test]
 fn a_host_stops_its_partner(rt: HostRuntime) {
-    let (mut a, mut b) = connected(&rt, rt.alloc());
-    stops_its_partner(&rt, &mut a, &mut b);
-}
-
-fn refuses_and_clears_calls(rt: &impl Abort, a: &mut Station, b: &mut Station) {
-    assert_eq!(rt; a.host.call(number(b"2001"), &[0x01, 0x00]), Ok(4));
-    collect(a);
-    flow(a, b);
-    assert_eq!(rt; b.host.refuse(4), Ok(()));
-    assert!(rt; sends_packet(b, &[0x10, 0x04, 0x13, 0x00, 0x00]));
-    assert_eq!(rt; b.host.due(), None);
-    b.host.elapse(3600);
-    assert_eq!(rt; b.host.due(), Some(TimerId::T1));
-    flow(a, b);
-    assert_eq!(rt; a.seen.closed, Some((0, 0)));
-    assert_eq!(rt; a.host.clear(4), Err(ChannelFault::NoCall));
-    assert_eq!(rt; a.host.call(number(b"2001"), &[]), Ok(4));
-    assert_eq!(rt; a.host.clear(4), Ok(()));
+    let steps = [
+        At(Dce, Ask(Request::Stop, 4, Ok(()))),
+        At(Dce, SentPacket(&[0x10, 0x04, 0x05])),
+        Flow,
+        At(Dte, Say(b"X", false, Ok(()))),
+        At(Dte, SentNothing),
+        At(Dce, Ask(Request::Go, 4, Ok(()))),
+        At(Dce, SentPacket(&[0x10, 0x04, 0x01])),
+        Flow,
+        At(Dce, Take(b"X", false, false, false)),
+    ];
+    plays(&rt, rt.alloc(), 4, CONNECTED, &steps);
 }
 
 #[test]
 fn calls_are_refused_and_cleared(rt: HostRuntime) {
-    let (mut a, mut b) = pair(&rt, rt.alloc(), 4);
-    refuses_and_clears_calls(&rt, &mut a, &mut b);
-}
-
-fn begins_sessions_anew(rt: &impl Abort, a: &mut Station, b: &mut Station) {
-    assert!(rt; !a.host.on_timer(TimerId::T20));
-    a.host.relink();
-    collect(a);
-    assert_eq!(rt; a.seen.closed, Some((9, 0)));
-    assert_eq!(rt; a.host.call(number(b"2001"), &[]), Err(CallFault::NotReady));
-    assert!(rt; a.host.on_timer(TimerId::T1));
-    collect(a);
-    flow(a, b);
-    assert_eq!(rt; b.seen.closed, Some((9, 0)));
-    assert_eq!(rt; a.host.call(number(b"2001"), &[]), Ok(4));
-    b.host.restart();
-    assert!(rt; b.host.notes().is_none());
-    assert_eq!(rt; b.host.call(number(b"2001"), &[]), Err(CallFault::NotReady));
+    let steps = [
+        At(Dte, Call(b"2001", Ok(4))),
+        Flow,
+        At(Dce, Ask(Request::Refuse, 4, Ok(()))),
+        At(Dce, SentPacket(&[0x10, 0x04, 0x13, 0x00, 0x00])),
+        At(Dce, Due(None)),
+        At(Dce, Elapse(3600)),
+        At(Dce, Due(Some(TimerId::T1))),
+        Flow,
+        At(Dte, Act::Told(&[Told::Closed(0, 0)])),
+        At(Dte, Ask(Request::Clear, 4, Err(ChannelFault::NoCall))),
+        At(Dte, Call(b"2001", Ok(4))),
+        At(Dte, Ask(Request::Clear, 4, Ok(()))),
+    ];
+    plays(&rt, rt.alloc(), 4, &[], &steps);
 }
 
 #[test]
 fn sessions_begin_anew(rt: HostRuntime) {
-    let (mut a, mut b) = connected(&rt, rt.alloc());
-    begins_sessions_anew(&rt, &mut a, &mut b);
+    let steps = [
+        At(Dte, Expire(TimerId::T20, false)),
+        At(Dte, Relink),
+        At(Dte, Act::Told(&[Told::Closed(9, 0)])),
+        At(Dte, Call(b"2001", Err(CallFault::NotReady))),
+        At(Dte, Expire(TimerId::T1, true)),
+        Flow,
+        At(Dce, Act::Told(&[Told::Closed(9, 0)])),
+        At(Dte, Call(b"2001", Ok(4))),
+        At(Dce, Restart),
+        At(Dce, Act::Told(&[])),
+        At(Dce, Call(b"2001", Err(CallFault::NotReady))),
+    ];
+    plays(&rt, rt.alloc(), 4, CONNECTED, &steps);
 }
 
 #[test]
 fn configurations_have_ranges(rt: HostRuntime) {
-    for bad in [
-        EndParams {
-            k: 8,
-            ..config(Role::Dte, 4).line
-        },
-        EndParams {
-            window: 0,
-            ..config(Role::Dte, 4).line
-        },
+    let good = config(Dce, 4).line;
+    for line in [
+        EndParams { k: 8, ..good },
+        EndParams { window: 0, ..good },
         EndParams {
             channels: 33,
-            ..config(Role::Dte, 4).line
+            ..good
         },
     ] {
-        match Host::new(
-            rt.alloc(),
-            HostConfig {
-                role: Role::Dce,
-                line: bad,
-            },
-        ) {
-            Ok(_) => assert!(rt; false, "{bad:?}"),
+        match Host::new(rt.alloc(), HostConfig { role: Dce, line }) {
+            Ok(_) => assert!(rt; false, "{line:?}"),
             Err(fault) => assert_eq!(rt; fault, HostFault::BadConfig),
         }
     }

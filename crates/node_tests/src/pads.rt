@@ -14,18 +14,69 @@ use x3_params::{Params, Profile};
 // The frames that one direction of a line carries, in order.
 type Frames = ArrayVec<FrameBuf, 16>;
 
-// A line: the PAD and the far end, what each has sent, and what the PAD was told.
+// What the PAD was told of a call, and whether it refused one that came in: of a clear the cause and the diagnostic.
+#[derive(Clone, Copy, Debug, Default, PartialEq, Eq)]
+enum Told {
+    Refused(u8),
+    Closed(u8, u8),
+    #[default]
+    Reset,
+    Covered(u8),
+}
+
+// A line: the PAD and the far end, what each has sent, and what the PAD was told, until these are looked at.
 #[derive(Drop)]
 struct Line {
     pad: Pad,
     far: PacketEnd,
     sent: Frames,
     answered: Frames,
-    closed: Option<(u8, u8)>,
-    refused: Option<u8>,
-    resets: u8,
-    covered: u8,
+    told: ArrayVec<Told, 16>,
 }
+
+// What a key does.
+#[derive(Clone, Copy)]
+enum Effect<'a> {
+    Dropped,
+    NoStep,
+    Edits,
+    // it ends this block
+    Ends(&'a [u8]),
+}
+
+// What is done at the PAD or at the far end, or looked at, with the answer that it must give.
+#[derive(Clone, Copy)]
+enum Step<'a> {
+    Key(u8, Effect<'a>),
+    // a frame arrives, or the one that the far end has sent
+    Hear(&'a [u8]),
+    HearFar,
+    // all frames arrive, and those that they are answered by
+    Flow,
+    // the one frame that the PAD sent and that did not arrive, or how many they are
+    Sent(&'a [u8]),
+    SentFrames(usize),
+    Told(&'a [Told]),
+    Stands(bool),
+    Rests(bool),
+    Parameter(u8, Option<u8>),
+    Refuse(u8, bool),
+    Expire(TimerId, bool),
+    Elapse(u16),
+    Due(TimerId),
+    Relink,
+    Restart,
+    // the far end takes a message of these octets, resets the call, or calls
+    FarTakes(&'a [u8]),
+    FarResets,
+    FarCalls,
+}
+
+use Effect::{Dropped, Edits, Ends, NoStep};
+use Step::{
+    Due, Elapse, Expire, FarCalls, FarResets, FarTakes, Flow, Hear, HearFar, Key, Parameter,
+    Refuse, Relink, Restart, Rests, Sent, SentFrames, Stands,
+};
 
 const PARAMS: EndParams = EndParams {
     k: 7,
@@ -44,27 +95,9 @@ fn params(rt: &impl Abort) -> Params {
     params
 }
 
-fn new_line(rt: &impl Abort, alloc: Global, standing: bool) -> Line {
-    let line = EndParams { standing, ..PARAMS };
-    let config = PadConfig {
-        line,
-        params: params(rt),
-    };
-    match (
-        Pad::new(alloc, config),
-        PacketEnd::new(alloc, Role::Dce, line),
-    ) {
-        (Ok(pad), Ok(far)) => Line {
-            pad,
-            far,
-            sent: ArrayVec::new(),
-            answered: ArrayVec::new(),
-            closed: None,
-            refused: None,
-            resets: 0,
-            covered: 0,
-        },
-        _ => panic!(rt; "both ends are made"),
+fn tell(line: &mut Line, told: Told) {
+    if !line.told.is_full() {
+        line.told.push(told);
     }
 }
 
@@ -74,7 +107,7 @@ fn read_notes(line: &mut Line) {
         match line.pad.notes() {
             Some(LayerNote::Incoming(channel, _)) => {
                 if line.pad.refuse(channel) {
-                    line.refused = Some(channel);
+                    tell(line, Told::Refused(channel));
                 }
             }
             Some(
@@ -83,11 +116,9 @@ fn read_notes(line: &mut Line) {
                     diagnostic,
                     ..
                 },
-            ) => line.closed = Some((cause, diagnostic)),
-            Some(LayerNote::Reset { .. }) => line.resets = line.resets.saturating_add(1),
-            Some(LayerNote::Covered { count, .. }) => {
-                line.covered = line.covered.saturating_add(count);
-            }
+            ) => tell(line, Told::Closed(cause, diagnostic)),
+            Some(LayerNote::Reset { .. }) => tell(line, Told::Reset),
+            Some(LayerNote::Covered { count, .. }) => tell(line, Told::Covered(count)),
             _ => {}
         }
     }
@@ -126,9 +157,19 @@ fn end_far_event(line: &mut Line) {
     collect(line);
 }
 
-fn hears(line: &mut Line, octets: &[u8]) {
+fn hear(line: &mut Line, octets: &[u8]) {
     line.pad.on_frame(octets);
     end_event(line);
+}
+
+// The first frame that the far end has sent arrives.
+fn hear_far(line: &mut Line) -> bool {
+    if line.answered.is_empty() {
+        return false;
+    }
+    let frame = line.answered.remove(0);
+    hear(line, frame.as_slice());
+    true
 }
 
 fn flow(line: &mut Line) {
@@ -140,20 +181,36 @@ fn flow(line: &mut Line) {
             line.far.finish();
             collect(line);
         }
-        if !line.answered.is_empty() {
-            let frame = line.answered.remove(0);
-            hears(line, frame.as_slice());
-        }
+        hear_far(line);
     }
 }
 
-// Whether the PAD's last event sent this frame, and no other waits.
-fn sends(line: &Line, octets: &[u8]) -> bool {
+fn key(line: &mut Line, octet: u8, effect: Effect<'_>) -> bool {
+    let result = line.pad.on_key(octet);
+    read_notes(line);
+    collect(line);
+    match (result, effect) {
+        (KeyResult::Dropped, Dropped) => true,
+        (KeyResult::NoStep, NoStep) => true,
+        (KeyResult::Step(None), Edits) => true,
+        (KeyResult::Step(Some(block)), Ends(octets)) => block.as_slice() == octets,
+        _ => false,
+    }
+}
+
+fn has_sent(line: &Line, octets: &[u8]) -> bool {
     line.sent.len() == 1 && line.sent[0].as_slice() == octets
 }
 
-// Whether the far end takes a message of these octets.
-fn takes(line: &mut Line, octets: &[u8]) -> bool {
+fn expire(line: &mut Line, timer: TimerId) -> bool {
+    let ran = line.pad.on_timer(timer);
+    if ran {
+        end_event(line);
+    }
+    ran
+}
+
+fn far_takes(line: &mut Line, octets: &[u8]) -> bool {
     let taken = line.far.take(1);
     line.far.release(1, 1);
     end_far_event(line);
@@ -165,218 +222,240 @@ fn takes(line: &mut Line, octets: &[u8]) -> bool {
     }
 }
 
-// Types one key.
-fn key(line: &mut Line, octet: u8) -> KeyResult {
-    let result = line.pad.on_key(octet);
-    read_notes(line);
-    collect(line);
-    result
+fn far_resets(line: &mut Line) -> bool {
+    let answer = line.far.reset(1, 0, 0);
+    end_far_event(line);
+    answer == Ok(())
 }
 
-fn is_dropped(answer: &KeyResult) -> bool {
-    matches!(answer, KeyResult::Dropped)
+fn far_calls(line: &mut Line) -> bool {
+    let Ok(called) = Address::read(b"2001") else {
+        return false;
+    };
+    let answer = line.far.call(&CallData {
+        called,
+        calling: None,
+        facilities: &[],
+        user_data: &[],
+    });
+    end_far_event(line);
+    answer == Ok(1)
 }
 
-fn has_no_effect(answer: &KeyResult) -> bool {
-    matches!(answer, KeyResult::NoStep)
-}
-
-fn edits(answer: &KeyResult) -> bool {
-    matches!(answer, KeyResult::Step(None))
-}
-
-// Whether the key ended this block.
-fn ends(answer: &KeyResult, octets: &[u8]) -> bool {
-    match answer {
-        KeyResult::Step(Some(block)) => block.as_slice() == octets,
-        _ => false,
+// Performs a step, and answers whether it fits.
+fn fits(line: &mut Line, step: Step<'_>) -> bool {
+    match step {
+        Key(octet, effect) => return key(line, octet, effect),
+        Hear(octets) => hear(line, octets),
+        HearFar => return hear_far(line),
+        Flow => flow(line),
+        Sent(octets) => return has_sent(line, octets),
+        SentFrames(count) => return line.sent.len() == count,
+        Step::Told(notes) => return line.told.take().as_slice() == notes,
+        Stands(answer) => return line.pad.stands() == answer,
+        Rests(answer) => return line.pad.is_at_rest() == answer,
+        Parameter(number, value) => return line.pad.params().get(number) == value,
+        Refuse(channel, answer) => return line.pad.refuse(channel) == answer,
+        Expire(timer, ran) => return expire(line, timer) == ran,
+        Elapse(ticks) => line.pad.elapse(ticks),
+        Due(timer) => return line.pad.due() == Some(timer),
+        Relink => {
+            line.pad.relink();
+            end_event(line);
+        }
+        Restart => {
+            line.pad.restart();
+            collect(line);
+        }
+        FarTakes(octets) => return far_takes(line, octets),
+        FarResets => return far_resets(line),
+        FarCalls => return far_calls(line),
     }
+    true
 }
 
-fn sends_keys_in_packets(rt: &impl Abort, line: &mut Line) {
-    assert!(rt; line.pad.stands() && line.pad.is_at_rest());
-    assert!(rt; edits(&key(line, b'H')));
-    assert!(rt; edits(&key(line, b'I')));
-    assert!(rt; line.sent.is_empty());
-    assert!(rt; ends(&key(line, b'\r'), b"HI\r"));
-    assert!(rt; sends(line, &[0x01, 0x00, 0x10, 0x01, 0x00, 0x48, 0x49, 0x0D]));
-    assert!(rt; !line.pad.is_at_rest());
-    flow(line);
-    assert!(rt; takes(line, b"HI\r"));
-    flow(line);
-    assert_eq!(rt; line.covered, 1);
-    assert!(rt; line.pad.is_at_rest());
-    for octet in [b'A', 0x7F, b'B'] {
-        assert!(rt; edits(&key(line, octet)));
+// Goes through the steps, and answers the place of the first one that does not fit.
+fn misfit(line: &mut Line, steps: &[Step<'_>]) -> Option<usize> {
+    for (place, step) in steps.iter().enumerate() {
+        if !fits(line, *step) {
+            return Some(place);
+        }
     }
-    assert!(rt; ends(&key(line, b'\r'), b"B\r"));
-    assert!(rt; sends(line, &[0x01, 0x22, 0x10, 0x01, 0x02, 0x42, 0x0D]));
+    None
+}
+
+fn new_line(alloc: Global, line: EndParams, params: Params) -> Result<Line, PadFault> {
+    let far = PacketEnd::new(alloc, Role::Dce, line)?;
+    Ok(Line {
+        pad: Pad::new(alloc, PadConfig { line, params })?,
+        far,
+        sent: ArrayVec::new(),
+        answered: ArrayVec::new(),
+        told: ArrayVec::new(),
+    })
+}
+
+// The steps hold on a line with a PAD of these parameters.
+fn plays(rt: &impl Abort, alloc: Global, line: EndParams, params: Params, steps: &[Step<'_>]) {
+    match new_line(alloc, line, params) {
+        Ok(mut line) => {
+            collect(&mut line);
+            assert_eq!(rt; misfit(&mut line, steps), None);
+        }
+        Err(_) => panic!(rt; "both ends are made"),
+    }
 }
 
 #[test]
 fn keys_become_a_packet(rt: HostRuntime) {
-    let mut line = new_line(&rt, rt.alloc(), true);
-    sends_keys_in_packets(&rt, &mut line);
-}
-
-fn passes_over_control_keys(rt: &impl Abort, line: &mut Line) {
-    assert!(rt; edits(&key(line, b'A')));
-    for octet in [0x10, 0x11, 0x13] {
-        assert!(rt; has_no_effect(&key(line, octet)));
-    }
-    assert!(rt; ends(&key(line, b'\r'), b"A\r"));
+    let steps = [
+        Stands(true),
+        Rests(true),
+        Key(b'H', Edits),
+        Key(b'I', Edits),
+        SentFrames(0),
+        Key(b'\r', Ends(b"HI\r")),
+        Sent(&[0x01, 0x00, 0x10, 0x01, 0x00, 0x48, 0x49, 0x0D]),
+        Rests(false),
+        Flow,
+        FarTakes(b"HI\r"),
+        Flow,
+        Step::Told(&[Told::Covered(1)]),
+        Rests(true),
+        Key(b'A', Edits),
+        Key(0x7F, Edits),
+        Key(b'B', Edits),
+        Key(b'\r', Ends(b"B\r")),
+        Sent(&[0x01, 0x22, 0x10, 0x01, 0x02, 0x42, 0x0D]),
+    ];
+    plays(&rt, rt.alloc(), PARAMS, params(&rt), &steps);
 }
 
 #[test]
 fn control_keys_are_not_edited(rt: HostRuntime) {
-    let mut line = new_line(&rt, rt.alloc(), true);
-    passes_over_control_keys(&rt, &mut line);
-}
-
-fn passes_over_a_recall_character(rt: &impl Abort, pad: &mut Pad) {
-    assert_eq!(rt; pad.params().recall_character(), Some(b'#'));
-    assert!(rt; has_no_effect(&pad.on_key(b'#')));
-    assert!(rt; ends(&pad.on_key(b'\r'), b"\r"));
+    let steps = [
+        Key(b'A', Edits),
+        Key(0x10, NoStep),
+        Key(0x11, NoStep),
+        Key(0x13, NoStep),
+        Key(b'\r', Ends(b"A\r")),
+    ];
+    plays(&rt, rt.alloc(), PARAMS, params(&rt), &steps);
 }
 
 #[test]
 fn a_recall_character_is_passed_over(rt: HostRuntime) {
     let mut recalled = params(&rt);
     assert_eq!(rt; recalled.set(1, b'#'), Ok(()));
-    let config = PadConfig {
-        line: PARAMS,
-        params: recalled,
-    };
-    match Pad::new(rt.alloc(), config) {
-        Ok(mut pad) => passes_over_a_recall_character(&rt, &mut pad),
-        Err(_) => assert!(rt; false, "a PAD is made"),
-    }
-}
-
-fn drops_keys_at_a_full_queue(rt: &impl Abort, line: &mut Line) {
-    // two packets fill the window, and eight wait
-    for _ in 0..10 {
-        assert!(rt; ends(&key(line, b'\r'), b"\r"));
-    }
-    assert_eq!(rt; line.sent.len(), 2);
-    assert!(rt; is_dropped(&key(line, b'\r')));
-    assert!(rt; edits(&key(line, b'X')));
-    assert!(rt; is_dropped(&key(line, b'\r')));
-    flow(line);
-    assert!(rt; is_dropped(&key(line, b'\r')));
-    assert!(rt; takes(line, b"\r"));
-    flow(line);
-    assert!(rt; ends(&key(line, b'\r'), b"X\r"));
-    assert!(rt; is_dropped(&key(line, b'\r')));
+    let steps = [Key(b'#', NoStep), Key(b'\r', Ends(b"\r"))];
+    plays(&rt, rt.alloc(), PARAMS, recalled, &steps);
 }
 
 #[test]
 fn keys_are_dropped_where_the_send_queue_is_full(rt: HostRuntime) {
-    let mut line = new_line(&rt, rt.alloc(), true);
-    drops_keys_at_a_full_queue(&rt, &mut line);
-}
-
-fn holds_text_over_a_reset(rt: &impl Abort, line: &mut Line) {
-    assert!(rt; edits(&key(line, b'A')));
-    assert_eq!(rt; line.far.reset(1, 0, 0), Ok(()));
-    end_far_event(line);
-    flow(line);
-    assert_eq!(rt; line.resets, 1);
-    assert!(rt; ends(&key(line, b'\r'), b"A\r"));
-    assert!(rt; sends(line, &[0x01, 0x22, 0x10, 0x01, 0x00, 0x41, 0x0D]));
+    let returns = [Key(b'\r', Ends(b"\r")); 10];
+    let steps = [
+        // two packets fill the window, and eight wait
+        SentFrames(2),
+        Key(b'\r', Dropped),
+        Key(b'X', Edits),
+        Key(b'\r', Dropped),
+        Flow,
+        Key(b'\r', Dropped),
+        FarTakes(b"\r"),
+        Flow,
+        Key(b'\r', Ends(b"X\r")),
+        Key(b'\r', Dropped),
+    ];
+    match new_line(rt.alloc(), PARAMS, params(&rt)) {
+        Ok(mut line) => {
+            assert_eq!(rt; misfit(&mut line, &returns), None);
+            assert_eq!(rt; misfit(&mut line, &steps), None);
+        }
+        Err(_) => panic!(rt; "both ends are made"),
+    }
 }
 
 #[test]
 fn held_text_stays_over_a_reset(rt: HostRuntime) {
-    let mut line = new_line(&rt, rt.alloc(), true);
-    holds_text_over_a_reset(&rt, &mut line);
-}
-
-fn drops_keys_in_its_own_reset(rt: &impl Abort, line: &mut Line) {
-    // a Data packet whose P(S) is 1 and not 0
-    hears(line, &[0x03, 0x00, 0x10, 0x01, 0x02, b'X']);
-    assert!(rt; sends(line, &[0x01, 0x20, 0x10, 0x01, 0x1B, 0x00, 0x01]));
-    assert!(rt; line.pad.stands());
-    assert!(rt; edits(&key(line, b'A')));
-    assert!(rt; is_dropped(&key(line, b'\r')));
-    hears(line, &[0x03, 0x22, 0x10, 0x01, 0x1F]);
-    assert!(rt; ends(&key(line, b'\r'), b"A\r"));
+    let steps = [
+        Key(b'A', Edits),
+        FarResets,
+        Flow,
+        Step::Told(&[Told::Reset]),
+        Key(b'\r', Ends(b"A\r")),
+        Sent(&[0x01, 0x22, 0x10, 0x01, 0x00, 0x41, 0x0D]),
+    ];
+    plays(&rt, rt.alloc(), PARAMS, params(&rt), &steps);
 }
 
 #[test]
 fn keys_are_dropped_while_the_own_reset_is_not_confirmed(rt: HostRuntime) {
-    let mut line = new_line(&rt, rt.alloc(), true);
-    drops_keys_in_its_own_reset(&rt, &mut line);
-}
-
-fn closes_and_refuses_calls(rt: &impl Abort, line: &mut Line) {
-    assert!(rt; edits(&key(line, b'A')));
-    assert!(rt; !line.pad.on_timer(TimerId::T1));
-    line.pad.relink();
-    end_event(line);
-    assert!(rt; sends(line, &[0x01, 0x3F]));
-    assert_eq!(rt; line.closed, Some((9, 0)));
-    assert!(rt; !line.pad.stands());
-    assert!(rt; has_no_effect(&key(line, b'\r')));
-    line.pad.elapse(3600);
-    assert_eq!(rt; line.pad.due(), Some(TimerId::T1));
-    flow(line);
-    // the far end places a call, which the PAD refuses
-    let call = CallData {
-        called: Address::new(&[2, 0, 0, 1]),
-        calling: None,
-        facilities: &[],
-        user_data: &[],
-    };
-    let _ = call.called.digits();
-    assert_eq!(rt; line.far.call(&call), Ok(1));
-    end_far_event(line);
-    assert!(rt; line.answered.len() == 1);
-    let frame = line.answered.remove(0);
-    hears(line, frame.as_slice());
-    assert_eq!(rt; line.refused, Some(1));
-    assert!(rt; sends(line, &[0x01, 0x42, 0x10, 0x01, 0x13, 0x00, 0x00]));
-    assert!(rt; !line.pad.refuse(1));
-    assert!(rt; !line.pad.refuse(2));
+    let steps = [
+        // a Data packet whose P(S) is 1 and not 0
+        Hear(&[0x03, 0x00, 0x10, 0x01, 0x02, b'X']),
+        Sent(&[0x01, 0x20, 0x10, 0x01, 0x1B, 0x00, 0x01]),
+        Stands(true),
+        Key(b'A', Edits),
+        Key(b'\r', Dropped),
+        Hear(&[0x03, 0x22, 0x10, 0x01, 0x1F]),
+        Key(b'\r', Ends(b"A\r")),
+    ];
+    plays(&rt, rt.alloc(), PARAMS, params(&rt), &steps);
 }
 
 #[test]
 fn a_new_session_closes_the_call(rt: HostRuntime) {
-    let mut line = new_line(&rt, rt.alloc(), true);
-    closes_and_refuses_calls(&rt, &mut line);
-}
-
-fn forgets_the_call(rt: &impl Abort, line: &mut Line) {
-    assert!(rt; edits(&key(line, b'A')));
-    line.pad.restart();
-    assert_eq!(rt; line.pad.waiting_notes(), 0);
-    assert_eq!(rt; line.pad.params().get(3), Some(2));
-    assert!(rt; !line.pad.stands());
-    assert!(rt; has_no_effect(&key(line, b'\r')));
-    assert!(rt; sends(line, &[0x01, 0x3F]));
-    assert!(rt; line.pad.on_timer(TimerId::T1));
-    end_event(line);
-    assert_eq!(rt; line.sent.len(), 2);
+    let steps = [
+        Key(b'A', Edits),
+        Expire(TimerId::T1, false),
+        Relink,
+        Sent(&[0x01, 0x3F]),
+        Step::Told(&[Told::Closed(9, 0)]),
+        Stands(false),
+        Key(b'\r', NoStep),
+        Elapse(3600),
+        Due(TimerId::T1),
+        Flow,
+        FarCalls,
+        HearFar,
+        Step::Told(&[Told::Refused(1)]),
+        Sent(&[0x01, 0x42, 0x10, 0x01, 0x13, 0x00, 0x00]),
+        Refuse(1, false),
+        Refuse(2, false),
+    ];
+    plays(&rt, rt.alloc(), PARAMS, params(&rt), &steps);
 }
 
 #[test]
 fn a_restart_forgets_the_call(rt: HostRuntime) {
-    let mut line = new_line(&rt, rt.alloc(), true);
-    forgets_the_call(&rt, &mut line);
+    let steps = [
+        Key(b'A', Edits),
+        Restart,
+        Step::Told(&[]),
+        Parameter(3, Some(2)),
+        Stands(false),
+        Key(b'\r', NoStep),
+        Sent(&[0x01, 0x3F]),
+        Expire(TimerId::T1, true),
+        SentFrames(2),
+    ];
+    plays(&rt, rt.alloc(), PARAMS, params(&rt), &steps);
 }
 
 #[test]
 fn without_the_call_keys_have_no_effect(rt: HostRuntime) {
-    let mut line = new_line(&rt, rt.alloc(), false);
-    collect(&mut line);
-    flow(&mut line);
-    assert!(rt; !line.pad.stands());
-    assert!(rt; has_no_effect(&key(&mut line, b'A')));
+    let line = EndParams {
+        standing: false,
+        ..PARAMS
+    };
+    let steps = [Flow, Stands(false), Key(b'A', NoStep)];
+    plays(&rt, rt.alloc(), line, params(&rt), &steps);
 }
 
 #[test]
 fn configurations_have_ranges(rt: HostRuntime) {
-    for bad in [
+    for line in [
         EndParams { k: 8, ..PARAMS },
         EndParams {
             window: 0,
@@ -388,11 +467,11 @@ fn configurations_have_ranges(rt: HostRuntime) {
         },
     ] {
         let config = PadConfig {
-            line: bad,
+            line,
             params: params(&rt),
         };
         match Pad::new(rt.alloc(), config) {
-            Ok(_) => assert!(rt; false, "{bad:?}"),
+            Ok(_) => assert!(rt; false, "{line:?}"),
             Err(fault) => assert_eq!(rt; fault, PadFault::BadConfig),
         }
     }
