@@ -6,7 +6,8 @@ use Rattle.packet_codec.specs.Address.{address_of}
 use Rattle.x28_commands.specs.Words.{is_blank, is_graphic}
 use Rattle.x28_commands.specs.Numbers.{IsNumber, IsPair, IsList}
 use Rattle.x28_commands.specs.declared.command.Command.{Command}
-use Rattle.x28_commands.specs.declared.command.Command.TheVariants.{Empty, Status, Clear, Interrupt, Reset, Profile, Read, Set, SetAndRead, Select}
+use Rattle.x28_commands.specs.declared.command.Command.TheVariants.{Empty, Status, Clear, Interrupt, Reset, Profile}
+use Rattle.x28_commands.specs.declared.command.Command.TheVariants.{Read, Set, SetAndRead, Select}
 use Rattle.x28_commands.specs.declared.command.Selection.{Selection}
 use Rattle.x28_commands.specs.declared.keyword.Keyword.{Keyword}
 use Rattle.x28_commands.specs.declared.keyword.Keyword.TheVariants as keyword
@@ -42,7 +43,8 @@ pub record IsShortList (A : Type 0) (Entry : List ℕ → A → Type 0) (text : 
 -- after the digits of a selection: spaces, or D or P and at most 12 graphic characters
 pub data UserData : List ℕ → List ℕ → Type 0 where
   none : {rest : List ℕ} → IsTrue (is_blank rest) → UserData rest []
-  some : {octets : List ℕ} → (mark : ℕ) → (mark ≡ 0x44) ⊎ (mark ≡ 0x50) → IsTrue (list_all is_graphic octets) → length octets ≤ 12 →
+  some : {octets : List ℕ} → (mark : ℕ) → (mark ≡ 0x44) ⊎ (mark ≡ 0x50) → IsTrue (list_all is_graphic octets)
+      → length octets ≤ 12 →
       UserData (mark ∷ octets) octets
 
 -- the line is spaces, the digits of the address, and user data
@@ -63,14 +65,18 @@ pub data ArgumentsForm : Keyword → List ℕ → Command → Type 0 where
   reset : ArgumentsForm keyword.Reset [] Reset
   profile : {text : List ℕ} {n : ℕ} → IsNumber text n → ArgumentsForm keyword.Profile text (Profile n)
   read_all : ArgumentsForm keyword.Read [] (Read (record { items = [] }))
-  read : {text ns : List ℕ} → IsShortList ℕ IsNumber text ns → ArgumentsForm keyword.Read text (Read (record { items = ns }))
-  set : {text : List ℕ} {ps : List (ℕ × ℕ)} → IsShortList (ℕ × ℕ) IsPair text ps → ArgumentsForm keyword.Set text (Set (record { items = ps }))
+  read : {text ns : List ℕ} → IsShortList ℕ IsNumber text ns
+      → ArgumentsForm keyword.Read text (Read (record { items = ns }))
+  set : {text : List ℕ} {ps : List (ℕ × ℕ)} → IsShortList (ℕ × ℕ) IsPair text ps
+      → ArgumentsForm keyword.Set text (Set (record { items = ps }))
   set_and_read : {text : List ℕ} {ps : List (ℕ × ℕ)} → IsShortList (ℕ × ℕ) IsPair text ps →
       ArgumentsForm keyword.SetAndRead text (SetAndRead (record { items = ps }))
 
 -- the line, of at most 64 octets, says the command
 pub data CommandForm : List ℕ → Command → Type 0 where
   empty : {line : List ℕ} → length line ≤ 64 → IsTrue (is_blank line) → CommandForm line Empty
-  selects : {line : List ℕ} {selection : Selection} → length line ≤ 64 → Selects line selection → CommandForm line (Select selection)
-  worded : {line : List ℕ} (k : Keyword) (text : List ℕ) {c : Command} → length line ≤ 64 → Worded line k text → ArgumentsForm k text c →
+  selects : {line : List ℕ} {selection : Selection} → length line ≤ 64 → Selects line selection
+      → CommandForm line (Select selection)
+  worded : {line : List ℕ} (k : Keyword) (text : List ℕ) {c : Command} → length line ≤ 64 → Worded line k text
+      → ArgumentsForm k text c →
       CommandForm line c

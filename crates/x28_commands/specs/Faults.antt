@@ -1,5 +1,6 @@
 -- The faults of a command line (X.28 3.2), each a test of the line, and the first one in number.
-use Rattle.std.specs.Prelude.{ℕ, Bool, true, false, not, ◌&&◌, ◌||◌, ◌==◌, nat_lt, if◌then◌else◌, List, [], ◌∷◌, length, drop, find, Option, Some, None, is_none, Result, Ok, Err}
+use Rattle.std.specs.Prelude.{ℕ, Bool, true, false, not, ◌&&◌, ◌||◌, ◌==◌, nat_lt, if◌then◌else◌, List, [], ◌∷◌}
+use Rattle.std.specs.Prelude.{length, drop, find, Option, Some, None, is_none, Result, Ok, Err}
 use Rattle.std.specs.Char.{is_ascii_digit}
 use Rattle.packet_codec.specs.Address.{address_of}
 use Rattle.packet_codec.specs.declared.address.AddressFault.{AddressFault}
@@ -8,7 +9,8 @@ use Rattle.x28_commands.specs.Keywords.{keyword_of, arguments_of}
 use Rattle.x28_commands.specs.Numbers.{number_of, pair_of, entries}
 use Rattle.x28_commands.specs.Selection.{digits_of, after_digits, has_user_data}
 use Rattle.x28_commands.specs.declared.keyword.Keyword.{Keyword}
-use Rattle.x28_commands.specs.declared.keyword.Keyword.TheVariants.{Status, Clear, Interrupt, Reset, Profile, Read, Set, SetAndRead}
+use Rattle.x28_commands.specs.declared.keyword.Keyword.TheVariants.{Status, Clear, Interrupt, Reset, Profile, Read}
+use Rattle.x28_commands.specs.declared.keyword.Keyword.TheVariants.{Set, SetAndRead}
 use Rattle.x28_commands.specs.declared.fault.CommandFault.{CommandFault}
 use Rattle.x28_commands.specs.declared.fault.CommandFault.TheVariants.{Unknown, BadNumber, BadAddress, TooLong}
 

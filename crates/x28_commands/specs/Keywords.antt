@@ -1,9 +1,11 @@
 -- The keywords of commands (X.28 3.2): the longest run of letters, in either case, and a question mark after it.
-use Rattle.std.specs.Prelude.{ℕ, ◌+◌, Bool, true, false, ◌&&◌, ◌==◌, if◌then◌else◌, List, [], ◌∷◌, take, drop, slice_index, Option, Some, None, codes}
+use Rattle.std.specs.Prelude.{ℕ, ◌+◌, Bool, true, false, ◌&&◌, ◌==◌, if◌then◌else◌, List, [], ◌∷◌, take, drop}
+use Rattle.std.specs.Prelude.{slice_index, Option, Some, None, codes}
 use Rattle.std.specs.Char.{is_ascii_alphabetic, to_ascii_uppercase}
 use Rattle.x28_commands.specs.Words.{after_spaces, run}
 use Rattle.x28_commands.specs.declared.keyword.Keyword.{Keyword}
-use Rattle.x28_commands.specs.declared.keyword.Keyword.TheVariants.{Status, Clear, Interrupt, Reset, Profile, Read, Set, SetAndRead}
+use Rattle.x28_commands.specs.declared.keyword.Keyword.TheVariants.{Status, Clear, Interrupt, Reset, Profile, Read}
+use Rattle.x28_commands.specs.declared.keyword.Keyword.TheVariants.{Set, SetAndRead}
 
 -- how many octets the keyword has at the front of a text
 abbrev pub keyword_length : List ℕ → ℕ

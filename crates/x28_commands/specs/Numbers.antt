@@ -1,5 +1,6 @@
 -- The numbers of commands (X.28 3.2): of 1 to 3 digits and at most 255, and lists of them.
-use Rattle.std.specs.Prelude.{◌≡◌, ℕ, ◌+◌, ◌-◌, ◌*◌, ◌≤◌, ◌&&◌, ◌==◌, nat_le, if◌then◌else◌, List, [], ◌∷◌, ◌++◌, length, take, drop, map, fold, position, Option, Some, None, IsTrue}
+use Rattle.std.specs.Prelude.{◌≡◌, ℕ, ◌+◌, ◌-◌, ◌*◌, ◌≤◌, ◌&&◌, ◌==◌, nat_le, if◌then◌else◌, List, [], ◌∷◌, ◌++◌}
+use Rattle.std.specs.Prelude.{length, take, drop, map, fold, position, Option, Some, None, IsTrue}
 use Rattle.std.specs.List.{list_all, slice_split}
 use Rattle.std.specs.Char.{is_ascii_digit}
 
@@ -26,7 +27,8 @@ pub record IsPair (text : List ℕ) (pair : ℕ × ℕ) : Type 0 where
 -- the text says the list: entries with a comma between each and the next
 pub data IsList (A : Type 0) (Entry : List ℕ → A → Type 0) : List ℕ → List A → Type 0 where
   last : {text : List ℕ} {x : A} → Entry text x → IsList A Entry text (x ∷ [])
-  more : {text rest : List ℕ} {x : A} {xs : List A} → Entry text x → IsList A Entry rest xs → IsList A Entry (text ++ 0x2C ∷ rest) (x ∷ xs)
+  more : {text rest : List ℕ} {x : A} {xs : List A} → Entry text x → IsList A Entry rest xs
+      → IsList A Entry (text ++ 0x2C ∷ rest) (x ∷ xs)
 
 -- ---- the same, read
 

@@ -1,9 +1,12 @@
 -- The service signals (X.28 3.1, 3.5), in this profile's texts.
-use Rattle.std.specs.Prelude.{ℕ, ◌+◌, ◌/◌, ◌%◌, ◌||◌, ◌==◌, nat_lt, nat_le, if◌then◌else◌, List, [], ◌∷◌, ◌++◌, Option, Some, None, codes}
+use Rattle.std.specs.Prelude.{ℕ, ◌+◌, ◌/◌, ◌%◌, ◌||◌, ◌==◌, nat_lt, nat_le, if◌then◌else◌, List, [], ◌∷◌, ◌++◌}
+use Rattle.std.specs.Prelude.{Option, Some, None, codes}
 use Rattle.std.specs.List.{flat_map}
 use Rattle.x28_commands.specs.declared.signal.ParameterValue.{ParameterValue}
 use Rattle.x28_commands.specs.declared.signal.Signal.{Signal}
-use Rattle.x28_commands.specs.declared.signal.Signal.TheVariants.{Connected, ClearIndication, InvitedToClear, ClearConfirmation, ResetIndication, Free, Engaged, Error, Parameters, Acknowledgement, Prompt}
+use Rattle.x28_commands.specs.declared.signal.Signal.TheVariants.{Connected, ClearIndication, InvitedToClear}
+use Rattle.x28_commands.specs.declared.signal.Signal.TheVariants.{ClearConfirmation, ResetIndication, Free, Engaged}
+use Rattle.x28_commands.specs.declared.signal.Signal.TheVariants.{Error, Parameters, Acknowledgement, Prompt}
 
 -- why a call was cleared
 abbrev pub clear_text : ℕ → List ℕ

@@ -38,7 +38,8 @@ pub fn read_selection(text: &[u8]) -> Result<Selection, CommandFault>
 
 /// The graphic characters after `D` or `P`.
 fn user_data(rest: &[u8]) -> Option<&[u8]>
-    ensures { MatchOption result (IsFalse (has_user_data rest.now)) (λ octets. IsTrue (has_user_data rest.now) × (octets.now ≡ drop 1 rest.now)) }
+    ensures { MatchOption result (IsFalse (has_user_data rest.now))
+        (λ octets. IsTrue (has_user_data rest.now) × (octets.now ≡ drop 1 rest.now)) }
 {
     if rest.is_empty() || (rest[0] != b'D' && rest[0] != b'P') {
         return None;

@@ -2,7 +2,8 @@
 use Rattle.std.specs.Prelude.{◌≡◌, ℕ, ◌≤◌, List, [], ◌∷◌, length, Option, Some, None}
 use Rattle.std.specs.List.{flat_map}
 use Rattle.x29_messages.specs.declared.message.Message.{Message}
-use Rattle.x29_messages.specs.declared.message.Message.TheVariants.{ParameterIndication, InvitationToClear, Set, IndicationOfBreak, Read, Error, SetAndRead}
+use Rattle.x29_messages.specs.declared.message.Message.TheVariants.{ParameterIndication, InvitationToClear, Set}
+use Rattle.x29_messages.specs.declared.message.Message.TheVariants.{IndicationOfBreak, Read, Error, SetAndRead}
 
 -- a parameter's reference and its value
 abbrev pub pair_octets : ℕ × ℕ → List ℕ

@@ -1,8 +1,10 @@
 -- Reading the octets of a message: the message that they say, or the first fault.
-use Rattle.std.specs.Prelude.{ℕ, ◌%◌, Bool, not, ◌&&◌, ◌||◌, ◌==◌, nat_lt, nat_le, if◌then◌else◌, List, [], ◌∷◌, length, drop, slice_index, find, Option, Some, None, Result, Ok, Err}
+use Rattle.std.specs.Prelude.{ℕ, ◌%◌, Bool, not, ◌&&◌, ◌||◌, ◌==◌, nat_lt, nat_le, if◌then◌else◌, List, [], ◌∷◌}
+use Rattle.std.specs.Prelude.{length, drop, slice_index, find, Option, Some, None, Result, Ok, Err}
 use Rattle.arrayvec.specs.ArrayVec.{ArrayVec}
 use Rattle.x29_messages.specs.declared.message.Message.{Message}
-use Rattle.x29_messages.specs.declared.message.Message.TheVariants.{ParameterIndication, InvitationToClear, Set, IndicationOfBreak, Read, Error, SetAndRead}
+use Rattle.x29_messages.specs.declared.message.Message.TheVariants.{ParameterIndication, InvitationToClear, Set}
+use Rattle.x29_messages.specs.declared.message.Message.TheVariants.{IndicationOfBreak, Read, Error, SetAndRead}
 use Rattle.x29_messages.specs.declared.fault.MessageFault.{MessageFault}
 use Rattle.x29_messages.specs.declared.fault.MessageFault.TheVariants.{Empty, UnknownCode, OddLength}
 
