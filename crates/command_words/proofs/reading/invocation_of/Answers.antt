@@ -1,0 +1,31 @@
+use Rattle.std.proofs.Common.{◌≡◌, ◌∙◌, List, Option, Some, None, option_map, ap, ap₂, sym, codes}
+use Rattle.std.proofs.lemmas.Option.{same_Some}
+use Rattle.clap.specs.Words.{Row, Text, found_of, rows_of, subcommand_rows_of}
+use Rattle.clap.proofs.WalkLemmas.{first_value-rows}
+use Rattle.command_words.specs.Invocations.{Found}
+use Rattle.command_words.proofs.reading.invocation_of.Goals as goal
+use Rattle.command_words.proofs.reading.invocation_of.Goals.{in-sim, in-run}
+
+abbrev paired : {X : Type 0} → (X → Text) → (X → List Row) → X → Text × List Row
+paired f g x = (f x, g x)
+
+-- what is found of a subcommand, by the equations of its name and its rows
+both : {X : Type 0} (f : X → Text) (g : X → List Row) (o : Option X) (name : Text) (rows : List Row) → Some name ≡ option_map f o
+    → Some rows ≡ option_map (λ (p : Text × List Row). p.1) (option_map (paired f g) o) → option_map (paired f g) o ≡ Some (name, rows)
+both f g None name rows named rowed = cc
+both f g (Some x) name rows named rowed = ap Some (ap₂ pair (sym (same_Some _ _ named)) (sym (same_Some _ _ rowed)))
+  where
+    pair : Text → List Row → Text × List Row
+    pair a b = (a, b)
+
+pub returns : goal.returns
+returns c =
+    let found = c.in_ok-word.ensures in
+    let rows = rows_of (found_of c.in_ok-word.found.now) in
+    let here : subcommand_rows_of c.args.matches.now ≡ Some (c.in_ok-word.word.now, rows) = both _ _ _ _ _ found.name found.rows in
+    let net = sym (c.in_ok-get_str.ensures ∙ first_value-rows (found_of c.in_ok-word.found.now) (codes "net")) in
+    let script = sym (c.in_ok-get_str-2.ensures ∙ first_value-rows (found_of c.in_ok-word.found.now) (codes "script")) in
+    elim c.match-word.branch [
+      | in-sim w ↦ record { options = rows; mode = rw (w.mode-is, ← w.in-sim.is) here; net = net; script = script }
+      | in-run w ↦ record { options = rows; mode = rw (w.mode-is, ← w.in-run.is) here; net = net; script = script }
+    ]

@@ -1,0 +1,11 @@
+//! The command words of the program.
+#![tactic(auto)]
+
+mod invocation;
+mod reading;
+
+pub use invocation::{Invocation, Mode, WordsFault};
+pub use reading::read_words;
+
+#[cfg(test)]
+mod tests;

@@ -1,0 +1,71 @@
+//! Reading of the command words.
+ghost use Rattle.std.specs.Prelude.{◌≡◌, [], map, false, Ok, None, string_bytes, IfOk, IfSome};
+ghost use Rattle.clap.specs.Words.{app_of, found_of, first_of, rows_of, rule_of, subcommand_rows_of};
+ghost use Rattle.command_words.specs.Invocations.{Asks, Found, file_option, program};
+
+use crate::invocation::{Invocation, Mode, WordsFault};
+use clap::error::ErrorKind;
+use clap::{Arg, ArgMatches, Command, Error};
+use std::alloc::{AllocError, Global};
+
+/// Reads the words of a command line, without the program's name: none for the built-in network with the script on standard
+/// input, or `sim` or `run` with `--net FILE` and `--script FILE`, in either order.
+///
+/// `BadWords` where the words are anything else, a call for help among them; `OutOfMemory` where no memory was left.
+pub fn read_words<'a>(
+    alloc: Global,
+    words: &'a [String],
+) -> Result<Option<Invocation<'a>>, WordsFault>
+    ensures none { words.entry.now ≡ [] → result ≡ Ok None }
+    ensures asks { IfOk result (Asks (map (λ word. string_bytes word) words.entry.now)) }
+{
+    if words.is_empty() {
+        return Ok(None);
+    }
+    let matches = program(alloc)?.try_get_matches_from(words)?;
+    match invocation_of(&matches) {
+        Some(invocation) => Ok(Some(invocation)),
+        None => Err(WordsFault::BadWords),
+    }
+}
+
+/// The words that the program takes.
+fn program<'a>(alloc: Global) -> Result<Command<'a>, AllocError>
+    ensures { IfOk result (λ command. app_of command ≡ program) }
+{
+    let sim = Command::new(alloc, "sim")
+        .arg(file_option(alloc, "net"))?
+        .arg(file_option(alloc, "script"))?;
+    let run = Command::new(alloc, "run")
+        .arg(file_option(alloc, "net"))?
+        .arg(file_option(alloc, "script"))?;
+    Command::new(alloc, "x25net")
+        .no_binary_name(true)
+        .subcommand(sim)?
+        .subcommand(run)
+}
+
+/// An option that has to be given, with the name of a file.
+fn file_option<'a>(alloc: Global, name: &'a str) -> Arg<'a>
+    ensures rule { rule_of result ≡ file_option name.entry.now }
+    ensures local { result.global ≡ false }
+{
+    Arg::new(alloc, name).long(name).required(true)
+}
+
+/// What the words were found to ask for.
+fn invocation_of<'a>(matches: &ArgMatches<'a>) -> Option<Invocation<'a>>
+    ensures { IfSome result (Found (subcommand_rows_of matches.now)) }
+{
+    let (word, found) = matches.subcommand()?;
+    let mode = match word {
+        "sim" => Mode::Sim,
+        "run" => Mode::Run,
+        _ => return None,
+    };
+    Some(Invocation {
+        mode,
+        net: found.get_str("net")?,
+        script: found.get_str("script")?,
+    })
+}
