@@ -6,4 +6,4 @@ mod player;
 mod program;
 
 pub use player::play;
-pub use program::perform;
+pub use program::{perform, refuse_words};

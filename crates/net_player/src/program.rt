@@ -1,15 +1,17 @@
 //! The program.
-ghost use Rattle.std.specs.Prelude.{◌≡◌, ◌≢◌, ◌≤◌, ◌↔◌, [], OnOk};
+ghost use Rattle.std.specs.Prelude.{◌≡◌, ◌≢◌, ◌≤◌, ◌⊎◌, [], Ok, true, false, OnOk};
 ghost use Rattle.net_player.specs.Playing.{PlaysSome};
 
 use crate::player::play;
+use command_words::{Invocation, Mode, WordsFault, read_words};
 use line_sim::{Config, Net};
 use net_files::{FIRST, ProgFault, Script, read_net, read_script};
 use std::alloc::Global;
-use std::io;
+use std::fs::{File, Files};
 use std::io::{Read, Write};
+use std::{io, str};
 
-/// How many octets a script has at most.
+/// How many octets a network file or a script has at most.
 const TEXT_OCTETS: u64 = 1_048_576;
 
 /// The status of a run that went to its end, of one that a fault ended, and of one with bad words.
@@ -19,39 +21,105 @@ const FAULT: u8 = 1;
 
 const BAD_WORDS: u8 = 2;
 
-/// The program, on these command words, which must be none: plays the script that the input has on the built-in
-/// network, and gives the status to end with. A fault, and that the words are bad, is told on `err`.
-pub fn perform<R: Read, W: Write, E: Write>(
+/// The program on its command words, of which its own name is none. Without words it plays the script that the input has on
+/// the built-in network; with `sim --net FILE --script FILE` that of a file on the network of another, over lines in memory.
+///
+/// Gives the status to end with: 0 at the end of the script, 1 where a fault ended the run, which is told on `err`, and 2 where
+/// the words are others, which is told there too. `run`, over sockets, is not there yet. Faults are looked for in this order:
+/// the words, the network file, its text, the script file or the input, its lines, the network's values, the writing.
+pub fn perform<F: Files, R: Read, W: Write, E: Write>(
+    files: &F,
     alloc: Global,
     words: &[String],
     input: &mut R,
     out: &mut W,
     err: &mut E,
 ) -> u8
-    ensures words { (result ≡ BAD_WORDS) ↔ (words.now ≢ []) }
     ensures status { result ≤ BAD_WORDS }
+    ensures no_words { words.now ≡ [] → result ≢ BAD_WORDS }
     ensures done { result ≡ DONE → PlaysSome (W.contents out.old) (W.contents out.new) }
-    ensures unread { words.now ≢ [] → W.contents out.new ≡ W.contents out.old }
+    ensures bad_words { result ≡ BAD_WORDS → W.contents out.new ≡ W.contents out.old }
 {
-    if !words.is_empty() {
-        let _ = writeln!(err, "bad words");
-        return BAD_WORDS;
-    }
-    match run(alloc, input, out) {
-        Ok(()) => DONE,
-        Err(fault) => {
-            let _ = writeln!(err, "{fault}");
-            FAULT
-        }
+    match run(files, alloc, words, input, out) {
+        Ok(true) => DONE,
+        Ok(false) => tell_bad_words(err),
+        Err(fault) => tell_fault(fault, err),
     }
 }
 
-/// Reads the built-in network and the script, and plays.
-fn run<R: Read, W: Write>(alloc: Global, input: &mut R, out: &mut W) -> Result<(), ProgFault>
+/// Plays what the words ask for; false where they ask for nothing that is there.
+fn run<F: Files, R: Read, W: Write>(
+    files: &F,
+    alloc: Global,
+    words: &[String],
+    input: &mut R,
+    out: &mut W,
+) -> Result<bool, ProgFault>
+    ensures played { result ≡ Ok true → PlaysSome (W.contents out.old) (W.contents out.new) }
+    ensures bad_words { result ≡ Ok false → W.contents out.new ≡ W.contents out.old }
+    ensures no_words { words.now ≡ [] → result ≢ Ok false }
+{
+    match read_words(alloc, words) {
+        Ok(None) => {
+            play_first(alloc, input, out)?;
+            Ok(true)
+        }
+        Ok(Some(invocation)) if invocation.mode == Mode::Sim => {
+            play_files(files, alloc, &invocation, out)?;
+            Ok(true)
+        }
+        Err(WordsFault::OutOfMemory) => Err(ProgFault::OutOfMemory),
+        _ => Ok(false),
+    }
+}
+
+/// What the program does where it cannot read its command words: want of memory is a fault, and all else is bad words.
+pub fn refuse_words<E: Write>(error: &io::Error, err: &mut E) -> u8
+    ensures { (result ≡ FAULT) ⊎ (result ≡ BAD_WORDS) }
+{
+    match error.kind() {
+        io::ErrorKind::OutOfMemory => tell_fault(ProgFault::OutOfMemory, err),
+        _ => tell_bad_words(err),
+    }
+}
+
+fn tell_fault<E: Write>(fault: ProgFault, err: &mut E) -> u8
+    ensures { result ≡ FAULT }
+{
+    let _ = writeln!(err, "{fault}");
+    FAULT
+}
+
+fn tell_bad_words<E: Write>(err: &mut E) -> u8
+    ensures { result ≡ BAD_WORDS }
+{
+    let _ = writeln!(err, "bad words");
+    BAD_WORDS
+}
+
+/// Plays the script that the input has on the built-in network.
+fn play_first<R: Read, W: Write>(alloc: Global, input: &mut R, out: &mut W) -> Result<(), ProgFault>
     ensures { OnOk result (PlaysSome (W.contents out.old) (W.contents out.new)) }
 {
     let config = read_net(alloc, FIRST)?;
-    let script = read_input(alloc, input, &config)?;
+    let text = read_all(alloc, input)?;
+    let script = read_script(alloc, text.as_slice(), &config)?;
+    play_on(alloc, &config, &script, out)
+}
+
+/// Plays a script file on the network of a network file.
+fn play_files<F: Files, W: Write>(
+    files: &F,
+    alloc: Global,
+    invocation: &Invocation<'_>,
+    out: &mut W,
+) -> Result<(), ProgFault>
+    ensures { OnOk result (PlaysSome (W.contents out.old) (W.contents out.new)) }
+{
+    let text = read_file(files, alloc, invocation.net)?;
+    let config = read_net(alloc, text_of(text.as_slice())?)?;
+    let text = read_file(files, alloc, invocation.script)?;
+    let script = read_script(alloc, text.as_slice(), &config)?;
     play_on(alloc, &config, &script, out)
 }
 
@@ -69,18 +137,33 @@ fn play_on<W: Write>(
     Ok(())
 }
 
-/// Reads the script that the input has.
-fn read_input<R: Read>(alloc: Global, input: &mut R, config: &Config) -> Result<Script, ProgFault> {
-    let text = read_all(alloc, input)?;
-    read_script(alloc, text.as_slice(), config)
+/// Octets that have to be text, as a network file's have.
+fn text_of(octets: &[u8]) -> Result<&str, ProgFault> {
+    str::from_utf8(octets).map_err(|_| ProgFault::NetText)
 }
 
-/// Reads all of the input, of at most 1,048,576 octets.
+/// Reads the file of this name.
+fn read_file<F: Files>(files: &F, alloc: Global, name: &str) -> Result<Vec<u8>, ProgFault> {
+    match File::open(files, name) {
+        Ok(mut file) => read_all(alloc, &mut file),
+        Err(error) => Err(reading_fault(&error)),
+    }
+}
+
+/// Reads all that a reader has, of at most 1,048,576 octets.
 fn read_all<R: Read>(alloc: Global, input: &mut R) -> Result<Vec<u8>, ProgFault> {
     let mut text = Vec::new(alloc);
     match input.by_ref().take(TEXT_OCTETS + 1).read_to_end(&mut text) {
         Ok(count) if count as u64 <= TEXT_OCTETS => Ok(text),
-        Err(error) if error.kind() == io::ErrorKind::OutOfMemory => Err(ProgFault::OutOfMemory),
-        _ => Err(ProgFault::File),
+        Ok(_) => Err(ProgFault::File),
+        Err(error) => Err(reading_fault(&error)),
+    }
+}
+
+/// Why nothing is read of a file or of the input.
+fn reading_fault(error: &io::Error) -> ProgFault {
+    match error.kind() {
+        io::ErrorKind::OutOfMemory => ProgFault::OutOfMemory,
+        _ => ProgFault::File,
     }
 }

@@ -2,7 +2,8 @@ use line_sim::{Config, Event, LineConfig, MakeFault, MemLine, Net, NodeConfig, N
 use net_files::{Command, FIRST, ProgFault, read_net, read_script};
 use net_player::{perform, play};
 use packet_codec::Address;
-use std::alloc::Global;
+use std::alloc::{AllocError, Global};
+use std::fs::Files;
 use std::io;
 use std::io::{Read, Write};
 use std::process::Abort;
@@ -128,8 +129,8 @@ pub(crate) fn played_on(
 }
 
 /// The program on these words and this input ends with the status, what it prints and what it tells.
-fn ends<R: Read>(
-    rt: &impl Abort,
+fn ends<F: Files + Abort, R: Read>(
+    rt: &F,
     alloc: Global,
     words: &[String],
     input: &mut R,
@@ -139,7 +140,7 @@ fn ends<R: Read>(
 ) {
     let mut out = Vec::new(alloc);
     let mut err = Vec::new(alloc);
-    let ended = perform(alloc, words, input, &mut out, &mut err);
+    let ended = perform(rt, alloc, words, input, &mut out, &mut err);
     assert!(rt; ended == status, "{printed:?}");
     assert_eq!(rt; out.as_slice(), printed);
     assert_eq!(rt; err.as_slice(), told);
@@ -598,9 +599,18 @@ impl Write for Broken {
     }
 }
 
+/// The words of a line.
+fn words_of(alloc: Global, line: &str) -> Result<Vec<String>, AllocError> {
+    let mut words = Vec::new(alloc);
+    for word in line.split_whitespace() {
+        words.push(word.to_string(alloc)?)?;
+    }
+    Ok(words)
+}
+
 #[test]
 fn faults_are_told(rt: HostRuntime) -> Result<(), Fail> {
-    let words = vec![in rt.alloc(); String::from_str(rt.alloc(), "dance")?]?;
+    let words = words_of(rt.alloc(), "dance")?;
     let mut flow: &[u8] = b"flow";
     ends(
         &rt,
@@ -610,6 +620,26 @@ fn faults_are_told(rt: HostRuntime) -> Result<(), Fail> {
         2,
         b"",
         b"bad words\n",
+    );
+    let words = words_of(rt.alloc(), "run --net net --script script")?;
+    ends(
+        &rt,
+        rt.alloc(),
+        words.as_slice(),
+        &mut flow,
+        2,
+        b"",
+        b"bad words\n",
+    );
+    let words = words_of(rt.alloc(), "sim --net nowhere/net --script nowhere/script")?;
+    ends(
+        &rt,
+        rt.alloc(),
+        words.as_slice(),
+        &mut flow,
+        1,
+        b"",
+        b"fault 7\n",
     );
     ends(&rt, rt.alloc(), &[], &mut Broken, 1, b"", b"fault 7\n");
     let mut long = io::repeat(b'\n').take(1_048_577);
@@ -623,7 +653,7 @@ fn faults_are_told(rt: HostRuntime) -> Result<(), Fail> {
 fn output_that_cannot_be_written_is_a_fault(rt: HostRuntime) {
     let mut flow: &[u8] = b"flow";
     let mut err = Vec::new(rt.alloc());
-    let status = perform(rt.alloc(), &[], &mut flow, &mut Broken, &mut err);
+    let status = perform(&rt, rt.alloc(), &[], &mut flow, &mut Broken, &mut err);
     assert_eq!(rt; status, 1);
     assert_eq!(rt; err.as_slice(), b"fault 5\n".as_slice());
 }

@@ -1,18 +1,19 @@
 //! An X.25 network of PADs, hosts and switches, driven by a script.
 #![tactic(auto)]
 
-use net_player::perform;
+use net_player::{perform, refuse_words};
 use std::process::ExitCode;
 use std::{env, io};
 
 fn main(rt: HostRuntime) -> ExitCode {
+    let mut err = rt.stderr();
     let words = match read_arguments(&rt) {
         Ok(words) => words,
-        Err(_) => return ExitCode::from(2),
+        Err(error) => return ExitCode::from(refuse_words(&error, &mut err)),
     };
     let mut out = io::writer(&rt);
-    let mut err = rt.stderr();
     let status = perform(
+        &rt,
         rt.alloc(),
         words.as_slice(),
         &mut rt.reader(),
