@@ -72,47 +72,47 @@ either_quiet false s t g h = h
 -- ---- a PAD
 
 -- a PAD that holds less than a block, whose layer has no note that was not read, and at which no timer runs where it must not
-record IsCalm (p : PadState) : Type 0 where
+record IsQuietPad (p : PadState) : Type 0 where
   held : length p.held < limit
   unread : IsUnread p.end
   apart : TimersApart p.end
 
-calm : (p : PadState) → IsQuiet (Pad p) → IsCalm p
-calm p q = record { held = q.node.held; unread = q.unread; apart = timers-apart (Pad p) q.timers }
+quiet_pad : (p : PadState) → IsQuiet (Pad p) → IsQuietPad p
+quiet_pad p q = record { held = q.node.held; unread = q.unread; apart = timers-apart (Pad p) q.timers }
 
 held_short : (v : Bool) (held : List ℕ) → length held < limit → length (cond v held []) < limit
 held_short true held h = h
 held_short false held h = lit< tt
 
-finish_calm : (p : PadState) → IsCalm p → IsCalm (after_finish p)
-finish_calm p c = record {
+finish_quiet_pad : (p : PadState) → IsQuietPad p → IsQuietPad (after_finish p)
+finish_quiet_pad p c = record {
   held = held_short (stands (finished p.end)) p.held c.held;
   unread = finished_unread p.end c.unread;
   apart = stays-apart p.end (finished p.end) (finished-due p.end) c.apart;
 }
 
-without_calm : (o : Option ℕ) (p : PadState) → IsCalm p → IsCalm (without_call o p)
-without_calm None p c = c
-without_calm (Some channel) p c = record {
+without_quiet_pad : (o : Option ℕ) (p : PadState) → IsQuietPad p → IsQuietPad (without_call o p)
+without_quiet_pad None p c = c
+without_quiet_pad (Some channel) p c = record {
   held = c.held;
   unread = asked_unread p.end channel refusing c.unread;
   apart = record { link = c.apart.link; layer = c.apart.layer };
 }
 
-pad_quiet : (role : Role) (p : PadState) (b : Book) → IsCalm p → LeavesQuiet (pad_event role p b)
+pad_quiet : (role : Role) (p : PadState) (b : Book) → IsQuietPad p → LeavesQuiet (pad_event role p b)
 pad_quiet role p b c =
     let o : Option ℕ = last_incoming None p.end.notes in
-    let d : IsCalm (without_call o (pad_read p)) = without_calm o (pad_read p) (record { held = c.held; unread = c.unread; apart = record { link = c.apart.link; layer = c.apart.layer } }) in
-    let f : IsCalm (after_finish (without_call o (pad_read p))) = finish_calm (without_call o (pad_read p)) d in
+    let d : IsQuietPad (without_call o (pad_read p)) = without_quiet_pad o (pad_read p) (record { held = c.held; unread = c.unread; apart = record { link = c.apart.link; layer = c.apart.layer } }) in
+    let f : IsQuietPad (after_finish (without_call o (pad_read p))) = finish_quiet_pad (without_call o (pad_read p)) d in
     record { node = record { read = refl; sent = refl; held = f.held }; unread = f.unread; timers = set-apart _ (record { link = f.apart.link; layer = f.apart.layer }) }
 
-either_calm : (v : Bool) (p q : PadState) → IsCalm p → IsCalm q → IsCalm (cond v p q)
-either_calm true p q g h = g
-either_calm false p q g h = h
+either_quiet_pad : (v : Bool) (p q : PadState) → IsQuietPad p → IsQuietPad q → IsQuietPad (cond v p q)
+either_quiet_pad true p q g h = g
+either_quiet_pad false p q g h = h
 
-expiry_calm : (p : PadState) (id : TimerId) → IsCalm p → IsCalm (pad.after_expiry p id)
-expiry_calm p id c =
-    either_calm (runs_at p.end id) (record p { end = after_timer (begun p.end) id }) p
+expiry_quiet_pad : (p : PadState) (id : TimerId) → IsQuietPad p → IsQuietPad (pad.after_expiry p id)
+expiry_quiet_pad p id c =
+    either_quiet_pad (runs_at p.end id) (record p { end = after_timer (begun p.end) id }) p
     (record { held = c.held; unread = timer_unread p.end id c.unread; apart = stays-apart p.end (after_timer (begun p.end) id) (timer-due p.end id) c.apart }) c
 
 -- ---- what comes from the line
@@ -139,7 +139,7 @@ host_expiry_due false e id = same-due e
 pub quiet-expires : (role : Role) (n : NodeState) (id : TimerId) (b : Book) → IsQuiet n → LeavesQuiet (expires role n id b)
 quiet-expires role (Pad p) id b q =
     either_quiet (runs_at p.end id) (pad_event role (pad.after_expiry p id) b) (unchanged (Pad p) b)
-    (pad_quiet role (pad.after_expiry p id) b (expiry_calm p id (calm p q))) (unchanged_quiet (Pad p) b q)
+    (pad_quiet role (pad.after_expiry p id) b (expiry_quiet_pad p id (quiet_pad p q))) (unchanged_quiet (Pad p) b q)
 quiet-expires role (Host e) id b q =
     either_quiet (runs_at e id) (told role (Host (host.after_expiry e id)) b) (unchanged (Host e) b)
     (told_quiet role (Host (host.after_expiry e id)) b tt (host_expiry (runs_at e id) e id q.unread)
@@ -195,10 +195,10 @@ quiet-takes role e channel b q = by (front_on e.layer channel)
 
 -- ---- a key at a PAD
 
-block_calm : (o : Option (List ℕ)) (p : PadState) → IsCalm p → IsCalm (with_block o p)
-block_calm None p c = c
-block_calm (Some block) p c =
-    finish_calm (record p { end = begun (asked p.end 1 (Request.Sending (message block))) })
+block_quiet_pad : (o : Option (List ℕ)) (p : PadState) → IsQuietPad p → IsQuietPad (with_block o p)
+block_quiet_pad None p c = c
+block_quiet_pad (Some block) p c =
+    finish_quiet_pad (record p { end = begun (asked p.end 1 (Request.Sending (message block))) })
     (record {
       held = c.held;
       unread = asked_unread p.end 1 (Request.Sending (message block)) c.unread;
@@ -216,7 +216,7 @@ module _ (role : Role) (p : PadState) (octet : ℕ) (b : Book) (q : IsQuiet (Pad
 
   edits_quiet : (e : Effect) → length e.held < limit → LeavesSo (edited_by p octet e)
   edits_quiet e short =
-      let c : IsCalm (with_block e.block (record p { held = e.held })) = block_calm e.block (record p { held = e.held })
+      let c : IsQuietPad (with_block e.block (record p { held = e.held })) = block_quiet_pad e.block (record p { held = e.held })
       (record { held = short; unread = q.unread; apart = timers-apart (Pad p) q.timers }) in
       told_quiet role (Pad (edited_by p octet e).pad) b c.held c.unread c.apart
 

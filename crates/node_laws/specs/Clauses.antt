@@ -29,8 +29,11 @@ use Rattle.node_laws.specs.Nodes.{IsNode, StandsAt, Keeps, KeepsWith, KeepsBy}
 
 -- the first frame on the way to the node arrives
 abbrev pub HearsLaw : Type 0
-HearsLaw = (s : Setting) (b : Book) (l : Line) (role : Role) (n : NodeState) (octets : Octets) (coming : List Octets) (kept : List Bool)
-    → coming_to role l ≡ octets ∷ coming → StandsAt role l n → Kept s b l → KeepsWith s role l kept coming (hears role n octets b)
+HearsLaw =
+    (s : Setting) (b : Book) (l : Line) (role : Role) (n : NodeState) (octets : Octets) (coming : List Octets)
+    (kept : List Bool)
+    → coming_to role l ≡ octets ∷ coming → StandsAt role l n → Kept s b l
+    → KeepsWith s role l kept coming (hears role n octets b)
 
 abbrev pub ExpiresLaw : Type 0
 ExpiresLaw = (s : Setting) (b : Book) (l : Line) (role : Role) (n : NodeState) (id : TimerId) (kept : List Bool)
@@ -48,12 +51,14 @@ RestartsLaw = (s : Setting) (b : Book) (l : Line) (role : Role) (n : NodeState) 
 -- ---- what the user of a host asks
 
 abbrev pub CallsLaw : Type 0
-CallsLaw = (s : Setting) (b : Book) (l : Line) (role : Role) (e : PacketEnd) (address user_data : List ℕ) (kept : List Bool)
+CallsLaw =
+    (s : Setting) (b : Book) (l : Line) (role : Role) (e : PacketEnd) (address user_data : List ℕ) (kept : List Bool)
     → AreDigits address → length user_data ≤ 16 → StandsAt role l (Host e) → Kept s b l
     → KeepsBy s role l kept (host_calls role e (call_parts address user_data) b)
 
 abbrev pub AsksLaw : Type 0
-AsksLaw = (s : Setting) (b : Book) (l : Line) (role : Role) (e : PacketEnd) (channel : ℕ) (r : Request) (kept : List Bool)
+AsksLaw =
+    (s : Setting) (b : Book) (l : Line) (role : Role) (e : PacketEnd) (channel : ℕ) (r : Request) (kept : List Bool)
     → StandsAt role l (Host e) → Kept s b l → KeepsBy s role l kept (host_asks role e channel r b)
 
 abbrev pub RefusesLaw : Type 0
@@ -61,8 +66,11 @@ RefusesLaw = (s : Setting) (b : Book) (l : Line) (role : Role) (e : PacketEnd) (
     → StandsAt role l (Host e) → Kept s b l → KeepsBy s role l kept (host_refuses role e channel b)
 
 abbrev pub SaysLaw : Type 0
-SaysLaw = (s : Setting) (b : Book) (l : Line) (role : Role) (e : PacketEnd) (channel : ℕ) (octets : List ℕ) (qualified delivery : Bool) (kept : List Bool)
-    → StandsAt role l (Host e) → Kept s b l → KeepsBy s role l kept (host_says role e channel octets qualified delivery b)
+SaysLaw =
+    (s : Setting) (b : Book) (l : Line) (role : Role) (e : PacketEnd) (channel : ℕ) (octets : List ℕ)
+    (qualified delivery : Bool) (kept : List Bool)
+    → StandsAt role l (Host e) → Kept s b l
+    → KeepsBy s role l kept (host_says role e channel octets qualified delivery b)
 
 abbrev pub TakesLaw : Type 0
 TakesLaw = (s : Setting) (b : Book) (l : Line) (role : Role) (e : PacketEnd) (channel : ℕ) (kept : List Bool)
@@ -81,7 +89,8 @@ elapsed_line ticks l = record l { dte = end.elapsed l.dte ticks; dce = end.elaps
 
 pub record KeepsElapsed (s : Setting) (b : Book) (ticks : ℕ) (l : Line) : Type 0 where
   pub kept : Kept s b (elapsed_line ticks l)
-  pub nodes : (role : Role) (n : NodeState) → StandsAt role l n → StandsAt role (elapsed_line ticks l) (node_elapsed ticks n)
+  pub nodes : (role : Role) (n : NodeState) → StandsAt role l n
+      → StandsAt role (elapsed_line ticks l) (node_elapsed ticks n)
 
 abbrev pub ElapsesLaw : Type 0
 ElapsesLaw = (s : Setting) (b : Book) (l : Line) (ticks : ℕ) → Kept s b l → KeepsElapsed s b ticks l
@@ -91,7 +100,12 @@ ElapsesLaw = (s : Setting) (b : Book) (l : Line) (ticks : ℕ) → Kept s b l �
 -- nothing was on the line, and the first frames of the DTE and then those of the DCE go onto it or are lost there
 abbrev pub first_line : (dte dce : PacketEnd) → (kept_up kept_down : List Bool) → Line
 first_line dte dce kept_up kept_down =
-    record { dte = sent dte; dce = sent dce; up = chosen kept_up dte.line.frames; down = chosen kept_down dce.line.frames }
+    record {
+      dte = sent dte;
+      dce = sent dce;
+      up = chosen kept_up dte.line.frames;
+      down = chosen kept_down dce.line.frames;
+    }
 
 -- two nodes are made for this line
 abbrev pub AreMade : Setting → (dte dce : NodeState) → Type 0
@@ -108,4 +122,5 @@ MakingLaw = (s : Setting) (dte dce : NodeState) (kept_up kept_down : List Bool)
 
 -- a PAD or a host that is made is such a node once its first frames went
 abbrev pub NodesLaw : Type 0
-NodesLaw = ((c : PadConfig) → IsNode (drained (Pad (pad.made c)))) × ((c : HostConfig) → IsNode (drained (Host (host.made c))))
+NodesLaw = ((c : PadConfig) → IsNode (drained (Pad (pad.made c))))
+    × ((c : HostConfig) → IsNode (drained (Host (host.made c))))

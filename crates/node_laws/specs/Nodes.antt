@@ -30,8 +30,8 @@ pub record StandsAt (role : Role) (l : Line) (n : NodeState) : Type 0 where
 
 -- ---- after a turn
 
--- a turn of the node of this role made the line `m` out of `l`: what is kept of the line is kept with the book that was written, and
--- the nodes stand at its ends, the one without the frames that it sent and the other as it was
+-- a turn of the node of this role made the line `m` out of `l`: what is kept of the line is kept with the book that was
+-- written, and the nodes stand at its ends, the one without the frames that it sent and the other as it was
 pub record Keeps (s : Setting) (role : Role) (l m : Line) (t : Turn) : Type 0 where
   pub kept : Kept s t.book m
   pub here : StandsAt role m (drained t.node)

@@ -1,5 +1,5 @@
--- How many notes of a turn open something in the book: a call that comes in a record, a reset an epoch. Room for these is reserved
--- before.
+-- How many notes of a turn open something in the book: a call that comes in a record, a reset an epoch. Room for these
+-- is reserved before.
 use Rattle.std.specs.Prelude.{◌≡◌, ℕ, ◌≤◌, Bool, List}
 use Rattle.link_timers.specs.declared.role.Role.{Role}
 use Rattle.link_timers.specs.declared.timers.TimerId.{TimerId}
@@ -26,10 +26,12 @@ OpensNothing t = opening_notes t.notes ≡ 0
 
 -- a frame opens one thing at most
 abbrev pub HearingOpens : Type 0
-HearingOpens = (role : Role) (n : NodeState) (octets : Octets) (b : Book) → opening_notes (hears role n octets b).notes ≤ 1
+HearingOpens = (role : Role) (n : NodeState) (octets : Octets) (b : Book)
+    → opening_notes (hears role n octets b).notes ≤ 1
 
 abbrev pub ExpiryOpens : Type 0
-ExpiryOpens = (s : Setting) (b : Book) (l : Line) (role : Role) (n : NodeState) (id : TimerId) → StandsAt role l n → Kept s b l → OpensNothing (expires role n id b)
+ExpiryOpens = (s : Setting) (b : Book) (l : Line) (role : Role) (n : NodeState) (id : TimerId) → StandsAt role l n
+    → Kept s b l → OpensNothing (expires role n id b)
 
 abbrev pub RelinkOpens : Type 0
 RelinkOpens = (role : Role) (n : NodeState) (b : Book) → OpensNothing (relinks role n b)
@@ -37,20 +39,24 @@ RelinkOpens = (role : Role) (n : NodeState) (b : Book) → OpensNothing (relinks
 -- ---- what a user asks
 
 abbrev pub CallOpens : Type 0
-CallOpens = (role : Role) (e : PacketEnd) (parts : CallParts) (b : Book) → IsNode (Host e) → OpensNothing (host_calls role e parts b)
+CallOpens = (role : Role) (e : PacketEnd) (parts : CallParts) (b : Book) → IsNode (Host e)
+    → OpensNothing (host_calls role e parts b)
 
 abbrev pub AskingOpens : Type 0
-AskingOpens = (role : Role) (e : PacketEnd) (channel : ℕ) (r : Request) (b : Book) → IsNode (Host e) → OpensNothing (host_asks role e channel r b)
+AskingOpens = (role : Role) (e : PacketEnd) (channel : ℕ) (r : Request) (b : Book) → IsNode (Host e)
+    → OpensNothing (host_asks role e channel r b)
 
 abbrev pub RefusalOpens : Type 0
-RefusalOpens = (role : Role) (e : PacketEnd) (channel : ℕ) (b : Book) → IsNode (Host e) → OpensNothing (host_refuses role e channel b)
+RefusalOpens = (role : Role) (e : PacketEnd) (channel : ℕ) (b : Book) → IsNode (Host e)
+    → OpensNothing (host_refuses role e channel b)
 
 abbrev pub SayingOpens : Type 0
 SayingOpens = (role : Role) (e : PacketEnd) (channel : ℕ) (octets : List ℕ) (qualified delivery : Bool) (b : Book)
     → IsNode (Host e) → OpensNothing (host_says role e channel octets qualified delivery b)
 
 abbrev pub TakingOpens : Type 0
-TakingOpens = (role : Role) (e : PacketEnd) (channel : ℕ) (b : Book) → IsNode (Host e) → OpensNothing (host_takes role e channel b)
+TakingOpens = (role : Role) (e : PacketEnd) (channel : ℕ) (b : Book) → IsNode (Host e)
+    → OpensNothing (host_takes role e channel b)
 
 abbrev pub KeyOpens : Type 0
 KeyOpens = (role : Role) (p : PadState) (octet : ℕ) (b : Book) → IsNode (Pad p) → OpensNothing (pad_keys role p octet b)

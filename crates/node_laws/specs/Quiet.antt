@@ -1,4 +1,5 @@
--- A node between two events on any line, whatever arrives there: each turn leaves it quiet, and opens one thing in the book at most.
+-- A node between two events on any line, whatever arrives there: each turn leaves it quiet, and opens one thing in the
+-- book at most.
 use Rattle.std.specs.Prelude.{◌≡◌, ℕ, ◌≤◌, Bool, List, []}
 use Rattle.link_timers.specs.declared.role.Role.{Role}
 use Rattle.link_timers.specs.declared.timers.TimerId.{TimerId}
@@ -22,7 +23,8 @@ use Rattle.node_laws.specs.Due.{AreApart}
 use Rattle.node_laws.specs.Nodes.{IsNode}
 use Rattle.node_laws.specs.Opening.{OpensNothing}
 
--- nothing is left of its last event: no note, also none in its layer, no frame, and no block; and no timer runs where it must not
+-- nothing is left of its last event: no note, also none in its layer, no frame, and no block; and no timer runs where
+-- it must not
 pub record IsQuiet (n : NodeState) : Type 0 where
   pub node : IsNode n
   pub unread : (end_of n).layer.notes ≡ []
@@ -59,28 +61,34 @@ QuietRestartLaw = (role : Role) (n : NodeState) (b : Book) → IsQuiet n → IsQ
 -- ---- what the user of a host asks
 
 abbrev pub QuietCallLaw : Type 0
-QuietCallLaw = (role : Role) (e : PacketEnd) (parts : CallParts) (b : Book) → IsQuiet (Host e) → IsQuietTurn (host_calls role e parts b)
+QuietCallLaw = (role : Role) (e : PacketEnd) (parts : CallParts) (b : Book) → IsQuiet (Host e)
+    → IsQuietTurn (host_calls role e parts b)
 
 abbrev pub QuietAskingLaw : Type 0
-QuietAskingLaw = (role : Role) (e : PacketEnd) (channel : ℕ) (r : Request) (b : Book) → IsQuiet (Host e) → IsQuietTurn (host_asks role e channel r b)
+QuietAskingLaw = (role : Role) (e : PacketEnd) (channel : ℕ) (r : Request) (b : Book) → IsQuiet (Host e)
+    → IsQuietTurn (host_asks role e channel r b)
 
 abbrev pub QuietRefusalLaw : Type 0
-QuietRefusalLaw = (role : Role) (e : PacketEnd) (channel : ℕ) (b : Book) → IsQuiet (Host e) → IsQuietTurn (host_refuses role e channel b)
+QuietRefusalLaw = (role : Role) (e : PacketEnd) (channel : ℕ) (b : Book) → IsQuiet (Host e)
+    → IsQuietTurn (host_refuses role e channel b)
 
 abbrev pub QuietSayingLaw : Type 0
 QuietSayingLaw = (role : Role) (e : PacketEnd) (channel : ℕ) (octets : List ℕ) (qualified delivery : Bool) (b : Book)
     → IsQuiet (Host e) → IsQuietTurn (host_says role e channel octets qualified delivery b)
 
 abbrev pub QuietTakingLaw : Type 0
-QuietTakingLaw = (role : Role) (e : PacketEnd) (channel : ℕ) (b : Book) → IsQuiet (Host e) → IsQuietTurn (host_takes role e channel b)
+QuietTakingLaw = (role : Role) (e : PacketEnd) (channel : ℕ) (b : Book) → IsQuiet (Host e)
+    → IsQuietTurn (host_takes role e channel b)
 
 -- ---- a key at a PAD, time, and the making
 
 abbrev pub QuietKeyLaw : Type 0
-QuietKeyLaw = (role : Role) (p : PadState) (octet : ℕ) (b : Book) → IsQuiet (Pad p) → IsQuietTurn (pad_keys role p octet b)
+QuietKeyLaw = (role : Role) (p : PadState) (octet : ℕ) (b : Book) → IsQuiet (Pad p)
+    → IsQuietTurn (pad_keys role p octet b)
 
 abbrev pub QuietTimeLaw : Type 0
 QuietTimeLaw = (n : NodeState) (ticks : ℕ) → IsQuiet n → IsQuiet (node_elapsed ticks n)
 
 abbrev pub QuietMakingLaw : Type 0
-QuietMakingLaw = ((c : PadConfig) → IsQuiet (drained (Pad (pad.made c)))) × ((c : HostConfig) → IsQuiet (drained (Host (host.made c))))
+QuietMakingLaw = ((c : PadConfig) → IsQuiet (drained (Pad (pad.made c))))
+    × ((c : HostConfig) → IsQuiet (drained (Host (host.made c))))

@@ -4,15 +4,17 @@
 mod expiry;
 mod quiet;
 
-ghost use Rattle.node_laws.specs.Clauses.{HearsLaw, ExpiresLaw, RelinksLaw, RestartsLaw, CallsLaw, AsksLaw, RefusesLaw, SaysLaw, TakesLaw, KeysLaw, ElapsesLaw, MakingLaw, NodesLaw};
-ghost use Rattle.node_laws.specs.Opening.{HearingOpens, ExpiryOpens, RelinkOpens, CallOpens, AskingOpens, RefusalOpens, SayingOpens, TakingOpens, KeyOpens};
+ghost use Rattle.node_laws.specs.Clauses.{HearsLaw, ExpiresLaw, RelinksLaw, RestartsLaw, CallsLaw, AsksLaw, RefusesLaw};
+ghost use Rattle.node_laws.specs.Clauses.{SaysLaw, TakesLaw, KeysLaw, ElapsesLaw, MakingLaw, NodesLaw};
+ghost use Rattle.node_laws.specs.Opening.{HearingOpens, ExpiryOpens, RelinkOpens, CallOpens, AskingOpens, RefusalOpens};
+ghost use Rattle.node_laws.specs.Opening.{SayingOpens, TakingOpens, KeyOpens};
 
 pub use expiry::expiry_law;
 pub use quiet::quiet_law;
 
-/// The law of the nodes of a line, over definitions alone. From the making on, whatever comes to a node and whatever its user asks
-/// or types: the book has what its layer was asked and told, its frames go onto the line or are lost there, and the same is kept as
-/// before (X.25 2.4, 3, 4; X.3).
+/// The law of the nodes of a line, over definitions alone. From the making on, whatever comes to a node and whatever
+/// its user asks or types: the book has what its layer was asked and told, its frames go onto the line or are lost
+/// there, and the same is kept as before (X.25 2.4, 3, 4; X.3).
 pub fn node_law()
     // What comes from the line.
     ensures hears { HearsLaw }

@@ -1,10 +1,12 @@
 //! That a node is quiet between two events, whatever line it is on.
 
-ghost use Rattle.node_laws.specs.Quiet.{QuietHearingLaw, QuietExpiryLaw, QuietRelinkLaw, QuietRestartLaw, QuietCallLaw, QuietAskingLaw, QuietRefusalLaw, QuietSayingLaw, QuietTakingLaw, QuietKeyLaw, QuietTimeLaw, QuietMakingLaw};
+ghost use Rattle.node_laws.specs.Quiet.{QuietHearingLaw, QuietExpiryLaw, QuietRelinkLaw, QuietRestartLaw, QuietCallLaw};
+ghost use Rattle.node_laws.specs.Quiet.{QuietAskingLaw, QuietRefusalLaw, QuietSayingLaw, QuietTakingLaw, QuietKeyLaw};
+ghost use Rattle.node_laws.specs.Quiet.{QuietTimeLaw, QuietMakingLaw};
 
-/// The law of a node between two events, over definitions alone. From the making on, and whatever arrives, also what no node of this
-/// kind would send: each turn leaves nothing unread and less than a block held, opens at most one record or epoch in the book, and
-/// does so only by a frame that arrives (X.25 3, 4; X.3).
+/// The law of a node between two events, over definitions alone. From the making on, and whatever arrives, also what no
+/// node of this kind would send: each turn leaves nothing unread and less than a block held, opens at most one record
+/// or epoch in the book, and does so only by a frame that arrives (X.25 3, 4; X.3).
 pub fn quiet_law()
     // What comes from the line.
     ensures hears { QuietHearingLaw }

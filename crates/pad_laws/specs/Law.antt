@@ -1,4 +1,5 @@
--- What each event at a node of the line makes of what holds of a PAD and of the book. Nothing is assumed of what arrives.
+-- What each event at a node of the line makes of what holds of a PAD and of the book. Nothing is assumed of what
+-- arrives.
 use Rattle.std.specs.Prelude.{◌≡◌, ℕ, Bool, List, slice_get, Some}
 use Rattle.link_timers.specs.declared.role.Role.{Role}
 use Rattle.link_timers.specs.Role.{other_of}
@@ -28,7 +29,8 @@ TypedLaw = (role : Role) (p : PadState) (b : Book) → NodeHolds role (Pad p) b
 
 -- a line between two nodes, with a call that stands or none
 abbrev pub MadeLaw : Type 0
-MadeLaw = (role : Role) (config : PadConfig) (dte_node dce_node channels : ℕ) (standing : Bool) → (dte_node ≡ dce_node → ⊥)
+MadeLaw = (role : Role) (config : PadConfig) (dte_node dce_node channels : ℕ) (standing : Bool)
+    → (dte_node ≡ dce_node → ⊥)
     → NodeHolds role (Pad (made config)) (made_book dte_node dce_node channels standing)
 
 -- ---- at the node's own end
@@ -38,13 +40,16 @@ abbrev pub IsKept : Role → Turn → Type 0
 IsKept role t = NodeHolds role t.node t.book
 
 abbrev pub KeyLaw : Type 0
-KeyLaw = (role : Role) (p : PadState) (octet : ℕ) (b : Book) → NodeHolds role (Pad p) b → IsKept role (pad_keys role p octet b)
+KeyLaw = (role : Role) (p : PadState) (octet : ℕ) (b : Book) → NodeHolds role (Pad p) b
+    → IsKept role (pad_keys role p octet b)
 
 abbrev pub HearsLaw : Type 0
-HearsLaw = (role : Role) (n : NodeState) (octets : List ℕ) (b : Book) → NodeHolds role n b → IsKept role (hears role n octets b)
+HearsLaw = (role : Role) (n : NodeState) (octets : List ℕ) (b : Book) → NodeHolds role n b
+    → IsKept role (hears role n octets b)
 
 abbrev pub ExpiresLaw : Type 0
-ExpiresLaw = (role : Role) (n : NodeState) (id : TimerId) (b : Book) → NodeHolds role n b → IsKept role (expires role n id b)
+ExpiresLaw = (role : Role) (n : NodeState) (id : TimerId) (b : Book) → NodeHolds role n b
+    → IsKept role (expires role n id b)
 
 abbrev pub RelinksLaw : Type 0
 RelinksLaw = (role : Role) (n : NodeState) (b : Book) → NodeHolds role n b → IsKept role (relinks role n b)
@@ -54,13 +59,15 @@ RestartsLaw = (role : Role) (n : NodeState) (b : Book) → NodeHolds role n b �
 
 -- frames go out, and time passes
 abbrev pub OutLaw : Type 0
-OutLaw = (role : Role) (n : NodeState) (b : Book) → NodeHolds role n b → NodeHolds role (with_end (without_first_frame (end_of n)) n) b
+OutLaw = (role : Role) (n : NodeState) (b : Book) → NodeHolds role n b
+    → NodeHolds role (with_end (without_first_frame (end_of n)) n) b
 
 abbrev pub DrainedLaw : Type 0
 DrainedLaw = (role : Role) (n : NodeState) (b : Book) → NodeHolds role n b → NodeHolds role (drained n) b
 
 abbrev pub ElapsesLaw : Type 0
-ElapsesLaw = (role : Role) (n : NodeState) (ticks : ℕ) (b : Book) → NodeHolds role n b → NodeHolds role (node_elapsed ticks n) b
+ElapsesLaw = (role : Role) (n : NodeState) (ticks : ℕ) (b : Book) → NodeHolds role n b
+    → NodeHolds role (node_elapsed ticks n) b
 
 -- ---- at the other end of the line, whatever its node is
 
@@ -97,7 +104,10 @@ FarRefusesLaw = (role : Role) (n : NodeState) (e : PacketEnd) (channel : ℕ) (b
     → NodeHolds role n (host_refuses (other_of role) e channel b).book
 
 abbrev pub FarSaysLaw : Type 0
-FarSaysLaw = (role : Role) (n : NodeState) (e : PacketEnd) (channel : ℕ) (octets : List ℕ) (qualified delivery : Bool) (b : Book) → NodeHolds role n b
+FarSaysLaw =
+    (role : Role) (n : NodeState) (e : PacketEnd) (channel : ℕ) (octets : List ℕ) (qualified delivery : Bool)
+    (b : Book)
+    → NodeHolds role n b
     → NodeHolds role n (host_says (other_of role) e channel octets qualified delivery b).book
 
 abbrev pub FarTakesLaw : Type 0

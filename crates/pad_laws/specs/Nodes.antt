@@ -23,8 +23,12 @@ pub record NodesLaw : Type 0 where
   pub relinks : (role : Role) (n : NodeState) (b : Book) → NodesStay b (line.relinks role n b).book
   pub restarts : (role : Role) (n : NodeState) (b : Book) → NodesStay b (line.restarts role n b).book
   pub key : (role : Role) (p : PadState) (octet : ℕ) (b : Book) → NodesStay b (pad_keys role p octet b).book
-  pub calls : (role : Role) (e : PacketEnd) (parts : CallParts) (b : Book) → NodesStay b (host_calls role e parts b).book
-  pub asks : (role : Role) (e : PacketEnd) (channel : ℕ) (r : Request) (b : Book) → NodesStay b (host_asks role e channel r b).book
-  pub refuses : (role : Role) (e : PacketEnd) (channel : ℕ) (b : Book) → NodesStay b (host_refuses role e channel b).book
-  pub says : (role : Role) (e : PacketEnd) (channel : ℕ) (octets : List ℕ) (qualified delivery : Bool) (b : Book) → NodesStay b (host_says role e channel octets qualified delivery b).book
+  pub calls : (role : Role) (e : PacketEnd) (parts : CallParts) (b : Book)
+      → NodesStay b (host_calls role e parts b).book
+  pub asks : (role : Role) (e : PacketEnd) (channel : ℕ) (r : Request) (b : Book)
+      → NodesStay b (host_asks role e channel r b).book
+  pub refuses : (role : Role) (e : PacketEnd) (channel : ℕ) (b : Book)
+      → NodesStay b (host_refuses role e channel b).book
+  pub says : (role : Role) (e : PacketEnd) (channel : ℕ) (octets : List ℕ) (qualified delivery : Bool) (b : Book)
+      → NodesStay b (host_says role e channel octets qualified delivery b).book
   pub takes : (role : Role) (e : PacketEnd) (channel : ℕ) (b : Book) → NodesStay b (host_takes role e channel b).book

@@ -23,12 +23,14 @@ node_at role b = (side_of role b).node
 -- the present call of each channel at an end has its record in the book, and that is a record of the end's node
 abbrev pub HasItsRecords : Role → Book → Type 0
 HasItsRecords role b =
-    (channel n : ℕ) → (slot_at role channel b).present ≡ Some n → (r : RecordValue) × (slice_get b.records n ≡ Some r) × (r.node ≡ node_at role b)
+    (channel n : ℕ) → (slot_at role channel b).present ≡ Some n → (r : RecordValue) × (slice_get b.records n ≡ Some r)
+    × (r.node ≡ node_at role b)
 
 -- this text is what the steps of the present call on channel 1 leave
 abbrev pub IsLeft : Role → List ℕ → Book → Type 0
 IsLeft role held b =
-    (n : ℕ) (r : RecordValue) → (slot_at role 1 b).present ≡ Some n → slice_get b.records n ≡ Some r → (edit_of r.steps).held ≡ held
+    (n : ℕ) (r : RecordValue) → (slot_at role 1 b).present ≡ Some n → slice_get b.records n ≡ Some r
+    → (edit_of r.steps).held ≡ held
 
 -- ---- the packet layer
 
@@ -57,7 +59,8 @@ pub record PadHolds (role : Role) (p : PadState) (b : Book) : Type 0 where
   pub far : HasItsRecords (other_of role) b
   -- each record of the PAD's node has sent what was typed
   pub typed : (n : ℕ) (r : RecordValue) → slice_get b.records n ≡ Some r → r.node ≡ node_at role b → IsTyped r
-  -- the PAD placed no call on channel 1; while the call stands there none comes in, and the text that is held is its own
+  -- the PAD placed no call on channel 1; while the call stands there none comes in, and the text that is held is its
+  -- own
   pub waits : waits_at (channel_of p.end.layer 1) ≡ false
   pub none_came : stands p.end ≡ true → NoneCame p.end.notes × NoneCame p.end.layer.notes
   pub left : stands p.end ≡ true → IsLeft role p.held b

@@ -15,6 +15,7 @@ abbrev pub messages : List (List ℕ) → List Item
 messages [] = []
 messages (block ∷ blocks) = map Octet block ++ End ∷ messages blocks
 
--- the user items that were sent on a call are, for each block that the editing rules make of the steps, its octets and an end
+-- the user items that were sent on a call are, for each block that the editing rules make of the steps, its octets and
+-- an end
 abbrev pub IsTyped : RecordValue → Type 0
 IsTyped r = user_items (items_of_epochs (sent_epochs r)) ≡ messages (edited r.steps)
