@@ -30,6 +30,7 @@ net_due s =
 abbrev pub net_due_count : NetState → ℕ
 net_due_count s = due_count (end_of s.dte) + due_count (end_of s.dce)
 
--- where the event is the expiry of the timer that is due, fewer are due after it, unless it is refused for want of memory
+-- where the event is the expiry of the timer that is due, fewer are due after it, unless it is refused for want of
+-- memory
 abbrev pub FewerDue : Event → NetState → Result Answer StepFault → NetState → Type 0
 FewerDue e s r t = net_due s ≡ Some e → r ≢ Err OutOfMemory → net_due_count t < net_due_count s

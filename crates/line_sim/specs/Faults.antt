@@ -1,5 +1,6 @@
 -- When an event is refused (X.25 is silent: these are the network's own, or the node's).
-use Rattle.std.specs.Prelude.{ℕ, ◌≡◌, ◌==◌, ◌&&◌, ◌||◌, not, Bool, true, false, Option, Some, None, nat_lt, if◌then◌else◌}
+use Rattle.std.specs.Prelude.{ℕ, ◌≡◌, ◌==◌, ◌&&◌, ◌||◌, not, Bool, true, false, Option, Some, None, nat_lt}
+use Rattle.std.specs.Prelude.{if◌then◌else◌}
 use Rattle.link_timers.specs.declared.role.Role.{Role}
 use Rattle.link_timers.specs.declared.role.Role.TheVariants.{Dte, Dce}
 use Rattle.packet_layer.specs.Channel.{Refusal}
@@ -13,7 +14,8 @@ use Rattle.packet_host.specs.Saying.{say_refusal}
 use Rattle.line_nodes.specs.Node.{end_of, is_pad}
 use Rattle.line_nodes.specs.declared.fault.NodeFault.TheVariants as node_fault
 use Rattle.line_sim.specs.declared.event.Event.{Event}
-use Rattle.line_sim.specs.declared.event.Event.TheVariants.{Key, Call, Ask, Take, Deliver, Lose, Expire, Relink, Restart}
+use Rattle.line_sim.specs.declared.event.Event.TheVariants.{Key, Call, Ask, Take, Deliver, Lose, Expire, Relink}
+use Rattle.line_sim.specs.declared.event.Event.TheVariants.{Restart}
 use Rattle.line_sim.specs.declared.event.Request.{Request}
 use Rattle.line_sim.specs.declared.event.Request.TheVariants.{Answer, Refuse, Say, Interrupt, Reset, Clear, Stop, Go}
 use Rattle.line_sim.specs.declared.event.StepFault.{StepFault}
@@ -86,7 +88,8 @@ step_fault (Key node terminal octet) s =
 step_fault (Call node address user_data) s =
     let e = end_of (node_at (role_of node s) s) in at_host node s (call_fault_of (call_refusal e.layer e.layer.phase))
 step_fault (Ask node channel request) s =
-    at_host node s (on_channel channel s (channel_fault_of (ask_refusal (end_of (node_at (role_of node s) s)) channel request)))
+    at_host node s
+    (on_channel channel s (channel_fault_of (ask_refusal (end_of (node_at (role_of node s) s)) channel request)))
 step_fault (Take node channel) s = at_host node s (on_channel channel s None)
 step_fault (Deliver line direction) s = where_there_is (line == 0)
 step_fault (Lose line direction) s = where_there_is (line == 0)
@@ -96,8 +99,8 @@ step_fault (Restart node) s = where_there_is (is_node node s)
 
 -- ---- want of memory
 
--- whether an event takes memory where the network itself does not refuse it: all do but a key at a terminal without a call, and the
--- loss of a frame
+-- whether an event takes memory where the network itself does not refuse it: all do but a key at a terminal without a
+-- call, and the loss of a frame
 abbrev pub takes_memory : Event → Bool
 takes_memory (Key node terminal octet) = terminal == 0
 takes_memory (Lose line direction) = false

@@ -7,8 +7,8 @@ use Rattle.line_nodes.specs.Node.{NodeState, drained, node_rests, node_elapsed}
 use Rattle.line_nodes.specs.Turn.{Turn}
 use Rattle.memory_line.specs.Lines.{Flights}
 
--- the places of the two nodes in the configuration, how many terminals the DTE and channels the line has; the nodes, the line,
--- and the book of the calls
+-- the places of the two nodes in the configuration, how many terminals the DTE and channels the line has; the nodes,
+-- the line, and the book of the calls
 pub record NetState : Type 0 where
   pub dte_place : ℕ
   pub dce_place : ℕ

@@ -1,5 +1,7 @@
--- Which networks are served: one line between a PAD or a host, as DTE, and a host, as DCE; a call may stand on the line of a PAD.
-use Rattle.std.specs.Prelude.{true, false, ◌≡◌, ℕ, ◌==◌, ◌&&◌, not, Bool, List, [], ◌∷◌, length, Option, Some, None, option_and_then, nat_le, nat_eq, if◌then◌else◌, string_bytes}
+-- Which networks are served: one line between a PAD or a host, as DTE, and a host, as DCE; a call may stand on the line
+-- of a PAD.
+use Rattle.std.specs.Prelude.{true, false, ◌≡◌, ℕ, ◌==◌, ◌&&◌, not, Bool, List, [], ◌∷◌, length, Option, Some, None}
+use Rattle.std.specs.Prelude.{option_and_then, nat_le, nat_eq, if◌then◌else◌, string_bytes}
 use Rattle.std.specs.Cmp.Lexicographic.{pointwise}
 use Rattle.x3_params.specs.Table.{profile_values}
 use Rattle.x3_params.specs.Values.{fault_of, with_value}
@@ -41,7 +43,8 @@ is_from a b n = nat_le a n && nat_le n b
 -- the limits: 1 to 32 channels, a window of 1 to 7, k of 1 to 7 and n2 of 1 to 20; no address
 abbrev pub is_within : LineConfig → Bool
 is_within l =
-    is_from 1 32 l.channels && is_from 1 7 l.window && is_from 1 7 l.k && is_from 1 20 l.n2 && (length (string_bytes l.address) == 0)
+    is_from 1 32 l.channels && is_from 1 7 l.window && is_from 1 7 l.k && is_from 1 20 l.n2
+    && (length (string_bytes l.address) == 0)
 
 -- two texts are the same
 abbrev pub same_text : List ℕ → List ℕ → Bool
@@ -59,7 +62,8 @@ set_one (Some fault) params s = None
 -- the parameters with all settings made in order
 abbrev pub set_all : List ℕ → List Setting → Option (List ℕ)
 set_all params [] = Some params
-set_all params (s ∷ settings) = option_and_then (λ more. set_all more settings) (set_one (fault_of s.number s.value) params s)
+set_all params (s ∷ settings) =
+    option_and_then (λ more. set_all more settings) (set_one (fault_of s.number s.value) params s)
 
 -- the initial parameters of a PAD, whose speed is at most 255
 abbrev pub params_of : PadConfig → Option (List ℕ)
@@ -68,7 +72,9 @@ params_of p = if nat_le p.speed 255 then set_all (profile_values p.profile p.spe
 -- what the DTE is made with: a PAD of 1 to 16 terminals, or a host, whose line has no standing call
 abbrev pub plan_dte : (standing : Bool) → NodeKind → Option DtePlan
 plan_dte standing (node_kind.Pad p) =
-    if is_from 1 16 p.terminals then option_and_then (λ params. Some (PadPlan p.terminals params)) (params_of p) else None
+    if is_from 1 16 p.terminals
+    then option_and_then (λ params. Some (PadPlan p.terminals params)) (params_of p)
+    else None
 plan_dte standing node_kind.Host = if standing then None else Some HostPlan
 plan_dte standing node_kind.Switch = None
 

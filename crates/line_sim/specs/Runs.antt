@@ -1,5 +1,6 @@
 -- What an event does, refused or not, and what a list of events does.
-use Rattle.std.specs.Prelude.{◌≡◌, ◌≢◌, ℕ, List, [], ◌∷◌, take, slice_get, ◌⊎◌, Option, Some, None, Result, Ok, Err, IsOkUnless}
+use Rattle.std.specs.Prelude.{◌≡◌, ◌≢◌, ℕ, List, [], ◌∷◌, take, slice_get, ◌⊎◌, Option, Some, None, Result, Ok, Err}
+use Rattle.std.specs.Prelude.{IsOkUnless}
 use Rattle.memory_line.specs.Lines.{LineService, memory_service}
 use Rattle.line_sim.specs.declared.event.Event.{Event}
 use Rattle.line_sim.specs.declared.event.StepFault.{StepFault}
@@ -15,14 +16,14 @@ use Rattle.line_sim.specs.NetState.{NetState}
 use Rattle.line_sim.specs.Faults.{step_fault, MayWant}
 use Rattle.line_sim.specs.Steps.{StepOf}
 
--- the event is answered, or refused with its fault, or for want of memory where it takes memory and the network itself does not
--- refuse it; refused, it changes nothing
+-- the event is answered, or refused with its fault, or for want of memory where it takes memory and the network itself
+-- does not refuse it; refused, it changes nothing
 abbrev pub Happens : (L : LineService) → Event → NetState → Result Answer StepFault → NetState → Type 0
 Happens L e s (Ok answer) t = (step_fault e s ≡ None) × StepOf L e s answer t
 Happens L e s (Err fault) t = ((step_fault e s ≡ Some fault) ⊎ MayWant e s × (fault ≡ OutOfMemory)) × (t ≡ s)
 
--- an event with a fault of its own is refused with it, or, where only the node refuses it, for want of memory; one without is refused
--- for want of memory alone
+-- an event with a fault of its own is refused with it, or, where only the node refuses it, for want of memory; one
+-- without is refused for want of memory alone
 abbrev pub IsRefusedSo : Option StepFault → Result Answer StepFault → Type 0
 IsRefusedSo None r = IsOkUnless r OutOfMemory
 IsRefusedSo (Some (Refused fault)) r = (r ≡ Err (Refused fault)) ⊎ (r ≡ Err OutOfMemory)
@@ -44,8 +45,8 @@ pub record HasRun (config : Config) (events : List Event) (net : NetState) : Typ
   pub made : IsMade memory_service config start
   pub ran : Ran memory_service start events net
 
--- the events before this index happened, and that of this index, which takes memory and which the network itself does not refuse, found
--- none
+-- the events before this index happened, and that of this index, which takes memory and which the network itself does
+-- not refuse, found none
 pub record HasStopped (config : Config) (events : List Event) (index : ℕ) : Type 0 where
   pub net : NetState
   pub event : Event

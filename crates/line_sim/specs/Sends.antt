@@ -22,6 +22,7 @@ ArePut L d [] old new = new ≡ old
 ArePut L d (octets ∷ frames) old new = (mid : Flights) × IsPut L d octets old mid × ArePut L d frames mid new
 
 -- all these frames are put
-pub record Sends (L : LineService) (d : Direction) (frames : List (List ℕ)) (before : Flights) (puts : List Put) (after : Flights) : Type 0 where
+pub record Sends (L : LineService) (d : Direction) (frames : List (List ℕ)) (before : Flights) (puts : List Put)
+    (after : Flights) : Type 0 where
   pub puts_are : ArePutsOf d 0 frames puts
   pub put : L.faithful → ArePut L d frames before after

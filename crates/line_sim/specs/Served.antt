@@ -12,7 +12,8 @@ use Rattle.line_sim.specs.Steps.{direction_of}
 use Rattle.line_sim.specs.Sends.{Sends}
 
 -- the turn of a node is taken: its frames are put, a host is told its notes, and the book is written
-pub record Served (L : LineService) (role : Role) (place : ℕ) (old : NodeState) (turn : Turn) (before : Flights) (frames : List Put) (notes : List HostNote) (node : NodeState) (after : Flights) (book : Book) : Type 0 where
+pub record Served (L : LineService) (role : Role) (place : ℕ) (old : NodeState) (turn : Turn) (before : Flights)
+    (frames : List Put) (notes : List HostNote) (node : NodeState) (after : Flights) (book : Book) : Type 0 where
   pub sends : Sends L (direction_of role) (frames_of turn.node) before frames after
   pub told : notes ≡ user_notes old place turn.notes
   pub node_is : node ≡ drained turn.node

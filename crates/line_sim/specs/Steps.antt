@@ -1,5 +1,6 @@
 -- What an event without a fault does to nodes, line and book.
-use Rattle.std.specs.Prelude.{◌≡◌, ℕ, ◌==◌, true, false, ◌≤◌, List, [], length, slice_get, Option, Some, is_some, MatchOption, MatchBool}
+use Rattle.std.specs.Prelude.{◌≡◌, ℕ, ◌==◌, true, false, ◌≤◌, List, [], length, slice_get, Option, Some, is_some}
+use Rattle.std.specs.Prelude.{MatchOption, MatchBool}
 use Rattle.link_timers.specs.declared.role.Role.{Role}
 use Rattle.link_timers.specs.declared.role.Role.TheVariants.{Dte, Dce}
 use Rattle.link_timers.specs.declared.timers.TimerId.{TimerId}
@@ -25,7 +26,8 @@ use Rattle.line_sim.specs.declared.event.Put.{Put}
 use Rattle.memory_line.specs.declared.line.Direction.{Direction}
 use Rattle.memory_line.specs.declared.line.Direction.TheVariants.{FromDte, FromDce}
 use Rattle.line_sim.specs.declared.event.Event.{Event}
-use Rattle.line_sim.specs.declared.event.Event.TheVariants.{Key, Call, Ask, Take, Deliver, Lose, Expire, Relink, Restart}
+use Rattle.line_sim.specs.declared.event.Event.TheVariants.{Key, Call, Ask, Take, Deliver, Lose, Expire, Relink}
+use Rattle.line_sim.specs.declared.event.Event.TheVariants.{Restart}
 use Rattle.line_sim.specs.declared.event.Request.{Request}
 use Rattle.line_sim.specs.declared.event.Request.TheVariants.{Answer, Refuse, Say, Interrupt, Reset, Clear, Stop, Go}
 use Rattle.line_sim.specs.declared.event.Outcome.{Outcome}
@@ -48,9 +50,10 @@ abbrev pub hearer : Direction → Role
 hearer FromDte = Dce
 hearer FromDce = Dte
 
--- one event of the node at the end of a role, while this is in flight: all frames that it gives are put, in order, what it wrote is
--- in the book, and a host's notes are told
-pub record NodeStep (L : LineService) (role : Role) (turn : Turn) (line : Flights) (s : NetState) (frames : List Put) (notes : List HostNote) (t : NetState) : Type 0 where
+-- one event of the node at the end of a role, while this is in flight: all frames that it gives are put, in order, what
+-- it wrote is in the book, and a host's notes are told
+pub record NodeStep (L : LineService) (role : Role) (turn : Turn) (line : Flights) (s : NetState) (frames : List Put)
+    (notes : List HostNote) (t : NetState) : Type 0 where
   pub sends : Sends L (direction_of role) (frames_of turn.node) line frames t.line
   pub told : notes ≡ user_notes (node_at role s) (place_at role s) turn.notes
   pub others : t ≡ with_turn role turn t.line s
@@ -96,21 +99,29 @@ asked_turn role e channel Clear b = host_asks role e channel (ask.Clearing 0 0) 
 asked_turn role e channel Stop b = host_asks role e channel (ask.Stopping true) b
 asked_turn role e channel Go b = host_asks role e channel (ask.Stopping false) b
 
-pub record CallStep (L : LineService) (role : Role) (address user_data : List ℕ) (s : NetState) (a : answer.Answer) (t : NetState) : Type 0 where
+pub record CallStep (L : LineService) (role : Role) (address user_data : List ℕ) (s : NetState) (a : answer.Answer)
+    (t : NetState) : Type 0 where
   pub digits : AreDigits address
   pub few : length user_data ≤ 16
   pub channel : ℕ
   pub given : let e = end_of (node_at role s) in channel_given e.layer e.layer.phase ≡ Some channel
-  pub does : NodeStep L role (host_calls role (end_of (node_at role s)) (call_parts address user_data) s.book) s.line s a.frames.items a.notes.items t
+  pub does :
+      NodeStep L role (host_calls role (end_of (node_at role s)) (call_parts address user_data) s.book)
+      s.line s a.frames.items a.notes.items t
   pub answered : a.outcome ≡ Called channel
 
-pub record AskStep (L : LineService) (role : Role) (channel : ℕ) (request : Request) (s : NetState) (a : answer.Answer) (t : NetState) : Type 0 where
-  pub does : NodeStep L role (asked_turn role (end_of (node_at role s)) channel request s.book) s.line s a.frames.items a.notes.items t
+pub record AskStep (L : LineService) (role : Role) (channel : ℕ) (request : Request) (s : NetState) (a : answer.Answer)
+    (t : NetState) : Type 0 where
+  pub does :
+      NodeStep L role (asked_turn role (end_of (node_at role s)) channel request s.book)
+      s.line s a.frames.items a.notes.items t
   pub answered : a.outcome ≡ Done
 
-pub record TakeStep (L : LineService) (role : Role) (channel : ℕ) (s : NetState) (a : answer.Answer) (t : NetState) : Type 0 where
+pub record TakeStep (L : LineService) (role : Role) (channel : ℕ) (s : NetState) (a : answer.Answer)
+    (t : NetState) : Type 0 where
   pub shown : Option taken.Taken
-  pub does : NodeStep L role (host_takes role (end_of (node_at role s)) channel s.book) s.line s a.frames.items a.notes.items t
+  pub does :
+      NodeStep L role (host_takes role (end_of (node_at role s)) channel s.book) s.line s a.frames.items a.notes.items t
   pub is_taken : maybe_taken shown ≡ front_on (end_of (node_at role s)).layer channel
   pub answered : a.outcome ≡ Took shown
 
@@ -130,8 +141,10 @@ line_turn Relinks role n b = relinks role n b
 line_turn Restarts role n b = restarts role n b
 
 -- to the node at the end of this role, while this is in flight
-abbrev pub LineStep : (L : LineService) → (role : Role) → LineCall → Flights → NetState → answer.Answer → NetState → Type 0
-LineStep L role call line s a t = NodeStep L role (line_turn call role (node_at role s) s.book) line s a.frames.items a.notes.items t
+abbrev pub LineStep :
+    (L : LineService) → (role : Role) → LineCall → Flights → NetState → answer.Answer → NetState → Type 0
+LineStep L role call line s a t =
+    NodeStep L role (line_turn call role (node_at role s) s.book) line s a.frames.items a.notes.items t
 
 -- nothing was in flight
 pub record EmptyDelivery (line : Flights) (s : NetState) (a : answer.Answer) (t : NetState) : Type 0 where
@@ -140,7 +153,8 @@ pub record EmptyDelivery (line : Flights) (s : NetState) (a : answer.Answer) (t 
   pub others : t ≡ record s { line = line }
 
 -- the first frame in flight is taken from the line and given to the node at its other end
-pub record DeliverStep (L : LineService) (d : Direction) (s : NetState) (a : answer.Answer) (t : NetState) : Type 0 where
+pub record DeliverStep (L : LineService) (d : Direction) (s : NetState) (a : answer.Answer)
+    (t : NetState) : Type 0 where
   pub came : Option (List ℕ)
   pub line : Flights
   pub first : L.faithful → came ≡ slice_get (flying d s.line) 0
@@ -157,7 +171,8 @@ pub record LoseStep (L : LineService) (d : Direction) (s : NetState) (a : answer
   pub others : t ≡ record s { line = t.line }
 
 -- a timer expires, or the DTE gives its link up
-pub record CalledStep (L : LineService) (role : Role) (call : LineCall) (s : NetState) (a : answer.Answer) (t : NetState) : Type 0 where
+pub record CalledStep (L : LineService) (role : Role) (call : LineCall) (s : NetState) (a : answer.Answer)
+    (t : NetState) : Type 0 where
   pub does : LineStep L role call s.line s a t
   pub answered : a.outcome ≡ Done
 

@@ -9,8 +9,8 @@ use packet_layer::{CallFault, ChannelFault, Taken};
 use std::alloc::AllocError;
 use thiserror::Error;
 
-/// An event, which is handled whole before the next one. Nodes and lines go by their place in the network's configuration,
-/// counted from 0.
+/// An event, which is handled whole before the next one. Nodes and lines go by their place in the network's
+/// configuration, counted from 0.
 #[derive(Debug, Drop)]
 pub enum Event {
     /// A key at a terminal of a PAD.

@@ -20,7 +20,8 @@ use memory_line::Line;
 use std::alloc::Global;
 use std::marker::Model;
 
-/// A network of one line between a PAD or a host, as DTE, and a host, as DCE. A call may stand between a PAD and the host.
+/// A network of one line between a PAD or a host, as DTE, and a host, as DCE. A call may stand between a PAD and the
+/// host.
 #[derive(Drop)]
 pub struct Net<L: Line> {
     nodes: Nodes<L>,
@@ -39,11 +40,13 @@ impl<L: Line> Model for Net<L> {
 }
 
 impl<L: Line> Net<L> {
-    /// Makes a network on a line, which is emptied first; where no call stands both ends send a frame to begin with. It is refused
-    /// where the configuration is outside its limits or of a kind that is not served; then for want of memory.
+    /// Makes a network on a line, which is emptied first; where no call stands both ends send a frame to begin with. It
+    /// is refused where the configuration is outside its limits or of a kind that is not served; then for want of
+    /// memory.
     pub fn new(alloc: Global, config: &Config, lines: Vec<L>) -> Result<Self, MakeFault>
         requires { vec_len lines ≡ vec_len config.now.lines }
-        ensures faults { MatchOption (plan_of config.now) (result ≡ Err make_fault_is.BadConfig) (λ plan. IsOkUnless result make_fault_is.OutOfMemory) }
+        ensures faults { MatchOption (plan_of config.now) (result ≡ Err make_fault_is.BadConfig)
+            (λ plan. IsOkUnless result make_fault_is.OutOfMemory) }
         ensures ok { IfOk result (IsMade L.service config.now) }
         ensures headline { IfOk result (λ net. L.service.faithful → Headline net) }
     {
@@ -79,8 +82,8 @@ impl<L: Line> Net<L> {
         self.nodes.is_at_rest()
     }
 
-    /// Whether the host of this place has a call on the channel in which each packet with D = 1 since the last reset was covered
-    /// (X.25 4.3.3). At another node it is not so.
+    /// Whether the host of this place has a call on the channel in which each packet with D = 1 since the last reset
+    /// was covered (X.25 4.3.3). At another node it is not so.
     pub fn confirmed(&self, node: usize, channel: u16) -> bool
         ensures { result ≡ net_confirmed node channel self.now }
     {
@@ -102,10 +105,10 @@ impl<L: Line> Net<L> {
         self.nodes.next_due()
     }
 
-    /// Handles an event. Refusals come in the order of [`StepFault`]: where no node or line has the number or the node is of
-    /// another kind, then where the PAD has no such terminal, then where the channel is 0 or beyond those of the line. Want of
-    /// memory comes after these and before the node is called, which may refuse what it is asked; the loss of a frame takes no memory,
-    /// nor does a key at a terminal that has no call. A refused event changes nothing.
+    /// Handles an event. Refusals come in the order of [`StepFault`]: where no node or line has the number or the node
+    /// is of another kind, then where the PAD has no such terminal, then where the channel is 0 or beyond those of the
+    /// line. Want of memory comes after these and before the node is called, which may refuse what it is asked; the
+    /// loss of a frame takes no memory, nor does a key at a terminal that has no call. A refused event changes nothing.
     pub fn step(&mut self, event: &Event) -> Result<Answer, StepFault>
         ensures faults { IsRefusedSo (step_fault event.now self.old) result }
         ensures happens { Happens L.service event.now self.old result self.new }

@@ -35,7 +35,16 @@ impl<L: Line> Model for Nodes<L> {
 
     ghost use Rattle.line_nodes.specs.NodeView.{node_of};
 
-    ghost view = { λ n. record { dte_place = n.dte_place; dce_place = n.dce_place; terminals = n.terminals; channels = n.channels; dte = node_of n.dte; dce = node_of n.dce; line = L.flights n.line; book = n.book.book } };
+    ghost view = { λ n. record {
+      dte_place = n.dte_place;
+      dce_place = n.dce_place;
+      terminals = n.terminals;
+      channels = n.channels;
+      dte = node_of n.dte;
+      dce = node_of n.dce;
+      line = L.flights n.line;
+      book = n.book.book;
+    } };
 }
 
 impl<L: Line> Nodes<L> {
@@ -94,7 +103,8 @@ impl<L: Line> Nodes<L> {
 
     /// The channel of this number, if the line has it.
     fn channel(&self, channel: u16) -> Option<u8>
-        ensures { MatchOption result (is_channel channel self.now ≡ false) (λ c. (is_channel channel self.now ≡ true) × (c ≡ channel)) }
+        ensures { MatchOption result (is_channel channel self.now ≡ false)
+            (λ c. (is_channel channel self.now ≡ true) × (c ≡ channel)) }
     {
         if channel == 0 || channel > u16::from(self.channels) {
             return None;

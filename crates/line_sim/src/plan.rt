@@ -1,6 +1,8 @@
 //! Which networks are served, and what they are made with.
-ghost use Rattle.std.specs.Prelude.{◌≡◌, ◌≢◌, ◌≤◌, ◌&&◌, Option, Some, None, IfSome, option_and_then, option_map, string_bytes};
-ghost use Rattle.line_sim.specs.Plan.{plan_of, plan_line, plan_nodes, plan_dte, is_host, is_from, is_within, joins, same_text, params_of, set_all};
+ghost use Rattle.std.specs.Prelude.{◌≡◌, ◌≢◌, ◌≤◌, ◌&&◌, Option, Some, None, IfSome, option_and_then, option_map};
+ghost use Rattle.std.specs.Prelude.{string_bytes};
+ghost use Rattle.line_sim.specs.Plan.{plan_of, plan_line, plan_nodes, plan_dte, is_host, is_from, is_within, joins};
+ghost use Rattle.line_sim.specs.Plan.{same_text, params_of, set_all};
 ghost use Rattle.line_sim.specs.PlanView.{dte_value, plan_value, CanStand, IsLimited};
 ghost use Rattle.x3_params.specs.Table.{profile_values};
 
@@ -15,8 +17,8 @@ pub(crate) enum DtePlan {
     Host,
 }
 
-/// What a network is made with: the places of its nodes in the configuration, the DTE, and the line's parameters, which both ends
-/// share.
+/// What a network is made with: the places of its nodes in the configuration, the DTE, and the line's parameters, which
+/// both ends share.
 #[derive(Drop)]
 pub(crate) struct Plan {
     pub(crate) dte_place: usize,

@@ -17,10 +17,11 @@ use memory_line::{MemLine, mem_lines};
 use std::alloc::Global;
 
 impl Net<MemLine> {
-    /// Makes a network over memory lines. It is refused where the configuration is outside its limits or of a kind that is
-    /// not served; then for want of memory.
+    /// Makes a network over memory lines. It is refused where the configuration is outside its limits or of a kind that
+    /// is not served; then for want of memory.
     pub fn on_memory_lines(alloc: Global, config: &Config) -> Result<Self, MakeFault>
-        ensures faults { MatchOption (plan_of config.now) (result ≡ Err BadConfig) (λ plan. IsOkUnless result OutOfMemory) }
+        ensures faults { MatchOption (plan_of config.now) (result ≡ Err BadConfig)
+            (λ plan. IsOkUnless result OutOfMemory) }
         ensures ok { IfOk result (IsMade memory_service config.now) }
         ensures headline { IfOk result Headline }
     {
@@ -32,9 +33,9 @@ impl Net<MemLine> {
     }
 }
 
-/// Makes a network over memory lines and runs the events, each after the one before. An event that is refused for another
-/// reason than want of memory is answered so, and the run goes on. It ends early, in this order, where the network is not made,
-/// or with the index of the event at which memory ended.
+/// Makes a network over memory lines and runs the events, each after the one before. An event that is refused for
+/// another reason than want of memory is answered so, and the run goes on. It ends early, in this order, where the
+/// network is not made, or with the index of the event at which memory ended.
 pub fn run(alloc: Global, config: &Config, events: &[Event]) -> Result<Net<MemLine>, RunFault>
     ensures ran { IfOk result (HasRun config.now events.now) }
     ensures headline { IfOk result Headline }
@@ -53,8 +54,8 @@ pub fn run(alloc: Global, config: &Config, events: &[Event]) -> Result<Net<MemLi
     Ok(net)
 }
 
-/// Handles an event, and says whether memory was there. Where it was not, the event takes memory, and the network itself does not
-/// refuse it.
+/// Handles an event, and says whether memory was there. Where it was not, the event takes memory, and the network
+/// itself does not refuse it.
 #[tactic(auto, using(crate::proofs::RunsMore::happened, crate::proofs::RunsMore::wanting))]
 fn goes_on(net: &mut Net<MemLine>, event: &Event) -> bool
     ensures handled { OnTrue result (Happened memory_service event.now net.old (step_fault event.now net.old) net.new) }

@@ -30,7 +30,8 @@ pub(crate) fn put_frames<L: Line>(
     requires empty { puts.old.items ≡ [] }
     requires room { MOST_FRAMES ≤ vec_capacity puts.old }
     ensures node { node_of node.new ≡ drained (node_of node.old) }
-    ensures puts { Sends L.service direction (frames_of (node_of node.old)) (L.flights line.old) puts.new.items (L.flights line.new) }
+    ensures puts { Sends L.service direction (frames_of (node_of node.old)) (L.flights line.old) puts.new.items
+        (L.flights line.new) }
 {
     for _ in 0..node.waiting_frames() {
         let mut frame = FrameBuf::new();

@@ -1,5 +1,6 @@
 //! What an event does at one node, on its line and in the book.
-ghost use Rattle.std.specs.Prelude.{◌≡◌, ◌≤◌, [], Some, None, true, false, OnOk, OnErr, MatchResult, vec_capacity, length};
+ghost use Rattle.std.specs.Prelude.{◌≡◌, ◌≤◌, [], Some, None, true, false, OnOk, OnErr, MatchResult, vec_capacity};
+ghost use Rattle.std.specs.Prelude.{length};
 ghost use Rattle.packet_layer.specs.Layer.{channel_given, call_refusal, front_on};
 ghost use Rattle.packet_layer.specs.RequestView.{refusal_of, call_refusal_of};
 ghost use Rattle.packet_layer.specs.TakenView.{maybe_taken};
@@ -63,7 +64,8 @@ fn call_node(
     requires capacity { MOST_NOTES ≤ vec_capacity notes.old }
     ensures node { node_of node.new ≡ (line_turn (call_of call.entry) at.role (node_of node.old) book.old.book).node }
     ensures book { book.new.book ≡ (line_turn (call_of call.entry) at.role (node_of node.old) book.old.book).book }
-    ensures notes { notes.new.items ≡ user_notes (node_of node.old) at.node (line_turn (call_of call.entry) at.role (node_of node.old) book.old.book).notes }
+    ensures notes { notes.new.items ≡ user_notes (node_of node.old) at.node
+        (line_turn (call_of call.entry) at.role (node_of node.old) book.old.book).notes }
 {
     match call {
         LineCall::Hears(octets) => node.hear(at, octets, book, notes),
@@ -90,7 +92,9 @@ pub(crate) fn serve<L: Line>(
     requires notes { room.old.notes.items ≡ [] }
     requires frame_room { MOST_FRAMES ≤ vec_capacity room.old.frames }
     requires note_room { MOST_NOTES ≤ vec_capacity room.old.notes }
-    ensures { Served L.service at.role at.node (node_of node.old) (line_turn (call_of call.entry) at.role (node_of node.old) book.old.book) (L.flights line.old) room.new.frames.items room.new.notes.items (node_of node.new) (L.flights line.new) book.new.book }
+    ensures { Served L.service at.role at.node (node_of node.old)
+        (line_turn (call_of call.entry) at.role (node_of node.old) book.old.book) (L.flights line.old)
+        room.new.frames.items room.new.notes.items (node_of node.new) (L.flights line.new) book.new.book }
 {
     call_node(node, at, call, book, &mut room.notes);
     put_frames(node, line, direction_of(at.role), &mut room.frames);
@@ -112,7 +116,8 @@ fn ask_host(
     ensures answer { MatchResult result
         (λ _. ask_refusal host.old channel request.now ≡ None)
         (λ fault. ask_refusal host.old channel request.now ≡ Some (refusal_of fault)) }
-    ensures ok { OnOk result (HostTurned at.node (asked_turn at.role host.old channel request.now book.old.book) host.new book.new.book notes.new.items) }
+    ensures ok { OnOk result (HostTurned at.node (asked_turn at.role host.old channel request.now book.old.book)
+        host.new book.new.book notes.new.items) }
     ensures err { OnErr result ((host.new ≡ host.old) × (book.new ≡ book.old) × (notes.new.items ≡ [])) }
 {
     match request {
@@ -162,7 +167,9 @@ pub(crate) fn serve_ask<L: Line>(
     ensures answer { MatchResult result
         (λ _. ask_refusal (end_of (node_of node.old)) channel request.now ≡ None)
         (λ fault. ask_refusal (end_of (node_of node.old)) channel request.now ≡ Some (refusal_of fault)) }
-    ensures ok { OnOk result (Served L.service at.role at.node (node_of node.old) (asked_turn at.role (end_of (node_of node.old)) channel request.now book.old.book) (L.flights line.old) room.new.frames.items room.new.notes.items (node_of node.new) (L.flights line.new) book.new.book) }
+    ensures ok { OnOk result (Served L.service at.role at.node (node_of node.old)
+        (asked_turn at.role (end_of (node_of node.old)) channel request.now book.old.book) (L.flights line.old)
+        room.new.frames.items room.new.notes.items (node_of node.new) (L.flights line.new) book.new.book) }
     ensures node { OnErr result (node_of node.new ≡ node_of node.old) }
     ensures line { OnErr result (line.new ≡ line.old) }
     ensures book { OnErr result (book.new.book ≡ book.old.book) }
@@ -194,9 +201,14 @@ pub(crate) fn serve_call<L: Line>(
     requires frame_room { MOST_FRAMES ≤ vec_capacity room.old.frames }
     requires note_room { MOST_NOTES ≤ vec_capacity room.old.notes }
     ensures answer { MatchResult result
-        (λ channel. channel_given (end_of (node_of node.old)).layer (end_of (node_of node.old)).layer.phase ≡ Some channel)
-        (λ fault. call_refusal (end_of (node_of node.old)).layer (end_of (node_of node.old)).layer.phase ≡ Some (call_refusal_of fault)) }
-    ensures ok { OnOk result (Served L.service at.role at.node (node_of node.old) (host_calls at.role (end_of (node_of node.old)) (call_parts address user_data.now) book.old.book) (L.flights line.old) room.new.frames.items room.new.notes.items (node_of node.new) (L.flights line.new) book.new.book) }
+        (λ channel. channel_given (end_of (node_of node.old)).layer (end_of (node_of node.old)).layer.phase
+        ≡ Some channel)
+        (λ fault. call_refusal (end_of (node_of node.old)).layer (end_of (node_of node.old)).layer.phase
+        ≡ Some (call_refusal_of fault)) }
+    ensures ok { OnOk result (Served L.service at.role at.node (node_of node.old)
+        (host_calls at.role (end_of (node_of node.old)) (call_parts address user_data.now) book.old.book)
+        (L.flights line.old) room.new.frames.items room.new.notes.items (node_of node.new) (L.flights line.new)
+        book.new.book) }
     ensures node { OnErr result (node_of node.new ≡ node_of node.old) }
     ensures line { OnErr result (line.new ≡ line.old) }
     ensures book { OnErr result (book.new.book ≡ book.old.book) }
@@ -226,7 +238,9 @@ pub(crate) fn serve_take<L: Line>(
     requires frame_room { MOST_FRAMES ≤ vec_capacity room.old.frames }
     requires note_room { MOST_NOTES ≤ vec_capacity room.old.notes }
     ensures taken { maybe_taken result ≡ front_on (end_of (node_of node.old)).layer channel }
-    ensures served { Served L.service at.role at.node (node_of node.old) (host_takes at.role (end_of (node_of node.old)) channel book.old.book) (L.flights line.old) room.new.frames.items room.new.notes.items (node_of node.new) (L.flights line.new) book.new.book }
+    ensures served { Served L.service at.role at.node (node_of node.old)
+        (host_takes at.role (end_of (node_of node.old)) channel book.old.book) (L.flights line.old)
+        room.new.frames.items room.new.notes.items (node_of node.new) (L.flights line.new) book.new.book }
 {
     let taken = match node {
         Node::Pad(_) => unreachable!(),
@@ -252,7 +266,9 @@ pub(crate) fn serve_key<L: Line>(
     requires notes { room.old.notes.items ≡ [] }
     requires frame_room { MOST_FRAMES ≤ vec_capacity room.old.frames }
     ensures answer { IsKeyAnswer octet (node_of node.old) result }
-    ensures served { Served L.service at.role at.node (node_of node.old) (keys_turn at.role (node_of node.old) octet book.old.book) (L.flights line.old) room.new.frames.items room.new.notes.items (node_of node.new) (L.flights line.new) book.new.book }
+    ensures served { Served L.service at.role at.node (node_of node.old)
+        (keys_turn at.role (node_of node.old) octet book.old.book) (L.flights line.old) room.new.frames.items
+        room.new.notes.items (node_of node.new) (L.flights line.new) book.new.book }
 {
     let answer = match node {
         Node::Pad(pad) => pad::key(pad, at.role, octet, book),

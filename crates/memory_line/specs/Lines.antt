@@ -25,7 +25,8 @@ with_flying FromDce frames f = record f { from_dce = frames }
 abbrev pub without_first : Direction → Flights → Flights
 without_first d f = with_flying d (drop 1 (flying d f)) f
 
--- what a line promises: whether it is faithful, and where it may lose a frame that is put in a direction while these are in flight
+-- what a line promises: whether it is faithful, and where it may lose a frame that is put in a direction while these
+-- are in flight
 pub record LineService : Type 1 where
   pub faithful : Type 0
   pub may_lose : Direction → Flights → Type 0

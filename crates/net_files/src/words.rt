@@ -77,8 +77,8 @@ impl<'a> Words<'a> {
         read_number(word).ok_or(LineFault::NotACommand)
     }
 
-    /// The next word, as the number of a logical channel of a timer. Beyond 255, as beyond the channels that a line may have, it
-    /// names a timer that never runs.
+    /// The next word, as the number of a logical channel of a timer. Beyond 255, as beyond the channels that a line may
+    /// have, it names a timer that never runs.
     pub(crate) fn channel(&mut self) -> Result<u8, LineFault> {
         let number = self.number()?;
         Ok(u8::try_from(number).unwrap_or(u8::MAX))

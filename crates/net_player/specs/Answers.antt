@@ -1,11 +1,14 @@
 -- The text of an answer.
-use Rattle.std.specs.Prelude.{ℕ, ◌+◌, ◌/◌, ◌%◌, ◌==◌, ◌&&◌, Bool, true, false, List, [], ◌∷◌, ◌++◌, Option, Some, None, Result, Ok, Err, String, string_bytes, codes, decimal, slice_get, unwrap_or, nat_lt, nat_le, if◌then◌else◌}
+use Rattle.std.specs.Prelude.{ℕ, ◌+◌, ◌/◌, ◌%◌, ◌==◌, ◌&&◌, Bool, true, false, List, [], ◌∷◌, ◌++◌, Option, Some, None}
+use Rattle.std.specs.Prelude.{Result, Ok, Err, String, string_bytes, codes, decimal, slice_get, unwrap_or, nat_lt}
+use Rattle.std.specs.Prelude.{nat_le, if◌then◌else◌}
 use Rattle.std.specs.Option.{option_map}
 use Rattle.std.specs.List.{flat_map}
 use Rattle.std.specs.declared.alloc.Global.{Global}
 use Rattle.packet_layer.specs.Packets.{Datum}
 use Rattle.packet_layer.specs.declared.fault.CallFault.TheVariants.{NotReady, NoChannel}
-use Rattle.packet_channel.specs.declared.fault.ChannelFault.TheVariants.{NoCall, Resetting, QueueFull, TooLong, InterruptPending}
+use Rattle.packet_channel.specs.declared.fault.ChannelFault.TheVariants.{NoCall, Resetting, QueueFull, TooLong}
+use Rattle.packet_channel.specs.declared.fault.ChannelFault.TheVariants.{InterruptPending}
 use Rattle.packet_channel.specs.declared.taken.Taken.{Taken}
 use Rattle.packet_channel.specs.declared.taken.Taken.TheVariants as taken
 use Rattle.line_nodes.specs.declared.fault.NodeFault.{NodeFault}
@@ -126,5 +129,6 @@ refusal_text fault.OutOfMemory = codes "refused 5 OutOfMemory" ++ 10 ∷ []
 -- the text of an answer or a refusal
 abbrev pub answer_text : Names → (traces : Bool) → Event → Result Answer StepFault → List ℕ
 answer_text names traces e (Ok answer) =
-    frames_text traces answer.frames.items ++ (flat_map (note_text names) answer.notes.items ++ outcome_text names e answer.outcome)
+    frames_text traces answer.frames.items
+    ++ (flat_map (note_text names) answer.notes.items ++ outcome_text names e answer.outcome)
 answer_text names traces e (Err refusal) = refusal_text refusal

@@ -1,6 +1,7 @@
 -- What a script makes of a network, and what is printed.
 use Rattle.std.specs.declared.alloc.Global.{Global}
-use Rattle.std.specs.Prelude.{Vec, ◌≡◌, ◌≢◌, ◌⊎◌, ℕ, zero, suc, ◌+◌, ◌<◌, Bool, true, false, List, [], ◌∷◌, ◌++◌, Option, Some, None, Result, Ok, Err, codes}
+use Rattle.std.specs.Prelude.{Vec, ◌≡◌, ◌≢◌, ◌⊎◌, ℕ, zero, suc, ◌+◌, ◌<◌, Bool, true, false, List, [], ◌∷◌, ◌++◌}
+use Rattle.std.specs.Prelude.{Option, Some, None, Result, Ok, Err, codes}
 use Rattle.memory_line.specs.declared.line.Direction.TheVariants.{FromDte, FromDce}
 use Rattle.memory_line.specs.Lines.{LineService, memory_service}
 use Rattle.line_sim.specs.declared.event.Event.{Event}
@@ -42,7 +43,8 @@ pub record Tells (L : LineService) (names : Names) (traces : Bool) (arrived : Bo
   pub came : arrived ≡ brought_frame answer
 
 -- the same, whether it brought a frame or not
-pub record TellsEvent (L : LineService) (names : Names) (traces : Bool) (e : Event) (s : NetState) (text : List ℕ) (t : NetState) : Type 0 where
+pub record TellsEvent (L : LineService) (names : Names) (traces : Bool) (e : Event) (s : NetState) (text : List ℕ)
+    (t : NetState) : Type 0 where
   pub arrived : Bool
   pub tells : Tells L names traces arrived e s text t
 
@@ -72,7 +74,8 @@ abbrev pub Passes : (L : LineService) → Names → (traces : Bool) → (lines :
 Passes L names traces lines s text t = InTurn Event Flowing (Delivers L names traces) (deliveries_from 0 lines) s text t
 
 -- passes, until one brings no frame
-pub data Flows (L : LineService) (names : Names) (traces : Bool) (lines : ℕ) : Flowing → List ℕ → NetState → Type 0 where
+pub data Flows (L : LineService) (names : Names) (traces : Bool) (lines : ℕ)
+    : Flowing → List ℕ → NetState → Type 0 where
   last : {s t : Flowing} {text : List ℕ}
       → Passes L names traces lines s text t → t.left ≡ s.left → Flows L names traces lines s text t.net
   again : {s mid : Flowing} {first rest : List ℕ} {t : NetState}
@@ -95,20 +98,23 @@ pub record Played : Type 0 where
   pub net : NetState
   pub traces : Bool
 
--- what a command does: its events happen in order, at most 100,000 frames flow, time goes by, or frames are traced from here on,
--- or not
+-- what a command does: its events happen in order, at most 100,000 frames flow, time goes by, or frames are traced from
+-- here on, or not
 pub data DoesCommand (L : LineService) (names : Names) (lines : ℕ) : Command → Played → List ℕ → Played → Type 0 where
   events : {events : Vec Event Global} {traces : Bool} {s t : NetState} {text : List ℕ}
       → InTurn Event NetState (TellsEvent L names traces) events.items s text t
-      → DoesCommand L names lines (Events events) (record { net = s; traces = traces }) text (record { net = t; traces = traces })
+      → DoesCommand L names lines (Events events) (record { net = s; traces = traces }) text
+      (record { net = t; traces = traces })
   flow : {traces : Bool} {s t : NetState} {text : List ℕ}
       → Flows L names traces lines (record { left = 100000; net = s }) text t
       → DoesCommand L names lines Flow (record { net = s; traces = traces }) text (record { net = t; traces = traces })
   tick : {ticks : ℕ} {traces : Bool} {s t : NetState} {text : List ℕ}
       → Ticks L names traces ticks s text t
-      → DoesCommand L names lines (Tick ticks) (record { net = s; traces = traces }) text (record { net = t; traces = traces })
+      → DoesCommand L names lines (Tick ticks) (record { net = s; traces = traces }) text
+      (record { net = t; traces = traces })
   trace : {before after : Bool} {s : NetState}
-      → DoesCommand L names lines (Trace after) (record { net = s; traces = before }) [] (record { net = s; traces = after })
+      → DoesCommand L names lines (Trace after) (record { net = s; traces = before }) []
+      (record { net = s; traces = after })
 
 -- a script stops for want of memory, or where its text cannot be written
 abbrev pub IsPlayFault : ProgFault → Type 0
@@ -125,11 +131,13 @@ pub record Plays (L : LineService) (script : Script) (s : NetState) (text : List
   pub at_rest : Bool
   pub traces : Bool
   pub commands :
-      InTurn Command Played (DoesCommand L script.names.items script.lines) script.commands.items (record { net = s; traces = false }) told (record { net = t; traces = traces })
+      InTurn Command Played (DoesCommand L script.names.items script.lines) script.commands.items
+      (record { net = s; traces = false }) told (record { net = t; traces = traces })
   pub rest : L.faithful → at_rest ≡ net_rests t
   pub whole : text ≡ told ++ end_line at_rest
 
--- a network was made, on faithful lines, a script played on it, and its text written behind what was known to be written
+-- a network was made, on faithful lines, a script played on it, and its text written behind what was known to be
+-- written
 pub record PlaysSome (before after : Option (List ℕ)) : Type 0 where
   pub config : Config
   pub start : NetState

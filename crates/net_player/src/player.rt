@@ -56,7 +56,8 @@ fn end_line(at_rest: bool) -> &'static str
     if at_rest { "end rest\n" } else { "end busy\n" }
 }
 
-/// Plays commands, one after the other: the names of the network's nodes, how many lines it has, and whether frames are traced.
+/// Plays commands, one after the other: the names of the network's nodes, how many lines it has, and whether frames are
+/// traced.
 #[derive(Drop)]
 struct Player<'a> {
     alloc: Global,
@@ -102,7 +103,8 @@ impl Player<'_> {
         out: &mut W,
     ) -> Result<(), ProgFault>
         ensures writes { OnOk result (Writes (W.contents out.old) (W.contents out.new)
-            (λ text. InTurn Event NetState (TellsEvent L.service self.now.names.now self.now.traces) events.now net.old text net.new)) }
+            (λ text. InTurn Event NetState (TellsEvent L.service self.now.names.now self.now.traces) events.now
+            net.old text net.new)) }
         ensures faults { IfErr result IsPlayFault }
     {
         for event in events {
@@ -208,7 +210,8 @@ impl Player<'_> {
     ) -> Result<bool, ProgFault>
         ensures tells { IfOk result (λ arrived. Writes (W.contents out.old) (W.contents out.new)
             (λ text. Tells L.service self.now.names.now self.now.traces arrived event.now net.old text net.new)) }
-        ensures fewer_due { OnOk result (net_due net.old ≡ Some event.now → net_due_count net.new < net_due_count net.old) }
+        ensures fewer_due { OnOk result
+            (net_due net.old ≡ Some event.now → net_due_count net.new < net_due_count net.old) }
         ensures faults { IfErr result IsPlayFault }
     {
         match net.step(event) {
@@ -245,7 +248,8 @@ impl Player<'_> {
     /// Prints the frames that were put, if they are traced.
     #[tactic(auto, using(crate::proofs::Turns::appends_nothing))]
     fn write_traced<W: Write>(&self, puts: &[Put], out: &mut W) -> Result<(), ProgFault>
-        ensures writes { OnOk result (Appends (W.contents out.old) (W.contents out.new) (frames_text self.now.traces puts.now)) }
+        ensures writes { OnOk result (Appends (W.contents out.old) (W.contents out.new)
+            (frames_text self.now.traces puts.now)) }
         ensures faults { IfErr result IsPlayFault }
     {
         if !self.traces {

@@ -75,7 +75,9 @@ impl<L: Line> Nodes<L> {
     /// The nodes and the book of a plan, on the line as it is; what the nodes have to send waits there.
     fn made(alloc: Global, plan: &Plan, line: L) -> Result<Self, MakeFault>
         requires { IsLimited plan.now }
-        ensures ok { IfOk result (λ nodes. nodes ≡ with_nodes (new_dte (plan_value plan.now)) (new_dce (plan_value plan.now)) (L.flights line) (opening (plan_value plan.now))) }
+        ensures ok { IfOk result (λ nodes. nodes ≡
+            with_nodes (new_dte (plan_value plan.now)) (new_dce (plan_value plan.now)) (L.flights line)
+            (opening (plan_value plan.now))) }
         ensures err { IfErr result (λ fault. fault ≡ make_fault_is.OutOfMemory) }
     {
         let EndParams {
