@@ -1,4 +1,4 @@
-use Rattle.std.proofs.Common.{◌≡◌, ◌+◌, ◌<◌, ℕ, [], List, length, refl, ap, subst, sym, arith}
+use Rattle.std.proofs.Common.{◌≡◌, ◌<◌, ℕ, [], List, length, refl, ap, subst, arith}
 use Rattle.line_nodes.specs.Node.{frames_of}
 use Rattle.line_nodes.specs.NodeView.{node_of}
 use Rattle.memory_line.specs.Lines.{IsPut}
