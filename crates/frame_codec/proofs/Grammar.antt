@@ -1,7 +1,31 @@
 -- The grammar of frames: a text is a form of at most one frame, what is written reads back, and a text is a form
 -- of no frame
 -- exactly where it has a fault.
-use Rattle.std.proofs.Common.{◌≡◌, ◌≢◌, ℕ, suc, ◌+◌, ◌*◌, ◌/◌, ◌%◌, ◌<◌, ◌≤◌, Bool, true, false, List, [], ◌∷◌, length, refl, sym, ◌∙◌, ap, subst, arith}
+use Rattle.std.proofs.Common.{
+  ◌≡◌,
+  ◌≢◌,
+  ℕ,
+  suc,
+  ◌+◌,
+  ◌*◌,
+  ◌/◌,
+  ◌%◌,
+  ◌<◌,
+  ◌≤◌,
+  Bool,
+  true,
+  false,
+  List,
+  [],
+  ◌∷◌,
+  length,
+  refl,
+  sym,
+  ◌∙◌,
+  ap,
+  subst,
+  arith,
+}
 use Rattle.std.specs.Prelude.{Result, Ok, Err, nat_le, nat_eq, slice_index, if◌then◌else◌}
 use borrow.Author.Tests.{eqb-true, eqb-false, le-leb, lt-leb}
 use Rattle.link_timers.specs.declared.role.Role.{Role}
@@ -29,7 +53,18 @@ use Rattle.frame_codec.specs.Frame.{
   Frmr,
   FrameValue,
 }
-use Rattle.frame_codec.specs.Spelling.{bit_of, address_of, control_of, field_of, states_of, reasons_of, spelling, HasNumbers, FitsField, HasSpelling}
+use Rattle.frame_codec.specs.Spelling.{
+  bit_of,
+  address_of,
+  control_of,
+  field_of,
+  states_of,
+  reasons_of,
+  spelling,
+  HasNumbers,
+  FitsField,
+  HasSpelling,
+}
 use Rattle.frame_codec.specs.FrameForm.{ReportForm, FieldForm, IsHead, FrameForm}
 use Rattle.frame_codec.specs.Faults.{IsNotAllowed, IsTooLong, HasFault, place_of, IsFirstFault}
 use Rattle.frame_codec.specs.Reading.{has_bit, bare, report_read, content_read, with_head, reading}

@@ -23,6 +23,7 @@ use Rattle.frame_codec.specs.Frame.{
   FrameValue,
 }
 use Rattle.frame_codec.specs.FrameForm.{IsHead}
+use Rattle.frame_codec.specs.Spelling.{most_information}
 
 -- the frame may not have this information field, whatever the length of what an I frame carries
 abbrev pub IsNotAllowed : Content → List ℕ → Type 0
@@ -36,9 +37,9 @@ IsNotAllowed Dm field = field ≢ []
 IsNotAllowed Ua field = field ≢ []
 IsNotAllowed (Frmr report) field = length field ≢ 3
 
--- an I frame with more than 145 octets of information
+-- an I frame with too many octets of information
 abbrev pub IsTooLong : Content → List ℕ → Type 0
-IsTooLong (I ns nr information) field = 145 < length field
+IsTooLong (I ns nr information) field = most_information < length field
 IsTooLong (Rr nr) field = ⊥
 IsTooLong (Rnr nr) field = ⊥
 IsTooLong (Rej nr) field = ⊥

@@ -16,7 +16,7 @@ use Rattle.frame_codec.specs.Frame.{
   Frmr,
   FrameValue,
 }
-use Rattle.frame_codec.specs.Spelling.{address_of, control_of, states_of, reasons_of, GoesAs, HasNumbers}
+use Rattle.frame_codec.specs.Spelling.{address_of, control_of, states_of, reasons_of, GoesAs, HasNumbers, most_information}
 
 -- three octets are a form of the report: bit 1 of the second and bits 5 to 8 of the third are not looked at
 pub record ReportForm (report : Report) (field : List ℕ) : Type 0 where
@@ -28,7 +28,7 @@ pub record ReportForm (report : Report) (field : List ℕ) : Type 0 where
 
 -- the information field is a form of what the frame says there
 abbrev pub FieldForm : Content → List ℕ → Type 0
-FieldForm (I ns nr information) field = (field ≡ information) × (length field ≤ 145)
+FieldForm (I ns nr information) field = (field ≡ information) × (length field ≤ most_information)
 FieldForm (Rr nr) field = field ≡ []
 FieldForm (Rnr nr) field = field ≡ []
 FieldForm (Rej nr) field = field ≡ []

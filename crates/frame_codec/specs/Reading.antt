@@ -29,7 +29,7 @@ use Rattle.frame_codec.specs.declared.fault.FrameFault.TheVariants.{
   InfoTooLong,
 }
 use Rattle.frame_codec.specs.Frame.{Content, I, Rr, Rnr, Rej, Sabm, Disc, Dm, Ua, Frmr, FrameValue}
-use Rattle.frame_codec.specs.Spelling.{address_of}
+use Rattle.frame_codec.specs.Spelling.{address_of, most_information}
 
 -- whether the bit is set that stands for this power of two
 abbrev pub has_bit : ℕ → ℕ → Bool
@@ -43,7 +43,7 @@ bare content (octet ∷ octets) = Err InfoNotAllowed
 -- an I frame
 abbrev pub information_read : ℕ → List ℕ → Result Content FrameFault
 information_read control field =
-    if nat_le (length field) 145 then Ok (I (control / 2 % 8) (control / 32) field) else Err InfoTooLong
+    if nat_le (length field) most_information then Ok (I (control / 2 % 8) (control / 32) field) else Err InfoTooLong
 
 -- the report of a Frame Reject
 abbrev pub report_read : List ℕ → Result Content FrameFault

@@ -93,9 +93,17 @@ HasNumbers Dm = Unit {0}
 HasNumbers Ua = Unit {0}
 HasNumbers (Frmr report) = (report.control < 256) × (report.vs < 8) × (report.vr < 8)
 
--- an I frame carries at most 145 octets
+-- the most octets of information that an I frame carries: a packet
+abbrev pub most_information : ℕ
+most_information = 145
+
+-- the most octets of a frame: address, control and information
+abbrev pub most_octets : ℕ
+most_octets = 147
+
+-- an I frame carries at most so many octets
 abbrev pub FitsField : Content → Type 0
-FitsField (I ns nr information) = length information ≤ 145
+FitsField (I ns nr information) = length information ≤ most_information
 FitsField (Rr nr) = Unit {0}
 FitsField (Rnr nr) = Unit {0}
 FitsField (Rej nr) = Unit {0}

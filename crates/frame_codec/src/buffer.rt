@@ -1,17 +1,25 @@
 ghost use Rattle.std.specs.Prelude.{◌≡◌, ◌≤◌, ◌<◌, ◌+◌, List, [], ◌∷◌, ◌++◌, length, ℕ, IsTrue, ◌↔◌};
+ghost use Rattle.frame_codec.specs.Spelling.{most_octets};
 
 use arrayvec::ArrayVec;
 use std::marker::Model;
 
-/// Room for the octets of one frame: address, control and at most 145 octets of information.
+/// The most octets of information that an I frame carries: a packet.
+pub const MAX_INFORMATION: usize = 145;
+
+/// The most octets of a frame: address, control and information.
+pub const MAX_FRAME: usize = 147;
+
+/// Room for the octets of one frame.
 #[derive(Drop)]
 pub struct FrameBuf {
-    octets: ArrayVec<u8, 147>,
+    octets: ArrayVec<u8, MAX_FRAME>,
 }
 
 impl Model for FrameBuf {
     ghost use Rattle.std.specs.Prelude.{◌≤◌, List, ℕ, length};
     ghost use Rattle.std.specs.Coded.{coded_list, coded_ℕ};
+    ghost use Rattle.frame_codec.specs.Spelling.{most_octets};
 
     ghost Value = { List ℕ };
 
@@ -19,7 +27,7 @@ impl Model for FrameBuf {
 
     ghost view = { λ b. b.octets.items };
 
-    ghost invariant = { λ b. length b.octets.items ≤ 147 };
+    ghost invariant = { λ b. length b.octets.items ≤ most_octets };
 }
 
 impl FrameBuf {
@@ -35,7 +43,7 @@ impl FrameBuf {
     /// The octets.
     pub fn as_slice(&self) -> &[u8]
         ensures value { result.now ≡ self.now }
-        ensures fits { length result.now ≤ 147 }
+        ensures fits { length result.now ≤ most_octets }
     {
         self.octets.as_slice()
     }
@@ -43,7 +51,7 @@ impl FrameBuf {
     /// How many octets there are.
     pub fn len(&self) -> usize
         ensures value { result ≡ length self.now }
-        ensures fits { result ≤ 147 }
+        ensures fits { result ≤ most_octets }
     {
         self.octets.len()
     }
@@ -64,7 +72,7 @@ impl FrameBuf {
 
     /// Appends an octet.
     pub fn push(&mut self, octet: u8)
-        requires { length self.old < 147 }
+        requires { length self.old < most_octets }
         ensures { self.new ≡ self.old ++ octet ∷ [] }
     {
         self.octets.push(octet);
@@ -72,7 +80,7 @@ impl FrameBuf {
 
     /// Appends octets.
     pub fn extend(&mut self, octets: &[u8])
-        requires { length self.old + length octets.now ≤ 147 }
+        requires { length self.old + length octets.now ≤ most_octets }
         ensures { self.new ≡ self.old ++ octets.now }
     {
         let _ = self.octets.try_extend_from_slice(octets);

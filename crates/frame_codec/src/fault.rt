@@ -15,7 +15,7 @@ pub enum FrameFault {
     /// There is an information field where the frame has none, or a Frame Reject without exactly three octets.
     #[error("information not allowed")]
     InfoNotAllowed,
-    /// The information field of an I frame is longer than 145 octets.
+    /// The information field of an I frame is longer than [`MAX_INFORMATION`](crate::MAX_INFORMATION) octets.
     #[error("information too long")]
     InfoTooLong,
 }

@@ -8,7 +8,7 @@ mod frame;
 mod reading;
 mod writing;
 
-pub use buffer::FrameBuf;
+pub use buffer::{FrameBuf, MAX_FRAME, MAX_INFORMATION};
 pub use fault::FrameFault;
 pub use frame::{Frame, FrameKind, Rejection};
 pub use reading::read_frame;

@@ -16,12 +16,11 @@ ghost use Rattle.frame_codec.specs.Reading.{
   reading,
 };
 
+use crate::buffer::MAX_INFORMATION;
 use crate::fault::FrameFault;
 use crate::fields::{address_octet, is_set, receive_number, send_number};
 use crate::frame::{Frame, FrameKind, Rejection};
 use link_timers::Role;
-
-const MAX_INFORMATION: usize = 145;
 
 /// Reads a frame that an end of this role receives (ISO 7776 3 and 4). The information field stays where it is.
 ///

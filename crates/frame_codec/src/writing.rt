@@ -20,7 +20,7 @@ use link_timers::Role;
 /// Writes the one spelling of a frame that an end of this role sends (ISO 7776 3 and 4), in place of what the buffer
 /// held.
 ///
-/// The frame's sequence numbers are below 8, an I frame carries at most 145 octets, and the frame goes in the direction
+/// The frame's sequence numbers are below 8, an I frame's information fits, and the frame goes in the direction
 /// that its kind has: I frames, SABM and DISC are commands, DM, UA and FRMR are responses.
 pub fn write_frame(frame: &Frame<'_>, from: Role, out: &mut FrameBuf)
     requires { HasSpelling (value_of frame.now) }

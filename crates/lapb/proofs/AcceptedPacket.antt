@@ -30,7 +30,36 @@ use Rattle.frame_codec.specs.Reading.{reading}
 use Rattle.frame_codec.proofs.Outcomes.{AreOctets}
 use Rattle.frame_codec.proofs.Grammar.{IsDecided, reading_decided}
 use Rattle.lapb.specs.declared.phase.Phase.{Phase}
-use Rattle.lapb.specs.Machine.{Octets, Link, Step, Defect, UndefinedControl, InformationNotAllowed, InformationTooLong, is_same, is_valid, ahead, acknowledged, accept, discard, on_information, on_supervisory, reject_as, reject_number, checked, in_up, in_setting_up, in_down, in_rejecting, in_phase, on_content, on_defect_in, come_up, still, sends}
+use Rattle.lapb.specs.Machine.{
+  Octets,
+  Link,
+  Step,
+  Defect,
+  UndefinedControl,
+  InformationNotAllowed,
+  InformationTooLong,
+  is_same,
+  is_valid,
+  ahead,
+  acknowledged,
+  accept,
+  discard,
+  on_information,
+  on_supervisory,
+  reject_as,
+  reject_number,
+  checked,
+  in_up,
+  in_setting_up,
+  in_down,
+  in_rejecting,
+  in_phase,
+  on_content,
+  on_defect_in,
+  come_up,
+  still,
+  sends,
+}
 use Rattle.lapb.specs.Octets.{on_fault, on_reading, on_octets}
 
 cond_by : (P : Bool → Type 0) (b : Bool) → (b ≡ true → P true) → (b ≡ false → P false) → P b

@@ -96,7 +96,7 @@ use Rattle.lapb.proofs.Inv.{
   logged-same,
   lost_up,
 }
-use Rattle.lapb.proofs.DteSteps.{IsPlain, half-sent_plain, half-told_plain, IsDm, dm-plain}
+use Rattle.lapb.proofs.DteSteps.{IsPlain, half-sent_plain, half-told_plain, full-false, IsDm, dm-plain}
 
 -- ---- a DCE that is up goes on
 
@@ -188,9 +188,6 @@ dce_goes w kept step i g off not_setting =
     }
 
 -- ---- an offer
-
-full-false : (k : ℕ) (queue : List Octets) → k ≤ 7 → nat_le k (length queue) ≡ false → length queue ≤ 6
-full-false k queue le e = let less = leb-false k (length queue) e in omega arith
 
 pub dce_offers : (w : World) (packet : Octets) → Inv (dce_in w Phase.Up) →
     Inv (record (dce_in w Phase.Up) {

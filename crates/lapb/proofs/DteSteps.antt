@@ -252,7 +252,8 @@ dte_goes w kept step h i g which =
 
 -- ---- an offer
 
-full-false : (k : ℕ) (queue : List Octets) → k ≤ 7 → nat_le k (length queue) ≡ false → length queue ≤ 6
+-- a link that is not full holds fewer than seven packets
+pub full-false : (k : ℕ) (queue : List Octets) → k ≤ 7 → nat_le k (length queue) ≡ false → length queue ≤ 6
 full-false k queue le e = let less = leb-false k (length queue) e in omega arith
 
 pub dte_offers : (w : World) (packet : Octets) → Inv (dte_in w Phase.Up) →

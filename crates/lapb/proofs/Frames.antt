@@ -144,6 +144,7 @@ pub sent_frames : (l : Link) → l.next < length l.queue →
     numbered (l.oldest + l.next) l.expected (drop l.next l.queue) ≡ (send_all l (drop l.next l.queue)).frames
 sent_frames l some = go (drop l.next l.queue) (omega (arith, length-drop l.next l.queue))
   where
-    go : (packets : List Octets) → 0 < length packets → numbered (l.oldest + l.next) l.expected packets ≡ (send_all l packets).frames
+    go : (packets : List Octets) → 0 < length packets →
+        numbered (l.oldest + l.next) l.expected packets ≡ (send_all l packets).frames
     go [] none = absurd (omega arith)
     go (packet ∷ packets) _ = refl

@@ -1,4 +1,5 @@
--- What the calls of the nodes, losses and restarts make of a line: each is an event of two links, and the line stands on.
+-- What the calls of the nodes, losses and restarts make of a line: each is an event of two links, and the line stands
+-- on.
 use Rattle.std.specs.Prelude.{◌≡◌, ℕ, ◌≤◌, Bool, true, false, List, [], ◌∷◌, ◌++◌, length, drop, map}
 use Rattle.std.proofs.Common.{refl, sym, ap, ◌∙◌}
 use Rattle.link_timers.specs.declared.role.Role.{Role}
@@ -6,7 +7,31 @@ use Rattle.link_timers.specs.declared.role.Role.TheVariants.{Dte, Dce}
 use Rattle.frame_codec.specs.Frame.{FrameValue}
 use Rattle.frame_codec.specs.Spelling.{spelling}
 use Rattle.lapb.specs.Machine.{Octets, Link, Step, on_frame, on_t1, relink, settle, offer, new}
-use Rattle.lapb.specs.World.{Sent, World, Event, Offer, Deliver, Lose, Expire, Relink, Settle, Restart, stamped, kept_of, dte_does, dce_does, dce_enters, to_dte, to_dce, without_first, remade, Params, opening, happens, act_after}
+use Rattle.lapb.specs.World.{
+  Sent,
+  World,
+  Event,
+  Offer,
+  Deliver,
+  Lose,
+  Expire,
+  Relink,
+  Settle,
+  Restart,
+  stamped,
+  kept_of,
+  dte_does,
+  dce_does,
+  dce_enters,
+  to_dte,
+  to_dce,
+  without_first,
+  remade,
+  Params,
+  opening,
+  happens,
+  act_after,
+}
 use Rattle.lapb.specs.Octets.{on_octets}
 use Rattle.lapb.specs.Fits.{AllSpelt, IsShort, octets_of}
 use Rattle.lapb.specs.Line.{chosen, StandsIn}

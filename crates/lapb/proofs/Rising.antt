@@ -1,5 +1,29 @@
 -- Sessions come in rising order: the acts of SABMs, the sessions of both ends, and what each call tells.
-use Rattle.std.specs.Prelude.{◌≡◌, ℕ, ◌+◌, ◌<◌, ◌≤◌, Bool, true, false, not, ◌&&◌, ◌⊎◌, List, [], ◌∷◌, Option, Some, None, if◌then◌else◌, nat_le, ◌==◌, Result, Ok, Err}
+use Rattle.std.specs.Prelude.{
+  ◌≡◌,
+  ℕ,
+  ◌+◌,
+  ◌<◌,
+  ◌≤◌,
+  Bool,
+  true,
+  false,
+  not,
+  ◌&&◌,
+  ◌⊎◌,
+  List,
+  [],
+  ◌∷◌,
+  Option,
+  Some,
+  None,
+  if◌then◌else◌,
+  nat_le,
+  ◌==◌,
+  Result,
+  Ok,
+  Err,
+}
 use Rattle.std.proofs.Common.{refl, sym, ap, ◌∙◌, subst, inl, inr, arith}
 use Rattle.link_timers.specs.declared.role.Role.{Role}
 use Rattle.link_timers.specs.declared.role.Role.TheVariants.{Dte, Dce}
@@ -27,9 +51,73 @@ use Rattle.frame_codec.specs.Reading.{reading}
 use Rattle.frame_codec.specs.Spelling.{spelling}
 use Rattle.lapb.specs.declared.phase.Phase.{Phase}
 use Rattle.lapb.specs.declared.note.Note.{Note}
-use Rattle.lapb.specs.Machine.{Octets, Link, Step, left, answers, response, still, sends, relink, relink_as, come_up, reject_as, reject_number, is_valid, acknowledged, on_supervisory, accept, discard, on_information, in_up, in_setting_up, in_down, in_rejecting, in_phase, on_content, on_frame, on_t1, expire_in, runs, poll, numbered, send_all, sendable, settle, settle_in, is_same, is_up}
+use Rattle.lapb.specs.Machine.{
+  Octets,
+  Link,
+  Step,
+  left,
+  answers,
+  response,
+  still,
+  sends,
+  relink,
+  relink_as,
+  come_up,
+  reject_as,
+  reject_number,
+  is_valid,
+  acknowledged,
+  on_supervisory,
+  accept,
+  discard,
+  on_information,
+  in_up,
+  in_setting_up,
+  in_down,
+  in_rejecting,
+  in_phase,
+  on_content,
+  on_frame,
+  on_t1,
+  expire_in,
+  runs,
+  poll,
+  numbered,
+  send_all,
+  sendable,
+  settle,
+  settle_in,
+  is_same,
+  is_up,
+}
 use Rattle.lapb.specs.Octets.{on_octets, on_reading, on_fault}
-use Rattle.lapb.specs.World.{Sent, World, Params, Event, Offer, Deliver, Lose, Expire, Relink, Settle, Restart, stamped, kept_of, is_sabm, is_setting_up, is_up_note, act_after, dte_does, to_dte, to_dce, without_first, happens, run, opening, Always}
+use Rattle.lapb.specs.World.{
+  Sent,
+  World,
+  Params,
+  Event,
+  Offer,
+  Deliver,
+  Lose,
+  Expire,
+  Relink,
+  Settle,
+  Restart,
+  stamped,
+  kept_of,
+  is_sabm,
+  is_setting_up,
+  is_up_note,
+  act_after,
+  dte_does,
+  to_dte,
+  to_dce,
+  without_first,
+  happens,
+  run,
+  opening,
+  Always,
+}
 use Rattle.lapb.specs.Reach.{Reached}
 use Rattle.lapb.specs.Fits.{AllSpelt, octets_of}
 use Rattle.lapb.specs.Line.{StandsIn}
@@ -38,7 +126,19 @@ use Rattle.lapb.proofs.Cases.{cond_by, Each, each-kept, each-weaken}
 use Rattle.lapb.proofs.Flights.{Flight, flight-append, flight-stamped, Ups}
 use Rattle.lapb.proofs.Inv.{Inv}
 use Rattle.lapb.proofs.Events.{happens-keeps}
-use Rattle.lapb.proofs.Notes.{Says, begins, continues, ends, stays_out, says_on_frame, says_on_t1, says_relink, says_settle, says_on_defect, dte_begins}
+use Rattle.lapb.proofs.Notes.{
+  Says,
+  begins,
+  continues,
+  ends,
+  stays_out,
+  says_on_frame,
+  says_on_t1,
+  says_relink,
+  says_settle,
+  says_on_defect,
+  dte_begins,
+}
 use Rattle.lapb.proofs.LinkLaw.{opening-meets, always-inv}
 use Rattle.lapb.proofs.Reach.{reached_inv}
 use Rattle.lapb.proofs.Fitting.{octets_taken}
@@ -375,10 +475,12 @@ abbrev own_after : World → Step → ℕ
 own_after w step = if is_up_note step.note then w.act else w.own
 
 -- a DTE that does not come up keeps its session
-same-own : (w : World) (step : Step) (note : Note) → step.note ≡ note → is_up_note note ≡ false → own_after w step ≡ w.own
+same-own : (w : World) (step : Step) (note : Note) → step.note ≡ note → is_up_note note ≡ false →
+    own_after w step ≡ w.own
 same-own w step note e off = ap (λ b. if b then w.act else w.own) (ap is_up_note e ∙ off)
 
-own-before : (w : World) (step : Step) → w.own ≤ w.session → (step.link.phase ≡ Phase.Up → own_after w step ≡ w.session) →
+own-before : (w : World) (step : Step) → w.own ≤ w.session →
+    (step.link.phase ≡ Phase.Up → own_after w step ≡ w.session) →
     Says w.dte.phase step → own_after w step ≤ w.session
 own-before w step le now (begins note up none) = let e = now up in omega arith
 own-before w step le now (continues was note up) = let e = now up in omega arith
@@ -466,10 +568,12 @@ rises-happens w (Lose Dce) i r = up-lost w w.up refl r
 rises-happens w (Expire Dte kept) i r = dte-rises w kept (on_t1 w.dte) i.reached (says_on_t1 w.dte) (sets-t1 w.dte)
     (happens-keeps w (Expire Dte kept) i) r
 rises-happens w (Expire Dce kept) i r = r
-rises-happens w (Relink Dte kept) i r = dte-rises w kept (relink w.dte) i.reached (says_relink w.dte) (sets-relink w.dte)
+rises-happens w (Relink Dte kept) i r = dte-rises w kept (relink w.dte) i.reached (says_relink w.dte)
+    (sets-relink w.dte)
     (happens-keeps w (Relink Dte kept) i) r
 rises-happens w (Relink Dce kept) i r = r
-rises-happens w (Settle Dte kept) i r = dte-rises w kept (settle w.dte) i.reached (says_settle w.dte) (sets-settle w.dte)
+rises-happens w (Settle Dte kept) i r = dte-rises w kept (settle w.dte) i.reached (says_settle w.dte)
+    (sets-settle w.dte)
     (happens-keeps w (Settle Dte kept) i) r
 rises-happens w (Settle Dce kept) i r = r
 rises-happens w (Restart Dte) i r = record { own_before = r.own_before; later = λ e. absurd (cc); begun = tt }
@@ -477,7 +581,8 @@ rises-happens w (Restart Dce) i r = record { own_before = r.own_before; later = 
 
 rises-run : (events : List Event) (w : World) → Inv w → Rises w → Rises (run events w)
 rises-run [] w i r = r
-rises-run (event ∷ events) w i r = rises-run events (happens w event) (happens-keeps w event i) (rises-happens w event i r)
+rises-run (event ∷ events) w i r = rises-run events (happens w event) (happens-keeps w event i)
+    (rises-happens w event i r)
 
 rises-opening : (standing : Bool) (dte dce : Params) → Rises (opening standing dte dce)
 rises-opening true dte dce = record { own_before = omega arith; later = λ e. absurd (cc); begun = tt }
@@ -518,14 +623,23 @@ never-falls w (Deliver Dce kept) i r = taken w.up i.ups
     taken (s ∷ rest) u = (same w.own, session-later (is_sabm s.frame.content) w.session s.act u.0)
 never-falls w (Lose Dte) i r = (same w.own, same w.session)
 never-falls w (Lose Dce) i r = (same w.own, same w.session)
-never-falls w (Expire Dte kept) i r =
-    (session-later (is_up_note (on_t1 w.dte).note) w.own w.act (let a = r.own_before in let b = i.reached in omega arith), same w.session)
+never-falls w (Expire Dte kept) i r = (
+  session-later (is_up_note (on_t1 w.dte).note) w.own w.act
+      (let a = r.own_before in let b = i.reached in omega arith),
+  same w.session,
+)
 never-falls w (Expire Dce kept) i r = (same w.own, same w.session)
-never-falls w (Relink Dte kept) i r =
-    (session-later (is_up_note (relink w.dte).note) w.own w.act (let a = r.own_before in let b = i.reached in omega arith), same w.session)
+never-falls w (Relink Dte kept) i r = (
+  session-later (is_up_note (relink w.dte).note) w.own w.act
+      (let a = r.own_before in let b = i.reached in omega arith),
+  same w.session,
+)
 never-falls w (Relink Dce kept) i r = (same w.own, same w.session)
-never-falls w (Settle Dte kept) i r =
-    (session-later (is_up_note (settle w.dte).note) w.own w.act (let a = r.own_before in let b = i.reached in omega arith), same w.session)
+never-falls w (Settle Dte kept) i r = (
+  session-later (is_up_note (settle w.dte).note) w.own w.act
+      (let a = r.own_before in let b = i.reached in omega arith),
+  same w.session,
+)
 never-falls w (Settle Dce kept) i r = (same w.own, same w.session)
 never-falls w (Restart Dte) i r = (same w.own, same w.session)
 never-falls w (Restart Dce) i r = (same w.own, same w.session)
@@ -545,7 +659,8 @@ rise w i r = record {
 pub sessions_rise : Always SessionsRise
 sessions_rise standing dte dce few few' events =
     rise (run events (opening standing dte dce)) (always-inv standing dte dce few few' events)
-    (rises-run events (opening standing dte dce) (opening-meets standing dte dce few few') (rises-opening standing dte dce))
+    (rises-run events (opening standing dte dce) (opening-meets standing dte dce few few')
+    (rises-opening standing dte dce))
 
 pub reached_rise : (w : World) → Reached w → SessionsRise w
 reached_rise w r =
@@ -554,7 +669,8 @@ reached_rise w r =
 -- ---- the same of a line as a network keeps it
 
 -- the session that the DTE begins by octets is later than the one before
-pub later_at_dte : (w : World) (dte dce : Link) (up down : List Octets) (bytes : Octets) → StandsIn w dte dce up (bytes ∷ down) →
+pub later_at_dte : (w : World) (dte dce : Link) (up down : List Octets) (bytes : Octets) →
+    StandsIn w dte dce up (bytes ∷ down) →
     (on_octets dte bytes).note ≡ Note.Up → w.own < w.act
 later_at_dte w dte dce up down bytes s up_note = go w.down refl s.fit.down s.down_is
   where
@@ -573,7 +689,8 @@ pub of_act_at_dce : (w : World) (dte dce : Link) (up down : List Octets) (bytes 
     1 ≤ (happens w (Deliver Dce kept)).session
 of_act_at_dce w dte dce up down bytes kept s up_note = go w.up refl s.fit.up s.up_is
   where
-    go : (flow : List Sent) → w.up ≡ flow → AllSpelt flow → octets_of Dte flow ≡ bytes ∷ up → 1 ≤ (to_dce w kept flow).session
+    go : (flow : List Sent) → w.up ≡ flow → AllSpelt flow → octets_of Dte flow ≡ bytes ∷ up →
+        1 ≤ (to_dce w kept flow).session
     go [] is all e = absurd (cc)
     go (x ∷ flow) is all e =
         let rise = reached_rise w s.reached in

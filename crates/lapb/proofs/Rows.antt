@@ -184,7 +184,8 @@ two_more_is = (refl, refl)
 abbrev asks_again : World
 asks_again = run (at_end Dte (Relink Dte [])) up_both
 
-asks_again_is : (asks_again.own ≡ 1) × (asks_again.session ≡ 1) × (asks_again.act ≡ 2) × (controls asks_again.up ≡ 0x2F ∷ [])
+asks_again_is : (asks_again.own ≡ 1) × (asks_again.session ≡ 1) × (asks_again.act ≡ 2) ×
+    (controls asks_again.up ≡ 0x2F ∷ [])
 asks_again_is = (refl, refl, refl, refl)
 
 -- the DCE takes the SABM, and then the DTE the UA
@@ -305,8 +306,8 @@ may_carry p q = (
   },
 )
 
--- the premises of coming up are met: as the SABM comes, a DM is on the way to the DTE; it is lost, while packets are offered and
--- events end
+-- the premises of coming up are met: as the SABM comes, a DM is on the way to the DTE; it is lost, while packets are
+-- offered and events end
 abbrev asked : Sent
 asked = record { frame = command Sabm true; act = 1 }
 

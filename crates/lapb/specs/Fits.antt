@@ -2,14 +2,14 @@
 use Rattle.std.specs.Prelude.{◌<◌, ◌≤◌, List, [], ◌∷◌, length}
 use Rattle.link_timers.specs.declared.role.Role.{Role}
 use Rattle.frame_codec.specs.Frame.{Report}
-use Rattle.frame_codec.specs.Spelling.{spelling, HasSpelling}
+use Rattle.frame_codec.specs.Spelling.{spelling, HasSpelling, most_information}
 use Rattle.lapb.specs.Machine.{Octets, Link}
 use Rattle.lapb.specs.World.{Sent, World, Event, Offer}
 
 -- each packet fits into an I frame
 abbrev pub AllShort : List Octets → Type 0
 AllShort [] = Unit {0}
-AllShort (packet ∷ packets) = (length packet ≤ 145) × AllShort packets
+AllShort (packet ∷ packets) = (length packet ≤ most_information) × AllShort packets
 
 pub record ReportFits (report : Report) : Type 0 where
   pub control : report.control < 256
@@ -35,7 +35,7 @@ pub record AreFit (w : World) : Type 0 where
 
 -- the packet that is offered fits
 abbrev pub IsShort : Event → Type 0
-IsShort (Offer at packet) = length packet ≤ 145
+IsShort (Offer at packet) = length packet ≤ most_information
 IsShort _ = Unit {0}
 
 -- the octets on the way from an end of this role

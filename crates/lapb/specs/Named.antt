@@ -47,8 +47,8 @@ pub record Counts (l : Link) (s : Session) : Type 0 where
 abbrev pub Agrees : Link → Session → Type 0
 Agrees l s = l.phase ≡ Phase.Up → Counts l s
 
--- N(S) names the place of the packet among the offered ones, the one place within eight from the oldest unacknowledged packet on;
--- N(R) names how many packets were accepted
+-- N(S) names the place of the packet among the offered ones, the one place within eight from the oldest unacknowledged
+-- packet on; N(R) names how many packets were accepted
 abbrev pub IsNamed : Session → Content → Type 0
 IsNamed s (I ns nr packet) =
     ((place : ℕ) × (ns ≡ place % 8) × (s.taken ≤ place) × (place < s.taken + 8) × (slice_get s.offered place ≡ Some

@@ -13,7 +13,17 @@ use Rattle.frame_codec.specs.declared.fault.FrameFault.TheVariants.{
 use Rattle.frame_codec.specs.Frame.{FrameValue}
 use Rattle.frame_codec.specs.Spelling.{address_of}
 use Rattle.frame_codec.specs.Reading.{reading}
-use Rattle.lapb.specs.Machine.{Octets, Link, Step, UndefinedControl, InformationNotAllowed, InformationTooLong, still, on_defect, on_frame}
+use Rattle.lapb.specs.Machine.{
+  Octets,
+  Link,
+  Step,
+  UndefinedControl,
+  InformationNotAllowed,
+  InformationTooLong,
+  still,
+  on_defect,
+  on_frame,
+}
 
 -- whether the octets are those of a response
 abbrev pub is_response : Role → Octets → Bool

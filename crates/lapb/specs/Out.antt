@@ -1,5 +1,26 @@
 -- What a link's calls give: the frames to be sent, as octets, and what the node is told.
-use Rattle.std.specs.Prelude.{nat_lt, ◌+◌, ◌*◌, ℕ, Bool, true, false, not, ◌&&◌, ◌||◌, List, [], ◌∷◌, ◌++◌, map, take, Option, None, is_some, if◌then◌else◌}
+use Rattle.std.specs.Prelude.{
+  nat_lt,
+  ◌+◌,
+  ◌*◌,
+  ℕ,
+  Bool,
+  true,
+  false,
+  not,
+  ◌&&◌,
+  ◌||◌,
+  List,
+  [],
+  ◌∷◌,
+  ◌++◌,
+  map,
+  take,
+  Option,
+  None,
+  is_some,
+  if◌then◌else◌,
+}
 use Rattle.link_timers.specs.declared.role.Role.{Role}
 use Rattle.frame_codec.specs.Frame.{FrameValue}
 use Rattle.frame_codec.specs.Spelling.{spelling, HasSpelling, bit_of}

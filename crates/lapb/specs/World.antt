@@ -32,8 +32,9 @@ pub record Sent : Type 0 where
   pub frame : FrameValue
   pub act : ℕ
 
--- Sessions have the numbers of the DTE's set-up acts, counted from the making of the line on and through restarts. An end is in
--- the session of the act that it heard of last: the DTE by a UA, the DCE by a SABM; a standing line is in session 0.
+-- Sessions have the numbers of the DTE's set-up acts, counted from the making of the line on and through restarts. An
+-- end is in the session of the act that it heard of last: the DTE by a UA, the DCE by a SABM; a standing line is in
+-- session 0.
 pub record World : Type 0 where
   pub dte : Link
   pub dce : Link
@@ -47,8 +48,8 @@ pub record World : Type 0 where
   pub dce_offered : ℕ → List Octets
   pub dce_accepted : ℕ → List Octets
 
--- What may happen. An end is named by its role. Of the frames that a link sends, `kept` says in order which go onto the line and
--- which are dropped; those that it does not speak of go. A start is a relink.
+-- What may happen. An end is named by its role. Of the frames that a link sends, `kept` says in order which go onto
+-- the line and which are dropped; those that it does not speak of go. A start is a relink.
 pub data Event : Type 0 where
   Offer : (at : Role) → Octets → Event
   Deliver : (to : Role) → (kept : List Bool) → Event
@@ -237,8 +238,9 @@ pub record AreUp (w : World) : Type 0 where
 abbrev pub answer_to : Sent → Sent
 answer_to s = record { frame = response Ua s.frame.pf; act = s.act }
 
--- A SABM of the DTE's last act that comes to the DCE is answered by its UA and nothing else; and if a UA of that act is what comes
--- to the DTE next, while packets are offered, events end and frames are lost, both ends are up in that session.
+-- A SABM of the DTE's last act that comes to the DCE is answered by its UA and nothing else; and if a UA of that act
+-- is what comes to the DTE next, while packets are offered, events end and frames are lost, both ends are up in that
+-- session.
 pub record ComesUp (w : World) : Type 0 where
   pub answers : (s : Sent) (rest : List Sent) → w.up ≡ s ∷ rest → is_sabm s.frame.content ≡ true → s.act ≡ w.act →
       (happens w (Deliver Dce [])).down ≡ w.down ++ answer_to s ∷ []
@@ -248,12 +250,14 @@ pub record ComesUp (w : World) : Type 0 where
       answer.act ≡ w.act → (kept : List Bool) →
       AreUp (happens (run between (happens w (Deliver Dce sent))) (Deliver Dte kept))
 
--- Where the DCE takes a SABM, neither end has accepted anything in the session of that act. Where the DTE takes the UA that brings
--- it up, that UA is of its last act, neither end has accepted anything in that session, and the DTE has offered nothing in it.
+-- Where the DCE takes a SABM, neither end has accepted anything in the session of that act. Where the DTE takes the UA
+-- that brings it up, that UA is of its last act, neither end has accepted anything in that session, and the DTE has
+-- offered nothing in it.
 pub record BeginsFresh (w : World) : Type 0 where
   pub dce : (s : Sent) (rest : List Sent) → w.up ≡ s ∷ rest → is_sabm s.frame.content ≡ true →
       (w.dte_accepted s.act ≡ []) × (w.dce_accepted s.act ≡ [])
-  pub of_act : (s : Sent) (rest : List Sent) → w.down ≡ s ∷ rest → (on_frame w.dte s.frame).note ≡ Note.Up → s.act ≡ w.act
+  pub of_act : (s : Sent) (rest : List Sent) → w.down ≡ s ∷ rest → (on_frame w.dte s.frame).note ≡ Note.Up →
+      s.act ≡ w.act
   pub dte : (s : Sent) (rest : List Sent) → w.down ≡ s ∷ rest → (on_frame w.dte s.frame).note ≡ Note.Up →
       (w.dte_accepted w.act ≡ []) × (w.dce_accepted w.act ≡ []) × (w.dte_offered w.act ≡ [])
 

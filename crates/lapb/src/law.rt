@@ -3,8 +3,8 @@ ghost use Rattle.lapb.specs.World.{Always, InOrder, ComesUp, BeginsFresh, MayCar
 ghost use Rattle.lapb.specs.Rising.{SessionsRise, CallsTell};
 
 /// The law of two links, one of each role, on a line that loses frames and neither changes, reorders nor repeats them:
-/// for every list of offers, deliveries, losses, frames dropped on sending, expiries of T1, starts, relinks and restarts.
-/// Sessions are numbered by the set-up acts of the DTE (X.25 2.4.4, 2.4.5).
+/// for every list of offers, deliveries, losses, frames dropped on sending, expiries of T1, starts, relinks and
+/// restarts. Sessions are numbered by the set-up acts of the DTE (X.25 2.4.4, 2.4.5).
 pub fn link_law()
     // In each session the accepted packets of an end begin the list of those offered at the other one; no FRMR is sent.
     ensures in_order { Always InOrder }

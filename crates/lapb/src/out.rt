@@ -15,8 +15,8 @@ use std::marker::Model;
 /// How many frames an event has room for: one of each of two calls, and the seven I frames of the widest window.
 pub const MOST_FRAMES: usize = 9;
 
-/// What the calls of a link give: up to [`MOST_FRAMES`] frames in order, the note and whether a packet was accepted by the last
-/// call, and what becomes of T1.
+/// What the calls of a link give: up to [`MOST_FRAMES`] frames in order, the note and whether a packet was accepted by
+/// the last call, and what becomes of T1.
 ///
 /// The packet that is accepted is the information field of the I frame that was taken: its octets from the third on.
 #[derive(Drop)]

@@ -1,16 +1,18 @@
 ghost use Rattle.std.specs.Prelude.{◌≡◌, ◌≤◌, ◌<◌, ◌+◌, [], ◌∷◌, ◌++◌, length, drop, slice_get, Some};
+ghost use Rattle.frame_codec.specs.Spelling.{most_information};
 ghost use Rattle.lapb.specs.Machine.{is_empty};
 
 use arrayvec::ArrayVec;
+use frame_codec::MAX_INFORMATION;
 use std::marker::Model;
 
 // The places of a ring.
 const PLACES: u8 = 8;
 
-/// A packet that lies in place: at most 145 octets.
+/// A packet that lies in place: at most [`MAX_INFORMATION`] octets.
 #[derive(Drop)]
 pub(crate) struct Packet {
-    octets: ArrayVec<u8, 145>,
+    octets: ArrayVec<u8, MAX_INFORMATION>,
 }
 
 impl Model for Packet {
@@ -26,7 +28,7 @@ impl Model for Packet {
 
 impl Packet {
     pub(crate) fn new(octets: &[u8]) -> Self
-        requires { length octets.now ≤ 145 }
+        requires { length octets.now ≤ most_information }
         ensures { result ≡ octets.now }
     {
         let mut packet = Packet {
@@ -37,7 +39,7 @@ impl Packet {
     }
 
     fn set(&mut self, octets: &[u8])
-        requires { length octets.now ≤ 145 }
+        requires { length octets.now ≤ most_information }
         ensures { self.new ≡ octets.now }
     {
         self.octets.clear();
@@ -46,7 +48,7 @@ impl Packet {
 
     pub(crate) fn as_slice(&self) -> &[u8]
         ensures value { result.now ≡ self.now }
-        ensures fits { length result.now ≤ 145 }
+        ensures fits { length result.now ≤ most_information }
     {
         self.octets.as_slice()
     }
@@ -124,7 +126,7 @@ impl Queue {
     #[tactic(auto, using(crate::proofs::Rings::ring_length, crate::proofs::Rings::ring_push))]
     pub(crate) fn push(&mut self, octets: &[u8])
         requires room { length self.old < 7 }
-        requires fits { length octets.now ≤ 145 }
+        requires fits { length octets.now ≤ most_information }
         ensures { self.new ≡ self.old ++ octets.now ∷ [] }
     {
         let place = (self.front + self.len) % PLACES;
@@ -137,7 +139,7 @@ impl Queue {
     pub(crate) fn packet(&self, place: u8) -> &[u8]
         requires { place < length self.now }
         ensures value { slice_get self.now place ≡ Some result.now }
-        ensures fits { length result.now ≤ 145 }
+        ensures fits { length result.now ≤ most_information }
     {
         let place = (self.front + place) % PLACES;
         self.places[usize::from(place)].as_slice()

@@ -1,5 +1,28 @@
 -- A call of the link and what is made of it: the value of the end, and what always holds of it.
-use Rattle.std.specs.Prelude.{◌≡◌, ℕ, ◌+◌, ◌-◌, ◌<◌, ◌≤◌, ◌⊎◌, Bool, true, false, List, [], ◌∷◌, length, map, drop, slice_range, Option, Some, None, is_some, MatchOption}
+use Rattle.std.specs.Prelude.{
+  ◌≡◌,
+  ℕ,
+  ◌+◌,
+  ◌-◌,
+  ◌<◌,
+  ◌≤◌,
+  ◌⊎◌,
+  Bool,
+  true,
+  false,
+  List,
+  [],
+  ◌∷◌,
+  length,
+  map,
+  drop,
+  slice_range,
+  Option,
+  Some,
+  None,
+  is_some,
+  MatchOption,
+}
 use Rattle.std.specs.Option.{option_copied}
 use Rattle.std.specs.Borrow.{Bor}
 use Rattle.std.proofs.Common.{refl, sym, ap, ◌∙◌, arith, inl, inr, length-drop}
@@ -23,7 +46,8 @@ change-is : (l : Link) (step : Step) (out : Out) → out ≡ gathered no_out l s
 change-is l step out is = ap (λ (o : Out). o.timer) is ∙ timing_after-keep (timing l step)
 
 -- the end after a step, by what the link's call gave
-pub did-is : (e : End) (step : Step) (out : Out) (timers : Places) (frames : List Octets) → out ≡ gathered no_out e.link step →
+pub did-is : (e : End) (step : Step) (out : Out) (timers : Places) (frames : List Octets) →
+    out ≡ gathered no_out e.link step →
     timers ≡ timed out.timer e.timers → frames ≡ with_frames e.frames out.frames →
     (record { link = step.link; timers = timers; frames = frames }) ≡ did e step
 did-is e step out timers frames is by_timer by_frames =
@@ -35,17 +59,21 @@ did-is e step out timers frames is by_timer by_frames =
     λ i. record { link = step.link; timers = places i; frames = all i }
 
 -- whether T1 runs after it
-pub t1-is : (l : Link) (step : Step) (out : Out) (before after : Bool) → out ≡ gathered no_out l step → after ≡ runs_then out.timer before
+pub t1-is : (l : Link) (step : Step) (out : Out) (before after : Bool) → out ≡ gathered no_out l step →
+    after ≡ runs_then out.timer before
     → before ≡ runs l → after ≡ runs step.link
 t1-is l step out before after is then ran =
-    then ∙ ap (λ (change : Change). runs_then change before) (change-is l step out is) ∙ ap (runs_then (timing l step)) ran ∙
+    then ∙ ap (λ (change : Change). runs_then change before) (change-is l step out is) ∙
+    ap (runs_then (timing l step)) ran ∙
     runs_after l step
 
 -- and after an expiry of it
-pub t1_expired-is : (l : Link) (out : Out) (before after : Bool) → out ≡ gathered no_out l (on_t1 l) → after ≡ runs_then out.timer before
+pub t1_expired-is : (l : Link) (out : Out) (before after : Bool) → out ≡ gathered no_out l (on_t1 l) →
+    after ≡ runs_then out.timer before
     → before ≡ false → runs l ≡ true → after ≡ runs (on_t1 l).link
 t1_expired-is l out before after is then fired ran =
-    then ∙ ap (λ (change : Change). runs_then change before) (change-is l (on_t1 l) out is) ∙ ap (runs_then (timing l (on_t1 l))) fired ∙
+    then ∙ ap (λ (change : Change). runs_then change before) (change-is l (on_t1 l) out is) ∙
+    ap (runs_then (timing l (on_t1 l))) fired ∙
     runs_after_expiry l ran
 
 -- what always holds of an end holds after it
@@ -62,7 +90,8 @@ still_end a link timers frames is keeps t1 = record {
 }
 
 -- a packet is accepted from a frame of two octets or more
-pub accepted_long : (l : Link) (octets packet : Octets) → (on_octets l octets).accepted ≡ Some packet → 2 ≤ length octets
+pub accepted_long : (l : Link) (octets packet : Octets) → (on_octets l octets).accepted ≡ Some packet →
+    2 ≤ length octets
 accepted_long l [] packet e = let none : ◌≡◌ {A = Option Octets} None (Some packet) = e in absurd (cc)
 accepted_long l (address ∷ []) packet e = let none : ◌≡◌ {A = Option Octets} None (Some packet) = e in absurd (cc)
 accepted_long l (address ∷ control ∷ field) packet e = omega arith
@@ -80,9 +109,12 @@ pub expiry_sends : (e : End) → SendsUpTo 1 e (on_t1 e.link)
 expiry_sends e = sends_up_to 1 e (on_t1 e.link) (sends_on_t1 e.link).few
 
 -- the information field of the frame is the packet that was accepted
-pub packet-is : (octets : Octets) (accepted : Option Octets) (got : Option (Bor Octets)) → ((packet : Octets) → accepted ≡ Some packet →
-    2 ≤ length octets) → ((packet : Octets) → accepted ≡ Some packet → packet ≡ drop 2 octets) → is_some accepted ≡ true →
-    MatchOption got ((length octets < 2) ⊎ (length octets < length octets)) (λ x. (2 ≤ length octets) × (length octets ≤ length octets) ×
+pub packet-is : (octets : Octets) (accepted : Option Octets) (got : Option (Bor Octets)) →
+    ((packet : Octets) → accepted ≡ Some packet →
+    2 ≤ length octets) → ((packet : Octets) → accepted ≡ Some packet → packet ≡ drop 2 octets) →
+    is_some accepted ≡ true →
+    MatchOption got ((length octets < 2) ⊎ (length octets < length octets))
+    (λ x. (2 ≤ length octets) × (length octets ≤ length octets) ×
     (x.now ≡ slice_range octets 2 (length octets)) × (length x.now + 2 ≡ length octets)) → option_copied got ≡ accepted
 packet-is octets None got long is some found = absurd (cc)
 packet-is octets (Some packet) None long is some found = absurd (short found)
@@ -91,7 +123,8 @@ packet-is octets (Some packet) None long is some found = absurd (short found)
     short (inl less) = omega (arith, long packet refl)
     short (inr less) = omega arith
 packet-is octets (Some packet) (Some x) long is some found =
-    ap Some (found.2 ∙ take_all (length octets - 2) (drop 2 octets) (omega (arith, length-drop 2 octets)) ∙ sym (is packet refl))
+    ap Some (found.2 ∙ take_all (length octets - 2) (drop 2 octets) (omega (arith, length-drop 2 octets)) ∙
+    sym (is packet refl))
 
 pub none_of : (accepted : Option Octets) → is_some accepted ≡ false → accepted ≡ None
 none_of None e = refl

@@ -7,7 +7,8 @@ use Rattle.lapb.specs.Out.{with_frames}
 use Rattle.lapb.proofs.Frames.{take_full, take_room}
 
 -- there is no room for one frame more
-pub with_frames-full : (frames : List Octets) (frame : Octets) (more : List Octets) → length frames ≡ 9 → with_frames frames more
+pub with_frames-full : (frames : List Octets) (frame : Octets) (more : List Octets) → length frames ≡ 9 →
+    with_frames frames more
     ≡ with_frames frames (frame ∷ more)
 with_frames-full frames frame [] full = sym (take_full 9 frames (frame ∷ []) full)
 with_frames-full frames frame (next ∷ more) full =
@@ -42,15 +43,20 @@ take_fits (suc n) [] e = refl
 take_fits (suc n) (x ∷ xs) e = ap (λ zs. x ∷ zs) (take_fits n xs (omega arith))
 
 -- no frame is dropped
-pub with_frames-fit : (frames more : List Octets) → length frames + length more ≤ 9 → with_frames frames more ≡ frames ++ more
+pub with_frames-fit : (frames more : List Octets) → length frames + length more ≤ 9 →
+    with_frames frames more ≡ frames ++ more
 with_frames-fit frames [] e = sym (append-nil frames)
-with_frames-fit frames (frame ∷ more) e = take_fits 9 (frames ++ frame ∷ more) (omega (arith, length-append frames (frame ∷ more)))
+with_frames-fit frames (frame ∷ more) e = take_fits 9 (frames ++ frame ∷ more)
+    (omega (arith, length-append frames (frame ∷ more)))
 
 -- the frame at a place and those behind it
-pub drop-next : (more : List Octets) (place : ℕ) (frame : Octets) → place < length more → frame ≡ get_or more place frame → drop place
+pub drop-next : (more : List Octets) (place : ℕ) (frame : Octets) → place < length more →
+    frame ≡ get_or more place frame → drop place
     more ≡ frame ∷ drop (place + 1) more
-drop-next more place frame within is = drop_more more place frame within ∙ ap (λ first. first ∷ drop (place + 1) more) (sym is)
+drop-next more place frame within is = drop_more more place frame within ∙
+    ap (λ first. first ∷ drop (place + 1) more) (sym is)
 
 -- no frame is left to append
-pub with_frames-end : (frames more : List Octets) (place : ℕ) → length more ≤ place → with_frames frames (drop place more) ≡ frames
+pub with_frames-end : (frames more : List Octets) (place : ℕ) → length more ≤ place →
+    with_frames frames (drop place more) ≡ frames
 with_frames-end frames more place past = ap (with_frames frames) (drop_all place more past)

@@ -1,17 +1,92 @@
--- What a call of the link keeps: its role, its parameters and the bound of its queue. It sends one frame at most, at the end of
--- an event no more than the queue has.
-use Rattle.std.specs.Prelude.{◌≡◌, ℕ, ◌+◌, ◌%◌, ◌≤◌, Bool, true, false, not, ◌&&◌, List, [], ◌∷◌, ◌++◌, length, drop, Result, Ok, Err, if◌then◌else◌, nat_le, nat_lt, ◌==◌}
+-- What a call of the link keeps: its role, its parameters and the bound of its queue. It sends one frame at most, at
+-- the end of an event no more than the queue has.
+use Rattle.std.specs.Prelude.{
+  ◌≡◌,
+  ℕ,
+  ◌+◌,
+  ◌%◌,
+  ◌≤◌,
+  Bool,
+  true,
+  false,
+  not,
+  ◌&&◌,
+  List,
+  [],
+  ◌∷◌,
+  ◌++◌,
+  length,
+  drop,
+  Result,
+  Ok,
+  Err,
+  if◌then◌else◌,
+  nat_le,
+  nat_lt,
+  ◌==◌,
+}
 use Rattle.std.proofs.Common.{refl, arith, length-drop, length-append}
 use Rattle.std.proofs.lemmas.Bool.{leb-false}
 use Rattle.link_timers.specs.declared.role.Role.{Role}
 use Rattle.link_timers.specs.declared.role.Role.TheVariants.{Dte, Dce}
 use Rattle.frame_codec.specs.declared.fault.FrameFault.{FrameFault}
-use Rattle.frame_codec.specs.declared.fault.FrameFault.TheVariants.{TooShort, WrongAddress, UnknownControl, InfoNotAllowed, InfoTooLong}
+use Rattle.frame_codec.specs.declared.fault.FrameFault.TheVariants.{
+  TooShort,
+  WrongAddress,
+  UnknownControl,
+  InfoNotAllowed,
+  InfoTooLong,
+}
 use Rattle.frame_codec.specs.Frame.{FrameValue, Content, Report}
 use Rattle.frame_codec.specs.Frame.Content.{I, Rr, Rnr, Rej, Sabm, Disc, Dm, Ua, Frmr}
 use Rattle.frame_codec.specs.Reading.{reading}
 use Rattle.lapb.specs.declared.phase.Phase.{Phase}
-use Rattle.lapb.specs.Machine.{Octets, Link, Step, Defect, UndefinedControl, InformationNotAllowed, InformationTooLong, response, answers, still, sends, set_up, relink, relink_as, come_up, reject_as, reject_number, is_same, is_valid, ahead, acknowledged, on_supervisory, accept, discard, on_information, checked, in_up, in_setting_up, in_down, in_rejecting, in_phase, on_content, on_defect_in, on_t1, runs, expire_in, poll, numbered, send_all, settle_in, settle, offer, is_full, is_up}
+use Rattle.lapb.specs.Machine.{
+  Octets,
+  Link,
+  Step,
+  Defect,
+  UndefinedControl,
+  InformationNotAllowed,
+  InformationTooLong,
+  response,
+  answers,
+  still,
+  sends,
+  set_up,
+  relink,
+  relink_as,
+  come_up,
+  reject_as,
+  reject_number,
+  is_same,
+  is_valid,
+  ahead,
+  acknowledged,
+  on_supervisory,
+  accept,
+  discard,
+  on_information,
+  checked,
+  in_up,
+  in_setting_up,
+  in_down,
+  in_rejecting,
+  in_phase,
+  on_content,
+  on_defect_in,
+  on_t1,
+  runs,
+  expire_in,
+  poll,
+  numbered,
+  send_all,
+  settle_in,
+  settle,
+  offer,
+  is_full,
+  is_up,
+}
 use Rattle.lapb.specs.Octets.{on_fault, on_reading, on_octets}
 
 cond_by : (P : Bool → Type 0) (b : Bool) → (b ≡ true → P true) → (b ≡ false → P false) → P b
@@ -97,13 +172,15 @@ sends_discard l p = record {
 
 sends_information : (l : Link) (ns : ℕ) (p : Bool) (packet : Octets) → Sends l (on_information l ns p packet)
 sends_information l ns p packet =
-    cond_by (λ b. Sends l (if b then accept l p packet else discard l p)) (ns == l.expected) (λ _. sends_accept l p packet)
+    cond_by (λ b. Sends l (if b then accept l p packet else discard l p)) (ns == l.expected)
+    (λ _. sends_accept l p packet)
     (λ _. sends_discard l p)
 
 sends_checked : (l : Link) (content : Content) (r p : Bool) (nr : ℕ) (taken : Step) → Sends (acknowledged l nr) taken →
     Sends l (checked l content r p nr taken)
 sends_checked l content r p nr taken s =
-    cond_by (λ b. Sends l (if b then record taken { anew = nat_lt 0 (ahead l.oldest nr) } else reject_number l content r p))
+    cond_by (λ b. Sends l (if b then record taken { anew = nat_lt 0 (ahead l.oldest nr) } else reject_number l content
+    r p))
     (is_valid l nr) (λ _. again (sends_behind l nr taken s)) (λ _. sends_reject l.role l _ _)
   where
     again : Sends l taken → Sends l (record taken { anew = nat_lt 0 (ahead l.oldest nr) })
@@ -212,7 +289,8 @@ sends_on_fault l UnknownControl octets = sends_on_defect l.phase l UndefinedCont
 sends_on_fault l InfoNotAllowed octets = sends_on_defect l.phase l InformationNotAllowed _ _
 sends_on_fault l InfoTooLong octets = sends_on_defect l.phase l InformationTooLong _ _
 
-sends_on_reading : (l : Link) (octets : Octets) (read : Result FrameValue FrameFault) → Sends l (on_reading l octets read)
+sends_on_reading : (l : Link) (octets : Octets) (read : Result FrameValue FrameFault) →
+    Sends l (on_reading l octets read)
 sends_on_reading l octets (Ok frame) = sends_on_content frame.content l.role l frame.response frame.pf
 sends_on_reading l octets (Err fault) = sends_on_fault l fault octets
 
@@ -277,7 +355,8 @@ settles_in : (phase : Phase) (l : Link) → Settles l (settle_in phase l)
 settles_in Phase.Down l = settles_still l
 settles_in Phase.SettingUp l = settles_still l
 settles_in Phase.Up l =
-    cond_by (λ b. Settles l (send_all l (if b then drop l.next l.queue else []))) (l.heard && not l.polling && not l.busy)
+    cond_by (λ b. Settles l (send_all l (if b then drop l.next l.queue else [])))
+    (l.heard && not l.polling && not l.busy)
     (λ _. settles_all l (drop l.next l.queue) (shorter l l.next)) (λ _. settles_all l [] (omega arith))
 settles_in Phase.Rejecting l = settles_still l
 

@@ -18,7 +18,8 @@ timing_after-keep Change.Keep = refl
 timing_after-keep Change.Start = refl
 timing_after-keep Change.Stop = refl
 
-by_tests : (ran now anew : Bool) → runs_then (if now then (if anew || not ran then Change.Start else Change.Keep) else Change.Stop) ran
+by_tests : (ran now anew : Bool) → runs_then (if now then (if anew || not ran then Change.Start else Change.Keep) else
+    Change.Stop) ran
     ≡ now
 by_tests ran false anew = refl
 by_tests ran true true = refl
@@ -49,7 +50,8 @@ expire_anew Phase.Rejecting l e = refl
 on_t1-anew : (l : Link) → runs l ≡ true → (on_t1 l).anew ≡ true
 on_t1-anew l ran = ap (λ b. (if b then expire_in l.phase l else still l).anew) ran ∙ expire_anew l.phase l refl
 
-by_anew : (ran now anew : Bool) → anew ≡ true → runs_then (if now then (if anew || not ran then Change.Start else Change.Keep) else
+by_anew : (ran now anew : Bool) → anew ≡ true → runs_then
+    (if now then (if anew || not ran then Change.Start else Change.Keep) else
     Change.Stop) false ≡ now
 by_anew ran false anew e = refl
 by_anew ran true true e = refl

@@ -1,5 +1,24 @@
 -- The end of a line: its link, its timers and the frames that go out, and what each call makes of them.
-use Rattle.std.specs.Prelude.{◌≡◌, ℕ, ◌+◌, ◌≤◌, Bool, true, false, List, [], ◌++◌, length, map, drop, Option, Some, None, is_some, if◌then◌else◌}
+use Rattle.std.specs.Prelude.{
+  ◌≡◌,
+  ℕ,
+  ◌+◌,
+  ◌≤◌,
+  Bool,
+  true,
+  false,
+  List,
+  [],
+  ◌++◌,
+  length,
+  map,
+  drop,
+  Option,
+  Some,
+  None,
+  is_some,
+  if◌then◌else◌,
+}
 use Rattle.link_timers.specs.declared.role.Role.{Role}
 use Rattle.link_timers.specs.declared.timers.TimerId.{TimerId}
 use Rattle.link_timers.specs.declared.timers.TimerId.TheVariants.{T1}
@@ -33,8 +52,8 @@ runs_then Timing.Keep ran = ran
 runs_then Timing.Start ran = true
 runs_then Timing.Stop ran = false
 
--- A step of the link: its frames go out behind those that were not taken yet, of which those past the most are dropped, as lost,
--- and T1 does what the step asks for.
+-- A step of the link: its frames go out behind those that were not taken yet, of which those past the most are
+-- dropped, as lost, and T1 does what the step asks for.
 abbrev pub did : End → Step → End
 did e step = record {
   link = step.link;
@@ -45,7 +64,8 @@ did e step = record {
 -- a step that sends at most so many frames, of which none is dropped where there is room for so many
 pub record SendsUpTo (most : ℕ) (e : End) (step : Step) : Type 0 where
   pub few : length step.frames ≤ most
-  pub all : length e.frames + most ≤ most_frames → (did e step).frames ≡ e.frames ++ map (spelling e.link.role) step.frames
+  pub all : length e.frames + most ≤ most_frames → (did e step).frames ≡ e.frames ++ map (spelling e.link.role)
+      step.frames
 
 -- the frames that were not taken are dropped, as lost
 abbrev pub without_frames : End → End

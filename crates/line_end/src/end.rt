@@ -1,13 +1,44 @@
-ghost use Rattle.std.specs.Prelude.{◌≡◌, ◌≤◌, [], ◌∷◌, length, MatchOption, MatchResult, IsOk, is_ok, Err, Some, None, is_some, option_copied};
+ghost use Rattle.std.specs.Prelude.{
+  ◌≡◌,
+  ◌≤◌,
+  [],
+  ◌∷◌,
+  length,
+  MatchOption,
+  MatchResult,
+  IsOk,
+  is_ok,
+  Err,
+  Some,
+  None,
+  is_some,
+  option_copied,
+};
 ghost use Rattle.std.specs.Bool.{OnTrue, OnFalse};
 ghost use Rattle.link_timers.specs.Timers.{left_of, due_timers, first_of};
+ghost use Rattle.frame_codec.specs.Spelling.{most_information};
 ghost use Rattle.lapb.specs.Machine as machine;
 ghost use Rattle.lapb.specs.Octets.{on_octets};
 ghost use Rattle.lapb.specs.Offers.{refusal};
 ghost use Rattle.lapb.specs.Unsent.{HasSentAll};
 ghost use Rattle.lapb.specs.Out.{with_frames};
 ghost use Rattle.lapb.specs.Params.{AreParams};
-ghost use Rattle.line_end.specs.End.{timed, runs_then, made, without_frames, received, after_timer, timer_note, relinked, restarted, offered, settled, without_first, elapsed, SendsUpTo};
+ghost use Rattle.line_end.specs.End.{
+  timed,
+  runs_then,
+  made,
+  without_frames,
+  received,
+  after_timer,
+  timer_note,
+  relinked,
+  restarted,
+  offered,
+  settled,
+  without_first,
+  elapsed,
+  SendsUpTo,
+};
 
 use arrayvec::ArrayVec;
 use frame_codec::FrameBuf;
@@ -29,9 +60,10 @@ pub struct Received<'a> {
 
 /// The end of a line: the link (X.25 2.4), the timers, and the frames that go out.
 ///
-/// A node calls it in this order in each of its events: `drop_frames`, what happens at this line (a frame, an expiry, a
-/// relink), an offer of each packet that may go, `settle`; then it takes the frames by `out`. Up to [`MOST_FRAMES`] frames
-/// wait to be taken; one more is dropped, as a lost frame, which no event with at most two calls before `settle` comes to.
+/// A node calls it in this order in each of its events: `drop_frames`, what happens at this line (a frame, an expiry,
+/// a relink), an offer of each packet that may go, `settle`; then it takes the frames by `out`. Up to [`MOST_FRAMES`]
+/// frames wait to be taken; one more is dropped, as a lost frame, which no event with at most two calls before
+/// `settle` comes to.
 #[derive(Drop)]
 pub struct LineEnd {
     role: Role,
@@ -54,8 +86,8 @@ impl Model for LineEnd {
 }
 
 impl LineEnd {
-    /// The end of this role of a line. Where the line stands the link is up; else it is started: a DTE sends SABM, a DCE asks for
-    /// it by DM (X.25 2.4.4.1).
+    /// The end of this role of a line. Where the line stands the link is up; else it is started: a DTE sends SABM, a
+    /// DCE asks for it by DM (X.25 2.4.4.1).
     ///
     /// `BadParams` comes where `k` is not from 1 to 7 or `n2` not from 1 to 20.
     pub fn new(role: Role, params: LinkParams) -> Result<LineEnd, BadParams>
@@ -106,7 +138,8 @@ impl LineEnd {
         }
     }
 
-    /// Takes an expiry of a timer: what it tells of the link, or `None` where the timer does not run, which changes nothing.
+    /// Takes an expiry of a timer: what it tells of the link, or `None` where the timer does not run, which changes
+    /// nothing.
     pub fn on_timer(&mut self, id: TimerId) -> Option<Note>
         ensures end { self.new ≡ after_timer self.old id }
         ensures frames { SendsUpTo 1 self.old (machine.on_t1 self.old.link) }
@@ -139,8 +172,8 @@ impl LineEnd {
         out.note()
     }
 
-    /// Begins anew after a restart of the node, as on a line that does not stand. What went before is forgotten, also the frames
-    /// that were not taken.
+    /// Begins anew after a restart of the node, as on a line that does not stand. What went before is forgotten, also
+    /// the frames that were not taken.
     pub fn restart(&mut self)
         ensures { self.new ≡ restarted self.old }
     {
@@ -149,11 +182,12 @@ impl LineEnd {
         }
     }
 
-    /// Offers a packet of at most 145 octets to the link. It goes out in an I frame by a later `settle`.
+    /// Offers a packet that fits into an I frame to the link. It goes out in an I frame by a later `settle`.
     ///
-    /// `Down` comes where the link is not up, `Full` where k packets are unacknowledged. A packet that is refused changes nothing.
+    /// `Down` comes where the link is not up, `Full` where k packets are unacknowledged. A packet that is refused
+    /// changes nothing.
     pub fn offer(&mut self, packet: &[u8]) -> Result<(), OfferFault>
-        requires { length packet.now ≤ 145 }
+        requires { length packet.now ≤ most_information }
         ensures answer { MatchOption (refusal self.old.link) (IsOk result) (λ fault. result ≡ Err fault) }
         ensures taken { is_ok result ≡ machine.can_offer self.old.link }
         ensures end { self.new ≡ offered self.old packet.now }
@@ -161,7 +195,8 @@ impl LineEnd {
         self.link.offer(packet)
     }
 
-    /// Ends an event of the node: the I frames that may go go out, in order; where none goes, RR if an acknowledgement is owed.
+    /// Ends an event of the node: the I frames that may go go out, in order; where none goes, RR if an acknowledgement
+    /// is owed.
     pub fn settle(&mut self)
         ensures end { self.new ≡ settled self.old }
 
@@ -250,7 +285,8 @@ impl LineEnd {
 // Does what a call of the link asks for: T1 and the frames that go out.
 fn carry_out(out: &LinkOut, timers: &mut Timers, frames: &mut ArrayVec<FrameBuf, MOST_FRAMES>)
     ensures timers { timers.new ≡ timed out.now.timer timers.old }
-    ensures t1 { is_some (left_of timers.new TimerId.T1) ≡ runs_then out.now.timer (is_some (left_of timers.old TimerId.T1)) }
+    ensures t1 { is_some (left_of timers.new TimerId.T1) ≡ runs_then out.now.timer
+        (is_some (left_of timers.old TimerId.T1)) }
     ensures frames { frames.new.items ≡ with_frames frames.old.items out.now.frames }
 {
     match out.timer() {

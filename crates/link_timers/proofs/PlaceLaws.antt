@@ -1,5 +1,31 @@
 -- Each timer has a place of its own, so the places are a map from timers.
-use Rattle.std.proofs.Common.{◌≡◌, ◌≢◌, ℕ, zero, suc, ◌+◌, ◌-◌, ◌<◌, ◌≤◌, Bool, true, false, [], ◌∷◌, length, get_or, set, map, replicate, refl, sym, ◌∙◌, ap, subst, arith}
+use Rattle.std.proofs.Common.{
+  ◌≡◌,
+  ◌≢◌,
+  ℕ,
+  zero,
+  suc,
+  ◌+◌,
+  ◌-◌,
+  ◌<◌,
+  ◌≤◌,
+  Bool,
+  true,
+  false,
+  [],
+  ◌∷◌,
+  length,
+  get_or,
+  set,
+  map,
+  replicate,
+  refl,
+  sym,
+  ◌∙◌,
+  ap,
+  subst,
+  arith,
+}
 use Rattle.std.specs.Prelude.{◌⊎◌, Option, None, nat_le}
 use Rattle.std.proofs.Common.{inl, inr, get_or-set_other, get_or-set_same}
 use borrow.Author.Tests.{lt-ltb, le-ltb, le-leb, leb-true}

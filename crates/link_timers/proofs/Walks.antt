@@ -1,5 +1,23 @@
 -- Loops over the places of the timers.
-use Rattle.std.proofs.Common.{◌≡◌, ℕ, zero, suc, ◌<◌, List, [], ◌∷◌, length, get_or, set, take, drop, map, ap, ap₂, arith}
+use Rattle.std.proofs.Common.{
+  ◌≡◌,
+  ℕ,
+  zero,
+  suc,
+  ◌<◌,
+  List,
+  [],
+  ◌∷◌,
+  length,
+  get_or,
+  set,
+  take,
+  drop,
+  map,
+  ap,
+  ap₂,
+  arith,
+}
 
 -- a list whose first items are those of an older one under f, and whose others are as they were
 pub record IsMappedTo {X : Type 0} (f : X → X) (old now : List X) (i : ℕ) : Type 0 where

@@ -1,5 +1,29 @@
 -- The timers of an end of a line, as a map from those that run to the ticks that they have left.
-use Rattle.std.specs.Prelude.{◌≡◌, ℕ, ◌+◌, ◌-◌, ◌≤◌, Bool, false, ◌&&◌, List, [], ◌∷◌, length, map, replicate, Option, Some, None, slice_index_or, slice_set, nat_le, nat_lt, ◌==◌, if◌then◌else◌}
+use Rattle.std.specs.Prelude.{
+  ◌≡◌,
+  ℕ,
+  ◌+◌,
+  ◌-◌,
+  ◌≤◌,
+  Bool,
+  false,
+  ◌&&◌,
+  List,
+  [],
+  ◌∷◌,
+  length,
+  map,
+  replicate,
+  Option,
+  Some,
+  None,
+  slice_index_or,
+  slice_set,
+  nat_le,
+  nat_lt,
+  ◌==◌,
+  if◌then◌else◌,
+}
 use Rattle.link_timers.specs.declared.timers.TimerId.{TimerId}
 use Rattle.link_timers.specs.declared.timers.TimerId.TheVariants.{T1, T10, T20, T11, T12, T13, T21, T22, T23, Idle}
 

@@ -1,4 +1,20 @@
-ghost use Rattle.std.specs.Prelude.{◌≡◌, ◌≢◌, ◌≤◌, ◌<◌, ◌+◌, ◌↔◌, false, map, length, slice_set, Some, None, is_some, MatchOption, Contains};
+ghost use Rattle.std.specs.Prelude.{
+  ◌≡◌,
+  ◌≢◌,
+  ◌≤◌,
+  ◌<◌,
+  ◌+◌,
+  ◌↔◌,
+  false,
+  map,
+  length,
+  slice_set,
+  Some,
+  None,
+  is_some,
+  MatchOption,
+  Contains,
+};
 ghost use Rattle.link_timers.specs.declared.timers.TimerId.{TimerId};
 ghost use Rattle.link_timers.specs.Timers.{
   places,

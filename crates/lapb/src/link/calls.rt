@@ -1,5 +1,6 @@
 //! The calls of a link that take frames, packets and expiries.
 ghost use Rattle.std.specs.Prelude.{◌≡◌, ◌≤◌, ◌<◌, length, drop, Some, IsOk, MatchOption, Err};
+ghost use Rattle.frame_codec.specs.Spelling.{most_information};
 ghost use Rattle.lapb.specs.Machine as machine;
 ghost use Rattle.lapb.specs.Octets.{on_octets};
 ghost use Rattle.lapb.specs.Named.{Session, Agrees, Keeps, after_offer};
@@ -132,12 +133,12 @@ impl Link {
         }
     }
 
-    /// Takes a packet of at most 145 octets, to be sent by `settle` when it may go.
+    /// Takes a packet that fits into an I frame, to be sent by `settle` when it may go.
     ///
     /// `Down` comes where the link is not up, `Full` where as many packets are unacknowledged as may be. A packet that
     /// is refused changes nothing.
     pub fn offer(&mut self, packet: &[u8]) -> Result<(), OfferFault>
-        requires { length packet.now ≤ 145 }
+        requires { length packet.now ≤ most_information }
         ensures answer { MatchOption (refusal self.old) (IsOk result) (λ fault. result ≡ Err fault) }
         ensures link { self.new ≡ machine.offer self.old packet.now }
 
@@ -184,8 +185,8 @@ impl Link {
         self.phase
     }
 
-    /// Whether the link is up and has nothing to wait for or to tell: every packet is acknowledged, every poll answered,
-    /// and every accepted packet told of.
+    /// Whether the link is up and has nothing to wait for or to tell: every packet is acknowledged, every poll
+    /// answered, and every accepted packet told of.
     pub fn at_rest(&self) -> bool
         ensures { result ≡ machine.at_rest self.now }
     {

@@ -16,13 +16,18 @@ loop-frame-preserved c =
     elim c.if-not-is_full.branch [
       | then-not-is_full w ↦
           let one : c.if-not-is_full.frames.items ≡ c.loop-frame.frames.items ++ c.frame-item.result ∷ [] =
-          ap (λ (v : ArrayVec Octets). v.items) w.frames-is ∙ w.push.ensures.items ∙ ap (λ (frame : Octets). c.loop-frame.frames.items ++ frame ∷ []) w.copy_of.ensures in
-          let room = eqb-false (length c.loop-frame.frames.items) 9 (sym c.is_full.ensures.value ∙ w.if-not-is_full.true) in
-          rw one (with_frames-one c.loop-frame.frames.items c.frame-item.result (drop (place + 1) c.args.more.now) (omega (arith, room, c.is_full.ensures.fits)) ∙ before)
+          ap (λ (v : ArrayVec Octets). v.items) w.frames-is ∙ w.push.ensures.items ∙
+          ap (λ (frame : Octets). c.loop-frame.frames.items ++ frame ∷ []) w.copy_of.ensures in
+          let room = eqb-false (length c.loop-frame.frames.items) 9
+          (sym c.is_full.ensures.value ∙ w.if-not-is_full.true) in
+          rw one (with_frames-one c.loop-frame.frames.items c.frame-item.result (drop (place + 1) c.args.more.now)
+          (omega (arith, room, c.is_full.ensures.fits)) ∙ before)
       | else-not-is_full w ↦
           let same = ap (λ (v : ArrayVec Octets). v.items) w.frames-is in
-          let full = eqb-true (length c.loop-frame.frames.items) 9 (sym c.is_full.ensures.value ∙ w.if-not-is_full.false) in
-          rw same (with_frames-full c.loop-frame.frames.items c.frame-item.result (drop (place + 1) c.args.more.now) full ∙ before)
+          let full = eqb-true (length c.loop-frame.frames.items) 9
+          (sym c.is_full.ensures.value ∙ w.if-not-is_full.false) in
+          rw same (with_frames-full c.loop-frame.frames.items c.frame-item.result (drop (place + 1) c.args.more.now)
+          full ∙ before)
     ]
 
 pub returns : goal.returns

@@ -15,12 +15,15 @@ invariant_of-self-2 c =
     let step = machine.on_t1 c.self.inside.link in
     let out = c.on_t1.ensures.out ∙ ap (λ (o : Out). gathered o c.self.inside.link step) c.new-out.ensures in
     let ran : is_some (left_of c.self.inside.timers T1) ≡ true =
-    ap (λ (id : TimerId). is_some (left_of c.self.inside.timers id)) (sym is_t1) ∙ sym c.fire.ensures.ran ∙ c.if-not-fire.false in
+    ap (λ (id : TimerId). is_some (left_of c.self.inside.timers id)) (sym is_t1) ∙ sym c.fire.ensures.ran ∙
+    c.if-not-fire.false in
     let fired : is_some (left_of c.fire.new.self T1) ≡ false =
     ap (λ (id : TimerId). is_some (left_of c.fire.new.self id)) (sym is_t1) ∙ ap is_some c.fire.ensures.left in
-    rw c.on_t1.ensures.link (still_end c.self.inside step.link c.carry_out.new.timers c.carry_out.new.frames c.self.invariant
+    rw c.on_t1.ensures.link (still_end c.self.inside step.link c.carry_out.new.timers c.carry_out.new.frames
+    c.self.invariant
     (sends_on_t1 c.self.inside.link).keeps
-    (t1_expired-is c.self.inside.link c.on_t1.new.out _ _ out c.carry_out.ensures.t1 fired (sym c.self.invariant.t1 ∙ ran)))
+    (t1_expired-is c.self.inside.link c.on_t1.new.out _ _ out c.carry_out.ensures.t1 fired
+    (sym c.self.invariant.t1 ∙ ran)))
 
 pub returns-then-not-fire-clause-frames : goal.returns-then-not-fire-clause-frames
 returns-then-not-fire-clause-frames c = expiry_sends c.args.self.now

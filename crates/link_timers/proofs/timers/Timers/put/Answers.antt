@@ -9,12 +9,14 @@ use Rattle.link_timers.proofs.timers.Timers.put.Goals.{then-eq, else-eq}
 pub overflow_sub-self : goal.overflow_sub-self
 overflow_sub-self c =
     let before = get_or c.self.inside.left c.in-Some.place None in
-    was_due c.self.inside.left c.in-Some.place c.self.inside.due c.self.invariant (search rules) (sym (is_zero before) ∙ sym c.eq.ensures ∙ c.if-eq.true)
+    was_due c.self.inside.left c.in-Some.place c.self.inside.due c.self.invariant (search rules)
+    (sym (is_zero before) ∙ sym c.eq.ensures ∙ c.if-eq.true)
 
 pub invariant_of-self : goal.invariant_of-self
 invariant_of-self c =
     let before = get_or c.self.inside.left c.in-Some.place None in
-    let after = put_is c.self.inside.left c.self.inside.due c.in-Some.place c.args.left c.self.invariant c.requires (search rules) in
+    let after = put_is c.self.inside.left c.self.inside.due c.in-Some.place c.args.left c.self.invariant c.requires
+    (search rules) in
     elim c.if-eq.branch [
       | then-eq w ↦
           subst (λ (a : Inside). AreTimers (set a.left c.in-Some.place c.args.left) a.due) (sym w.self-inside-is)
