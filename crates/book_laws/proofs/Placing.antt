@@ -9,7 +9,7 @@ use Rattle.packet_layer.specs.Packets.Reason.{LinkLost, LocalFault}
 use Rattle.packet_layer.specs.Channel.{CallState, Channel, clear_error, in_transfer}
 use Rattle.packet_layer.specs.Channel.CallState.{Ready}
 use Rattle.packet_layer.specs.Layer as layer
-use Rattle.packet_layer.specs.Layer.{Phase, Layer, Timer, nth_channel, channel_of, with_nth, closing_notes, unread, on_found, after_step, owing, on_timer, expired, runs, runs_at, waits_for_call, waits_for_clear, placing, channel_given, free_channel, link_up, link_down}
+use Rattle.packet_layer.specs.Layer.{Phase, Layer, Timer, nth_channel, channel_of, with_nth, unread, on_found, after_step, owing, expired, runs, runs_at, waits_for_call, placing, channel_given, link_up, link_down}
 use Rattle.packet_layer.specs.Layer.Phase.{NoSession, OwnRestart, PacketReady}
 use Rattle.packet_layer.specs.Layer.Timer.{RestartTimer, CallTimer, ResetTimer, ClearTimer}
 use Rattle.packet_laws.specs.History.{Epoch, History, placed, call_history, expired_history, next_restart_of, next_use_of}

@@ -9,7 +9,7 @@ use Rattle.link_timers.specs.Timers.{stopped}
 use Rattle.link_timers.specs.Role.{other_of}
 use Rattle.frame_codec.specs.Spelling.{spelling}
 use Rattle.lapb.specs.Machine as link
-use Rattle.lapb.specs.Machine.{Octets, Link, can_offer, is_up}
+use Rattle.lapb.specs.Machine.{Octets, Link}
 use Rattle.lapb.specs.World.{World}
 use Rattle.lapb.specs.Octets as link_octets
 use Rattle.lapb.specs.Line.{chosen}
@@ -19,13 +19,13 @@ use Rattle.line_end.specs.End as line
 use Rattle.packet_layer.specs.Packets.{CallParts, Note}
 use Rattle.packet_layer.specs.Channel.{Request}
 use Rattle.packet_layer.specs.Layer.{Layer}
-use Rattle.packet_layer.specs.Events.{timer_named, written_packet}
+use Rattle.packet_layer.specs.Events.{timer_named}
 use Rattle.packet_laws.specs.Line as layers
-use Rattle.packet_laws.specs.Line.{Event, happens, offers}
+use Rattle.packet_laws.specs.Line.{Event, happens}
 use Rattle.packet_laws.specs.Readable.{IsReadable, CanBePlaced}
 use Rattle.packet_laws.proofs.Readable.{readable_link_down}
 use Rattle.packet_end.specs.PacketEnd as end
-use Rattle.packet_end.specs.PacketEnd.{PacketEnd, gathered, heeded, after_packet, runs_at, with_next, offered, all_offered}
+use Rattle.packet_end.specs.PacketEnd.{PacketEnd, gathered, runs_at}
 use Rattle.line_laws.specs.Line.{Begins, Hears, Expires, Relinks, RelinksIfDue, Restarts, Calls, Requests, Settles, Elapses, Sends}
 use Rattle.line_laws.specs.Events.{frame_events, expiry_events, timer_events, after_here, notes_of}
 use Rattle.line_laws.specs.Joint.{Side, side, session_of, coming_session, Follows, JointAt}

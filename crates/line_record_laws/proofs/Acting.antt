@@ -13,15 +13,15 @@ use Rattle.packet_layer.specs.Channel.{Request}
 use Rattle.packet_layer.specs.Layer.{Layer, Phase, unread, next_packet, link_down, channel_given, request_refusal, front_on}
 use Rattle.packet_layer.specs.Layer.Phase.{NoSession, OwnRestart, PacketReady}
 use Rattle.packet_laws.specs.Line as layers
-use Rattle.packet_laws.specs.Line.{Event, happens, turned}
+use Rattle.packet_laws.specs.Line.{Event, happens}
 use Rattle.packet_laws.specs.Readable.{CanBePlaced}
 use Rattle.packet_end.specs.PacketEnd.{PacketEnd, with_next}
 use Rattle.line_laws.specs.Line as acts
-use Rattle.line_laws.specs.Line.{Line, Act, Begins, Hears, Expires, Relinks, RelinksIfDue, Restarts, Calls, Requests, Offers, Settles, Elapses, Sends, At, Loses, does, other_after, going_after, coming_after, made}
+use Rattle.line_laws.specs.Line.{Line, Act, Begins, Hears, Expires, Relinks, RelinksIfDue, Restarts, Calls, Requests, Offers, Settles, Elapses, Sends, At, does, other_after, going_after, coming_after}
 use Rattle.line_laws.specs.Events.{offer_events, after_here, notes_of}
 use Rattle.line_laws.specs.Fit.{IsFit}
 use Rattle.line_laws.specs.Joint.{session_of, coming_session, session_now}
-use Rattle.line_laws.specs.Steps.{events_at, session_after, Rise, AreNotes}
+use Rattle.line_laws.specs.Steps.{events_at, session_after, AreNotes}
 use Rattle.line_laws.specs.Steps as steps
 use Rattle.line_laws.proofs.Holding.{act_steps, loses_joint}
 use Rattle.call_records.specs.Book.{Book, edits, all_told}

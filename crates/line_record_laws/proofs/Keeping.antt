@@ -20,7 +20,7 @@ use Rattle.packet_laws.specs.Readable.{IsReadable}
 use Rattle.packet_laws.specs.Line as layers
 use Rattle.packet_end.specs.PacketEnd.{PacketEnd}
 use Rattle.line_laws.specs.Line as acts
-use Rattle.line_laws.specs.Line.{Line, Act, Begins, Hears, Expires, Relinks, RelinksIfDue, Restarts, Calls, Requests, Offers, Settles, Elapses, Sends, At, Loses, does, other_after, going_after, coming_after, made}
+use Rattle.line_laws.specs.Line.{Line, Act, Begins, Hears, Expires, Relinks, RelinksIfDue, Restarts, Calls, Requests, Offers, Settles, Elapses, Sends, At, does, other_after, going_after, coming_after, made}
 use Rattle.line_laws.specs.Joint.{Joint, Stands, side, Follows}
 use Rattle.line_laws.proofs.Holding.{new_joint}
 use Rattle.call_records.specs.Book.{Book, Slot, side_of, slot_at, closes, edits, all_told}

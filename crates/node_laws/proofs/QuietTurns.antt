@@ -17,7 +17,7 @@ use Rattle.packet_host.specs.Host as host
 use Rattle.packet_host.specs.Making as host_making
 use Rattle.packet_host.specs.declared.config.HostConfig.{HostConfig}
 use Rattle.packet_pad.specs.Pad as pad
-use Rattle.packet_pad.specs.Pad.{PadState, stands, held_in, refusing, after_finish}
+use Rattle.packet_pad.specs.Pad.{PadState, stands, refusing, after_finish}
 use Rattle.packet_pad.specs.Keys.{KeyEffect, key_without_effect, key_dropped, is_control, message, with_block, edited_by, typed, after_octet}
 use Rattle.packet_pad.specs.Making as pad_making
 use Rattle.packet_pad.specs.declared.config.PadConfig.{PadConfig}

@@ -13,7 +13,7 @@ use Rattle.packet_laws.specs.History.{History, packet_history, restart_history, 
 use Rattle.packet_laws.specs.Line.{Line, happens, accepts, arrives_in, next_of_session, is_session}
 use Rattle.packet_laws.specs.Line.Event.{Arrives}
 use Rattle.packet_laws.proofs.Handshakes.Handshake as handshake
-use Rattle.packet_laws.proofs.Handshakes.Handshake.{Kind, Two, Did, said, does, AllPayload, advanced, confirmed_side, side_hears, side_ok}
+use Rattle.packet_laws.proofs.Handshakes.Handshake.{Kind, said, does, AllPayload, advanced, confirmed_side, side_hears, side_ok}
 use Rattle.packet_laws.proofs.Handshakes.Handshake.Kind.{Payload, Request, Confirmation}
 use Rattle.packet_laws.proofs.Handshakes.Keeping.{same}
 use Rattle.packet_laws.proofs.Call.Saying.{by_cond}

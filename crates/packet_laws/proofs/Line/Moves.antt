@@ -7,8 +7,7 @@ use Rattle.packet_layer.specs.Packets.{CallParts, Body, Packet}
 use Rattle.packet_layer.specs.Packets.Body.{Restart}
 use Rattle.packet_layer.specs.Channel.{Channel, Step, Request, closed_channel, requested, clear_error}
 use Rattle.packet_layer.specs.Layer as layer
-use Rattle.packet_layer.specs.Layer.{Phase, Layer, Timer, Next, ChannelNext, channel_of, nth_channel, with_nth, after_step, on_found, call, placed_on, channel_given, request, on_timer, expired, unread, runs, link_up, link_down, next_packet, next_in, next_restart, serve, serve_found, served, next_of, next_owed, next_number, packet_of, start_cause}
-use Rattle.packet_layer.specs.Layer.Phase.{NoSession, OwnRestart, PacketReady}
+use Rattle.packet_layer.specs.Layer.{Layer, Timer, channel_of, with_nth, on_found, call, placed_on, channel_given, request, on_timer, expired, unread, runs, link_down, start_cause}
 use Rattle.packet_layer.specs.Layer.Timer.{RestartTimer, CallTimer, ResetTimer, ClearTimer}
 use Rattle.packet_laws.specs.History.{History, request_history, timer_history, call_history}
 use Rattle.packet_laws.specs.Line.{End, Line, happens, told, with_layer, begun, may_begin, is_session}

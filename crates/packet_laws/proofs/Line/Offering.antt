@@ -10,7 +10,7 @@ use Rattle.packet_layer.specs.Layer.{Phase, Layer, Next, ChannelNext, channel_of
 use Rattle.packet_layer.specs.Layer.Phase.{NoSession, OwnRestart, PacketReady}
 use Rattle.packet_laws.specs.Line.{Line, happens, handed_over, offers}
 use Rattle.packet_laws.specs.Line.Event.{Offers}
-use Rattle.packet_laws.proofs.Handshakes.Handshake.{Two, Did, said, AllPayload}
+use Rattle.packet_laws.proofs.Handshakes.Handshake.{said, AllPayload}
 use Rattle.packet_laws.proofs.Handshakes.Handshake.Kind.{Payload}
 use Rattle.packet_laws.proofs.Handshakes.Keeping.{same}
 use Rattle.packet_laws.proofs.Call.SetUp.{Stage}
