@@ -1,16 +1,21 @@
--- One logical channel: the state tables of call set-up, clearing and reset (X.25 tables C-1 to C-4, 4.1, 4.4.3), seen from
--- one end: "own" is what this end began, "far" what the other end did.
-use Rattle.std.specs.Prelude.{ℕ, ◌+◌, Bool, true, false, cond, not, ◌&&◌, ◌||◌, ◌==◌, nat_lt, nat_le, List, [], ◌∷◌, ◌++◌, length, Option, Some, None}
+-- One logical channel: the state tables of call set-up, clearing and reset (X.25 tables C-1 to C-4, 4.1, 4.4.3), seen
+-- from one end: "own" is what this end began, "far" what the other end did.
+use Rattle.std.specs.Prelude.{ℕ, ◌+◌, Bool, true, false, cond, not, ◌&&◌, ◌||◌, ◌==◌, nat_lt, nat_le, List, [], ◌∷◌}
+use Rattle.std.specs.Prelude.{◌++◌, length, Option, Some, None}
 use Rattle.link_timers.specs.declared.role.Role.{Role}
 use Rattle.link_timers.specs.declared.role.Role.TheVariants.{Dte, Dce}
 use Rattle.packet_codec.specs.ClearCause as clear_cause
 use Rattle.packet_codec.specs.ResetCause as reset_cause
 use Rattle.packet_codec.specs.Diagnostic.{no_information, not_allowed_in_p, not_allowed_in_d1}
 use Rattle.packet_channel.specs.Packets.{CallParts, Datum, Body, Note}
-use Rattle.packet_channel.specs.Packets.Body.{Call, Accepted, Clear, ClearConfirmation, Data, Interrupt, InterruptConfirmation, ReceiveReady, ReceiveNotReady, Reset, ResetConfirmation}
+use Rattle.packet_channel.specs.Packets.Body.{Call, Accepted, Clear, ClearConfirmation, Data, Interrupt}
+use Rattle.packet_channel.specs.Packets.Body.{InterruptConfirmation, ReceiveReady, ReceiveNotReady, Reset}
+use Rattle.packet_channel.specs.Packets.Body.{ResetConfirmation}
 use Rattle.packet_channel.specs.Packets.Note.{Incoming, Connected, Closed, WasReset, InterruptConfirmed, Covered}
 use Rattle.packet_channel.specs.Packets.Reason.{FarEnd, LocalFault, Cancelled}
-use Rattle.packet_channel.specs.Traffic.{Traffic, Heard, fresh, queue, queue_interrupt, interrupt_pending, stopping, taking, may_release, releasing, confirming, hears, says, rests}
+use Rattle.packet_channel.specs.Traffic.{Traffic, Heard, fresh, queue, queue_interrupt}
+use Rattle.packet_channel.specs.Traffic.{interrupt_pending, stopping, taking, may_release, releasing, confirming}
+use Rattle.packet_channel.specs.Traffic.{hears, says, rests}
 use Rattle.packet_channel.specs.Traffic.Heard.{Keeps, Confirms, Wrong}
 
 -- p1; p2 of a DTE or p3 of a DCE; p3 of a DTE or p2 of a DCE; p4; p5; p6 of a DTE or p7 of a DCE
@@ -34,8 +39,8 @@ p_number role Collision = 5
 p_number Dte OwnClear = 6
 p_number Dce OwnClear = 7
 
--- a channel: in p4, resetting says d2 of a DTE or d3 of a DCE, and not resetting d1; owed are the control packets not yet
--- handed to the link
+-- a channel: in p4, resetting says d2 of a DTE or d3 of a DCE, and not resetting d1; owed are the control packets not
+-- yet handed to the link
 pub record Channel : Type 0 where
   pub state : CallState
   pub resetting : Bool
@@ -96,7 +101,8 @@ not_allowed role c ch = clear_error role c (not_allowed_in_p (p_number role ch.s
 -- ---- packets received in d1 and in the own reset
 
 abbrev pub far_cleared : ℕ → ℕ → ℕ → Channel → Step
-far_cleared c cause diagnostic ch = record { channel = ended Ready ch; owes = Some ClearConfirmation; notes = Closed c cause diagnostic FarEnd ∷ [] }
+far_cleared c cause diagnostic ch =
+    record { channel = ended Ready ch; owes = Some ClearConfirmation; notes = Closed c cause diagnostic FarEnd ∷ [] }
 
 abbrev pub covered_note : ℕ → ℕ → List Note
 covered_note c n = cond (n == 0) [] (Covered c n ∷ [])
@@ -108,13 +114,22 @@ after_heard role c ch (Wrong diagnostic) = reset_error role c diagnostic ch
 
 abbrev pub in_flow_ready : Role → ℕ → ℕ → Channel → Body → Step
 in_flow_ready role window c ch (Clear cause diagnostic) = far_cleared c cause diagnostic ch
-in_flow_ready role window c ch (Reset cause diagnostic) = record { channel = renewed false ch; owes = Some ResetConfirmation; notes = WasReset c cause diagnostic FarEnd ∷ [] }
+in_flow_ready role window c ch (Reset cause diagnostic) =
+    record {
+      channel = renewed false ch;
+      owes = Some ResetConfirmation;
+      notes = WasReset c cause diagnostic FarEnd ∷ [];
+    }
 in_flow_ready role window c ch ResetConfirmation = reset_error role c not_allowed_in_d1 ch
-in_flow_ready role window c ch (Data send receive d) = after_heard role c ch (hears window ch.traffic (Data send receive d))
-in_flow_ready role window c ch (ReceiveReady receive) = after_heard role c ch (hears window ch.traffic (ReceiveReady receive))
-in_flow_ready role window c ch (ReceiveNotReady receive) = after_heard role c ch (hears window ch.traffic (ReceiveNotReady receive))
+in_flow_ready role window c ch (Data send receive d) =
+    after_heard role c ch (hears window ch.traffic (Data send receive d))
+in_flow_ready role window c ch (ReceiveReady receive) =
+    after_heard role c ch (hears window ch.traffic (ReceiveReady receive))
+in_flow_ready role window c ch (ReceiveNotReady receive) =
+    after_heard role c ch (hears window ch.traffic (ReceiveNotReady receive))
 in_flow_ready role window c ch (Interrupt octets) = after_heard role c ch (hears window ch.traffic (Interrupt octets))
-in_flow_ready role window c ch InterruptConfirmation = after_heard role c ch (hears window ch.traffic InterruptConfirmation)
+in_flow_ready role window c ch InterruptConfirmation =
+    after_heard role c ch (hears window ch.traffic InterruptConfirmation)
 in_flow_ready role window c ch _ = not_allowed role c ch
 
 abbrev pub in_own_reset : Role → ℕ → Channel → Body → Step
@@ -142,7 +157,8 @@ collision_notes Dce c parts = Closed c clear_cause.number_busy no_information Ca
 
 abbrev pub in_own_waiting : Role → ℕ → Channel → Body → Step
 in_own_waiting role c ch Accepted = record { channel = entered Transfer ch; owes = None; notes = Connected c ∷ [] }
-in_own_waiting role c ch (Call parts) = record { channel = entered Collision ch; owes = None; notes = collision_notes role c parts }
+in_own_waiting role c ch (Call parts) =
+    record { channel = entered Collision ch; owes = None; notes = collision_notes role c parts }
 in_own_waiting role c ch (Clear cause diagnostic) = far_cleared c cause diagnostic ch
 in_own_waiting role c ch _ = not_allowed role c ch
 
@@ -164,7 +180,8 @@ abbrev pub received_in : CallState → Role → ℕ → ℕ → Channel → Body
 received_in Ready role window c ch body = in_ready role c ch body
 received_in OwnWaiting role window c ch body = in_own_waiting role c ch body
 received_in FarWaiting role window c ch body = in_far_waiting role c ch body
-received_in Transfer role window c ch body = cond ch.resetting (in_own_reset role c ch body) (in_flow_ready role window c ch body)
+received_in Transfer role window c ch body =
+    cond ch.resetting (in_own_reset role c ch body) (in_flow_ready role window c ch body)
 received_in Collision role window c ch body = in_collision role c ch body
 received_in OwnClear role window c ch body = in_own_clear ch body
 
@@ -232,9 +249,18 @@ refused_if false r other = other
 abbrev pub refusal : Role → Channel → Request → Option Refusal
 refusal role ch Accept = refused_if (not (may_accept role ch.state)) Refusal.NoCall None
 refusal role ch (Clearing cause diagnostic) = refused_if (not (may_clear ch.state)) Refusal.NoCall None
-refusal role ch (Resetting cause diagnostic) = refused_if (not (in_transfer ch.state)) Refusal.NoCall (refused_if ch.resetting Refusal.IsResetting None)
-refusal role ch (Sending d) = refused_if (not (in_transfer ch.state)) Refusal.NoCall (refused_if ch.resetting Refusal.IsResetting (refused_if (nat_le 8 (length ch.traffic.waiting)) Refusal.QueueFull (refused_if (nat_lt 128 (length d.octets)) Refusal.TooLong None)))
-refusal role ch (Interrupting octets) = refused_if (not (in_transfer ch.state)) Refusal.NoCall (refused_if ch.resetting Refusal.IsResetting (refused_if ((length octets == 0) || nat_lt 32 (length octets)) Refusal.TooLong (refused_if (interrupt_pending ch.traffic) Refusal.InterruptPending None)))
+refusal role ch (Resetting cause diagnostic) =
+    refused_if (not (in_transfer ch.state)) Refusal.NoCall (refused_if ch.resetting Refusal.IsResetting None)
+refusal role ch (Sending d) =
+    refused_if (not (in_transfer ch.state)) Refusal.NoCall
+    (refused_if ch.resetting Refusal.IsResetting
+    (refused_if (nat_le 8 (length ch.traffic.waiting)) Refusal.QueueFull
+    (refused_if (nat_lt 128 (length d.octets)) Refusal.TooLong None)))
+refusal role ch (Interrupting octets) =
+    refused_if (not (in_transfer ch.state)) Refusal.NoCall
+    (refused_if ch.resetting Refusal.IsResetting
+    (refused_if ((length octets == 0) || nat_lt 32 (length octets)) Refusal.TooLong
+    (refused_if (interrupt_pending ch.traffic) Refusal.InterruptPending None)))
 refusal role ch (Stopping b) = refused_if (not (in_transfer ch.state)) Refusal.NoCall None
 -- (nothing can be taken, released or confirmed outside a call)
 refusal role ch _ = refused_if (not (in_transfer ch.state)) Refusal.NoCall None
@@ -252,8 +278,10 @@ traffic_after _ t = t
 -- what a request that is not refused makes of the channel
 abbrev pub carried_out : Channel → Request → Step
 carried_out ch Accept = record { channel = entered Transfer ch; owes = Some Accepted; notes = [] }
-carried_out ch (Clearing cause diagnostic) = record { channel = ended OwnClear ch; owes = Some (Clear cause diagnostic); notes = [] }
-carried_out ch (Resetting cause diagnostic) = record { channel = renewed true ch; owes = Some (Reset cause diagnostic); notes = [] }
+carried_out ch (Clearing cause diagnostic) =
+    record { channel = ended OwnClear ch; owes = Some (Clear cause diagnostic); notes = [] }
+carried_out ch (Resetting cause diagnostic) =
+    record { channel = renewed true ch; owes = Some (Reset cause diagnostic); notes = [] }
 carried_out ch (Sending d) = quiet (moved (queue d ch.traffic) ch)
 carried_out ch (Interrupting octets) = quiet (moved (queue_interrupt octets ch.traffic) ch)
 carried_out ch (Stopping b) = quiet (moved (stopping b ch.traffic) ch)

@@ -1,7 +1,8 @@
 -- Packets and their octets: what the layer hears of received octets, and the octets in which a packet goes to the link.
 use Rattle.std.specs.Prelude.{◌≡◌, ℕ, Bool, true, false, List, Option, Some, None, Result, Ok, Err}
 use Rattle.packet_codec.specs.declared.fault.PacketFault.{PacketFault}
-use Rattle.packet_codec.specs.declared.fault.PacketFault.TheVariants.{TooShort, BadFormatId, UnknownType, BadLength, BadAddress, DataTooLong}
+use Rattle.packet_codec.specs.declared.fault.PacketFault.TheVariants.{TooShort, BadFormatId, UnknownType, BadLength}
+use Rattle.packet_codec.specs.declared.fault.PacketFault.TheVariants.{BadAddress, DataTooLong}
 use Rattle.packet_codec.specs.Packet.{PacketValue, ContentValue, CallValue, DataValue, spelling}
 use Rattle.packet_codec.specs.Packet.{ContentValue as content}
 use Rattle.packet_codec.specs.Reading.{reading, named_channel}
@@ -20,7 +21,15 @@ abbrev pub datum_of : DataValue → Datum
 datum_of d = record { octets = d.user_data; more = d.more; qualified = d.qualified; delivery = d.delivery }
 
 abbrev pub value_of_datum : (send receive : ℕ) → Datum → DataValue
-value_of_datum send receive d = record { qualified = d.qualified; delivery = d.delivery; more = d.more; send = send; receive = receive; user_data = d.octets }
+value_of_datum send receive d =
+    record {
+      qualified = d.qualified;
+      delivery = d.delivery;
+      more = d.more;
+      send = send;
+      receive = receive;
+      user_data = d.octets;
+    }
 
 abbrev pub body_of : ContentValue → Body
 body_of (content.CallRequest c) = body.Call (parts_of c)
@@ -64,8 +73,8 @@ abbrev pub ReadsAs : ℕ → Option Body → List ℕ → Type 0
 ReadsAs channel None octets = Unit {0}
 ReadsAs channel (Some b) octets = reading octets ≡ Ok (record { channel = channel; content = content_of b })
 
--- ---- octets from the link. Too few octets and another format are ignored; an unknown type and the other faults count as a
--- packet that the state of the channel does not allow
+-- ---- octets from the link. Too few octets and another format are ignored; an unknown type and the other faults
+-- count as a packet that the state of the channel does not allow
 
 abbrev pub unreadable_as : Bool → Option ℕ → Option Received
 unreadable_as unknown None = None

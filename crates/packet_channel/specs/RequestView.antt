@@ -9,7 +9,8 @@ abbrev pub request_of : Request → spec.Request
 request_of request.Accept = spec.Request.Accept
 request_of (request.Clear cause diagnostic) = spec.Request.Clearing cause diagnostic
 request_of (request.Reset cause diagnostic) = spec.Request.Resetting cause diagnostic
-request_of (request.Send octets more qualified delivery) = spec.Request.Sending (record { octets = octets.now; more = more; qualified = qualified; delivery = delivery })
+request_of (request.Send octets more qualified delivery) =
+    spec.Request.Sending (record { octets = octets.now; more = more; qualified = qualified; delivery = delivery })
 request_of (request.Interrupt octets) = spec.Request.Interrupting octets.now
 request_of (request.Stop stopped) = spec.Request.Stopping stopped
 request_of (request.Release count) = spec.Request.Releasing count

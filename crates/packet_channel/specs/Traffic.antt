@@ -1,6 +1,7 @@
--- Data transfer on a channel from one reset to the next (X.25 4.3 and 4.4): queues, P(S) and P(R), the window, busy states,
--- interrupts.
-use Rattle.std.specs.Prelude.{ℕ, ◌+◌, ◌-◌, ◌%◌, Bool, true, false, cond, not, ◌&&◌, ◌||◌, ◌==◌, nat_lt, nat_le, List, [], ◌∷◌, ◌++◌, length, Option, Some, None, is_some}
+-- Data transfer on a channel from one reset to the next (X.25 4.3 and 4.4): queues, P(S) and P(R), the window, busy
+-- states, interrupts.
+use Rattle.std.specs.Prelude.{ℕ, ◌+◌, ◌-◌, ◌%◌, Bool, true, false, cond, not, ◌&&◌, ◌||◌, ◌==◌, nat_lt, nat_le, List}
+use Rattle.std.specs.Prelude.{[], ◌∷◌, ◌++◌, length, Option, Some, None, is_some}
 use Rattle.packet_codec.specs.Diagnostic.{no_information, invalid_send_number, invalid_receive_number}
 use Rattle.packet_channel.specs.Packets.{Datum, Body}
 use Rattle.packet_channel.specs.Packets.Body.{Data, Interrupt, InterruptConfirmation, ReceiveReady, ReceiveNotReady}
@@ -12,7 +13,8 @@ pub record Traffic : Type 0 where
   pub covered : ℕ
   -- how many of the packets not yet covered, the oldest first, have to be covered until all with D = 1 are
   pub undelivered : ℕ
-  -- packets to be taken, the P(S) expected, the P(R) that may be sent (modulo 8), and whether the partner has to be told of it
+  -- packets to be taken, the P(S) expected, the P(R) that may be sent (modulo 8), and whether the partner has to be
+  -- told of it
   pub arrived : List Datum
   pub receive_number : ℕ
   pub released : ℕ
@@ -50,8 +52,8 @@ fresh = record {
   confirmation_due = false;
 }
 
--- the counts that numbers modulo 8 stand for, since no window is above 7: packets sent and not covered, packets accepted and
--- not released
+-- the counts that numbers modulo 8 stand for, since no window is above 7: packets sent and not covered, packets
+-- accepted and not released
 abbrev pub distance : ℕ → ℕ → ℕ
 distance from to = (to + 8 - from) % 8
 
@@ -67,7 +69,10 @@ interrupt_pending t = is_some t.interrupt_waiting || t.interrupt_unconfirmed
 -- ---- what the user does
 
 abbrev pub queue : Datum → Traffic → Traffic
-queue d t = record t { waiting = t.waiting ++ d ∷ []; undelivered = cond d.delivery (in_flight t + length t.waiting + 1) t.undelivered }
+queue d t = record t {
+  waiting = t.waiting ++ d ∷ [];
+  undelivered = cond d.delivery (in_flight t + length t.waiting + 1) t.undelivered;
+}
 
 abbrev pub queue_interrupt : List ℕ → Traffic → Traffic
 queue_interrupt octets t = record t { interrupt_waiting = Some octets }
@@ -106,8 +111,8 @@ releasing n t = record t { released = (t.released + n) % 8; untold = t.untold ||
 abbrev pub confirming : Traffic → Traffic
 confirming t = record t { interrupt_taken = false; confirmation_due = true }
 
--- ---- what goes to the link: the interrupt confirmation, the interrupt, data within the window, and RR or RNR where the partner does
--- not know the present P(R) or whether this end is stopped
+-- ---- what goes to the link: the interrupt confirmation, the interrupt, data within the window, and RR or RNR where
+-- the partner does not know the present P(R) or whether this end is stopped
 
 pub record Said : Type 0 where
   pub traffic : Traffic
@@ -127,11 +132,18 @@ flow_told t = not t.untold && same_flag t.told_stopped t.stopped
 -- nothing waits to be sent or taken, and nothing is to be told
 abbrev pub rests : Traffic → Bool
 rests t =
-    (length t.waiting == 0) && (length t.arrived == 0) && not (is_some t.interrupt_waiting) && not (is_some t.interrupt_arrived)
+    (length t.waiting == 0) && (length t.arrived == 0) && not (is_some t.interrupt_waiting)
+    && not (is_some t.interrupt_arrived)
     && not t.confirmation_due && flow_told t
 
 abbrev pub says_flow : Traffic → Said
-says_flow t = cond (flow_told t) (record { traffic = t; body = None }) (record { traffic = record t { untold = false; told_stopped = t.stopped }; body = Some (ready_or_not t.stopped t.released) })
+says_flow t =
+    cond (flow_told t)
+    (record { traffic = t; body = None })
+    (record {
+      traffic = record t { untold = false; told_stopped = t.stopped };
+      body = Some (ready_or_not t.stopped t.released);
+    })
 
 abbrev pub window_open : ℕ → Traffic → Bool
 window_open window t = nat_lt (in_flight t) window && not t.partner_busy
@@ -140,15 +152,23 @@ abbrev pub says_data : ℕ → List Datum → Traffic → Said
 says_data window [] t = says_flow t
 says_data window (d ∷ ds) t =
     cond (window_open window t)
-    (record { traffic = record t { waiting = ds; send_number = (t.send_number + 1) % 8; untold = false }; body = Some (Data t.send_number t.released d) })
+    (record {
+      traffic = record t { waiting = ds; send_number = (t.send_number + 1) % 8; untold = false };
+      body = Some (Data t.send_number t.released d);
+    })
     (says_flow t)
 
 abbrev pub says_interrupt : ℕ → Option (List ℕ) → Traffic → Said
-says_interrupt window (Some octets) t = record { traffic = record t { interrupt_waiting = None; interrupt_unconfirmed = true }; body = Some (Interrupt octets) }
+says_interrupt window (Some octets) t = record {
+  traffic = record t { interrupt_waiting = None; interrupt_unconfirmed = true };
+  body = Some (Interrupt octets);
+}
 says_interrupt window None t = says_data window t.waiting t
 
 abbrev pub says : ℕ → Traffic → Said
-says window t = cond t.confirmation_due (record { traffic = record t { confirmation_due = false }; body = Some InterruptConfirmation }) (says_interrupt window t.interrupt_waiting t)
+says window t = cond t.confirmation_due
+    (record { traffic = record t { confirmation_due = false }; body = Some InterruptConfirmation })
+    (says_interrupt window t.interrupt_waiting t)
 
 -- ---- what comes from the link
 
@@ -162,7 +182,8 @@ pub data Heard : Type 0 where
 abbrev pub covers : ℕ → Traffic → Heard
 covers receive t =
     cond (nat_le (distance t.covered receive) (in_flight t))
-    (Heard.Keeps (distance t.covered receive) (record t { covered = receive; undelivered = t.undelivered - distance t.covered receive }))
+    (Heard.Keeps (distance t.covered receive)
+    (record t { covered = receive; undelivered = t.undelivered - distance t.covered receive }))
     (Heard.Wrong invalid_receive_number)
 
 abbrev pub keeps : (Traffic → Traffic) → Heard → Heard
@@ -182,9 +203,14 @@ interrupted t = is_some t.interrupt_arrived || (t.interrupt_taken || t.confirmat
 
 -- a Data packet needs the expected P(S), room in the window of what is not released, and then a valid P(R)
 abbrev pub hears : ℕ → Traffic → Body → Heard
-hears window t (Data send receive d) = cond ((send == t.receive_number) && nat_lt (unreleased t) window) (keeps (λ u. arrives d u) (covers receive t)) (Heard.Wrong invalid_send_number)
+hears window t (Data send receive d) =
+    cond ((send == t.receive_number) && nat_lt (unreleased t) window) (keeps (λ u. arrives d u) (covers receive t))
+    (Heard.Wrong invalid_send_number)
 hears window t (ReceiveReady receive) = keeps (λ u. partner_says false u) (covers receive t)
 hears window t (ReceiveNotReady receive) = keeps (λ u. partner_says true u) (covers receive t)
-hears window t (Interrupt octets) = cond (interrupted t) (Heard.Wrong no_information) (Heard.Keeps 0 (record t { interrupt_arrived = Some octets }))
-hears window t InterruptConfirmation = cond t.interrupt_unconfirmed (Heard.Confirms (record t { interrupt_unconfirmed = false })) (Heard.Wrong no_information)
+hears window t (Interrupt octets) =
+    cond (interrupted t) (Heard.Wrong no_information) (Heard.Keeps 0 (record t { interrupt_arrived = Some octets }))
+hears window t InterruptConfirmation =
+    cond t.interrupt_unconfirmed (Heard.Confirms (record t { interrupt_unconfirmed = false }))
+    (Heard.Wrong no_information)
 hears window t _ = Heard.Wrong no_information

@@ -17,14 +17,14 @@ use crate::control::{Control, Owed};
 use crate::effect::{Effect, Outcome};
 use crate::state::{CallState, End};
 use crate::taken::{Front, Taken};
-use crate::traffic::Traffic;
+use crate::traffic::{SEND_QUEUE, Traffic};
 use packet_codec::{CallBuf, Packet, PacketBuf, diagnostic};
 pub use requests::Request;
 use std::alloc::{AllocError, Global};
 use std::marker::Model;
 
-/// A logical channel: the state of its call, in p4 whether the own reset is not confirmed, the control packets that are owed to
-/// the link, and what is in transfer.
+/// A logical channel: the state of its call, in p4 whether the own reset is not confirmed, the control packets that
+/// are owed to the link, and what is in transfer.
 #[derive(Drop)]
 pub struct Channel {
     state: CallState,
@@ -114,7 +114,7 @@ impl Channel {
         ensures { result ≡ (if machine.has_flow self.now then 8 - length self.now.traffic.waiting else 0) }
     {
         if self.has_flow() {
-            8 - self.traffic.waiting()
+            SEND_QUEUE as u8 - self.traffic.waiting()
         } else {
             0
         }
@@ -130,7 +130,8 @@ impl Channel {
     /// Takes the interrupt that waits, or else the first packet.
     pub fn take(&mut self) -> Option<Taken>
         ensures taken { maybe_taken result ≡ traffic.front self.old.traffic }
-        ensures channel { (role : Role) → self.new ≡ machine.owing (machine.requested role self.old machine.Request.Taking) }
+        ensures channel { (role : Role)
+            → self.new ≡ machine.owing (machine.requested role self.old machine.Request.Taking) }
     {
         if !self.state.in_transfer() {
             return None;
@@ -195,7 +196,8 @@ impl Channel {
 
     /// Clears the call whose timer expired.
     pub fn expire(&mut self, end: End) -> Outcome
-        ensures channel { self.new ≡ machine.owing (machine.clear_error end.role end.channel no_information true self.old) }
+        ensures channel { self.new
+            ≡ machine.owing (machine.clear_error end.role end.channel no_information true self.old) }
         ensures outcome { result ≡ outcome_of (machine.clear_error end.role end.channel no_information true self.old) }
     {
         let effect = self.clear_error(end, diagnostic::NO_INFORMATION, true);
@@ -215,7 +217,8 @@ impl Channel {
     // Owes what a step owes.
     fn settle(&mut self, effect: Effect) -> Outcome
         ensures channel { self.new ≡ record self.old { owed = machine.with_owed self.old.owed effect.owes } }
-        ensures outcome { result ≡ record { relink = machine.passes_limit self.old.owed effect.owes; notes = effect.notes } }
+        ensures outcome { result
+            ≡ record { relink = machine.passes_limit self.old.owed effect.owes; notes = effect.notes } }
     {
         let Effect {
             owes,

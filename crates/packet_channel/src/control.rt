@@ -52,10 +52,13 @@ fn write_control(channel: u8, control: &Control, buf: &mut PacketBuf)
     write_packet(&packet, buf);
 }
 
-/// The control packets that a channel owes, in order: at most four.
+/// How many control packets may be owed on a channel, and how many restart packets.
+pub const MOST_OWED: usize = 4;
+
+/// The control packets that a channel owes, in order.
 #[derive(Drop)]
 pub(crate) struct Owed {
-    packets: ArrayVec<Control, 4>,
+    packets: ArrayVec<Control, MOST_OWED>,
 }
 
 impl Model for Owed {

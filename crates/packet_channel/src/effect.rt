@@ -71,8 +71,8 @@ impl Effect {
     }
 }
 
-/// What a whole step tells the layer: whether it owes one packet too many, so that the link has to be set up anew, and what it
-/// notes, in order.
+/// What a whole step tells the layer: whether it owes one packet too many, so that the link has to be set up anew,
+/// and what it notes, in order.
 #[derive(Drop)]
 pub struct Outcome {
     pub relink: bool,

@@ -1,5 +1,5 @@
-//! One logical channel of the packet layer: the state of its call, its data in transfer, the control packets that it owes to the
-//! link, what its user asks, and what a packet from the link makes of it (X.25 sections 4 and 5).
+//! One logical channel of the packet layer: the state of its call, its data in transfer, the control packets that it
+//! owes to the link, what its user asks, and what a packet from the link makes of it (X.25 sections 4 and 5).
 #![tactic(auto)]
 
 mod channel;
@@ -14,6 +14,7 @@ mod traffic;
 mod user_data;
 
 pub use channel::{Channel, Request};
+pub use control::MOST_OWED;
 pub use effect::Outcome;
 pub use fault::ChannelFault;
 pub use note::{LayerNote, Reason};

@@ -172,9 +172,11 @@ impl Traffic {
         Some(Taken::Data(data))
     }
 
-    /// Lets P(R) pass so many more of the packets that were taken. Nothing happens where fewer are taken and not released.
+    /// Lets P(R) pass so many more of the packets that were taken. Nothing happens where fewer are taken and not
+    /// released.
     pub(crate) fn release(&mut self, count: u8)
-        ensures { self.new ≡ (if machine.may_release count self.old then machine.releasing count self.old else self.old) }
+        ensures { self.new
+            ≡ (if machine.may_release count self.old then machine.releasing count self.old else self.old) }
     {
         if usize::from(count) + self.arrived.len() <= usize::from(self.unreleased()) {
             self.released = self.released.after(count);

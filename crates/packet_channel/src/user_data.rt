@@ -2,12 +2,13 @@
 ghost use Rattle.std.specs.Prelude.{◌≡◌, ◌≤◌, length};
 
 use arrayvec::ArrayVec;
+use packet_codec::{MAX_INTERRUPT, MAX_USER_DATA};
 use std::marker::Model;
 
 /// The user data of a Data packet, kept in place: at most 128 octets, with the bits M, Q and D (X.25 4.3).
 #[derive(Drop)]
 pub struct UserData {
-    octets: ArrayVec<u8, 128>,
+    octets: ArrayVec<u8, MAX_USER_DATA>,
     more: bool,
     qualified: bool,
     delivery: bool,
@@ -19,7 +20,12 @@ impl Model for UserData {
 
     ghost Value = { Datum };
 
-    ghost view = { λ d. record { octets = d.octets.items; more = d.more; qualified = d.qualified; delivery = d.delivery } };
+    ghost view = { λ d. record {
+      octets = d.octets.items;
+      more = d.more;
+      qualified = d.qualified;
+      delivery = d.delivery;
+    } };
 
     ghost invariant = { λ d. length d.octets.items ≤ 128 };
 }
@@ -73,7 +79,7 @@ impl UserData {
 /// The user data of an interrupt, kept in place: 1 to 32 octets (X.25 4.3.7).
 #[derive(Drop)]
 pub struct InterruptData {
-    octets: ArrayVec<u8, 32>,
+    octets: ArrayVec<u8, MAX_INTERRUPT>,
 }
 
 impl Model for InterruptData {

@@ -1,5 +1,7 @@
--- The packet layer of one line: its logical channels, the restart procedure (X.25 3 and table C-1), timers, what is owed to the link.
-use Rattle.std.specs.Prelude.{ℕ, zero, suc, ◌-◌, Bool, true, false, cond, ◌&&◌, ◌==◌, nat_le, List, [], ◌∷◌, ◌++◌, length, map, set, slice_get, replicate, Option, Some, None, is_some, not}
+-- The packet layer of one line: its logical channels, the restart procedure (X.25 3 and table C-1), timers, what is
+-- owed to the link.
+use Rattle.std.specs.Prelude.{ℕ, zero, suc, ◌-◌, Bool, true, false, cond, ◌&&◌, ◌==◌, nat_le, List, [], ◌∷◌, ◌++◌}
+use Rattle.std.specs.Prelude.{length, map, set, slice_get, replicate, Option, Some, None, is_some, not}
 use Rattle.std.specs.List.{list_all}
 use Rattle.link_timers.specs.declared.role.Role.{Role}
 use Rattle.link_timers.specs.declared.role.Role.TheVariants.{Dte, Dce}
@@ -12,9 +14,13 @@ use Rattle.packet_channel.specs.Packets.Received.{Whole, Unknown, Faulty}
 use Rattle.packet_channel.specs.Packets.Note.{Closed}
 use Rattle.packet_channel.specs.Packets.Reason.{LinkLost, FarRestart, LocalFault}
 use Rattle.packet_channel.specs.Traffic.{Taken, front}
-use Rattle.packet_channel.specs.Channel.{Channel, Step, Request, Refusal, closed_channel, entered, error_cause, clear_error, received, unreadable, requested, refusal, has_flow, in_transfer, refused_if, may_accept}
+use Rattle.packet_channel.specs.Channel.{Channel, Step, Request, Refusal, closed_channel, entered, error_cause}
+use Rattle.packet_channel.specs.Channel.{clear_error, received, unreadable, requested, refusal, has_flow, in_transfer}
+use Rattle.packet_channel.specs.Channel.{refused_if, may_accept}
 use Rattle.packet_channel.specs.Channel.CallState.{Transfer}
-pub use Rattle.packet_channel.specs.Channel.{is_full, with_owed, passes_limit, owing, had_call, waits_for_call, waits_for_clear, ChannelNext, next_owed, next_of, is_ready, is_free, placing, channel_rests}
+pub use Rattle.packet_channel.specs.Channel.{is_full, with_owed, passes_limit, owing, had_call, waits_for_call}
+pub use Rattle.packet_channel.specs.Channel.{waits_for_clear, ChannelNext, next_owed, next_of, is_ready, is_free}
+pub use Rattle.packet_channel.specs.Channel.{placing, channel_rests}
 
 -- no session of the link; r2 of a DTE or r3 of a DCE; r1
 pub data Phase : Type 0 where
@@ -22,8 +28,9 @@ pub data Phase : Type 0 where
   OwnRestart : Phase
   PacketReady : Phase
 
--- a packet layer: its role, the window of its channels, the channels 1, 2 and so on, the phase of the restart procedure, the
--- restart packets owed, the channel served last, whether the link has to be set up anew, and the notes not yet read
+-- a packet layer: its role, the window of its channels, the channels 1, 2 and so on, the phase of the restart
+-- procedure, the restart packets owed, the channel served last, whether the link has to be set up anew, and the notes
+-- not yet read
 pub record Layer : Type 0 where
   pub role : Role
   pub window : ℕ
@@ -70,7 +77,8 @@ made role channels window standing = record {
   notes = [];
 }
 
--- ---- what a layer owes. A fifth owed packet asks for a relink, after which nothing goes to the link until `link_down` or `link_up`
+-- ---- what a layer owes. A fifth owed packet asks for a relink, after which nothing goes to the link until
+-- `link_down` or `link_up`
 
 abbrev pub set_if : Bool → Bool → Bool
 set_if true old = true
@@ -78,7 +86,11 @@ set_if false old = old
 
 -- the layer after a step of channel c
 abbrev pub after_step : Layer → ℕ → Step → Layer
-after_step l c st = record l { channels = with_nth l.channels c (owing st); relink = set_if (passes_limit st.channel.owed st.owes) l.relink; notes = l.notes ++ st.notes }
+after_step l c st = record l {
+  channels = with_nth l.channels c (owing st);
+  relink = set_if (passes_limit st.channel.owed st.owes) l.relink;
+  notes = l.notes ++ st.notes;
+}
 
 abbrev pub owes_restart : Option Body → Layer → Layer
 owes_restart o l = record l { owed = with_owed l.owed o; relink = set_if (passes_limit l.owed o) l.relink }
@@ -93,11 +105,13 @@ closing_notes c reason (ch ∷ chs) =
     (closing_notes (suc c) reason chs)
 
 abbrev pub all_closed : Reason → Layer → Layer
-all_closed reason l = record l { channels = map (λ ch. closed_channel) l.channels; notes = l.notes ++ closing_notes 1 reason l.channels }
+all_closed reason l =
+    record l { channels = map (λ ch. closed_channel) l.channels; notes = l.notes ++ closing_notes 1 reason l.channels }
 
 -- this end begins a restart
 abbrev pub restarting : ℕ → ℕ → Layer → Layer
-restarting cause diagnostic l = owes_restart (Some (Restart cause diagnostic)) (record l { phase = OwnRestart; served_last = 0 })
+restarting cause diagnostic l =
+    owes_restart (Some (Restart cause diagnostic)) (record l { phase = OwnRestart; served_last = 0 })
 
 -- what was noted and not read is dropped by what changes the layer next: a packet, an expiry, the link
 abbrev pub unread : Layer → Layer
@@ -120,7 +134,8 @@ link_down l = record (all_closed LinkLost (unread l)) { phase = NoSession; owed 
 -- ---- packets from the link
 
 abbrev pub restart_packet : Phase → Body → Layer → Layer
-restart_packet PacketReady (Restart cause diagnostic) l = owes_restart (Some RestartConfirmation) (record (all_closed FarRestart l) { served_last = 0 })
+restart_packet PacketReady (Restart cause diagnostic) l =
+    owes_restart (Some RestartConfirmation) (record (all_closed FarRestart l) { served_last = 0 })
 restart_packet PacketReady RestartConfirmation l =
     restarting (error_cause l.role restart_cause.local_procedure_error) not_allowed_in_r1 (all_closed LocalFault l)
 restart_packet OwnRestart (Restart cause diagnostic) l = record l { phase = PacketReady; served_last = 0 }
@@ -138,7 +153,8 @@ on_channel phase l c f = l
 
 -- restart packets, and they alone, have channel 0
 abbrev pub packet_in : Layer → Packet → Layer
-packet_in l p = cond (p.channel == 0) (restart_packet l.phase p.body l) (on_channel l.phase l p.channel (λ ch. received l.role l.window p.channel ch p.body))
+packet_in l p = cond (p.channel == 0) (restart_packet l.phase p.body l)
+    (on_channel l.phase l p.channel (λ ch. received l.role l.window p.channel ch p.body))
 
 abbrev pub on_received : Layer → Received → Layer
 on_received l (Whole p) = packet_in l p
@@ -174,13 +190,15 @@ abbrev pub expired : Layer → Timer → Layer
 expired l RestartTimer = record l { relink = true }
 expired l (CallTimer c) = on_found l c (λ ch. clear_error l.role c no_information true ch) (channel_of l c)
 expired l (ResetTimer c) = on_found l c (λ ch. clear_error l.role c no_information true ch) (channel_of l c)
-expired l (ClearTimer c) = restarting (error_cause l.role restart_cause.local_procedure_error) no_information (all_closed LocalFault l)
+expired l (ClearTimer c) =
+    restarting (error_cause l.role restart_cause.local_procedure_error) no_information (all_closed LocalFault l)
 
 abbrev pub on_timer : Layer → Timer → Layer
 on_timer l t = cond (runs l t) (expired (unread l) t) l
 
--- ---- what goes to the link: restart packets before all others; then the channels take turns, beginning behind the one that had
--- the last turn, and the first with anything gives a control packet or, owing none, what its traffic says
+-- ---- what goes to the link: restart packets before all others; then the channels take turns, beginning behind the
+-- one that had the last turn, and the first with anything gives a control packet or, owing none, what its traffic
+-- says
 
 pub record Next : Type 0 where
   pub layer : Layer
@@ -194,7 +212,12 @@ abbrev pub next_number : Layer → ℕ → ℕ
 next_number l c = cond (nat_le (length l.channels) c) 1 (suc c)
 
 abbrev pub served : Layer → ℕ → ChannelNext → Next → Next
-served l c n others = cond (is_some n.body) (record { layer = record l { channels = with_nth l.channels c n.channel; served_last = c }; packet = packet_of c n.body }) others
+served l c n others =
+    cond (is_some n.body)
+    (record {
+      layer = record l { channels = with_nth l.channels c n.channel; served_last = c };
+      packet = packet_of c n.body;
+    }) others
 
 abbrev pub serve_found : Layer → ℕ → Option Channel → Next → Next
 serve_found l c None others = others

@@ -1,5 +1,6 @@
 //! The packet layer of one line (X.25 3 to 5).
-ghost use Rattle.std.specs.Prelude.{◌≡◌, ◌<◌, ◌≤◌, ◌+◌, ◌++◌, MatchResult, MatchOption, IfOk, None, false, Bool, [], length, drop, replicate, slice_get};
+ghost use Rattle.std.specs.Prelude.{◌≡◌, ◌<◌, ◌≤◌, ◌+◌, ◌++◌, MatchResult, MatchOption, IfOk, None, false, Bool, []};
+ghost use Rattle.std.specs.Prelude.{length, drop, replicate, slice_get};
 ghost use Rattle.packet_channel.specs.Channel.{Channel as ChannelValue, closed_channel};
 ghost use Rattle.packet_layer.specs.Layer as machine;
 ghost use Rattle.packet_layer.specs.Params.{AreParams, MadeNot};
@@ -14,7 +15,7 @@ mod timers;
 
 use crate::fault::MakeFault;
 use crate::notes::Notes;
-use crate::params::LayerParams;
+use crate::params::{LARGEST_WINDOW, LayerParams, MOST_CHANNELS};
 use crate::restart::{OwedRestarts, Phase};
 use link_timers::Role;
 use packet_channel::{Channel, End, LayerNote, Outcome};
@@ -59,10 +60,11 @@ fn closed_channels(alloc: Global, count: u8) -> Result<Vec<Channel>, AllocError>
 impl Layer {
     ghost use Rattle.packet_channel.specs.NoteView.{maybe_note};
 
-    /// A packet layer without a session of the link, or on a standing line one in data transfer on channel 1. It takes all the
-    /// memory that it ever uses.
+    /// A packet layer without a session of the link, or on a standing line one in data transfer on channel 1. It
+    /// takes all the memory that it ever uses.
     ///
-    /// `BadParams` comes where the channels are not 1 to 32 or the window not 1 to 7, and then `OutOfMemory` for want of memory.
+    /// `BadParams` comes where the channels are not 1 to 32 or the window not 1 to 7, and then `OutOfMemory` for want
+    /// of memory.
     pub fn new(alloc: Global, role: Role, params: LayerParams) -> Result<Layer, MakeFault>
         ensures { MatchResult result
             (λ layer. AreParams params.channels params.window
@@ -74,7 +76,7 @@ impl Layer {
             window,
             standing,
         } = params;
-        if channels < 1 || channels > 32 || window < 1 || window > 7 {
+        if channels < 1 || channels > MOST_CHANNELS || window < 1 || window > LARGEST_WINDOW {
             return Err(MakeFault::BadParams);
         }
         let mut channels = closed_channels(alloc, channels)?;
@@ -99,8 +101,8 @@ impl Layer {
         })
     }
 
-    /// Takes the first note that is not read, if any. Notes that are not read are dropped by the next `link_up`, `link_down`,
-    /// `on_packet` or `on_timer`.
+    /// Takes the first note that is not read, if any. Notes that are not read are dropped by the next `link_up`,
+    /// `link_down`, `on_packet` or `on_timer`.
     pub fn notes(&mut self) -> Option<LayerNote>
         ensures value { maybe_note result ≡ slice_get self.old.notes 0 }
         ensures layer { self.new ≡ record self.old { notes = drop 1 self.old.notes } }
@@ -132,8 +134,10 @@ impl Layer {
     // The place of a channel of the line, where the restart procedure is done.
     fn ready_place(&self, channel: u16) -> Option<usize>
         ensures { MatchOption result
-            ((test : ChannelValue → Bool) → machine.runs_at test self.now.phase (machine.channel_of self.now channel) ≡ false)
-            (λ place. (self.now.phase ≡ machine.Phase.PacketReady) × (place + 1 ≡ channel) × (place < length self.now.channels)) }
+            ((test : ChannelValue → Bool)
+            → machine.runs_at test self.now.phase (machine.channel_of self.now channel) ≡ false)
+            (λ place. (self.now.phase ≡ machine.Phase.PacketReady) × (place + 1 ≡ channel)
+            × (place < length self.now.channels)) }
     {
         match self.phase {
             Phase::PacketReady => self.place(channel),
@@ -159,7 +163,10 @@ impl Layer {
     // Keeps what a step of a channel tells.
     fn report(&mut self, outcome: Outcome)
         requires { self.old.notes ≡ [] }
-        ensures { self.new ≡ record self.old { relink = machine.set_if outcome.relink self.old.relink; notes = self.old.notes ++ outcome.notes } }
+        ensures { self.new ≡ record self.old {
+          relink = machine.set_if outcome.relink self.old.relink;
+          notes = self.old.notes ++ outcome.notes;
+        } }
     {
         let Outcome {
             relink,

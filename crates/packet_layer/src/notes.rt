@@ -1,13 +1,14 @@
 //! The notes of a packet layer that are not yet read.
 ghost use Rattle.std.specs.Prelude.{◌≡◌, ◌<◌, ◌≤◌, ◌++◌, ◌∷◌, [], IfOk, length, drop, slice_get};
 
+use crate::params::MOST_CHANNELS;
 use circular_buffer::HeapCircularBuffer;
 use packet_channel::LayerNote;
 use std::alloc::{AllocError, Global};
 use std::marker::Model;
 
-/// The most notes that one event gives: each of 32 calls closes, and one more.
-const MOST_NOTES: usize = 33;
+/// The most notes that one event gives: each of the calls closes, and one more.
+const MOST_NOTES: usize = MOST_CHANNELS as usize + 1;
 
 /// The notes that are not yet read, in order.
 #[derive(Drop)]

@@ -1,3 +1,9 @@
+/// The most logical channels of a line.
+pub const MOST_CHANNELS: u8 = 32;
+
+/// The largest window with numbers modulo 8.
+pub const LARGEST_WINDOW: u8 = 7;
+
 /// How the packet layer of a line is to be made.
 #[derive(Clone, Copy, Debug, PartialEq, Eq)]
 pub struct LayerParams {

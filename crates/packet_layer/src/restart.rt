@@ -6,6 +6,7 @@ ghost use Rattle.packet_channel.specs.ControlView.{first_of, rest_of};
 ghost use Rattle.packet_layer.specs.RestartView.{restart_body};
 
 use arrayvec::ArrayVec;
+use packet_channel::MOST_OWED;
 use packet_codec::{Content, Packet, PacketBuf, write_packet};
 use std::marker::Model;
 
@@ -33,10 +34,10 @@ impl Default for RestartPacket {
     }
 }
 
-/// The restart packets that are owed, in order: at most four.
+/// The restart packets that are owed, in order.
 #[derive(Drop)]
 pub(crate) struct OwedRestarts {
-    packets: ArrayVec<RestartPacket, 4>,
+    packets: ArrayVec<RestartPacket, MOST_OWED>,
 }
 
 impl Model for OwedRestarts {

@@ -104,8 +104,8 @@ impl Channel {
         )
     }
 
-    /// A packet of the channel that cannot be read counts as one that the state does not allow; where its fault is not an
-    /// unknown type, with diagnostic 0.
+    /// A packet of the channel that cannot be read counts as one that the state does not allow; where its fault is
+    /// not an unknown type, with diagnostic 0.
     pub(crate) fn unreadable(&mut self, end: End, unknown: bool) -> Effect
         ensures channel { self.new ≡ (machine.unreadable end.role end.channel unknown self.old).channel }
         ensures effect { result ≡ effect_of (machine.unreadable end.role end.channel unknown self.old) }

@@ -126,8 +126,10 @@ impl Channel {
 
     fn in_own_clear(&mut self, packet: &Packet<'_>) -> Effect
         requires { self.old.state ≡ machine.CallState.OwnClear }
-        ensures channel { self.new ≡ (machine.in_own_clear self.old (body_of (content_view packet.now.content))).channel }
-        ensures effect { result ≡ effect_of (machine.in_own_clear self.old (body_of (content_view packet.now.content))) }
+        ensures channel { self.new
+            ≡ (machine.in_own_clear self.old (body_of (content_view packet.now.content))).channel }
+        ensures effect { result
+            ≡ effect_of (machine.in_own_clear self.old (body_of (content_view packet.now.content))) }
     {
         match packet.content {
             Content::ClearRequest { .. } | Content::ClearConfirmation => {
@@ -201,7 +203,8 @@ impl Channel {
     fn far_reset(&mut self, end: End, cause: u8, diagnostic: u8) -> Effect
         requires { self.old.state ≡ machine.CallState.Transfer }
         ensures channel { self.new ≡ machine.renewed false self.old }
-        ensures effect { result ≡ effect_of (machine.in_flow_ready end.role end.window end.channel self.old (body.Reset cause diagnostic)) }
+        ensures effect { result
+            ≡ effect_of (machine.in_flow_ready end.role end.window end.channel self.old (body.Reset cause diagnostic)) }
     {
         self.resetting = false;
         self.traffic.clear();
@@ -219,8 +222,10 @@ impl Channel {
     // What a packet of data transfer does besides what it does to the traffic.
     fn after_heard(&mut self, end: End, heard: Heard) -> Effect
         requires { machine.in_transfer self.old.state ≡ true }
-        ensures channel { self.new ≡ (machine.after_heard end.role end.channel self.old (heard_of heard self.old.traffic)).channel }
-        ensures effect { result ≡ effect_of (machine.after_heard end.role end.channel self.old (heard_of heard self.old.traffic)) }
+        ensures channel { self.new
+            ≡ (machine.after_heard end.role end.channel self.old (heard_of heard self.old.traffic)).channel }
+        ensures effect { result
+            ≡ effect_of (machine.after_heard end.role end.channel self.old (heard_of heard self.old.traffic)) }
     {
         match heard {
             Heard::Keeps(0) => Effect::nothing(),

@@ -70,7 +70,8 @@ impl Channel {
     }
 
     fn clear(&mut self, cause: u8, diagnostic: u8) -> Result<bool, ChannelFault>
-        ensures { (role : RoleValue) → Answers role self.old (machine.Request.Clearing cause diagnostic) result self.new }
+        ensures { (role : RoleValue)
+            → Answers role self.old (machine.Request.Clearing cause diagnostic) result self.new }
     {
         if !self.state.has_call() {
             return Err(ChannelFault::NoCall);
@@ -80,7 +81,8 @@ impl Channel {
     }
 
     fn reset(&mut self, cause: u8, diagnostic: u8) -> Result<bool, ChannelFault>
-        ensures { (role : RoleValue) → Answers role self.old (machine.Request.Resetting cause diagnostic) result self.new }
+        ensures { (role : RoleValue)
+            → Answers role self.old (machine.Request.Resetting cause diagnostic) result self.new }
     {
         if !self.state.in_transfer() {
             return Err(ChannelFault::NoCall);
@@ -100,7 +102,10 @@ impl Channel {
         qualified: bool,
         delivery: bool,
     ) -> Result<bool, ChannelFault>
-        ensures { (role : RoleValue) → Answers role self.old (machine.Request.Sending (record { octets = octets.now; more = more; qualified = qualified; delivery = delivery })) result self.new }
+        ensures { (role : RoleValue)
+            → Answers role self.old
+            (machine.Request.Sending
+            (record { octets = octets.now; more = more; qualified = qualified; delivery = delivery })) result self.new }
     {
         if !self.state.in_transfer() {
             return Err(ChannelFault::NoCall);

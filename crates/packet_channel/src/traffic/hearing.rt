@@ -41,7 +41,8 @@ impl Traffic {
     /// Takes RR, or RNR where the partner is busy.
     pub(crate) fn hear_ready(&mut self, receive: u8, busy: bool) -> Heard
         requires { receive < 8 }
-        ensures { heard_of result self.new ≡ machine.keeps (λ u. machine.partner_says busy u) (machine.covers receive self.old) }
+        ensures { heard_of result self.new
+            ≡ machine.keeps (λ u. machine.partner_says busy u) (machine.covers receive self.old) }
     {
         let Ok(newly) = self.send.ack(receive) else {
             return Heard::Wrong(diagnostic::INVALID_RECEIVE_NUMBER);

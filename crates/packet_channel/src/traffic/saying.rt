@@ -1,5 +1,5 @@
-//! What goes to the link in data transfer: the interrupt confirmation, the interrupt, data within the window, RR or RNR where
-//! the partner does not know the present P(R) or whether this end is stopped (X.25 4.3, 4.4).
+//! What goes to the link in data transfer: the interrupt confirmation, the interrupt, data within the window, RR or
+//! RNR where the partner does not know the present P(R) or whether this end is stopped (X.25 4.3, 4.4).
 ghost use Rattle.std.specs.Bool.{OnFalse};
 ghost use Rattle.std.specs.Prelude.{◌≡◌, ◌<◌, ◌≤◌, is_some};
 ghost use Rattle.packet_channel.specs.Traffic as machine;
@@ -36,8 +36,10 @@ impl Traffic {
         requires channel { 0 < channel }
         ensures traffic { self.new ≡ (machine.says_interrupt window self.old.interrupt_waiting self.old).traffic }
         ensures said { result ≡ is_some (machine.says_interrupt window self.old.interrupt_waiting self.old).body }
-        ensures octets { buf.new.items ≡ written channel (machine.says_interrupt window self.old.interrupt_waiting self.old).body buf.old.items }
-        ensures reads_back { ReadsAs channel (machine.says_interrupt window self.old.interrupt_waiting self.old).body buf.new.items }
+        ensures octets { buf.new.items
+            ≡ written channel (machine.says_interrupt window self.old.interrupt_waiting self.old).body buf.old.items }
+        ensures reads_back { ReadsAs channel
+            (machine.says_interrupt window self.old.interrupt_waiting self.old).body buf.new.items }
         ensures same { OnFalse result (self.new ≡ self.old) }
     {
         let Some(interrupt) = &self.interrupt_waiting else {
@@ -58,7 +60,8 @@ impl Traffic {
         requires channel { 0 < channel }
         ensures traffic { self.new ≡ (machine.says_data window self.old.waiting self.old).traffic }
         ensures said { result ≡ is_some (machine.says_data window self.old.waiting self.old).body }
-        ensures octets { buf.new.items ≡ written channel (machine.says_data window self.old.waiting self.old).body buf.old.items }
+        ensures octets { buf.new.items
+            ≡ written channel (machine.says_data window self.old.waiting self.old).body buf.old.items }
         ensures reads_back { ReadsAs channel (machine.says_data window self.old.waiting self.old).body buf.new.items }
         ensures same { OnFalse result (self.new ≡ self.old) }
     {

@@ -42,11 +42,11 @@ fn highest_free(channels: &[Channel]) -> Option<usize>
 }
 
 impl Layer {
-    /// Places a call on a free channel, a DTE on the highest one and a DCE on the lowest (X.25 4.1.2), and answers the channel.
-    /// The facilities have at most 109 octets and the user data at most 16.
+    /// Places a call on a free channel, a DTE on the highest one and a DCE on the lowest (X.25 4.1.2), and answers
+    /// the channel. The facilities have at most 109 octets and the user data at most 16.
     ///
-    /// `NotReady` comes where the restart procedure is not done, then `NoChannel` where no channel is free. A call that is
-    /// refused changes nothing.
+    /// `NotReady` comes where the restart procedure is not done, then `NoChannel` where no channel is free. A call
+    /// that is refused changes nothing.
     pub fn call(&mut self, call: &CallData<'_>) -> Result<u8, CallFault>
         requires { IsCallValue (call_view call.now) }
         ensures answer { MatchResult result
@@ -70,7 +70,8 @@ impl Layer {
 
     fn free_place(&self) -> Option<usize>
         ensures { MatchOption result (machine.free_channel self.now.role self.now.channels ≡ None)
-            (λ place. (machine.free_channel self.now.role self.now.channels ≡ Some (place + 1)) × IsFreeAt self.now.channels place) }
+            (λ place. (machine.free_channel self.now.role self.now.channels ≡ Some (place + 1))
+            × IsFreeAt self.now.channels place) }
     {
         match self.role {
             Role::Dte => highest_free(self.channels.as_slice()),
@@ -118,19 +119,22 @@ impl Layer {
     pub fn clear(&mut self, channel: u8, cause: u8, diagnostic: u8) -> Result<(), ChannelFault>
         ensures answer { MatchResult result
             (λ _. machine.request_refusal self.old channel (asked.Clearing cause diagnostic) ≡ None)
-            (λ fault. machine.request_refusal self.old channel (asked.Clearing cause diagnostic) ≡ Some (refusal_of fault)) }
+            (λ fault. machine.request_refusal self.old channel (asked.Clearing cause diagnostic)
+            ≡ Some (refusal_of fault)) }
         ensures layer { self.new ≡ machine.request self.old channel (asked.Clearing cause diagnostic) }
     {
         self.request(channel, &Request::Clear { cause, diagnostic })
     }
 
-    /// Resets the call on the channel with a cause and a diagnostic: what waits in both directions is dropped (X.25 4.4.3).
+    /// Resets the call on the channel with a cause and a diagnostic: what waits in both directions is dropped (X.25
+    /// 4.4.3).
     ///
     /// `NoCall` comes where no call is in data transfer, `Resetting` while the last own reset is not confirmed.
     pub fn reset(&mut self, channel: u8, cause: u8, diagnostic: u8) -> Result<(), ChannelFault>
         ensures answer { MatchResult result
             (λ _. machine.request_refusal self.old channel (asked.Resetting cause diagnostic) ≡ None)
-            (λ fault. machine.request_refusal self.old channel (asked.Resetting cause diagnostic) ≡ Some (refusal_of fault)) }
+            (λ fault. machine.request_refusal self.old channel (asked.Resetting cause diagnostic)
+            ≡ Some (refusal_of fault)) }
         ensures layer { self.new ≡ machine.request self.old channel (asked.Resetting cause diagnostic) }
     {
         self.request(channel, &Request::Reset { cause, diagnostic })
@@ -138,8 +142,9 @@ impl Layer {
 
     /// Puts a Data packet with its bits M, Q and D into the send queue of the channel (X.25 4.3).
     ///
-    /// `NoCall` comes where no call is in data transfer, then `Resetting` while the own reset is not confirmed, `QueueFull`
-    /// where 8 packets wait, `TooLong` for more than 128 octets. A packet that is refused changes nothing.
+    /// `NoCall` comes where no call is in data transfer, then `Resetting` while the own reset is not confirmed,
+    /// `QueueFull` where 8 packets wait, `TooLong` for more than 128 octets. A packet that is refused changes
+    /// nothing.
     pub fn send(
         &mut self,
         channel: u8,
@@ -148,10 +153,14 @@ impl Layer {
         qualified: bool,
         delivery: bool,
     ) -> Result<(), ChannelFault>
-        ensures answer { let asks = asked.Sending (record { octets = octets.now; more = more; qualified = qualified; delivery = delivery }) in MatchResult result
+        ensures answer { let asks = asked.Sending
+            (record { octets = octets.now; more = more; qualified = qualified; delivery = delivery }) in
+            MatchResult result
             (λ _. machine.request_refusal self.old channel asks ≡ None)
             (λ fault. machine.request_refusal self.old channel asks ≡ Some (refusal_of fault)) }
-        ensures layer { self.new ≡ machine.request self.old channel (asked.Sending (record { octets = octets.now; more = more; qualified = qualified; delivery = delivery })) }
+        ensures layer { self.new
+            ≡ machine.request self.old channel
+            (asked.Sending (record { octets = octets.now; more = more; qualified = qualified; delivery = delivery })) }
     {
         self.request(
             channel,
@@ -166,12 +175,13 @@ impl Layer {
 
     /// Sends an interrupt of 1 to 32 octets on the channel (X.25 4.3.7).
     ///
-    /// `NoCall` comes where no call is in data transfer, then `Resetting` while the own reset is not confirmed, `TooLong` for
-    /// no octets or more than 32, `InterruptPending` while the last interrupt is not confirmed.
+    /// `NoCall` comes where no call is in data transfer, then `Resetting` while the own reset is not confirmed,
+    /// `TooLong` for no octets or more than 32, `InterruptPending` while the last interrupt is not confirmed.
     pub fn interrupt(&mut self, channel: u8, octets: &[u8]) -> Result<(), ChannelFault>
         ensures answer { MatchResult result
             (λ _. machine.request_refusal self.old channel (asked.Interrupting octets.now) ≡ None)
-            (λ fault. machine.request_refusal self.old channel (asked.Interrupting octets.now) ≡ Some (refusal_of fault)) }
+            (λ fault. machine.request_refusal self.old channel (asked.Interrupting octets.now)
+            ≡ Some (refusal_of fault)) }
         ensures layer { self.new ≡ machine.request self.old channel (asked.Interrupting octets.now) }
     {
         self.request(channel, &Request::Interrupt(octets))
@@ -211,8 +221,8 @@ impl Layer {
         channel.take()
     }
 
-    /// Lets P(R) pass `count` more of the packets that were taken on the channel (X.25 4.4.1.3). Nothing happens where fewer are
-    /// taken and not released.
+    /// Lets P(R) pass `count` more of the packets that were taken on the channel (X.25 4.4.1.3). Nothing happens
+    /// where fewer are taken and not released.
     pub fn release(&mut self, channel: u8, count: u8)
         ensures { self.new ≡ machine.request self.old channel (asked.Releasing count) }
     {

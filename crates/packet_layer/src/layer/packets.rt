@@ -19,8 +19,8 @@ use packet_codec::{
 impl Layer {
     /// Takes the octets that the link brings as a packet (X.25 5).
     ///
-    /// Fewer than three octets, octets of another format and packets of channels beyond the line's are ignored. Octets of
-    /// another kind that are no packet count as a packet that the state of their channel does not allow.
+    /// Fewer than three octets, octets of another format and packets of channels beyond the line's are ignored.
+    /// Octets of another kind that are no packet count as a packet that the state of their channel does not allow.
     pub fn on_packet(&mut self, octets: &[u8])
         ensures { self.new ≡ on_octets self.old octets.now }
     {
@@ -38,7 +38,8 @@ impl Layer {
     fn take_packet(&mut self, packet: &Packet<'_>)
         requires read { self.old.notes ≡ [] }
         requires fits { IsPacket (view packet.now) }
-        ensures { self.new ≡ machine.packet_in self.old (record { channel = packet.now.channel; body = body_of (content_view packet.now.content) }) }
+        ensures { self.new ≡ machine.packet_in self.old
+            (record { channel = packet.now.channel; body = body_of (content_view packet.now.content) }) }
     {
         if packet.channel == 0 {
             self.take_restart(packet);
@@ -49,7 +50,8 @@ impl Layer {
 
     fn take_restart(&mut self, packet: &Packet<'_>)
         requires { self.old.notes ≡ [] }
-        ensures { self.new ≡ machine.restart_packet self.old.phase (body_of (content_view packet.now.content)) self.old }
+        ensures { self.new ≡ machine.restart_packet self.old.phase
+            (body_of (content_view packet.now.content)) self.old }
     {
         match (self.phase, &packet.content) {
             (Phase::PacketReady, Content::RestartRequest { .. }) => {
@@ -74,7 +76,8 @@ impl Layer {
         requires read { self.old.notes ≡ [] }
         requires fits { IsPacket (view packet.now) }
         ensures { self.new ≡ machine.on_channel self.old.phase self.old packet.now.channel
-            (λ ch. received self.old.role self.old.window packet.now.channel ch (body_of (content_view packet.now.content))) }
+            (λ ch. received self.old.role self.old.window packet.now.channel ch
+            (body_of (content_view packet.now.content))) }
     {
         let Phase::PacketReady = self.phase else {
             return;

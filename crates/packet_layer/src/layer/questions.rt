@@ -19,8 +19,8 @@ impl Layer {
         }
     }
 
-    /// Whether data may be queued on the channel, however much waits there: `NoCall` comes where no call is in data transfer, then
-    /// `Resetting` while the own reset is not confirmed.
+    /// Whether data may be queued on the channel, however much waits there: `NoCall` comes where no call is in data
+    /// transfer, then `Resetting` while the own reset is not confirmed.
     pub fn may_send(&self, channel: u8) -> Result<(), ChannelFault>
         ensures { MatchResult result
             (λ _. machine.flow_refusal self.now channel ≡ None)
@@ -49,7 +49,8 @@ impl Layer {
         }
     }
 
-    /// What `take` would give on the channel, if anything: an interrupt, or a Data packet of so many octets with M, Q and D.
+    /// What `take` would give on the channel, if anything: an interrupt, or a Data packet of so many octets with M, Q
+    /// and D.
     pub fn front(&self, channel: u8) -> Option<Front>
         ensures { result ≡ maybe_front (machine.front_on self.now channel) }
     {
@@ -57,7 +58,8 @@ impl Layer {
         self.channels[place].front()
     }
 
-    /// Whether a call stands on the channel in which every packet with D = 1 since the last reset was covered (X.25 4.3.3).
+    /// Whether a call stands on the channel in which every packet with D = 1 since the last reset was covered (X.25
+    /// 4.3.3).
     pub fn confirmed(&self, channel: u8) -> bool
         ensures { result ≡ machine.confirmed self.now channel }
     {

@@ -8,10 +8,10 @@ use crate::restart::Phase;
 use packet_codec::PacketBuf;
 
 impl Layer {
-    /// Writes the packet that goes to the link next in place of what the buffer has, if there is one: restart packets first,
-    /// and then what the channels have, round from the one after that which was served last. Of a channel go the control
-    /// packets that it owes, the interrupt confirmation, the interrupt, data within the window, and RR or RNR where the
-    /// partner does not know the present P(R) or whether this end is stopped.
+    /// Writes the packet that goes to the link next in place of what the buffer has, if there is one: restart packets
+    /// first, and then what the channels have, round from the one after that which was served last. Of a channel go
+    /// the control packets that it owes, the interrupt confirmation, the interrupt, data within the window, and RR or
+    /// RNR where the partner does not know the present P(R) or whether this end is stopped.
     pub fn next_packet(&mut self, buf: &mut PacketBuf) -> bool
         ensures layer { self.new ≡ (machine.next_packet self.old).layer }
         ensures said { result ≡ is_some (machine.next_packet self.old).packet }
@@ -30,10 +30,18 @@ impl Layer {
 
     // The first channel that has anything, round.
     fn serve(&mut self, buf: &mut PacketBuf) -> bool
-        ensures layer { self.new ≡ (machine.serve (length self.old.channels) self.old (machine.next_number self.old self.old.served_last)).layer }
-        ensures said { result ≡ is_some (machine.serve (length self.old.channels) self.old (machine.next_number self.old self.old.served_last)).packet }
-        ensures octets { buf.new.items ≡ written_packet (machine.serve (length self.old.channels) self.old (machine.next_number self.old self.old.served_last)).packet buf.old.items }
-        ensures reads_back { ReadsBack (machine.serve (length self.old.channels) self.old (machine.next_number self.old self.old.served_last)).packet buf.new.items }
+        ensures layer { self.new
+            ≡ (machine.serve (length self.old.channels) self.old
+            (machine.next_number self.old self.old.served_last)).layer }
+        ensures said { result
+            ≡ is_some (machine.serve (length self.old.channels) self.old
+            (machine.next_number self.old self.old.served_last)).packet }
+        ensures octets { buf.new.items
+            ≡ written_packet (machine.serve (length self.old.channels) self.old
+            (machine.next_number self.old self.old.served_last)).packet buf.old.items }
+        ensures reads_back { ReadsBack
+            (machine.serve (length self.old.channels) self.old
+            (machine.next_number self.old self.old.served_last)).packet buf.new.items }
     {
         let count = self.channels.len();
         let mut number = self.next_number(self.served_last);

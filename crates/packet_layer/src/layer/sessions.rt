@@ -28,7 +28,8 @@ impl Layer {
         self.restart(cause, diagnostic::NO_INFORMATION);
     }
 
-    /// The session of the link has ended: all calls close, and nothing goes to the link or is taken from it until `link_up`.
+    /// The session of the link has ended: all calls close, and nothing goes to the link or is taken from it until
+    /// `link_up`.
     pub fn link_down(&mut self)
         ensures { self.new ≡ machine.link_down self.old }
     {

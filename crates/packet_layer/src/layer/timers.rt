@@ -39,9 +39,9 @@ fn own_timer(role: Role, id: TimerId) -> Option<Timer>
 }
 
 impl Layer {
-    /// Whether the timer is to run: T20 of a DTE or T10 of a DCE while its restart is not confirmed, and by channel T21 or T11
-    /// while its call is not answered, T22 or T12 while its reset and T23 or T13 while its clear is not confirmed. No other
-    /// timer is one of the layer's.
+    /// Whether the timer is to run: T20 of a DTE or T10 of a DCE while its restart is not confirmed, and by channel
+    /// T21 or T11 while its call is not answered, T22 or T12 while its reset and T23 or T13 while its clear is not
+    /// confirmed. No other timer is one of the layer's.
     pub fn runs(&self, id: TimerId) -> bool
         ensures { result ≡ runs_named self.now (timer_named self.now.role id) }
     {
@@ -71,8 +71,8 @@ impl Layer {
         }
     }
 
-    /// Takes an expiry of a timer: that of a call or a reset clears the call, that of a clear restarts the packet layer, and
-    /// that of a restart asks for a relink. Where the timer does not run nothing happens.
+    /// Takes an expiry of a timer: that of a call or a reset clears the call, that of a clear restarts the packet
+    /// layer, and that of a restart asks for a relink. Where the timer does not run nothing happens.
     pub fn on_timer(&mut self, id: TimerId)
         ensures { self.new ≡ on_named self.old (timer_named self.old.role id) }
     {
