@@ -1,6 +1,8 @@
--- The book of a line: the records of the calls' two ends, the pairs, and for each end of the line, channel by channel, which
+-- The book of a line: the records of the calls' two ends, the pairs, and for each end of the line, channel by
+-- channel, which
 -- records belong there. It is written by what the ends' packet layers accept, give and tell.
-use Rattle.std.specs.Prelude.{ℕ, zero, suc, Bool, cond, List, [], ◌∷◌, ◌++◌, length, set, replicate, slice_get, Option, Some, None}
+use Rattle.std.specs.Prelude.{ℕ, zero, suc, Bool, cond, List, [], ◌∷◌, ◌++◌, length, set, replicate, slice_get}
+use Rattle.std.specs.Prelude.{Option, Some, None}
 use Rattle.link_timers.specs.declared.role.Role.{Role}
 use Rattle.link_timers.specs.declared.role.Role.TheVariants.{Dte, Dce}
 use Rattle.link_timers.specs.Role.{other_of}
@@ -10,9 +12,12 @@ use Rattle.packet_layer.specs.Packets.{CallParts, Datum, Note}
 use Rattle.packet_layer.specs.Packets.Note.{Incoming, Connected, Closed, WasReset, InterruptConfirmed, Covered}
 use Rattle.packet_layer.specs.Traffic.{Taken}
 use Rattle.packet_layer.specs.Traffic.Taken.{TakenInterrupt, TakenPacket}
-use Rattle.call_records.specs.Records.{RecordValue, PairValue, new_record, with_step, with_sent, with_interrupt_sent, with_taken, with_interrupt_taken, with_released, with_covered, with_epoch, with_closed, changed_at}
+use Rattle.call_records.specs.Records.{RecordValue, PairValue, new_record, with_step, with_sent, with_interrupt_sent}
+use Rattle.call_records.specs.Records.{with_taken, with_interrupt_taken, with_released, with_covered, with_epoch}
+use Rattle.call_records.specs.Records.{with_closed, changed_at}
 
--- a channel at an end of the line: the record of the present call, the record of the call that this end placed there last, and
+-- a channel at an end of the line: the record of the present call, the record of the call that this end placed there
+-- last, and
 -- where the present call came in, the record of the end that placed it
 pub record Slot : Type 0 where
   pub present : Option ℕ
@@ -84,7 +89,11 @@ address_of (digit ∷ digits) = Some (digit ∷ digits)
 -- the end places a call to an address; a line without a switch has no address of its own
 abbrev pub places : Role → (channel : ℕ) → (called : List ℕ) → Book → Book
 places role channel called b =
-    with_slot role channel (record { present = Some (length b.records); placed = Some (length b.records); caller = None })
+    with_slot role channel (record {
+      present = Some (length b.records);
+      placed = Some (length b.records);
+      caller = None;
+    })
     (with_record (new_record (length b.records) (side_of role b).node None (address_of called)) b)
 
 -- a call comes in: it is the one that the other end placed last on this channel
@@ -95,10 +104,12 @@ comes role channel parts b =
       placed = (slot_at role channel b).placed;
       caller = (slot_at (other_of role) channel b).placed;
     })
-    (with_record (new_record (length b.records) (side_of role b).node (address_of parts.called) (address_of parts.calling)) b)
+    (with_record (new_record (length b.records) (side_of role b).node (address_of parts.called)
+    (address_of parts.calling)) b)
 
 abbrev pub with_pair : Option ℕ → Option ℕ → Book → Book
-with_pair (Some caller) (Some callee) b = record b { pairs = b.pairs ++ record { caller = caller; callee = callee } ∷ [] }
+with_pair (Some caller) (Some callee) b = record b
+    { pairs = b.pairs ++ record { caller = caller; callee = callee } ∷ [] }
 with_pair _ _ b = b
 
 -- the end accepts the call that came in: its record and that of the end that placed it are a pair
@@ -108,7 +119,8 @@ answers role channel b = with_pair (slot_at role channel b).caller (slot_at role
 -- the present call is over for this end
 abbrev pub closes : Role → (channel : ℕ) → Book → Book
 closes role channel b =
-    with_slot role channel (record (slot_at role channel b) { present = None; caller = None }) (changed role channel with_closed b)
+    with_slot role channel (record (slot_at role channel b) { present = None; caller = None })
+    (changed role channel with_closed b)
 
 -- ---- what passes on a call
 

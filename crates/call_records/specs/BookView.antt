@@ -20,7 +20,8 @@ state_of a = record { book = book_of a; room = a.room }
 
 -- the record of the present call on each channel, where there is one, has so many places
 abbrev pub CallsHavePlaces : (room : ℕ) → List Slot → List Record → Type 0
-CallsHavePlaces room slots records = (channel number : ℕ) → (nth_slot slots channel).present ≡ Some number → PlacesAt room number records
+CallsHavePlaces room slots records = (channel number : ℕ) → (nth_slot slots channel).present ≡ Some number →
+    PlacesAt room number records
 
 -- the lists of records and pairs have the room, and so has every list of the record of each present call
 pub record HasRoom (a : Inside) : Type 0 where

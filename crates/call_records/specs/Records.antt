@@ -4,8 +4,10 @@ use Rattle.epochs.specs.Item.{DataPacket}
 use Rattle.epochs.specs.Epoch.{nothing_sent, nothing_taken, Epoch, SentEpoch, TakenEpoch, sent_epoch, taken_epoch}
 use Rattle.pad_editing.specs.Edited.{Step}
 
--- one end's part in one call: its number in the order of making, its node, its own address and the far one, the epochs that it
--- sent and took, of which the last of each stands apart, whether the call is closed for it, and at a PAD the steps of editing
+-- one end's part in one call: its number in the order of making, its node, its own address and the far one, the
+-- epochs that it
+-- sent and took, of which the last of each stands apart, whether the call is closed for it, and at a PAD the steps of
+-- editing
 pub record RecordValue : Type 0 where
   pub number : ℕ
   pub node : ℕ
@@ -67,7 +69,11 @@ with_interrupt_taken octets r = record r { taken = record r.taken { interrupts =
 
 -- n more of the packets taken are released, at most all of them
 abbrev pub with_released : ℕ → RecordValue → RecordValue
-with_released n r = record r { taken = record r.taken { released = min (length r.taken.packets) (r.taken.released + n) } }
+with_released n r = record r {
+  taken = record r.taken {
+    released = min (length r.taken.packets) (r.taken.released + n);
+  };
+}
 
 -- n more of the packets sent are covered, at most all of them
 abbrev pub with_covered : ℕ → RecordValue → RecordValue

@@ -1,9 +1,11 @@
 //! The book of a line, and what is written into it.
-ghost use Rattle.std.specs.Prelude.{◌≡◌, ◌≤◌, ◌-◌, ℕ, IfOk, OnOk, OnErr, IsTrue, Some, map, length, vec_len, vec_capacity};
+ghost use Rattle.std.specs.Prelude.{◌≡◌, ◌≤◌, ◌-◌, ℕ, IfOk, OnOk, OnErr, IsTrue, Some, map, length, vec_len};
+ghost use Rattle.std.specs.Prelude.{vec_capacity};
 ghost use Rattle.packet_layer.specs.NoteView.{note_of};
 ghost use Rattle.packet_layer.specs.TakenView.{taken_of};
 ghost use Rattle.packet_layer.specs.Octets.{parts_of};
-ghost use Rattle.call_records.specs.Book.{made_book, slot_at, address_of, changed, places, comes, answers, closes, renews, sends, interrupts, takes, releases, covers, edits, told};
+ghost use Rattle.call_records.specs.Book.{made_book, slot_at, address_of, changed, places, comes, answers, closes};
+ghost use Rattle.call_records.specs.Book.{renews, sends, interrupts, takes, releases, covers, edits, told};
 ghost use Rattle.packet_codec.specs.Digits.{digits_or_none};
 ghost use Rattle.call_records.specs.Records.{changed_at};
 ghost use Rattle.call_records.specs.Closing.{all_closed};
@@ -20,8 +22,9 @@ use packet_layer::{LayerNote, Taken, UserData};
 use std::alloc::{AllocError, Global};
 use std::marker::Model;
 
-/// The book of a line: the records of the calls' two ends, the pairs of them that make a call, and for each end, channel by
-/// channel, which records belong there. Only `new` and `reserve` take memory; what is written needs room that was reserved.
+/// The book of a line: the records of the calls' two ends, the pairs of them that make a call, and for each end,
+/// channel by channel, which records belong there. Only `new` and `reserve` take memory; what is written needs room
+/// that was reserved.
 #[derive(Drop)]
 pub struct Book {
     alloc: Global,
@@ -44,8 +47,8 @@ impl Model for Book {
 }
 
 impl Book {
-    /// The book of a line between two nodes with channels from 1 on. On a standing line a call stands on channel 1, which counts
-    /// as placed by the DTE. It is refused for want of memory. There is no room yet.
+    /// The book of a line between two nodes with channels from 1 on. On a standing line a call stands on channel 1,
+    /// which counts as placed by the DTE. It is refused for want of memory. There is no room yet.
     pub fn new(
         alloc: Global,
         dte_node: usize,
@@ -90,8 +93,8 @@ impl Book {
         })
     }
 
-    /// Makes room for so many writes: in the lists of records and of pairs, and in the record of each present call. Without the
-    /// memory there is no room, and the book is as before.
+    /// Makes room for so many writes: in the lists of records and of pairs, and in the record of each present call.
+    /// Without the memory there is no room, and the book is as before.
     pub fn reserve(&mut self, count: usize) -> Result<(), AllocError>
         ensures same { self.new.book ≡ self.old.book }
         ensures ok { OnOk result (self.new.room ≡ count) }
@@ -222,7 +225,8 @@ impl Book {
         }
     }
 
-    /// The present call was reset (X.25 4.4.3): an epoch begins, sent and taken. No room is left, since the new epoch has none.
+    /// The present call was reset (X.25 4.4.3): an epoch begins, sent and taken. No room is left, since the new epoch
+    /// has none.
     pub fn renew(&mut self, role: Role, channel: u8)
         requires { 1 ≤ self.old.room }
         ensures { self.new ≡ record { book = renews role channel self.old.book; room = 0 } }
@@ -242,7 +246,11 @@ impl Book {
     )
         requires room { 1 ≤ self.old.room }
         requires fits { length octets.now ≤ 128 }
-        ensures { self.new ≡ record { book = sends role channel (record { octets = octets.now; more = more; qualified = qualified; delivery = delivery }) self.old.book; room = self.old.room - 1 } }
+        ensures { self.new ≡ record {
+          book = sends role channel
+              (record { octets = octets.now; more = more; qualified = qualified; delivery = delivery }) self.old.book;
+          room = self.old.room - 1;
+        } }
     {
         let packet = UserData::new(octets, more, qualified, delivery);
         self.grow(role, channel, Growth::Sent(packet));
@@ -252,7 +260,10 @@ impl Book {
     pub fn interrupt(&mut self, role: Role, channel: u8, octets: &[u8])
         requires room { 1 ≤ self.old.room }
         requires fits { length octets.now ≤ 32 }
-        ensures { self.new ≡ record { book = interrupts role channel octets.now self.old.book; room = self.old.room - 1 } }
+        ensures { self.new ≡ record {
+          book = interrupts role channel octets.now self.old.book;
+          room = self.old.room - 1;
+        } }
     {
         self.grow(role, channel, Growth::InterruptSent(Interrupt::new(octets)));
     }
@@ -260,7 +271,10 @@ impl Book {
     /// A packet or an interrupt was taken.
     pub fn take(&mut self, role: Role, channel: u8, taken: &Taken)
         requires { 1 ≤ self.old.room }
-        ensures { self.new ≡ record { book = takes role channel (Some (taken_of taken.now)) self.old.book; room = self.old.room - 1 } }
+        ensures { self.new ≡ record {
+          book = takes role channel (Some (taken_of taken.now)) self.old.book;
+          room = self.old.room - 1;
+        } }
     {
         match taken {
             Taken::Interrupt(interrupt) => {
@@ -296,15 +310,22 @@ impl Book {
     /// A PAD took a step of editing on its call.
     pub fn edit(&mut self, role: Role, channel: u8, step: EditStep)
         requires { 1 ≤ self.old.room }
-        ensures { self.new ≡ record { book = edits role channel (step_of step) self.old.book; room = self.old.room - 1 } }
+        ensures { self.new ≡ record {
+          book = edits role channel (step_of step) self.old.book;
+          room = self.old.room - 1;
+        } }
     {
         self.grow(role, channel, Growth::Step(step));
     }
 
-    /// An end's packet layer told something. A note of a call that came in and one of a reset need room, and leave none.
+    /// An end's packet layer told something. A note of a call that came in and one of a reset need room, and leave
+    /// none.
     pub fn tell(&mut self, role: Role, note: &LayerNote)
         requires { IsTrue (opens (note_of note.now)) → 1 ≤ self.old.room }
-        ensures { self.new ≡ record { book = told role (note_of note.now) self.old.book; room = room_after (note_of note.now) self.old.room } }
+        ensures { self.new ≡ record {
+          book = told role (note_of note.now) self.old.book;
+          room = room_after (note_of note.now) self.old.room;
+        } }
     {
         match note {
             LayerNote::Incoming(channel, call) => self.receive_call(role, *channel, call),
@@ -320,7 +341,10 @@ impl Book {
     // The record of the present call on a channel grows by a write.
     fn grow(&mut self, role: Role, channel: u8, growth: Growth)
         requires { needed growth ≤ self.old.room }
-        ensures { self.new ≡ record { book = changed role channel (grown growth) self.old.book; room = left growth self.old.room } }
+        ensures { self.new ≡ record {
+          book = changed role channel (grown growth) self.old.book;
+          room = left growth self.old.room;
+        } }
     {
         let present = self.ends.of(role).slot(channel).present;
         self.room = growth.left(self.room);
@@ -347,7 +371,8 @@ fn grow_at(records: &mut Vec<Record>, number: usize, alloc: Global, growth: Grow
     ensures shown { map shown records.new.items ≡ changed_at number (grown growth) (map shown records.old.items) }
     ensures len { vec_len records.new ≡ vec_len records.old }
     ensures capacity { vec_capacity records.new ≡ vec_capacity records.old }
-    ensures room { (room other : ℕ) → PlacesAt room number records.old.items → PlacesAt room other records.old.items → PlacesAt (left growth room) other records.new.items }
+    ensures room { (room other : ℕ) → PlacesAt room number records.old.items → PlacesAt room other records.old.items →
+        PlacesAt (left growth room) other records.new.items }
 {
     if number < records.len() {
         let record = &mut records[number];
@@ -360,7 +385,8 @@ fn reserve_at(records: &mut Vec<Record>, number: usize, count: usize) -> Result<
     ensures same { map shown records.new.items ≡ map shown records.old.items }
     ensures len { vec_len records.new ≡ vec_len records.old }
     ensures capacity { vec_capacity records.new ≡ vec_capacity records.old }
-    ensures kept { OnOk result ((other : ℕ) → PlacesAt count other records.old.items → PlacesAt count other records.new.items) }
+    ensures kept { OnOk result ((other : ℕ) → PlacesAt count other records.old.items →
+        PlacesAt count other records.new.items) }
     ensures ok { OnOk result (PlacesAt count number records.new.items) }
 {
     if number < records.len() {
@@ -375,7 +401,8 @@ fn reserve_present(records: &mut Vec<Record>, side: &Side, count: usize) -> Resu
     ensures same { map shown records.new.items ≡ map shown records.old.items }
     ensures len { vec_len records.new ≡ vec_len records.old }
     ensures capacity { vec_capacity records.new ≡ vec_capacity records.old }
-    ensures kept { OnOk result ((other : ℕ) → PlacesAt count other records.old.items → PlacesAt count other records.new.items) }
+    ensures kept { OnOk result ((other : ℕ) → PlacesAt count other records.old.items →
+        PlacesAt count other records.new.items) }
     ensures ok { OnOk result (CallsHavePlaces count side.now.slots records.new.items) }
 {
     for place in 0..side.channels() {

@@ -9,8 +9,8 @@ use link_timers::Role;
 use std::alloc::{AllocError, Global};
 use std::marker::Model;
 
-/// A channel at an end of the line: the number of the record of the present call, that of the call that this end placed there
-/// last, and where the present call came in, that of the record of the end that placed it.
+/// A channel at an end of the line: the number of the record of the present call, that of the call that this end placed
+/// there last, and where the present call came in, that of the record of the end that placed it.
 #[derive(Clone, Copy)]
 pub(crate) struct Slot {
     pub(crate) present: Option<usize>,
@@ -121,7 +121,8 @@ pub(crate) struct Ends {
 impl Ends {
     /// The end of this role.
     pub(crate) fn of(&self, role: Role) -> &Side
-        ensures { (records : List RecordValue) (pairs : List PairValue) → result.now ≡ side_of role (book_with records pairs self.now) }
+        ensures { (records : List RecordValue) (pairs : List PairValue) → result.now
+            ≡ side_of role (book_with records pairs self.now) }
     {
         match role {
             Role::Dte => &self.dte,
@@ -131,7 +132,8 @@ impl Ends {
 
     /// Keeps something of a channel of the end of this role.
     pub(crate) fn put(&mut self, role: Role, channel: u8, slot: Slot)
-        ensures { (records : List RecordValue) (pairs : List PairValue) → book_with records pairs self.new ≡ with_slot role channel slot (book_with records pairs self.old) }
+        ensures { (records : List RecordValue) (pairs : List PairValue) → book_with records pairs self.new
+            ≡ with_slot role channel slot (book_with records pairs self.old) }
     {
         match role {
             Role::Dte => self.dte.put(channel, slot),

@@ -11,8 +11,8 @@ use std::alloc::{AllocError, Global};
 use std::mem;
 use x3_params::Params;
 
-/// What an end sent in an epoch of its call, that is, between two resets: the packets and the interrupts, and how many of the
-/// packets a received P(R) covered.
+/// What an end sent in an epoch of its call, that is, between two resets: the packets and the interrupts, and how many
+/// of the packets a received P(R) covered.
 #[derive(Drop)]
 pub struct SentEpoch {
     pub packets: Vec<UserData>,
@@ -41,7 +41,8 @@ pub struct Record {
     pub number: usize,
     /// The number of its node.
     pub node: usize,
-    /// Its own address: of a callee the called one. Without a switch a caller has none, and neither has a standing call.
+    /// Its own address: of a callee the called one. Without a switch a caller has none, and neither has a standing
+    /// call.
     pub own: Option<Address>,
     /// The address of the far end.
     pub far: Option<Address>,

@@ -6,7 +6,8 @@ use Rattle.line_nodes.specs.Node.{NodeState, Pad, Host}
 use Rattle.line_nodes.specs.declared.note.HostNote.{HostNote}
 use Rattle.line_nodes.specs.declared.note.NoteKind.TheVariants as kind
 
--- a call that comes in, that is connected, cleared or reset; that an interrupt was confirmed, or packets sent were covered, is not told
+-- a call that comes in, that is connected, cleared or reset; that an interrupt was confirmed, or packets sent were
+-- covered, is not told
 abbrev pub host_note : (node : ℕ) → Note → List HostNote
 host_note node (Incoming channel parts) = record { node = node; channel = channel; kind = kind.Incoming } ∷ []
 host_note node (Connected channel) = record { node = node; channel = channel; kind = kind.Connected } ∷ []

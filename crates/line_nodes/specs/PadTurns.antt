@@ -20,7 +20,8 @@ abbrev pub key_answer : (dropped : Bool) → KeyAnswer
 key_answer true = answer.Dropped
 key_answer false = answer.Taken
 
--- one without a step changes nothing; one with a step edits the call of channel 1, and the packet that it makes goes there
+-- one without a step changes nothing; one with a step edits the call of channel 1, and the packet that it makes goes
+-- there
 abbrev pub keyed : List Step → KeyEffect → Role → Book → Turn
 keyed [] k role b = unchanged (Pad k.pad) b
 keyed (step ∷ steps) k role b = told role (Pad k.pad) (all_sent role 1 k.sent (edits role 1 step b))

@@ -10,7 +10,8 @@ use Rattle.line_nodes.specs.Node.{NodeState, Pad, Host, end_of, without_notes}
 use Rattle.line_nodes.specs.Notes.{host_notes}
 use Rattle.line_nodes.specs.declared.note.HostNote.{HostNote}
 
--- the node with the frames that wait and with all notes read, the book with all that was written, and the notes, in order
+-- the node with the frames that wait and with all notes read, the book with all that was written, and the notes, in
+-- order
 pub record Turn : Type 0 where
   pub node : NodeState
   pub book : Book

@@ -1,8 +1,9 @@
 //! A host at its line: what its user asks and what comes from the line, with what is written into the line's book.
 //!
-//! Each function is one event. It lists in `notes`, which is empty before, with 96 places, what the host is told, in order. The book
-//! has room for what is written. What is refused changes nothing.
-ghost use Rattle.std.specs.Prelude.{◌≡◌, ◌≤◌, [], true, false, Some, None, OnOk, OnErr, MatchResult, length, vec_capacity};
+//! Each function is one event. It lists in `notes`, which is empty before, with `MOST_NOTES` places, what the host is
+//! told, in order. The book has room for what is written. What is refused changes nothing.
+ghost use Rattle.std.specs.Prelude.{◌≡◌, ◌≤◌, [], true, false, Some, None, OnOk, OnErr, MatchResult, length};
+ghost use Rattle.std.specs.Prelude.{vec_capacity};
 ghost use Rattle.packet_layer.specs.Channel.{Request as ask};
 ghost use Rattle.packet_layer.specs.Layer as machine;
 ghost use Rattle.packet_layer.specs.RequestView.{refusal_of, call_refusal_of};
@@ -23,6 +24,7 @@ use crate::place::Place;
 use call_records::Book;
 use link_timers::TimerId;
 use packet_codec::Address;
+use packet_end::MOST_NOTES;
 use packet_host::Host;
 use packet_layer::{CallFault, ChannelFault, Taken};
 pub use saying::say;
@@ -39,14 +41,16 @@ pub fn call(
     notes: &mut Vec<HostNote>,
 ) -> Result<u8, CallFault>
     requires user_data { length user_data.now ≤ 16 }
-    requires opening { opening_notes (host_calls at.role host.old (call_parts address user_data.now) book.old.book).notes ≡ 0 }
+    requires opening { opening_notes (host_calls at.role host.old (call_parts address user_data.now)
+        book.old.book).notes ≡ 0 }
     requires room { 1 ≤ book.old.room }
     requires empty { notes.old.items ≡ [] }
-    requires capacity { 96 ≤ vec_capacity notes.old }
+    requires capacity { MOST_NOTES ≤ vec_capacity notes.old }
     ensures answer { MatchResult result
         (λ channel. machine.channel_given host.old.layer host.old.layer.phase ≡ Some channel)
         (λ fault. machine.call_refusal host.old.layer host.old.layer.phase ≡ Some (call_refusal_of fault)) }
-    ensures ok { OnOk result (HostTurned at.node (host_calls at.role host.old (call_parts address user_data.now) book.old.book) host.new book.new.book notes.new.items) }
+    ensures ok { OnOk result (HostTurned at.node (host_calls at.role host.old (call_parts address user_data.now)
+        book.old.book) host.new book.new.book notes.new.items) }
     ensures err { OnErr result ((host.new ≡ host.old) × (book.new ≡ book.old) × (notes.new.items ≡ [])) }
 {
     let channel = host.call(address, user_data)?;
@@ -68,11 +72,12 @@ pub fn answer(
     requires opening { opening_notes (host_asks at.role host.old channel ask.Accept book.old.book).notes ≡ 0 }
     requires room { 1 ≤ book.old.room }
     requires empty { notes.old.items ≡ [] }
-    requires capacity { 96 ≤ vec_capacity notes.old }
+    requires capacity { MOST_NOTES ≤ vec_capacity notes.old }
     ensures answer { MatchResult result
         (λ _. machine.request_refusal host.old.layer channel ask.Accept ≡ None)
         (λ fault. machine.request_refusal host.old.layer channel ask.Accept ≡ Some (refusal_of fault)) }
-    ensures ok { OnOk result (HostTurned at.node (host_asks at.role host.old channel ask.Accept book.old.book) host.new book.new.book notes.new.items) }
+    ensures ok { OnOk result (HostTurned at.node (host_asks at.role host.old channel ask.Accept book.old.book) host.new
+        book.new.book notes.new.items) }
     ensures err { OnErr result ((host.new ≡ host.old) × (book.new ≡ book.old) × (notes.new.items ≡ [])) }
 {
     host.answer(channel)?;
@@ -93,11 +98,12 @@ pub fn refuse(
 ) -> Result<(), ChannelFault>
     requires opening { opening_notes (host_refuses at.role host.old channel book.old.book).notes ≡ 0 }
     requires empty { notes.old.items ≡ [] }
-    requires capacity { 96 ≤ vec_capacity notes.old }
+    requires capacity { MOST_NOTES ≤ vec_capacity notes.old }
     ensures answer { MatchResult result
         (λ _. refuse_refusal host.old channel ≡ None)
         (λ fault. refuse_refusal host.old channel ≡ Some (refusal_of fault)) }
-    ensures ok { OnOk result (HostTurned at.node (host_refuses at.role host.old channel book.old.book) host.new book.new.book notes.new.items) }
+    ensures ok { OnOk result (HostTurned at.node (host_refuses at.role host.old channel book.old.book) host.new
+        book.new.book notes.new.items) }
     ensures err { OnErr result ((host.new ≡ host.old) × (book.new ≡ book.old) × (notes.new.items ≡ [])) }
 {
     host.refuse(channel)?;
@@ -118,11 +124,12 @@ pub fn clear(
 ) -> Result<(), ChannelFault>
     requires opening { opening_notes (host_asks at.role host.old channel (ask.Clearing 0 0) book.old.book).notes ≡ 0 }
     requires empty { notes.old.items ≡ [] }
-    requires capacity { 96 ≤ vec_capacity notes.old }
+    requires capacity { MOST_NOTES ≤ vec_capacity notes.old }
     ensures answer { MatchResult result
         (λ _. machine.request_refusal host.old.layer channel (ask.Clearing 0 0) ≡ None)
         (λ fault. machine.request_refusal host.old.layer channel (ask.Clearing 0 0) ≡ Some (refusal_of fault)) }
-    ensures ok { OnOk result (HostTurned at.node (host_asks at.role host.old channel (ask.Clearing 0 0) book.old.book) host.new book.new.book notes.new.items) }
+    ensures ok { OnOk result (HostTurned at.node (host_asks at.role host.old channel (ask.Clearing 0 0) book.old.book)
+        host.new book.new.book notes.new.items) }
     ensures err { OnErr result ((host.new ≡ host.old) × (book.new ≡ book.old) × (notes.new.items ≡ [])) }
 {
     host.clear(channel)?;
@@ -144,11 +151,12 @@ pub fn reset(
     requires opening { opening_notes (host_asks at.role host.old channel (ask.Resetting 0 0) book.old.book).notes ≡ 0 }
     requires room { 1 ≤ book.old.room }
     requires empty { notes.old.items ≡ [] }
-    requires capacity { 96 ≤ vec_capacity notes.old }
+    requires capacity { MOST_NOTES ≤ vec_capacity notes.old }
     ensures answer { MatchResult result
         (λ _. machine.request_refusal host.old.layer channel (ask.Resetting 0 0) ≡ None)
         (λ fault. machine.request_refusal host.old.layer channel (ask.Resetting 0 0) ≡ Some (refusal_of fault)) }
-    ensures ok { OnOk result (HostTurned at.node (host_asks at.role host.old channel (ask.Resetting 0 0) book.old.book) host.new book.new.book notes.new.items) }
+    ensures ok { OnOk result (HostTurned at.node (host_asks at.role host.old channel (ask.Resetting 0 0) book.old.book)
+        host.new book.new.book notes.new.items) }
     ensures err { OnErr result ((host.new ≡ host.old) × (book.new ≡ book.old) × (notes.new.items ≡ [])) }
 {
     host.reset(channel)?;
@@ -159,8 +167,8 @@ pub fn reset(
 
 /// Sends an interrupt of 1 to 32 octets on the channel (X.25 4.3.7).
 ///
-/// `NoCall` comes where no call is in data transfer, then `Resetting` while the own reset is not confirmed, `TooLong` for
-/// no octets or more than 32, `InterruptPending` while the last interrupt is not confirmed.
+/// `NoCall` comes where no call is in data transfer, then `Resetting` while the own reset is not confirmed, `TooLong`
+/// for no octets or more than 32, `InterruptPending` while the last interrupt is not confirmed.
 pub fn interrupt(
     host: &mut Host,
     at: Place,
@@ -169,14 +177,17 @@ pub fn interrupt(
     book: &mut Book,
     notes: &mut Vec<HostNote>,
 ) -> Result<(), ChannelFault>
-    requires opening { opening_notes (host_asks at.role host.old channel (ask.Interrupting octets.now) book.old.book).notes ≡ 0 }
+    requires opening { opening_notes (host_asks at.role host.old channel (ask.Interrupting octets.now)
+        book.old.book).notes ≡ 0 }
     requires room { 1 ≤ book.old.room }
     requires empty { notes.old.items ≡ [] }
-    requires capacity { 96 ≤ vec_capacity notes.old }
+    requires capacity { MOST_NOTES ≤ vec_capacity notes.old }
     ensures answer { MatchResult result
         (λ _. machine.request_refusal host.old.layer channel (ask.Interrupting octets.now) ≡ None)
-        (λ fault. machine.request_refusal host.old.layer channel (ask.Interrupting octets.now) ≡ Some (refusal_of fault)) }
-    ensures ok { OnOk result (HostTurned at.node (host_asks at.role host.old channel (ask.Interrupting octets.now) book.old.book) host.new book.new.book notes.new.items) }
+        (λ fault. machine.request_refusal host.old.layer channel (ask.Interrupting octets.now)
+            ≡ Some (refusal_of fault)) }
+    ensures ok { OnOk result (HostTurned at.node (host_asks at.role host.old channel (ask.Interrupting octets.now)
+        book.old.book) host.new book.new.book notes.new.items) }
     ensures err { OnErr result ((host.new ≡ host.old) × (book.new ≡ book.old) × (notes.new.items ≡ [])) }
 {
     host.interrupt(channel, octets)?;
@@ -197,11 +208,12 @@ pub fn stop(
 ) -> Result<(), ChannelFault>
     requires opening { opening_notes (host_asks at.role host.old channel (ask.Stopping true) book.old.book).notes ≡ 0 }
     requires empty { notes.old.items ≡ [] }
-    requires capacity { 96 ≤ vec_capacity notes.old }
+    requires capacity { MOST_NOTES ≤ vec_capacity notes.old }
     ensures answer { MatchResult result
         (λ _. machine.request_refusal host.old.layer channel (ask.Stopping true) ≡ None)
         (λ fault. machine.request_refusal host.old.layer channel (ask.Stopping true) ≡ Some (refusal_of fault)) }
-    ensures ok { OnOk result (HostTurned at.node (host_asks at.role host.old channel (ask.Stopping true) book.old.book) host.new book.new.book notes.new.items) }
+    ensures ok { OnOk result (HostTurned at.node (host_asks at.role host.old channel (ask.Stopping true) book.old.book)
+        host.new book.new.book notes.new.items) }
     ensures err { OnErr result ((host.new ≡ host.old) × (book.new ≡ book.old) × (notes.new.items ≡ [])) }
 {
     host.stop(channel)?;
@@ -221,11 +233,12 @@ pub fn go(
 ) -> Result<(), ChannelFault>
     requires opening { opening_notes (host_asks at.role host.old channel (ask.Stopping false) book.old.book).notes ≡ 0 }
     requires empty { notes.old.items ≡ [] }
-    requires capacity { 96 ≤ vec_capacity notes.old }
+    requires capacity { MOST_NOTES ≤ vec_capacity notes.old }
     ensures answer { MatchResult result
         (λ _. machine.request_refusal host.old.layer channel (ask.Stopping false) ≡ None)
         (λ fault. machine.request_refusal host.old.layer channel (ask.Stopping false) ≡ Some (refusal_of fault)) }
-    ensures ok { OnOk result (HostTurned at.node (host_asks at.role host.old channel (ask.Stopping false) book.old.book) host.new book.new.book notes.new.items) }
+    ensures ok { OnOk result (HostTurned at.node (host_asks at.role host.old channel (ask.Stopping false)
+        book.old.book) host.new book.new.book notes.new.items) }
     ensures err { OnErr result ((host.new ≡ host.old) × (book.new ≡ book.old) × (notes.new.items ≡ [])) }
 {
     host.go(channel)?;
@@ -233,8 +246,8 @@ pub fn go(
     Ok(())
 }
 
-/// Takes what comes next on the channel, if anything: an interrupt, which is then confirmed, before all packets, each of which
-/// is then acknowledged by P(R) (X.25 4.3.7, 4.4.1.3). Where nothing waits nothing happens.
+/// Takes what comes next on the channel, if anything: an interrupt, which is then confirmed, before all packets, each
+/// of which is then acknowledged by P(R) (X.25 4.3.7, 4.4.1.3). Where nothing waits nothing happens.
 pub fn take(
     host: &mut Host,
     at: Place,
@@ -245,9 +258,10 @@ pub fn take(
     requires opening { opening_notes (host_takes at.role host.old channel book.old.book).notes ≡ 0 }
     requires room { 1 ≤ book.old.room }
     requires empty { notes.old.items ≡ [] }
-    requires capacity { 96 ≤ vec_capacity notes.old }
+    requires capacity { MOST_NOTES ≤ vec_capacity notes.old }
     ensures taken { maybe_taken result ≡ machine.front_on host.old.layer channel }
-    ensures turned { HostTurned at.node (host_takes at.role host.old channel book.old.book) host.new book.new.book notes.new.items }
+    ensures turned { HostTurned at.node (host_takes at.role host.old channel book.old.book) host.new book.new.book
+        notes.new.items }
 {
     let taken = host.take(channel)?;
     book.take(at.role, channel, &taken);
@@ -269,8 +283,9 @@ pub(crate) fn hear(
     requires opening { opening_notes (host_hears at.role host.old octets.now book.old.book).notes ≤ 1 }
     requires room { 1 ≤ book.old.room }
     requires empty { notes.old.items ≡ [] }
-    requires capacity { 96 ≤ vec_capacity notes.old }
-    ensures { HostTurned at.node (host_hears at.role host.old octets.now book.old.book) host.new book.new.book notes.new.items }
+    requires capacity { MOST_NOTES ≤ vec_capacity notes.old }
+    ensures { HostTurned at.node (host_hears at.role host.old octets.now book.old.book) host.new book.new.book
+        notes.new.items }
 {
     host.on_frame(octets);
     tell(host, at, book, notes);
@@ -287,9 +302,10 @@ pub(crate) fn expire(
     requires opening { opening_notes (host_expires at.role host.old id book.old.book).notes ≤ 1 }
     requires room { 1 ≤ book.old.room }
     requires empty { notes.old.items ≡ [] }
-    requires capacity { 96 ≤ vec_capacity notes.old }
+    requires capacity { MOST_NOTES ≤ vec_capacity notes.old }
     ensures ran { result ≡ runs_at host.old id }
-    ensures turned { HostTurned at.node (host_expires at.role host.old id book.old.book) host.new book.new.book notes.new.items }
+    ensures turned { HostTurned at.node (host_expires at.role host.old id book.old.book) host.new book.new.book
+        notes.new.items }
 {
     if !host.on_timer(id) {
         return false;
@@ -303,7 +319,7 @@ pub(crate) fn relink(host: &mut Host, at: Place, book: &mut Book, notes: &mut Ve
     requires opening { opening_notes (host_relinks at.role host.old book.old.book).notes ≤ 1 }
     requires room { 1 ≤ book.old.room }
     requires empty { notes.old.items ≡ [] }
-    requires capacity { 96 ≤ vec_capacity notes.old }
+    requires capacity { MOST_NOTES ≤ vec_capacity notes.old }
     ensures { HostTurned at.node (host_relinks at.role host.old book.old.book) host.new book.new.book notes.new.items }
 {
     host.relink();
@@ -315,15 +331,16 @@ fn tell(host: &mut Host, at: Place, book: &mut Book, notes: &mut Vec<HostNote>)
     requires opening { opening_notes host.old.notes ≤ 1 }
     requires room { opening_notes host.old.notes ≤ book.old.room }
     requires empty { notes.old.items ≡ [] }
-    requires capacity { 96 ≤ vec_capacity notes.old }
-    ensures { HostTurned at.node (told at.role (host_node host.old) book.old.book) host.new book.new.book notes.new.items }
+    requires capacity { MOST_NOTES ≤ vec_capacity notes.old }
+    ensures { HostTurned at.node (told at.role (host_node host.old) book.old.book) host.new book.new.book
+        notes.new.items }
 {
-    // at most 96 notes wait
-    let _ = host.waiting_notes();
-    while let Some(note) = host.notes() {
-        book.tell(at.role, &note);
-        if let Some(kept) = HostNote::of(at.node, &note) {
-            notes.push_reserved(kept);
+    for _ in 0..host.waiting_notes() {
+        if let Some(note) = host.notes() {
+            book.tell(at.role, &note);
+            if let Some(kept) = HostNote::of(at.node, &note) {
+                notes.push_reserved(kept);
+            }
         }
     }
 }

@@ -1,4 +1,5 @@
-//! The nodes of a network of one line, a PAD or a host at each end: what each event at a node writes into the line's book.
+//! The nodes of a network of one line, a PAD or a host at each end: what each event at a node writes into the line's
+//! book.
 #![tactic(auto)]
 
 mod fault;

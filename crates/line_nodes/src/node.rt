@@ -3,7 +3,8 @@ ghost use Rattle.std.specs.Prelude.{◌≡◌, ◌≤◌, ◌∷◌, [], length,
 ghost use Rattle.std.specs.Bool.{OnTrue, OnFalse};
 ghost use Rattle.packet_end.specs.PacketEnd.{runs_at, without_first_frame};
 ghost use Rattle.call_records.specs.Room.{opening_notes};
-ghost use Rattle.line_nodes.specs.Node.{end_of, with_end, is_pad, frames_of, drained, node_rests, node_due, node_elapsed, node_confirmed};
+ghost use Rattle.line_nodes.specs.Node.{end_of, with_end, is_pad, frames_of, drained, node_rests, node_due};
+ghost use Rattle.line_nodes.specs.Node.{node_elapsed, node_confirmed};
 ghost use Rattle.line_nodes.specs.NodeView.{node_of};
 ghost use Rattle.line_nodes.specs.Notes.{user_notes};
 ghost use Rattle.line_nodes.specs.LineTurns.{hears, expires, relinks, restarts};
@@ -13,7 +14,9 @@ use crate::place::Place;
 use crate::{host, pad};
 use call_records::Book;
 use frame_codec::FrameBuf;
+use line_end::MOST_FRAMES;
 use link_timers::{Role, TimerId};
+use packet_end::MOST_NOTES;
 use packet_host::Host;
 use packet_pad::Pad;
 
@@ -25,16 +28,17 @@ pub enum Node {
 }
 
 impl Node {
-    /// Takes the octets of a received frame, and writes what follows into the book. `notes` lists what a host is told, in order; it
-    /// is empty before, with 96 places.
+    /// Takes the octets of a received frame, and writes what follows into the book. `notes` lists what a host is told,
+    /// in order; it is empty before, with [`MOST_NOTES`] places.
     pub fn hear(&mut self, at: Place, octets: &[u8], book: &mut Book, notes: &mut Vec<HostNote>)
         requires opening { opening_notes (hears at.role (node_of self.old) octets.now book.old.book).notes ≤ 1 }
         requires room { 1 ≤ book.old.room }
         requires empty { notes.old.items ≡ [] }
-        requires capacity { 96 ≤ vec_capacity notes.old }
+        requires capacity { MOST_NOTES ≤ vec_capacity notes.old }
         ensures node { node_of self.new ≡ (hears at.role (node_of self.old) octets.now book.old.book).node }
         ensures book { book.new.book ≡ (hears at.role (node_of self.old) octets.now book.old.book).book }
-        ensures notes { notes.new.items ≡ user_notes (node_of self.old) at.node (hears at.role (node_of self.old) octets.now book.old.book).notes }
+        ensures notes { notes.new.items ≡ user_notes (node_of self.old) at.node
+            (hears at.role (node_of self.old) octets.now book.old.book).notes }
     {
         match self {
             Node::Pad(pad) => pad::hear(pad, at.role, octets, book),
@@ -42,7 +46,8 @@ impl Node {
         }
     }
 
-    /// Takes an expiry of a timer, and answers whether it ran. Where it did not nothing happens. It writes and lists as `hear`.
+    /// Takes an expiry of a timer, and answers whether it ran. Where it did not nothing happens. It writes and lists as
+    /// `hear`.
     pub fn expire(
         &mut self,
         at: Place,
@@ -53,11 +58,12 @@ impl Node {
         requires opening { opening_notes (expires at.role (node_of self.old) id book.old.book).notes ≤ 1 }
         requires room { 1 ≤ book.old.room }
         requires empty { notes.old.items ≡ [] }
-        requires capacity { 96 ≤ vec_capacity notes.old }
+        requires capacity { MOST_NOTES ≤ vec_capacity notes.old }
         ensures ran { result ≡ runs_at (end_of (node_of self.old)) id }
         ensures node { node_of self.new ≡ (expires at.role (node_of self.old) id book.old.book).node }
         ensures book { book.new.book ≡ (expires at.role (node_of self.old) id book.old.book).book }
-        ensures notes { notes.new.items ≡ user_notes (node_of self.old) at.node (expires at.role (node_of self.old) id book.old.book).notes }
+        ensures notes { notes.new.items ≡ user_notes (node_of self.old) at.node
+            (expires at.role (node_of self.old) id book.old.book).notes }
     {
         match self {
             Node::Pad(pad) => pad::expire(pad, at.role, id, book),
@@ -70,10 +76,11 @@ impl Node {
         requires opening { opening_notes (relinks at.role (node_of self.old) book.old.book).notes ≤ 1 }
         requires room { 1 ≤ book.old.room }
         requires empty { notes.old.items ≡ [] }
-        requires capacity { 96 ≤ vec_capacity notes.old }
+        requires capacity { MOST_NOTES ≤ vec_capacity notes.old }
         ensures node { node_of self.new ≡ (relinks at.role (node_of self.old) book.old.book).node }
         ensures book { book.new.book ≡ (relinks at.role (node_of self.old) book.old.book).book }
-        ensures notes { notes.new.items ≡ user_notes (node_of self.old) at.node (relinks at.role (node_of self.old) book.old.book).notes }
+        ensures notes { notes.new.items ≡ user_notes (node_of self.old) at.node
+            (relinks at.role (node_of self.old) book.old.book).notes }
     {
         match self {
             Node::Pad(pad) => pad::relink(pad, at.role, book),
@@ -98,7 +105,8 @@ impl Node {
         ensures frame { OnTrue result (frames_of (node_of self.old) ≡ frame.new ∷ frames_of (node_of self.new)) }
         ensures nothing { OnFalse result (frames_of (node_of self.old) ≡ []) }
         ensures same { OnFalse result (frame.new ≡ frame.old) }
-        ensures node { node_of self.new ≡ with_end (without_first_frame (end_of (node_of self.old))) (node_of self.old) }
+        ensures node { node_of self.new ≡ with_end (without_first_frame (end_of (node_of self.old)))
+            (node_of self.old) }
     {
         match self {
             Node::Pad(pad) => pad.out(frame),
@@ -106,10 +114,10 @@ impl Node {
         }
     }
 
-    /// How many frames wait to be taken, at most nine.
+    /// How many frames wait to be taken, at most [`MOST_FRAMES`].
     pub fn waiting_frames(&self) -> usize
         ensures count { result ≡ length (frames_of (node_of self.now)) }
-        ensures most { result ≤ 9 }
+        ensures most { result ≤ MOST_FRAMES }
     {
         match self {
             Node::Pad(pad) => pad.waiting_frames(),
@@ -137,8 +145,8 @@ impl Node {
         }
     }
 
-    /// Whether the link is up with nothing unacknowledged and nothing to be said, no packet is owed, and nothing waits to be sent
-    /// or taken on any channel.
+    /// Whether the link is up with nothing unacknowledged and nothing to be said, no packet is owed, and nothing waits
+    /// to be sent or taken on any channel.
     pub fn is_at_rest(&self) -> bool
         ensures { result ≡ node_rests (node_of self.now) }
     {
@@ -148,8 +156,8 @@ impl Node {
         }
     }
 
-    /// Whether it is a host with a call on the channel in which no packet that asks for delivery confirmation (D = 1) still waits
-    /// for the P(R) that covers it (X.25 4.3.3).
+    /// Whether it is a host with a call on the channel in which no packet that asks for delivery confirmation (D = 1)
+    /// still waits for the P(R) that covers it (X.25 4.3.3).
     pub fn confirmed(&self, channel: u8) -> bool
         ensures { result ≡ node_confirmed (node_of self.now) channel }
     {

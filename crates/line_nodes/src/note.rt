@@ -30,8 +30,8 @@ pub enum NoteKind {
 }
 
 impl HostNote {
-    /// What the user of a host is told by a note of its packet layer: neither that an interrupt was confirmed nor that packets
-    /// sent were covered.
+    /// What the user of a host is told by a note of its packet layer: neither that an interrupt was confirmed nor that
+    /// packets sent were covered.
     pub(crate) fn of(node: usize, note: &LayerNote) -> Option<HostNote>
         ensures { option_to_list result ≡ host_note node (note_of note.now) }
     {

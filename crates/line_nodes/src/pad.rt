@@ -1,4 +1,5 @@
-//! A PAD at its line: the keys of its terminal and what comes from the line, with what is written into the line's book. A PAD refuses
+//! A PAD at its line: the keys of its terminal and what comes from the line, with what is written into the line's
+//! book. A PAD refuses
 //! each call that comes in.
 ghost use Rattle.std.specs.Prelude.{◌≡◌, ◌≤◌, Option, None};
 ghost use Rattle.packet_end.specs.PacketEnd.{runs_at};
@@ -7,7 +8,8 @@ ghost use Rattle.call_records.specs.Book.{all_told};
 ghost use Rattle.call_records.specs.Room.{opening_notes};
 ghost use Rattle.line_nodes.specs.Node.{Pad as pad_node};
 ghost use Rattle.line_nodes.specs.Turn.{PadTurned};
-ghost use Rattle.line_nodes.specs.PadTurns.{key_answer, pad_keys, pad_event, pad_read, last_incoming, without_call, closed_call};
+ghost use Rattle.line_nodes.specs.PadTurns.{key_answer, pad_keys, pad_event, pad_read, last_incoming, without_call};
+ghost use Rattle.line_nodes.specs.PadTurns.{closed_call};
 ghost use Rattle.line_nodes.specs.LineTurns.{pad_hears, pad_expires, pad_relinks};
 
 use call_records::{Book, EditStep};
@@ -25,8 +27,8 @@ pub enum KeyAnswer {
     Dropped,
 }
 
-/// Takes a key of the terminal, as `Pad::on_key`, and writes into the book the step of editing and the packet that it makes, if
-/// any. The book has room for both.
+/// Takes a key of the terminal, as `Pad::on_key`, and writes into the book the step of editing and the packet that it
+/// makes, if any. The book has room for both.
 pub fn key(pad: &mut Pad, role: Role, octet: u8, book: &mut Book) -> KeyAnswer
     requires opening { opening_notes (pad_keys role pad.old octet book.old.book).notes ≡ 0 }
     requires room { 2 ≤ book.old.room }

@@ -59,7 +59,8 @@ fn new_pad(rt: &impl Abort, alloc: Global) -> Pad {
     }
 }
 
-// Before an event the notes of the last one are read; the book has room, and the list of what the host is told is empty.
+// Before an event the notes of the last one are read; the book has room, and the list of what the host is told is
+// empty.
 fn ready(alloc: Global, host: &mut Host, book: &mut Book) -> Result<Vec<HostNote>, AllocError>
     ensures read { host.new.notes ≡ [] }
     ensures room { OnOk result (book.new.room ≡ 8) }

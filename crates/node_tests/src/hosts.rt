@@ -4,8 +4,8 @@ use arrayvec::ArrayVec;
 use frame_codec::FrameBuf;
 use link_timers::{Role, TimerId};
 use packet_codec::Address;
-use packet_end::EndParams;
-use packet_host::{Host, HostConfig, HostFault};
+use packet_end::{EndFault, EndParams};
+use packet_host::{Host, HostConfig};
 use packet_layer::{CallFault, ChannelFault, LayerNote, Taken};
 use std::alloc::Global;
 use std::process::Abort;
@@ -273,7 +273,7 @@ fn config(role: Role, channels: u8) -> HostConfig {
     }
 }
 
-fn new_station(alloc: Global, role: Role, channels: u8) -> Result<Station, HostFault> {
+fn new_station(alloc: Global, role: Role, channels: u8) -> Result<Station, EndFault> {
     let mut station = Station {
         host: Host::new(alloc, config(role, channels))?,
         sent: ArrayVec::new(),
@@ -283,7 +283,7 @@ fn new_station(alloc: Global, role: Role, channels: u8) -> Result<Station, HostF
     Ok(station)
 }
 
-fn new_line(alloc: Global, channels: u8) -> Result<Line, HostFault> {
+fn new_line(alloc: Global, channels: u8) -> Result<Line, EndFault> {
     Ok(Line {
         dte: new_station(alloc, Dte, channels)?,
         dce: new_station(alloc, Dce, channels)?,
@@ -519,7 +519,7 @@ fn configurations_have_ranges(rt: HostRuntime) {
     ] {
         match Host::new(rt.alloc(), HostConfig { role: Dce, line }) {
             Ok(_) => assert!(rt; false, "{line:?}"),
-            Err(fault) => assert_eq!(rt; fault, HostFault::BadConfig),
+            Err(fault) => assert_eq!(rt; fault, EndFault::BadConfig),
         }
     }
 }

@@ -4,9 +4,9 @@ use arrayvec::ArrayVec;
 use frame_codec::FrameBuf;
 use link_timers::{Role, TimerId};
 use packet_codec::{Address, CallData};
-use packet_end::{EndParams, PacketEnd};
+use packet_end::{EndFault, EndParams, PacketEnd};
 use packet_layer::{LayerNote, Taken};
-use packet_pad::{KeyResult, Pad, PadConfig, PadFault};
+use packet_pad::{KeyResult, Pad, PadConfig};
 use std::alloc::Global;
 use std::process::Abort;
 use x3_params::{Params, Profile};
@@ -284,7 +284,7 @@ fn misfit(line: &mut Line, steps: &[Step<'_>]) -> Option<usize> {
     None
 }
 
-fn new_line(alloc: Global, line: EndParams, params: Params) -> Result<Line, PadFault> {
+fn new_line(alloc: Global, line: EndParams, params: Params) -> Result<Line, EndFault> {
     let far = PacketEnd::new(alloc, Role::Dce, line)?;
     Ok(Line {
         pad: Pad::new(alloc, PadConfig { line, params })?,
@@ -472,7 +472,7 @@ fn configurations_have_ranges(rt: HostRuntime) {
         };
         match Pad::new(rt.alloc(), config) {
             Ok(_) => assert!(rt; false, "{line:?}"),
-            Err(fault) => assert_eq!(rt; fault, PadFault::BadConfig),
+            Err(fault) => assert_eq!(rt; fault, EndFault::BadConfig),
         }
     }
 }

@@ -1,5 +1,7 @@
--- One end of a line with its packet layer: what each call of a node makes of the link, the layer and the timers together.
-use Rattle.std.specs.Prelude.{◌≡◌, ℕ, zero, suc, Bool, false, cond, ◌&&◌, ◌⊎◌, List, [], ◌++◌, drop, Option, Some, None, is_some}
+-- One end of a line with its packet layer: what each call of a node makes of the link, the layer and the timers
+-- together.
+use Rattle.std.specs.Prelude.{◌≡◌, ℕ, zero, suc, Bool, false, cond, ◌&&◌, ◌⊎◌, List, [], ◌++◌, drop, Option, Some}
+use Rattle.std.specs.Prelude.{None, is_some}
 use Rattle.link_timers.specs.declared.role.Role.{Role}
 use Rattle.link_timers.specs.declared.timers.TimerId.{TimerId}
 use Rattle.link_timers.specs.declared.timers.TimerId.TheVariants.{T1}
@@ -64,7 +66,10 @@ runs_at e id = is_some (left_of e.timers id)
 -- a timer that runs expires
 abbrev pub expired : TimerId → PacketEnd → PacketEnd
 expired T1 e = heeded (link.on_t1 e.line.link).note (record e { line = line.expired T1 e.line })
-expired id e = gathered (record e { timers = stopped e.timers id; layer = on_named e.layer (timer_named e.layer.role id) })
+expired id e = gathered (record e {
+  timers = stopped e.timers id;
+  layer = on_named e.layer (timer_named e.layer.role id);
+})
 
 -- an expiry changes nothing where the timer does not run
 abbrev pub after_timer : PacketEnd → TimerId → PacketEnd
@@ -74,7 +79,11 @@ after_timer e id = cond (runs_at e id) (expired id e) e
 
 -- by what the node is told: the session ends, if there is one
 abbrev pub relinked : PacketEnd → PacketEnd
-relinked e = gathered (record e { line = line.relinked e.line; layer = machine.link_down e.layer; timers = none_running })
+relinked e = gathered (record e {
+  line = line.relinked e.line;
+  layer = machine.link_down e.layer;
+  timers = none_running;
+})
 
 -- where the layer asks for it
 abbrev pub relinked_if_due : PacketEnd → PacketEnd
@@ -113,7 +122,8 @@ all_offered e = offered 7 e
 abbrev pub HasOfferedAll : PacketEnd → Type 0
 HasOfferedAll e = (can_offer e.line.link ≡ false) ⊎ ((next_packet e.layer).packet ≡ None)
 
--- nothing is kept back: the layer's packets are offered as far as the link takes them, and the link's are sent as far as they may go
+-- nothing is kept back: the layer's packets are offered as far as the link takes them, and the link's are sent as far
+-- as they may go
 pub record KeepsNothingBack (e : PacketEnd) : Type 0 where
   pub offered : HasOfferedAll e
   pub sent : HasSentAll e.line.link

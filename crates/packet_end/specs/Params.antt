@@ -4,7 +4,7 @@ use Rattle.packet_layer.specs.Params as layer
 use Rattle.packet_layer.specs.declared.fault.MakeFault.{MakeFault}
 use Rattle.packet_layer.specs.declared.fault.MakeFault.TheVariants as layer_fault
 use Rattle.packet_end.specs.declared.fault.EndFault.{EndFault}
-use Rattle.packet_end.specs.declared.fault.EndFault.TheVariants.{BadParams, OutOfMemory}
+use Rattle.packet_end.specs.declared.fault.EndFault.TheVariants.{BadConfig, OutOfMemory}
 use Rattle.packet_end.specs.declared.params.EndParams.{EndParams}
 
 pub record AreParams (p : EndParams) : Type 0 where
@@ -12,10 +12,10 @@ pub record AreParams (p : EndParams) : Type 0 where
   pub layer : layer.AreParams p.channels p.window
 
 abbrev pub MadeNot : EndParams → EndFault → Type 0
-MadeNot p BadParams = AreParams p → ⊥
+MadeNot p BadConfig = AreParams p → ⊥
 MadeNot p OutOfMemory = AreParams p
 
 -- a fault of the layer is one of the end
 abbrev pub end_fault : MakeFault → EndFault
-end_fault layer_fault.BadParams = BadParams
+end_fault layer_fault.BadParams = BadConfig
 end_fault layer_fault.OutOfMemory = OutOfMemory

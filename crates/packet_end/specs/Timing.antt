@@ -10,7 +10,8 @@ use Rattle.packet_layer.specs.Events.{timer_named, runs_named}
 abbrev pub packet_ticks : ℕ
 packet_ticks = 3600
 
--- a timer that is to run and does not is started, one that is not to run is stopped, and one that runs as it is to goes on
+-- a timer that is to run and does not is started, one that is not to run is stopped, and one that runs as it is to
+-- goes on
 abbrev pub brought_as : (runs : Bool) → TimerId → Places → Places
 brought_as true id timers = if is_some (left_of timers id) then timers else started timers id packet_ticks
 brought_as false id timers = stopped timers id

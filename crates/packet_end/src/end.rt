@@ -4,29 +4,31 @@ ghost use Rattle.std.specs.Bool.{OnTrue, OnFalse};
 ghost use Rattle.lapb.specs.Unsent.{HasSentAll};
 ghost use Rattle.packet_end.specs.Params.{AreParams, MadeNot};
 ghost use Rattle.packet_end.specs.Timing.{TimersAgree};
-ghost use Rattle.packet_end.specs.PacketEnd.{made, begun, gathered, heeded, received, runs_at, after_timer, relinked, relinked_if_due, restarted, KeepsNothingBack, settled, finished, elapsed, due, at_rest, without_first_frame, without_first_note};
+ghost use Rattle.packet_end.specs.PacketEnd.{made, begun, gathered, heeded, received, runs_at, after_timer, relinked};
+ghost use Rattle.packet_end.specs.PacketEnd.{relinked_if_due, restarted, KeepsNothingBack, settled, finished};
+ghost use Rattle.packet_end.specs.PacketEnd.{elapsed, due, at_rest, without_first_frame, without_first_note};
 
 mod asking;
 mod offering;
 
 use crate::fault::EndFault;
-use crate::notes::NoteQueue;
+use crate::notes::{MOST_NOTES, NoteQueue};
 use crate::params::EndParams;
 use crate::timing::bring_into_line;
 use frame_codec::FrameBuf;
 use lapb::{LinkParams, Note};
-use line_end::LineEnd;
+use line_end::{LineEnd, MOST_FRAMES};
 use link_timers::{Role, TimerId, Timers};
 use packet_layer::{Layer, LayerNote, LayerParams};
 use std::alloc::Global;
 use std::marker::Model;
 
-/// One end of a line with its packet layer: the link with the frames that go out, the logical channels, the timers of both, and
-/// what is told of the calls.
+/// One end of a line with its packet layer: the link with the frames that go out, the logical channels, the timers of
+/// both, and what is told of the calls.
 ///
-/// An event of a node is, for each of its lines: `begin`, then what happens at this line (`on_frame`, `on_timer`, `relink` or what
-/// a user asks of a call), `relink_if_due`, `offer_packets` and `settle`; a node with one line ends it by `finish`. Then the frames
-/// are taken by `out` and the notes by `notes`.
+/// An event of a node is, for each of its lines: `begin`, then what happens at this line (`on_frame`, `on_timer`,
+/// `relink` or what a user asks of a call), `relink_if_due`, `offer_packets` and `settle`; a node with one line ends it
+/// by `finish`. Then the frames are taken by `out` and the notes by `notes`.
 #[derive(Drop)]
 pub struct PacketEnd {
     line: LineEnd,
@@ -48,10 +50,10 @@ impl Model for PacketEnd {
 impl PacketEnd {
     ghost use Rattle.packet_layer.specs.NoteView.{maybe_note};
 
-    /// The end of this role of a line: its link is as `LineEnd::new` makes it, its packet layer as `Layer::new`. It takes all the
-    /// memory that it ever uses.
+    /// The end of this role of a line: its link is as `LineEnd::new` makes it, its packet layer as `Layer::new`. It
+    /// takes all the memory that it ever uses.
     ///
-    /// `BadParams` comes where a parameter is out of its range, and then `OutOfMemory` for want of memory.
+    /// `BadConfig` comes where a parameter is out of its range, and then `OutOfMemory` for want of memory.
     pub fn new(alloc: Global, role: Role, params: EndParams) -> Result<PacketEnd, EndFault>
         ensures { MatchResult result
             (λ end. AreParams params × (end ≡ made role params))
@@ -152,8 +154,8 @@ impl PacketEnd {
         }
     }
 
-    /// Begins anew after a restart of the node, as on a line that does not stand. What went before is forgotten, also frames and
-    /// notes.
+    /// Begins anew after a restart of the node, as on a line that does not stand. What went before is forgotten, also
+    /// frames and notes.
     pub fn restart(&mut self)
         ensures { self.new ≡ restarted self.old }
     {
@@ -225,24 +227,24 @@ impl PacketEnd {
         }
     }
 
-    /// How many frames wait to be taken, at most nine.
+    /// How many frames wait to be taken, at most [`MOST_FRAMES`].
     pub fn waiting_frames(&self) -> usize
         ensures count { result ≡ length self.now.line.frames }
-        ensures most { result ≤ 9 }
+        ensures most { result ≤ MOST_FRAMES }
     {
         self.line.waiting()
     }
 
-    /// How many notes wait to be taken, at most 96.
+    /// How many notes wait to be taken, at most [`MOST_NOTES`].
     pub fn waiting_notes(&self) -> usize
         ensures count { result ≡ length self.now.notes }
-        ensures most { result ≤ 96 }
+        ensures most { result ≤ MOST_NOTES }
     {
         self.notes.len()
     }
 
-    /// Whether the link is up with nothing unacknowledged and nothing to be said, no packet is owed, and nothing waits to be sent
-    /// or taken on any channel.
+    /// Whether the link is up with nothing unacknowledged and nothing to be said, no packet is owed, and nothing waits
+    /// to be sent or taken on any channel.
     pub fn is_at_rest(&self) -> bool
         ensures { result ≡ at_rest self.now }
     {

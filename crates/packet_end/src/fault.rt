@@ -5,12 +5,12 @@ use packet_layer::MakeFault;
 use std::alloc::AllocError;
 use thiserror::Error;
 
-/// Why an end of a line was not made, in the order in which the faults are tested.
+/// Why an end of a line, or the node at it, was not made, in the order in which the faults are tested.
 #[derive(Clone, Copy, Debug, PartialEq, Eq, Error)]
 pub enum EndFault {
     /// A parameter is out of its range.
-    #[error("bad parameters of a line")]
-    BadParams,
+    #[error("bad configuration of a line")]
+    BadConfig,
     /// Memory was refused.
     #[error("out of memory")]
     OutOfMemory,
@@ -20,10 +20,10 @@ impl From<BadParams> for EndFault {
     ghost use Rattle.std.specs.Prelude.{◌≡◌};
     ghost use Rattle.packet_end.specs.declared.fault.EndFault.TheVariants as fault;
 
-    ghost from_gives = { λ _ made. made ≡ fault.BadParams };
+    ghost from_gives = { λ _ made. made ≡ fault.BadConfig };
 
     fn from(_: BadParams) -> Self {
-        EndFault::BadParams
+        EndFault::BadConfig
     }
 }
 
@@ -35,7 +35,7 @@ impl From<MakeFault> for EndFault {
 
     fn from(fault: MakeFault) -> Self {
         match fault {
-            MakeFault::BadParams => EndFault::BadParams,
+            MakeFault::BadParams => EndFault::BadConfig,
             MakeFault::OutOfMemory => EndFault::OutOfMemory,
         }
     }

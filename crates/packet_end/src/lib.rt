@@ -1,4 +1,5 @@
-//! One end of a line with its packet layer, for every kind of node: the link, the logical channels, the timers of both, and what
+//! One end of a line with its packet layer, for every kind of node: the link, the logical channels, the timers of
+//! both, and what
 //! is told of the calls.
 #![tactic(auto)]
 
@@ -10,4 +11,5 @@ mod timing;
 
 pub use end::PacketEnd;
 pub use fault::EndFault;
+pub use notes::MOST_NOTES;
 pub use params::EndParams;

@@ -7,7 +7,7 @@ use std::alloc::{AllocError, Global};
 use std::marker::Model;
 
 /// The most notes of one event: three steps of the layer, each with at most 32.
-const MOST_NOTES: usize = 96;
+pub const MOST_NOTES: usize = 96;
 
 /// The notes of an event that are not yet read, in order.
 #[derive(Drop)]
@@ -47,14 +47,14 @@ impl NoteQueue {
     /// How many notes are not yet read.
     pub(crate) fn len(&self) -> usize
         ensures count { result ≡ length self.now }
-        ensures most { result ≤ 96 }
+        ensures most { result ≤ MOST_NOTES }
     {
         self.notes.len()
     }
 
     /// Adds a note.
     pub(crate) fn add(&mut self, note: LayerNote)
-        requires { length self.old < 96 }
+        requires { length self.old < MOST_NOTES }
         ensures { self.new ≡ self.old ++ note_of note ∷ [] }
     {
         let _ = self.notes.try_push_back(note);

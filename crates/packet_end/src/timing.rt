@@ -2,7 +2,8 @@
 ghost use Rattle.std.specs.Prelude.{◌≡◌, ◌≢◌, ◌≤◌};
 ghost use Rattle.link_timers.specs.declared.timers.TimerId.{TimerId as TimerName};
 ghost use Rattle.link_timers.specs.Timers.{IsTimer, left_of};
-ghost use Rattle.packet_end.specs.Timing.{brought_one, brought_channel, brought, RunsAsWanted, IsPacketTimer, TimersAgree, channel_number};
+ghost use Rattle.packet_end.specs.Timing.{brought_one, brought_channel, brought, RunsAsWanted, IsPacketTimer};
+ghost use Rattle.packet_end.specs.Timing.{TimersAgree, channel_number};
 
 use link_timers::{TimerId, Timers};
 use packet_layer::Layer;
@@ -32,8 +33,10 @@ fn bring_channel(timers: &mut Timers, layer: &Layer, channel: u8)
     requires least { 1 ≤ channel }
     requires most { channel ≤ 32 }
     ensures places { timers.new ≡ brought_channel layer.now channel timers.old }
-    ensures own { (id : TimerName) → IsPacketTimer id → channel_number id ≡ channel → RunsAsWanted layer.now timers.new id }
-    ensures kept { (id : TimerName) → IsTimer id → RunsAsWanted layer.now timers.old id → RunsAsWanted layer.now timers.new id }
+    ensures own { (id : TimerName) → IsPacketTimer id → channel_number id ≡ channel →
+        RunsAsWanted layer.now timers.new id }
+    ensures kept { (id : TimerName) → IsTimer id → RunsAsWanted layer.now timers.old id →
+        RunsAsWanted layer.now timers.new id }
 {
     bring_one(timers, layer, TimerId::T11(channel));
     bring_one(timers, layer, TimerId::T12(channel));
@@ -48,7 +51,8 @@ fn bring_one(timers: &mut Timers, layer: &Layer, id: TimerId)
     requires { IsTimer id }
     ensures places { timers.new ≡ brought_one layer.now id timers.old }
     ensures own { RunsAsWanted layer.now timers.new id }
-    ensures kept { (other : TimerName) → IsTimer other → RunsAsWanted layer.now timers.old other → RunsAsWanted layer.now timers.new other }
+    ensures kept { (other : TimerName) → IsTimer other → RunsAsWanted layer.now timers.old other →
+        RunsAsWanted layer.now timers.new other }
 {
     if !layer.runs(id) {
         timers.stop(id);

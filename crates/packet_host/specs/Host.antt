@@ -1,4 +1,5 @@
--- A host: one end of a line whose user places, answers and clears calls, and says and takes octets. Each call is one event.
+-- A host: one end of a line whose user places, answers and clears calls, and says and takes octets. Each call is one
+-- event.
 use Rattle.std.specs.Prelude.{ℕ, Bool, cond, not, List, [], Option, Some, None}
 use Rattle.link_timers.specs.declared.timers.TimerId.{TimerId}
 use Rattle.lapb.specs.Machine.{Octets}

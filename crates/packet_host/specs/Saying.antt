@@ -1,5 +1,6 @@
 -- What a host says on a call: octets cut into Data packets (X.25 4.3.4), and when they are refused.
-use Rattle.std.specs.Prelude.{◌≡◌, ℕ, zero, suc, ◌-◌, ◌/◌, Bool, true, false, List, [], ◌∷◌, length, take, drop, min, nat_lt, Option, Some, None}
+use Rattle.std.specs.Prelude.{◌≡◌, ℕ, zero, suc, ◌-◌, ◌/◌, Bool, true, false, List, [], ◌∷◌, length, take, drop, min}
+use Rattle.std.specs.Prelude.{nat_lt, Option, Some, None}
 use Rattle.packet_layer.specs.Packets.{Datum}
 use Rattle.packet_layer.specs.Channel.{Refusal, Request, refused_if}
 use Rattle.packet_layer.specs.Layer.{Layer, flow_refusal, request_refusal, room}
@@ -29,7 +30,8 @@ queued channel (d ∷ ds) e = queued channel ds (asked e channel (Request.Sendin
 abbrev pub AllTaken : (channel : ℕ) → List Datum → PacketEnd → Type 0
 AllTaken channel [] e = Unit {0}
 AllTaken channel (d ∷ ds) e =
-    (request_refusal e.layer channel (Request.Sending d) ≡ None) × AllTaken channel ds (asked e channel (Request.Sending d))
+    (request_refusal e.layer channel (Request.Sending d) ≡ None)
+    × AllTaken channel ds (asked e channel (Request.Sending d))
 
 -- the most octets of one message: a qualified one is one packet
 abbrev pub most_octets : (qualified : Bool) → ℕ

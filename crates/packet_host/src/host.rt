@@ -1,32 +1,34 @@
 //! The host and its calls.
-ghost use Rattle.std.specs.Prelude.{◌≡◌, ◌≤◌, ◌∷◌, [], true, false, Some, None, length, MatchResult, OnOk, OnSome, slice_get};
+ghost use Rattle.std.specs.Prelude.{◌≡◌, ◌≤◌, ◌∷◌, [], true, false, Some, None, length, MatchResult, OnOk, OnSome};
+ghost use Rattle.std.specs.Prelude.{slice_get};
 ghost use Rattle.std.specs.Bool.{OnTrue, OnFalse};
 ghost use Rattle.packet_layer.specs.Channel.{Request as ask};
 ghost use Rattle.packet_layer.specs.Layer as machine;
 ghost use Rattle.packet_layer.specs.NoteView.{maybe_note};
 ghost use Rattle.packet_layer.specs.RequestView.{refusal_of, call_refusal_of};
 ghost use Rattle.packet_layer.specs.TakenView.{maybe_taken};
-ghost use Rattle.packet_end.specs.Params.{AreParams};
+ghost use Rattle.packet_end.specs.Params.{AreParams, MadeNot};
 ghost use Rattle.packet_end.specs.PacketEnd as end;
 ghost use Rattle.packet_end.specs.Timing.{TimersAgree};
-ghost use Rattle.packet_host.specs.Host.{ended, call_parts, after_call, after_request, refuse_refusal, after_refuse, after_say, after_take, after_frame, after_expiry, after_relink};
-ghost use Rattle.packet_host.specs.Making.{made, MadeNot};
+ghost use Rattle.packet_host.specs.Host.{ended, call_parts, after_call, after_request, refuse_refusal, after_refuse};
+ghost use Rattle.packet_host.specs.Host.{after_say, after_take, after_frame, after_expiry, after_relink};
+ghost use Rattle.packet_host.specs.Making.{made};
 ghost use Rattle.packet_host.specs.Saying.{say_refusal};
 
 mod line;
 mod saying;
 
 use crate::config::HostConfig;
-use crate::fault::HostFault;
 use packet_codec::{Address, CallData};
-use packet_end::PacketEnd;
+use packet_end::{EndFault, PacketEnd};
 use packet_layer::{CallFault, ChannelFault, LayerNote, Taken};
+pub use saying::full_packets;
 use std::alloc::Global;
 use std::marker::Model;
 
-/// A host at one end of a line, in either role. Each call that changes it is one event, whose frames are then taken by `out` and
-/// whose notes by `notes`, before the next one; after it they are gone, a frame as if the line had lost it. A call that is
-/// refused changes nothing.
+/// A host at one end of a line, in either role. Each call that changes it is one event, whose frames are then taken by
+/// `out` and whose notes by `notes`, before the next one; after it they are gone, a frame as if the line had lost it. A
+/// call that is refused changes nothing.
 #[derive(Drop)]
 pub struct Host {
     end: PacketEnd,
@@ -43,21 +45,21 @@ impl Model for Host {
 }
 
 impl Host {
-    /// The host at its line, which is new: the link is started, or stands where the line does. It takes all the memory that it ever
-    /// uses.
+    /// The host at its line, which is new: the link is started, or stands where the line does. It takes all the memory
+    /// that it ever uses.
     ///
     /// `BadConfig` comes where a parameter is out of its range, and then `OutOfMemory` for want of memory.
-    pub fn new(alloc: Global, config: HostConfig) -> Result<Host, HostFault>
+    pub fn new(alloc: Global, config: HostConfig) -> Result<Host, EndFault>
         ensures { MatchResult result
             (λ host. AreParams config.line × (host ≡ made config))
-            (λ fault. MadeNot config fault) }
+            (λ fault. MadeNot config.line fault) }
     {
         let end = PacketEnd::new(alloc, config.role, config.line)?;
         Ok(Host { end })
     }
 
-    /// Calls an address with at most 16 octets of call user data (X.25 4.1.2), and answers the channel: the highest free one of a
-    /// DTE, the lowest of a DCE.
+    /// Calls an address with at most 16 octets of call user data (X.25 4.1.2), and answers the channel: the highest
+    /// free one of a DTE, the lowest of a DCE.
     ///
     /// `NotReady` comes where the restart procedure is not done, then `NoChannel` where no channel is free.
     pub fn call(&mut self, address: Address, user_data: &[u8]) -> Result<u8, CallFault>
@@ -126,7 +128,8 @@ impl Host {
         Ok(())
     }
 
-    /// Resets the call on the channel with cause 0 and diagnostic 0: what waits in both directions is dropped (X.25 4.4.3).
+    /// Resets the call on the channel with cause 0 and diagnostic 0: what waits in both directions is dropped (X.25
+    /// 4.4.3).
     ///
     /// `NoCall` comes where no call is in data transfer, `Resetting` while the last own reset is not confirmed.
     pub fn reset(&mut self, channel: u8) -> Result<(), ChannelFault>
@@ -143,12 +146,13 @@ impl Host {
 
     /// Sends an interrupt of 1 to 32 octets on the channel (X.25 4.3.7).
     ///
-    /// `NoCall` comes where no call is in data transfer, then `Resetting` while the own reset is not confirmed, `TooLong` for
-    /// no octets or more than 32, `InterruptPending` while the last interrupt is not confirmed.
+    /// `NoCall` comes where no call is in data transfer, then `Resetting` while the own reset is not confirmed,
+    /// `TooLong` for no octets or more than 32, `InterruptPending` while the last interrupt is not confirmed.
     pub fn interrupt(&mut self, channel: u8, octets: &[u8]) -> Result<(), ChannelFault>
         ensures answer { MatchResult result
             (λ _. machine.request_refusal self.old.layer channel (ask.Interrupting octets.now) ≡ None)
-            (λ fault. machine.request_refusal self.old.layer channel (ask.Interrupting octets.now) ≡ Some (refusal_of fault)) }
+            (λ fault. machine.request_refusal self.old.layer channel (ask.Interrupting octets.now)
+            ≡ Some (refusal_of fault)) }
         ensures host { self.new ≡ after_request self.old channel (ask.Interrupting octets.now) }
         ensures nothing_kept_back { OnOk result (end.KeepsNothingBack self.new) }
     {
@@ -187,8 +191,8 @@ impl Host {
         Ok(())
     }
 
-    /// Takes what comes next on the channel, if anything: an interrupt, which is then confirmed, before all packets, each of which
-    /// is then acknowledged by P(R) (X.25 4.3.7, 4.4.1.3).
+    /// Takes what comes next on the channel, if anything: an interrupt, which is then confirmed, before all packets,
+    /// each of which is then acknowledged by P(R) (X.25 4.3.7, 4.4.1.3).
     pub fn take(&mut self, channel: u8) -> Option<Taken>
         ensures taken { maybe_taken result ≡ machine.front_on self.old.layer channel }
         ensures host { self.new ≡ after_take self.old channel }
@@ -203,8 +207,8 @@ impl Host {
         Some(taken)
     }
 
-    /// Whether the channel has a call in which no packet of the present epoch that asks for delivery confirmation (D = 1) still
-    /// waits for the P(R) that covers it (X.25 4.3.3).
+    /// Whether the channel has a call in which no packet of the present epoch that asks for delivery confirmation (D =
+    /// 1) still waits for the P(R) that covers it (X.25 4.3.3).
     pub fn confirmed(&self, channel: u8) -> bool
         ensures { result ≡ machine.confirmed self.now.layer channel }
     {

@@ -1,10 +1,9 @@
-//! A host: a packet terminal at one end of a line, which places and takes calls and says and takes octets on them (X.25 3 to 5).
+//! A host: a packet terminal at one end of a line, which places and takes calls and says and takes octets on them
+//! (X.25 3 to 5).
 #![tactic(auto)]
 
 mod config;
-mod fault;
 mod host;
 
 pub use config::HostConfig;
-pub use fault::HostFault;
-pub use host::Host;
+pub use host::{Host, full_packets};

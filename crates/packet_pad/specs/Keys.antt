@@ -1,5 +1,7 @@
--- What a PAD does with a key: it edits the held text, and sends each block that a key ends in one Data packet (X.3, X.29 1.3).
-use Rattle.std.specs.Prelude.{◌≡◌, ℕ, Bool, true, false, ◌&&◌, ◌||◌, ◌==◌, if◌then◌else◌, List, [], ◌∷◌, map, Option, Some, None, is_some}
+-- What a PAD does with a key: it edits the held text, and sends each block that a key ends in one Data packet (X.3,
+-- X.29 1.3).
+use Rattle.std.specs.Prelude.{◌≡◌, ℕ, Bool, true, false, ◌&&◌, ◌||◌, ◌==◌, if◌then◌else◌, List, [], ◌∷◌, map, Option}
+use Rattle.std.specs.Prelude.{Some, None, is_some}
 use Rattle.std.specs.Option.{option_to_list}
 use Rattle.x3_params.specs.Settings.{recall_character}
 use Rattle.pad_editing.specs.Edited.{Step, key, Effect, after_key}
@@ -11,7 +13,8 @@ use Rattle.packet_pad.specs.Pad.{PadState, stands, after_finish}
 use Rattle.packet_pad.specs.declared.key.KeyResult.{KeyResult}
 use Rattle.packet_pad.specs.declared.key.KeyResult.TheVariants as key_result
 
--- the PAD after a key, whether the key was dropped, and where it edited: its step, and the packets that went into the send queue
+-- the PAD after a key, whether the key was dropped, and where it edited: its step, and the packets that went into the
+-- send queue
 pub record KeyEffect : Type 0 where
   pub pad : PadState
   pub dropped : Bool
@@ -31,7 +34,8 @@ is_character None octet = false
 
 -- DLE, DC1, DC3 and the character that recalls the PAD are not edited
 abbrev pub is_control : List ℕ → ℕ → Bool
-is_control params octet = (octet == 0x10) || (octet == 0x11) || (octet == 0x13) || is_character (recall_character params) octet
+is_control params octet = (octet == 0x10) || (octet == 0x11) || (octet == 0x13) || is_character
+    (recall_character params) octet
 
 -- a block is a message of one packet
 abbrev pub message : List ℕ → Datum
@@ -65,9 +69,11 @@ after_octet p octet =
 -- none of these packets is refused by the send queue
 abbrev pub AllTaken : List Datum → PacketEnd → Type 0
 AllTaken [] e = Unit {0}
-AllTaken (d ∷ ds) e = (request_refusal e.layer 1 (Request.Sending d) ≡ None) × AllTaken ds (asked e 1 (Request.Sending d))
+AllTaken (d ∷ ds) e = (request_refusal e.layer 1 (Request.Sending d) ≡ None)
+    × AllTaken ds (asked e 1 (Request.Sending d))
 
--- what the code says of a key: it was dropped; it made no step; it made one, and the block that it ended, if any, went in a packet
+-- what the code says of a key: it was dropped; it made no step; it made one, and the block that it ended, if any,
+-- went in a packet
 abbrev pub IsKeyResult : ℕ → List ℕ → KeyResult → KeyEffect → Type 0
 IsKeyResult octet params key_result.Dropped e = (e.dropped ≡ true) × (e.steps ≡ []) × (e.sent ≡ [])
 IsKeyResult octet params key_result.NoStep e = (e.dropped ≡ false) × (e.steps ≡ []) × (e.sent ≡ [])

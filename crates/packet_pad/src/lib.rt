@@ -1,15 +1,14 @@
 //! A PAD at one end of a line: a terminal types on the call that stands there (X.3, X.25 3 to 5).
 //!
-//! Where the line stands the call does so from its making on. The PAD edits what the terminal types into blocks, and sends each
+//! Where the line stands the call does so from its making on. The PAD edits what the terminal types into blocks, and
+//! sends each
 //! block in one Data packet.
 #![tactic(auto)]
 
 mod config;
-mod fault;
 mod key;
 mod pad;
 
 pub use config::PadConfig;
-pub use fault::PadFault;
 pub use key::KeyResult;
 pub use pad::Pad;

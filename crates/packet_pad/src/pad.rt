@@ -1,18 +1,17 @@
 //! The PAD and its terminal.
 ghost use Rattle.std.specs.Prelude.{◌≡◌, [], MatchResult, slice_get};
 ghost use Rattle.packet_layer.specs.NoteView.{maybe_note};
-ghost use Rattle.packet_end.specs.Params.{AreParams};
+ghost use Rattle.packet_end.specs.Params.{AreParams, MadeNot};
 ghost use Rattle.packet_end.specs.PacketEnd as end;
 ghost use Rattle.packet_pad.specs.Pad as spec;
-ghost use Rattle.packet_pad.specs.Making.{made, MadeNot};
+ghost use Rattle.packet_pad.specs.Making.{made};
 
 mod line;
 mod typing;
 
 use crate::config::PadConfig;
-use crate::fault::PadFault;
 use link_timers::Role;
-use packet_end::PacketEnd;
+use packet_end::{EndFault, PacketEnd};
 use packet_layer::ChannelFault;
 use pad_editing::Editor;
 use std::alloc::Global;
@@ -22,13 +21,13 @@ use x3_params::Params;
 /// The channel of the call that stands.
 const CHANNEL: u8 = 1;
 
-/// A PAD at the DTE's end of a line, for the terminal that types on the call of channel 1. It neither places nor accepts a call:
-/// once the call is over its keys have no effect.
+/// A PAD at the DTE's end of a line, for the terminal that types on the call of channel 1. It neither places nor
+/// accepts a call: once the call is over its keys have no effect.
 ///
-/// What comes from the line is an event in two parts: `on_frame`, `on_timer` or `relink`, after which the notes are taken and a call
-/// that came in is refused by `refuse`; then `finish`, after which further notes and the frames are taken by `notes` and `out`. A
-/// key is an event by itself where it ends a block. What was not taken when the next event begins is gone, a frame as if the line
-/// had lost it.
+/// What comes from the line is an event in two parts: `on_frame`, `on_timer` or `relink`, after which the notes are
+/// taken and a call that came in is refused by `refuse`; then `finish`, after which further notes and the frames are
+/// taken by `notes` and `out`. A key is an event by itself where it ends a block. What was not taken when the next
+/// event begins is gone, a frame as if the line had lost it.
 #[derive(Drop)]
 pub struct Pad {
     end: PacketEnd,
@@ -48,14 +47,14 @@ impl Model for Pad {
 }
 
 impl Pad {
-    /// The PAD at its line, which is new: the link is started, or stands where the line does, and with it the call. It takes all
-    /// the memory that it ever uses.
+    /// The PAD at its line, which is new: the link is started, or stands where the line does, and with it the call. It
+    /// takes all the memory that it ever uses.
     ///
     /// `BadConfig` comes where a parameter of the line is out of its range, and then `OutOfMemory` for want of memory.
-    pub fn new(alloc: Global, config: PadConfig) -> Result<Pad, PadFault>
+    pub fn new(alloc: Global, config: PadConfig) -> Result<Pad, EndFault>
         ensures { MatchResult result
             (λ pad. AreParams config.line × (pad ≡ made config))
-            (λ fault. MadeNot config fault) }
+            (λ fault. MadeNot config.line fault) }
     {
         let end = PacketEnd::new(alloc, Role::Dte, config.line)?;
         Ok(Pad {

@@ -1,7 +1,7 @@
 //! What a host says on a call, with what is written of it.
 ghost use Rattle.std.specs.Prelude.{◌≡◌, ◌≤◌, [], Some, None, OnOk, OnErr, MatchResult, length, vec_capacity};
 ghost use Rattle.packet_layer.specs.RequestView.{refusal_of};
-ghost use Rattle.packet_host.specs.Saying.{cut, full_packets, say_refusal};
+ghost use Rattle.packet_host.specs.Saying.{cut, say_refusal};
 ghost use Rattle.call_records.specs.Room.{opening_notes};
 ghost use Rattle.line_nodes.specs.Turn.{all_sent, HostTurned};
 ghost use Rattle.line_nodes.specs.HostTurns.{host_says};
@@ -12,13 +12,15 @@ use crate::place::Place;
 use call_records::Book;
 use link_timers::Role;
 use packet_codec::MAX_USER_DATA;
-use packet_host::Host;
+use packet_end::MOST_NOTES;
+use packet_host::{Host, full_packets};
 use packet_layer::ChannelFault;
 
-/// Says octets on the channel, as `Host::say`: at most 1,024, with Q 128, cut into packets of 128 (X.25 4.3.3 to 4.3.6).
+/// Says octets on the channel, as `Host::say`: at most 1,024, with Q 128, cut into packets of 128 (X.25 4.3.3 to
+/// 4.3.6).
 ///
-/// `NoCall` comes where no call is in data transfer, then `Resetting` while the own reset is not confirmed, `QueueFull` where
-/// the send queue has fewer places than the packets need, then `TooLong`.
+/// `NoCall` comes where no call is in data transfer, then `Resetting` while the own reset is not confirmed, `QueueFull`
+/// where the send queue has fewer places than the packets need, then `TooLong`.
 pub fn say(
     host: &mut Host,
     at: Place,
@@ -29,14 +31,16 @@ pub fn say(
     book: &mut Book,
     notes: &mut Vec<HostNote>,
 ) -> Result<(), ChannelFault>
-    requires opening { opening_notes (host_says at.role host.old channel octets.now qualified delivery book.old.book).notes ≡ 0 }
+    requires opening { opening_notes (host_says at.role host.old channel octets.now qualified delivery
+        book.old.book).notes ≡ 0 }
     requires room { 8 ≤ book.old.room }
     requires empty { notes.old.items ≡ [] }
-    requires capacity { 96 ≤ vec_capacity notes.old }
+    requires capacity { MOST_NOTES ≤ vec_capacity notes.old }
     ensures answer { MatchResult result
         (λ _. say_refusal host.old.layer channel octets.now qualified ≡ None)
         (λ fault. say_refusal host.old.layer channel octets.now qualified ≡ Some (refusal_of fault)) }
-    ensures ok { OnOk result (HostTurned at.node (host_says at.role host.old channel octets.now qualified delivery book.old.book) host.new book.new.book notes.new.items) }
+    ensures ok { OnOk result (HostTurned at.node (host_says at.role host.old channel octets.now qualified delivery
+        book.old.book) host.new book.new.book notes.new.items) }
     ensures err { OnErr result ((host.new ≡ host.old) × (book.new ≡ book.old) × (notes.new.items ≡ [])) }
 {
     host.say(channel, octets, qualified, delivery)?;
@@ -65,11 +69,4 @@ fn write_packets(
         rest = others;
     }
     book.send(role, channel, rest, false, qualified, delivery);
-}
-
-// How many full packets go before the last one.
-fn full_packets(octets: &[u8]) -> usize
-    ensures { result ≡ full_packets octets.now }
-{
-    octets.len().saturating_sub(1) / MAX_USER_DATA
 }

@@ -17,9 +17,9 @@ use call_records::Book;
 use line_nodes::Node;
 use link_timers::Role;
 use memory_line::{Direction, Line};
-use packet_end::EndParams;
-use packet_host::{Host, HostConfig, HostFault};
-use packet_pad::{Pad, PadConfig, PadFault};
+use packet_end::{EndFault, EndParams};
+use packet_host::{Host, HostConfig};
+use packet_pad::{Pad, PadConfig};
 use std::alloc::{AllocError, Global};
 
 fn new_host(alloc: Global, role: Role, line: EndParams) -> Result<Node, MakeFault>
@@ -29,8 +29,8 @@ fn new_host(alloc: Global, role: Role, line: EndParams) -> Result<Node, MakeFaul
 {
     match Host::new(alloc, HostConfig { role, line }) {
         Ok(host) => Ok(Node::Host(host)),
-        Err(HostFault::OutOfMemory) => Err(MakeFault::OutOfMemory),
-        Err(HostFault::BadConfig) => unreachable!(),
+        Err(EndFault::OutOfMemory) => Err(MakeFault::OutOfMemory),
+        Err(EndFault::BadConfig) => unreachable!(),
     }
 }
 
@@ -45,8 +45,8 @@ fn new_dte(alloc: Global, plan: &DtePlan, line: EndParams) -> Result<Node, MakeF
     };
     match Pad::new(alloc, PadConfig { line, params }) {
         Ok(pad) => Ok(Node::Pad(pad)),
-        Err(PadFault::OutOfMemory) => Err(MakeFault::OutOfMemory),
-        Err(PadFault::BadConfig) => unreachable!(),
+        Err(EndFault::OutOfMemory) => Err(MakeFault::OutOfMemory),
+        Err(EndFault::BadConfig) => unreachable!(),
     }
 }
 

@@ -14,11 +14,11 @@ use packet_codec::CallData;
 use packet_layer::{CallFault, ChannelFault, Front, Taken};
 
 impl PacketEnd {
-    /// Places a call on a free channel, a DTE on the highest one and a DCE on the lowest (X.25 4.1.2), and answers the channel.
-    /// The facilities have at most 109 octets and the user data at most 16.
+    /// Places a call on a free channel, a DTE on the highest one and a DCE on the lowest (X.25 4.1.2), and answers the
+    /// channel. The facilities have at most 109 octets and the user data at most 16.
     ///
-    /// `NotReady` comes where the restart procedure is not done, then `NoChannel` where no channel is free. A call that is
-    /// refused changes nothing.
+    /// `NotReady` comes where the restart procedure is not done, then `NoChannel` where no channel is free. A call that
+    /// is refused changes nothing.
     pub fn call(&mut self, call: &CallData<'_>) -> Result<u8, CallFault>
         requires { IsCallValue (call_view call.now) }
         ensures answer { MatchResult result
@@ -47,19 +47,22 @@ impl PacketEnd {
     pub fn clear(&mut self, channel: u8, cause: u8, diagnostic: u8) -> Result<(), ChannelFault>
         ensures answer { MatchResult result
             (λ _. machine.request_refusal self.old.layer channel (ask.Clearing cause diagnostic) ≡ None)
-            (λ fault. machine.request_refusal self.old.layer channel (ask.Clearing cause diagnostic) ≡ Some (refusal_of fault)) }
+            (λ fault. machine.request_refusal self.old.layer channel (ask.Clearing cause diagnostic)
+            ≡ Some (refusal_of fault)) }
         ensures end { self.new ≡ asked self.old channel (ask.Clearing cause diagnostic) }
     {
         self.layer.clear(channel, cause, diagnostic)
     }
 
-    /// Resets the call on the channel with a cause and a diagnostic: what waits in both directions is dropped (X.25 4.4.3).
+    /// Resets the call on the channel with a cause and a diagnostic: what waits in both directions is dropped (X.25
+    /// 4.4.3).
     ///
     /// `NoCall` comes where no call is in data transfer, `Resetting` while the last own reset is not confirmed.
     pub fn reset(&mut self, channel: u8, cause: u8, diagnostic: u8) -> Result<(), ChannelFault>
         ensures answer { MatchResult result
             (λ _. machine.request_refusal self.old.layer channel (ask.Resetting cause diagnostic) ≡ None)
-            (λ fault. machine.request_refusal self.old.layer channel (ask.Resetting cause diagnostic) ≡ Some (refusal_of fault)) }
+            (λ fault. machine.request_refusal self.old.layer channel (ask.Resetting cause diagnostic)
+            ≡ Some (refusal_of fault)) }
         ensures end { self.new ≡ asked self.old channel (ask.Resetting cause diagnostic) }
     {
         self.layer.reset(channel, cause, diagnostic)
@@ -67,8 +70,8 @@ impl PacketEnd {
 
     /// Puts a Data packet with its bits M, Q and D into the send queue of the channel (X.25 4.3).
     ///
-    /// `NoCall` comes where no call is in data transfer, then `Resetting` while the own reset is not confirmed, `QueueFull`
-    /// where 8 packets wait, `TooLong` for more than 128 octets. A packet that is refused changes nothing.
+    /// `NoCall` comes where no call is in data transfer, then `Resetting` while the own reset is not confirmed,
+    /// `QueueFull` where 8 packets wait, `TooLong` for more than 128 octets. A packet that is refused changes nothing.
     pub fn send(
         &mut self,
         channel: u8,
@@ -77,22 +80,26 @@ impl PacketEnd {
         qualified: bool,
         delivery: bool,
     ) -> Result<(), ChannelFault>
-        ensures answer { let asks = ask.Sending (record { octets = octets.now; more = more; qualified = qualified; delivery = delivery }) in MatchResult result
+        ensures answer { let asks = ask.Sending
+            (record { octets = octets.now; more = more; qualified = qualified; delivery = delivery }) in
+            MatchResult result
             (λ _. machine.request_refusal self.old.layer channel asks ≡ None)
             (λ fault. machine.request_refusal self.old.layer channel asks ≡ Some (refusal_of fault)) }
-        ensures end { self.new ≡ asked self.old channel (ask.Sending (record { octets = octets.now; more = more; qualified = qualified; delivery = delivery })) }
+        ensures end { self.new ≡ asked self.old channel (ask.Sending
+            (record { octets = octets.now; more = more; qualified = qualified; delivery = delivery })) }
     {
         self.layer.send(channel, octets, more, qualified, delivery)
     }
 
     /// Sends an interrupt of 1 to 32 octets on the channel (X.25 4.3.7).
     ///
-    /// `NoCall` comes where no call is in data transfer, then `Resetting` while the own reset is not confirmed, `TooLong` for
-    /// no octets or more than 32, `InterruptPending` while the last interrupt is not confirmed.
+    /// `NoCall` comes where no call is in data transfer, then `Resetting` while the own reset is not confirmed,
+    /// `TooLong` for no octets or more than 32, `InterruptPending` while the last interrupt is not confirmed.
     pub fn interrupt(&mut self, channel: u8, octets: &[u8]) -> Result<(), ChannelFault>
         ensures answer { MatchResult result
             (λ _. machine.request_refusal self.old.layer channel (ask.Interrupting octets.now) ≡ None)
-            (λ fault. machine.request_refusal self.old.layer channel (ask.Interrupting octets.now) ≡ Some (refusal_of fault)) }
+            (λ fault. machine.request_refusal self.old.layer channel (ask.Interrupting octets.now)
+            ≡ Some (refusal_of fault)) }
         ensures end { self.new ≡ asked self.old channel (ask.Interrupting octets.now) }
     {
         self.layer.interrupt(channel, octets)
@@ -130,8 +137,8 @@ impl PacketEnd {
         self.layer.take(channel)
     }
 
-    /// Lets P(R) pass `count` more of the packets that were taken on the channel (X.25 4.4.1.3). Nothing happens where fewer are
-    /// taken and not released.
+    /// Lets P(R) pass `count` more of the packets that were taken on the channel (X.25 4.4.1.3). Nothing happens where
+    /// fewer are taken and not released.
     pub fn release(&mut self, channel: u8, count: u8)
         ensures { self.new ≡ asked self.old channel (ask.Releasing count) }
     {
@@ -153,8 +160,8 @@ impl PacketEnd {
         self.layer.can_accept(channel)
     }
 
-    /// Whether data may be queued on the channel, however much waits there: `NoCall` comes where no call is in data transfer, then
-    /// `Resetting` while the own reset is not confirmed.
+    /// Whether data may be queued on the channel, however much waits there: `NoCall` comes where no call is in data
+    /// transfer, then `Resetting` while the own reset is not confirmed.
     pub fn may_send(&self, channel: u8) -> Result<(), ChannelFault>
         ensures { MatchResult result
             (λ _. machine.flow_refusal self.now.layer channel ≡ None)
@@ -170,15 +177,16 @@ impl PacketEnd {
         self.layer.room(channel)
     }
 
-    /// What `take` would give on the channel, if anything: an interrupt, or a Data packet of so many octets with M, Q and D.
+    /// What `take` would give on the channel, if anything: an interrupt, or a Data packet of so many octets with M, Q
+    /// and D.
     pub fn front(&self, channel: u8) -> Option<Front>
         ensures { result ≡ maybe_front (machine.front_on self.now.layer channel) }
     {
         self.layer.front(channel)
     }
 
-    /// Whether the channel has a call in which no packet of the present epoch that asks for delivery confirmation (D = 1) still
-    /// waits for the P(R) that covers it (X.25 4.3.3).
+    /// Whether the channel has a call in which no packet of the present epoch that asks for delivery confirmation (D =
+    /// 1) still waits for the P(R) that covers it (X.25 4.3.3).
     pub fn confirmed(&self, channel: u8) -> bool
         ensures { result ≡ machine.confirmed self.now.layer channel }
     {

@@ -7,7 +7,9 @@ ghost use Rattle.packet_host.specs.Host.{after_frame, after_expiry, after_relink
 
 use crate::host::Host;
 use frame_codec::FrameBuf;
+use line_end::MOST_FRAMES;
 use link_timers::TimerId;
+use packet_end::MOST_NOTES;
 
 impl Host {
     /// Takes the octets of a received frame (X.25 2.4, 3 to 5).
@@ -78,24 +80,24 @@ impl Host {
         self.end.due()
     }
 
-    /// How many frames wait to be taken, at most nine.
+    /// How many frames wait to be taken, at most [`MOST_FRAMES`].
     pub fn waiting_frames(&self) -> usize
         ensures count { result ≡ length self.now.line.frames }
-        ensures most { result ≤ 9 }
+        ensures most { result ≤ MOST_FRAMES }
     {
         self.end.waiting_frames()
     }
 
-    /// How many notes wait to be taken, at most 96.
+    /// How many notes wait to be taken, at most [`MOST_NOTES`].
     pub fn waiting_notes(&self) -> usize
         ensures count { result ≡ length self.now.notes }
-        ensures most { result ≤ 96 }
+        ensures most { result ≤ MOST_NOTES }
     {
         self.end.waiting_notes()
     }
 
-    /// Whether the link is up with nothing unacknowledged and nothing to be said, no packet is owed, and nothing waits to be sent
-    /// or taken on any channel.
+    /// Whether the link is up with nothing unacknowledged and nothing to be said, no packet is owed, and nothing waits
+    /// to be sent or taken on any channel.
     pub fn is_at_rest(&self) -> bool
         ensures { result ≡ end.at_rest self.now }
     {

@@ -3,7 +3,8 @@ ghost use Rattle.std.specs.Prelude.{◌≡◌, ◌≤◌, Some, None, MatchResul
 ghost use Rattle.packet_layer.specs.RequestView.{refusal_of};
 ghost use Rattle.packet_end.specs.PacketEnd as end;
 ghost use Rattle.packet_host.specs.Host.{after_say};
-ghost use Rattle.packet_host.specs.Saying.{say_refusal, full_packets, places_needed, most_octets, cut, queued, AllTaken};
+ghost use Rattle.packet_host.specs.Saying.{say_refusal, full_packets, places_needed, most_octets, cut, queued};
+ghost use Rattle.packet_host.specs.Saying.{AllTaken};
 
 use crate::host::Host;
 use packet_codec::MAX_USER_DATA;
@@ -15,11 +16,12 @@ const QUEUE: usize = 8;
 
 impl Host {
     #[tactic(auto, using(crate::proofs::Taken::all_said))]
-    /// Says octets on the channel: full packets of 128 octets with M = 1, then the rest with M = 0 and, if asked for, D; no octets
-    /// are one empty packet. Q is on all of them (X.25 4.3.3 to 4.3.6). At most 1,024 octets, with Q 128.
+    /// Says octets on the channel: full packets of 128 octets with M = 1, then the rest with M = 0 and, if asked for,
+    /// D; no octets are one empty packet. Q is on all of them (X.25 4.3.3 to 4.3.6). At most 1,024 octets, with Q 128.
     ///
-    /// `NoCall` comes where no call is in data transfer, then `Resetting` while the own reset is not confirmed, `QueueFull` where
-    /// the send queue has fewer places than the packets need (never more than 8, and with Q one); then `TooLong`.
+    /// `NoCall` comes where no call is in data transfer, then `Resetting` while the own reset is not confirmed,
+    /// `QueueFull` where the send queue has fewer places than the packets need (never more than 8, and with Q one);
+    /// then `TooLong`.
     pub fn say(
         &mut self,
         channel: u8,
@@ -49,8 +51,8 @@ impl Host {
     }
 }
 
-// How many full packets go before the last one.
-fn full(octets: &[u8]) -> usize
+/// How many full packets of a message go before the last one.
+pub fn full_packets(octets: &[u8]) -> usize
     ensures { result ≡ full_packets octets.now }
 {
     octets.len().saturating_sub(1) / MAX_USER_DATA
@@ -63,7 +65,7 @@ fn needed(octets: &[u8], qualified: bool) -> usize
     if qualified {
         1
     } else {
-        QUEUE.min(full(octets) + 1)
+        QUEUE.min(full_packets(octets) + 1)
     }
 }
 
@@ -83,7 +85,7 @@ fn queue(end: &mut PacketEnd, channel: u8, octets: &[u8], qualified: bool, deliv
     ensures { end.new ≡ queued channel (cut octets.now qualified delivery) end.old }
 {
     let mut rest = octets;
-    for _ in 0..full(octets) {
+    for _ in 0..full_packets(octets) {
         let (packet, others) = rest.split_at(MAX_USER_DATA);
         let _ = end.send(channel, packet, true, qualified, false);
         rest = others;

@@ -5,11 +5,14 @@ ghost use Rattle.packet_layer.specs.Layer.{request_refusal};
 ghost use Rattle.packet_layer.specs.NoteView.{maybe_note};
 ghost use Rattle.packet_end.specs.PacketEnd as end;
 ghost use Rattle.packet_end.specs.Timing.{TimersAgree};
-ghost use Rattle.packet_pad.specs.Pad.{refusing, after_frame, after_expiry, after_relink, after_refuse, after_finish, after_restart};
+ghost use Rattle.packet_pad.specs.Pad.{refusing, after_frame, after_expiry, after_relink, after_refuse, after_finish};
+ghost use Rattle.packet_pad.specs.Pad.{after_restart};
 
 use crate::pad::Pad;
 use frame_codec::FrameBuf;
+use line_end::MOST_FRAMES;
 use link_timers::TimerId;
+use packet_end::MOST_NOTES;
 use packet_layer::LayerNote;
 
 impl Pad {
@@ -45,8 +48,8 @@ impl Pad {
         self.end.relink();
     }
 
-    /// Clears a call that came in on the channel, with cause 0 and diagnostic 0 (X.25 4.1.7), and answers whether there was one. It
-    /// clears any call that the channel has.
+    /// Clears a call that came in on the channel, with cause 0 and diagnostic 0 (X.25 4.1.7), and answers whether there
+    /// was one. It clears any call that the channel has.
     pub fn refuse(&mut self, channel: u8) -> bool
         ensures refused { OnTrue result (request_refusal self.old.end.layer channel refusing ≡ None) }
         ensures no_call { OnFalse result (is_some (request_refusal self.old.end.layer channel refusing) ≡ true) }
@@ -55,8 +58,8 @@ impl Pad {
         self.end.clear(channel, 0, 0).is_ok()
     }
 
-    /// Ends an event: a relink where it is due, then all packets that may go, and the link sends what may go. Where the call stands
-    /// no longer the held text is dropped.
+    /// Ends an event: a relink where it is due, then all packets that may go, and the link sends what may go. Where the
+    /// call stands no longer the held text is dropped.
     pub fn finish(&mut self)
         requires { length self.old.end.notes ≤ 64 }
         ensures pad { self.new ≡ after_finish self.old }
@@ -69,8 +72,8 @@ impl Pad {
         }
     }
 
-    /// Begins anew after a restart of the PAD, with the initial parameters. What went before is forgotten, also held text, frames
-    /// and notes.
+    /// Begins anew after a restart of the PAD, with the initial parameters. What went before is forgotten, also held
+    /// text, frames and notes.
     pub fn restart(&mut self)
         ensures { self.new ≡ after_restart self.old }
     {
@@ -111,24 +114,24 @@ impl Pad {
         self.end.due()
     }
 
-    /// How many frames wait to be taken, at most nine.
+    /// How many frames wait to be taken, at most [`MOST_FRAMES`].
     pub fn waiting_frames(&self) -> usize
         ensures count { result ≡ length self.now.end.line.frames }
-        ensures most { result ≤ 9 }
+        ensures most { result ≤ MOST_FRAMES }
     {
         self.end.waiting_frames()
     }
 
-    /// How many notes wait to be taken, at most 96.
+    /// How many notes wait to be taken, at most [`MOST_NOTES`].
     pub fn waiting_notes(&self) -> usize
         ensures count { result ≡ length self.now.end.notes }
-        ensures most { result ≤ 96 }
+        ensures most { result ≤ MOST_NOTES }
     {
         self.end.waiting_notes()
     }
 
-    /// Whether the link is up with nothing unacknowledged and nothing to be said, no packet is owed, and nothing waits to be sent
-    /// or taken on any channel.
+    /// Whether the link is up with nothing unacknowledged and nothing to be said, no packet is owed, and nothing waits
+    /// to be sent or taken on any channel.
     pub fn is_at_rest(&self) -> bool
         ensures { result ≡ end.at_rest self.now.end }
     {

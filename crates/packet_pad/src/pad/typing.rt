@@ -3,7 +3,8 @@ ghost use Rattle.std.specs.Prelude.{◌≡◌, ◌≢◌, ℕ, true, List, Some,
 ghost use Rattle.packet_layer.specs.Layer as machine;
 ghost use Rattle.pad_editing.specs.Edited.{after_key};
 ghost use Rattle.packet_end.specs.PacketEnd.{KeepsNothingBack};
-ghost use Rattle.packet_pad.specs.Keys.{after_octet, edited_by, with_block, is_control, is_character, AllTaken, IsKeyResult};
+ghost use Rattle.packet_pad.specs.Keys.{after_octet, edited_by, with_block, is_control, is_character, AllTaken};
+ghost use Rattle.packet_pad.specs.Keys.{IsKeyResult};
 
 use crate::key::KeyResult;
 use crate::pad::{CHANNEL, Pad};
@@ -19,10 +20,10 @@ const DEVICE_CONTROL_THREE: u8 = 0x13;
 impl Pad {
     /// Takes a key of the terminal.
     ///
-    /// Without the call it has no effect, nor do DLE, DC1, DC3 and the character that recalls the PAD. A key that would end a block
-    /// is dropped where `send` would take no packet: eight wait, or the own reset is not confirmed (X.25 4.4). All other keys edit
-    /// the held text. A block that one ends goes in a Data packet, and the event ends; a key that ends none changes the held
-    /// text alone.
+    /// Without the call it has no effect, nor do DLE, DC1, DC3 and the character that recalls the PAD. A key that would
+    /// end a block is dropped where `send` would take no packet: eight wait, or the own reset is not confirmed (X.25
+    /// 4.4). All other keys edit the held text. A block that one ends goes in a Data packet, and the event ends; a key
+    /// that ends none changes the held text alone.
     pub fn on_key(&mut self, octet: u8) -> KeyResult
         ensures pad { self.new ≡ (after_octet self.old octet).pad }
         ensures result { IsKeyResult octet self.old.params result (after_octet self.old octet) }
@@ -31,7 +32,8 @@ impl Pad {
         ensures taken { AllTaken (after_octet self.old octet).sent self.old.end }
 
         // A key that ends a block ends the event.
-        ensures nothing_kept_back { (block : List ℕ) → result ≡ KeyResult.Step (Some block) → KeepsNothingBack self.new.end }
+        ensures nothing_kept_back { (block : List ℕ) → result ≡ KeyResult.Step (Some block) →
+            KeepsNothingBack self.new.end }
     {
         if !self.stands() || is_control(&self.params, octet) {
             return KeyResult::NoStep;
@@ -44,11 +46,15 @@ impl Pad {
 
     // Edits with a key, for which there is room if it ends a block.
     fn edit(&mut self, octet: u8) -> KeyResult
-        requires { is_some (after_key self.old.params octet self.old.held).block ≡ true → machine.room self.old.end.layer 1 ≢ 0 }
+        requires { is_some (after_key self.old.params octet self.old.held).block ≡ true →
+            machine.room self.old.end.layer 1 ≢ 0 }
         ensures pad { self.new ≡ (edited_by self.old octet (after_key self.old.params octet self.old.held)).pad }
-        ensures result { IsKeyResult octet self.old.params result (edited_by self.old octet (after_key self.old.params octet self.old.held)) }
-        ensures taken { AllTaken (edited_by self.old octet (after_key self.old.params octet self.old.held)).sent self.old.end }
-        ensures nothing_kept_back { (block : List ℕ) → result ≡ KeyResult.Step (Some block) → KeepsNothingBack self.new.end }
+        ensures result { IsKeyResult octet self.old.params result
+            (edited_by self.old octet (after_key self.old.params octet self.old.held)) }
+        ensures taken { AllTaken (edited_by self.old octet (after_key self.old.params octet self.old.held)).sent
+            self.old.end }
+        ensures nothing_kept_back { (block : List ℕ) → result ≡ KeyResult.Step (Some block) →
+            KeepsNothingBack self.new.end }
     {
         match self.editor.key(octet, &self.params).block {
             None => KeyResult::Step(None),

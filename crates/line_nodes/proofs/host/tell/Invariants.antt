@@ -5,15 +5,13 @@ use Rattle.line_nodes.specs.Node.{all_read}
 use Rattle.line_nodes.specs.Notes.{host_notes}
 use Rattle.line_nodes.proofs.host.tell.Given as goal
 
-abbrev pub invariant-loop-notes : goal.invariant-loop-notes
-invariant-loop-notes l = record {
+abbrev pub invariant-loop : goal.invariant-loop
+invariant-loop l = record {
   host : all_read l.host ≡ all_read l.fn.host;
   book : all_told l.at.role l.host.notes l.book.book ≡ all_told l.at.role l.fn.host.notes l.fn.book.book;
   opening : opening_notes l.host.notes ≤ 1;
   room : opening_notes l.host.notes ≤ l.book.room;
   listed : l.notes.items ++ host_notes l.at.node l.host.notes ≡ host_notes l.at.node l.fn.host.notes;
+  left : length l.host.notes + l.counter ≡ l.end;
   places : vec_len l.notes + length l.host.notes ≤ vec_capacity l.notes;
 }
-
-abbrev pub decreases-loop-notes : goal.decreases-loop-notes
-decreases-loop-notes l = length l.host.notes

@@ -7,7 +7,7 @@ use Rattle.packet_host.proofs.host.saying.queue.Goals as goal
 
 pub loop-preserved : goal.loop-preserved
 loop-preserved c =
-    let left = c.full-end.result - (c.loop.counter + 1) in
+    let left = c.full_packets-end.result - (c.loop.counter + 1) in
     let end = c.send.ensures.end ∙ ap (λ (octets : List ℕ). asked c.loop.end c.args.channel
     (Request.Sending (record { octets = octets; more = true; qualified = c.args.qualified; delivery = false }))) c.split_at.ensures.front in
     record {
@@ -19,6 +19,6 @@ loop-preserved c =
           ∙ ap (λ (octets : List ℕ). queued c.args.channel (cut_after left octets c.args.qualified c.args.delivery)
           (asked c.loop.end c.args.channel (Request.Sending (record { octets = take 128 c.loop.rest.now; more = true; qualified = c.args.qualified; delivery = false }))))
           c.split_at.ensures.back
-          ∙ one_said c.full-end.result c.loop.counter c.args.channel c.loop.rest.now c.args.qualified c.args.delivery c.loop.end c.loop-test.true
+          ∙ one_said c.full_packets-end.result c.loop.counter c.args.channel c.loop.rest.now c.args.qualified c.args.delivery c.loop.end c.loop-test.true
           ∙ c.loop.invariant.queued;
     }
