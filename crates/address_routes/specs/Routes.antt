@@ -1,5 +1,6 @@
 -- Routes as a map from prefixes to lines, and the longest prefix of an address.
-use Rattle.std.specs.Prelude.{◌≡◌, ℕ, zero, suc, ◌+◌, ◌≤◌, Bool, ◌++◌, List, length, take, Option, Some, None, eqb, nat_le, if◌then◌else◌}
+use Rattle.std.specs.Prelude.{◌≡◌, ℕ, zero, suc, ◌+◌, ◌≤◌, Bool, ◌++◌, List, length, take, Option, Some, None, eqb}
+use Rattle.std.specs.Prelude.{nat_le, if◌then◌else◌}
 use Rattle.std.specs.List.{list_any, starts_with}
 use Rattle.std.specs.FinMap.{FinMap, get, len, contains_key, keys}
 use Rattle.std.specs.Cmp.Lexicographic.{slice_cmp}

@@ -1,5 +1,6 @@
 -- Lists of nodes as a tree of digits.
-use Rattle.std.specs.Prelude.{◌≡◌, ℕ, zero, suc, ◌<◌, ◌+◌, List, [], ◌∷◌, ◌++◌, length, get_or, set, take, replicate, Option, Some, None}
+use Rattle.std.specs.Prelude.{◌≡◌, ℕ, zero, suc, ◌<◌, ◌+◌, List, [], ◌∷◌, ◌++◌, length, get_or, set, take, replicate}
+use Rattle.std.specs.Prelude.{Option, Some, None}
 use Rattle.std.specs.Option.{option_map}
 use Rattle.address_routes.specs.declared.line_no.LineNo.{LineNo}
 use Rattle.address_routes.specs.declared.tree.Node.{Node}

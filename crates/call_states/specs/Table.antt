@@ -1,5 +1,6 @@
 -- The state table of call set-up and clearing: its rows, and the one that an event meets.
-use Rattle.std.specs.Prelude.{ℕ, ◌+◌, ◌==◌, ◌&&◌, if◌then◌else◌, Bool, true, false, List, [], ◌∷◌, find, Option, Some, None, option_and_then}
+use Rattle.std.specs.Prelude.{ℕ, ◌+◌, ◌==◌, ◌&&◌, if◌then◌else◌, Bool, true, false, List, [], ◌∷◌, find, Option, Some}
+use Rattle.std.specs.Prelude.{None, option_and_then}
 use Rattle.std.specs.Option.{option_map}
 use Rattle.std.specs.List.{list_any}
 use Rattle.link_timers.specs.declared.role.Role.{Role}
@@ -14,7 +15,8 @@ use Rattle.call_states.specs.declared.table.CallEvent.TheVariants.{User, Receive
 use Rattle.call_states.specs.declared.table.UserAct.{UserAct}
 use Rattle.call_states.specs.declared.table.UserAct.TheVariants.{Call, Accept, Clear}
 use Rattle.call_states.specs.declared.table.CallNote.{CallNote}
-use Rattle.call_states.specs.declared.table.CallNote.TheVariants.{Nothing, Incoming, Connected, Cancelled, Cleared, Discarded, InDataTransfer}
+use Rattle.call_states.specs.declared.table.CallNote.TheVariants.{Nothing, Incoming, Connected, Cancelled, Cleared}
+use Rattle.call_states.specs.declared.table.CallNote.TheVariants.{Discarded, InDataTransfer}
 use Rattle.call_states.specs.declared.table.CallStep.{CallStep}
 use Rattle.call_states.specs.Places.{Place, state_of, place_of, place_number, state_number}
 use Rattle.call_states.specs.Places.Place.{Ready, OwnWaiting, FarWaiting, DataTransfer, CallCollision, OwnClear}

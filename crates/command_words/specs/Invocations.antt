@@ -1,6 +1,7 @@
 -- The words that the program takes, and what they name.
 use Rattle.std.specs.Prelude.{◌≡◌, List, [], Option, Some, None, true, codes}
-use Rattle.clap.specs.Words.{App, Row, Rule, Text, first_of, new_app, new_rule, subcommand_of, with_rule, with_subcommand}
+use Rattle.clap.specs.Words.{App, Row, Rule, Text, first_of, new_app, new_rule, subcommand_of, with_rule}
+use Rattle.clap.specs.Words.{with_subcommand}
 use Rattle.command_words.specs.declared.invocation.Mode.{Mode}
 use Rattle.command_words.specs.declared.invocation.Mode.TheVariants.{Sim, Run}
 use Rattle.command_words.specs.declared.invocation.Invocation.{Invocation}
@@ -19,7 +20,8 @@ nameless app = record app { top = record app.top { no_binary_name = true } }
 -- sim or run, with --net FILE and --script FILE
 abbrev pub program : App
 program =
-    with_subcommand (with_subcommand (nameless (new_app (codes "x25net"))) (played (codes "sim")).top) (played (codes "run")).top
+    with_subcommand (with_subcommand (nameless (new_app (codes "x25net"))) (played (codes "sim")).top)
+    (played (codes "run")).top
 
 abbrev pub mode_word : Mode → Text
 mode_word Sim = codes "sim"

@@ -15,7 +15,8 @@ pub record DataPacket : Type 0 where
   pub qualified : Bool
   pub delivery : Bool
 
--- the items of a packet: each of its octets, then, where M = 0, an end; the Q bit says of which kind they are, and the D bit is left out
+-- the items of a packet: each of its octets, then, where M = 0, an end; the Q bit says of which kind they are, and the
+-- D bit is left out
 abbrev pub items_of : DataPacket → List Item
 items_of p =
     if p.qualified

@@ -14,7 +14,8 @@ IsTransitive = (xs ys zs : List Epoch) → Match xs ys → Match ys zs → Match
 -- a match is kept when the last sent epoch grows
 abbrev pub IsKeptByGrowth : Type 0
 IsKeptByGrowth =
-    (taken sent : List Epoch) (f g : Epoch) → IsPrefixOf f g → Match taken (sent ++ f ∷ []) → Match taken (sent ++ g ∷ [])
+    (taken sent : List Epoch) (f g : Epoch) → IsPrefixOf f g → Match taken (sent ++ f ∷ [])
+    → Match taken (sent ++ g ∷ [])
 
 -- a match is kept when the sender opens an epoch
 abbrev pub IsKeptByOpening : Type 0
@@ -28,7 +29,8 @@ IsKeptByBothOpening =
 -- lists that are aligned, epoch by epoch, match
 abbrev pub AlignedListsMatch : Type 0
 AlignedListsMatch =
-    (sent : List SentEpoch) (taken : List TakenEpoch) → AreAligned sent taken → Match (map taken_epoch taken) (map sent_epoch sent)
+    (sent : List SentEpoch) (taken : List TakenEpoch) → AreAligned sent taken
+    → Match (map taken_epoch taken) (map sent_epoch sent)
 
 -- the epoch of this place is there, and something passed in it
 pub record HasPassed (es : List Epoch) (place : ℕ) (e : Epoch) : Type 0 where

@@ -16,7 +16,8 @@ use Rattle.frame_codec.specs.Frame.{
   Frmr,
   FrameValue,
 }
-use Rattle.frame_codec.specs.Spelling.{address_of, control_of, states_of, reasons_of, GoesAs, HasNumbers, most_information}
+use Rattle.frame_codec.specs.Spelling.{address_of, control_of, states_of, reasons_of, GoesAs, HasNumbers}
+use Rattle.frame_codec.specs.Spelling.{most_information}
 
 -- three octets are a form of the report: bit 1 of the second and bits 5 to 8 of the third are not looked at
 pub record ReportForm (report : Report) (field : List ℕ) : Type 0 where

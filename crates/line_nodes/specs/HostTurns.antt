@@ -35,7 +35,7 @@ abbrev pub host_says : Role → PacketEnd → (channel : ℕ) → List ℕ → (
 host_says role e channel octets qualified delivery b =
     told role (Host (after_say e channel octets qualified delivery))
     (unless_refused (say_refusal e.layer channel octets qualified)
-        (all_sent role channel (cut octets qualified delivery) b) b)
+    (all_sent role channel (cut octets qualified delivery) b) b)
 
 -- a packet that it takes is released at once
 abbrev pub let_go : Taken → Role → (channel : ℕ) → Book → Book

@@ -185,7 +185,7 @@ pub fn interrupt(
     ensures answer { MatchResult result
         (λ _. machine.request_refusal host.old.layer channel (ask.Interrupting octets.now) ≡ None)
         (λ fault. machine.request_refusal host.old.layer channel (ask.Interrupting octets.now)
-            ≡ Some (refusal_of fault)) }
+        ≡ Some (refusal_of fault)) }
     ensures ok { OnOk result (HostTurned at.node (host_asks at.role host.old channel (ask.Interrupting octets.now)
         book.old.book) host.new book.new.book notes.new.items) }
     ensures err { OnErr result ((host.new ≡ host.old) × (book.new ≡ book.old) × (notes.new.items ≡ [])) }

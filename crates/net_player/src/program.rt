@@ -21,12 +21,14 @@ const FAULT: u8 = 1;
 
 const BAD_WORDS: u8 = 2;
 
-/// The program on its command words, of which its own name is none. Without words it plays the script that the input has on
-/// the built-in network; with `sim --net FILE --script FILE` that of a file on the network of another, over lines in memory.
+/// The program on its command words, of which its own name is none. Without words it plays the script that the input
+/// has on the built-in network; with `sim --net FILE --script FILE` that of a file on the network of another, over
+/// lines in memory.
 ///
-/// Gives the status to end with: 0 at the end of the script, 1 where a fault ended the run, which is told on `err`, and 2 where
-/// the words are others, which is told there too. `run`, over sockets, is not there yet. Faults are looked for in this order:
-/// the words, the network file, its text, the script file or the input, its lines, the network's values, the writing.
+/// Gives the status to end with: 0 at the end of the script, 1 where a fault ended the run, which is told on `err`, and
+/// 2 where the words are others, which is told there too. `run`, over sockets, is not there yet. Faults are looked for
+/// in this order: the words, the network file, its text, the script file or the input, its lines, the network's values,
+/// the writing.
 pub fn perform<F: Files, R: Read, W: Write, E: Write>(
     files: &F,
     alloc: Global,

@@ -312,7 +312,8 @@ fn networks_keep_records_and_pairs(rt: HostRuntime) -> Result<(), Fail> {
     Ok(())
 }
 
-/// What is played, and at which nodes the call on channel 4 is then confirmed: the first, the second, one that there is not.
+/// What is played, and at which nodes the call on channel 4 is then confirmed: the first, the second, one that there is
+/// not.
 const CONFIRMED: [(&[u8], [bool; 3]); 3] = [
     (
         b"flow\ncall a 2001\nflow\nanswer b 4\nflow\n",

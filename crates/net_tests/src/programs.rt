@@ -508,7 +508,8 @@ const NO_NETWORKS: [&str; 45] = [
     "[[route]]\nswitch = \"C\"\nprefix = \"1\"\nline = -1",
 ];
 
-/// What follows a list of nodes and makes a text that is a network, though some of these have values outside their limits.
+/// What follows a list of nodes and makes a text that is a network, though some of these have values outside their
+/// limits.
 const NETWORKS: [&str; 8] = [
     "",
     "# nothing more",

@@ -3,7 +3,9 @@ use Rattle.std.specs.Prelude.{ℕ, ◌==◌, Bool, List}
 use Rattle.std.specs.List.{list_any}
 use Rattle.packet_codec.specs.declared.packet_type.PacketType.{PacketType}
 use Rattle.packet_codec.specs.declared.packet_type.PacketType.TheVariants as types
-use Rattle.packet_codec.specs.Packet.{ContentValue, CallRequest, CallAccepted, ClearRequest, ClearConfirmation, Data, Interrupt, InterruptConfirmation, ReceiveReady, ReceiveNotReady, ResetRequest, ResetConfirmation, RestartRequest, RestartConfirmation}
+use Rattle.packet_codec.specs.Packet.{ContentValue, CallRequest, CallAccepted, ClearRequest, ClearConfirmation, Data}
+use Rattle.packet_codec.specs.Packet.{Interrupt, InterruptConfirmation, ReceiveReady, ReceiveNotReady, ResetRequest}
+use Rattle.packet_codec.specs.Packet.{ResetConfirmation, RestartRequest, RestartConfirmation}
 
 -- the type of a packet that says this
 abbrev pub content_type : ContentValue → PacketType

@@ -1,13 +1,19 @@
 -- Reading the octets of a packet: the value that they say, or the first fault.
-use Rattle.std.specs.Prelude.{ℕ, ◌+◌, ◌-◌, ◌*◌, ◌/◌, ◌%◌, nat_lt, nat_le, ◌==◌, ◌||◌, ◌&&◌, not, if◌then◌else◌, Bool, true, false, List, [], ◌∷◌, length, take, drop, slice_index, find, Option, Some, None, is_none, option_and_then, Result, Ok, Err}
+use Rattle.std.specs.Prelude.{ℕ, ◌+◌, ◌-◌, ◌*◌, ◌/◌, ◌%◌, nat_lt, nat_le, ◌==◌, ◌||◌, ◌&&◌, not, if◌then◌else◌, Bool}
+use Rattle.std.specs.Prelude.{true, false, List, [], ◌∷◌, length, take, drop, slice_index, find, Option, Some, None}
+use Rattle.std.specs.Prelude.{is_none, option_and_then, Result, Ok, Err}
 use Rattle.std.specs.Option.{option_map_or}
 use Rattle.std.specs.List.{flat_map}
 use Rattle.packet_codec.specs.Address.{are_decimal}
 use Rattle.packet_codec.specs.declared.fault.PacketFault.{PacketFault}
-use Rattle.packet_codec.specs.declared.fault.PacketFault.TheVariants.{TooShort, BadFormatId, UnknownType, BadLength, BadAddress, DataTooLong}
+use Rattle.packet_codec.specs.declared.fault.PacketFault.TheVariants.{TooShort, BadFormatId, UnknownType, BadLength}
+use Rattle.packet_codec.specs.declared.fault.PacketFault.TheVariants.{BadAddress, DataTooLong}
 use Rattle.packet_codec.specs.declared.packet_type.PacketType.{PacketType}
 use Rattle.packet_codec.specs.declared.packet_type.PacketType.TheVariants as types
-use Rattle.packet_codec.specs.Packet.{PacketValue, ContentValue, CallValue, DataValue, CallRequest, CallAccepted, ClearRequest, ClearConfirmation, Data, Interrupt, InterruptConfirmation, ReceiveReady, ReceiveNotReady, ResetRequest, ResetConfirmation, RestartRequest, RestartConfirmation}
+use Rattle.packet_codec.specs.Packet.{PacketValue, ContentValue, CallValue, DataValue, CallRequest, CallAccepted}
+use Rattle.packet_codec.specs.Packet.{ClearRequest, ClearConfirmation, Data, Interrupt, InterruptConfirmation}
+use Rattle.packet_codec.specs.Packet.{ReceiveReady, ReceiveNotReady, ResetRequest, ResetConfirmation, RestartRequest}
+use Rattle.packet_codec.specs.Packet.{RestartConfirmation}
 
 -- a bit of an octet, from 8 to 1
 abbrev pub bit_8 : ℕ → Bool

@@ -7,7 +7,10 @@ use Rattle.packet_codec.specs.declared.packet.Content.TheVariants as content
 use Rattle.packet_codec.specs.declared.packet.CallData.{CallData}
 use Rattle.packet_codec.specs.declared.packet.DataPacket.{DataPacket}
 use Rattle.packet_codec.specs.Digits.{digits_or_none}
-use Rattle.packet_codec.specs.Packet.{PacketValue, ContentValue, CallValue, DataValue, CallRequest, CallAccepted, ClearRequest, ClearConfirmation, Data, Interrupt, InterruptConfirmation, ReceiveReady, ReceiveNotReady, ResetRequest, ResetConfirmation, RestartRequest, RestartConfirmation}
+use Rattle.packet_codec.specs.Packet.{PacketValue, ContentValue, CallValue, DataValue, CallRequest, CallAccepted}
+use Rattle.packet_codec.specs.Packet.{ClearRequest, ClearConfirmation, Data, Interrupt, InterruptConfirmation}
+use Rattle.packet_codec.specs.Packet.{ReceiveReady, ReceiveNotReady, ResetRequest, ResetConfirmation, RestartRequest}
+use Rattle.packet_codec.specs.Packet.{RestartConfirmation}
 
 abbrev pub call_view : CallData → CallValue
 call_view c = record {

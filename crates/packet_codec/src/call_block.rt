@@ -2,7 +2,9 @@
 
 ghost use Rattle.std.specs.Prelude.{◌≡◌, ◌+◌, ◌*◌, ◌≤◌, length, take, drop, IsSome, IfSome, IsTrue, ◌↔◌, false};
 ghost use Rattle.packet_codec.specs.Address.{are_decimal, MayBeDigits};
-ghost use Rattle.packet_codec.specs.Reading.{address_octets, after_addresses, called_length, calling_length, content_of, digits, ends_in_facilities, facilities_of, half_octets, has_addresses, has_facilities, user_data_of};
+ghost use Rattle.packet_codec.specs.Reading.{address_octets, after_addresses, called_length, calling_length};
+ghost use Rattle.packet_codec.specs.Reading.{content_of, digits, ends_in_facilities, facilities_of, half_octets};
+ghost use Rattle.packet_codec.specs.Reading.{has_addresses, has_facilities, user_data_of};
 ghost use Rattle.packet_codec.specs.Digits.{digits_or_none};
 ghost use Rattle.packet_codec.specs.View.{content_answer_view};
 

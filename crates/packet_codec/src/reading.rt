@@ -2,7 +2,8 @@
 
 ghost use Rattle.std.specs.Prelude.{◌≡◌, IfOk, false};
 ghost use Rattle.packet_codec.specs.Packet.{PacketForm, PacketValue};
-ghost use Rattle.packet_codec.specs.Reading.{bit_7, bit_8, channel_of, cause_of, content_of, fault_in, first_fault, named_channel, named_type, reading};
+ghost use Rattle.packet_codec.specs.Reading.{bit_7, bit_8, channel_of, cause_of, content_of, fault_in, first_fault};
+ghost use Rattle.packet_codec.specs.Reading.{named_channel, named_type, reading};
 ghost use Rattle.packet_codec.specs.View.{answer_view, content_answer_view, view};
 
 use crate::call_block::{read_accepted, read_call};
@@ -13,10 +14,10 @@ use crate::packet_type::PacketType;
 /// The packet that the octets say; its own octets are borrowed from them (X.25 5).
 ///
 /// The faults are tested in the order of `PacketFault`: fewer than three octets are `TooShort`; another format than the
-/// numbering's is `BadFormatId`; an octet 3 that names no type, a Q bit outside Data, a D bit outside Data and Call, and
-/// a channel that does not go with the type are `UnknownType`; octets too many or too few for the type are `BadLength`;
-/// a Call without a called address and a digit above 9 are `BadAddress`; more than 128 octets of user data are
-/// `DataTooLong`.
+/// numbering's is `BadFormatId`; an octet 3 that names no type, a Q bit outside Data, a D bit outside Data and Call,
+/// and a channel that does not go with the type are `UnknownType`; octets too many or too few for the type are
+/// `BadLength`; a Call without a called address and a digit above 9 are `BadAddress`; more than 128 octets of user data
+/// are `DataTooLong`.
 pub fn read_packet(bytes: &[u8], numbering: Numbering) -> Result<Packet<'_>, PacketFault>
     // Which answer it is.
     ensures exact { answer_view result ≡ reading bytes.now }

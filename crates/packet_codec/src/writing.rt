@@ -2,7 +2,8 @@
 
 ghost use Rattle.std.specs.Prelude.{◌≡◌, ◌+◌, ◌/◌, ◌<◌, ◌≤◌, [], ◌∷◌, ◌++◌, length, IsTrue};
 ghost use Rattle.packet_codec.specs.Address.{MayBeDigits, are_decimal};
-ghost use Rattle.packet_codec.specs.Packet.{CallRequest, Data, IsCallValue, IsDataValue, IsPacket, address_part, content_spelling, header, packed, plain_header, spelling};
+ghost use Rattle.packet_codec.specs.Packet.{CallRequest, Data, IsCallValue, IsDataValue, IsPacket, address_part};
+ghost use Rattle.packet_codec.specs.Packet.{content_spelling, header, packed, plain_header, spelling};
 ghost use Rattle.packet_codec.specs.Reading.{reading};
 ghost use Rattle.packet_codec.specs.View.{call_view, data_view, view};
 

@@ -1,5 +1,6 @@
 -- How a PAD gathers what a terminal sends into blocks, and edits it on the way (X.3 3.3, 3.4, 3.13, 3.15 to 3.18).
-use Rattle.std.specs.Prelude.{ℕ, ◌-◌, not, ◌&&◌, ◌||◌, ◌==◌, nat_lt, List, [], ◌∷◌, ◌++◌, length, take, Option, Some, None, if◌then◌else◌}
+use Rattle.std.specs.Prelude.{ℕ, ◌-◌, not, ◌&&◌, ◌||◌, ◌==◌, nat_lt, List, [], ◌∷◌, ◌++◌, length, take, Option, Some}
+use Rattle.std.specs.Prelude.{None, if◌then◌else◌}
 use Rattle.std.specs.Option.{option_to_list}
 use Rattle.x3_params.specs.Values.{value}
 use Rattle.x3_params.specs.Forwarding.{is_forwarding}

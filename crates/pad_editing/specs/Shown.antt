@@ -1,5 +1,6 @@
 -- How octets are laid out for a terminal (X.3 3.9, 3.10, 3.13, 3.14), from column to column.
-use Rattle.std.specs.Prelude.{ℕ, ◌+◌, ◌-◌, Bool, true, false, ◌&&◌, ◌==◌, nat_lt, min, List, [], ◌∷◌, ◌++◌, replicate, if◌then◌else◌}
+use Rattle.std.specs.Prelude.{ℕ, ◌+◌, ◌-◌, Bool, true, false, ◌&&◌, ◌==◌, nat_lt, min, List, [], ◌∷◌, ◌++◌, replicate}
+use Rattle.std.specs.Prelude.{if◌then◌else◌}
 use Rattle.x3_params.specs.Values.{value}
 use Rattle.x3_params.specs.Forwarding.{is_from}
 use Rattle.x3_params.specs.Settings.{inserts_line_feed}

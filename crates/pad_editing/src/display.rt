@@ -10,7 +10,8 @@ use x3_params::{LineFeedInsertion, Params};
 pub struct Display;
 
 impl Display {
-    /// Lays octets out for a terminal that is at a column, and gives the column that it is then at (X.3 3.9, 3.10, 3.13,
+    /// Lays octets out for a terminal that is at a column, and gives the column that it is then at (X.3 3.9, 3.10,
+    /// 3.13,
     /// 3.14).
     ///
     /// A graphic character at the column of parameter 10 goes to a new line. A carriage return and a line feed have

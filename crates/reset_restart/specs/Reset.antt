@@ -1,5 +1,6 @@
 -- The state table of reset: its rows, and the one that an event meets.
-use Rattle.std.specs.Prelude.{ℕ, ◌==◌, ◌&&◌, Bool, true, false, List, [], ◌∷◌, find, Option, Some, None, option_and_then}
+use Rattle.std.specs.Prelude.{ℕ, ◌==◌, ◌&&◌, Bool, true, false, List, [], ◌∷◌, find, Option, Some, None}
+use Rattle.std.specs.Prelude.{option_and_then}
 use Rattle.std.specs.Option.{option_map}
 use Rattle.link_timers.specs.declared.role.Role.{Role}
 use Rattle.link_timers.specs.declared.role.Role.TheVariants.{Dte, Dce}
@@ -67,7 +68,8 @@ abbrev pub table : List Row
 table =
     row Ready UserResets OwnReset (Some types.ResetRequest) Nothing None
     ∷ row Ready (Packets (types.ResetRequest ∷ [])) Ready (Some types.ResetConfirmation) Reset None
-    ∷ row Ready (Packets (types.ResetConfirmation ∷ [])) OwnReset (Some types.ResetRequest) Reset (Some not_allowed_in_d1)
+    ∷ row Ready (Packets (types.ResetConfirmation ∷ [])) OwnReset (Some types.ResetRequest) Reset
+    (Some not_allowed_in_d1)
     ∷ row Ready UnreadablePacket OwnReset (Some types.ResetRequest) Reset (Some not_allowed_in_d1)
     ∷ row OwnReset (Packets (types.ResetRequest ∷ types.ResetConfirmation ∷ [])) Ready None Nothing None
     ∷ row OwnReset (Packets flow) OwnReset None Discarded None

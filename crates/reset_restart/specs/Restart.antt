@@ -59,7 +59,8 @@ row state packets new owed note error =
 abbrev pub table : List Row
 table =
     row Ready (Types (types.RestartRequest ∷ [])) Ready (Some types.RestartConfirmation) CallsClosed None
-    ∷ row Ready (Types (types.RestartConfirmation ∷ [])) OwnRestart (Some types.RestartRequest) CallsClosed (Some not_allowed_in_r1)
+    ∷ row Ready (Types (types.RestartConfirmation ∷ [])) OwnRestart (Some types.RestartRequest) CallsClosed
+    (Some not_allowed_in_r1)
     ∷ row OwnRestart (Types (types.RestartRequest ∷ types.RestartConfirmation ∷ [])) Ready None Nothing None
     ∷ row OwnRestart AnyOther OwnRestart None Discarded None
     ∷ []

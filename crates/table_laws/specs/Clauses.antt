@@ -15,8 +15,10 @@ use Rattle.packet_layer.specs.Packets.{CallParts, Body, Packet, Received}
 use Rattle.packet_layer.specs.Packets.Received.{Whole}
 use Rattle.packet_layer.specs.Traffic.{hears}
 use Rattle.packet_layer.specs.Channel.{Channel, Step, Request, after_heard}
-use Rattle.packet_layer.specs.Layer.{Phase, Layer, channel_of, channel_given, after_step, unread, on_packet, call, request, request_refusal}
-use Rattle.table_laws.specs.States.{call_state, restart_state, type_of, channel_named, body_read, call_act, packet_asked}
+use Rattle.packet_layer.specs.Layer.{Phase, Layer, channel_of, channel_given, after_step, unread, on_packet, call}
+use Rattle.packet_layer.specs.Layer.{request, request_refusal}
+use Rattle.table_laws.specs.States.{call_state, restart_state, type_of, channel_named, body_read, call_act}
+use Rattle.table_laws.specs.States.{packet_asked}
 use Rattle.table_laws.specs.Rows.{act_row, call_row, reset_row, reset_row_of}
 use Rattle.table_laws.specs.Follows.{FollowsCall, FollowsReset, FollowsRestart}
 
@@ -27,8 +29,8 @@ pub record ComesOn (l : Layer) (r : Received) (ch : Channel) : Type 0 where
   pub ready : l.phase ≡ Phase.PacketReady
   pub found : channel_of l (channel_named r) ≡ Some ch
 
--- the layer drops the notes that nobody read and makes a step of the channel, of which P holds. What the step owes comes behind what
--- is owed already; a fifth packet is dropped, and asks for a relink
+-- the layer drops the notes that nobody read and makes a step of the channel, of which P holds. What the step owes
+-- comes behind what is owed already; a fifth packet is dropped, and asks for a relink
 abbrev pub Steps : Layer → Received → (Step → Type 0) → Type 0
 Steps l r P = (done : Step) × (on_packet l r ≡ after_step (unread l) (channel_named r) done) × P done
 
@@ -63,16 +65,19 @@ DataPackets =
 abbrev pub CallsPlaced : Type 0
 CallsPlaced =
     (l : Layer) (parts : CallParts) (c : ℕ) → channel_given l l.phase ≡ Some c
-    → (ch : Channel) × (row : CallStep) × (done : Step) × (channel_of l c ≡ Some ch) × (act_row l.role ch acts.Call ≡ Some row)
-    × (call l parts ≡ after_step l c done) × FollowsCall l.role c None ch row done × (done.owes ≡ Some (Body.Call parts))
+    → (ch : Channel) × (row : CallStep) × (done : Step) × (channel_of l c ≡ Some ch)
+    × (act_row l.role ch acts.Call ≡ Some row)
+    × (call l parts ≡ after_step l c done) × FollowsCall l.role c None ch row done
+    × (done.owes ≡ Some (Body.Call parts))
 
--- an accept and a clear are refused exactly where the call table has no row for them; where it has one, it is followed, and the
--- packet owed is the one that was asked for
+-- an accept and a clear are refused exactly where the call table has no row for them; where it has one, it is followed,
+-- and the packet owed is the one that was asked for
 pub record ActsByCallTable (l : Layer) (c : ℕ) (ch : Channel) (r : Request) (act : UserAct) : Type 0 where
   pub allowed : (request_refusal l c r ≡ None) ↔ IsSome (act_row l.role ch act)
   pub follows :
       (row : CallStep) → act_row l.role ch act ≡ Some row
-      → (done : Step) × (request l c r ≡ after_step l c done) × FollowsCall l.role c None ch row done × (done.owes ≡ packet_asked r)
+      → (done : Step) × (request l c r ≡ after_step l c done) × FollowsCall l.role c None ch row done
+      × (done.owes ≡ packet_asked r)
 
 abbrev pub CallActs : Type 0
 CallActs =
@@ -84,7 +89,8 @@ pub record ActsByResetTable (l : Layer) (c : ℕ) (ch : Channel) (r : Request) :
   pub allowed : (request_refusal l c r ≡ None) ↔ IsSome (reset_row_of l.role ch UserReset)
   pub follows :
       (row : ResetStep) → reset_row_of l.role ch UserReset ≡ Some row
-      → (done : Step) × (request l c r ≡ after_step l c done) × FollowsReset l.role c None ch row done × (done.owes ≡ packet_asked r)
+      → (done : Step) × (request l c r ≡ after_step l c done) × FollowsReset l.role c None ch row done
+      × (done.owes ≡ packet_asked r)
 
 abbrev pub ResetActs : Type 0
 ResetActs =
@@ -96,6 +102,7 @@ ResetActs =
 -- a packet on the channel that its type may have: 0 for restart packets, another for all else
 abbrev pub RestartPackets : Type 0
 RestartPackets =
-    (l : Layer) (p : Packet) (state : RestartState) (row : RestartStep) → is_on_channel (type_of p.body) p.channel ≡ true
+    (l : Layer) (p : Packet) (state : RestartState) (row : RestartStep)
+    → is_on_channel (type_of p.body) p.channel ≡ true
     → restart_state l.role l.phase ≡ Some state → restart_step l.role state (type_of p.body) ≡ Some row
     → FollowsRestart l row (on_packet l (Whole p))

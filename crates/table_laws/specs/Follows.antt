@@ -21,39 +21,45 @@ use Rattle.table_laws.specs.States.{call_state, reset_state, restart_state, type
 
 -- ---- calls
 
--- what the note of a row tells the user, of a packet that came on channel c or, where none came, of what the user did. A call
--- ends with cause and diagnostic of the Clear that came, or with cause 19, a local procedure error, and the diagnostic of the row
+-- what the note of a row tells the user, of a packet that came on channel c or, where none came, of what the user did.
+-- A call ends with cause and diagnostic of the Clear that came, or with cause 19, a local procedure error, and the
+-- diagnostic of the row
 abbrev pub TellsCall : ℕ → Option Body → Channel → CallNote → Option ℕ → Step → Type 0
 TellsCall c came ch call_notes.Nothing error done = done.notes ≡ []
 TellsCall c (Some (Call parts)) ch call_notes.Incoming error done = done.notes ≡ Incoming c parts ∷ []
 TellsCall c came ch call_notes.Connected error done = done.notes ≡ Connected c ∷ []
-TellsCall c (Some (Call parts)) ch call_notes.Cancelled error done = done.notes ≡ Closed c 1 0 Cancelled ∷ Incoming c parts ∷ []
-TellsCall c (Some (Clear cause diagnostic)) ch call_notes.Cleared None done = done.notes ≡ Closed c cause diagnostic FarEnd ∷ []
+TellsCall c (Some (Call parts)) ch call_notes.Cancelled error done = done.notes
+    ≡ Closed c 1 0 Cancelled ∷ Incoming c parts ∷ []
+TellsCall c (Some (Clear cause diagnostic)) ch call_notes.Cleared None done = done.notes
+    ≡ Closed c cause diagnostic FarEnd ∷ []
 TellsCall c came ch call_notes.Cleared (Some diagnostic) done = done.notes ≡ Closed c 19 diagnostic LocalFault ∷ []
 TellsCall c came ch call_notes.Discarded error done = done ≡ quiet ch
 TellsCall c came ch _ error done = ⊥
 
--- a step of a channel: it leads to the state of the row; what was owed stays owed, and a packet of the type of the row is owed
--- further, or none; for a procedure error it is a Clear with the diagnostic of the row. A call begins in d1
-pub record FollowsCall (role : Role) (c : ℕ) (came : Option Body) (ch : Channel) (row : CallStep) (done : Step) : Type 0 where
-  pub state : call_state role done.channel.state ≡ row.state
-  pub begins : in_transfer ch.state ≡ false → ch.resetting ≡ false → done.channel.resetting ≡ false
-  pub kept : done.channel.owed ≡ ch.owed
-  pub owed : option_map type_of done.owes ≡ row.owed
-  pub error : IfSome row.error (λ diagnostic. done.owes ≡ Some (Clear (error_cause role 19) diagnostic))
-  pub told : TellsCall c came ch row.note row.error done
+-- a step of a channel: it leads to the state of the row; what was owed stays owed, and a packet of the type of the row
+-- is owed further, or none; for a procedure error it is a Clear with the diagnostic of the row. A call begins in d1
+pub record FollowsCall (role : Role) (c : ℕ) (came : Option Body) (ch : Channel) (row : CallStep) (done : Step) : Type 0
+  where
+    pub state : call_state role done.channel.state ≡ row.state
+    pub begins : in_transfer ch.state ≡ false → ch.resetting ≡ false → done.channel.resetting ≡ false
+    pub kept : done.channel.owed ≡ ch.owed
+    pub owed : option_map type_of done.owes ≡ row.owed
+    pub error : IfSome row.error (λ diagnostic. done.owes ≡ Some (Clear (error_cause role 19) diagnostic))
+    pub told : TellsCall c came ch row.note row.error done
 
 -- ---- resets
 
 abbrev pub TellsReset : ℕ → Option Body → Channel → ResetNote → Option ℕ → Step → Type 0
 TellsReset c came ch reset_notes.Nothing error done = done.notes ≡ []
-TellsReset c (Some (Reset cause diagnostic)) ch reset_notes.Reset None done = done.notes ≡ WasReset c cause diagnostic FarEnd ∷ []
+TellsReset c (Some (Reset cause diagnostic)) ch reset_notes.Reset None done = done.notes
+    ≡ WasReset c cause diagnostic FarEnd ∷ []
 TellsReset c came ch reset_notes.Reset (Some diagnostic) done = done.notes ≡ WasReset c 5 diagnostic LocalFault ∷ []
 TellsReset c came ch reset_notes.Discarded error done = done ≡ quiet ch
 TellsReset c came ch _ error done = ⊥
 
 -- the same of a row of the reset table; the call goes on
-pub record FollowsReset (role : Role) (c : ℕ) (came : Option Body) (ch : Channel) (row : ResetStep) (done : Step) : Type 0 where
+pub record FollowsReset (role : Role) (c : ℕ) (came : Option Body) (ch : Channel) (row : ResetStep) (done : Step) : Type
+    0 where
   pub goes_on : done.channel.state ≡ ch.state
   pub state : reset_state role done.channel.resetting ≡ row.state
   pub kept : done.channel.owed ≡ ch.owed
@@ -78,8 +84,9 @@ TellsRestart l restart_notes.CallsClosed None done = AreClosed FarRestart l done
 TellsRestart l restart_notes.CallsClosed (Some diagnostic) done = AreClosed LocalFault l done
 TellsRestart l restart_notes.Discarded error done = done ≡ unread l
 
--- the layer after a packet: in the state of the row; a packet of the type of the row is owed further, or none, as far as no more
--- than four are (a fifth asks for a relink); for a procedure error it is a Restart with the diagnostic of the row
+-- the layer after a packet: in the state of the row; a packet of the type of the row is owed further, or none, as far
+-- as no more than four are (a fifth asks for a relink); for a procedure error it is a Restart with the diagnostic of
+-- the row
 pub record FollowsRestart (l : Layer) (row : RestartStep) (done : Layer) : Type 0 where
   pub state : restart_state l.role done.phase ≡ Some row.state
   pub owes : Option Body

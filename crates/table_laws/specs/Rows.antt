@@ -34,7 +34,8 @@ act_row role ch act = step_of role (call_state role ch.state) (call_events.User 
 abbrev pub call_row : Role → Channel → Received → Option CallStep
 call_row role ch (Whole p) = step_of role (call_state role ch.state) (call_events.Received (type_of p.body))
 call_row role ch (Unknown c) = step_of role (call_state role ch.state) call_events.Unreadable
-call_row role ch (Faulty c) = option_map call_without_diagnostic (step_of role (call_state role ch.state) call_events.Unreadable)
+call_row role ch (Faulty c) =
+    option_map call_without_diagnostic (step_of role (call_state role ch.state) call_events.Unreadable)
 
 -- ---- the reset table, in p4 alone
 

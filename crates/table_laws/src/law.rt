@@ -1,14 +1,15 @@
-ghost use Rattle.table_laws.specs.Clauses.{EachPacket, CallPackets, DataPackets, CallsPlaced, CallActs, ResetPackets, ResetActs, RestartPackets};
+ghost use Rattle.table_laws.specs.Clauses.{EachPacket, CallPackets, DataPackets, CallsPlaced, CallActs, ResetPackets};
+ghost use Rattle.table_laws.specs.Clauses.{ResetActs, RestartPackets};
 
-/// The machine of a packet layer, which knows own and far states, does what the state tables say, whose states go by role: in each
-/// state and for each packet and act of the user for which a table has a row it comes to the state of the row, owes its packet and
-/// tells what its note says (X.25 Annex C, tables C-2 to C-4).
+/// The machine of a packet layer, which knows own and far states, does what the state tables say, whose states go by
+/// role: in each state and for each packet and act of the user for which a table has a row it comes to the state of the
+/// row, owes its packet and tells what its note says (X.25 Annex C, tables C-2 to C-4).
 pub fn tables_law()
     // Each packet on a channel meets a row of the call table.
     ensures each_packet { EachPacket }
 
-    // In data transfer the row of the reset table is followed; where there is none, that of the call table; and where this says so,
-    // numbers and interrupts decide.
+    // In data transfer the row of the reset table is followed; where there is none, that of the call table; and where
+    // this says so, numbers and interrupts decide.
     ensures reset_packets { ResetPackets }
     ensures call_packets { CallPackets }
     ensures data_packets { DataPackets }

@@ -1,5 +1,6 @@
 -- The parameters of a PAD (X.3 section 3): their values, and the two profiles.
-use Rattle.std.specs.Prelude.{ℕ, Bool, List, [], ◌∷◌, ◌&&◌, nat_le, ◌==◌, slice_set, map, Option, Some, None, if◌then◌else◌}
+use Rattle.std.specs.Prelude.{ℕ, Bool, List, [], ◌∷◌, ◌&&◌, nat_le, ◌==◌, slice_set, map, Option, Some, None}
+use Rattle.std.specs.Prelude.{if◌then◌else◌}
 use Rattle.std.specs.List.{list_any}
 use Rattle.x3_params.specs.declared.profile.Profile.{Profile}
 use Rattle.x3_params.specs.declared.profile.Profile.TheVariants.{Simple, Transparent}

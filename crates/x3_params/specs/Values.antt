@@ -1,5 +1,6 @@
 -- The values in force, in the order of their parameters' numbers.
-use Rattle.std.specs.Prelude.{◌≡◌, ℕ, ◌+◌, ◌-◌, ◌<◌, Bool, not, List, length, slice_index, slice_set, ◌==◌, IsTrue, Option, Some, None, if◌then◌else◌, bit_and}
+use Rattle.std.specs.Prelude.{◌≡◌, ℕ, ◌+◌, ◌-◌, ◌<◌, Bool, not, List, length, slice_index, slice_set, ◌==◌, IsTrue}
+use Rattle.std.specs.Prelude.{Option, Some, None, if◌then◌else◌, bit_and}
 use Rattle.x3_params.specs.Table.{allows, is_number}
 use Rattle.x3_params.specs.declared.fault.ParamFault.{ParamFault}
 use Rattle.x3_params.specs.declared.fault.ParamFault.TheVariants.{NoSuchParameter, BadValue, ReadOnly}
