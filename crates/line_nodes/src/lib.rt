@@ -14,6 +14,3 @@ pub use node::Node;
 pub use note::{HostNote, NoteKind};
 pub use pad::KeyAnswer;
 pub use place::Place;
-
-#[cfg(test)]
-mod tests;

@@ -1,9 +1,11 @@
-//! Worked examples of hosts, PADs and the book of their line.
+//! Worked examples of hosts, PADs, the book of their line, and what their events write into it.
 #![tactic(auto)]
 
 #[cfg(test)]
 mod books;
 #[cfg(test)]
 mod hosts;
+#[cfg(test)]
+mod nodes;
 #[cfg(test)]
 mod pads;

@@ -1,8 +1,8 @@
 use Rattle.std.proofs.Common.{[]}
 use Rattle.link_timers.specs.declared.role.Role.TheVariants.{Dce}
 use Rattle.packet_host.specs.Host.{call_parts}
-use Rattle.line_nodes.proofs.Quiet.{calls_quiet}
-use Rattle.line_nodes.proofs.tests.calls.Goals as goal
+use Rattle.node_tests.proofs.Quiet.{calls_quiet}
+use Rattle.node_tests.proofs.nodes.calls.Goals as goal
 
 pub call-requires-clause-opening : goal.call-requires-clause-opening
 call-requires-clause-opening c =

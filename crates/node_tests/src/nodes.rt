@@ -1,14 +1,14 @@
 //! Worked examples: the nodes of a line on which a call stands, with its book.
 ghost use Rattle.std.specs.Prelude.{◌≡◌, ◌≤◌, [], IfOk, OnOk, vec_capacity};
 
-use super::*;
 use call_records::Book;
 use frame_codec::FrameBuf;
+use line_nodes::{HostNote, KeyAnswer, Node, NodeFault, Place, host, pad};
 use link_timers::Role;
-use packet_codec::{Address, CallBuf, CallData};
+use packet_codec::Address;
 use packet_end::EndParams;
 use packet_host::{Host, HostConfig};
-use packet_layer::{CallFault, ChannelFault, LayerNote, UserData};
+use packet_layer::{CallFault, ChannelFault, UserData};
 use packet_pad::{Pad, PadConfig};
 use std::alloc::{AllocError, Global};
 use std::process::Abort;
@@ -279,30 +279,6 @@ fn a_restart_closes_the_calls(rt: HostRuntime) -> Result<(), Fail> {
     let mut host = Node::Host(new_host(&rt, rt.alloc()));
     let mut pad = Node::Pad(new_pad(&rt, rt.alloc()));
     closes_by_restarts(&rt, &mut host, &mut pad, &mut book)
-}
-
-#[test]
-fn a_host_is_told(rt: HostRuntime) {
-    let call = CallBuf::new(&CallData {
-        called: Address::new(&[2]),
-        calling: None,
-        facilities: &[],
-        user_data: &[],
-    });
-    let incoming = HostNote {
-        node: 5,
-        channel: 2,
-        kind: NoteKind::Incoming,
-    };
-    assert_eq!(rt;
-        HostNote::of(5, &LayerNote::Incoming(2, call)),
-        Some(incoming)
-    );
-    let covered = LayerNote::Covered {
-        channel: 2,
-        count: 1,
-    };
-    assert_eq!(rt; HostNote::of(5, &covered), None);
 }
 
 #[test]

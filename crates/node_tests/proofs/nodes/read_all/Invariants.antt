@@ -1,5 +1,5 @@
 use Rattle.std.proofs.Common.{length}
-use Rattle.line_nodes.proofs.tests.read_all.Given as goal
+use Rattle.node_tests.proofs.nodes.read_all.Given as goal
 
 abbrev pub decreases-loop : goal.decreases-loop
 decreases-loop l = length l.pad.end.notes

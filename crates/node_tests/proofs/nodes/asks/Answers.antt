@@ -1,8 +1,8 @@
 use Rattle.std.proofs.Common.{true, false, [], ◌∷◌}
 use Rattle.link_timers.specs.declared.role.Role.TheVariants.{Dce}
 use Rattle.packet_layer.specs.Channel.{Request}
-use Rattle.line_nodes.proofs.Quiet.{asks_quiet, refuses_quiet}
-use Rattle.line_nodes.proofs.tests.asks.Goals as goal
+use Rattle.node_tests.proofs.Quiet.{asks_quiet, refuses_quiet}
+use Rattle.node_tests.proofs.nodes.asks.Goals as goal
 
 pub answer-requires-clause-opening : goal.answer-requires-clause-opening
 answer-requires-clause-opening c = asks_quiet Dce c.ready.new.host 1 Request.Accept c.ready.new.book.book c.ready.ensures.read
