@@ -1,1 +1,4 @@
 pub mod CountSteps
+mod Walks
+pub mod Pools
+pub mod Weights

@@ -1,11 +1,11 @@
 -- A number of a window names one count, and the difference of two counts is that of their numbers.
-use Rattle.std.proofs.Common.{◌≡◌, ℕ, zero, suc, ◌+◌, ◌-◌, ◌*◌, ◌/◌, ◌%◌, ◌<◌, ◌≤◌, refl, sym, ◌∙◌, ap, arith}
+use Rattle.std.proofs.Common.{◌≡◌, ℕ, ◌+◌, ◌-◌, ◌*◌, ◌/◌, ◌%◌, ◌<◌, ◌≤◌, sym, ◌∙◌, ap, arith}
 use Rattle.std.specs.Prelude.{◌⊎◌}
 use Rattle.std.proofs.Common.{inl, inr}
 use Rattle.std.proofs.lemmas.Nat.{mod-mul-add, mod_below, div-add-mod'}
 use Rattle.std.proofs.lemmas.Bool.{cases_lt}
 use Rattle.flow_window.specs.Window.{ahead}
-use Rattle.flow_window.specs.Counts.{Names, NamesOne}
+use Rattle.flow_window.specs.Counts.{NamesOne}
 
 -- a modulus that is one more than a number has a number 0
 pub has_zero : (highest : ℕ) → 0 < highest + 1

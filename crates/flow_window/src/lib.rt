@@ -2,6 +2,7 @@
 #![tactic(auto)]
 
 mod modulus;
+pub mod pool;
 mod receive;
 mod send;
 mod seq;

@@ -1,7 +1,6 @@
-ghost use Rattle.std.specs.Prelude.{◌≡◌, ◌≤◌, ◌<◌, ◌+◌, List, [], ◌∷◌, ◌++◌, length, ℕ, IsTrue, ◌↔◌};
+ghost use Rattle.std.specs.Prelude.{◌≡◌, ◌≤◌, ◌<◌, ◌+◌, List, [], ◌∷◌, ◌++◌, length, take, drop, ℕ, IsTrue, ◌↔◌};
 ghost use Rattle.frame_codec.specs.Spelling.{most_octets};
 
-use arrayvec::ArrayVec;
 use std::marker::Model;
 
 /// The most octets of information that an I frame carries: a packet.
@@ -13,11 +12,12 @@ pub const MAX_FRAME: usize = 147;
 /// Room for the octets of one frame.
 #[derive(Drop)]
 pub struct FrameBuf {
-    octets: ArrayVec<u8, MAX_FRAME>,
+    octets: [u8; MAX_FRAME],
+    len: usize,
 }
 
 impl Model for FrameBuf {
-    ghost use Rattle.std.specs.Prelude.{◌≤◌, List, ℕ, length};
+    ghost use Rattle.std.specs.Prelude.{◌≤◌, List, ℕ, take};
     ghost use Rattle.std.specs.Coded.{coded_list, coded_ℕ};
     ghost use Rattle.frame_codec.specs.Spelling.{most_octets};
 
@@ -25,9 +25,9 @@ impl Model for FrameBuf {
 
     ghost coded = { coded_list coded_ℕ };
 
-    ghost view = { λ b. b.octets.items };
+    ghost view = { λ b. take b.len b.octets };
 
-    ghost invariant = { λ b. length b.octets.items ≤ most_octets };
+    ghost invariant = { λ b. b.len ≤ most_octets };
 }
 
 impl FrameBuf {
@@ -36,7 +36,8 @@ impl FrameBuf {
         ensures { result ≡ [] }
     {
         FrameBuf {
-            octets: ArrayVec::new(),
+            octets: [0; MAX_FRAME],
+            len: 0,
         }
     }
 
@@ -45,7 +46,7 @@ impl FrameBuf {
         ensures value { result.now ≡ self.now }
         ensures fits { length result.now ≤ most_octets }
     {
-        self.octets.as_slice()
+        &self.octets[..self.len]
     }
 
     /// How many octets there are.
@@ -53,21 +54,21 @@ impl FrameBuf {
         ensures value { result ≡ length self.now }
         ensures fits { result ≤ most_octets }
     {
-        self.octets.len()
+        self.len
     }
 
     /// Whether there is no octet.
     pub fn is_empty(&self) -> bool
         ensures { IsTrue result ↔ (self.now ≡ []) }
     {
-        self.octets.is_empty()
+        self.len == 0
     }
 
     /// Empties the buffer.
     pub fn clear(&mut self)
         ensures { self.new ≡ [] }
     {
-        self.octets.clear();
+        self.len = 0;
     }
 
     /// Appends an octet.
@@ -75,7 +76,8 @@ impl FrameBuf {
         requires { length self.old < most_octets }
         ensures { self.new ≡ self.old ++ octet ∷ [] }
     {
-        self.octets.push(octet);
+        self.octets[self.len] = octet;
+        self.len += 1;
     }
 
     /// Appends octets.
@@ -83,8 +85,16 @@ impl FrameBuf {
         requires { length self.old + length octets.now ≤ most_octets }
         ensures { self.new ≡ self.old ++ octets.now }
     {
-        let _ = self.octets.try_extend_from_slice(octets);
+        write_at(&mut self.octets, self.len, octets);
+        self.len += octets.len();
     }
+}
+
+fn write_at(place: &mut [u8], start: usize, octets: &[u8])
+    requires { start + length octets.now ≤ length place.old }
+    ensures { place.new ≡ take start place.old ++ octets.now ++ drop (start + length octets.now) place.old }
+{
+    place[start..start + octets.len()].copy_from_slice(octets);
 }
 
 impl Default for FrameBuf {

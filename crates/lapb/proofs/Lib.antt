@@ -11,7 +11,7 @@ pub mod LinkLaw
 pub mod Naming
 pub mod Notes
 pub mod Reach
-pub mod Rings
+pub mod Queues
 pub mod NamedCalls
 mod Rows
 mod Steps

@@ -11,7 +11,8 @@ pub mod Params
 pub mod EffectView
 pub mod OutView
 pub mod LinkView
-pub mod Ring
+pub mod Held
+pub mod QueueView
 pub mod NamedOctets
 pub mod Fits
 pub mod Line

@@ -4,6 +4,7 @@ use Rattle.frame_codec.specs.declared.frame.Rejection.{Rejection}
 use Rattle.frame_codec.specs.Views.{report_of}
 use Rattle.lapb.specs.declared.link.Link.TheInside.{Inside}
 use Rattle.lapb.specs.Machine as machine
+use Rattle.lapb.specs.Held as held
 
 abbrev pub link_of : Inside → machine.Link
 link_of a = record {
@@ -15,7 +16,7 @@ link_of a = record {
   next = a.window.next;
   top = a.window.top;
   expected = a.receive;
-  queue = a.queue;
+  queue = a.queue.packets;
   heard = a.heard;
   owed = a.owed;
   rejecting = a.rejecting;
@@ -27,6 +28,9 @@ link_of a = record {
   report = report_of a.report;
 }
 
+abbrev pub holding : Inside → held.Link
+holding a = record { link = link_of a; held = a.queue.held }
+
 -- the report repeats an octet and two numbers modulo 8
 pub record IsReport (report : Rejection) : Type 0 where
   pub control : report.control < 256
@@ -34,8 +38,9 @@ pub record IsReport (report : Rejection) : Type 0 where
   pub vr : report.vr < 8
 
 pub record IsLink (a : Inside) : Type 0 where
-  pub sent : a.window.top ≤ length a.queue
-  pub unacknowledged : length a.queue ≤ a.window.size
+  pub sent : a.window.top ≤ length a.queue.packets
+  pub unacknowledged : length a.queue.packets ≤ a.window.size
+  pub held : length a.queue.held ≤ a.window.size
   pub k_least : 1 ≤ a.window.size
   pub k_most : a.window.size ≤ 7
   pub polls : a.polls ≤ a.n2

@@ -6,8 +6,8 @@ mod law;
 mod link;
 mod note;
 mod out;
-mod packet;
 mod phase;
+mod queue;
 
 pub use law::link_law;
 pub use link::{BadParams, Link, LinkParams, OfferFault};

@@ -1,4 +1,4 @@
-ghost use Rattle.std.specs.Prelude.{◌≡◌, ◌≤◌, MatchResult};
+ghost use Rattle.std.specs.Prelude.{◌≡◌, ◌≤◌, [], MatchResult};
 ghost use Rattle.lapb.specs.Machine as machine;
 ghost use Rattle.lapb.specs.Params.{AreParams};
 
@@ -9,13 +9,25 @@ mod phases;
 mod sending;
 mod setting;
 
-use crate::packet::Queue;
 use crate::phase::Phase;
+use crate::queue::Queue;
 use flow_window::{Mod8, RecvWindow, SendWindow};
 use frame_codec::Rejection;
 use link_timers::Role;
 use std::marker::Model;
 use thiserror::Error;
+
+// Nothing was rejected yet.
+const NO_REPORT: Rejection = Rejection {
+    control: 0,
+    vs: 0,
+    vr: 0,
+    response: false,
+    w: false,
+    x: false,
+    y: false,
+    z: false,
+};
 
 /// How a link is to be made.
 #[derive(Clone, Copy, Debug, PartialEq, Eq)]
@@ -26,6 +38,20 @@ pub struct LinkParams {
     pub n2: u8,
     /// Whether the line stands from the beginning on: the link is up.
     pub standing: bool,
+}
+
+impl LinkParams {
+    /// `BadParams` comes where `k` is not from 1 to 7 or `n2` not from 1 to 20.
+    pub fn check(&self) -> Result<(), BadParams>
+        ensures { MatchResult result
+            (λ _. AreParams self.now.k self.now.n2)
+            (λ _. AreParams self.now.k self.now.n2 → ⊥) }
+    {
+        if self.k < 1 || self.k > 7 || self.n2 < 1 || self.n2 > 20 {
+            return Err(BadParams);
+        }
+        Ok(())
+    }
 }
 
 /// A parameter of a link is out of its range.
@@ -65,13 +91,13 @@ pub struct Link {
 }
 
 impl Model for Link {
-    ghost use Rattle.lapb.specs.Machine as machine;
+    ghost use Rattle.lapb.specs.Held as held;
 
-    ghost Value = { machine.Link };
+    ghost Value = { held.Link };
 
-    ghost use Rattle.lapb.specs.LinkView.{link_of, IsLink};
+    ghost use Rattle.lapb.specs.LinkView.{holding, IsLink};
 
-    ghost view = { link_of };
+    ghost view = { holding };
 
     ghost invariant = { IsLink };
 }
@@ -82,13 +108,12 @@ impl Link {
     /// `BadParams` comes where `k` is not from 1 to 7 or `n2` not from 1 to 20.
     pub fn new(role: Role, params: LinkParams) -> Result<Link, BadParams>
         ensures { MatchResult result
-            (λ link. AreParams params.k params.n2 × (link ≡ machine.new role params.k params.n2 params.standing))
+            (λ link. AreParams params.k params.n2
+            × (link ≡ record { link = machine.new role params.k params.n2 params.standing; held = [] }))
             (λ _. AreParams params.k params.n2 → ⊥) }
     {
+        params.check()?;
         let LinkParams { k, n2, standing } = params;
-        if k < 1 || k > 7 || n2 < 1 || n2 > 20 {
-            return Err(BadParams);
-        }
         Ok(Link {
             role,
             phase: if standing { Phase::Up } else { Phase::Down },
@@ -104,16 +129,7 @@ impl Link {
             polling: false,
             bit: false,
             repeats: false,
-            report: Rejection {
-                control: 0,
-                vs: 0,
-                vr: 0,
-                response: false,
-                w: false,
-                x: false,
-                y: false,
-                z: false,
-            },
+            report: NO_REPORT,
         })
     }
 }

@@ -1,4 +1,4 @@
-ghost use Rattle.std.specs.Prelude.{◌≡◌, ◌∷◌, ◌++◌, [], length, map, false, ◌≤◌};
+ghost use Rattle.std.specs.Prelude.{◌≡◌, ◌∷◌, ◌++◌, [], length, map, take, drop, false, ◌≤◌};
 ghost use Rattle.frame_codec.specs.Spelling.{spelling, HasSpelling};
 ghost use Rattle.frame_codec.specs.Views.{value_of};
 ghost use Rattle.lapb.specs.Out.{most_frames, no_out, with_frames, with_effect, timing_by, AreSpelt};
@@ -7,7 +7,6 @@ ghost use Rattle.lapb.specs.Machine.{timing_after};
 
 use crate::effect::Effect;
 use crate::note::{Note, Timing};
-use arrayvec::ArrayVec;
 use frame_codec::{Frame, FrameBuf, write_frame};
 use link_timers::Role;
 use std::marker::Model;
@@ -19,9 +18,12 @@ pub const MOST_FRAMES: usize = 9;
 /// the last call, and what becomes of T1.
 ///
 /// The packet that is accepted is the information field of the I frame that was taken: its octets from the third on.
+/// Each frame is written in its place, and stays there until it is taken or all is cleared.
 #[derive(Drop)]
 pub struct LinkOut {
-    frames: ArrayVec<FrameBuf, MOST_FRAMES>,
+    places: [FrameBuf; MOST_FRAMES],
+    taken: usize,
+    end: usize,
     note: Note,
     accepted: bool,
     timer: Timing,
@@ -32,13 +34,11 @@ impl Model for LinkOut {
 
     ghost Value = { out.Out };
 
-    ghost use Rattle.std.specs.Prelude.{◌≤◌, length};
-    ghost use Rattle.lapb.specs.Out.{most_frames};
-    ghost use Rattle.lapb.specs.OutView.{out_of};
+    ghost use Rattle.lapb.specs.OutView.{out_of, IsOut};
 
     ghost view = { out_of };
 
-    ghost invariant = { λ a. length a.frames.items ≤ most_frames };
+    ghost invariant = { IsOut };
 }
 
 impl LinkOut {
@@ -47,7 +47,19 @@ impl LinkOut {
         ensures { result ≡ no_out }
     {
         LinkOut {
-            frames: ArrayVec::new(),
+            places: [
+                FrameBuf::new(),
+                FrameBuf::new(),
+                FrameBuf::new(),
+                FrameBuf::new(),
+                FrameBuf::new(),
+                FrameBuf::new(),
+                FrameBuf::new(),
+                FrameBuf::new(),
+                FrameBuf::new(),
+            ],
+            taken: 0,
+            end: 0,
             note: Note::Nothing,
             accepted: false,
             timer: Timing::Keep,
@@ -58,10 +70,37 @@ impl LinkOut {
     pub fn clear(&mut self)
         ensures { self.new ≡ no_out }
     {
-        self.frames.clear();
+        self.clear_frames();
         self.note = Note::Nothing;
         self.accepted = false;
         self.timer = Timing::Keep;
+    }
+
+    /// Forgets the frames that were not taken.
+    pub fn clear_frames(&mut self)
+        ensures { self.new ≡ record self.old { frames = [] } }
+    {
+        self.taken = 0;
+        self.end = 0;
+    }
+
+    /// Takes the first frame away, if there is one.
+    pub fn drop_first(&mut self)
+        ensures { self.new ≡ record self.old { frames = drop 1 self.old.frames } }
+    {
+        if self.taken < self.end {
+            self.taken += 1;
+        }
+    }
+
+    /// What becomes of T1 by all calls since the last clearing or the last such question.
+    pub fn take_timer(&mut self) -> Timing
+        ensures timer { result ≡ self.old.timer }
+        ensures out { self.new ≡ record self.old { timer = Timing.Keep } }
+    {
+        let timer = self.timer;
+        self.timer = Timing::Keep;
+        timer
     }
 
     /// The frames that are to be sent, in order.
@@ -69,7 +108,8 @@ impl LinkOut {
         ensures value { result.now ≡ self.now.frames }
         ensures most { length result.now ≤ most_frames }
     {
-        self.frames.as_slice()
+        let places = &self.places[..];
+        &places[self.taken..self.end]
     }
 
     /// What the last call tells of the link.
@@ -153,11 +193,29 @@ impl LinkOut {
           frames = with_frames self.old.frames (spelling role (value_of frame.now) ∷ []);
         } }
     {
-        if self.frames.is_full() {
+        make_room(&mut self.places, &mut self.taken, &mut self.end);
+        if self.end == MOST_FRAMES {
             return;
         }
-        let mut octets = FrameBuf::new();
-        write_frame(frame, role, &mut octets);
-        self.frames.push(octets);
+        write_frame(frame, role, &mut self.places[self.end]);
+        self.end += 1;
     }
+}
+
+// Moves the frames that were not taken to the front, where there is no place behind them.
+fn make_room(places: &mut [FrameBuf], taken: &mut usize, end: &mut usize)
+    requires taken { taken.old ≤ end.old }
+    requires end { end.old ≤ most_frames }
+    requires places { length places.old ≡ most_frames }
+    ensures frames { drop taken.new (take end.new places.new) ≡ drop taken.old (take end.old places.old) }
+    ensures taken { taken.new ≤ end.new }
+    ensures end { end.new ≤ most_frames }
+    ensures full { end.new ≡ most_frames → taken.new ≡ 0 }
+{
+    if *end < MOST_FRAMES || *taken == 0 {
+        return;
+    }
+    places.rotate_left(*taken);
+    *end -= *taken;
+    *taken = 0;
 }

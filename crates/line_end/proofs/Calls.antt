@@ -27,66 +27,91 @@ use Rattle.std.specs.Option.{option_copied}
 use Rattle.std.specs.Borrow.{Bor}
 use Rattle.std.proofs.Common.{refl, sym, ap, ◌∙◌, arith, inl, inr, length-drop}
 use Rattle.std.proofs.lemmas.List.{length-map, take_all}
-use Rattle.arrayvec.specs.ArrayVec.{ArrayVec}
 use Rattle.link_timers.specs.declared.timers.TimerId.TheVariants.{T1}
 use Rattle.link_timers.specs.Timers.{Places, left_of}
+use Rattle.flow_window.specs.Pool.{Pool, in_use, Holds, Balances}
+use Rattle.flow_window.proofs.Weights.{weight_ones}
 use Rattle.frame_codec.specs.Spelling.{spelling}
 use Rattle.lapb.specs.declared.note.Timing.{Timing as Change}
-use Rattle.lapb.specs.Machine.{Octets, Link, Step, runs, timing, on_t1}
+use Rattle.lapb.specs.Held.{Link as Holder}
+use Rattle.lapb.specs.Machine.{Octets, Link, Step, runs, timing, timing_after, on_t1}
 use Rattle.lapb.specs.Octets.{on_octets}
 use Rattle.lapb.specs.Out.{Out, no_out, with_frames, gathered}
 use Rattle.line_end.specs.declared.end.LineEnd.TheInside.{Inside}
 use Rattle.line_end.specs.End.{End, timed, runs_then, did, SendsUpTo}
-use Rattle.line_end.specs.EndView.{IsEnd}
+use Rattle.line_end.specs.EndView.{IsPooled, IsEnd}
 use Rattle.line_end.proofs.Frames.{with_frames-again, with_frames-fit}
 use Rattle.line_end.proofs.Steps.{Keeps, sends_on_t1}
 use Rattle.line_end.proofs.Timing.{timing_after-keep, runs_after, runs_after_expiry}
 
-change-is : (l : Link) (step : Step) (out : Out) → out ≡ gathered no_out l step → out.timer ≡ timing l step
-change-is l step out is = ap (λ (o : Out). o.timer) is ∙ timing_after-keep (timing l step)
+-- the pool after a call of the link that gives buffers back or takes one
+pub still_pooled : (before after : Pool) (old new : Holder) → IsPooled before old → new.link.k ≡ old.link.k →
+    Balances before old.held after new.held → length new.held ≡ length new.link.queue → IsPooled after new
+still_pooled before after old new is k change tight = record {
+  size = change.size ∙ is.size;
+  places = change.places ∙ is.places ∙ ap (λ n. n + 1) (sym k);
+  exact = λ w. let weights = change.weights w in let exact = is.exact w in omega (arith, weights, exact);
+  tight = tight;
+}
+
+-- there is a buffer for one more packet
+pub has_room : (pool : Pool) (link : Holder) → IsPooled pool link → length link.link.queue ≤ link.link.k →
+    in_use pool < length pool.places
+has_room pool link is few =
+    let all = is.exact (λ _. 1) in
+    let ones = weight_ones link.held in
+    omega (arith, all, ones, is.tight, is.places, few)
+
+-- what the link holds is in use
+pub holds : (pool : Pool) (link : Holder) → IsPooled pool link → Holds pool link.held
+holds pool link is w = let exact = is.exact w in omega (arith, exact)
+
+change-is : (l : Link) (step : Step) (before out : Out) → before.timer ≡ Change.Keep → out ≡ gathered before l step →
+    out.timer ≡ timing l step
+change-is l step before out told is = ap (λ (o : Out). o.timer) is ∙
+    ap (λ (change : Change). timing_after change (timing l step)) told ∙ timing_after-keep (timing l step)
 
 -- the end after a step, by what the link's call gave
-pub did-is : (e : End) (step : Step) (out : Out) (timers : Places) (frames : List Octets) →
-    out ≡ gathered no_out e.link step →
-    timers ≡ timed out.timer e.timers → frames ≡ with_frames e.frames out.frames →
-    (record { link = step.link; timers = timers; frames = frames }) ≡ did e step
-did-is e step out timers frames is by_timer by_frames =
+pub did-is : (e : End) (step : Step) (before out : Out) (timers : Places) → before.timer ≡ Change.Keep →
+    before.frames ≡ e.frames → out ≡ gathered before e.link step → timers ≡ timed out.timer e.timers →
+    (record { link = step.link; timers = timers; frames = out.frames }) ≡ did e step
+did-is e step before out timers told frames is by_timer =
     let places : timers ≡ timed (timing e.link step) e.timers =
-    by_timer ∙ ap (λ (change : Change). timed change e.timers) (change-is e.link step out is) in
-    let all : frames ≡ with_frames e.frames (map (spelling e.link.role) step.frames) =
-    by_frames ∙ ap (λ (o : Out). with_frames e.frames o.frames) is ∙
-    with_frames-again e.frames (map (spelling e.link.role) step.frames) in
+    by_timer ∙ ap (λ (change : Change). timed change e.timers) (change-is e.link step before out told is) in
+    let all : out.frames ≡ with_frames e.frames (map (spelling e.link.role) step.frames) =
+    ap (λ (o : Out). o.frames) is ∙
+    ap (λ (fs : List Octets). with_frames fs (map (spelling e.link.role) step.frames)) frames in
     λ i. record { link = step.link; timers = places i; frames = all i }
 
 -- whether T1 runs after it
-pub t1-is : (l : Link) (step : Step) (out : Out) (before after : Bool) → out ≡ gathered no_out l step →
-    after ≡ runs_then out.timer before
-    → before ≡ runs l → after ≡ runs step.link
-t1-is l step out before after is then ran =
-    then ∙ ap (λ (change : Change). runs_then change before) (change-is l step out is) ∙
+pub t1-is : (l : Link) (step : Step) (prior out : Out) (before after : Bool) → prior.timer ≡ Change.Keep →
+    out ≡ gathered prior l step → after ≡ runs_then out.timer before → before ≡ runs l → after ≡ runs step.link
+t1-is l step prior out before after told is then ran =
+    then ∙ ap (λ (change : Change). runs_then change before) (change-is l step prior out told is) ∙
     ap (runs_then (timing l step)) ran ∙
     runs_after l step
 
 -- and after an expiry of it
-pub t1_expired-is : (l : Link) (out : Out) (before after : Bool) → out ≡ gathered no_out l (on_t1 l) →
-    after ≡ runs_then out.timer before
-    → before ≡ false → runs l ≡ true → after ≡ runs (on_t1 l).link
-t1_expired-is l out before after is then fired ran =
-    then ∙ ap (λ (change : Change). runs_then change before) (change-is l (on_t1 l) out is) ∙
+pub t1_expired-is : (l : Link) (prior out : Out) (before after : Bool) → prior.timer ≡ Change.Keep →
+    out ≡ gathered prior l (on_t1 l) → after ≡ runs_then out.timer before → before ≡ false → runs l ≡ true →
+    after ≡ runs (on_t1 l).link
+t1_expired-is l prior out before after told is then fired ran =
+    then ∙ ap (λ (change : Change). runs_then change before) (change-is l (on_t1 l) prior out told is) ∙
     ap (runs_then (timing l (on_t1 l))) fired ∙
     runs_after_expiry l ran
 
 -- what always holds of an end holds after it
-pub still_end : (a : Inside) (link : Link) (timers : Places) (frames : ArrayVec Octets) → IsEnd a → Keeps a.link link →
-    is_some (left_of timers T1) ≡ runs link → IsEnd (record a { link = link; timers = timers; frames = frames })
-still_end a link timers frames is keeps t1 = record {
+pub still_end : (a : Inside) (link : Holder) (pool : Pool) (timers : Places) (out : Out) → IsEnd a →
+    Keeps a.link.link link.link → Balances a.pool a.link.held pool link.held →
+    length link.held ≡ length link.link.queue → is_some (left_of timers T1) ≡ runs link.link →
+    out.timer ≡ Change.Keep → IsEnd (record a { link = link; pool = pool; timers = timers; out = out })
+still_end a link pool timers out is keeps change tight t1 told = record {
   role = keeps.role ∙ is.role;
-  k = keeps.k ∙ is.k;
-  n2 = keeps.n2 ∙ is.n2;
-  standing = is.standing;
-  params = is.params;
+  k = omega (arith, keeps.k, is.k);
   queue = omega (arith, keeps.queue, is.queue, keeps.k);
+  pool = still_pooled a.pool pool a.link link is.pool keeps.k change tight;
   t1 = t1;
+  told = told;
 }
 
 -- a packet is accepted from a frame of two octets or more

@@ -329,9 +329,10 @@ length-numbered : (ns nr : ℕ) (packets : List Octets) → length (numbered ns 
 length-numbered ns nr [] = refl
 length-numbered ns nr (packet ∷ packets) = omega (arith, length-numbered (ns + 1) nr packets)
 
--- no more frames than packets, or one
+-- the packets stay, and no more frames than packets are sent, or one
 pub record Settles (l : Link) (step : Step) : Type 0 where
   pub keeps : Keeps l step.link
+  pub packets : step.link.queue ≡ l.queue
   pub few : (n : ℕ) → length l.queue ≤ n → 1 ≤ n → length step.frames ≤ n
 
 settles_owed : (due : Bool) (frame : FrameValue) (n : ℕ) → 1 ≤ n → length (if due then frame ∷ [] else []) ≤ n
@@ -341,15 +342,17 @@ settles_owed false frame n one = omega arith
 settles_all : (l : Link) (packets : List Octets) → length packets ≤ length l.queue → Settles l (send_all l packets)
 settles_all l [] within = record {
   keeps = record { role = refl; k = refl; n2 = refl; queue = omega arith };
+  packets = refl;
   few = λ n most one. settles_owed l.owed _ n one;
 }
 settles_all l (packet ∷ packets) within = record {
   keeps = record { role = refl; k = refl; n2 = refl; queue = omega arith };
+  packets = refl;
   few = λ n most one. omega (arith, length-numbered (l.oldest + l.next) l.expected (packet ∷ packets));
 }
 
 settles_still : (l : Link) → Settles l (still l)
-settles_still l = record { keeps = same l; few = λ n most one. omega arith }
+settles_still l = record { keeps = same l; packets = refl; few = λ n most one. omega arith }
 
 settles_in : (phase : Phase) (l : Link) → Settles l (settle_in phase l)
 settles_in Phase.Down l = settles_still l

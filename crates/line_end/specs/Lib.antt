@@ -1,2 +1,3 @@
 pub mod End
 pub mod EndView
+pub mod Params

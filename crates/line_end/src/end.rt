@@ -21,8 +21,8 @@ ghost use Rattle.lapb.specs.Machine as machine;
 ghost use Rattle.lapb.specs.Octets.{on_octets};
 ghost use Rattle.lapb.specs.Offers.{refusal};
 ghost use Rattle.lapb.specs.Unsent.{HasSentAll};
-ghost use Rattle.lapb.specs.Out.{with_frames};
 ghost use Rattle.lapb.specs.Params.{AreParams};
+ghost use Rattle.line_end.specs.Params.{MadeNot};
 ghost use Rattle.line_end.specs.End.{
   timed,
   runs_then,
@@ -40,10 +40,12 @@ ghost use Rattle.line_end.specs.End.{
   SendsUpTo,
 };
 
-use arrayvec::ArrayVec;
-use frame_codec::FrameBuf;
-use lapb::{BadParams, Link, LinkOut, LinkParams, MOST_FRAMES, Note, OfferFault, Phase, Timing};
+use crate::fault::MakeFault;
+use flow_window::pool::Pool;
+use frame_codec::{FrameBuf, MAX_INFORMATION};
+use lapb::{Link, LinkOut, LinkParams, MOST_FRAMES, Note, OfferFault, Phase, Timing};
 use link_timers::{Role, TimerId, Timers};
+use std::alloc::Global;
 use std::marker::Model;
 
 /// How long T1 runs, in ticks of a twentieth of a second (X.25 2.4.8.1).
@@ -58,7 +60,8 @@ pub struct Received<'a> {
     pub packet: Option<&'a [u8]>,
 }
 
-/// The end of a line: the link (X.25 2.4), the timers, and the frames that go out.
+/// The end of a line: the link (X.25 2.4), the pool in whose buffers its packets lie, the timers, and the frames that
+/// go out.
 ///
 /// A node calls it in this order in each of its events: `drop_frames`, what happens at this line (a frame, an expiry,
 /// a relink), an offer of each packet that may go, `settle`; then it takes the frames by `out`. Up to [`MOST_FRAMES`]
@@ -67,10 +70,10 @@ pub struct Received<'a> {
 #[derive(Drop)]
 pub struct LineEnd {
     role: Role,
-    params: LinkParams,
     link: Link,
+    pool: Pool,
     timers: Timers,
-    frames: ArrayVec<FrameBuf, MOST_FRAMES>,
+    out: LinkOut,
 }
 
 impl Model for LineEnd {
@@ -87,23 +90,21 @@ impl Model for LineEnd {
 
 impl LineEnd {
     /// The end of this role of a line. Where the line stands the link is up; else it is started: a DTE sends SABM, a
-    /// DCE asks for it by DM (X.25 2.4.4.1).
+    /// DCE asks for it by DM (X.25 2.4.4.1). It takes all the memory that it ever uses.
     ///
-    /// `BadParams` comes where `k` is not from 1 to 7 or `n2` not from 1 to 20.
-    pub fn new(role: Role, params: LinkParams) -> Result<LineEnd, BadParams>
+    /// `BadParams` comes where `k` is not from 1 to 7 or `n2` not from 1 to 20, and then `OutOfMemory` for want of
+    /// memory.
+    pub fn new(alloc: Global, role: Role, params: LinkParams) -> Result<LineEnd, MakeFault>
         ensures { MatchResult result
             (λ end. AreParams params.k params.n2 × (end ≡ made role params.k params.n2 params.standing))
-            (λ _. AreParams params.k params.n2 → ⊥) }
+            (λ fault. MadeNot params.k params.n2 fault) }
     {
         let mut end = LineEnd {
             role,
-            params: LinkParams {
-                standing: false,
-                ..params
-            },
             link: Link::new(role, params)?,
+            pool: Pool::new(alloc, usize::from(params.k) + 1, MAX_INFORMATION)?,
             timers: Timers::new(),
-            frames: ArrayVec::new(),
+            out: LinkOut::new(),
         };
         if !params.standing {
             end.relink();
@@ -115,7 +116,7 @@ impl LineEnd {
     pub fn drop_frames(&mut self)
         ensures { self.new ≡ without_frames self.old }
     {
-        self.frames.clear();
+        self.out.clear_frames();
     }
 
     /// Takes the octets of a received frame (X.25 2.4.4 to 2.4.7).
@@ -125,12 +126,11 @@ impl LineEnd {
         ensures note { result.note ≡ (on_octets self.old.link octets.now).note }
         ensures packet { option_copied result.packet ≡ (on_octets self.old.link octets.now).accepted }
     {
-        let mut out = LinkOut::new();
-        self.link.on_frame(octets, &mut out);
-        carry_out(&out, &mut self.timers, &mut self.frames);
+        self.link.on_frame(octets, &mut self.out, &mut self.pool);
+        set_timer(&mut self.timers, self.out.take_timer());
         Received {
-            note: out.note(),
-            packet: if out.accepted() {
+            note: self.out.note(),
+            packet: if self.out.accepted() {
                 octets.get(2..)
             } else {
                 None
@@ -154,10 +154,9 @@ impl LineEnd {
         if id != TimerId::T1 {
             return Some(Note::Nothing);
         }
-        let mut out = LinkOut::new();
-        self.link.on_t1(&mut out);
-        carry_out(&out, &mut self.timers, &mut self.frames);
-        Some(out.note())
+        self.link.on_t1(&mut self.out, &mut self.pool);
+        set_timer(&mut self.timers, self.out.take_timer());
+        Some(self.out.note())
     }
 
     /// Gives the link up and sets it up again (X.25 2.4.4.1, 2.4.7). A DTE that is setting it up goes on.
@@ -166,10 +165,9 @@ impl LineEnd {
         ensures frames { SendsUpTo 1 self.old (machine.relink self.old.link) }
         ensures note { result ≡ (machine.relink self.old.link).note }
     {
-        let mut out = LinkOut::new();
-        self.link.relink(&mut out);
-        carry_out(&out, &mut self.timers, &mut self.frames);
-        out.note()
+        self.link.relink(&mut self.out, &mut self.pool);
+        set_timer(&mut self.timers, self.out.take_timer());
+        self.out.note()
     }
 
     /// Begins anew after a restart of the node, as on a line that does not stand. What went before is forgotten, also
@@ -177,9 +175,10 @@ impl LineEnd {
     pub fn restart(&mut self)
         ensures { self.new ≡ restarted self.old }
     {
-        if let Ok(end) = LineEnd::new(self.role, self.params) {
-            *self = end;
-        }
+        self.link.restart(&mut self.pool);
+        self.timers = Timers::new();
+        self.out.clear_frames();
+        self.relink();
     }
 
     /// Offers a packet that fits into an I frame to the link. It goes out in an I frame by a later `settle`.
@@ -192,7 +191,7 @@ impl LineEnd {
         ensures taken { is_ok result ≡ machine.can_offer self.old.link }
         ensures end { self.new ≡ offered self.old packet.now }
     {
-        self.link.offer(packet)
+        self.link.offer(packet, &mut self.pool)
     }
 
     /// Ends an event of the node: the I frames that may go go out, in order; where none goes, RR if an acknowledgement
@@ -204,9 +203,8 @@ impl LineEnd {
         ensures all_sent { HasSentAll self.new.link }
         ensures frames { SendsUpTo 7 self.old (machine.settle self.old.link) }
     {
-        let mut out = LinkOut::new();
-        self.link.settle(&mut out);
-        carry_out(&out, &mut self.timers, &mut self.frames);
+        self.link.settle(&mut self.out, &mut self.pool);
+        set_timer(&mut self.timers, self.out.take_timer());
     }
 
     /// Takes the next frame that goes out, if there is one. Where there is none `frame` stays.
@@ -216,10 +214,12 @@ impl LineEnd {
         ensures same { OnFalse result (frame.new ≡ frame.old) }
         ensures end { self.new ≡ without_first self.old }
     {
-        if self.frames.is_empty() {
+        let Some(first) = self.out.frames().first() else {
             return false;
-        }
-        *frame = self.frames.remove(0);
+        };
+        frame.clear();
+        frame.extend(first.as_slice());
+        self.out.drop_first();
         true
     }
 
@@ -249,7 +249,7 @@ impl LineEnd {
         ensures count { result ≡ length self.now.frames }
         ensures most { result ≤ MOST_FRAMES }
     {
-        self.frames.len()
+        self.out.frames().len()
     }
 
     /// Whether `offer` takes a packet: the link is up, and fewer than k packets are unacknowledged.
@@ -282,36 +282,15 @@ impl LineEnd {
     }
 }
 
-// Does what a call of the link asks for: T1 and the frames that go out.
-fn carry_out(out: &LinkOut, timers: &mut Timers, frames: &mut ArrayVec<FrameBuf, MOST_FRAMES>)
-    ensures timers { timers.new ≡ timed out.now.timer timers.old }
-    ensures t1 { is_some (left_of timers.new TimerId.T1) ≡ runs_then out.now.timer
+// Does with T1 what a call of the link asks for.
+fn set_timer(timers: &mut Timers, change: Timing)
+    ensures timers { timers.new ≡ timed change timers.old }
+    ensures t1 { is_some (left_of timers.new TimerId.T1) ≡ runs_then change
         (is_some (left_of timers.old TimerId.T1)) }
-    ensures frames { frames.new.items ≡ with_frames frames.old.items out.now.frames }
 {
-    match out.timer() {
+    match change {
         Timing::Keep => {}
         Timing::Start => timers.start(TimerId::T1, T1_TICKS),
         Timing::Stop => timers.stop(TimerId::T1),
     }
-    append(out.frames(), frames);
-}
-
-// Appends frames as long as there is room.
-fn append(more: &[FrameBuf], frames: &mut ArrayVec<FrameBuf, MOST_FRAMES>)
-    ensures { frames.new.items ≡ with_frames frames.old.items more.now }
-{
-    for frame in more {
-        if !frames.is_full() {
-            frames.push(copy_of(frame));
-        }
-    }
-}
-
-fn copy_of(frame: &FrameBuf) -> FrameBuf
-    ensures { result ≡ frame.now }
-{
-    let mut copy = FrameBuf::new();
-    copy.extend(frame.as_slice());
-    copy
 }

@@ -2,6 +2,8 @@
 #![tactic(auto)]
 
 mod end;
+mod fault;
 
 pub use end::{LineEnd, Received};
+pub use fault::MakeFault;
 pub use lapb::MOST_FRAMES;

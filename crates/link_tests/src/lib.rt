@@ -5,3 +5,4 @@
 mod line_ends;
 #[cfg(test)]
 mod links;
+mod station;

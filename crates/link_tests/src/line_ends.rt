@@ -1,7 +1,8 @@
 use frame_codec::FrameBuf;
 use lapb::{LinkParams, Note, OfferFault};
-use line_end::LineEnd;
+use line_end::{LineEnd, MakeFault};
 use link_timers::{Role, TimerId};
+use std::alloc::Global;
 use std::process::Abort;
 
 const PARAMS: LinkParams = LinkParams {
@@ -10,8 +11,8 @@ const PARAMS: LinkParams = LinkParams {
     standing: false,
 };
 
-fn end(rt: &impl Abort, role: Role, params: LinkParams) -> LineEnd {
-    match LineEnd::new(role, params) {
+fn end(rt: &impl Abort, alloc: Global, role: Role, params: LinkParams) -> LineEnd {
+    match LineEnd::new(alloc, role, params) {
         Ok(end) => end,
         Err(_) => panic!(rt; "the parameters are in range"),
     }
@@ -37,9 +38,9 @@ fn takes(end: &mut LineEnd, octets: &[u8], note: Note, expected: &[&[u8]]) -> bo
 }
 
 // Both ends after the set-up, with the poll answered.
-fn both_up(rt: &impl Abort) -> (LineEnd, LineEnd) {
-    let mut dte = end(rt, Role::Dte, PARAMS);
-    let mut dce = end(rt, Role::Dce, PARAMS);
+fn both_up(rt: &impl Abort, alloc: Global) -> (LineEnd, LineEnd) {
+    let mut dte = end(rt, alloc, Role::Dte, PARAMS);
+    let mut dce = end(rt, alloc, Role::Dce, PARAMS);
     assert!(rt; sends(&mut dte, &[&[0x01, 0x3F]]));
     assert!(rt; sends(&mut dce, &[&[0x01, 0x0F]]));
     assert!(rt; takes(&mut dte, &[0x01, 0x0F], Note::Nothing, &[]));
@@ -52,7 +53,7 @@ fn both_up(rt: &impl Abort) -> (LineEnd, LineEnd) {
 
 #[test]
 fn a_packet_crosses(rt: HostRuntime) {
-    let (mut dte, mut dce) = both_up(&rt);
+    let (mut dte, mut dce) = both_up(&rt, rt.alloc());
     assert!(rt; dte.is_up() && dte.at_rest() && dce.at_rest());
     dte.drop_frames();
     assert_eq!(rt; dte.offer(b"HI"), Ok(()));
@@ -73,7 +74,7 @@ fn a_packet_crosses(rt: HostRuntime) {
 
 #[test]
 fn timer_1_runs_for_three_seconds(rt: HostRuntime) {
-    let mut dte = end(&rt, Role::Dte, PARAMS);
+    let mut dte = end(&rt, rt.alloc(), Role::Dte, PARAMS);
     assert!(rt; dte.role() == Role::Dte && dte.waiting() == 1);
     assert_eq!(rt; dte.due(), None);
     dte.elapse(59);
@@ -87,6 +88,7 @@ fn timer_1_runs_for_three_seconds(rt: HostRuntime) {
     assert_eq!(rt; dte.on_timer(TimerId::T20), None);
     let mut standing = end(
         &rt,
+        rt.alloc(),
         Role::Dte,
         LinkParams {
             standing: true,
@@ -99,7 +101,7 @@ fn timer_1_runs_for_three_seconds(rt: HostRuntime) {
 
 #[test]
 fn sets_up_anew(rt: HostRuntime) {
-    let (mut dte, mut dce) = both_up(&rt);
+    let (mut dte, mut dce) = both_up(&rt, rt.alloc());
     dte.drop_frames();
     assert_eq!(rt; dte.relink(), Note::Down);
     assert_eq!(rt; dte.offer(b"HI"), Err(OfferFault::Down));
@@ -114,6 +116,13 @@ fn sets_up_anew(rt: HostRuntime) {
 
 #[test]
 fn refuses_parameters(rt: HostRuntime) {
-    assert!(rt; LineEnd::new(Role::Dte, LinkParams { k: 8, ..PARAMS }).is_err());
-    assert!(rt; LineEnd::new(Role::Dce, LinkParams { n2: 0, ..PARAMS }).is_err());
+    for params in [
+        LinkParams { k: 8, ..PARAMS },
+        LinkParams { n2: 0, ..PARAMS },
+    ] {
+        match LineEnd::new(rt.alloc(), Role::Dce, params) {
+            Ok(_) => panic!(rt; "a parameter is out of its range"),
+            Err(fault) => assert_eq!(rt; fault, MakeFault::BadParams),
+        }
+    }
 }

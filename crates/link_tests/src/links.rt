@@ -1,14 +1,16 @@
+use crate::station::Station;
 use lapb::{Link, LinkOut, LinkParams, Note, OfferFault, Phase, Timing};
 use link_timers::Role;
+use std::alloc::Global;
 use std::process::Abort;
 
-fn link(rt: &impl Abort, role: Role) -> Link {
+fn link(rt: &impl Abort, alloc: Global, role: Role) -> Station {
     let params = LinkParams {
         k: 7,
         n2: 3,
         standing: false,
     };
-    match Link::new(role, params) {
+    match Station::new(alloc, role, params) {
         Ok(link) => link,
         Err(_) => panic!(rt; "the parameters are in range"),
     }
@@ -25,28 +27,28 @@ fn are_sent(out: &LinkOut, expected: &[&[u8]]) -> bool {
 
 // Whether a link gives this note and sends these frames, and the end of the event sends no more, when it is set up
 // anew.
-fn relinks(link: &mut Link, note: Note, expected: &[&[u8]]) -> bool {
+fn relinks(link: &mut Station, note: Note, expected: &[&[u8]]) -> bool {
     let mut out = LinkOut::new();
     link.relink(&mut out);
     out.note() == note && out.timer() == Timing::Start && are_sent(&out, expected)
 }
 
 // The same when T1 expires.
-fn expires(link: &mut Link, note: Note, expected: &[&[u8]]) -> bool {
+fn expires(link: &mut Station, note: Note, expected: &[&[u8]]) -> bool {
     let mut out = LinkOut::new();
     link.on_t1(&mut out);
     out.note() == note && out.timer() == Timing::Start && are_sent(&out, expected)
 }
 
 // The same when it takes a frame.
-fn takes(link: &mut Link, octets: &[u8], note: Note, expected: &[&[u8]]) -> bool {
+fn takes(link: &mut Station, octets: &[u8], note: Note, expected: &[&[u8]]) -> bool {
     let mut out = LinkOut::new();
     link.on_frame(octets, &mut out);
     out.note() == note && !out.accepted() && are_sent(&out, expected)
 }
 
 // Whether it accepts the packet of a frame, and these frames are sent by then and by the end of the event.
-fn accepts(link: &mut Link, octets: &[u8], expected: &[&[u8]]) -> bool {
+fn accepts(link: &mut Station, octets: &[u8], expected: &[&[u8]]) -> bool {
     let mut out = LinkOut::new();
     link.on_frame(octets, &mut out);
     let accepted = out.accepted();
@@ -55,21 +57,21 @@ fn accepts(link: &mut Link, octets: &[u8], expected: &[&[u8]]) -> bool {
 }
 
 // Whether these frames are sent at the end of an event.
-fn settles(link: &mut Link, expected: &[&[u8]]) -> bool {
+fn settles(link: &mut Station, expected: &[&[u8]]) -> bool {
     let mut out = LinkOut::new();
     link.settle(&mut out);
     are_sent(&out, expected)
 }
 
 // Offers a packet of one octet.
-fn offers(link: &mut Link, octet: u8) -> Result<(), OfferFault> {
+fn offers(link: &mut Station, octet: u8) -> Result<(), OfferFault> {
     link.offer(&[octet])
 }
 
 // Both ends after the set-up, with the poll answered.
-fn both_up(rt: &impl Abort) -> (Link, Link) {
-    let mut dte = link(rt, Role::Dte);
-    let mut dce = link(rt, Role::Dce);
+fn both_up(rt: &impl Abort, alloc: Global) -> (Station, Station) {
+    let mut dte = link(rt, alloc, Role::Dte);
+    let mut dce = link(rt, alloc, Role::Dce);
     assert!(rt; relinks(&mut dte, Note::Nothing, &[&[0x01, 0x3F]]));
     assert!(rt; takes(&mut dce, &[0x01, 0x3F], Note::Up, &[&[0x01, 0x73]]));
     assert!(rt; takes(&mut dte, &[0x01, 0x73], Note::Up, &[&[0x01, 0x11]]));
@@ -80,8 +82,8 @@ fn both_up(rt: &impl Abort) -> (Link, Link) {
 
 #[test]
 fn a_stale_acknowledgement_is_ignored(rt: HostRuntime) {
-    let mut dte = link(&rt, Role::Dte);
-    let mut dce = link(&rt, Role::Dce);
+    let mut dte = link(&rt, rt.alloc(), Role::Dte);
+    let mut dce = link(&rt, rt.alloc(), Role::Dce);
     let mut out = LinkOut::new();
     dte.start(&mut out);
     assert!(rt; are_sent(&out, &[&[0x01, 0x3F]]));
@@ -100,7 +102,7 @@ fn a_stale_acknowledgement_is_ignored(rt: HostRuntime) {
 
 // Takes all frames of one end at the other, and the end of the event there. The packet that is expected next there is
 // one octet, `next`; gives the one after those that came, or 99 where another came.
-fn take_all(to: &mut Link, from: &mut LinkOut, out: &mut LinkOut, next: u8) -> u8 {
+fn take_all(to: &mut Station, from: &mut LinkOut, out: &mut LinkOut, next: u8) -> u8 {
     let mut next = next;
     for frame in from.frames() {
         to.on_frame(frame.as_slice(), out);
@@ -117,7 +119,7 @@ fn take_all(to: &mut Link, from: &mut LinkOut, out: &mut LinkOut, next: u8) -> u
 }
 
 // Offers packets of one octet, from `next` to 7, as room allows: the next one.
-fn offer_all(link: &mut Link, next: u8) -> u8 {
+fn offer_all(link: &mut Station, next: u8) -> u8 {
     for number in next..8 {
         if offers(link, number).is_err() {
             return number;
@@ -127,7 +129,7 @@ fn offer_all(link: &mut Link, next: u8) -> u8 {
 }
 
 // Offers eight packets at each end as room allows: how many arrived in order, and no other, at each.
-fn cross(dte: &mut Link, dce: &mut Link) -> (u8, u8) {
+fn cross(dte: &mut Station, dce: &mut Station) -> (u8, u8) {
     let mut up = LinkOut::new();
     let mut down = LinkOut::new();
     let (mut at_dte, mut at_dce, mut from_dte, mut from_dce) = (0, 0, 0u8, 0u8);
@@ -143,8 +145,8 @@ fn cross(dte: &mut Link, dce: &mut Link) -> (u8, u8) {
 
 #[test]
 fn eight_packets_cross_after_a_repeated_set_up(rt: HostRuntime) {
-    let mut dte = link(&rt, Role::Dte);
-    let mut dce = link(&rt, Role::Dce);
+    let mut dte = link(&rt, rt.alloc(), Role::Dte);
+    let mut dce = link(&rt, rt.alloc(), Role::Dce);
     assert!(rt; relinks(&mut dte, Note::Nothing, &[&[0x01, 0x3F]]));
     assert!(rt; takes(&mut dce, &[0x01, 0x3F], Note::Up, &[&[0x01, 0x73]]));
     assert!(rt; takes(&mut dte, &[0x01, 0x73], Note::Up, &[&[0x01, 0x11]]));
@@ -160,7 +162,7 @@ fn eight_packets_cross_after_a_repeated_set_up(rt: HostRuntime) {
 
 #[test]
 fn the_window_is_seven(rt: HostRuntime) {
-    let (mut dte, mut dce) = both_up(&rt);
+    let (mut dte, mut dce) = both_up(&rt, rt.alloc());
     for number in 0..7u8 {
         assert_eq!(rt; offers(&mut dte, number), Ok(()));
     }
@@ -193,7 +195,7 @@ fn the_window_is_seven(rt: HostRuntime) {
 
 #[test]
 fn a_lost_frame_is_sent_again(rt: HostRuntime) {
-    let (mut dte, mut dce) = both_up(&rt);
+    let (mut dte, mut dce) = both_up(&rt, rt.alloc());
     for number in 0..3u8 {
         assert_eq!(rt; offers(&mut dte, number), Ok(()));
     }
@@ -210,7 +212,7 @@ fn a_lost_frame_is_sent_again(rt: HostRuntime) {
 
 #[test]
 fn a_silent_partner_ends_the_session(rt: HostRuntime) {
-    let (mut dte, _) = both_up(&rt);
+    let (mut dte, _) = both_up(&rt, rt.alloc());
     assert_eq!(rt; offers(&mut dte, 0), Ok(()));
     assert!(rt; settles(&mut dte, &[&[0x01, 0x00, 0]]));
     for _ in 0..3 {
@@ -222,7 +224,7 @@ fn a_silent_partner_ends_the_session(rt: HostRuntime) {
 
 #[test]
 fn bad_frames_are_reported(rt: HostRuntime) {
-    let (_, mut dce) = both_up(&rt);
+    let (_, mut dce) = both_up(&rt, rt.alloc());
     assert!(rt; takes(&mut dce, &[0x01], Note::Nothing, &[]));
     assert!(rt; takes(&mut dce, &[0x05, 0x00], Note::Nothing, &[]));
     assert!(rt;
@@ -234,7 +236,7 @@ fn bad_frames_are_reported(rt: HostRuntime) {
         )
     );
     assert_eq!(rt; dce.phase(), Phase::Rejecting);
-    let (_, mut dce) = both_up(&rt);
+    let (_, mut dce) = both_up(&rt, rt.alloc());
     assert!(rt;
         takes(
             &mut dce,

@@ -38,3 +38,9 @@ memory_service = record { faithful = Unit {0}; may_lose = λ d f. 64 ≤ length 
 -- a frame is put: it comes behind the others, or is lost where the line may lose it
 abbrev pub IsPut : LineService → Direction → List ℕ → Flights → Flights → Type 0
 IsPut line d frame old new = (new ≡ with_flying d (flying d old ++ frame ∷ []) old) ⊎ line.may_lose d old × (new ≡ old)
+
+-- frames are put on the line in order, each behind the others or lost where the line may lose it
+abbrev pub ArePut : LineService → Direction → List (List ℕ) → Flights → Flights → Type 0
+ArePut line d [] old new = new ≡ old
+ArePut line d (octets ∷ frames) old new =
+    (mid : Flights) × IsPut line d octets old mid × ArePut line d frames mid new

@@ -1,81 +1,136 @@
 //! The calls of a link that take frames, packets and expiries.
-ghost use Rattle.std.specs.Prelude.{◌≡◌, ◌≤◌, ◌<◌, length, drop, Some, IsOk, MatchOption, Err};
+ghost use Rattle.std.specs.Prelude.{◌≡◌, false, ◌≤◌, ◌<◌, length, drop, Some, IsOk, MatchOption, Err};
+ghost use Rattle.flow_window.specs.Pool.{Holds, Balances, in_use};
 ghost use Rattle.frame_codec.specs.Spelling.{most_information};
 ghost use Rattle.lapb.specs.Machine as machine;
 ghost use Rattle.lapb.specs.Octets.{on_octets};
 ghost use Rattle.lapb.specs.Named.{Session, Agrees, Keeps, after_offer};
 ghost use Rattle.lapb.specs.NamedOctets.{NamesAfterOctets};
 ghost use Rattle.lapb.specs.Offers.{refusal};
-ghost use Rattle.lapb.specs.Out.{effect_of, gathered};
+ghost use Rattle.lapb.specs.Out.{effect_of, gathered, with_effect};
 
 use crate::effect::{Effect, command};
 use crate::link::phases::sends_disconnected;
-use crate::link::{Link, OfferFault};
+use crate::link::{Link, NO_REPORT, OfferFault};
 use crate::note::Note;
 use crate::out::LinkOut;
 use crate::phase::Phase;
+use flow_window::pool::Pool;
 use frame_codec::FrameKind;
+use link_timers::Role;
 
 impl Link {
     /// Sets the link up: a DTE sends SABM, a DCE asks for it by DM (X.25 2.4.4.1). Where a DTE is setting the link up
     /// already nothing happens.
-    pub fn start(&mut self, out: &mut LinkOut)
-        ensures link { self.new ≡ (machine.relink self.old).link }
-        ensures out { out.new ≡ gathered out.old self.old (machine.relink self.old) }
+    pub fn start(&mut self, out: &mut LinkOut, pool: &mut Pool)
+        requires { Holds pool.old self.old.held }
+        ensures link { self.new.link ≡ (machine.relink self.old.link).link }
+        ensures pool { Balances pool.old self.old.held pool.new self.new.held }
+
+        // No buffer stays with a packet that was given up.
+        ensures tight { length self.new.held ≡ length self.new.link.queue }
+        ensures out { out.new ≡ gathered out.old self.old.link (machine.relink self.old.link) }
 
         // For every session that agrees with the link.
-        ensures named { Keeps self.old (machine.relink self.old) }
+        ensures named { Keeps self.old.link (machine.relink self.old.link) }
     {
-        self.relink(out);
+        self.relink(out, pool);
     }
 
     /// Gives the link up and sets it up again.
-    pub fn relink(&mut self, out: &mut LinkOut)
-        ensures link { self.new ≡ (machine.relink self.old).link }
-        ensures out { out.new ≡ gathered out.old self.old (machine.relink self.old) }
+    pub fn relink(&mut self, out: &mut LinkOut, pool: &mut Pool)
+        requires { Holds pool.old self.old.held }
+        ensures link { self.new.link ≡ (machine.relink self.old.link).link }
+        ensures pool { Balances pool.old self.old.held pool.new self.new.held }
+
+        // No buffer stays with a packet that was given up.
+        ensures tight { length self.new.held ≡ length self.new.link.queue }
+        ensures out { out.new ≡ gathered out.old self.old.link (machine.relink self.old.link) }
 
         // For every session that agrees with the link.
-        ensures named { Keeps self.old (machine.relink self.old) }
+        ensures named { Keeps self.old.link (machine.relink self.old.link) }
     {
         let (role, ran) = (self.role, self.runs());
         let effect = self.relink_rule();
-        out.add(role, ran, self.runs(), effect);
+        self.finish(role, ran, effect, out, pool);
+    }
+
+    /// Begins anew after a restart of the node, as a link that was never set up. What went before is forgotten.
+    pub fn restart(&mut self, pool: &mut Pool)
+        requires { Holds pool.old self.old.held }
+        ensures link { self.new.link ≡ machine.new self.old.link.role self.old.link.k self.old.link.n2 false }
+        ensures pool { Balances pool.old self.old.held pool.new self.new.held }
+        ensures tight { length self.new.held ≡ length self.new.link.queue }
+    {
+        self.clear(Phase::Down);
+        self.bit = false;
+        self.report = NO_REPORT;
+        self.queue.give_back(pool);
     }
 
     /// Takes the octets of a received frame (X.25 2.4.4 to 2.4.7). The packet of an accepted I frame is what follows
     /// its control octet.
-    pub fn on_frame(&mut self, bytes: &[u8], out: &mut LinkOut)
-        ensures link { self.new ≡ (on_octets self.old bytes.now).link }
-        ensures out { out.new ≡ gathered out.old self.old (on_octets self.old bytes.now) }
+    pub fn on_frame(&mut self, bytes: &[u8], out: &mut LinkOut, pool: &mut Pool)
+        requires { Holds pool.old self.old.held }
+        ensures link { self.new.link ≡ (on_octets self.old.link bytes.now).link }
+        ensures pool { Balances pool.old self.old.held pool.new self.new.held }
+
+        // No buffer stays with a packet that was given up.
+        ensures tight { length self.new.held ≡ length self.new.link.queue }
+        ensures out { out.new ≡ gathered out.old self.old.link (on_octets self.old.link bytes.now) }
 
         // For every session that agrees with the link.
-        ensures named { NamesAfterOctets self.old bytes.now }
+        ensures named { NamesAfterOctets self.old.link bytes.now }
 
         // The packet that is accepted stands behind the control octet.
-        ensures packet { (packet : machine.Octets) → (on_octets self.old bytes.now).accepted ≡ Some packet
+        ensures packet { (packet : machine.Octets) → (on_octets self.old.link bytes.now).accepted ≡ Some packet
             → packet ≡ drop 2 bytes.now }
     {
         let (role, ran) = (self.role, self.runs());
         let effect = self.take_octets(bytes);
-        out.add(role, ran, self.runs(), effect);
+        self.finish(role, ran, effect, out, pool);
     }
 
     /// Takes an expiry of T1 (X.25 2.4.8.1). Where T1 does not run nothing happens.
-    pub fn on_t1(&mut self, out: &mut LinkOut)
-        ensures link { self.new ≡ (machine.on_t1 self.old).link }
-        ensures out { out.new ≡ gathered out.old self.old (machine.on_t1 self.old) }
+    pub fn on_t1(&mut self, out: &mut LinkOut, pool: &mut Pool)
+        requires { Holds pool.old self.old.held }
+        ensures link { self.new.link ≡ (machine.on_t1 self.old.link).link }
+        ensures pool { Balances pool.old self.old.held pool.new self.new.held }
+
+        // No buffer stays with a packet that was given up.
+        ensures tight { length self.new.held ≡ length self.new.link.queue }
+        ensures out { out.new ≡ gathered out.old self.old.link (machine.on_t1 self.old.link) }
 
         // For every session that agrees with the link.
-        ensures named { Keeps self.old (machine.on_t1 self.old) }
+        ensures named { Keeps self.old.link (machine.on_t1 self.old.link) }
     {
         let (role, ran) = (self.role, self.runs());
         let effect = self.expire();
+        self.finish(role, ran, effect, out, pool);
+    }
+
+    // Ends a call by what its rule did: the buffers of the packets that it gave up go back.
+    fn finish(
+        &mut self,
+        role: Role,
+        ran: bool,
+        effect: Effect<'_>,
+        out: &mut LinkOut,
+        pool: &mut Pool,
+    )
+        requires { Holds pool.old self.old.held }
+        ensures link { self.new.link ≡ self.old.link }
+        ensures pool { Balances pool.old self.old.held pool.new self.new.held }
+        ensures tight { length self.new.held ≡ length self.new.link.queue }
+        ensures out { out.new ≡ with_effect out.old role ran (machine.runs self.old.link) effect.entry }
+    {
         out.add(role, ran, self.runs(), effect);
+        self.queue.give_back(pool);
     }
 
     fn expire(&mut self) -> Effect<'static>
-        ensures link { self.new ≡ (machine.on_t1 self.old).link }
-        ensures effect { result ≡ effect_of (machine.on_t1 self.old) }
+        ensures link { self.new ≡ record self.old { link = (machine.on_t1 self.old.link).link } }
+        ensures effect { result ≡ effect_of (machine.on_t1 self.old.link) }
     {
         if !self.runs() {
             return Effect::nothing();
@@ -84,8 +139,10 @@ impl Link {
     }
 
     fn expire_rule(&mut self) -> Effect<'static>
-        ensures link { self.new ≡ (machine.expire_in self.old.phase self.old).link }
-        ensures effect { result ≡ effect_of (machine.expire_in self.old.phase self.old) }
+        ensures link { self.new ≡ record self.old {
+          link = (machine.expire_in self.old.link.phase self.old.link).link;
+        } }
+        ensures effect { result ≡ effect_of (machine.expire_in self.old.link.phase self.old.link) }
     {
         match self.phase {
             Phase::Down => Effect {
@@ -114,9 +171,9 @@ impl Link {
 
     // An RR command with P = 1.
     fn poll(&mut self) -> Effect<'static>
-        requires { self.old.polls < self.old.n2 }
-        ensures link { self.new ≡ (machine.poll self.old).link }
-        ensures effect { result ≡ effect_of (machine.poll self.old) }
+        requires { self.old.link.polls < self.old.link.n2 }
+        ensures link { self.new ≡ record self.old { link = (machine.poll self.old.link).link } }
+        ensures effect { result ≡ effect_of (machine.poll self.old.link) }
     {
         self.polling = true;
         self.polls += 1;
@@ -137,15 +194,23 @@ impl Link {
     ///
     /// `Down` comes where the link is not up, `Full` where as many packets are unacknowledged as may be. A packet that
     /// is refused changes nothing.
-    pub fn offer(&mut self, packet: &[u8]) -> Result<(), OfferFault>
-        requires { length packet.now ≤ most_information }
-        ensures answer { MatchOption (refusal self.old) (IsOk result) (λ fault. result ≡ Err fault) }
-        ensures link { self.new ≡ machine.offer self.old packet.now }
+    pub fn offer(&mut self, packet: &[u8], pool: &mut Pool) -> Result<(), OfferFault>
+        requires packet { length packet.now ≤ most_information }
+        requires holds { Holds pool.old self.old.held }
+        requires size { pool.old.size ≡ most_information }
+        requires room { in_use pool.old < length pool.old.places }
+        ensures answer { MatchOption (refusal self.old.link) (IsOk result) (λ fault. result ≡ Err fault) }
+        ensures link { self.new.link ≡ machine.offer self.old.link packet.now }
+        ensures pool { Balances pool.old self.old.held pool.new self.new.held }
+
+        // No buffer stays with a packet that was given up.
+        ensures tight { length self.new.held ≡ length self.new.link.queue }
 
         // For every session that agrees with the link.
-        ensures named { (s : Session) → Agrees self.old s
-            → Agrees (machine.offer self.old packet.now) (after_offer self.old packet.now s) }
+        ensures named { (s : Session) → Agrees self.old.link s
+            → Agrees (machine.offer self.old.link packet.now) (after_offer self.old.link packet.now s) }
     {
+        self.queue.give_back(pool);
         match self.phase {
             Phase::Up => {}
             Phase::Down | Phase::SettingUp | Phase::Rejecting => return Err(OfferFault::Down),
@@ -153,13 +218,16 @@ impl Link {
         if self.queue.len() >= self.window.size() {
             return Err(OfferFault::Full);
         }
-        self.queue.push(packet);
+        let Some(b) = pool.put(packet) else {
+            unreachable!();
+        };
+        self.queue.push(b);
         Ok(())
     }
 
     /// Whether `offer` takes a packet: the link is up, and fewer than k packets are unacknowledged.
     pub fn can_offer(&self) -> bool
-        ensures { result ≡ machine.can_offer self.now }
+        ensures { result ≡ machine.can_offer self.now.link }
     {
         match self.phase {
             Phase::Up => self.queue.len() < self.window.size(),
@@ -169,7 +237,7 @@ impl Link {
 
     /// Whether T1 is to run (X.25 2.4.8.1).
     pub fn runs(&self) -> bool
-        ensures { result ≡ machine.runs self.now }
+        ensures { result ≡ machine.runs self.now.link }
     {
         match self.phase {
             Phase::Down => self.repeats,
@@ -180,7 +248,7 @@ impl Link {
 
     /// Where the link stands.
     pub fn phase(&self) -> Phase
-        ensures { result ≡ self.now.phase }
+        ensures { result ≡ self.now.link.phase }
     {
         self.phase
     }
@@ -188,7 +256,7 @@ impl Link {
     /// Whether the link is up and has nothing to wait for or to tell: every packet is acknowledged, every poll
     /// answered, and every accepted packet told of.
     pub fn at_rest(&self) -> bool
-        ensures { result ≡ machine.at_rest self.now }
+        ensures { result ≡ machine.at_rest self.now.link }
     {
         match self.phase {
             Phase::Up => self.queue.is_empty() && !self.polling && !self.owed,

@@ -27,8 +27,8 @@ impl Link {
     ghost use Rattle.lapb.specs.LinkView.{IsReport};
 
     pub(crate) fn take_octets<'a>(&mut self, bytes: &'a [u8]) -> Effect<'a>
-        ensures link { self.new ≡ (on_octets self.old bytes.now).link }
-        ensures effect { result ≡ effect_of (on_octets self.old bytes.now) }
+        ensures link { self.new ≡ record self.old { link = (on_octets self.old.link bytes.now).link } }
+        ensures effect { result ≡ effect_of (on_octets self.old.link bytes.now) }
     {
         match read_frame(bytes, self.role) {
             Ok(frame) => return self.take_frame(&frame),
@@ -38,8 +38,8 @@ impl Link {
 
     fn take_fault(&mut self, fault: FrameFault, bytes: &[u8]) -> Effect<'static>
         requires { length bytes.now < 2 → fault ≡ FrameFault.TooShort }
-        ensures link { self.new ≡ (on_fault self.old fault bytes.now).link }
-        ensures effect { result ≡ effect_of (on_fault self.old fault bytes.now) }
+        ensures link { self.new ≡ record self.old { link = (on_fault self.old.link fault bytes.now).link } }
+        ensures effect { result ≡ effect_of (on_fault self.old.link fault bytes.now) }
     {
         let [address, control, ..] = bytes else {
             return Effect::nothing();
@@ -67,7 +67,7 @@ impl Link {
 
     // The address octet of the responses that this end receives.
     fn response_address(&self) -> u8
-        ensures { result ≡ address_of (other_of self.now.role) true }
+        ensures { result ≡ address_of (other_of self.now.link.role) true }
     {
         match self.role {
             Role::Dte => 0x01,
@@ -77,8 +77,11 @@ impl Link {
 
     // A frame whose control octet or information field cannot be taken.
     fn take_defect(&mut self, defect: Defect, control: u8, is_response: bool) -> Effect<'static>
-        ensures link { self.new ≡ (machine.on_defect self.old (defect_of defect) control is_response).link }
-        ensures effect { result ≡ effect_of (machine.on_defect self.old (defect_of defect) control is_response) }
+        ensures link { self.new ≡ record self.old {
+          link = (machine.on_defect self.old.link (defect_of defect) control
+              is_response).link;
+        } }
+        ensures effect { result ≡ effect_of (machine.on_defect self.old.link (defect_of defect) control is_response) }
     {
         match self.phase {
             Phase::Up => {
@@ -90,7 +93,7 @@ impl Link {
     }
 
     fn defect_report(&self, defect: Defect, control: u8, is_response: bool) -> Rejection
-        ensures value { report_of result ≡ machine.defect_report self.now (defect_of defect) control is_response }
+        ensures value { report_of result ≡ machine.defect_report self.now.link (defect_of defect) control is_response }
         ensures valid { IsReport result }
     {
         let (w, x, y) = match defect {

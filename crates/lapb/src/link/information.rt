@@ -19,9 +19,9 @@ impl Link {
     fn acknowledge(&mut self, nr: u8) -> Option<u8>
         requires { nr < 8 }
         ensures { MatchOption result
-            ((machine.is_valid self.old nr ≡ false) × (self.new ≡ self.old))
-            (λ newly. (machine.is_valid self.old nr ≡ true) × (newly ≡ machine.ahead self.old.oldest nr)
-            × (self.new ≡ machine.acknowledged self.old nr)) }
+            ((machine.is_valid self.old.link nr ≡ false) × (self.new ≡ self.old))
+            (λ newly. (machine.is_valid self.old.link nr ≡ true) × (newly ≡ machine.ahead self.old.link.oldest nr)
+            × (self.new ≡ record self.old { link = machine.acknowledged self.old.link nr })) }
     {
         match self.window.ack(nr) {
             Ok(newly) => {
@@ -41,8 +41,11 @@ impl Link {
         is_response: bool,
         pf: bool,
     ) -> Effect<'static>
-        ensures link { self.new ≡ (machine.on_supervisory self.old busy back is_response pf).link }
-        ensures effect { result ≡ effect_of (machine.on_supervisory self.old busy back is_response pf) }
+        ensures link { self.new ≡ record self.old {
+          link = (machine.on_supervisory self.old.link busy back is_response
+              pf).link;
+        } }
+        ensures effect { result ≡ effect_of (machine.on_supervisory self.old.link busy back is_response pf) }
     {
         self.busy = busy;
         if back || is_response && pf {
@@ -61,7 +64,7 @@ impl Link {
 
     // RR as a response with F = 1, if it is due.
     fn answer(&self, due: bool) -> Effect<'static>
-        ensures { result ≡ answered due self.now.expected }
+        ensures { result ≡ answered due self.now.link.expected }
     {
         if !due {
             return Effect::nothing();
@@ -81,8 +84,8 @@ impl Link {
 
     // An I frame in sequence is accepted.
     fn accept<'a>(&mut self, pf: bool, packet: &'a [u8]) -> Effect<'a>
-        ensures link { self.new ≡ (machine.accept self.old pf packet.now).link }
-        ensures effect { result ≡ effect_of (machine.accept self.old pf packet.now) }
+        ensures link { self.new ≡ record self.old { link = (machine.accept self.old.link pf packet.now).link } }
+        ensures effect { result ≡ effect_of (machine.accept self.old.link pf packet.now) }
     {
         let expected = self.receive.expected();
         let _ = self.receive.offer(expected);
@@ -96,8 +99,8 @@ impl Link {
 
     // An I frame out of sequence is discarded, and the first such one answered by REJ.
     fn discard(&mut self, pf: bool) -> Effect<'static>
-        ensures link { self.new ≡ (machine.discard self.old pf).link }
-        ensures effect { result ≡ effect_of (machine.discard self.old pf) }
+        ensures link { self.new ≡ record self.old { link = (machine.discard self.old.link pf).link } }
+        ensures effect { result ≡ effect_of (machine.discard self.old.link pf) }
     {
         let rejecting = self.rejecting;
         self.rejecting = true;
@@ -120,8 +123,11 @@ impl Link {
 
     // An I frame whose N(R) was taken.
     fn on_information<'a>(&mut self, ns: u8, pf: bool, packet: &'a [u8]) -> Effect<'a>
-        ensures link { self.new ≡ (machine.on_information self.old ns pf packet.now).link }
-        ensures effect { result ≡ effect_of (machine.on_information self.old ns pf packet.now) }
+        ensures link { self.new ≡ record self.old {
+          link = (machine.on_information self.old.link ns pf
+              packet.now).link;
+        } }
+        ensures effect { result ≡ effect_of (machine.on_information self.old.link ns pf packet.now) }
     {
         if ns == self.receive.expected() {
             return self.accept(pf, packet);
@@ -131,8 +137,10 @@ impl Link {
 
     // N(R) of no number from V(A) to V(M).
     fn reject_number(&mut self, control: u8, is_response: bool, pf: bool) -> Effect<'static>
-        ensures link { self.new ≡ (number_rejected self.old control is_response pf).link }
-        ensures effect { result ≡ effect_of (number_rejected self.old control is_response pf) }
+        ensures link { self.new ≡ record self.old {
+          link = (number_rejected self.old.link control is_response pf).link;
+        } }
+        ensures effect { result ≡ effect_of (number_rejected self.old.link control is_response pf) }
     {
         let reason = Reason {
             w: false,
@@ -154,9 +162,11 @@ impl Link {
     ) -> Effect<'a>
         requires ns { ns < 8 }
         requires nr { nr < 8 }
-        ensures link { self.new ≡ (machine.in_up self.old.role self.old (spec.I ns nr packet.now)
-            is_response pf).link }
-        ensures effect { result ≡ effect_of (machine.in_up self.old.role self.old (spec.I ns nr
+        ensures link { self.new ≡ record self.old {
+          link = (machine.in_up self.old.link.role self.old.link (spec.I ns nr packet.now)
+              is_response pf).link;
+        } }
+        ensures effect { result ≡ effect_of (machine.in_up self.old.link.role self.old.link (spec.I ns nr
             packet.now) is_response pf) }
     {
         let Some(newly) = self.acknowledge(nr) else {
@@ -178,8 +188,11 @@ impl Link {
     ) -> Effect<'static>
         requires nr { nr < 8 }
         requires low { rule.low < 16 }
-        ensures link { self.new ≡ (supervisory_taken self.old nr rule.low rule.busy rule.back is_response pf).link }
-        ensures effect { result ≡ effect_of (supervisory_taken self.old nr rule.low rule.busy rule.back is_response
+        ensures link { self.new ≡ record self.old {
+          link = (supervisory_taken self.old.link nr rule.low rule.busy
+              rule.back is_response pf).link;
+        } }
+        ensures effect { result ≡ effect_of (supervisory_taken self.old.link nr rule.low rule.busy rule.back is_response
             pf) }
     {
         match self.acknowledge(nr) {
@@ -193,9 +206,11 @@ impl Link {
 
     pub(crate) fn in_up<'a>(&mut self, frame: &Frame<'a>) -> Effect<'a>
         requires { HasNumbers (content_of frame.now.kind) }
-        ensures link { self.new ≡ (machine.in_up self.old.role self.old (content_of frame.now.kind)
-            frame.now.response frame.now.pf).link }
-        ensures effect { result ≡ effect_of (machine.in_up self.old.role self.old (content_of frame.now.kind)
+        ensures link { self.new ≡ record self.old {
+          link = (machine.in_up self.old.link.role self.old.link (content_of frame.now.kind)
+              frame.now.response frame.now.pf).link;
+        } }
+        ensures effect { result ≡ effect_of (machine.in_up self.old.link.role self.old.link (content_of frame.now.kind)
             frame.now.response frame.now.pf) }
     {
         let (is_response, pf) = (frame.response, frame.pf);

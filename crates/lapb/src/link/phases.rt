@@ -17,8 +17,10 @@ impl Link {
     // A frame that could be read. A DCE takes a SABM in any phase.
     pub(crate) fn take_frame<'a>(&mut self, frame: &Frame<'a>) -> Effect<'a>
         requires { HasNumbers (content_of frame.now.kind) }
-        ensures link { self.new ≡ (machine.on_frame self.old (value_of frame.now)).link }
-        ensures effect { result ≡ effect_of (machine.on_frame self.old (value_of frame.now)) }
+        ensures link { self.new ≡ record self.old {
+          link = (machine.on_frame self.old.link (value_of frame.now)).link;
+        } }
+        ensures effect { result ≡ effect_of (machine.on_frame self.old.link (value_of frame.now)) }
     {
         match (frame.kind, self.role) {
             (FrameKind::Sabm, Role::Dce) => return self.take_sabm(frame.pf),
@@ -36,9 +38,12 @@ impl Link {
 
     fn in_phase<'a>(&mut self, frame: &Frame<'a>) -> Effect<'a>
         requires { HasNumbers (content_of frame.now.kind) }
-        ensures link { self.new ≡ (machine.in_phase self.old.phase self.old.role self.old (content_of
-            frame.now.kind) frame.now.response frame.now.pf).link }
-        ensures effect { result ≡ effect_of (machine.in_phase self.old.phase self.old.role self.old (content_of
+        ensures link { self.new ≡ record self.old {
+          link = (machine.in_phase self.old.link.phase self.old.link.role self.old.link (content_of
+              frame.now.kind) frame.now.response frame.now.pf).link;
+        } }
+        ensures effect { result ≡ effect_of (machine.in_phase self.old.link.phase self.old.link.role self.old.link
+            (content_of
             frame.now.kind) frame.now.response frame.now.pf) }
     {
         match self.phase {
@@ -51,9 +56,12 @@ impl Link {
 
     // DISC and a command with P = 1 are answered by DM; DM or SABM begins an act at a DTE.
     fn in_down(&mut self, frame: &Frame<'_>) -> Effect<'static>
-        ensures link { self.new ≡ (machine.in_down self.old.role self.old (content_of frame.now.kind)
-            frame.now.response frame.now.pf).link }
-        ensures effect { result ≡ effect_of (machine.in_down self.old.role self.old (content_of frame.now.kind)
+        ensures link { self.new ≡ record self.old {
+          link = (machine.in_down self.old.link.role self.old.link (content_of frame.now.kind)
+              frame.now.response frame.now.pf).link;
+        } }
+        ensures effect { result ≡ effect_of (machine.in_down self.old.link.role self.old.link (content_of
+            frame.now.kind)
             frame.now.response frame.now.pf) }
     {
         match (self.role, frame.kind) {
@@ -76,9 +84,11 @@ impl Link {
     }
 
     fn in_setting_up(&mut self, frame: &Frame<'_>) -> Effect<'static>
-        ensures link { self.new ≡ (machine.in_setting_up self.old (content_of frame.now.kind) frame.now.response
-            frame.now.pf).link }
-        ensures effect { result ≡ effect_of (machine.in_setting_up self.old (content_of frame.now.kind)
+        ensures link { self.new ≡ record self.old {
+          link = (machine.in_setting_up self.old.link (content_of frame.now.kind) frame.now.response
+              frame.now.pf).link;
+        } }
+        ensures effect { result ≡ effect_of (machine.in_setting_up self.old.link (content_of frame.now.kind)
             frame.now.response frame.now.pf) }
     {
         match frame.kind {
@@ -102,9 +112,11 @@ impl Link {
 
     // A DCE that sent FRMR sends it again at each command.
     fn in_rejecting(&mut self, frame: &Frame<'_>) -> Effect<'static>
-        ensures link { self.new ≡ (machine.in_rejecting self.old (content_of frame.now.kind) frame.now.response
-            frame.now.pf).link }
-        ensures effect { result ≡ effect_of (machine.in_rejecting self.old (content_of frame.now.kind)
+        ensures link { self.new ≡ record self.old {
+          link = (machine.in_rejecting self.old.link (content_of frame.now.kind) frame.now.response
+              frame.now.pf).link;
+        } }
+        ensures effect { result ≡ effect_of (machine.in_rejecting self.old.link (content_of frame.now.kind)
             frame.now.response frame.now.pf) }
     {
         match frame.kind {
@@ -128,7 +140,8 @@ impl Link {
 
     // The Frame Reject that was sent last, again.
     pub(crate) fn sends_report(&self, pf: bool) -> Effect<'static>
-        ensures { result ≡ effect_of (machine.sends self.now (machine.response (spec.Frmr self.now.report) pf)) }
+        ensures { result ≡ effect_of (machine.sends self.now.link (machine.response (spec.Frmr self.now.link.report)
+            pf)) }
     {
         Effect {
             frame: Some(response(FrameKind::Frmr(self.report), pf)),

@@ -1,6 +1,7 @@
 //! What a link sends at the end of a node's event (X.25 2.4.5.1, 2.4.5.2.2).
 ghost use Rattle.std.specs.Prelude.{◌≡◌, ◌<◌, ◌≤◌, ◌+◌, [], ◌∷◌, drop, length, map, max};
-ghost use Rattle.frame_codec.specs.Spelling.{spelling};
+ghost use Rattle.flow_window.specs.Pool.{Holds};
+ghost use Rattle.frame_codec.specs.Spelling.{spelling, most_information};
 ghost use Rattle.lapb.specs.Machine as machine;
 ghost use Rattle.lapb.specs.Named.{Keeps};
 ghost use Rattle.lapb.specs.Unsent.{HasSentAll};
@@ -9,47 +10,61 @@ ghost use Rattle.lapb.specs.Out.{gathered, with_frames, with_effect, no_effect};
 use crate::effect::{command, response};
 use crate::link::Link;
 use crate::out::LinkOut;
-use crate::packet::Queue;
 use crate::phase::Phase;
+use crate::queue::Queue;
+use flow_window::pool::Pool;
 use flow_window::{Mod8, SendWindow};
 use frame_codec::{Frame, FrameKind};
 use link_timers::Role;
 
 impl Link {
     /// Ends a node's event: all I frames that may go are sent in order. Where there are none, an RR is, if it is owed.
-    pub fn settle(&mut self, out: &mut LinkOut)
-        ensures link { self.new ≡ (machine.settle self.old).link }
-        ensures out { out.new ≡ gathered out.old self.old (machine.settle self.old) }
+    pub fn settle(&mut self, out: &mut LinkOut, pool: &mut Pool)
+        requires holds { Holds pool.old self.old.held }
+        requires size { pool.old.size ≡ most_information }
+        ensures link { self.new ≡ record self.old { link = (machine.settle self.old.link).link } }
+        ensures out { out.new ≡ gathered out.old self.old.link (machine.settle self.old.link) }
+
+        // The buffers stay.
+        ensures pool { pool.new ≡ pool.old }
 
         // No packet that may go now stays unsent.
-        ensures all_sent { HasSentAll self.new }
+        ensures all_sent { HasSentAll self.new.link }
 
         // For every session that agrees with the link.
-        ensures named { Keeps self.old (machine.settle self.old) }
+        ensures named { Keeps self.old.link (machine.settle self.old.link) }
     {
         let ran = self.runs();
-        self.send(out);
+        self.send(out, pool);
         out.end(ran, self.runs());
     }
 
-    fn send(&mut self, out: &mut LinkOut)
-        ensures link { self.new ≡ (machine.settle self.old).link }
+    fn send(&mut self, out: &mut LinkOut, pool: &Pool)
+        requires holds { Holds pool.now self.old.held }
+        requires size { pool.now.size ≡ most_information }
+        ensures link { self.new ≡ record self.old { link = (machine.settle self.old.link).link } }
         ensures out { out.new ≡ record out.old {
-          frames = with_frames out.old.frames (map (spelling self.old.role)
-              (machine.settle self.old).frames);
+          frames = with_frames out.old.frames (map (spelling self.old.link.role)
+              (machine.settle self.old.link).frames);
         } }
     {
         match self.phase {
-            Phase::Up => self.send_up(out),
+            Phase::Up => self.send_up(out, pool),
             Phase::Down | Phase::SettingUp | Phase::Rejecting => {}
         }
     }
 
-    fn send_up(&mut self, out: &mut LinkOut)
-        ensures link { self.new ≡ (machine.send_all self.old (machine.sendable self.old)).link }
+    fn send_up(&mut self, out: &mut LinkOut, pool: &Pool)
+        requires holds { Holds pool.now self.old.held }
+        requires size { pool.now.size ≡ most_information }
+        ensures link { self.new ≡ record self.old {
+          link = (machine.send_all self.old.link (machine.sendable
+              self.old.link)).link;
+        } }
         ensures out { out.new ≡ record out.old {
           frames = with_frames out.old.frames
-              (map (spelling self.old.role) (machine.send_all self.old (machine.sendable self.old)).frames);
+              (map (spelling self.old.link.role) (machine.send_all self.old.link (machine.sendable
+              self.old.link)).frames);
         } }
     {
         if self.heard
@@ -57,7 +72,7 @@ impl Link {
             && !self.busy
             && self.window.unacknowledged() < self.queue.len()
         {
-            self.send_packets(out);
+            self.send_packets(out, pool);
         } else {
             self.send_acknowledgement(out);
         }
@@ -65,10 +80,10 @@ impl Link {
 
     // RR, if an acknowledgement is owed.
     fn send_acknowledgement(&mut self, out: &mut LinkOut)
-        ensures link { self.new ≡ (machine.send_all self.old []).link }
+        ensures link { self.new ≡ record self.old { link = (machine.send_all self.old.link []).link } }
         ensures out { out.new ≡ record out.old {
           frames = with_frames out.old.frames
-              (map (spelling self.old.role) (machine.send_all self.old []).frames);
+              (map (spelling self.old.link.role) (machine.send_all self.old.link []).frames);
         } }
     {
         if !self.owed {
@@ -80,38 +95,53 @@ impl Link {
     }
 
     // The packets from V(S) on, in I frames.
-    fn send_packets(&mut self, out: &mut LinkOut)
-        requires { self.old.next < length self.old.queue }
-        ensures link { self.new ≡ (machine.send_all self.old (drop self.old.next self.old.queue)).link }
+    fn send_packets(&mut self, out: &mut LinkOut, pool: &Pool)
+        requires holds { Holds pool.now self.old.held }
+        requires size { pool.now.size ≡ most_information }
+        requires unsent { self.old.link.next < length self.old.link.queue }
+        ensures link { self.new ≡ record self.old {
+          link = (machine.send_all self.old.link (drop self.old.link.next
+              self.old.link.queue)).link;
+        } }
         ensures out { out.new ≡ record out.old {
           frames = with_frames out.old.frames
-              (map (spelling self.old.role) (machine.send_all self.old (drop self.old.next self.old.queue)).frames);
+              (map (spelling self.old.link.role) (machine.send_all self.old.link (drop self.old.link.next
+              self.old.link.queue)).frames);
         } }
     {
         let nr = self.receive.expected();
-        send_from(&mut self.window, &self.queue, nr, self.role, out);
+        send_from(&mut self.window, &self.queue, nr, self.role, out, pool);
         self.owed = false;
     }
 }
 
-fn send_from(window: &mut SendWindow<Mod8>, queue: &Queue, nr: u8, role: Role, out: &mut LinkOut)
+fn send_from(
+    window: &mut SendWindow<Mod8>,
+    queue: &Queue,
+    nr: u8,
+    role: Role,
+    out: &mut LinkOut,
+    pool: &Pool,
+)
     requires nr { nr < 8 }
-    requires next { window.old.next < length queue.now }
-    requires size { length queue.now ≤ window.old.size }
+    requires next { window.old.next < length queue.now.packets }
+    requires size { length queue.now.packets ≤ window.old.size }
+    requires holds { Holds pool.now queue.now.held }
+    requires octets { pool.now.size ≡ most_information }
     ensures window { window.new ≡ record window.old {
-      next = length queue.now;
+      next = length queue.now.packets;
       top = max window.old.top (length
-          queue.now);
+          queue.now.packets);
     } }
     ensures out { out.new ≡ record out.old {
       frames = with_frames out.old.frames
           (map (spelling role) (machine.numbered (window.old.oldest + window.old.next) nr (drop window.old.next
-          queue.now)));
+          queue.now.packets)));
     } }
 {
     for place in window.unacknowledged()..queue.len() {
         let ns = window.take_number();
-        let information = queue.packet(place);
+        let information = queue.packet(place, pool);
         out.put(
             role,
             &Frame {

@@ -15,7 +15,7 @@ impl Link {
     ghost use Rattle.lapb.specs.LinkView.{IsReport};
 
     pub(crate) fn clear(&mut self, phase: Phase)
-        ensures { self.new ≡ machine.cleared self.old phase }
+        ensures { self.new ≡ record self.old { link = machine.cleared self.old.link phase } }
     {
         self.phase = phase;
         self.window.clear();
@@ -32,8 +32,8 @@ impl Link {
 
     // A set-up act of a DTE; the SABMs of an act carry one P, those of the next the other.
     pub(crate) fn set_up(&mut self) -> Effect<'static>
-        ensures link { self.new ≡ (machine.set_up self.old).link }
-        ensures effect { result ≡ effect_of (machine.set_up self.old) }
+        ensures link { self.new ≡ record self.old { link = (machine.set_up self.old.link).link } }
+        ensures effect { result ≡ effect_of (machine.set_up self.old.link) }
     {
         let note = left(self.phase);
         self.clear(Phase::SettingUp);
@@ -48,8 +48,8 @@ impl Link {
 
     // A DCE asks to be set up.
     pub(crate) fn disconnect(&mut self) -> Effect<'static>
-        ensures link { self.new ≡ (machine.disconnect self.old).link }
-        ensures effect { result ≡ effect_of (machine.disconnect self.old) }
+        ensures link { self.new ≡ record self.old { link = (machine.disconnect self.old.link).link } }
+        ensures effect { result ≡ effect_of (machine.disconnect self.old.link) }
     {
         let note = left(self.phase);
         self.clear(Phase::Down);
@@ -63,8 +63,8 @@ impl Link {
     }
 
     pub(crate) fn relink_rule(&mut self) -> Effect<'static>
-        ensures link { self.new ≡ (machine.relink self.old).link }
-        ensures effect { result ≡ effect_of (machine.relink self.old) }
+        ensures link { self.new ≡ record self.old { link = (machine.relink self.old.link).link } }
+        ensures effect { result ≡ effect_of (machine.relink self.old.link) }
     {
         match (self.role, self.phase) {
             (Role::Dte, Phase::SettingUp) => Effect::nothing(),
@@ -75,8 +75,8 @@ impl Link {
 
     // A DCE takes a SABM; it sends no I frame before it hears the DTE.
     pub(crate) fn take_sabm(&mut self, pf: bool) -> Effect<'static>
-        ensures link { self.new ≡ (machine.take_sabm self.old pf).link }
-        ensures effect { result ≡ effect_of (machine.take_sabm self.old pf) }
+        ensures link { self.new ≡ record self.old { link = (machine.take_sabm self.old.link pf).link } }
+        ensures effect { result ≡ effect_of (machine.take_sabm self.old.link pf) }
     {
         self.clear(Phase::Up);
         Effect {
@@ -89,8 +89,8 @@ impl Link {
 
     // A DTE takes the UA of its act, and polls.
     pub(crate) fn come_up(&mut self) -> Effect<'static>
-        ensures link { self.new ≡ (machine.come_up self.old).link }
-        ensures effect { result ≡ effect_of (machine.come_up self.old) }
+        ensures link { self.new ≡ record self.old { link = (machine.come_up self.old.link).link } }
+        ensures effect { result ≡ effect_of (machine.come_up self.old.link) }
     {
         self.clear(Phase::Up);
         self.heard = true;
@@ -106,8 +106,8 @@ impl Link {
 
     // DISC is answered by UA.
     pub(crate) fn take_disc(&mut self, pf: bool) -> Effect<'static>
-        ensures link { self.new ≡ (machine.take_disc self.old pf).link }
-        ensures effect { result ≡ effect_of (machine.take_disc self.old pf) }
+        ensures link { self.new ≡ record self.old { link = (machine.take_disc self.old.link pf).link } }
+        ensures effect { result ≡ effect_of (machine.take_disc self.old.link pf) }
     {
         let note = left(self.phase);
         self.clear(Phase::Down);
@@ -122,8 +122,11 @@ impl Link {
     // A frame cannot be taken: a DTE sets the link up again, a DCE reports the frame by FRMR.
     pub(crate) fn reject(&mut self, report: Rejection, pf: bool) -> Effect<'static>
         requires { IsReport report }
-        ensures link { self.new ≡ (machine.reject_as self.old.role self.old (report_of report) pf).link }
-        ensures effect { result ≡ effect_of (machine.reject_as self.old.role self.old (report_of report) pf) }
+        ensures link { self.new ≡ record self.old {
+          link = (machine.reject_as self.old.link.role self.old.link
+              (report_of report) pf).link;
+        } }
+        ensures effect { result ≡ effect_of (machine.reject_as self.old.link.role self.old.link (report_of report) pf) }
     {
         match self.role {
             Role::Dte => self.set_up(),
@@ -143,7 +146,7 @@ impl Link {
 
     // What a Frame Reject is to tell of a frame.
     pub(crate) fn report_on(&self, control: u8, response: bool, reason: Reason) -> Rejection
-        ensures value { report_of result ≡ machine.report_of self.now control response reason.w reason.x reason.y
+        ensures value { report_of result ≡ machine.report_of self.now.link control response reason.w reason.x reason.y
             reason.z }
         ensures valid { IsReport result }
     {

@@ -1,4 +1,4 @@
-use Rattle.std.proofs.Common.{◌≡◌, ◌+◌, ◌<◌, ◌≤◌, max, map, drop, length}
+use Rattle.std.proofs.Common.{◌≡◌, ◌+◌, max, map, drop}
 use Rattle.frame_codec.specs.Spelling.{spelling}
 use Rattle.lapb.specs.Machine.{numbered}
 use Rattle.lapb.specs.Out.{with_frames}
@@ -9,7 +9,7 @@ invariant-loop-place l = record {
   window : l.window ≡ record l.fn.window { next = l.place; top = max l.fn.window.top l.place };
   others : l.out ≡ record l.fn.out { frames = l.out.frames };
   frames : with_frames l.out.frames (map (spelling l.role) (numbered (l.fn.window.oldest + l.place) l.nr (drop
-      l.place l.queue)))
+      l.place l.queue.packets)))
       ≡ with_frames l.fn.out.frames (map (spelling l.role) (numbered (l.fn.window.oldest + l.fn.window.next) l.nr
-      (drop l.fn.window.next l.queue)));
+      (drop l.fn.window.next l.queue.packets)));
 }

@@ -1,7 +1,12 @@
+use Rattle.lapb.specs.declared.note.Timing.{Timing}
+use Rattle.line_end.specs.End.{runs_then, timed}
+use Rattle.std.proofs.Common.{refl}
 use Rattle.std.proofs.Common.{◌≡◌, ap, ◌∙◌, sym}
 use Rattle.std.specs.Prelude.{is_some}
 use Rattle.std.specs.Option.{option_copied}
 use Rattle.lapb.specs.Octets.{on_octets}
+use Rattle.link_timers.specs.declared.timers.TimerId.TheVariants.{T1}
+use Rattle.link_timers.specs.Timers.{left_of}
 use Rattle.lapb.specs.Out.{Out, gathered}
 use Rattle.line_end.specs.End.{End, received}
 use Rattle.line_end.specs.EndView.{end_of}
@@ -12,37 +17,35 @@ use Rattle.line_end.proofs.end.LineEnd.on_frame.Goals.{then-accepted, else-accep
 
 pub invariant_of-self : goal.invariant_of-self
 invariant_of-self c =
-    let step = on_octets c.self.inside.link c.args.octets.now in
-    let out = c.on_frame.ensures.out ∙ ap (λ (o : Out). gathered o c.self.inside.link step) c.new-out.ensures in
-    rw c.on_frame.ensures.link (still_end c.self.inside step.link c.carry_out.new.timers c.carry_out.new.frames
+    let step = on_octets c.self.inside.link.link c.args.octets.now in
+    still_end c.self.inside c.on_frame.new.self c.on_frame.new.pool c.set_timer.new.timers c.take_timer.new.self
     c.self.invariant
-    (sends_on_octets c.self.inside.link c.args.octets.now).keeps
-    (t1-is c.self.inside.link step c.on_frame.new.out _ _ out c.carry_out.ensures.t1 c.self.invariant.t1))
+    (rw c.on_frame.ensures.link (sends_on_octets c.self.inside.link.link c.args.octets.now).keeps) c.on_frame.ensures.pool c.on_frame.ensures.tight
+    (rw c.on_frame.ensures.link (t1-is c.self.inside.link.link step c.self.inside.out c.on_frame.new.out _ _ c.self.invariant.told c.on_frame.ensures.out (c.set_timer.ensures.t1 ∙ ap (λ (change : Timing). runs_then change (is_some (left_of c.self.inside.timers T1))) c.take_timer.ensures.timer) c.self.invariant.t1)) (ap (λ (o : Out). o.timer) c.take_timer.ensures.out)
 
 pub returns-clause-end : goal.returns-clause-end
 returns-clause-end c =
-    let step = on_octets c.self.inside.link c.args.octets.now in
-    let out = c.on_frame.ensures.out ∙ ap (λ (o : Out). gathered o c.self.inside.link step) c.new-out.ensures in
+    let step = on_octets c.self.inside.link.link c.args.octets.now in
     (λ i. record {
       link = c.on_frame.ensures.link i;
-      timers = c.carry_out.new.timers;
-      frames =
-          c.carry_out.new.frames.items;
+      timers = c.set_timer.new.timers;
+      frames = (ap (λ (o : Out). o.frames) c.take_timer.ensures.out) i;
     })
-    ∙ did-is (end_of c.self.inside) step c.on_frame.new.out c.carry_out.new.timers c.carry_out.new.frames.items out
-    c.carry_out.ensures.timers c.carry_out.ensures.frames
+    ∙ did-is (end_of c.self.inside) step c.self.inside.out c.on_frame.new.out c.set_timer.new.timers
+    c.self.invariant.told refl c.on_frame.ensures.out
+    (c.set_timer.ensures.timers ∙ ap (λ (change : Timing). timed change c.self.inside.timers) c.take_timer.ensures.timer)
     ∙ ap (λ (e : End). received e c.args.octets.now) c.self.view_is
 
 pub returns-clause-packet : goal.returns-clause-packet
 returns-clause-packet c =
-    let step = on_octets c.self.inside.link c.args.octets.now in
+    let step = on_octets c.self.inside.link.link c.args.octets.now in
     let accepted : c.accepted.result ≡ is_some step.accepted = c.accepted.ensures ∙
-    ap (λ (o : Out). o.accepted) c.on_frame.ensures.out in
+    ap (λ (o : Out). o.accepted) c.take_timer.ensures.out ∙ ap (λ (o : Out). o.accepted) c.on_frame.ensures.out in
     let packet : option_copied c.if-accepted.result ≡ step.accepted =
     elim c.if-accepted.branch [
       | then-accepted w ↦
           ap option_copied w.result-is ∙ packet-is c.args.octets.now step.accepted w.get.result
-          (accepted_long c.self.inside.link c.args.octets.now) c.on_frame.ensures.packet
+          (accepted_long c.self.inside.link.link c.args.octets.now) c.on_frame.ensures.packet
           (sym accepted ∙ w.if-accepted.true)
           w.get.ensures.lookup.0
       | else-accepted w ↦ ap option_copied w.result-is ∙

@@ -1,3 +1,6 @@
+use Rattle.lapb.specs.declared.note.Timing.{Timing}
+use Rattle.line_end.specs.End.{runs_then, timed}
+use Rattle.std.proofs.Common.{refl}
 use Rattle.std.proofs.Common.{◌≡◌, true, false, rules, ap, ◌∙◌, sym}
 use Rattle.std.specs.Prelude.{is_some}
 use Rattle.link_timers.specs.declared.timers.TimerId.{TimerId}
@@ -12,18 +15,17 @@ use Rattle.line_end.proofs.end.LineEnd.on_timer.Goals as goal
 pub invariant_of-self-2 : goal.invariant_of-self-2
 invariant_of-self-2 c =
     let is_t1 : c.args.id ≡ T1 = search rules in
-    let step = machine.on_t1 c.self.inside.link in
-    let out = c.on_t1.ensures.out ∙ ap (λ (o : Out). gathered o c.self.inside.link step) c.new-out.ensures in
+    let step = machine.on_t1 c.self.inside.link.link in
     let ran : is_some (left_of c.self.inside.timers T1) ≡ true =
     ap (λ (id : TimerId). is_some (left_of c.self.inside.timers id)) (sym is_t1) ∙ sym c.fire.ensures.ran ∙
     c.if-not-fire.false in
     let fired : is_some (left_of c.fire.new.self T1) ≡ false =
     ap (λ (id : TimerId). is_some (left_of c.fire.new.self id)) (sym is_t1) ∙ ap is_some c.fire.ensures.left in
-    rw c.on_t1.ensures.link (still_end c.self.inside step.link c.carry_out.new.timers c.carry_out.new.frames
+    still_end c.self.inside c.on_t1.new.self c.on_t1.new.pool c.set_timer.new.timers c.take_timer.new.self
     c.self.invariant
-    (sends_on_t1 c.self.inside.link).keeps
-    (t1_expired-is c.self.inside.link c.on_t1.new.out _ _ out c.carry_out.ensures.t1 fired
-    (sym c.self.invariant.t1 ∙ ran)))
+    (rw c.on_t1.ensures.link (sends_on_t1 c.self.inside.link.link).keeps) c.on_t1.ensures.pool c.on_t1.ensures.tight
+    (rw c.on_t1.ensures.link (t1_expired-is c.self.inside.link.link c.self.inside.out c.on_t1.new.out _ _ c.self.invariant.told c.on_t1.ensures.out (c.set_timer.ensures.t1 ∙ ap (λ (change : Timing). runs_then change (is_some (left_of c.fire.new.self T1))) c.take_timer.ensures.timer) fired
+    (sym c.self.invariant.t1 ∙ ran))) (ap (λ (o : Out). o.timer) c.take_timer.ensures.out)
 
 pub returns-then-not-fire-clause-frames : goal.returns-then-not-fire-clause-frames
 returns-then-not-fire-clause-frames c = expiry_sends c.args.self.now

@@ -1,5 +1,12 @@
-use Rattle.std.proofs.Common.{◌≤◌, length, ap, ◌∙◌, arith}
+use Rattle.lapb.specs.declared.note.Timing.{Timing}
+use Rattle.line_end.specs.End.{runs_then, timed}
+use Rattle.std.proofs.Common.{refl}
+use Rattle.std.specs.Prelude.{is_some}
+use Rattle.std.proofs.Common.{◌≤◌, length, sym, ap, ◌∙◌, arith}
+use Rattle.flow_window.proofs.Weights.{balances_same}
 use Rattle.lapb.specs.Machine as machine
+use Rattle.link_timers.specs.declared.timers.TimerId.TheVariants.{T1}
+use Rattle.link_timers.specs.Timers.{left_of}
 use Rattle.lapb.specs.Out.{Out, gathered}
 use Rattle.line_end.specs.End.{settled}
 use Rattle.line_end.specs.EndView.{end_of}
@@ -9,30 +16,29 @@ use Rattle.line_end.proofs.end.LineEnd.settle.Goals as goal
 
 pub invariant_of-self : goal.invariant_of-self
 invariant_of-self c =
-    let step = machine.settle c.self.inside.link in
-    let out = c.settle.ensures.out ∙ ap (λ (o : Out). gathered o c.self.inside.link step) c.new-out.ensures in
-    rw c.settle.ensures.link (still_end c.self.inside step.link c.carry_out.new.timers c.carry_out.new.frames
+    let step = machine.settle c.self.inside.link.link in
+    still_end c.self.inside c.settle.new.self c.settle.new.pool c.set_timer.new.timers c.take_timer.new.self
     c.self.invariant
-    (settles c.self.inside.link).keeps
-    (t1-is c.self.inside.link step c.settle.new.out _ _ out c.carry_out.ensures.t1 c.self.invariant.t1))
+    (rw c.settle.ensures.link (settles c.self.inside.link.link).keeps) (rw (c.settle.ensures.pool, c.settle.ensures.link) (balances_same c.self.inside.pool c.self.inside.link.held))
+    (rw c.settle.ensures.link (c.self.invariant.pool.tight ∙ ap length (sym (settles c.self.inside.link.link).packets)))
+    (rw c.settle.ensures.link (t1-is c.self.inside.link.link step c.self.inside.out c.settle.new.out _ _ c.self.invariant.told c.settle.ensures.out (c.set_timer.ensures.t1 ∙ ap (λ (change : Timing). runs_then change (is_some (left_of c.self.inside.timers T1))) c.take_timer.ensures.timer) c.self.invariant.t1)) (ap (λ (o : Out). o.timer) c.take_timer.ensures.out)
 
 pub returns-clause-end : goal.returns-clause-end
 returns-clause-end c =
-    let step = machine.settle c.self.inside.link in
-    let out = c.settle.ensures.out ∙ ap (λ (o : Out). gathered o c.self.inside.link step) c.new-out.ensures in
+    let step = machine.settle c.self.inside.link.link in
     (λ i. record {
-      link = c.settle.ensures.link i;
-      timers = c.carry_out.new.timers;
-      frames =
-          c.carry_out.new.frames.items;
+      link = (c.settle.ensures.link i).link;
+      timers = c.set_timer.new.timers;
+      frames = (ap (λ (o : Out). o.frames) c.take_timer.ensures.out) i;
     })
-    ∙ did-is (end_of c.self.inside) step c.settle.new.out c.carry_out.new.timers c.carry_out.new.frames.items out
-    c.carry_out.ensures.timers c.carry_out.ensures.frames
+    ∙ did-is (end_of c.self.inside) step c.self.inside.out c.settle.new.out c.set_timer.new.timers
+    c.self.invariant.told refl c.settle.ensures.out
+    (c.set_timer.ensures.timers ∙ ap (λ (change : Timing). timed change c.self.inside.timers) c.take_timer.ensures.timer)
     ∙ ap settled c.self.view_is
 
 pub returns-clause-frames : goal.returns-clause-frames
 returns-clause-frames c =
-    let short : length c.self.inside.link.queue ≤ 7 =
-    omega (arith, c.self.invariant.queue, c.self.invariant.k, c.self.invariant.params.k_most) in
-    rw (← c.self.view_is) (sends_up_to 7 (end_of c.self.inside) (machine.settle c.self.inside.link)
-    ((settles c.self.inside.link).few 7 short (omega arith)))
+    let short : length c.self.inside.link.link.queue ≤ 7 =
+    omega (arith, c.self.invariant.queue, c.self.invariant.k) in
+    rw (← c.self.view_is) (sends_up_to 7 (end_of c.self.inside) (machine.settle c.self.inside.link.link)
+    ((settles c.self.inside.link.link).few 7 short (omega arith)))
