@@ -1,7 +1,7 @@
 -- One logical channel: the state tables of call set-up, clearing and reset (X.25 tables C-1 to C-4, 4.1, 4.4.3), seen
 -- from one end: "own" is what this end began, "far" what the other end did.
-use Rattle.std.specs.Prelude.{ℕ, ◌+◌, Bool, true, false, cond, not, ◌&&◌, ◌||◌, ◌==◌, nat_lt, nat_le, List, [], ◌∷◌}
-use Rattle.std.specs.Prelude.{◌++◌, length, Option, Some, None}
+use Rattle.std.specs.Prelude.{ℕ, ◌+◌, Bool, true, false, if◌then◌else◌, not, ◌&&◌, ◌||◌, ◌==◌, nat_lt, nat_le, List}
+use Rattle.std.specs.Prelude.{[], ◌∷◌, ◌++◌, length, Option, Some, None}
 use Rattle.link_timers.specs.declared.role.Role.{Role}
 use Rattle.link_timers.specs.declared.role.Role.TheVariants.{Dte, Dce}
 use Rattle.packet_codec.specs.ClearCause as clear_cause
@@ -84,7 +84,7 @@ abbrev pub clear_error : Role → ℕ → ℕ → Bool → Channel → Step
 clear_error role c diagnostic had_call ch = record {
   channel = ended OwnClear ch;
   owes = Some (Clear (error_cause role clear_cause.local_procedure_error) diagnostic);
-  notes = cond had_call (Closed c clear_cause.local_procedure_error diagnostic LocalFault ∷ []) [];
+  notes = if had_call then Closed c clear_cause.local_procedure_error diagnostic LocalFault ∷ [] else [];
 }
 
 abbrev pub reset_error : Role → ℕ → ℕ → Channel → Step
@@ -105,7 +105,7 @@ far_cleared c cause diagnostic ch =
     record { channel = ended Ready ch; owes = Some ClearConfirmation; notes = Closed c cause diagnostic FarEnd ∷ [] }
 
 abbrev pub covered_note : ℕ → ℕ → List Note
-covered_note c n = cond (n == 0) [] (Covered c n ∷ [])
+covered_note c n = if n == 0 then [] else Covered c n ∷ []
 
 abbrev pub after_heard : Role → ℕ → Channel → Heard → Step
 after_heard role c ch (Keeps n t) = record { channel = moved t ch; owes = None; notes = covered_note c n }
@@ -181,7 +181,7 @@ received_in Ready role window c ch body = in_ready role c ch body
 received_in OwnWaiting role window c ch body = in_own_waiting role c ch body
 received_in FarWaiting role window c ch body = in_far_waiting role c ch body
 received_in Transfer role window c ch body =
-    cond ch.resetting (in_own_reset role c ch body) (in_flow_ready role window c ch body)
+    if ch.resetting then in_own_reset role c ch body else in_flow_ready role window c ch body
 received_in Collision role window c ch body = in_collision role c ch body
 received_in OwnClear role window c ch body = in_own_clear ch body
 
@@ -190,15 +190,15 @@ received role window c ch body = received_in ch.state role window c ch body
 
 -- an unreadable packet counts as one that the state does not allow: in d1 it resets the call, and else it clears it
 abbrev pub diagnostic_if : (unknown : Bool) → ℕ → ℕ
-diagnostic_if unknown diagnostic = cond unknown diagnostic no_information
+diagnostic_if unknown diagnostic = if unknown then diagnostic else no_information
 
 abbrev pub unreadable_in : CallState → Role → ℕ → Bool → Channel → Step
 unreadable_in Ready role c unknown ch = clear_error role c (diagnostic_if unknown (not_allowed_in_p 1)) false ch
 unreadable_in OwnClear role c unknown ch = quiet ch
 unreadable_in Transfer role c unknown ch =
-    cond ch.resetting
-    (clear_error role c (diagnostic_if unknown (not_allowed_in_p 4)) true ch)
-    (reset_error role c (diagnostic_if unknown not_allowed_in_d1) ch)
+    if ch.resetting
+    then clear_error role c (diagnostic_if unknown (not_allowed_in_p 4)) true ch
+    else reset_error role c (diagnostic_if unknown not_allowed_in_d1) ch
 unreadable_in s role c unknown ch =
     clear_error role c (diagnostic_if unknown (not_allowed_in_p (p_number role s))) true ch
 
@@ -271,8 +271,8 @@ traffic_after (Request.Sending d) t = queue d t
 traffic_after (Request.Interrupting octets) t = queue_interrupt octets t
 traffic_after (Request.Stopping b) t = stopping b t
 traffic_after Request.Taking t = taking t
-traffic_after (Request.Releasing n) t = cond (may_release n t) (releasing n t) t
-traffic_after Request.Confirming t = cond t.interrupt_taken (confirming t) t
+traffic_after (Request.Releasing n) t = if may_release n t then releasing n t else t
+traffic_after Request.Confirming t = if t.interrupt_taken then confirming t else t
 traffic_after _ t = t
 
 -- what a request that is not refused makes of the channel
@@ -286,8 +286,8 @@ carried_out ch (Sending d) = quiet (moved (queue d ch.traffic) ch)
 carried_out ch (Interrupting octets) = quiet (moved (queue_interrupt octets ch.traffic) ch)
 carried_out ch (Stopping b) = quiet (moved (stopping b ch.traffic) ch)
 carried_out ch Taking = quiet (moved (taking ch.traffic) ch)
-carried_out ch (Releasing n) = quiet (moved (cond (may_release n ch.traffic) (releasing n ch.traffic) ch.traffic) ch)
-carried_out ch Confirming = quiet (moved (cond ch.traffic.interrupt_taken (confirming ch.traffic) ch.traffic) ch)
+carried_out ch (Releasing n) = quiet (moved (traffic_after (Releasing n) ch.traffic) ch)
+carried_out ch Confirming = quiet (moved (traffic_after Confirming ch.traffic) ch)
 
 abbrev pub unless : Option Refusal → Step → Channel → Step
 unless None done ch = done
@@ -307,7 +307,7 @@ is_full owed = nat_le 4 (length owed)
 
 abbrev pub with_owed : List Body → Option Body → List Body
 with_owed owed None = owed
-with_owed owed (Some b) = cond (is_full owed) owed (owed ++ b ∷ [])
+with_owed owed (Some b) = if is_full owed then owed else owed ++ b ∷ []
 
 abbrev pub passes_limit : List Body → Option Body → Bool
 passes_limit owed None = false
@@ -325,9 +325,9 @@ pub record ChannelNext : Type 0 where
 abbrev pub next_owed : ℕ → List Body → Channel → ChannelNext
 next_owed window (b ∷ bs) ch = record { channel = record ch { owed = bs }; body = Some b }
 next_owed window [] ch =
-    cond (has_flow ch)
-    (record { channel = moved (says window ch.traffic).traffic ch; body = (says window ch.traffic).body })
-    (record { channel = ch; body = None })
+    if has_flow ch
+    then record { channel = moved (says window ch.traffic).traffic ch; body = (says window ch.traffic).body }
+    else record { channel = ch; body = None }
 
 abbrev pub next_of : ℕ → Channel → ChannelNext
 next_of window ch = next_owed window ch.owed ch

@@ -1,7 +1,7 @@
 -- Data transfer on a channel from one reset to the next (X.25 4.3 and 4.4): queues, P(S) and P(R), the window, busy
 -- states, interrupts.
-use Rattle.std.specs.Prelude.{ℕ, ◌+◌, ◌-◌, ◌%◌, Bool, true, false, cond, not, ◌&&◌, ◌||◌, ◌==◌, nat_lt, nat_le, List}
-use Rattle.std.specs.Prelude.{[], ◌∷◌, ◌++◌, length, Option, Some, None, is_some}
+use Rattle.std.specs.Prelude.{ℕ, ◌+◌, ◌-◌, ◌%◌, Bool, true, false, if◌then◌else◌, not, ◌&&◌, ◌||◌, ◌==◌, nat_lt, nat_le}
+use Rattle.std.specs.Prelude.{List, [], ◌∷◌, ◌++◌, length, Option, Some, None, is_some}
 use Rattle.packet_codec.specs.Diagnostic.{no_information, invalid_send_number, invalid_receive_number}
 use Rattle.packet_channel.specs.Packets.{Datum, Body}
 use Rattle.packet_channel.specs.Packets.Body.{Data, Interrupt, InterruptConfirmation, ReceiveReady, ReceiveNotReady}
@@ -71,7 +71,7 @@ interrupt_pending t = is_some t.interrupt_waiting || t.interrupt_unconfirmed
 abbrev pub queue : Datum → Traffic → Traffic
 queue d t = record t {
   waiting = t.waiting ++ d ∷ [];
-  undelivered = cond d.delivery (in_flight t + length t.waiting + 1) t.undelivered;
+  undelivered = if d.delivery then in_flight t + length t.waiting + 1 else t.undelivered;
 }
 
 abbrev pub queue_interrupt : List ℕ → Traffic → Traffic
@@ -138,12 +138,12 @@ rests t =
 
 abbrev pub says_flow : Traffic → Said
 says_flow t =
-    cond (flow_told t)
-    (record { traffic = t; body = None })
-    (record {
+    if flow_told t
+    then record { traffic = t; body = None }
+    else record {
       traffic = record t { untold = false; told_stopped = t.stopped };
       body = Some (ready_or_not t.stopped t.released);
-    })
+    }
 
 abbrev pub window_open : ℕ → Traffic → Bool
 window_open window t = nat_lt (in_flight t) window && not t.partner_busy
@@ -151,12 +151,12 @@ window_open window t = nat_lt (in_flight t) window && not t.partner_busy
 abbrev pub says_data : ℕ → List Datum → Traffic → Said
 says_data window [] t = says_flow t
 says_data window (d ∷ ds) t =
-    cond (window_open window t)
-    (record {
+    if window_open window t
+    then record {
       traffic = record t { waiting = ds; send_number = (t.send_number + 1) % 8; untold = false };
       body = Some (Data t.send_number t.released d);
-    })
-    (says_flow t)
+    }
+    else says_flow t
 
 abbrev pub says_interrupt : ℕ → Option (List ℕ) → Traffic → Said
 says_interrupt window (Some octets) t = record {
@@ -166,9 +166,10 @@ says_interrupt window (Some octets) t = record {
 says_interrupt window None t = says_data window t.waiting t
 
 abbrev pub says : ℕ → Traffic → Said
-says window t = cond t.confirmation_due
-    (record { traffic = record t { confirmation_due = false }; body = Some InterruptConfirmation })
-    (says_interrupt window t.interrupt_waiting t)
+says window t =
+    if t.confirmation_due
+    then record { traffic = record t { confirmation_due = false }; body = Some InterruptConfirmation }
+    else says_interrupt window t.interrupt_waiting t
 
 -- ---- what comes from the link
 
@@ -181,10 +182,10 @@ pub data Heard : Type 0 where
 -- a P(R) is valid if it names a packet that is not covered yet, or the next one to be sent
 abbrev pub covers : ℕ → Traffic → Heard
 covers receive t =
-    cond (nat_le (distance t.covered receive) (in_flight t))
-    (Heard.Keeps (distance t.covered receive)
-    (record t { covered = receive; undelivered = t.undelivered - distance t.covered receive }))
-    (Heard.Wrong invalid_receive_number)
+    if nat_le (distance t.covered receive) (in_flight t)
+    then Heard.Keeps (distance t.covered receive)
+    (record t { covered = receive; undelivered = t.undelivered - distance t.covered receive })
+    else Heard.Wrong invalid_receive_number
 
 abbrev pub keeps : (Traffic → Traffic) → Heard → Heard
 keeps f (Heard.Keeps n t) = Heard.Keeps n (f t)
@@ -204,13 +205,15 @@ interrupted t = is_some t.interrupt_arrived || (t.interrupt_taken || t.confirmat
 -- a Data packet needs the expected P(S), room in the window of what is not released, and then a valid P(R)
 abbrev pub hears : ℕ → Traffic → Body → Heard
 hears window t (Data send receive d) =
-    cond ((send == t.receive_number) && nat_lt (unreleased t) window) (keeps (λ u. arrives d u) (covers receive t))
-    (Heard.Wrong invalid_send_number)
+    if (send == t.receive_number) && nat_lt (unreleased t) window
+    then keeps (λ u. arrives d u) (covers receive t)
+    else Heard.Wrong invalid_send_number
 hears window t (ReceiveReady receive) = keeps (λ u. partner_says false u) (covers receive t)
 hears window t (ReceiveNotReady receive) = keeps (λ u. partner_says true u) (covers receive t)
 hears window t (Interrupt octets) =
-    cond (interrupted t) (Heard.Wrong no_information) (Heard.Keeps 0 (record t { interrupt_arrived = Some octets }))
+    if interrupted t then Heard.Wrong no_information else Heard.Keeps 0 (record t { interrupt_arrived = Some octets })
 hears window t InterruptConfirmation =
-    cond t.interrupt_unconfirmed (Heard.Confirms (record t { interrupt_unconfirmed = false }))
-    (Heard.Wrong no_information)
+    if t.interrupt_unconfirmed
+    then Heard.Confirms (record t { interrupt_unconfirmed = false })
+    else Heard.Wrong no_information
 hears window t _ = Heard.Wrong no_information

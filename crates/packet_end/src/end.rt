@@ -66,7 +66,8 @@ impl PacketEnd {
             window,
             standing,
         } = params;
-        let line = LineEnd::new(role, LinkParams { k, n2, standing })?;
+        let link = LinkParams { k, n2, standing };
+        link.check()?;
         let layer = Layer::new(
             alloc,
             role,
@@ -76,6 +77,7 @@ impl PacketEnd {
                 standing,
             },
         )?;
+        let line = LineEnd::new(alloc, role, link)?;
         Ok(PacketEnd {
             line,
             layer,
@@ -147,7 +149,8 @@ impl PacketEnd {
     /// Does so where the packet layer asks for it.
     pub fn relink_if_due(&mut self)
         requires { length self.old.notes ≤ 64 }
-        ensures { self.new ≡ relinked_if_due self.old }
+        ensures end { self.new ≡ relinked_if_due self.old }
+        ensures notes { length self.new.notes ≤ length self.old.notes + 32 }
     {
         if self.layer.must_relink() {
             self.relink();
@@ -183,6 +186,7 @@ impl PacketEnd {
     pub fn finish(&mut self)
         requires { length self.old.notes ≤ 64 }
         ensures end { self.new ≡ finished self.old }
+        ensures notes { length self.new.notes ≤ length self.old.notes + 32 }
         ensures nothing_kept_back { KeepsNothingBack self.new }
         ensures timers { TimersAgree self.new.layer self.new.timers }
     {

@@ -1,11 +1,11 @@
 //! The host and its calls.
-ghost use Rattle.std.specs.Prelude.{◌≡◌, ◌≤◌, ◌∷◌, [], true, false, Some, None, length, MatchResult, OnOk, OnSome};
+ghost use Rattle.std.specs.Prelude.{◌≡◌, ◌≤◌, ◌∷◌, [], true, false, Some, None, length, MatchResult, OnOk, OnErr, OnSome};
 ghost use Rattle.std.specs.Prelude.{slice_get};
 ghost use Rattle.std.specs.Bool.{OnTrue, OnFalse};
 ghost use Rattle.packet_layer.specs.Channel.{Request as ask};
 ghost use Rattle.packet_layer.specs.Layer as machine;
 ghost use Rattle.packet_layer.specs.NoteView.{maybe_note};
-ghost use Rattle.packet_layer.specs.RequestView.{refusal_of, call_refusal_of};
+ghost use Rattle.packet_layer.specs.RequestView.{request_of, refusal_of, call_refusal_of};
 ghost use Rattle.packet_layer.specs.TakenView.{maybe_taken};
 ghost use Rattle.packet_end.specs.Params.{AreParams, MadeNot};
 ghost use Rattle.packet_end.specs.PacketEnd as end;
@@ -15,13 +15,14 @@ ghost use Rattle.packet_host.specs.Host.{after_say, after_take, after_frame, aft
 ghost use Rattle.packet_host.specs.Making.{made};
 ghost use Rattle.packet_host.specs.Saying.{say_refusal};
 
+mod asking;
 mod line;
 mod saying;
 
 use crate::config::HostConfig;
 use packet_codec::{Address, CallData};
 use packet_end::{EndFault, PacketEnd};
-use packet_layer::{CallFault, ChannelFault, LayerNote, Taken};
+use packet_layer::{CallFault, ChannelFault, LayerNote, Request, Taken};
 pub use saying::full_packets;
 use std::alloc::Global;
 use std::marker::Model;
@@ -68,10 +69,9 @@ impl Host {
             (λ channel. machine.channel_given self.old.layer self.old.layer.phase ≡ Some channel)
             (λ fault. machine.call_refusal self.old.layer self.old.layer.phase ≡ Some (call_refusal_of fault)) }
         ensures host { self.new ≡ after_call self.old (call_parts address user_data.now) }
+        ensures err { OnErr result (self.new ≡ self.old) }
         ensures nothing_kept_back { OnOk result (end.KeepsNothingBack self.new) }
     {
-        // an address has 1 to 15 decimal digits
-        let _ = address.digits();
         let channel = self.end.call(&CallData {
             called: address,
             calling: None,
@@ -92,9 +92,7 @@ impl Host {
         ensures host { self.new ≡ after_request self.old channel ask.Accept }
         ensures nothing_kept_back { OnOk result (end.KeepsNothingBack self.new) }
     {
-        self.end.accept(channel)?;
-        self.end_event();
-        Ok(())
+        self.request(channel, &Request::Accept)
     }
 
     /// Clears the call that came in on the channel and is not answered, with cause 0 and diagnostic 0 (X.25 4.1.7).
@@ -123,9 +121,11 @@ impl Host {
         ensures host { self.new ≡ after_request self.old channel (ask.Clearing 0 0) }
         ensures nothing_kept_back { OnOk result (end.KeepsNothingBack self.new) }
     {
-        self.end.clear(channel, 0, 0)?;
-        self.end_event();
-        Ok(())
+        let request = Request::Clear {
+            cause: 0,
+            diagnostic: 0,
+        };
+        self.request(channel, &request)
     }
 
     /// Resets the call on the channel with cause 0 and diagnostic 0: what waits in both directions is dropped (X.25
@@ -139,9 +139,11 @@ impl Host {
         ensures host { self.new ≡ after_request self.old channel (ask.Resetting 0 0) }
         ensures nothing_kept_back { OnOk result (end.KeepsNothingBack self.new) }
     {
-        self.end.reset(channel, 0, 0)?;
-        self.end_event();
-        Ok(())
+        let request = Request::Reset {
+            cause: 0,
+            diagnostic: 0,
+        };
+        self.request(channel, &request)
     }
 
     /// Sends an interrupt of 1 to 32 octets on the channel (X.25 4.3.7).
@@ -156,9 +158,7 @@ impl Host {
         ensures host { self.new ≡ after_request self.old channel (ask.Interrupting octets.now) }
         ensures nothing_kept_back { OnOk result (end.KeepsNothingBack self.new) }
     {
-        self.end.interrupt(channel, octets)?;
-        self.end_event();
-        Ok(())
+        self.request(channel, &Request::Interrupt(octets))
     }
 
     /// Asks the far end by RNR to send no more data on the channel (X.25 4.4.1.5).
@@ -171,9 +171,7 @@ impl Host {
         ensures host { self.new ≡ after_request self.old channel (ask.Stopping true) }
         ensures nothing_kept_back { OnOk result (end.KeepsNothingBack self.new) }
     {
-        self.end.stop(channel)?;
-        self.end_event();
-        Ok(())
+        self.request(channel, &Request::Stop(true))
     }
 
     /// Ends by RR what `stop` asked (X.25 4.4.1.4).
@@ -186,9 +184,7 @@ impl Host {
         ensures host { self.new ≡ after_request self.old channel (ask.Stopping false) }
         ensures nothing_kept_back { OnOk result (end.KeepsNothingBack self.new) }
     {
-        self.end.go(channel)?;
-        self.end_event();
-        Ok(())
+        self.request(channel, &Request::Stop(false))
     }
 
     /// Takes what comes next on the channel, if anything: an interrupt, which is then confirmed, before all packets,
@@ -199,10 +195,11 @@ impl Host {
         ensures nothing_kept_back { OnSome result (end.KeepsNothingBack self.new) }
     {
         let taken = self.end.take(channel)?;
-        match taken {
-            Taken::Interrupt(_) => self.end.confirm_interrupt(channel),
-            Taken::Data(_) => self.end.release(channel, 1),
-        }
+        let request = match taken {
+            Taken::Interrupt(_) => Request::ConfirmInterrupt,
+            Taken::Data(_) => Request::Release(1),
+        };
+        let _ = self.end.ask(channel, &request);
         self.end_event();
         Some(taken)
     }
@@ -221,6 +218,20 @@ impl Host {
         ensures host { self.new ≡ end.without_first_note self.old }
     {
         self.end.notes()
+    }
+
+    // A request at the end of the line, which is an event where it is not refused.
+    fn request(&mut self, channel: u8, request: &Request<'_>) -> Result<(), ChannelFault>
+        ensures answer { MatchResult result
+            (λ _. machine.request_refusal self.old.layer channel (request_of request.now) ≡ None)
+            (λ fault. machine.request_refusal self.old.layer channel (request_of request.now)
+            ≡ Some (refusal_of fault)) }
+        ensures host { self.new ≡ after_request self.old channel (request_of request.now) }
+        ensures nothing_kept_back { OnOk result (end.KeepsNothingBack self.new) }
+    {
+        self.end.ask(channel, request)?;
+        self.end_event();
+        Ok(())
     }
 
     // Ends an event that has changed the end of the line.

@@ -4,6 +4,8 @@
 
 mod config;
 mod host;
+mod request;
 
 pub use config::HostConfig;
 pub use host::{Host, full_packets};
+pub use request::HostRequest;

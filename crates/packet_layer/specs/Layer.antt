@@ -1,7 +1,7 @@
 -- The packet layer of one line: its logical channels, the restart procedure (X.25 3 and table C-1), timers, what is
 -- owed to the link.
-use Rattle.std.specs.Prelude.{ℕ, zero, suc, ◌-◌, Bool, true, false, cond, ◌&&◌, ◌==◌, nat_le, List, [], ◌∷◌, ◌++◌}
-use Rattle.std.specs.Prelude.{length, map, set, slice_get, replicate, Option, Some, None, is_some, not}
+use Rattle.std.specs.Prelude.{ℕ, zero, suc, ◌-◌, Bool, true, false, if◌then◌else◌, ◌&&◌, ◌==◌, nat_le, List, []}
+use Rattle.std.specs.Prelude.{◌∷◌, ◌++◌, length, map, set, slice_get, replicate, Option, Some, None, is_some, not}
 use Rattle.std.specs.List.{list_all}
 use Rattle.link_timers.specs.declared.role.Role.{Role}
 use Rattle.link_timers.specs.declared.role.Role.TheVariants.{Dte, Dce}
@@ -100,9 +100,9 @@ owes_restart o l = record l { owed = with_owed l.owed o; relink = set_if (passes
 abbrev pub closing_notes : ℕ → Reason → List Channel → List Note
 closing_notes c reason [] = []
 closing_notes c reason (ch ∷ chs) =
-    cond (had_call ch.state)
-    (Closed c clear_cause.out_of_order no_information reason ∷ closing_notes (suc c) reason chs)
-    (closing_notes (suc c) reason chs)
+    if had_call ch.state
+    then Closed c clear_cause.out_of_order no_information reason ∷ closing_notes (suc c) reason chs
+    else closing_notes (suc c) reason chs
 
 abbrev pub all_closed : Reason → Layer → Layer
 all_closed reason l =
@@ -153,8 +153,10 @@ on_channel phase l c f = l
 
 -- restart packets, and they alone, have channel 0
 abbrev pub packet_in : Layer → Packet → Layer
-packet_in l p = cond (p.channel == 0) (restart_packet l.phase p.body l)
-    (on_channel l.phase l p.channel (λ ch. received l.role l.window p.channel ch p.body))
+packet_in l p =
+    if p.channel == 0
+    then restart_packet l.phase p.body l
+    else on_channel l.phase l p.channel (λ ch. received l.role l.window p.channel ch p.body)
 
 abbrev pub on_received : Layer → Received → Layer
 on_received l (Whole p) = packet_in l p
@@ -194,7 +196,7 @@ expired l (ClearTimer c) =
     restarting (error_cause l.role restart_cause.local_procedure_error) no_information (all_closed LocalFault l)
 
 abbrev pub on_timer : Layer → Timer → Layer
-on_timer l t = cond (runs l t) (expired (unread l) t) l
+on_timer l t = if runs l t then expired (unread l) t else l
 
 -- ---- what goes to the link: restart packets before all others; then the channels take turns, beginning behind the
 -- one that had the last turn, and the first with anything gives a control packet or, owing none, what its traffic
@@ -209,15 +211,16 @@ packet_of c None = None
 packet_of c (Some b) = Some (record { channel = c; body = b })
 
 abbrev pub next_number : Layer → ℕ → ℕ
-next_number l c = cond (nat_le (length l.channels) c) 1 (suc c)
+next_number l c = if nat_le (length l.channels) c then 1 else suc c
 
 abbrev pub served : Layer → ℕ → ChannelNext → Next → Next
 served l c n others =
-    cond (is_some n.body)
-    (record {
+    if is_some n.body
+    then record {
       layer = record l { channels = with_nth l.channels c n.channel; served_last = c };
       packet = packet_of c n.body;
-    }) others
+    }
+    else others
 
 abbrev pub serve_found : Layer → ℕ → Option Channel → Next → Next
 serve_found l c None others = others
@@ -279,7 +282,7 @@ abbrev pub call : Layer → CallParts → Layer
 call l parts = placed_on l parts (channel_given l l.phase)
 
 abbrev pub call_refusal : Layer → Phase → Option Refusal
-call_refusal l PacketReady = cond (is_some (free_channel l.role l.channels)) None (Some Refusal.NoChannel)
+call_refusal l PacketReady = if is_some (free_channel l.role l.channels) then None else Some Refusal.NoChannel
 call_refusal l phase = Some Refusal.NotReady
 
 -- a request on a channel; a refused one changes nothing
@@ -315,7 +318,7 @@ flow_refusal l c = flow_refusal_at (channel_of l c)
 -- how many more packets can wait to be sent: none where nothing can be queued
 abbrev pub room_at : Option Channel → ℕ
 room_at None = 0
-room_at (Some ch) = cond (has_flow ch) (8 - length ch.traffic.waiting) 0
+room_at (Some ch) = if has_flow ch then 8 - length ch.traffic.waiting else 0
 
 abbrev pub room : Layer → ℕ → ℕ
 room l c = room_at (channel_of l c)

@@ -10,5 +10,7 @@ mod restart;
 
 pub use fault::{CallFault, MakeFault};
 pub use layer::Layer;
-pub use packet_channel::{ChannelFault, Front, InterruptData, LayerNote, Reason, Taken, UserData};
+pub use packet_channel::{
+    ChannelFault, Front, InterruptData, LayerNote, Reason, Request, Taken, UserData,
+};
 pub use params::LayerParams;

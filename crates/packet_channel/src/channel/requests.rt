@@ -13,27 +13,45 @@ use crate::user_data::{InterruptData, UserData};
 use link_timers::Role;
 use packet_codec::{MAX_INTERRUPT, MAX_USER_DATA};
 
-/// What a user asks of the call on a channel.
+/// What a user asks of the call on a logical channel, with the refusals in the order in which they are tested. What is
+/// refused changes nothing.
 #[derive(Clone, Copy)]
 pub enum Request<'a> {
+    /// The call that came in is accepted (X.25 4.1.4). `NoCall` comes where none waits for it: no call came in, or a
+    /// DTE's own call collided with it.
     Accept,
+    /// The call is cleared, also one that is being set up (X.25 4.1.7). `NoCall` comes where there is none.
     Clear {
         cause: u8,
         diagnostic: u8,
     },
+    /// The call is reset: what waits in both directions is dropped (X.25 4.4.3). `NoCall` comes where no call is in
+    /// data transfer, then `Resetting` while the last own reset is not confirmed.
     Reset {
         cause: u8,
         diagnostic: u8,
     },
+    /// A Data packet with its bits M, Q and D goes into the send queue (X.25 4.3). `NoCall` comes where no call is in
+    /// data transfer, then `Resetting` while the own reset is not confirmed, `QueueFull` where 8 packets wait,
+    /// `TooLong` for more than 128 octets.
     Send {
         octets: &'a [u8],
         more: bool,
         qualified: bool,
         delivery: bool,
     },
+    /// An interrupt of 1 to 32 octets goes (X.25 4.3.7). `NoCall` comes where no call is in data transfer, then
+    /// `Resetting` while the own reset is not confirmed, `TooLong` for no octets or more than 32, `InterruptPending`
+    /// while the last interrupt is not confirmed.
     Interrupt(&'a [u8]),
+    /// The far end is asked by RNR to send no more data, or by RR to send again (X.25 4.4.1.4, 4.4.1.5). `NoCall` comes
+    /// where no call is in data transfer.
     Stop(bool),
+    /// P(R) may pass so many more of the packets that were taken (X.25 4.4.1.3). Nothing happens where fewer are taken
+    /// and not released. `NoCall` comes where no call is in data transfer.
     Release(u8),
+    /// The confirmation of the interrupt that was taken is owed (X.25 4.3.7). Nothing happens where none is
+    /// unconfirmed. `NoCall` comes where no call is in data transfer.
     ConfirmInterrupt,
 }
 

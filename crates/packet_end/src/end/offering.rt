@@ -12,6 +12,7 @@ impl PacketEnd {
     /// Offers packets to the link, as long as it takes one and the packet layer has one that may go.
     pub fn offer_packets(&mut self)
         ensures end { self.new ≡ all_offered self.old }
+        ensures notes { self.new.notes ≡ self.old.notes }
         ensures all_offered { HasOfferedAll self.new }
     {
         let mut packet = PacketBuf::new();

@@ -9,7 +9,7 @@ ghost use Rattle.packet_host.specs.Saying.{AllTaken};
 use crate::host::Host;
 use packet_codec::MAX_USER_DATA;
 use packet_end::PacketEnd;
-use packet_layer::ChannelFault;
+use packet_layer::{ChannelFault, Request};
 
 /// The places of a send queue.
 const QUEUE: usize = 8;
@@ -86,9 +86,21 @@ fn queue(end: &mut PacketEnd, channel: u8, octets: &[u8], qualified: bool, deliv
 {
     let mut rest = octets;
     for _ in 0..full_packets(octets) {
-        let (packet, others) = rest.split_at(MAX_USER_DATA);
-        let _ = end.send(channel, packet, true, qualified, false);
+        let (octets, others) = rest.split_at(MAX_USER_DATA);
+        let full = Request::Send {
+            octets,
+            more: true,
+            qualified,
+            delivery: false,
+        };
+        let _ = end.ask(channel, &full);
         rest = others;
     }
-    let _ = end.send(channel, rest, false, qualified, delivery);
+    let last = Request::Send {
+        octets: rest,
+        more: false,
+        qualified,
+        delivery,
+    };
+    let _ = end.ask(channel, &last);
 }

@@ -79,7 +79,9 @@ impl Layer {
         }
     }
 
-    fn request(&mut self, channel: u8, request: &Request<'_>) -> Result<(), ChannelFault>
+    /// Asks something of the call on the channel: [`Request`] has each refusal. A channel that the line does not have
+    /// has no call. What is refused changes nothing.
+    pub fn ask(&mut self, channel: u8, request: &Request<'_>) -> Result<(), ChannelFault>
         ensures answer { MatchResult result
             (λ _. machine.request_refusal self.old channel (request_of request.now) ≡ None)
             (λ fault. machine.request_refusal self.old channel (request_of request.now) ≡ Some (refusal_of fault)) }
@@ -110,7 +112,7 @@ impl Layer {
             (λ fault. machine.request_refusal self.old channel asked.Accept ≡ Some (refusal_of fault)) }
         ensures layer { self.new ≡ machine.request self.old channel asked.Accept }
     {
-        self.request(channel, &Request::Accept)
+        self.ask(channel, &Request::Accept)
     }
 
     /// Clears the call on the channel, also one that is being set up, with a cause and a diagnostic (X.25 4.1.7).
@@ -123,7 +125,7 @@ impl Layer {
             ≡ Some (refusal_of fault)) }
         ensures layer { self.new ≡ machine.request self.old channel (asked.Clearing cause diagnostic) }
     {
-        self.request(channel, &Request::Clear { cause, diagnostic })
+        self.ask(channel, &Request::Clear { cause, diagnostic })
     }
 
     /// Resets the call on the channel with a cause and a diagnostic: what waits in both directions is dropped (X.25
@@ -137,7 +139,7 @@ impl Layer {
             ≡ Some (refusal_of fault)) }
         ensures layer { self.new ≡ machine.request self.old channel (asked.Resetting cause diagnostic) }
     {
-        self.request(channel, &Request::Reset { cause, diagnostic })
+        self.ask(channel, &Request::Reset { cause, diagnostic })
     }
 
     /// Puts a Data packet with its bits M, Q and D into the send queue of the channel (X.25 4.3).
@@ -162,7 +164,7 @@ impl Layer {
             ≡ machine.request self.old channel
             (asked.Sending (record { octets = octets.now; more = more; qualified = qualified; delivery = delivery })) }
     {
-        self.request(
+        self.ask(
             channel,
             &Request::Send {
                 octets,
@@ -184,7 +186,7 @@ impl Layer {
             ≡ Some (refusal_of fault)) }
         ensures layer { self.new ≡ machine.request self.old channel (asked.Interrupting octets.now) }
     {
-        self.request(channel, &Request::Interrupt(octets))
+        self.ask(channel, &Request::Interrupt(octets))
     }
 
     /// Asks the far end by RNR to send no more data on the channel (X.25 4.4.1.5).
@@ -196,7 +198,7 @@ impl Layer {
             (λ fault. machine.request_refusal self.old channel (asked.Stopping true) ≡ Some (refusal_of fault)) }
         ensures layer { self.new ≡ machine.request self.old channel (asked.Stopping true) }
     {
-        self.request(channel, &Request::Stop(true))
+        self.ask(channel, &Request::Stop(true))
     }
 
     /// Ends by RR what `stop` asked (X.25 4.4.1.4).
@@ -208,7 +210,7 @@ impl Layer {
             (λ fault. machine.request_refusal self.old channel (asked.Stopping false) ≡ Some (refusal_of fault)) }
         ensures layer { self.new ≡ machine.request self.old channel (asked.Stopping false) }
     {
-        self.request(channel, &Request::Stop(false))
+        self.ask(channel, &Request::Stop(false))
     }
 
     /// Takes what comes next on the channel, if anything: an interrupt before all packets.
@@ -226,7 +228,7 @@ impl Layer {
     pub fn release(&mut self, channel: u8, count: u8)
         ensures { self.new ≡ machine.request self.old channel (asked.Releasing count) }
     {
-        let _ = self.request(channel, &Request::Release(count));
+        let _ = self.ask(channel, &Request::Release(count));
     }
 
     /// Owes the confirmation of the interrupt that was taken on the channel (X.25 4.3.7). Nothing happens where none is
@@ -234,6 +236,6 @@ impl Layer {
     pub fn confirm_interrupt(&mut self, channel: u8)
         ensures { self.new ≡ machine.request self.old channel asked.Confirming }
     {
-        let _ = self.request(channel, &Request::ConfirmInterrupt);
+        let _ = self.ask(channel, &Request::ConfirmInterrupt);
     }
 }

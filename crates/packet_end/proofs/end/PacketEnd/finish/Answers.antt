@@ -7,7 +7,7 @@ pub returns-clause-end : goal.returns-clause-end
 unfolding finished
 returns-clause-end c =
     c.settle.ensures.end
-    ∙ ap (λ (e : PacketEnd). settled e) (c.offer_packets.ensures.end ∙ ap (λ (e : PacketEnd). all_offered e) c.relink_if_due.ensures)
+    ∙ ap (λ (e : PacketEnd). settled e) (c.offer_packets.ensures.end ∙ ap (λ (e : PacketEnd). all_offered e) c.relink_if_due.ensures.end)
 
 pub returns-clause-nothing_kept_back : goal.returns-clause-nothing_kept_back
 returns-clause-nothing_kept_back c = record {

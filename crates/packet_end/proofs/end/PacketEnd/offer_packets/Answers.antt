@@ -29,6 +29,7 @@ loop-preserved c =
     record {
       left = ap (offered (7 - (c.loop.counter + 1))) same ∙ one_offered 7 c.loop.counter e c.loop-test.true room says ∙ c.loop.invariant.left;
       queued = rw end (longer e.line.link (written_packet (next_packet e.layer).packet []) c.loop.counter room c.loop.invariant.queued);
+      notes = c.loop.invariant.notes;
       most = λ _. rw end c.has_room.ensures.most;
     }
 

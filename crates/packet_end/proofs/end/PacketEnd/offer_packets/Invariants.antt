@@ -8,5 +8,6 @@ abbrev pub invariant-loop : goal.invariant-loop
 invariant-loop l = record {
   left : offered (7 - l.counter) (end_of l.self-inside) ≡ all_offered l.fn.self;
   queued : l.counter ≤ length l.self-inside.line.link.queue;
+  notes : l.self-inside.notes ≡ l.fn.self.notes;
   most : 1 ≤ l.counter → l.self-inside.line.link.k ≤ 7;
 }

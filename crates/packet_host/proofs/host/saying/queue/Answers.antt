@@ -8,7 +8,7 @@ use Rattle.packet_host.proofs.host.saying.queue.Goals as goal
 pub loop-preserved : goal.loop-preserved
 loop-preserved c =
     let left = c.full_packets-end.result - (c.loop.counter + 1) in
-    let end = c.send.ensures.end ∙ ap (λ (octets : List ℕ). asked c.loop.end c.args.channel
+    let end = c.ask.ensures.end ∙ ap (λ (octets : List ℕ). asked c.loop.end c.args.channel
     (Request.Sending (record { octets = octets; more = true; qualified = c.args.qualified; delivery = false }))) c.split_at.ensures.front in
     record {
       end = c.loop.invariant.end;

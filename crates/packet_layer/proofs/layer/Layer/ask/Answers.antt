@@ -4,7 +4,7 @@ use Rattle.packet_layer.specs.Layer.{Layer}
 use Rattle.packet_layer.specs.LayerView.{layer_of}
 use Rattle.packet_layer.specs.RequestView.{request_of}
 use Rattle.packet_layer.proofs.Places.{item_at, kept, request_done, request_refused, refused_at}
-use Rattle.packet_layer.proofs.layer.Layer.request.Goals as goal
+use Rattle.packet_layer.proofs.layer.Layer.ask.Goals as goal
 
 pub returns-then-relink-clause-layer : goal.returns-then-relink-clause-layer
 returns-then-relink-clause-layer c =
