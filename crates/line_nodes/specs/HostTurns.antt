@@ -3,16 +3,19 @@ use Rattle.std.specs.Prelude.{ℕ, Bool, List, Option, Some, None}
 use Rattle.link_timers.specs.declared.role.Role.{Role}
 use Rattle.packet_layer.specs.Packets.{CallParts}
 use Rattle.packet_layer.specs.Traffic.{Taken}
-use Rattle.packet_layer.specs.Traffic.Taken.{TakenInterrupt, TakenPacket}
 use Rattle.packet_layer.specs.Channel.{Request}
 use Rattle.packet_layer.specs.Layer.{channel_given, request_refusal, front_on}
 use Rattle.packet_end.specs.PacketEnd.{PacketEnd}
 use Rattle.packet_host.specs.Saying.{cut, say_refusal}
 use Rattle.packet_host.specs.Host.{after_call, after_request, refuse_refusal, after_refuse, after_say, after_take}
-use Rattle.call_records.specs.Book.{Book, closes, takes, releases}
+use Rattle.packet_host.specs.Asking.{ask_refusal, after_ask}
+use Rattle.packet_host.specs.declared.request.HostRequest.{HostRequest}
+use Rattle.call_records.specs.Book.{Book, closes, takes}
 use Rattle.call_records.specs.Carried.{carried, unless_refused, placed_on}
+pub use Rattle.call_records.specs.Writes.{let_go}
 use Rattle.line_nodes.specs.Node.{Host}
 use Rattle.line_nodes.specs.Turn.{Turn, unchanged, told, all_sent}
+use Rattle.line_nodes.specs.Writing.{request_written}
 
 -- it places a call
 abbrev pub host_calls : Role → PacketEnd → CallParts → Book → Turn
@@ -37,11 +40,6 @@ host_says role e channel octets qualified delivery b =
     (unless_refused (say_refusal e.layer channel octets qualified)
     (all_sent role channel (cut octets qualified delivery) b) b)
 
--- a packet that it takes is released at once
-abbrev pub let_go : Taken → Role → (channel : ℕ) → Book → Book
-let_go (TakenInterrupt octets) role channel b = b
-let_go (TakenPacket d) role channel b = releases role channel 1 b
-
 abbrev pub taken_turn : Option Taken → Role → PacketEnd → (channel : ℕ) → Book → Turn
 taken_turn None role e channel b = unchanged (Host e) b
 taken_turn (Some x) role e channel b =
@@ -50,3 +48,9 @@ taken_turn (Some x) role e channel b =
 -- it takes what comes next on a call, if anything
 abbrev pub host_takes : Role → PacketEnd → (channel : ℕ) → Book → Turn
 host_takes role e channel b = taken_turn (front_on e.layer channel) role e channel b
+
+-- it is asked something on a channel
+abbrev pub host_asked : Role → PacketEnd → (channel : ℕ) → HostRequest → Book → Turn
+host_asked role e channel r b =
+    told role (Host (after_ask e channel r))
+    (unless_refused (ask_refusal e channel r) (request_written role channel r b) b)

@@ -1,7 +1,9 @@
 pub mod Node
 pub mod NodeView
+pub mod NodeEvents
 pub mod Notes
 pub mod Turn
+pub mod Writing
 pub mod HostTurns
 pub mod PadTurns
 pub mod LineTurns

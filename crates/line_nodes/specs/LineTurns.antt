@@ -3,7 +3,6 @@ use Rattle.std.specs.Prelude.{ℕ, cond, List}
 use Rattle.link_timers.specs.declared.role.Role.{Role}
 use Rattle.link_timers.specs.declared.timers.TimerId.{TimerId}
 use Rattle.packet_end.specs.PacketEnd.{PacketEnd, runs_at}
-use Rattle.packet_end.specs.PacketEnd as end
 use Rattle.packet_host.specs.Host as host
 use Rattle.packet_pad.specs.Pad as pad
 use Rattle.packet_pad.specs.Pad.{PadState}
@@ -12,6 +11,7 @@ use Rattle.call_records.specs.Closing.{all_closed}
 use Rattle.line_nodes.specs.Node.{NodeState, Pad, Host}
 use Rattle.line_nodes.specs.Turn.{Turn, unchanged, told}
 use Rattle.line_nodes.specs.PadTurns.{pad_event}
+use Rattle.line_nodes.specs.NodeEvents.{restarted}
 
 -- ---- a host
 
@@ -53,9 +53,5 @@ relinks role (Pad p) b = pad_relinks role p b
 relinks role (Host e) b = host_relinks role e b
 
 -- the node begins anew: its calls are over for it, of which nothing is told
-abbrev pub restarted : NodeState → NodeState
-restarted (Pad p) = Pad (pad.after_restart p)
-restarted (Host e) = Host (end.restarted e)
-
 abbrev pub restarts : Role → NodeState → Book → Turn
 restarts role n b = unchanged (restarted n) (all_closed role b)

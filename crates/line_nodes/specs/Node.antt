@@ -5,6 +5,7 @@ use Rattle.lapb.specs.Machine.{Octets}
 use Rattle.line_end.specs.End.{without_frames}
 use Rattle.packet_layer.specs.Layer.{confirmed}
 use Rattle.packet_end.specs.PacketEnd.{PacketEnd, at_rest, due, elapsed}
+use Rattle.packet_pad.specs.Notes.{PadNote}
 use Rattle.packet_pad.specs.Pad.{PadState}
 
 pub data NodeState : Type 0 where
@@ -37,6 +38,11 @@ drained n = with_end (sent_out (end_of n)) n
 -- the node when all notes were read
 abbrev pub all_read : PacketEnd → PacketEnd
 all_read e = record e { notes = [] }
+
+-- the notes of a PAD that are not read
+abbrev pub pad_notes : NodeState → List PadNote
+pad_notes (Pad p) = p.notes
+pad_notes (Host e) = []
 
 abbrev pub without_notes : NodeState → NodeState
 without_notes n = with_end (all_read (end_of n)) n

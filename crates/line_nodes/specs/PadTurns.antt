@@ -1,24 +1,18 @@
 -- What the terminal of a PAD types, what the PAD does with a call that comes in, and what is written of it.
-use Rattle.std.specs.Prelude.{ℕ, Bool, true, false, List, [], ◌∷◌, ◌++◌, Option, Some, None}
+use Rattle.std.specs.Prelude.{ℕ, List, [], ◌∷◌, ◌++◌, Option, Some, None}
 use Rattle.link_timers.specs.declared.role.Role.{Role}
 use Rattle.pad_editing.specs.Edited.{Step}
 use Rattle.packet_layer.specs.Packets.{Note}
-use Rattle.packet_layer.specs.Packets.Note.{Incoming}
 use Rattle.packet_layer.specs.Layer.{request_refusal}
 use Rattle.packet_pad.specs.Pad.{PadState, refusing, after_refuse, after_finish}
 use Rattle.packet_pad.specs.Keys.{KeyEffect, after_octet}
+pub use Rattle.packet_pad.specs.Events.{pad_read, last_incoming}
 use Rattle.call_records.specs.Book.{Book, closes, edits, all_told}
 use Rattle.call_records.specs.Carried.{unless_refused}
-use Rattle.line_nodes.specs.Node.{Pad, all_read}
+use Rattle.line_nodes.specs.Node.{Pad}
 use Rattle.line_nodes.specs.Turn.{Turn, unchanged, told, all_sent}
-use Rattle.line_nodes.specs.declared.pad.KeyAnswer.{KeyAnswer}
-use Rattle.line_nodes.specs.declared.pad.KeyAnswer.TheVariants as answer
 
 -- ---- a key
-
-abbrev pub key_answer : (dropped : Bool) → KeyAnswer
-key_answer true = answer.Dropped
-key_answer false = answer.Taken
 
 -- one without a step changes nothing; one with a step edits the call of channel 1, and the packet that it makes goes
 -- there
@@ -31,13 +25,7 @@ pad_keys role p octet b = keyed (after_octet p octet).steps (after_octet p octet
 
 -- ---- what comes from the line
 
--- the last call that comes in among the notes; where none does, the one before
-abbrev pub last_incoming : Option ℕ → List Note → Option ℕ
-last_incoming before [] = before
-last_incoming before (Incoming channel parts ∷ notes) = last_incoming (Some channel) notes
-last_incoming before (note ∷ notes) = last_incoming before notes
-
--- that call is refused, which the book has as closed
+-- the last call that came in is refused, which the book has as closed
 abbrev pub without_call : Option ℕ → PadState → PadState
 without_call None p = p
 without_call (Some channel) p = after_refuse p channel
@@ -46,9 +34,6 @@ abbrev pub closed_call : Option ℕ → Role → PadState → Book → Book
 closed_call None role p b = b
 closed_call (Some channel) role p b =
     unless_refused (request_refusal p.end.layer channel refusing) (closes role channel b) b
-
-abbrev pub pad_read : PadState → PadState
-pad_read p = record p { end = all_read p.end }
 
 -- the end of an event at the PAD, behind notes that were read
 abbrev pub pad_ends : (read : List Note) → Role → PadState → Book → Turn

@@ -1,16 +1,16 @@
-//! The nodes of a network of one line, a PAD or a host at each end: what each event at a node writes into the line's
+//! The nodes of a network of one line, a PAD or a host at each end, and what the network writes of them into the line's
 //! book.
 #![tactic(auto)]
 
 mod fault;
-pub mod host;
 mod node;
 mod note;
-pub mod pad;
 mod place;
+mod writing;
 
 pub use fault::NodeFault;
 pub use node::Node;
 pub use note::{HostNote, NoteKind};
-pub use pad::KeyAnswer;
+pub use packet_pad::KeyAnswer;
 pub use place::Place;
+pub use writing::{write_notes, write_request, write_taken};

@@ -1,26 +1,20 @@
 //! A node at an end of a line.
-ghost use Rattle.std.specs.Prelude.{◌≡◌, ◌≤◌, ◌∷◌, [], length, vec_capacity};
+ghost use Rattle.std.specs.Prelude.{◌≡◌, ◌≤◌, ◌∷◌, [], length};
 ghost use Rattle.std.specs.Bool.{OnTrue, OnFalse};
 ghost use Rattle.packet_end.specs.PacketEnd.{runs_at, without_first_frame};
-ghost use Rattle.call_records.specs.Room.{opening_notes};
-ghost use Rattle.line_nodes.specs.Node.{end_of, with_end, is_pad, frames_of, drained, node_rests, node_due};
+ghost use Rattle.line_nodes.specs.Node.{end_of, with_end, is_pad, frames_of, node_rests, node_due};
 ghost use Rattle.line_nodes.specs.Node.{node_elapsed, node_confirmed};
 ghost use Rattle.line_nodes.specs.NodeView.{node_of};
-ghost use Rattle.line_nodes.specs.Notes.{user_notes};
-ghost use Rattle.line_nodes.specs.LineTurns.{hears, expires, relinks, restarts};
+ghost use Rattle.line_nodes.specs.NodeEvents.{heard, expired, relinked, restarted};
 
-use crate::note::HostNote;
-use crate::place::Place;
-use crate::{host, pad};
-use call_records::Book;
 use frame_codec::FrameBuf;
 use line_end::MOST_FRAMES;
-use link_timers::{Role, TimerId};
-use packet_end::MOST_NOTES;
+use link_timers::TimerId;
 use packet_host::Host;
 use packet_pad::Pad;
 
-/// A node at an end of a line.
+/// A node at an end of a line. Frames that were not taken by `out`, and notes that were not read, are gone when the next
+/// event begins.
 #[derive(Drop)]
 pub enum Node {
     Pad(Pad),
@@ -28,76 +22,45 @@ pub enum Node {
 }
 
 impl Node {
-    /// Takes the octets of a received frame, and writes what follows into the book. `notes` lists what a host is told,
-    /// in order; it is empty before, with [`MOST_NOTES`] places.
-    pub fn hear(&mut self, at: Place, octets: &[u8], book: &mut Book, notes: &mut Vec<HostNote>)
-        requires opening { opening_notes (hears at.role (node_of self.old) octets.now book.old.book).notes ≤ 1 }
-        requires room { 1 ≤ book.old.room }
-        requires empty { notes.old.items ≡ [] }
-        requires capacity { MOST_NOTES ≤ vec_capacity notes.old }
-        ensures node { node_of self.new ≡ (hears at.role (node_of self.old) octets.now book.old.book).node }
-        ensures book { book.new.book ≡ (hears at.role (node_of self.old) octets.now book.old.book).book }
-        ensures notes { notes.new.items ≡ user_notes (node_of self.old) at.node
-            (hears at.role (node_of self.old) octets.now book.old.book).notes }
+    /// Takes the octets of a received frame (X.25 2.4, 3 to 5).
+    pub fn hear(&mut self, octets: &[u8])
+        ensures { node_of self.new ≡ heard (node_of self.old) octets.now }
     {
         match self {
-            Node::Pad(pad) => pad::hear(pad, at.role, octets, book),
-            Node::Host(host) => host::hear(host, at, octets, book, notes),
+            Node::Pad(pad) => pad.on_frame(octets),
+            Node::Host(host) => host.on_frame(octets),
         }
     }
 
-    /// Takes an expiry of a timer, and answers whether it ran. Where it did not nothing happens. It writes and lists as
-    /// `hear`.
-    pub fn expire(
-        &mut self,
-        at: Place,
-        id: TimerId,
-        book: &mut Book,
-        notes: &mut Vec<HostNote>,
-    ) -> bool
-        requires opening { opening_notes (expires at.role (node_of self.old) id book.old.book).notes ≤ 1 }
-        requires room { 1 ≤ book.old.room }
-        requires empty { notes.old.items ≡ [] }
-        requires capacity { MOST_NOTES ≤ vec_capacity notes.old }
+    /// Takes an expiry of a timer, and answers whether it ran. Where it did not nothing happens.
+    pub fn expire(&mut self, id: TimerId) -> bool
         ensures ran { result ≡ runs_at (end_of (node_of self.old)) id }
-        ensures node { node_of self.new ≡ (expires at.role (node_of self.old) id book.old.book).node }
-        ensures book { book.new.book ≡ (expires at.role (node_of self.old) id book.old.book).book }
-        ensures notes { notes.new.items ≡ user_notes (node_of self.old) at.node
-            (expires at.role (node_of self.old) id book.old.book).notes }
+        ensures node { node_of self.new ≡ expired (node_of self.old) id }
     {
         match self {
-            Node::Pad(pad) => pad::expire(pad, at.role, id, book),
-            Node::Host(host) => host::expire(host, at, id, book, notes),
+            Node::Pad(pad) => pad.on_timer(id),
+            Node::Host(host) => host.on_timer(id),
         }
     }
 
-    /// Gives the link up and sets it up again: all calls close. It writes and lists as `hear`.
-    pub fn relink(&mut self, at: Place, book: &mut Book, notes: &mut Vec<HostNote>)
-        requires opening { opening_notes (relinks at.role (node_of self.old) book.old.book).notes ≤ 1 }
-        requires room { 1 ≤ book.old.room }
-        requires empty { notes.old.items ≡ [] }
-        requires capacity { MOST_NOTES ≤ vec_capacity notes.old }
-        ensures node { node_of self.new ≡ (relinks at.role (node_of self.old) book.old.book).node }
-        ensures book { book.new.book ≡ (relinks at.role (node_of self.old) book.old.book).book }
-        ensures notes { notes.new.items ≡ user_notes (node_of self.old) at.node
-            (relinks at.role (node_of self.old) book.old.book).notes }
+    /// Gives the link up and sets it up again: all calls close.
+    pub fn relink(&mut self)
+        ensures { node_of self.new ≡ relinked (node_of self.old) }
     {
         match self {
-            Node::Pad(pad) => pad::relink(pad, at.role, book),
-            Node::Host(host) => host::relink(host, at, book, notes),
+            Node::Pad(pad) => pad.relink(),
+            Node::Host(host) => host.relink(),
         }
     }
 
-    /// Begins anew: its calls are over for it, and are closed in the book. Nobody is told.
-    pub fn restart(&mut self, role: Role, book: &mut Book)
-        ensures node { node_of self.new ≡ (restarts role (node_of self.old) book.old.book).node }
-        ensures book { book.new.book ≡ (restarts role (node_of self.old) book.old.book).book }
+    /// Begins anew: its calls are over for it, and nobody is told.
+    pub fn restart(&mut self)
+        ensures { node_of self.new ≡ restarted (node_of self.old) }
     {
         match self {
             Node::Pad(pad) => pad.restart(),
             Node::Host(host) => host.restart(),
         }
-        book.close_all(role);
     }
 
     /// Takes the next frame that goes out, if there is one. Where there is none `frame` stays.

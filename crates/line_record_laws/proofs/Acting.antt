@@ -146,7 +146,7 @@ module _ (s : Setting) (b : Book) (role : Role) (me you : PacketEnd) (going comi
   calls_at parts fits calling =
       subst (λ (x : Book). AfterAct (Calls parts) x)
       (ap (λ (o : Option ℕ). placed_on role o parts b) (sym (given_unread k.line.me.layer.phase k.line.me.layer) ∙ ap (λ (l : Layer). channel_given l l.phase) k.joint.mine.layer))
-      (allowed_act (Calls parts) fits (calling, tt) k.mine)
+      (allowed_act (Calls parts) fits (tt, tt) k.mine)
 
   pub requests_at : (channel : ℕ) (r : Request) → AfterAct (Requests channel r) (requested_at role channel r me b)
   requests_at channel r =

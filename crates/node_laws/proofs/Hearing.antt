@@ -24,7 +24,8 @@ use Rattle.line_record_laws.proofs.Happening.{ends_on, frame_kept, expiry_kept, 
 use Rattle.line_nodes.specs.Node.{NodeState, Pad, Host, end_of, drained, all_read}
 use Rattle.line_nodes.specs.Turn.{unchanged, told}
 use Rattle.line_nodes.specs.PadTurns.{last_incoming, without_call, closed_call, pad_read, pad_event}
-use Rattle.line_nodes.specs.LineTurns.{pad_hears, pad_relinks, host_hears, host_relinks, restarted}
+use Rattle.line_nodes.specs.LineTurns.{pad_hears, pad_relinks, host_hears, host_relinks}
+use Rattle.line_nodes.specs.NodeEvents.{restarted}
 use Rattle.node_laws.specs.Nodes.{IsNode, StandsAt, KeepsWith, KeepsBy}
 use Rattle.node_laws.specs.Clauses.{HearsLaw, ExpiresLaw, RelinksLaw, RestartsLaw}
 use Rattle.node_laws.proofs.Turning.{told_keeps, unchanged_keeps}

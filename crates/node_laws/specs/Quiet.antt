@@ -14,7 +14,7 @@ use Rattle.packet_pad.specs.Making as pad
 use Rattle.packet_pad.specs.declared.config.PadConfig.{PadConfig}
 use Rattle.call_records.specs.Book.{Book}
 use Rattle.call_records.specs.Room.{opening_notes}
-use Rattle.line_nodes.specs.Node.{NodeState, Pad, Host, end_of, drained, node_elapsed}
+use Rattle.line_nodes.specs.Node.{NodeState, Pad, Host, end_of, pad_notes, drained, node_elapsed}
 use Rattle.line_nodes.specs.Turn.{Turn}
 use Rattle.line_nodes.specs.LineTurns.{hears, expires, relinks, restarts}
 use Rattle.line_nodes.specs.HostTurns.{host_calls, host_asks, host_refuses, host_says, host_takes}
@@ -23,10 +23,11 @@ use Rattle.node_laws.specs.Due.{AreApart}
 use Rattle.node_laws.specs.Nodes.{IsNode}
 use Rattle.node_laws.specs.Opening.{OpensNothing}
 
--- nothing is left of its last event: no note, also none in its layer, no frame, and no block; and no timer runs where
--- it must not
+-- nothing is left of its last event: no note, also none of a PAD or in its layer, no frame, and no block; and no timer
+-- runs where it must not
 pub record IsQuiet (n : NodeState) : Type 0 where
   pub node : IsNode n
+  pub noted : pad_notes n ≡ []
   pub unread : (end_of n).layer.notes ≡ []
   pub timers : AreApart n
 

@@ -1,4 +1,4 @@
--- Where all notes were read, what a user asks opens nothing in the book by the notes that it gives.
+-- Where all notes were read, a key opens nothing in the book by the notes that it gives, and leaves none at the line.
 use Rattle.std.proofs.Common.{◌≡◌, ℕ, zero, suc, ◌++◌, Bool, true, false, cond, List, [], ◌∷◌, refl, ap, ◌∙◌}
 use Rattle.std.specs.Prelude.{Option, Some, None, is_some, ◌&&◌, ◌==◌, if◌then◌else◌}
 use Rattle.link_timers.specs.declared.role.Role.{Role}
@@ -14,6 +14,7 @@ use Rattle.packet_host.specs.Saying.{cut, queued, say_refusal}
 use Rattle.pad_editing.specs.Edited.{Step, Effect, after_key}
 use Rattle.packet_pad.specs.Pad.{PadState, stands}
 use Rattle.packet_pad.specs.Keys.{KeyEffect, key_without_effect, key_dropped, is_control, message, with_block, edited_by, typed, after_octet}
+use Rattle.packet_pad.specs.Events.{keys, key_event}
 use Rattle.call_records.specs.Book.{Book}
 use Rattle.call_records.specs.Room.{opening_notes}
 use Rattle.line_nodes.specs.HostTurns.{host_calls, host_asks, host_refuses, host_says, host_takes, taken_turn}
@@ -61,38 +62,6 @@ ended_quiet e =
     ap (λ (x : PacketEnd). opening_notes x.notes) (finished_is (begun e))
     ∙ ap opening_notes (all_offered_notes (relinked_if_due (begun e))) ∙ due_quiet e.layer.relink (begun e) refl
 
--- ---- what a host's user asks
-
-unless_quiet : (refusal : Option Refusal) (done e : PacketEnd) → e.notes ≡ [] → IsQuiet (unless_refused refusal (ended done) e).notes
-unless_quiet None done e none = ended_quiet done
-unless_quiet (Some r) done e none = ap opening_notes none
-
-pub calls_quiet : (role : Role) (e : PacketEnd) (parts : CallParts) (b : Book) → e.notes ≡ [] → IsQuiet (host_calls role e parts b).notes
-calls_quiet role e parts b none = unless_quiet (call_refusal e.layer e.layer.phase) (called e parts) e none
-
-pub asks_quiet : (role : Role) (e : PacketEnd) (channel : ℕ) (r : Request) (b : Book) → e.notes ≡ [] → IsQuiet (host_asks role e channel r b).notes
-asks_quiet role e channel r b none = unless_quiet (request_refusal e.layer channel r) (asked e channel r) e none
-
-pub refuses_quiet : (role : Role) (e : PacketEnd) (channel : ℕ) (b : Book) → e.notes ≡ [] → IsQuiet (host_refuses role e channel b).notes
-refuses_quiet role e channel b none =
-    unless_quiet (refuse_refusal e channel) (asked e channel (Request.Clearing 0 0)) e none
-
-pub says_quiet : (role : Role) (e : PacketEnd) (channel : ℕ) (octets : List ℕ) (qualified delivery : Bool) (b : Book) → e.notes ≡ []
-    → IsQuiet (host_says role e channel octets qualified delivery b).notes
-says_quiet role e channel octets qualified delivery b none =
-    unless_quiet (say_refusal e.layer channel octets qualified) (queued channel (cut octets qualified delivery) e) e none
-
-taken_quiet : (front : Option Taken) (e : PacketEnd) (channel : ℕ) → e.notes ≡ [] → IsQuiet (taken_as front channel e).notes
-taken_quiet None e channel none = ap opening_notes none
-taken_quiet (Some x) e channel none = ended_quiet (let_go x channel (asked e channel Request.Taking))
-
-pub takes_quiet : (role : Role) (e : PacketEnd) (channel : ℕ) (b : Book) → e.notes ≡ [] → IsQuiet (host_takes role e channel b).notes
-takes_quiet role e channel b none = by (front_on e.layer channel)
-  where
-    by : (front : Option Taken) → IsQuiet (taken_turn front role e channel b).notes
-    by None = refl
-    by (Some x) = taken_quiet (front_on e.layer channel) e channel none
-
 -- ---- a key of a PAD
 
 sent_quiet : (block : Option (List ℕ)) (p : PadState) → p.end.notes ≡ [] → IsQuiet (with_block block p).end.notes
@@ -119,3 +88,25 @@ pub keys_quiet : (role : Role) (p : PadState) (octet : ℕ) (b : Book) → p.end
 keys_quiet role p octet b none =
     keyed_quiet (after_octet p octet).steps (after_octet p octet) role b
     (octet_quiet (stands p.end) (is_control p.params octet) p octet none)
+
+-- ---- what is left at the line
+
+either_read : (v : Bool) (k l : KeyEffect) → (key_event k k.steps).end.notes ≡ [] → (key_event l l.steps).end.notes ≡ []
+    → (key_event (if v then k else l) (if v then k else l).steps).end.notes ≡ []
+either_read true k l g h = g
+either_read false k l g h = h
+
+edited_read : (p : PadState) (octet : ℕ) (e : Effect) → p.end.notes ≡ [] → (key_event (edited_by p octet e) (edited_by p octet e).steps).end.notes ≡ []
+edited_read p octet e none = by e.held e.block
+  where
+    by : (held : List ℕ) (o : Option (List ℕ)) →
+        (key_event (edited_by p octet (record { held = held; block = o })) (edited_by p octet (record { held = held; block = o })).steps).end.notes ≡ []
+    by held None = none
+    by held (Some block) = refl
+
+pub keys_read : (p : PadState) (octet : ℕ) → p.end.notes ≡ [] → (keys p octet).end.notes ≡ []
+keys_read p octet none =
+    let e : Effect = after_key p.params octet p.held in
+    either_read (stands p.end) (if is_control p.params octet then key_without_effect p else typed p octet e) (key_without_effect p)
+    (either_read (is_control p.params octet) (key_without_effect p) (typed p octet e) none
+    (either_read (is_some e.block && (room p.end.layer 1 == 0)) (key_dropped p) (edited_by p octet e) none (edited_read p octet e none))) none

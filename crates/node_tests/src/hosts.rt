@@ -5,7 +5,7 @@ use frame_codec::FrameBuf;
 use link_timers::{Role, TimerId};
 use packet_codec::Address;
 use packet_end::{EndFault, EndParams};
-use packet_host::{Host, HostConfig};
+use packet_host::{Host, HostConfig, HostRequest};
 use packet_layer::{CallFault, ChannelFault, LayerNote, Taken};
 use std::alloc::Global;
 use std::process::Abort;
@@ -40,9 +40,9 @@ struct Line {
     dce: Station,
 }
 
-// What a user asks of the call on a channel.
+// What a user asks of the call on a channel, as a constant has it.
 #[derive(Clone, Copy)]
-enum Request {
+enum Asked {
     Answer,
     Refuse,
     Clear,
@@ -55,7 +55,7 @@ enum Request {
 #[derive(Clone, Copy)]
 enum Act<'a> {
     Call(&'a [u8], Result<u8, CallFault>),
-    Ask(Request, u8, Result<(), ChannelFault>),
+    Ask(Asked, u8, Result<(), ChannelFault>),
     // octets without Q, and with D or not
     Say(&'a [u8], bool, Result<(), ChannelFault>),
     SayQualified(&'a [u8], Result<(), ChannelFault>),
@@ -149,15 +149,16 @@ fn number(text: &[u8]) -> Address {
     }
 }
 
-fn ask(host: &mut Host, request: Request, channel: u8) -> Result<(), ChannelFault> {
-    match request {
-        Request::Answer => host.answer(channel),
-        Request::Refuse => host.refuse(channel),
-        Request::Clear => host.clear(channel),
-        Request::Reset => host.reset(channel),
-        Request::Stop => host.stop(channel),
-        Request::Go => host.go(channel),
-    }
+fn ask(host: &mut Host, asked: Asked, channel: u8) -> Result<(), ChannelFault> {
+    let request = match asked {
+        Asked::Answer => HostRequest::Answer,
+        Asked::Refuse => HostRequest::Refuse,
+        Asked::Clear => HostRequest::Clear,
+        Asked::Reset => HostRequest::Reset,
+        Asked::Stop => HostRequest::Stop,
+        Asked::Go => HostRequest::Go,
+    };
+    host.ask(channel, &request)
 }
 
 fn takes(host: &mut Host, octets: &[u8], more: bool, qualified: bool, delivery: bool) -> bool {
@@ -192,7 +193,7 @@ fn perform(station: &mut Station, act: Act<'_>) -> bool {
     let host = &mut station.host;
     match act {
         Call(address, answer) => host.call(number(address), &[]) == answer,
-        Ask(request, channel, answer) => ask(host, request, channel) == answer,
+        Ask(asked, channel, answer) => ask(host, asked, channel) == answer,
         Say(octets, delivery, answer) => host.say(CHANNEL, octets, false, delivery) == answer,
         SayQualified(octets, answer) => host.say(CHANNEL, octets, true, false) == answer,
         SayOn(channel, answer) => host.say(channel, b"X", false, false) == answer,
@@ -306,7 +307,7 @@ fn plays(rt: &impl Abort, alloc: Global, channels: u8, first: &[Step<'_>], steps
 const CONNECTED: &[Step<'static>] = &[
     At(Dte, Call(b"2001", Ok(4))),
     Flow,
-    At(Dce, Ask(Request::Answer, 4, Ok(()))),
+    At(Dce, Ask(Asked::Answer, 4, Ok(()))),
     Flow,
     At(Dte, Act::Told(&[Told::Connected(4)])),
     At(Dce, Act::Told(&[Told::Incoming(4)])),
@@ -324,13 +325,13 @@ fn a_call_is_set_up(rt: HostRuntime) {
         At(Dce, Sent(&[0x01, 0x41])),
         At(Dce, Act::Told(&[Told::Incoming(4)])),
         Flow,
-        At(Dce, Ask(Request::Answer, 4, Ok(()))),
+        At(Dce, Ask(Asked::Answer, 4, Ok(()))),
         At(Dce, Sent(&[0x03, 0x42, 0x10, 0x04, 0x0F])),
         Deliver(Dce),
         At(Dte, Sent(&[0x03, 0x41])),
         At(Dte, Act::Told(&[Told::Connected(4)])),
-        At(Dce, Ask(Request::Answer, 4, Err(ChannelFault::NoCall))),
-        At(Dce, Ask(Request::Refuse, 4, Err(ChannelFault::NoCall))),
+        At(Dce, Ask(Asked::Answer, 4, Err(ChannelFault::NoCall))),
+        At(Dce, Ask(Asked::Refuse, 4, Err(ChannelFault::NoCall))),
     ];
     plays(&rt, rt.alloc(), 4, &[], &steps);
 }
@@ -348,11 +349,11 @@ fn a_packet_without_a_type_is_acknowledged_and_ignored(rt: HostRuntime) {
 #[test]
 fn resets_cross(rt: HostRuntime) {
     let steps = [
-        At(Dte, Ask(Request::Reset, 4, Ok(()))),
+        At(Dte, Ask(Asked::Reset, 4, Ok(()))),
         At(Dte, SentPacket(&[0x10, 0x04, 0x1B, 0x00, 0x00])),
-        At(Dce, Ask(Request::Reset, 4, Ok(()))),
+        At(Dce, Ask(Asked::Reset, 4, Ok(()))),
         At(Dce, SentPacket(&[0x10, 0x04, 0x1B, 0x00, 0x00])),
-        At(Dte, Ask(Request::Reset, 4, Err(ChannelFault::Resetting))),
+        At(Dte, Ask(Asked::Reset, 4, Err(ChannelFault::Resetting))),
         Flow,
         At(Dte, Act::Told(&[])),
         At(Dce, Act::Told(&[])),
@@ -372,7 +373,7 @@ fn calls_collide(rt: HostRuntime) {
         At(Dte, Call(b"0003", Err(CallFault::NoChannel))),
         Flow,
         At(Dce, Act::Told(&[Told::Closed(1, 0), Told::Incoming(1)])),
-        At(Dce, Ask(Request::Answer, 1, Ok(()))),
+        At(Dce, Ask(Asked::Answer, 1, Ok(()))),
         Flow,
         At(Dte, Act::Told(&[Told::Connected(1)])),
     ];
@@ -456,12 +457,12 @@ fn interrupts_are_confirmed_when_taken(rt: HostRuntime) {
 #[test]
 fn a_host_stops_its_partner(rt: HostRuntime) {
     let steps = [
-        At(Dce, Ask(Request::Stop, 4, Ok(()))),
+        At(Dce, Ask(Asked::Stop, 4, Ok(()))),
         At(Dce, SentPacket(&[0x10, 0x04, 0x05])),
         Flow,
         At(Dte, Say(b"X", false, Ok(()))),
         At(Dte, SentNothing),
-        At(Dce, Ask(Request::Go, 4, Ok(()))),
+        At(Dce, Ask(Asked::Go, 4, Ok(()))),
         At(Dce, SentPacket(&[0x10, 0x04, 0x01])),
         Flow,
         At(Dce, Take(b"X", false, false, false)),
@@ -474,16 +475,16 @@ fn calls_are_refused_and_cleared(rt: HostRuntime) {
     let steps = [
         At(Dte, Call(b"2001", Ok(4))),
         Flow,
-        At(Dce, Ask(Request::Refuse, 4, Ok(()))),
+        At(Dce, Ask(Asked::Refuse, 4, Ok(()))),
         At(Dce, SentPacket(&[0x10, 0x04, 0x13, 0x00, 0x00])),
         At(Dce, Due(None)),
         At(Dce, Elapse(3600)),
         At(Dce, Due(Some(TimerId::T1))),
         Flow,
         At(Dte, Act::Told(&[Told::Closed(0, 0)])),
-        At(Dte, Ask(Request::Clear, 4, Err(ChannelFault::NoCall))),
+        At(Dte, Ask(Asked::Clear, 4, Err(ChannelFault::NoCall))),
         At(Dte, Call(b"2001", Ok(4))),
-        At(Dte, Ask(Request::Clear, 4, Ok(()))),
+        At(Dte, Ask(Asked::Clear, 4, Ok(()))),
     ];
     plays(&rt, rt.alloc(), 4, &[], &steps);
 }

@@ -1,27 +1,28 @@
 //! Worked examples: the nodes of a line on which a call stands, with its book.
-ghost use Rattle.std.specs.Prelude.{◌≡◌, ◌≤◌, [], IfOk, OnOk, vec_capacity};
+ghost use Rattle.std.specs.Prelude.{◌≡◌, []};
+ghost use Rattle.line_nodes.specs.Node.{end_of, pad_notes};
+ghost use Rattle.line_nodes.specs.NodeView.{node_of};
 
 use call_records::Book;
 use frame_codec::FrameBuf;
-use line_nodes::{HostNote, KeyAnswer, Node, NodeFault, Place, host, pad};
+use line_nodes::{KeyAnswer, Node, NodeFault, Place, write_notes, write_request, write_taken};
 use link_timers::Role;
-use packet_codec::Address;
 use packet_end::EndParams;
-use packet_host::{Host, HostConfig};
-use packet_layer::{CallFault, ChannelFault, UserData};
+use packet_host::{Host, HostConfig, HostRequest};
+use packet_layer::{CallFault, ChannelFault, Taken, UserData};
 use packet_pad::{Pad, PadConfig};
 use std::alloc::{AllocError, Global};
 use std::process::Abort;
 use std::test::Fail;
 use x3_params::{Params, Profile};
 
-const DTE_NODE: usize = 3;
-
-// The host is the DCE.
-const AT_DCE: Place = Place {
-    role: Role::Dce,
-    node: 5,
+// The PAD is the DTE, the host the DCE.
+const AT_DTE: Place = Place {
+    role: Role::Dte,
+    node: 3,
 };
+
+const DCE_NODE: usize = 5;
 
 // A call stands on channel 1 of two.
 const LINE: EndParams = EndParams {
@@ -33,7 +34,7 @@ const LINE: EndParams = EndParams {
 };
 
 fn new_book(alloc: Global) -> Result<Book, AllocError> {
-    Book::new(alloc, DTE_NODE, AT_DCE.node, LINE.channels, LINE.standing)
+    Book::new(alloc, AT_DTE.node, DCE_NODE, LINE.channels, LINE.standing)
 }
 
 fn new_host(rt: &impl Abort, alloc: Global) -> Host {
@@ -50,7 +51,10 @@ fn new_host(rt: &impl Abort, alloc: Global) -> Host {
 }
 
 // A carriage return forwards.
-fn new_pad(rt: &impl Abort, alloc: Global) -> Pad {
+fn new_pad(rt: &impl Abort, alloc: Global) -> Pad
+    ensures noted { result.notes ≡ [] }
+    ensures read { result.end.notes ≡ [] }
+{
     let mut params = Params::profile(Profile::Simple, 14);
     assert_eq!(rt; params.set(3, 2), Ok(()));
     match Pad::new(alloc, PadConfig { line: LINE, params }) {
@@ -59,84 +63,42 @@ fn new_pad(rt: &impl Abort, alloc: Global) -> Pad {
     }
 }
 
-// Before an event the notes of the last one are read; the book has room, and the list of what the host is told is
-// empty.
-fn ready(alloc: Global, host: &mut Host, book: &mut Book) -> Result<Vec<HostNote>, AllocError>
-    ensures read { host.new.notes ≡ [] }
-    ensures room { OnOk result (book.new.room ≡ 8) }
-    ensures empty { IfOk result (λ notes. notes.items ≡ []) }
-    ensures capacity { IfOk result (λ notes. 96 ≤ vec_capacity notes) }
-{
-    while host.notes().is_some() {}
-    book.reserve(8)?;
-    Vec::with_capacity(alloc, 96)
-}
-
-fn calls(
-    alloc: Global,
-    host: &mut Host,
-    address: Address,
-    book: &mut Book,
-) -> Result<Result<u8, CallFault>, AllocError> {
-    let mut notes = ready(alloc, host, book)?;
-    Ok(host::call(host, AT_DCE, address, &[], book, &mut notes))
-}
-
-fn says(
-    alloc: Global,
-    host: &mut Host,
-    octets: &[u8],
-    book: &mut Book,
-) -> Result<Result<(), ChannelFault>, AllocError> {
-    let mut notes = ready(alloc, host, book)?;
-    Ok(host::say(host, AT_DCE, 1, octets, false, true, book, &mut notes))
-}
-
-// What a host asks in these examples.
-#[derive(Clone, Copy)]
-enum Asked {
-    Answer,
-    Refuse,
-    Clear,
-    Reset,
-    Interrupt,
-    Stop,
-    Go,
-}
-
+// A host is asked something on channel 1, which is written where it is not refused.
 fn asks(
-    alloc: Global,
     host: &mut Host,
-    asked: Asked,
+    request: &HostRequest,
     book: &mut Book,
 ) -> Result<Result<(), ChannelFault>, AllocError> {
-    let mut notes = ready(alloc, host, book)?;
-    Ok(match asked {
-        Asked::Answer => host::answer(host, AT_DCE, 1, book, &mut notes),
-        Asked::Refuse => host::refuse(host, AT_DCE, 1, book, &mut notes),
-        Asked::Clear => host::clear(host, AT_DCE, 1, book, &mut notes),
-        Asked::Reset => host::reset(host, AT_DCE, 1, book, &mut notes),
-        Asked::Interrupt => host::interrupt(host, AT_DCE, 1, &[7, 8], book, &mut notes),
-        Asked::Stop => host::stop(host, AT_DCE, 1, book, &mut notes),
-        Asked::Go => host::go(host, AT_DCE, 1, book, &mut notes),
-    })
+    book.reserve(8)?;
+    match host.ask(1, request) {
+        Ok(()) => {
+            write_request(book, Role::Dce, 1, request);
+            Ok(Ok(()))
+        }
+        Err(fault) => Ok(Err(fault)),
+    }
 }
 
-fn takes_nothing(alloc: Global, host: &mut Host, book: &mut Book) -> Result<bool, AllocError> {
-    let mut notes = ready(alloc, host, book)?;
-    Ok(host::take(host, AT_DCE, 1, book, &mut notes).is_none())
-}
-
-fn read_all(pad: &mut Pad)
-    ensures { pad.new.end.notes ≡ [] }
+// A key at the PAD, with what is written of it.
+fn types(
+    alloc: Global,
+    node: &mut Node,
+    octet: u8,
+    book: &mut Book,
+) -> Result<KeyAnswer, AllocError>
+    requires noted { pad_notes (node_of node.old) ≡ [] }
+    requires read { (end_of (node_of node.old)).notes ≡ [] }
+    ensures noted { pad_notes (node_of node.new) ≡ [] }
+    ensures read { (end_of (node_of node.new)).notes ≡ [] }
 {
-    while pad.notes().is_some() {}
-}
-
-fn types(pad: &mut Pad, octet: u8, book: &mut Book) -> Result<KeyAnswer, AllocError> {
-    read_all(pad);
+    let mut notes = Vec::with_capacity(alloc, 96)?;
     book.reserve(2)?;
-    Ok(pad::key(pad, Role::Dte, octet, book))
+    let Node::Pad(pad) = node else {
+        return Ok(KeyAnswer::Dropped);
+    };
+    let answer = pad.on_key(octet);
+    write_notes(node, AT_DTE, book, &mut notes);
+    Ok(answer)
 }
 
 fn is_packet(packet: Option<&UserData>, octets: &[u8], more: bool, delivery: bool) -> bool {
@@ -158,28 +120,29 @@ fn is_closed(book: &Book, number: usize) -> bool {
     }
 }
 
-fn writes_keys(rt: &impl Abort, pad: &mut Pad, book: &mut Book) -> Result<(), Fail> {
-    for octet in *b"HI\r" {
-        assert_eq!(rt; types(pad, octet, book)?, KeyAnswer::Taken);
-    }
-    let Some(record) = book.records().get(0) else {
-        panic!(rt; "a record");
-    };
-    assert_eq!(rt; record.steps.len(), 3);
-    assert_eq!(rt; record.sent.packets.len(), 1);
-    assert!(rt; is_packet(record.sent.packets.get(0), b"HI\r", false, false));
-    for _ in 0..9 {
-        assert_eq!(rt; types(pad, b'\r', book)?, KeyAnswer::Taken);
-    }
-    assert_eq!(rt; types(pad, b'\r', book)?, KeyAnswer::Dropped);
+// H, I and CR are typed.
+fn types_keys(alloc: Global, node: &mut Node, book: &mut Book) -> Result<(), AllocError>
+    requires noted { pad_notes (node_of node.old) ≡ [] }
+    requires read { (end_of (node_of node.old)).notes ≡ [] }
+{
+    let _ = types(alloc, node, b'H', book)?;
+    let _ = types(alloc, node, b'I', book)?;
+    let _ = types(alloc, node, b'\r', book)?;
     Ok(())
 }
 
 #[test]
 fn keys_are_written(rt: HostRuntime) -> Result<(), Fail> {
     let mut book = new_book(rt.alloc())?;
-    let mut pad = new_pad(&rt, rt.alloc());
-    writes_keys(&rt, &mut pad, &mut book)
+    let mut node = Node::Pad(new_pad(&rt, rt.alloc()));
+    types_keys(rt.alloc(), &mut node, &mut book)?;
+    let Some(record) = book.records().get(0) else {
+        panic!(rt; "a record");
+    };
+    assert_eq!(rt; record.steps.len(), 3);
+    assert_eq!(rt; record.sent.packets.len(), 1);
+    assert!(rt; is_packet(record.sent.packets.get(0), b"HI\r", false, false));
+    Ok(())
 }
 
 fn writes_what_is_said(
@@ -188,18 +151,24 @@ fn writes_what_is_said(
     host: &mut Host,
     book: &mut Book,
 ) -> Result<(), Fail> {
-    assert_eq!(rt; says(alloc, host, &[b'A'; 130], book)?, Ok(()));
-    assert_eq!(rt;
-        says(alloc, host, &[b'A'; 1025], book)?,
-        Err(ChannelFault::TooLong)
-    );
+    let message = HostRequest::Say {
+        octets: Vec::from_array(alloc, [b'A'; 130])?,
+        qualified: false,
+        delivery: true,
+    };
+    assert_eq!(rt; asks(host, &message, book)?, Ok(()));
+    let long = HostRequest::Say {
+        octets: Vec::from_array(alloc, [b'A'; 1025])?,
+        qualified: false,
+        delivery: true,
+    };
+    assert_eq!(rt; asks(host, &long, book)?, Err(ChannelFault::TooLong));
     let Some(record) = book.records().get(1) else {
         panic!(rt; "a record");
     };
     assert_eq!(rt; record.sent.packets.len(), 2);
     assert!(rt; is_packet(record.sent.packets.get(0), &[b'A'; 128], true, false));
     assert!(rt; is_packet(record.sent.packets.get(1), b"AA", false, true));
-    assert!(rt; takes_nothing(alloc, host, book)?);
     Ok(())
 }
 
@@ -216,32 +185,28 @@ fn writes_what_is_asked(
     host: &mut Host,
     book: &mut Book,
 ) -> Result<(), Fail> {
-    for asked in [Asked::Stop, Asked::Go, Asked::Interrupt, Asked::Reset] {
-        assert_eq!(rt; asks(alloc, host, asked, book)?, Ok(()));
+    let interrupt = HostRequest::Interrupt {
+        octets: Vec::from_array(alloc, [7, 8])?,
+    };
+    for request in [
+        &HostRequest::Stop,
+        &HostRequest::Go,
+        &interrupt,
+        &HostRequest::Reset,
+    ] {
+        assert_eq!(rt; asks(host, request, book)?, Ok(()));
     }
-    assert_eq!(rt;
-        asks(alloc, host, Asked::Interrupt, book)?,
-        Err(ChannelFault::Resetting)
-    );
+    assert_eq!(rt; asks(host, &interrupt, book)?, Err(ChannelFault::Resetting));
     let Some(record) = book.records().get(1) else {
         panic!(rt; "a record");
     };
     assert_eq!(rt; record.sent_before.len(), 1);
     assert!(rt; !record.closed);
-    for asked in [Asked::Answer, Asked::Refuse] {
-        assert_eq!(rt; asks(alloc, host, asked, book)?, Err(ChannelFault::NoCall));
+    for request in [&HostRequest::Answer, &HostRequest::Refuse] {
+        assert_eq!(rt; asks(host, request, book)?, Err(ChannelFault::NoCall));
     }
-    assert_eq!(rt; asks(alloc, host, Asked::Clear, book)?, Ok(()));
+    assert_eq!(rt; asks(host, &HostRequest::Clear, book)?, Ok(()));
     assert!(rt; is_closed(book, 1));
-    assert_eq!(rt;
-        calls(alloc, host, Address::new(&[2, 0, 0, 1]), book)?,
-        Ok(2)
-    );
-    assert_eq!(rt;
-        calls(alloc, host, Address::new(&[2, 0, 0, 1]), book)?,
-        Err(CallFault::NoChannel)
-    );
-    assert_eq!(rt; book.present(Role::Dce, 2), Some(2));
     Ok(())
 }
 
@@ -252,33 +217,39 @@ fn what_a_host_asks_is_written(rt: HostRuntime) -> Result<(), Fail> {
     writes_what_is_asked(&rt, rt.alloc(), &mut host, &mut book)
 }
 
-fn closes_by_restarts(
-    rt: &impl Abort,
-    host: &mut Node,
-    pad: &mut Node,
-    book: &mut Book,
-) -> Result<(), Fail> {
+#[test]
+fn what_a_host_takes_is_written(rt: HostRuntime) -> Result<(), Fail> {
+    let mut book = new_book(rt.alloc())?;
+    book.reserve(1)?;
+    let packet = UserData::new(b"HI", false, false, false);
+    write_taken(&mut book, Role::Dce, 1, &Taken::Data(packet));
+    let Some(record) = book.records().get(1) else {
+        panic!(rt; "a record");
+    };
+    assert!(rt; is_packet(record.taken.packets.get(0), b"HI", false, false));
+    assert_eq!(rt; record.taken.released, 1);
+    Ok(())
+}
+
+fn begin_anew(rt: &impl Abort, host: &mut Node, pad: &mut Node) {
     assert!(rt; pad.is_pad() && !host.is_pad());
     assert!(rt; pad.is_at_rest() && host.is_at_rest());
     assert!(rt; host.confirmed(1) && !pad.confirmed(1));
-    host.restart(Role::Dce, book);
-    assert!(rt; !is_closed(book, 0) && is_closed(book, 1));
-    pad.restart(Role::Dte, book);
-    assert!(rt; is_closed(book, 0));
+    host.restart();
+    assert!(rt; !host.confirmed(1));
+    pad.restart();
     assert_eq!(rt; pad.waiting_frames(), 1);
     let mut frame = FrameBuf::new();
     assert!(rt; pad.out(&mut frame) && !pad.out(&mut frame));
     pad.elapse(60);
     assert!(rt; pad.due().is_some());
-    Ok(())
 }
 
 #[test]
-fn a_restart_closes_the_calls(rt: HostRuntime) -> Result<(), Fail> {
-    let mut book = new_book(rt.alloc())?;
+fn a_restart_ends_the_calls(rt: HostRuntime) {
     let mut host = Node::Host(new_host(&rt, rt.alloc()));
     let mut pad = Node::Pad(new_pad(&rt, rt.alloc()));
-    closes_by_restarts(&rt, &mut host, &mut pad, &mut book)
+    begin_anew(&rt, &mut host, &mut pad);
 }
 
 #[test]

@@ -5,8 +5,9 @@ use frame_codec::FrameBuf;
 use link_timers::{Role, TimerId};
 use packet_codec::{Address, CallData};
 use packet_end::{EndFault, EndParams, PacketEnd};
-use packet_layer::{LayerNote, Taken};
-use packet_pad::{KeyResult, Pad, PadConfig};
+use packet_layer::{LayerNote, Request, Taken};
+use packet_pad::{KeyAnswer, Pad, PadConfig, PadNote};
+use pad_editing::Block;
 use std::alloc::Global;
 use std::process::Abort;
 use x3_params::{Params, Profile};
@@ -14,10 +15,11 @@ use x3_params::{Params, Profile};
 // The frames that one direction of a line carries, in order.
 type Frames = ArrayVec<FrameBuf, 16>;
 
-// What the PAD was told of a call, and whether it refused one that came in: of a clear the cause and the diagnostic.
+// What the PAD was told of a call, and that it cleared one that came in: of a clear the cause and the diagnostic.
 #[derive(Clone, Copy, Debug, Default, PartialEq, Eq)]
 enum Told {
-    Refused(u8),
+    Incoming(u8),
+    Cleared(u8),
     Closed(u8, u8),
     #[default]
     Reset,
@@ -32,6 +34,13 @@ struct Line {
     sent: Frames,
     answered: Frames,
     told: ArrayVec<Told, 16>,
+}
+
+// What the notes of a key say: whether it edited, and the block that it sent.
+#[derive(Drop)]
+struct Noted {
+    edited: bool,
+    sent: Option<Block>,
 }
 
 // What a key does.
@@ -60,7 +69,6 @@ enum Step<'a> {
     Stands(bool),
     Rests(bool),
     Parameter(u8, Option<u8>),
-    Refuse(u8, bool),
     Expire(TimerId, bool),
     Elapse(u16),
     Due(TimerId),
@@ -75,7 +83,7 @@ enum Step<'a> {
 use Effect::{Dropped, Edits, Ends, NoStep};
 use Step::{
     Due, Elapse, Expire, FarCalls, FarResets, FarTakes, Flow, Hear, HearFar, Key, Parameter,
-    Refuse, Relink, Restart, Rests, Sent, SentFrames, Stands,
+    Relink, Restart, Rests, Sent, SentFrames, Stands,
 };
 
 const PARAMS: EndParams = EndParams {
@@ -101,27 +109,41 @@ fn tell(line: &mut Line, told: Told) {
     }
 }
 
-// Reads the notes, and refuses a call that comes in.
-fn read_notes(line: &mut Line) {
-    for _ in 0..line.pad.waiting_notes() {
+// What the PAD was told by its packet layer.
+fn told_of(note: &LayerNote) -> Option<Told> {
+    match note {
+        LayerNote::Incoming(channel, _) => Some(Told::Incoming(*channel)),
+        LayerNote::Closed {
+            cause,
+            diagnostic,
+            ..
+        } => Some(Told::Closed(*cause, *diagnostic)),
+        LayerNote::Reset { .. } => Some(Told::Reset),
+        LayerNote::Covered { count, .. } => Some(Told::Covered(*count)),
+        _ => None,
+    }
+}
+
+// Reads the notes, of which an event has 97 at most.
+fn read_notes(line: &mut Line) -> Noted {
+    let mut noted = Noted {
+        edited: false,
+        sent: None,
+    };
+    for _ in 0..97 {
         match line.pad.notes() {
-            Some(LayerNote::Incoming(channel, _)) => {
-                if line.pad.refuse(channel) {
-                    tell(line, Told::Refused(channel));
+            Some(PadNote::Told(note)) => {
+                if let Some(told) = told_of(&note) {
+                    tell(line, told);
                 }
             }
-            Some(
-                LayerNote::Closed {
-                    cause,
-                    diagnostic,
-                    ..
-                },
-            ) => tell(line, Told::Closed(cause, diagnostic)),
-            Some(LayerNote::Reset { .. }) => tell(line, Told::Reset),
-            Some(LayerNote::Covered { count, .. }) => tell(line, Told::Covered(count)),
-            _ => {}
+            Some(PadNote::Cleared(channel)) => tell(line, Told::Cleared(channel)),
+            Some(PadNote::Edited { .. }) => noted.edited = true,
+            Some(PadNote::Sent { block, .. }) => noted.sent = Some(block),
+            None => {}
         }
     }
+    noted
 }
 
 // Takes the frames that an event has left.
@@ -142,11 +164,7 @@ fn collect(line: &mut Line) {
 
 // Ends an event that came from the line at the PAD.
 fn end_event(line: &mut Line) {
-    read_notes(line);
-    if line.pad.waiting_notes() == 0 {
-        line.pad.finish();
-    }
-    read_notes(line);
+    let _ = read_notes(line);
     collect(line);
 }
 
@@ -186,14 +204,16 @@ fn flow(line: &mut Line) {
 }
 
 fn key(line: &mut Line, octet: u8, effect: Effect<'_>) -> bool {
-    let result = line.pad.on_key(octet);
-    read_notes(line);
+    let answer = line.pad.on_key(octet);
+    let Noted { edited, sent } = read_notes(line);
     collect(line);
-    match (result, effect) {
-        (KeyResult::Dropped, Dropped) => true,
-        (KeyResult::NoStep, NoStep) => true,
-        (KeyResult::Step(None), Edits) => true,
-        (KeyResult::Step(Some(block)), Ends(octets)) => block.as_slice() == octets,
+    match (effect, sent) {
+        (Dropped, None) => answer == KeyAnswer::Dropped && !edited,
+        (NoStep, None) => answer == KeyAnswer::Taken && !edited,
+        (Edits, None) => answer == KeyAnswer::Taken && edited,
+        (Ends(octets), Some(block)) => {
+            answer == KeyAnswer::Taken && edited && block.as_slice() == octets
+        }
         _ => false,
     }
 }
@@ -212,7 +232,7 @@ fn expire(line: &mut Line, timer: TimerId) -> bool {
 
 fn far_takes(line: &mut Line, octets: &[u8]) -> bool {
     let taken = line.far.take(1);
-    line.far.release(1, 1);
+    let _ = line.far.ask(1, &Request::Release(1));
     end_far_event(line);
     match taken {
         Some(Taken::Data(data)) => {
@@ -223,7 +243,11 @@ fn far_takes(line: &mut Line, octets: &[u8]) -> bool {
 }
 
 fn far_resets(line: &mut Line) -> bool {
-    let answer = line.far.reset(1, 0, 0);
+    let request = Request::Reset {
+        cause: 0,
+        diagnostic: 0,
+    };
+    let answer = line.far.ask(1, &request);
     end_far_event(line);
     answer == Ok(())
 }
@@ -255,7 +279,6 @@ fn fits(line: &mut Line, step: Step<'_>) -> bool {
         Stands(answer) => return line.pad.stands() == answer,
         Rests(answer) => return line.pad.is_at_rest() == answer,
         Parameter(number, value) => return line.pad.params().get(number) == value,
-        Refuse(channel, answer) => return line.pad.refuse(channel) == answer,
         Expire(timer, ran) => return expire(line, timer) == ran,
         Elapse(ticks) => line.pad.elapse(ticks),
         Due(timer) => return line.pad.due() == Some(timer),
@@ -419,10 +442,8 @@ fn a_new_session_closes_the_call(rt: HostRuntime) {
         Flow,
         FarCalls,
         HearFar,
-        Step::Told(&[Told::Refused(1)]),
+        Step::Told(&[Told::Incoming(1), Told::Cleared(1)]),
         Sent(&[0x01, 0x42, 0x10, 0x01, 0x13, 0x00, 0x00]),
-        Refuse(1, false),
-        Refuse(2, false),
     ];
     plays(&rt, rt.alloc(), PARAMS, params(&rt), &steps);
 }

@@ -10,8 +10,8 @@ use Rattle.packet_layer.specs.Channel.{Request}
 use Rattle.packet_layer.specs.Layer.{room, request_refusal}
 use Rattle.packet_end.specs.PacketEnd.{PacketEnd, begun, asked}
 use Rattle.packet_pad.specs.Pad.{PadState, stands, after_finish}
-use Rattle.packet_pad.specs.declared.key.KeyResult.{KeyResult}
-use Rattle.packet_pad.specs.declared.key.KeyResult.TheVariants as key_result
+use Rattle.packet_pad.specs.declared.key.KeyAnswer.{KeyAnswer}
+use Rattle.packet_pad.specs.declared.key.KeyAnswer.TheVariants as answer
 
 -- the PAD after a key, whether the key was dropped, and where it edited: its step, and the packets that went into the
 -- send queue
@@ -72,10 +72,7 @@ AllTaken [] e = Unit {0}
 AllTaken (d ∷ ds) e = (request_refusal e.layer 1 (Request.Sending d) ≡ None)
     × AllTaken ds (asked e 1 (Request.Sending d))
 
--- what the code says of a key: it was dropped; it made no step; it made one, and the block that it ended, if any,
--- went in a packet
-abbrev pub IsKeyResult : ℕ → List ℕ → KeyResult → KeyEffect → Type 0
-IsKeyResult octet params key_result.Dropped e = (e.dropped ≡ true) × (e.steps ≡ []) × (e.sent ≡ [])
-IsKeyResult octet params key_result.NoStep e = (e.dropped ≡ false) × (e.steps ≡ []) × (e.sent ≡ [])
-IsKeyResult octet params (key_result.Step block) e =
-    (e.dropped ≡ false) × (e.steps ≡ key octet params ∷ []) × (e.sent ≡ map message (option_to_list block))
+-- what the PAD answers
+abbrev pub key_answer : (dropped : Bool) → KeyAnswer
+key_answer true = answer.Dropped
+key_answer false = answer.Taken

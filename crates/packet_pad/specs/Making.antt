@@ -7,4 +7,4 @@ use Rattle.packet_pad.specs.declared.config.PadConfig.{PadConfig}
 
 -- the DTE of its line as it is made, with nothing held
 abbrev pub made : PadConfig → PadState
-made c = record { end = end.made Dte c.line; held = []; params = c.params; initial = c.params }
+made c = record { end = end.made Dte c.line; held = []; params = c.params; initial = c.params; notes = [] }

@@ -6,13 +6,16 @@ use Rattle.packet_layer.specs.Channel.{Refusal, Request}
 use Rattle.packet_layer.specs.Layer.{flow_refusal}
 use Rattle.packet_end.specs.PacketEnd.{PacketEnd, begun, finished, asked, received, runs_at, after_timer}
 use Rattle.packet_end.specs.PacketEnd as end
+use Rattle.packet_pad.specs.Notes.{PadNote}
 
--- the end of the line, the text that is held, and the values of the parameters, those in force and the initial ones
+-- the end of the line, the text that is held, the values of the parameters, those in force and the initial ones, and
+-- the notes that are not read
 pub record PadState : Type 0 where
   pub end : PacketEnd
   pub held : List ℕ
   pub params : List ℕ
   pub initial : List ℕ
+  pub notes : List PadNote
 
 -- ---- the call
 
@@ -30,7 +33,7 @@ held_in e held = cond (stands e) held []
 
 -- ---- the line
 
--- the end of an event
+-- the end of an event at the line
 abbrev pub after_finish : PadState → PadState
 after_finish p = record p { end = finished p.end; held = held_in (finished p.end) p.held }
 
@@ -51,6 +54,6 @@ refusing = Request.Clearing 0 0
 abbrev pub after_refuse : PadState → (channel : ℕ) → PadState
 after_refuse p channel = record p { end = asked p.end channel refusing }
 
--- the PAD begins anew: nothing is held, and the parameters have their initial values
+-- the PAD begins anew: nothing is held, the parameters have their initial values, and nothing is noted
 abbrev pub after_restart : PadState → PadState
-after_restart p = record p { end = end.restarted p.end; held = []; params = p.initial }
+after_restart p = record p { end = end.restarted p.end; held = []; params = p.initial; notes = [] }

@@ -1,14 +1,10 @@
 //! What a key does.
 
-use pad_editing::Block;
-
-/// What a PAD did with a key.
-#[derive(Drop)]
-pub enum KeyResult {
+/// Whether a PAD took a key.
+#[derive(Clone, Copy, Debug, PartialEq, Eq)]
+pub enum KeyAnswer {
+    /// It edited the held text, or had no effect.
+    Taken,
     /// It was dropped: it would have ended a block, which had no place in the send queue.
     Dropped,
-    /// It had no effect.
-    NoStep,
-    /// It edited the held text. A block that it ended was sent in one Data packet, with neither M nor Q nor D.
-    Step(Option<Block>),
 }

@@ -7,9 +7,11 @@ ghost use Rattle.packet_pad.specs.Pad as spec;
 ghost use Rattle.packet_pad.specs.Making.{made};
 
 mod line;
+mod noting;
 mod typing;
 
 use crate::config::PadConfig;
+use crate::note::PadNotes;
 use link_timers::Role;
 use packet_end::{EndFault, PacketEnd};
 use packet_layer::ChannelFault;
@@ -21,19 +23,19 @@ use x3_params::Params;
 /// The channel of the call that stands.
 const CHANNEL: u8 = 1;
 
-/// A PAD at the DTE's end of a line, for the terminal that types on the call of channel 1. It neither places nor
-/// accepts a call: once the call is over its keys have no effect.
+/// A PAD at the DTE's end of a line, for the terminal that types on the call of channel 1. It places no call and clears
+/// each that comes in: once its call is over its keys have no effect.
 ///
-/// What comes from the line is an event in two parts: `on_frame`, `on_timer` or `relink`, after which the notes are
-/// taken and a call that came in is refused by `refuse`; then `finish`, after which further notes and the frames are
-/// taken by `notes` and `out`. A key is an event by itself where it ends a block. What was not taken when the next
-/// event begins is gone, a frame as if the line had lost it.
+/// `on_frame`, `on_timer`, `relink`, and a key that edits, are each one event, whose notes are then taken by `notes` and
+/// whose frames by `out`. Notes that were not taken are gone when the next event begins, and so are frames, as if the
+/// line had lost them, where it is one of the line or a key that ends a block.
 #[derive(Drop)]
 pub struct Pad {
     end: PacketEnd,
     editor: Editor,
     params: Params,
     initial: Params,
+    notes: PadNotes,
 }
 
 impl Model for Pad {
@@ -62,6 +64,7 @@ impl Pad {
             editor: Editor::new(),
             params: config.params,
             initial: config.params,
+            notes: PadNotes::new(alloc)?,
         })
     }
 

@@ -11,7 +11,7 @@ use Rattle.packet_layer.specs.Packets.Note.{Incoming, Connected, Closed, WasRese
 use Rattle.packet_layer.specs.Traffic.{Taken}
 use Rattle.packet_layer.specs.Traffic.Taken.{TakenInterrupt, TakenPacket}
 use Rattle.call_records.specs.Records.{RecordValue, PairValue, new_record, changed_at, with_closed, with_epoch, with_sent, with_step, with_taken, with_interrupt_taken, with_interrupt_sent, with_released, with_covered}
-use Rattle.call_records.specs.Book.{Book, Side, Slot, side_of, nth_slot, slot_at, with_slot, with_change, changed, with_record, address_of, places, with_pair, answers, closes, renews, sends, interrupts, takes, releases, edits, packet_of, told, all_told}
+use Rattle.call_records.specs.Book.{Book, Side, Slot, side_of, nth_slot, slot_at, with_slot, with_change, changed, with_record, address_of, places_from, with_pair, answers, closes, renews, sends, interrupts, takes, releases, edits, packet_of, told, all_told}
 use Rattle.call_records.specs.Closing.{closes_if, closes_present, closed_from, all_closed}
 use Rattle.pad_laws.specs.Typed.{IsTyped}
 use Rattle.pad_laws.specs.PadHolds.{node_at, HasItsRecords, IsLeft, NoneCame}
@@ -316,10 +316,10 @@ far_takes role P held c None b h = h
 far_takes role P held c (Some (TakenInterrupt octets)) b h = quiet_holds role P held b (slot_at (other_of role) c b).present (with_interrupt_taken octets) (interrupt_taken_quiet octets) h
 far_takes role P held c (Some (TakenPacket d)) b h = quiet_holds role P held b (slot_at (other_of role) c b).present (with_taken (packet_of d)) (taken_quiet (packet_of d)) h
 
-pub far_places : (role : Role) (P : Type 0) (held : List ℕ) (c : ℕ) (called : List ℕ) (b : Book) → BookHolds role P held b → BookHolds role P held (places (other_of role) c called b)
-far_places role P held c called b h =
+pub far_places : (role : Role) (P : Type 0) (held : List ℕ) (c : ℕ) (calling called : List ℕ) (b : Book) → BookHolds role P held b → BookHolds role P held (places_from (other_of role) c calling called b)
+far_places role P held c calling called b h =
     opens_holds role P held b (other_of role) c (record { present = Some (length b.records); placed = Some (length b.records); caller = None })
-    None (address_of called) refl (λ p same one. other_differs role (sym same)) h
+    (address_of calling) (address_of called) refl (λ p same one. other_differs role (sym same)) h
 
 -- a pair more
 pub side_pairs : (ps : List PairValue) (b : Book) (y : Role) → side_of y (record b { pairs = ps }) ≡ side_of y b

@@ -92,7 +92,7 @@ far_key_kept role n p octet b h = kept_by role n b _ (keyed_keeps role (after_oc
 
 placed_keeps : (role : Role) (o : Option ℕ) (parts : CallParts) (b : Book) → Keeps role b (placed_on (other_of role) o parts b)
 placed_keeps role None parts b P held h = h
-placed_keeps role (Some c) parts b P held h = far_places role P held c parts.called b h
+placed_keeps role (Some c) parts b P held h = far_places role P held c parts.calling parts.called b h
 
 pub far_calls_kept : FarCallsLaw
 far_calls_kept role n e parts b h =

@@ -128,7 +128,7 @@ placed_stays : (x : Role) (o : Option ℕ) (parts : CallParts) (b : Book) → No
 placed_stays x None parts b = λ y. refl
 placed_stays x (Some c) parts b =
     opens_stays x c (record { present = Some (length b.records); placed = Some (length b.records); caller = None })
-    (new_record (length b.records) (side_of x b).node None (address_of parts.called)) b
+    (new_record (length b.records) (side_of x b).node (address_of parts.calling) (address_of parts.called)) b
 
 pair_stays : (m n : Option ℕ) (b : Book) → NodesStay b (with_pair m n b)
 pair_stays (Some caller) (Some callee) b = λ y. ap (λ (z : Side). z.node) (side_pairs _ b y)

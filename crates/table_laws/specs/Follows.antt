@@ -11,6 +11,10 @@ use Rattle.reset_restart.specs.declared.reset.ResetStep.{ResetStep}
 use Rattle.reset_restart.specs.declared.restart.RestartNote.{RestartNote}
 use Rattle.reset_restart.specs.declared.restart.RestartNote.TheVariants as restart_notes
 use Rattle.reset_restart.specs.declared.restart.RestartStep.{RestartStep}
+use Rattle.packet_codec.specs.ClearCause as clear_cause
+use Rattle.packet_codec.specs.ResetCause as reset_cause
+use Rattle.packet_codec.specs.RestartCause as restart_cause
+use Rattle.packet_codec.specs.Diagnostic.{no_information}
 use Rattle.packet_layer.specs.Packets.{Body, Reason}
 use Rattle.packet_layer.specs.Packets.Body.{Call, Clear, Reset, Restart}
 use Rattle.packet_layer.specs.Packets.Note.{Incoming, Connected, Closed, WasReset}
@@ -22,17 +26,18 @@ use Rattle.table_laws.specs.States.{call_state, reset_state, restart_state, type
 -- ---- calls
 
 -- what the note of a row tells the user, of a packet that came on channel c or, where none came, of what the user did.
--- A call ends with cause and diagnostic of the Clear that came, or with cause 19, a local procedure error, and the
+-- A call ends with cause and diagnostic of the Clear that came, or with that of a local procedure error and the
 -- diagnostic of the row
 abbrev pub TellsCall : ℕ → Option Body → Channel → CallNote → Option ℕ → Step → Type 0
 TellsCall c came ch call_notes.Nothing error done = done.notes ≡ []
 TellsCall c (Some (Call parts)) ch call_notes.Incoming error done = done.notes ≡ Incoming c parts ∷ []
 TellsCall c came ch call_notes.Connected error done = done.notes ≡ Connected c ∷ []
 TellsCall c (Some (Call parts)) ch call_notes.Cancelled error done = done.notes
-    ≡ Closed c 1 0 Cancelled ∷ Incoming c parts ∷ []
+    ≡ Closed c clear_cause.number_busy no_information Cancelled ∷ Incoming c parts ∷ []
 TellsCall c (Some (Clear cause diagnostic)) ch call_notes.Cleared None done = done.notes
     ≡ Closed c cause diagnostic FarEnd ∷ []
-TellsCall c came ch call_notes.Cleared (Some diagnostic) done = done.notes ≡ Closed c 19 diagnostic LocalFault ∷ []
+TellsCall c came ch call_notes.Cleared (Some diagnostic) done = done.notes
+    ≡ Closed c clear_cause.local_procedure_error diagnostic LocalFault ∷ []
 TellsCall c came ch call_notes.Discarded error done = done ≡ quiet ch
 TellsCall c came ch _ error done = ⊥
 
@@ -44,7 +49,8 @@ pub record FollowsCall (role : Role) (c : ℕ) (came : Option Body) (ch : Channe
     pub begins : in_transfer ch.state ≡ false → ch.resetting ≡ false → done.channel.resetting ≡ false
     pub kept : done.channel.owed ≡ ch.owed
     pub owed : option_map type_of done.owes ≡ row.owed
-    pub error : IfSome row.error (λ diagnostic. done.owes ≡ Some (Clear (error_cause role 19) diagnostic))
+    pub error : IfSome row.error
+        (λ diagnostic. done.owes ≡ Some (Clear (error_cause role clear_cause.local_procedure_error) diagnostic))
     pub told : TellsCall c came ch row.note row.error done
 
 -- ---- resets
@@ -53,7 +59,8 @@ abbrev pub TellsReset : ℕ → Option Body → Channel → ResetNote → Option
 TellsReset c came ch reset_notes.Nothing error done = done.notes ≡ []
 TellsReset c (Some (Reset cause diagnostic)) ch reset_notes.Reset None done = done.notes
     ≡ WasReset c cause diagnostic FarEnd ∷ []
-TellsReset c came ch reset_notes.Reset (Some diagnostic) done = done.notes ≡ WasReset c 5 diagnostic LocalFault ∷ []
+TellsReset c came ch reset_notes.Reset (Some diagnostic) done = done.notes
+    ≡ WasReset c reset_cause.local_procedure_error diagnostic LocalFault ∷ []
 TellsReset c came ch reset_notes.Discarded error done = done ≡ quiet ch
 TellsReset c came ch _ error done = ⊥
 
@@ -64,7 +71,8 @@ pub record FollowsReset (role : Role) (c : ℕ) (came : Option Body) (ch : Chann
   pub state : reset_state role done.channel.resetting ≡ row.state
   pub kept : done.channel.owed ≡ ch.owed
   pub owed : option_map type_of done.owes ≡ row.owed
-  pub error : IfSome row.error (λ diagnostic. done.owes ≡ Some (Reset (error_cause role 5) diagnostic))
+  pub error : IfSome row.error
+      (λ diagnostic. done.owes ≡ Some (Reset (error_cause role reset_cause.local_procedure_error) diagnostic))
   pub told : TellsReset c came ch row.note row.error done
 
 -- ---- restarts
@@ -91,7 +99,8 @@ pub record FollowsRestart (l : Layer) (row : RestartStep) (done : Layer) : Type 
   pub state : restart_state l.role done.phase ≡ Some row.state
   pub owes : Option Body
   pub owed : option_map type_of owes ≡ row.owed
-  pub error : IfSome row.error (λ diagnostic. owes ≡ Some (Restart (error_cause l.role 1) diagnostic))
+  pub error : IfSome row.error
+      (λ diagnostic. owes ≡ Some (Restart (error_cause l.role restart_cause.local_procedure_error) diagnostic))
   pub kept : done.owed ≡ with_owed l.owed owes
   pub relink : done.relink ≡ set_if (passes_limit l.owed owes) l.relink
   pub told : TellsRestart l row.note row.error done

@@ -1,5 +1,5 @@
 -- The rows of the state tables that an event on a channel meets. In data transfer the reset table has the first word.
-use Rattle.std.specs.Prelude.{ℕ, cond, Option, Some, None}
+use Rattle.std.specs.Prelude.{ℕ, if◌then◌else◌, Option, Some, None}
 use Rattle.std.specs.Option.{option_map}
 use Rattle.link_timers.specs.declared.role.Role.{Role}
 use Rattle.call_states.specs.declared.table.CallEvent.TheVariants as call_events
@@ -40,7 +40,10 @@ call_row role ch (Faulty c) =
 -- ---- the reset table, in p4 alone
 
 abbrev pub reset_row_of : Role → Channel → ResetEvent → Option ResetStep
-reset_row_of role ch event = cond (in_transfer ch.state) (reset_step role (reset_state role ch.resetting) event) None
+reset_row_of role ch event =
+    if in_transfer ch.state
+    then reset_step role (reset_state role ch.resetting) event
+    else None
 
 abbrev pub reset_row : Role → Channel → Received → Option ResetStep
 reset_row role ch (Whole p) = reset_row_of role ch (reset_events.Received (type_of p.body))

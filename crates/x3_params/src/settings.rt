@@ -128,6 +128,13 @@ impl Params {
         self.values[9]
     }
 
+    /// The speed of the terminal, which is read only (parameter 11).
+    pub fn speed(&self) -> u8
+        ensures { result ≡ value self.now 11 }
+    {
+        self.values[10]
+    }
+
     /// Whether the terminal may stop the PAD's output by DC3 (parameter 12).
     pub fn has_flow_control(&self) -> bool
         ensures { result ≡ settings.has_flow_control self.now }

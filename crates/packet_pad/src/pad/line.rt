@@ -1,75 +1,56 @@
 //! What comes from the line and what goes to it.
-ghost use Rattle.std.specs.Prelude.{◌≡◌, ◌≤◌, ◌∷◌, [], true, None, length, is_some, slice_get};
+ghost use Rattle.std.specs.Prelude.{◌≡◌, ◌≤◌, ◌∷◌, [], length};
 ghost use Rattle.std.specs.Bool.{OnTrue, OnFalse};
-ghost use Rattle.packet_layer.specs.Layer.{request_refusal};
-ghost use Rattle.packet_layer.specs.NoteView.{maybe_note};
 ghost use Rattle.packet_end.specs.PacketEnd as end;
 ghost use Rattle.packet_end.specs.Timing.{TimersAgree};
-ghost use Rattle.packet_pad.specs.Pad.{refusing, after_frame, after_expiry, after_relink, after_refuse, after_finish};
 ghost use Rattle.packet_pad.specs.Pad.{after_restart};
+ghost use Rattle.packet_pad.specs.Events.{hears, expires, relinks};
 
 use crate::pad::Pad;
 use frame_codec::FrameBuf;
 use line_end::MOST_FRAMES;
 use link_timers::TimerId;
-use packet_end::MOST_NOTES;
-use packet_layer::LayerNote;
 
 impl Pad {
-    /// Begins an event by the octets of a received frame (X.25 2.4, 3 to 5).
+    /// Takes the octets of a received frame (X.25 2.4, 3 to 5). A call that comes in is cleared, with cause 0 and
+    /// diagnostic 0. Where the call of the terminal stands no longer the held text is dropped.
     pub fn on_frame(&mut self, octets: &[u8])
-        ensures pad { self.new ≡ after_frame self.old octets.now }
-        ensures notes { length self.new.end.notes ≤ 64 }
+        ensures pad { self.new ≡ hears self.old octets.now }
+        ensures nothing_kept_back { end.KeepsNothingBack self.new.end }
+        ensures timers { TimersAgree self.new.end.layer self.new.end.timers }
     {
+        self.notes.clear();
         self.end.begin();
         self.end.on_frame(octets);
+        self.end_line_event();
     }
 
-    /// Begins an event by an expiry of a timer, and answers whether it ran. Where it did not nothing happens.
+    /// Takes an expiry of a timer, as `on_frame` a frame, and answers whether it ran. Where it did not nothing happens.
     pub fn on_timer(&mut self, id: TimerId) -> bool
         ensures ran { result ≡ end.runs_at self.old.end id }
-        ensures pad { self.new ≡ after_expiry self.old id }
-        ensures notes { OnTrue result (length self.new.end.notes ≤ 64) }
+        ensures pad { self.new ≡ expires self.old id }
+        ensures nothing_kept_back { OnTrue result (end.KeepsNothingBack self.new.end) }
     {
         if !self.end.is_running(id) {
             return false;
         }
+        self.notes.clear();
         self.end.begin();
         self.end.on_timer(id);
+        self.end_line_event();
         true
     }
 
-    /// Begins an event by giving the link up and setting it up again: all calls close.
+    /// Gives the link up and sets it up again: all calls close, and the held text is dropped.
     pub fn relink(&mut self)
-        ensures pad { self.new ≡ after_relink self.old }
-        ensures notes { length self.new.end.notes ≤ 64 }
-    {
-        self.end.begin();
-        self.end.relink();
-    }
-
-    /// Clears a call that came in on the channel, with cause 0 and diagnostic 0 (X.25 4.1.7), and answers whether there
-    /// was one. It clears any call that the channel has.
-    pub fn refuse(&mut self, channel: u8) -> bool
-        ensures refused { OnTrue result (request_refusal self.old.end.layer channel refusing ≡ None) }
-        ensures no_call { OnFalse result (is_some (request_refusal self.old.end.layer channel refusing) ≡ true) }
-        ensures pad { self.new ≡ after_refuse self.old channel }
-    {
-        self.end.clear(channel, 0, 0).is_ok()
-    }
-
-    /// Ends an event: a relink where it is due, then all packets that may go, and the link sends what may go. Where the
-    /// call stands no longer the held text is dropped.
-    pub fn finish(&mut self)
-        requires { length self.old.end.notes ≤ 64 }
-        ensures pad { self.new ≡ after_finish self.old }
+        ensures pad { self.new ≡ relinks self.old }
         ensures nothing_kept_back { end.KeepsNothingBack self.new.end }
         ensures timers { TimersAgree self.new.end.layer self.new.end.timers }
     {
-        self.end.finish();
-        if !self.stands() {
-            self.editor.discard();
-        }
+        self.notes.clear();
+        self.end.begin();
+        self.end.relink();
+        self.end_line_event();
     }
 
     /// Begins anew after a restart of the PAD, with the initial parameters. What went before is forgotten, also held
@@ -78,6 +59,7 @@ impl Pad {
         ensures { self.new ≡ after_restart self.old }
     {
         self.end.restart();
+        self.notes.clear();
         self.editor.discard();
         self.params = self.initial;
     }
@@ -90,14 +72,6 @@ impl Pad {
         ensures pad { self.new ≡ record self.old { end = end.without_first_frame self.old.end } }
     {
         self.end.out(frame)
-    }
-
-    /// Takes the next note of the event, if there is one.
-    pub fn notes(&mut self) -> Option<LayerNote>
-        ensures note { maybe_note result ≡ slice_get self.old.end.notes 0 }
-        ensures pad { self.new ≡ record self.old { end = end.without_first_note self.old.end } }
-    {
-        self.end.notes()
     }
 
     /// Lets ticks pass, each a twentieth of a second: each timer that runs has so many less, not below 0.
@@ -120,14 +94,6 @@ impl Pad {
         ensures most { result ≤ MOST_FRAMES }
     {
         self.end.waiting_frames()
-    }
-
-    /// How many notes wait to be taken, at most [`MOST_NOTES`].
-    pub fn waiting_notes(&self) -> usize
-        ensures count { result ≡ length self.now.end.notes }
-        ensures most { result ≤ MOST_NOTES }
-    {
-        self.end.waiting_notes()
     }
 
     /// Whether the link is up with nothing unacknowledged and nothing to be said, no packet is owed, and nothing waits

@@ -1,0 +1,145 @@
+//! What the network writes into the book of a line: what a user asked, and what a node noted.
+ghost use Rattle.std.specs.Prelude.{◌≡◌, ◌≤◌, [], Some, length, vec_capacity};
+ghost use Rattle.packet_layer.specs.TakenView.{taken_of};
+ghost use Rattle.packet_host.specs.Saying.{cut};
+ghost use Rattle.packet_pad.specs.Events.{without_notes};
+ghost use Rattle.call_records.specs.Book.{takes, all_told};
+ghost use Rattle.call_records.specs.Room.{opening_notes};
+ghost use Rattle.line_nodes.specs.Node.{all_read};
+ghost use Rattle.line_nodes.specs.NodeView.{node_of};
+ghost use Rattle.line_nodes.specs.Notes.{host_notes, user_notes};
+ghost use Rattle.line_nodes.specs.Turn.{all_sent};
+ghost use Rattle.line_nodes.specs.HostTurns.{let_go};
+ghost use Rattle.line_nodes.specs.Writing.{request_written, IsShort, all_noted, HaveRoom, reads, IsRoomFor};
+
+use crate::node::Node;
+use crate::note::HostNote;
+use crate::place::Place;
+use call_records::{Book, EditStep};
+use link_timers::Role;
+use packet_codec::MAX_USER_DATA;
+use packet_end::MOST_NOTES;
+use packet_host::{Host, HostRequest, full_packets};
+use packet_layer::Taken;
+use packet_pad::{Pad, PadNote};
+
+/// Writes what a host was asked on a channel and did not refuse. The book has room for it: a message has eight packets
+/// at most.
+pub fn write_request(book: &mut Book, role: Role, channel: u8, request: &HostRequest)
+    requires short { IsShort request.now }
+    requires room { 8 ≤ book.old.room }
+    ensures { book.new.book ≡ request_written role channel request.now book.old.book }
+{
+    match request {
+        HostRequest::Answer => book.answer(role, channel),
+        HostRequest::Refuse | HostRequest::Clear => book.close(role, channel),
+        HostRequest::Say {
+            octets,
+            qualified,
+            delivery,
+        } => write_message(
+            book,
+            role,
+            channel,
+            octets.as_slice(),
+            *qualified,
+            *delivery,
+        ),
+        HostRequest::Interrupt { octets } => book.interrupt(role, channel, octets.as_slice()),
+        HostRequest::Reset => book.renew(role, channel),
+        HostRequest::Stop | HostRequest::Go => {}
+    }
+}
+
+/// Writes what a host took on a channel: a packet is released at once.
+pub fn write_taken(book: &mut Book, role: Role, channel: u8, taken: &Taken)
+    requires { 1 ≤ book.old.room }
+    ensures { book.new.book ≡ let_go (taken_of taken.now) role channel
+        (takes role channel (Some (taken_of taken.now)) book.old.book) }
+{
+    book.take(role, channel, taken);
+    if let Taken::Data(_) = taken {
+        book.release(role, channel, 1);
+    }
+}
+
+/// Reads the notes of an event at a node, and writes them. `notes` lists those that the user of a host is told, in
+/// order; it is empty before, with [`MOST_NOTES`] places.
+pub fn write_notes(node: &mut Node, at: Place, book: &mut Book, notes: &mut Vec<HostNote>)
+    requires room { IsRoomFor (node_of node.old) book.old.room }
+    requires empty { notes.old.items ≡ [] }
+    requires capacity { MOST_NOTES ≤ vec_capacity notes.old }
+    ensures node { node_of node.new ≡ (reads at.role (node_of node.old) book.old.book).node }
+    ensures book { book.new.book ≡ (reads at.role (node_of node.old) book.old.book).book }
+    ensures notes { notes.new.items ≡ user_notes (node_of node.old) at.node
+        (reads at.role (node_of node.old) book.old.book).notes }
+{
+    match node {
+        Node::Pad(pad) => write_pad_notes(pad, at.role, book),
+        Node::Host(host) => write_host_notes(host, at, book, notes),
+    }
+}
+
+// Writes the packets of a message.
+fn write_message(
+    book: &mut Book,
+    role: Role,
+    channel: u8,
+    octets: &[u8],
+    qualified: bool,
+    delivery: bool,
+)
+    requires fits { length octets.now ≤ 1024 }
+    requires room { 8 ≤ book.old.room }
+    ensures { book.new.book ≡ all_sent role channel (cut octets.now qualified delivery) book.old.book }
+{
+    let mut rest = octets;
+    for _ in 0..full_packets(octets) {
+        let (packet, others) = rest.split_at(MAX_USER_DATA);
+        book.send(role, channel, packet, true, qualified, false);
+        rest = others;
+    }
+    book.send(role, channel, rest, false, qualified, delivery);
+}
+
+// Reads the notes of a PAD, and writes them.
+fn write_pad_notes(pad: &mut Pad, role: Role, book: &mut Book)
+    requires { HaveRoom pad.old.notes book.old.room }
+    ensures pad { pad.new ≡ without_notes pad.old }
+    ensures book { book.new.book ≡ all_noted role pad.old.notes book.old.book }
+{
+    while let Some(note) = pad.notes() {
+        match note {
+            PadNote::Told(note) => book.tell(role, &note),
+            PadNote::Cleared(channel) => book.close(role, channel),
+            PadNote::Edited {
+                channel,
+                octet,
+                params,
+            } => book.edit(role, channel, EditStep::Key { octet, params }),
+            PadNote::Sent { channel, block } => {
+                book.send(role, channel, block.as_slice(), false, false, false);
+            }
+        }
+    }
+}
+
+// Reads the notes of a host, writes them, and lists those that its user is told.
+fn write_host_notes(host: &mut Host, at: Place, book: &mut Book, notes: &mut Vec<HostNote>)
+    requires opening { opening_notes host.old.notes ≤ 1 }
+    requires room { opening_notes host.old.notes ≤ book.old.room }
+    requires empty { notes.old.items ≡ [] }
+    requires capacity { MOST_NOTES ≤ vec_capacity notes.old }
+    ensures host { host.new ≡ all_read host.old }
+    ensures book { book.new.book ≡ all_told at.role host.old.notes book.old.book }
+    ensures notes { notes.new.items ≡ host_notes at.node host.old.notes }
+{
+    for _ in 0..host.waiting_notes() {
+        if let Some(note) = host.notes() {
+            book.tell(at.role, &note);
+            if let Some(kept) = HostNote::of(at.node, &note) {
+                notes.push_reserved(kept);
+            }
+        }
+    }
+}
