@@ -9,7 +9,7 @@ use Rattle.std.specs.Option.{IsSome}
 use Rattle.call_records.specs.Records.{RecordValue, PairValue}
 use Rattle.call_records.specs.Book.{Slot}
 use Rattle.book_laws.proofs.Basics.{role_is, number_is, get_before, get_pushed, length_pushed}
-use Rattle.book_laws.proofs.Invariant.{EndView, CallStatus, ChannelUse, Kind, Tag, BookParts, IsLive, Stands, Means, Fits, HasEpochs, Present, SlotIs, PlacedIs, IsPair, IsRight, epoch_at, called_at, answered_at, now, sent_of, taken_of}
+use Rattle.book_laws.proofs.Invariant.{EndView, CallStatus, ChannelUse, Kind, Tag, BookParts, IsLive, Stands, Means, Fits, HasEpochs, Present, SlotIs, PlacedIs, IsPair, IsRight, epoch_at, called_at, answered_at, now, sent_of, taken_of, sent_as, taken_as}
 use Rattle.book_laws.proofs.Invariant.CallStatus.{Idle, OwnCall, FarCall, Open}
 use Rattle.book_laws.proofs.Invariant.Kind.{Caller, Callee, Cancelled}
 use Rattle.book_laws.proofs.Carrying.{slot_same, placed_same, past_same, channel_use_same}
@@ -31,9 +31,9 @@ present_more f tags more x c slot p = record {
 
 slot_more : (m : CallStatus) (f : EndView) (tags more : List Tag) (x : Role) (c : ℕ) (slot : Slot) → SlotIs m f tags x c slot → SlotIs m f (tags ++ more) x c slot
 slot_more Idle f tags more x c slot w = w
-slot_more OwnCall f tags more x c slot w = (present_more f tags more x c slot w.0, w.1)
+slot_more OwnCall f tags more x c slot w = (present_more f tags more x c slot w.0, w.1, w.2)
 slot_more FarCall f tags more x c slot w = (present_more f tags more x c slot w.0, w.1, w.2, w.3)
-slot_more Open f tags more x c slot w = present_more f tags more x c slot w
+slot_more Open f tags more x c slot w = (present_more f tags more x c slot w.0, w.1)
 
 pub placed_more : (o : Option ℕ) (f : EndView) (tags more : List Tag) (x : Role) (c : ℕ) → PlacedIs o f tags x c → PlacedIs o f (tags ++ more) x c
 placed_more None f tags more x c w = w
@@ -45,7 +45,7 @@ placed_more (Some n) f tags more x c w = record {
   channel = w.channel;
   session = w.session;
   called = w.called;
-  calling = w.calling;
+  own = w.own;
   far = w.far;
   placed = w.placed;
   last = w.last;
@@ -169,7 +169,6 @@ module _ (x : Role) (s c : ℕ) (views views' : Role → EndView) (b : BookParts
       let o = w.means n t there in
       record {
         caller = λ e. let z = o.caller e in record {
-          own = z.own;
           not_answered = answered_of t.role t.channel_use ∙ z.not_answered;
           paired = λ a. z.paired (sym (answered_of (other_of t.role) t.channel_use) ∙ a);
         };
@@ -224,8 +223,8 @@ module _ (x : Role) (s c : ℕ) (views views' : Role → EndView) (b : BookParts
         own = o.own;
         far = o.far;
         tells = λ live. record {
-          sent = λ g. (o.tells live).sent g ∙ sym (k.0 t.channel_use g);
-          taken = λ g. (o.tells live).taken g ∙ sym (k.1 t.channel_use g);
+          sent = λ g. sent_as _ _ _ (k.0 t.channel_use g) ((o.tells live).sent g);
+          taken = λ g. taken_as _ _ _ (k.1 t.channel_use g) ((o.tells live).taken g);
         };
         none = o.none;
         epochs = λ up is live. subst (λ (m : ℕ). HasEpochs r m) (sym (k.3 t.channel_use.session t.channel_use.channel)) (o.epochs (sym k.4 ∙ up) (is ∙ k.2 t.channel_use.session t.channel_use.channel) live);
@@ -270,7 +269,7 @@ module _ (x : Role) (s c : ℕ) (views views' : Role → EndView) (b : BookParts
   slot_here d (inr e) =
       subst (λ (m : CallStatus). SlotIs m (views' x) (tags ++ t0 ∷ []) x d (slots x d)) (sym (q.here.status d e))
       (subst (λ (z : Slot). SlotIs ((views x).status d) (views' x) (tags ++ t0 ∷ []) x d z) (sym (q.slots_else d e))
-      (slot_same ((views x).status d) (views x) (views' x) (tags ++ t0 ∷ []) x d (b.slots x d) q.here.session (λ k up. now_is k d)
+      (slot_same ((views x).status d) (views x) (views' x) (tags ++ t0 ∷ []) x d (b.slots x d) q.here.session (λ k up. now_is k d) (λ k h. q.here.answered k ∙ h)
       (slot_more ((views x).status d) (views x) tags (t0 ∷ []) x d (b.slots x d) (w.slot x d))))
 
   slot_of : (y : Role) (d : ℕ) → SlotIs ((views' y).status d) (views' y) (tags ++ t0 ∷ []) y d (slots y d)

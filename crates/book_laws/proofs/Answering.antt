@@ -7,10 +7,11 @@ use Rattle.packet_layer.specs.Packets.{CallParts}
 use Rattle.std.specs.Option.{IsSome}
 use Rattle.call_records.specs.Records.{RecordValue, PairValue}
 use Rattle.book_laws.proofs.Basics.{role_is, number_is, twice, get_before, get_pushed, get_last}
-use Rattle.book_laws.proofs.Invariant.{EndView, CallStatus, ChannelUse, Tag, BookParts, IsLive, Stands, Means, Fits, HasEpochs, Present, SlotIs, IsPair, IsPaired, IsRight, caller_of, callee_of, epoch_at, called_at, answered_at, now, sent_of, taken_of}
+use Rattle.std.proofs.lemmas.Option.{same_Some}
+use Rattle.book_laws.proofs.Invariant.{EndView, CallStatus, ChannelUse, Tag, BookParts, IsLive, Stands, Means, Fits, HasEpochs, Present, SlotIs, IsPair, IsPaired, IsRight, caller_of, callee_of, epoch_at, called_at, answered_at, now, sent_of, taken_of, sent_as, taken_as}
 use Rattle.book_laws.proofs.Invariant.CallStatus.{FarCall, Open}
 use Rattle.book_laws.proofs.Invariant.Kind.{Caller, Callee}
-use Rattle.book_laws.proofs.Carrying.{SameEnd, same_end, stands_same, slot_same, placed_same, now_same, is_present, same_tag}
+use Rattle.book_laws.proofs.Carrying.{SameEnd, same_end, stands_same, slot_same, present_same, placed_same, now_same, is_present, same_tag}
 use Rattle.book_laws.proofs.Cancelling.{caller_not_callee, caller_not_cancelled, callee_not_cancelled}
 
 pub record AnswersAt (f f' : EndView) (s c : ℕ) : Type 0 where
@@ -30,6 +31,7 @@ pub record Answers (x : Role) (c : ℕ) (views views' : Role → EndView) (b : B
   pub there : views' (other_of x) ≡ views (other_of x)
   pub own : Present (views x) tags x c (b.slots x c)
   pub kind : own.tag.kind ≡ Callee a
+  pub caller : (b.slots x c).caller ≡ Some a
   pub number : own.number ≡ n
   pub here : AnswersAt (views x) (views' x) own.session c
 
@@ -99,7 +101,6 @@ module _ (x : Role) (c : ℕ) (views views' : Role → EndView) (b : BookParts) 
       let o = w.means n t there in
       record {
         caller = λ e. let z = o.caller e in record {
-          own = z.own;
           not_answered = elim (answered_of t.role t.channel_use) [
             | inl h ↦ h ∙ z.not_answered
             | inr h ↦ absurd (not_caller n t there h.0 h.1 e)
@@ -158,21 +159,30 @@ module _ (x : Role) (c : ℕ) (views views' : Role → EndView) (b : BookParts) 
         own = o.own;
         far = o.far;
         tells = λ live. record {
-          sent = λ g. (o.tells live).sent g ∙ sym (k.0 t.channel_use g);
-          taken = λ g. (o.tells live).taken g ∙ sym (k.1 t.channel_use g);
+          sent = λ g. sent_as _ _ _ (k.0 t.channel_use g) ((o.tells live).sent g);
+          taken = λ g. taken_as _ _ _ (k.1 t.channel_use g) ((o.tells live).taken g);
         };
         none = o.none;
         epochs = λ up is live. subst (λ (m : ℕ). HasEpochs r m) (sym (k.2 t.channel_use.session t.channel_use.channel))
             (o.epochs (sym s.session ∙ up) (is ∙ now_same (views t.role) (views' t.role) s t.channel_use.session t.channel_use.channel) live);
       }
 
+  still_answered : (y : Role) (k : ChannelUse) → answered_at (views y) k ≡ true → answered_at (views' y) k ≡ true
+  still_answered y k h =
+      elim (answered_of y k) [
+        | inl e ↦ e ∙ h
+        | inr e ↦ subst (λ (z : Role). answered_at (views' z) k ≡ true) (sym e.0) (ap (λ (u : ChannelUse). answered_at (views' x) u) e.1 ∙ q.here.since)
+      ]
+
   slot_else : (y : Role) (d : ℕ) → (views' y).status d ≡ (views y).status d → SlotIs ((views' y).status d) (views' y) tags y d (b.slots y d)
   slot_else y d e = subst (λ (m : CallStatus). SlotIs m (views' y) tags y d (b.slots y d)) (sym e)
-      (slot_same ((views y).status d) (views y) (views' y) tags y d (b.slots y d) (same_of y).session (λ s u. now_same (views y) (views' y) (same_of y) s d) (w.slot y d))
+      (slot_same ((views y).status d) (views y) (views' y) tags y d (b.slots y d) (same_of y).session (λ s u. now_same (views y) (views' y) (same_of y) s d) (still_answered y) (w.slot y d))
 
   slot_own : SlotIs ((views' x).status c) (views' x) tags x c (b.slots x c)
-  slot_own = subst (λ (m : CallStatus). SlotIs m (views' x) tags x c (b.slots x c)) (sym q.here.opens)
-      (slot_same Open (views x) (views' x) tags x c (b.slots x c) (same_of x).session (λ s u. now_same (views x) (views' x) (same_of x) s c) q.own)
+  slot_own = subst (λ (m : CallStatus). SlotIs m (views' x) tags x c (b.slots x c)) (sym q.here.opens) (
+    present_same (views x) (views' x) tags x c (b.slots x c) (same_of x).session (λ s u. now_same (views x) (views' x) (same_of x) s c) q.own,
+    λ i e. (q.kind ∙ ap (λ (k : ℕ). Callee k) (same_Some a i (sym q.caller ∙ e)), ap (λ (u : ChannelUse). answered_at (views' x) u) q.own.channel_use ∙ q.here.since),
+  )
 
   slot_of : (y : Role) (d : ℕ) → SlotIs ((views' y).status d) (views' y) tags y d (b.slots y d)
   slot_of y d =

@@ -43,7 +43,7 @@ slot_call : (m : CallStatus) (f : EndView) (tags : List Tag) (x : Role) (c : ℕ
 slot_call Idle f tags x c slot h = ap is_some h
 slot_call OwnCall f tags x c slot h = ap is_some h.0.is_present
 slot_call FarCall f tags x c slot h = ap is_some h.0.is_present
-slot_call Open f tags x c slot h = ap is_some h.is_present
+slot_call Open f tags x c slot h = ap is_some h.0.is_present
 
 kept_beside : (n : ℕ) (w : World) → KeptIn n w → IsBeside w
 kept_beside n w k = record { channels = λ role. channels role; present = λ role c. present role c }

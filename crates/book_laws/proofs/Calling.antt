@@ -11,7 +11,7 @@ use Rattle.std.specs.Option.{IsSome}
 use Rattle.call_records.specs.Records.{new_record}
 use Rattle.call_records.specs.Book.{Slot, address_of}
 use Rattle.book_laws.proofs.Basics.{twice, get_last, get_before}
-use Rattle.book_laws.proofs.Invariant.{EndView, CallStatus, ChannelUse, Kind, Tag, BookParts, Stands, Means, Fits, Tells, HasEpochs, Present, SlotIs, IsPlaced, PlacedIs, UpTo, IsPast, IsRight, IsCallee, epoch_at, called_at, answered_at, now, sent_of, taken_of, nth_sent, nth_taken, nothing_passed}
+use Rattle.book_laws.proofs.Invariant.{EndView, CallStatus, ChannelUse, Kind, Tag, BookParts, Stands, Means, Fits, Tells, HasEpochs, Present, SlotIs, IsPlaced, PlacedIs, UpTo, IsPast, IsRight, IsCallee, epoch_at, called_at, answered_at, now, sent_of, taken_of, nth_sent, nth_taken, nothing_passed, own_sent, own_taken, sent_as, taken_as, nothing_sent_yet, nothing_taken_yet}
 use Rattle.book_laws.proofs.Invariant.CallStatus.{OwnCall, FarCall}
 use Rattle.book_laws.proofs.Invariant.Kind.{Caller, Callee, Cancelled}
 use Rattle.book_laws.proofs.Carrying.{channel_use_same, placed_same}
@@ -59,8 +59,8 @@ module _ (f f' : EndView) (s c node n : ℕ) (slots : ℕ → Slot) (own far : O
     own = sym o;
     far = sym a;
     tells = λ l. subst (λ (k : ChannelUse). Tells f' k (new_record n node own far)) (sym e) (record {
-      sent = λ g. none_sent g ∙ sym (q.sent (now f s c) g ∙ new.sent g);
-      taken = λ g. none_taken g ∙ sym (q.taken (now f s c) g ∙ new.taken g);
+      sent = λ g. own_sent nothing_passed _ _ (none_sent g) (sent_as nothing_passed nothing_passed _ (q.sent (now f s c) g ∙ new.sent g) nothing_sent_yet);
+      taken = λ g. own_taken nothing_passed _ _ (none_taken g) (taken_as nothing_passed nothing_passed _ (q.taken (now f s c) g ∙ new.taken g) nothing_taken_yet);
     });
     none = λ k. absurd (live k);
     epochs = λ up is l. subst (λ (k : ChannelUse). HasEpochs (new_record n node own far) (f'.histories k.session k.channel).epoch) (sym e)
@@ -74,7 +74,6 @@ pub record Places (x : Role) (s c : ℕ) (parts : CallParts) (views views' : Rol
   pub here : Adds (views x) (views' x) s c
   pub new : IsNew (views x) s c
   pub called : called_at (views' x) (now (views x) s c) ≡ Some parts
-  pub calling : parts.calling ≡ []
   pub not_answered : answered_at (views (other_of x)) (now (views x) s c) ≡ false
   pub earlier : (k : ChannelUse) → k.session ≡ s → k.channel ≡ c → IsSome (called_at (views x) k) → IsPast k ((views x).histories s c)
   pub status : (views' x).status c ≡ OwnCall
@@ -84,7 +83,7 @@ pub record Places (x : Role) (s c : ℕ) (parts : CallParts) (views views' : Rol
 
 module _ (x : Role) (s c : ℕ) (parts : CallParts) (views views' : Role → EndView) (b : BookParts) (slots : Role → ℕ → Slot) (tags : List Tag) (w : IsRight views b tags) (q : Places x s c parts views views' b slots) where
   abbrev pub placed_tag : Tag
-  placed_tag = record { role = x; channel_use = now (views x) s c; kind = Caller; own = None; far = address_of parts.called }
+  placed_tag = record { role = x; channel_use = now (views x) s c; kind = Caller; own = address_of parts.calling; far = address_of parts.called }
 
   now_is : now (views' x) s c ≡ now (views x) s c
   now_is = channel_use_same s c ((views x).histories s c) ((views' x).histories s c) (q.here.restart s c) (q.here.uses s c)
@@ -117,7 +116,6 @@ module _ (x : Role) (s c : ℕ) (parts : CallParts) (views views' : Role → End
   means : Means (views' x) (views' (other_of x)) b.pairs (tags ++ placed_tag ∷ []) (length b.records) placed_tag
   means = record {
     caller = λ e. record {
-      own = refl;
       not_answered = q.here.answered (now (views x) s c) ∙ q.new.not_answered;
       paired = λ v. absurd (true≢false (sym v ∙ ap (λ (f : EndView). answered_at f (now (views x) s c)) q.there ∙ q.not_answered));
     };
@@ -134,7 +132,7 @@ module _ (x : Role) (s c : ℕ) (parts : CallParts) (views views' : Role → End
     channel = refl;
     session = let h = w.tops x s q.here.up in let t = q.here.top in omega arith;
     called = q.called;
-    calling = q.calling;
+    own = refl;
     far = refl;
     placed = λ a e. caller_not_callee a e;
     last = last;
@@ -153,7 +151,7 @@ module _ (x : Role) (s c : ℕ) (parts : CallParts) (views views' : Role → End
     live = caller_not_cancelled;
   }
 
-  begins : Begins x s c views views' b slots tags placed_tag (new_record (length b.records) (b.nodes x) None (address_of parts.called))
+  begins : Begins x s c views views' b slots tags placed_tag (new_record (length b.records) (b.nodes x) (address_of parts.calling) (address_of parts.called))
   begins = record {
     there = q.there;
     here = q.here;
@@ -162,15 +160,15 @@ module _ (x : Role) (s c : ℕ) (parts : CallParts) (views views' : Role → End
     role = refl;
     channel_use = refl;
     live = caller_not_cancelled;
-    stands = new_stands (views x) (views' x) s c (b.nodes x) (length b.records) (slots x) None (address_of parts.called) Caller q.here q.new placed_tag refl (ap (λ (z : Slot). z.present) q.slot);
+    stands = new_stands (views x) (views' x) s c (b.nodes x) (length b.records) (slots x) (address_of parts.calling) (address_of parts.called) Caller q.here q.new placed_tag refl (ap (λ (z : Slot). z.present) q.slot);
     means = means;
-    fits = new_fits (views x) (views' x) s c (b.nodes x) (length b.records) (slots x) None (address_of parts.called) Caller q.here q.new placed_tag refl refl refl caller_not_cancelled;
-    slot = subst (λ (m : CallStatus). SlotIs m (views' x) (tags ++ placed_tag ∷ []) x c (slots x c)) (sym q.status) (present, refl);
+    fits = new_fits (views x) (views' x) s c (b.nodes x) (length b.records) (slots x) (address_of parts.calling) (address_of parts.called) Caller q.here q.new placed_tag refl refl refl caller_not_cancelled;
+    slot = subst (λ (m : CallStatus). SlotIs m (views' x) (tags ++ placed_tag ∷ []) x c (slots x c)) (sym q.status) (present, refl, ap (λ (z : Slot). z.caller) q.slot);
     placed = subst (λ (o : Option ℕ). PlacedIs o (views' x) (tags ++ placed_tag ∷ []) x c) (sym (ap (λ (z : Slot). z.placed) q.slot)) is_placed;
   }
 
-  pub placing_right : (tags' : List Tag) × IsRight views' (record b { slots = slots; records = b.records ++ new_record (length b.records) (b.nodes x) None (address_of parts.called) ∷ [] }) tags'
-  placing_right = (tags ++ placed_tag ∷ [], added_right x s c views views' b slots tags placed_tag (new_record (length b.records) (b.nodes x) None (address_of parts.called)) w begins)
+  pub placing_right : (tags' : List Tag) × IsRight views' (record b { slots = slots; records = b.records ++ new_record (length b.records) (b.nodes x) (address_of parts.calling) (address_of parts.called) ∷ [] }) tags'
+  placing_right = (tags ++ placed_tag ∷ [], added_right x s c views views' b slots tags placed_tag (new_record (length b.records) (b.nodes x) (address_of parts.calling) (address_of parts.called)) w begins)
 
 -- ---- a call comes in
 
@@ -213,7 +211,7 @@ module _ (x : Role) (s c : ℕ) (parts : CallParts) (views views' : Role → End
     pub channel_use : tag.channel_use ≡ now (views x) s c
     pub kind : tag.kind ≡ Caller
     pub far : tag.far ≡ address_of parts.called
-    pub calling : parts.calling ≡ []
+    pub own : tag.own ≡ address_of parts.calling
 
   mate_in : (o : Option ℕ) → (b.slots (other_of x) c).placed ≡ o → PlacedIs o (views (other_of x)) tags (other_of x) c → Mate
   mate_in None e p = absurd (none_is_not_some (called_at (views (other_of x)) K) (p K refl) (some_is (called_at (views (other_of x)) K) parts q.known))
@@ -241,7 +239,7 @@ module _ (x : Role) (s c : ℕ) (parts : CallParts) (views views' : Role → End
         channel_use = channel_use;
         kind = is_caller n p channel_use;
         far = p.far ∙ ap (λ (z : CallParts). address_of z.called) same;
-        calling = ap (λ (z : CallParts). z.calling) (sym same) ∙ p.calling;
+        own = p.own ∙ ap (λ (z : CallParts). address_of z.calling) same;
       }
     where
       is_caller : (n : ℕ) (p : IsPlaced (views (other_of x)) tags (other_of x) c n) → p.tag.channel_use ≡ K → p.tag.kind ≡ Caller
@@ -271,7 +269,7 @@ module _ (x : Role) (s c : ℕ) (parts : CallParts) (views views' : Role → End
 
   callee : IsCallee (views' x) b.pairs (tags ++ come_tag ∷ []) (length b.records) mate.number come_tag
   callee = record {
-    far = ap (λ (l : List ℕ). address_of l) mate.calling;
+    far = mate.own;
     order = let h = slice_get_within tags mate.number mate.tag mate.there in let e = w.count in omega arith;
     mate = mate.tag;
     there = get_before tags (come_tag ∷ []) mate.number mate.tag mate.there;

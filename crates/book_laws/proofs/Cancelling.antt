@@ -10,7 +10,7 @@ use Rattle.std.specs.Option.{IsSome}
 use Rattle.call_records.specs.Records.{RecordValue, PairValue}
 use Rattle.call_records.specs.Book.{Slot}
 use Rattle.book_laws.proofs.Basics.{is_role, number_is, twice, get_set, set_here, set_elsewhere, length_set}
-use Rattle.book_laws.proofs.Invariant.{EndView, CallStatus, ChannelUse, Kind, Tag, BookParts, IsLive, Stands, Means, Fits, Present, SlotIs, PlacedIs, UpTo, IsPair, IsRight, epoch_at, called_at, now, taken_of, nothing_passed}
+use Rattle.book_laws.proofs.Invariant.{EndView, CallStatus, ChannelUse, Kind, Tag, BookParts, IsLive, Stands, Means, Fits, Present, SlotIs, PlacedIs, UpTo, IsPair, IsRight, epoch_at, called_at, now, taken_of, nothing_passed, taken_as}
 use Rattle.book_laws.proofs.Invariant.CallStatus.{Idle, OwnCall, FarCall, Open}
 use Rattle.book_laws.proofs.Invariant.Kind.{Caller, Callee, Cancelled}
 use Rattle.book_laws.proofs.Carrying.{is_present, same_tag}
@@ -81,7 +81,7 @@ placed_kind (Some k) f m tags n t x c there w =
             channel = ap (λ (u : ChannelUse). u.channel) (sym channel_use) ∙ w.channel;
             session = subst (λ (u : ChannelUse). u.session ≤ f.top) channel_use w.session;
             called = ap (λ (u : ChannelUse). called_at f u) (sym channel_use) ∙ w.called;
-            calling = w.calling;
+            own = ap (λ (u : Tag). u.own) (sym is) ∙ w.own;
             far = ap (λ (u : Tag). u.far) (sym is) ∙ w.far;
             placed = λ a e. callee_not_cancelled a (sym e);
             last = λ h ch some. subst (λ (u : ChannelUse). UpTo h u) channel_use (w.last h ch some);
@@ -94,7 +94,7 @@ placed_kind (Some k) f m tags n t x c there w =
         channel = w.channel;
         session = w.session;
         called = w.called;
-        calling = w.calling;
+        own = w.own;
         far = w.far;
         placed = w.placed;
         last = w.last;
@@ -116,9 +116,9 @@ present_else f m tags n t x c slot p e = record {
 
 slot_else : (mo : CallStatus) (f : EndView) (m : ℕ → CallStatus) (tags : List Tag) (n : ℕ) (t : Tag) (x : Role) (c : ℕ) (slot : Slot) → ((p : Present f tags x c slot) → p.number ≢ n) → SlotIs mo f tags x c slot → SlotIs mo (record f { status = m }) (set tags n t) x c slot
 slot_else Idle f m tags n t x c slot e w = w
-slot_else OwnCall f m tags n t x c slot e w = (present_else f m tags n t x c slot w.0 (e w.0), w.1)
+slot_else OwnCall f m tags n t x c slot e w = (present_else f m tags n t x c slot w.0 (e w.0), w.1, w.2)
 slot_else FarCall f m tags n t x c slot e w = (present_else f m tags n t x c slot w.0 (e w.0), w.1, w.2, w.3)
-slot_else Open f m tags n t x c slot e w = present_else f m tags n t x c slot w (e w)
+slot_else Open f m tags n t x c slot e w = (present_else f m tags n t x c slot w.0 (e w.0), w.1)
 
 module _ (x : Role) (c : ℕ) (views : Role → EndView) (status : Role → ℕ → CallStatus) (b : BookParts) (slots : Role → ℕ → Slot) (records : List RecordValue) (tags : List Tag) (w : IsRight views b tags) (q : Cancels x c views status b slots records tags) where
   abbrev number : ℕ
@@ -165,7 +165,7 @@ module _ (x : Role) (c : ℕ) (views : Role → EndView) (status : Role → ℕ 
   means_else n t there =
       let o = w.means n t there in
       record {
-        caller = λ e. let z = o.caller e in record { own = z.own; not_answered = z.not_answered; paired = z.paired };
+        caller = λ e. let z = o.caller e in record { not_answered = z.not_answered; paired = z.paired };
         callee = λ a e. let z = o.callee a e in record {
           far = z.far;
           order = z.order;
@@ -205,7 +205,7 @@ module _ (x : Role) (c : ℕ) (views : Role → EndView) (status : Role → ℕ 
     own = a.head.own ∙ o.own;
     far = a.head.far ∙ o.far;
     tells = λ live. absurd (live refl);
-    none = λ e g. rw (a.taken_before, a.taken) ((o.tells own_live).taken g) ∙ ap (λ (k : ChannelUse). taken_of (epoch_at (views x) k g)) q.own.channel_use ∙ q.nothing g;
+    none = λ e g. taken_as _ _ _ (sym (ap (λ (k : ChannelUse). taken_of (epoch_at (views x) k g)) q.own.channel_use ∙ q.nothing g)) (rw (a.taken_before, a.taken) ((o.tells own_live).taken g));
     epochs = λ up is live. absurd (live refl);
   }
 

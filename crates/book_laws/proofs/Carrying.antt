@@ -10,7 +10,7 @@ use Rattle.std.specs.Option.{IsSome}
 use Rattle.call_records.specs.Records.{RecordValue, PairValue}
 use Rattle.call_records.specs.Book.{Slot}
 use Rattle.book_laws.proofs.Basics.{is_role, number_is}
-use Rattle.book_laws.proofs.Invariant.{EndView, CallStatus, ChannelUse, Tag, BookParts, IsLive, Stands, Means, Fits, Tells, HasEpochs, Present, SlotIs, PlacedIs, IsPast, IsPair, IsRight, epoch_at, called_at, answered_at, now, channel_use_in, sent_of, taken_of}
+use Rattle.book_laws.proofs.Invariant.{EndView, CallStatus, ChannelUse, Tag, BookParts, IsLive, Stands, Means, Fits, Tells, HasEpochs, Present, SlotIs, PlacedIs, IsPast, IsPair, IsRight, epoch_at, called_at, answered_at, now, channel_use_in, sent_of, taken_of, sent_as, taken_as}
 use Rattle.book_laws.proofs.Invariant.CallStatus.{Idle, OwnCall, FarCall, Open}
 
 -- ---- an end of which the book sees the same but for what is sent and taken
@@ -60,7 +60,6 @@ stands_same f f' slots slots' n t h e w = record {
 pub means_same : (f f' y y' : EndView) (pairs : List PairValue) (tags : List Tag) (n : ℕ) (t : Tag) → SameCalls f f' → SameCalls y y' → Means f y pairs tags n t → Means f' y' pairs tags n t
 means_same f f' y y' pairs tags n t h g w = record {
   caller = λ e. let o = w.caller e in record {
-    own = o.own;
     not_answered = h.answered t.channel_use ∙ o.not_answered;
     paired = λ a. o.paired (sym (g.answered t.channel_use) ∙ a);
   };
@@ -95,11 +94,11 @@ present_same f f' tags x c slot session at_now p = record {
   live = p.live;
 }
 
-pub slot_same : (m : CallStatus) (f f' : EndView) (tags : List Tag) (x : Role) (c : ℕ) (slot : Slot) → f'.session ≡ f.session → ((s : ℕ) → f.session ≡ Some s → now f' s c ≡ now f s c) → SlotIs m f tags x c slot → SlotIs m f' tags x c slot
-slot_same Idle f f' tags x c slot h a w = w
-slot_same OwnCall f f' tags x c slot h a w = (present_same f f' tags x c slot h a w.0, w.1)
-slot_same FarCall f f' tags x c slot h a w = (present_same f f' tags x c slot h a w.0, w.1, w.2, w.3)
-slot_same Open f f' tags x c slot h a w = present_same f f' tags x c slot h a w
+pub slot_same : (m : CallStatus) (f f' : EndView) (tags : List Tag) (x : Role) (c : ℕ) (slot : Slot) → f'.session ≡ f.session → ((s : ℕ) → f.session ≡ Some s → now f' s c ≡ now f s c) → ((k : ChannelUse) → answered_at f k ≡ true → answered_at f' k ≡ true) → SlotIs m f tags x c slot → SlotIs m f' tags x c slot
+slot_same Idle f f' tags x c slot h a n w = w
+slot_same OwnCall f f' tags x c slot h a n w = (present_same f f' tags x c slot h a w.0, w.1, w.2)
+slot_same FarCall f f' tags x c slot h a n w = (present_same f f' tags x c slot h a w.0, w.1, w.2, w.3)
+slot_same Open f f' tags x c slot h a n w = (present_same f f' tags x c slot h a w.0, λ b e. let v = w.1 b e in (v.0, n w.0.tag.channel_use v.1))
 
 pub placed_same : (o : Option ℕ) (f f' : EndView) (tags : List Tag) (x : Role) (c : ℕ) → f.top ≤ f'.top → ((k : ChannelUse) → k.channel ≡ c → called_at f' k ≡ called_at f k) → PlacedIs o f tags x c → PlacedIs o f' tags x c
 placed_same None f f' tags x c top called w = λ k e. called k e ∙ w k e
@@ -111,7 +110,7 @@ placed_same (Some n) f f' tags x c top called w = record {
   channel = w.channel;
   session = let h = w.session in omega arith;
   called = called w.tag.channel_use w.channel ∙ w.called;
-  calling = w.calling;
+  own = w.own;
   far = w.far;
   placed = w.placed;
   last = λ k e some. w.last k e (subst (λ (p : Option CallParts). IsSome p) (called k e) some);
@@ -213,8 +212,8 @@ module _ (x : Role) (c : ℕ) (views views' : Role → EndView) (b : BookParts) 
         own = old.own;
         far = old.far;
         tells = λ live. record {
-          sent = λ g. (old.tells live).sent g ∙ ap sent_of (sym (q.logs t.role t.channel_use g (elsewhere live)));
-          taken = λ g. (old.tells live).taken g ∙ ap taken_of (sym (q.logs t.role t.channel_use g (elsewhere live)));
+          sent = λ g. sent_as _ _ _ (ap sent_of (q.logs t.role t.channel_use g (elsewhere live))) ((old.tells live).sent g);
+          taken = λ g. taken_as _ _ _ (ap taken_of (q.logs t.role t.channel_use g (elsewhere live))) ((old.tells live).taken g);
         };
         none = old.none;
         epochs = λ up is live.
@@ -234,11 +233,11 @@ module _ (x : Role) (c : ℕ) (views views' : Role → EndView) (b : BookParts) 
 
   slot_all : (y : Role) (d : ℕ) → (y ≡ x) ⊎ (y ≢ x) → (d ≡ c) ⊎ (d ≢ c) → SlotIs ((views' y).status d) (views' y) tags y d (b.slots y d)
   slot_all y d (inl e) (inl h) = subst (λ (z : Role). SlotIs ((views' z).status d) (views' z) tags z d (b.slots z d)) (sym e) (subst (λ (k : ℕ). SlotIs ((views' x).status k) (views' x) tags x k (b.slots x k)) (sym h)
-      (slot_same ((views' x).status c) (views x) (views' x) tags x c (b.slots x c) (q.same x).session (λ s e. now_same (views x) (views' x) (q.same x) s c) q.here))
+      (slot_same ((views' x).status c) (views x) (views' x) tags x c (b.slots x c) (q.same x).session (λ s e. now_same (views x) (views' x) (q.same x) s c) (λ k h. (q.calls x).answered k ∙ h) q.here))
   slot_all y d (inl e) (inr h) = subst (λ (m : CallStatus). SlotIs m (views' y) tags y d (b.slots y d)) (sym (q.status y d (λ a. h a.1)))
-      (slot_same ((views y).status d) (views y) (views' y) tags y d (b.slots y d) (q.same y).session (λ s e. now_same (views y) (views' y) (q.same y) s d) (w.slot y d))
+      (slot_same ((views y).status d) (views y) (views' y) tags y d (b.slots y d) (q.same y).session (λ s e. now_same (views y) (views' y) (q.same y) s d) (λ k h. (q.calls y).answered k ∙ h) (w.slot y d))
   slot_all y d (inr e) h = subst (λ (m : CallStatus). SlotIs m (views' y) tags y d (b.slots y d)) (sym (q.status y d (λ a. e a.0)))
-      (slot_same ((views y).status d) (views y) (views' y) tags y d (b.slots y d) (q.same y).session (λ s e. now_same (views y) (views' y) (q.same y) s d) (w.slot y d))
+      (slot_same ((views y).status d) (views y) (views' y) tags y d (b.slots y d) (q.same y).session (λ s e. now_same (views y) (views' y) (q.same y) s d) (λ k h. (q.calls y).answered k ∙ h) (w.slot y d))
 
   pub carried_right : IsRight views' (record b { records = records }) tags
   carried_right = record {

@@ -1,24 +1,24 @@
 -- What is right of the book of a line, with the law of the line, gives what the book promises.
-use Rattle.std.specs.Prelude.{◌≡◌, ℕ, suc, ◌⊎◌, Bool, true, false, ◌||◌, List, [], ◌∷◌, ◌++◌, map, slice_get, Some}
+use Rattle.std.specs.Prelude.{◌≡◌, ℕ, suc, ◌≤◌, length, ◌⊎◌, Bool, true, false, ◌||◌, List, [], ◌∷◌, ◌++◌, map, slice_get, Some}
 use Rattle.std.proofs.Common.{inl, inr, refl, sym, ap, subst, ◌∙◌, arith, true≢false}
 use Rattle.std.proofs.lemmas.Option.{slice_get_within}
 use Rattle.link_timers.specs.declared.role.Role.{Role}
 use Rattle.link_timers.specs.declared.role.Role.TheVariants.{Dte, Dce}
 use Rattle.link_timers.specs.Role.{other_of}
-use Rattle.epochs.specs.Item.{DataPacket, all_items}
-use Rattle.epochs.specs.Epoch as epochs
-use Rattle.epochs.specs.Epoch.{SentEpoch, TakenEpoch, taken_epoch, sent_epoch, IsEmpty, IsPrefixOf}
-use Rattle.epochs.specs.Match.{Match}
-use Rattle.epochs.specs.Match.Match.{nothing, drop_empty, join}
-use Rattle.epochs.proofs.Prefixes.{empty-prefix, all_items-prefix}
+use Rattle.epochs.specs.Item.{DataPacket}
+use Rattle.epochs.specs.Prefix.{IsListPrefix}
+use Rattle.epochs.specs.Epoch.{SentEpoch, TakenEpoch, nothing_sent, nothing_taken, taken_epoch, IsEmpty, IsAligned, AreAligned}
+use Rattle.epochs.proofs.Matching.{aligned-match}
+use Rattle.std.proofs.Math.Nat.{min-eq_right}
+use Rattle.std.proofs.lemmas.List.{length-map}
 use Rattle.packet_layer.specs.Packets.{Datum}
 use Rattle.packet_laws.specs.History.{Epoch}
 use Rattle.packet_laws.specs.Law.{Aligned, HasNoLogs}
-use Rattle.call_records.specs.Records.{RecordValue, PairValue, sent_epochs, taken_epochs}
+use Rattle.call_records.specs.Records.{RecordValue, PairValue, taken_epochs}
 use Rattle.call_records.specs.Book.{Book, side_of, packet_of}
-use Rattle.book_laws.specs.Headline.{AreEnds, PairHolds, IsIn, TookNothing, BookHolds}
+use Rattle.book_laws.specs.Headline.{IsTakenFrom, AreEnds, PairHolds, IsIn, TookNothing, BookHolds}
 use Rattle.book_laws.proofs.Basics.{twice, get_there}
-use Rattle.book_laws.proofs.Invariant.{EndView, ChannelUse, Kind, Tag, book_parts, IsLive, Tells, IsCaller, IsCallee, IsPaired, IsRight, caller_of, callee_of, epoch_at, answered_at, sent_of, taken_of, nth_sent, nth_taken, all_sent, all_taken, Passed, nothing_passed}
+use Rattle.book_laws.proofs.Invariant.{EndView, ChannelUse, Kind, Tag, book_parts, IsLive, Tells, IsCaller, IsCallee, IsPaired, IsRight, caller_of, callee_of, epoch_at, answered_at, sent_of, taken_of, nth_sent, nth_taken, all_sent, all_taken, Passed, HasSent, HasTaken, passed_sent, passed_taken}
 use Rattle.book_laws.proofs.Invariant.Kind.{Caller, Callee, Cancelled}
 use Rattle.book_laws.proofs.Carrying.{same_tag}
 use Rattle.book_laws.proofs.Cancelling.{caller_not_callee, caller_not_cancelled, callee_not_cancelled}
@@ -32,32 +32,42 @@ pub record LineSays (views : Role → EndView) : Type 0 where
 
 -- ---- lists that agree number by number
 
-abbrev epoch_of : Passed → epochs.Epoch
-epoch_of p = record { items = all_items p.packets; interrupts = p.interrupts }
+record IsFrom (s t : Passed) : Type 0 where
+  pub packets : IsListPrefix DataPacket t.packets s.packets
+  pub interrupts : IsListPrefix (List ℕ) t.interrupts s.interrupts
+  pub covered : s.count ≤ t.count
+  pub released : t.count ≤ length t.packets
 
-empty : epochs.IsEmpty (epoch_of nothing_passed)
-empty = record { items = refl; interrupts = refl }
+aligned_of : (s : SentEpoch) (t : TakenEpoch) → IsFrom (passed_sent s) (passed_taken t) → IsAligned s t
+aligned_of s t h = record { packets = h.packets; interrupts = h.interrupts; covered = h.covered; released = h.released }
 
-numbered : (ss : List SentEpoch) (ts : List TakenEpoch) → ((g : ℕ) → IsPrefixOf (epoch_of (nth_taken ts g)) (epoch_of (nth_sent ss g))) → Match (map taken_epoch ts) (map sent_epoch ss)
-numbered [] [] h = nothing
-numbered [] (t ∷ ts) h = drop_empty (empty-prefix (h 0) empty) (numbered [] ts (λ g. h (suc g)))
-numbered (s ∷ ss) [] h = nothing
-numbered (s ∷ ss) (t ∷ ts) h = join (h 0) (numbered ss ts (λ g. h (suc g)))
+numbered : (ss : List SentEpoch) (ts : List TakenEpoch) → ((g : ℕ) → IsFrom (nth_sent ss g) (nth_taken ts g)) → AreAligned ss ts
+numbered [] [] h = tt
+numbered [] (t ∷ ts) h = (aligned_of nothing_sent t (h 0), numbered [] ts (λ g. h (suc g)))
+numbered (s ∷ ss) [] h = (aligned_of s nothing_taken (h 0), numbered ss [] (λ g. h (suc g)))
+numbered (s ∷ ss) (t ∷ ts) h = (aligned_of s t (h 0), numbered ss ts (λ g. h (suc g)))
 
 map_append : (xs ys : List Datum) → map packet_of (xs ++ ys) ≡ map packet_of xs ++ map packet_of ys
 map_append [] ys = refl
 map_append (x ∷ xs) ys = ap (λ (l : List DataPacket). packet_of x ∷ l) (map_append xs ys)
 
-begins : (e f : Epoch) → Aligned e f → IsPrefixOf (epoch_of (taken_of f)) (epoch_of (sent_of e))
-begins e f a = record {
-  items = all_items-prefix (record { rest = map packet_of a.packets.0; whole = sym (map_append f.taken a.packets.0) ∙ ap (λ (l : List Datum). map packet_of l) a.packets.1 });
-  interrupts = record { rest = a.interrupts.0; whole = a.interrupts.1 };
-}
+begins : (e f : Epoch) (s t : Passed) → Aligned e f → HasSent s (sent_of e) → HasTaken t (taken_of f) → IsFrom s t
+begins e f s t a mine yours =
+    let all : f.released ≤ length (map packet_of f.taken) = subst (λ (n : ℕ). f.released ≤ n) (sym (length-map f.taken packet_of)) a.released_is_taken in
+    let least : f.released ≤ t.count = subst (λ (n : ℕ). n ≤ t.count) (min-eq_right all) yours.count in
+    record {
+      packets = record {
+        rest = map packet_of a.packets.0;
+        whole = ap (λ (l : List DataPacket). l ++ map packet_of a.packets.0) yours.packets ∙ sym (map_append f.taken a.packets.0) ∙ ap (λ (l : List Datum). map packet_of l) a.packets.1 ∙ sym mine.packets;
+      };
+      interrupts = record { rest = a.interrupts.0; whole = ap (λ (l : List (List ℕ)). l ++ a.interrupts.0) yours.interrupts ∙ a.interrupts.1 ∙ sym mine.interrupts };
+      covered = let here = mine.count in let there = a.covered_is_released in omega arith;
+      released = yours.within;
+    }
 
-match_of : (f y : EndView) (k : ChannelUse) (s t : RecordValue) → ((g : ℕ) → Aligned (epoch_at f k g) (epoch_at y k g)) → Tells f k s → Tells y k t → Match (taken_epochs t) (sent_epochs s)
-match_of f y k s t a mine yours = numbered (all_sent s) (all_taken t)
-    (λ g. subst (λ (z : Passed). IsPrefixOf (epoch_of (nth_taken (all_taken t) g)) (epoch_of z)) (sym (mine.sent g))
-    (subst (λ (z : Passed). IsPrefixOf (epoch_of z) (epoch_of (sent_of (epoch_at f k g)))) (sym (yours.taken g)) (begins (epoch_at f k g) (epoch_at y k g) (a g))))
+taken_from : (f y : EndView) (k : ChannelUse) (s t : RecordValue) → ((g : ℕ) → Aligned (epoch_at f k g) (epoch_at y k g)) → Tells f k s → Tells y k t → IsTakenFrom s t
+taken_from f y k s t a mine yours = numbered (all_sent s) (all_taken t)
+    (λ g. begins (epoch_at f k g) (epoch_at y k g) (nth_sent (all_sent s) g) (nth_taken (all_taken t) g) (a g) (mine.sent g) (yours.taken g))
 
 -- ---- what was taken
 
@@ -69,7 +79,7 @@ cons_not_nil : {X : Type 0} (x : X) (xs : List X) → x ∷ xs ≡ [] → ⊥
 cons_not_nil x xs e = cc
 
 took_one : (packets : List DataPacket) (interrupts : List (List ℕ)) (released : ℕ)
-    → IsEmpty (taken_epoch (record { packets = packets; interrupts = interrupts; released = released })) ⊎ Took (record { packets = packets; interrupts = interrupts })
+    → IsEmpty (taken_epoch (record { packets = packets; interrupts = interrupts; released = released })) ⊎ Took (record { packets = packets; interrupts = interrupts; count = released })
 took_one [] [] released = inl (record { items = refl; interrupts = refl })
 took_one (p ∷ ps) is released = inr (λ h. cons_not_nil p ps h.0)
 took_one [] (i ∷ is) released = inr (λ h. cons_not_nil i is h.1)
@@ -110,6 +120,10 @@ ends_are : (b : Book) (t : Role) → AreEnds b (side_of (other_of t) b).node (si
 ends_are b Dte = inr (refl, refl)
 ends_are b Dce = inl (refl, refl)
 
+node_at : (b : Book) (x : Role) (n : ℕ) → n ≡ (side_of x b).node → (n ≡ b.dte.node) ⊎ (n ≡ b.dce.node)
+node_at b Dte n e = inl e
+node_at b Dce n e = inr e
+
 module _ (views : Role → EndView) (b : Book) (tags : List Tag) (w : IsRight views (book_parts b) tags) (says : LineSays views) where
   record_of : (n : ℕ) (t : Tag) → slice_get tags n ≡ Some t → (r : RecordValue) × (slice_get b.records n ≡ Some r)
   record_of n t e = get_there b.records n (let h = slice_get_within tags n t e in let c = w.count in omega arith)
@@ -128,22 +142,25 @@ module _ (views : Role → EndView) (b : Book) (tags : List Tag) (w : IsRight vi
       let ly : IsLive t.kind = λ h. callee_not_cancelled p.caller (sym o.kind ∙ h) in
       let begun = (w.stands p.callee t o.there).begun in
       let tells : Tells (views (other_of t.role)) t.channel_use mine.0 = subst (λ (y : Role). Tells (views y) t.channel_use mine.0) m.role (subst (λ (k : ChannelUse). Tells (views u.role) k mine.0) m.channel_use (fm.tells lm)) in
+      let onward : IsTakenFrom mine.0 yours.0 = taken_from (views (other_of t.role)) (views t.role) t.channel_use mine.0 yours.0 (λ g. says.aligned_back t.role t.channel_use g begun) tells (fy.tells ly) in
+      let backward : IsTakenFrom yours.0 mine.0 = taken_from (views t.role) (views (other_of t.role)) t.channel_use yours.0 mine.0 (λ g. says.aligned t.role t.channel_use g begun) (fy.tells ly) tells in
       record {
         caller = mine.0;
         callee = yours.0;
         caller_there = mine.1;
         callee_there = yours.1;
         matches = record {
-          onward = match_of (views (other_of t.role)) (views t.role) t.channel_use mine.0 yours.0 (λ g. says.aligned_back t.role t.channel_use g begun) tells (fy.tells ly);
-          backward = match_of (views t.role) (views (other_of t.role)) t.channel_use yours.0 mine.0 (λ g. says.aligned t.role t.channel_use g begun) (fy.tells ly) tells;
+          onward_aligned = onward;
+          backward_aligned = backward;
+          onward = aligned-match (all_sent mine.0) (all_taken yours.0) onward;
+          backward = aligned-match (all_sent yours.0) (all_taken mine.0) backward;
         };
         is_right = record {
           order = let a = fm.number in let c = fy.number in let l = m.order in omega arith;
           ends = subst (λ (n : ℕ). AreEnds b n yours.0.node) (sym (fm.node_is ∙ ap (λ (y : Role). (side_of y b).node) m.role))
               (subst (λ (n : ℕ). AreEnds b (side_of (other_of t.role) b).node n) (sym fy.node_is) (ends_are b t.role));
           address = fy.own ∙ sym m.address ∙ sym fm.far;
-          caller_own = fm.own ∙ ((w.means p.caller u m.there).caller m.calls).own;
-          callee_far = fy.far ∙ m.far;
+          calling = fy.far ∙ sym m.far ∙ sym fm.own;
         };
       }
 
@@ -151,6 +168,11 @@ module _ (views : Role → EndView) (b : Book) (tags : List Tag) (w : IsRight vi
   number_of i r e =
       let t = get_there tags i (let h = slice_get_within b.records i r e in let c = w.count in omega arith) in
       (w.fits i t.0 r t.1 e).number
+
+  node_of : (i : ℕ) (r : RecordValue) → slice_get b.records i ≡ Some r → (r.node ≡ b.dte.node) ⊎ (r.node ≡ b.dce.node)
+  node_of i r e =
+      let t = get_there tags i (let h = slice_get_within b.records i r e in let c = w.count in omega arith) in
+      node_at b t.0.role r.node (w.fits i t.0 r t.1 e).node_is
 
   -- a caller is in one pair at most
   same_caller : (i j : ℕ) (p q : PairValue) → slice_get b.pairs i ≡ Some p → slice_get b.pairs j ≡ Some q → p.caller ≡ q.caller → i ≡ j
@@ -199,14 +221,14 @@ module _ (views : Role → EndView) (b : Book) (tags : List Tag) (w : IsRight vi
   took_live n t r g there got live took =
       let f = w.fits n t r there got in
       says.answers t.role t.channel_use g (w.stands n t there).begun
-      (λ h. no_logs_took_nothing (epoch_at (views t.role) t.channel_use g) h (subst (λ (z : Passed). Took z) ((f.tells live).taken g) took))
+      (λ h. no_logs_took_nothing (epoch_at (views t.role) t.channel_use g) h (λ z. took (((f.tells live).taken g).packets ∙ z.0, ((f.tells live).taken g).interrupts ∙ z.1)))
 
   took_some : (n : ℕ) (t : Tag) (r : RecordValue) (g : ℕ) → slice_get tags n ≡ Some t → slice_get b.records n ≡ Some r → Took (nth_taken (all_taken r) g) → InPair b.pairs n
   took_some n t r g there got took =
       elim (kind_cases t.kind) [
         | inl h ↦ took_caller n t ((w.means n t there).caller h) (took_live n t r g there got (λ e. caller_not_cancelled (sym h ∙ e)) took)
         | inr (inl h) ↦ took_callee n h.0 t ((w.means n t there).callee h.0 h.1) (took_live n t r g there got (λ e. callee_not_cancelled h.0 (sym h.1 ∙ e)) took)
-        | inr (inr h) ↦ absurd (subst (λ (z : Passed). Took z) ((w.fits n t r there got).none h g) took (refl, refl))
+        | inr (inr h) ↦ absurd (took (((w.fits n t r there got).none h g).packets, ((w.fits n t r there got).none h g).interrupts))
       ]
 
   took_of : (n : ℕ) (r : RecordValue) → slice_get b.records n ≡ Some r → TookNothing (taken_epochs r) ⊎ InPair b.pairs n
@@ -221,6 +243,7 @@ module _ (views : Role → EndView) (b : Book) (tags : List Tag) (w : IsRight vi
   concluded = record {
     pairs_hold = pair_holds;
     numbers = number_of;
+    nodes = node_of;
     in_one = in_one;
     took = took_of;
   }

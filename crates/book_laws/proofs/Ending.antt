@@ -7,7 +7,7 @@ use Rattle.packet_laws.specs.History.{Epoch, History}
 use Rattle.call_records.specs.Records.{RecordValue}
 use Rattle.call_records.specs.Book.{Slot}
 use Rattle.book_laws.proofs.Basics.{role_is}
-use Rattle.book_laws.proofs.Invariant.{EndView, CallStatus, ChannelUse, Tag, BookParts, Stands, Fits, Tells, HasEpochs, SlotIs, PlacedIs, IsPast, IsRight, epoch_at, now, channel_use_in, sent_of, taken_of}
+use Rattle.book_laws.proofs.Invariant.{EndView, CallStatus, ChannelUse, Tag, BookParts, Stands, Fits, Tells, HasEpochs, SlotIs, PlacedIs, IsPast, IsRight, epoch_at, now, channel_use_in, sent_of, taken_of, sent_as, taken_as}
 use Rattle.book_laws.proofs.Invariant.CallStatus.{Idle}
 use Rattle.book_laws.proofs.Carrying.{SameCalls, SameHead, same_end, same_calls, stands_same, means_same, slot_same, placed_same, pair_same, past_same, channel_use_same}
 
@@ -101,8 +101,8 @@ leaves_stands f f' slots slots' n t begun l w = record {
 
 tells_same : (f f' : EndView) (k : ChannelUse) (r r' : RecordValue) → ((h : ChannelUse) (g : ℕ) → epoch_at f' h g ≡ epoch_at f h g) → Alike r r' → Tells f k r → Tells f' k r'
 tells_same f f' k r r' same a w = record {
-  sent = λ g. rw (a.sent_before, a.sent) (w.sent g) ∙ ap sent_of (sym (same k g));
-  taken = λ g. rw (a.taken_before, a.taken) (w.taken g) ∙ ap taken_of (sym (same k g));
+  sent = λ g. sent_as _ _ _ (ap sent_of (same k g)) (rw (a.sent_before, a.sent) (w.sent g));
+  taken = λ g. taken_as _ _ _ (ap taken_of (same k g)) (rw (a.taken_before, a.taken) (w.taken g));
 }
 
 epochs_same : (r r' : RecordValue) (n m : ℕ) → Alike r r' → m ≡ n → HasEpochs r n → HasEpochs r' m
@@ -183,7 +183,7 @@ module _ (x : Role) (views views' : Role → EndView) (b : BookParts) (slots : R
   still_slot c e h =
       subst (λ (m : CallStatus). SlotIs m (views' x) tags x c (slots x c)) (sym h.status)
       (subst (λ (z : Slot). SlotIs ((views x).status c) (views' x) tags x c z) (sym h.slot_is)
-      (slot_same ((views x).status c) (views x) (views' x) tags x c (b.slots x c) e (λ s u. channel_use_same s c ((views x).histories s c) ((views' x).histories s c) (h.restart s u) (h.uses s u)) (w.slot x c)))
+      (slot_same ((views x).status c) (views x) (views' x) tags x c (b.slots x c) e (λ s u. channel_use_same s c ((views x).histories s c) ((views' x).histories s c) (h.restart s u) (h.uses s u)) (λ k a. (calls_of x).answered k ∙ a) (w.slot x c)))
 
   idle_slot : (c : ℕ) → (views' x).status c ≡ Idle → (slots x c).present ≡ None → SlotIs ((views' x).status c) (views' x) tags x c (slots x c)
   idle_slot c e h = subst (λ (m : CallStatus). SlotIs m (views' x) tags x c (slots x c)) (sym e) h

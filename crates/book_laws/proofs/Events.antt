@@ -170,7 +170,7 @@ no_session n e y te ty b d ch k found none =
     idle_of Idle w = refl
     idle_of OwnCall w = absurd (none-some w.0.session (sym none ∙ w.0.up))
     idle_of FarCall w = absurd (none-some w.0.session (sym none ∙ w.0.up))
-    idle_of Open w = absurd (none-some w.session (sym none ∙ w.up))
+    idle_of Open w = absurd (none-some w.0.session (sym none ∙ w.0.up))
 
 told_none : (e : End) (f : ℕ → History → History) (s c : ℕ) → e.session ≡ None → (told f e).histories s c ≡ e.histories s c
 told_none e f s c none = ap (λ (o : Option ℕ). cond (is_session o s) (f c (e.histories s c)) (e.histories s c)) none

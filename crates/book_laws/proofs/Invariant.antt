@@ -1,6 +1,7 @@
 -- What the book of a line has to agree with: the two ends as their calls see them, the records with what each stands for, and
 -- when all of it is right.
-use Rattle.std.specs.Prelude.{◌≡◌, ◌≢◌, ℕ, zero, suc, ◌<◌, ◌≤◌, Bool, true, false, List, [], ◌∷◌, ◌++◌, length, map, slice_get, Option, Some, None}
+use Rattle.std.specs.Prelude.{◌≡◌, ◌≢◌, ℕ, zero, suc, ◌<◌, ◌≤◌, Bool, true, false, List, [], ◌∷◌, ◌++◌, length, map, min, slice_get, Option, Some, None}
+use Rattle.std.proofs.Common.{refl, sym, subst, arith}
 use Rattle.link_timers.specs.declared.role.Role.{Role}
 use Rattle.link_timers.specs.declared.role.Role.TheVariants.{Dte, Dce}
 use Rattle.link_timers.specs.Role.{other_of}
@@ -52,25 +53,57 @@ channel_use_in s c st = record { session = s; channel = c; restart = st.restart;
 abbrev pub now : EndView → (s c : ℕ) → ChannelUse
 now f s c = channel_use_in s c (f.histories s c)
 
--- what passes in an epoch; what of it is covered and released the book's promises do not speak of
+-- what passes in an epoch, and how many of the packets are covered or released
 pub record Passed : Type 0 where
   pub packets : List DataPacket
   pub interrupts : List (List ℕ)
+  pub count : ℕ
 
 abbrev pub nothing_passed : Passed
-nothing_passed = record { packets = []; interrupts = [] }
+nothing_passed = record { packets = []; interrupts = []; count = 0 }
 
 abbrev pub sent_of : Epoch → Passed
-sent_of e = record { packets = map packet_of e.sent; interrupts = e.interrupts_sent }
+sent_of e = record { packets = map packet_of e.sent; interrupts = e.interrupts_sent; count = e.covered }
 
 abbrev pub taken_of : Epoch → Passed
-taken_of e = record { packets = map packet_of e.taken; interrupts = e.interrupts_taken }
+taken_of e = record { packets = map packet_of e.taken; interrupts = e.interrupts_taken; count = e.released }
 
 abbrev pub passed_sent : SentEpoch → Passed
-passed_sent e = record { packets = e.packets; interrupts = e.interrupts }
+passed_sent e = record { packets = e.packets; interrupts = e.interrupts; count = e.covered }
 
 abbrev pub passed_taken : TakenEpoch → Passed
-passed_taken e = record { packets = e.packets; interrupts = e.interrupts }
+passed_taken e = record { packets = e.packets; interrupts = e.interrupts; count = e.released }
+
+-- what a record has of a sent epoch is what passed in it, and no more of it covered
+pub record HasSent (own passed : Passed) : Type 0 where
+  pub packets : own.packets ≡ passed.packets
+  pub interrupts : own.interrupts ≡ passed.interrupts
+  pub count : own.count ≤ passed.count
+
+-- what it has of a taken one is what passed in it, and no less of it released, but no more than was taken
+pub record HasTaken (own passed : Passed) : Type 0 where
+  pub packets : own.packets ≡ passed.packets
+  pub interrupts : own.interrupts ≡ passed.interrupts
+  pub count : min (length passed.packets) passed.count ≤ own.count
+  pub within : own.count ≤ length own.packets
+
+pub sent_as : (own a b : Passed) → b ≡ a → HasSent own a → HasSent own b
+sent_as own a b e h = subst (λ (p : Passed). HasSent own p) (sym e) h
+
+pub taken_as : (own a b : Passed) → b ≡ a → HasTaken own a → HasTaken own b
+taken_as own a b e h = subst (λ (p : Passed). HasTaken own p) (sym e) h
+
+pub own_sent : (own mine passed : Passed) → mine ≡ own → HasSent own passed → HasSent mine passed
+own_sent own mine passed e h = subst (λ (p : Passed). HasSent p passed) (sym e) h
+
+pub own_taken : (own mine passed : Passed) → mine ≡ own → HasTaken own passed → HasTaken mine passed
+own_taken own mine passed e h = subst (λ (p : Passed). HasTaken p passed) (sym e) h
+
+pub nothing_sent_yet : HasSent nothing_passed nothing_passed
+nothing_sent_yet = record { packets = refl; interrupts = refl; count = omega arith }
+
+pub nothing_taken_yet : HasTaken nothing_passed nothing_passed
+nothing_taken_yet = record { packets = refl; interrupts = refl; count = omega arith; within = omega arith }
 
 -- ---- records
 
@@ -130,6 +163,10 @@ pub record Stands (f : EndView) (slots : ℕ → Slot) (n : ℕ) (t : Tag) : Typ
   pub past : f.session ≡ Some t.channel_use.session → IsPast t.channel_use (f.histories t.channel_use.session t.channel_use.channel)
   pub present : f.session ≡ Some t.channel_use.session → t.channel_use ≡ now f t.channel_use.session t.channel_use.channel → IsLive t.kind → (slots t.channel_use.channel).present ≡ Some n
 
+-- in each epoch no more was released than taken
+abbrev pub IsWithin : History → Type 0
+IsWithin st = (r u g : ℕ) → (st.epochs r u g).released ≤ length (st.epochs r u g).taken
+
 abbrev pub IsPaired : (PairValue → ℕ) → List PairValue → ℕ → Type 0
 IsPaired side pairs n = (i : ℕ) × (p : PairValue) × (slice_get pairs i ≡ Some p) × (side p ≡ n)
 
@@ -140,12 +177,10 @@ abbrev pub callee_of : PairValue → ℕ
 callee_of p = p.callee
 
 pub record IsCaller (f y : EndView) (pairs : List PairValue) (n : ℕ) (t : Tag) : Type 0 where
-  pub own : t.own ≡ None
   pub not_answered : answered_at f t.channel_use ≡ false
   pub paired : answered_at y t.channel_use ≡ true → IsPaired caller_of pairs n
 
 pub record IsCallee (f : EndView) (pairs : List PairValue) (tags : List Tag) (n a : ℕ) (t : Tag) : Type 0 where
-  pub far : t.far ≡ None
   pub order : a < n
   pub mate : Tag
   pub there : slice_get tags a ≡ Some mate
@@ -153,6 +188,7 @@ pub record IsCallee (f : EndView) (pairs : List PairValue) (tags : List Tag) (n 
   pub role : mate.role ≡ other_of t.role
   pub channel_use : mate.channel_use ≡ t.channel_use
   pub address : mate.far ≡ t.own
+  pub far : mate.own ≡ t.far
   pub free : t.role ≡ Dte → called_at f t.channel_use ≡ None
   pub paired : answered_at f t.channel_use ≡ true → IsPaired callee_of pairs n
 
@@ -167,8 +203,8 @@ pub record Means (f y : EndView) (pairs : List PairValue) (tags : List Tag) (n :
 
 -- what a record has is what its end did in the use
 pub record Tells (f : EndView) (k : ChannelUse) (r : RecordValue) : Type 0 where
-  pub sent : (g : ℕ) → nth_sent (all_sent r) g ≡ sent_of (epoch_at f k g)
-  pub taken : (g : ℕ) → nth_taken (all_taken r) g ≡ taken_of (epoch_at f k g)
+  pub sent : (g : ℕ) → HasSent (nth_sent (all_sent r) g) (sent_of (epoch_at f k g))
+  pub taken : (g : ℕ) → HasTaken (nth_taken (all_taken r) g) (taken_of (epoch_at f k g))
 
 -- one epoch each, and of each reset a further one
 pub record HasEpochs (r : RecordValue) (count : ℕ) : Type 0 where
@@ -176,7 +212,7 @@ pub record HasEpochs (r : RecordValue) (count : ℕ) : Type 0 where
   pub taken : length r.taken_before ≡ count
 
 abbrev pub TookNone : RecordValue → Type 0
-TookNone r = (g : ℕ) → nth_taken (all_taken r) g ≡ nothing_passed
+TookNone r = (g : ℕ) → HasTaken (nth_taken (all_taken r) g) nothing_passed
 
 pub record Fits (f : EndView) (node n : ℕ) (t : Tag) (r : RecordValue) : Type 0 where
   pub number : r.number ≡ n
@@ -201,11 +237,15 @@ pub record Present (f : EndView) (tags : List Tag) (x : Role) (c : ℕ) (slot : 
   pub channel_use : tag.channel_use ≡ now f session c
   pub live : IsLive tag.kind
 
+-- a call that came in was accepted
+abbrev pub IsAnswered : EndView → (caller : Option ℕ) → Tag → Type 0
+IsAnswered f caller t = (a : ℕ) → caller ≡ Some a → (t.kind ≡ Callee a) × (answered_at f t.channel_use ≡ true)
+
 abbrev pub SlotIs : CallStatus → EndView → List Tag → Role → ℕ → Slot → Type 0
 SlotIs Idle f tags x c slot = slot.present ≡ None
-SlotIs OwnCall f tags x c slot = (p : Present f tags x c slot) × (p.tag.kind ≡ Caller)
+SlotIs OwnCall f tags x c slot = (p : Present f tags x c slot) × (p.tag.kind ≡ Caller) × (slot.caller ≡ None)
 SlotIs FarCall f tags x c slot = (p : Present f tags x c slot) × (a : ℕ) × (p.tag.kind ≡ Callee a) × (slot.caller ≡ Some a)
-SlotIs Open f tags x c slot = Present f tags x c slot
+SlotIs Open f tags x c slot = (p : Present f tags x c slot) × IsAnswered f slot.caller p.tag
 
 -- a use is not later than another one of the channel
 pub record UpTo (k last : ChannelUse) : Type 0 where
@@ -222,7 +262,7 @@ pub record IsPlaced (f : EndView) (tags : List Tag) (x : Role) (c number : ℕ) 
   pub channel : tag.channel_use.channel ≡ c
   pub session : tag.channel_use.session ≤ f.top
   pub called : called_at f tag.channel_use ≡ Some parts
-  pub calling : parts.calling ≡ []
+  pub own : tag.own ≡ address_of parts.calling
   pub far : tag.far ≡ address_of parts.called
   pub placed : (a : ℕ) → tag.kind ≢ Callee a
   pub last : (k : ChannelUse) → k.channel ≡ c → IsSome (called_at f k) → UpTo k tag.channel_use

@@ -1,4 +1,4 @@
-mod Basics
+pub mod Basics
 mod Invariant
 mod Carrying
 mod Ending
@@ -23,4 +23,5 @@ mod Lines
 mod Starting
 pub mod BookHolds
 pub mod Beside
-mod Rows
+pub mod Answered
+pub mod Rows

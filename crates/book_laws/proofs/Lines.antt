@@ -62,7 +62,7 @@ pub event_kept : (n : ℕ) (e y : End) (te ty : ℕ) (b : Book) (event : Event) 
     → KeptAt n e.layer.role (happens event (record { me = e; you = y })).me y (top_after event (record { me = e; you = y }) te) ty (written e.layer.role event (record { me = e; you = y }) b)
 event_kept n e y te ty b (Up s) k facts order = up_by n e y te ty b s (may_begin s (record { me = e; you = y })) k order refl
 event_kept n e y te ty b Down k facts order = down_kept n e y te ty b k
-event_kept n e y te ty b (Calls parts) k facts order = calls_given n e y te ty b parts k facts order (channel_given e.layer e.layer.phase) refl
+event_kept n e y te ty b (Calls parts) k facts order = calls_given n e y te ty b parts k facts (channel_given e.layer e.layer.phase) refl
 event_kept n e y te ty b (Requests d r) k facts order = requests_kept n e y te ty b d r k facts
 event_kept n e y te ty b (Expires t) k facts order = timer_runs n e y te ty b t k facts (runs e.layer t) refl
 event_kept n e y te ty b Offers k facts order = offers_by n e y te ty b e.session k
@@ -162,6 +162,7 @@ facts_here n w law = record {
   here = λ s c lo hi. (law [] s c lo hi).here;
   there = λ s c lo hi. (law [] s c lo hi).there;
   answers_there = λ s c lo hi. (law [] s c lo hi).answers_there;
+  within = λ s c lo hi r u g. ((law [] s c lo hi).back r u g).released_is_taken;
   call = λ s c parts lo hi a. (law [] s c lo hi).call_here parts a;
 }
 
@@ -170,6 +171,7 @@ facts_there n w law = record {
   here = λ s c lo hi. (law [] s c lo hi).there;
   there = λ s c lo hi. (law [] s c lo hi).here;
   answers_there = λ s c lo hi. (law [] s c lo hi).answers_here;
+  within = λ s c lo hi r u g. ((law [] s c lo hi).forth r u g).released_is_taken;
   call = λ s c parts lo hi a. (law [] s c lo hi).call_there parts a;
 }
 

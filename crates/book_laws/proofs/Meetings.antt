@@ -1,5 +1,5 @@
 -- What a collision at the DCE and the acceptance of a call make of the book.
-use Rattle.std.specs.Prelude.{◌≡◌, ◌≢◌, ℕ, ◌⊎◌, true, false, cond, ◌==◌, List, [], ◌∷◌, ◌++◌, length, set, is_some, Option, Some}
+use Rattle.std.specs.Prelude.{◌≡◌, ◌≢◌, ℕ, ◌⊎◌, true, false, cond, ◌==◌, List, [], ◌∷◌, ◌++◌, length, set, is_some, Option, Some, None}
 use Rattle.std.proofs.Common.{inl, inr, refl, sym, ap, subst, ◌∙◌, arith}
 use Rattle.std.specs.Option.{IsSome}
 use Rattle.std.proofs.lemmas.Option.{same_Some}
@@ -42,7 +42,7 @@ Placed st = (g : ℕ) → taken_of (st.epochs st.restart st.use_ g) ≡ nothing_
 
 module _ (e e' y : End) (s d te ty : ℕ) (parts : CallParts) (b : Book) (tags : List Tag) (q : ComeStep Dce e e' y s d te ty parts b) (own : status_at Dce (channel_of e.layer d) ≡ OwnCall)
     (w : IsRight (views_of Dce e y te ty) (book_parts b) tags) where
-  mine : (p : Present (view_of Dce e te) tags Dce d (slot_at Dce d b)) × (p.tag.kind ≡ Caller)
+  mine : (p : Present (view_of Dce e te) tags Dce d (slot_at Dce d b)) × (p.tag.kind ≡ Caller) × ((slot_at Dce d b).caller ≡ None)
   mine = subst (λ (m : CallStatus). SlotIs m (view_of Dce e te) tags Dce d (slot_at Dce d b)) own (w.slot Dce d)
 
   its_session : mine.0.session ≡ s
@@ -184,11 +184,11 @@ answer_step Dte e e' y s d te ty b tags q w =
     subst (λ (v : Book). IsRight (views_of Dte e' y te ty) (book_parts v) tags) (pair_is Dte e e' y s d te ty b q tags m)
     (subst (λ (v : BookParts). IsRight (views_of Dte e' y te ty) v tags) (book_parts_pairs b ps)
     (answered_right Dte d (views_of Dte e y te ty) (views_of Dte e' y te ty) (book_parts b) tags m.1 m.0.number w
-    (record { there = refl; own = m.0; kind = m.2; number = refl; here = answer_now Dte e e' y s d te ty b q tags m })))
+    (record { there = refl; own = m.0; kind = m.2; caller = m.3; number = refl; here = answer_now Dte e e' y s d te ty b q tags m })))
 answer_step Dce e e' y s d te ty b tags q w =
     let m = far_here Dce e e' y s d te ty b q tags (w.slot Dce d) in
     let ps : List PairValue = b.pairs ++ record { caller = m.1; callee = m.0.number } ∷ [] in
     subst (λ (v : Book). IsRight (views_of Dce e' y te ty) (book_parts v) tags) (pair_is Dce e e' y s d te ty b q tags m)
     (subst (λ (v : BookParts). IsRight (views_of Dce e' y te ty) v tags) (book_parts_pairs b ps)
     (answered_right Dce d (views_of Dce e y te ty) (views_of Dce e' y te ty) (book_parts b) tags m.1 m.0.number w
-    (record { there = refl; own = m.0; kind = m.2; number = refl; here = answer_now Dce e e' y s d te ty b q tags m })))
+    (record { there = refl; own = m.0; kind = m.2; caller = m.3; number = refl; here = answer_now Dce e e' y s d te ty b q tags m })))

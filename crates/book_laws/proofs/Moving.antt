@@ -18,7 +18,7 @@ use Rattle.packet_laws.specs.Line.{End}
 use Rattle.call_records.specs.Records.{RecordValue}
 use Rattle.call_records.specs.Book.{Book, slot_at, side_of, with_change, changed, answers, with_pair, closes, comes, with_record}
 use Rattle.book_laws.proofs.Basics.{number_is, order, dte_not_dce, get_changed}
-use Rattle.book_laws.proofs.Invariant.{EndView, CallStatus, ChannelUse, Tag, book_parts, Present, SlotIs, IsPast, IsRight, HasEpochs, called_at, now, sent_of, taken_of}
+use Rattle.book_laws.proofs.Invariant.{EndView, CallStatus, ChannelUse, Tag, book_parts, Present, SlotIs, IsPast, IsRight, HasEpochs, called_at, now, sent_of, taken_of, sent_as, taken_as, IsWithin}
 use Rattle.book_laws.proofs.Invariant.CallStatus.{Idle, OwnCall, FarCall, Open}
 use Rattle.book_laws.proofs.Carrying.{Grows}
 use Rattle.book_laws.proofs.Ending.{StandsStill, IsOver, Further}
@@ -49,6 +49,7 @@ pub record Facts (n : ℕ) (e y : End) : Type 0 where
   pub here : (s c : ℕ) → 1 ≤ c → c ≤ n → HoldsAt e s c
   pub there : (s c : ℕ) → 1 ≤ c → c ≤ n → HoldsAt y s c
   pub answers_there : (s c : ℕ) → 1 ≤ c → c ≤ n → OneAnswers (y.histories s c) (e.histories s c)
+  pub within : (s c : ℕ) → 1 ≤ c → c ≤ n → IsWithin (e.histories s c)
   pub call : (s c : ℕ) (parts : CallParts) → 1 ≤ c → c ≤ n → CallArrives (record { me = e; you = y }) s c parts → CallKnown (e.histories s c) (y.histories s c) parts
 
 -- ---- the step
@@ -227,10 +228,10 @@ module _ (n : ℕ) (x : Role) (e e' y : End) (te ty : ℕ) (b : Book) (s d : ℕ
       (record {
         head = g.head;
         tells = λ t h.
-            let after = g.tells (record { sent = t.sent; taken = t.taken }) h in
+            let after = g.tells (record { sent = t.sent; taken = t.taken }) h (facts.within s d q.least q.most) in
             record {
-              sent = λ i. after.sent i ∙ ap (λ (z : History). sent_of (z.epochs (e.histories s d).restart (e.histories s d).use_ i)) (sym q.history);
-              taken = λ i. after.taken i ∙ ap (λ (z : History). taken_of (z.epochs (e.histories s d).restart (e.histories s d).use_ i)) (sym q.history);
+              sent = λ i. sent_as _ _ _ (ap (λ (z : History). sent_of (z.epochs (e.histories s d).restart (e.histories s d).use_ i)) q.history) (after.sent i);
+              taken = λ i. taken_as _ _ _ (ap (λ (z : History). taken_of (z.epochs (e.histories s d).restart (e.histories s d).use_ i)) q.history) (after.taken i);
             };
         epochs = λ h. subst (λ (z : History). HasEpochs r' z.epoch) (sym q.history) (g.epochs h);
       })
@@ -252,17 +253,18 @@ module _ (n : ℕ) (x : Role) (e e' y : End) (te ty : ℕ) (b : Book) (s d : ℕ
   changed_after : (change : RecordValue → RecordValue) → status_of x ch.state ≡ Open → status_of x ch'.state ≡ Open → ((st : History) → HistoryGrows st (told st)) → ((st : History) (r : RecordValue) → RecordGrows st (told st) r (change r)) → KeptAt n x e' y te ty (changed x d change b)
   changed_after change m m' grows rgrows =
       let o : Option ℕ = (slot_at x d b).present in
-      let p : Present (view_of x e te) k.tags x d (slot_at x d b) = subst (λ (z : CallStatus). SlotIs z (view_of x e te) k.tags x d (slot_at x d b)) (status_now ∙ m) (slot_of x e y te ty b k.tags d k.right) in
-      goes_after (changed x d change b) p (subst (λ (z : CallStatus). SlotIs z (view_of x e te) k.tags x d (slot_at x d b)) (sym (q.found_after ∙ m')) p) (grows (e.histories s d)) (count_changed o change b)
+      let open_ = subst (λ (z : CallStatus). SlotIs z (view_of x e te) k.tags x d (slot_at x d b)) (status_now ∙ m) (slot_of x e y te ty b k.tags d k.right) in
+      let p : Present (view_of x e te) k.tags x d (slot_at x d b) = open_.0 in
+      goes_after (changed x d change b) p (subst (λ (z : CallStatus). SlotIs z (view_of x e te) k.tags x d (slot_at x d b)) (sym (q.found_after ∙ m')) open_) (grows (e.histories s d)) (count_changed o change b)
       (kept_at o change p p.is_present (λ r. rgrows (e.histories s d) r))
       (book_parts_records b (changed x d change b) (pairs_changed o change b) (size_changed o change b).node (λ z c. slot_changed z c o change b)) (size_changed o change b)
 
   same_record : (st st' : History) (r : RecordValue) → SameHistory st st' → RecordGrows st st' r r
   same_record st st' r h = record {
     head = record { number = refl; node = refl; own = refl; far = refl };
-    tells = λ t a. record {
-      sent = λ g. t.sent g ∙ ap sent_of (sym (h.epochs st.restart st.use_ g));
-      taken = λ g. t.taken g ∙ ap taken_of (sym (h.epochs st.restart st.use_ g));
+    tells = λ t a w. record {
+      sent = λ g. sent_as _ _ _ (ap sent_of (h.epochs st.restart st.use_ g)) (t.sent g);
+      taken = λ g. taken_as _ _ _ (ap taken_of (h.epochs st.restart st.use_ g)) (t.taken g);
     };
     epochs = λ a. subst (λ (i : ℕ). HasEpochs r i) (sym h.epoch) a;
   }
@@ -278,7 +280,7 @@ module _ (n : ℕ) (x : Role) (e e' y : End) (te ty : ℕ) (b : Book) (s d : ℕ
   connects_after : status_of x ch.state ≡ OwnCall → status_of x ch'.state ≡ Open → ((st : History) → SameHistory st (told st)) → KeptAt n x e' y te ty b
   connects_after m m' same =
       let w = subst (λ (z : CallStatus). SlotIs z (view_of x e te) k.tags x d (slot_at x d b)) (status_now ∙ m) (slot_of x e y te ty b k.tags d k.right) in
-      goes_after b w.0 (subst (λ (z : CallStatus). SlotIs z (view_of x e te) k.tags x d (slot_at x d b)) (sym (q.found_after ∙ m')) w.0) (same_grows (e.histories s d) (told (e.histories s d)) (same (e.histories s d))) refl
+      goes_after b w.0 (subst (λ (z : CallStatus). SlotIs z (view_of x e te) k.tags x d (slot_at x d b)) (sym (q.found_after ∙ m')) (w.0, λ a e. absurd (none-some a (sym w.2 ∙ e)))) (same_grows (e.histories s d) (told (e.histories s d)) (same (e.histories s d))) refl
       (λ i r' got. (
         r',
         got,

@@ -1,6 +1,6 @@
 -- What a step of one channel comes to for its call, its history and the book.
-use Rattle.std.specs.Prelude.{◌≡◌, ◌≢◌, ℕ, zero, suc, ◌+◌, Bool, true, false, cond, not, ◌==◌, List, [], ◌∷◌, ◌++◌, length, map, Option, Some, None}
-use Rattle.std.proofs.Common.{inl, inr, refl, sym, ap, ◌∙◌, arith}
+use Rattle.std.specs.Prelude.{◌≡◌, ◌≢◌, ℕ, zero, suc, ◌+◌, Bool, true, false, cond, not, ◌==◌, List, [], ◌∷◌, ◌++◌, length, map, min, ◌≤◌, Option, Some, None}
+use Rattle.std.proofs.Common.{inl, inr, refl, sym, ap, subst, ◌∙◌, arith}
 use Rattle.std.proofs.lemmas.Option.{none-some}
 use Rattle.link_timers.specs.declared.role.Role.{Role}
 use Rattle.link_timers.specs.declared.role.Role.TheVariants.{Dte, Dce}
@@ -21,7 +21,9 @@ use Rattle.call_records.specs.Records as records
 use Rattle.call_records.specs.Book.{Book, slot_at, with_change, changed, answers, closes, packet_of, all_told}
 use Rattle.call_records.specs.Book as book
 use Rattle.book_laws.specs.Told.{carried}
-use Rattle.book_laws.proofs.Invariant.{HasEpochs, sent_of, taken_of, Passed, passed_sent, passed_taken, nth_sent, nth_taken, all_sent, all_taken}
+use Rattle.book_laws.proofs.Invariant.{HasEpochs, HasSent, HasTaken, IsWithin, sent_as, taken_as, own_sent, own_taken, sent_of, taken_of, passed_sent, passed_taken, nth_sent, nth_taken, all_sent, all_taken}
+use Rattle.std.proofs.Math.Nat.{min-le_left, min-le_right, min-eq_right, le-min}
+use Rattle.std.proofs.lemmas.List.{length-map}
 use Rattle.book_laws.proofs.Invariant.CallStatus.{Idle, OwnCall, FarCall, Open}
 use Rattle.book_laws.proofs.Carrying.{SameHead}
 use Rattle.book_laws.proofs.Ending.{Further}
@@ -38,12 +40,12 @@ pub record EndsUse (st st' : History) : Type 0 where
 
 -- a record has what a history has in the present use of another one
 pub record TellsIn (z st : History) (r : RecordValue) : Type 0 where
-  pub sent : (g : ℕ) → nth_sent (all_sent r) g ≡ sent_of (z.epochs st.restart st.use_ g)
-  pub taken : (g : ℕ) → nth_taken (all_taken r) g ≡ taken_of (z.epochs st.restart st.use_ g)
+  pub sent : (g : ℕ) → HasSent (nth_sent (all_sent r) g) (sent_of (z.epochs st.restart st.use_ g))
+  pub taken : (g : ℕ) → HasTaken (nth_taken (all_taken r) g) (taken_of (z.epochs st.restart st.use_ g))
 
 pub record RecordGrows (st st' : History) (r r' : RecordValue) : Type 0 where
   pub head : SameHead r r'
-  pub tells : TellsIn st st r → HasEpochs r st.epoch → TellsIn st' st r'
+  pub tells : TellsIn st st r → HasEpochs r st.epoch → IsWithin st → TellsIn st' st r'
   pub epochs : HasEpochs r st.epoch → HasEpochs r' st'.epoch
 
 pub data Outcome (x : Role) (d : ℕ) (ch ch' : Channel) (told : History → History) (write : Book → Book) (came : CallParts → Type 0) : Type 0 where
@@ -117,9 +119,9 @@ opens_grows st st' o = record {
 opens_record : (st st' : History) (r : RecordValue) → OpensEpoch st st' → RecordGrows st st' r (with_epoch r)
 opens_record st st' r o = record {
   head = record { number = refl; node = refl; own = refl; far = refl };
-  tells = λ t h. record {
-    sent = λ g. nth_more (all_sent r) g ∙ t.sent g ∙ ap sent_of (sym (o.epochs st.restart st.use_ g));
-    taken = λ g. nth_more_taken (all_taken r) g ∙ t.taken g ∙ ap taken_of (sym (o.epochs st.restart st.use_ g));
+  tells = λ t h w. record {
+    sent = λ g. own_sent _ _ _ (nth_more (all_sent r) g) (sent_as _ _ _ (ap sent_of (o.epochs st.restart st.use_ g)) (t.sent g));
+    taken = λ g. own_taken _ _ _ (nth_more_taken (all_taken r) g) (taken_as _ _ _ (ap taken_of (o.epochs st.restart st.use_ g)) (t.taken g));
   };
   epochs = λ h. record {
     sent = length_pushed r.sent_before r.sent ∙ ap suc h.sent ∙ sym o.epoch;
@@ -137,8 +139,8 @@ pub record GrowsBy (f : Epoch → Epoch) (change : RecordValue → RecordValue) 
   pub head : (r : RecordValue) → SameHead r (change r)
   pub sent_before : (r : RecordValue) → (change r).sent_before ≡ r.sent_before
   pub taken_before : (r : RecordValue) → (change r).taken_before ≡ r.taken_before
-  pub sent : (r : RecordValue) (e : Epoch) → passed_sent r.sent ≡ sent_of e → passed_sent (change r).sent ≡ sent_of (f e)
-  pub taken : (r : RecordValue) (e : Epoch) → passed_taken r.taken ≡ taken_of e → passed_taken (change r).taken ≡ taken_of (f e)
+  pub sent : (r : RecordValue) (e : Epoch) → HasSent (passed_sent r.sent) (sent_of e) → HasSent (passed_sent (change r).sent) (sent_of (f e))
+  pub taken : (r : RecordValue) (e : Epoch) → e.released ≤ length e.taken → HasTaken (passed_taken r.taken) (taken_of e) → HasTaken (passed_taken (change r).taken) (taken_of (f e))
 
 grown_grows : (f : Epoch → Epoch) (change : RecordValue → RecordValue) → GrowsBy f change → (st : History) → HistoryGrows st (grown f st)
 grown_grows f change q st = record {
@@ -151,36 +153,38 @@ grown_grows f change q st = record {
   ];
 }
 
-grown_sent : (f : Epoch → Epoch) (change : RecordValue → RecordValue) → GrowsBy f change → (st : History) (r : RecordValue) → TellsIn st st r → HasEpochs r st.epoch → (g : ℕ) → nth_sent (all_sent (change r)) g ≡ sent_of ((grown f st).epochs st.restart st.use_ g)
+grown_sent : (f : Epoch → Epoch) (change : RecordValue → RecordValue) → GrowsBy f change → (st : History) (r : RecordValue) → TellsIn st st r → HasEpochs r st.epoch → (g : ℕ) → HasSent (nth_sent (all_sent (change r)) g) (sent_of ((grown f st).epochs st.restart st.use_ g))
 grown_sent f change q st r t h g =
     elim (grown_cases f st st.restart st.use_ g) [
       | inl a ↦
           let at : g ≡ length r.sent_before = a.0.2 ∙ sym h.sent in
-          let now : passed_sent r.sent ≡ sent_of (st.epochs st.restart st.use_ g) = sym (nth_at r.sent_before r.sent) ∙ ap (λ (n : ℕ). nth_sent (all_sent r) n) (sym at) ∙ t.sent g in
-          ap (λ (l : List SentEpoch). nth_sent (l ++ (change r).sent ∷ []) g) (q.sent_before r) ∙ ap (λ (n : ℕ). nth_sent (r.sent_before ++ (change r).sent ∷ []) n) at ∙ nth_at r.sent_before (change r).sent
-          ∙ q.sent r (st.epochs st.restart st.use_ g) now ∙ ap sent_of (sym a.1)
+          let now : HasSent (passed_sent r.sent) (sent_of (st.epochs st.restart st.use_ g)) = own_sent _ _ _ (sym (nth_at r.sent_before r.sent) ∙ ap (λ (n : ℕ). nth_sent (all_sent r) n) (sym at)) (t.sent g) in
+          own_sent (passed_sent (change r).sent) _ _ (ap (λ (l : List SentEpoch). nth_sent (l ++ (change r).sent ∷ []) g) (q.sent_before r) ∙ ap (λ (n : ℕ). nth_sent (r.sent_before ++ (change r).sent ∷ []) n) at ∙ nth_at r.sent_before (change r).sent)
+          (sent_as _ _ _ (ap sent_of a.1) (q.sent r (st.epochs st.restart st.use_ g) now))
       | inr a ↦
           let other : g ≢ length r.sent_before = λ k. a.0 (refl, refl, k ∙ h.sent) in
-          ap (λ (l : List SentEpoch). nth_sent (l ++ (change r).sent ∷ []) g) (q.sent_before r) ∙ nth_else r.sent_before (change r).sent r.sent g other ∙ t.sent g ∙ ap sent_of (sym a.1)
+          own_sent _ _ _ (ap (λ (l : List SentEpoch). nth_sent (l ++ (change r).sent ∷ []) g) (q.sent_before r) ∙ nth_else r.sent_before (change r).sent r.sent g other)
+          (sent_as _ _ _ (ap sent_of a.1) (t.sent g))
     ]
 
-grown_taken : (f : Epoch → Epoch) (change : RecordValue → RecordValue) → GrowsBy f change → (st : History) (r : RecordValue) → TellsIn st st r → HasEpochs r st.epoch → (g : ℕ) → nth_taken (all_taken (change r)) g ≡ taken_of ((grown f st).epochs st.restart st.use_ g)
-grown_taken f change q st r t h g =
+grown_taken : (f : Epoch → Epoch) (change : RecordValue → RecordValue) → GrowsBy f change → (st : History) (r : RecordValue) → TellsIn st st r → HasEpochs r st.epoch → IsWithin st → (g : ℕ) → HasTaken (nth_taken (all_taken (change r)) g) (taken_of ((grown f st).epochs st.restart st.use_ g))
+grown_taken f change q st r t h w g =
     elim (grown_cases f st st.restart st.use_ g) [
       | inl a ↦
           let at : g ≡ length r.taken_before = a.0.2 ∙ sym h.taken in
-          let now : passed_taken r.taken ≡ taken_of (st.epochs st.restart st.use_ g) = sym (nth_at_taken r.taken_before r.taken) ∙ ap (λ (n : ℕ). nth_taken (all_taken r) n) (sym at) ∙ t.taken g in
-          ap (λ (l : List TakenEpoch). nth_taken (l ++ (change r).taken ∷ []) g) (q.taken_before r) ∙ ap (λ (n : ℕ). nth_taken (r.taken_before ++ (change r).taken ∷ []) n) at ∙ nth_at_taken r.taken_before (change r).taken
-          ∙ q.taken r (st.epochs st.restart st.use_ g) now ∙ ap taken_of (sym a.1)
+          let now : HasTaken (passed_taken r.taken) (taken_of (st.epochs st.restart st.use_ g)) = own_taken _ _ _ (sym (nth_at_taken r.taken_before r.taken) ∙ ap (λ (n : ℕ). nth_taken (all_taken r) n) (sym at)) (t.taken g) in
+          own_taken (passed_taken (change r).taken) _ _ (ap (λ (l : List TakenEpoch). nth_taken (l ++ (change r).taken ∷ []) g) (q.taken_before r) ∙ ap (λ (n : ℕ). nth_taken (r.taken_before ++ (change r).taken ∷ []) n) at ∙ nth_at_taken r.taken_before (change r).taken)
+          (taken_as _ _ _ (ap taken_of a.1) (q.taken r (st.epochs st.restart st.use_ g) (w st.restart st.use_ g) now))
       | inr a ↦
           let other : g ≢ length r.taken_before = λ k. a.0 (refl, refl, k ∙ h.taken) in
-          ap (λ (l : List TakenEpoch). nth_taken (l ++ (change r).taken ∷ []) g) (q.taken_before r) ∙ nth_else_taken r.taken_before (change r).taken r.taken g other ∙ t.taken g ∙ ap taken_of (sym a.1)
+          own_taken _ _ _ (ap (λ (l : List TakenEpoch). nth_taken (l ++ (change r).taken ∷ []) g) (q.taken_before r) ∙ nth_else_taken r.taken_before (change r).taken r.taken g other)
+          (taken_as _ _ _ (ap taken_of a.1) (t.taken g))
     ]
 
 grown_record : (f : Epoch → Epoch) (change : RecordValue → RecordValue) → GrowsBy f change → (st : History) (r : RecordValue) → RecordGrows st (grown f st) r (change r)
 grown_record f change q st r = record {
   head = q.head r;
-  tells = λ t h. record { sent = grown_sent f change q st r t h; taken = grown_taken f change q st r t h };
+  tells = λ t h w. record { sent = grown_sent f change q st r t h; taken = grown_taken f change q st r t h w };
   epochs = λ h. record { sent = ap length (q.sent_before r) ∙ h.sent; taken = ap length (q.taken_before r) ∙ h.taken };
 }
 
@@ -192,6 +196,24 @@ map_pushed : (ds : List Datum) (d : Datum) → map packet_of (ds ++ d ∷ []) �
 map_pushed [] d = refl
 map_pushed (x ∷ ds) d = ap (λ (l : List DataPacket). packet_of x ∷ l) (map_pushed ds d)
 
+-- ---- counts
+
+pub none_more : (t u h r : ℕ) → h ≤ t → min t h ≤ r → min u h ≤ r
+none_more t u h r w old = let a = min-le_right u h in let is = min-eq_right w in let same : h ≤ r = subst (λ (k : ℕ). k ≤ r) is old in omega arith
+
+both_more : (t h r n : ℕ) → h ≤ t → min t h ≤ r → min t (h + n) ≤ min t (r + n)
+both_more t h r n w old =
+    let same : h ≤ r = subst (λ (k : ℕ). k ≤ r) (min-eq_right w) old in
+    let a = min-le_left t (h + n) in
+    let b = min-le_right t (h + n) in
+    le-min a (omega arith)
+
+one_more : (t h r n : ℕ) → min t h ≤ r → min t h ≤ min t (r + n)
+one_more t h r n old = le-min (min-le_left t h) (omega arith)
+
+pushed_within : (ps : List DataPacket) (p : DataPacket) (n : ℕ) → n ≤ length ps → n ≤ length (ps ++ p ∷ [])
+pushed_within ps p n h = let e = length_pushed ps p in omega arith
+
 by_sending : (d : Datum) → GrowsBy (λ e. record e { sent = e.sent ++ d ∷ [] }) (λ r. with_sent (packet_of d) r)
 by_sending d = record {
   called = λ e. refl;
@@ -199,9 +221,8 @@ by_sending d = record {
   head = λ r. record { number = refl; node = refl; own = refl; far = refl };
   sent_before = λ r. refl;
   taken_before = λ r. refl;
-  sent = λ r e h. ap (λ (p : Passed). record { packets = p.packets ++ packet_of d ∷ []; interrupts = p.interrupts }) h
-      ∙ ap (λ (l : List DataPacket). record { packets = l; interrupts = e.interrupts_sent }) (sym (map_pushed e.sent d));
-  taken = λ r e h. h;
+  sent = λ r e h. record { packets = ap (λ (l : List DataPacket). l ++ packet_of d ∷ []) h.packets ∙ sym (map_pushed e.sent d); interrupts = h.interrupts; count = h.count };
+  taken = λ r e w h. h;
 }
 
 by_interrupting : (octets : List ℕ) → GrowsBy (λ e. record e { interrupts_sent = e.interrupts_sent ++ octets ∷ [] }) (λ r. with_interrupt_sent octets r)
@@ -211,8 +232,8 @@ by_interrupting octets = record {
   head = λ r. record { number = refl; node = refl; own = refl; far = refl };
   sent_before = λ r. refl;
   taken_before = λ r. refl;
-  sent = λ r e h. ap (λ (p : Passed). record { packets = p.packets; interrupts = p.interrupts ++ octets ∷ [] }) h;
-  taken = λ r e h. h;
+  sent = λ r e h. record { packets = h.packets; interrupts = ap (λ (l : List (List ℕ)). l ++ octets ∷ []) h.interrupts; count = h.count };
+  taken = λ r e w h. h;
 }
 
 by_taking : (d : Datum) → GrowsBy (λ e. record e { taken = e.taken ++ d ∷ [] }) (λ r. records.with_taken (packet_of d) r)
@@ -223,8 +244,13 @@ by_taking d = record {
   sent_before = λ r. refl;
   taken_before = λ r. refl;
   sent = λ r e h. h;
-  taken = λ r e h. ap (λ (p : Passed). record { packets = p.packets ++ packet_of d ∷ []; interrupts = p.interrupts }) h
-      ∙ ap (λ (l : List DataPacket). record { packets = l; interrupts = e.interrupts_taken }) (sym (map_pushed e.taken d));
+  taken = λ r e w h. record {
+    packets = ap (λ (l : List DataPacket). l ++ packet_of d ∷ []) h.packets ∙ sym (map_pushed e.taken d);
+    interrupts = h.interrupts;
+    count = none_more (length (map packet_of e.taken)) (length (map packet_of (e.taken ++ d ∷ []))) e.released r.taken.released
+        (subst (λ (n : ℕ). e.released ≤ n) (sym (length-map e.taken packet_of)) w) h.count;
+    within = pushed_within r.taken.packets (packet_of d) r.taken.released h.within;
+  };
 }
 
 by_interrupt_taken : (octets : List ℕ) → GrowsBy (λ e. record e { interrupts_taken = e.interrupts_taken ++ octets ∷ [] }) (λ r. with_interrupt_taken octets r)
@@ -235,7 +261,7 @@ by_interrupt_taken octets = record {
   sent_before = λ r. refl;
   taken_before = λ r. refl;
   sent = λ r e h. h;
-  taken = λ r e h. ap (λ (p : Passed). record { packets = p.packets; interrupts = p.interrupts ++ octets ∷ [] }) h;
+  taken = λ r e w h. record { packets = h.packets; interrupts = ap (λ (l : List (List ℕ)). l ++ octets ∷ []) h.interrupts; count = h.count; within = h.within };
 }
 
 by_covering : (n : ℕ) → GrowsBy (λ e. record e { covered = e.covered + n }) (λ r. with_covered n r)
@@ -245,8 +271,12 @@ by_covering n = record {
   head = λ r. record { number = refl; node = refl; own = refl; far = refl };
   sent_before = λ r. refl;
   taken_before = λ r. refl;
-  sent = λ r e h. h;
-  taken = λ r e h. h;
+  sent = λ r e h. record {
+    packets = h.packets;
+    interrupts = h.interrupts;
+    count = let all = min-le_right (length r.sent.packets) (r.sent.covered + n) in let old = h.count in omega arith;
+  };
+  taken = λ r e w h. h;
 }
 
 by_covering_none : (n : ℕ) → GrowsBy (λ e. record e { covered = e.covered + n }) (λ r. r)
@@ -256,8 +286,8 @@ by_covering_none n = record {
   head = λ r. record { number = refl; node = refl; own = refl; far = refl };
   sent_before = λ r. refl;
   taken_before = λ r. refl;
-  sent = λ r e h. h;
-  taken = λ r e h. h;
+  sent = λ r e h. record { packets = h.packets; interrupts = h.interrupts; count = let old = h.count in omega arith };
+  taken = λ r e w h. h;
 }
 
 by_releasing : (v : Bool) (n : ℕ) → GrowsBy (λ e. cond v (record e { released = e.released + n }) e) (λ r. with_released n r)
@@ -268,7 +298,13 @@ by_releasing true n = record {
   sent_before = λ r. refl;
   taken_before = λ r. refl;
   sent = λ r e h. h;
-  taken = λ r e h. h;
+  taken = λ r e w h. record {
+    packets = h.packets;
+    interrupts = h.interrupts;
+    count = subst (λ (t : ℕ). min (length (map packet_of e.taken)) (e.released + n) ≤ min t (r.taken.released + n)) (ap (λ (l : List DataPacket). length l) (sym h.packets))
+        (both_more (length (map packet_of e.taken)) e.released r.taken.released n (subst (λ (t : ℕ). e.released ≤ t) (sym (length-map e.taken packet_of)) w) h.count);
+    within = min-le_left (length r.taken.packets) (r.taken.released + n);
+  };
 }
 by_releasing false n = record {
   called = λ e. refl;
@@ -277,7 +313,13 @@ by_releasing false n = record {
   sent_before = λ r. refl;
   taken_before = λ r. refl;
   sent = λ r e h. h;
-  taken = λ r e h. h;
+  taken = λ r e w h. record {
+    packets = h.packets;
+    interrupts = h.interrupts;
+    count = subst (λ (t : ℕ). min (length (map packet_of e.taken)) e.released ≤ min t (r.taken.released + n)) (ap (λ (l : List DataPacket). length l) (sym h.packets))
+        (one_more (length (map packet_of e.taken)) e.released r.taken.released n h.count);
+    within = min-le_left (length r.taken.packets) (r.taken.released + n);
+  };
 }
 
 -- ---- a record that does not change

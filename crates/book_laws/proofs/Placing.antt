@@ -15,7 +15,7 @@ use Rattle.packet_layer.specs.Layer.Timer.{RestartTimer, CallTimer, ResetTimer, 
 use Rattle.packet_laws.specs.History.{Epoch, History, placed, call_history, expired_history, next_restart_of, next_use_of}
 use Rattle.packet_laws.specs.Law.{InUse, IsUnused}
 use Rattle.packet_laws.specs.Line.{End, begun, may_begin, is_session}
-use Rattle.call_records.specs.Book.{Book, places, closes, with_record, all_told}
+use Rattle.call_records.specs.Book.{Book, places_from, closes, with_record, all_told}
 use Rattle.book_laws.specs.Told.{placed_on}
 use Rattle.book_laws.proofs.Basics.{number_is}
 use Rattle.book_laws.proofs.Ending.{Further}
@@ -40,8 +40,8 @@ given_is l PacketReady d p e = (p, free_is l.role l.channels d e)
 given_is l OwnRestart d p e = absurd (none-some d e)
 given_is l NoSession d p e = absurd (none-some d e)
 
-places_size : (x : Role) (d : ℕ) (called : List ℕ) (b : Book) → SameSize b (places x d called b)
-places_size x d called b = size_trans b (with_record _ b) (places x d called b) (size_record _ b) (size_slot x d _ (with_record _ b))
+places_size : (x : Role) (d : ℕ) (calling called : List ℕ) (b : Book) → SameSize b (places_from x d calling called b)
+places_size x d calling called b = size_trans b (with_record _ b) (places_from x d calling called b) (size_record _ b) (size_slot x d _ (with_record _ b))
 
 -- nothing is answered where nothing was called
 not_answered_there : (n : ℕ) (e y : End) (s d : ℕ) → Facts n e y → 1 ≤ d → d ≤ n → IsUnused (e.histories s d) → (v : Bool) → ((y.histories s d).epochs (e.histories s d).restart (e.histories s d).use_ 0).answered ≡ v → v ≡ false
@@ -49,10 +49,10 @@ not_answered_there n e y s d facts lo hi u false h = refl
 not_answered_there n e y s d facts lo hi u true h =
     absurd (true≢false (sym ((facts.answers_there s d lo hi).was_called (e.histories s d).restart (e.histories s d).use_ 0 h) ∙ ap (λ (z : Epoch). is_some z.called) (u.empty 0)))
 
-call_on : (n : ℕ) (e y : End) (te ty : ℕ) (b : Book) (parts : CallParts) (d : ℕ) (ch : Channel) (found_ : Option Channel) → KeptAt n e.layer.role e y te ty b → Facts n e y → parts.calling ≡ [] → e.layer.phase ≡ PacketReady → channel_of e.layer d ≡ found_ → found_ ≡ Some ch → ch.state ≡ Ready
-    → KeptAt n e.layer.role (moved_end e (on_found e.layer d (λ z. placing parts z) found_) (λ c st. call_history parts (Some d) c st) e.accepted) y te ty (places e.layer.role d parts.called b)
-call_on n e y te ty b parts d ch None k facts calling phase f is ready = absurd (none-some ch is)
-call_on n e y te ty b parts d ch0 (Some ch) k facts calling phase found is0 ready0 =
+call_on : (n : ℕ) (e y : End) (te ty : ℕ) (b : Book) (parts : CallParts) (d : ℕ) (ch : Channel) (found_ : Option Channel) → KeptAt n e.layer.role e y te ty b → Facts n e y → e.layer.phase ≡ PacketReady → channel_of e.layer d ≡ found_ → found_ ≡ Some ch → ch.state ≡ Ready
+    → KeptAt n e.layer.role (moved_end e (on_found e.layer d (λ z. placing parts z) found_) (λ c st. call_history parts (Some d) c st) e.accepted) y te ty (places_from e.layer.role d parts.calling parts.called b)
+call_on n e y te ty b parts d ch None k facts phase f is ready = absurd (none-some ch is)
+call_on n e y te ty b parts d ch0 (Some ch) k facts phase found is0 ready0 =
     let x : Role = e.layer.role in
     let ready : ch.state ≡ Ready = ap (λ (z : Channel). z.state) (same_Some ch ch0 is0) ∙ ready0 in
     let up = k.here.up phase in
@@ -80,7 +80,6 @@ call_on n e y te ty b parts d ch0 (Some ch) k facts calling phase found is0 read
       unused = unused;
       begun_history = at.begun;
       begun = begun_now x e te n s d k.here.count up.2 range.0 hi;
-      calling = calling;
       not_answered = not_answered_there n e y s d facts range.0 hi unused ((y.histories s d).epochs (e.histories s d).restart (e.histories s d).use_ 0).answered refl;
       least = range.0;
       most = let h = k.sizes x in omega arith;
@@ -88,18 +87,18 @@ call_on n e y te ty b parts d ch0 (Some ch) k facts calling phase found is0 read
     record {
       tags = r.0;
       right = r.1;
-      sizes = sized n b (places x d parts.called b) (places_size x d parts.called b) k.sizes;
+      sizes = sized n b (places_from x d parts.calling parts.called b) (places_size x d parts.calling parts.called b) k.sizes;
       here = same_end_is n e e' k.here refl (same_rises e) refl refl count;
       there = k.there;
     }
 
-pub calls_given : (n : ℕ) (e y : End) (te ty : ℕ) (b : Book) (parts : CallParts) → KeptAt n e.layer.role e y te ty b → Facts n e y → parts.calling ≡ [] → (o : Option ℕ) → channel_given e.layer e.layer.phase ≡ o
+pub calls_given : (n : ℕ) (e y : End) (te ty : ℕ) (b : Book) (parts : CallParts) → KeptAt n e.layer.role e y te ty b → Facts n e y → (o : Option ℕ) → channel_given e.layer e.layer.phase ≡ o
     → KeptAt n e.layer.role (after_call e parts o) y te ty (placed_on e.layer.role o parts b)
-calls_given n e y te ty b parts k facts calling None given =
+calls_given n e y te ty b parts k facts None given =
     still n e y te ty b e.layer (λ c st. st) e.accepted k (λ c. refl) (λ c st. history_refl st) (same_rises e) refl (same_end_is n e (after_call e parts None) k.here refl (same_rises e) refl refl refl)
-calls_given n e y te ty b parts k facts calling (Some d) given =
+calls_given n e y te ty b parts k facts (Some d) given =
     let g = given_is e.layer e.layer.phase d refl given in
-    call_on n e y te ty b parts d g.1.0 (channel_of e.layer d) k facts calling g.0 refl g.1.1 g.1.2
+    call_on n e y te ty b parts d g.1.0 (channel_of e.layer d) k facts g.0 refl g.1.1 g.1.2
 
 -- ---- a timer expires
 

@@ -1,23 +1,28 @@
 -- A worked run of a line and its book, by computation: a call, data on it, a reset, and data again.
-use Rattle.std.proofs.Common.{◌≡◌, ℕ, ◌≤◌, false, List, [], ◌∷◌, Some, None, refl, arith}
+use Rattle.std.specs.Prelude.{is_some}
+use Rattle.std.proofs.Common.{◌≡◌, ℕ, ◌≤◌, true, false, List, [], ◌∷◌, Some, None, refl, arith}
 use Rattle.epochs.specs.Epoch.{nothing_sent, nothing_taken}
 use Rattle.packet_layer.specs.Packets.{CallParts, Datum}
 use Rattle.packet_layer.specs.Channel.Request.{Accept, Resetting, Sending, Taking, Releasing}
 use Rattle.packet_laws.specs.Line.Happening.{Here, There}
 use Rattle.packet_laws.specs.Line.Event.{Up, Calls, Requests, Offers, Arrives}
-use Rattle.call_records.specs.Records.{RecordValue}
-use Rattle.call_records.specs.Book.{packet_of}
+use Rattle.call_records.specs.Records.{RecordValue, new_record}
+use Rattle.link_timers.specs.declared.role.Role.TheVariants.{Dce}
+use Rattle.call_records.specs.Book.{packet_of, slot_at}
 use Rattle.book_laws.specs.Told.{World, Move, after_all, start, AreAllowed}
 use Rattle.book_laws.specs.Told.Move.{Happens}
+use Rattle.book_laws.specs.Headline.{IsPaired, BookHolds}
+use Rattle.book_laws.proofs.Answered.{are_answered}
+use Rattle.book_laws.proofs.BookHolds.{book_holds}
 
-abbrev parts : CallParts
+abbrev pub parts : CallParts
 parts = record { called = 5 ∷ 7 ∷ []; calling = []; facilities = []; user_part = [] }
 
-abbrev said : ℕ → Datum
+abbrev pub said : ℕ → Datum
 said octet = record { octets = octet ∷ []; more = false; qualified = false; delivery = false }
 
 -- the link comes up, and both ends restart
-abbrev set_up : List Move → List Move
+abbrev pub set_up : List Move → List Move
 set_up ms = Happens (Here (Up 1)) ∷ Happens (There (Up 1)) ∷ Happens (Here Offers) ∷ Happens (There Offers) ∷ Happens (Here Arrives) ∷ Happens (There Arrives) ∷ ms
 
 -- a packet goes from one end to the other
@@ -28,11 +33,11 @@ abbrev backward : List Move → List Move
 backward ms = Happens (There Offers) ∷ Happens (Here Arrives) ∷ ms
 
 -- the DTE calls, the DCE accepts
-abbrev called : List Move → List Move
+abbrev pub called : List Move → List Move
 called ms = Happens (Here (Calls parts)) ∷ onward (Happens (There (Requests 1 Accept)) ∷ backward ms)
 
 -- the DTE says something, and the DCE takes it
-abbrev says : ℕ → List Move → List Move
+abbrev pub says : ℕ → List Move → List Move
 says octet ms = Happens (Here (Requests 1 (Sending (said octet)))) ∷ onward (Happens (There (Requests 1 Taking)) ∷ ms)
 
 -- what was taken is released, and so covered; then the DTE resets
@@ -80,12 +85,47 @@ pairs_are : (after_all whole made).book.pairs ≡ record { caller = 0; callee = 
 pairs_are = refl
 
 -- a line whose sessions rise may run so
-zero_one : 0 ≤ 1
+pub zero_one : 0 ≤ 1
 zero_one = omega arith
 
-one_one : 1 ≤ 1
+pub one_one : 1 ≤ 1
 one_one = omega arith
 
 is_allowed : AreAllowed whole made
 is_allowed =
-    (zero_one, (zero_one, (tt, (tt, (one_one, (one_one, (refl, (tt, (one_one, (tt, (tt, (one_one, (tt, (tt, (one_one, (tt, (tt, (tt, (one_one, (tt, (tt, (one_one, (tt, (one_one, (tt, (tt, (one_one, (tt, tt))))))))))))))))))))))))))))
+    (zero_one, (zero_one, (tt, (tt, (one_one, (one_one, (tt, (tt, (one_one, (tt, (tt, (one_one, (tt, (tt, (one_one, (tt, (tt, (tt, (one_one, (tt, (tt, (one_one, (tt, (one_one, (tt, (tt, (one_one, (tt, tt))))))))))))))))))))))))))))
+
+-- the call that came in is in the pair, in data transfer
+small : 2 ≤ 7
+small = omega arith
+
+is_paired : IsPaired (slot_at Dce 1 (after_all whole made).book) (after_all whole made).book.pairs
+is_paired = (are_answered 3 4 1 2 false one_one small whole is_allowed).paired Dce 1 _ refl refl refl
+
+-- before it is accepted, the book has it as one that came in
+abbrev incoming : List Move
+incoming = set_up (Happens (Here (Calls parts)) ∷ onward [])
+
+incoming_allowed : AreAllowed incoming made
+incoming_allowed = (zero_one, (zero_one, (tt, (tt, (one_one, (one_one, (tt, (tt, (one_one, tt)))))))))
+
+came_in : is_some (slot_at Dce 1 (after_all incoming made).book).caller ≡ true
+came_in = (are_answered 3 4 1 2 false one_one small incoming incoming_allowed).came Dce 1 _ refl refl
+
+-- ---- a call that gives a calling address, as a switch does
+
+abbrev naming : CallParts
+naming = record { called = 5 ∷ 7 ∷ []; calling = 9 ∷ []; facilities = []; user_part = [] }
+
+abbrev named : List Move
+named = set_up (Happens (Here (Calls naming)) ∷ onward (Happens (There (Requests 1 Accept)) ∷ []))
+
+named_allowed : AreAllowed named made
+named_allowed = (zero_one, (zero_one, (tt, (tt, (one_one, (one_one, (tt, (tt, (one_one, (tt, tt))))))))))
+
+named_records : (after_all named made).book.records
+    ≡ new_record 0 3 (Some (9 ∷ [])) (Some (5 ∷ 7 ∷ [])) ∷ new_record 1 4 (Some (5 ∷ 7 ∷ [])) (Some (9 ∷ [])) ∷ []
+named_records = refl
+
+named_holds : BookHolds (after_all named made).book
+named_holds = book_holds 3 4 1 2 false one_one small named named_allowed

@@ -15,7 +15,7 @@ use Rattle.call_records.specs.Records.{RecordValue, PairValue, new_record}
 use Rattle.call_records.specs.Book.{Book, Slot, free_slot, slot_at, side_of, nth_slot, new_book, standing_book}
 use Rattle.book_laws.specs.Told.{start}
 use Rattle.book_laws.proofs.Basics.{dte_not_dce}
-use Rattle.book_laws.proofs.Invariant.{EndView, CallStatus, ChannelUse, Tag, book_parts, IsLive, IsCallee, Stands, Means, Fits, SlotIs, PlacedIs, UpTo, IsPair, IsRight, called_at}
+use Rattle.book_laws.proofs.Invariant.{EndView, CallStatus, ChannelUse, Tag, book_parts, IsLive, IsCallee, Stands, Means, Fits, SlotIs, PlacedIs, UpTo, IsPair, IsRight, called_at, own_sent, own_taken, nothing_passed, nothing_sent_yet, nothing_taken_yet}
 use Rattle.book_laws.proofs.Invariant.CallStatus.{Idle}
 use Rattle.book_laws.proofs.Invariant.Kind.{Caller, Callee}
 use Rattle.book_laws.proofs.Cancelling.{caller_not_callee, caller_not_cancelled, callee_not_cancelled}
@@ -170,7 +170,7 @@ module _ (a b m window : ℕ) where
 
   caller_means : Means (up_views Dte) (up_views Dce) book_up.pairs both 0 caller_tag
   caller_means = record {
-    caller = λ e. record { own = refl; not_answered = refl; paired = λ v. (0, record { caller = 0; callee = 1 }, refl, refl) };
+    caller = λ e. record { not_answered = refl; paired = λ v. (0, record { caller = 0; callee = 1 }, refl, refl) };
     callee = λ k e. absurd (caller_not_callee k e);
     cancelled = λ e. absurd (caller_not_cancelled e);
   }
@@ -206,7 +206,7 @@ module _ (a b m window : ℕ) where
     node_is = refl;
     own = refl;
     far = refl;
-    tells = λ live. record { sent = λ g. none_sent g; taken = λ g. none_taken g };
+    tells = λ live. record { sent = λ g. own_sent nothing_passed _ _ (none_sent g) nothing_sent_yet; taken = λ g. own_taken nothing_passed _ _ (none_taken g) nothing_taken_yet };
     none = λ k. absurd (caller_not_cancelled k);
     epochs = λ up is live. record { sent = refl; taken = refl };
   }
@@ -217,7 +217,7 @@ module _ (a b m window : ℕ) where
     node_is = refl;
     own = refl;
     far = refl;
-    tells = λ live. record { sent = λ g. none_sent g; taken = λ g. none_taken g };
+    tells = λ live. record { sent = λ g. own_sent nothing_passed _ _ (none_sent g) nothing_sent_yet; taken = λ g. own_taken nothing_passed _ _ (none_taken g) nothing_taken_yet };
     none = λ k. absurd (callee_not_cancelled 0 k);
     epochs = λ up is live. record { sent = refl; taken = refl };
   }
@@ -240,10 +240,10 @@ module _ (a b m window : ℕ) where
 
   up_slot : (x : Role) (c : ℕ) → SlotIs ((up_views x).status c) (up_views x) both x c (slot_at x c book_up)
   up_slot Dte zero = refl
-  up_slot Dte (suc zero) = record { session = 0; number = 0; tag = caller_tag; up = refl; is_present = refl; there = refl; role = refl; channel_use = refl; live = caller_not_cancelled }
+  up_slot Dte (suc zero) = (record { session = 0; number = 0; tag = caller_tag; up = refl; is_present = refl; there = refl; role = refl; channel_use = refl; live = caller_not_cancelled }, λ a e. absurd (none-some a e))
   up_slot Dte (suc (suc i)) = subst (λ (v : CallStatus). SlotIs v (up_views Dte) both Dte (suc (suc i)) (slot_at Dte (suc (suc i)) book_up)) (sym (idle_at Dte m i)) (ap (λ (z : Slot). z.present) (free_all m (suc i)))
   up_slot Dce zero = refl
-  up_slot Dce (suc zero) = record { session = 0; number = 1; tag = callee_tag; up = refl; is_present = refl; there = refl; role = refl; channel_use = refl; live = callee_not_cancelled 0 }
+  up_slot Dce (suc zero) = (record { session = 0; number = 1; tag = callee_tag; up = refl; is_present = refl; there = refl; role = refl; channel_use = refl; live = callee_not_cancelled 0 }, λ a e. (ap (λ (k : ℕ). Callee k) (same_Some 0 a e), refl))
   up_slot Dce (suc (suc i)) = subst (λ (v : CallStatus). SlotIs v (up_views Dce) both Dce (suc (suc i)) (slot_at Dce (suc (suc i)) book_up)) (sym (idle_at Dce m i)) (ap (λ (z : Slot). z.present) (free_all m (suc i)))
 
   up_last : (k : ChannelUse) → k.channel ≡ 1 → IsSome (called_at (up_views Dte) k) → UpTo k first
@@ -268,7 +268,7 @@ module _ (a b m window : ℕ) where
     channel = refl;
     session = omega arith;
     called = refl;
-    calling = refl;
+    own = refl;
     far = refl;
     placed = λ k e. caller_not_callee k e;
     last = up_last;

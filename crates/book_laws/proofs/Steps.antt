@@ -11,7 +11,7 @@ use Rattle.packet_laws.specs.History.{Epoch, History, placed, with_call}
 use Rattle.packet_laws.specs.Law.{IsBegun, IsUnused}
 use Rattle.packet_laws.specs.Line.{End}
 use Rattle.call_records.specs.Records.{RecordValue, new_record}
-use Rattle.call_records.specs.Book.{Book, Slot, slot_at, side_of, with_record, places, comes, address_of}
+use Rattle.call_records.specs.Book.{Book, Slot, slot_at, side_of, with_record, places_from, comes, address_of}
 use Rattle.book_laws.proofs.Basics.{number_is, order}
 use Rattle.book_laws.proofs.Invariant.{CallStatus, ChannelUse, Tag, BookParts, book_parts, IsPast, IsRight, epoch_at, called_at, answered_at, now, sent_of, taken_of}
 use Rattle.book_laws.proofs.Invariant.CallStatus.{Idle, OwnCall, FarCall}
@@ -55,7 +55,6 @@ pub record PlaceStep (x : Role) (e e' y : End) (s d te ty : ℕ) (parts : CallPa
   pub unused : IsUnused (e.histories s d)
   pub begun_history : IsBegun (e.histories s d)
   pub begun : (view_of x e te).begun (now (view_of x e te) s d) ≡ true
-  pub calling : parts.calling ≡ []
   pub not_answered : answered_at (view_of (other_of x) y ty) (now (view_of x e te) s d) ≡ false
   pub least : 1 ≤ d
   pub most : d ≤ length (side_of x b).slots
@@ -116,17 +115,16 @@ module _ (x : Role) (e e' y : End) (s d te ty : ℕ) (parts : CallParts) (b : Bo
       record { restarts = h.0; uses = h.1 }
 
 pub place_step : (x : Role) (e e' y : End) (s d te ty : ℕ) (parts : CallParts) (b : Book) (tags : List Tag) → PlaceStep x e e' y s d te ty parts b → IsRight (views_of x e y te ty) (book_parts b) tags
-    → (tags' : List Tag) × IsRight (views_of x e' y te ty) (book_parts (places x d parts.called b)) tags'
+    → (tags' : List Tag) × IsRight (views_of x e' y te ty) (book_parts (places_from x d parts.calling parts.called b)) tags'
 place_step Dte e e' y s d te ty parts b tags q w =
-    let b' : Book = places Dte d parts.called b in
-    let v : Book = with_record (new_record (length b.records) b.dte.node None (address_of parts.called)) b in
+    let b' : Book = places_from Dte d parts.calling parts.called b in
+    let v : Book = with_record (new_record (length b.records) b.dte.node (address_of parts.calling) (address_of parts.called)) b in
     let z : Slot = record { present = Some (length b.records); placed = Some (length b.records); caller = None } in
     let r = placing_right Dte s d parts (views_of Dte e y te ty) (views_of Dte e' y te ty) (book_parts b) (book_parts b').slots tags w (record {
       there = refl;
       here = place_adds Dte e e' y s d te ty parts b q;
       new = unused_new Dte e te s d q.begun q.unused;
       called = now_called Dte e e' y s d te ty parts b q;
-      calling = q.calling;
       not_answered = q.not_answered;
       earlier = earlier Dte e e' y s d te ty parts b q;
       status = q.own;
@@ -134,17 +132,16 @@ place_step Dte e e' y s d te ty parts b tags q w =
       slots_else = λ c h. slot_else Dte d c z v h;
       slots_there = λ c. refl;
     }) in
-    (r.0, subst (λ (sh : BookParts). IsRight (views_of Dte e' y te ty) sh r.0) (book_parts_same b b' refl (λ k. (size_slot Dte d z v).node k ∙ (size_record (new_record (length b.records) b.dte.node None (address_of parts.called)) b).node k)) r.1)
+    (r.0, subst (λ (sh : BookParts). IsRight (views_of Dte e' y te ty) sh r.0) (book_parts_same b b' refl (λ k. (size_slot Dte d z v).node k ∙ (size_record (new_record (length b.records) b.dte.node (address_of parts.calling) (address_of parts.called)) b).node k)) r.1)
 place_step Dce e e' y s d te ty parts b tags q w =
-    let b' : Book = places Dce d parts.called b in
-    let v : Book = with_record (new_record (length b.records) b.dce.node None (address_of parts.called)) b in
+    let b' : Book = places_from Dce d parts.calling parts.called b in
+    let v : Book = with_record (new_record (length b.records) b.dce.node (address_of parts.calling) (address_of parts.called)) b in
     let z : Slot = record { present = Some (length b.records); placed = Some (length b.records); caller = None } in
     let r = placing_right Dce s d parts (views_of Dce e y te ty) (views_of Dce e' y te ty) (book_parts b) (book_parts b').slots tags w (record {
       there = refl;
       here = place_adds Dce e e' y s d te ty parts b q;
       new = unused_new Dce e te s d q.begun q.unused;
       called = now_called Dce e e' y s d te ty parts b q;
-      calling = q.calling;
       not_answered = q.not_answered;
       earlier = earlier Dce e e' y s d te ty parts b q;
       status = q.own;
@@ -152,7 +149,7 @@ place_step Dce e e' y s d te ty parts b tags q w =
       slots_else = λ c h. slot_else Dce d c z v h;
       slots_there = λ c. refl;
     }) in
-    (r.0, subst (λ (sh : BookParts). IsRight (views_of Dce e' y te ty) sh r.0) (book_parts_same b b' refl (λ k. (size_slot Dce d z v).node k ∙ (size_record (new_record (length b.records) b.dce.node None (address_of parts.called)) b).node k)) r.1)
+    (r.0, subst (λ (sh : BookParts). IsRight (views_of Dce e' y te ty) sh r.0) (book_parts_same b b' refl (λ k. (size_slot Dce d z v).node k ∙ (size_record (new_record (length b.records) b.dce.node (address_of parts.calling) (address_of parts.called)) b).node k)) r.1)
 
 -- ---- a call comes in at an end
 

@@ -1,18 +1,26 @@
 -- What the book of a line promises of its calls.
-use Rattle.std.specs.Prelude.{◌≡◌, ℕ, ◌<◌, ◌≤◌, ◌⊎◌, Bool, false, List, [], ◌∷◌, length, slice_get, Option, Some, None}
-use Rattle.std.specs.Prelude.{is_some}
+use Rattle.std.specs.Prelude.{◌≡◌, ℕ, ◌<◌, ◌≤◌, ◌⊎◌, Bool, false, List, [], ◌∷◌, ◌++◌, length, slice_get, Option, Some, None}
+use Rattle.std.specs.Prelude.{is_some, true}
 use Rattle.link_timers.specs.declared.role.Role.{Role}
 use Rattle.link_timers.specs.declared.role.Role.TheVariants.{Dte, Dce}
-use Rattle.packet_layer.specs.Channel.{Channel}
+use Rattle.packet_layer.specs.Channel.{Channel, may_accept, in_transfer}
 use Rattle.packet_layer.specs.Layer.{Layer, channel_of, had_call}
-use Rattle.epochs.specs.Epoch.{Epoch, IsEmpty}
+use Rattle.epochs.specs.Epoch.{Epoch, IsEmpty, AreAligned}
 use Rattle.epochs.specs.Match.{Match}
 use Rattle.call_records.specs.Records.{RecordValue, PairValue, sent_epochs, taken_epochs}
-use Rattle.call_records.specs.Book.{Book, side_of, slot_at}
+use Rattle.call_records.specs.Book.{Book, Slot, side_of, slot_at}
 use Rattle.book_laws.specs.Told.{World, Move, after_all, AreAllowed, start}
 
--- the epochs that one end of a call took match those that the other end sent, both ways
+-- epoch by epoch, what one end of a call took begins what the other end sent, packet by packet; what is covered at the
+-- sender was released at the taker, and what is released was taken
+abbrev pub IsTakenFrom : (sender taker : RecordValue) → Type 0
+IsTakenFrom sender taker =
+    AreAligned (sender.sent_before ++ sender.sent ∷ []) (taker.taken_before ++ taker.taken ∷ [])
+
+-- so it is both ways, and so the epochs that one end took match those that the other end sent
 pub record PairMatches (caller callee : RecordValue) : Type 0 where
+  pub onward_aligned : IsTakenFrom caller callee
+  pub backward_aligned : IsTakenFrom callee caller
   pub onward : Match (taken_epochs callee) (sent_epochs caller)
   pub backward : Match (taken_epochs caller) (sent_epochs callee)
 
@@ -20,14 +28,13 @@ pub record PairMatches (caller callee : RecordValue) : Type 0 where
 abbrev pub AreEnds : Book → (a b : ℕ) → Type 0
 AreEnds book a b = ((a ≡ book.dte.node) × (b ≡ book.dce.node)) ⊎ ((a ≡ book.dce.node) × (b ≡ book.dte.node))
 
--- the caller's record was made first; the callee's node is the other one of the line, and its own address is the one
--- that was called; a line without a switch has no address, so the caller has none and the callee knows none
+-- the caller's record was made first; the callee's node is the other one of the line, its own address is the one that
+-- was called, and the far one is the calling address that the caller gave, if it gave any
 pub record PairIsRight (book : Book) (caller callee : RecordValue) : Type 0 where
   pub order : caller.number < callee.number
   pub ends : AreEnds book caller.node callee.node
   pub address : callee.own ≡ caller.far
-  pub caller_own : caller.own ≡ None
-  pub callee_far : callee.far ≡ None
+  pub calling : callee.far ≡ caller.own
 
 -- the two records of a pair are there, what was taken matches what was sent, both ways, and the pair is right
 pub record PairHolds (book : Book) (pair : PairValue) : Type 0 where
@@ -52,6 +59,9 @@ pub record BookHolds (book : Book) : Type 0 where
   pub pairs_hold : (i : ℕ) (pair : PairValue) → slice_get book.pairs i ≡ Some pair → PairHolds book pair
   -- the record of each number is at that place
   pub numbers : (i : ℕ) (r : RecordValue) → slice_get book.records i ≡ Some r → r.number ≡ i
+  -- each record is of one of the line's two nodes
+  pub nodes : (i : ℕ) (r : RecordValue) → slice_get book.records i ≡ Some r
+      → (r.node ≡ book.dte.node) ⊎ (r.node ≡ book.dce.node)
   -- no record is in two pairs, and each that took anything is in one
   pub in_one : (i j : ℕ) (p q : PairValue) (number : ℕ)
       → slice_get book.pairs i ≡ Some p → slice_get book.pairs j ≡ Some q → IsIn p number → IsIn q number → i ≡ j
@@ -85,3 +95,29 @@ abbrev pub PresentLaw : Type 0
 PresentLaw = (dte_node dce_node channels window : ℕ) (standing : Bool) → 1 ≤ channels → window ≤ 7
     → (ms : List Move) → AreAllowed ms (start dte_node dce_node channels window standing)
     → IsBeside (after_all ms (start dte_node dce_node channels window standing))
+
+-- ---- calls that came in
+
+-- the present call of a channel came in, and its record is in a pair with that of the end that placed it
+pub record IsPaired (slot : Slot) (pairs : List PairValue) : Type 0 where
+  pub caller : ℕ
+  pub callee : ℕ
+  pub present : slot.present ≡ Some callee
+  pub came : slot.caller ≡ Some caller
+  pub place : ℕ
+  pub there : slice_get pairs place ≡ Some (record { caller = caller; callee = callee })
+
+-- where an end may accept a call, the book has it as one that came in; and in data transfer each call that came in is
+-- in a pair
+pub record AreAnswered (w : World) : Type 0 where
+  pub came : (role : Role) (c : ℕ) (ch : Channel) → channel_of (layer_at role w) c ≡ Some ch
+      → may_accept role ch.state ≡ true
+      → is_some (slot_at role c w.book).caller ≡ true
+  pub paired : (role : Role) (c : ℕ) (ch : Channel) → channel_of (layer_at role w) c ≡ Some ch
+      → in_transfer ch.state ≡ true → is_some (slot_at role c w.book).caller ≡ true
+      → IsPaired (slot_at role c w.book) w.book.pairs
+
+abbrev pub AnsweredLaw : Type 0
+AnsweredLaw = (dte_node dce_node channels window : ℕ) (standing : Bool) → 1 ≤ channels → window ≤ 7
+    → (ms : List Move) → AreAllowed ms (start dte_node dce_node channels window standing)
+    → AreAnswered (after_all ms (start dte_node dce_node channels window standing))

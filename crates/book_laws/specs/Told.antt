@@ -80,12 +80,11 @@ after_all (m ∷ ms) v = after_all ms (after_move m v)
 
 -- ---- what the links promise
 -- of sessions: they come in rising order, and a packet that arrives in a session comes from an end that was up in none
--- later; and no end of a line without a switch names itself in a call
+-- later
 
 abbrev pub InOrder : Event → Option ℕ → (top other_top : ℕ) → Type 0
 InOrder (Up s) session top other_top = top ≤ s
 InOrder Arrives (Some s) top other_top = other_top ≤ s
-InOrder (Calls parts) session top other_top = parts.calling ≡ []
 InOrder _ session top other_top = Unit {0}
 
 abbrev pub IsAllowed : Move → World → Type 0

@@ -1,4 +1,4 @@
-ghost use Rattle.book_laws.specs.Headline.{BookLaw, PresentLaw};
+ghost use Rattle.book_laws.specs.Headline.{BookLaw, PresentLaw, AnsweredLaw};
 
 /// The law of the book of a line, over the definitions alone: whatever is called at the two ends of a line whose
 /// sessions come in rising order, the epochs that one end of a pair took match those that the other end sent, both
@@ -8,4 +8,7 @@ pub fn book_law()
 
     // A channel has a present record exactly where the packet layer of its end has a call there.
     ensures present { PresentLaw }
+
+    // Where an end may accept a call, the book has it as one that came in; in data transfer such a call is in a pair.
+    ensures answered { AnsweredLaw }
 {}

@@ -3,3 +3,4 @@ pub mod Sides
 pub mod Rooms
 pub mod Coming
 pub mod Ending
+pub mod Opening

@@ -86,15 +86,19 @@ abbrev pub address_of : List ℕ → Option (List ℕ)
 address_of [] = None
 address_of (digit ∷ digits) = Some (digit ∷ digits)
 
--- the end places a call to an address; a line without a switch has no address of its own
-abbrev pub places : Role → (channel : ℕ) → (called : List ℕ) → Book → Book
-places role channel called b =
+-- the end places a call to an address, and gives a calling one if it has any
+abbrev pub places_from : Role → (channel : ℕ) → (calling called : List ℕ) → Book → Book
+places_from role channel calling called b =
     with_slot role channel (record {
       present = Some (length b.records);
       placed = Some (length b.records);
       caller = None;
     })
-    (with_record (new_record (length b.records) (side_of role b).node None (address_of called)) b)
+    (with_record (new_record (length b.records) (side_of role b).node (address_of calling) (address_of called)) b)
+
+-- a line without a switch has no address of its own
+abbrev pub places : Role → (channel : ℕ) → (called : List ℕ) → Book → Book
+places role channel called b = places_from role channel [] called b
 
 -- a call comes in: it is the one that the other end placed last on this channel
 abbrev pub comes : Role → (channel : ℕ) → CallParts → Book → Book

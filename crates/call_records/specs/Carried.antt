@@ -5,7 +5,7 @@ use Rattle.packet_layer.specs.Packets.{CallParts}
 use Rattle.packet_layer.specs.Traffic.{Taken}
 use Rattle.packet_layer.specs.Channel.{Request, Refusal}
 use Rattle.packet_layer.specs.Channel.Request.{Accept, Clearing, Resetting, Sending, Interrupting, Taking, Releasing}
-use Rattle.call_records.specs.Book.{Book, places, answers, closes, renews, sends, interrupts, takes, releases}
+use Rattle.call_records.specs.Book.{Book, places_from, answers, closes, renews, sends, interrupts, takes, releases}
 
 -- what the user asked, where it was not refused; what is taken is what was at the front before
 abbrev pub carried : Role → (channel : ℕ) → Request → Option Taken → Book → Book
@@ -24,4 +24,4 @@ unless_refused (Some r) done old = old
 
 abbrev pub placed_on : Role → Option ℕ → CallParts → Book → Book
 placed_on role None parts b = b
-placed_on role (Some channel) parts b = places role channel parts.called b
+placed_on role (Some channel) parts b = places_from role channel parts.calling parts.called b

@@ -3,5 +3,8 @@ pub mod Book
 pub mod Room
 pub mod Closing
 pub mod Carried
+pub mod Writes
+pub mod Register
 pub mod RecordView
 pub mod BookView
+pub mod RegisterView

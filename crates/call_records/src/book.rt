@@ -109,6 +109,18 @@ impl Book {
         Ok(())
     }
 
+    /// Exchanges the ends of its line for those of another one. There is no room then.
+    pub(crate) fn exchange_ends(&mut self, ends: &mut Ends)
+        ensures book { self.new ≡ record {
+          book = record self.old.book { dte = ends.old.dte; dce = ends.old.dce };
+          room = 0;
+        } }
+        ensures ends { ends.new ≡ record { dte = self.old.book.dte; dce = self.old.book.dce } }
+    {
+        self.room = 0;
+        std::mem::swap(&mut self.ends, ends);
+    }
+
     /// The records, by their numbers.
     pub fn records(&self) -> &[Record]
         ensures { map shown result.now ≡ self.now.book.records }

@@ -119,6 +119,24 @@ pub(crate) struct Ends {
 }
 
 impl Ends {
+    /// The ends of a line between two nodes with so many channels, all free.
+    pub(crate) fn new(
+        alloc: Global,
+        dte_node: usize,
+        dce_node: usize,
+        channels: u8,
+    ) -> Result<Ends, AllocError>
+        ensures { IfOk result (λ ends. ends ≡ record {
+          dte = record { node = dte_node; slots = replicate channels free_slot };
+          dce = record { node = dce_node; slots = replicate channels free_slot };
+        }) }
+    {
+        Ok(Ends {
+            dte: Side::new(alloc, dte_node, channels)?,
+            dce: Side::new(alloc, dce_node, channels)?,
+        })
+    }
+
     /// The end of this role.
     pub(crate) fn of(&self, role: Role) -> &Side
         ensures { (records : List RecordValue) (pairs : List PairValue) → result.now

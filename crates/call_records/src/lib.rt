@@ -5,7 +5,9 @@ mod book;
 mod ends;
 mod interrupt;
 mod record;
+mod register;
 
 pub use book::Book;
 pub use interrupt::Interrupt;
 pub use record::{EditStep, Pair, Record, SentEpoch, TakenEpoch};
+pub use register::Register;

@@ -1,6 +1,7 @@
 use Rattle.book_laws.proofs.BookHolds.{book_holds}
 use Rattle.book_laws.proofs.Beside.{is_beside}
+use Rattle.book_laws.proofs.Answered.{are_answered}
 use Rattle.book_laws.proofs.law.book_law.Goals as goal
 
 pub returns : goal.returns
-returns c = record { book = book_holds; present = is_beside }
+returns c = record { book = book_holds; present = is_beside; answered = are_answered }

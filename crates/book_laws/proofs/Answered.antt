@@ -1,0 +1,90 @@
+-- Calls that came in: what the book has of them until they are accepted, and in data transfer.
+use Rattle.std.specs.Prelude.{◌≡◌, ℕ, true, List, is_some, slice_get, Option, Some, None}
+use Rattle.std.proofs.Common.{refl, sym, ap, subst, ◌∙◌, true≢false}
+use Rattle.link_timers.specs.declared.role.Role.{Role}
+use Rattle.link_timers.specs.declared.role.Role.TheVariants.{Dte, Dce}
+use Rattle.packet_layer.specs.Channel.{CallState, Channel, may_accept, in_transfer}
+use Rattle.packet_layer.specs.Channel.CallState.{Ready, OwnWaiting, FarWaiting, Transfer, Collision, OwnClear}
+use Rattle.packet_layer.specs.Layer.{channel_of}
+use Rattle.call_records.specs.Records.{PairValue}
+use Rattle.call_records.specs.Book.{Book, Slot, slot_at}
+use Rattle.packet_laws.proofs.Line.LineHolds.{line_holds}
+use Rattle.book_laws.specs.Told.{World, after_all, start}
+use Rattle.book_laws.specs.Headline.{IsPaired, AreAnswered, AnsweredLaw, layer_at}
+use Rattle.book_laws.proofs.Invariant.{EndView, CallStatus, Kind, Tag, SlotIs, IsRight, book_parts, answered_at}
+use Rattle.book_laws.proofs.Invariant.CallStatus.{FarCall, Open}
+use Rattle.book_laws.proofs.Invariant.Kind.{Caller, Callee, Cancelled}
+use Rattle.book_laws.proofs.Carrying.{same_tag}
+use Rattle.book_laws.proofs.EndSteps.{status_of, status_at, view_of, views_of}
+use Rattle.book_laws.proofs.Lines.{KeptIn, all_kept}
+use Rattle.book_laws.proofs.Starting.{start_kept}
+
+far_call : (x : Role) (s : CallState) → may_accept x s ≡ true → status_of x s ≡ FarCall
+far_call x FarWaiting e = refl
+far_call Dce Collision e = refl
+far_call Dte Collision e = absurd (true≢false (sym e))
+far_call x Ready e = absurd (true≢false (sym e))
+far_call x OwnWaiting e = absurd (true≢false (sym e))
+far_call x Transfer e = absurd (true≢false (sym e))
+far_call x OwnClear e = absurd (true≢false (sym e))
+
+open_call : (x : Role) (s : CallState) → in_transfer s ≡ true → status_of x s ≡ Open
+open_call x Transfer e = refl
+open_call x Ready e = absurd (true≢false (sym e))
+open_call x OwnWaiting e = absurd (true≢false (sym e))
+open_call x FarWaiting e = absurd (true≢false (sym e))
+open_call x Collision e = absurd (true≢false (sym e))
+open_call x OwnClear e = absurd (true≢false (sym e))
+
+some_of : (o : Option ℕ) → is_some o ≡ true → (n : ℕ) × (o ≡ Some n)
+some_of (Some n) e = (n, refl)
+some_of None e = absurd (true≢false (sym e))
+
+abbrev callee_number : Kind → ℕ
+callee_number Caller = 0
+callee_number (Callee a) = a
+callee_number Cancelled = 0
+
+pub pair_is : (p : PairValue) (a n : ℕ) → p.caller ≡ a → p.callee ≡ n → p ≡ record { caller = a; callee = n }
+pair_is p a n e h = ap (λ (i : ℕ). (record { caller = i; callee = p.callee })) e ∙ ap (λ (i : ℕ). (record { caller = a; callee = i })) h
+
+came_in : (f : EndView) (tags : List Tag) (x : Role) (c : ℕ) (slot : Slot) → SlotIs FarCall f tags x c slot → is_some slot.caller ≡ true
+came_in f tags x c slot w = ap (λ (o : Option ℕ). is_some o) w.3
+
+paired : (views : Role → EndView) (b : Book) (tags : List Tag) (x : Role) (c : ℕ) → IsRight views (book_parts b) tags → SlotIs Open (views x) tags x c (slot_at x c b)
+    → is_some (slot_at x c b).caller ≡ true → IsPaired (slot_at x c b) b.pairs
+paired views b tags x c r w some =
+    let a = some_of (slot_at x c b).caller some in
+    let k = w.1 a.0 a.1 in
+    let t : Tag = w.0.tag in
+    let found = ((r.means w.0.number t w.0.there).callee a.0 k.0).paired (subst (λ (z : Role). answered_at (views z) t.channel_use ≡ true) (sym w.0.role) k.1) in
+    let pair = r.pairs found.0 found.1 found.2 in
+    let same : pair.tag ≡ t = same_tag tags w.0.number pair.tag t (subst (λ (n : ℕ). slice_get tags n ≡ Some pair.tag) found.3 pair.there) w.0.there in
+    let caller : found.1.caller ≡ a.0 = ap callee_number (sym pair.kind ∙ ap (λ (u : Tag). u.kind) same ∙ k.0) in
+    record {
+      caller = a.0;
+      callee = w.0.number;
+      present = w.0.is_present;
+      came = a.1;
+      place = found.0;
+      there = found.2 ∙ ap (λ (q : PairValue). Some q) (pair_is found.1 a.0 w.0.number caller found.3);
+    }
+
+kept_answered : (n : ℕ) (w : World) → KeptIn n w → AreAnswered w
+kept_answered n w k = record { came = came; paired = found }
+  where
+    came : (role : Role) (c : ℕ) (ch : Channel) → channel_of (layer_at role w) c ≡ Some ch → may_accept role ch.state ≡ true → is_some (slot_at role c w.book).caller ≡ true
+    came Dte c ch at may = came_in (view_of Dte w.line.me w.top_me) k.tags Dte c (slot_at Dte c w.book) (subst (λ (m : CallStatus). SlotIs m (view_of Dte w.line.me w.top_me) k.tags Dte c (slot_at Dte c w.book)) (ap (status_at Dte) at ∙ far_call Dte ch.state may) (k.right.slot Dte c))
+    came Dce c ch at may = came_in (view_of Dce w.line.you w.top_you) k.tags Dce c (slot_at Dce c w.book) (subst (λ (m : CallStatus). SlotIs m (view_of Dce w.line.you w.top_you) k.tags Dce c (slot_at Dce c w.book)) (ap (status_at Dce) at ∙ far_call Dce ch.state may) (k.right.slot Dce c))
+
+    found : (role : Role) (c : ℕ) (ch : Channel) → channel_of (layer_at role w) c ≡ Some ch → in_transfer ch.state ≡ true → is_some (slot_at role c w.book).caller ≡ true → IsPaired (slot_at role c w.book) w.book.pairs
+    found Dte c ch at open_ some =
+        paired (views_of Dte w.line.me w.line.you w.top_me w.top_you) w.book k.tags Dte c k.right (subst (λ (m : CallStatus). SlotIs m (view_of Dte w.line.me w.top_me) k.tags Dte c (slot_at Dte c w.book)) (ap (status_at Dte) at ∙ open_call Dte ch.state open_) (k.right.slot Dte c)) some
+    found Dce c ch at open_ some =
+        paired (views_of Dte w.line.me w.line.you w.top_me w.top_you) w.book k.tags Dce c k.right (subst (λ (m : CallStatus). SlotIs m (view_of Dce w.line.you w.top_you) k.tags Dce c (slot_at Dce c w.book)) (ap (status_at Dce) at ∙ open_call Dce ch.state open_) (k.right.slot Dce c)) some
+
+pub are_answered : AnsweredLaw
+are_answered dte_node dce_node channels window standing some small ms allowed =
+    kept_answered channels (after_all ms (start dte_node dce_node channels window standing))
+    (all_kept channels ms (start dte_node dce_node channels window standing) (start_kept dte_node dce_node channels window standing some)
+    (λ hs. (line_holds channels window standing some small hs).0) allowed).0

@@ -1,0 +1,93 @@
+-- The book of a register is opened at a line: its ends go to their own line, and it gets those of the other one.
+use Rattle.std.proofs.Common.{◌≡◌, ℕ, zero, suc, ◌<◌, ◌≤◌, true, arith, List, [], ◌∷◌, length, set, Option, Some, None, refl, sym, ap, ◌∙◌}
+use Rattle.std.specs.Prelude.{slice_get}
+use Rattle.std.specs.Option.{option_map}
+use Rattle.std.proofs.lemmas.Option.{none-some, same_Some, slice_get-map}
+use Rattle.std.proofs.lemmas.List.{set-set}
+use Rattle.call_records.specs.Book.{Book, made_book}
+use Rattle.call_records.specs.Register.{Register, LineEnds, book_at, with_book, made_register}
+use Rattle.call_records.specs.RegisterView.{ends_of, lines_of, ends_in, with_ends, register_with}
+use Rattle.call_records.specs.declared.ends.Ends.{Ends}
+
+-- ---- lists
+
+set_there : {X : Type 0} (xs : List X) (n : ℕ) (x : X) → slice_get xs n ≡ Some x → set xs n x ≡ xs
+set_there [] n x e = refl
+set_there (y ∷ xs) zero x e = ap (λ z. z ∷ xs) (sym (same_Some y x e))
+set_there (y ∷ xs) (suc n) x e = ap (λ zs. y ∷ zs) (set_there xs n x e)
+
+set_beyond : {X : Type 0} (xs : List X) (n : ℕ) (x : X) → slice_get xs n ≡ None → set xs n x ≡ xs
+set_beyond [] n x e = refl
+set_beyond (y ∷ xs) zero x e = absurd (none-some y (sym e))
+set_beyond (y ∷ xs) (suc n) x e = ap (λ zs. y ∷ zs) (set_beyond xs n x e)
+
+within : {X : Type 0} (xs : List X) (n : ℕ) → n < length xs → (x : X) × (slice_get xs n ≡ Some x)
+within [] n h = absurd (let no : ⊥ = omega (arith, h) in no)
+within (x ∷ xs) zero h = (x, refl)
+within (x ∷ xs) (suc n) h = within xs n (omega (arith, h))
+
+none_beyond : {X : Type 0} (xs : List X) (n : ℕ) → (n < length xs → ⊥) → slice_get xs n ≡ None
+none_beyond [] n h = refl
+none_beyond (x ∷ xs) zero h = absurd (h (omega arith))
+none_beyond (x ∷ xs) (suc n) h = none_beyond xs n (λ k. h (omega (arith, k)))
+
+pub some_within : (lines : List Ends) (line : ℕ) (e : Ends) (b : Book) → slice_get lines line ≡ Some e → record b { dte = e.dte; dce = e.dce } ≡ with_ends (slice_get (lines_of lines) line) b
+some_within lines line e b at = ap (λ o. with_ends o b) (sym (slice_get-map ends_of lines line ∙ ap (λ o. option_map ends_of o) at))
+
+-- a line that is not there has no ends
+pub no_ends : (lines : List Ends) (line : ℕ) (b : Book) → (line < length lines → ⊥) → b ≡ with_ends (slice_get (lines_of lines) line) b
+no_ends lines line b beyond = let none = none_beyond lines line beyond in ap (λ o. with_ends o b) (sym (slice_get-map ends_of lines line ∙ ap (λ o. option_map ends_of o) none))
+
+pub no_line : (lines : List Ends) (line : ℕ) (x : LineEnds) → (line < length lines → ⊥) → lines_of lines ≡ set (lines_of lines) line x
+no_line lines line x beyond = sym (set_beyond (lines_of lines) line x (slice_get-map ends_of lines line ∙ ap (λ o. option_map ends_of o) (none_beyond lines line beyond)))
+
+-- ---- the ends go to their own line
+
+same_records : (o : Option LineEnds) (b : Book) (lines : List LineEnds) → register_with None (with_ends o b) lines ≡ register_with None b lines
+same_records None b lines = refl
+same_records (Some ends) b lines = refl
+
+pub closed : (last : ℕ) (b b1 : Book) (lines lines1 : List LineEnds) → b1 ≡ with_ends (slice_get lines last) b → lines1 ≡ set lines last (ends_in b)
+    → register_with None b1 lines1 ≡ register_with (Some last) b lines
+closed last b b1 lines lines1 p q =
+    ap (λ (x : Book). register_with None x lines1) p ∙ same_records (slice_get lines last) b lines1 ∙ ap (λ (ls : List LineEnds). register_with None b ls) q
+
+-- ---- and those of the other one into the book
+
+opened_so : (line : ℕ) (b : Book) (lines : List LineEnds) (o : Option LineEnds) → slice_get lines line ≡ o
+    → register_with (Some line) (with_ends o b) (set lines line (ends_in b)) ≡ register_with None b lines
+opened_so line b lines None e = ap (λ (ls : List LineEnds). register_with None b ls) (set-set lines line (ends_in b) (ends_in b) ∙ set_beyond lines line (ends_in b) e)
+opened_so line b lines (Some ends) e = ap (λ (ls : List LineEnds). register_with None b ls) (set-set lines line (ends_in b) ends ∙ set_there lines line ends e)
+
+pub opened : (line : ℕ) (b b1 : Book) (lines lines1 : List LineEnds) → b1 ≡ with_ends (slice_get lines line) b → lines1 ≡ set lines line (ends_in b)
+    → register_with (Some line) b1 lines1 ≡ register_with None b lines
+opened line b b1 lines lines1 p q =
+    ap (λ (x : Book). register_with (Some line) x lines1) p ∙ ap (λ (ls : List LineEnds). register_with (Some line) (with_ends (slice_get lines line) b) ls) q
+    ∙ opened_so line b lines (slice_get lines line) refl
+
+book_so : (line : ℕ) (b : Book) (lines : List LineEnds) (ends : LineEnds) → slice_get lines line ≡ Some ends
+    → with_ends (slice_get lines line) b ≡ book_at line (register_with None b lines)
+book_so line b lines ends e = ap (λ o. with_ends o b) e ∙ ap (λ (x : LineEnds). record b { dte = x.dte; dce = x.dce }) refl
+    ∙ ap (λ o. record b { dte = (Rattle.call_records.specs.Register.found_ends o).dte; dce = (Rattle.call_records.specs.Register.found_ends o).dce }) (sym e)
+
+pub opened_book : (line : ℕ) (b b1 : Book) (lines : List LineEnds) → line < length lines → b1 ≡ with_ends (slice_get lines line) b
+    → b1 ≡ book_at line (register_with None b lines)
+opened_book line b b1 lines h p = let e = within lines line h in p ∙ book_so line b lines e.0 e.1
+
+-- ---- what is written then
+
+-- the book was written, at the line at which it is open
+pub written_open : (line : ℕ) (b c : Book) (lines : List LineEnds) → register_with (Some line) c lines ≡ with_book line c (register_with (Some line) b lines)
+written_open line b c lines = ap (λ (ls : List LineEnds). record { records = c.records; pairs = c.pairs; lines = ls }) (sym (set-set lines line (ends_in b) (ends_in c)))
+
+-- ---- a line on which a call stands
+
+-- the register of this book alone
+abbrev pub alone : Book → Register
+alone b = record { records = b.records; pairs = b.pairs; lines = ends_in b ∷ [] }
+
+pub stands_alone : (dte_node dce_node channels : ℕ) → 1 ≤ channels
+    → alone (made_book dte_node dce_node channels true)
+    ≡ made_register (record { dte_node = dte_node; dce_node = dce_node; channels = channels; standing = true } ∷ [])
+stands_alone dte_node dce_node zero h = absurd (let no : ⊥ = omega (arith, h) in no)
+stands_alone dte_node dce_node (suc channels) h = refl

@@ -1,0 +1,101 @@
+-- The register of a network of lines: the records and the pairs of the whole network in the order of making, and for
+-- each line the two ends with their channels. What is written at a line is what is written into a book, which has the
+-- records and pairs of all lines and the ends of this one.
+use Rattle.std.specs.Prelude.{ℕ, Bool, if◌then◌else◌, List, [], ◌∷◌, ◌++◌, length, replicate, set, slice_get}
+use Rattle.std.specs.Prelude.{Option, Some, None}
+use Rattle.link_timers.specs.declared.role.Role.{Role}
+use Rattle.link_timers.specs.declared.role.Role.TheVariants.{Dte, Dce}
+use Rattle.packet_layer.specs.Packets.{CallParts}
+use Rattle.packet_layer.specs.Packets.Note.{Incoming}
+use Rattle.packet_layer.specs.Channel.Request.{Accept}
+use Rattle.call_records.specs.Records.{RecordValue, PairValue}
+use Rattle.call_records.specs.Book.{Book, Side, free_slot, made_book}
+use Rattle.call_records.specs.Writes.{Write, all_written}
+use Rattle.call_records.specs.Writes.Write.{Placed, Told, Asked}
+
+-- the two ends of a line
+pub record LineEnds : Type 0 where
+  pub dte : Side
+  pub dce : Side
+
+pub record Register : Type 0 where
+  pub records : List RecordValue
+  pub pairs : List PairValue
+  pub lines : List LineEnds
+
+-- a line that is not there has no channels
+abbrev pub no_side : Side
+no_side = record { node = 0; slots = [] }
+
+abbrev pub found_ends : Option LineEnds → LineEnds
+found_ends (Some ends) = ends
+found_ends None = record { dte = no_side; dce = no_side }
+
+-- what the register has of a line: the records and pairs of the whole network, and the line's own ends
+abbrev pub book_at : (line : ℕ) → Register → Book
+book_at line g = record {
+  records = g.records;
+  pairs = g.pairs;
+  dte = (found_ends (slice_get g.lines line)).dte;
+  dce = (found_ends (slice_get g.lines line)).dce;
+}
+
+abbrev pub with_book : (line : ℕ) → Book → Register → Register
+with_book line b g = record {
+  records = b.records;
+  pairs = b.pairs;
+  lines = set g.lines line (record { dte = b.dte; dce = b.dce });
+}
+
+-- what is written at a line
+abbrev pub written_at : (line : ℕ) → (Book → Book) → Register → Register
+written_at line write g = with_book line (write (book_at line g)) g
+
+abbrev pub all_written_at : (line : ℕ) → Role → List Write → Register → Register
+all_written_at line role writes g = written_at line (all_written role writes) g
+
+-- ---- making
+
+-- a line between two nodes with channels from 1 on, and whether a call stands on the first of them
+pub record LinePlan : Type 0 where
+  pub dte_node : ℕ
+  pub dce_node : ℕ
+  pub channels : ℕ
+  pub standing : Bool
+
+-- the book of the line alone
+abbrev pub planned_book : LinePlan → Book
+planned_book plan = made_book plan.dte_node plan.dce_node plan.channels plan.standing
+
+abbrev pub free_ends : LinePlan → LineEnds
+free_ends plan = record {
+  dte = record { node = plan.dte_node; slots = replicate plan.channels free_slot };
+  dce = record { node = plan.dce_node; slots = replicate plan.channels free_slot };
+}
+
+-- a call between two ends without an address
+abbrev pub no_parts : CallParts
+no_parts = record { called = []; calling = []; facilities = []; user_part = [] }
+
+-- a call stands on the first channel of a line: the DTE placed it, it came in at the DCE, and the DCE accepted it
+abbrev pub with_standing_call : (line : ℕ) → Register → Register
+with_standing_call line g =
+    all_written_at line Dce (Told (Incoming 1 no_parts ∷ []) ∷ Asked None 1 Accept None ∷ [])
+    (all_written_at line Dte (Placed (Some 1) no_parts ∷ []) g)
+
+abbrev pub with_free_line : LinePlan → Register → Register
+with_free_line plan g = record g { lines = g.lines ++ free_ends plan ∷ [] }
+
+abbrev pub with_line : LinePlan → Register → Register
+with_line plan g =
+    if plan.standing then with_standing_call (length g.lines) (with_free_line plan g) else with_free_line plan g
+
+abbrev pub with_lines : List LinePlan → Register → Register
+with_lines [] g = g
+with_lines (plan ∷ plans) g = with_lines plans (with_line plan g)
+
+abbrev pub empty_register : Register
+empty_register = record { records = []; pairs = []; lines = [] }
+
+abbrev pub made_register : List LinePlan → Register
+made_register plans = with_lines plans empty_register

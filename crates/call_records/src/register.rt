@@ -1,0 +1,102 @@
+//! The register of a network of lines.
+ghost use Rattle.std.specs.Prelude.{◌≡◌, ◌≤◌, ◌<◌, false, true, [], ◌∷◌, set, length, slice_get, IfOk, OnOk};
+ghost use Rattle.call_records.specs.Register.{empty_register, made_register, with_free_line, book_at};
+ghost use Rattle.call_records.specs.RegisterView.{register_of, lines_of, ends_in, with_ends, IsOpen, IsClosed};
+
+use crate::book::Book;
+use crate::ends::Ends;
+use std::alloc::{AllocError, Global};
+
+/// The register of a network: the records and pairs of all calls, in the order of making, and for each line its two
+/// ends, channel by channel. What happens at a line is written into the book, once it is open there.
+#[derive(Drop)]
+pub struct Register {
+    /// The records and pairs, and the ends of the line at which it is open.
+    pub book: Book,
+    open: Option<usize>,
+    /// The ends of the lines, but for those that are in the book.
+    lines: Vec<Ends>,
+}
+
+impl Register {
+    /// The register of a network without lines. It is refused for want of memory.
+    pub fn new(alloc: Global) -> Result<Register, AllocError>
+        ensures value { IfOk result (λ r. register_of r ≡ empty_register) }
+        ensures closed { IfOk result IsClosed }
+    {
+        Ok(Register {
+            book: Book::new(alloc, 0, 0, 0, false)?,
+            open: None,
+            lines: Vec::new(alloc),
+        })
+    }
+
+    /// The register of one line, on whose first channel a call stands, which counts as placed by the DTE. It is refused
+    /// for want of memory.
+    pub fn standing(
+        alloc: Global,
+        dte_node: usize,
+        dce_node: usize,
+        channels: u8,
+    ) -> Result<Register, AllocError>
+        requires { 1 ≤ channels }
+        ensures { IfOk result (λ r. register_of r ≡ made_register
+            (record { dte_node = dte_node; dce_node = dce_node; channels = channels; standing = true } ∷ [])) }
+    {
+        let book = Book::new(alloc, dte_node, dce_node, channels, true)?;
+        let mut lines = Vec::new(alloc);
+        lines.push(Ends::new(alloc, 0, 0, 0)?)?;
+        Ok(Register {
+            book,
+            open: Some(0),
+            lines,
+        })
+    }
+
+    /// Adds a line between two nodes with channels from 1 on, all of them free. Without the memory there is no line
+    /// more.
+    pub fn add_line(
+        &mut self,
+        alloc: Global,
+        dte_node: usize,
+        dce_node: usize,
+        channels: u8,
+    ) -> Result<(), AllocError>
+        requires { IsClosed self.old }
+        ensures ok { OnOk result (register_of self.new ≡ with_free_line
+            (record { dte_node = dte_node; dce_node = dce_node; channels = channels; standing = false })
+            (register_of self.old)) }
+        ensures closed { IsClosed self.new }
+    {
+        let ends = Ends::new(alloc, dte_node, dce_node, channels)?;
+        self.lines.push(ends)?;
+        Ok(())
+    }
+
+    /// Opens the book at a line, and makes room there for so many writes. Without the memory there is no room, and the
+    /// register is as before.
+    pub fn open(&mut self, line: usize, count: usize) -> Result<(), AllocError>
+        ensures same { register_of self.new ≡ register_of self.old }
+        ensures lines { length self.new.lines.items ≡ length self.old.lines.items }
+        ensures at { line < length self.old.lines.items → IsOpen line self.new }
+        ensures book { line < length self.old.lines.items → self.new.book.book ≡ book_at line (register_of self.old) }
+        ensures room { OnOk result (self.new.book.room ≡ count) }
+    {
+        if let Some(last) = self.open {
+            exchange(&mut self.book, &mut self.lines, last);
+        }
+        exchange(&mut self.book, &mut self.lines, line);
+        self.open = Some(line);
+        self.book.reserve(count)
+    }
+}
+
+/// The book gets the ends of a line, if there is one, and gives its own for them.
+fn exchange(book: &mut Book, lines: &mut Vec<Ends>, line: usize)
+    ensures book { book.new.book ≡ with_ends (slice_get (lines_of lines.old.items) line) book.old.book }
+    ensures lines { lines_of lines.new.items ≡ set (lines_of lines.old.items) line (ends_in book.old.book) }
+{
+    if line < lines.len() {
+        book.exchange_ends(&mut lines[line]);
+    }
+}

@@ -1,0 +1,7 @@
+mod Positions
+mod Steps
+pub mod Writing
+pub mod Seeing
+pub mod Making
+pub mod Promising
+mod Rows

@@ -1,0 +1,17 @@
+use Rattle.register_laws.proofs.Making.{made_seen}
+use Rattle.register_laws.proofs.Seeing.{writes_seen, in_turn, present_seen, came_seen, owned}
+use Rattle.register_laws.proofs.Promising.{promised, of_one_line, paired_seen}
+use Rattle.register_laws.proofs.register_law.Goals as goal
+
+pub returns : goal.returns
+returns c = record {
+  made = made_seen;
+  writes = writes_seen;
+  in_turn = in_turn;
+  promise = promised;
+  present = present_seen;
+  owned = owned;
+  nodes = of_one_line;
+  came = came_seen;
+  paired = paired_seen;
+}

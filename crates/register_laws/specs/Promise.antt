@@ -1,0 +1,45 @@
+-- What the register of a network promises of its calls.
+use Rattle.std.specs.Prelude.{◌≡◌, ℕ, ◌<◌, ◌⊎◌, slice_get, Some}
+use Rattle.call_records.specs.Records.{RecordValue, PairValue, taken_epochs}
+use Rattle.call_records.specs.Register.{Register, LineEnds, book_at}
+use Rattle.book_laws.specs.Headline.{PairMatches, AreEnds, IsIn, TookNothing}
+
+-- the caller's record was made first; the nodes are those of the two ends of one line; the callee's own address is the
+-- one that was called, and the far one is the caller's own
+pub record PairIsRight (g : Register) (caller callee : RecordValue) : Type 0 where
+  pub order : caller.number < callee.number
+  pub line : ℕ
+  pub line_ends : LineEnds
+  pub line_there : slice_get g.lines line ≡ Some line_ends
+  pub ends : AreEnds (book_at line g) caller.node callee.node
+  pub own : callee.own ≡ caller.far
+  pub far : callee.far ≡ caller.own
+
+-- the two records of a pair are there, what was taken matches what was sent, both ways, and the pair is right
+pub record PairHolds (g : Register) (pair : PairValue) : Type 0 where
+  pub caller : RecordValue
+  pub callee : RecordValue
+  pub caller_there : slice_get g.records pair.caller ≡ Some caller
+  pub callee_there : slice_get g.records pair.callee ≡ Some callee
+  pub matches : PairMatches caller callee
+  pub is_right : PairIsRight g caller callee
+
+-- a node is that of an end of some line
+pub record IsOfEnd (g : Register) (node : ℕ) : Type 0 where
+  pub line : ℕ
+  pub line_ends : LineEnds
+  pub line_there : slice_get g.lines line ≡ Some line_ends
+  pub at_end : (node ≡ line_ends.dte.node) ⊎ (node ≡ line_ends.dce.node)
+
+pub record RegisterHolds (g : Register) : Type 0 where
+  -- each pair holds
+  pub pairs_hold : (i : ℕ) (pair : PairValue) → slice_get g.pairs i ≡ Some pair → PairHolds g pair
+  -- the record of each number is at that place
+  pub numbers : (i : ℕ) (r : RecordValue) → slice_get g.records i ≡ Some r → r.number ≡ i
+  -- each record is of a node at an end of a line
+  pub nodes : (i : ℕ) (r : RecordValue) → slice_get g.records i ≡ Some r → IsOfEnd g r.node
+  -- no record is in two pairs, and each that took anything is in one
+  pub in_one : (i j : ℕ) (p q : PairValue) (number : ℕ)
+      → slice_get g.pairs i ≡ Some p → slice_get g.pairs j ≡ Some q → IsIn p number → IsIn q number → i ≡ j
+  pub took : (n : ℕ) (r : RecordValue) → slice_get g.records n ≡ Some r
+      → TookNothing (taken_epochs r) ⊎ ((i : ℕ) × (p : PairValue) × (slice_get g.pairs i ≡ Some p) × IsIn p n)

@@ -1,0 +1,27 @@
+//! What the register of a network has of each of its lines, whatever is written.
+#![tactic(auto)]
+
+ghost use Rattle.register_laws.specs.Law.{MadeLaw, WriteLaw, InTurnLaw, PromiseLaw, PresentLaw, OwnedLaw, NodeLaw};
+ghost use Rattle.register_laws.specs.Law.{CameLaw, PairedLaw};
+
+/// The law of the register of a network of many lines, over definitions alone: from the making on, and whatever is
+/// written at its lines, it has the records, pairs and channels of each line's book, numbered over the whole network.
+/// Where the book of each line holds, each pair of the register is there, was taken from as was sent to it, and is of
+/// the two ends of one line; no record is in two pairs, and each that took anything is in one.
+pub fn register_law()
+    ensures made { MadeLaw }
+    ensures writes { WriteLaw }
+    ensures in_turn { InTurnLaw }
+    ensures promise { PromiseLaw }
+
+    // A channel has a present record exactly where the line's book has one. Each record is one of a line's book, and
+    // each of a node at one line only is one of that line's book.
+    ensures present { PresentLaw }
+    ensures owned { OwnedLaw }
+    ensures nodes { NodeLaw }
+
+    // A call that came in is known as one in the register where it is in the line's book, and is in a pair in the
+    // register where it is in the book.
+    ensures came { CameLaw }
+    ensures paired { PairedLaw }
+{}
