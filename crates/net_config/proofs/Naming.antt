@@ -1,0 +1,131 @@
+-- Names of nodes, and the places that they stand for.
+use Rattle.std.proofs.Common.{◌≡◌, ◌≢◌, ℕ, ◌≤◌, leb, Bool, true, false, ◌&&◌, ◌||◌, not, List, Some, refl, sym, ap, subst, ◌∙◌, true≢false}
+use Rattle.std.specs.Prelude.{slice_get, string_bytes}
+use Rattle.std.specs.List.{list_all, list_any}
+use Rattle.std.specs.Cmp.Lexicographic.{bytes_decides}
+use Rattle.std.proofs.lemmas.Bool.{and_parts, leb-true, not-true}
+use Rattle.packet_end.specs.Params.{AreParams}
+use Rattle.net_config.specs.Served.{is_from, same_text, is_named, has_dte, has_end, exactly_one, is_kind_served, is_within}
+use Rattle.net_config.specs.Served.{is_host, is_host_named, joins_nodes, may_stand, is_node_served, is_line_served, is_served}
+use Rattle.net_config.specs.Plan.{place_of, end_params}
+use Rattle.net_config.specs.declared.config.Config.{Config}
+use Rattle.net_config.specs.declared.config.NodeConfig.{NodeConfig}
+use Rattle.net_config.specs.declared.config.LineConfig.{LineConfig}
+use Rattle.net_config.specs.declared.config.RouteConfig.{RouteConfig}
+use Rattle.net_config.proofs.Counting.{Passes, all_at, place_is}
+
+pub same_so : (a b : List ℕ) → same_text a b ≡ true → a ≡ b
+same_so a b = (bytes_decides a b).0
+
+pub so_same : (a b : List ℕ) → a ≡ b → same_text a b ≡ true
+so_same a b = (bytes_decides a b).1
+
+pub record IsBetween (a b n : ℕ) : Type 0 where
+  pub least : a ≤ n
+  pub most : n ≤ b
+
+from_so : (a b n : ℕ) → is_from a b n ≡ true → IsBetween a b n
+from_so a b n h =
+    let parts = and_parts (leb a n) (leb n b) h in
+    record { least = leb-true a n parts.0; most = leb-true n b parts.1 }
+
+-- ---- what is asked of a node
+
+pub record NodeIsServed (c : Config) (n : NodeConfig) : Type 0 where
+  pub name : exactly_one (is_named (string_bytes n.name)) c.nodes.items ≡ true
+  pub line : exactly_one (has_end (string_bytes n.name)) c.lines.items ≡ true
+  pub kind : is_kind_served n.kind ≡ true
+
+pub node_is_served : (c : Config) (n : NodeConfig) → is_node_served c n ≡ true → NodeIsServed c n
+node_is_served c n h =
+    let one = exactly_one (is_named (string_bytes n.name)) c.nodes.items in
+    let end = exactly_one (has_end (string_bytes n.name)) c.lines.items in
+    let parts = and_parts (one && end) (is_kind_served n.kind) h in
+    let ends = and_parts one end parts.0 in
+    record { name = ends.0; line = ends.1; kind = parts.1 }
+
+-- ---- what is asked of a line
+
+pub record LineIsServed (c : Config) (l : LineConfig) : Type 0 where
+  pub apart : same_text (string_bytes l.dte) (string_bytes l.dce) ≡ false
+  pub dte : list_any (is_named (string_bytes l.dte)) c.nodes.items ≡ true
+  pub dce : list_any (is_host_named (string_bytes l.dce)) c.nodes.items ≡ true
+  pub within : is_within l ≡ true
+
+pub line_is_served : (c : Config) (l : LineConfig) → is_line_served c l ≡ true → LineIsServed c l
+line_is_served c l h =
+    let apart = not (same_text (string_bytes l.dte) (string_bytes l.dce)) in
+    let dte = list_any (is_named (string_bytes l.dte)) c.nodes.items in
+    let dce = list_any (is_host_named (string_bytes l.dce)) c.nodes.items in
+    let parts = and_parts (joins_nodes c.nodes.items l && is_within l) (not l.standing || may_stand c l) h in
+    let within = and_parts (joins_nodes c.nodes.items l) (is_within l) parts.0 in
+    let joins = and_parts (apart && dte) dce within.0 in
+    let ends = and_parts apart dte joins.0 in
+    record {
+      apart = not-true (same_text (string_bytes l.dte) (string_bytes l.dce)) ends.0;
+      dte = ends.1;
+      dce = joins.1;
+      within = within.1;
+    }
+
+pub within_params : (l : LineConfig) → is_within l ≡ true → AreParams (end_params l)
+within_params l h =
+    let channels = is_from 1 32 l.channels in
+    let window = is_from 1 7 l.window in
+    let k = is_from 1 7 l.k in
+    let n2 = is_from 1 20 l.n2 in
+    let all = and_parts (channels && window && k && n2) _ h in
+    let to_n2 = and_parts (channels && window && k) n2 all.0 in
+    let to_k = and_parts (channels && window) k to_n2.0 in
+    let to_window = and_parts channels window to_k.0 in
+    let channels_is = from_so 1 32 l.channels to_window.0 in
+    let window_is = from_so 1 7 l.window to_window.1 in
+    let k_is = from_so 1 7 l.k to_k.1 in
+    let n2_is = from_so 1 20 l.n2 to_n2.1 in
+    record {
+      link = record { k_least = k_is.least; k_most = k_is.most; n2_least = n2_is.least; n2_most = n2_is.most };
+      layer = record {
+        channels_least = channels_is.least;
+        channels_most = channels_is.most;
+        window_least = window_is.least;
+        window_most = window_is.most;
+      };
+    }
+
+-- ---- of a network
+
+pub served_nodes : (c : Config) → is_served c ≡ true → list_all (is_node_served c) c.nodes.items ≡ true
+served_nodes c h =
+    let nodes = list_all (is_node_served c) c.nodes.items in
+    let lines = list_all (is_line_served c) c.lines.items in
+    (and_parts nodes lines (and_parts (nodes && lines) _ h).0).0
+
+pub served_lines : (c : Config) → is_served c ≡ true → list_all (is_line_served c) c.lines.items ≡ true
+served_lines c h =
+    let nodes = list_all (is_node_served c) c.nodes.items in
+    let lines = list_all (is_line_served c) c.lines.items in
+    (and_parts nodes lines (and_parts (nodes && lines) _ h).0).1
+
+pub served_node : (c : Config) → is_served c ≡ true → (i : ℕ) (n : NodeConfig)
+    → slice_get c.nodes.items i ≡ Some n → NodeIsServed c n
+served_node c h i n e = node_is_served c n (all_at (is_node_served c) c.nodes.items i n (served_nodes c h) e)
+
+pub served_line : (c : Config) → is_served c ≡ true → (i : ℕ) (l : LineConfig)
+    → slice_get c.lines.items i ≡ Some l → LineIsServed c l
+served_line c h i l e = line_is_served c l (all_at (is_line_served c) c.lines.items i l (served_lines c h) e)
+
+-- ---- places
+
+-- a name stands for the place of any node that has it
+pub node_place : (c : Config) → is_served c ≡ true → (name : List ℕ) (i : ℕ) (n : NodeConfig)
+    → slice_get c.nodes.items i ≡ Some n → string_bytes n.name ≡ name → place_of (is_named name) c.nodes.items ≡ i
+node_place c h name i n there same =
+    let one = subst (λ t. exactly_one (is_named t) c.nodes.items ≡ true) same (served_node c h i n there).name in
+    place_is (is_named name) c.nodes.items i n one there (so_same (string_bytes n.name) name same)
+
+-- and for the line that ends there
+pub line_place : (c : Config) → is_served c ≡ true → (i : ℕ) (n : NodeConfig) → slice_get c.nodes.items i ≡ Some n
+    → (j : ℕ) (l : LineConfig) → slice_get c.lines.items j ≡ Some l → has_end (string_bytes n.name) l ≡ true
+    → place_of (has_end (string_bytes n.name)) c.lines.items ≡ j
+line_place c h i n there j l line_there ends =
+    place_is (has_end (string_bytes n.name)) c.lines.items j l (served_node c h i n there).line line_there ends

@@ -1,0 +1,3 @@
+pub mod Served
+pub mod Plan
+pub mod PlanView

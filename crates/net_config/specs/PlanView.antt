@@ -1,0 +1,9 @@
+-- What the code's plan is in the rules.
+use Rattle.std.specs.Prelude.{List}
+use Rattle.network_laws.specs.LineLaw.{NewDte, NewPad, NewHost}
+use Rattle.net_config.specs.declared.plan.NewKind.{NewKind}
+use Rattle.net_config.specs.declared.plan.NewKind.TheVariants as kind_is
+
+abbrev pub kind_value : NewKind → NewDte
+kind_value (kind_is.Pad params) = NewPad params
+kind_value kind_is.Host = NewHost

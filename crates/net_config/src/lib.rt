@@ -1,0 +1,14 @@
+//! How a network is configured, whether it is served, and what it is made with.
+#![tactic(auto)]
+
+mod config;
+mod fault;
+mod plan;
+mod served;
+
+pub use config::{Config, LineConfig, NodeConfig, NodeKind, PadConfig, RouteConfig, Setting};
+pub use fault::MakeFault;
+pub use plan::{NetPlan, NewKind, NewLine, NewNode, plan_of};
+
+#[cfg(test)]
+mod tests;

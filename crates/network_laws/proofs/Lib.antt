@@ -1,0 +1,13 @@
+mod Flying
+mod Uniform
+pub mod NodeKinds
+mod Fitting
+mod Leaving
+mod Keeping
+pub mod Lines
+pub mod Made
+pub mod Networks
+pub mod Opened
+pub mod Promising
+pub mod Due
+mod Rows

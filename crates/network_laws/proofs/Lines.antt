@@ -1,0 +1,88 @@
+-- What holds of a line of a network holds after each event at its nodes, a loss and ticks that pass.
+use Rattle.std.proofs.Common.{◌≡◌, ℕ, refl, sym, ◌∙◌, subst}
+use Rattle.link_timers.specs.declared.role.Role.{Role}
+use Rattle.link_timers.specs.declared.role.Role.TheVariants.{Dte, Dce}
+use Rattle.packet_end.specs.PacketEnd as end
+use Rattle.line_record_laws.specs.Kept.{Kept}
+use Rattle.node_laws.specs.Clauses.{elapsed_line}
+use Rattle.line_nodes.specs.Node.{NodeState, Pad, Host, end_of, is_pad, node_elapsed}
+use Rattle.memory_line.specs.declared.line.Direction.{Direction}
+use Rattle.memory_line.specs.declared.line.Direction.TheVariants.{FromDte, FromDce}
+use Rattle.memory_line.specs.Lines.{Flights, without_first, LineService}
+use Rattle.network_laws.specs.OneLine.{LineState, node_at}
+use Rattle.network_laws.specs.NodeEvents.{NodeEvent, turn_of, Happened}
+use Rattle.network_laws.specs.IsLine.{line_of, IsKept, IsLine}
+use Rattle.network_laws.specs.LineLaw.{elapsed}
+use Rattle.network_laws.proofs.Fitting.{after-turn}
+use Rattle.network_laws.proofs.Leaving.{leaves}
+use Rattle.network_laws.proofs.Keeping.{keeps}
+use Rattle.line_record_laws.proofs.Keeping as keeping_law
+use Rattle.node_laws.proofs.Making as making_law
+use Rattle.node_laws.proofs.QuietTurns as quiet_law
+use Rattle.pad_laws.proofs.Turns as typed_law
+
+pub happened_line : (L : LineService) (event : NodeEvent) (role : Role) (s t : LineState) → IsLine L s
+    → Happened L event role s t → IsLine L t
+happened_line L event role s t n d =
+    subst (IsLine L) (sym d.others)
+    (after-turn L role s (turn_of event role (node_at role s) s.book) t.flights n (leaves L event role s n d.is_for)
+    (λ f. keeps L event role s d.between t.flights n d.is_for (d.left f) (d.put f) (n.kept f)))
+
+-- ---- a frame is lost
+
+with-flights : (L : LineService) (s : LineState) (l : Flights) → IsLine L s
+    → (L.faithful → IsKept (record s { flights = l })) → IsLine L (record s { flights = l })
+with-flights L s l n kept = record {
+  apart = n.apart;
+  dte_node = n.dte_node;
+  dce_node = n.dce_node;
+  host = n.host;
+  quiet = record { dte = n.quiet.dte; dce = n.quiet.dce };
+  typed = n.typed;
+  kept = kept;
+}
+
+lost-kept : (d : Direction) (s : LineState) → IsKept s → IsKept (record s { flights = without_first d s.flights })
+lost-kept FromDte s k = record { setting = k.setting; kept = keeping_law.loss_kept k.setting s.book (line_of s) Dce k.kept }
+lost-kept FromDce s k = record { setting = k.setting; kept = keeping_law.loss_kept k.setting s.book (line_of s) Dte k.kept }
+
+pub lost_line : (L : LineService) (d : Direction) (s : LineState) (l : Flights) → IsLine L s
+    → (L.faithful → l ≡ without_first d s.flights) → IsLine L (record s { flights = l })
+lost_line L d s l n rest = with-flights L s l n (λ f.
+    let K : Flights → Type 0 = λ x. IsKept (record s { flights = x }) in subst K (sym (rest f)) (lost-kept d s (n.kept f)))
+
+-- ---- ticks pass
+
+elapsed-end : (ticks : ℕ) (n : NodeState) → end_of (node_elapsed ticks n) ≡ end.elapsed (end_of n) ticks
+elapsed-end ticks (Pad p) = refl
+elapsed-end ticks (Host e) = refl
+
+elapsed-kind : (ticks : ℕ) (n : NodeState) → is_pad (node_elapsed ticks n) ≡ is_pad n
+elapsed-kind ticks (Pad p) = refl
+elapsed-kind ticks (Host e) = refl
+
+elapsed-line : (ticks : ℕ) (s : LineState) → line_of (elapsed ticks s) ≡ elapsed_line ticks (line_of s)
+elapsed-line ticks s = λ i. record {
+  dte = elapsed-end ticks s.dte i;
+  dce = elapsed-end ticks s.dce i;
+  up = s.flights.from_dte;
+  down = s.flights.from_dce;
+}
+
+pub elapsed_lines : (L : LineService) (s : LineState) (ticks : ℕ) → IsLine L s → IsLine L (elapsed ticks s)
+elapsed_lines L s ticks n = record {
+  apart = n.apart;
+  dte_node = n.dte_node;
+  dce_node = n.dce_node;
+  host = elapsed-kind ticks s.dce ∙ n.host;
+  quiet = record {
+    dte = quiet_law.quiet-elapses s.dte ticks n.quiet.dte;
+    dce = quiet_law.quiet-elapses s.dce ticks n.quiet.dce;
+  };
+  typed = typed_law.elapses_kept Dte s.dte ticks s.book n.typed;
+  kept = λ f. let k = n.kept f in record {
+    setting = k.setting;
+    kept = subst (Kept k.setting s.book) (sym (elapsed-line ticks s))
+        (making_law.elapses_keeps k.setting s.book (line_of s) ticks k.kept).kept;
+  };
+}

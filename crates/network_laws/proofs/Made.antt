@@ -1,0 +1,115 @@
+-- What holds of a line of a network holds at the making, and has what it promises.
+use Rattle.std.proofs.Common.{◌≡◌, ◌≢◌, ℕ, Bool, true, false, ◌++◌, Some, refl, sym, ap, ◌∙◌, subst}
+use Rattle.std.specs.Prelude.{slice_get}
+use Rattle.link_timers.specs.declared.role.Role.TheVariants.{Dte, Dce}
+use Rattle.lapb.specs.Line.{chosen}
+use Rattle.packet_end.specs.PacketEnd as end
+use Rattle.packet_end.specs.Params.{AreParams}
+use Rattle.packet_end.specs.declared.params.EndParams.{EndParams}
+use Rattle.packet_pad.specs.Making as pad
+use Rattle.call_records.specs.Records.{RecordValue}
+use Rattle.call_records.specs.Book.{Book, made_book}
+use Rattle.book_laws.specs.Headline.{BookHolds}
+use Rattle.line_record_laws.specs.Kept.{Setting, Kept}
+use Rattle.node_laws.specs.Quiet.{IsQuiet}
+use Rattle.node_laws.specs.Clauses.{first_line}
+use Rattle.pad_laws.specs.Typed.{IsTyped}
+use Rattle.pad_laws.specs.PadHolds.{NodeHolds}
+use Rattle.line_nodes.specs.Node.{NodeState, Pad, Host, end_of, is_pad, drained, frames_of}
+use Rattle.memory_line.specs.declared.line.Direction.TheVariants.{FromDte, FromDce}
+use Rattle.memory_line.specs.Lines.{Flights, no_flights, LineService}
+use Rattle.network_laws.specs.OneLine.{LineState}
+use Rattle.network_laws.specs.IsLine.{line_of, IsLine}
+use Rattle.network_laws.specs.LineLaw.{NewDte, NewPad, NewHost, new_dte, new_dce, made_line, AreSent}
+use Rattle.network_laws.proofs.Flying.{landed}
+use Rattle.network_laws.proofs.Fitting.{end-drained}
+use Rattle.line_record_laws.proofs.Keeping as keeping_law
+use Rattle.node_laws.proofs.Making as making_law
+use Rattle.node_laws.proofs.QuietTurns as quiet_law
+use Rattle.pad_laws.proofs.Turns as typed_law
+use Rattle.pad_laws.proofs.Making as typed_making_law
+
+-- ---- the promise
+
+typed-so : (n : NodeState) (b : Book) → NodeHolds Dte n b → is_pad n ≡ true → (i : ℕ) (r : RecordValue)
+    → slice_get b.records i ≡ Some r → r.node ≡ b.dte.node → IsTyped r
+typed-so (Pad p) b h e i r at node = h.typed i r at node
+typed-so (Host x) b h e i r at node = absurd (cc)
+
+pub typed_line : (L : LineService) (s : LineState) → IsLine L s → is_pad s.dte ≡ true → (i : ℕ) (r : RecordValue)
+    → slice_get s.book.records i ≡ Some r → r.node ≡ s.dte_place → IsTyped r
+typed_line L s n pad i r at node = typed-so s.dte s.book n.typed pad i r at (node ∙ sym n.dte_node)
+
+pub book_line : (L : LineService) (s : LineState) → IsLine L s → L.faithful → BookHolds s.book
+book_line L s n f = let k = n.kept f in keeping_law.holds_kept k.setting s.book (line_of s) k.kept
+
+-- ---- the making
+
+made-quiet : (d : NewDte) (l : EndParams) → IsQuiet (drained (new_dte d l))
+made-quiet (NewPad params) l = quiet_law.quiet-made-pad (record { line = l; params = params })
+made-quiet NewHost l = quiet_law.quiet-made-host (record { role = Dte; line = l })
+
+made-typed : (d : NewDte) (l : EndParams) (dte_node dce_node channels : ℕ) (standing : Bool)
+    → (dte_node ≡ dce_node → ⊥)
+    → NodeHolds Dte (drained (new_dte d l)) (made_book dte_node dce_node channels standing)
+made-typed (NewPad params) l dte_node dce_node channels standing apart =
+    typed_law.drained_kept Dte (Pad (pad.made (record { line = l; params = params })))
+    (made_book dte_node dce_node channels standing)
+    (typed_making_law.made_holds Dte (record { line = l; params = params }) dte_node dce_node channels standing apart)
+made-typed NewHost l dte_node dce_node channels standing apart = tt
+
+made-end : (d : NewDte) (l : EndParams) → end_of (new_dte d l) ≡ end.made Dte l
+made-end (NewPad params) l = refl
+made-end NewHost l = refl
+
+book-nodes : (dte_node dce_node channels : ℕ) (standing : Bool)
+    → ((made_book dte_node dce_node channels standing).dte.node ≡ dte_node)
+    × ((made_book dte_node dce_node channels standing).dce.node ≡ dce_node)
+book-nodes dte_node dce_node channels true = (refl, refl)
+book-nodes dte_node dce_node channels false = (refl, refl)
+
+abbrev setting-of : (dte_place dce_place : ℕ) → EndParams → Setting
+setting-of dte_place dce_place line = record { dte = line; dce = line; dte_node = dte_place; dce_node = dce_place }
+
+-- the first frames of both ends
+first-line : (L : LineService) (dte_place dce_place : ℕ) (d : NewDte) (line : EndParams) (l : Flights)
+    → (b : AreSent L (new_dte d line) (new_dce line) l)
+    → let up = landed L FromDte (frames_of (new_dte d line)) no_flights b.between b.from_dte in
+    let down = landed L FromDce (frames_of (new_dce line)) b.between l b.from_dce in
+    line_of (made_line dte_place dce_place d line l)
+    ≡ first_line (end_of (new_dte d line)) (end_of (new_dce line)) up.kept down.kept
+first-line L dte_place dce_place d line l b =
+    let up = landed L FromDte (frames_of (new_dte d line)) no_flights b.between b.from_dte in
+    let down = landed L FromDce (frames_of (new_dce line)) b.between l b.from_dce in
+    let going : l.from_dte ≡ chosen up.kept (end_of (new_dte d line)).line.frames =
+        ap (λ (x : Flights). x.from_dte) down.is ∙ ap (λ (x : Flights). x.from_dte) up.is in
+    let coming : l.from_dce ≡ chosen down.kept (end_of (new_dce line)).line.frames =
+        ap (λ (x : Flights). x.from_dce) down.is
+        ∙ ap (λ (x : Flights). x.from_dce ++ chosen down.kept (end_of (new_dce line)).line.frames) up.is in
+    λ i. record { dte = end-drained (new_dte d line) i; dce = end-drained (new_dce line) i; up = going i; down = coming i }
+
+pub made_lines : (L : LineService) (dte_place dce_place : ℕ) (d : NewDte) (line : EndParams) (l : Flights)
+    → dte_place ≢ dce_place → AreParams line → (L.faithful → AreSent L (new_dte d line) (new_dce line) l)
+    → IsLine L (made_line dte_place dce_place d line l)
+made_lines L dte_place dce_place d line l apart params sent =
+    let book : Book = made_book dte_place dce_place line.channels line.standing in
+    let nodes = book-nodes dte_place dce_place line.channels line.standing in
+    record {
+      apart = apart;
+      dte_node = nodes.0;
+      dce_node = nodes.1;
+      host = refl;
+      quiet = record { dte = made-quiet d line; dce = quiet_law.quiet-made-host (record { role = Dce; line = line }) };
+      typed = made-typed d line dte_place dce_place line.channels line.standing apart;
+      kept = λ f.
+          let b = sent f in
+          let up = landed L FromDte (frames_of (new_dte d line)) no_flights b.between b.from_dte in
+          let down = landed L FromDce (frames_of (new_dce line)) b.between l b.from_dce in
+          record {
+            setting = setting-of dte_place dce_place line;
+            kept = subst (Kept (setting-of dte_place dce_place line) book) (sym (first-line L dte_place dce_place d line l b))
+                (making_law.making_keeps (setting-of dte_place dce_place line) (new_dte d line) (new_dce line) up.kept down.kept
+                (record { dte = params; dce = params; alike = record { channels = refl; window = refl; standing = refl } })
+                (made-end d line, refl)).kept;
+          };
+    }

@@ -1,0 +1,112 @@
+-- What holds of a network of faithful lines has all that the network promises.
+use Rattle.std.proofs.Common.{◌≡◌, ℕ, true, false, List, Some, refl, sym, ap, ◌∙◌, subst, inl, inr}
+use Rattle.std.specs.Prelude.{◌⊎◌, slice_get}
+use Rattle.std.proofs.lemmas.Option.{same_Some}
+use Rattle.link_timers.specs.declared.role.Role.{Role}
+use Rattle.link_timers.specs.declared.role.Role.TheVariants.{Dte, Dce}
+use Rattle.packet_layer.specs.Layer.{channel_of}
+use Rattle.call_records.specs.Records.{RecordValue}
+use Rattle.call_records.specs.Book.{Book, side_of}
+use Rattle.book_laws.specs.Headline.{BookHolds, has_call}
+use Rattle.pad_laws.specs.Typed.{IsTyped}
+use Rattle.register_laws.specs.Law.{IsOfBook, IsAtNoOther}
+use Rattle.register_laws.proofs.Seeing.{present_seen}
+use Rattle.register_laws.proofs.Promising.{promised, of_one_line}
+use Rattle.line_record_laws.specs.Kept.{end_at}
+use Rattle.line_record_laws.proofs.Keeping as keeping_law
+use Rattle.line_nodes.specs.Node.{end_of, is_pad}
+use Rattle.memory_line.specs.Lines.{LineService}
+use Rattle.network_laws.specs.OneLine.{LineState}
+use Rattle.network_laws.specs.IsLine.{line_of, IsLine, IsKept}
+use Rattle.network_laws.specs.Network.{PlacedNode, NetLine, Network, place_at}
+use Rattle.network_laws.specs.IsNetwork.{line_state, LineHolds, IsNetwork}
+use Rattle.network_laws.specs.Promise.{EndHolds, NetworkHolds}
+use Rattle.network_laws.proofs.Made.{book_line, typed_line}
+use Rattle.network_laws.proofs.Networks.{book_there, placed, there_is, line_there}
+
+-- ---- each line's book holds
+
+books_hold : (L : LineService) (s : Network) (n : IsNetwork L s) → L.faithful → (line : ℕ) (b : Book) → slice_get n.books line ≡ Some b → BookHolds b
+books_hold L s n f line b at =
+    let l = line_there L s n line b at in
+    let h : LineHolds L s.nodes line l.0 b = n.lines line l.0 b l.1 at in
+    book_line L (line_state l.0 h.dte h.dce b) h.holds f
+
+-- ---- the ends
+
+own_node : (L : LineService) (s : LineState) (role : Role) (l : NetLine) (dte dce : PlacedNode) (b : Book) → IsLine L (line_state l dte dce b) → (side_of role b).node ≡ place_at role l
+own_node L s Dte l dte dce b h = h.dte_node
+own_node L s Dce l dte dce b h = h.dce_node
+
+end_is : (role : Role) (l : NetLine) (dte dce : PlacedNode) (b : Book) → end_at role (line_of (line_state l dte dce b)) ≡ end_of (placed role dte dce).node
+end_is Dte l dte dce b = refl
+end_is Dce l dte dce b = refl
+
+end_holds : (L : LineService) (s : Network) (n : IsNetwork L s) → L.faithful → (line : ℕ) (l : NetLine) (role : Role) → slice_get s.lines line ≡ Some l → EndHolds s line l role
+end_holds L s n f line l role at =
+    let b = book_there L s n line l at in
+    let h : LineHolds L s.nodes line l b.0 = n.lines line l b.0 at b.1 in
+    let own : LineState = line_state l h.dte h.dce b.0 in
+    let k : IsKept own = h.holds.kept f in
+    let where_is = there_is L s.nodes line l b.0 h role in
+    record {
+      node = placed role h.dte h.dce;
+      node_there = where_is.0;
+      node_line = where_is.1;
+      own = (let w = n.seen.line line b.0 b.1 in (w.sides role).node ∙ own_node L own role l h.dte h.dce b.0 h.holds);
+      present = λ channel. present_seen s.register n.books line b.0 role channel b.1 n.seen
+          ∙ keeping_law.present_kept k.setting b.0 (line_of own) role channel k.kept
+          ∙ ap (λ e. has_call (channel_of e.layer channel)) (end_is role l h.dte h.dce b.0);
+    }
+
+-- ---- what a PAD typed
+
+-- the node at an end of a line stands at that line
+at_line : (L : LineService) (nodes : List PlacedNode) (line : ℕ) (l : NetLine) (b : Book) (place : ℕ) (p : PlacedNode) → LineHolds L nodes line l b → slice_get nodes place ≡ Some p
+    → (place ≡ b.dte.node) ⊎ (place ≡ b.dce.node) → line ≡ p.line
+at_line L nodes line l b place p h at (inl e) =
+    let same : h.dte ≡ p = same_Some h.dte p (sym h.dte_there ∙ ap (λ k. slice_get nodes k) (sym (e ∙ h.holds.dte_node)) ∙ at) in
+    sym h.dte_line ∙ ap (λ (x : PlacedNode). x.line) same
+at_line L nodes line l b place p h at (inr e) =
+    let same : h.dce ≡ p = same_Some h.dce p (sym h.dce_there ∙ ap (λ k. slice_get nodes k) (sym (e ∙ h.holds.dce_node)) ∙ at) in
+    sym h.dce_line ∙ ap (λ (x : PlacedNode). x.line) same
+
+at_no_other : (L : LineService) (s : Network) (n : IsNetwork L s) (place : ℕ) (p : PlacedNode) → slice_get s.nodes place ≡ Some p → IsAtNoOther p.line place n.books
+at_no_other L s n place p at j b there ends =
+    let l = line_there L s n j b there in
+    at_line L s.nodes j l.0 b place p (n.lines j l.0 b l.1 there) at ends
+
+-- a PAD is at the DTE
+pad_place : (L : LineService) (nodes : List PlacedNode) (line : ℕ) (l : NetLine) (b : Book) (place : ℕ) (p : PlacedNode) (h : LineHolds L nodes line l b) → slice_get nodes place ≡ Some p
+    → is_pad p.node ≡ true → (l.dte ≡ place) ⊎ (l.dce ≡ place) → (l.dte ≡ place) × (is_pad h.dte.node ≡ true)
+pad_place L nodes line l b place p h at pad (inl e) =
+    let same : p ≡ h.dte = same_Some p h.dte (sym at ∙ ap (λ k. slice_get nodes k) (sym e) ∙ h.dte_there) in
+    (e, ap (λ (x : PlacedNode). is_pad x.node) (sym same) ∙ pad)
+pad_place L nodes line l b place p h at pad (inr e) =
+    let same : p ≡ h.dce = same_Some p h.dce (sym at ∙ ap (λ k. slice_get nodes k) (sym e) ∙ h.dce_there) in
+    let no : is_pad p.node ≡ false = ap (λ (x : PlacedNode). is_pad x.node) same ∙ h.holds.host in
+    absurd (let bad : true ≡ false = sym pad ∙ no in cc)
+
+typed_record : (b : Book) (n : ℕ) (r : RecordValue) (w : IsOfBook b n r) → IsTyped w.own → IsTyped r
+typed_record b n r w h = subst IsTyped (sym w.same) h
+
+typed_holds : (L : LineService) (s : Network) (n : IsNetwork L s) → L.faithful → (place : ℕ) (p : PlacedNode) (i : ℕ) (r : RecordValue) → slice_get s.nodes place ≡ Some p
+    → is_pad p.node ≡ true → slice_get s.register.records i ≡ Some r → r.node ≡ place → IsTyped r
+typed_holds L s n f place p i r at pad there node =
+    let st = n.nodes place p at in
+    let b = book_there L s n p.line st.line st.there in
+    let h : LineHolds L s.nodes p.line st.line b.0 = n.lines p.line st.line b.0 st.there b.1 in
+    let is = pad_place L s.nodes p.line st.line b.0 place p h at pad st.at_end in
+    let w : IsOfBook b.0 i r =
+        of_one_line s.register n.books p.line b.0 i r n.seen (books_hold L s n f) b.1
+        (subst (λ (k : ℕ). IsAtNoOther p.line k n.books) (sym node) (at_no_other L s n place p at)) there in
+    typed_record b.0 i r w
+    (typed_line L (line_state st.line h.dte h.dce b.0) h.holds is.1 w.place w.own w.own_there
+    (sym (ap (λ (x : RecordValue). x.node) w.same) ∙ node ∙ sym is.0))
+
+pub holds_network : (L : LineService) (s : Network) → IsNetwork L s → L.faithful → NetworkHolds s
+holds_network L s n f = record {
+  calls = promised s.register n.books n.seen (books_hold L s n f);
+  ends = end_holds L s n f;
+  typed = typed_holds L s n f;
+}

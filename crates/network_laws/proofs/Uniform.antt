@@ -1,0 +1,131 @@
+-- A turn of a node does not look at the book: it makes the same node whatever the book, and what it writes is a list of
+-- writes.
+use Rattle.std.proofs.Common.{◌≡◌, ℕ, Bool, true, false, List, [], ◌∷◌, Option, Some, None, refl}
+use Rattle.std.specs.Prelude.{cond}
+use Rattle.link_timers.specs.declared.role.Role.{Role}
+use Rattle.pad_editing.specs.Edited.{Step}
+use Rattle.packet_layer.specs.Traffic.{Taken}
+use Rattle.packet_layer.specs.Layer.{request_refusal, front_on, channel_given}
+use Rattle.packet_end.specs.PacketEnd.{PacketEnd, runs_at}
+use Rattle.packet_host.specs.Host as host
+use Rattle.packet_host.specs.Host.{call_parts, refuse_refusal, after_call, after_request, after_refuse, after_say}
+use Rattle.packet_host.specs.Host.{after_take}
+use Rattle.packet_host.specs.Saying.{cut, say_refusal}
+use Rattle.packet_pad.specs.Pad as pad
+use Rattle.packet_pad.specs.Pad.{PadState, refusing, after_finish}
+use Rattle.packet_pad.specs.Keys.{KeyEffect, after_octet}
+use Rattle.call_records.specs.Book.{Book, all_told}
+use Rattle.call_records.specs.Writes.{Write, all_written}
+use Rattle.call_records.specs.Writes.Write.{Told, Placed, Asked, Said, Took, Cleared, Edited, AllClosed}
+use Rattle.line_nodes.specs.Node.{NodeState, Pad, Host, end_of}
+use Rattle.line_nodes.specs.Turn.{Turn, told, unchanged}
+use Rattle.line_nodes.specs.HostTurns.{taken_turn}
+use Rattle.line_nodes.specs.PadTurns.{keyed, pad_event, pad_ends, pad_read, last_incoming, without_call, closed_call}
+use Rattle.network_laws.specs.NodeEvents.{NodeEvent, turn_of}
+use Rattle.network_laws.specs.NodeEvents.NodeEvent.{Hears, Expires, Relinks, Restarts, Calls, Asks, Refuses, Says}
+use Rattle.network_laws.specs.NodeEvents.NodeEvent.{Takes, Keys}
+
+pub record IsUniform (role : Role) (turn : Book → Turn) : Type 0 where
+  pub node : (b c : Book) → (turn b).node ≡ (turn c).node
+  pub writes : List Write
+  pub written : (b : Book) → (turn b).book ≡ all_written role writes b
+
+nothing : (role : Role) (n : NodeState) → IsUniform role (unchanged n)
+nothing role n = record { node = λ b c. refl; writes = []; written = λ b. refl }
+
+
+only_told : (role : Role) (n : NodeState) → IsUniform role (λ b. told role n b)
+only_told role n = record { node = λ b c. refl; writes = Told (end_of n).notes ∷ []; written = λ b. refl }
+
+-- ---- a PAD
+
+incoming-told : (role : Role) (p : PadState) (incoming : Option ℕ)
+    → IsUniform role (λ b. pad_ends p.end.notes role (without_call incoming (pad_read p))
+    (closed_call incoming role (pad_read p) (all_told role p.end.notes b)))
+incoming-told role p None = record {
+  node = λ b c. refl;
+  writes = Told p.end.notes ∷ Told (after_finish (pad_read p)).end.notes ∷ [];
+  written = λ b. refl;
+}
+incoming-told role p (Some channel) = record {
+  node = λ b c. refl;
+  writes = Told p.end.notes ∷ Cleared (request_refusal (pad_read p).end.layer channel refusing) channel
+      ∷ Told (after_finish (without_call (Some channel) (pad_read p))).end.notes ∷ [];
+  written = λ b. refl;
+}
+
+pad-event : (role : Role) (p : PadState) → IsUniform role (λ b. pad_event role p b)
+pad-event role p = incoming-told role p (last_incoming None p.end.notes)
+
+key-made : (role : Role) (k : KeyEffect) (steps : List Step) → IsUniform role (λ b. keyed steps k role b)
+key-made role k [] = nothing role (Pad k.pad)
+key-made role k (step ∷ steps) = record {
+  node = λ b c. refl;
+  writes = Edited 1 step ∷ Said None 1 k.sent ∷ Told k.pad.end.notes ∷ [];
+  written = λ b. refl;
+}
+
+-- ---- a timer that may not run
+
+if-runs : (role : Role) (v : Bool) (turn : Book → Turn) (n : NodeState) → IsUniform role turn
+    → IsUniform role (λ b. cond v (turn b) (unchanged n b))
+if-runs role true turn n h = record { node = h.node; writes = h.writes; written = h.written }
+if-runs role false turn n h = nothing role n
+
+-- ---- a take
+
+taken : (role : Role) (e : PacketEnd) (channel : ℕ) (front : Option Taken)
+    → IsUniform role (λ b. taken_turn front role e channel b)
+taken role e channel None = nothing role (Host e)
+taken role e channel (Some x) = record {
+  node = λ b c. refl;
+  writes = Took channel x ∷ Told (after_take e channel).notes ∷ [];
+  written = λ b. refl;
+}
+
+-- ---- each event
+
+pub uniform : (event : NodeEvent) (role : Role) (n : NodeState) → IsUniform role (λ b. turn_of event role n b)
+uniform (Hears octets) role (Pad p) = pad-event role (pad.after_frame p octets)
+uniform (Hears octets) role (Host e) = only_told role (Host (host.after_frame e octets))
+uniform (Expires id) role (Pad p) =
+    if-runs role (runs_at p.end id) (λ b. pad_event role (pad.after_expiry p id) b) (Pad p) (pad-event role (pad.after_expiry p id))
+uniform (Expires id) role (Host e) =
+    if-runs role (runs_at e id) (λ b. told role (Host (host.after_expiry e id)) b) (Host e) (only_told role (Host (host.after_expiry e id)))
+uniform Relinks role (Pad p) = pad-event role (pad.after_relink p)
+uniform Relinks role (Host e) = only_told role (Host (host.after_relink e))
+uniform Restarts role n = record { node = λ b c. refl; writes = AllClosed ∷ []; written = λ b. refl }
+uniform (Calls address user_data) role n =
+    let e = end_of n in
+    record {
+      node = λ b c. refl;
+      writes = Placed (channel_given e.layer e.layer.phase) (call_parts address user_data)
+          ∷ Told (after_call e (call_parts address user_data)).notes ∷ [];
+      written = λ b. refl;
+    }
+uniform (Asks channel r) role n =
+    let e = end_of n in
+    record {
+      node = λ b c. refl;
+      writes = Asked (request_refusal e.layer channel r) channel r (front_on e.layer channel)
+          ∷ Told (after_request e channel r).notes ∷ [];
+      written = λ b. refl;
+    }
+uniform (Refuses channel) role n =
+    let e = end_of n in
+    record {
+      node = λ b c. refl;
+      writes = Cleared (refuse_refusal e channel) channel ∷ Told (after_refuse e channel).notes ∷ [];
+      written = λ b. refl;
+    }
+uniform (Says channel octets q d) role n =
+    let e = end_of n in
+    record {
+      node = λ b c. refl;
+      writes = Said (say_refusal e.layer channel octets q) channel (cut octets q d)
+          ∷ Told (after_say e channel octets q d).notes ∷ [];
+      written = λ b. refl;
+    }
+uniform (Takes channel) role n = taken role (end_of n) channel (front_on (end_of n).layer channel)
+uniform (Keys octet) role (Pad p) = key-made role (after_octet p octet) (after_octet p octet).steps
+uniform (Keys octet) role (Host e) = nothing role (Host e)

@@ -1,0 +1,35 @@
+-- What holds of a line of a network between events.
+use Rattle.std.specs.Prelude.{◌≡◌, ◌≢◌, false}
+use Rattle.link_timers.specs.declared.role.Role.TheVariants.{Dte}
+use Rattle.line_laws.specs.Line.{Line}
+use Rattle.line_record_laws.specs.Kept.{Setting, Kept}
+use Rattle.node_laws.specs.Quiet.{IsQuiet}
+use Rattle.pad_laws.specs.PadHolds.{NodeHolds}
+use Rattle.line_nodes.specs.Node.{end_of, is_pad}
+use Rattle.memory_line.specs.Lines.{LineService}
+use Rattle.network_laws.specs.OneLine.{LineState}
+
+-- the line with its two ends
+abbrev pub line_of : LineState → Line
+line_of s = record { dte = end_of s.dte; dce = end_of s.dce; up = s.flights.from_dte; down = s.flights.from_dce }
+
+-- events at two ends of a line lead to it and to the book
+pub record IsKept (s : LineState) : Type 0 where
+  pub setting : Setting
+  pub kept : Kept setting s.book (line_of s)
+
+-- no frame or note waits to be taken
+pub record AreQuiet (s : LineState) : Type 0 where
+  pub dte : IsQuiet s.dte
+  pub dce : IsQuiet s.dce
+
+-- the book is that of two nodes, of which the DCE is a host; both are quiet; a PAD's records have sent what was typed;
+-- and on a line that is faithful events lead to all of it
+pub record IsLine (L : LineService) (s : LineState) : Type 0 where
+  pub apart : s.dte_place ≢ s.dce_place
+  pub dte_node : s.book.dte.node ≡ s.dte_place
+  pub dce_node : s.book.dce.node ≡ s.dce_place
+  pub host : is_pad s.dce ≡ false
+  pub quiet : AreQuiet s
+  pub typed : NodeHolds Dte s.dte s.book
+  pub kept : L.faithful → IsKept s

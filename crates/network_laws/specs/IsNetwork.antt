@@ -1,0 +1,44 @@
+-- What holds of a network between events.
+use Rattle.std.specs.Prelude.{◌≡◌, ℕ, ◌⊎◌, List, length, slice_get, Some}
+use Rattle.call_records.specs.Book.{Book}
+use Rattle.register_laws.specs.Seen.{Seen}
+use Rattle.memory_line.specs.Lines.{LineService}
+use Rattle.network_laws.specs.OneLine.{LineState}
+use Rattle.network_laws.specs.IsLine.{IsLine}
+use Rattle.network_laws.specs.Network.{PlacedNode, NetLine, Network}
+
+-- one line with the two nodes at its ends, and with a book of its own
+abbrev pub line_state : NetLine → (dte dce : PlacedNode) → Book → LineState
+line_state l dte dce book = record {
+  dte_place = l.dte;
+  dce_place = l.dce;
+  dte = dte.node;
+  dce = dce.node;
+  flights = l.flights;
+  book = book;
+}
+
+-- the nodes at the ends of a line are there and stand at this line, and with this book it is as a line has to be
+pub record LineHolds (L : LineService) (nodes : List PlacedNode) (line : ℕ) (l : NetLine) (book : Book) : Type 0 where
+  pub dte : PlacedNode
+  pub dce : PlacedNode
+  pub dte_there : slice_get nodes l.dte ≡ Some dte
+  pub dce_there : slice_get nodes l.dce ≡ Some dce
+  pub dte_line : dte.line ≡ line
+  pub dce_line : dce.line ≡ line
+  pub holds : IsLine L (line_state l dte dce book)
+
+-- the node of this place stands at an end of its line
+pub record StandsAtLine (lines : List NetLine) (place : ℕ) (n : PlacedNode) : Type 0 where
+  pub line : NetLine
+  pub there : slice_get lines n.line ≡ Some line
+  pub at_end : (line.dte ≡ place) ⊎ (line.dce ≡ place)
+
+-- each line has a book that nobody stores, and the register has what these books have
+pub record IsNetwork (L : LineService) (s : Network) : Type 0 where
+  pub books : List Book
+  pub seen : Seen s.register books
+  pub count : length books ≡ length s.lines
+  pub lines : (line : ℕ) (l : NetLine) (book : Book) → slice_get s.lines line ≡ Some l
+      → slice_get books line ≡ Some book → LineHolds L s.nodes line l book
+  pub nodes : (place : ℕ) (n : PlacedNode) → slice_get s.nodes place ≡ Some n → StandsAtLine s.lines place n

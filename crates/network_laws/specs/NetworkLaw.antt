@@ -1,0 +1,27 @@
+-- What holds of a network holds from the making on, whatever happens at its nodes and on its lines.
+use Rattle.std.specs.Prelude.{ℕ}
+use Rattle.link_timers.specs.declared.role.Role.{Role}
+use Rattle.memory_line.specs.declared.line.Direction.{Direction}
+use Rattle.memory_line.specs.Lines.{LineService}
+use Rattle.network_laws.specs.NodeEvents.{NodeEvent}
+use Rattle.network_laws.specs.Network.{Network, HappenedAt, LostAt, all_elapsed}
+use Rattle.network_laws.specs.IsNetwork.{IsNetwork}
+use Rattle.network_laws.specs.Opening.{NetPlan, IsPlan, IsMade}
+use Rattle.network_laws.specs.Promise.{NetworkHolds}
+
+abbrev pub MadeLaw : LineService → Type 0
+MadeLaw L = (plan : NetPlan) (s : Network) → IsPlan plan → IsMade L plan s → IsNetwork L s
+
+abbrev pub EventLaw : LineService → Type 0
+EventLaw L = (event : NodeEvent) (line : ℕ) (role : Role) (s t : Network) → IsNetwork L s
+    → HappenedAt L event line role s t → IsNetwork L t
+
+abbrev pub LossLaw : LineService → Type 0
+LossLaw L = (line : ℕ) (d : Direction) (s t : Network) → IsNetwork L s → LostAt L line d s t → IsNetwork L t
+
+abbrev pub TimeLaw : LineService → Type 0
+TimeLaw L = (s : Network) (ticks : ℕ) → IsNetwork L s → IsNetwork L (all_elapsed ticks s)
+
+-- and on faithful lines it is what the network promises
+abbrev pub PromiseLaw : LineService → Type 0
+PromiseLaw L = (s : Network) → IsNetwork L s → L.faithful → NetworkHolds s

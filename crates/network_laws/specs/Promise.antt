@@ -1,0 +1,32 @@
+-- What a network promises.
+use Rattle.std.specs.Prelude.{◌≡◌, ℕ, true, slice_get, Some, is_some}
+use Rattle.link_timers.specs.declared.role.Role.{Role}
+use Rattle.packet_layer.specs.Layer.{channel_of}
+use Rattle.call_records.specs.Records.{RecordValue}
+use Rattle.call_records.specs.Book.{slot_at}
+use Rattle.call_records.specs.Register.{book_at}
+use Rattle.book_laws.specs.Headline.{has_call}
+use Rattle.pad_laws.specs.Typed.{IsTyped}
+use Rattle.register_laws.specs.Promise.{RegisterHolds}
+use Rattle.line_nodes.specs.Node.{end_of, is_pad}
+use Rattle.network_laws.specs.Network.{PlacedNode, NetLine, Network, place_at}
+
+-- at the end of a role of a line: the register has it as this node's, and a channel has a present record exactly where
+-- the packet layer has a call there
+pub record EndHolds (s : Network) (line : ℕ) (l : NetLine) (role : Role) : Type 0 where
+  pub node : PlacedNode
+  pub node_there : slice_get s.nodes (place_at role l) ≡ Some node
+  pub node_line : node.line ≡ line
+  pub own : (Rattle.call_records.specs.Book.side_of role (book_at line s.register)).node ≡ place_at role l
+  pub present : (channel : ℕ) → is_some (slot_at role channel (book_at line s.register)).present
+      ≡ has_call (channel_of (end_of node.node).layer channel)
+
+pub record NetworkHolds (s : Network) : Type 0 where
+  -- for each pair what one end took matches what the other one sent, both ways, and the pair is right; no record is in
+  -- two pairs, and each that took anything is in one
+  pub calls : RegisterHolds s.register
+  -- the ends of each line
+  pub ends : (line : ℕ) (l : NetLine) (role : Role) → slice_get s.lines line ≡ Some l → EndHolds s line l role
+  -- what a PAD sent on a call is, block for block with its end, what its editing rules make of the keys
+  pub typed : (place : ℕ) (n : PlacedNode) (i : ℕ) (r : RecordValue) → slice_get s.nodes place ≡ Some n
+      → is_pad n.node ≡ true → slice_get s.register.records i ≡ Some r → r.node ≡ place → IsTyped r

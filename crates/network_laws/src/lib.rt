@@ -1,0 +1,8 @@
+//! The laws of a network: of one line with the nodes at its ends, and of many nodes and lines with one register.
+#![tactic(auto)]
+
+mod line;
+mod network;
+
+pub use line::one_line_law;
+pub use network::network_law;
