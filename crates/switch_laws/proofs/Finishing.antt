@@ -1,0 +1,457 @@
+-- The end of an event, and whole events.
+use Rattle.std.proofs.Common.{true≢false, ◌≡◌, ℕ, zero, suc, ◌*◌, ◌⊎◌, inl, inr, Bool, true, false, cond, if◌then◌else◌, ◌==◌, List, [], ◌∷◌, map, length, Option, Some, None, is_some, refl, sym, ap, subst, ◌∙◌, option_map}
+use Rattle.std.specs.Prelude.{slice_get}
+use Rattle.std.specs.List.{list_any}
+use Rattle.std.proofs.lemmas.Option.{none-some, same_Some}
+use Rattle.link_timers.specs.declared.timers.TimerId.{TimerId}
+use Rattle.lapb.specs.Machine.{Octets, can_offer}
+use Rattle.lapb.specs.Octets as link_octets
+use Rattle.packet_layer.specs.Packets.{Packet}
+use Rattle.packet_layer.specs.Channel.{Channel, CallState, had_call, Request, Refusal, may_accept, waits_for_call}
+use Rattle.x25_switch.specs.Direction.{request_for}
+use Rattle.packet_layer.specs.Layer.{Layer, next_packet, channel_of, unread, link_down}
+use Rattle.packet_end.specs.PacketEnd.{PacketEnd, begun, received, after_timer, relinked, with_next, offered, all_offered, settled, elapsed}
+use Rattle.address_routes.specs.Routes.{RouteMap}
+use Rattle.x25_switch.specs.Lines.{Place, Joined, SwitchLine, changed, flat, nth_joined, joined_on, front_of_line, refusal_of_line}
+use Rattle.x25_switch.specs.Relay.{all_relayed}
+use Rattle.x25_switch.specs.Switch.{Switch, with_end, acted, to_relink, relinked_at, all_relinked, relinks_of, all_offered_on, may_offer, offered_from, rounds, finished, all_begun, on_frame, on_timer, restart, without_joins}
+use Rattle.switch_laws.specs.Leg.{Leg, gave}
+use Rattle.switch_laws.specs.Join.{Join, gives}
+use Rattle.switch_laws.specs.World.{World, Shown, Agrees, IsCallLeg, closed, shown_as, shown_on, shown_at, layers_of, world_after, gave_if}
+use Rattle.switch_laws.specs.World.Act.{Gives, GoesDown}
+use Rattle.switch_laws.specs.Joined.{WaitsFor, IsPair, IsSwitch, Reached, Becomes, HasRelayedAll, has_nth, has_place_on}
+use Rattle.switch_laws.specs.Joined.IsPair.{connected, waiting}
+use Rattle.packet_laws.specs.Readable.{IfAny}
+use Rattle.switch_laws.specs.Turn.{AreOctets}
+use Rattle.switch_laws.specs.Law.{TurnLaw}
+use Rattle.switch_laws.proofs.Octets.{accepts_octets, reads_numbers}
+use Rattle.switch_laws.proofs.Layers.{all_close}
+use Rattle.x25_switch.specs.Lines.{joined_at}
+use Rattle.switch_laws.specs.Stays.{IsNone, OthersStay, relinked_in}
+use Rattle.switch_laws.proofs.Staying.{acted_stays, stay_rounds}
+use Rattle.switch_laws.specs.Calls.{CallsAreJoined, HasCall}
+use Rattle.switch_laws.proofs.Joining.{acted_calls}
+use Rattle.switch_laws.proofs.Keeping.{layers_on_ends, joined_on_ends, ends_keep, finished_calls}
+use Rattle.switch_laws.proofs.Offered.{frame_offered, timer_offered}
+use Rattle.switch_laws.proofs.Legs.{leg_gave}
+use Rattle.switch_laws.proofs.Joins.{gives_right, turned_join}
+use Rattle.switch_laws.proofs.Lists.{decided}
+use Rattle.switch_laws.proofs.Places.{joined_kept, place_after, some_there, line_there, shown_there}
+use Rattle.switch_laws.proofs.Frame.{reached_there, reached_world}
+use Rattle.switch_laws.proofs.Relaying.{all_relayed_right, all_relayed_stuck}
+use Rattle.switch_laws.proofs.Coming.{becomes_same, becomes_then}
+use Rattle.switch_laws.proofs.Effects.{steady, leg_on_line, leg_elsewhere}
+use Rattle.switch_laws.proofs.Turning.{changed_at, changed_none, changed_twice, changed_same, layer_got, layers_changed, ReadsNumbers, acted_right, relinked_effect, received_effect, timer_effect}
+
+-- ---- a packet goes to a link
+
+waits_gave : (b : Bool) (g h : Leg) → IsCallLeg g → WaitsFor b g h → WaitsFor b (gave g) h
+waits_gave true g h i w = record { can_accept = ap (λ (s : CallState). may_accept g.role s) (leg_gave g i.leg).state ∙ w.can_accept; waits = w.waits }
+waits_gave false g h i w = record { can_accept = w.can_accept; waits = ap (λ (s : CallState). waits_for_call g.role s) (leg_gave g i.leg).state ∙ w.waits }
+
+waits_gave_other : (b : Bool) (g h : Leg) → IsCallLeg h → WaitsFor b g h → WaitsFor b g (gave h)
+waits_gave_other true g h i w = record { can_accept = w.can_accept; waits = ap (λ (s : CallState). waits_for_call h.role s) (leg_gave h i.leg).state ∙ w.waits }
+waits_gave_other false g h i w = record { can_accept = ap (λ (s : CallState). may_accept h.role s) (leg_gave h i.leg).state ∙ w.can_accept; waits = w.waits }
+
+pair_gave : (g h : Leg) (j k : Joined) → IsCallLeg g → IsPair g h j k → IsPair (gave g) h j k
+pair_gave g h j k i (connected c) =
+    let at_b : Join = record { a = h; b = g; there = k.kept; back = j.kept } in
+    connected (turned_join (gives at_b) (gives_right at_b (turned_join _ c)))
+pair_gave g h j k i (waiting a b w) = waiting a b (waits_gave j.came_in g h i w)
+
+pair_gave_other : (g h : Leg) (j k : Joined) → IsCallLeg h → IsPair g h j k → IsPair g (gave h) j k
+pair_gave_other g h j k i (connected c) = connected (gives_right _ c)
+pair_gave_other g h j k i (waiting a b w) = waiting a b (waits_gave_other j.came_in g h i w)
+
+-- a leg that may have given something
+data Gave (g : Leg) (h : Leg) : Type 0 where
+  nothing_ : h ≡ g → Gave g h
+  something : h ≡ gave g → Gave g h
+
+gave_if_is : (o : Option Packet) (c : ℕ) (g : Leg) → Gave g (gave_if o c g)
+gave_if_is None c g = nothing_ refl
+gave_if_is (Some p) c g = by_channel (c == p.channel)
+  where
+    by_channel : (b : Bool) → Gave g (if b then gave g else g)
+    by_channel true = something refl
+    by_channel false = nothing_ refl
+
+pair_given : (g g' h : Leg) (j k : Joined) → IsCallLeg g → Gave g g' → IsPair g h j k → IsPair g' h j k
+pair_given g g' h j k i (nothing_ e) p = subst (λ (x : Leg). IsPair x h j k) (sym e) p
+pair_given g g' h j k i (something e) p = subst (λ (x : Leg). IsPair x h j k) (sym e) (pair_gave g h j k i p)
+
+pair_given_other : (g h h' : Leg) (j k : Joined) → IsCallLeg h → Gave h h' → IsPair g h j k → IsPair g h' j k
+pair_given_other g h h' j k i (nothing_ e) p = subst (λ (x : Leg). IsPair g x j k) (sym e) p
+pair_given_other g h h' j k i (something e) p = subst (λ (x : Leg). IsPair g x j k) (sym e) (pair_gave_other g h j k i p)
+
+abbrev given : SwitchLine → SwitchLine
+given = with_end (λ e. with_next e (next_packet e.layer))
+
+gives_line : (n : ℕ) (line : SwitchLine) (ls : List SwitchLine) (w : World) → slice_get ls n ≡ Some line → IsSwitch ls w → Becomes ls w (changed n given ls)
+gives_line n line ls w got i = record {
+  world = v;
+  reached = reached;
+  right = record {
+    world = reached_world ls ms w v reached i.world;
+    places = λ x e. place_after n given ls x (λ l. refl) ∙ i.places x (sym (reached_there ls ms w v reached x) ∙ e);
+    joined = λ x j e.
+        let k = i.joined x j (sym (joined_kept n x.line x.channel given ls (λ l. refl)) ∙ e) in
+        record {
+          there = reached_there ls ms w v reached x ∙ k.there;
+          apart = k.apart;
+          other = k.other;
+          joined = joined_kept n j.other.line j.other.channel given ls (λ l. refl) ∙ k.joined;
+          back = k.back;
+          one_came_in = k.one_came_in;
+          pair = elim k.pair [
+            | inl h ↦ inl (pair_given_other (v x) (w j.other) (v j.other) j k.other (good j.other (i.joined j.other k.other k.joined).there) (gave_at j.other) (pair_given (w x) (v x) (w j.other) j k.other (good x k.there) (gave_at x) h))
+            | inr h ↦ inr h
+          ];
+        };
+  };
+}
+  where
+    ms : List SwitchLine
+    ms = changed n given ls
+
+    v : World
+    v = world_after (Gives n) (layers_of ls) w
+
+    reached : Reached ls w ms v
+    reached = record {
+      acts = Gives n ∷ [];
+      may = (tt, tt);
+      layers = layers_changed n given ls line got ∙ sym (changed_at n (λ l. (next_packet l).layer) (λ y. (next_packet line.end.layer).layer) (layers_of ls) line.end.layer (layer_got n ls line got) refl);
+      legs = refl;
+    }
+
+    good : (x : Place) → is_some (shown_at (layers_of ls) x) ≡ true → IsCallLeg (w x)
+    good x e = let s = some_there (shown_at (layers_of ls) x) e in (i.world x s.0 s.1).leg
+
+    gave_at : (x : Place) → Gave (w x) (v x)
+    gave_at x = by_line (decided (x.line == n))
+      where
+        by_line : ((x.line == n) ≡ true) ⊎ ((x.line == n) ≡ false) → Gave (w x) (v x)
+        by_line (inl t) =
+            subst (λ (g : Leg). Gave (w x) g) (sym (leg_on_line (Gives n) (layers_of ls) w x (Some line.end.layer) t (layer_got n ls line got))) (gave_if_is (next_packet line.end.layer).packet x.channel (w x))
+        by_line (inr f) = nothing_ (leg_elsewhere (Gives n) (layers_of ls) w x f)
+
+-- ---- packets are offered
+
+-- none is offered
+keeps_line : (n : ℕ) (f : SwitchLine → SwitchLine) (line : SwitchLine) (ls : List SwitchLine) → slice_get ls n ≡ Some line → f line ≡ line → changed n f ls ≡ ls
+keeps_line n f line ls got e = changed_at n f (λ x. line) ls line got e ∙ changed_same n ls line got
+
+offers_at : (most n : ℕ) (line : SwitchLine) (ls : List SwitchLine) (w : World) (a b : Bool) → slice_get ls n ≡ Some line → can_offer line.end.line.link ≡ a
+    → is_some (next_packet line.end.layer).packet ≡ b → ((ms : List SwitchLine) (v : World) → IsSwitch ms v → Becomes ms v (changed n (with_end (λ e. offered most e)) ms)) → IsSwitch ls w
+    → Becomes ls w (changed n (with_end (λ e. offered (suc most) e)) ls)
+offers_at most n line ls w false b got may has more i =
+    becomes_same ls _ w (keeps_line n _ line ls got (ap (λ (x : Bool). record line { end = cond x (cond (is_some (next_packet line.end.layer).packet) (offered most (with_next line.end (next_packet line.end.layer))) line.end) line.end }) may)) i
+offers_at most n line ls w true false got may has more i =
+    becomes_same ls _ w (keeps_line n _ line ls got
+    (ap (λ (x : Bool). record line { end = cond x (cond (is_some (next_packet line.end.layer).packet) (offered most (with_next line.end (next_packet line.end.layer))) line.end) line.end }) may
+    ∙ ap (λ (x : Bool). record line { end = cond x (offered most (with_next line.end (next_packet line.end.layer))) line.end }) has)) i
+offers_at most n line ls w true true got may has more i =
+    let first = gives_line n line ls w got i in
+    let then_ = more (changed n given ls) first.world first.right in
+    let is : changed n (with_end (λ e. offered (suc most) e)) ls ≡ changed n (with_end (λ e. offered most e)) (changed n given ls) =
+    changed_at n (with_end (λ e. offered (suc most) e)) (λ x. with_end (λ e. offered most e) (given x)) ls line got
+    (ap (λ (x : Bool). record line { end = cond x (cond (is_some (next_packet line.end.layer).packet) (offered most (with_next line.end (next_packet line.end.layer))) line.end) line.end }) may
+    ∙ ap (λ (x : Bool). record line { end = cond x (offered most (with_next line.end (next_packet line.end.layer))) line.end }) has)
+    ∙ sym (changed_twice n (with_end (λ e. offered most e)) given ls) in
+    subst (λ (ms : List SwitchLine). Becomes ls w ms) (sym is) (becomes_then ls (changed n given ls) _ w first.world first.reached then_)
+
+offers_by : (most n : ℕ) (o : Option SwitchLine) (ls : List SwitchLine) (w : World) → slice_get ls n ≡ o → ((ms : List SwitchLine) (v : World) → IsSwitch ms v → Becomes ms v (changed n (with_end (λ e. offered most e)) ms))
+    → IsSwitch ls w → Becomes ls w (changed n (with_end (λ e. offered (suc most) e)) ls)
+offers_by most n None ls w e more i = becomes_same ls _ w (changed_none n _ ls e) i
+offers_by most n (Some line) ls w e more i = offers_at most n line ls w (can_offer line.end.line.link) (is_some (next_packet line.end.layer).packet) e refl refl more i
+
+changed_itself : (n : ℕ) (ls : List SwitchLine) → changed n (with_end (λ e. e)) ls ≡ ls
+changed_itself n [] = refl
+changed_itself zero (l ∷ ls) = refl
+changed_itself (suc n) (l ∷ ls) = ap (λ (ms : List SwitchLine). l ∷ ms) (changed_itself n ls)
+
+offers : (most n : ℕ) (ls : List SwitchLine) (w : World) → IsSwitch ls w → Becomes ls w (changed n (with_end (λ e. offered most e)) ls)
+offers zero n ls w i = becomes_same ls _ w (changed_itself n ls) i
+offers (suc most) n ls w i = offers_by most n (slice_get ls n) ls w refl (λ ms v h. offers most n ms v h) i
+
+all_offers : (n : ℕ) (ls : List SwitchLine) (w : World) → IsSwitch ls w → Becomes ls w (changed n (with_end all_offered) ls)
+unfolding all_offered
+all_offers n ls w i = offers 7 n ls w i
+
+offers_from : (count n : ℕ) (ls : List SwitchLine) (w : World) → IsSwitch ls w → Becomes ls w (offered_from count n ls)
+offers_from zero n ls w i = becomes_same ls ls w refl i
+offers_from (suc count) n ls w i =
+    let a = all_offers n ls w i in
+    becomes_then ls (changed n (with_end all_offered) ls) _ w a.world a.reached (offers_from count (suc n) (changed n (with_end all_offered) ls) a.world a.right)
+
+-- ---- rounds
+
+rounds_by : (b : Bool) (most : ℕ) (ls : List SwitchLine) (w : World) → IsSwitch ls w → ((ms : List SwitchLine) (v : World) → IsSwitch ms v → Becomes ms v (rounds most ms))
+    → Becomes ls w (if b then rounds most (offered_from (length ls) 0 (all_relayed ls)) else all_relayed ls)
+rounds_by true most ls w i more =
+    let a = all_relayed_right ls w i in
+    let b = offers_from (length ls) 0 (all_relayed ls) a.world a.right in
+    becomes_then ls (all_relayed ls) _ w a.world a.reached (becomes_then (all_relayed ls) _ _ a.world b.world b.reached (more _ b.world b.right))
+rounds_by false most ls w i more = all_relayed_right ls w i
+
+rounds_right : (most : ℕ) (ls : List SwitchLine) (w : World) → IsSwitch ls w → Becomes ls w (rounds most ls)
+rounds_right zero ls w i = all_relayed_right ls w i
+rounds_right (suc most) ls w i = rounds_by (list_any may_offer (all_relayed ls)) most ls w i (λ ms v h. rounds_right most ms v h)
+
+stuck_by : (b : Bool) (most : ℕ) (ls : List SwitchLine) (w : World) → IsSwitch ls w → ((ms : List SwitchLine) (v : World) → IsSwitch ms v → HasRelayedAll (rounds most ms))
+    → HasRelayedAll (if b then rounds most (offered_from (length ls) 0 (all_relayed ls)) else all_relayed ls)
+stuck_by true most ls w i more =
+    let a = all_relayed_right ls w i in
+    let b = offers_from (length ls) 0 (all_relayed ls) a.world a.right in
+    more _ b.world b.right
+stuck_by false most ls w i more = all_relayed_stuck ls w i
+
+rounds_stuck : (most : ℕ) (ls : List SwitchLine) (w : World) → IsSwitch ls w → HasRelayedAll (rounds most ls)
+rounds_stuck zero ls w i = all_relayed_stuck ls w i
+rounds_stuck (suc most) ls w i = stuck_by (list_any may_offer (all_relayed ls)) most ls w i (λ ms v h. rounds_stuck most ms v h)
+
+-- ---- links that are set up anew
+
+relinks_at : (o : Option ℕ) (routes : RouteMap) (ls : List SwitchLine) (w : World) → IsSwitch ls w → Becomes ls w (relinked_at o routes ls)
+relinks_at None routes ls w i = becomes_same ls ls w refl i
+relinks_at (Some n) routes ls w i = acted_right routes n relinked ls w i (λ line e. relinked_effect n line.end)
+
+all_relinks : (most : ℕ) (routes : RouteMap) (ls : List SwitchLine) (w : World) → IsSwitch ls w → Becomes ls w (all_relinked most routes ls)
+all_relinks zero routes ls w i = becomes_same ls ls w refl i
+all_relinks (suc most) routes ls w i =
+    let a = relinks_at (to_relink ls) routes ls w i in
+    becomes_then ls (relinked_at (to_relink ls) routes ls) _ w a.world a.reached (all_relinks most routes (relinked_at (to_relink ls) routes ls) a.world a.right)
+
+-- ---- what leaves the packet layers and the joins as they are
+
+same_place_on : (f : PacketEnd → PacketEnd) (ls : List SwitchLine) (n c : ℕ) → has_place_on (slice_get (map (with_end f) ls) n) c ≡ has_place_on (slice_get ls n) c
+same_place_on f [] n c = refl
+same_place_on f (l ∷ ls) zero c = refl
+same_place_on f (l ∷ ls) (suc n) c = same_place_on f ls n c
+
+same_ends : (f : PacketEnd → PacketEnd) (ls : List SwitchLine) (w : World) → ((e : PacketEnd) → (f e).layer ≡ e.layer) → IsSwitch ls w → Becomes ls w (map (with_end f) ls)
+same_ends f ls w same i =
+    let r : Reached ls w (map (with_end f) ls) w = record { acts = []; may = tt; layers = layers_on_ends f ls same; legs = refl } in
+    record { world = w; reached = r; right = steady ls (map (with_end f) ls) w w i r (λ x. joined_on_ends f ls x.line x.channel) (λ x. same_place_on f ls x.line x.channel) (λ x. refl) }
+
+-- ---- the end of an event
+
+pub finished_right : (routes : RouteMap) (ls : List SwitchLine) (w : World) → IsSwitch ls w → Becomes ls w (finished routes ls)
+finished_right routes ls w i =
+    let a = all_relinks (length ls) routes ls w i in
+    let ks = all_relinked (length ls) routes ls in
+    let b = rounds_right (7 * length ks) ks a.world a.right in
+    let c = same_ends settled (rounds (7 * length ks) ks) b.world (λ e. refl) b.right in
+    becomes_then ls ks _ w a.world a.reached (becomes_then ks _ _ a.world b.world b.reached c)
+
+settled_front : (ls : List SwitchLine) (n c : ℕ) → front_of_line (slice_get (map (with_end settled) ls) n) c ≡ front_of_line (slice_get ls n) c
+settled_front [] n c = refl
+settled_front (l ∷ ls) zero c = refl
+settled_front (l ∷ ls) (suc n) c = settled_front ls n c
+
+settled_refusal : (ls : List SwitchLine) (n c : ℕ) (q : Request) → refusal_of_line (slice_get (map (with_end settled) ls) n) c q ≡ refusal_of_line (slice_get ls n) c q
+settled_refusal [] n c q = refl
+settled_refusal (l ∷ ls) zero c q = refl
+settled_refusal (l ∷ ls) (suc n) c q = settled_refusal ls n c q
+
+pub finished_stuck : (routes : RouteMap) (ls : List SwitchLine) (w : World) → IsSwitch ls w → HasRelayedAll (finished routes ls)
+finished_stuck routes ls w i p j t e f =
+    let a = all_relinks (length ls) routes ls w i in
+    let rs = all_relinked (length ls) routes ls in
+    let ks = rounds (7 * length rs) rs in
+    let stuck = rounds_stuck (7 * length rs) rs a.world a.right in
+    ap (λ (o : Option Refusal). is_some o) (settled_refusal ks j.other.line j.other.channel (request_for t))
+    ∙ stuck p j t (sym (joined_on_ends settled ks p.line p.channel) ∙ e) (sym (settled_front ks p.line p.channel) ∙ f)
+
+-- ---- events
+
+begun_right : (ls : List SwitchLine) (w : World) → IsSwitch ls w → Becomes ls w (all_begun ls)
+begun_right ls w i = same_ends begun ls w (λ e. refl) i
+
+begun_line : (n : ℕ) (ls : List SwitchLine) (line : SwitchLine) → slice_get (all_begun ls) n ≡ Some line → (old : SwitchLine) × ((slice_get ls n ≡ Some old) × (with_end begun old ≡ line))
+begun_line n [] line e = absurd (none-some line e)
+begun_line zero (l ∷ ls) line e = (l, (refl, same_Some _ line e))
+begun_line (suc n) (l ∷ ls) line e = begun_line n ls line e
+
+-- the frame of a line is read as numbers below 8, where it brings a packet
+abbrev pub Readable : ℕ → Octets → List SwitchLine → Type 0
+Readable n octets ls = (line : SwitchLine) → slice_get ls n ≡ Some line → ReadsNumbers (link_octets.on_octets line.end.line.link octets).accepted
+
+came : (n : ℕ) (octets : Octets) (routes : RouteMap) (ls : List SwitchLine) (w : World) → Readable n octets ls → IsSwitch ls w → Becomes ls w (acted routes n (λ e. received e octets) (all_begun ls))
+came n octets routes ls w read i =
+    let a = begun_right ls w i in
+    becomes_then ls (all_begun ls) _ w a.world a.reached (acted_right routes n (λ e. received e octets) (all_begun ls) a.world a.right
+    (λ line e.
+    let old = begun_line n ls line e in
+    received_effect n octets line.end (subst (λ (l : SwitchLine). ReadsNumbers (link_octets.on_octets l.end.line.link octets).accepted) old.1.1 (read old.0 old.1.0))))
+
+ran : (n : ℕ) (id : TimerId) (routes : RouteMap) (ls : List SwitchLine) (w : World) → IsSwitch ls w → Becomes ls w (acted routes n (λ e. after_timer e id) (all_begun ls))
+ran n id routes ls w i =
+    let a = begun_right ls w i in
+    becomes_then ls (all_begun ls) _ w a.world a.reached (acted_right routes n (λ e. after_timer e id) (all_begun ls) a.world a.right (λ line e. timer_effect n id line.end))
+
+pub frame_right : (n : ℕ) (octets : Octets) (s : Switch) (w : World) → Readable n octets s.lines → IsSwitch s.lines w → Becomes s.lines w (on_frame n octets s).lines
+frame_right n octets s w read i = let a = came n octets s.routes s.lines w read i in becomes_then s.lines _ _ w a.world a.reached (finished_right s.routes _ a.world a.right)
+
+pub frame_stuck : (n : ℕ) (octets : Octets) (s : Switch) (w : World) → Readable n octets s.lines → IsSwitch s.lines w → HasRelayedAll (on_frame n octets s).lines
+frame_stuck n octets s w read i = let a = came n octets s.routes s.lines w read i in finished_stuck s.routes _ a.world a.right
+
+pub timer_right : (n : ℕ) (id : TimerId) (s : Switch) (w : World) → IsSwitch s.lines w → Becomes s.lines w (on_timer n id s).lines
+timer_right n id s w i = let a = ran n id s.routes s.lines w i in becomes_then s.lines _ _ w a.world a.reached (finished_right s.routes _ a.world a.right)
+
+pub timer_stuck : (n : ℕ) (id : TimerId) (s : Switch) (w : World) → IsSwitch s.lines w → HasRelayedAll (on_timer n id s).lines
+timer_stuck n id s w i = let a = ran n id s.routes s.lines w i in finished_stuck s.routes _ a.world a.right
+
+-- ---- frames of octets
+
+octets_read : (o : Option Octets) → IfAny (λ packet. AreOctets packet) o → ReadsNumbers o
+octets_read None are = tt
+octets_read (Some octets) are = reads_numbers octets are
+
+readable : (n : ℕ) (octets : Octets) (ls : List SwitchLine) → AreOctets octets → Readable n octets ls
+readable n octets ls are line e = octets_read (link_octets.on_octets line.end.line.link octets).accepted (accepts_octets line.end.line.link octets are)
+
+-- ---- a restart
+
+restarted_layer : (n : ℕ) (ls : List SwitchLine) → slice_get (layers_of (map without_joins ls)) n ≡ option_map (λ l. unread (link_down l)) (slice_get (layers_of ls) n)
+restarted_layer n [] = refl
+restarted_layer zero (l ∷ ls) = refl
+restarted_layer (suc n) (l ∷ ls) = restarted_layer n ls
+
+abbrev no_joins : List (Option Joined) → List (Option Joined)
+no_joins js = map (λ o. None) js
+
+none_nth : (js : List (Option Joined)) (i : ℕ) → flat (slice_get (no_joins js) i) ≡ None
+none_nth [] i = refl
+none_nth (j ∷ js) zero = refl
+none_nth (j ∷ js) (suc i) = none_nth js i
+
+there_nth : (js : List (Option Joined)) (i : ℕ) → is_some (slice_get (no_joins js) i) ≡ is_some (slice_get js i)
+there_nth [] i = refl
+there_nth (j ∷ js) zero = refl
+there_nth (j ∷ js) (suc i) = there_nth js i
+
+none_on : (js : List (Option Joined)) (c : ℕ) → nth_joined (no_joins js) c ≡ None
+none_on js zero = refl
+none_on js (suc i) = none_nth js i
+
+there_on : (js : List (Option Joined)) (c : ℕ) → has_nth (no_joins js) c ≡ has_nth js c
+there_on js zero = refl
+there_on js (suc i) = there_nth js i
+
+restarted_joined : (ls : List SwitchLine) (n c : ℕ) → joined_on (slice_get (map without_joins ls) n) c ≡ None
+restarted_joined [] n c = refl
+restarted_joined (l ∷ ls) zero c = none_on l.joined c
+restarted_joined (l ∷ ls) (suc n) c = restarted_joined ls n c
+
+restarted_place : (ls : List SwitchLine) (n c : ℕ) → has_place_on (slice_get (map without_joins ls) n) c ≡ has_place_on (slice_get ls n) c
+restarted_place [] n c = refl
+restarted_place (l ∷ ls) zero c = there_on l.joined c
+restarted_place (l ∷ ls) (suc n) c = restarted_place ls n c
+
+restarted_shown : (o : Option Layer) (c : ℕ) (s : Shown) (g : Leg) → ((t : Shown) → shown_on o c ≡ Some t → Agrees t g) → shown_on (option_map (λ l. unread (link_down l)) o) c ≡ Some s → Agrees s (closed g)
+restarted_shown None c s g i e = absurd (none-some s e)
+restarted_shown (Some l) c s g i e = all_close l (unread (link_down l)) c g refl refl refl i s e
+
+restarted_there : (o : Option Layer) (c : ℕ) → is_some (shown_on (option_map (λ l. unread (link_down l)) o) c) ≡ is_some (shown_on o c)
+restarted_there None c = refl
+restarted_there (Some l) c = there_of (unread (link_down l)) l (channel_of (unread (link_down l)) c) (channel_of l c) (line_there (GoesDown 0) l c)
+  where
+    there_of : (x y : Layer) (a b : Option Channel) → is_some a ≡ is_some b → is_some (shown_as x a) ≡ is_some (shown_as y b)
+    there_of x y a b e = shown_there x a ∙ (e ∙ sym (shown_there y b))
+
+pub restart_right : (s : Switch) (w : World) → IsSwitch s.lines w → IsSwitch (restart s).lines (λ x. closed (w x))
+restart_right s w i = record {
+  world = λ x t e. restarted_shown (slice_get (layers_of s.lines) x.line) x.channel t (w x) (λ u f. i.world x u f) (sym (ap (λ (o : Option Layer). shown_on o x.channel) (restarted_layer x.line s.lines)) ∙ e);
+  places = λ x e.
+      restarted_place s.lines x.line x.channel
+      ∙ i.places x (sym (ap (λ (o : Option Layer). is_some (shown_on o x.channel)) (restarted_layer x.line s.lines) ∙ restarted_there (slice_get (layers_of s.lines) x.line) x.channel) ∙ e);
+  joined = λ x j e. absurd (none-some j (sym (restarted_joined s.lines x.line x.channel) ∙ e));
+}
+
+-- ---- the joins of other lines
+
+none_relinks : (most : ℕ) (routes : RouteMap) (ls : List SwitchLine) → to_relink ls ≡ None → all_relinked most routes ls ≡ ls
+none_relinks zero routes ls e = refl
+none_relinks (suc most) routes ls e =
+    ap (λ (o : Option ℕ). all_relinked most routes (relinked_at o routes ls)) e ∙ none_relinks most routes ls e
+
+relinks_leave : (most : ℕ) (o : Option ℕ) (routes : RouteMap) (ls : List SwitchLine) (w : World) → to_relink ls ≡ o → IsSwitch ls w → (p : Place) (j : Joined) → joined_at ls p ≡ Some j
+    → IsNone p.line (relinks_of most o routes ls) → IsNone j.other.line (relinks_of most o routes ls) → joined_at (all_relinked most routes ls) p ≡ Some j
+relinks_leave zero o routes ls w t i p j e a b = e
+relinks_leave (suc most) None routes ls w t i p j e a b = ap (λ (ms : List SwitchLine). joined_at ms p) (none_relinks (suc most) routes ls t) ∙ e
+relinks_leave (suc most) (Some n) routes ls w t i p j e a b =
+    let ms = acted routes n relinked ls in
+    let c = acted_right routes n relinked ls w i (λ line g. relinked_effect n line.end) in
+    let kept : joined_at ms p ≡ Some j = acted_stays routes n relinked ls w i p j (record { joined = e; here = a.0; there = b.0 }) in
+    ap (λ (x : Option ℕ). joined_at (all_relinked most routes (relinked_at x routes ls)) p) t
+    ∙ relinks_leave most (to_relink ms) routes ms c.world refl c.right p j kept a.1 b.1
+
+event_leaves : (n : ℕ) (f : PacketEnd → PacketEnd) (s : Switch) (w v : World) → IsSwitch (all_begun s.lines) w → IsSwitch (acted s.routes n f (all_begun s.lines)) v
+    → OthersStay (n ∷ relinked_in n f s) s.lines (finished s.routes (acted s.routes n f (all_begun s.lines)))
+event_leaves n f s w v i k p j e a b =
+    let ls = acted s.routes n f (all_begun s.lines) in
+    let begun_ : joined_at (all_begun s.lines) p ≡ Some j = joined_on_ends begun s.lines p.line p.channel ∙ e in
+    let first : joined_at ls p ≡ Some j = acted_stays s.routes n f (all_begun s.lines) w i p j (record { joined = begun_; here = a.0; there = b.0 }) in
+    let then_ : joined_at (all_relinked (length ls) s.routes ls) p ≡ Some j = relinks_leave (length ls) (to_relink ls) s.routes ls v refl k p j first a.1 b.1 in
+    let rs = all_relinked (length ls) s.routes ls in
+    let last = stay_rounds (7 * length rs) rs p j then_ in
+    record { kept = last.kept; joined = joined_on_ends settled (all_offered_on rs) p.line p.channel ∙ last.joined }
+
+frame_leaves : (n : ℕ) (octets : Octets) (s : Switch) (w : World) → AreOctets octets → IsSwitch s.lines w → OthersStay (n ∷ relinked_in n (λ e. received e octets) s) s.lines (on_frame n octets s).lines
+frame_leaves n octets s w are i =
+    let b = begun_right s.lines w i in
+    let c = came n octets s.routes s.lines w (readable n octets s.lines are) i in
+    event_leaves n (λ e. received e octets) s b.world c.world b.right c.right
+
+timer_leaves : (n : ℕ) (id : TimerId) (s : Switch) (w : World) → IsSwitch s.lines w → OthersStay (n ∷ relinked_in n (λ e. after_timer e id) s) s.lines (on_timer n id s).lines
+timer_leaves n id s w i =
+    let b = begun_right s.lines w i in
+    let c = ran n id s.routes s.lines w i in
+    event_leaves n (λ e. after_timer e id) s b.world c.world b.right c.right
+
+-- ---- channels with calls are joined
+
+frame_calls : (n : ℕ) (octets : Octets) (s : Switch) (w : World) → AreOctets octets → IsSwitch s.lines w → CallsAreJoined s.lines → CallsAreJoined (on_frame n octets s).lines
+frame_calls n octets s w are i all =
+    let b = begun_right s.lines w i in
+    let read = readable n octets s.lines are in
+    let c = came n octets s.routes s.lines w read i in
+    finished_calls s.routes _ c.world c.right
+    (acted_calls s.routes n (λ e. received e octets) (all_begun s.lines) b.world b.right
+    (λ line e.
+    let old = begun_line n s.lines line e in
+    received_effect n octets line.end (subst (λ (l : SwitchLine). ReadsNumbers (link_octets.on_octets l.end.line.link octets).accepted) old.1.1 (read old.0 old.1.0))) (ends_keep begun s.lines (λ e. refl) all))
+
+timer_calls : (n : ℕ) (id : TimerId) (s : Switch) (w : World) → IsSwitch s.lines w → CallsAreJoined s.lines → CallsAreJoined (on_timer n id s).lines
+timer_calls n id s w i all =
+    let b = begun_right s.lines w i in
+    let c = ran n id s.routes s.lines w i in
+    finished_calls s.routes _ c.world c.right
+    (acted_calls s.routes n (λ e. after_timer e id) (all_begun s.lines) b.world b.right (λ line e. timer_effect n id line.end) (ends_keep begun s.lines (λ e. refl) all))
+
+restart_calls : (s : Switch) (w : World) → IsSwitch s.lines w → (p : Place) → HasCall (restart s).lines p → ⊥
+restart_calls s w i p h =
+    let a = (restart_right s w i).world p h.channel h.there in
+    true≢false (sym h.call ∙ ap (λ (x : Shown). had_call x.channel.state) a.shown)
+
+same_end_layers : (ticks : ℕ) (ls : List SwitchLine) (w : World) → IsSwitch ls w → Becomes ls w (map (with_end (λ e. elapsed e ticks)) ls)
+same_end_layers ticks ls w i = same_ends (λ e. elapsed e ticks) ls w (λ e. refl) i
+
+pub turns : TurnLaw
+turns = record {
+  frame = λ n octets s w are i. frame_right n octets s w (readable n octets s.lines are) i;
+  frame_keeps_nothing_back = λ n octets s w are i. frame_stuck n octets s w (readable n octets s.lines are) i;
+  timer = timer_right;
+  timer_keeps_nothing_back = timer_stuck;
+  frame_offers = frame_offered;
+  timer_offers = timer_offered;
+  frame_joins_calls = frame_calls;
+  timer_joins_calls = timer_calls;
+  frame_leaves_others = frame_leaves;
+  timer_leaves_others = timer_leaves;
+  restarts = restart_right;
+  restart_ends_calls = restart_calls;
+  elapses = λ ticks s w i. same_end_layers ticks s.lines w i;
+}

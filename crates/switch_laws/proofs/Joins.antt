@@ -1,0 +1,155 @@
+-- Both directions of a join: what is relayed, asked and given on one leg keeps both clauses.
+use Rattle.std.proofs.Common.{◌≡◌, ℕ, ◌≤◌, Bool, true, false, List, Option, None, refl, sym, ap, subst, ◌∙◌, is_some, not}
+use Rattle.link_timers.specs.declared.role.Role.{Role}
+use Rattle.packet_layer.specs.Packets.{Body}
+use Rattle.packet_layer.specs.Traffic.{Traffic, front, fresh, interrupt_pending}
+use Rattle.packet_layer.specs.Channel.{CallState, Refusal, refusal, refused_if, in_transfer}
+use Rattle.packet_layer.specs.Channel.Request.{Resetting}
+use Rattle.packet_laws.specs.History.{Epoch, empty_epoch}
+use Rattle.x25_switch.specs.Direction.{new_direction}
+use Rattle.switch_laws.specs.Leg.{Leg, asked, asked_unless, connected, gave}
+use Rattle.switch_laws.specs.Clause.{Passed, IsDirection, taken_part, sent_part}
+use Rattle.switch_laws.specs.Way.{Way, IsRight, IsStuck, relayed}
+use Rattle.switch_laws.specs.Join.{Join, IsJoin, IsAtRest, turned, way, relayed_there, relayed_both, gives}
+use Rattle.switch_laws.proofs.Directions.{direction_begins}
+use Rattle.switch_laws.proofs.Legs.{Gives, leg_gave, leg_anew, leg_connected, anew}
+use Rattle.switch_laws.proofs.Ways.{near_seen, far_seen, right_beside, relayed_right, relayed_beside, relayed_stuck, same_refusal, KeepsFar}
+
+pub turned_join : (j : Join) → IsJoin j → IsJoin (turned j)
+turned_join j i = record { there = i.back; back = i.there }
+
+-- ---- relayed
+
+pub there_right : (most : ℕ) (j : Join) → IsJoin j → IsJoin (relayed_there most j)
+there_right most j i =
+    let w = relayed most (way j) in
+    let r = relayed_right most (way j) i.there in
+    let b = relayed_beside most (way j) in
+    record { there = r; back = right_beside w.far w.near (way (turned j)) r.holds.far r.holds.near b.far.seen b.near.seen i.back }
+
+pub both_right : (most : ℕ) (j : Join) → IsJoin j → IsJoin (relayed_both most j)
+both_right most j i =
+    let k = turned (relayed_there most j) in
+    turned_join (relayed_there most k) (there_right most k (turned_join (relayed_there most j) (there_right most j i)))
+
+pub stuck_beside : (g h : Leg) (w : Way) → front g.channel.traffic ≡ front w.near.channel.traffic → KeepsFar w.far h → IsStuck w → IsStuck (record w { near = g; far = h })
+stuck_beside g h w f k s = λ t e. ap is_some (same_refusal t w.far h k.open_) ∙ s t (sym f ∙ e)
+
+pub both_stuck : (j : Join) → IsJoin j → IsAtRest (relayed_both 8 j)
+both_stuck j i =
+    let there = relayed 8 (way j) in
+    let k = turned (relayed_there 8 j) in
+    let ik : IsJoin k = turned_join (relayed_there 8 j) (there_right 8 j i) in
+    let back = relayed 8 (way k) in
+    let b = relayed_beside 8 (way k) in
+    record { there = stuck_beside back.far back.near there b.far.front b.near (relayed_stuck (way j) i.there); back = relayed_stuck (way k) ik.there }
+
+-- ---- connected
+
+begins_there : (ra rb : Role) (wa wb : ℕ) (oa ob : List Body) → wa ≤ 7 → wb ≤ 7 → IsRight (record { near = connected ra wa oa; far = connected rb wb ob; kept = new_direction })
+begins_there ra rb wa wb oa ob la lb = record {
+  holds = record { near = leg_connected ra wa oa la; far = leg_connected rb wb ob lb; near_call = refl; far_call = refl; passed = Passed.none; direction = direction_begins; interrupted = refl };
+  all_released = refl;
+}
+
+pub join_begins : (ra rb : Role) (wa wb : ℕ) (oa ob : List Body) → wa ≤ 7 → wb ≤ 7
+    → IsJoin (record { a = connected ra wa oa; b = connected rb wb ob; there = new_direction; back = new_direction })
+join_begins ra rb wa wb oa ob la lb = record { there = begins_there ra rb wa wb oa ob la lb; back = begins_there rb ra wb wa ob oa lb la }
+
+-- ---- given to the line
+
+near_gave : (g h : Leg) → Gives g h → near_seen h ≡ near_seen g
+near_gave g h i =
+    ap (λ (s : CallState). record (near_seen h) { state = s }) i.state
+    ∙ (ap (λ (b : List Epoch). record (near_seen h) { state = g.channel.state; before = b }) i.before
+    ∙ (ap (λ (e : Epoch). record (near_seen g) { part = taken_part e; interrupt_taken = h.channel.traffic.interrupt_taken }) i.epoch
+    ∙ ap (λ (b : Bool). record (near_seen g) { interrupt_taken = b }) i.flags.taken))
+
+far_gave : (g h : Leg) → Gives g h → far_seen h ≡ far_seen g
+far_gave g h i =
+    ap (λ (s : CallState). record (far_seen h) { state = s }) i.state
+    ∙ (ap (λ (b : List Epoch). record (far_seen h) { state = g.channel.state; before = b }) i.before
+    ∙ (ap (λ (e : Epoch). record (far_seen g) { part = sent_part e; pending = interrupt_pending h.channel.traffic }) i.epoch
+    ∙ ap (λ (b : Bool). record (far_seen g) { pending = b }) i.flags.pending))
+
+pub gives_right : (j : Join) → IsJoin j → IsJoin (gives j)
+gives_right j i =
+    let b = leg_gave j.b i.there.holds.far in
+    record {
+      there = right_beside j.a (gave j.b) (way j) i.there.holds.near b.leg refl (far_gave j.b (gave j.b) b) i.there;
+      back = right_beside (gave j.b) j.a (way (turned j)) b.leg i.there.holds.near (near_gave j.b (gave j.b) b) refl i.back;
+    }
+
+-- ---- a reset on one leg
+
+-- the other leg was resetting already: nothing had been sent or taken on it since
+alone : (r : Bool) (owed : List Body) (j : Join) → j.a.channel.resetting ≡ true → IsJoin j → IsJoin (record { a = j.a; b = anew r owed j.b; there = new_direction; back = new_direction })
+alone r owed j e i =
+    let a = j.a in let ia = i.there.holds.near in
+    let traffic : a.channel.traffic ≡ fresh = ia.traffic_anew e in
+    let epoch : a.epoch ≡ empty_epoch = ia.epoch_anew e in
+    let leg = leg_anew r owed j.b i.there.holds.far in
+    let none_taken = ap (λ (x : Epoch). x.taken) epoch in
+    let no_interrupts_taken = ap (λ (x : Epoch). x.interrupts_taken) epoch in
+    let none_sent = ap (λ (x : Epoch). x.sent) epoch in
+    let no_interrupts_sent = ap (λ (x : Epoch). x.interrupts_sent) epoch in
+    let there = i.there.holds.direction.carries in
+    let back = i.back.holds.direction.carries in
+    record {
+      there = record {
+        holds = record {
+          near = ia;
+          far = leg;
+          near_call = i.there.holds.near_call;
+          far_call = i.there.holds.far_call;
+          passed = Passed.far_alone (there.packets ∙ none_taken) (there.interrupts ∙ no_interrupts_taken) i.there.holds.passed;
+          direction = subst (λ (x : Epoch). IsDirection new_direction (taken_part x) (sent_part empty_epoch)) (sym epoch) direction_begins;
+          interrupted = ap (λ (t : Traffic). t.interrupt_taken) traffic;
+        };
+        all_released = refl;
+      };
+      back = record {
+        holds = record {
+          near = leg;
+          far = ia;
+          near_call = i.there.holds.far_call;
+          far_call = i.there.holds.near_call;
+          passed = Passed.near_alone (sym back.packets ∙ none_sent) (sym back.interrupts ∙ no_interrupts_sent) i.back.holds.passed;
+          direction = subst (λ (x : Epoch). IsDirection new_direction (taken_part empty_epoch) (sent_part x)) (sym epoch) direction_begins;
+          interrupted = sym (ap (λ (t : Traffic). interrupt_pending t) traffic);
+        };
+        all_released = refl;
+      };
+    }
+
+-- both legs begin a new epoch
+together : (r s : Bool) (owed due : List Body) (j : Join) → IsJoin j → IsJoin (record { a = anew s due j.a; b = anew r owed j.b; there = new_direction; back = new_direction })
+together r s owed due j i =
+    let a = leg_anew s due j.a i.there.holds.near in let b = leg_anew r owed j.b i.there.holds.far in
+    record {
+      there = record {
+        holds = record { near = a; far = b; near_call = i.there.holds.near_call; far_call = i.there.holds.far_call; passed = Passed.both i.there.holds.direction.carries i.there.holds.passed; direction = direction_begins; interrupted = refl };
+        all_released = refl;
+      };
+      back = record {
+        holds = record { near = b; far = a; near_call = i.there.holds.far_call; far_call = i.there.holds.near_call; passed = Passed.both i.back.holds.direction.carries i.back.holds.passed; direction = direction_begins; interrupted = refl };
+        all_released = refl;
+      };
+    }
+
+pub reset_right : (cause diagnostic : ℕ) (r : Bool) (owed : List Body) (j : Join) → IsJoin j
+    → IsJoin (record { a = asked (Resetting cause diagnostic) j.a; b = anew r owed j.b; there = new_direction; back = new_direction })
+reset_right cause diagnostic r owed j i = by_resetting j.a.channel.resetting refl
+  where
+    refused_as : (b : Bool) → j.a.channel.resetting ≡ b → refusal j.a.role j.a.channel (Resetting cause diagnostic) ≡ refused_if b Refusal.IsResetting None
+    refused_as b e =
+        ap (λ (s : CallState). refused_if (not (in_transfer s)) Refusal.NoCall (refused_if j.a.channel.resetting Refusal.IsResetting None)) i.there.holds.near_call
+        ∙ ap (λ (x : Bool). refused_if x Refusal.IsResetting None) e
+
+    by_resetting : (b : Bool) → j.a.channel.resetting ≡ b → IsJoin (record { a = asked (Resetting cause diagnostic) j.a; b = anew r owed j.b; there = new_direction; back = new_direction })
+    by_resetting true e =
+        subst (λ (o : Option Refusal). IsJoin (record { a = asked_unless o (Resetting cause diagnostic) j.a; b = anew r owed j.b; there = new_direction; back = new_direction }))
+        (sym (refused_as true e)) (alone r owed j e i)
+    by_resetting false e =
+        subst (λ (o : Option Refusal). IsJoin (record { a = asked_unless o (Resetting cause diagnostic) j.a; b = anew r owed j.b; there = new_direction; back = new_direction }))
+        (sym (refused_as false e)) (together r true owed _ j i)

@@ -1,0 +1,211 @@
+-- At the end of an event no link takes a packet that its layer has.
+use Rattle.std.proofs.Common.{◌≡◌, ℕ, zero, suc, ◌*◌, ◌≤◌, inl, Bool, true, false, cond, ◌&&◌, ◌||◌, List, [], ◌∷◌, map, length, Option, Some, None, is_some, refl, sym, ap, subst, ◌∙◌, true≢false, arith, drop, if◌then◌else◌}
+use Rattle.std.specs.Prelude.{slice_get}
+use Rattle.std.proofs.lemmas.Option.{none-some, same_Some}
+use Rattle.link_timers.specs.declared.timers.TimerId.{TimerId}
+use Rattle.link_timers.specs.declared.timers.TimerId.TheVariants.{T1}
+use Rattle.lapb.specs.declared.note.Note as link_note
+use Rattle.lapb.specs.declared.note.Note.TheVariants.{Nothing, Up, Down}
+use Rattle.lapb.specs.Machine as link
+use Rattle.lapb.specs.declared.phase.Phase.{Phase}
+use Rattle.lapb.specs.declared.phase.Phase.TheVariants as phase
+use Rattle.lapb.specs.Machine.{Octets, Link, can_offer, is_up, sendable, send_all, settle_in}
+use Rattle.lapb.specs.Unsent.{HasSentAll}
+use Rattle.lapb.specs.Octets as link_octets
+use Rattle.line_end.specs.End as line
+use Rattle.line_end.specs.End.{End}
+use Rattle.packet_layer.specs.Packets.{CallParts, Note}
+use Rattle.packet_layer.specs.Packets.Note.{Incoming, Connected, Closed, WasReset, InterruptConfirmed, Covered}
+use Rattle.packet_layer.specs.Channel.Request.{Accept, Clearing, Resetting, Releasing, Confirming}
+use Rattle.packet_layer.specs.Layer.{next_packet}
+use Rattle.packet_end.specs.PacketEnd.{PacketEnd, received, heeded, after_packet, after_timer, expired, runs_at, relinked, settled, HasOfferedAll, KeepsNothingBack}
+use Rattle.packet_end.proofs.Offering.{silent_all_offered, settled_all_offered}
+use Rattle.address_routes.specs.Routes.{RouteMap}
+use Rattle.x25_switch.specs.Direction.{Direction, releasable}
+use Rattle.x25_switch.specs.Lines.{Place, Joined, SwitchLine, changed, joined_at, with_joined}
+use Rattle.x25_switch.specs.Relay.{freed, kept_anew, covered_on, told_joined, told_of}
+use Rattle.x25_switch.specs.Switch.{Switch, Answer, answer, answered, forwarded, place_call, heed, heed_all, with_end, notes_of, without_notes, quieted, acted, to_relink, relinked_at, all_relinked, may_offer, all_offered_on, finished, all_begun, on_frame, on_timer}
+use Rattle.x25_switch.specs.Switch.Answer.{Clears, Joins}
+use Rattle.switch_laws.specs.Offers.{HaveSmallLinks, EndsKeepNothingBack}
+use Rattle.switch_laws.proofs.Lists.{map_unchanged}
+use Rattle.switch_laws.proofs.Links.{octets_keep_k, relink_keeps_k, t1_keeps_k}
+use Rattle.switch_laws.proofs.Rounds.{lines_of, asked_lines, joined_lines, total, Small, rounds_offer, any_may}
+
+-- ---- heeding changes no link
+
+freed_lines : (p : Place) (j : Joined) (v : Direction) (ls : List SwitchLine) → lines_of (freed p j v ls) ≡ lines_of ls
+freed_lines p j v ls = joined_lines p _ _ ∙ asked_lines p (Releasing (releasable v.held)) ls
+
+anew_lines : (o : Option Joined) (p : Place) (ls : List SwitchLine) → lines_of (kept_anew o p ls) ≡ lines_of ls
+anew_lines None p ls = refl
+anew_lines (Some j) p ls = joined_lines p _ ls
+
+covered_lines : (n : ℕ) (o : Option Joined) (p : Place) (ls : List SwitchLine) → lines_of (covered_on n o p ls) ≡ lines_of ls
+covered_lines n None p ls = refl
+covered_lines n (Some j) p ls = freed_lines p j _ ls
+
+told_lines : (note : Note) (p : Place) (j : Joined) (ls : List SwitchLine) → lines_of (told_joined note p j ls) ≡ lines_of ls
+told_lines (Connected c) p j ls = asked_lines j.other Accept ls
+told_lines (Closed c cause diagnostic reason) p j ls =
+    asked_lines j.other (Clearing _ _) (with_joined j.other None (with_joined p None ls)) ∙ (joined_lines j.other None (with_joined p None ls) ∙ joined_lines p None ls)
+told_lines (WasReset c cause diagnostic reason) p j ls = anew_lines (joined_at ls j.other) j.other _ ∙ (anew_lines (Some j) p _ ∙ asked_lines j.other (Resetting _ _) ls)
+told_lines (InterruptConfirmed c) p j ls = asked_lines j.other Confirming ls
+told_lines (Covered c n) p j ls = covered_lines n (joined_at ls j.other) j.other ls
+told_lines (Incoming c parts) p j ls = refl
+
+told_of_lines : (o : Option Joined) (note : Note) (p : Place) (ls : List SwitchLine) → lines_of (told_of o note p ls) ≡ lines_of ls
+told_of_lines None note p ls = refl
+told_of_lines (Some j) note p ls = told_lines note p j ls
+
+answered_lines : (a : Answer) (p : Place) (parts : CallParts) (ls : List SwitchLine) → lines_of (answered a p parts ls) ≡ lines_of ls
+answered_lines (Clears cause) p parts ls = asked_lines p (Clearing cause _) ls
+answered_lines (Joins q) p parts ls = joined_lines q _ _ ∙ (joined_lines p _ (place_call q.line (forwarded ls p.line parts) ls) ∙ map_unchanged (λ l. l.end.line) _ q.line ls (λ l. refl))
+
+heed_lines : (routes : RouteMap) (n : ℕ) (note : Note) (ls : List SwitchLine) → lines_of (heed routes n note ls) ≡ lines_of ls
+heed_lines routes n (Incoming c parts) ls = answered_lines (answer routes ls parts) _ parts ls
+heed_lines routes n (Connected c) ls = told_of_lines _ (Connected c) _ ls
+heed_lines routes n (Closed c cause diagnostic reason) ls = told_of_lines _ (Closed c cause diagnostic reason) _ ls
+heed_lines routes n (WasReset c cause diagnostic reason) ls = told_of_lines _ (WasReset c cause diagnostic reason) _ ls
+heed_lines routes n (InterruptConfirmed c) ls = told_of_lines _ (InterruptConfirmed c) _ ls
+heed_lines routes n (Covered c k) ls = told_of_lines _ (Covered c k) _ ls
+
+heed_all_lines : (routes : RouteMap) (n : ℕ) (notes : List Note) (ls : List SwitchLine) → lines_of (heed_all routes n notes ls) ≡ lines_of ls
+heed_all_lines routes n [] ls = refl
+heed_all_lines routes n (x ∷ xs) ls = heed_all_lines routes n xs (heed routes n x ls) ∙ heed_lines routes n x ls
+
+-- ---- no event changes k
+
+abbrev ks : List End → List ℕ
+ks es = map (λ e. e.link.k) es
+
+acted_ks : (n : ℕ) (g : PacketEnd → PacketEnd) (ls : List SwitchLine) → ((e : PacketEnd) → (g e).line.link.k ≡ e.line.link.k) → ks (lines_of (changed n (with_end g) ls)) ≡ ks (lines_of ls)
+acted_ks n g [] same = refl
+acted_ks zero g (l ∷ ls) same = ap (λ (k : ℕ). k ∷ ks (lines_of ls)) (same l.end)
+acted_ks (suc n) g (l ∷ ls) same = ap (λ (xs : List ℕ). l.end.line.link.k ∷ xs) (acted_ks n g ls same)
+
+act_ks : (routes : RouteMap) (n : ℕ) (f : PacketEnd → PacketEnd) (ls : List SwitchLine) → ((e : PacketEnd) → (f (quieted e)).line.link.k ≡ e.line.link.k) → ks (lines_of (acted routes n f ls)) ≡ ks (lines_of ls)
+act_ks routes n f ls same =
+    let l1 = changed n (with_end (λ e. f (quieted e))) ls in
+    ap (λ (es : List End). ks es) (heed_all_lines routes n (notes_of (slice_get l1 n)) (changed n (with_end without_notes) l1))
+    ∙ (acted_ks n without_notes l1 (λ e. refl) ∙ acted_ks n (λ e. f (quieted e)) ls same)
+
+brought_k : (note : link_note.Note) (o : Option Octets) (e : PacketEnd) (k : ℕ) → e.line.link.k ≡ k → (after_packet o (heeded note e)).line.link.k ≡ k
+brought_k Nothing None e k is = is
+brought_k Nothing (Some octets) e k is = is
+brought_k Up None e k is = is
+brought_k Up (Some octets) e k is = is
+brought_k Down None e k is = is
+brought_k Down (Some octets) e k is = is
+
+received_k : (octets : Octets) (e : PacketEnd) → (received (quieted e) octets).line.link.k ≡ e.line.link.k
+received_k octets e =
+    brought_k (link_octets.on_octets e.line.link octets).note (link_octets.on_octets e.line.link octets).accepted (record (quieted e) { line = line.received e.line octets }) e.line.link.k (octets_keep_k e.line.link octets)
+
+expired_k : (id : TimerId) (e : PacketEnd) → (expired id (quieted e)).line.link.k ≡ e.line.link.k
+expired_k T1 e = brought_k (link.on_t1 e.line.link).note None (record (quieted e) { line = line.expired T1 e.line }) e.line.link.k (t1_keeps_k e.line.link)
+expired_k id e = refl
+
+by_bool : {X : Type 0} (P : X → Type 0) (b : Bool) (x y : X) → P x → P y → P (cond b x y)
+by_bool P true x y f g = f
+by_bool P false x y f g = g
+
+timer_k : (id : TimerId) (e : PacketEnd) → (after_timer (quieted e) id).line.link.k ≡ e.line.link.k
+timer_k id e = by_bool (λ (f : PacketEnd). f.line.link.k ≡ e.line.link.k) (runs_at (quieted e) id) _ _ (expired_k id e) refl
+
+relinked_k : (e : PacketEnd) → (relinked (quieted e)).line.link.k ≡ e.line.link.k
+relinked_k e = relink_keeps_k e.line.link
+
+relinked_at_ks : (o : Option ℕ) (routes : RouteMap) (ls : List SwitchLine) → ks (lines_of (relinked_at o routes ls)) ≡ ks (lines_of ls)
+relinked_at_ks None routes ls = refl
+relinked_at_ks (Some n) routes ls = act_ks routes n relinked ls relinked_k
+
+all_relinked_ks : (most : ℕ) (routes : RouteMap) (ls : List SwitchLine) → ks (lines_of (all_relinked most routes ls)) ≡ ks (lines_of ls)
+all_relinked_ks zero routes ls = refl
+all_relinked_ks (suc most) routes ls = all_relinked_ks most routes (relinked_at (to_relink ls) routes ls) ∙ relinked_at_ks (to_relink ls) routes ls
+
+begun_ks : (ls : List SwitchLine) → ks (lines_of (all_begun ls)) ≡ ks (lines_of ls)
+begun_ks [] = refl
+begun_ks (l ∷ ls) = ap (λ (xs : List ℕ). l.end.line.link.k ∷ xs) (begun_ks ls)
+
+-- ---- small ones
+
+abbrev AreSmall : List ℕ → Type 0
+AreSmall [] = Unit {0}
+AreSmall (k ∷ more) = (k ≤ 7) × AreSmall more
+
+small_links : (ls : List SwitchLine) → HaveSmallLinks ls → AreSmall (ks (lines_of ls))
+small_links [] h = tt
+small_links (l ∷ ls) h = (h 0 l refl, small_links ls (λ n x e. h (suc n) x e))
+
+small_ends : (ls : List SwitchLine) → AreSmall (ks (lines_of ls)) → Small (lines_of ls)
+small_ends [] s = tt
+small_ends (l ∷ ls) s = (s.0, small_ends ls s.1)
+
+within : (ls : List SwitchLine) → total (lines_of ls) ≤ 7 * length ls
+within [] = omega arith
+within (l ∷ ls) = let rest = within ls in omega arith
+
+-- ---- all is sent
+
+drop_length : (xs : List Octets) → drop (length xs) xs ≡ []
+drop_length [] = refl
+drop_length (x ∷ xs) = drop_length xs
+
+unless_held : (b : Bool) (xs : List Octets) → (if b then drop (length xs) xs else []) ≡ []
+unless_held true xs = drop_length xs
+unless_held false xs = refl
+
+sends_by : (packets : List Octets) (l : Link) → sendable l ≡ packets → HasSentAll (send_all l packets).link
+sends_by [] l e up = e
+sends_by (p ∷ ps) l e up = unless_held _ l.queue
+
+settles_in : (phase : Phase) (l : Link) → l.phase ≡ phase → HasSentAll (settle_in phase l).link
+settles_in phase.Down l e up = absurd (true≢false (sym up ∙ ap (λ (x : Phase). is_up x) e))
+settles_in phase.SettingUp l e up = absurd (true≢false (sym up ∙ ap (λ (x : Phase). is_up x) e))
+settles_in phase.Up l e up = sends_by (sendable l) l refl up
+settles_in phase.Rejecting l e up = absurd (true≢false (sym up ∙ ap (λ (x : Phase). is_up x) e))
+
+settled_sent : (e : PacketEnd) → HasSentAll (settled e).line.link
+settled_sent e = settles_in e.line.link.phase e.line.link refl
+
+-- ---- all is offered
+
+abbrev HaveOfferedAll : List SwitchLine → Type 0
+HaveOfferedAll ls = (n : ℕ) (l : SwitchLine) → slice_get ls n ≡ Some l → HasOfferedAll l.end
+
+not_both : (e : PacketEnd) (a b : Bool) → can_offer e.line.link ≡ a → is_some (next_packet e.layer).packet ≡ b → (a && b) ≡ false → HasOfferedAll e
+not_both e false b may has f = inl may
+not_both e true false may has f = silent_all_offered e has
+not_both e true true may has f = absurd (true≢false f)
+
+or_parts : (a b : Bool) → (a || b) ≡ false → (a ≡ false) × (b ≡ false)
+or_parts true b e = absurd (true≢false e)
+or_parts false b e = (refl, e)
+
+none_may : (ls : List SwitchLine) → any_may ls ≡ false → HaveOfferedAll ls
+none_may [] e n l got = absurd (none-some l got)
+none_may (x ∷ xs) e zero l got =
+    subst (λ (y : SwitchLine). HasOfferedAll y.end) (same_Some x l got)
+    (not_both x.end (can_offer x.end.line.link) (is_some (next_packet x.end.layer).packet) refl refl (or_parts (may_offer x) (any_may xs) e).0)
+none_may (x ∷ xs) e (suc n) l got = none_may xs (or_parts (may_offer x) (any_may xs) e).1 n l got
+
+settled_offered : (ls : List SwitchLine) → HaveOfferedAll ls → EndsKeepNothingBack (map (with_end settled) ls)
+settled_offered [] h n l got = absurd (none-some l got)
+settled_offered (x ∷ xs) h zero l got = subst (λ (y : SwitchLine). KeepsNothingBack y.end) (same_Some _ l got) (record { offered = settled_all_offered x.end (h 0 x refl); sent = settled_sent x.end })
+settled_offered (x ∷ xs) h (suc n) l got = settled_offered xs (λ k y e. h (suc k) y e) n l got
+
+finished_offered : (routes : RouteMap) (ls : List SwitchLine) → AreSmall (ks (lines_of ls)) → EndsKeepNothingBack (finished routes ls)
+finished_offered routes ls small =
+    let rs = all_relinked (length ls) routes ls in
+    let s : AreSmall (ks (lines_of rs)) = subst (λ (xs : List ℕ). AreSmall xs) (sym (all_relinked_ks (length ls) routes ls)) small in
+    settled_offered (all_offered_on rs) (none_may (all_offered_on rs) (rounds_offer (7 * length rs) rs (small_ends rs s) (within rs)))
+
+pub frame_offered : (n : ℕ) (octets : Octets) (s : Switch) → HaveSmallLinks s.lines → EndsKeepNothingBack (on_frame n octets s).lines
+frame_offered n octets s h =
+    finished_offered s.routes (acted s.routes n (λ e. received e octets) (all_begun s.lines))
+    (subst (λ (xs : List ℕ). AreSmall xs) (sym (act_ks s.routes n (λ e. received e octets) (all_begun s.lines) (λ e. received_k octets e) ∙ begun_ks s.lines)) (small_links s.lines h))
+
+pub timer_offered : (n : ℕ) (id : TimerId) (s : Switch) → HaveSmallLinks s.lines → EndsKeepNothingBack (on_timer n id s).lines
+timer_offered n id s h =
+    finished_offered s.routes (acted s.routes n (λ e. after_timer e id) (all_begun s.lines))
+    (subst (λ (xs : List ℕ). AreSmall xs) (sym (act_ks s.routes n (λ e. after_timer e id) (all_begun s.lines) (λ e. timer_k id e) ∙ begun_ks s.lines)) (small_links s.lines h))

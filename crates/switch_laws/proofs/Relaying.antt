@@ -1,0 +1,432 @@
+-- What the switch relays on its lines is what the two legs of a join relay, and no other join is touched.
+use Rattle.std.proofs.Common.{◌≡◌, ℕ, zero, suc, ◌+◌, arith, ◌⊎◌, inl, inr, Bool, true, false, List, [], ◌∷◌, ◌++◌, Option, Some, None, is_some, refl, sym, ap, ap₂, subst, ◌∙◌, true≢false}
+use Rattle.std.specs.Prelude.{slice_get}
+use Rattle.std.proofs.lemmas.Option.{none-some, same_Some}
+use Rattle.link_timers.specs.declared.role.Role.{Role}
+use Rattle.link_timers.specs.declared.role.Role.TheVariants.{Dte, Dce}
+use Rattle.packet_layer.specs.Traffic.{Taken, Traffic, front}
+use Rattle.packet_layer.specs.Traffic.Taken.{TakenInterrupt, TakenPacket}
+use Rattle.packet_layer.specs.Channel.{CallState, Request, Refusal, refusal, in_transfer, waits_for_call}
+use Rattle.packet_layer.specs.Channel.CallState.{Ready, OwnWaiting, FarWaiting, Transfer, Collision, OwnClear}
+use Rattle.packet_layer.specs.Channel.Request.{Taking, Releasing}
+use Rattle.x25_switch.specs.Direction.{Direction, releasable, released, carried_by, request_for}
+use Rattle.x25_switch.specs.Lines.{Place, Joined, SwitchLine, same_place, joined_at, ask, front_at, refusal_at, places, places_on, places_from}
+use Rattle.x25_switch.specs.Relay.{moved, moved_joined, moved_front, moved_unless, relayed, relayed_from, all_relayed}
+use Rattle.switch_laws.specs.Leg.{Leg, asked}
+use Rattle.switch_laws.specs.Way.{Way}
+use Rattle.switch_laws.specs.Way as way
+use Rattle.switch_laws.specs.Join.{IsJoin}
+use Rattle.switch_laws.specs.World.{World, IsWorld, Shown, shown_at, layers_of, MayAsk, world_after}
+use Rattle.switch_laws.specs.World.Act.{Asks}
+use Rattle.switch_laws.specs.Joined.{WaitsFor, IsPair, IsSwitch, HasRelayedAll, Reached, Becomes, has_nth, has_place_on, has_place}
+use Rattle.switch_laws.specs.Joined.IsPair.{connected, waiting}
+use Rattle.switch_laws.proofs.Joins.{there_right}
+use Rattle.switch_laws.proofs.Lists.{decided, place_is, same_as}
+use Rattle.switch_laws.proofs.Ways.{Beside, relayed_beside, relayed_stuck, same_refusal}
+use Rattle.switch_laws.proofs.Standing.{accepts_before}
+use Rattle.switch_laws.proofs.Places.{joined_asked, joined_here, joined_apart, joined_place, front_is, refusal_is, some_there, leg_asked, leg_apart}
+use Rattle.switch_laws.proofs.Frame.{Touches, touches_none, touches_then, touches_turned, touches_asked, touches_joined, reached_there, reached_none, reached_then, other_apart, Pairing, pairing, pair_kept, apart_turned}
+
+-- ---- what is seen at the lines is the legs
+
+pub front_of_leg : (ls : List SwitchLine) (w : World) (p : Place) → IsWorld (layers_of ls) w → is_some (shown_at (layers_of ls) p) ≡ true → front_at ls p ≡ front (w p).channel.traffic
+front_of_leg ls w p i e =
+    let s = some_there (shown_at (layers_of ls) p) e in
+    front_is ls p.line p.channel s.0 s.1 ∙ ap (λ (t : Shown). front t.channel.traffic) (i p s.0 s.1).shown
+
+pub refusal_of_leg : (ls : List SwitchLine) (w : World) (p : Place) (q : Request) → IsWorld (layers_of ls) w → is_some (shown_at (layers_of ls) p) ≡ true
+    → refusal_at ls p q ≡ refusal (w p).role (w p).channel q
+refusal_of_leg ls w p q i e =
+    let s = some_there (shown_at (layers_of ls) p) e in
+    refusal_is ls p.line p.channel q s.0 s.1 ∙ ap (λ (t : Shown). refusal t.role t.channel q) (i p s.0 s.1).shown
+
+-- ---- one move
+
+-- the way from p
+abbrev pub way_at : World → Place → Place → Direction → Way
+way_at w p q d = record { near = w p; far = w q; kept = d }
+
+pub record Moved (ls : List SwitchLine) (w : World) (p : Place) (j k : Joined) (ms : List SwitchLine) (to : Way) : Type 0 where
+  pub world : World
+  pub touches : Touches p j.other ls w ms world
+  pub switch : IsSwitch ms world
+  pub kept : Direction
+  pub here : joined_at ms p ≡ Some (record j { kept = kept })
+  pub there : joined_at ms j.other ≡ Some k
+  pub is : way_at world p j.other kept ≡ to
+
+pub may_ask : (t : Taken) → MayAsk (request_for t)
+may_ask (TakenInterrupt octets) = tt
+may_ask (TakenPacket d) = tt
+
+stays : (ls : List SwitchLine) (w : World) (p : Place) (j k : Joined) → IsSwitch ls w → Pairing ls p j k → Moved ls w p j k ls (way_at w p j.other j.kept)
+stays ls w p j k i s = record { world = w; touches = touches_none p j.other ls w; switch = i; kept = j.kept; here = s.here; there = s.there; is = refl }
+
+same_way : (g h : Leg) (g' h' : Leg) (d : Direction) → g ≡ g' → h ≡ h' → ◌≡◌ {A = Way} (record { near = g; far = h; kept = d }) (record { near = g'; far = h'; kept = d })
+same_way g h g' h' d a b = ap₂ (λ (x y : Leg). record { near = x; far = y; kept = d }) a b
+
+-- the request is not refused
+moves_on : (t : Taken) (ls : List SwitchLine) (w : World) (p : Place) (j k : Joined) → IsSwitch ls w → Pairing ls p j k
+    → IsJoin (record { a = w p; b = w j.other; there = j.kept; back = k.kept }) → way.moved (way_at w p j.other j.kept) ≡ way.moved_unless None t (way_at w p j.other j.kept)
+    → Moved ls w p j k (moved_unless None t p j ls) (way.moved_unless None t (way_at w p j.other j.kept))
+moves_on t ls w p j k i s c e = record {
+  world = v;
+  touches = touches;
+  switch = pair_kept 0 0 [] [] ls ms w v p j k kept k.kept i s touches here there (connected right) (λ x a b f. f);
+  kept = kept;
+  here = here;
+  there = there;
+  is = is;
+}
+  where
+    q : Place
+    q = j.other
+
+    r : Request
+    r = request_for t
+
+    kept : Direction
+    kept = released (carried_by t j.kept)
+
+    n : ℕ
+    n = releasable (carried_by t j.kept).held
+
+    l1 : List SwitchLine
+    l1 = ask p Taking ls
+
+    w1 : World
+    w1 = world_after (Asks p Taking) (layers_of ls) w
+
+    l2 : List SwitchLine
+    l2 = ask q r l1
+
+    w2 : World
+    w2 = world_after (Asks q r) (layers_of l1) w1
+
+    l3 : List SwitchLine
+    l3 = ask p (Releasing n) l2
+
+    v : World
+    v = world_after (Asks p (Releasing n)) (layers_of l2) w2
+
+    ms : List SwitchLine
+    ms = moved_unless None t p j ls
+
+    t1 : Touches p q ls w l1 w1
+    t1 = touches_asked p q Taking ls w tt
+
+    t2 : Touches p q ls w l2 w2
+    t2 = touches_then p q ls l1 l2 w w1 w2 t1 (touches_turned q p l1 l2 w1 w2 (touches_asked q p r l1 w1 (may_ask t)))
+
+    t3 : Touches p q ls w l3 v
+    t3 = touches_then p q ls l2 l3 w w2 v t2 (touches_asked p q (Releasing n) l2 w2 tt)
+
+    touches : Touches p q ls w ms v
+    touches = touches_then p q ls l3 ms w v v t3 (touches_joined p q (Some (record j { kept = kept })) l3 v)
+
+    here : joined_at ms p ≡ Some (record j { kept = kept })
+    here = joined_here p (Some (record j { kept = kept })) l3 (t3.places p ∙ joined_place ls p j s.here)
+
+    there : joined_at ms q ≡ Some k
+    there =
+        joined_apart p (Some (record j { kept = kept })) q l3 (apart_turned p q s.apart)
+        ∙ (joined_asked p (Releasing n) q l2 ∙ (joined_asked q r q l1 ∙ (joined_asked p Taking q ls ∙ s.there)))
+
+    near : v p ≡ asked (Releasing n) (asked Taking (w p))
+    near =
+        leg_asked p (Releasing n) (layers_of l2) w2 (reached_there ls l2 w w2 t2.reached p ∙ s.p_there)
+        ∙ ap (λ (g : Leg). asked (Releasing n) g) (leg_apart q r (layers_of l1) w1 p s.apart ∙ leg_asked p Taking (layers_of ls) w s.p_there)
+
+    far : v q ≡ asked r (w q)
+    far =
+        leg_apart p (Releasing n) (layers_of l2) w2 q (apart_turned p q s.apart)
+        ∙ (leg_asked q r (layers_of l1) w1 (reached_there ls l1 w w1 t1.reached q ∙ s.q_there)
+        ∙ ap (λ (g : Leg). asked r g) (leg_apart p Taking (layers_of ls) w q (apart_turned p q s.apart)))
+
+    is : way_at v p q kept ≡ way.moved_unless None t (way_at w p q j.kept)
+    is = same_way (v p) (v q) _ _ kept near far
+
+    right : IsJoin (record { a = v p; b = v q; there = kept; back = k.kept })
+    right =
+        subst (λ (x : Way). IsJoin (record { a = x.near; b = x.far; there = x.kept; back = k.kept })) (e ∙ sym is)
+        (there_right 1 (record { a = w p; b = w q; there = j.kept; back = k.kept }) c)
+
+by_refusal : (r : Option Refusal) (t : Taken) (ls : List SwitchLine) (w : World) (p : Place) (j k : Joined) → IsSwitch ls w → Pairing ls p j k
+    → IsJoin (record { a = w p; b = w j.other; there = j.kept; back = k.kept }) → way.moved (way_at w p j.other j.kept) ≡ way.moved_unless r t (way_at w p j.other j.kept)
+    → Moved ls w p j k (moved_unless r t p j ls) (way.moved_unless r t (way_at w p j.other j.kept))
+by_refusal (Some r) t ls w p j k i s c e = stays ls w p j k i s
+by_refusal None t ls w p j k i s c e = moves_on t ls w p j k i s c e
+
+by_front : (o : Option Taken) (ls : List SwitchLine) (w : World) (p : Place) (j k : Joined) → IsSwitch ls w → Pairing ls p j k
+    → IsJoin (record { a = w p; b = w j.other; there = j.kept; back = k.kept }) → way.moved (way_at w p j.other j.kept) ≡ way.moved_front o (way_at w p j.other j.kept)
+    → Moved ls w p j k (moved_front o p j ls) (way.moved_front o (way_at w p j.other j.kept))
+by_front None ls w p j k i s c e = stays ls w p j k i s
+by_front (Some t) ls w p j k i s c e =
+    subst (λ (r : Option Refusal). Moved ls w p j k (moved_unless r t p j ls) (way.moved_front (Some t) (way_at w p j.other j.kept)))
+    (sym (refusal_of_leg ls w j.other (request_for t) i.world s.q_there)) (by_refusal _ t ls w p j k i s c e)
+
+pub moves : (ls : List SwitchLine) (w : World) (p : Place) (j k : Joined) → IsSwitch ls w → Pairing ls p j k → IsJoin (record { a = w p; b = w j.other; there = j.kept; back = k.kept })
+    → Moved ls w p j k (moved p ls) (way.moved (way_at w p j.other j.kept))
+moves ls w p j k i s c =
+    subst (λ (o : Option Joined). Moved ls w p j k (moved_joined o p ls) (way.moved (way_at w p j.other j.kept))) (sym s.here)
+    (subst (λ (o : Option Taken). Moved ls w p j k (moved_front o p j ls) (way.moved (way_at w p j.other j.kept))) (sym (front_of_leg ls w p i.world s.p_there))
+    (by_front (front (w p).channel.traffic) ls w p j k i s c refl))
+
+-- ---- several moves
+
+moved_join : (ls ms : List SwitchLine) (w : World) (p : Place) (j k : Joined) → IsJoin (record { a = w p; b = w j.other; there = j.kept; back = k.kept })
+    → (m : Moved ls w p j k ms (way.moved (way_at w p j.other j.kept))) → IsJoin (record { a = m.world p; b = m.world j.other; there = m.kept; back = k.kept })
+moved_join ls ms w p j k c m =
+    subst (λ (x : Way). IsJoin (record { a = x.near; b = x.far; there = x.kept; back = k.kept })) (sym m.is)
+    (there_right 1 (record { a = w p; b = w j.other; there = j.kept; back = k.kept }) c)
+
+moved_pairing : (ls ms : List SwitchLine) (w : World) (p : Place) (j k : Joined) (to : Way) → Pairing ls p j k → (m : Moved ls w p j k ms to) → Pairing ms p (record j { kept = m.kept }) k
+moved_pairing ls ms w p j k to s m = record {
+  here = m.here;
+  there = m.there;
+  back = s.back;
+  apart = s.apart;
+  one_came_in = s.one_came_in;
+  p_there = reached_there ls ms w m.world m.touches.reached p ∙ s.p_there;
+  q_there = reached_there ls ms w m.world m.touches.reached j.other ∙ s.q_there;
+}
+
+pub relays : (most : ℕ) (ls : List SwitchLine) (w : World) (p : Place) (j k : Joined) → IsSwitch ls w → Pairing ls p j k → IsJoin (record { a = w p; b = w j.other; there = j.kept; back = k.kept })
+    → Moved ls w p j k (relayed most p ls) (way.relayed most (way_at w p j.other j.kept))
+relays zero ls w p j k i s c = stays ls w p j k i s
+relays (suc most) ls w p j k i s c =
+    let m = moves ls w p j k i s c in
+    let n = relays most (moved p ls) m.world p (record j { kept = m.kept }) k m.switch (moved_pairing ls (moved p ls) w p j k _ s m) (moved_join ls (moved p ls) w p j k c m) in
+    record {
+      world = n.world;
+      touches = touches_then p j.other ls (moved p ls) (relayed most p (moved p ls)) w m.world n.world m.touches n.touches;
+      switch = n.switch;
+      kept = n.kept;
+      here = n.here;
+      there = n.there;
+      is = n.is ∙ ap (λ (x : Way). way.relayed most x) m.is;
+    }
+
+-- ---- each channel is visited
+
+abbrev pub StuckAt : List SwitchLine → Place → Type 0
+StuckAt ls p = (j : Joined) (t : Taken) → joined_at ls p ≡ Some j → front_at ls p ≡ Some t → is_some (refusal_at ls j.other (request_for t)) ≡ true
+
+pub record Visited (ls : List SwitchLine) (w : World) (x : Place) (ms : List SwitchLine) : Type 0 where
+  pub world : World
+  pub reached : Reached ls w ms world
+  pub switch : IsSwitch ms world
+  pub places : (y : Place) → has_place ms y ≡ has_place ls y
+  pub stuck_here : StuckAt ms x
+  pub stuck_elsewhere : (p : Place) → same_place p x ≡ false → StuckAt ls p → StuckAt ms p
+
+relayed_same : (most : ℕ) (p : Place) (ls : List SwitchLine) → moved p ls ≡ ls → relayed most p ls ≡ ls
+relayed_same zero p ls e = refl
+relayed_same (suc most) p ls e = ap (λ (ms : List SwitchLine). relayed most p ms) e ∙ relayed_same most p ls e
+
+visited_same : (ls ms : List SwitchLine) (w : World) (x : Place) → ms ≡ ls → IsSwitch ls w → StuckAt ls x → Visited ls w x ms
+visited_same ls ms w x e i s = subst (λ (ks : List SwitchLine). Visited ls w x ks) (sym e) (record {
+  world = w;
+  reached = reached_none ls w;
+  switch = i;
+  places = λ y. refl;
+  stuck_here = s;
+  stuck_elsewhere = λ p a h. h;
+})
+
+pub waiting_before : (role : Role) (s : CallState) → waits_for_call role s ≡ true → in_transfer s ≡ false
+waiting_before role Ready e = refl
+waiting_before role OwnWaiting e = refl
+waiting_before role FarWaiting e = refl
+waiting_before Dte Transfer e = absurd (true≢false (sym e))
+waiting_before Dce Transfer e = absurd (true≢false (sym e))
+waiting_before role Collision e = refl
+waiting_before role OwnClear e = refl
+
+pub waits_before : (b : Bool) (g h : Leg) → WaitsFor b g h → (in_transfer g.channel.state ≡ false) × (in_transfer h.channel.state ≡ false)
+waits_before true g h i = (accepts_before g.role g.channel.state i.can_accept, waiting_before h.role h.channel.state i.waits)
+waits_before false g h i = (waiting_before g.role g.channel.state i.waits, accepts_before h.role h.channel.state i.can_accept)
+
+visited_pair : (ls : List SwitchLine) (w : World) (x : Place) (j k : Joined) → IsSwitch ls w → Pairing ls x j k → IsPair (w x) (w j.other) j k → Visited ls w x (relayed 8 x ls)
+visited_pair ls w x j k i s (waiting a b c) =
+    visited_same ls (relayed 8 x ls) w x (relayed_same 8 x ls nothing) i (λ y t e f. absurd (none-some t (sym front_none ∙ f)))
+  where
+    front_none : front_at ls x ≡ None
+    front_none =
+        let f = some_there (shown_at (layers_of ls) x) s.p_there in
+        let start = (i.world x f.0 f.1).leg.start (waits_before j.came_in (w x) (w j.other) c).0 in
+        front_of_leg ls w x i.world s.p_there ∙ ap (λ (t : Traffic). front t) start.traffic
+
+    nothing : moved x ls ≡ ls
+    nothing = ap (λ (o : Option Joined). moved_joined o x ls) s.here ∙ ap (λ (o : Option Taken). moved_front o x j ls) front_none
+visited_pair ls w x j k i s (connected c) = record {
+  world = v;
+  reached = m.touches.reached;
+  switch = m.switch;
+  places = m.touches.places;
+  stuck_here = stuck_here;
+  stuck_elsewhere = stuck_elsewhere;
+}
+  where
+    ms : List SwitchLine
+    ms = relayed 8 x ls
+
+    from : Way
+    from = way_at w x j.other j.kept
+
+    m : Moved ls w x j k ms (way.relayed 8 from)
+    m = relays 8 ls w x j k i s c
+
+    v : World
+    v = m.world
+
+    x_there : is_some (shown_at (layers_of ms) x) ≡ true
+    x_there = reached_there ls ms w v m.touches.reached x ∙ s.p_there
+
+    q_there : is_some (shown_at (layers_of ms) j.other) ≡ true
+    q_there = reached_there ls ms w v m.touches.reached j.other ∙ s.q_there
+
+    stuck_here : StuckAt ms x
+    stuck_here y t e f =
+        let stuck : way.IsStuck (way_at v x j.other m.kept) = subst (λ (u : Way). way.IsStuck u) (sym m.is) (relayed_stuck from c.there) in
+        let same : y.other ≡ j.other = ap (λ (z : Joined). z.other) (same_Some y _ (sym e ∙ m.here)) in
+        ap (λ (z : Place). is_some (refusal_at ms z (request_for t))) same
+        ∙ (ap (λ (o : Option Refusal). is_some o) (refusal_of_leg ms v j.other (request_for t) m.switch.world q_there)
+        ∙ stuck t (sym (front_of_leg ms v x m.switch.world x_there) ∙ f))
+
+    beside : Beside from (way.relayed 8 from)
+    beside = relayed_beside 8 from
+
+    -- of the other leg
+    stuck_other : StuckAt ls j.other → StuckAt ms j.other
+    stuck_other h y t e f =
+        let same : y ≡ k = same_Some y k (sym e ∙ m.there) in
+        let to_x : y.other ≡ x = ap (λ (z : Joined). z.other) same ∙ s.back in
+        let far : front (v j.other).channel.traffic ≡ front (w j.other).channel.traffic = ap (λ (u : Way). front u.far.channel.traffic) m.is ∙ beside.far.front in
+        let old_front : front_at ls j.other ≡ Some t =
+        front_of_leg ls w j.other i.world s.q_there ∙ (sym far ∙ (sym (front_of_leg ms v j.other m.switch.world q_there) ∙ f)) in
+        let old = h k t s.there old_front in
+        let refused : refusal (v x).role (v x).channel (request_for t) ≡ refusal (w x).role (w x).channel (request_for t) =
+        ap (λ (u : Way). refusal u.near.role u.near.channel (request_for t)) m.is ∙ same_refusal t (w x) (way.relayed 8 from).near beside.near.open_ in
+        ap (λ (z : Place). is_some (refusal_at ms z (request_for t))) to_x
+        ∙ (ap (λ (o : Option Refusal). is_some o) (refusal_of_leg ms v x (request_for t) m.switch.world x_there ∙ (refused ∙ sym (refusal_of_leg ls w x (request_for t) i.world s.p_there)))
+        ∙ (ap (λ (z : Place). is_some (refusal_at ls z (request_for t))) (sym s.back) ∙ old))
+
+    -- of another join
+    stuck_apart : (p : Place) → same_place p x ≡ false → same_place p j.other ≡ false → StuckAt ls p → StuckAt ms p
+    stuck_apart p a b h y t e f =
+        let e' : joined_at ls p ≡ Some y = sym (m.touches.joined p a b) ∙ e in
+        let z = i.joined p y e' in
+        let d = other_apart 0 [] ls w p x j.other y e' z (λ u g. ap (λ (o : Joined). o.other) (same_Some u j (sym g ∙ s.here))) b in
+        let d' = other_apart 0 [] ls w p j.other x y e' z (λ u g. ap (λ (o : Joined). o.other) (same_Some u k (sym g ∙ s.there)) ∙ s.back) a in
+        let p_there = reached_there ls ms w v m.touches.reached p ∙ z.there in
+        let o_there : is_some (shown_at (layers_of ls) y.other) ≡ true = (i.joined y.other z.other z.joined).there in
+        let front_same : front_at ls p ≡ front_at ms p =
+        front_of_leg ls w p i.world z.there ∙ (ap (λ (g : Leg). front g.channel.traffic) (sym (m.touches.legs p a b)) ∙ sym (front_of_leg ms v p m.switch.world p_there)) in
+        let refusal_same : refusal_at ms y.other (request_for t) ≡ refusal_at ls y.other (request_for t) =
+        refusal_of_leg ms v y.other (request_for t) m.switch.world (reached_there ls ms w v m.touches.reached y.other ∙ o_there)
+        ∙ (ap (λ (g : Leg). refusal g.role g.channel (request_for t)) (m.touches.legs y.other d d') ∙ sym (refusal_of_leg ls w y.other (request_for t) i.world o_there)) in
+        ap (λ (o : Option Refusal). is_some o) refusal_same ∙ h y t e' (front_same ∙ f)
+
+    stuck_elsewhere : (p : Place) → same_place p x ≡ false → StuckAt ls p → StuckAt ms p
+    stuck_elsewhere p a h = by_other (decided (same_place p j.other))
+      where
+        by_other : (same_place p j.other ≡ true) ⊎ (same_place p j.other ≡ false) → StuckAt ms p
+        by_other (inl t) = let is = place_is p j.other t in subst (λ (z : Place). StuckAt ms z) (sym is) (stuck_other (subst (λ (z : Place). StuckAt ls z) is h))
+        by_other (inr f) = stuck_apart p a f h
+
+visited_joined : (o : Option Joined) (ls : List SwitchLine) (w : World) (x : Place) → joined_at ls x ≡ o → IsSwitch ls w → Visited ls w x (relayed 8 x ls)
+visited_joined None ls w x e i =
+    visited_same ls (relayed 8 x ls) w x (relayed_same 8 x ls (ap (λ (o : Option Joined). moved_joined o x ls) e)) i (λ y t f g. absurd (none-some y (sym e ∙ f)))
+visited_joined (Some j) ls w x e i =
+    let d = i.joined x j e in
+    elim d.pair [
+      | inl h ↦ visited_pair ls w x j d.other i (pairing 0 [] ls w x j i e d) h
+      | inr h ↦ elim h [ inl z ↦ absurd z | inr z ↦ absurd z ]
+    ]
+
+pub visited : (ls : List SwitchLine) (w : World) (x : Place) → IsSwitch ls w → Visited ls w x (relayed 8 x ls)
+visited ls w x i = visited_joined (joined_at ls x) ls w x refl i
+
+-- ---- all channels
+
+pub data Among (p : Place) : List Place → Type 0 where
+  first : {x : Place} {xs : List Place} → same_place p x ≡ true → Among p (x ∷ xs)
+  later : {x : Place} {xs : List Place} → Among p xs → Among p (x ∷ xs)
+
+pub record RelayedFrom (ls : List SwitchLine) (w : World) (ps : List Place) (ms : List SwitchLine) : Type 0 where
+  pub world : World
+  pub reached : Reached ls w ms world
+  pub switch : IsSwitch ms world
+  pub places : (y : Place) → has_place ms y ≡ has_place ls y
+  pub stuck : (p : Place) → StuckAt ls p ⊎ Among p ps → StuckAt ms p
+
+relays_from : (ps : List Place) (ls : List SwitchLine) (w : World) → IsSwitch ls w → RelayedFrom ls w ps (relayed_from ps ls)
+relays_from [] ls w i = record { world = w; reached = reached_none ls w; switch = i; places = λ y. refl; stuck = λ p h. none p h }
+  where
+    none : (p : Place) → StuckAt ls p ⊎ Among p [] → StuckAt ls p
+    none p (inl h) = h
+    none p (inr h) = elim h [ ]
+relays_from (x ∷ ps) ls w i = then_ (visited ls w x i) (relays_from ps (relayed 8 x ls) (visited ls w x i).world (visited ls w x i).switch)
+  where
+    then_ : (a : Visited ls w x (relayed 8 x ls)) → RelayedFrom (relayed 8 x ls) a.world ps (relayed_from ps (relayed 8 x ls)) → RelayedFrom ls w (x ∷ ps) (relayed_from ps (relayed 8 x ls))
+    then_ a b = record {
+      world = b.world;
+      reached = reached_then ls (relayed 8 x ls) (relayed_from ps (relayed 8 x ls)) w a.world b.world a.reached b.reached;
+      switch = b.switch;
+      places = λ y. b.places y ∙ a.places y;
+      stuck = λ p h. by_here p (decided (same_place p x)) h;
+    }
+      where
+        onward : (p : Place) → same_place p x ≡ false → StuckAt ls p ⊎ Among p (x ∷ ps) → StuckAt (relayed 8 x ls) p ⊎ Among p ps
+        onward p f (inl h) = inl (a.stuck_elsewhere p f h)
+        onward p f (inr (first e)) = absurd (true≢false (sym e ∙ f))
+        onward p f (inr (later h)) = inr h
+
+        by_here : (p : Place) → (same_place p x ≡ true) ⊎ (same_place p x ≡ false) → StuckAt ls p ⊎ Among p (x ∷ ps) → StuckAt (relayed_from ps (relayed 8 x ls)) p
+        by_here p (inl t) h = b.stuck p (inl (subst (λ (z : Place). StuckAt (relayed 8 x ls) z) (sym (place_is p x t)) a.stuck_here))
+        by_here p (inr f) h = b.stuck p (onward p f h)
+
+among_here : (p x : Place) (xs : List Place) → p ≡ x → Among p (x ∷ xs)
+among_here p x xs e = first (same_as p x e)
+
+among_on : (n c i : ℕ) (js : List (Option Joined)) → is_some (slice_get js i) ≡ true → Among (record { line = n; channel = c + i }) (places_on n c js)
+among_on n c i [] e = absurd (true≢false (sym e))
+among_on n c zero (j ∷ js) e = let same : c + 0 ≡ c = omega arith in among_here _ (record { line = n; channel = c }) (places_on n (suc c) js) (ap (λ (k : ℕ). record { line = n; channel = k }) same)
+among_on n c (suc i) (j ∷ js) e =
+    let same : suc c + i ≡ c + suc i = omega arith in
+    later (subst (λ (k : ℕ). Among (record { line = n; channel = k }) (places_on n (suc c) js)) same (among_on n (suc c) i js e))
+
+among_left : (p : Place) (xs ys : List Place) → Among p xs → Among p (xs ++ ys)
+among_left p (x ∷ xs) ys (first e) = first e
+among_left p (x ∷ xs) ys (later h) = later (among_left p xs ys h)
+among_left p [] ys h = elim h [ ]
+
+among_right : (p : Place) (xs ys : List Place) → Among p ys → Among p (xs ++ ys)
+among_right p [] ys h = h
+among_right p (x ∷ xs) ys h = later (among_right p xs ys h)
+
+among_nth : (n c : ℕ) (js : List (Option Joined)) → has_nth js c ≡ true → Among (record { line = n; channel = c }) (places_on n 1 js)
+among_nth n zero js e = absurd (true≢false (sym e))
+among_nth n (suc i) js e = let same : 1 + i ≡ suc i = omega arith in subst (λ (k : ℕ). Among (record { line = n; channel = k }) (places_on n 1 js)) same (among_on n 1 i js e)
+
+among_from : (n m c : ℕ) (ls : List SwitchLine) → has_place_on (slice_get ls m) c ≡ true → Among (record { line = n + m; channel = c }) (places_from n ls)
+among_from n m c [] e = absurd (true≢false (sym e))
+among_from n zero c (l ∷ ls) e =
+    let same : n ≡ n + 0 = omega arith in
+    among_left _ (places_on n 1 l.joined) (places_from (suc n) ls) (subst (λ (k : ℕ). Among (record { line = k; channel = c }) (places_on n 1 l.joined)) same (among_nth n c l.joined e))
+among_from n (suc m) c (l ∷ ls) e =
+    let same : suc n + m ≡ n + suc m = omega arith in
+    among_right _ (places_on n 1 l.joined) (places_from (suc n) ls) (subst (λ (k : ℕ). Among (record { line = k; channel = c }) (places_from (suc n) ls)) same (among_from (suc n) m c ls e))
+
+among_places : (p : Place) (ls : List SwitchLine) → has_place ls p ≡ true → Among p (places ls)
+among_places p ls e = let same : 0 + p.line ≡ p.line = omega arith in subst (λ (k : ℕ). Among (record { line = k; channel = p.channel }) (places ls)) same (among_from 0 p.line p.channel ls e)
+
+pub all_relayed_right : (ls : List SwitchLine) (w : World) → IsSwitch ls w → Becomes ls w (all_relayed ls)
+all_relayed_right ls w i = let r = relays_from (places ls) ls w i in record { world = r.world; reached = r.reached; right = r.switch }
+
+pub all_relayed_stuck : (ls : List SwitchLine) (w : World) → IsSwitch ls w → HasRelayedAll (all_relayed ls)
+all_relayed_stuck ls w i p j t e f =
+    let r = relays_from (places ls) ls w i in
+    let here = sym (r.places p) ∙ joined_place (all_relayed ls) p j e in
+    r.stuck p (inr (among_places p ls here)) j t e f

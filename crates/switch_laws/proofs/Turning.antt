@@ -1,0 +1,283 @@
+-- What happens at the end of one line, as acts of its packet layer whose notes are then heeded.
+use Rattle.std.proofs.Common.{◌≡◌, ℕ, zero, suc, Bool, true, false, cond, ◌==◌, List, [], ◌∷◌, ◌++◌, Option, Some, None, refl, sym, ap, subst, ◌∙◌, true≢false, append-nil}
+use Rattle.std.specs.Prelude.{slice_get}
+use Rattle.std.proofs.lemmas.Option.{none-some, same_Some}
+use Rattle.link_timers.specs.declared.timers.TimerId.{TimerId}
+use Rattle.link_timers.specs.declared.timers.TimerId.TheVariants.{T1}
+use Rattle.lapb.specs.declared.note.Note as link_note
+use Rattle.lapb.specs.declared.note.Note.TheVariants.{Nothing, Up, Down}
+use Rattle.lapb.specs.Machine as link
+use Rattle.lapb.specs.Machine.{Octets}
+use Rattle.lapb.specs.Octets as link_octets
+use Rattle.line_end.specs.End.{End}
+use Rattle.packet_layer.specs.Packets.{Body, Note, Received}
+use Rattle.packet_layer.specs.Packets.Body.{Restart, RestartConfirmation}
+use Rattle.packet_layer.specs.Channel.{unreadable, received as received_packet}
+use Rattle.packet_layer.specs.Packets.Received.{Whole, Unknown, Faulty}
+use Rattle.packet_layer.specs.Octets.{heard}
+use Rattle.packet_layer.specs.Layer.{Layer, Phase, Timer, on_received, on_channel, restart_packet, unread, link_up, link_down}
+use Rattle.packet_layer.specs.Layer.Phase.{NoSession, OwnRestart, PacketReady}
+use Rattle.packet_layer.specs.Events.{after_hearing, on_named, timer_named}
+use Rattle.packet_laws.specs.Readable.{Every}
+use Rattle.packet_laws.proofs.Call.Saying.{by_cond}
+use Rattle.packet_end.specs.PacketEnd.{PacketEnd, received, heeded, after_packet, after_timer, expired, runs_at, relinked}
+use Rattle.address_routes.specs.Routes.{RouteMap}
+use Rattle.x25_switch.specs.Lines.{Place, SwitchLine, changed, joined_at}
+use Rattle.x25_switch.specs.Switch.{heed_all, with_end, notes_of, without_notes, notes_heeded, quieted, acted}
+use Rattle.switch_laws.specs.Leg.{Leg}
+use Rattle.switch_laws.specs.World.{World, layers_of, Act, MayHappen, IsReadAs, after_act, after_acts, world_after, world_after_all, layer_after, leg_after, line_of, came_in}
+use Rattle.switch_laws.specs.World.Act.{Comes, Expires, GoesUp, GoesDown, Reads}
+use Rattle.switch_laws.specs.Joined.{IsSwitch, Becomes, has_place}
+use Rattle.switch_laws.proofs.Places.{joined_kept, place_after}
+use Rattle.switch_laws.proofs.Frame.{acts_then, world_then, every_then}
+use Rattle.switch_laws.proofs.Effects.{Effect, effect, effect_right, leg_on_line, leg_elsewhere}
+use Rattle.switch_laws.proofs.Effects.Effect.{nothing, closes_all, on_one}
+use Rattle.switch_laws.proofs.Coming.{becomes_same}
+
+-- ---- lists
+
+pub changed_at : {X : Type 0} (n : ℕ) (f g : X → X) (xs : List X) (x : X) → slice_get xs n ≡ Some x → f x ≡ g x → changed n f xs ≡ changed n g xs
+changed_at n f g [] x e same = refl
+changed_at zero f g (y ∷ ys) x e same = ap (λ z. z ∷ ys) (ap (λ z. f z) (same_Some y x e) ∙ (same ∙ sym (ap (λ z. g z) (same_Some y x e))))
+changed_at (suc n) f g (y ∷ ys) x e same = ap (λ zs. y ∷ zs) (changed_at n f g ys x e same)
+
+pub changed_none : {X : Type 0} (n : ℕ) (f : X → X) (xs : List X) → slice_get xs n ≡ None → changed n f xs ≡ xs
+changed_none n f [] e = refl
+changed_none zero f (y ∷ ys) e = absurd (none-some y (sym e))
+changed_none (suc n) f (y ∷ ys) e = ap (λ zs. y ∷ zs) (changed_none n f ys e)
+
+pub changed_twice : {X : Type 0} (n : ℕ) (f g : X → X) (xs : List X) → changed n f (changed n g xs) ≡ changed n (λ x. f (g x)) xs
+changed_twice n f g [] = refl
+changed_twice zero f g (y ∷ ys) = refl
+changed_twice (suc n) f g (y ∷ ys) = ap (λ zs. y ∷ zs) (changed_twice n f g ys)
+
+pub changed_same : {X : Type 0} (n : ℕ) (xs : List X) (x : X) → slice_get xs n ≡ Some x → changed n (λ y. x) xs ≡ xs
+changed_same n [] x e = refl
+changed_same zero (y ∷ ys) x e = ap (λ z. z ∷ ys) (sym (same_Some y x e))
+changed_same (suc n) (y ∷ ys) x e = ap (λ zs. y ∷ zs) (changed_same n ys x e)
+
+pub got_changed : {X : Type 0} (n : ℕ) (f : X → X) (xs : List X) (x : X) → slice_get xs n ≡ Some x → slice_get (changed n f xs) n ≡ Some (f x)
+got_changed n f [] x e = absurd (none-some x e)
+got_changed zero f (y ∷ ys) x e = ap (λ z. Some (f z)) (same_Some y x e)
+got_changed (suc n) f (y ∷ ys) x e = got_changed n f ys x e
+
+pub layer_got : (n : ℕ) (ls : List SwitchLine) (l : SwitchLine) → slice_get ls n ≡ Some l → slice_get (layers_of ls) n ≡ Some l.end.layer
+layer_got n [] l e = absurd (none-some l e)
+layer_got zero (y ∷ ys) l e = ap (λ (z : SwitchLine). Some z.end.layer) (same_Some y l e)
+layer_got (suc n) (y ∷ ys) l e = layer_got n ys l e
+
+pub layers_changed : (n : ℕ) (f : SwitchLine → SwitchLine) (ls : List SwitchLine) (l : SwitchLine) → slice_get ls n ≡ Some l → layers_of (changed n f ls) ≡ changed n (λ y. (f l).end.layer) (layers_of ls)
+layers_changed n f [] l e = refl
+layers_changed zero f (y ∷ ys) l e = ap (λ (z : SwitchLine). (f z).end.layer ∷ layers_of ys) (same_Some y l e)
+layers_changed (suc n) f (y ∷ ys) l e = ap (λ zs. y.end.layer ∷ zs) (layers_changed n f ys l e)
+
+-- ---- the effect on a line
+
+pub record LineEffect (n : ℕ) (l after : Layer) (notes : List Note) : Type 0 where
+  pub moves : ℕ → Leg → Leg
+  pub effect : Effect moves l notes
+  pub acts : List Act
+  pub may : Every MayHappen acts
+  pub layers : (ys : List Layer) → slice_get ys n ≡ Some l → after_acts acts ys ≡ changed n (λ y. after) ys
+  pub here : (ys : List Layer) (w : World) (x : Place) → slice_get ys n ≡ Some l → (x.line == n) ≡ true → world_after_all acts ys w x ≡ moves x.channel (w x)
+  pub elsewhere : (ys : List Layer) (w : World) (x : Place) → (x.line == n) ≡ false → world_after_all acts ys w x ≡ w x
+
+no_effect : (n : ℕ) (l : Layer) → LineEffect n l l []
+no_effect n l = record {
+  moves = λ c g. g;
+  effect = nothing refl (λ c g. refl);
+  acts = [];
+  may = tt;
+  layers = λ ys e. sym (changed_same n ys l e);
+  here = λ ys w x e t. refl;
+  elsewhere = λ ys w x t. refl;
+}
+
+one_act : (a : Act) (l : Layer) (notes : List Note) → MayHappen a → Effect (λ c g. leg_after a (Some l) c g) l notes → LineEffect (line_of a) l (layer_after a l) notes
+one_act a l notes m eff = record {
+  moves = λ c g. leg_after a (Some l) c g;
+  effect = eff;
+  acts = a ∷ [];
+  may = (m, tt);
+  layers = λ ys e. changed_at (line_of a) (λ x. layer_after a x) (λ x. layer_after a l) ys l e refl;
+  here = λ ys w x e t. leg_on_line a ys w x (Some l) t e;
+  elsewhere = λ ys w x t. leg_elsewhere a ys w x t;
+}
+
+-- a second act moves no leg and makes no notes
+and_act : (a : Act) (l after : Layer) (notes : List Note) → MayHappen a → ((c : ℕ) (g : Leg) → leg_after a (Some after) c g ≡ g) → LineEffect (line_of a) l after notes
+    → LineEffect (line_of a) l (layer_after a after) notes
+and_act a l after notes m still e = record {
+  moves = e.moves;
+  effect = e.effect;
+  acts = e.acts ++ a ∷ [];
+  may = every_then e.acts (a ∷ []) e.may (m, tt);
+  layers = λ ys got.
+      acts_then e.acts (a ∷ []) ys ∙ (ap (λ (zs : List Layer). after_act a zs) (e.layers ys got) ∙ changed_twice (line_of a) (λ x. layer_after a x) (λ y. after) ys);
+  here = λ ys w x got t.
+      ap (λ (v : World). v x) (world_then e.acts (a ∷ []) ys w)
+      ∙ (leg_on_line a (after_acts e.acts ys) (world_after_all e.acts ys w) x (Some after) t (ap (λ (zs : List Layer). slice_get zs (line_of a)) (e.layers ys got) ∙ got_changed (line_of a) (λ y. after) ys l got)
+      ∙ (still x.channel (world_after_all e.acts ys w x) ∙ e.here ys w x got t));
+  elsewhere = λ ys w x t.
+      ap (λ (v : World). v x) (world_then e.acts (a ∷ []) ys w) ∙ (leg_elsewhere a (after_acts e.acts ys) (world_after_all e.acts ys w) x t ∙ e.elsewhere ys w x t);
+}
+
+same_effect : (f : ℕ → Leg → Leg) (l : Layer) (notes : List Note) → Effect f (unread l) notes → Effect f l notes
+same_effect f l notes (nothing a b) = nothing a b
+same_effect f l notes (closes_all r a b) = closes_all r a b
+same_effect f l notes (on_one d st e is apart leg a b) = on_one d st e is apart leg a b
+
+-- notes of before are read first
+pub reads_first : (n : ℕ) (l after : Layer) (notes : List Note) → LineEffect n (unread l) after notes → LineEffect n l after notes
+reads_first n l after notes e = record {
+  moves = e.moves;
+  effect = same_effect e.moves l notes e.effect;
+  acts = Reads n ∷ e.acts;
+  may = (tt, e.may);
+  layers = λ ys got. e.layers (after_act (Reads n) ys) (got_changed n (λ x. unread x) ys l got) ∙ changed_twice n (λ y. after) (λ x. unread x) ys;
+  here = λ ys w x got t.
+      e.here (after_act (Reads n) ys) (world_after (Reads n) ys w) x (got_changed n (λ x. unread x) ys l got) t ∙ ap (λ (g : Leg). e.moves x.channel g) (leg_on_line (Reads n) ys w x (Some l) t got);
+  elsewhere = λ ys w x t. e.elsewhere (after_act (Reads n) ys) (world_after (Reads n) ys w) x t ∙ leg_elsewhere (Reads n) ys w x t;
+}
+
+with_notes : (n : ℕ) (l after : Layer) (ns ms : List Note) → ns ≡ ms → LineEffect n l after ns → LineEffect n l after ms
+with_notes n l after ns ms e i = subst (λ (xs : List Note). LineEffect n l after xs) e i
+
+-- ---- heeded
+
+heeds_effect : (routes : RouteMap) (n : ℕ) (line : SwitchLine) (after : Layer) (notes : List Note) (ls ms : List SwitchLine) (w : World) → slice_get ls n ≡ Some line
+    → layers_of ms ≡ changed n (λ y. after) (layers_of ls) → ((x : Place) → joined_at ms x ≡ joined_at ls x) → ((x : Place) → has_place ms x ≡ has_place ls x) → LineEffect n line.end.layer after notes
+    → IsSwitch ls w → Becomes ls w (heed_all routes n notes ms)
+heeds_effect routes n line after notes ls ms w got layers joined places e i =
+    effect_right routes n e.moves line.end.layer ls ms w (world_after_all e.acts (layers_of ls) w) notes e.effect (layer_got n ls line got) (record {
+      reached = record { acts = e.acts; may = e.may; layers = layers ∙ sym (e.layers (layers_of ls) (layer_got n ls line got)); legs = refl };
+      joined = joined;
+      places = places;
+      here = λ x t. e.here (layers_of ls) w x (layer_got n ls line got) t;
+      elsewhere = λ x t. e.elsewhere (layers_of ls) w x t;
+    }) i
+
+-- what an end makes of what comes to it
+abbrev pub EndEffect : ℕ → (PacketEnd → PacketEnd) → PacketEnd → Type 0
+EndEffect n f e = LineEffect n (unread e.layer) (f (quieted e)).layer (f (quieted e)).notes
+
+pub acted_none : (routes : RouteMap) (n : ℕ) (f : PacketEnd → PacketEnd) (ls : List SwitchLine) → slice_get ls n ≡ None → acted routes n f ls ≡ ls
+acted_none routes n f ls e =
+    ap (λ (ms : List SwitchLine). notes_heeded routes n ms) (changed_none n _ ls e)
+    ∙ (ap (λ (o : Option SwitchLine). heed_all routes n (notes_of o) (changed n (with_end without_notes) ls)) e ∙ changed_none n _ ls e)
+
+pub acted_right : (routes : RouteMap) (n : ℕ) (f : PacketEnd → PacketEnd) (ls : List SwitchLine) (w : World) → IsSwitch ls w → ((line : SwitchLine) → slice_get ls n ≡ Some line → EndEffect n f line.end)
+    → Becomes ls w (acted routes n f ls)
+acted_right routes n f ls w i eff = by_line (slice_get ls n) refl
+  where
+    g : SwitchLine → SwitchLine
+    g = with_end (λ e. f (quieted e))
+
+    l1 : List SwitchLine
+    l1 = changed n g ls
+
+    ms : List SwitchLine
+    ms = changed n (with_end without_notes) l1
+
+    by_line : (o : Option SwitchLine) → slice_get ls n ≡ o → Becomes ls w (acted routes n f ls)
+    by_line None e = becomes_same ls (acted routes n f ls) w (acted_none routes n f ls e) i
+    by_line (Some line) e =
+        subst (λ (o : Option SwitchLine). Becomes ls w (heed_all routes n (notes_of o) ms)) (sym (got_changed n g ls line e))
+        (heeds_effect routes n line (f (quieted line.end)).layer (f (quieted line.end)).notes ls ms w e
+        (ap (λ (ks : List SwitchLine). layers_of ks) (changed_twice n (with_end without_notes) g ls) ∙ layers_changed n (λ x. with_end without_notes (g x)) ls line e)
+        (λ x. joined_kept n x.line x.channel (with_end without_notes) l1 (λ l. refl) ∙ joined_kept n x.line x.channel g ls (λ l. refl))
+        (λ x. place_after n (with_end without_notes) l1 x (λ l. refl) ∙ place_after n g ls x (λ l. refl)) (reads_first n line.end.layer _ _ (eff line e)) i)
+
+-- ---- a link that is set up anew
+
+pub relinked_effect : (n : ℕ) (e : PacketEnd) → EndEffect n relinked e
+relinked_effect n e = one_act (GoesDown n) (unread e.layer) _ tt (effect (GoesDown n) (unread e.layer) tt)
+
+-- ---- a session of the link begins or ends, and a packet comes
+
+quiet_restart : (b : Body) (l : Layer) → (restart_packet OwnRestart b (unread l)).notes ≡ []
+quiet_restart (Restart cause diagnostic) l = refl
+quiet_restart RestartConfirmation l = refl
+quiet_restart _ l = refl
+
+-- outside r1 what comes makes no notes
+quiet_notes : (phase : Phase) (r : Received) (l : Layer) → l.phase ≡ phase → (phase ≡ PacketReady → ⊥) → (on_received (unread l) r).notes ≡ []
+quiet_notes PacketReady r l e no_ = absurd (no_ refl)
+quiet_notes OwnRestart (Whole p) l e no_ =
+    ap (λ (ph : Phase). (cond (p.channel == 0) (restart_packet ph p.body (unread l)) (on_channel ph (unread l) p.channel (λ ch. received_packet l.role l.window p.channel ch p.body))).notes) e
+    ∙ by_cond (λ (y : Layer). y.notes ≡ []) (p.channel == 0) _ _ (λ h. quiet_restart p.body l) (λ h. refl)
+quiet_notes OwnRestart (Unknown d) l e no_ = ap (λ (ph : Phase). (on_channel ph (unread l) d (λ ch. unreadable l.role d true ch)).notes) e
+quiet_notes OwnRestart (Faulty d) l e no_ = ap (λ (ph : Phase). (on_channel ph (unread l) d (λ ch. unreadable l.role d false ch)).notes) e
+quiet_notes NoSession (Whole p) l e no_ =
+    ap (λ (ph : Phase). (cond (p.channel == 0) (restart_packet ph p.body (unread l)) (on_channel ph (unread l) p.channel (λ ch. received_packet l.role l.window p.channel ch p.body))).notes) e
+    ∙ by_cond (λ (y : Layer). y.notes ≡ []) (p.channel == 0) _ _ (λ h. refl) (λ h. refl)
+quiet_notes NoSession (Unknown d) l e no_ = ap (λ (ph : Phase). (on_channel ph (unread l) d (λ ch. unreadable l.role d true ch)).notes) e
+quiet_notes NoSession (Faulty d) l e no_ = ap (λ (ph : Phase). (on_channel ph (unread l) d (λ ch. unreadable l.role d false ch)).notes) e
+
+quiet_leg : (phase : Phase) (r : Received) (c : ℕ) (g : Leg) → (phase ≡ PacketReady → ⊥) → came_in phase r c g ≡ g
+quiet_leg PacketReady r c g no_ = absurd (no_ refl)
+quiet_leg OwnRestart (Whole p) c g no_ = refl
+quiet_leg OwnRestart (Unknown d) c g no_ = refl
+quiet_leg OwnRestart (Faulty d) c g no_ = refl
+quiet_leg NoSession (Whole p) c g no_ = refl
+quiet_leg NoSession (Unknown d) c g no_ = refl
+quiet_leg NoSession (Faulty d) c g no_ = refl
+
+abbrev is_ready_phase : Phase → Bool
+is_ready_phase PacketReady = true
+is_ready_phase ph = false
+
+-- a packet after the session began or ended
+packet_later : (n : ℕ) (l after : Layer) (notes : List Note) (o : Option Received) → ((r : Received) → o ≡ Some r → IsReadAs r) → (after.phase ≡ PacketReady → ⊥) → unread after ≡ after
+    → LineEffect n l after notes → LineEffect n l (unread (after_hearing (unread after) o)) (notes ++ (after_hearing (unread after) o).notes)
+packet_later n l after notes None read ready quiet e =
+    with_notes n l (unread (unread after)) notes (notes ++ []) (sym (append-nil notes)) (subst (λ (y : Layer). LineEffect n l y notes) (sym (ap (λ (z : Layer). unread z) quiet ∙ quiet)) e)
+packet_later n l after notes (Some r) read ready quiet e =
+    with_notes n l (unread (on_received (unread after) r)) notes (notes ++ (on_received (unread after) r).notes)
+    (sym (ap (λ (ns : List Note). notes ++ ns) (quiet_notes after.phase r after refl ready) ∙ append-nil notes))
+    (and_act (Comes n r) l after notes (read r refl) (λ c g. quiet_leg after.phase r c g ready) e)
+
+-- a packet alone
+packet_first : (n : ℕ) (l : Layer) (o : Option Received) → ((r : Received) → o ≡ Some r → IsReadAs r) → LineEffect n (unread l) (unread (after_hearing (unread l) o)) (after_hearing (unread l) o).notes
+packet_first n l None read = no_effect n (unread l)
+packet_first n l (Some r) read = one_act (Comes n r) (unread l) _ (read r refl) (effect (Comes n r) (unread l) (read r refl))
+
+-- numbers read from the octets are below 8
+abbrev pub ReadsNumbers : Option Octets → Type 0
+ReadsNumbers None = Unit {0}
+ReadsNumbers (Some octets) = (r : Received) → heard octets ≡ Some r → IsReadAs r
+
+own_restart_not_ready : OwnRestart ≡ PacketReady → ⊥
+own_restart_not_ready e = true≢false (sym (ap (λ (ph : Phase). is_ready_phase ph) e))
+
+no_session_not_ready : NoSession ≡ PacketReady → ⊥
+no_session_not_ready e = true≢false (sym (ap (λ (ph : Phase). is_ready_phase ph) e))
+
+brought : (n : ℕ) (e : PacketEnd) (to : End) (note : link_note.Note) (accepted : Option Octets) → ReadsNumbers accepted
+    → LineEffect n (unread e.layer) (after_packet accepted (heeded note (record (quieted e) { line = to }))).layer (after_packet accepted (heeded note (record (quieted e) { line = to }))).notes
+brought n e to Nothing None read = no_effect n (unread e.layer)
+brought n e to Nothing (Some octets) read = packet_first n e.layer (heard octets) read
+brought n e to Up None read = one_act (GoesUp n) (unread e.layer) _ tt (effect (GoesUp n) (unread e.layer) tt)
+brought n e to Up (Some octets) read =
+    packet_later n (unread e.layer) (unread (link_up (unread e.layer))) (link_up (unread e.layer)).notes (heard octets) read own_restart_not_ready refl
+    (one_act (GoesUp n) (unread e.layer) _ tt (effect (GoesUp n) (unread e.layer) tt))
+brought n e to Down None read = one_act (GoesDown n) (unread e.layer) _ tt (effect (GoesDown n) (unread e.layer) tt)
+brought n e to Down (Some octets) read =
+    packet_later n (unread e.layer) (unread (link_down (unread e.layer))) (link_down (unread e.layer)).notes (heard octets) read no_session_not_ready refl
+    (one_act (GoesDown n) (unread e.layer) _ tt (effect (GoesDown n) (unread e.layer) tt))
+
+pub received_effect : (n : ℕ) (octets : Octets) (e : PacketEnd) → ReadsNumbers (link_octets.on_octets e.line.link octets).accepted → EndEffect n (λ y. received y octets) e
+received_effect n octets e read = brought n e _ (link_octets.on_octets e.line.link octets).note (link_octets.on_octets e.line.link octets).accepted read
+
+-- ---- a timer runs out
+
+named_effect : (n : ℕ) (l : Layer) (o : Option Timer) → LineEffect n (unread l) (unread (on_named (unread l) o)) (on_named (unread l) o).notes
+named_effect n l None = no_effect n (unread l)
+named_effect n l (Some t) = one_act (Expires n t) (unread l) _ tt (effect (Expires n t) (unread l) tt)
+
+expired_effect_ : (n : ℕ) (id : TimerId) (e : PacketEnd) → LineEffect n (unread e.layer) (expired id (quieted e)).layer (expired id (quieted e)).notes
+expired_effect_ n T1 e = brought n e _ (link.on_t1 e.line.link).note None tt
+expired_effect_ n id e = named_effect n e.layer (timer_named e.layer.role id)
+
+pub timer_effect : (n : ℕ) (id : TimerId) (e : PacketEnd) → EndEffect n (λ y. after_timer y id) e
+timer_effect n id e = by_cond (λ (y : PacketEnd). LineEffect n (unread e.layer) y.layer y.notes) (runs_at (quieted e) id) _ _ (λ h. expired_effect_ n id e) (λ h. no_effect n (unread e.layer))

@@ -1,0 +1,96 @@
+-- What holds of the relay of a switch, and of its joins, whatever its partners send.
+use Rattle.std.specs.Prelude.{◌≡◌, ℕ, ◌≤◌, Bool, true, List, ◌∷◌, slice_get, Some, None, is_some}
+use Rattle.link_timers.specs.declared.role.Role.{Role}
+use Rattle.link_timers.specs.declared.timers.TimerId.{TimerId}
+use Rattle.packet_layer.specs.Packets.{Body, CallParts}
+use Rattle.packet_layer.specs.Channel.{received, unreadable}
+use Rattle.packet_layer.specs.Channel.CallState.{Transfer}
+use Rattle.packet_layer.specs.Layer.{Layer}
+use Rattle.packet_laws.specs.Counts.{IsNumbered}
+use Rattle.address_routes.specs.Routes.{RouteMap, line_for}
+use Rattle.x25_switch.specs.Direction.{new_direction}
+use Rattle.x25_switch.specs.Lines.{Place, SwitchLine, joined_at}
+use Rattle.x25_switch.specs.Relay.{all_relayed}
+use Rattle.x25_switch.specs.Switch.{Switch, answer, heed_all, on_frame, on_timer, restart, elapse}
+use Rattle.x25_switch.specs.Switch.Answer.{Joins}
+use Rattle.switch_laws.specs.Leg.{connected}
+use Rattle.switch_laws.specs.Way.{Way, Holds, IsRight, IsStuck, freed, moved, relayed}
+use Rattle.switch_laws.specs.Join.{Join, IsJoin, IsAtRest, relayed_both, hears, mishears, gives}
+use Rattle.switch_laws.specs.Turn.{AreOctets}
+use Rattle.packet_end.specs.PacketEnd as end
+use Rattle.switch_laws.specs.Calls.{CallsAreJoined, HasCall}
+use Rattle.switch_laws.specs.Stays.{OthersStay, relinked_in}
+use Rattle.switch_laws.specs.Offers.{HaveSmallLinks, EndsKeepNothingBack}
+use Rattle.switch_laws.specs.World.{closed, World, IsWorld, layers_of, shown_at, Act, line_of}
+use Rattle.switch_laws.specs.Joined.{IsSwitch, Becomes, HasRelayedAll, HasActed, IsTold, notes_made, has_place}
+
+-- one direction: releasing what may be released and relaying keep the clause, and after 8 of them nothing waits that
+-- the far leg takes, since no more than 7 packets and an interrupt can wait on the near leg
+pub record RelayLaw : Type 0 where
+  pub frees : (w : Way) → Holds w → IsRight (freed w)
+  pub moves : (w : Way) → IsRight w → IsRight (moved w)
+  pub relays : (most : ℕ) (w : Way) → IsRight w → IsRight (relayed most w)
+  pub stuck : (w : Way) → IsRight w → IsStuck (relayed 8 w)
+
+-- both directions: the clause holds when a call is connected, and stays over each relay, after which nothing is kept
+-- back, over all that comes on a leg and leaves it in data transfer, and over all that goes to its line
+pub record JoinLaw : Type 0 where
+  pub begins : (a_role b_role : Role) (a_window b_window : ℕ) (a_owed b_owed : List Body) → a_window ≤ 7 → b_window ≤ 7
+      → IsJoin (record {
+        a = connected a_role a_window a_owed;
+        b = connected b_role b_window b_owed;
+        there = new_direction;
+        back = new_direction;
+      })
+  pub relays : (j : Join) → IsJoin j → IsJoin (relayed_both 8 j)
+  pub keeps_nothing_back : (j : Join) → IsJoin j → IsAtRest (relayed_both 8 j)
+  pub hears : (c : ℕ) (p : Body) (j : Join) → IsNumbered p
+      → (received j.b.role j.b.window c j.b.channel p).channel.state ≡ Transfer → IsJoin j → IsJoin (hears c p j)
+  pub mishears : (c : ℕ) (unknown : Bool) (j : Join)
+      → (unreadable j.b.role c unknown j.b.channel).channel.state ≡ Transfer → IsJoin j
+      → IsJoin (mishears c unknown j)
+  pub gives : (j : Join) → IsJoin j → IsJoin (gives j)
+
+-- all joins: they hold over the relay on all lines, after which nothing is kept back, and over all that a line brings,
+-- once its notes are heeded: packets and what cannot be read, timers, sessions of the link that begin and end. A call
+-- that comes in goes on to the line of the longest prefix of its called address
+pub record SwitchLaw : Type 0 where
+  pub begins : (ls : List SwitchLine) (w : World) → IsWorld (layers_of ls) w
+      → ((x : Place) → is_some (shown_at (layers_of ls) x) ≡ true → has_place ls x ≡ true)
+      → ((x : Place) → joined_at ls x ≡ None) → IsSwitch ls w
+  pub relays : (ls : List SwitchLine) (w : World) → IsSwitch ls w → Becomes ls w (all_relayed ls)
+  pub keeps_nothing_back : (ls : List SwitchLine) (w : World) → IsSwitch ls w → HasRelayedAll (all_relayed ls)
+  pub heeds : (routes : RouteMap) (act : Act) (l : Layer) (ls ms : List SwitchLine) (w : World) → IsTold act
+      → slice_get (layers_of ls) (line_of act) ≡ Some l → HasActed act ls ms → IsSwitch ls w
+      → Becomes ls w (heed_all routes (line_of act) (notes_made act (Some l)) ms)
+  pub routes : (routes : RouteMap) (ls : List SwitchLine) (parts : CallParts) (q : Place)
+      → answer routes ls parts ≡ Joins q → line_for routes parts.called ≡ Some q.line
+
+-- whole events: after each of them all joins hold, and nothing is kept back, on legs, in packet layers and at links
+-- with a k of at most 7; each channel that has a call is joined; a join of two other lines stays, but for the joins of
+-- a line whose link is set up anew in the event; a restart leaves no call
+pub record TurnLaw : Type 0 where
+  pub frame : (n : ℕ) (octets : List ℕ) (s : Switch) (w : World) → AreOctets octets → IsSwitch s.lines w
+      → Becomes s.lines w (on_frame n octets s).lines
+  pub frame_keeps_nothing_back : (n : ℕ) (octets : List ℕ) (s : Switch) (w : World) → AreOctets octets
+      → IsSwitch s.lines w → HasRelayedAll (on_frame n octets s).lines
+  pub timer : (n : ℕ) (id : TimerId) (s : Switch) (w : World) → IsSwitch s.lines w
+      → Becomes s.lines w (on_timer n id s).lines
+  pub timer_keeps_nothing_back : (n : ℕ) (id : TimerId) (s : Switch) (w : World) → IsSwitch s.lines w
+      → HasRelayedAll (on_timer n id s).lines
+  pub frame_offers : (n : ℕ) (octets : List ℕ) (s : Switch) → HaveSmallLinks s.lines
+      → EndsKeepNothingBack (on_frame n octets s).lines
+  pub timer_offers : (n : ℕ) (id : TimerId) (s : Switch) → HaveSmallLinks s.lines
+      → EndsKeepNothingBack (on_timer n id s).lines
+  pub frame_joins_calls : (n : ℕ) (octets : List ℕ) (s : Switch) (w : World) → AreOctets octets → IsSwitch s.lines w
+      → CallsAreJoined s.lines → CallsAreJoined (on_frame n octets s).lines
+  pub timer_joins_calls : (n : ℕ) (id : TimerId) (s : Switch) (w : World) → IsSwitch s.lines w
+      → CallsAreJoined s.lines → CallsAreJoined (on_timer n id s).lines
+  pub frame_leaves_others : (n : ℕ) (octets : List ℕ) (s : Switch) (w : World) → AreOctets octets → IsSwitch s.lines w
+      → OthersStay (n ∷ relinked_in n (λ e. end.received e octets) s) s.lines (on_frame n octets s).lines
+  pub timer_leaves_others : (n : ℕ) (id : TimerId) (s : Switch) (w : World) → IsSwitch s.lines w
+      → OthersStay (n ∷ relinked_in n (λ e. end.after_timer e id) s) s.lines (on_timer n id s).lines
+  pub restarts : (s : Switch) (w : World) → IsSwitch s.lines w → IsSwitch (restart s).lines (λ x. closed (w x))
+  pub restart_ends_calls : (s : Switch) (w : World) → IsSwitch s.lines w → (p : Place) → HasCall (restart s).lines p → ⊥
+  pub elapses : (ticks : ℕ) (s : Switch) (w : World) → IsSwitch s.lines w
+      → Becomes s.lines w (elapse ticks s).lines

@@ -1,0 +1,12 @@
+pub mod Leg
+pub mod Clause
+pub mod Way
+pub mod Join
+pub mod World
+pub mod Joined
+pub mod Turn
+pub mod Offers
+pub mod Stays
+pub mod Calls
+pub mod Law
+pub mod Run

@@ -1,0 +1,69 @@
+-- A run of one join, and a switch of two lines: they meet what the laws ask for, by computation.
+use Rattle.std.specs.Prelude.{◌≡◌, ℕ, true, false, List, [], ◌∷◌, Some, None}
+use Rattle.link_timers.specs.declared.role.Role.TheVariants.{Dce}
+use Rattle.packet_layer.specs.Packets.{Datum}
+use Rattle.packet_layer.specs.Packets.Body.{Data, Interrupt, InterruptConfirmation, ReceiveReady, Reset}
+use Rattle.packet_layer.specs.Channel.{closed_channel}
+use Rattle.packet_laws.specs.History.{empty_epoch}
+use Rattle.packet_end.specs.PacketEnd.{made}
+use Rattle.packet_end.specs.declared.params.EndParams.{EndParams}
+use Rattle.x25_switch.specs.Direction.{new_direction}
+use Rattle.x25_switch.specs.Lines.{SwitchLine}
+use Rattle.switch_laws.specs.Leg.{connected}
+use Rattle.switch_laws.specs.Join.{Join, IsJoin, turned, relayed_both, hears, gives}
+use Rattle.switch_laws.specs.World.{World}
+use Rattle.switch_laws.specs.Joined.{IsSwitch}
+use Rattle.switch_laws.specs.Calls.{CallsAreJoined}
+
+-- ---- one join, of two channels with a window of 2
+
+abbrev pub started : Join
+started = record { a = connected Dce 2 []; b = connected Dce 2 []; there = new_direction; back = new_direction }
+
+-- a packet with D = 1 comes on b
+abbrev pub letter : Datum
+letter = record { octets = 72 ∷ 73 ∷ []; more = false; qualified = false; delivery = true }
+
+abbrev pub carried : Join
+carried = relayed_both 8 (hears 1 (Data 0 0 letter) started)
+
+-- it goes to the line of a, and P(R) comes back
+abbrev pub covered : Join
+covered = turned (hears 1 (ReceiveReady 1) (gives (turned carried)))
+
+-- an interrupt comes on b, goes to the line of a, and is confirmed there
+abbrev pub interrupted : Join
+interrupted = relayed_both 8 (hears 1 (Interrupt (65 ∷ [])) covered)
+
+abbrev pub confirmed : Join
+confirmed = turned (hears 1 InterruptConfirmation (gives (turned interrupted)))
+
+-- b is reset
+abbrev pub reset : Join
+reset = hears 1 (Reset 0 0) confirmed
+
+-- ---- a switch of two lines with two channels each, without calls
+
+abbrev pub parameters : EndParams
+parameters = record { k = 7; n2 = 3; channels = 2; window = 2; standing = false }
+
+abbrev pub line : (address : List ℕ) → SwitchLine
+line address = record { end = made Dce parameters; address = address; joined = None ∷ None ∷ [] }
+
+abbrev pub two_lines : List SwitchLine
+two_lines = line (1 ∷ []) ∷ line (2 ∷ []) ∷ []
+
+abbrev pub no_calls : World
+no_calls = λ x. record { role = Dce; window = 2; channel = closed_channel; before = []; epoch = empty_epoch }
+
+pub record RunLaw : Type 0 where
+  pub waits_for_cover : carried.b.epoch.released ≡ 0
+  pub is_sent : carried.a.epoch.sent ≡ letter ∷ []
+  pub is_released : covered.b.epoch.released ≡ 1
+  pub goes_on : interrupted.a.channel.traffic.interrupt_waiting ≡ Some (65 ∷ [])
+  pub waits_for_confirmation : interrupted.b.channel.traffic.confirmation_due ≡ false
+  pub is_confirmed : confirmed.b.channel.traffic.confirmation_due ≡ true
+  pub resets_the_other : reset.a.channel.resetting ≡ true
+  pub holds : IsJoin reset
+  pub switch : IsSwitch two_lines no_calls
+  pub calls : CallsAreJoined two_lines

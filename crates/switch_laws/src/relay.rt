@@ -1,0 +1,34 @@
+ghost use Rattle.switch_laws.specs.Law.{JoinLaw, RelayLaw, SwitchLaw, TurnLaw};
+ghost use Rattle.switch_laws.specs.Run.{RunLaw};
+
+/// One direction of a join, over the definitions of the layer and of the switch alone: what the switch sends on the far
+/// leg is what it takes on the near leg, a packet with D = 1 is released only when the far leg's P(R) covers it, and
+/// after 8 moves nothing waits on the near leg that the far leg takes (X.25 4.3.3).
+pub fn relay_law()
+    ensures { RelayLaw }
+{}
+
+/// Both directions of a join: the clause holds from the connection on, over each relay, over all that comes on a leg
+/// and leaves it in data transfer, whatever was sent there, and over all that goes to its line; a reset of one leg
+/// begins new epochs of both, also where both are reset at once (X.25 4.4.3).
+pub fn join_law()
+    ensures { JoinLaw }
+{}
+
+/// All joins of a switch, whatever its partners send and in any order: the clause of the relay holds for each of them
+/// over the relay on all lines and over all that a line brings; after the relay nothing waits on a leg that the other
+/// leg takes; and both legs of a join begin and end together.
+pub fn switch_law()
+    ensures { SwitchLaw }
+{}
+
+/// Whole events of a switch, whatever octets come on its lines: all joins hold after each of them, and nothing waits on
+/// a leg that the other leg takes.
+pub fn turn_law()
+    ensures { TurnLaw }
+{}
+
+/// A run of one join, and a switch of two lines without calls: they meet what the laws above ask for.
+pub fn run_law()
+    ensures { RunLaw }
+{}

@@ -1,0 +1,51 @@
+-- What a switch keeps of one direction of a join, from one reset to the next. The near leg is the one that it takes
+-- packets from, the far leg the one that it sends them on.
+use Rattle.std.specs.Prelude.{ℕ, zero, suc, ◌+◌, ◌-◌, if◌then◌else◌, List, [], ◌∷◌, ◌++◌, map}
+use Rattle.packet_layer.specs.Packets.{Datum}
+use Rattle.packet_layer.specs.Traffic.{Taken}
+use Rattle.packet_layer.specs.Traffic.Taken.{TakenInterrupt, TakenPacket}
+use Rattle.packet_layer.specs.Channel.{Request}
+use Rattle.packet_layer.specs.Channel.Request.{Sending, Interrupting}
+
+-- of each packet taken on the near leg and not released, in order, how many more packets of the far leg P(R) has to
+-- cover until this one is covered there, 0 for one with D = 0; and how many packets sent on the far leg are not covered
+pub record Direction : Type 0 where
+  pub held : List ℕ
+  pub outstanding : ℕ
+
+abbrev pub new_direction : Direction
+new_direction = record { held = []; outstanding = 0 }
+
+-- a packet that was taken is sent on
+abbrev pub carried : Datum → Direction → Direction
+carried d v = record {
+  held = v.held ++ (if d.delivery then v.outstanding + 1 else 0) ∷ [];
+  outstanding = v.outstanding + 1;
+}
+
+-- P(R) covers n more packets of the far leg
+abbrev pub covered_by : ℕ → Direction → Direction
+covered_by n v = record { held = map (λ h. h - n) v.held; outstanding = v.outstanding - n }
+
+-- how many packets may be released, in order: those before the first one that has to be covered
+abbrev pub releasable : List ℕ → ℕ
+releasable [] = 0
+releasable (zero ∷ hs) = suc (releasable hs)
+releasable (suc h ∷ hs) = 0
+
+abbrev pub unreleasable : List ℕ → List ℕ
+unreleasable [] = []
+unreleasable (zero ∷ hs) = unreleasable hs
+unreleasable (suc h ∷ hs) = suc h ∷ hs
+
+abbrev pub released : Direction → Direction
+released v = record v { held = unreleasable v.held }
+
+-- what is asked of the far leg for what is taken on the near leg, and what is kept of it
+abbrev pub request_for : Taken → Request
+request_for (TakenInterrupt octets) = Interrupting octets
+request_for (TakenPacket d) = Sending d
+
+abbrev pub carried_by : Taken → Direction → Direction
+carried_by (TakenInterrupt octets) v = v
+carried_by (TakenPacket d) v = carried d v

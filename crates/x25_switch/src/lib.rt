@@ -1,0 +1,2 @@
+//! A switch of an X.25 network: it joins calls of its lines and relays between their two legs.
+#![tactic(auto)]
