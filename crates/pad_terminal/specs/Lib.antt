@@ -1,0 +1,11 @@
+pub mod Output
+pub mod OutputView
+pub mod CommandLine
+pub mod Settings
+pub mod Terminal
+pub mod TerminalView
+pub mod Calls
+pub mod Commands
+pub mod Keys
+pub mod Breaks
+pub mod Messages

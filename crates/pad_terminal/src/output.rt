@@ -1,0 +1,138 @@
+//! What waits to be shown at a terminal.
+ghost use Rattle.std.specs.Prelude.{◌≡◌, ◌≤◌, ◌+◌, ◌*◌, ◌∷◌, [], ◌++◌, length, IfOk};
+ghost use Rattle.arrayvec.specs.ArrayVec.{array_vec_len};
+ghost use Rattle.x28_commands.specs.Signals.{signal_text};
+
+use arrayvec::ArrayVec;
+use circular_buffer::HeapCircularBuffer;
+use pad_editing::Display;
+use std::alloc::{AllocError, Global};
+use std::marker::Model;
+use x3_params::Params;
+use x28_commands::{Signal, write_signal};
+
+/// How many octets of text may wait to be shown at a terminal.
+pub const TEXT_LIMIT: usize = 1024;
+
+/// How many octets the longest echo of a key is laid out to: 129, each of at most 17.
+const ECHO_LIMIT: usize = 2193;
+
+/// The longest service signal.
+const SIGNAL_LIMIT: usize = 160;
+
+/// The text that waits to be shown at a terminal, of which the oldest octets give way, and the column that the terminal
+/// is at after it.
+#[derive(Drop)]
+pub(crate) struct Output {
+    text: HeapCircularBuffer<u8>,
+    column: u16,
+}
+
+impl Model for Output {
+    ghost use Rattle.pad_terminal.specs.Output as output;
+
+    ghost Value = { output.Output };
+
+    ghost use Rattle.pad_terminal.specs.OutputView.{output_of, IsOutput};
+
+    ghost view = { output_of };
+
+    ghost invariant = { IsOutput };
+}
+
+impl Output {
+    ghost use Rattle.pad_terminal.specs.Output.{no_output, with_octets, with_echo, with_signal, with_prompt, laid_out};
+
+    /// No text, at column 0.
+    pub(crate) fn new(alloc: Global) -> Result<Output, AllocError>
+        ensures { IfOk result (λ output. output ≡ no_output) }
+    {
+        let text = HeapCircularBuffer::with_capacity(alloc, TEXT_LIMIT)?;
+        Ok(Output { text, column: 0 })
+    }
+
+    /// Drops the text that waits, and begins at column 0.
+    pub(crate) fn clear(&mut self)
+        ensures { self.new ≡ no_output }
+    {
+        self.text.clear();
+        self.column = 0;
+    }
+
+    /// Adds octets as they stand.
+    pub(crate) fn write(&mut self, octets: &[u8])
+        ensures { self.new ≡ with_octets octets.now self.old }
+    {
+        self.text.extend_from_slice(octets);
+    }
+
+    /// Adds what is echoed, laid out for the terminal.
+    pub(crate) fn echo(&mut self, octets: &[u8], params: &Params)
+        requires { length octets.now ≤ 129 }
+        ensures { self.new ≡ with_echo octets.now params.now self.old }
+    {
+        let mut shown = ArrayVec::<u8, ECHO_LIMIT>::new();
+        self.column = Display::text(octets, true, params, self.column, &mut shown);
+        self.text.extend_from_slice(shown.as_slice());
+    }
+
+    /// Adds a service signal, where signals are shown (X.3 3.6, X.28 3.5).
+    pub(crate) fn signal(&mut self, signal: &Signal, params: &Params)
+        ensures { self.new ≡ with_signal signal.now params.now self.old }
+    {
+        if params.has_signals() {
+            self.write_signal(signal);
+            self.column = 0;
+        }
+    }
+
+    /// Adds the prompt, where it is shown (X.3 3.6, X.28 3.2.1.5).
+    pub(crate) fn prompt(&mut self, params: &Params)
+        ensures { self.new ≡ with_prompt params.now self.old }
+    {
+        if params.has_prompt() {
+            self.write_signal(&Signal::Prompt);
+            self.column = 1;
+        }
+    }
+
+    fn write_signal(&mut self, signal: &Signal)
+        ensures { self.new ≡ with_octets (signal_text signal.now) self.old }
+    {
+        let mut text = ArrayVec::<u8, SIGNAL_LIMIT>::new();
+        write_signal(signal, &mut text);
+        self.write(text.as_slice());
+    }
+
+    /// Takes the text that waits, and adds it to `out`.
+    pub(crate) fn take<const N: usize>(&mut self, out: &mut ArrayVec<u8, N>)
+        requires { array_vec_len out.old + TEXT_LIMIT ≤ N }
+        ensures output { self.new ≡ record self.old { text = [] } }
+        ensures text { out.new.items ≡ out.old.items ++ self.old.text }
+        ensures room { array_vec_len out.new ≤ array_vec_len out.old + TEXT_LIMIT }
+    {
+        let (first, second) = self.text.as_slices();
+        let _ = out.try_extend_from_slice(first);
+        let _ = out.try_extend_from_slice(second);
+        self.text.clear();
+    }
+
+    /// Lays octets of the far end out for the terminal, and adds them to `out`; where output is discarded nothing.
+    pub(crate) fn lay_out<const N: usize>(
+        &mut self,
+        octets: &[u8],
+        params: &Params,
+        out: &mut ArrayVec<u8, N>,
+    )
+        requires { array_vec_len out.old + 17 * length octets.now ≤ N }
+        ensures output { self.new ≡ record self.old {
+          column = (laid_out octets.now params.now self.old.column).column;
+        } }
+        ensures text { out.new.items ≡ out.old.items ++ (laid_out octets.now params.now self.old.column).text }
+        ensures room { array_vec_len out.new ≤ array_vec_len out.old + 17 * length octets.now }
+    {
+        if !params.discards_output() {
+            self.column = Display::text(octets, false, params, self.column, out);
+        }
+    }
+}

@@ -1,0 +1,285 @@
+//! Calls of terminals through a PAD.
+
+use crate::steps::{Step, play};
+use Step::{
+    BreakDropped, Breaks, Drops, Due, Elapse, Expires, FarAccepts, FarCalls, FarClears, FarHears,
+    FarInterrupted, FarIsTold, FarResets, FarSends, FarTakes, FarTakesNothing, FarTells, Flow,
+    Idles, Prints, Relink, Restart, Rests, Type,
+};
+use link_timers::TimerId;
+
+#[test]
+fn dials_types_and_is_cleared(rt: HostRuntime) {
+    play(
+        &rt,
+        rt.alloc(),
+        false,
+        &[
+            Type(0, b"2001\r"),
+            // the restart of the packet layer is not done
+            Prints(0, b"2001\r\r\nCLR DER\r\n"),
+            Flow,
+            Rests(true),
+            Type(0, b"2001\r"),
+            Flow,
+            FarHears(2),
+            FarAccepts(2),
+            Flow,
+            Prints(0, b"2001\r\r\nCOM\r\n"),
+            Type(0, b"HELLO\r"),
+            Flow,
+            FarTakes(2, b"HELLO\r"),
+            FarSends(2, b"HI\r\n"),
+            Flow,
+            Prints(0, b"HELLO\rHI\r\n"),
+            Flow,
+            Type(0, b"HALF"),
+            FarClears(2, 0),
+            Flow,
+            Prints(0, b"HALF\r\nCLR DTE\r\n"),
+            Prints(1, b""),
+            Rests(true),
+        ],
+    );
+}
+
+#[test]
+fn has_a_channel_for_each_call(rt: HostRuntime) {
+    play(
+        &rt,
+        rt.alloc(),
+        false,
+        &[
+            Flow,
+            Type(0, b"1\r"),
+            Type(1, b"2\r"),
+            Flow,
+            FarHears(1),
+            FarAccepts(1),
+            FarAccepts(2),
+            Flow,
+            Prints(0, b"1\r\r\nCOM\r\n"),
+            Prints(1, b"2\r\r\nCOM\r\n"),
+            Type(1, b"B\r"),
+            FarSends(2, b"TO 0"),
+            Flow,
+            FarTakes(1, b"B\r"),
+            FarTakesNothing(2),
+            Prints(1, b"B\r"),
+            Prints(0, b"TO 0"),
+            Type(1, b"\x10CLR\r"),
+            Flow,
+            Prints(1, b"CLR\r\r\nCLR CONF\r\n"),
+            Type(0, b"A\r"),
+            Flow,
+            FarTakes(2, b"A\r"),
+            Type(1, b"\r3\r"),
+            Flow,
+            FarHears(1),
+        ],
+    );
+}
+
+#[test]
+fn finds_no_channel(rt: HostRuntime) {
+    play(
+        &rt,
+        rt.alloc(),
+        false,
+        &[
+            Flow,
+            Type(0, b"1\r"),
+            FarCalls,
+            Flow,
+            // a call that comes in is accepted for the terminal without one
+            Prints(1, b"\r\nCOM\r\n"),
+            FarCalls,
+            Flow,
+            FarClears(1, 9),
+            Flow,
+            Prints(1, b"\r\nCLR DER\r\n"),
+            FarClears(2, 19),
+            Flow,
+            Prints(0, b"1\r\r\nCLR ERR\r\n"),
+        ],
+    );
+}
+
+#[test]
+fn answers_messages_of_the_far_end(rt: HostRuntime) {
+    play(
+        &rt,
+        rt.alloc(),
+        true,
+        &[
+            Flow,
+            FarTells(1, b"\x02\x02\x00\x0B\x01"),
+            Flow,
+            Prints(0, b""),
+            Flow,
+            FarIsTold(1, b"\x00\x8B\x03"),
+            Type(0, b"UNSEEN\r"),
+            Prints(0, b""),
+            FarTells(1, b"\x01"),
+            FarSends(1, b"LOST"),
+            Flow,
+            FarTakes(1, b"UNSEEN\r"),
+            Prints(0, b""),
+            Prints(0, b"\r\nCLR PAD\r\n"),
+            Flow,
+            Rests(true),
+        ],
+    );
+}
+
+#[test]
+fn breaks(rt: HostRuntime) {
+    play(
+        &rt,
+        rt.alloc(),
+        true,
+        &[
+            Type(0, b"\x10SET 7:21\r"),
+            Prints(0, b"SET 7:21\r\r\n"),
+            Breaks(0),
+            Flow,
+            FarInterrupted(1, b"\x01"),
+            FarIsTold(1, b"\x03\x08\x01"),
+            FarSends(1, b"LOST"),
+            FarTells(1, b"\x02\x08\x00"),
+            FarSends(1, b"SEEN"),
+            Flow,
+            Prints(0, b""),
+            Prints(0, b""),
+            Flow,
+            Prints(0, b"SEEN"),
+            // the interrupt is confirmed
+            Breaks(0),
+            Flow,
+            FarInterrupted(1, b"\x01"),
+        ],
+    );
+}
+
+#[test]
+fn resets_and_keeps_held_text(rt: HostRuntime) {
+    play(
+        &rt,
+        rt.alloc(),
+        true,
+        &[
+            Type(0, b"AB"),
+            Type(0, b"\x10RESET\r"),
+            // the own reset is not confirmed
+            Type(0, b"\x10RESET\r"),
+            Type(0, b"\r"),
+            Drops(0, b'\r'),
+            Prints(0, b"ABRESET\r\r\nRESET\r\r\nERR\r\n\r\x13"),
+            Flow,
+            Prints(0, b"\x11"),
+            Type(0, b"C\r"),
+            Flow,
+            FarTakes(1, b"ABC\r"),
+            FarResets(1),
+            Flow,
+            Prints(0, b"C\r\r\nRESET DTE\r\n"),
+        ],
+    );
+}
+
+#[test]
+fn drops_keys_while_the_queue_is_full(rt: HostRuntime) {
+    play(
+        &rt,
+        rt.alloc(),
+        true,
+        &[
+            Type(0, b"1\r2\r3\r4\r5\r6\r7\r8\r9\r0\r"),
+            Prints(0, b"1\r2\r3\r4\r5\r6\r7\r8\r9\r0\r"),
+            Type(0, b"A"),
+            Drops(0, b'\r'),
+            Drops(0, b'\r'),
+            Prints(0, b"A\x13"),
+            Type(0, b"\x10SET 7:4\r"),
+            BreakDropped(0),
+            Flow,
+            FarTakes(1, b"1\r"),
+            FarTakes(1, b"2\r"),
+            Flow,
+            Prints(0, b"SET 7:4\r\r\n\x11"),
+            Type(0, b"\r"),
+            Breaks(0),
+            Flow,
+            FarTakes(1, b"3\r"),
+        ],
+    );
+}
+
+#[test]
+fn stops_its_output(rt: HostRuntime) {
+    play(
+        &rt,
+        rt.alloc(),
+        true,
+        &[
+            FarSends(1, b"ONE"),
+            FarSends(1, b"TWO"),
+            Flow,
+            Type(0, b"\x13"),
+            Prints(0, b""),
+            Type(0, b"\x11"),
+            Prints(0, b"ONE"),
+            Type(0, b"\x10"),
+            Prints(0, b""),
+            Type(0, b"\r"),
+            Prints(0, b"\rTWO"),
+        ],
+    );
+}
+
+#[test]
+fn forwards_after_the_idle_time(rt: HostRuntime) {
+    play(
+        &rt,
+        rt.alloc(),
+        true,
+        &[
+            Type(0, b"\x10PROF 91\r"),
+            Expires(TimerId::Idle(0), false),
+            Idles(0),
+            Flow,
+            FarTakesNothing(1),
+            Type(0, b"AB"),
+            Elapse(19),
+            Due(None),
+            Type(0, b"C"),
+            Elapse(19),
+            Due(None),
+            Elapse(1),
+            Due(Some(TimerId::Idle(0))),
+            Expires(TimerId::Idle(0), true),
+            Due(None),
+            Flow,
+            FarTakes(1, b"ABC"),
+        ],
+    );
+}
+
+#[test]
+fn loses_the_line_and_begins_anew(rt: HostRuntime) {
+    play(
+        &rt,
+        rt.alloc(),
+        true,
+        &[
+            Type(0, b"OLD\r"),
+            Relink,
+            Prints(0, b"OLD\r\r\nCLR DER\r\n"),
+            Type(1, b"SET 2:0\r"),
+            Restart,
+            Prints(1, b""),
+            Type(1, b"PAR?2\r"),
+            Prints(1, b"PAR?2\r\r\nPAR 2:1\r\n"),
+        ],
+    );
+}

@@ -1,0 +1,4 @@
+pub mod Placing
+pub mod Hearing
+pub mod Making
+pub mod Blocks

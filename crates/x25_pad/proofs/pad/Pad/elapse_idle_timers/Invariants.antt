@@ -1,0 +1,9 @@
+-- The ports so far are changed.
+use Rattle.std.proofs.Common.{◌≡◌, ◌++◌, map, take, drop}
+use Rattle.x25_pad.specs.Ports.{elapsed}
+use Rattle.x25_pad.proofs.pad.Pad.elapse_idle_timers.Given as goal
+
+abbrev pub invariant-loop-port : goal.invariant-loop-port
+invariant-loop-port l =
+    l.port-items
+    ≡ map (elapsed l.ticks) (take l.port-index l.initial.port-items) ++ drop l.port-index l.initial.port-items

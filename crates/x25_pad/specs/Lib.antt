@@ -1,0 +1,9 @@
+pub mod Notes
+pub mod NoteView
+pub mod Line
+pub mod Ports
+pub mod PortView
+pub mod Pad
+pub mod PadView
+pub mod Making
+pub mod Law

@@ -1,0 +1,30 @@
+-- Notes of a PAD, as the code has them.
+use Rattle.std.specs.Prelude.{◌≡◌, ◌∷◌, [], List, map, Option, Some, None}
+use Rattle.pad_editing.specs.Edited.Step.{key, idle}
+use Rattle.packet_layer.specs.NoteView.{note_of}
+use Rattle.x25_pad.specs.Notes as spec
+use Rattle.x25_pad.specs.declared.note.PadNote.{PadNote}
+use Rattle.x25_pad.specs.declared.note.PadNote.TheVariants as note
+use Rattle.x25_pad.specs.declared.note.PadNotes.TheInside.{Inside}
+
+abbrev pub pad_note_of : PadNote → spec.PadNote
+pad_note_of (note.Told n) = spec.Told (note_of n)
+pad_note_of (note.Placed channel address) = spec.Placed channel address
+pad_note_of (note.Accepted channel) = spec.Accepted channel
+pad_note_of (note.Cleared channel) = spec.Cleared channel
+pad_note_of (note.Reset channel) = spec.WasReset channel
+pad_note_of (note.Edited channel octet params) = spec.Edited channel (key octet params)
+pad_note_of (note.Paused channel params) = spec.Edited channel (idle params)
+pad_note_of (note.Sent channel user_data) = spec.Sent channel user_data
+pad_note_of (note.Interrupted channel octet) = spec.Interrupted channel (octet ∷ [])
+
+abbrev pub maybe_pad_note : Option PadNote → Option spec.PadNote
+maybe_pad_note None = None
+maybe_pad_note (Some n) = Some (pad_note_of n)
+
+abbrev pub notes_in : Inside → List spec.PadNote
+notes_in q = map pad_note_of q.notes.items
+
+-- it has its places
+pub record IsNoteQueue (q : Inside) : Type 0 where
+  pub capacity : q.notes.capacity ≡ 104

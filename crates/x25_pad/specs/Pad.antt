@@ -1,0 +1,196 @@
+-- A PAD at the DTE's end of a line, with its terminals at their ports: what each event makes of it.
+use Rattle.std.specs.Prelude.{ℕ, Bool, true, false, if◌then◌else◌, List, [], ◌∷◌, map, fold, slice_get, slice_set}
+use Rattle.std.specs.Prelude.{position, drop, is_some, is_none, Option, Some, None}
+use Rattle.std.specs.Option.{option_map_or}
+use Rattle.link_timers.specs.declared.timers.TimerId.{TimerId}
+use Rattle.link_timers.specs.declared.timers.TimerId.TheVariants.{Idle}
+use Rattle.lapb.specs.Machine.{Octets}
+use Rattle.packet_layer.specs.Traffic.{Taken as TakenValue}
+use Rattle.packet_end.specs.PacketEnd.{PacketEnd}
+use Rattle.packet_end.specs.PacketEnd as end
+use Rattle.x25_pad.specs.Line as line
+use Rattle.x25_pad.specs.Line.{gathered, last_incoming, all_learnt}
+use Rattle.x25_pad.specs.Ports as port
+use Rattle.x25_pad.specs.Ports.{PortState, AtLine}
+use Rattle.x25_pad.specs.declared.answer.PadAnswer.{PadAnswer}
+use Rattle.x25_pad.specs.declared.answer.PadAnswer.TheVariants as answer
+use Rattle.x25_pad.specs.declared.call.CallNote.{CallNote}
+use Rattle.x25_pad.specs.declared.line.PadLine.{PadLine}
+
+-- its end of the line with its notes, and its ports in the order of their terminals
+pub record PadState : Type 0 where
+  pub line : PadLine
+  pub ports : List PortState
+
+-- ---- ports by number
+
+abbrev pub changed_at : (number : ℕ) → (PortState → PortState) → List PortState → List PortState
+changed_at number change ports =
+    option_map_or (λ p. slice_set ports number (change p)) (slice_get ports number) ports
+
+abbrev pub acted : (number : ℕ) → PadState → AtLine → PadState
+acted number p a = record { line = a.line; ports = slice_set p.ports number a.port }
+
+-- something happens at a terminal
+abbrev pub at_port : (number : ℕ) → (AtLine → AtLine) → PadState → PadState
+at_port number act p =
+    option_map_or (λ found. acted number p (act (record { port = found; line = p.line }))) (slice_get p.ports number) p
+
+-- ---- what the packet layer tells
+
+-- the terminal whose call is on the channel learns what became of it
+abbrev pub learnt_at : Option ℕ → CallNote → List PortState → List PortState
+learnt_at None note ports = ports
+learnt_at (Some number) note ports = changed_at number (port.learns note) ports
+
+abbrev pub holder : (channel : ℕ) → List PortState → Option ℕ
+holder channel ports = position (λ p. port.has_channel p.call channel) ports
+
+abbrev pub one_learnt : List PortState → CallNote → List PortState
+one_learnt ports note = learnt_at (holder (port.channel_of note) ports) note ports
+
+-- one note after the other
+unfoldable pub all_heard : List CallNote → List PortState → List PortState
+all_heard notes ports = fold one_learnt ports notes
+
+-- a call that comes in is accepted for the first terminal without a call, or else cleared
+abbrev pub answered_at : Option ℕ → (channel : ℕ) → PadState → PadState
+answered_at None channel p = record p { line = line.cleared channel p.line }
+answered_at (Some number) channel p = record {
+  line = line.accepted channel p.line;
+  ports = changed_at number (port.connects channel) p.ports;
+}
+
+abbrev pub first_free : List PortState → Option ℕ
+first_free ports = position (λ p. is_none p.call) ports
+
+abbrev pub answered : Option ℕ → PadState → PadState
+answered None p = p
+answered (Some channel) p = answered_at (first_free p.ports) channel p
+
+-- the terminals learn what became of their calls
+abbrev pub told : PadState → PadState
+told p = record { line = gathered p.line; ports = all_heard (all_learnt p.line.end.notes) p.ports }
+
+-- ---- events
+
+-- what was not taken of the last event is dropped
+abbrev pub begun : PadState → PadState
+begun p = record p { line = record { end = end.begun p.line.end; notes = [] } }
+
+abbrev pub with_end : PacketEnd → PadState → PadState
+with_end e p = record p { line = record p.line { end = e } }
+
+abbrev pub all_settled : PadState → PadState
+all_settled p = record p { ports = map (port.settled p.line) p.ports }
+
+-- the end of an event
+abbrev pub ended : PadState → PadState
+ended p = all_settled (told (with_end (end.finished p.line.end) p))
+
+-- an event that came from the line, from when the end of the line has taken it
+abbrev pub line_event : PadState → PadState
+line_event p = ended (answered (last_incoming None p.line.end.notes) (told p))
+
+abbrev pub after_frame : PadState → Octets → PadState
+after_frame p octets = line_event (with_end (end.received (begun p).line.end octets) (begun p))
+
+abbrev pub after_relink : PadState → PadState
+after_relink p = line_event (with_end (end.relinked (begun p).line.end) (begun p))
+
+-- a timer of the line expires: where it does not run nothing happens
+abbrev pub after_expiry : PadState → TimerId → PadState
+after_expiry p id =
+    if end.runs_at p.line.end id then line_event (with_end (end.after_timer (begun p).line.end id) (begun p)) else p
+
+-- something happens at a terminal, and that is an event
+abbrev pub terminal_event : (number : ℕ) → (AtLine → AtLine) → PadState → PadState
+terminal_event number act p = ended (at_port number act (begun p))
+
+-- ---- what is answered of it
+
+abbrev pub answer_of : Bool → PadAnswer
+answer_of true = answer.Taken
+answer_of false = answer.Dropped
+
+-- of what happens at a terminal, and of an event there
+abbrev pub taken_at : (number : ℕ) → (AtLine → Bool) → PadState → Bool
+taken_at number taken p =
+    option_map_or (λ found. taken (record { port = found; line = p.line })) (slice_get p.ports number) false
+
+abbrev pub key_taken_now : (number octet : ℕ) → PadState → Bool
+key_taken_now number octet p = taken_at number (λ a. port.is_taken (port.key_input octet a).answer) p
+
+abbrev pub key_taken : (number octet : ℕ) → PadState → Bool
+key_taken number octet p = key_taken_now number octet (begun p)
+
+abbrev pub break_taken_now : (number : ℕ) → PadState → Bool
+break_taken_now number p = taken_at number (λ a. port.is_break_taken (port.break_answer_of a)) p
+
+abbrev pub break_taken : (number : ℕ) → PadState → Bool
+break_taken number p = break_taken_now number (begun p)
+
+abbrev pub idle_taken_now : (number : ℕ) → PadState → Bool
+idle_taken_now number p = taken_at number (λ a. port.is_taken (port.idle_input a).answer) p
+
+-- ---- what is taken and shown by printing
+
+abbrev pub print_taken_now : (number : ℕ) → PadState → Option TakenValue
+print_taken_now number p =
+    option_map_or (λ found. port.taken_of (record { port = found; line = p.line })) (slice_get p.ports number) None
+
+abbrev pub print_taken : (number : ℕ) → PadState → Option TakenValue
+print_taken number p = print_taken_now number (begun p)
+
+abbrev pub print_text_now : (number : ℕ) → PadState → List ℕ
+print_text_now number p =
+    option_map_or (λ found. port.printed (record { port = found; line = p.line })) (slice_get p.ports number) []
+
+abbrev pub print_text : (number : ℕ) → PadState → List ℕ
+print_text number p = print_text_now number (begun p)
+
+-- ---- timers
+
+abbrev pub runs_idle_timer : (number : ℕ) → PadState → Bool
+runs_idle_timer number p = option_map_or (λ found. is_some found.idle_left) (slice_get p.ports number) false
+
+-- an idle timer that does not run changes nothing
+abbrev pub after_idle : (number : ℕ) → PadState → PadState
+after_idle number p = if runs_idle_timer number p then terminal_event number port.after_idle p else p
+
+abbrev pub idle_taken : (number : ℕ) → PadState → Bool
+idle_taken number p = if runs_idle_timer number p then idle_taken_now number (begun p) else true
+
+abbrev pub runs_at : PadState → TimerId → Bool
+runs_at p (Idle number) = runs_idle_timer number p
+runs_at p id = end.runs_at p.line.end id
+
+abbrev pub after_timer : PadState → TimerId → PadState
+after_timer p (Idle number) = after_idle number p
+after_timer p id = after_expiry p id
+
+-- ---- time, restart, frames and notes
+
+abbrev pub elapsed : (ticks : ℕ) → PadState → PadState
+elapsed ticks p = record {
+  line = record p.line { end = end.elapsed p.line.end ticks };
+  ports = map (port.elapsed ticks) p.ports;
+}
+
+abbrev pub idle_due : Option ℕ → Option TimerId
+idle_due None = None
+idle_due (Some number) = Some (Idle number)
+
+-- the first timer with no tick left: those of the line before those of the terminals
+abbrev pub due : PadState → Option TimerId
+due p = end.either_timer (end.due p.line.end) (idle_due (position (λ q. port.is_due q) p.ports))
+
+-- the PAD begins anew, without a call
+abbrev pub restarted : PadState → PadState
+restarted p = record {
+  line = record { end = end.restarted p.line.end; notes = [] };
+  ports = map port.restarted p.ports;
+}
+
+abbrev pub without_first_note : PadState → PadState
+without_first_note p = record p { line = record p.line { notes = drop 1 p.line.notes } }

@@ -1,0 +1,11 @@
+-- What contracts see of the code's PAD.
+use Rattle.std.specs.Prelude.{◌≤◌, length}
+use Rattle.x25_pad.specs.Pad.{PadState}
+use Rattle.x25_pad.specs.declared.pad.Pad.TheInside.{Inside}
+
+abbrev pub pad_of : Inside → PadState
+pad_of a = record { line = a.line; ports = a.ports.items }
+
+-- there are 1 to 16 terminals
+pub record IsPad (a : Inside) : Type 0 where
+  pub most : length a.ports.items ≤ 16

@@ -1,0 +1,17 @@
+//! The PAD of a line (X.3, X.28, X.29): terminals at their ports, and the calls that they have there.
+#![tactic(auto)]
+
+mod answer;
+mod call;
+mod config;
+mod law;
+mod line;
+mod note;
+mod pad;
+mod port;
+
+pub use answer::PadAnswer;
+pub use config::PadConfig;
+pub use law::block_law;
+pub use note::PadNote;
+pub use pad::Pad;

@@ -1,0 +1,212 @@
+//! The PAD's end of its line with its notes, and what a PAD asks of the calls there.
+ghost use Rattle.std.specs.Prelude.{◌≡◌, ◌≤◌, ◌<◌, ◌+◌, ◌++◌, [], None, Some, length, MatchResult};
+ghost use Rattle.packet_layer.specs.Layer as machine;
+ghost use Rattle.packet_layer.specs.NoteView.{note_of};
+ghost use Rattle.packet_layer.specs.RequestView.{request_of, call_refusal_of};
+ghost use Rattle.packet_end.specs.PacketEnd as end;
+ghost use Rattle.packet_end.specs.Timing.{TimersAgree};
+ghost use Rattle.x25_pad.specs.NoteView.{pad_note_of};
+ghost use Rattle.x25_pad.specs.Line as spec;
+
+use crate::call::{Call, CallNote};
+use crate::note::{MOST_NOTES, PadNote, PadNotes};
+use arrayvec::ArrayVec;
+use packet_codec::{Address, CallData};
+use packet_end::PacketEnd;
+use packet_layer::{CallFault, ChannelFault, LayerNote, Request, UserData};
+use pad_terminal::CallCondition;
+
+/// The user data of an interrupt.
+const INTERRUPT_OCTET: u8 = 1;
+
+/// The protocol with which the user data of a call begin (X.29 4.2).
+const PROTOCOL: [u8; 4] = [1, 0, 0, 0];
+
+/// The most notes that are gathered at once.
+const MOST_LEARNT: usize = 96;
+
+/// The PAD's end of its line, and what the PAD notes.
+#[derive(Drop)]
+pub(crate) struct PadLine {
+    pub(crate) end: PacketEnd,
+    pub(crate) notes: PadNotes,
+}
+
+/// What the packet layer told: the last call that came in, and what the terminals learn of theirs.
+#[derive(Drop)]
+pub(crate) struct Gathered {
+    pub(crate) incoming: Option<u8>,
+    pub(crate) learnt: ArrayVec<CallNote, MOST_LEARNT>,
+}
+
+impl PadLine {
+    // Asks something of a call, and notes it where it is not refused.
+    fn ask(&mut self, channel: u8, request: &Request<'_>, note: PadNote)
+        requires { length self.old.notes < MOST_NOTES }
+        ensures line { self.new ≡ spec.asked channel (request_of request.now) (pad_note_of note) self.old }
+        ensures room { length self.new.notes ≤ length self.old.notes + 1 }
+        ensures told { self.new.end.notes ≡ self.old.end.notes }
+    {
+        if self.end.ask(channel, request).is_ok() {
+            self.notes.add(note);
+        }
+    }
+
+    /// Sends a message of one Data packet.
+    pub(crate) fn send(&mut self, channel: u8, octets: &[u8], qualified: bool)
+        requires room { length self.old.notes < MOST_NOTES }
+        requires fits { length octets.now ≤ 128 }
+        ensures line { self.new ≡ spec.sent channel octets.now qualified self.old }
+        ensures room { length self.new.notes ≤ length self.old.notes + 1 }
+        ensures told { self.new.end.notes ≡ self.old.end.notes }
+    {
+        let request = Request::Send {
+            octets,
+            more: false,
+            qualified,
+            delivery: false,
+        };
+        let user_data = UserData::new(octets, false, qualified, false);
+        self.ask(channel, &request, PadNote::Sent { channel, user_data });
+    }
+
+    /// Accepts a call that came in.
+    pub(crate) fn accept(&mut self, channel: u8)
+        requires { length self.old.notes < MOST_NOTES }
+        ensures line { self.new ≡ spec.accepted channel self.old }
+        ensures room { length self.new.notes ≤ length self.old.notes + 1 }
+        ensures told { self.new.end.notes ≡ self.old.end.notes }
+    {
+        self.ask(channel, &Request::Accept, PadNote::Accepted(channel));
+    }
+
+    /// Clears a call, with cause 0 and diagnostic 0.
+    pub(crate) fn clear(&mut self, channel: u8)
+        requires { length self.old.notes < MOST_NOTES }
+        ensures line { self.new ≡ spec.cleared channel self.old }
+        ensures room { length self.new.notes ≤ length self.old.notes + 1 }
+        ensures told { self.new.end.notes ≡ self.old.end.notes }
+    {
+        let request = Request::Clear {
+            cause: 0,
+            diagnostic: 0,
+        };
+        self.ask(channel, &request, PadNote::Cleared(channel));
+    }
+
+    /// Resets a call, with cause 0 and diagnostic 0.
+    pub(crate) fn reset(&mut self, channel: u8)
+        requires { length self.old.notes < MOST_NOTES }
+        ensures line { self.new ≡ spec.reset channel self.old }
+        ensures room { length self.new.notes ≤ length self.old.notes + 1 }
+        ensures told { self.new.end.notes ≡ self.old.end.notes }
+    {
+        let request = Request::Reset {
+            cause: 0,
+            diagnostic: 0,
+        };
+        self.ask(channel, &request, PadNote::Reset(channel));
+    }
+
+    /// Sends an interrupt.
+    pub(crate) fn interrupt(&mut self, channel: u8)
+        requires { length self.old.notes < MOST_NOTES }
+        ensures line { self.new ≡ spec.interrupted channel self.old }
+        ensures room { length self.new.notes ≤ length self.old.notes + 1 }
+        ensures told { self.new.end.notes ≡ self.old.end.notes }
+    {
+        let note = PadNote::Interrupted {
+            channel,
+            octet: INTERRUPT_OCTET,
+        };
+        self.ask(channel, &Request::Interrupt(&[INTERRUPT_OCTET]), note);
+    }
+
+    /// Places a call of an address with user data behind the protocol, and answers its channel.
+    pub(crate) fn place(&mut self, address: Address, user_data: &[u8]) -> Result<u8, CallFault>
+        requires room { length self.old.notes < MOST_NOTES }
+        requires fits { length user_data.now ≤ 12 }
+        ensures answer { MatchResult result
+            (λ channel. machine.channel_given self.old.end.layer self.old.end.layer.phase ≡ Some channel)
+            (λ fault. machine.call_refusal self.old.end.layer self.old.end.layer.phase
+            ≡ Some (call_refusal_of fault)) }
+        ensures line { self.new ≡ spec.placed address user_data.now self.old }
+        ensures room { length self.new.notes ≤ length self.old.notes + 1 }
+        ensures told { self.new.end.notes ≡ self.old.end.notes }
+    {
+        let mut octets = ArrayVec::<u8, 16>::new();
+        let _ = octets.try_extend_from_slice(&PROTOCOL);
+        let _ = octets.try_extend_from_slice(user_data);
+        let channel = self.end.call(&CallData {
+            called: address,
+            calling: None,
+            facilities: &[],
+            user_data: octets.as_slice(),
+        })?;
+        self.notes.add(PadNote::Placed { channel, address });
+        Ok(channel)
+    }
+
+    /// What a terminal must know of its call. Without a call no packet is taken to be sent.
+    pub(crate) fn condition(&self, call: Option<Call>) -> CallCondition
+        ensures { result ≡ spec.condition call self.now }
+    {
+        let Some(call) = call else {
+            return CallCondition {
+                queue_full: true,
+                reset_pending: false,
+                interrupt_pending: false,
+            };
+        };
+        CallCondition {
+            queue_full: self.end.room(call.channel) == 0,
+            reset_pending: self.is_resetting(call.channel),
+            interrupt_pending: call.interrupt_pending,
+        }
+    }
+
+    fn is_resetting(&self, channel: u8) -> bool
+        ensures { result ≡ spec.is_resetting (machine.flow_refusal self.now.end.layer channel) }
+    {
+        matches!(self.end.may_send(channel), Err(ChannelFault::Resetting))
+    }
+
+    /// Takes over what the packet layer told.
+    pub(crate) fn gather(&mut self) -> Gathered
+        requires few { length self.old.end.notes ≤ MOST_LEARNT }
+        requires room { length self.old.notes + length self.old.end.notes ≤ MOST_NOTES }
+        ensures line { self.new ≡ spec.gathered self.old }
+        ensures incoming { result.incoming ≡ spec.last_incoming None self.old.end.notes }
+        ensures learnt { result.learnt.items ≡ spec.all_learnt self.old.end.notes }
+    {
+        let mut incoming = None;
+        let mut learnt = ArrayVec::new();
+        while let Some(note) = self.end.notes() {
+            match &note {
+                LayerNote::Incoming(channel, _) => incoming = Some(*channel),
+                other => learn(other, &mut learnt),
+            }
+            self.notes.add(PadNote::Told(note));
+        }
+        Gathered { incoming, learnt }
+    }
+}
+
+// Adds what a terminal learns of a note, if it learns anything.
+fn learn(note: &LayerNote, learnt: &mut ArrayVec<CallNote, MOST_LEARNT>)
+    requires { length learnt.old.items < MOST_LEARNT }
+    ensures learnt { learnt.new.items ≡ learnt.old.items ++ spec.learnt_of (note_of note.now) }
+    ensures room { length learnt.new.items ≤ length learnt.old.items + 1 }
+{
+    match note {
+        LayerNote::Connected(channel) => learnt.push(CallNote::Connected(*channel)),
+        LayerNote::Closed { channel, cause, .. } => {
+            learnt.push(CallNote::Cleared(*channel, *cause));
+        }
+        LayerNote::Reset { channel, cause, .. } => learnt.push(CallNote::Reset(*channel, *cause)),
+        LayerNote::InterruptConfirmed(channel) => {
+            learnt.push(CallNote::InterruptConfirmed(*channel));
+        }
+        LayerNote::Incoming(_, _) | LayerNote::Covered { .. } => {}
+    }
+}

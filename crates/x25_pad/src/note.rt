@@ -1,0 +1,102 @@
+//! What a PAD notes of an event, in order.
+ghost use Rattle.std.specs.Prelude.{◌≡◌, ◌<◌, ◌++◌, [], ◌∷◌, IfOk, length, drop, slice_get};
+ghost use Rattle.x25_pad.specs.NoteView.{pad_note_of, maybe_pad_note};
+
+use circular_buffer::HeapCircularBuffer;
+use packet_codec::Address;
+use packet_layer::{LayerNote, UserData};
+use std::alloc::{AllocError, Global};
+use std::marker::Model;
+use x3_params::Params;
+
+/// The most notes of one event: 64 that the packet layer tells, 32 at the end, and those of the PAD itself.
+pub(crate) const MOST_NOTES: usize = 104;
+
+/// What happened at a PAD, with the logical channel.
+#[derive(Drop)]
+pub enum PadNote {
+    /// Its packet layer told this.
+    Told(LayerNote),
+    /// A terminal placed a call of this address (X.28 3.2.2).
+    Placed {
+        channel: u8,
+        address: Address,
+    },
+    /// The call that came in was accepted for a terminal.
+    Accepted(u8),
+    /// The PAD cleared the call, with cause 0 and diagnostic 0 (X.25 4.1.7).
+    Cleared(u8),
+    /// The PAD reset the call, with cause 0 and diagnostic 0 (X.25 4.4.3).
+    Reset(u8),
+    /// A key edited the text, with the values of the parameters then in force (X.3).
+    Edited {
+        channel: u8,
+        octet: u8,
+        params: Params,
+    },
+    /// The end of the idle time ended a block, with the values of the parameters then in force (X.3 3.4).
+    Paused {
+        channel: u8,
+        params: Params,
+    },
+    /// A Data packet went into the send queue.
+    Sent {
+        channel: u8,
+        user_data: UserData,
+    },
+    /// An interrupt of this octet was sent.
+    Interrupted {
+        channel: u8,
+        octet: u8,
+    },
+}
+
+/// The notes of an event that are not yet read, in order.
+#[derive(Drop)]
+pub(crate) struct PadNotes {
+    notes: HeapCircularBuffer<PadNote>,
+}
+
+impl Model for PadNotes {
+    ghost use Rattle.std.specs.Prelude.{List};
+    ghost use Rattle.x25_pad.specs.Notes.{PadNote as note};
+
+    ghost Value = { List note };
+
+    ghost use Rattle.x25_pad.specs.NoteView.{notes_in, IsNoteQueue};
+
+    ghost view = { notes_in };
+
+    ghost invariant = { IsNoteQueue };
+}
+
+impl PadNotes {
+    pub(crate) fn new(alloc: Global) -> Result<Self, AllocError>
+        ensures { IfOk result (λ q. q ≡ []) }
+    {
+        let notes = HeapCircularBuffer::with_capacity(alloc, MOST_NOTES)?;
+        Ok(PadNotes { notes })
+    }
+
+    pub(crate) fn clear(&mut self)
+        ensures { self.new ≡ [] }
+    {
+        self.notes.clear();
+    }
+
+    /// Adds a note.
+    pub(crate) fn add(&mut self, note: PadNote)
+        requires { length self.old < MOST_NOTES }
+        ensures { self.new ≡ self.old ++ pad_note_of note ∷ [] }
+    {
+        let _ = self.notes.try_push_back(note);
+    }
+
+    /// Takes the first note, if there is one.
+    pub(crate) fn take(&mut self) -> Option<PadNote>
+        ensures value { maybe_pad_note result ≡ slice_get self.old 0 }
+        ensures rest { self.new ≡ drop 1 self.old }
+    {
+        self.notes.pop_front()
+    }
+}

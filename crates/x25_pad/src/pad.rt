@@ -1,0 +1,113 @@
+//! The PAD and its terminals.
+ghost use Rattle.std.specs.Prelude.{◌≡◌, ◌≤◌, ◌-◌, ◌∷◌, None, IfOk, MatchResult, length, replicate, slice_get};
+ghost use Rattle.x25_pad.specs.Ports.{new_port};
+ghost use Rattle.x25_pad.specs.Pad as spec;
+ghost use Rattle.x25_pad.specs.Making.{made, IsConfig, MadeNot};
+ghost use Rattle.x25_pad.specs.NoteView.{maybe_pad_note};
+
+mod events;
+mod from_line;
+mod terminals;
+
+use crate::config::PadConfig;
+use crate::line::PadLine;
+use crate::note::{PadNote, PadNotes};
+use crate::port::Port;
+use link_timers::Role;
+use packet_end::{EndFault, PacketEnd};
+use std::alloc::{AllocError, Global};
+use std::marker::Model;
+use x3_params::Params;
+
+/// The most terminals of a PAD.
+pub(crate) const MOST_TERMINALS: u8 = 16;
+
+/// The channel of a call that stands.
+const STANDING_CHANNEL: u8 = 1;
+
+/// A PAD at the DTE's end of a line, for up to 16 terminals.
+///
+/// Each call that changes it is one event, whose notes are then taken by `notes` and whose frames by `out`, before the
+/// next one; after it they are gone, a frame as if the line had lost it.
+#[derive(Drop)]
+pub struct Pad {
+    line: PadLine,
+    ports: Vec<Port>,
+}
+
+impl Model for Pad {
+    ghost use Rattle.x25_pad.specs.Pad.{PadState};
+
+    ghost Value = { PadState };
+
+    ghost use Rattle.x25_pad.specs.PadView.{pad_of, IsPad};
+
+    ghost view = { pad_of };
+
+    ghost invariant = { IsPad };
+}
+
+impl Pad {
+    /// The PAD at its line, which is new: the link is started, or stands where the line does, and with it the call of
+    /// terminal 0 on channel 1. It takes all the memory that it ever uses.
+    ///
+    /// `BadConfig` comes where a parameter of the line or the number of terminals is out of its range, and then
+    /// `OutOfMemory` for want of memory.
+    pub fn new(alloc: Global, config: PadConfig) -> Result<Pad, EndFault>
+        ensures { MatchResult result
+            (λ pad. IsConfig config × (pad ≡ made config))
+            (λ fault. MadeNot config fault) }
+    {
+        if config.terminals == 0 || config.terminals > MOST_TERMINALS {
+            return Err(EndFault::BadConfig);
+        }
+        let end = PacketEnd::new(alloc, Role::Dte, config.line)?;
+        let standing = if config.line.standing {
+            Some(STANDING_CHANNEL)
+        } else {
+            None
+        };
+        let ports = new_ports(alloc, config.params, standing, config.terminals)?;
+        let line = PadLine {
+            end,
+            notes: PadNotes::new(alloc)?,
+        };
+        Ok(Pad { line, ports })
+    }
+
+    /// How many terminals there are, at most 16: they have the numbers below it.
+    pub fn terminals(&self) -> u8
+        ensures count { result ≡ length self.now.ports }
+        ensures most { result ≤ 16 }
+    {
+        self.ports.len() as u8
+    }
+
+    /// Takes the next note of the event, if there is one.
+    pub fn notes(&mut self) -> Option<PadNote>
+        ensures note { maybe_pad_note result ≡ slice_get self.old.line.notes 0 }
+        ensures pad { self.new ≡ spec.without_first_note self.old }
+    {
+        self.line.notes.take()
+    }
+}
+
+// So many ports, the first with the call that stands, if one does.
+#[tactic(auto, using(crate::proofs::Making::one_port_more))]
+fn new_ports(
+    alloc: Global,
+    params: Params,
+    standing: Option<u8>,
+    terminals: u8,
+) -> Result<Vec<Port>, AllocError>
+    requires { 1 ≤ terminals }
+    ensures { IfOk result (λ ports. ports.items ≡ new_port params standing ∷ replicate (terminals - 1)
+        (new_port params None)) }
+{
+    let mut ports = Vec::new(alloc);
+    ports.push(Port::new(alloc, params, standing)?)?;
+    for _ in 1..terminals {
+        ports.push(Port::new(alloc, params, None)?)?;
+    }
+    Ok(ports)
+}

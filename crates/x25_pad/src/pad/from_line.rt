@@ -1,0 +1,62 @@
+//! What comes from the line and what goes to it.
+ghost use Rattle.std.specs.Prelude.{◌≡◌, ◌≤◌, ◌∷◌, [], length};
+ghost use Rattle.std.specs.Bool.{OnTrue, OnFalse};
+ghost use Rattle.packet_end.specs.PacketEnd as end;
+ghost use Rattle.packet_end.specs.Timing.{TimersAgree};
+ghost use Rattle.x25_pad.specs.Pad as spec;
+
+use crate::pad::Pad;
+use frame_codec::FrameBuf;
+use line_end::MOST_FRAMES;
+use link_timers::TimerId;
+
+impl Pad {
+    /// Takes the octets of a received frame (X.25 2.4, 3 to 5). The terminals learn what becomes of their calls. A call
+    /// that comes in is accepted for the first terminal without one, and else cleared, with cause 0 and diagnostic 0.
+    pub fn on_frame(&mut self, octets: &[u8])
+        ensures pad { self.new ≡ spec.after_frame self.old octets.now }
+        ensures nothing_kept_back { end.KeepsNothingBack self.new.line.end }
+        ensures timers { TimersAgree self.new.line.end.layer self.new.line.end.timers }
+    {
+        self.begin();
+        self.line.end.on_frame(octets);
+        self.end_line_event();
+    }
+
+    /// Gives the link up and sets it up again: all calls end.
+    pub fn relink(&mut self)
+        ensures pad { self.new ≡ spec.after_relink self.old }
+        ensures nothing_kept_back { end.KeepsNothingBack self.new.line.end }
+        ensures timers { TimersAgree self.new.line.end.layer self.new.line.end.timers }
+    {
+        self.begin();
+        self.line.end.relink();
+        self.end_line_event();
+    }
+
+    /// Takes the next frame that goes out, if there is one. Where there is none `frame` stays.
+    pub fn out(&mut self, frame: &mut FrameBuf) -> bool
+        ensures frame { OnTrue result (self.old.line.end.line.frames ≡ frame.new ∷ self.new.line.end.line.frames) }
+        ensures nothing { OnFalse result (self.old.line.end.line.frames ≡ []) }
+        ensures same { OnFalse result (frame.new ≡ frame.old) }
+        ensures pad { self.new ≡ spec.with_end (end.without_first_frame self.old.line.end) self.old }
+    {
+        self.line.end.out(frame)
+    }
+
+    /// How many frames wait to be taken, at most [`MOST_FRAMES`].
+    pub fn waiting_frames(&self) -> usize
+        ensures count { result ≡ length self.now.line.end.line.frames }
+        ensures most { result ≤ MOST_FRAMES }
+    {
+        self.line.end.waiting_frames()
+    }
+
+    /// Whether the link is up with nothing unacknowledged and nothing to be said, no packet is owed, and nothing waits
+    /// to be sent or taken on any channel. Text of terminals does not count.
+    pub fn is_at_rest(&self) -> bool
+        ensures { result ≡ end.at_rest self.now.line.end }
+    {
+        self.line.end.is_at_rest()
+    }
+}

@@ -1,0 +1,248 @@
+//! What happens at the terminals.
+ghost use Rattle.std.specs.Prelude.{◌≡◌, ◌≤◌, ◌<◌, ◌+◌, ◌++◌, true, length, map, position, IfSome};
+ghost use Rattle.std.specs.Bool.{OnTrue};
+ghost use Rattle.arrayvec.specs.ArrayVec.{array_vec_len};
+ghost use Rattle.packet_layer.specs.TakenView.{maybe_taken};
+ghost use Rattle.packet_end.specs.PacketEnd as end;
+ghost use Rattle.packet_end.specs.Timing.{TimersAgree};
+ghost use Rattle.x25_pad.specs.Ports as port;
+ghost use Rattle.x25_pad.specs.Pad as spec;
+
+use crate::answer::PadAnswer;
+use crate::pad::Pad;
+use arrayvec::ArrayVec;
+use link_timers::TimerId;
+use packet_layer::Taken;
+
+impl Pad {
+    /// Takes a key of a terminal.
+    ///
+    /// `Dropped` comes where the key would end a block and the send queue takes no packet: eight wait, or the own reset
+    /// is not confirmed.
+    pub fn on_key(&mut self, terminal: u8, octet: u8) -> PadAnswer
+        requires { terminal < length self.old.ports }
+        ensures pad { self.new ≡ spec.terminal_event terminal (port.after_key octet) self.old }
+        ensures answer { result ≡ spec.answer_of (spec.key_taken terminal octet self.old) }
+        ensures nothing_kept_back { end.KeepsNothingBack self.new.line.end }
+        ensures timers { TimersAgree self.new.line.end.layer self.new.line.end.timers }
+    {
+        self.begin();
+        let taken = self.press(terminal, octet);
+        self.finish();
+        PadAnswer::of(taken)
+    }
+
+    /// Takes a break of a terminal (X.3 3.7).
+    ///
+    /// `Dropped` comes where it would send an indication of break and the send queue takes no packet: then nothing
+    /// happens.
+    pub fn on_break(&mut self, terminal: u8) -> PadAnswer
+        requires { terminal < length self.old.ports }
+        ensures pad { self.new ≡ spec.terminal_event terminal port.after_break self.old }
+        ensures answer { result ≡ spec.answer_of (spec.break_taken terminal self.old) }
+        ensures nothing_kept_back { end.KeepsNothingBack self.new.line.end }
+        ensures timers { TimersAgree self.new.line.end.layer self.new.line.end.timers }
+    {
+        self.begin();
+        let taken = self.break_in(terminal);
+        self.finish();
+        PadAnswer::of(taken)
+    }
+
+    // What a key does at its terminal.
+    fn press(&mut self, terminal: u8, octet: u8) -> bool
+        requires there { terminal < length self.old.ports }
+        requires room { length self.old.line.notes ≤ 60 }
+        ensures pad { self.new ≡ spec.at_port terminal (port.after_key octet) self.old }
+        ensures taken { result ≡ spec.key_taken_now terminal octet self.old }
+        ensures room { length self.new.line.notes ≤ length self.old.line.notes + 2 }
+        ensures told { self.new.line.end.notes ≡ self.old.line.end.notes }
+    {
+        self.ports[usize::from(terminal)].press(octet, &mut self.line)
+    }
+
+    // What a break does at its terminal.
+    fn break_in(&mut self, terminal: u8) -> bool
+        requires there { terminal < length self.old.ports }
+        requires room { length self.old.line.notes ≤ 60 }
+        ensures pad { self.new ≡ spec.at_port terminal port.after_break self.old }
+        ensures taken { result ≡ spec.break_taken_now terminal self.old }
+        ensures room { length self.new.line.notes ≤ length self.old.line.notes + 2 }
+        ensures told { self.new.line.end.notes ≡ self.old.line.end.notes }
+    {
+        self.ports[usize::from(terminal)].break_in(&mut self.line)
+    }
+
+    /// Takes the end of the idle time of a terminal (X.3 3.4). Where its idle timer does not run nothing happens.
+    ///
+    /// `Dropped` comes where the timer runs and the send queue takes no packet: the timer then begins anew.
+    pub fn on_idle(&mut self, terminal: u8) -> PadAnswer
+        requires { terminal < length self.old.ports }
+        ensures pad { self.new ≡ spec.after_idle terminal self.old }
+        ensures answer { result ≡ spec.answer_of (spec.idle_taken terminal self.old) }
+        ensures nothing_kept_back { spec.runs_idle_timer terminal self.old ≡ true →
+            end.KeepsNothingBack self.new.line.end }
+    {
+        if !self.runs_idle_timer(terminal) {
+            return PadAnswer::Taken;
+        }
+        self.begin();
+        let taken = self.pause(terminal);
+        self.finish();
+        PadAnswer::of(taken)
+    }
+
+    // Whether the idle timer of a terminal runs.
+    fn runs_idle_timer(&self, terminal: u8) -> bool
+        ensures { result ≡ spec.runs_idle_timer terminal self.now }
+    {
+        match self.ports.get(usize::from(terminal)) {
+            Some(port) => port.runs_idle_timer(),
+            None => false,
+        }
+    }
+
+    // What the end of an idle time does at its terminal.
+    fn pause(&mut self, terminal: u8) -> bool
+        requires there { terminal < length self.old.ports }
+        requires room { length self.old.line.notes ≤ 60 }
+        ensures pad { self.new ≡ spec.at_port terminal port.after_idle self.old }
+        ensures taken { result ≡ spec.idle_taken_now terminal self.old }
+        ensures room { length self.new.line.notes ≤ length self.old.line.notes + 2 }
+        ensures told { self.new.line.end.notes ≡ self.old.line.end.notes }
+    {
+        self.ports[usize::from(terminal)].pause(&mut self.line)
+    }
+
+    /// Shows what a terminal has to show: the text that waits, at most 1,024 octets, and then what waits first on its
+    /// call, in data transfer and while its output is not stopped. That is taken: user data are shown, a message is
+    /// obeyed, an interrupt shows nothing. A message waits while the send queue takes no packet.
+    pub fn print<const N: usize>(
+        &mut self,
+        terminal: u8,
+        out: &mut ArrayVec<u8, N>,
+    ) -> Option<Taken>
+        requires there { terminal < length self.old.ports }
+        requires room { array_vec_len out.old + 3200 ≤ N }
+        ensures pad { self.new ≡ spec.terminal_event terminal port.after_print self.old }
+        ensures taken { maybe_taken result ≡ spec.print_taken terminal self.old }
+        ensures text { out.new.items ≡ out.old.items ++ spec.print_text terminal self.old }
+        ensures nothing_kept_back { end.KeepsNothingBack self.new.line.end }
+        ensures timers { TimersAgree self.new.line.end.layer self.new.line.end.timers }
+    {
+        self.begin();
+        let taken = self.show(terminal, out);
+        self.finish();
+        taken
+    }
+
+    // What printing does at its terminal.
+    fn show<const N: usize>(&mut self, terminal: u8, out: &mut ArrayVec<u8, N>) -> Option<Taken>
+        requires there { terminal < length self.old.ports }
+        requires room { length self.old.line.notes ≤ 60 }
+        requires out { array_vec_len out.old + 3200 ≤ N }
+        ensures pad { self.new ≡ spec.at_port terminal port.after_print self.old }
+        ensures taken { maybe_taken result ≡ spec.print_taken_now terminal self.old }
+        ensures text { out.new.items ≡ out.old.items ++ spec.print_text_now terminal self.old }
+        ensures room { length self.new.line.notes ≤ length self.old.line.notes + 1 }
+        ensures told { self.new.line.end.notes ≡ self.old.line.end.notes }
+    {
+        self.ports[usize::from(terminal)].print(&mut self.line, out)
+    }
+
+    /// Takes an expiry of a timer of the line or of a terminal's idle timer, and answers whether it ran. Where it did
+    /// not nothing happens.
+    pub fn on_timer(&mut self, id: TimerId) -> bool
+        ensures ran { result ≡ spec.runs_at self.old id }
+        ensures pad { self.new ≡ spec.after_timer self.old id }
+        ensures nothing_kept_back { OnTrue result (end.KeepsNothingBack self.new.line.end) }
+    {
+        match id {
+            TimerId::Idle(terminal) => {
+                if !self.runs_idle_timer(terminal) {
+                    return false;
+                }
+                let _ = self.on_idle(terminal);
+                true
+            }
+            _ => self.on_line_timer(id),
+        }
+    }
+
+    // An expiry of a timer of the line.
+    fn on_line_timer(&mut self, id: TimerId) -> bool
+        ensures ran { result ≡ end.runs_at self.old.line.end id }
+        ensures pad { self.new ≡ spec.after_expiry self.old id }
+        ensures nothing_kept_back { OnTrue result (end.KeepsNothingBack self.new.line.end) }
+    {
+        if !self.line.end.is_running(id) {
+            return false;
+        }
+        self.begin();
+        self.line.end.on_timer(id);
+        self.end_line_event();
+        true
+    }
+
+    /// Lets ticks pass, each a twentieth of a second: each timer that runs has so many less, not below 0.
+    pub fn elapse(&mut self, ticks: u16)
+        ensures { self.new ≡ spec.elapsed ticks self.old }
+    {
+        self.line.end.elapse(ticks);
+        self.elapse_idle_timers(ticks);
+    }
+
+    fn elapse_idle_timers(&mut self, ticks: u16)
+        ensures { self.new ≡ record self.old { ports = map (port.elapsed ticks) self.old.ports } }
+    {
+        for port in self.ports.iter_mut() {
+            port.elapse(ticks);
+        }
+    }
+
+    /// The first timer that runs with no tick left, in the order of [`TimerId`] and then by number.
+    pub fn due(&self) -> Option<TimerId>
+        ensures { result ≡ spec.due self.now }
+    {
+        match self.line.end.due() {
+            Some(id) => Some(id),
+            None => self.idle_due(),
+        }
+    }
+
+    // The first idle timer with no tick left.
+    fn idle_due(&self) -> Option<TimerId>
+        ensures { result ≡ spec.idle_due (position (λ p. port.is_due p) self.now.ports) }
+    {
+        match self.first_due() {
+            Some(number) => Some(TimerId::Idle(number as u8)),
+            None => None,
+        }
+    }
+
+    // The first terminal whose idle timer has no tick left: one of at most 16.
+    fn first_due(&self) -> Option<usize>
+        ensures number { result ≡ position (λ p. port.is_due p) self.now.ports }
+        ensures most { IfSome result (λ number. number < 16) }
+    {
+        self.ports.iter().position(|port| port.is_due())
+    }
+
+    /// Begins anew after a restart of the PAD: without calls, and each terminal with its initial parameters. What went
+    /// before is forgotten, also text, frames and notes.
+    pub fn restart(&mut self)
+        ensures { self.new ≡ spec.restarted self.old }
+    {
+        self.line.end.restart();
+        self.line.notes.clear();
+        self.restart_terminals();
+    }
+
+    fn restart_terminals(&mut self)
+        ensures { self.new ≡ record self.old { ports = map port.restarted self.old.ports } }
+    {
+        for port in self.ports.iter_mut() {
+            port.restart();
+        }
+    }
+}

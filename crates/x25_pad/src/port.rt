@@ -1,0 +1,159 @@
+//! A terminal at its port of the PAD.
+ghost use Rattle.std.specs.Prelude.{◌≡◌, IfOk, is_none, is_some};
+ghost use Rattle.x25_pad.specs.Ports as spec;
+
+mod asking;
+mod printing;
+
+use crate::call::{Call, CallNote};
+use crate::line::PadLine;
+use pad_terminal::Terminal;
+use std::alloc::{AllocError, Global};
+use std::marker::Model;
+use x3_params::Params;
+
+/// A terminal at its port of the PAD, with its call and its idle timer.
+#[derive(Drop)]
+pub(crate) struct Port {
+    terminal: Terminal,
+    call: Option<Call>,
+    /// The ticks left of the idle timer, where it runs.
+    idle_left: Option<u16>,
+}
+
+impl Model for Port {
+    ghost use Rattle.x25_pad.specs.Ports.{PortState};
+
+    ghost Value = { PortState };
+
+    ghost use Rattle.x25_pad.specs.PortView.{port_of};
+
+    ghost view = { port_of };
+}
+
+impl Port {
+    /// A port whose terminal has these initial parameters, and the call that stands on a channel or none.
+    pub(crate) fn new(
+        alloc: Global,
+        params: Params,
+        standing: Option<u8>,
+    ) -> Result<Port, AllocError>
+        ensures { IfOk result (λ port. port ≡ spec.new_port params standing) }
+    {
+        let terminal = Terminal::new(alloc, params, standing.is_some())?;
+        let call = match standing {
+            Some(channel) => Some(call_on(channel)),
+            None => None,
+        };
+        Ok(Port {
+            terminal,
+            call,
+            idle_left: None,
+        })
+    }
+
+    /// Begins anew, without a call.
+    pub(crate) fn restart(&mut self)
+        ensures { self.new ≡ spec.restarted self.old }
+    {
+        self.terminal.restart();
+        self.call = None;
+        self.idle_left = None;
+    }
+
+    /// Whether there is no call.
+    pub(crate) fn is_free(&self) -> bool
+        ensures { result ≡ is_none self.now.call }
+    {
+        self.call.is_none()
+    }
+
+    /// Whether its call is that on the channel.
+    pub(crate) fn has_channel(&self, channel: u8) -> bool
+        ensures { result ≡ spec.has_channel self.now.call channel }
+    {
+        match self.call {
+            Some(call) => call.channel == channel,
+            None => false,
+        }
+    }
+
+    /// Takes the call on a channel, which is connected.
+    pub(crate) fn connect(&mut self, channel: u8)
+        ensures { self.new ≡ spec.connects channel self.old }
+    {
+        self.terminal.on_connected();
+        self.call = Some(call_on(channel));
+    }
+
+    /// Learns what became of its call.
+    pub(crate) fn learn(&mut self, note: CallNote)
+        ensures { self.new ≡ spec.learns note self.old }
+    {
+        match note {
+            CallNote::Connected(channel) => self.connect(channel),
+            CallNote::Cleared(_, cause) => {
+                self.terminal.on_cleared(cause);
+                self.call = None;
+            }
+            CallNote::Reset(channel, cause) => {
+                self.terminal.on_reset(cause);
+                self.call = Some(call_on(channel));
+            }
+            CallNote::InterruptConfirmed(channel) => self.call = Some(call_on(channel)),
+        }
+    }
+
+    /// Ends an event: the terminal may go on if it was told to stop, and the idle timer runs as it wants it.
+    pub(crate) fn settle(&mut self, line: &PadLine)
+        ensures { self.new ≡ spec.settled line.now self.old }
+    {
+        let condition = line.condition(self.call);
+        self.terminal.resume_device(condition.queue_full);
+        self.idle_left = brought(self.terminal.idle_time(), self.idle_left);
+    }
+
+    /// Lets ticks pass.
+    pub(crate) fn elapse(&mut self, ticks: u16)
+        ensures { self.new ≡ spec.elapsed ticks self.old }
+    {
+        if let Some(left) = self.idle_left {
+            self.idle_left = Some(left.saturating_sub(ticks));
+        }
+    }
+
+    /// Whether the idle timer runs.
+    pub(crate) fn runs_idle_timer(&self) -> bool
+        ensures { result ≡ is_some self.now.idle_left }
+    {
+        self.idle_left.is_some()
+    }
+
+    /// Whether the idle timer runs with no tick left.
+    pub(crate) fn is_due(&self) -> bool
+        ensures { result ≡ spec.is_due self.now }
+    {
+        self.idle_left == Some(0)
+    }
+}
+
+// A call on a channel, with no interrupt pending.
+fn call_on(channel: u8) -> Call
+    ensures { result ≡ spec.call_on channel }
+{
+    Call {
+        channel,
+        interrupt_pending: false,
+    }
+}
+
+// The ticks of an idle timer that is to run so long: one that runs goes on.
+fn brought(time: Option<u8>, left: Option<u16>) -> Option<u16>
+    ensures { result ≡ spec.brought time left }
+{
+    match (time, left) {
+        (None, _) => None,
+        (Some(ticks), None) => Some(u16::from(ticks)),
+        (Some(_), Some(left)) => Some(left),
+    }
+}

@@ -1,0 +1,240 @@
+//! What a terminal asks of the line.
+ghost use Rattle.std.specs.Prelude.{◌≡◌, ◌≤◌, ◌+◌, length};
+ghost use Rattle.pad_editing.specs.Edited.Step.{key, idle};
+ghost use Rattle.x25_pad.specs.Ports as spec;
+
+use crate::line::PadLine;
+use crate::note::{MOST_NOTES, PadNote};
+use crate::port::{Port, call_on};
+use packet_layer::CallFault;
+use pad_editing::Block;
+use pad_terminal::{BreakAnswer, BreakRequests, InputAnswer, Request};
+use x3_params::Params;
+use x28_commands::Selection;
+use x29_messages::{Message, MessageBuf, write_message};
+
+/// The cause that is shown where the packet layer is not ready (X.28 3.5.17).
+const OUT_OF_ORDER: u8 = 9;
+
+/// The cause that is shown where no channel is free.
+const NETWORK_CONGESTION: u8 = 5;
+
+impl Port {
+    /// Takes a key, and answers whether it was taken.
+    pub(crate) fn press(&mut self, octet: u8, line: &mut PadLine) -> bool
+        requires { length line.old.notes + 2 ≤ MOST_NOTES }
+        ensures port { self.new ≡ (spec.after_key octet (record { port = self.old; line = line.old })).port }
+        ensures line { line.new ≡ (spec.after_key octet (record { port = self.old; line = line.old })).line }
+        ensures taken { result ≡ spec.is_taken
+            (spec.key_input octet (record { port = self.old; line = line.old })).answer }
+        ensures room { length line.new.notes ≤ length line.old.notes + 2 }
+        ensures told { line.new.end.notes ≡ line.old.end.notes }
+    {
+        let params = self.terminal.params();
+        let condition = line.condition(self.call);
+        self.idle_left = None;
+        match self.terminal.on_key(octet, condition) {
+            InputAnswer::Dropped => false,
+            InputAnswer::Edited(block) => {
+                self.edit_by_key(octet, params, block, line);
+                true
+            }
+            InputAnswer::Taken(request) => {
+                self.ask_for(request, line);
+                true
+            }
+        }
+    }
+
+    /// Takes the end of the idle time, and answers whether it was taken.
+    pub(crate) fn pause(&mut self, line: &mut PadLine) -> bool
+        requires { length line.old.notes + 2 ≤ MOST_NOTES }
+        ensures port { self.new ≡ (spec.after_idle (record { port = self.old; line = line.old })).port }
+        ensures line { line.new ≡ (spec.after_idle (record { port = self.old; line = line.old })).line }
+        ensures taken { result ≡ spec.is_taken
+            (spec.idle_input (record { port = self.old; line = line.old })).answer }
+        ensures room { length line.new.notes ≤ length line.old.notes + 2 }
+        ensures told { line.new.end.notes ≡ line.old.end.notes }
+    {
+        let params = self.terminal.params();
+        let condition = line.condition(self.call);
+        self.idle_left = None;
+        match self.terminal.on_idle(condition.queue_full) {
+            InputAnswer::Dropped => false,
+            InputAnswer::Edited(block) => {
+                self.edit_by_pause(params, block, line);
+                true
+            }
+            InputAnswer::Taken(request) => {
+                self.ask_for(request, line);
+                true
+            }
+        }
+    }
+
+    /// Takes a break, and answers whether it was taken.
+    pub(crate) fn break_in(&mut self, line: &mut PadLine) -> bool
+        requires { length line.old.notes + 2 ≤ MOST_NOTES }
+        ensures port { self.new ≡ (spec.after_break (record { port = self.old; line = line.old })).port }
+        ensures line { line.new ≡ (spec.after_break (record { port = self.old; line = line.old })).line }
+        ensures taken { result ≡ spec.is_break_taken
+            (spec.break_answer_of (record { port = self.old; line = line.old })) }
+        ensures room { length line.new.notes ≤ length line.old.notes + 2 }
+        ensures told { line.new.end.notes ≡ line.old.end.notes }
+    {
+        let condition = line.condition(self.call);
+        match self.terminal.on_break(condition) {
+            BreakAnswer::Dropped => false,
+            BreakAnswer::Taken(
+                BreakRequests {
+                    request,
+                    indication,
+                },
+            ) => {
+                self.ask_for(request, line);
+                self.tell(indication, line);
+                true
+            }
+        }
+    }
+
+    // A key has edited the text: its step is noted, and the block that it ended is sent.
+    fn edit_by_key(&mut self, octet: u8, params: Params, block: Option<Block>, line: &mut PadLine)
+        requires { length line.old.notes + 2 ≤ MOST_NOTES }
+        ensures port { self.new ≡ self.old }
+        ensures line { line.new ≡ (spec.on_call (spec.edits (key octet params) block) self.old.call
+            (record { port = self.old; line = line.old })).line }
+        ensures room { length line.new.notes ≤ length line.old.notes + 2 }
+        ensures told { line.new.end.notes ≡ line.old.end.notes }
+    {
+        let Some(call) = self.call else {
+            return;
+        };
+        let channel = call.channel;
+        line.notes.add(PadNote::Edited {
+            channel,
+            octet,
+            params,
+        });
+        if let Some(block) = block {
+            line.send(channel, block.as_slice(), false);
+        }
+    }
+
+    // The end of the idle time has ended a block: the step is noted, and the block is sent.
+    fn edit_by_pause(&mut self, params: Params, block: Option<Block>, line: &mut PadLine)
+        requires { length line.old.notes + 2 ≤ MOST_NOTES }
+        ensures port { self.new ≡ self.old }
+        ensures line { line.new ≡ (spec.on_call (spec.edits (idle params) block) self.old.call
+            (record { port = self.old; line = line.old })).line }
+        ensures room { length line.new.notes ≤ length line.old.notes + 2 }
+        ensures told { line.new.end.notes ≡ line.old.end.notes }
+    {
+        let Some(call) = self.call else {
+            return;
+        };
+        let channel = call.channel;
+        line.notes.add(PadNote::Paused { channel, params });
+        if let Some(block) = block {
+            line.send(channel, block.as_slice(), false);
+        }
+    }
+
+    // Does what the terminal asks for, if anything.
+    fn ask_for(&mut self, request: Option<Request>, line: &mut PadLine)
+        requires { length line.old.notes + 1 ≤ MOST_NOTES }
+        ensures port { self.new ≡ (spec.does_asked request (record { port = self.old; line = line.old })).port }
+        ensures line { line.new ≡ (spec.does_asked request (record { port = self.old; line = line.old })).line }
+        ensures room { length line.new.notes ≤ length line.old.notes + 1 }
+        ensures told { line.new.end.notes ≡ line.old.end.notes }
+    {
+        match request {
+            None => {}
+            Some(Request::Call(selection)) => self.place_call(&selection, line),
+            Some(Request::Clear) => self.clear_call(line),
+            Some(Request::Interrupt) => self.interrupt(line),
+            Some(Request::Reset) => self.reset_call(line),
+        }
+    }
+
+    #[tactic(auto, using(crate::proofs::Placing::none_given))]
+    fn place_call(&mut self, selection: &Selection, line: &mut PadLine)
+        requires { length line.old.notes + 1 ≤ MOST_NOTES }
+        ensures port { self.new ≡ (spec.places selection.now (record { port = self.old; line = line.old })).port }
+        ensures line { line.new ≡ (spec.places selection.now (record { port = self.old; line = line.old })).line }
+        ensures room { length line.new.notes ≤ length line.old.notes + 1 }
+        ensures told { line.new.end.notes ≡ line.old.end.notes }
+    {
+        match line.place(selection.address, selection.user_data.as_slice()) {
+            Ok(channel) => self.call = Some(call_on(channel)),
+            Err(CallFault::NotReady) => self.terminal.on_cleared(OUT_OF_ORDER),
+            Err(CallFault::NoChannel) => self.terminal.on_cleared(NETWORK_CONGESTION),
+        }
+    }
+
+    // Clears the call, which the terminal has left.
+    pub(crate) fn clear_call(&mut self, line: &mut PadLine)
+        requires { length line.old.notes + 1 ≤ MOST_NOTES }
+        ensures port { self.new ≡ (spec.on_call spec.clears self.old.call
+            (record { port = self.old; line = line.old })).port }
+        ensures line { line.new ≡ (spec.on_call spec.clears self.old.call
+            (record { port = self.old; line = line.old })).line }
+        ensures room { length line.new.notes ≤ length line.old.notes + 1 }
+        ensures told { line.new.end.notes ≡ line.old.end.notes }
+    {
+        let Some(call) = self.call else {
+            return;
+        };
+        self.call = None;
+        line.clear(call.channel);
+    }
+
+    fn reset_call(&mut self, line: &mut PadLine)
+        requires { length line.old.notes + 1 ≤ MOST_NOTES }
+        ensures port { self.new ≡ (spec.on_call spec.resets self.old.call
+            (record { port = self.old; line = line.old })).port }
+        ensures line { line.new ≡ (spec.on_call spec.resets self.old.call
+            (record { port = self.old; line = line.old })).line }
+        ensures room { length line.new.notes ≤ length line.old.notes + 1 }
+        ensures told { line.new.end.notes ≡ line.old.end.notes }
+    {
+        let Some(call) = self.call else {
+            return;
+        };
+        self.call = Some(call_on(call.channel));
+        line.reset(call.channel);
+    }
+
+    fn interrupt(&mut self, line: &mut PadLine)
+        requires { length line.old.notes + 1 ≤ MOST_NOTES }
+        ensures port { self.new ≡ (spec.on_call spec.interrupts self.old.call
+            (record { port = self.old; line = line.old })).port }
+        ensures line { line.new ≡ (spec.on_call spec.interrupts self.old.call
+            (record { port = self.old; line = line.old })).line }
+        ensures room { length line.new.notes ≤ length line.old.notes + 1 }
+        ensures told { line.new.end.notes ≡ line.old.end.notes }
+    {
+        let Some(mut call) = self.call else {
+            return;
+        };
+        call.interrupt_pending = true;
+        self.call = Some(call);
+        line.interrupt(call.channel);
+    }
+
+    // Sends a message, if there is one.
+    pub(crate) fn tell(&mut self, message: Option<Message>, line: &mut PadLine)
+        requires { length line.old.notes + 1 ≤ MOST_NOTES }
+        ensures port { self.new ≡ self.old }
+        ensures line { line.new ≡ (spec.tells message (record { port = self.old; line = line.old })).line }
+        ensures room { length line.new.notes ≤ length line.old.notes + 1 }
+        ensures told { line.new.end.notes ≡ line.old.end.notes }
+    {
+        let (Some(call), Some(message)) = (self.call, message) else {
+            return;
+        };
+        let mut octets = MessageBuf::new();
+        write_message(&message, &mut octets);
+        line.send(call.channel, octets.as_slice(), true);
+    }
+}
