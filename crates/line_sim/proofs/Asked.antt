@@ -16,15 +16,15 @@ use Rattle.node_laws.specs.Quiet.{IsQuiet}
 use Rattle.pad_laws.specs.PadHolds.{NodeHolds}
 use Rattle.line_nodes.specs.Node.{NodeState, Pad, Host, end_of, is_pad, drained}
 use Rattle.line_nodes.specs.Turn.{Turn}
-use Rattle.line_nodes.specs.HostTurns.{host_calls, host_takes}
+use Rattle.line_nodes.specs.HostTurns.{host_calls, host_asked, host_takes}
 use Rattle.line_nodes.specs.PadTurns.{pad_keys}
 use Rattle.line_nodes.specs.declared.note.HostNote.{HostNote}
 use Rattle.memory_line.specs.Lines.{LineService}
 use Rattle.line_sim.specs.declared.event.Put.{Put}
-use Rattle.line_sim.specs.declared.event.Request.{Request}
-use Rattle.line_sim.specs.declared.event.Request.TheVariants.{Answer, Refuse, Say, Interrupt, Reset, Clear, Stop, Go}
+use Rattle.packet_host.specs.declared.request.HostRequest.{HostRequest}
+use Rattle.packet_host.specs.declared.request.HostRequest.TheVariants.{Answer, Refuse, Say, Interrupt, Reset, Clear, Stop, Go}
 use Rattle.line_sim.specs.NetState.{NetState, node_at}
-use Rattle.line_sim.specs.Steps.{NodeStep, keys_turn, asked_turn}
+use Rattle.line_sim.specs.Steps.{NodeStep, keys_turn}
 use Rattle.line_sim.specs.IsNet.{line_of, AreQuiet, IsNet}
 use Rattle.line_sim.proofs.Fitting.{Leaves, stands, quiet-at}
 use Rattle.line_sim.proofs.Turns.{SameNodes, same, kind-takes, kind-keys}
@@ -73,17 +73,17 @@ calls-net L role s address user_data frames notes t n host digits few step =
 
 -- ---- requests on a channel
 
-same-asked : (role : Role) (e : PacketEnd) (channel : ℕ) (r : Request) (b : Book) → SameNodes b (asked_turn role e channel r b).book
-same-asked role e channel Answer b = same b (asked_turn role e channel Answer b).book (nodes_stay.asks role e channel ask.Accept b)
-same-asked role e channel Refuse b = same b (asked_turn role e channel Refuse b).book (nodes_stay.refuses role e channel b)
-same-asked role e channel (Say octets qualified delivery) b = same b (asked_turn role e channel (Say octets qualified delivery) b).book (nodes_stay.says role e channel octets.items qualified delivery b)
-same-asked role e channel (Interrupt octets) b = same b (asked_turn role e channel (Interrupt octets) b).book (nodes_stay.asks role e channel (ask.Interrupting octets.items) b)
-same-asked role e channel Reset b = same b (asked_turn role e channel Reset b).book (nodes_stay.asks role e channel (ask.Resetting 0 0) b)
-same-asked role e channel Clear b = same b (asked_turn role e channel Clear b).book (nodes_stay.asks role e channel (ask.Clearing 0 0) b)
-same-asked role e channel Stop b = same b (asked_turn role e channel Stop b).book (nodes_stay.asks role e channel (ask.Stopping true) b)
-same-asked role e channel Go b = same b (asked_turn role e channel Go b).book (nodes_stay.asks role e channel (ask.Stopping false) b)
+same-asked : (role : Role) (e : PacketEnd) (channel : ℕ) (r : HostRequest) (b : Book) → SameNodes b (host_asked role e channel r b).book
+same-asked role e channel Answer b = same b (host_asked role e channel Answer b).book (nodes_stay.asks role e channel ask.Accept b)
+same-asked role e channel Refuse b = same b (host_asked role e channel Refuse b).book (nodes_stay.refuses role e channel b)
+same-asked role e channel (Say octets qualified delivery) b = same b (host_asked role e channel (Say octets qualified delivery) b).book (nodes_stay.says role e channel octets.items qualified delivery b)
+same-asked role e channel (Interrupt octets) b = same b (host_asked role e channel (Interrupt octets) b).book (nodes_stay.asks role e channel (ask.Interrupting octets.items) b)
+same-asked role e channel Reset b = same b (host_asked role e channel Reset b).book (nodes_stay.asks role e channel (ask.Resetting 0 0) b)
+same-asked role e channel Clear b = same b (host_asked role e channel Clear b).book (nodes_stay.asks role e channel (ask.Clearing 0 0) b)
+same-asked role e channel Stop b = same b (host_asked role e channel Stop b).book (nodes_stay.asks role e channel (ask.Stopping true) b)
+same-asked role e channel Go b = same b (host_asked role e channel Go b).book (nodes_stay.asks role e channel (ask.Stopping false) b)
 
-quiet-asked : (role : Role) (e : PacketEnd) (channel : ℕ) (r : Request) (b : Book) → IsQuiet (Host e) → IsQuiet (drained (asked_turn role e channel r b).node)
+quiet-asked : (role : Role) (e : PacketEnd) (channel : ℕ) (r : HostRequest) (b : Book) → IsQuiet (Host e) → IsQuiet (drained (host_asked role e channel r b).node)
 quiet-asked role e channel Answer b q = quiet_law.quiet-asks role e channel ask.Accept b q
 quiet-asked role e channel Refuse b q = quiet_law.quiet-refuses role e channel b q
 quiet-asked role e channel (Say octets qualified delivery) b q = quiet_law.quiet-says role e channel octets.items qualified delivery b q
@@ -93,7 +93,7 @@ quiet-asked role e channel Clear b q = quiet_law.quiet-asks role e channel (ask.
 quiet-asked role e channel Stop b q = quiet_law.quiet-asks role e channel (ask.Stopping true) b q
 quiet-asked role e channel Go b q = quiet_law.quiet-asks role e channel (ask.Stopping false) b q
 
-kind-asked : (role : Role) (e : PacketEnd) (channel : ℕ) (r : Request) (b : Book) → is_pad (asked_turn role e channel r b).node ≡ false
+kind-asked : (role : Role) (e : PacketEnd) (channel : ℕ) (r : HostRequest) (b : Book) → is_pad (host_asked role e channel r b).node ≡ false
 kind-asked role e channel Answer b = refl
 kind-asked role e channel Refuse b = refl
 kind-asked role e channel (Say octets qualified delivery) b = refl
@@ -103,7 +103,7 @@ kind-asked role e channel Clear b = refl
 kind-asked role e channel Stop b = refl
 kind-asked role e channel Go b = refl
 
-far-asked : (n : NodeState) (e : PacketEnd) (channel : ℕ) (r : Request) (b : Book) → NodeHolds Dte n b → NodeHolds Dte n (asked_turn Dce e channel r b).book
+far-asked : (n : NodeState) (e : PacketEnd) (channel : ℕ) (r : HostRequest) (b : Book) → NodeHolds Dte n b → NodeHolds Dte n (host_asked Dce e channel r b).book
 far-asked n e channel Answer b h = far_law.far_asks_kept Dte n e channel ask.Accept b h
 far-asked n e channel Refuse b h = far_law.far_refuses_kept Dte n e channel b h
 far-asked n e channel (Say octets qualified delivery) b h = far_law.far_says_kept Dte n e channel octets.items qualified delivery b h
@@ -113,8 +113,8 @@ far-asked n e channel Clear b h = far_law.far_asks_kept Dte n e channel (ask.Cle
 far-asked n e channel Stop b h = far_law.far_asks_kept Dte n e channel (ask.Stopping true) b h
 far-asked n e channel Go b h = far_law.far_asks_kept Dte n e channel (ask.Stopping false) b h
 
-keeps-asked : (k : Setting) (b : Book) (l : Rattle.line_laws.specs.Line.Line) (role : Role) (e : PacketEnd) (channel : ℕ) (r : Request) (kept : List Bool) → StandsAt role l (Host e) → Kept k b l
-    → Kept k (asked_turn role e channel r b).book (with_event role (end_of (asked_turn role e channel r b).node) kept (coming_to role l) l)
+keeps-asked : (k : Setting) (b : Book) (l : Rattle.line_laws.specs.Line.Line) (role : Role) (e : PacketEnd) (channel : ℕ) (r : HostRequest) (kept : List Bool) → StandsAt role l (Host e) → Kept k b l
+    → Kept k (host_asked role e channel r b).book (with_event role (end_of (host_asked role e channel r b).node) kept (coming_to role l) l)
 keeps-asked k b l role e channel Answer kept at h = (asking_law.asks_keeps k b l role e channel ask.Accept kept at h).kept
 keeps-asked k b l role e channel Refuse kept at h = (asking_law.refuses_keeps k b l role e channel kept at h).kept
 keeps-asked k b l role e channel (Say octets qualified delivery) kept at h = (asking_law.says_keeps k b l role e channel octets.items qualified delivery kept at h).kept
@@ -124,14 +124,14 @@ keeps-asked k b l role e channel Clear kept at h = (asking_law.asks_keeps k b l 
 keeps-asked k b l role e channel Stop kept at h = (asking_law.asks_keeps k b l role e channel (ask.Stopping true) kept at h).kept
 keeps-asked k b l role e channel Go kept at h = (asking_law.asks_keeps k b l role e channel (ask.Stopping false) kept at h).kept
 
-pub asks-net : (L : LineService) (role : Role) (s : NetState) (channel : ℕ) (r : Request) (frames : List Put) (notes : List HostNote) (t : NetState)
-    → IsNet L s → is_pad (node_at role s) ≡ false → NodeStep L role (asked_turn role (end_of (node_at role s)) channel r s.book) s.line s frames notes t → IsNet L t
+pub asks-net : (L : LineService) (role : Role) (s : NetState) (channel : ℕ) (r : HostRequest) (frames : List Put) (notes : List HostNote) (t : NetState)
+    → IsNet L s → is_pad (node_at role s) ≡ false → NodeStep L role (host_asked role (end_of (node_at role s)) channel r s.book) s.line s frames notes t → IsNet L t
 asks-net L role s channel r frames notes t n host step =
     let e = end_of (node_at role s) in
-    by-turn L role s (asked_turn role e channel r s.book) frames notes t n
-    (host-leaves role s (asked_turn role e channel r s.book) host (same-asked role e channel r s.book)
+    by-turn L role s (host_asked role e channel r s.book) frames notes t n
+    (host-leaves role s (host_asked role e channel r s.book) host (same-asked role e channel r s.book)
     (quiet-asked role e channel r s.book (quiet-host (node_at role s) host (quiet-at role s n.quiet))) (kind-asked role e channel r s.book)
-    (λ dce. let P : Role → Type 0 = λ x. NodeHolds Dte s.dte (asked_turn x e channel r s.book).book in subst P (sym dce) (far-asked s.dte e channel r s.book n.typed)))
+    (λ dce. let P : Role → Type 0 = λ x. NodeHolds Dte s.dte (host_asked x e channel r s.book).book in subst P (sym dce) (far-asked s.dte e channel r s.book n.typed)))
     (λ k kept. keeps-asked k.setting s.book (line_of s) role e channel r kept (host-stands role s n.quiet host) k.kept) step
 
 -- ---- takes

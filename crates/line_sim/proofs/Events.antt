@@ -184,11 +184,11 @@ restarts-leaves Dce s q typed = record {
 went : (e : PacketEnd) → e.line.frames ≡ [] → e ≡ sent e
 went e h = ap (λ (fs : List Octets). record e { line = record e.line { frames = fs } }) h
 
-restarted-end : (n : NodeState) → end_of (drained (Rattle.line_nodes.specs.LineTurns.restarted n)) ≡ sent (Rattle.packet_end.specs.PacketEnd.restarted (end_of n))
+restarted-end : (n : NodeState) → end_of (drained (Rattle.line_nodes.specs.NodeEvents.restarted n)) ≡ sent (Rattle.packet_end.specs.PacketEnd.restarted (end_of n))
 restarted-end (Pad p) = refl
 restarted-end (Host e) = refl
 
-restarted-frames : (n : NodeState) → frames_of (Rattle.line_nodes.specs.LineTurns.restarted n) ≡ (Rattle.packet_end.specs.PacketEnd.restarted (end_of n)).line.frames
+restarted-frames : (n : NodeState) → frames_of (Rattle.line_nodes.specs.NodeEvents.restarted n) ≡ (Rattle.packet_end.specs.PacketEnd.restarted (end_of n)).line.frames
 restarted-frames (Pad p) = refl
 restarted-frames (Host e) = refl
 
@@ -199,13 +199,13 @@ restart-line : (role : Role) (s : NetState) (mid l : Flights) → AreQuiet s →
     → line_of (with_turn role (restarts role (node_at role s) s.book) l s) ≡ with_restart role w.kept (line_of s)
 restart-line Dte s mid l q none w =
     line-is (line_of (with_turn Dte (restarts Dte s.dte s.book) l s)) (with_restart Dte w.kept (line_of s)) (restarted-end s.dte) (went (end_of s.dce) q.dce.node.sent)
-    (ap (λ (f : Flights). f.from_dte) w.is ∙ ap (λ (f : Flights). f.from_dte ++ Rattle.lapb.specs.Line.chosen w.kept (frames_of (Rattle.line_nodes.specs.LineTurns.restarted s.dte))) none
+    (ap (λ (f : Flights). f.from_dte) w.is ∙ ap (λ (f : Flights). f.from_dte ++ Rattle.lapb.specs.Line.chosen w.kept (frames_of (Rattle.line_nodes.specs.NodeEvents.restarted s.dte))) none
     ∙ ap (λ (fs : List Octets). Rattle.lapb.specs.Line.chosen w.kept fs) (restarted-frames s.dte))
     (ap (λ (f : Flights). f.from_dce) w.is ∙ ap (λ (f : Flights). f.from_dce) none)
 restart-line Dce s mid l q none w =
     line-is (line_of (with_turn Dce (restarts Dce s.dce s.book) l s)) (with_restart Dce w.kept (line_of s)) (went (end_of s.dte) q.dte.node.sent) (restarted-end s.dce)
     (ap (λ (f : Flights). f.from_dte) w.is ∙ ap (λ (f : Flights). f.from_dte) none)
-    (ap (λ (f : Flights). f.from_dce) w.is ∙ ap (λ (f : Flights). f.from_dce ++ Rattle.lapb.specs.Line.chosen w.kept (frames_of (Rattle.line_nodes.specs.LineTurns.restarted s.dce))) none
+    (ap (λ (f : Flights). f.from_dce) w.is ∙ ap (λ (f : Flights). f.from_dce ++ Rattle.lapb.specs.Line.chosen w.kept (frames_of (Rattle.line_nodes.specs.NodeEvents.restarted s.dce))) none
     ∙ ap (λ (fs : List Octets). Rattle.lapb.specs.Line.chosen w.kept fs) (restarted-frames s.dce))
 
 restart-kept : (L : LineService) (role : Role) (s : NetState) (mid l : Flights) → AreQuiet s → mid ≡ no_flights

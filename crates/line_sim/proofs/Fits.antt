@@ -13,7 +13,8 @@ use Rattle.line_sim.specs.declared.event.Outcome.{Outcome}
 use Rattle.line_sim.specs.declared.event.Answer.{Answer}
 use Rattle.memory_line.specs.Lines.{Flights, flying, without_first, LineService}
 use Rattle.line_sim.specs.NetState.{NetState, node_at}
-use Rattle.line_sim.specs.Faults.{step_fault, role_of, is_node, is_host_at, on_channel, call_fault_of, channel_fault_of, ask_refusal}
+use Rattle.line_sim.specs.Faults.{step_fault, role_of, is_node, is_host_at, on_channel, call_fault_of, channel_fault_of}
+use Rattle.packet_host.specs.Asking.{ask_refusal}
 use Rattle.line_sim.specs.Steps.{hearer, KeyStep, IdleStep, Hears, LineStep, EmptyDelivery, StepOf}
 use Rattle.line_sim.specs.Runs.{Happens}
 use Rattle.line_sim.specs.IsNet.{IsNet}

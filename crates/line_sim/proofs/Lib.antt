@@ -10,3 +10,4 @@ mod RunsMore
 mod Sending
 mod Serving
 mod Turns
+mod Writing

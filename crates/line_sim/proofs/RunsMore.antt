@@ -13,7 +13,8 @@ use Rattle.packet_layer.specs.Channel.{Refusal}
 use Rattle.packet_layer.specs.Layer.{call_refusal}
 use Rattle.line_nodes.specs.Node.{end_of, is_pad}
 use Rattle.line_sim.specs.NetState.{NetState, node_at}
-use Rattle.line_sim.specs.Faults.{step_fault, is_host_at, is_node, is_channel, on_channel, role_of, call_fault_of, channel_fault_of, ask_refusal, where_there_is, takes_memory, MayWant}
+use Rattle.line_sim.specs.Faults.{step_fault, is_host_at, is_node, is_channel, on_channel, role_of, call_fault_of, channel_fault_of, where_there_is, takes_memory, MayWant}
+use Rattle.packet_host.specs.Asking.{ask_refusal}
 use Rattle.line_sim.specs.Runs.{Happens, Happened, Ran, HasRun, HasStopped}
 
 -- what was answered, or refused for another reason than want of memory, happened

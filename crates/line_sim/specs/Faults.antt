@@ -4,20 +4,15 @@ use Rattle.std.specs.Prelude.{if◌then◌else◌}
 use Rattle.link_timers.specs.declared.role.Role.{Role}
 use Rattle.link_timers.specs.declared.role.Role.TheVariants.{Dte, Dce}
 use Rattle.packet_layer.specs.Channel.{Refusal}
-use Rattle.packet_layer.specs.Channel.{Request as ask}
-use Rattle.packet_layer.specs.Layer.{call_refusal, request_refusal}
+use Rattle.packet_layer.specs.Layer.{call_refusal}
 use Rattle.packet_layer.specs.declared.fault.CallFault.TheVariants as call_fault
 use Rattle.packet_channel.specs.declared.fault.ChannelFault.TheVariants as channel_fault
-use Rattle.packet_end.specs.PacketEnd.{PacketEnd}
-use Rattle.packet_host.specs.Host.{refuse_refusal}
-use Rattle.packet_host.specs.Saying.{say_refusal}
+use Rattle.packet_host.specs.Asking.{ask_refusal}
 use Rattle.line_nodes.specs.Node.{end_of, is_pad}
 use Rattle.line_nodes.specs.declared.fault.NodeFault.TheVariants as node_fault
 use Rattle.line_sim.specs.declared.event.Event.{Event}
 use Rattle.line_sim.specs.declared.event.Event.TheVariants.{Key, Call, Ask, Take, Deliver, Lose, Expire, Relink}
 use Rattle.line_sim.specs.declared.event.Event.TheVariants.{Restart}
-use Rattle.line_sim.specs.declared.event.Request.{Request}
-use Rattle.line_sim.specs.declared.event.Request.TheVariants.{Answer, Refuse, Say, Interrupt, Reset, Clear, Stop, Go}
 use Rattle.line_sim.specs.declared.event.StepFault.{StepFault}
 use Rattle.line_sim.specs.declared.event.StepFault.TheVariants.{NoSuchNode, NoSuchTerminal, NoSuchCall, Refused}
 use Rattle.line_sim.specs.NetState.{NetState, node_at}
@@ -54,17 +49,6 @@ channel_fault_of (Some Refusal.QueueFull) = Some (Refused (node_fault.Channel ch
 channel_fault_of (Some Refusal.TooLong) = Some (Refused (node_fault.Channel channel_fault.TooLong))
 channel_fault_of (Some Refusal.InterruptPending) = Some (Refused (node_fault.Channel channel_fault.InterruptPending))
 channel_fault_of (Some refusal) = Some (Refused (node_fault.Channel channel_fault.NoCall))
-
--- what a host refuses of a request on a channel
-abbrev pub ask_refusal : PacketEnd → (channel : ℕ) → Request → Option Refusal
-ask_refusal e channel Answer = request_refusal e.layer channel ask.Accept
-ask_refusal e channel Refuse = refuse_refusal e channel
-ask_refusal e channel (Say octets qualified delivery) = say_refusal e.layer channel octets.items qualified
-ask_refusal e channel (Interrupt octets) = request_refusal e.layer channel (ask.Interrupting octets.items)
-ask_refusal e channel Reset = request_refusal e.layer channel (ask.Resetting 0 0)
-ask_refusal e channel Clear = request_refusal e.layer channel (ask.Clearing 0 0)
-ask_refusal e channel Stop = request_refusal e.layer channel (ask.Stopping true)
-ask_refusal e channel Go = request_refusal e.layer channel (ask.Stopping false)
 
 -- ---- the first fault of an event, want of memory apart
 

@@ -8,28 +8,25 @@ use Rattle.packet_codec.specs.Address.{AreDigits}
 use Rattle.packet_channel.specs.declared.taken.Taken as taken
 use Rattle.packet_layer.specs.TakenView.{maybe_taken}
 use Rattle.packet_layer.specs.Layer.{channel_given, front_on}
-use Rattle.packet_layer.specs.Channel.{Request as ask}
-use Rattle.packet_end.specs.PacketEnd.{PacketEnd}
 use Rattle.packet_host.specs.Host.{call_parts}
+use Rattle.packet_host.specs.declared.request.HostRequest.{HostRequest}
 use Rattle.call_records.specs.Book.{Book}
 use Rattle.line_nodes.specs.Node.{NodeState, Pad, Host, end_of, frames_of}
-use Rattle.packet_pad.specs.Keys.{after_octet}
+use Rattle.packet_pad.specs.Keys.{after_octet, key_answer}
+use Rattle.packet_pad.specs.declared.key.KeyAnswer.{KeyAnswer}
+use Rattle.packet_pad.specs.declared.key.KeyAnswer.TheVariants as key_is
 use Rattle.line_nodes.specs.Turn.{Turn, unchanged}
-use Rattle.line_nodes.specs.HostTurns.{host_calls, host_asks, host_refuses, host_says, host_takes}
-use Rattle.line_nodes.specs.PadTurns.{pad_keys, key_answer}
+use Rattle.line_nodes.specs.HostTurns.{host_calls, host_asked, host_takes}
+use Rattle.line_nodes.specs.PadTurns.{pad_keys}
 use Rattle.line_nodes.specs.LineTurns.{hears, expires, relinks, restarts}
 use Rattle.line_nodes.specs.Notes.{user_notes}
 use Rattle.line_nodes.specs.declared.note.HostNote.{HostNote}
-use Rattle.line_nodes.specs.declared.pad.KeyAnswer.{KeyAnswer}
-use Rattle.line_nodes.specs.declared.pad.KeyAnswer.TheVariants as key_is
 use Rattle.line_sim.specs.declared.event.Put.{Put}
 use Rattle.memory_line.specs.declared.line.Direction.{Direction}
 use Rattle.memory_line.specs.declared.line.Direction.TheVariants.{FromDte, FromDce}
 use Rattle.line_sim.specs.declared.event.Event.{Event}
 use Rattle.line_sim.specs.declared.event.Event.TheVariants.{Key, Call, Ask, Take, Deliver, Lose, Expire, Relink}
 use Rattle.line_sim.specs.declared.event.Event.TheVariants.{Restart}
-use Rattle.line_sim.specs.declared.event.Request.{Request}
-use Rattle.line_sim.specs.declared.event.Request.TheVariants.{Answer, Refuse, Say, Interrupt, Reset, Clear, Stop, Go}
 use Rattle.line_sim.specs.declared.event.Outcome.{Outcome}
 use Rattle.line_sim.specs.declared.event.Outcome.TheVariants.{Delivered, Keyed, Called, Took, Done}
 use Rattle.line_sim.specs.declared.event.Answer as answer
@@ -88,17 +85,6 @@ KeyOf L terminal octet s a t = MatchBool (terminal == 0) (KeyStep L octet s a t)
 
 -- ---- what a host is asked
 
--- what the request makes of the host and of the book
-abbrev pub asked_turn : Role → PacketEnd → (channel : ℕ) → Request → Book → Turn
-asked_turn role e channel Answer b = host_asks role e channel ask.Accept b
-asked_turn role e channel Refuse b = host_refuses role e channel b
-asked_turn role e channel (Say octets qualified delivery) b = host_says role e channel octets.items qualified delivery b
-asked_turn role e channel (Interrupt octets) b = host_asks role e channel (ask.Interrupting octets.items) b
-asked_turn role e channel Reset b = host_asks role e channel (ask.Resetting 0 0) b
-asked_turn role e channel Clear b = host_asks role e channel (ask.Clearing 0 0) b
-asked_turn role e channel Stop b = host_asks role e channel (ask.Stopping true) b
-asked_turn role e channel Go b = host_asks role e channel (ask.Stopping false) b
-
 pub record CallStep (L : LineService) (role : Role) (address user_data : List ℕ) (s : NetState) (a : answer.Answer)
     (t : NetState) : Type 0 where
   pub digits : AreDigits address
@@ -110,10 +96,10 @@ pub record CallStep (L : LineService) (role : Role) (address user_data : List �
       s.line s a.frames.items a.notes.items t
   pub answered : a.outcome ≡ Called channel
 
-pub record AskStep (L : LineService) (role : Role) (channel : ℕ) (request : Request) (s : NetState) (a : answer.Answer)
+pub record AskStep (L : LineService) (role : Role) (channel : ℕ) (request : HostRequest) (s : NetState) (a : answer.Answer)
     (t : NetState) : Type 0 where
   pub does :
-      NodeStep L role (asked_turn role (end_of (node_at role s)) channel request s.book)
+      NodeStep L role (host_asked role (end_of (node_at role s)) channel request s.book)
       s.line s a.frames.items a.notes.items t
   pub answered : a.outcome ≡ Done
 

@@ -5,6 +5,7 @@ use line_nodes::{HostNote, KeyAnswer, NodeFault};
 use link_timers::TimerId;
 use memory_line::Direction;
 use packet_codec::Address;
+use packet_host::HostRequest;
 use packet_layer::{CallFault, ChannelFault, Taken};
 use std::alloc::AllocError;
 use thiserror::Error;
@@ -29,7 +30,7 @@ pub enum Event {
     Ask {
         node: usize,
         channel: u16,
-        request: Request,
+        request: HostRequest,
     },
     /// A host takes what waits on a logical channel.
     Take {
@@ -60,33 +61,6 @@ pub enum Event {
     Restart {
         node: usize,
     },
-}
-
-/// What a host asks of a call.
-#[derive(Debug, Drop)]
-pub enum Request {
-    /// The call that came in is accepted (X.25 4.1.4).
-    Answer,
-    /// The call that came in is cleared before it is accepted (X.25 4.1.7).
-    Refuse,
-    /// Octets go as one message, cut into packets: on Q and D see `packet_host::Host::say` (X.25 4.3).
-    Say {
-        octets: Vec<u8>,
-        qualified: bool,
-        delivery: bool,
-    },
-    /// An interrupt of 1 to 32 octets goes (X.25 4.3.7).
-    Interrupt {
-        octets: Vec<u8>,
-    },
-    /// The call is reset (X.25 4.4.3).
-    Reset,
-    /// The call is cleared (X.25 4.1.7).
-    Clear,
-    /// The far end is told to send no data (X.25 4.4.1.5).
-    Stop,
-    /// The far end may send data again (X.25 4.4.1.4).
-    Go,
 }
 
 /// What an event gave, besides frames.

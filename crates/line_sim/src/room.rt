@@ -1,5 +1,6 @@
 //! The lists of an answer, grown before a node is called.
-ghost use Rattle.std.specs.Prelude.{◌≡◌, ◌≤◌, [], IfOk, vec_capacity};
+ghost use Rattle.std.specs.Prelude.{◌≡◌, [], IfOk};
+ghost use Rattle.line_sim.specs.Served.{IsEmpty};
 
 use crate::event::{Answer, Outcome, Put};
 use crate::send::MOST_FRAMES;
@@ -19,10 +20,7 @@ pub(crate) struct Room {
 impl Room {
     /// Room for the frames and notes of one event of a node.
     pub(crate) fn new(alloc: Global) -> Result<Self, AllocError>
-        ensures frames { IfOk result (λ room. room.frames.items ≡ []) }
-        ensures notes { IfOk result (λ room. room.notes.items ≡ []) }
-        ensures frame_room { IfOk result (λ room. MOST_FRAMES ≤ vec_capacity room.frames) }
-        ensures note_room { IfOk result (λ room. MOST_NOTES ≤ vec_capacity room.notes) }
+        ensures { IfOk result IsEmpty }
     {
         Ok(Room {
             frames: Vec::with_capacity(alloc, MOST_FRAMES)?,

@@ -1,30 +1,28 @@
-//! What an event does at one node, on its line and in the book.
-ghost use Rattle.std.specs.Prelude.{◌≡◌, ◌≤◌, [], Some, None, true, false, OnOk, OnErr, MatchResult, vec_capacity};
-ghost use Rattle.std.specs.Prelude.{length};
+//! What an event does at one node, on its line and in the book: the node is called, the network writes what was asked
+//! and what the node noted, and the frames go onto the line.
+ghost use Rattle.std.specs.Prelude.{◌≡◌, ◌≤◌, Some, None, true, false, OnOk, OnErr, MatchResult, length};
 ghost use Rattle.packet_layer.specs.Layer.{channel_given, call_refusal, front_on};
 ghost use Rattle.packet_layer.specs.RequestView.{refusal_of, call_refusal_of};
 ghost use Rattle.packet_layer.specs.TakenView.{maybe_taken};
-ghost use Rattle.packet_host.specs.Host.{call_parts};
-ghost use Rattle.line_nodes.specs.Node.{end_of, is_pad, Host as host_node};
+ghost use Rattle.packet_host.specs.Host.{call_parts, after_take};
+ghost use Rattle.packet_host.specs.Asking.{ask_refusal};
+ghost use Rattle.line_nodes.specs.Node.{end_of, is_pad};
 ghost use Rattle.node_laws.specs.Quiet.{IsQuiet};
 ghost use Rattle.line_nodes.specs.NodeView.{node_of};
-ghost use Rattle.line_nodes.specs.Turn.{HostTurned};
-ghost use Rattle.line_nodes.specs.HostTurns.{host_calls, host_takes};
-ghost use Rattle.line_nodes.specs.Notes.{user_notes};
-ghost use Rattle.line_sim.specs.Faults.{ask_refusal};
-ghost use Rattle.line_sim.specs.Steps.{direction_of, line_turn, asked_turn, keys_turn, IsKeyAnswer};
+ghost use Rattle.line_nodes.specs.HostTurns.{host_calls, host_asked, host_takes};
+ghost use Rattle.line_nodes.specs.Writing.{reads, IsRoomFor};
+ghost use Rattle.line_sim.specs.Steps.{direction_of, line_turn, keys_turn, IsKeyAnswer};
 ghost use Rattle.line_sim.specs.CallView.{call_of};
-ghost use Rattle.line_sim.specs.Served.{Served};
+ghost use Rattle.line_sim.specs.Served.{Served, IsEmpty, called, closed_by, taken_written};
 
-use crate::event::Request;
-use crate::room::{MOST_NOTES, Room};
-use crate::send::{MOST_FRAMES, put_frames};
+use crate::room::Room;
+use crate::send::put_frames;
 use call_records::Book;
-use line_nodes::{HostNote, KeyAnswer, Node, Place, host, pad};
+use line_nodes::{KeyAnswer, Node, Place, write_notes, write_request, write_taken};
 use link_timers::{Role, TimerId};
 use memory_line::{Direction, Line};
 use packet_codec::Address;
-use packet_host::Host;
+use packet_host::{Host, HostRequest};
 use packet_layer::{CallFault, ChannelFault, Taken};
 
 /// What comes to a node at its line.
@@ -50,31 +48,46 @@ fn direction_of(role: Role) -> Direction
     }
 }
 
-/// Calls a node for what comes at its line.
-fn call_node(
-    node: &mut Node,
-    at: Place,
-    call: LineCall<'_>,
-    book: &mut Book,
-    notes: &mut Vec<HostNote>,
-)
-    requires quiet { IsQuiet (node_of node.old) }
-    requires writes { 1 ≤ book.old.room }
-    requires empty { notes.old.items ≡ [] }
-    requires capacity { MOST_NOTES ≤ vec_capacity notes.old }
-    ensures node { node_of node.new ≡ (line_turn (call_of call.entry) at.role (node_of node.old) book.old.book).node }
-    ensures book { book.new.book ≡ (line_turn (call_of call.entry) at.role (node_of node.old) book.old.book).book }
-    ensures notes { notes.new.items ≡ user_notes (node_of node.old) at.node
-        (line_turn (call_of call.entry) at.role (node_of node.old) book.old.book).notes }
+/// Calls a node for what comes at its line. Where it begins anew its calls are closed in the book.
+fn call_node(node: &mut Node, role: Role, call: LineCall<'_>, book: &mut Book)
+    ensures node { node_of node.new ≡ called (call_of call.entry) (node_of node.old) }
+    ensures book { book.new ≡ record book.old { book = closed_by (call_of call.entry) role book.old.book } }
 {
     match call {
-        LineCall::Hears(octets) => node.hear(at, octets, book, notes),
+        LineCall::Hears(octets) => node.hear(octets),
         LineCall::Expires(timer) => {
-            let _ = node.expire(at, timer, book, notes);
+            let _ = node.expire(timer);
         }
-        LineCall::Relinks => node.relink(at, book, notes),
-        LineCall::Restarts => node.restart(at.role, book),
+        LineCall::Relinks => node.relink(),
+        LineCall::Restarts => {
+            node.restart();
+            book.close_all(role);
+        }
     }
+}
+
+/// Takes what comes next on a channel of a host, if anything, and writes it.
+fn take_at(host: &mut Host, role: Role, channel: u8, book: &mut Book) -> Option<Taken>
+    requires { 1 ≤ book.old.room }
+    ensures taken { maybe_taken result ≡ front_on host.old.layer channel }
+    ensures host { host.new ≡ after_take host.old channel }
+    ensures book { book.new.book ≡ taken_written (front_on host.old.layer channel) role channel book.old.book }
+{
+    let taken = host.take(channel)?;
+    write_taken(book, role, channel, &taken);
+    Some(taken)
+}
+
+/// Writes what a node noted, and puts its frames on its line.
+fn end_event<L: Line>(node: &mut Node, at: Place, line: &mut L, book: &mut Book, room: &mut Room)
+    requires room_for { IsRoomFor (node_of node.old) book.old.room }
+    requires empty { IsEmpty room.old }
+    ensures { Served L.service at.role at.node (node_of node.old) (reads at.role (node_of node.old) book.old.book)
+        (L.flights line.old) room.new.frames.items room.new.notes.items (node_of node.new) (L.flights line.new)
+        book.new.book }
+{
+    write_notes(node, at, book, &mut room.notes);
+    put_frames(node, line, direction_of(at.role), &mut room.frames);
 }
 
 /// Serves what comes to a node at its line.
@@ -88,63 +101,13 @@ pub(crate) fn serve<L: Line>(
 )
     requires quiet { IsQuiet (node_of node.old) }
     requires writes { 1 ≤ book.old.room }
-    requires frames { room.old.frames.items ≡ [] }
-    requires notes { room.old.notes.items ≡ [] }
-    requires frame_room { MOST_FRAMES ≤ vec_capacity room.old.frames }
-    requires note_room { MOST_NOTES ≤ vec_capacity room.old.notes }
+    requires empty { IsEmpty room.old }
     ensures { Served L.service at.role at.node (node_of node.old)
         (line_turn (call_of call.entry) at.role (node_of node.old) book.old.book) (L.flights line.old)
         room.new.frames.items room.new.notes.items (node_of node.new) (L.flights line.new) book.new.book }
 {
-    call_node(node, at, call, book, &mut room.notes);
-    put_frames(node, line, direction_of(at.role), &mut room.frames);
-}
-
-/// What a host is asked on a channel.
-fn ask_host(
-    host: &mut Host,
-    at: Place,
-    channel: u8,
-    request: &Request,
-    book: &mut Book,
-    notes: &mut Vec<HostNote>,
-) -> Result<(), ChannelFault>
-    requires quiet { IsQuiet (host_node host.old) }
-    requires writes { 8 ≤ book.old.room }
-    requires empty { notes.old.items ≡ [] }
-    requires capacity { MOST_NOTES ≤ vec_capacity notes.old }
-    ensures answer { MatchResult result
-        (λ _. ask_refusal host.old channel request.now ≡ None)
-        (λ fault. ask_refusal host.old channel request.now ≡ Some (refusal_of fault)) }
-    ensures ok { OnOk result (HostTurned at.node (asked_turn at.role host.old channel request.now book.old.book)
-        host.new book.new.book notes.new.items) }
-    ensures err { OnErr result ((host.new ≡ host.old) × (book.new ≡ book.old) × (notes.new.items ≡ [])) }
-{
-    match request {
-        Request::Answer => host::answer(host, at, channel, book, notes),
-        Request::Refuse => host::refuse(host, at, channel, book, notes),
-        Request::Say {
-            octets,
-            qualified,
-            delivery,
-        } => host::say(
-            host,
-            at,
-            channel,
-            octets.as_slice(),
-            *qualified,
-            *delivery,
-            book,
-            notes,
-        ),
-        Request::Interrupt { octets } => {
-            host::interrupt(host, at, channel, octets.as_slice(), book, notes)
-        }
-        Request::Reset => host::reset(host, at, channel, book, notes),
-        Request::Clear => host::clear(host, at, channel, book, notes),
-        Request::Stop => host::stop(host, at, channel, book, notes),
-        Request::Go => host::go(host, at, channel, book, notes),
-    }
+    call_node(node, at.role, call, book);
+    end_event(node, at, line, book, room);
 }
 
 /// Serves what a host is asked on a channel.
@@ -152,7 +115,7 @@ pub(crate) fn serve_ask<L: Line>(
     node: &mut Node,
     at: Place,
     channel: u8,
-    request: &Request,
+    request: &HostRequest,
     line: &mut L,
     book: &mut Book,
     room: &mut Room,
@@ -160,15 +123,12 @@ pub(crate) fn serve_ask<L: Line>(
     requires host { is_pad (node_of node.old) ≡ false }
     requires quiet { IsQuiet (node_of node.old) }
     requires writes { 8 ≤ book.old.room }
-    requires frames { room.old.frames.items ≡ [] }
-    requires notes { room.old.notes.items ≡ [] }
-    requires frame_room { MOST_FRAMES ≤ vec_capacity room.old.frames }
-    requires note_room { MOST_NOTES ≤ vec_capacity room.old.notes }
+    requires empty { IsEmpty room.old }
     ensures answer { MatchResult result
         (λ _. ask_refusal (end_of (node_of node.old)) channel request.now ≡ None)
         (λ fault. ask_refusal (end_of (node_of node.old)) channel request.now ≡ Some (refusal_of fault)) }
     ensures ok { OnOk result (Served L.service at.role at.node (node_of node.old)
-        (asked_turn at.role (end_of (node_of node.old)) channel request.now book.old.book) (L.flights line.old)
+        (host_asked at.role (end_of (node_of node.old)) channel request.now book.old.book) (L.flights line.old)
         room.new.frames.items room.new.notes.items (node_of node.new) (L.flights line.new) book.new.book) }
     ensures node { OnErr result (node_of node.new ≡ node_of node.old) }
     ensures line { OnErr result (line.new ≡ line.old) }
@@ -176,9 +136,10 @@ pub(crate) fn serve_ask<L: Line>(
 {
     match node {
         Node::Pad(_) => unreachable!(),
-        Node::Host(host) => ask_host(host, at, channel, request, book, &mut room.notes)?,
+        Node::Host(host) => host.ask(channel, request)?,
     }
-    put_frames(node, line, direction_of(at.role), &mut room.frames);
+    write_request(book, at.role, channel, request);
+    end_event(node, at, line, book, room);
     Ok(())
 }
 
@@ -196,10 +157,7 @@ pub(crate) fn serve_call<L: Line>(
     requires user_data { length user_data.now ≤ 16 }
     requires quiet { IsQuiet (node_of node.old) }
     requires writes { 1 ≤ book.old.room }
-    requires frames { room.old.frames.items ≡ [] }
-    requires notes { room.old.notes.items ≡ [] }
-    requires frame_room { MOST_FRAMES ≤ vec_capacity room.old.frames }
-    requires note_room { MOST_NOTES ≤ vec_capacity room.old.notes }
+    requires empty { IsEmpty room.old }
     ensures answer { MatchResult result
         (λ channel. channel_given (end_of (node_of node.old)).layer (end_of (node_of node.old)).layer.phase
         ≡ Some channel)
@@ -215,9 +173,10 @@ pub(crate) fn serve_call<L: Line>(
 {
     let channel = match node {
         Node::Pad(_) => unreachable!(),
-        Node::Host(host) => host::call(host, at, address, user_data, book, &mut room.notes)?,
+        Node::Host(host) => host.call(address, user_data)?,
     };
-    put_frames(node, line, direction_of(at.role), &mut room.frames);
+    book.place(at.role, channel, &address);
+    end_event(node, at, line, book, room);
     Ok(channel)
 }
 
@@ -233,10 +192,7 @@ pub(crate) fn serve_take<L: Line>(
     requires host { is_pad (node_of node.old) ≡ false }
     requires quiet { IsQuiet (node_of node.old) }
     requires writes { 1 ≤ book.old.room }
-    requires frames { room.old.frames.items ≡ [] }
-    requires notes { room.old.notes.items ≡ [] }
-    requires frame_room { MOST_FRAMES ≤ vec_capacity room.old.frames }
-    requires note_room { MOST_NOTES ≤ vec_capacity room.old.notes }
+    requires empty { IsEmpty room.old }
     ensures taken { maybe_taken result ≡ front_on (end_of (node_of node.old)).layer channel }
     ensures served { Served L.service at.role at.node (node_of node.old)
         (host_takes at.role (end_of (node_of node.old)) channel book.old.book) (L.flights line.old)
@@ -244,9 +200,9 @@ pub(crate) fn serve_take<L: Line>(
 {
     let taken = match node {
         Node::Pad(_) => unreachable!(),
-        Node::Host(host) => host::take(host, at, channel, book, &mut room.notes),
+        Node::Host(host) => take_at(host, at.role, channel, book),
     };
-    put_frames(node, line, direction_of(at.role), &mut room.frames);
+    end_event(node, at, line, book, room);
     taken
 }
 
@@ -262,18 +218,16 @@ pub(crate) fn serve_key<L: Line>(
     requires pad { is_pad (node_of node.old) ≡ true }
     requires quiet { IsQuiet (node_of node.old) }
     requires writes { 2 ≤ book.old.room }
-    requires frames { room.old.frames.items ≡ [] }
-    requires notes { room.old.notes.items ≡ [] }
-    requires frame_room { MOST_FRAMES ≤ vec_capacity room.old.frames }
+    requires empty { IsEmpty room.old }
     ensures answer { IsKeyAnswer octet (node_of node.old) result }
     ensures served { Served L.service at.role at.node (node_of node.old)
         (keys_turn at.role (node_of node.old) octet book.old.book) (L.flights line.old) room.new.frames.items
         room.new.notes.items (node_of node.new) (L.flights line.new) book.new.book }
 {
     let answer = match node {
-        Node::Pad(pad) => pad::key(pad, at.role, octet, book),
+        Node::Pad(pad) => pad.on_key(octet),
         Node::Host(_) => unreachable!(),
     };
-    put_frames(node, line, direction_of(at.role), &mut room.frames);
+    end_event(node, at, line, book, room);
     answer
 }

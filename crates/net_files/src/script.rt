@@ -5,7 +5,7 @@ ghost use Rattle.net_files.specs.Scripts.{AreNamesOf, IsScriptFault};
 use crate::fault::ProgFault;
 use crate::words::{LineFault, Words, cut, read_text};
 use arrayvec::ArrayVec;
-use line_sim::{Config, Direction, Event, Request};
+use line_sim::{Config, Direction, Event, HostRequest};
 use link_timers::TimerId;
 use std::alloc::{AllocError, Global};
 
@@ -259,16 +259,16 @@ fn read_ask(
 }
 
 /// What the word asks, with what it takes to be said.
-fn read_request(alloc: Global, word: &[u8], words: Words<'_>) -> Result<Request, LineFault> {
+fn read_request(alloc: Global, word: &[u8], words: Words<'_>) -> Result<HostRequest, LineFault> {
     let request = match word {
         b"say" => return read_say(alloc, words),
         b"int" => return read_interrupt(alloc, words),
-        b"answer" => Request::Answer,
-        b"refuse" => Request::Refuse,
-        b"reset" => Request::Reset,
-        b"clear" => Request::Clear,
-        b"stop" => Request::Stop,
-        b"go" => Request::Go,
+        b"answer" => HostRequest::Answer,
+        b"refuse" => HostRequest::Refuse,
+        b"reset" => HostRequest::Reset,
+        b"clear" => HostRequest::Clear,
+        b"stop" => HostRequest::Stop,
+        b"go" => HostRequest::Go,
         _ => return Err(LineFault::NotACommand),
     };
     words.end()?;
@@ -276,7 +276,7 @@ fn read_request(alloc: Global, word: &[u8], words: Words<'_>) -> Result<Request,
 }
 
 /// `FLAGS TEXT` behind `say NODE CH`.
-fn read_say(alloc: Global, words: Words<'_>) -> Result<Request, LineFault> {
+fn read_say(alloc: Global, words: Words<'_>) -> Result<HostRequest, LineFault> {
     let mut words = words;
     let (qualified, delivery) = match words.next_word()? {
         b"-" => (false, false),
@@ -286,7 +286,7 @@ fn read_say(alloc: Global, words: Words<'_>) -> Result<Request, LineFault> {
         _ => return Err(LineFault::NotACommand),
     };
     let octets = read_text(alloc, words.text())?;
-    Ok(Request::Say {
+    Ok(HostRequest::Say {
         octets,
         qualified,
         delivery,
@@ -294,7 +294,7 @@ fn read_say(alloc: Global, words: Words<'_>) -> Result<Request, LineFault> {
 }
 
 /// `TEXT` behind `int NODE CH`.
-fn read_interrupt(alloc: Global, words: Words<'_>) -> Result<Request, LineFault> {
+fn read_interrupt(alloc: Global, words: Words<'_>) -> Result<HostRequest, LineFault> {
     let octets = read_text(alloc, words.text())?;
-    Ok(Request::Interrupt { octets })
+    Ok(HostRequest::Interrupt { octets })
 }

@@ -13,7 +13,7 @@ use Rattle.packet_channel.specs.declared.taken.Taken.{Taken}
 use Rattle.packet_channel.specs.declared.taken.Taken.TheVariants as taken
 use Rattle.line_nodes.specs.declared.fault.NodeFault.{NodeFault}
 use Rattle.line_nodes.specs.declared.fault.NodeFault.TheVariants.{Call, Channel}
-use Rattle.line_nodes.specs.declared.pad.KeyAnswer.TheVariants.{Dropped}
+use Rattle.packet_pad.specs.declared.key.KeyAnswer.TheVariants.{Dropped}
 use Rattle.line_nodes.specs.declared.note.HostNote.{HostNote}
 use Rattle.line_nodes.specs.declared.note.NoteKind.{NoteKind}
 use Rattle.line_nodes.specs.declared.note.NoteKind.TheVariants.{Incoming, Connected, Cleared, Reset}

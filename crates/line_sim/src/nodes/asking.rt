@@ -4,7 +4,7 @@ ghost use Rattle.line_sim.specs.declared.event.Event.TheVariants as event_is;
 ghost use Rattle.line_sim.specs.IsNet.{AreQuiet};
 ghost use Rattle.line_sim.specs.Runs.{Happens};
 
-use crate::event::{Answer, Outcome, Request, StepFault};
+use crate::event::{Answer, Outcome, StepFault};
 use crate::nodes::Nodes;
 use crate::room::{Room, bare_answer};
 use crate::serve::{serve_ask, serve_call, serve_key, serve_take};
@@ -13,6 +13,7 @@ use line_nodes::{KeyAnswer, Place};
 use link_timers::Role;
 use memory_line::Line;
 use packet_codec::Address;
+use packet_host::HostRequest;
 
 /// A key is written by its step of editing and by the packet that it makes.
 const KEY_WRITES: usize = 2;
@@ -68,8 +69,6 @@ impl<L: Line> Nodes<L> {
         let mut room = Room::new(self.alloc)?;
         self.book.reserve(1)?;
         let at = self.place_of(node);
-        // an address has 1 to 15 decimal digits
-        let _ = address.digits();
         let user_data = user_data.as_slice();
         let (line, book) = (&mut self.line, &mut self.book);
         let channel = match at.role {
@@ -84,7 +83,7 @@ impl<L: Line> Nodes<L> {
         &mut self,
         node: usize,
         channel: u16,
-        request: &Request,
+        request: &HostRequest,
     ) -> Result<Answer, StepFault>
         requires { AreQuiet self.old }
         ensures { Happens L.service (event_is.Ask node channel request.now) self.old result self.new }
