@@ -82,10 +82,10 @@ first-line L dte_place dce_place d line l b =
     let up = landed L FromDte (frames_of (new_dte d line)) no_flights b.between b.from_dte in
     let down = landed L FromDce (frames_of (new_dce line)) b.between l b.from_dce in
     let going : l.from_dte ≡ chosen up.kept (end_of (new_dte d line)).line.frames =
-        ap (λ (x : Flights). x.from_dte) down.is ∙ ap (λ (x : Flights). x.from_dte) up.is in
+    ap (λ (x : Flights). x.from_dte) down.is ∙ ap (λ (x : Flights). x.from_dte) up.is in
     let coming : l.from_dce ≡ chosen down.kept (end_of (new_dce line)).line.frames =
-        ap (λ (x : Flights). x.from_dce) down.is
-        ∙ ap (λ (x : Flights). x.from_dce ++ chosen down.kept (end_of (new_dce line)).line.frames) up.is in
+    ap (λ (x : Flights). x.from_dce) down.is
+    ∙ ap (λ (x : Flights). x.from_dce ++ chosen down.kept (end_of (new_dce line)).line.frames) up.is in
     λ i. record { dte = end-drained (new_dte d line) i; dce = end-drained (new_dce line) i; up = going i; down = coming i }
 
 pub made_lines : (L : LineService) (dte_place dce_place : ℕ) (d : NewDte) (line : EndParams) (l : Flights)

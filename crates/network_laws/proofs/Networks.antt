@@ -208,7 +208,7 @@ happened_with L event s n line l book at book_at_line h role between flights is_
     let own : Turn = turn_of event role p.node book in
     let where_is = there_is L s.nodes line l book h role in
     let seen : Seen (all_written_at line role u.writes s.register) (set n.books line (all_written role u.writes book)) =
-        writes_seen s.register n.books line book role u.writes book_at_line n.seen in
+    writes_seen s.register n.books line book role u.writes book_at_line n.seen in
     let S : Book → Type 0 = λ b. Seen (with_book line b s.register) (set n.books line own.book) in
     let O : Book → Type 0 = λ b. Seen (all_written_at line role u.writes s.register) (set n.books line b) in
     changed_network L s n (set s.nodes (place_at role l) (record p { node = drained turn.node })) (with_book line turn.book s.register) line l flights own.book at

@@ -98,8 +98,8 @@ typed_holds L s n f place p i r at pad there node =
     let h : LineHolds L s.nodes p.line st.line b.0 = n.lines p.line st.line b.0 st.there b.1 in
     let is = pad_place L s.nodes p.line st.line b.0 place p h at pad st.at_end in
     let w : IsOfBook b.0 i r =
-        of_one_line s.register n.books p.line b.0 i r n.seen (books_hold L s n f) b.1
-        (subst (λ (k : ℕ). IsAtNoOther p.line k n.books) (sym node) (at_no_other L s n place p at)) there in
+    of_one_line s.register n.books p.line b.0 i r n.seen (books_hold L s n f) b.1
+    (subst (λ (k : ℕ). IsAtNoOther p.line k n.books) (sym node) (at_no_other L s n place p at)) there in
     typed_record b.0 i r w
     (typed_line L (line_state st.line h.dte h.dce b.0) h.holds is.1 w.place w.own w.own_there
     (sym (ap (λ (x : RecordValue). x.node) w.same) ∙ node ∙ sym is.0))

@@ -135,6 +135,7 @@ node_made place n at l there =
     by_line zero l e = ap (λ (x : NewLine). x.params) (sym (same_Some (record { dte = 0; dce = 1; params = params }) l e))
     by_line (suc zero) l e = ap (λ (x : NewLine). x.params) (sym (same_Some (record { dte = 2; dce = 3; params = params }) l e))
     by_line (suc (suc line)) l e = absurd (none-some l e)
+
     by : (place : ℕ) (n : NewNode) → slice_get plan.nodes place ≡ Some n → slice_get network.nodes place ≡ Some (placed_new n params)
     by zero n e = ap (λ (x : NewNode). Some (placed_new x params)) (same_Some (node 0 Dte) n e)
     by (suc zero) n e = ap (λ (x : NewNode). Some (placed_new x params)) (same_Some (node 0 Dce) n e)

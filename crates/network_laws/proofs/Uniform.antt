@@ -33,7 +33,6 @@ pub record IsUniform (role : Role) (turn : Book → Turn) : Type 0 where
 nothing : (role : Role) (n : NodeState) → IsUniform role (unchanged n)
 nothing role n = record { node = λ b c. refl; writes = []; written = λ b. refl }
 
-
 only_told : (role : Role) (n : NodeState) → IsUniform role (λ b. told role n b)
 only_told role n = record { node = λ b c. refl; writes = Told (end_of n).notes ∷ []; written = λ b. refl }
 

@@ -29,7 +29,7 @@ returns-clause-served g c =
     let after : NodeState = Pad (keys p c.args.octet) in
     let q : IsQuiet _ = subst IsQuiet (ap node_of c.in-Pad.is) c.requires.quiet in
     let P : NodeState → Type 0 = λ n. Served g.L.Line.service role c.args.at.node n (keys_turn role n c.args.octet b) (g.L.Line.flights c.args.line.now)
-        c.end_event.new.room.frames.items c.end_event.new.room.notes.items (node_of c.end_event.new.node) (g.L.Line.flights c.end_event.new.line) c.end_event.new.book.book in
+    c.end_event.new.room.frames.items c.end_event.new.room.notes.items (node_of c.end_event.new.node) (g.L.Line.flights c.end_event.new.line) c.end_event.new.book.book in
     subst P (sym (ap node_of c.in-Pad.is))
     (served_as g.L.Line.service role c.args.at.node after (Pad p) (reads role after b) (pad_keys role p c.args.octet b) _ _ _ _ _ _ refl
     (key_reads role p c.args.octet b q.noted q.node.read) (rw (← c.on_key-answer.ensures.pad) c.end_event.ensures))
