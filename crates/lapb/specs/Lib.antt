@@ -8,7 +8,6 @@ pub mod Defects
 pub mod Offers
 pub mod Unsent
 pub mod Params
-pub mod EffectView
 pub mod OutView
 pub mod LinkView
 pub mod Held

@@ -60,51 +60,33 @@ abbrev pub with_frames : List Octets → List Octets → List Octets
 with_frames old [] = old
 with_frames old (frame ∷ more) = take most_frames (old ++ frame ∷ more)
 
--- what a rule does besides changing the link
-pub record Effect : Type 0 where
-  pub frames : List FrameValue
-  pub note : Note
-  pub accepted : Option Octets
-  pub anew : Bool
-
-abbrev pub effect_of : Step → Effect
-effect_of step = record {
-  frames = step.frames;
-  note = step.note;
-  accepted = step.accepted;
-  anew = step.anew;
-}
-
--- nothing happens
-abbrev pub no_effect : Effect
-no_effect = record { frames = []; note = Note.Nothing; accepted = None; anew = false }
-
--- each frame has a spelling
-abbrev pub AreSpelt : List FrameValue → Type 0
-AreSpelt [] = Unit {0}
-AreSpelt (frame ∷ frames) = HasSpelling frame × AreSpelt frames
-
 -- what becomes of T1, which ran before or not and is to run now or not
 abbrev pub timing_by : (ran runs anew : Bool) → Timing
 timing_by ran runs anew =
     if runs then (if anew || not ran then Timing.Start else Timing.Keep) else Timing.Stop
 
--- what an effect at an end of this role adds
-abbrev pub with_effect : Out → Role → (ran runs : Bool) → Effect → Out
-with_effect out role ran runs effect = record {
-  frames = with_frames out.frames (map (spelling role) effect.frames);
-  note = effect.note;
-  accepted = is_some effect.accepted;
-  timer = timing_after out.timer (timing_by ran runs effect.anew);
+-- what a step of an end of this role adds, T1 aside
+abbrev pub with_step : Out → Role → Step → Out
+with_step out role step = record out {
+  frames = with_frames out.frames (map (spelling role) step.frames);
+  note = step.note;
+  accepted = is_some step.accepted;
 }
 
--- what a step that leads from this link adds
+-- the same with what becomes of T1, of a step that leads from this link
 abbrev pub gathered : Out → Link → Step → Out
-gathered out before step = with_effect out before.role (runs before) (runs step.link) (effect_of step)
+gathered out before step = record (with_step out before.role step) {
+  timer = timing_after out.timer (timing_by (runs before) (runs step.link) step.anew);
+}
 
 -- RR as a response with F = 1, if it is due, and nothing else
-abbrev pub answered : Bool → ℕ → Effect
-answered due nr = record no_effect { frames = answers due nr }
+abbrev pub answered : Out → Role → (due : Bool) → ℕ → Out
+answered out role due nr = record {
+  frames = with_frames out.frames (map (spelling role) (answers due nr));
+  note = Note.Nothing;
+  accepted = false;
+  timer = out.timer;
+}
 
 -- a frame with this control octet is rejected for its N(R)
 abbrev pub number_rejected : Link → (control : ℕ) → (is_response pf : Bool) → Step

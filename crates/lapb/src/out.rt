@@ -1,11 +1,9 @@
-ghost use Rattle.std.specs.Prelude.{◌≡◌, ◌∷◌, ◌++◌, [], length, map, take, drop, false, ◌≤◌};
+ghost use Rattle.std.specs.Prelude.{◌≡◌, ◌∷◌, ◌++◌, [], length, take, drop, true, false, ◌≤◌};
 ghost use Rattle.frame_codec.specs.Spelling.{spelling, HasSpelling};
 ghost use Rattle.frame_codec.specs.Views.{value_of};
-ghost use Rattle.lapb.specs.Out.{most_frames, no_out, with_frames, with_effect, timing_by, AreSpelt};
-ghost use Rattle.lapb.specs.EffectView.{frames_value};
+ghost use Rattle.lapb.specs.Out.{most_frames, no_out, with_frames, timing_by};
 ghost use Rattle.lapb.specs.Machine.{timing_after};
 
-use crate::effect::Effect;
 use crate::note::{Note, Timing};
 use frame_codec::{Frame, FrameBuf, write_frame};
 use link_timers::Role;
@@ -133,32 +131,19 @@ impl LinkOut {
         self.timer
     }
 
-    /// Adds what a rule did at an end of this role. T1 ran before it, and is to run now.
-    pub(crate) fn add(&mut self, role: Role, ran: bool, runs: bool, effect: Effect<'_>)
-        ensures { self.new ≡ with_effect self.old role ran runs effect.entry }
+    /// What a call tells of the link. It accepts no packet, unless `accept` follows.
+    pub(crate) fn tell(&mut self, note: Note)
+        ensures { self.new ≡ record self.old { note = note; accepted = false } }
     {
-        let Effect {
-            frame,
-            note,
-            accepted,
-            anew,
-        } = effect;
-        self.put_any(role, frame);
         self.note = note;
-        self.accepted = accepted.is_some();
-        self.set_timer(ran, runs, anew);
+        self.accepted = false;
     }
 
-    fn put_any(&mut self, role: Role, frame: Option<Frame<'static>>)
-        requires { AreSpelt (frames_value frame) }
-        ensures { self.new ≡ record self.old {
-          frames = with_frames self.old.frames (map (spelling role)
-              (frames_value frame.entry));
-        } }
+    /// The frame that the call took carries the next packet.
+    pub(crate) fn accept(&mut self)
+        ensures { self.new ≡ record self.old { accepted = true } }
     {
-        if let Some(frame) = frame {
-            self.put(role, &frame);
-        }
+        self.accepted = true;
     }
 
     /// Ends a call that tells nothing of the link. T1 ran before it, and is to run now.
@@ -170,8 +155,7 @@ impl LinkOut {
               self.old.timer (timing_by ran runs false);
         } }
     {
-        self.note = Note::Nothing;
-        self.accepted = false;
+        self.tell(Note::Nothing);
         self.set_timer(ran, runs, false);
     }
 

@@ -3,21 +3,19 @@ ghost use Rattle.std.specs.Prelude.{◌≡◌, false, ◌≤◌, ◌<◌, length
 ghost use Rattle.flow_window.specs.Pool.{Holds, Balances, in_use};
 ghost use Rattle.frame_codec.specs.Spelling.{most_information};
 ghost use Rattle.lapb.specs.Machine as machine;
+ghost use Rattle.lapb.specs.Machine.{timing_after};
 ghost use Rattle.lapb.specs.Octets.{on_octets};
 ghost use Rattle.lapb.specs.Named.{Session, Agrees, Keeps, after_offer};
 ghost use Rattle.lapb.specs.NamedOctets.{NamesAfterOctets};
 ghost use Rattle.lapb.specs.Offers.{refusal};
-ghost use Rattle.lapb.specs.Out.{effect_of, gathered, with_effect};
+ghost use Rattle.lapb.specs.Out.{with_step, gathered, timing_by};
 
-use crate::effect::{Effect, command};
-use crate::link::phases::sends_disconnected;
+use crate::sent::command;
 use crate::link::{Link, NO_REPORT, OfferFault};
-use crate::note::Note;
 use crate::out::LinkOut;
 use crate::phase::Phase;
 use flow_window::pool::Pool;
 use frame_codec::FrameKind;
-use link_timers::Role;
 
 impl Link {
     /// Sets the link up: a DTE sends SABM, a DCE asks for it by DM (X.25 2.4.4.1). Where a DTE is setting the link up
@@ -50,9 +48,9 @@ impl Link {
         // For every session that agrees with the link.
         ensures named { Keeps self.old.link (machine.relink self.old.link) }
     {
-        let (role, ran) = (self.role, self.runs());
-        let effect = self.relink_rule();
-        self.finish(role, ran, effect, out, pool);
+        let ran = self.runs();
+        let anew = self.relink_rule(out);
+        self.finish(ran, anew, out, pool);
     }
 
     /// Begins anew after a restart of the node, as a link that was never set up. What went before is forgotten.
@@ -86,9 +84,9 @@ impl Link {
         ensures packet { (packet : machine.Octets) → (on_octets self.old.link bytes.now).accepted ≡ Some packet
             → packet ≡ drop 2 bytes.now }
     {
-        let (role, ran) = (self.role, self.runs());
-        let effect = self.take_octets(bytes);
-        self.finish(role, ran, effect, out, pool);
+        let ran = self.runs();
+        let anew = self.take_octets(bytes, out);
+        self.finish(ran, anew, out, pool);
     }
 
     /// Takes an expiry of T1 (X.25 2.4.8.1). Where T1 does not run nothing happens.
@@ -104,90 +102,80 @@ impl Link {
         // For every session that agrees with the link.
         ensures named { Keeps self.old.link (machine.on_t1 self.old.link) }
     {
-        let (role, ran) = (self.role, self.runs());
-        let effect = self.expire();
-        self.finish(role, ran, effect, out, pool);
+        let ran = self.runs();
+        let anew = self.expire(out);
+        self.finish(ran, anew, out, pool);
     }
 
-    // Ends a call by what its rule did: the buffers of the packets that it gave up go back.
-    fn finish(
-        &mut self,
-        role: Role,
-        ran: bool,
-        effect: Effect<'_>,
-        out: &mut LinkOut,
-        pool: &mut Pool,
-    )
+    // Ends a call after its rule: what becomes of T1, and the buffers of the packets that the rule gave up go back.
+    fn finish(&mut self, ran: bool, anew: bool, out: &mut LinkOut, pool: &mut Pool)
         requires { Holds pool.old self.old.held }
         ensures link { self.new.link ≡ self.old.link }
         ensures pool { Balances pool.old self.old.held pool.new self.new.held }
         ensures tight { length self.new.held ≡ length self.new.link.queue }
-        ensures out { out.new ≡ with_effect out.old role ran (machine.runs self.old.link) effect.entry }
+        ensures out { out.new ≡ record out.old {
+          timer = timing_after out.old.timer (timing_by ran (machine.runs
+              self.old.link) anew);
+        } }
     {
-        out.add(role, ran, self.runs(), effect);
+        out.set_timer(ran, self.runs(), anew);
         self.queue.give_back(pool);
     }
 
-    fn expire(&mut self) -> Effect<'static>
+    fn expire(&mut self, out: &mut LinkOut) -> bool
         ensures link { self.new ≡ record self.old { link = (machine.on_t1 self.old.link).link } }
-        ensures effect { result ≡ effect_of (machine.on_t1 self.old.link) }
+        ensures out { out.new ≡ with_step out.old self.old.link.role (machine.on_t1 self.old.link) }
+        ensures anew { result ≡ (machine.on_t1 self.old.link).anew }
     {
         if !self.runs() {
-            return Effect::nothing();
+            return self.still(out);
         }
-        self.expire_rule()
+        self.expire_rule(out)
     }
 
-    fn expire_rule(&mut self) -> Effect<'static>
+    fn expire_rule(&mut self, out: &mut LinkOut) -> bool
         ensures link { self.new ≡ record self.old {
           link = (machine.expire_in self.old.link.phase self.old.link).link;
         } }
-        ensures effect { result ≡ effect_of (machine.expire_in self.old.link.phase self.old.link) }
+        ensures out { out.new ≡ with_step out.old self.old.link.role (machine.expire_in self.old.link.phase
+            self.old.link) }
+        ensures anew { result ≡ (machine.expire_in self.old.link.phase self.old.link).anew }
     {
         match self.phase {
-            Phase::Down => Effect {
-                anew: true,
-                ..sends_disconnected(false)
-            },
-            Phase::SettingUp => Effect {
-                frame: Some(command(FrameKind::Sabm, self.bit)),
-                note: Note::Nothing,
-                accepted: None,
-                anew: true,
-            },
+            Phase::Down => {
+                self.sends_disconnected(false, out);
+                true
+            }
+            Phase::SettingUp => {
+                self.sends(&command(FrameKind::Sabm, self.bit), out);
+                true
+            }
             Phase::Up => {
                 if self.polls >= self.n2 {
-                    self.relink_rule()
+                    self.relink_rule(out)
                 } else {
-                    self.poll()
+                    self.poll(out)
                 }
             }
-            Phase::Rejecting => Effect {
-                anew: true,
-                ..self.sends_report(false)
-            },
+            Phase::Rejecting => {
+                self.sends_report(false, out);
+                true
+            }
         }
     }
 
     // An RR command with P = 1.
-    fn poll(&mut self) -> Effect<'static>
+    fn poll(&mut self, out: &mut LinkOut) -> bool
         requires { self.old.link.polls < self.old.link.n2 }
         ensures link { self.new ≡ record self.old { link = (machine.poll self.old.link).link } }
-        ensures effect { result ≡ effect_of (machine.poll self.old.link) }
+        ensures out { out.new ≡ with_step out.old self.old.link.role (machine.poll self.old.link) }
+        ensures anew { result ≡ (machine.poll self.old.link).anew }
     {
         self.polling = true;
         self.polls += 1;
-        Effect {
-            frame: Some(command(
-                FrameKind::Rr {
-                    nr: self.receive.expected(),
-                },
-                true,
-            )),
-            note: Note::Nothing,
-            accepted: None,
-            anew: true,
-        }
+        let nr = self.receive.expected();
+        self.sends(&command(FrameKind::Rr { nr }, true), out);
+        true
     }
 
     /// Takes a packet that fits into an I frame, to be sent by `settle` when it may go.

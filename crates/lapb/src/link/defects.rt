@@ -6,11 +6,11 @@ ghost use Rattle.frame_codec.specs.Views.{report_of};
 ghost use Rattle.lapb.specs.Machine as machine;
 ghost use Rattle.lapb.specs.Octets.{on_fault, on_octets};
 ghost use Rattle.lapb.specs.Defects.{defect_of};
-ghost use Rattle.lapb.specs.Out.{effect_of};
+ghost use Rattle.lapb.specs.Out.{with_step};
 
-use crate::effect::Effect;
 use crate::link::Link;
 use crate::link::setting::Reason;
+use crate::out::LinkOut;
 use crate::phase::Phase;
 use frame_codec::{FrameFault, Rejection, read_frame};
 use link_timers::Role;
@@ -26,41 +26,46 @@ pub(crate) enum Defect {
 impl Link {
     ghost use Rattle.lapb.specs.LinkView.{IsReport};
 
-    pub(crate) fn take_octets<'a>(&mut self, bytes: &'a [u8]) -> Effect<'a>
+    pub(crate) fn take_octets(&mut self, bytes: &[u8], out: &mut LinkOut) -> bool
         ensures link { self.new ≡ record self.old { link = (on_octets self.old.link bytes.now).link } }
-        ensures effect { result ≡ effect_of (on_octets self.old.link bytes.now) }
+        ensures out { out.new ≡ with_step out.old self.old.link.role (on_octets self.old.link bytes.now) }
+        ensures anew { result ≡ (on_octets self.old.link bytes.now).anew }
     {
         match read_frame(bytes, self.role) {
-            Ok(frame) => return self.take_frame(&frame),
-            Err(fault) => self.take_fault(fault, bytes),
+            Ok(frame) => self.take_frame(&frame, out),
+            Err(fault) => self.take_fault(fault, bytes, out),
         }
     }
 
-    fn take_fault(&mut self, fault: FrameFault, bytes: &[u8]) -> Effect<'static>
+    fn take_fault(&mut self, fault: FrameFault, bytes: &[u8], out: &mut LinkOut) -> bool
         requires { length bytes.now < 2 → fault ≡ FrameFault.TooShort }
         ensures link { self.new ≡ record self.old { link = (on_fault self.old.link fault bytes.now).link } }
-        ensures effect { result ≡ effect_of (on_fault self.old.link fault bytes.now) }
+        ensures out { out.new ≡ with_step out.old self.old.link.role (on_fault self.old.link fault bytes.now) }
+        ensures anew { result ≡ (on_fault self.old.link fault bytes.now).anew }
     {
         let [address, control, ..] = bytes else {
-            return Effect::nothing();
+            return self.still(out);
         };
         let is_response = *address == self.response_address();
         match fault {
-            FrameFault::TooShort | FrameFault::WrongAddress => Effect::nothing(),
+            FrameFault::TooShort | FrameFault::WrongAddress => self.still(out),
             FrameFault::UnknownControl => self.take_defect(
                 Defect::UndefinedControl,
                 *control,
                 is_response,
+                out,
             ),
             FrameFault::InfoNotAllowed => self.take_defect(
                 Defect::InformationNotAllowed,
                 *control,
                 is_response,
+                out,
             ),
             FrameFault::InfoTooLong => self.take_defect(
                 Defect::InformationTooLong,
                 *control,
                 is_response,
+                out,
             ),
         }
     }
@@ -76,19 +81,26 @@ impl Link {
     }
 
     // A frame whose control octet or information field cannot be taken.
-    fn take_defect(&mut self, defect: Defect, control: u8, is_response: bool) -> Effect<'static>
+    fn take_defect(
+        &mut self,
+        defect: Defect,
+        control: u8,
+        is_response: bool,
+        out: &mut LinkOut,
+    ) -> bool
         ensures link { self.new ≡ record self.old {
           link = (machine.on_defect self.old.link (defect_of defect) control
               is_response).link;
         } }
-        ensures effect { result ≡ effect_of (machine.on_defect self.old.link (defect_of defect) control is_response) }
+        ensures out { out.new ≡ with_step out.old self.old.link.role (machine.on_defect self.old.link (defect_of defect) control is_response) }
+        ensures anew { result ≡ (machine.on_defect self.old.link (defect_of defect) control is_response).anew }
     {
         match self.phase {
             Phase::Up => {
                 let report = self.defect_report(defect, control, is_response);
-                self.reject(report, control >> 4 & 1 == 1 && !is_response)
+                self.reject(report, control >> 4 & 1 == 1 && !is_response, out)
             }
-            Phase::Down | Phase::SettingUp | Phase::Rejecting => Effect::nothing(),
+            Phase::Down | Phase::SettingUp | Phase::Rejecting => self.still(out),
         }
     }
 

@@ -4,12 +4,13 @@ ghost use Rattle.frame_codec.specs.Frame as spec;
 ghost use Rattle.frame_codec.specs.Views.{content_of};
 ghost use Rattle.frame_codec.specs.Spelling.{HasNumbers, bit_of};
 ghost use Rattle.lapb.specs.Machine as machine;
-ghost use Rattle.lapb.specs.Out.{effect_of, answered, number_rejected, supervisory_taken};
+ghost use Rattle.lapb.specs.Out.{with_step, answered, number_rejected, supervisory_taken};
 
-use crate::effect::{Effect, response};
+use crate::sent::response;
 use crate::link::Link;
 use crate::link::setting::Reason;
 use crate::note::Note;
+use crate::out::LinkOut;
 use flow_window::Offer;
 use frame_codec::{Frame, FrameKind};
 use link_timers::Role;
@@ -40,12 +41,14 @@ impl Link {
         back: bool,
         is_response: bool,
         pf: bool,
-    ) -> Effect<'static>
+        out: &mut LinkOut,
+    )
         ensures link { self.new ≡ record self.old {
           link = (machine.on_supervisory self.old.link busy back is_response
               pf).link;
         } }
-        ensures effect { result ≡ effect_of (machine.on_supervisory self.old.link busy back is_response pf) }
+        ensures out { out.new ≡ with_step out.old self.old.link.role
+            (machine.on_supervisory self.old.link busy back is_response pf) }
     {
         self.busy = busy;
         if back || is_response && pf {
@@ -59,88 +62,81 @@ impl Link {
         if pf && !is_response {
             self.owed = false;
         }
-        self.answer(pf && !is_response)
+        self.answer(pf && !is_response, out);
     }
 
     // RR as a response with F = 1, if it is due.
-    fn answer(&self, due: bool) -> Effect<'static>
-        ensures { result ≡ answered due self.now.link.expected }
+    fn answer(&self, due: bool, out: &mut LinkOut)
+        ensures { out.new ≡ answered out.old self.now.link.role due self.now.link.expected }
     {
-        if !due {
-            return Effect::nothing();
-        }
-        Effect {
-            frame: Some(response(
-                FrameKind::Rr {
-                    nr: self.receive.expected(),
-                },
-                true,
-            )),
-            note: Note::Nothing,
-            accepted: None,
-            anew: false,
+        out.tell(Note::Nothing);
+        if due {
+            let nr = self.receive.expected();
+            out.put(self.role, &response(FrameKind::Rr { nr }, true));
         }
     }
 
     // An I frame in sequence is accepted.
-    fn accept<'a>(&mut self, pf: bool, packet: &'a [u8]) -> Effect<'a>
-        ensures link { self.new ≡ record self.old { link = (machine.accept self.old.link pf packet.now).link } }
-        ensures effect { result ≡ effect_of (machine.accept self.old.link pf packet.now) }
+    fn accept(&mut self, pf: bool, out: &mut LinkOut)
+        ensures link { (packet : machine.Octets) → self.new ≡ record self.old {
+          link = (machine.accept self.old.link pf packet).link;
+        } }
+        ensures out { (packet : machine.Octets) → out.new ≡ with_step out.old self.old.link.role
+            (machine.accept self.old.link pf packet) }
     {
         let expected = self.receive.expected();
         let _ = self.receive.offer(expected);
         self.rejecting = false;
         self.owed = !pf;
-        Effect {
-            accepted: Some(packet),
-            ..self.answer(pf)
-        }
+        self.answer(pf, out);
+        out.accept();
     }
 
     // An I frame out of sequence is discarded, and the first such one answered by REJ.
-    fn discard(&mut self, pf: bool) -> Effect<'static>
+    fn discard(&mut self, pf: bool, out: &mut LinkOut)
         ensures link { self.new ≡ record self.old { link = (machine.discard self.old.link pf).link } }
-        ensures effect { result ≡ effect_of (machine.discard self.old.link pf) }
+        ensures out { out.new ≡ with_step out.old self.old.link.role (machine.discard self.old.link pf) }
     {
         let rejecting = self.rejecting;
         self.rejecting = true;
         self.owed = self.owed && rejecting && !pf;
         if rejecting {
-            return self.answer(pf);
-        }
-        Effect {
-            frame: Some(response(
-                FrameKind::Rej {
-                    nr: self.receive.expected(),
-                },
-                pf,
-            )),
-            note: Note::Nothing,
-            accepted: None,
-            anew: false,
+            self.answer(pf, out);
+        } else {
+            let nr = self.receive.expected();
+            self.sends(&response(FrameKind::Rej { nr }, pf), out);
         }
     }
 
     // An I frame whose N(R) was taken.
-    fn on_information<'a>(&mut self, ns: u8, pf: bool, packet: &'a [u8]) -> Effect<'a>
-        ensures link { self.new ≡ record self.old {
-          link = (machine.on_information self.old.link ns pf
-              packet.now).link;
+    fn on_information(&mut self, ns: u8, pf: bool, out: &mut LinkOut)
+        ensures link { (packet : machine.Octets) → self.new ≡ record self.old {
+          link = (machine.on_information self.old.link ns pf packet).link;
         } }
-        ensures effect { result ≡ effect_of (machine.on_information self.old.link ns pf packet.now) }
+        ensures out { (packet : machine.Octets) → out.new ≡ with_step out.old self.old.link.role
+            (machine.on_information self.old.link ns pf packet) }
     {
         if ns == self.receive.expected() {
-            return self.accept(pf, packet);
+            self.accept(pf, out);
+        } else {
+            self.discard(pf, out);
         }
-        self.discard(pf)
     }
 
     // N(R) of no number from V(A) to V(M).
-    fn reject_number(&mut self, control: u8, is_response: bool, pf: bool) -> Effect<'static>
+    fn reject_number(
+        &mut self,
+        control: u8,
+        is_response: bool,
+        pf: bool,
+        out: &mut LinkOut,
+    ) -> bool
         ensures link { self.new ≡ record self.old {
           link = (number_rejected self.old.link control is_response pf).link;
         } }
-        ensures effect { result ≡ effect_of (number_rejected self.old.link control is_response pf) }
+        ensures out { out.new ≡ with_step out.old self.old.link.role
+            (number_rejected self.old.link control is_response pf) }
+        ensures anew { result ≡ (number_rejected self.old.link control is_response pf).anew }
     {
         let reason = Reason {
             w: false,
@@ -149,33 +145,32 @@ impl Link {
             z: true,
         };
         let report = self.report_on(control, is_response, reason);
-        self.reject(report, pf && !is_response)
+        self.reject(report, pf && !is_response, out)
     }
 
-    fn take_information<'a>(
+    fn take_information(
         &mut self,
         ns: u8,
         nr: u8,
-        packet: &'a [u8],
         is_response: bool,
         pf: bool,
-    ) -> Effect<'a>
+        out: &mut LinkOut,
+    ) -> bool
         requires ns { ns < 8 }
         requires nr { nr < 8 }
-        ensures link { self.new ≡ record self.old {
-          link = (machine.in_up self.old.link.role self.old.link (spec.I ns nr packet.now)
-              is_response pf).link;
+        ensures link { (packet : machine.Octets) → self.new ≡ record self.old {
+          link = (machine.in_up self.old.link.role self.old.link (spec.I ns nr packet) is_response pf).link;
         } }
-        ensures effect { result ≡ effect_of (machine.in_up self.old.link.role self.old.link (spec.I ns nr
-            packet.now) is_response pf) }
+        ensures out { (packet : machine.Octets) → out.new ≡ with_step out.old self.old.link.role
+            (machine.in_up self.old.link.role self.old.link (spec.I ns nr packet) is_response pf) }
+        ensures anew { (packet : machine.Octets) → result ≡ (machine.in_up self.old.link.role self.old.link (spec.I ns
+            nr packet) is_response pf).anew }
     {
         let Some(newly) = self.acknowledge(nr) else {
-            return self.reject_number(control_octet(nr, pf, ns * 2), is_response, pf);
+            return self.reject_number(control_octet(nr, pf, ns * 2), is_response, pf, out);
         };
-        Effect {
-            anew: newly > 0,
-            ..self.on_information(ns, pf, packet)
-        }
+        self.on_information(ns, pf, out);
+        newly > 0
     }
 
     // RR, RNR or REJ, by the low half of its control octet.
@@ -185,55 +180,51 @@ impl Link {
         rule: Supervisory,
         is_response: bool,
         pf: bool,
-    ) -> Effect<'static>
+        out: &mut LinkOut,
+    ) -> bool
         requires nr { nr < 8 }
         requires low { rule.low < 16 }
         ensures link { self.new ≡ record self.old {
           link = (supervisory_taken self.old.link nr rule.low rule.busy
               rule.back is_response pf).link;
         } }
-        ensures effect { result ≡ effect_of (supervisory_taken self.old.link nr rule.low rule.busy rule.back is_response
-            pf) }
+        ensures out { out.new ≡ with_step out.old self.old.link.role (supervisory_taken self.old.link nr rule.low
+            rule.busy rule.back is_response pf) }
+        ensures anew { result ≡ (supervisory_taken self.old.link nr rule.low rule.busy rule.back is_response pf).anew }
     {
-        match self.acknowledge(nr) {
-            Some(newly) => Effect {
-                anew: newly > 0,
-                ..self.on_supervisory(rule.busy, rule.back, is_response, pf)
-            },
-            None => self.reject_number(control_octet(nr, pf, rule.low), is_response, pf),
-        }
+        let Some(newly) = self.acknowledge(nr) else {
+            return self.reject_number(control_octet(nr, pf, rule.low), is_response, pf, out);
+        };
+        self.on_supervisory(rule.busy, rule.back, is_response, pf, out);
+        newly > 0
     }
 
-    pub(crate) fn in_up<'a>(&mut self, frame: &Frame<'a>) -> Effect<'a>
+    pub(crate) fn in_up(&mut self, frame: &Frame<'_>, out: &mut LinkOut) -> bool
         requires { HasNumbers (content_of frame.now.kind) }
         ensures link { self.new ≡ record self.old {
           link = (machine.in_up self.old.link.role self.old.link (content_of frame.now.kind)
               frame.now.response frame.now.pf).link;
         } }
-        ensures effect { result ≡ effect_of (machine.in_up self.old.link.role self.old.link (content_of frame.now.kind)
-            frame.now.response frame.now.pf) }
+        ensures out { out.new ≡ with_step out.old self.old.link.role (machine.in_up self.old.link.role self.old.link
+            (content_of frame.now.kind) frame.now.response frame.now.pf) }
+        ensures anew { result ≡ (machine.in_up self.old.link.role self.old.link (content_of frame.now.kind)
+            frame.now.response frame.now.pf).anew }
     {
         let (is_response, pf) = (frame.response, frame.pf);
         match frame.kind {
-            FrameKind::I {
-                ns,
-                nr,
-                information,
-            } => {
-                return self.take_information(ns, nr, information, is_response, pf);
-            }
-            FrameKind::Rr { nr } => self.take_supervisory(nr, READY, is_response, pf),
-            FrameKind::Rnr { nr } => self.take_supervisory(nr, NOT_READY, is_response, pf),
-            FrameKind::Rej { nr } => self.take_supervisory(nr, REJECT, is_response, pf),
-            FrameKind::Disc => self.take_disc(pf),
-            FrameKind::Ua => Effect::nothing(),
+            FrameKind::I { ns, nr, .. } => self.take_information(ns, nr, is_response, pf, out),
+            FrameKind::Rr { nr } => self.take_supervisory(nr, READY, is_response, pf, out),
+            FrameKind::Rnr { nr } => self.take_supervisory(nr, NOT_READY, is_response, pf, out),
+            FrameKind::Rej { nr } => self.take_supervisory(nr, REJECT, is_response, pf, out),
+            FrameKind::Disc => self.take_disc(pf, out),
+            FrameKind::Ua => self.still(out),
             FrameKind::Sabm | FrameKind::Dm => match self.role {
-                Role::Dte => self.set_up(),
-                Role::Dce => Effect::nothing(),
+                Role::Dte => self.set_up(out),
+                Role::Dce => self.still(out),
             },
             FrameKind::Frmr(_) => match self.role {
-                Role::Dte => self.set_up(),
-                Role::Dce => self.disconnect(),
+                Role::Dte => self.set_up(out),
+                Role::Dce => self.disconnect(out),
             },
         }
     }

@@ -5,9 +5,9 @@ ghost use Rattle.frame_codec.specs.Spelling.{spelling, most_information};
 ghost use Rattle.lapb.specs.Machine as machine;
 ghost use Rattle.lapb.specs.Named.{Keeps};
 ghost use Rattle.lapb.specs.Unsent.{HasSentAll};
-ghost use Rattle.lapb.specs.Out.{gathered, with_frames, with_effect, no_effect};
+ghost use Rattle.lapb.specs.Out.{gathered, with_frames};
 
-use crate::effect::{command, response};
+use crate::sent::{command, response};
 use crate::link::Link;
 use crate::out::LinkOut;
 use crate::phase::Phase;

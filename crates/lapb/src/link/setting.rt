@@ -1,14 +1,16 @@
-//! Setting the link up and giving it up (X.25 2.4.4, 2.4.7), each rule with what it does besides.
+//! Setting the link up and giving it up (X.25 2.4.4, 2.4.7). A rule answers whether T1 starts anew.
 ghost use Rattle.std.specs.Prelude.{◌≡◌};
-ghost use Rattle.frame_codec.specs.Views.{report_of};
+ghost use Rattle.frame_codec.specs.Views.{report_of, value_of};
+ghost use Rattle.frame_codec.specs.Spelling.{HasSpelling};
 ghost use Rattle.lapb.specs.Machine as machine;
-ghost use Rattle.lapb.specs.Out.{effect_of};
+ghost use Rattle.lapb.specs.Out.{with_step};
 
-use crate::effect::{Effect, command, left, response};
+use crate::sent::{command, response};
 use crate::link::Link;
 use crate::note::Note;
+use crate::out::LinkOut;
 use crate::phase::Phase;
-use frame_codec::{FrameKind, Rejection};
+use frame_codec::{Frame, FrameKind, Rejection};
 use link_timers::Role;
 
 impl Link {
@@ -30,116 +32,122 @@ impl Link {
         self.repeats = false;
     }
 
-    // A set-up act of a DTE; the SABMs of an act carry one P, those of the next the other.
-    pub(crate) fn set_up(&mut self) -> Effect<'static>
-        ensures link { self.new ≡ record self.old { link = (machine.set_up self.old.link).link } }
-        ensures effect { result ≡ effect_of (machine.set_up self.old.link) }
+    // Nothing happens.
+    pub(crate) fn still(&self, out: &mut LinkOut) -> bool
+        ensures out { out.new ≡ with_step out.old self.now.link.role (machine.still self.now.link) }
+        ensures anew { result ≡ (machine.still self.now.link).anew }
     {
-        let note = left(self.phase);
+        out.tell(Note::Nothing);
+        false
+    }
+
+    // One frame is sent, and nothing else happens.
+    pub(crate) fn sends(&self, frame: &Frame<'_>, out: &mut LinkOut) -> bool
+        requires { HasSpelling (value_of frame.now) }
+        ensures out { out.new ≡ with_step out.old self.now.link.role (machine.sends self.now.link (value_of frame.now)) }
+        ensures anew { result ≡ (machine.sends self.now.link (value_of frame.now)).anew }
+    {
+        out.tell(Note::Nothing);
+        out.put(self.role, frame);
+        false
+    }
+
+    // A set-up act of a DTE; the SABMs of an act carry one P, those of the next the other.
+    pub(crate) fn set_up(&mut self, out: &mut LinkOut) -> bool
+        ensures link { self.new ≡ record self.old { link = (machine.set_up self.old.link).link } }
+        ensures out { out.new ≡ with_step out.old self.old.link.role (machine.set_up self.old.link) }
+        ensures anew { result ≡ (machine.set_up self.old.link).anew }
+    {
+        out.tell(left(self.phase));
         self.clear(Phase::SettingUp);
         self.bit = !self.bit;
-        Effect {
-            frame: Some(command(FrameKind::Sabm, self.bit)),
-            note,
-            accepted: None,
-            anew: true,
-        }
+        out.put(self.role, &command(FrameKind::Sabm, self.bit));
+        true
     }
 
     // A DCE asks to be set up.
-    pub(crate) fn disconnect(&mut self) -> Effect<'static>
+    pub(crate) fn disconnect(&mut self, out: &mut LinkOut) -> bool
         ensures link { self.new ≡ record self.old { link = (machine.disconnect self.old.link).link } }
-        ensures effect { result ≡ effect_of (machine.disconnect self.old.link) }
+        ensures out { out.new ≡ with_step out.old self.old.link.role (machine.disconnect self.old.link) }
+        ensures anew { result ≡ (machine.disconnect self.old.link).anew }
     {
-        let note = left(self.phase);
+        out.tell(left(self.phase));
         self.clear(Phase::Down);
         self.repeats = true;
-        Effect {
-            frame: Some(response(FrameKind::Dm, false)),
-            note,
-            accepted: None,
-            anew: true,
-        }
+        out.put(self.role, &response(FrameKind::Dm, false));
+        true
     }
 
-    pub(crate) fn relink_rule(&mut self) -> Effect<'static>
+    pub(crate) fn relink_rule(&mut self, out: &mut LinkOut) -> bool
         ensures link { self.new ≡ record self.old { link = (machine.relink self.old.link).link } }
-        ensures effect { result ≡ effect_of (machine.relink self.old.link) }
+        ensures out { out.new ≡ with_step out.old self.old.link.role (machine.relink self.old.link) }
+        ensures anew { result ≡ (machine.relink self.old.link).anew }
     {
         match (self.role, self.phase) {
-            (Role::Dte, Phase::SettingUp) => Effect::nothing(),
-            (Role::Dte, Phase::Down | Phase::Up | Phase::Rejecting) => self.set_up(),
-            (Role::Dce, _) => self.disconnect(),
+            (Role::Dte, Phase::SettingUp) => self.still(out),
+            (Role::Dte, Phase::Down | Phase::Up | Phase::Rejecting) => self.set_up(out),
+            (Role::Dce, _) => self.disconnect(out),
         }
     }
 
     // A DCE takes a SABM; it sends no I frame before it hears the DTE.
-    pub(crate) fn take_sabm(&mut self, pf: bool) -> Effect<'static>
+    pub(crate) fn take_sabm(&mut self, pf: bool, out: &mut LinkOut) -> bool
         ensures link { self.new ≡ record self.old { link = (machine.take_sabm self.old.link pf).link } }
-        ensures effect { result ≡ effect_of (machine.take_sabm self.old.link pf) }
+        ensures out { out.new ≡ with_step out.old self.old.link.role (machine.take_sabm self.old.link pf) }
+        ensures anew { result ≡ (machine.take_sabm self.old.link pf).anew }
     {
         self.clear(Phase::Up);
-        Effect {
-            frame: Some(response(FrameKind::Ua, pf)),
-            note: Note::Up,
-            accepted: None,
-            anew: false,
-        }
+        out.tell(Note::Up);
+        out.put(self.role, &response(FrameKind::Ua, pf));
+        false
     }
 
     // A DTE takes the UA of its act, and polls.
-    pub(crate) fn come_up(&mut self) -> Effect<'static>
+    pub(crate) fn come_up(&mut self, out: &mut LinkOut) -> bool
         ensures link { self.new ≡ record self.old { link = (machine.come_up self.old.link).link } }
-        ensures effect { result ≡ effect_of (machine.come_up self.old.link) }
+        ensures out { out.new ≡ with_step out.old self.old.link.role (machine.come_up self.old.link) }
+        ensures anew { result ≡ (machine.come_up self.old.link).anew }
     {
         self.clear(Phase::Up);
         self.heard = true;
         self.polling = true;
         self.polls = 1;
-        Effect {
-            frame: Some(command(FrameKind::Rr { nr: 0 }, true)),
-            note: Note::Up,
-            accepted: None,
-            anew: true,
-        }
+        out.tell(Note::Up);
+        out.put(self.role, &command(FrameKind::Rr { nr: 0 }, true));
+        true
     }
 
     // DISC is answered by UA.
-    pub(crate) fn take_disc(&mut self, pf: bool) -> Effect<'static>
+    pub(crate) fn take_disc(&mut self, pf: bool, out: &mut LinkOut) -> bool
         ensures link { self.new ≡ record self.old { link = (machine.take_disc self.old.link pf).link } }
-        ensures effect { result ≡ effect_of (machine.take_disc self.old.link pf) }
+        ensures out { out.new ≡ with_step out.old self.old.link.role (machine.take_disc self.old.link pf) }
+        ensures anew { result ≡ (machine.take_disc self.old.link pf).anew }
     {
-        let note = left(self.phase);
+        out.tell(left(self.phase));
         self.clear(Phase::Down);
-        Effect {
-            frame: Some(response(FrameKind::Ua, pf)),
-            note,
-            accepted: None,
-            anew: false,
-        }
+        out.put(self.role, &response(FrameKind::Ua, pf));
+        false
     }
 
     // A frame cannot be taken: a DTE sets the link up again, a DCE reports the frame by FRMR.
-    pub(crate) fn reject(&mut self, report: Rejection, pf: bool) -> Effect<'static>
+    pub(crate) fn reject(&mut self, report: Rejection, pf: bool, out: &mut LinkOut) -> bool
         requires { IsReport report }
         ensures link { self.new ≡ record self.old {
           link = (machine.reject_as self.old.link.role self.old.link
               (report_of report) pf).link;
         } }
-        ensures effect { result ≡ effect_of (machine.reject_as self.old.link.role self.old.link (report_of report) pf) }
+        ensures out { out.new ≡ with_step out.old self.old.link.role (machine.reject_as self.old.link.role self.old.link
+            (report_of report) pf) }
+        ensures anew { result ≡ (machine.reject_as self.old.link.role self.old.link (report_of report) pf).anew }
     {
         match self.role {
-            Role::Dte => self.set_up(),
+            Role::Dte => self.set_up(out),
             Role::Dce => {
-                let note = left(self.phase);
+                out.tell(left(self.phase));
                 self.clear(Phase::Rejecting);
                 self.report = report;
-                Effect {
-                    frame: Some(response(FrameKind::Frmr(report), pf)),
-                    note,
-                    accepted: None,
-                    anew: true,
-                }
+                out.put(self.role, &response(FrameKind::Frmr(report), pf));
+                true
             }
         }
     }
@@ -170,4 +178,14 @@ pub(crate) struct Reason {
     pub(crate) x: bool,
     pub(crate) y: bool,
     pub(crate) z: bool,
+}
+
+// What the packet layer is told where the link leaves this phase for none of a session.
+fn left(phase: Phase) -> Note
+    ensures { result ≡ machine.left phase }
+{
+    match phase {
+        Phase::Up => Note::Down,
+        Phase::Down | Phase::SettingUp | Phase::Rejecting => Note::Nothing,
+    }
 }
