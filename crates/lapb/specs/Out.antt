@@ -81,11 +81,10 @@ gathered out before step = record (with_step out before.role step) {
 
 -- RR as a response with F = 1, if it is due, and nothing else
 abbrev pub answered : Out → Role → (due : Bool) → ℕ → Out
-answered out role due nr = record {
+answered out role due nr = record out {
   frames = with_frames out.frames (map (spelling role) (answers due nr));
   note = Note.Nothing;
   accepted = false;
-  timer = out.timer;
 }
 
 -- a frame with this control octet is rejected for its N(R)

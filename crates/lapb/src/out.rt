@@ -69,8 +69,7 @@ impl LinkOut {
         ensures { self.new ≡ no_out }
     {
         self.clear_frames();
-        self.note = Note::Nothing;
-        self.accepted = false;
+        self.tell(Note::Nothing);
         self.timer = Timing::Keep;
     }
 

@@ -1,20 +1,23 @@
-ghost use Rattle.std.specs.Prelude.{◌≡◌, ◌≤◌, ◌<◌, ◌+◌, [], ◌∷◌, ◌++◌, length, drop, slice_get, Some};
+ghost use Rattle.std.specs.Prelude.{◌≡◌, ◌≤◌, ◌<◌, ◌+◌, [], ◌∷◌, ◌++◌, length, drop, slice_get, slice_set, Some, None};
 ghost use Rattle.flow_window.specs.Pool.{Holds, Balances};
 ghost use Rattle.lapb.specs.Machine.{is_empty};
-ghost use Rattle.lapb.specs.Held.{kept, AllTaken};
 
-use arrayvec::ArrayVec;
 use flow_window::pool::{BufNo, Pool};
 use std::marker::Model;
 
-// The most packets that a link holds.
-const PLACES: usize = 7;
+// One more than the most packets that a link holds.
+const PLACES: usize = 8;
 
 /// Up to seven packets in order, each in a buffer of a pool. Those that are given up hold their buffers until
 /// `give_back`.
+///
+/// The buffers lie in places that follow each other round, `count` of them from `first` on. The first `spent` of them
+/// are given up.
 #[derive(Drop)]
 pub(crate) struct Queue {
-    places: ArrayVec<Option<BufNo>, PLACES>,
+    places: [Option<BufNo>; PLACES],
+    first: usize,
+    count: usize,
     spent: usize,
 }
 
@@ -35,7 +38,9 @@ impl Queue {
         ensures { result ≡ record { packets = []; held = [] } }
     {
         Queue {
-            places: ArrayVec::new(),
+            places: [None, None, None, None, None, None, None, None],
+            first: 0,
+            count: 0,
             spent: 0,
         }
     }
@@ -45,7 +50,7 @@ impl Queue {
         ensures value { result ≡ length self.now.packets }
         ensures fits { result ≤ 7 }
     {
-        (self.places.len() - self.spent) as u8
+        (self.count - self.spent) as u8
     }
 
     pub(crate) fn is_empty(&self) -> bool
@@ -62,7 +67,8 @@ impl Queue {
           held = self.old.held ++ b ∷ [];
         } }
     {
-        self.places.push(Some(b));
+        self.places[(self.first + self.count) % PLACES] = Some(b);
+        self.count += 1;
     }
 
     /// The packet at a place.
@@ -72,7 +78,8 @@ impl Queue {
         ensures value { slice_get self.now.packets place ≡ Some result.now }
         ensures fits { length result.now ≤ pool.now.size }
     {
-        let Some(b) = &self.places[self.spent + usize::from(place)] else {
+        let place = (self.first + self.spent + usize::from(place)) % PLACES;
+        let Some(b) = &self.places[place] else {
             unreachable!();
         };
         pool.octets(b)
@@ -90,10 +97,11 @@ impl Queue {
     pub(crate) fn clear(&mut self)
         ensures { self.new ≡ record self.old { packets = [] } }
     {
-        self.spent = self.places.len();
+        self.spent = self.count;
     }
 
     /// Frees the buffers of the packets that were given up.
+    #[inline]
     pub(crate) fn give_back(&mut self, pool: &mut Pool)
         requires { Holds pool.old self.old.held }
         ensures packets { self.new.packets ≡ self.old.packets }
@@ -101,30 +109,33 @@ impl Queue {
         ensures fewer { length self.new.held ≤ length self.old.held }
         ensures pool { Balances pool.old self.old.held pool.new self.new.held }
     {
-        free_front(&mut self.places, self.spent, pool);
-        self.spent = 0;
+        for _ in 0..self.spent {
+            self.free_first(pool);
+        }
+    }
+
+    // Frees the buffer of the first packet, which was given up.
+    fn free_first(&mut self, pool: &mut Pool)
+        requires spent { length self.old.packets < length self.old.held }
+        requires holds { Holds pool.old self.old.held }
+        ensures queue { self.new ≡ record self.old { held = drop 1 self.old.held } }
+        ensures pool { Balances pool.old self.old.held pool.new self.new.held }
+    {
+        let Some(b) = take(&mut self.places, self.first) else {
+            unreachable!();
+        };
+        pool.free(b);
+        self.first = (self.first + 1) % PLACES;
+        self.count -= 1;
+        self.spent -= 1;
     }
 }
 
-fn free_front(places: &mut ArrayVec<Option<BufNo>, PLACES>, count: usize, pool: &mut Pool)
-    requires taken { AllTaken places.old.items }
-    requires holds { Holds pool.old (kept places.old.items) }
-    ensures places { places.new.items ≡ drop count places.old.items }
-    ensures pool { Balances pool.old (kept places.old.items) pool.new (kept places.new.items) }
+// What lies in a place, which is empty then.
+fn take(places: &mut [Option<BufNo>], place: usize) -> Option<BufNo>
+    requires { place < length places.old }
+    ensures value { slice_get places.old place ≡ Some result }
+    ensures places { places.new ≡ slice_set places.old place None }
 {
-    for _ in 0..count {
-        free_first(places, pool);
-    }
-}
-
-fn free_first(places: &mut ArrayVec<Option<BufNo>, PLACES>, pool: &mut Pool)
-    requires taken { AllTaken places.old.items }
-    requires holds { Holds pool.old (kept places.old.items) }
-    ensures places { places.new.items ≡ drop 1 places.old.items }
-    ensures pool { Balances pool.old (kept places.old.items) pool.new (kept places.new.items) }
-{
-    let Some(Some(b)) = places.pop_at(0) else {
-        return;
-    };
-    pool.free(b);
+    places[place].take()
 }

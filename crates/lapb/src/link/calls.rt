@@ -10,10 +10,10 @@ ghost use Rattle.lapb.specs.NamedOctets.{NamesAfterOctets};
 ghost use Rattle.lapb.specs.Offers.{refusal};
 ghost use Rattle.lapb.specs.Out.{with_step, gathered, timing_by};
 
-use crate::sent::command;
 use crate::link::{Link, NO_REPORT, OfferFault};
 use crate::out::LinkOut;
 use crate::phase::Phase;
+use crate::sent::command;
 use flow_window::pool::Pool;
 use frame_codec::FrameKind;
 

@@ -6,11 +6,11 @@ ghost use Rattle.frame_codec.specs.Spelling.{HasNumbers, bit_of};
 ghost use Rattle.lapb.specs.Machine as machine;
 ghost use Rattle.lapb.specs.Out.{with_step, answered, number_rejected, supervisory_taken};
 
-use crate::sent::response;
 use crate::link::Link;
 use crate::link::setting::Reason;
 use crate::note::Note;
 use crate::out::LinkOut;
+use crate::sent::response;
 use flow_window::Offer;
 use frame_codec::{Frame, FrameKind};
 use link_timers::Role;
@@ -124,13 +124,7 @@ impl Link {
     }
 
     // N(R) of no number from V(A) to V(M).
-    fn reject_number(
-        &mut self,
-        control: u8,
-        is_response: bool,
-        pf: bool,
-        out: &mut LinkOut,
-    ) -> bool
+    fn reject_number(&mut self, control: u8, is_response: bool, pf: bool, out: &mut LinkOut) -> bool
         ensures link { self.new ≡ record self.old {
           link = (number_rejected self.old.link control is_response pf).link;
         } }

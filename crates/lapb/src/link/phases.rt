@@ -6,10 +6,10 @@ ghost use Rattle.lapb.specs.Machine as machine;
 ghost use Rattle.lapb.specs.Out.{with_step};
 ghost use Rattle.frame_codec.specs.Frame as spec;
 
-use crate::sent::response;
 use crate::link::Link;
 use crate::out::LinkOut;
 use crate::phase::Phase;
+use crate::sent::response;
 use frame_codec::{Frame, FrameKind};
 use link_timers::Role;
 

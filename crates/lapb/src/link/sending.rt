@@ -7,11 +7,11 @@ ghost use Rattle.lapb.specs.Named.{Keeps};
 ghost use Rattle.lapb.specs.Unsent.{HasSentAll};
 ghost use Rattle.lapb.specs.Out.{gathered, with_frames};
 
-use crate::sent::{command, response};
 use crate::link::Link;
 use crate::out::LinkOut;
 use crate::phase::Phase;
 use crate::queue::Queue;
+use crate::sent::{command, response};
 use flow_window::pool::Pool;
 use flow_window::{Mod8, SendWindow};
 use frame_codec::{Frame, FrameKind};

@@ -5,11 +5,11 @@ ghost use Rattle.frame_codec.specs.Spelling.{HasSpelling};
 ghost use Rattle.lapb.specs.Machine as machine;
 ghost use Rattle.lapb.specs.Out.{with_step};
 
-use crate::sent::{command, response};
 use crate::link::Link;
 use crate::note::Note;
 use crate::out::LinkOut;
 use crate::phase::Phase;
+use crate::sent::{command, response};
 use frame_codec::{Frame, FrameKind, Rejection};
 use link_timers::Role;
 

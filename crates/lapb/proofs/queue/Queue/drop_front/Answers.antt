@@ -5,10 +5,12 @@ use Rattle.lapb.proofs.queue.Queue.drop_front.Goals as goal
 
 pub invariant_of-self : goal.invariant_of-self
 invariant_of-self c =
-    let long = packets_length c.self.inside.spent c.self.inside.places.items c.self.invariant.taken in
+    let a = c.self.inside in
+    let long = packets_length a.spent a.places a.first a.count c.self.invariant.taken in
     let same = ap (λ (q : Queue). length q.packets) c.self.view_is in
     record {
       taken = c.self.invariant.taken;
+      first = c.self.invariant.first;
       spent = omega (arith, long, same, c.requires, c.from.ensures, c.self.invariant.spent);
       most = c.self.invariant.most;
     }

@@ -1,29 +1,28 @@
-use Rattle.std.proofs.Common.{◌≡◌, length, drop, ap, ◌∙◌, arith, length-drop}
-use Rattle.lapb.specs.Held.{Queue, kept}
-use Rattle.lapb.proofs.Queues.{taken_drop, kept_length, packets_given_back}
+use Rattle.std.proofs.Common.{◌≡◌, ◌-◌, length, drop, refl, ap, ◌∙◌, arith, length-drop}
+use Rattle.flow_window.specs.Pool.{Pool}
+use Rattle.flow_window.proofs.Weights.{holds_after, balances_same, balances_then}
+use Rattle.lapb.specs.Held.{Queue}
+use Rattle.lapb.proofs.Queues.{around_length, packets_length, drop_more}
 use Rattle.lapb.proofs.queue.Queue.give_back.Goals as goal
 
-pub invariant_of-self : goal.invariant_of-self
-invariant_of-self c =
-    let long = ap length c.free_front.ensures.places ∙ length-drop c.self.inside.spent c.self.inside.places.items in
-    record {
-      taken = rw c.free_front.ensures.places (taken_drop c.self.inside.spent c.self.inside.places.items
-          c.self.invariant.taken);
-      spent = omega arith;
-      most = omega (arith, long, c.self.invariant.most);
-    }
+pub free_first-requires-clause-spent : goal.free_first-requires-clause-spent
+free_first-requires-clause-spent c =
+    let a = c.self.inside in
+    let long = around_length a.places a.first a.count c.self.invariant.taken in
+    let packets = packets_length a.spent a.places a.first a.count c.self.invariant.taken in
+    let one = ap (λ (q : Queue). length q.packets) c.self.view_is in
+    let other = ap (λ (q : Queue). length q.held) c.self.view_is in
+    let same = ap (λ (q : Queue). length q.packets) c.loop.invariant.queue in
+    let less = ap (λ (q : Queue). length q.held) c.loop.invariant.queue in
+    let dropped = length-drop c.loop.counter c.args.self.now.held in
+    omega (arith, long, packets, one, other, same, less, dropped, c.self.invariant.spent, c.loop-test.true)
 
-pub returns-clause-packets : goal.returns-clause-packets
-returns-clause-packets c =
-    packets_given_back c.self.inside.spent c.self.inside.places.items c.free_front.new.places.items
-    c.self.invariant.taken c.free_front.ensures.places ∙ ap (λ (q : Queue). q.packets) c.self.view_is
-
-pub returns-clause-fewer : goal.returns-clause-fewer
-returns-clause-fewer c =
-    let long = ap length c.free_front.ensures.places ∙ length-drop c.self.inside.spent c.self.inside.places.items in
-    let old = kept_length c.self.inside.places.items c.self.invariant.taken in
-    let taken = taken_drop c.self.inside.spent c.self.inside.places.items c.self.invariant.taken in
-    let new : length (kept c.free_front.new.places.items) ≡ length c.free_front.new.places.items =
-    rw c.free_front.ensures.places (kept_length (drop c.self.inside.spent c.self.inside.places.items) taken) in
-    let same = ap (λ (q : Queue). length q.held) c.self.view_is in
-    omega (arith, long, old, new, same)
+pub loop-preserved : goal.loop-preserved
+loop-preserved c = record {
+  queue = c.free_first.ensures.queue
+      ∙ ap (λ (q : Queue). record { packets = q.packets; held = drop 1 q.held }) c.loop.invariant.queue
+      ∙ ap (λ bs. record { packets = c.args.self.now.packets; held = bs }) (drop_more c.loop.counter
+          c.args.self.now.held);
+  pool = balances_then c.args.pool.now c.loop.pool c.free_first.new.pool c.args.self.now.held c.loop.self.held
+      c.free_first.new.self.held c.loop.invariant.pool c.free_first.ensures.pool;
+}
