@@ -22,6 +22,7 @@ use link_timers::Role;
 ///
 /// The frame's sequence numbers are below 8, an I frame's information fits, and the frame goes in the direction
 /// that its kind has: I frames, SABM and DISC are commands, DM, UA and FRMR are responses.
+#[inline(always)]
 pub fn write_frame(frame: &Frame<'_>, from: Role, out: &mut FrameBuf)
     requires { HasSpelling (value_of frame.now) }
     ensures octets { out.new ≡ spelling from (value_of frame.now) }
@@ -43,6 +44,7 @@ pub fn write_frame(frame: &Frame<'_>, from: Role, out: &mut FrameBuf)
     }
 }
 
+#[inline(always)]
 fn control_octet(kind: &FrameKind<'_>, pf: bool) -> u8
     requires { HasNumbers (content_of kind.now) }
     ensures { result ≡ control_of (content_of kind.now) pf }

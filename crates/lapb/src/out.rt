@@ -170,22 +170,27 @@ impl LinkOut {
     }
 
     /// Appends a frame. One for which there is no room is dropped, as a lost frame.
+    #[inline(always)]
     pub(crate) fn put(&mut self, role: Role, frame: &Frame<'_>)
         requires { HasSpelling (value_of frame.now) }
         ensures { self.new ≡ record self.old {
           frames = with_frames self.old.frames (spelling role (value_of frame.now) ∷ []);
         } }
     {
-        make_room(&mut self.places, &mut self.taken, &mut self.end);
         if self.end == MOST_FRAMES {
-            return;
+            make_room(&mut self.places, &mut self.taken, &mut self.end);
+            if self.end == MOST_FRAMES {
+                return;
+            }
         }
         write_frame(frame, role, &mut self.places[self.end]);
         self.end += 1;
     }
 }
 
-// Moves the frames that were not taken to the front, where there is no place behind them.
+// Moves the frames that were not taken to the front.
+#[cold]
+#[inline(never)]
 fn make_room(places: &mut [FrameBuf], taken: &mut usize, end: &mut usize)
     requires taken { taken.old ≤ end.old }
     requires end { end.old ≤ most_frames }
@@ -195,9 +200,6 @@ fn make_room(places: &mut [FrameBuf], taken: &mut usize, end: &mut usize)
     ensures end { end.new ≤ most_frames }
     ensures full { end.new ≡ most_frames → taken.new ≡ 0 }
 {
-    if *end < MOST_FRAMES || *taken == 0 {
-        return;
-    }
     places.rotate_left(*taken);
     *end -= *taken;
     *taken = 0;

@@ -109,6 +109,19 @@ impl Queue {
         ensures fewer { length self.new.held ≤ length self.old.held }
         ensures pool { Balances pool.old self.old.held pool.new self.new.held }
     {
+        if self.spent > 0 {
+            self.free_spent(pool);
+        }
+    }
+
+    #[inline(never)]
+    fn free_spent(&mut self, pool: &mut Pool)
+        requires { Holds pool.old self.old.held }
+        ensures packets { self.new.packets ≡ self.old.packets }
+        ensures tight { length self.new.held ≡ length self.new.packets }
+        ensures fewer { length self.new.held ≤ length self.old.held }
+        ensures pool { Balances pool.old self.old.held pool.new self.new.held }
+    {
         for _ in 0..self.spent {
             self.free_first(pool);
         }

@@ -108,6 +108,7 @@ impl Link {
     }
 
     // Ends a call after its rule: what becomes of T1, and the buffers of the packets that the rule gave up go back.
+    #[inline]
     fn finish(&mut self, ran: bool, anew: bool, out: &mut LinkOut, pool: &mut Pool)
         requires { Holds pool.old self.old.held }
         ensures link { self.new.link ≡ self.old.link }

@@ -3,7 +3,7 @@ use Rattle.flow_window.specs.Pool.{Pool}
 use Rattle.flow_window.proofs.Weights.{holds_after, balances_same, balances_then}
 use Rattle.lapb.specs.Held.{Queue}
 use Rattle.lapb.proofs.Queues.{around_length, packets_length, drop_more}
-use Rattle.lapb.proofs.queue.Queue.give_back.Goals as goal
+use Rattle.lapb.proofs.queue.Queue.free_spent.Goals as goal
 
 pub free_first-requires-clause-spent : goal.free_first-requires-clause-spent
 free_first-requires-clause-spent c =
