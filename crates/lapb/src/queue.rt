@@ -11,14 +11,14 @@ const PLACES: usize = 8;
 /// Up to seven packets in order, each in a buffer of a pool. Those that are given up hold their buffers until
 /// `give_back`.
 ///
-/// The buffers lie in places that follow each other round, `count` of them from `first` on. The first `spent` of them
-/// are given up.
+/// The buffers lie in places that follow each other round, from `first` on: the `spent` ones that are given up, and then
+/// the `len` ones of the packets.
 #[derive(Drop)]
 pub(crate) struct Queue {
     places: [Option<BufNo>; PLACES],
     first: usize,
-    count: usize,
     spent: usize,
+    len: u8,
 }
 
 impl Model for Queue {
@@ -40,8 +40,8 @@ impl Queue {
         Queue {
             places: [None, None, None, None, None, None, None, None],
             first: 0,
-            count: 0,
             spent: 0,
+            len: 0,
         }
     }
 
@@ -50,7 +50,7 @@ impl Queue {
         ensures value { result ≡ length self.now.packets }
         ensures fits { result ≤ 7 }
     {
-        (self.count - self.spent) as u8
+        self.len
     }
 
     pub(crate) fn is_empty(&self) -> bool
@@ -67,8 +67,9 @@ impl Queue {
           held = self.old.held ++ b ∷ [];
         } }
     {
-        self.places[(self.first + self.count) % PLACES] = Some(b);
-        self.count += 1;
+        let place = (self.first + self.spent + usize::from(self.len)) % PLACES;
+        self.places[place] = Some(b);
+        self.len += 1;
     }
 
     /// The packet at a place.
@@ -91,13 +92,15 @@ impl Queue {
         ensures { self.new ≡ record self.old { packets = drop count self.old.packets } }
     {
         self.spent += usize::from(count);
+        self.len -= count;
     }
 
     /// Gives all packets up.
     pub(crate) fn clear(&mut self)
         ensures { self.new ≡ record self.old { packets = [] } }
     {
-        self.spent = self.count;
+        self.spent += usize::from(self.len);
+        self.len = 0;
     }
 
     /// Frees the buffers of the packets that were given up.
@@ -139,7 +142,6 @@ impl Queue {
         };
         pool.free(b);
         self.first = (self.first + 1) % PLACES;
-        self.count -= 1;
         self.spent -= 1;
     }
 }

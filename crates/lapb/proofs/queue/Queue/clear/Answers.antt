@@ -1,11 +1,15 @@
-use Rattle.std.proofs.Common.{ap, arith}
-use Rattle.lapb.specs.Held.{Queue, around}
+use Rattle.std.proofs.Common.{◌≡◌, ◌+◌, drop, ap, ◌∙◌, arith}
+use Rattle.lapb.specs.Held.{Queue, contents, around}
 use Rattle.lapb.proofs.Queues.{around_length, none_left}
 use Rattle.lapb.proofs.queue.Queue.clear.Goals as goal
 
 pub returns : goal.returns
 returns c =
     let a = c.self.inside in
-    let long = around_length a.places a.first a.count c.self.invariant.taken in
-    let none = none_left a.count (around a.places a.first a.count) (omega (arith, long)) in
-    λ i. record { packets = none i; held = (ap (λ (q : Queue). q.held) c.self.view_is) i }
+    let spent = a.spent + c.from.result in
+    let all : spent + 0 ≡ a.spent + a.len = omega (arith, c.from.ensures) in
+    let long = around_length a.places a.first (a.spent + a.len) c.self.invariant.taken in
+    let none = ap (λ n. drop spent (contents (around a.places a.first n))) all ∙
+    none_left spent (around a.places a.first (a.spent + a.len)) (omega (arith, long, c.from.ensures)) in
+    let held = ap (around a.places a.first) all ∙ ap (λ (q : Queue). q.held) c.self.view_is in
+    λ i. record { packets = none i; held = held i }

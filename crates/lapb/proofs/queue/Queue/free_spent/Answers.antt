@@ -1,4 +1,4 @@
-use Rattle.std.proofs.Common.{◌≡◌, ◌-◌, length, drop, refl, ap, ◌∙◌, arith, length-drop}
+use Rattle.std.proofs.Common.{◌≡◌, ◌+◌, ◌-◌, length, drop, refl, ap, ◌∙◌, arith, length-drop}
 use Rattle.flow_window.specs.Pool.{Pool}
 use Rattle.flow_window.proofs.Weights.{holds_after, balances_same, balances_then}
 use Rattle.lapb.specs.Held.{Queue}
@@ -8,14 +8,14 @@ use Rattle.lapb.proofs.queue.Queue.free_spent.Goals as goal
 pub free_first-requires-clause-spent : goal.free_first-requires-clause-spent
 free_first-requires-clause-spent c =
     let a = c.self.inside in
-    let long = around_length a.places a.first a.count c.self.invariant.taken in
-    let packets = packets_length a.spent a.places a.first a.count c.self.invariant.taken in
+    let long = around_length a.places a.first (a.spent + a.len) c.self.invariant.taken in
+    let packets = packets_length a.spent a.places a.first (a.spent + a.len) c.self.invariant.taken in
     let one = ap (λ (q : Queue). length q.packets) c.self.view_is in
     let other = ap (λ (q : Queue). length q.held) c.self.view_is in
     let same = ap (λ (q : Queue). length q.packets) c.loop.invariant.queue in
     let less = ap (λ (q : Queue). length q.held) c.loop.invariant.queue in
     let dropped = length-drop c.loop.counter c.args.self.now.held in
-    omega (arith, long, packets, one, other, same, less, dropped, c.self.invariant.spent, c.loop-test.true)
+    omega (arith, long, packets, one, other, same, less, dropped, c.loop-test.true)
 
 pub loop-preserved : goal.loop-preserved
 loop-preserved c = record {

@@ -21,9 +21,9 @@ pub unreachable-requires : goal.unreachable-requires
 unreachable-requires c =
     let a = c.self.inside in
     let same = ap (λ (q : Queue). length q.packets) c.self.view_is in
-    let long = packets_length a.spent a.places a.first a.count c.self.invariant.taken in
-    let within : a.spent + c.args.place < a.count = omega (arith, same, long, c.requires.place) in
-    never_empty a.places a.first a.count (a.spent + c.args.place) c.self.invariant.taken within
+    let long = packets_length a.spent a.places a.first (a.spent + a.len) c.self.invariant.taken in
+    let within : a.spent + c.args.place < (a.spent + a.len) = omega (arith, same, long, c.requires.place) in
+    never_empty a.places a.first (a.spent + a.len) (a.spent + c.args.place) c.self.invariant.taken within
     (lies a.places a.first a.spent c.args.place c.from.result c.index-self-place.result _ c.from.ensures
       c.index-self-place.is (omega arith) (c.index-self-place.is ∙ c.in_default.is))
 
@@ -31,9 +31,9 @@ pub octets-requires : goal.octets-requires
 octets-requires c =
     let a = c.self.inside in
     let same = ap (λ (q : Queue). length q.packets) c.self.view_is in
-    let long = packets_length a.spent a.places a.first a.count c.self.invariant.taken in
-    let within : a.spent + c.args.place < a.count = omega (arith, same, long, c.requires.place) in
-    let there = around_get a.places a.first a.count (a.spent + c.args.place) c.in-Some.b c.self.invariant.taken within
+    let long = packets_length a.spent a.places a.first (a.spent + a.len) c.self.invariant.taken in
+    let within : a.spent + c.args.place < (a.spent + a.len) = omega (arith, same, long, c.requires.place) in
+    let there = around_get a.places a.first (a.spent + a.len) (a.spent + c.args.place) c.in-Some.b c.self.invariant.taken within
     (lies a.places a.first a.spent c.args.place c.from.result c.index-self-place.result _ c.from.ensures
       c.index-self-place.is (omega arith) (c.index-self-place.is ∙ c.in-Some.is)) in
     held_in c.args.pool.now c.args.self.now.held (a.spent + c.args.place) c.in-Some.b c.requires.holds
@@ -43,11 +43,11 @@ pub returns-clause-value : goal.returns-clause-value
 returns-clause-value c =
     let a = c.self.inside in
     let same = ap (λ (q : Queue). length q.packets) c.self.view_is in
-    let long = packets_length a.spent a.places a.first a.count c.self.invariant.taken in
-    let within : a.spent + c.args.place < a.count = omega (arith, same, long, c.requires.place) in
-    let there = around_get a.places a.first a.count (a.spent + c.args.place) c.in-Some.b c.self.invariant.taken within
+    let long = packets_length a.spent a.places a.first (a.spent + a.len) c.self.invariant.taken in
+    let within : a.spent + c.args.place < (a.spent + a.len) = omega (arith, same, long, c.requires.place) in
+    let there = around_get a.places a.first (a.spent + a.len) (a.spent + c.args.place) c.in-Some.b c.self.invariant.taken within
     (lies a.places a.first a.spent c.args.place c.from.result c.index-self-place.result _ c.from.ensures
       c.index-self-place.is (omega arith) (c.index-self-place.is ∙ c.in-Some.is)) in
     ap (λ (q : Queue). slice_get q.packets c.args.place) (sym c.self.view_is)
-    ∙ packet_get a.spent c.args.place (around a.places a.first a.count) c.in-Some.b there
+    ∙ packet_get a.spent c.args.place (around a.places a.first (a.spent + a.len)) c.in-Some.b there
     ∙ ap (λ (octets : List ℕ). Some octets) (sym c.octets.ensures.octets)
