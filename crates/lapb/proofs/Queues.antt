@@ -99,7 +99,7 @@ around_set ps x f (suc n) (suc d) few within =
     let here = get_set_other ps (f % 8) ((f + suc d) % 8) x off in
     let at : (f + suc d) % 8 ≡ (f + 1 + d) % 8 = omega arith in
     let rest = ap (λ j. around (slice_set ps j x) (f + 1) n) at
-        ∙ around_set ps x (f + 1) n d (omega (arith, few)) (omega (arith, within)) in
+    ∙ around_set ps x (f + 1) n d (omega (arith, few)) (omega (arith, within)) in
     λ i. found (here i) (rest i)
 
 taken_set : (ps : List (Option Buffer)) (x : Option Buffer) (f n d : ℕ) → n ≤ d → d < 8 → AreTaken ps f n →
@@ -108,10 +108,11 @@ taken_set ps x f zero d few within all = tt
 taken_set ps x f (suc n) zero few within all = absurd (omega (arith, few))
 taken_set ps x f (suc n) (suc d) few within all =
     let off : f % 8 ≢ (f + suc d) % 8 = λ e. omega (arith, e, within) in
-    let at : (f + 1 + d) % 8 ≡ (f + suc d) % 8 = omega arith in
-    (subst IsTaken (sym (get_set_other ps (f % 8) ((f + suc d) % 8) x off)) all.0,
+    let at : (f + 1 + d) % 8 ≡ (f + suc d) % 8 = omega arith in (
+      subst IsTaken (sym (get_set_other ps (f % 8) ((f + suc d) % 8) x off)) all.0,
       subst (λ j. AreTaken (slice_set ps j x) (f + 1) n) at
-      (taken_set ps x (f + 1) n d (omega (arith, few)) (omega (arith, within)) all.1))
+          (taken_set ps x (f + 1) n d (omega (arith, few)) (omega (arith, within)) all.1),
+    )
 
 -- ---- one more behind them
 
@@ -173,8 +174,8 @@ taken_freed ps f (suc n) first few some all =
     let less : n ≡ suc n - 1 = omega arith in
     subst (AreTaken (slice_set ps f None) ((f + 1) % 8)) less
     (taken_same (slice_set ps f None) (f + 1) ((f + 1) % 8) n (omega arith)
-      (subst (λ j. AreTaken (slice_set ps j None) (f + 1) n) at
-        (taken_set ps None (f + 1) n 7 (omega (arith, few)) (omega arith) all.1)))
+    (subst (λ j. AreTaken (slice_set ps j None) (f + 1) n) at
+    (taken_set ps None (f + 1) n 7 (omega (arith, few)) (omega arith) all.1)))
 
 -- ---- weights
 

@@ -1,5 +1,5 @@
 -- The packets that a link did not see acknowledged, and the buffers of a pool that it holds.
-use Rattle.std.specs.Prelude.{ℕ, zero, suc, ◌+◌, ◌%◌, List, [], ◌∷◌, map, slice_get, Option, Some, None}
+use Rattle.std.specs.Prelude.{ℕ, zero, suc, ◌+◌, ◌%◌, List, [], ◌∷◌, map, slice_get, Option, Some}
 use Rattle.flow_window.specs.Pool.{Buffer}
 use Rattle.lapb.specs.Machine as machine
 use Rattle.lapb.specs.Machine.{Octets}

@@ -1,29 +1,7 @@
 -- What a link's calls give: the frames to be sent, as octets, and what the node is told.
-use Rattle.std.specs.Prelude.{
-  nat_lt,
-  ◌+◌,
-  ◌*◌,
-  ℕ,
-  Bool,
-  true,
-  false,
-  not,
-  ◌&&◌,
-  ◌||◌,
-  List,
-  [],
-  ◌∷◌,
-  ◌++◌,
-  map,
-  take,
-  Option,
-  None,
-  is_some,
-  if◌then◌else◌,
-}
+use Rattle.std.specs.Prelude.{nat_lt, ◌+◌, ◌*◌, ℕ, Bool, true, false, not, ◌&&◌, ◌||◌, List, [], ◌∷◌, ◌++◌, map, take, is_some, if◌then◌else◌}
 use Rattle.link_timers.specs.declared.role.Role.{Role}
-use Rattle.frame_codec.specs.Frame.{FrameValue}
-use Rattle.frame_codec.specs.Spelling.{spelling, HasSpelling, bit_of}
+use Rattle.frame_codec.specs.Spelling.{spelling, bit_of}
 use Rattle.lapb.specs.declared.note.Note.{Note}
 use Rattle.lapb.specs.declared.note.Timing.{Timing}
 use Rattle.lapb.specs.Machine.{

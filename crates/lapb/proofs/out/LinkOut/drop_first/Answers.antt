@@ -1,4 +1,4 @@
-use Rattle.std.proofs.Common.{◌≡◌, drop, take, ap, ◌∙◌, sym}
+use Rattle.std.proofs.Common.{drop, take, ap, ◌∙◌, sym}
 use Rattle.lapb.specs.Out.{Out}
 use Rattle.lapb.proofs.Queues.{drop_more}
 use Rattle.lapb.proofs.out.LinkOut.drop_first.Goals as goal

@@ -36,7 +36,7 @@ returns c =
     omega (arith, few, c.from.ensures) in
     let held = ap (around a.places a.first) all in
     let packets = ap (λ bs. drop (a.spent + c.from.result) (contents bs)) held
-        ∙ ap (λ n. drop (a.spent + n) (contents (around a.places a.first (a.spent + a.len)))) c.from.ensures
-        ∙ sym (drop-drop c.args.count a.spent (contents (around a.places a.first (a.spent + a.len)))) in
+    ∙ ap (λ n. drop (a.spent + n) (contents (around a.places a.first (a.spent + a.len)))) c.from.ensures
+    ∙ sym (drop-drop c.args.count a.spent (contents (around a.places a.first (a.spent + a.len)))) in
     (λ i. record { packets = packets i; held = held i })
     ∙ ap (λ (q : Queue). record { packets = drop c.args.count q.packets; held = q.held }) c.self.view_is

@@ -41,7 +41,7 @@ invariant_of-self c =
     record {
       taken = rw c.take.ensures.places (subst (AreTaken (slice_set a.places a.first None) ((a.first + 1) % 8)) less
           (taken_freed a.places a.first (a.spent + a.len) c.self.invariant.first
-            c.self.invariant.most (omega (arith, some)) c.self.invariant.taken));
+          c.self.invariant.most (omega (arith, some)) c.self.invariant.taken));
       first = omega arith;
       most = omega (arith, c.self.invariant.most);
     }
@@ -54,7 +54,7 @@ returns-clause-queue c =
     (omega (arith, some)) c.self.invariant.taken in
     let less : a.spent - 1 + a.len ≡ a.spent + a.len - 1 = omega (arith, some) in
     let held = ap (λ places. around places ((a.first + 1) % 8) (a.spent - 1 + a.len)) c.take.ensures.places
-        ∙ ap (around (slice_set a.places a.first None) ((a.first + 1) % 8)) less ∙ freed in
+    ∙ ap (around (slice_set a.places a.first None) ((a.first + 1) % 8)) less ∙ freed in
     let packets = ap (λ bs. drop (a.spent - 1) (contents bs)) held ∙
     packets_freed a.spent (around a.places a.first (a.spent + a.len)) some in
     (λ i. record { packets = packets i; held = held i })
@@ -69,7 +69,7 @@ returns-clause-pool c =
     (omega (arith, some)) c.self.invariant.taken in
     let less : a.spent - 1 + a.len ≡ a.spent + a.len - 1 = omega (arith, some) in
     let held = ap (λ places. around places ((a.first + 1) % 8) (a.spent - 1 + a.len)) c.take.ensures.places
-        ∙ ap (around (slice_set a.places a.first None) ((a.first + 1) % 8)) less ∙ freed in
+    ∙ ap (around (slice_set a.places a.first None) ((a.first + 1) % 8)) less ∙ freed in
     rw (held, ← c.self.view_is) (record {
       size = ap (λ (p : Pool). p.size) c.free.ensures.map;
       places = c.free.ensures.size;

@@ -1,6 +1,5 @@
-use Rattle.std.proofs.Common.{◌≡◌, ◌+◌, ◌-◌, length, drop, refl, ap, ◌∙◌, arith, length-drop}
-use Rattle.flow_window.specs.Pool.{Pool}
-use Rattle.flow_window.proofs.Weights.{holds_after, balances_same, balances_then}
+use Rattle.std.proofs.Common.{◌+◌, length, drop, ap, ◌∙◌, arith, length-drop}
+use Rattle.flow_window.proofs.Weights.{balances_then}
 use Rattle.lapb.specs.Held.{Queue}
 use Rattle.lapb.proofs.Queues.{around_length, packets_length, drop_more}
 use Rattle.lapb.proofs.queue.Queue.free_spent.Goals as goal
@@ -22,7 +21,7 @@ loop-preserved c = record {
   queue = c.free_first.ensures.queue
       ∙ ap (λ (q : Queue). record { packets = q.packets; held = drop 1 q.held }) c.loop.invariant.queue
       ∙ ap (λ bs. record { packets = c.args.self.now.packets; held = bs }) (drop_more c.loop.counter
-          c.args.self.now.held);
+      c.args.self.now.held);
   pool = balances_then c.args.pool.now c.loop.pool c.free_first.new.pool c.args.self.now.held c.loop.self.held
       c.free_first.new.self.held c.loop.invariant.pool c.free_first.ensures.pool;
 }

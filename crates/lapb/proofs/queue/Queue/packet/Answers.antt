@@ -25,7 +25,7 @@ unreachable-requires c =
     let within : a.spent + c.args.place < (a.spent + a.len) = omega (arith, same, long, c.requires.place) in
     never_empty a.places a.first (a.spent + a.len) (a.spent + c.args.place) c.self.invariant.taken within
     (lies a.places a.first a.spent c.args.place c.from.result c.index-self-place.result _ c.from.ensures
-      c.index-self-place.is (omega arith) (c.index-self-place.is ∙ c.in_default.is))
+    c.index-self-place.is (omega arith) (c.index-self-place.is ∙ c.in_default.is))
 
 pub octets-requires : goal.octets-requires
 octets-requires c =
@@ -35,7 +35,7 @@ octets-requires c =
     let within : a.spent + c.args.place < (a.spent + a.len) = omega (arith, same, long, c.requires.place) in
     let there = around_get a.places a.first (a.spent + a.len) (a.spent + c.args.place) c.in-Some.b c.self.invariant.taken within
     (lies a.places a.first a.spent c.args.place c.from.result c.index-self-place.result _ c.from.ensures
-      c.index-self-place.is (omega arith) (c.index-self-place.is ∙ c.in-Some.is)) in
+    c.index-self-place.is (omega arith) (c.index-self-place.is ∙ c.in-Some.is)) in
     held_in c.args.pool.now c.args.self.now.held (a.spent + c.args.place) c.in-Some.b c.requires.holds
     (ap (λ (q : Queue). slice_get q.held (a.spent + c.args.place)) (sym c.self.view_is) ∙ there)
 
@@ -47,7 +47,7 @@ returns-clause-value c =
     let within : a.spent + c.args.place < (a.spent + a.len) = omega (arith, same, long, c.requires.place) in
     let there = around_get a.places a.first (a.spent + a.len) (a.spent + c.args.place) c.in-Some.b c.self.invariant.taken within
     (lies a.places a.first a.spent c.args.place c.from.result c.index-self-place.result _ c.from.ensures
-      c.index-self-place.is (omega arith) (c.index-self-place.is ∙ c.in-Some.is)) in
+    c.index-self-place.is (omega arith) (c.index-self-place.is ∙ c.in-Some.is)) in
     ap (λ (q : Queue). slice_get q.packets c.args.place) (sym c.self.view_is)
     ∙ packet_get a.spent c.args.place (around a.places a.first (a.spent + a.len)) c.in-Some.b there
     ∙ ap (λ (octets : List ℕ). Some octets) (sym c.octets.ensures.octets)

@@ -1,4 +1,4 @@
-use Rattle.std.proofs.Common.{◌≡◌, ◌<◌, ◌+◌, ◌%◌, ◌∷◌, ◌++◌, [], Some, length, drop, ap, subst, ◌∙◌, sym, arith}
+use Rattle.std.proofs.Common.{◌≡◌, ◌<◌, ◌+◌, ◌%◌, ◌∷◌, ◌++◌, [], Some, length, drop, ap, subst, ◌∙◌, arith}
 use Rattle.std.specs.Prelude.{slice_set}
 use Rattle.lapb.specs.Held.{Queue, contents, around, AreTaken}
 use Rattle.lapb.proofs.Queues.{around_length, around_push, taken_push, packets_push}
@@ -30,8 +30,8 @@ returns c =
     let at : (a.first + a.spent + c.from.result) % 8 ≡ (a.first + count) % 8 = omega (arith, c.from.ensures) in
     let next : a.spent + (a.len + 1) ≡ count + 1 = omega arith in
     let pushed = ap (λ j. around (slice_set a.places j (Some c.args.b)) a.first (a.spent + (a.len + 1))) at
-        ∙ ap (around (slice_set a.places ((a.first + count) % 8) (Some c.args.b)) a.first) next
-        ∙ around_push a.places a.first count c.args.b (omega arith) c.self.invariant.most in
+    ∙ ap (around (slice_set a.places ((a.first + count) % 8) (Some c.args.b)) a.first) next
+    ∙ around_push a.places a.first count c.args.b (omega arith) c.self.invariant.most in
     let packets = ap (λ bs. drop a.spent (contents bs)) pushed ∙
     packets_push a.spent (around a.places a.first count) c.args.b (omega (arith, long)) ∙
     ap (λ (q : Queue). q.packets ++ c.args.b.octets ∷ []) c.self.view_is in
