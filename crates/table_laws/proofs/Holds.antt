@@ -11,12 +11,12 @@ use Rattle.packet_layer.specs.Layer.{Layer, channel_of, after_step, on_found, on
 use Rattle.table_laws.specs.States.{restart_state, type_of, channel_named, body_read, packet_asked}
 use Rattle.table_laws.specs.Rows.{act_row, call_row, reset_row, reset_row_of}
 use Rattle.table_laws.specs.Follows.{FollowsCall, FollowsReset, FollowsRestart}
-use Rattle.table_laws.specs.Clauses.{CallPackets, DataPackets, ResetPackets, CallsPlaced, CallActs, ResetActs, RestartPackets, ActsByCallTable}
+use Rattle.table_laws.specs.Clauses.{CallPackets, DataPackets, ResetPackets, CallsPlaced, CallActs, ResetActs, RestartPackets, RestartUnreadable, ActsByCallTable}
 use Rattle.table_laws.proofs.Channels.{of_some, comes_step, step_by}
 use Rattle.table_laws.proofs.Calls.{of_followed, followed}
 use Rattle.table_laws.proofs.Resets.{reset_at, left_at, of_left, Heeds}
 use Rattle.table_laws.proofs.Acts.{ActAt, accept_at, clear_at, reset_act_at, given_is, place_at}
-use Rattle.table_laws.proofs.Restarts.{restart_at}
+use Rattle.table_laws.proofs.Restarts.{restart_at, unreadable_at}
 
 pub call_packets : CallPackets
 call_packets l r ch row at none e ne =
@@ -68,3 +68,8 @@ pub restart_packets : RestartPackets
 restart_packets l p state row h e1 e2 =
     of_some (restart_step l.role state (type_of p.body)) row (λ x. FollowsRestart l x (on_packet l (Whole p))) e2
     (of_some (restart_state l.role l.phase) state (λ s. IfSome (restart_step l.role s (type_of p.body)) (λ x. FollowsRestart l x (on_packet l (Whole p)))) e1 (restart_at l p h))
+
+pub restart_unreadable : RestartUnreadable
+restart_unreadable l r kind state row none h e1 e2 =
+    of_some (restart_step l.role state kind) row (λ x. FollowsRestart l x (on_packet l r)) e2
+    (of_some (restart_state l.role l.phase) state (λ s. IfSome (restart_step l.role s kind) (λ x. FollowsRestart l x (on_packet l r))) e1 (unreadable_at l r kind none h))

@@ -1,5 +1,5 @@
 -- The packet layer follows the state tables: clause by clause, what its machine does where a table has a row.
-use Rattle.std.specs.Prelude.{◌≡◌, ◌≢◌, ◌↔◌, ℕ, true, Some, None, IsSome}
+use Rattle.std.specs.Prelude.{◌≡◌, ◌≢◌, ◌↔◌, ℕ, true, false, Some, None, IsSome}
 use Rattle.link_timers.specs.declared.role.Role.{Role}
 use Rattle.call_states.specs.declared.table.CallNote.TheVariants.{InDataTransfer}
 use Rattle.call_states.specs.declared.table.CallStep.{CallStep}
@@ -10,6 +10,7 @@ use Rattle.reset_restart.specs.declared.reset.ResetStep.{ResetStep}
 use Rattle.reset_restart.specs.declared.restart.RestartState.{RestartState}
 use Rattle.reset_restart.specs.declared.restart.RestartStep.{RestartStep}
 use Rattle.reset_restart.specs.Restart.{restart_step}
+use Rattle.packet_codec.specs.declared.packet_type.PacketType.{PacketType}
 use Rattle.packet_codec.specs.Reading.{is_on_channel}
 use Rattle.packet_layer.specs.Packets.{CallParts, Body, Packet, Received}
 use Rattle.packet_layer.specs.Packets.Received.{Whole}
@@ -106,3 +107,12 @@ RestartPackets =
     → is_on_channel (type_of p.body) p.channel ≡ true
     → restart_state l.role l.phase ≡ Some state → restart_step l.role state (type_of p.body) ≡ Some row
     → FollowsRestart l row (on_packet l (Whole p))
+
+-- what cannot be read follows the row, if there is one, that a packet of another type has: in the own restart it is
+-- discarded
+abbrev pub RestartUnreadable : Type 0
+RestartUnreadable =
+    (l : Layer) (r : Received) (kind : PacketType) (state : RestartState) (row : RestartStep)
+    → body_read r ≡ None → is_on_channel kind 0 ≡ false
+    → restart_state l.role l.phase ≡ Some state → restart_step l.role state kind ≡ Some row
+    → FollowsRestart l row (on_packet l r)

@@ -1,5 +1,5 @@
 ghost use Rattle.table_laws.specs.Clauses.{EachPacket, CallPackets, DataPackets, CallsPlaced, CallActs, ResetPackets};
-ghost use Rattle.table_laws.specs.Clauses.{ResetActs, RestartPackets};
+ghost use Rattle.table_laws.specs.Clauses.{ResetActs, RestartPackets, RestartUnreadable};
 
 /// The machine of a packet layer, which knows own and far states, does what the state tables say, whose states go by
 /// role: in each state and for each packet and act of the user for which a table has a row it comes to the state of the
@@ -19,5 +19,7 @@ pub fn tables_law()
     ensures call_acts { CallActs }
     ensures reset_acts { ResetActs }
 
+    // While the own restart is not confirmed, what cannot be read is discarded too.
     ensures restart_packets { RestartPackets }
+    ensures restart_unreadable { RestartUnreadable }
 {}

@@ -1,4 +1,4 @@
-use Rattle.table_laws.proofs.Holds.{call_packets, data_packets, calls_placed, call_acts, reset_packets, reset_acts, restart_packets}
+use Rattle.table_laws.proofs.Holds.{call_packets, data_packets, calls_placed, call_acts, reset_packets, reset_acts, restart_packets, restart_unreadable}
 use Rattle.table_laws.proofs.law.tables_law.Goals as goal
 
 pub returns-clause-reset_packets : goal.returns-clause-reset_packets
@@ -21,3 +21,6 @@ returns-clause-reset_acts c = reset_acts
 
 pub returns-clause-restart_packets : goal.returns-clause-restart_packets
 returns-clause-restart_packets c = restart_packets
+
+pub returns-clause-restart_unreadable : goal.returns-clause-restart_unreadable
+returns-clause-restart_unreadable c = restart_unreadable
