@@ -72,7 +72,7 @@ impl Link {
         out.tell(Note::Nothing);
         if due {
             let nr = self.receive.expected();
-            out.put(self.role, &response(FrameKind::Rr { nr }, true));
+            self.put(&response(FrameKind::Rr { nr }, true), out);
         }
     }
 

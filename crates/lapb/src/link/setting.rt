@@ -1,9 +1,9 @@
 //! Setting the link up and giving it up (X.25 2.4.4, 2.4.7). A rule answers whether T1 starts anew.
-ghost use Rattle.std.specs.Prelude.{◌≡◌};
+ghost use Rattle.std.specs.Prelude.{◌≡◌, [], ◌∷◌};
 ghost use Rattle.frame_codec.specs.Views.{report_of, value_of};
-ghost use Rattle.frame_codec.specs.Spelling.{HasSpelling};
+ghost use Rattle.frame_codec.specs.Spelling.{spelling, HasSpelling};
 ghost use Rattle.lapb.specs.Machine as machine;
-ghost use Rattle.lapb.specs.Out.{with_step};
+ghost use Rattle.lapb.specs.Out.{with_step, with_frames};
 
 use crate::link::Link;
 use crate::note::Note;
@@ -32,6 +32,17 @@ impl Link {
         self.repeats = false;
     }
 
+    // One frame is sent. Few of the calls send one, so its writing stays out of their way.
+    #[inline(never)]
+    pub(crate) fn put(&self, frame: &Frame<'_>, out: &mut LinkOut)
+        requires { HasSpelling (value_of frame.now) }
+        ensures { out.new ≡ record out.old {
+          frames = with_frames out.old.frames (spelling self.now.link.role (value_of frame.now) ∷ []);
+        } }
+    {
+        out.put(self.role, frame);
+    }
+
     // Nothing happens.
     pub(crate) fn still(&self, out: &mut LinkOut) -> bool
         ensures out { out.new ≡ with_step out.old self.now.link.role (machine.still self.now.link) }
@@ -48,7 +59,7 @@ impl Link {
         ensures anew { result ≡ (machine.sends self.now.link (value_of frame.now)).anew }
     {
         out.tell(Note::Nothing);
-        out.put(self.role, frame);
+        self.put(frame, out);
         false
     }
 
@@ -61,7 +72,7 @@ impl Link {
         out.tell(left(self.phase));
         self.clear(Phase::SettingUp);
         self.bit = !self.bit;
-        out.put(self.role, &command(FrameKind::Sabm, self.bit));
+        self.put(&command(FrameKind::Sabm, self.bit), out);
         true
     }
 
@@ -74,7 +85,7 @@ impl Link {
         out.tell(left(self.phase));
         self.clear(Phase::Down);
         self.repeats = true;
-        out.put(self.role, &response(FrameKind::Dm, false));
+        self.put(&response(FrameKind::Dm, false), out);
         true
     }
 
@@ -98,7 +109,7 @@ impl Link {
     {
         self.clear(Phase::Up);
         out.tell(Note::Up);
-        out.put(self.role, &response(FrameKind::Ua, pf));
+        self.put(&response(FrameKind::Ua, pf), out);
         false
     }
 
@@ -113,7 +124,7 @@ impl Link {
         self.polling = true;
         self.polls = 1;
         out.tell(Note::Up);
-        out.put(self.role, &command(FrameKind::Rr { nr: 0 }, true));
+        self.put(&command(FrameKind::Rr { nr: 0 }, true), out);
         true
     }
 
@@ -125,7 +136,7 @@ impl Link {
     {
         out.tell(left(self.phase));
         self.clear(Phase::Down);
-        out.put(self.role, &response(FrameKind::Ua, pf));
+        self.put(&response(FrameKind::Ua, pf), out);
         false
     }
 
@@ -146,7 +157,7 @@ impl Link {
                 out.tell(left(self.phase));
                 self.clear(Phase::Rejecting);
                 self.report = report;
-                out.put(self.role, &response(FrameKind::Frmr(report), pf));
+                self.put(&response(FrameKind::Frmr(report), pf), out);
                 true
             }
         }
