@@ -168,6 +168,7 @@ impl Link {
     }
 
     // RR, RNR or REJ, by the low half of its control octet.
+    #[inline(always)]
     fn take_supervisory(
         &mut self,
         nr: u8,
