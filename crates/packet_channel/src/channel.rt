@@ -1,6 +1,7 @@
 //! One logical channel (X.25 4, tables C-1 to C-4).
 ghost use Rattle.std.specs.Bool.{OnFalse};
-ghost use Rattle.std.specs.Prelude.{◌≡◌, ◌<◌, ◌≤◌, IfOk, Some, is_some, ◌-◌, ◌==◌, ◌&&◌, true, if◌then◌else◌, length};
+ghost use Rattle.std.specs.Prelude.{◌≡◌, ◌<◌, ◌≤◌, IfOk, Some, is_some, ◌-◌, ◌==◌, ◌&&◌, not, true, length};
+ghost use Rattle.std.specs.Prelude.{if◌then◌else◌};
 ghost use Rattle.packet_channel.specs.Channel as machine;
 ghost use Rattle.packet_channel.specs.StateView.{state_of};
 ghost use Rattle.packet_channel.specs.Octets.{body_of, parts_of, written, ReadsAs};
@@ -118,6 +119,13 @@ impl Channel {
         } else {
             0
         }
+    }
+
+    /// Whether an interrupt may be sent: there is a call in which no reset is unconfirmed, and no interrupt is pending.
+    pub fn may_interrupt(&self) -> bool
+        ensures { result ≡ (machine.has_flow self.now && not (traffic.interrupt_pending self.now.traffic)) }
+    {
+        self.has_flow() && !self.traffic.interrupt_pending()
     }
 
     /// What `take` would give.

@@ -14,3 +14,4 @@ pub mod LayerView
 pub mod Events
 pub mod TimerView
 pub mod Free
+pub mod Interrupting

@@ -15,7 +15,7 @@ mod timers;
 
 use crate::fault::MakeFault;
 use crate::notes::Notes;
-use crate::params::{LARGEST_WINDOW, LayerParams, MOST_CHANNELS};
+use crate::params::LayerParams;
 use crate::restart::{OwedRestarts, Phase};
 use link_timers::Role;
 use packet_channel::{Channel, End, LayerNote, Outcome};
@@ -71,14 +71,12 @@ impl Layer {
             × (layer ≡ machine.made role params.channels params.window params.standing))
             (λ fault. MadeNot params.channels params.window fault) }
     {
+        params.check()?;
         let LayerParams {
             channels,
             window,
             standing,
         } = params;
-        if channels < 1 || channels > MOST_CHANNELS || window < 1 || window > LARGEST_WINDOW {
-            return Err(MakeFault::BadParams);
-        }
         let mut channels = closed_channels(alloc, channels)?;
         let notes = Notes::new(alloc)?;
         if standing {

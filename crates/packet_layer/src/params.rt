@@ -1,3 +1,9 @@
+ghost use Rattle.std.specs.Prelude.{◌≡◌, MatchResult};
+ghost use Rattle.packet_layer.specs.Params.{AreParams};
+ghost use Rattle.packet_layer.specs.declared.fault.MakeFault.TheVariants as make_fault;
+
+use crate::fault::MakeFault;
+
 /// The most logical channels of a line.
 pub const MOST_CHANNELS: u8 = 32;
 
@@ -13,4 +19,22 @@ pub struct LayerParams {
     pub window: u8,
     /// Whether the line stands from the beginning on: the restart procedure is done, and a call stands on channel 1.
     pub standing: bool,
+}
+
+impl LayerParams {
+    /// `BadParams` comes where the channels are not 1 to 32 or the window not 1 to 7.
+    pub fn check(&self) -> Result<(), MakeFault>
+        ensures { MatchResult result
+            (λ _. AreParams self.now.channels self.now.window)
+            (λ fault. (fault ≡ make_fault.BadParams) × (AreParams self.now.channels self.now.window → ⊥)) }
+    {
+        if self.channels < 1
+            || self.channels > MOST_CHANNELS
+            || self.window < 1
+            || self.window > LARGEST_WINDOW
+        {
+            return Err(MakeFault::BadParams);
+        }
+        Ok(())
+    }
 }

@@ -2,6 +2,7 @@
 ghost use Rattle.std.specs.Prelude.{◌≡◌, Some, None, MatchResult};
 ghost use Rattle.std.specs.List.{list_all};
 ghost use Rattle.packet_layer.specs.Layer as machine;
+ghost use Rattle.packet_layer.specs.Interrupting.{may_interrupt};
 ghost use Rattle.packet_layer.specs.RequestView.{refusal_of};
 ghost use Rattle.packet_channel.specs.TakenView.{maybe_front};
 
@@ -46,6 +47,17 @@ impl Layer {
         match self.place(u16::from(channel)) {
             Some(place) => self.channels[place].room(),
             None => 0,
+        }
+    }
+
+    /// Whether `interrupt` takes 1 to 32 octets on the channel: it has a call without an unconfirmed own reset, and no
+    /// interrupt of it is unconfirmed.
+    pub fn may_interrupt(&self, channel: u8) -> bool
+        ensures { result ≡ may_interrupt self.now channel }
+    {
+        match self.place(u16::from(channel)) {
+            Some(place) => self.channels[place].may_interrupt(),
+            None => false,
         }
     }
 
