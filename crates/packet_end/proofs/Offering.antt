@@ -1,7 +1,7 @@
 -- Packets that go from the packet layer to the link: one at a time, and none is kept back.
 use Rattle.std.proofs.Common.{◌≡◌, ℕ, zero, suc, ◌+◌, ◌-◌, ◌<◌, ◌≤◌, Bool, true, false, cond, List, [], ◌∷◌, length, refl, sym, ap, ◌∙◌, arith, inl, inr, length-append}
-use borrow.Author.Tests.{le-leb}
-use Rattle.std.specs.Prelude.{Option, Some, None, is_some, ◌&&◌}
+use borrow.Author.Tests.{le-leb, lt-ltb}
+use Rattle.std.specs.Prelude.{Option, Some, None, is_some, ◌&&◌, nat_lt}
 use Rattle.lapb.specs.declared.phase.Phase.{Phase}
 use Rattle.lapb.specs.Machine.{Octets, Link, can_offer, is_up, settle_in, send_all, sendable, offer}
 use Rattle.packet_layer.specs.Packets.{Body, Packet}
@@ -114,3 +114,25 @@ settle_same Phase.Rejecting l = refl
 pub settled_all_offered : (e : PacketEnd) → HasOfferedAll e → HasOfferedAll (settled e)
 settled_all_offered e (inl room) = inl (settle_same e.line.link.phase e.line.link ∙ room)
 settled_all_offered e (inr silent) = inr silent
+
+-- ---- whether any packet was offered
+
+abbrev pub may_offer : PacketEnd → Bool
+may_offer e = can_offer e.line.link && is_some (next_packet e.layer).packet
+
+pub may_room : (e : PacketEnd) → can_offer e.line.link ≡ false → may_offer e ≡ false
+may_room e room = ap (λ (b : Bool). b && is_some (next_packet e.layer).packet) room
+
+pub may_silent : (e : PacketEnd) → is_some (next_packet e.layer).packet ≡ false → may_offer e ≡ false
+may_silent e silent = ap (λ (b : Bool). can_offer e.line.link && b) silent ∙ and_false (can_offer e.line.link)
+
+pub may_both : (e : PacketEnd) → can_offer e.line.link ≡ true → is_some (next_packet e.layer).packet ≡ true → may_offer e ≡ true
+may_both e room says = ap (λ (b : Bool). b && is_some (next_packet e.layer).packet) room ∙ says
+
+pub may_before : (count : ℕ) (e old : PacketEnd) → (count ≡ 0 → e ≡ old) → (1 ≤ count → may_offer old ≡ true) → may_offer e ≡ true → may_offer old ≡ true
+may_before zero e old begins some may = sym (ap may_offer (begins refl)) ∙ may
+may_before (suc count) e old begins some may = some (omega arith)
+
+pub may_counted : (count : ℕ) (e old : PacketEnd) → (count ≡ 0 → e ≡ old) → (1 ≤ count → may_offer old ≡ true) → may_offer e ≡ false → nat_lt 0 count ≡ may_offer old
+may_counted zero e old begins some may = sym (sym (ap may_offer (begins refl)) ∙ may)
+may_counted (suc count) e old begins some may = lt-ltb 0 (suc count) (omega arith) ∙ sym (some (omega arith))

@@ -146,6 +146,13 @@ impl PacketEnd {
         self.gather();
     }
 
+    /// Whether the packet layer asks for it.
+    pub fn must_relink(&self) -> bool
+        ensures { result ≡ self.now.layer.relink }
+    {
+        self.layer.must_relink()
+    }
+
     /// Does so where the packet layer asks for it.
     pub fn relink_if_due(&mut self)
         requires { length self.old.notes ≤ 64 }
@@ -191,7 +198,7 @@ impl PacketEnd {
         ensures timers { TimersAgree self.new.layer self.new.timers }
     {
         self.relink_if_due();
-        self.offer_packets();
+        let _ = self.offer_packets();
         self.settle();
     }
 

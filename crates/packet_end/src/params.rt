@@ -1,4 +1,11 @@
 //! The parameters of an end of a line.
+ghost use Rattle.std.specs.Prelude.{◌≡◌, MatchResult};
+ghost use Rattle.packet_end.specs.Params.{AreParams};
+ghost use Rattle.packet_end.specs.declared.fault.EndFault.TheVariants as fault_is;
+
+use crate::fault::EndFault;
+use lapb::LinkParams;
+use packet_layer::LayerParams;
 
 /// How one end of a line is to be made.
 #[derive(Clone, Copy, Debug, PartialEq, Eq)]
@@ -13,4 +20,27 @@ pub struct EndParams {
     pub window: u8,
     /// Whether the line stands from the beginning on: the link is up, and a call stands on channel 1.
     pub standing: bool,
+}
+
+impl EndParams {
+    /// `BadConfig` comes where a parameter is out of its range.
+    pub fn check(&self) -> Result<(), EndFault>
+        ensures { MatchResult result
+            (λ _. AreParams self.now)
+            (λ fault. (fault ≡ fault_is.BadConfig) × (AreParams self.now → ⊥)) }
+    {
+        let link = LinkParams {
+            k: self.k,
+            n2: self.n2,
+            standing: self.standing,
+        };
+        link.check()?;
+        let layer = LayerParams {
+            channels: self.channels,
+            window: self.window,
+            standing: self.standing,
+        };
+        layer.check()?;
+        Ok(())
+    }
 }

@@ -3,6 +3,7 @@ ghost use Rattle.std.specs.Prelude.{◌≡◌, Some, None, MatchResult};
 ghost use Rattle.packet_codec.specs.Packet.{IsCallValue};
 ghost use Rattle.packet_codec.specs.View.{call_view};
 ghost use Rattle.packet_layer.specs.Channel.{Request as ask};
+ghost use Rattle.packet_layer.specs.Interrupting.{may_interrupt};
 ghost use Rattle.packet_layer.specs.Layer as machine;
 ghost use Rattle.packet_layer.specs.Octets.{parts_of};
 ghost use Rattle.packet_layer.specs.RequestView.{request_of, refusal_of, call_refusal_of};
@@ -72,6 +73,13 @@ impl PacketEnd {
         ensures { result ≡ machine.room self.now.layer channel }
     {
         self.layer.room(channel)
+    }
+
+    /// Whether the channel takes an interrupt of 1 to 32 octets to be sent.
+    pub fn may_interrupt(&self, channel: u8) -> bool
+        ensures { result ≡ may_interrupt self.now.layer channel }
+    {
+        self.layer.may_interrupt(channel)
     }
 
     /// What `take` would give on the channel, if anything: an interrupt, or a Data packet of so many octets with M, Q

@@ -1,5 +1,7 @@
 //! Packets that go from the packet layer to the link.
-ghost use Rattle.std.specs.Prelude.{◌≡◌};
+ghost use Rattle.std.specs.Prelude.{◌≡◌, ◌&&◌, is_some};
+ghost use Rattle.lapb.specs.Machine.{can_offer};
+ghost use Rattle.packet_layer.specs.Layer.{next_packet};
 ghost use Rattle.packet_end.specs.PacketEnd.{all_offered, HasOfferedAll};
 
 use crate::end::PacketEnd;
@@ -9,18 +11,22 @@ use packet_codec::PacketBuf;
 const MOST_PACKETS: usize = 7;
 
 impl PacketEnd {
-    /// Offers packets to the link, as long as it takes one and the packet layer has one that may go.
-    pub fn offer_packets(&mut self)
+    /// Offers packets to the link, as long as it takes one and the packet layer has one that may go, and answers
+    /// whether it took any.
+    pub fn offer_packets(&mut self) -> bool
+        ensures offered { result
+            ≡ (can_offer self.old.line.link && is_some (next_packet self.old.layer).packet) }
         ensures end { self.new ≡ all_offered self.old }
         ensures notes { self.new.notes ≡ self.old.notes }
         ensures all_offered { HasOfferedAll self.new }
     {
         let mut packet = PacketBuf::new();
-        for _ in 0..MOST_PACKETS {
+        for count in 0..MOST_PACKETS {
             if !self.line.has_room() || !self.layer.next_packet(&mut packet) {
-                return;
+                return count > 0;
             }
             let _ = self.line.offer(packet.as_slice());
         }
+        true
     }
 }
