@@ -14,7 +14,9 @@ use Rattle.packet_laws.proofs.Line.Lines.{nth_same}
 use Rattle.address_routes.specs.Routes.{RouteMap, line_for}
 use Rattle.x25_switch.specs.Direction.{Direction, new_direction, releasable, released}
 use Rattle.x25_switch.specs.Causes.{clear_cause, reset_cause, far_diagnostic}
-use Rattle.x25_switch.specs.Lines.{Place, Joined, SwitchLine, same_place, changed, joined_at, with_joined, ask}
+use Rattle.x25_switch.specs.declared.place.Place.{Place}
+use Rattle.x25_switch.specs.declared.place.Joined.{Joined}
+use Rattle.x25_switch.specs.Lines.{SwitchLine, same_place, changed, joined_at, with_joined, ask}
 use Rattle.x25_switch.specs.Relay.{freed, kept_anew, covered_on, told_joined, told_of}
 use Rattle.x25_switch.specs.Switch.{Answer, answer, answered, forwarded, place_call, has_any, heed, heed_all}
 use Rattle.x25_switch.specs.Switch.Answer.{Clears, Joins}

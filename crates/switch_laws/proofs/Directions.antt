@@ -1,7 +1,7 @@
 -- What the switch keeps of a direction stays right when a packet is sent on, covered, released.
-use Rattle.std.proofs.Common.{◌≡◌, ℕ, zero, suc, ◌+◌, ◌-◌, ◌<◌, ◌≤◌, Bool, true, false, if◌then◌else◌, List, [], ◌∷◌, ◌++◌, length, map, refl, sym, ap, ap₂, subst, ◌∙◌, append_assoc, length-append, arith, true≢false}
+use Rattle.std.proofs.Common.{◌≡◌, ℕ, zero, suc, ◌+◌, ◌-◌, ◌<◌, ◌≤◌, Bool, true, false, if◌then◌else◌, List, [], ◌∷◌, ◌++◌, length, map, take, refl, sym, ap, ap₂, subst, ◌∙◌, append_assoc, length-append, arith, true≢false}
 use Rattle.packet_layer.specs.Packets.{Datum}
-use Rattle.x25_switch.specs.Direction.{Direction, new_direction, carried, covered_by, releasable, unreleasable, released}
+use Rattle.x25_switch.specs.Direction.{Direction, new_direction, one_more, carried, covered_by, releasable, unreleasable, released}
 use Rattle.switch_laws.specs.Clause.{TakenPart, SentPart, AreCovered, needs, IsDirection}
 
 needs_append : (c i : ℕ) (xs ys : List Datum) → needs c i (xs ++ ys) ≡ needs c i xs ++ needs c (i + length xs) ys
@@ -49,9 +49,30 @@ direction_interrupts octets v n f i =
       held = i.held;
     }
 
-pub direction_carries : (d : Datum) (v : Direction) (n : TakenPart) (f : SentPart) → IsDirection v n f
-    → IsDirection (carried d v) (record n { packets = n.packets ++ d ∷ [] }) (record f { packets = f.packets ++ d ∷ [] })
-direction_carries d v n f i =
+-- there is a place for one packet more
+kept_whole : (n : ℕ) (hs : List ℕ) → length hs ≤ n → take n hs ≡ hs
+kept_whole zero [] le = refl
+kept_whole zero (h ∷ hs) le = absurd (omega arith)
+kept_whole (suc n) [] le = refl
+kept_whole (suc n) (h ∷ hs) le = ap (λ ks. h ∷ ks) (kept_whole n hs (omega arith))
+
+needs_length : (c i : ℕ) (ds : List Datum) → length (needs c i ds) ≡ length ds
+needs_length c i [] = refl
+needs_length c i (d ∷ ds) = ap (λ (n : ℕ). suc n) (needs_length c (suc i) ds)
+
+carried_whole : (delivery : Bool) (v : Direction) → length v.held < 7 → v.outstanding < 255 →
+    carried delivery v ≡ record { held = v.held ++ (if delivery then v.outstanding + 1 else 0) ∷ []; outstanding = v.outstanding + 1 }
+carried_whole delivery v few less =
+    let more : one_more v.outstanding ≡ v.outstanding + 1 = omega arith in
+    let size = length-append v.held ((if delivery then one_more v.outstanding else 0) ∷ []) in
+    ap (λ (hs : List ℕ). record { held = hs; outstanding = one_more v.outstanding })
+    (kept_whole 7 (v.held ++ (if delivery then one_more v.outstanding else 0) ∷ []) (omega arith))
+    ∙ ap (λ (n : ℕ). record { held = v.held ++ (if delivery then n else 0) ∷ []; outstanding = n }) more
+
+carries_more : (d : Datum) (v : Direction) (n : TakenPart) (f : SentPart) → IsDirection v n f
+    → IsDirection (record { held = v.held ++ (if d.delivery then v.outstanding + 1 else 0) ∷ []; outstanding = v.outstanding + 1 })
+    (record n { packets = n.packets ++ d ∷ [] }) (record f { packets = f.packets ++ d ∷ [] })
+carries_more d v n f i =
     let k = i.carries in
     let more = length-append f.packets (d ∷ []) in
     let whole : length k.out + length k.kept ≡ length n.packets = sym (length-append k.out k.kept) ∙ ap (λ (l : List Datum). length l) k.parts in
@@ -64,6 +85,18 @@ direction_carries d v n f i =
       outstanding = omega arith;
       held = ap₂ (λ (hs : List ℕ) (p : ℕ). hs ++ (if d.delivery then p else 0) ∷ []) i.held place ∙ sym (needs_append f.covered n.released k.kept (d ∷ []));
     }
+
+pub direction_carries : (d : Datum) (v : Direction) (n : TakenPart) (f : SentPart) → length n.packets < n.released + 7
+    → length f.packets < f.covered + 255 → IsDirection v n f
+    → IsDirection (carried d.delivery v) (record n { packets = n.packets ++ d ∷ [] }) (record f { packets = f.packets ++ d ∷ [] })
+direction_carries d v n f few less i =
+    let size : length v.held ≡ length i.carries.kept = ap (λ (hs : List ℕ). length hs) i.held ∙ needs_length f.covered n.released i.carries.kept in
+    let whole : length i.carries.out + length i.carries.kept ≡ length n.packets =
+    sym (length-append i.carries.out i.carries.kept) ∙ ap (λ (l : List Datum). length l) i.carries.parts in
+    let out = i.carries.released in
+    let left = i.outstanding in
+    subst (λ (w : Direction). IsDirection w (record n { packets = n.packets ++ d ∷ [] }) (record f { packets = f.packets ++ d ∷ [] }))
+    (sym (carried_whole d.delivery v (omega arith) (omega arith))) (carries_more d v n f i)
 
 -- ---- covered
 

@@ -12,7 +12,9 @@ use Rattle.x25_switch.specs.Direction.{request_for}
 use Rattle.packet_layer.specs.Layer.{Layer, next_packet, channel_of, unread, link_down}
 use Rattle.packet_end.specs.PacketEnd.{PacketEnd, begun, received, after_timer, relinked, with_next, offered, all_offered, settled, elapsed}
 use Rattle.address_routes.specs.Routes.{RouteMap}
-use Rattle.x25_switch.specs.Lines.{Place, Joined, SwitchLine, changed, flat, nth_joined, joined_on, front_of_line, refusal_of_line}
+use Rattle.x25_switch.specs.declared.place.Place.{Place}
+use Rattle.x25_switch.specs.declared.place.Joined.{Joined}
+use Rattle.x25_switch.specs.Lines.{SwitchLine, changed, flat, nth_joined, joined_on, front_of_line, refusal_of_line}
 use Rattle.x25_switch.specs.Relay.{all_relayed}
 use Rattle.x25_switch.specs.Switch.{Switch, with_end, acted, to_relink, relinked_at, all_relinked, relinks_of, all_offered_on, may_offer, offered_from, rounds, finished, all_begun, on_frame, on_timer, restart, without_joins}
 use Rattle.switch_laws.specs.Leg.{Leg, gave}

@@ -15,7 +15,9 @@ use Rattle.packet_laws.proofs.Line.Lines.{nth_same, nth_other}
 use Rattle.packet_end.specs.PacketEnd.{PacketEnd, relinked, with_next, offered, all_offered, settled}
 use Rattle.address_routes.specs.Routes.{RouteMap}
 use Rattle.x25_switch.specs.Direction.{carried_by, request_for}
-use Rattle.x25_switch.specs.Lines.{Place, Joined, SwitchLine, changed, joined_on, joined_at, ask, front_at, refusal_at, places}
+use Rattle.x25_switch.specs.declared.place.Place.{Place}
+use Rattle.x25_switch.specs.declared.place.Joined.{Joined}
+use Rattle.x25_switch.specs.Lines.{SwitchLine, changed, joined_on, joined_at, ask, front_at, refusal_at, places}
 use Rattle.x25_switch.specs.Relay.{moved, moved_unless, moved_front, moved_joined, relayed, relayed_from, all_relayed}
 use Rattle.x25_switch.specs.Switch.{with_end, acted, to_relink, relinked_at, all_relinked, may_offer, offered_from, rounds, all_offered_on, finished}
 use Rattle.switch_laws.specs.World.{World, Shown, shown_as, shown_on, shown_at, layers_of}

@@ -22,7 +22,9 @@ use Rattle.packet_end.specs.PacketEnd.{PacketEnd, received, heeded, after_packet
 use Rattle.packet_end.proofs.Offering.{silent_all_offered, settled_all_offered}
 use Rattle.address_routes.specs.Routes.{RouteMap}
 use Rattle.x25_switch.specs.Direction.{Direction, releasable}
-use Rattle.x25_switch.specs.Lines.{Place, Joined, SwitchLine, changed, joined_at, with_joined}
+use Rattle.x25_switch.specs.declared.place.Place.{Place}
+use Rattle.x25_switch.specs.declared.place.Joined.{Joined}
+use Rattle.x25_switch.specs.Lines.{SwitchLine, changed, joined_at, with_joined}
 use Rattle.x25_switch.specs.Relay.{freed, kept_anew, covered_on, told_joined, told_of}
 use Rattle.x25_switch.specs.Switch.{Switch, Answer, answer, answered, forwarded, place_call, heed, heed_all, with_end, notes_of, without_notes, quieted, acted, to_relink, relinked_at, all_relinked, may_offer, all_offered_on, finished, all_begun, on_frame, on_timer}
 use Rattle.x25_switch.specs.Switch.Answer.{Clears, Joins}

@@ -10,7 +10,9 @@ use Rattle.packet_layer.specs.Channel.{CallState, Request, Refusal, refusal, in_
 use Rattle.packet_layer.specs.Channel.CallState.{Ready, OwnWaiting, FarWaiting, Transfer, Collision, OwnClear}
 use Rattle.packet_layer.specs.Channel.Request.{Taking, Releasing}
 use Rattle.x25_switch.specs.Direction.{Direction, releasable, released, carried_by, request_for}
-use Rattle.x25_switch.specs.Lines.{Place, Joined, SwitchLine, same_place, joined_at, ask, front_at, refusal_at, places, places_on, places_from}
+use Rattle.x25_switch.specs.declared.place.Place.{Place}
+use Rattle.x25_switch.specs.declared.place.Joined.{Joined}
+use Rattle.x25_switch.specs.Lines.{SwitchLine, same_place, joined_at, ask, front_at, refusal_at, places, places_on, places_from}
 use Rattle.x25_switch.specs.Relay.{moved, moved_joined, moved_front, moved_unless, relayed, relayed_from, all_relayed}
 use Rattle.switch_laws.specs.Leg.{Leg, asked}
 use Rattle.switch_laws.specs.Way.{Way}

@@ -12,7 +12,9 @@ use Rattle.packet_layer.specs.Events.{written_packet}
 use Rattle.packet_end.specs.PacketEnd.{PacketEnd, offered, all_offered, with_next}
 use Rattle.packet_end.proofs.Offering.{takes_none, longer, one_offered}
 use Rattle.x25_switch.specs.Direction.{releasable, carried_by, request_for}
-use Rattle.x25_switch.specs.Lines.{Place, Joined, SwitchLine, changed, joined_at, with_joined, ask, front_at, refusal_at, places}
+use Rattle.x25_switch.specs.declared.place.Place.{Place}
+use Rattle.x25_switch.specs.declared.place.Joined.{Joined}
+use Rattle.x25_switch.specs.Lines.{SwitchLine, changed, joined_at, with_joined, ask, front_at, refusal_at, places}
 use Rattle.x25_switch.specs.Relay.{moved, moved_unless, moved_front, moved_joined, relayed, relayed_from, all_relayed}
 use Rattle.x25_switch.specs.Switch.{with_end, may_offer, offered_from, rounds}
 use Rattle.switch_laws.proofs.Lists.{map_unchanged, and_both, decided}

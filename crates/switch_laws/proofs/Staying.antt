@@ -16,7 +16,9 @@ use Rattle.packet_end.specs.PacketEnd.{PacketEnd, all_offered}
 use Rattle.address_routes.specs.Routes.{RouteMap, line_for}
 use Rattle.x25_switch.specs.Direction.{Direction, new_direction, releasable, released, carried_by, request_for}
 use Rattle.x25_switch.specs.Causes.{clear_cause, reset_cause, far_diagnostic}
-use Rattle.x25_switch.specs.Lines.{Place, Joined, SwitchLine, same_place, changed, joined_at, with_joined, ask, front_at, refusal_at, places}
+use Rattle.x25_switch.specs.declared.place.Place.{Place}
+use Rattle.x25_switch.specs.declared.place.Joined.{Joined}
+use Rattle.x25_switch.specs.Lines.{SwitchLine, same_place, changed, joined_at, with_joined, ask, front_at, refusal_at, places}
 use Rattle.x25_switch.specs.Relay.{freed, kept_anew, covered_on, told_joined, told_of, moved, moved_unless, moved_front, moved_joined, relayed, relayed_from, all_relayed}
 use Rattle.x25_switch.specs.Switch.{Answer, answer, answered, forwarded, place_call, has_any, heed, heed_all, with_end, notes_of, without_notes, quieted, acted, may_offer, offered_from, rounds}
 use Rattle.x25_switch.specs.Switch.Answer.{Clears, Joins}

@@ -1,5 +1,6 @@
 -- One direction of a join: the clause stays over all that the switch relays and releases, and 8 moves leave nothing.
-use Rattle.std.proofs.Common.{◌≡◌, ℕ, zero, suc, ◌+◌, ◌≤◌, ◌<◌, Bool, true, false, cond, if◌then◌else◌, not, List, [], ◌∷◌, length, Option, Some, None, is_some, refl, sym, ap, subst, ◌∙◌, arith, true≢false, nat_le, nat_lt, ◌||◌, ◌==◌}
+use Rattle.std.proofs.Common.{◌≡◌, ℕ, zero, suc, ◌+◌, ◌≤◌, ◌<◌, Bool, true, false, cond, if◌then◌else◌, not, List, [], ◌∷◌, length, length-append, Option, Some, None, is_some, refl, sym, ap, subst, ◌∙◌, arith, true≢false, nat_le, nat_lt, ◌||◌, ◌==◌}
+use Rattle.std.proofs.lemmas.Bool.{leb-false}
 use Rattle.std.proofs.lemmas.Option.{none-some, same_Some}
 use Rattle.link_timers.specs.declared.role.Role.{Role}
 use Rattle.packet_layer.specs.Packets.{Datum}
@@ -130,13 +131,23 @@ packet_holds d ds w h r =
     let g = with_front None (d ∷ ds) w.near in
     let state = not_refused (not (in_transfer w.far.channel.state)) _ _ r in
     let resetting = not_refused w.far.channel.resetting _ _ state.1 in
+    let full = not_refused (nat_le 8 (length w.far.channel.traffic.waiting)) _ _ resetting.1 in
+    let room = leb-false 8 (length w.far.channel.traffic.waiting) full.0 in
+    let near_window = h.near.window in
+    let came = h.near.counts.came_within in
+    let few : length g.epoch.taken < g.epoch.released + 7 = omega (arith, came, near_window) in
+    let far_window = h.far.window in
+    let went = h.far.counts.went_within in
+    let sent : length h.far.counts.gone + length w.far.channel.traffic.waiting ≡ length w.far.epoch.sent =
+    sym (length-append h.far.counts.gone w.far.channel.traffic.waiting) ∙ ap (λ (l : List Datum). length l) h.far.counts.sent in
+    let less : length w.far.epoch.sent < w.far.epoch.covered + 255 = omega (arith, sent, went, far_window, room) in
     done_on (TakenPacket d) (at_front None (d ∷ ds) w) (taking_allowed g h.near_call) r (record {
       near = leg_taken g h.near;
       far = leg_sent d w.far resetting.0 h.far;
       near_call = h.near_call;
       far_call = h.far_call;
       passed = h.passed;
-      direction = direction_carries d w.kept (taken_part g.epoch) (sent_part w.far.epoch) h.direction;
+      direction = direction_carries d w.kept (taken_part g.epoch) (sent_part w.far.epoch) few less h.direction;
       interrupted = h.interrupted;
     })
 

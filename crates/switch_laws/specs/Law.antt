@@ -9,7 +9,8 @@ use Rattle.packet_layer.specs.Layer.{Layer}
 use Rattle.packet_laws.specs.Counts.{IsNumbered}
 use Rattle.address_routes.specs.Routes.{RouteMap, line_for}
 use Rattle.x25_switch.specs.Direction.{new_direction}
-use Rattle.x25_switch.specs.Lines.{Place, SwitchLine, joined_at}
+use Rattle.x25_switch.specs.declared.place.Place.{Place}
+use Rattle.x25_switch.specs.Lines.{SwitchLine, joined_at}
 use Rattle.x25_switch.specs.Relay.{all_relayed}
 use Rattle.x25_switch.specs.Switch.{Switch, answer, heed_all, on_frame, on_timer, restart, elapse}
 use Rattle.x25_switch.specs.Switch.Answer.{Joins}

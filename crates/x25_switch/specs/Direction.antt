@@ -1,7 +1,6 @@
 -- What a switch keeps of one direction of a join, from one reset to the next. The near leg is the one that it takes
 -- packets from, the far leg the one that it sends them on.
-use Rattle.std.specs.Prelude.{ℕ, zero, suc, ◌+◌, ◌-◌, if◌then◌else◌, List, [], ◌∷◌, ◌++◌, map}
-use Rattle.packet_layer.specs.Packets.{Datum}
+use Rattle.std.specs.Prelude.{ℕ, zero, suc, ◌+◌, ◌-◌, Bool, if◌then◌else◌, List, [], ◌∷◌, ◌++◌, map, take, min}
 use Rattle.packet_layer.specs.Traffic.{Taken}
 use Rattle.packet_layer.specs.Traffic.Taken.{TakenInterrupt, TakenPacket}
 use Rattle.packet_layer.specs.Channel.{Request}
@@ -16,11 +15,19 @@ pub record Direction : Type 0 where
 abbrev pub new_direction : Direction
 new_direction = record { held = []; outstanding = 0 }
 
--- a packet that was taken is sent on
-abbrev pub carried : Datum → Direction → Direction
-carried d v = record {
-  held = v.held ++ (if d.delivery then v.outstanding + 1 else 0) ∷ [];
-  outstanding = v.outstanding + 1;
+-- one packet more is sent on: there is a place for 7 that are not released, as many as the largest window has, and the
+-- count of those that are not covered is an octet
+abbrev pub one_more : ℕ → ℕ
+one_more outstanding = min (outstanding + 1) 255
+
+abbrev pub kept_places : List ℕ → List ℕ
+kept_places held = take 7 held
+
+-- a packet that was taken, with D = 1 or not, is sent on
+abbrev pub carried : (delivery : Bool) → Direction → Direction
+carried delivery v = record {
+  held = kept_places (v.held ++ (if delivery then one_more v.outstanding else 0) ∷ []);
+  outstanding = one_more v.outstanding;
 }
 
 -- P(R) covers n more packets of the far leg
@@ -48,4 +55,4 @@ request_for (TakenPacket d) = Sending d
 
 abbrev pub carried_by : Taken → Direction → Direction
 carried_by (TakenInterrupt octets) v = v
-carried_by (TakenPacket d) v = carried d v
+carried_by (TakenPacket d) v = carried d.delivery v

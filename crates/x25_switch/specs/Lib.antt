@@ -3,3 +3,8 @@ pub mod Causes
 pub mod Lines
 pub mod Relay
 pub mod Switch
+pub mod OfLine
+pub mod LineView
+pub mod Calling
+pub mod Making
+pub mod SwitchView

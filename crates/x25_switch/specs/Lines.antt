@@ -4,22 +4,14 @@ use Rattle.packet_layer.specs.Traffic.{Taken}
 use Rattle.packet_layer.specs.Channel.{Request, Refusal}
 use Rattle.packet_layer.specs.Layer.{front_on, request_refusal}
 use Rattle.packet_end.specs.PacketEnd.{PacketEnd, asked}
-use Rattle.x25_switch.specs.Direction.{Direction}
-
 -- a logical channel of a line; lines are numbered from 0, channels from 1
-pub record Place : Type 0 where
-  pub line : ℕ
-  pub channel : ℕ
+pub use Rattle.x25_switch.specs.declared.place.Place.{Place}
+-- what a channel has whose call is joined to another one: that one, whether the call came in here, and the direction
+-- from here to there
+pub use Rattle.x25_switch.specs.declared.place.Joined.{Joined}
 
 abbrev pub same_place : Place → Place → Bool
 same_place p q = (p.line == q.line) && (p.channel == q.channel)
-
--- what a channel has whose call is joined to another one: that one, whether the call came in here, and the direction
--- from here to there
-pub record Joined : Type 0 where
-  pub other : Place
-  pub came_in : Bool
-  pub kept : Direction
 
 -- a line: its end, the address that calls from it get as their calling address, and of its channels 1, 2 and so on
 -- those that are joined

@@ -14,7 +14,7 @@ use Rattle.packet_layer.specs.Layer.{Phase, channel_given, next_packet, unread}
 use Rattle.packet_layer.specs.Layer.Phase.{PacketReady}
 use Rattle.packet_end.specs.PacketEnd.{PacketEnd, begun, received, after_timer, relinked, restarted, called}
 use Rattle.packet_end.specs.PacketEnd.{all_offered}
-use Rattle.packet_end.specs.PacketEnd.{settled, elapsed, runs_at}
+use Rattle.packet_end.specs.PacketEnd.{settled, elapsed, runs_at, due, without_first_frame}
 use Rattle.address_routes.specs.Routes.{RouteMap, line_for}
 use Rattle.x25_switch.specs.Direction.{new_direction}
 use Rattle.x25_switch.specs.Lines.{Place, SwitchLine, changed, with_joined, ask}
@@ -201,3 +201,16 @@ restart s = record s { lines = map without_joins s.lines }
 
 abbrev pub elapse : (ticks : ℕ) → Switch → Switch
 elapse ticks s = record s { lines = map (with_end (λ e. elapsed e ticks)) s.lines }
+
+-- ---- frames and timers of a line
+
+abbrev pub frames_on : Option SwitchLine → List Octets
+frames_on None = []
+frames_on (Some l) = l.end.line.frames
+
+abbrev pub without_frame : (line : ℕ) → Switch → Switch
+without_frame n s = record s { lines = changed n (with_end without_first_frame) s.lines }
+
+abbrev pub due_on : Option SwitchLine → Option TimerId
+due_on None = None
+due_on (Some l) = due l.end

@@ -1,0 +1,134 @@
+//! The switch and its events.
+ghost use Rattle.std.specs.Prelude.{◌≡◌, ◌≤◌, ◌<◌, ◌∷◌, [], length, MatchResult, slice_get};
+ghost use Rattle.std.specs.Bool.{OnTrue, OnFalse};
+ghost use Rattle.std.specs.Option.{option_map};
+ghost use Rattle.x25_switch.specs.Lines.{joined_at};
+ghost use Rattle.x25_switch.specs.Making.{made, IsConfig, MadeNot};
+ghost use Rattle.x25_switch.specs.Switch.{on_frame, on_timer, timer_runs, restart, elapse};
+ghost use Rattle.x25_switch.specs.Switch.{without_frame, frames_on, due_on};
+
+use crate::config::{SwitchConfig, check_lines};
+use crate::lines::Lines;
+use crate::place::Place;
+use address_routes::Routes;
+use frame_codec::FrameBuf;
+use link_timers::TimerId;
+use packet_end::EndFault;
+use std::alloc::Global;
+use std::marker::Model;
+
+/// A switch: the DCE on up to 64 lines, of which it joins calls (X.25 3 to 5). A call that comes in on one line goes on
+/// to the line of its route, and all that happens on the one is relayed to the other.
+///
+/// Each call that changes it is one event, whose frames are then taken by `out`, before the next one; after it they are
+/// gone, as if the line had lost them.
+#[derive(Drop)]
+pub struct Switch {
+    routes: Routes,
+    lines: Lines,
+}
+
+impl Model for Switch {
+    ghost use Rattle.x25_switch.specs.Switch.{Switch as SwitchValue};
+    ghost use Rattle.std.specs.FinMap as map;
+    ghost use Rattle.address_routes.specs.Routes.{by_digits};
+    ghost use Rattle.std.specs.Coded.{codes, coded_list, coded_ℕ};
+
+    ghost Value = { SwitchValue };
+
+    ghost coded = { Prim.hlevel (codes, map.code {R = by_digits} (coded_list coded_ℕ) coded_ℕ) };
+
+    ghost use Rattle.x25_switch.specs.SwitchView.{switch_of};
+
+    ghost view = { switch_of };
+}
+
+impl Switch {
+    /// The switch at its lines, which are new: each link is started, and there is no call. It takes all the memory that
+    /// it ever uses.
+    ///
+    /// `BadConfig` comes where there is no line or more than 64, or one stands or has a parameter out of its range, and
+    /// then `OutOfMemory` for want of memory.
+    pub fn new(alloc: Global, config: SwitchConfig<'_>) -> Result<Switch, EndFault>
+        ensures { MatchResult result
+            (λ switch. IsConfig config.entry.lines.now × (switch ≡ made config.entry.routes config.entry.lines.now))
+            (λ fault. MadeNot config.entry.lines.now fault) }
+    {
+        let SwitchConfig { lines, routes } = config;
+        check_lines(lines)?;
+        let lines = Lines::new(alloc, lines)?;
+        Ok(Switch { routes, lines })
+    }
+
+    /// How many lines there are, at most 64.
+    pub fn lines(&self) -> usize
+        ensures count { result ≡ length self.now.lines }
+        ensures most { result ≤ 64 }
+    {
+        self.lines.len()
+    }
+
+    /// Takes the octets of a frame that a line brings.
+    pub fn on_frame(&mut self, line: usize, octets: &[u8])
+        requires { line < length self.old.lines }
+        ensures { self.new ≡ on_frame line octets.now self.old }
+    {
+        self.lines.begin();
+        self.lines.receive(&self.routes, line, octets);
+        self.lines.finish(&self.routes);
+    }
+
+    /// Takes an expiry of a timer of a line, and answers whether the timer ran.
+    pub fn on_timer(&mut self, line: usize, id: TimerId) -> bool
+        requires { line < length self.old.lines }
+        ensures ran { result ≡ timer_runs (slice_get self.old.lines line) id }
+        ensures switch { self.new ≡ on_timer line id self.old }
+    {
+        let ran = self.lines.is_running(line, id);
+        self.lines.begin();
+        self.lines.expire(&self.routes, line, id);
+        self.lines.finish(&self.routes);
+        ran
+    }
+
+    /// Begins anew after a restart of the switch: no link is up, and no call is left.
+    pub fn restart(&mut self)
+        ensures { self.new ≡ restart self.old }
+    {
+        self.lines.restart();
+    }
+
+    /// Takes the next frame that goes out on a line, if there is one. Where there is none `frame` stays.
+    pub fn out(&mut self, line: usize, frame: &mut FrameBuf) -> bool
+        requires { line < length self.old.lines }
+        ensures frame { OnTrue result (frames_on (slice_get self.old.lines line)
+            ≡ frame.new ∷ frames_on (slice_get self.new.lines line)) }
+        ensures nothing { OnFalse result (frames_on (slice_get self.old.lines line) ≡ []) }
+        ensures same { OnFalse result (frame.new ≡ frame.old) }
+        ensures switch { self.new ≡ without_frame line self.old }
+    {
+        self.lines.out(line, frame)
+    }
+
+    /// Lets ticks pass, each a twentieth of a second: each timer that runs has so many less, not below 0.
+    pub fn elapse(&mut self, ticks: u16)
+        ensures { self.new ≡ elapse ticks self.old }
+    {
+        self.lines.elapse(ticks);
+    }
+
+    /// The first timer of a line that runs with no tick left, in the order of [`TimerId`] and then by number.
+    pub fn due(&self, line: usize) -> Option<TimerId>
+        requires { line < length self.now.lines }
+        ensures { result ≡ due_on (slice_get self.now.lines line) }
+    {
+        self.lines.due(line)
+    }
+
+    /// The channel to which the call on a channel is joined, if there is a call.
+    pub fn joins(&self, place: Place) -> Option<Place>
+        ensures { result ≡ option_map (λ j. j.other) (joined_at self.now.lines place) }
+    {
+        self.lines.other(place)
+    }
+}
