@@ -1,0 +1,359 @@
+//! Calls through a switch.
+
+use crate::steps::{Example, Step};
+use Step::{Due, Elapse, Expires, Flow, Frame, Hears, HearsNothing, Joined, Restart, Send, Sent};
+use link_timers::TimerId;
+use std::alloc::Global;
+use std::process::Abort;
+
+const RESTART_BY_DTE: &[u8] = &[0x10, 0x00, 0xfb, 0x00, 0x00];
+
+const RESTART_BY_DCE: &[u8] = &[0x10, 0x00, 0xfb, 0x07, 0x00];
+
+// The links and the packet layers of lines 0 and 1 come up, and those of line 2.
+const BEGINNING: [Step<'static>; 8] = [
+    Flow,
+    Hears(0, RESTART_BY_DCE),
+    Hears(1, RESTART_BY_DCE),
+    Hears(2, RESTART_BY_DCE),
+    Send(0, RESTART_BY_DTE),
+    Send(1, RESTART_BY_DTE),
+    Send(2, RESTART_BY_DTE),
+    Flow,
+];
+
+// A call from channel 4 of line 0 to the address 2, which is accepted.
+const CALL: [Step<'static>; 8] = [
+    Send(0, &[0x10, 0x04, 0x0b, 0x01, 0x20, 0x00]),
+    Flow,
+    Hears(1, &[0x10, 0x01, 0x0b, 0x11, 0x21, 0x00]),
+    Joined(0, 4, Some((1, 1))),
+    Joined(1, 1, Some((0, 4))),
+    Send(1, &[0x10, 0x01, 0x0f]),
+    Flow,
+    Hears(0, &[0x10, 0x04, 0x0f]),
+];
+
+fn after_beginning(rt: &impl Abort, alloc: Global, steps: &[Step<'_>]) {
+    let mut example = Example::new(rt, alloc, 7);
+    example.plays(rt, &BEGINNING);
+    example.plays(rt, steps);
+}
+
+fn in_a_call(rt: &impl Abort, alloc: Global, steps: &[Step<'_>]) {
+    let mut example = Example::new(rt, alloc, 7);
+    example.plays(rt, &BEGINNING);
+    example.plays(rt, &CALL);
+    example.plays(rt, steps);
+}
+
+#[test]
+fn calls_are_cleared_in_order_of_causes(rt: HostRuntime) {
+    after_beginning(
+        &rt,
+        rt.alloc(),
+        &[
+            // a facility, and no route
+            Send(0, &[0x10, 0x04, 0x0b, 0x01, 0x30, 0x02, 0x01, 0x01]),
+            Flow,
+            Hears(0, &[0x10, 0x04, 0x13, 0x03, 0x00]),
+            Joined(0, 4, None),
+            // no route
+            Send(0, &[0x10, 0x03, 0x0b, 0x01, 0x30, 0x00]),
+            Flow,
+            Hears(0, &[0x10, 0x03, 0x13, 0x0d, 0x00]),
+            // line 1 restarts, and its packet layer waits
+            Send(1, &[0x10, 0x04, 0x13, 0x00, 0x00]),
+            Flow,
+            Hears(1, &[0x10, 0x04, 0x17]),
+        ],
+    );
+}
+
+#[test]
+fn calls_to_a_line_that_is_down_are_cleared(rt: HostRuntime) {
+    let mut example = Example::new(&rt, rt.alloc(), 7);
+    example.plays(
+        &rt,
+        &[
+            Flow,
+            Hears(0, RESTART_BY_DCE),
+            Send(0, RESTART_BY_DTE),
+            Send(0, &[0x10, 0x04, 0x0b, 0x01, 0x20, 0x00]),
+            Flow,
+            Hears(0, &[0x10, 0x04, 0x13, 0x09, 0x00]),
+        ],
+    );
+}
+
+#[test]
+fn no_channel_is_left_for_a_fifth_call(rt: HostRuntime) {
+    let call = &[0x10, 0x04, 0x0b, 0x01, 0x20, 0x00];
+    after_beginning(
+        &rt,
+        rt.alloc(),
+        &[
+            Send(0, &[0x10, 0x01, 0x0b, 0x01, 0x20, 0x00]),
+            Send(0, &[0x10, 0x02, 0x0b, 0x01, 0x20, 0x00]),
+            Send(0, &[0x10, 0x03, 0x0b, 0x01, 0x20, 0x00]),
+            Send(2, &[0x10, 0x01, 0x0b, 0x01, 0x20, 0x00]),
+            Flow,
+            Send(0, call),
+            Flow,
+            Hears(0, &[0x10, 0x04, 0x13, 0x01, 0x00]),
+            Joined(2, 1, Some((1, 2))),
+        ],
+    );
+}
+
+#[test]
+fn packets_keep_their_bits_and_wait_for_delivery(rt: HostRuntime) {
+    in_a_call(
+        &rt,
+        rt.alloc(),
+        &[
+            // with D
+            Send(0, &[0x50, 0x04, 0x00, 0x41]),
+            Flow,
+            Hears(1, &[0x50, 0x01, 0x00, 0x41]),
+            HearsNothing(0),
+            Send(1, &[0x10, 0x01, 0x21]),
+            Flow,
+            Hears(0, &[0x10, 0x04, 0x21]),
+            // with Q and M
+            Send(0, &[0x90, 0x04, 0x12, 0x42]),
+            Flow,
+            Hears(1, &[0x90, 0x01, 0x12, 0x42]),
+            Hears(0, &[0x10, 0x04, 0x41]),
+            // the other way
+            Send(1, &[0x10, 0x01, 0x40, 0x43]),
+            Flow,
+            Hears(0, &[0x10, 0x04, 0x40, 0x43]),
+            // the window of the far leg is shut at first: the second packet waits
+            Hears(1, &[0x10, 0x01, 0x21]),
+            HearsNothing(1),
+        ],
+    );
+}
+
+#[test]
+fn interrupts_are_confirmed_from_the_far_leg(rt: HostRuntime) {
+    in_a_call(
+        &rt,
+        rt.alloc(),
+        &[
+            Send(0, &[0x10, 0x04, 0x23, 0x01]),
+            Flow,
+            Hears(1, &[0x10, 0x01, 0x23, 0x01]),
+            HearsNothing(0),
+            Send(1, &[0x10, 0x01, 0x27]),
+            Flow,
+            Hears(0, &[0x10, 0x04, 0x27]),
+        ],
+    );
+}
+
+#[test]
+fn resets_and_clears_go_on(rt: HostRuntime) {
+    in_a_call(
+        &rt,
+        rt.alloc(),
+        &[
+            Send(0, &[0x10, 0x04, 0x1b, 0x00, 0x07]),
+            Flow,
+            Hears(0, &[0x10, 0x04, 0x1f]),
+            Hears(1, &[0x10, 0x01, 0x1b, 0x00, 0x07]),
+            Send(1, &[0x10, 0x01, 0x1f]),
+            Flow,
+            Send(0, &[0x10, 0x04, 0x00, 0x41]),
+            Flow,
+            Hears(1, &[0x10, 0x01, 0x00, 0x41]),
+            Hears(0, &[0x10, 0x04, 0x21]),
+            Send(1, &[0x10, 0x01, 0x13, 0x00, 0x09]),
+            Flow,
+            Hears(1, &[0x10, 0x01, 0x17]),
+            Hears(0, &[0x10, 0x04, 0x13, 0x00, 0x09]),
+            Joined(0, 4, None),
+            Joined(1, 1, None),
+        ],
+    );
+}
+
+#[test]
+fn resets_cross(rt: HostRuntime) {
+    in_a_call(
+        &rt,
+        rt.alloc(),
+        &[
+            Send(0, &[0x10, 0x04, 0x1b, 0x00, 0x00]),
+            Send(1, &[0x10, 0x01, 0x1b, 0x00, 0x00]),
+            Flow,
+            Hears(0, &[0x10, 0x04, 0x1f]),
+            HearsNothing(0),
+            Hears(1, &[0x10, 0x01, 0x1b, 0x00, 0x00]),
+            HearsNothing(1),
+            Send(0, &[0x10, 0x04, 0x00, 0x41]),
+            Flow,
+            Hears(1, &[0x10, 0x01, 0x00, 0x41]),
+        ],
+    );
+}
+
+// What is sent on line 0 in a call, and what then goes to lines 0 and 1.
+#[derive(Clone, Copy)]
+struct Row<'a> {
+    packets: &'a [&'a [u8]],
+    near: &'a [&'a [u8]],
+    far: &'a [&'a [u8]],
+}
+
+fn row_holds(rt: &impl Abort, alloc: Global, row: Row<'_>) {
+    let mut example = Example::new(rt, alloc, 7);
+    example.plays(rt, &BEGINNING);
+    example.plays(rt, &CALL);
+    for packet in row.packets {
+        example.plays(rt, &[Send(0, packet)]);
+    }
+    example.plays(rt, &[Flow]);
+    for packet in row.near {
+        example.plays(rt, &[Hears(0, packet)]);
+    }
+    for packet in row.far {
+        example.plays(rt, &[Hears(1, packet)]);
+    }
+    example.plays(rt, &[HearsNothing(0), HearsNothing(1)]);
+}
+
+const RESET: &[u8] = &[0x10, 0x01, 0x1b, 0x03, 0x00];
+
+const CLEAR: &[u8] = &[0x10, 0x01, 0x13, 0x11, 0x00];
+
+const ROWS: [Row<'static>; 11] = [
+    Row {
+        packets: &[&[0x10, 0x04, 0x02, 0x41]],
+        near: &[&[0x10, 0x04, 0x1b, 0x05, 0x01]],
+        far: &[RESET],
+    },
+    Row {
+        packets: &[&[0x10, 0x04, 0x61]],
+        near: &[&[0x10, 0x04, 0x1b, 0x05, 0x02]],
+        far: &[RESET],
+    },
+    Row {
+        packets: &[&[0x10, 0x04, 0x1f]],
+        near: &[&[0x10, 0x04, 0x1b, 0x05, 0x1b]],
+        far: &[RESET],
+    },
+    Row {
+        packets: &[&[0x10, 0x04, 0xf1]],
+        near: &[&[0x10, 0x04, 0x1b, 0x05, 0x1b]],
+        far: &[RESET],
+    },
+    Row {
+        packets: &[&[0x10, 0x04, 0x23, 0x01], &[0x10, 0x04, 0x23, 0x01]],
+        near: &[&[0x10, 0x04, 0x1b, 0x05, 0x00]],
+        far: &[&[0x10, 0x01, 0x23, 0x01], RESET],
+    },
+    Row {
+        packets: &[&[0x10, 0x04, 0x0b, 0x04, 0x20, 0x01, 0x00]],
+        near: &[&[0x10, 0x04, 0x13, 0x13, 0x17]],
+        far: &[CLEAR],
+    },
+    Row {
+        packets: &[&[0x10, 0x03, 0x00, 0x41]],
+        near: &[&[0x10, 0x03, 0x13, 0x13, 0x14]],
+        far: &[],
+    },
+    Row {
+        packets: &[&[0x10, 0x00, 0xff]],
+        near: &[&[0x10, 0x00, 0xfb, 0x01, 0x11]],
+        far: &[CLEAR],
+    },
+    Row {
+        packets: &[&[0x10, 0x09, 0x00]],
+        near: &[],
+        far: &[],
+    },
+    Row {
+        packets: &[&[0x10, 0x00, 0x0b]],
+        near: &[],
+        far: &[],
+    },
+    Row {
+        packets: &[&[0x10, 0x04]],
+        near: &[],
+        far: &[],
+    },
+];
+
+#[test]
+fn errors_of_one_leg_go_on(rt: HostRuntime) {
+    for row in ROWS {
+        row_holds(&rt, rt.alloc(), row);
+    }
+}
+
+#[test]
+fn a_fifth_packet_owed_sets_the_link_up_anew(rt: HostRuntime) {
+    let mut example = Example::new(&rt, rt.alloc(), 1);
+    example.plays(&rt, &BEGINNING);
+    example.plays(
+        &rt,
+        &[
+            Send(1, &[0x10, 0x04, 0x0b, 0x01, 0x40, 0x00]),
+            Flow,
+            Hears(2, &[0x10, 0x01, 0x0b, 0x11, 0x42, 0x00]),
+            Send(2, &[0x10, 0x01, 0x0f]),
+            Flow,
+            Hears(1, &[0x10, 0x04, 0x0f]),
+            Frame(&[0x01, 0x22, 0x10, 0x03, 0x13, 0x00, 0x00]),
+            Sent(&[0x03, 0x42, 0x10, 0x03, 0x17]),
+            Frame(&[0x01, 0x24, 0x10, 0x03, 0x13, 0x00, 0x00]),
+            Sent(&[0x01, 0x61]),
+            Frame(&[0x01, 0x26, 0x10, 0x03, 0x13, 0x00, 0x00]),
+            Sent(&[0x01, 0x81]),
+            Frame(&[0x01, 0x28, 0x10, 0x03, 0x13, 0x00, 0x00]),
+            Sent(&[0x01, 0xa1]),
+            Frame(&[0x01, 0x2a, 0x10, 0x03, 0x13, 0x00, 0x00]),
+            Sent(&[0x01, 0xc1]),
+            Frame(&[0x01, 0x2c, 0x10, 0x03, 0x13, 0x00, 0x00]),
+            Sent(&[0x01, 0x0f]),
+            // the call of two other lines stays
+            Joined(1, 4, Some((2, 1))),
+            Joined(2, 1, Some((1, 4))),
+            HearsNothing(1),
+            HearsNothing(2),
+        ],
+    );
+}
+
+#[test]
+fn an_expiry_clears_both_legs(rt: HostRuntime) {
+    after_beginning(
+        &rt,
+        rt.alloc(),
+        &[
+            Send(0, &[0x10, 0x04, 0x0b, 0x01, 0x20, 0x00]),
+            Flow,
+            Hears(1, &[0x10, 0x01, 0x0b, 0x11, 0x21, 0x00]),
+            Expires(1, TimerId::T11(2), false),
+            Due(1, None),
+            Elapse(3600),
+            Due(1, Some(TimerId::T11(1))),
+            Expires(1, TimerId::T11(1), true),
+            Flow,
+            Hears(1, &[0x10, 0x01, 0x13, 0x13, 0x00]),
+            Hears(0, &[0x10, 0x04, 0x13, 0x11, 0x00]),
+            Joined(0, 4, None),
+        ],
+    );
+}
+
+#[test]
+fn a_restart_leaves_no_call(rt: HostRuntime) {
+    in_a_call(
+        &rt,
+        rt.alloc(),
+        &[Restart, Joined(0, 4, None), Joined(1, 1, None)],
+    );
+}
