@@ -1,13 +1,5 @@
-mod Asked
+mod Standing
 mod Events
 mod FewerDue
-mod Fits
-mod Fitting
-mod Flying
-mod Promises
 mod Refusals
 mod RunsMore
-mod Sending
-mod Serving
-mod Turns
-mod Writing

@@ -2,13 +2,13 @@
 use Rattle.std.proofs.Common.{◌≡◌, Option, Some, None, Result, Ok, Err, sym, ap, inl, inr}
 use Rattle.std.specs.Prelude.{◌⊎◌}
 use Rattle.memory_line.specs.Lines.{LineService}
-use Rattle.line_sim.specs.declared.event.Event.{Event}
-use Rattle.line_sim.specs.declared.event.StepFault.{StepFault}
-use Rattle.line_sim.specs.declared.event.StepFault.TheVariants.{NoSuchNode, NoSuchTerminal, NoSuchCall, Refused, OutOfMemory}
-use Rattle.line_sim.specs.declared.event.Answer.{Answer}
-use Rattle.line_sim.specs.NetState.{NetState}
-use Rattle.line_sim.specs.Faults.{step_fault, IsLeftToNode, MayWant}
-use Rattle.line_sim.specs.Runs.{Happens, IsRefusedSo}
+use Rattle.net_events.specs.declared.event.Event.{Event}
+use Rattle.net_events.specs.declared.event.StepFault.{StepFault}
+use Rattle.net_events.specs.declared.event.StepFault.TheVariants.{NoSuchNode, NoSuchTerminal, NoSuchCall, Refused, OutOfMemory}
+use Rattle.net_events.specs.declared.answer.Answer.{Answer}
+use Rattle.net_events.specs.Network.{Network}
+use Rattle.net_nodes.specs.Faults.{step_fault, IsLeftToNode, MayWant}
+use Rattle.net_nodes.specs.Happening.{Happens, IsRefusedSo}
 
 own : (fault f : StepFault) → f ≡ fault → IsRefusedSo (Some f) (Err fault)
 own fault NoSuchNode e = ap Err (sym e)
@@ -17,7 +17,7 @@ own fault NoSuchCall e = ap Err (sym e)
 own fault (Refused x) e = inl (ap Err (sym e))
 own fault OutOfMemory e = ap Err (sym e)
 
-pub refusals : (L : LineService) (e : Event) (s : NetState) (r : Result Answer StepFault) (t : NetState) → Happens L e s r t → IsRefusedSo (step_fault e s) r
+pub refusals : (L : LineService) (e : Event) (s : Network) (r : Result Answer StepFault) (t : Network) → Happens L e s r t → IsRefusedSo (step_fault e s) r
 refusals L e s (Ok answer) t h = by (step_fault e s) h.0 where
   by : (o : Option StepFault) → o ≡ None → IsRefusedSo o (Ok answer)
   by None o = tt

@@ -1,22 +1,17 @@
-//! Lines, and the network of nodes on them.
+//! A network of nodes on lines, what it promises of the calls on it, and runs of events.
 #![tactic(auto)]
 
-mod config;
-mod event;
 mod net;
-mod nodes;
-mod plan;
-mod room;
 mod running;
-mod send;
-mod serve;
 
 pub use call_records::{EditStep, Pair, Record, SentEpoch, TakenEpoch};
-pub use config::{Config, LineConfig, NodeConfig, NodeKind, PadConfig, RouteConfig, Setting};
-pub use event::{Answer, Event, MakeFault, Outcome, Put, RunFault, StepFault};
 pub use line_nodes::{HostNote, KeyAnswer, NodeFault, NoteKind};
 pub use memory_line::{Direction, FRAMES_IN_FLIGHT, Line, MemLine, mem_lines};
 pub use net::Net;
+pub use net_config::{
+    Config, LineConfig, MakeFault, NodeConfig, NodeKind, PadConfig, RouteConfig, Setting,
+};
+pub use net_events::{Answer, Event, Outcome, Put, StepFault};
 pub use packet_host::HostRequest;
 pub use packet_layer::Taken;
-pub use running::run;
+pub use running::{RunFault, run};

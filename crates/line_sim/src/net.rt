@@ -1,76 +1,71 @@
 //! The network, and what it promises.
-ghost use Rattle.std.specs.Prelude.{◌≡◌, ◌≢◌, false, map, Err, IsOkUnless, IfOk, OnErr, MatchOption, vec_len};
+ghost use Rattle.std.specs.Prelude.{◌≡◌, ◌≢◌, true, false, map, Err, IsOkUnless, IfOk, OnErr, vec_len};
 ghost use Rattle.call_records.specs.RecordView.{shown, pair_of};
-ghost use Rattle.line_sim.specs.declared.event.MakeFault.TheVariants as make_fault_is;
-ghost use Rattle.line_sim.specs.declared.event.StepFault.TheVariants as step_fault_is;
-ghost use Rattle.line_sim.specs.NetState.{NetState, net_rests, net_elapsed};
-ghost use Rattle.line_sim.specs.Plan.{plan_of, IsMade};
-ghost use Rattle.line_sim.specs.Faults.{step_fault, takes_memory};
-ghost use Rattle.line_sim.specs.Runs.{Happens, IsRefusedSo};
-ghost use Rattle.line_sim.specs.Due.{net_due, FewerDue};
-ghost use Rattle.line_sim.specs.Questions.{net_confirmed};
-ghost use Rattle.line_sim.specs.Headline.{Headline};
+ghost use Rattle.net_events.specs.Network.{all_elapsed};
+ghost use Rattle.network_laws.specs.Promise.{NetworkHolds};
+ghost use Rattle.net_config.specs.declared.fault.MakeFault.TheVariants as make_fault_is;
+ghost use Rattle.net_config.specs.Served.{is_served};
+ghost use Rattle.net_events.specs.declared.event.StepFault.TheVariants as step_fault_is;
+ghost use Rattle.net_nodes.specs.Faults.{step_fault, takes_memory};
+ghost use Rattle.net_nodes.specs.Happening.{Happens, IsRefusedSo};
+ghost use Rattle.net_nodes.specs.Due.{net_due};
+ghost use Rattle.line_sim.specs.Expiries.{FewerDue};
+ghost use Rattle.net_nodes.specs.Questions.{net_confirmed, net_rests};
+ghost use Rattle.line_sim.specs.Runs.{IsMadeBy};
 
-use crate::config::Config;
-use crate::event::{Answer, Event, MakeFault, StepFault};
-use crate::nodes::Nodes;
-use crate::plan::plan_of;
 use call_records::{Pair, Record};
 use memory_line::Line;
+use net_config::{Config, MakeFault, plan_of};
+use net_events::{Answer, Event, StepFault};
+use net_nodes::Nodes;
 use std::alloc::Global;
 use std::marker::Model;
 
-/// A network of one line between a PAD or a host, as DTE, and a host, as DCE. A call may stand between a PAD and the
-/// host.
+/// A network of PADs and hosts, each at one end of one line, between a PAD or a host, as DTE, and a host, as DCE. It
+/// may fall into parts. On the line of a PAD a call may stand, where it is the only line.
 #[derive(Drop)]
 pub struct Net<L: Line> {
     nodes: Nodes<L>,
 }
 
 impl<L: Line> Model for Net<L> {
-    ghost use Rattle.line_sim.specs.NetState.{NetState};
+    ghost use Rattle.net_events.specs.Network.{Network};
 
-    ghost Value = { NetState };
+    ghost Value = { Network };
 
-    ghost use Rattle.line_sim.specs.IsNet.{IsNet};
+    ghost use Rattle.network_laws.specs.IsNetwork.{IsNetwork};
 
     ghost view = { λ n. n.nodes };
 
-    ghost invariant = { λ n. IsNet L.service n.nodes };
+    ghost invariant = { λ n. IsNetwork L.service n.nodes };
 }
 
 impl<L: Line> Net<L> {
-    /// Makes a network on a line, which is emptied first; where no call stands both ends send a frame to begin with. It
-    /// is refused where the configuration is outside its limits or of a kind that is not served; then for want of
-    /// memory.
+    /// Makes a network on these lines, each of which is emptied first; where no call stands both ends of a line send a
+    /// frame to begin with. It is refused where the configuration is outside its limits or of a kind that is not
+    /// served; then for want of memory.
     pub fn new(alloc: Global, config: &Config, lines: Vec<L>) -> Result<Self, MakeFault>
         requires { vec_len lines ≡ vec_len config.now.lines }
-        ensures faults { MatchOption (plan_of config.now) (result ≡ Err make_fault_is.BadConfig)
-            (λ plan. IsOkUnless result make_fault_is.OutOfMemory) }
-        ensures ok { IfOk result (IsMade L.service config.now) }
-        ensures headline { IfOk result (λ net. L.service.faithful → Headline net) }
+        ensures bad { is_served config.now ≡ false → result ≡ Err make_fault_is.BadConfig }
+        ensures served { is_served config.now ≡ true → IsOkUnless result make_fault_is.OutOfMemory }
+        ensures ok { IfOk result (IsMadeBy L.service config.now) }
+        ensures headline { IfOk result (λ net. L.service.faithful → NetworkHolds net) }
     {
-        let Some(plan) = plan_of(config) else {
-            return Err(MakeFault::BadConfig);
-        };
-        let mut lines = lines;
-        let Some(line) = lines.pop() else {
-            return Err(MakeFault::BadConfig);
-        };
-        let nodes = Nodes::new(alloc, &plan, line)?;
+        let plan = plan_of(alloc, config)?;
+        let nodes = Nodes::new(alloc, &plan, lines)?;
         Ok(Net { nodes })
     }
 
     /// What the network keeps of each end's part in each call, in the order of making.
     pub fn records(&self) -> &[Record]
-        ensures { map shown result.now ≡ self.now.book.records }
+        ensures { map shown result.now ≡ self.now.register.records }
     {
         self.nodes.records()
     }
 
     /// The calls, each by the records of its two ends.
     pub fn pairs(&self) -> &[Pair]
-        ensures { map pair_of result.now ≡ self.now.book.pairs }
+        ensures { map pair_of result.now ≡ self.now.register.pairs }
     {
         self.nodes.pairs()
     }
@@ -92,8 +87,8 @@ impl<L: Line> Net<L> {
 
     /// Lets ticks pass, each a twentieth of a second: each timer that runs has so many less, not below 0.
     pub fn elapse(&mut self, ticks: u16)
-        ensures passes { self.new ≡ net_elapsed ticks self.old }
-        ensures headline { L.service.faithful → Headline self.new }
+        ensures passes { self.new ≡ all_elapsed ticks self.old }
+        ensures headline { L.service.faithful → NetworkHolds self.new }
     {
         self.nodes.elapse(ticks);
     }
@@ -105,10 +100,11 @@ impl<L: Line> Net<L> {
         self.nodes.next_due()
     }
 
-    /// Handles an event. Refusals come in the order of [`StepFault`]: where no node or line has the number or the node
-    /// is of another kind, then where the PAD has no such terminal, then where the channel is 0 or beyond those of the
-    /// line. Want of memory comes after these and before the node is called, which may refuse what it is asked; the
-    /// loss of a frame takes no memory, nor does a key at a terminal that has no call. A refused event changes nothing.
+    /// Handles an event. Refusals come in the order of [`StepFault`]: where no node or line has the number, the line is
+    /// not the node's or the node is of another kind, then where the PAD has no such terminal, then where the channel
+    /// is 0 or beyond those of the line. Want of memory comes after these and before the node is called, which may
+    /// refuse what it is asked; the loss of a frame takes no memory, nor does a key at a terminal that has no call. A
+    /// refused event changes nothing.
     pub fn step(&mut self, event: &Event) -> Result<Answer, StepFault>
         ensures faults { IsRefusedSo (step_fault event.now self.old) result }
         ensures happens { Happens L.service event.now self.old result self.new }
@@ -117,7 +113,7 @@ impl<L: Line> Net<L> {
 
         // What is due comes to an end, on any line.
         ensures fewer_due { FewerDue event.now self.old result self.new }
-        ensures headline { L.service.faithful → Headline self.new }
+        ensures headline { L.service.faithful → NetworkHolds self.new }
     {
         self.nodes.happen(event)
     }

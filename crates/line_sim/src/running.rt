@@ -1,31 +1,42 @@
 //! A network over memory lines, and a list of events.
-ghost use Rattle.std.specs.Prelude.{◌≡◌, None, Err, IfOk, IfErr, IsOkUnless, MatchOption};
-ghost use Rattle.memory_line.specs.Lines.{memory_service};
-ghost use Rattle.line_sim.specs.declared.event.MakeFault.TheVariants.{BadConfig, OutOfMemory};
-ghost use Rattle.line_sim.specs.declared.event.RunFault.TheVariants.{Made};
-ghost use Rattle.line_sim.specs.Plan.{plan_of, IsMade};
-ghost use Rattle.line_sim.specs.Headline.{Headline};
-ghost use Rattle.line_sim.specs.Faults.{step_fault, MayWant};
-ghost use Rattle.line_sim.specs.Runs.{Happened, HasRun, IsRunFault};
+ghost use Rattle.std.specs.Prelude.{◌≡◌, true, false, Err, IfOk, IfErr, IsOkUnless};
 ghost use Rattle.std.specs.Bool.{OnTrue, OnFalse};
+ghost use Rattle.memory_line.specs.Lines.{memory_service};
+ghost use Rattle.network_laws.specs.Promise.{NetworkHolds};
+ghost use Rattle.net_config.specs.declared.fault.MakeFault.TheVariants.{BadConfig, OutOfMemory};
+ghost use Rattle.net_config.specs.Served.{is_served};
+ghost use Rattle.net_nodes.specs.Faults.{step_fault, MayWant};
+ghost use Rattle.line_sim.specs.declared.running.RunFault.TheVariants.{Made};
+ghost use Rattle.line_sim.specs.Runs.{Happened, IsMadeBy, HasRun, IsRunFault};
 
-use crate::config::Config;
-use crate::event::{Event, MakeFault, RunFault, StepFault};
 use crate::net::Net;
-use crate::plan::plan_of;
 use memory_line::{MemLine, mem_lines};
+use net_config::{Config, MakeFault, is_served};
+use net_events::{Event, StepFault};
 use std::alloc::Global;
+use thiserror::Error;
+
+/// Why a run ends before the last event.
+#[derive(Clone, Copy, Debug, PartialEq, Eq, Error)]
+pub enum RunFault {
+    /// The network is not made.
+    #[error("not made: {0}")]
+    Made(MakeFault),
+    /// Memory ended at the event of this index.
+    #[error("stopped at event {0}")]
+    Stopped(usize),
+}
 
 impl Net<MemLine> {
     /// Makes a network over memory lines. It is refused where the configuration is outside its limits or of a kind that
     /// is not served; then for want of memory.
     pub fn on_memory_lines(alloc: Global, config: &Config) -> Result<Self, MakeFault>
-        ensures faults { MatchOption (plan_of config.now) (result ≡ Err BadConfig)
-            (λ plan. IsOkUnless result OutOfMemory) }
-        ensures ok { IfOk result (IsMade memory_service config.now) }
-        ensures headline { IfOk result Headline }
+        ensures bad { is_served config.now ≡ false → result ≡ Err BadConfig }
+        ensures served { is_served config.now ≡ true → IsOkUnless result OutOfMemory }
+        ensures ok { IfOk result (IsMadeBy memory_service config.now) }
+        ensures headline { IfOk result NetworkHolds }
     {
-        if plan_of(config).is_none() {
+        if !is_served(config) {
             return Err(MakeFault::BadConfig);
         }
         let lines = mem_lines(alloc, config.lines.len())?;
@@ -38,8 +49,8 @@ impl Net<MemLine> {
 /// network is not made, or with the index of the event at which memory ended.
 pub fn run(alloc: Global, config: &Config, events: &[Event]) -> Result<Net<MemLine>, RunFault>
     ensures ran { IfOk result (HasRun config.now events.now) }
-    ensures headline { IfOk result Headline }
-    ensures bad { plan_of config.now ≡ None → result ≡ Err (Made BadConfig) }
+    ensures headline { IfOk result NetworkHolds }
+    ensures bad { is_served config.now ≡ false → result ≡ Err (Made BadConfig) }
     ensures err { IfErr result (IsRunFault config.now events.now) }
 {
     let mut net = match Net::on_memory_lines(alloc, config) {
@@ -60,7 +71,7 @@ pub fn run(alloc: Global, config: &Config, events: &[Event]) -> Result<Net<MemLi
 fn goes_on(net: &mut Net<MemLine>, event: &Event) -> bool
     ensures handled { OnTrue result (Happened memory_service event.now net.old (step_fault event.now net.old) net.new) }
     ensures wanting { OnFalse result (MayWant event.now net.old) }
-    ensures headline { Headline net.new }
+    ensures headline { NetworkHolds net.new }
 {
     match net.step(event) {
         Err(StepFault::OutOfMemory) => return false,

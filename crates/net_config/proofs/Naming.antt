@@ -51,6 +51,7 @@ pub record LineIsServed (c : Config) (l : LineConfig) : Type 0 where
   pub dte : list_any (is_named (string_bytes l.dte)) c.nodes.items ≡ true
   pub dce : list_any (is_host_named (string_bytes l.dce)) c.nodes.items ≡ true
   pub within : is_within l ≡ true
+  pub stands : (not l.standing || may_stand c l) ≡ true
 
 pub line_is_served : (c : Config) (l : LineConfig) → is_line_served c l ≡ true → LineIsServed c l
 line_is_served c l h =
@@ -66,6 +67,7 @@ line_is_served c l h =
       dte = ends.1;
       dce = joins.1;
       within = within.1;
+      stands = parts.1;
     }
 
 pub within_params : (l : LineConfig) → is_within l ≡ true → AreParams (end_params l)

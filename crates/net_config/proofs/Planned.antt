@@ -1,15 +1,16 @@
 -- A network that is served can be made as it is planned.
-use Rattle.std.proofs.Common.{◌≡◌, ◌≢◌, ℕ, zero, suc, ◌⊎◌, inl, inr, Bool, true, false, cond, ◌||◌, List, [], ◌∷◌, map, Some, refl, sym, ap, subst, ◌∙◌, true≢false}
+use Rattle.std.proofs.Common.{◌≡◌, ◌≢◌, ℕ, zero, suc, ◌⊎◌, inl, inr, Bool, true, false, cond, not, ◌==◌, ◌||◌, List, length, [], ◌∷◌, map, Some, refl, sym, ap, subst, ◌∙◌, true≢false}
+use Rattle.std.proofs.lemmas.List.{length-map}
 use Rattle.std.specs.Prelude.{slice_get, option_map, string_bytes}
 use Rattle.std.specs.List.{list_any}
 use Rattle.std.proofs.lemmas.Option.{none-some, same_Some, slice_get-map}
-use Rattle.std.proofs.lemmas.Bool.{and_parts, or_cases, or_left, or_right, false_from_ne_true}
+use Rattle.std.proofs.lemmas.Bool.{eqb-true, and_parts, or_cases, or_left, or_right, false_from_ne_true}
 use Rattle.std.proofs.lemmas.Map.Keys.{any_passes_from_place}
 use Rattle.link_timers.specs.declared.role.Role.{Role}
 use Rattle.link_timers.specs.declared.role.Role.TheVariants.{Dte, Dce}
-use Rattle.network_laws.specs.Opening.{NewNode, NewLine, NetPlan, IsLinePlan, IsNodePlan, IsPlan}
-use Rattle.net_config.specs.Served.{same_text, is_named, has_dte, has_end, is_host, is_host_named, is_served}
-use Rattle.net_config.specs.Plan.{place_of, role_of, new_node, new_line, plan_of, PlanLaw}
+use Rattle.net_events.specs.Opening.{NewNode, NewLine, NetPlan, IsLinePlan, IsNodePlan, IsPlan}
+use Rattle.net_config.specs.Served.{same_text, is_named, has_dte, has_end, is_host, is_host_named, is_pad_named, may_stand, is_served}
+use Rattle.net_config.specs.Plan.{place_of, role_of, new_node, new_line, plan_of, StandsAlone, PlanLaw}
 use Rattle.net_config.specs.declared.config.Config.{Config}
 use Rattle.net_config.specs.declared.config.NodeConfig.{NodeConfig}
 use Rattle.net_config.specs.declared.config.LineConfig.{LineConfig}
@@ -172,12 +173,28 @@ node_planned c served i n there =
       ];
     }
 
+-- a line on which a call stands is the only one
+stands_alone : (c : Config) → is_served c ≡ true → StandsAlone (plan_of c)
+stands_alone c served j l e standing =
+    let m = mapped_there (new_line c.nodes.items) c.lines.items j l e in
+    let item : m.item.standing ≡ true = ap (λ (x : NewLine). x.params.standing) m.value ∙ standing in
+    let may : may_stand c m.item ≡ true = stood m.item.standing (may_stand c m.item) item (served_line c served j m.item m.there).stands in
+    let one = and_parts (length c.lines.items == 1) (list_any (is_pad_named (string_bytes m.item.dte)) c.nodes.items) may in
+    length-map c.lines.items (new_line c.nodes.items) ∙ eqb-true (length c.lines.items) 1 one.0
+  where
+    stood : (v w : Bool) → v ≡ true → (not v || w) ≡ true → w ≡ true
+    stood true w h may = may
+    stood false w h may = absurd (true≢false (sym h))
+
 pub plan_law : PlanLaw
-plan_law c served = record {
-  lines = λ j l e.
-      let m = mapped_there (new_line c.nodes.items) c.lines.items j l e in
-      subst (IsLinePlan (plan_of c).nodes j) m.value (line_planned c served j m.item m.there);
-  nodes = λ i n e.
-      let m = mapped_there (new_node c.lines.items) c.nodes.items i n e in
-      subst (IsNodePlan (plan_of c).lines i) m.value (node_planned c served i m.item m.there);
-}
+plan_law c served = (
+  record {
+    lines = λ j l e.
+        let m = mapped_there (new_line c.nodes.items) c.lines.items j l e in
+        subst (IsLinePlan (plan_of c).nodes j) m.value (line_planned c served j m.item m.there);
+    nodes = λ i n e.
+        let m = mapped_there (new_node c.lines.items) c.nodes.items i n e in
+        subst (IsNodePlan (plan_of c).lines i) m.value (node_planned c served i m.item m.there);
+  },
+  stands_alone c served,
+)

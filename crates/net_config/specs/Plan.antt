@@ -1,13 +1,14 @@
 -- What a network is made with.
-use Rattle.std.specs.Prelude.{true, false, ◌≡◌, ℕ, Bool, List, map, Option, unwrap_or, if◌then◌else◌, string_bytes}
+use Rattle.std.specs.Prelude.{true, false, ◌≡◌, ℕ, Bool, List, map, length, slice_get, Option, Some, unwrap_or}
+use Rattle.std.specs.Prelude.{if◌then◌else◌, string_bytes}
 use Rattle.std.specs.List.{list_any, position, fold}
 use Rattle.x3_params.specs.Table.{profile_values}
 use Rattle.x3_params.specs.Values.{with_value}
 use Rattle.link_timers.specs.declared.role.Role.{Role}
 use Rattle.link_timers.specs.declared.role.Role.TheVariants.{Dte, Dce}
 use Rattle.packet_end.specs.declared.params.EndParams.{EndParams}
-use Rattle.network_laws.specs.LineLaw.{NewDte, NewPad, NewHost}
-use Rattle.network_laws.specs.Opening.{NewNode, NewLine, NetPlan, IsPlan}
+use Rattle.net_events.specs.Opening.{NewDte, NewPad, NewHost}
+use Rattle.net_events.specs.Opening.{NewNode, NewLine, NetPlan, IsPlan}
 use Rattle.net_config.specs.Served.{is_accepted, is_named, has_dte, has_end, is_served}
 use Rattle.net_config.specs.declared.config.Config.{Config}
 use Rattle.net_config.specs.declared.config.NodeConfig.{NodeConfig}
@@ -74,6 +75,11 @@ plan_of c = record {
   lines = map (new_line c.nodes.items) c.lines.items;
 }
 
+-- a call stands on a line only where it is the one line of the network
+abbrev pub StandsAlone : NetPlan → Type 0
+StandsAlone plan = (line : ℕ) (l : NewLine) → slice_get plan.lines line ≡ Some l → l.params.standing ≡ true
+    → length plan.lines ≡ 1
+
 -- a network that is served can be made so
 abbrev pub PlanLaw : Type 0
-PlanLaw = (c : Config) → is_served c ≡ true → IsPlan (plan_of c)
+PlanLaw = (c : Config) → is_served c ≡ true → IsPlan (plan_of c) × StandsAlone (plan_of c)

@@ -1,6 +1,6 @@
 -- What the code's plan is in the rules.
 use Rattle.std.specs.Prelude.{List}
-use Rattle.network_laws.specs.LineLaw.{NewDte, NewPad, NewHost}
+use Rattle.net_events.specs.Opening.{NewDte, NewPad, NewHost}
 use Rattle.net_config.specs.declared.plan.NewKind.{NewKind}
 use Rattle.net_config.specs.declared.plan.NewKind.TheVariants as kind_is
 

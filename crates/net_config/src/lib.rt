@@ -9,6 +9,7 @@ mod served;
 pub use config::{Config, LineConfig, NodeConfig, NodeKind, PadConfig, RouteConfig, Setting};
 pub use fault::MakeFault;
 pub use plan::{NetPlan, NewKind, NewLine, NewNode, plan_of};
+pub use served::is_served;
 
 #[cfg(test)]
 mod tests;

@@ -1,11 +1,12 @@
 //! What a network is made with.
 ghost use Rattle.std.specs.Prelude.{◌≡◌, ◌≤◌, true, false, List, map, IfOk, OnErr, IfErr, OnOk, ◌↔◌};
-ghost use Rattle.net_config.specs.Served.{is_named, has_dte, has_end, is_served, is_kind_served, is_pad_served, is_within};
+ghost use Rattle.net_config.specs.Served.{is_named, has_dte, has_end, is_served};
+ghost use Rattle.net_config.specs.Served.{is_kind_served, is_pad_served, is_within};
 ghost use Rattle.std.specs.List.{list_any, position};
 ghost use Rattle.net_config.specs.Plan.{set_one, initial_params, terminals_of, new_kind, role_of, new_node, new_line};
-ghost use Rattle.net_config.specs.Plan.{end_params, plan_of};
+ghost use Rattle.net_config.specs.Plan.{end_params, plan_of, StandsAlone};
 ghost use Rattle.net_config.specs.PlanView.{kind_value};
-ghost use Rattle.network_laws.specs.Opening.{IsPlan};
+ghost use Rattle.net_events.specs.Opening.{IsPlan};
 ghost use Rattle.net_config.specs.declared.fault.MakeFault.TheVariants as fault_is;
 
 use crate::config::{Config, LineConfig, NodeConfig, NodeKind, PadConfig, Setting};
@@ -49,7 +50,7 @@ pub struct NetPlan {
 }
 
 impl Model for NewNode {
-    ghost use Rattle.network_laws.specs.Opening as opening;
+    ghost use Rattle.net_events.specs.Opening as opening;
     ghost use Rattle.net_config.specs.PlanView.{kind_value};
 
     ghost Value = { opening.NewNode };
@@ -58,7 +59,7 @@ impl Model for NewNode {
 }
 
 impl Model for NewLine {
-    ghost use Rattle.network_laws.specs.Opening as opening;
+    ghost use Rattle.net_events.specs.Opening as opening;
 
     ghost Value = { opening.NewLine };
 
@@ -66,7 +67,7 @@ impl Model for NewLine {
 }
 
 impl Model for NetPlan {
-    ghost use Rattle.network_laws.specs.Opening as opening;
+    ghost use Rattle.net_events.specs.Opening as opening;
 
     ghost Value = { opening.NetPlan };
 
@@ -217,6 +218,7 @@ pub fn plan_of(alloc: Global, config: &Config) -> Result<NetPlan, MakeFault>
     ensures served { OnOk result (is_served config.now ≡ true) }
     ensures value { IfOk result (λ plan. plan ≡ plan_of config.now) }
     ensures plan { IfOk result IsPlan }
+    ensures alone { IfOk result StandsAlone }
     ensures faults { IfErr result (λ fault. (fault ≡ fault_is.BadConfig) ↔ (is_served config.now ≡ false)) }
 {
     if !is_served(config) {

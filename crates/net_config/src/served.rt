@@ -2,7 +2,8 @@
 ghost use Rattle.std.specs.Prelude.{◌≡◌, length};
 ghost use Rattle.net_config.specs.Served.{is_from, is_named, has_dte, has_end, is_accepted, is_pad_served};
 ghost use Rattle.net_config.specs.Served.{is_kind_served, is_node_served, is_within, is_host, is_pad};
-ghost use Rattle.net_config.specs.Served.{joins_nodes, may_stand, is_line_served, is_served, is_host_named, is_pad_named};
+ghost use Rattle.net_config.specs.Served.{joins_nodes, may_stand, is_line_served, is_served};
+ghost use Rattle.net_config.specs.Served.{is_host_named, is_pad_named};
 ghost use Rattle.std.specs.List.{list_all, list_any, filter};
 
 use crate::config::{Config, LineConfig, NodeConfig, NodeKind, PadConfig, Setting};
@@ -159,8 +160,9 @@ fn is_line_served(config: &Config, line: &LineConfig) -> bool
         && (!line.standing || may_stand(config, line))
 }
 
-/// Whether the network is served.
-pub(crate) fn is_served(config: &Config) -> bool
+/// Whether the network is served: PADs and hosts, each at one end of one line, with values in their limits. One that is
+/// not is refused as BadConfig where it is planned.
+pub fn is_served(config: &Config) -> bool
     ensures { result ≡ is_served config.now }
 {
     are_nodes_served(config) && are_lines_served(config) && config.routes.is_empty()

@@ -1,7 +1,7 @@
 -- What a script that was read has, and why one is not read.
 use Rattle.std.specs.Prelude.{◌≡◌, ℕ, ◌+◌, ◌≤◌, List, length, map, ⊤, String, string_bytes}
 use Rattle.std.specs.declared.alloc.Global.{Global}
-use Rattle.line_sim.specs.declared.config.NodeConfig.{NodeConfig}
+use Rattle.net_config.specs.declared.config.NodeConfig.{NodeConfig}
 use Rattle.net_files.specs.declared.fault.ProgFault.{ProgFault}
 use Rattle.net_files.specs.declared.fault.ProgFault.TheVariants as fault
 

@@ -1,5 +1,5 @@
 //! Why the program, or one of its parts, gives up.
-use line_sim::MakeFault;
+use net_config::MakeFault;
 use std::alloc::{AllocError, AllocFailed};
 use thiserror::Error;
 

@@ -4,7 +4,7 @@ ghost use Rattle.toml.specs.Parse.{parse_document};
 
 use crate::fault::ProgFault;
 use crate::settings::read_settings;
-use line_sim::{Config, LineConfig, NodeConfig, NodeKind, PadConfig, RouteConfig};
+use net_config::{Config, LineConfig, NodeConfig, NodeKind, PadConfig, RouteConfig};
 use std::alloc::Global;
 use toml::{Table, Value};
 use x3_params::Profile;

@@ -5,8 +5,11 @@ ghost use Rattle.net_files.specs.Scripts.{AreNamesOf, IsScriptFault};
 use crate::fault::ProgFault;
 use crate::words::{LineFault, Words, cut, read_text};
 use arrayvec::ArrayVec;
-use line_sim::{Config, Direction, Event, HostRequest};
 use link_timers::TimerId;
+use memory_line::Direction;
+use net_config::Config;
+use net_events::Event;
+use packet_host::HostRequest;
 use std::alloc::{AllocError, Global};
 
 /// What a line of a script asks for.

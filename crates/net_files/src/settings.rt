@@ -1,6 +1,6 @@
 //! Lists of parameters and values, as the command `SET` has them: `2:0,3:2` (X.28 3.3.2).
 use crate::fault::ProgFault;
-use line_sim::Setting;
+use net_config::Setting;
 use std::alloc::Global;
 
 /// How many pairs a list has at most.

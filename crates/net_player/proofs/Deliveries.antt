@@ -2,9 +2,9 @@
 use Rattle.std.proofs.Common.{Bool, ◌≡◌, ℕ, zero, suc, ◌+◌, ◌-◌, ◌<◌, List, [], ◌∷◌, ◌++◌, true, false, Option, refl, sym, ap, subst, append_assoc, arith}
 use Rattle.memory_line.specs.declared.line.Direction.TheVariants.{FromDte, FromDce}
 use Rattle.memory_line.specs.Lines.{LineService}
-use Rattle.line_sim.specs.declared.event.Event.{Event}
-use Rattle.line_sim.specs.declared.event.Event.TheVariants.{Deliver}
-use Rattle.line_sim.specs.NetState.{NetState}
+use Rattle.net_events.specs.declared.event.Event.{Event}
+use Rattle.net_events.specs.declared.event.Event.TheVariants.{Deliver}
+use Rattle.line_sim.specs.Network.{Network}
 use Rattle.net_files.specs.Scripts.{Names}
 use Rattle.net_player.specs.InTurn.{InTurn, Writes}
 use Rattle.net_player.specs.Playing.{Tells, Flowing, Delivers, deliveries_from, Passes, Flows}
@@ -13,14 +13,14 @@ use Rattle.net_player.specs.Playing.Flows.{again}
 use Rattle.net_player.proofs.Turns.{in_turn_append, in_turn_one, writes_append}
 
 -- no more may be delivered
-pub delivers_at_limit : {L : LineService} {names : Names} {traces : Bool} {e : Event} {s : NetState} (left : ℕ) → left ≡ 0
+pub delivers_at_limit : {L : LineService} {names : Names} {traces : Bool} {e : Event} {s : Network} (left : ℕ) → left ≡ 0
     → Delivers L names traces e (record { left = left; net = s }) [] (record { left = 0; net = s })
 delivers_at_limit {L} {names} {traces} {e} {s} left none =
     let P : ℕ → Type 0 = λ n. Delivers L names traces e (record { left = n; net = s }) [] (record { left = 0; net = s }) in
     subst P (sym none) at_limit
 
 -- a frame was delivered
-pub delivers_one : {L : LineService} {names : Names} {traces : Bool} {e : Event} {s t : NetState} {text : List ℕ} (left : ℕ) → 0 < left
+pub delivers_one : {L : LineService} {names : Names} {traces : Bool} {e : Event} {s t : Network} {text : List ℕ} (left : ℕ) → 0 < left
     → Tells L names traces true e s text t
     → Delivers L names traces e (record { left = left; net = s }) text (record { left = left - 1; net = t })
 delivers_one zero some tells = absurd (omega arith)
@@ -31,7 +31,7 @@ delivers_one {L} {names} {traces} {e} {s} {t} {text} (suc n) some tells =
     subst P one (arrives tells)
 
 -- there was none
-pub delivers_none : {L : LineService} {names : Names} {traces : Bool} {e : Event} {s t : NetState} {text : List ℕ} (left : ℕ) → 0 < left
+pub delivers_none : {L : LineService} {names : Names} {traces : Bool} {e : Event} {s t : Network} {text : List ℕ} (left : ℕ) → 0 < left
     → Tells L names traces false e s text t
     → Delivers L names traces e (record { left = left; net = s }) text (record { left = left; net = t })
 delivers_none zero some tells = absurd (omega arith)
@@ -80,9 +80,9 @@ pass_more {L} {names} {traces} {s} {m} {n} {t} line a b c d passed from_dte from
 
 -- what a pass writes, and what the passes after it will write, is what the flow from before it writes
 pub flow_onward : {L : LineService} {names : Names} {traces : Bool} {lines : ℕ} {start s m : Flowing} (told first : List ℕ)
-    → ((rest : List ℕ) (t : NetState) → Flows L names traces lines s rest t → Flows L names traces lines start (told ++ rest) t)
+    → ((rest : List ℕ) (t : Network) → Flows L names traces lines s rest t → Flows L names traces lines start (told ++ rest) t)
     → Passes L names traces lines s first m → m.left < s.left
-    → (rest : List ℕ) (t : NetState) → Flows L names traces lines m rest t
+    → (rest : List ℕ) (t : Network) → Flows L names traces lines m rest t
     → Flows L names traces lines start ((told ++ first) ++ rest) t
 flow_onward told first onward passed fewer rest t flows =
     rw (append_assoc told first rest) (onward (first ++ rest) t (again passed fewer flows))

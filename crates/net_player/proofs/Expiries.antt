@@ -2,35 +2,35 @@
 use Rattle.std.proofs.Common.{Bool, ◌≡◌, ℕ, List, [], ◌++◌, Some, None, subst, append_assoc}
 use Rattle.std.proofs.lemmas.List.{append-nil}
 use Rattle.memory_line.specs.Lines.{LineService}
-use Rattle.line_sim.specs.declared.event.Event.{Event}
-use Rattle.line_sim.specs.NetState.{NetState, net_elapsed}
+use Rattle.net_events.specs.declared.event.Event.{Event}
+use Rattle.line_sim.specs.Network.{Network, all_elapsed}
 use Rattle.line_sim.specs.Due.{net_due}
 use Rattle.net_files.specs.Scripts.{Names}
 use Rattle.net_player.specs.Playing.{TellsEvent, Expires, Ticks}
 use Rattle.net_player.specs.Playing.Expires.{none, next}
 
 -- what expiries wrote, and what those to come will write, is what all write
-abbrev pub Onward : (L : LineService) → Names → Bool → (start s : NetState) → List ℕ → Type 0
-Onward L names traces start s told = (rest : List ℕ) (t : NetState)
+abbrev pub Onward : (L : LineService) → Names → Bool → (start s : Network) → List ℕ → Type 0
+Onward L names traces start s told = (rest : List ℕ) (t : Network)
     → Expires L names traces s rest t → Expires L names traces start (told ++ rest) t
 
 -- one more expires
-pub expires_onward : {L : LineService} {names : Names} {traces : Bool} {start s m : NetState} {expiry : Event} (told first : List ℕ)
+pub expires_onward : {L : LineService} {names : Names} {traces : Bool} {start s m : Network} {expiry : Event} (told first : List ℕ)
     → Onward L names traces start s told → net_due s ≡ Some expiry → TellsEvent L names traces expiry s first m
     → Onward L names traces start m (told ++ first)
 expires_onward told first onward due tells rest t more =
     rw (append_assoc told first rest) (onward (first ++ rest) t (next due tells more))
 
 -- none is due
-pub expires_all : {L : LineService} {names : Names} {traces : Bool} {start s : NetState} (told : List ℕ)
+pub expires_all : {L : LineService} {names : Names} {traces : Bool} {start s : Network} (told : List ℕ)
     → Onward L names traces start s told → net_due s ≡ None → Expires L names traces start told s
 expires_all {L} {names} {traces} {start} {s} told onward due =
     let Q : List ℕ → Type 0 = λ text. Expires L names traces start text s in
     subst Q (append-nil told) (onward [] s (none due))
 
 -- all this happened behind the ticks
-pub ticks_then : {L : LineService} {names : Names} {traces : Bool} {elapsed t : NetState} {text : List ℕ} (ticks : ℕ) (s : NetState)
-    → elapsed ≡ net_elapsed ticks s → Expires L names traces elapsed text t → Ticks L names traces ticks s text t
+pub ticks_then : {L : LineService} {names : Names} {traces : Bool} {elapsed t : Network} {text : List ℕ} (ticks : ℕ) (s : Network)
+    → elapsed ≡ all_elapsed ticks s → Expires L names traces elapsed text t → Ticks L names traces ticks s text t
 ticks_then {L} {names} {traces} {elapsed} {t} {text} ticks s goes_by expires =
-    let P : NetState → Type 0 = λ n. Expires L names traces n text t in
+    let P : Network → Type 0 = λ n. Expires L names traces n text t in
     subst P goes_by expires

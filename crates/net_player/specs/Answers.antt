@@ -19,14 +19,14 @@ use Rattle.line_nodes.specs.declared.note.NoteKind.{NoteKind}
 use Rattle.line_nodes.specs.declared.note.NoteKind.TheVariants.{Incoming, Connected, Cleared, Reset}
 use Rattle.memory_line.specs.declared.line.Direction.{Direction}
 use Rattle.memory_line.specs.declared.line.Direction.TheVariants.{FromDte, FromDce}
-use Rattle.line_sim.specs.declared.event.Put.{Put}
-use Rattle.line_sim.specs.declared.event.Event.{Event}
-use Rattle.line_sim.specs.declared.event.Event.TheVariants as event
-use Rattle.line_sim.specs.declared.event.Outcome.{Outcome}
-use Rattle.line_sim.specs.declared.event.Outcome.TheVariants.{Keyed, Called, Took}
-use Rattle.line_sim.specs.declared.event.Answer.{Answer}
-use Rattle.line_sim.specs.declared.event.StepFault.{StepFault}
-use Rattle.line_sim.specs.declared.event.StepFault.TheVariants as fault
+use Rattle.net_events.specs.declared.answer.Put.{Put}
+use Rattle.net_events.specs.declared.event.Event.{Event}
+use Rattle.net_events.specs.declared.event.Event.TheVariants as event
+use Rattle.net_events.specs.declared.answer.Outcome.{Outcome}
+use Rattle.net_events.specs.declared.answer.Outcome.TheVariants.{Keyed, Called, Took}
+use Rattle.net_events.specs.declared.answer.Answer.{Answer}
+use Rattle.net_events.specs.declared.event.StepFault.{StepFault}
+use Rattle.net_events.specs.declared.event.StepFault.TheVariants as fault
 use Rattle.net_files.specs.Scripts.{Names}
 
 -- the hexadecimal digit of a number below 16: 48 is `0`, 65 is `A`

@@ -4,18 +4,19 @@ use Rattle.std.specs.Prelude.{Vec, ◌≡◌, ◌≢◌, ◌⊎◌, ℕ, zero, s
 use Rattle.std.specs.Prelude.{Option, Some, None, Result, Ok, Err, codes}
 use Rattle.memory_line.specs.declared.line.Direction.TheVariants.{FromDte, FromDce}
 use Rattle.memory_line.specs.Lines.{LineService, memory_service}
-use Rattle.line_sim.specs.declared.event.Event.{Event}
-use Rattle.line_sim.specs.declared.event.Event.TheVariants.{Deliver}
-use Rattle.line_sim.specs.declared.event.Outcome.{Outcome}
-use Rattle.line_sim.specs.declared.event.Outcome.TheVariants.{Delivered}
-use Rattle.line_sim.specs.declared.event.Answer.{Answer}
-use Rattle.line_sim.specs.declared.event.StepFault.{StepFault}
-use Rattle.line_sim.specs.declared.event.StepFault.TheVariants.{OutOfMemory}
-use Rattle.line_sim.specs.declared.config.Config.{Config}
-use Rattle.line_sim.specs.Plan.{IsMade}
-use Rattle.line_sim.specs.NetState.{NetState, net_rests, net_elapsed}
+use Rattle.net_events.specs.declared.event.Event.{Event}
+use Rattle.net_events.specs.declared.event.Event.TheVariants.{Deliver}
+use Rattle.net_events.specs.declared.answer.Outcome.{Outcome}
+use Rattle.net_events.specs.declared.answer.Outcome.TheVariants.{Delivered}
+use Rattle.net_events.specs.declared.answer.Answer.{Answer}
+use Rattle.net_events.specs.declared.event.StepFault.{StepFault}
+use Rattle.net_events.specs.declared.event.StepFault.TheVariants.{OutOfMemory}
+use Rattle.net_config.specs.declared.config.Config.{Config}
+use Rattle.line_sim.specs.Runs.{IsMadeBy}
+use Rattle.line_sim.specs.Network.{Network, all_elapsed}
+use Rattle.line_sim.specs.Questions.{net_rests}
 use Rattle.line_sim.specs.Due.{net_due}
-use Rattle.line_sim.specs.Runs.{Happens}
+use Rattle.line_sim.specs.Happening.{Happens}
 use Rattle.net_files.specs.declared.fault.ProgFault.{ProgFault}
 use Rattle.net_files.specs.declared.script.Command.{Command}
 use Rattle.net_files.specs.declared.script.Command.TheVariants.{Events, Flow, Tick, Trace}
@@ -35,7 +36,7 @@ brought_frame (Err refusal) = false
 
 -- the event happens, not refused for want of memory, this is the text of its answer, and it brought a frame or not
 pub record Tells (L : LineService) (names : Names) (traces : Bool) (arrived : Bool) (e : Event)
-    (s : NetState) (text : List ℕ) (t : NetState) : Type 0 where
+    (s : Network) (text : List ℕ) (t : Network) : Type 0 where
   pub answer : Result Answer StepFault
   pub happens : Happens L e s answer t
   pub had_memory : answer ≢ Err OutOfMemory
@@ -43,24 +44,24 @@ pub record Tells (L : LineService) (names : Names) (traces : Bool) (arrived : Bo
   pub came : arrived ≡ brought_frame answer
 
 -- the same, whether it brought a frame or not
-pub record TellsEvent (L : LineService) (names : Names) (traces : Bool) (e : Event) (s : NetState) (text : List ℕ)
-    (t : NetState) : Type 0 where
+pub record TellsEvent (L : LineService) (names : Names) (traces : Bool) (e : Event) (s : Network) (text : List ℕ)
+    (t : Network) : Type 0 where
   pub arrived : Bool
   pub tells : Tells L names traces arrived e s text t
 
 -- a network in a flow, and how many frames may still be delivered
 pub record Flowing : Type 0 where
   pub left : ℕ
-  pub net : NetState
+  pub net : Network
 
 -- a delivery in a flow: none where no more may be delivered, and one that brings a frame counts
 pub data Delivers (L : LineService) (names : Names) (traces : Bool) : Event → Flowing → List ℕ → Flowing → Type 0 where
-  at_limit : {e : Event} {s : NetState}
+  at_limit : {e : Event} {s : Network}
       → Delivers L names traces e (record { left = 0; net = s }) [] (record { left = 0; net = s })
-  arrives : {e : Event} {left : ℕ} {s t : NetState} {text : List ℕ}
+  arrives : {e : Event} {left : ℕ} {s t : Network} {text : List ℕ}
       → Tells L names traces true e s text t
       → Delivers L names traces e (record { left = suc left; net = s }) text (record { left = left; net = t })
-  finds_none : {e : Event} {left : ℕ} {s t : NetState} {text : List ℕ}
+  finds_none : {e : Event} {left : ℕ} {s t : Network} {text : List ℕ}
       → Tells L names traces false e s text t
       → Delivers L names traces e (record { left = suc left; net = s }) text (record { left = suc left; net = t })
 
@@ -75,44 +76,44 @@ Passes L names traces lines s text t = InTurn Event Flowing (Delivers L names tr
 
 -- passes, until one brings no frame
 pub data Flows (L : LineService) (names : Names) (traces : Bool) (lines : ℕ)
-    : Flowing → List ℕ → NetState → Type 0 where
+    : Flowing → List ℕ → Network → Type 0 where
   last : {s t : Flowing} {text : List ℕ}
       → Passes L names traces lines s text t → t.left ≡ s.left → Flows L names traces lines s text t.net
-  again : {s mid : Flowing} {first rest : List ℕ} {t : NetState}
+  again : {s mid : Flowing} {first rest : List ℕ} {t : Network}
       → Passes L names traces lines s first mid → mid.left < s.left → Flows L names traces lines mid rest t
       → Flows L names traces lines s (first ++ rest) t
 
 -- what is due expires, one timer after the other, until none is due
-pub data Expires (L : LineService) (names : Names) (traces : Bool) : NetState → List ℕ → NetState → Type 0 where
-  none : {s : NetState} → net_due s ≡ None → Expires L names traces s [] s
-  next : {expiry : Event} {s mid t : NetState} {first rest : List ℕ}
+pub data Expires (L : LineService) (names : Names) (traces : Bool) : Network → List ℕ → Network → Type 0 where
+  none : {s : Network} → net_due s ≡ None → Expires L names traces s [] s
+  next : {expiry : Event} {s mid t : Network} {first rest : List ℕ}
       → net_due s ≡ Some expiry → TellsEvent L names traces expiry s first mid → Expires L names traces mid rest t
       → Expires L names traces s (first ++ rest) t
 
 -- so many ticks go by, and then what is due expires
-abbrev pub Ticks : (L : LineService) → Names → (traces : Bool) → (ticks : ℕ) → NetState → List ℕ → NetState → Type 0
-Ticks L names traces ticks s text t = Expires L names traces (net_elapsed ticks s) text t
+abbrev pub Ticks : (L : LineService) → Names → (traces : Bool) → (ticks : ℕ) → Network → List ℕ → Network → Type 0
+Ticks L names traces ticks s text t = Expires L names traces (all_elapsed ticks s) text t
 
 -- a network on which a script is played, and whether frames are traced
 pub record Played : Type 0 where
-  pub net : NetState
+  pub net : Network
   pub traces : Bool
 
 -- what a command does: its events happen in order, at most 100,000 frames flow, time goes by, or frames are traced from
 -- here on, or not
 pub data DoesCommand (L : LineService) (names : Names) (lines : ℕ) : Command → Played → List ℕ → Played → Type 0 where
-  events : {events : Vec Event Global} {traces : Bool} {s t : NetState} {text : List ℕ}
-      → InTurn Event NetState (TellsEvent L names traces) events.items s text t
+  events : {events : Vec Event Global} {traces : Bool} {s t : Network} {text : List ℕ}
+      → InTurn Event Network (TellsEvent L names traces) events.items s text t
       → DoesCommand L names lines (Events events) (record { net = s; traces = traces }) text
       (record { net = t; traces = traces })
-  flow : {traces : Bool} {s t : NetState} {text : List ℕ}
+  flow : {traces : Bool} {s t : Network} {text : List ℕ}
       → Flows L names traces lines (record { left = 100000; net = s }) text t
       → DoesCommand L names lines Flow (record { net = s; traces = traces }) text (record { net = t; traces = traces })
-  tick : {ticks : ℕ} {traces : Bool} {s t : NetState} {text : List ℕ}
+  tick : {ticks : ℕ} {traces : Bool} {s t : Network} {text : List ℕ}
       → Ticks L names traces ticks s text t
       → DoesCommand L names lines (Tick ticks) (record { net = s; traces = traces }) text
       (record { net = t; traces = traces })
-  trace : {before after : Bool} {s : NetState}
+  trace : {before after : Bool} {s : Network}
       → DoesCommand L names lines (Trace after) (record { net = s; traces = before }) []
       (record { net = s; traces = after })
 
@@ -126,7 +127,7 @@ end_line true = codes "end rest" ++ 10 ∷ []
 end_line false = codes "end busy" ++ 10 ∷ []
 
 -- the commands are done in order, and then comes the last line
-pub record Plays (L : LineService) (script : Script) (s : NetState) (text : List ℕ) (t : NetState) : Type 0 where
+pub record Plays (L : LineService) (script : Script) (s : Network) (text : List ℕ) (t : Network) : Type 0 where
   pub told : List ℕ
   pub at_rest : Bool
   pub traces : Bool
@@ -140,8 +141,8 @@ pub record Plays (L : LineService) (script : Script) (s : NetState) (text : List
 -- written
 pub record PlaysSome (before after : Option (List ℕ)) : Type 0 where
   pub config : Config
-  pub start : NetState
-  pub made : IsMade memory_service config start
+  pub start : Network
+  pub made : IsMadeBy memory_service config start
   pub script : Script
-  pub ended : NetState
+  pub ended : Network
   pub writes : Writes before after (λ text. Plays memory_service script start text ended)

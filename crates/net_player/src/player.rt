@@ -3,9 +3,10 @@ ghost use Rattle.std.specs.Prelude.{◌≡◌, ◌≤◌, ◌<◌, Some, Ok, OnO
 ghost use Rattle.std.specs.Io.KnownBytes.{Appends};
 ghost use Rattle.std.specs.List.{flat_map};
 ghost use Rattle.net_player.specs.Answers.{frame_text, note_text, frames_text, answer_text};
-ghost use Rattle.line_sim.specs.declared.event.Event.{Event};
-ghost use Rattle.line_sim.specs.NetState.{NetState};
-ghost use Rattle.line_sim.specs.Due.{net_due, net_due_count};
+ghost use Rattle.net_events.specs.declared.event.Event.{Event};
+ghost use Rattle.line_sim.specs.Network.{Network};
+ghost use Rattle.line_sim.specs.Waiting.{all_due};
+ghost use Rattle.line_sim.specs.Due.{net_due};
 ghost use Rattle.net_player.specs.InTurn.{InTurn, Writes};
 ghost use Rattle.net_player.specs.Playing.{has_arrived, Tells, TellsEvent, Delivers, Passes, Flows};
 ghost use Rattle.net_player.specs.Playing.{Ticks};
@@ -103,7 +104,7 @@ impl Player<'_> {
         out: &mut W,
     ) -> Result<(), ProgFault>
         ensures writes { OnOk result (Writes (W.contents out.old) (W.contents out.new)
-            (λ text. InTurn Event NetState (TellsEvent L.service self.now.names.now self.now.traces) events.now
+            (λ text. InTurn Event Network (TellsEvent L.service self.now.names.now self.now.traces) events.now
             net.old text net.new)) }
         ensures faults { IfErr result IsPlayFault }
     {
@@ -211,7 +212,7 @@ impl Player<'_> {
         ensures tells { IfOk result (λ arrived. Writes (W.contents out.old) (W.contents out.new)
             (λ text. Tells L.service self.now.names.now self.now.traces arrived event.now net.old text net.new)) }
         ensures fewer_due { OnOk result
-            (net_due net.old ≡ Some event.now → net_due_count net.new < net_due_count net.old) }
+            (net_due net.old ≡ Some event.now → all_due net.new.nodes < all_due net.old.nodes) }
         ensures faults { IfErr result IsPlayFault }
     {
         match net.step(event) {

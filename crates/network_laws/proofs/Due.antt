@@ -11,8 +11,8 @@ use Rattle.node_laws.specs.Due.{due_count}
 use Rattle.node_laws.specs.Quiet.{IsQuiet}
 use Rattle.node_laws.proofs.Expiring as expiry_law
 use Rattle.memory_line.specs.Lines.{LineService}
-use Rattle.network_laws.specs.NodeEvents.NodeEvent.{Expires}
-use Rattle.network_laws.specs.Network.{PlacedNode, NetLine, Network, place_at, net_turn, HappenedAt}
+use Rattle.net_events.specs.NodeEvents.NodeEvent.{Expires}
+use Rattle.net_events.specs.Network.{PlacedNode, NetLine, Network, place_at, net_turn, HappenedAt}
 use Rattle.network_laws.specs.IsNetwork.{LineHolds, IsNetwork}
 use Rattle.network_laws.specs.Waiting.{all_due}
 use Rattle.network_laws.proofs.Networks.{placed, node_is, book_there}

@@ -17,10 +17,10 @@ use Rattle.line_nodes.specs.LineTurns.{restarts}
 use Rattle.line_nodes.specs.NodeEvents.{restarted}
 use Rattle.memory_line.specs.declared.line.Direction.TheVariants.{FromDte, FromDce}
 use Rattle.memory_line.specs.Lines.{Flights, no_flights, flying, LineService, ArePut}
-use Rattle.network_laws.specs.OneLine.{LineState, node_at, with_turn, direction_of, direction_to}
-use Rattle.network_laws.specs.NodeEvents.{NodeEvent, IsFor, turn_of, key_turn, LeftBy}
-use Rattle.network_laws.specs.NodeEvents.NodeEvent.{Hears, Expires, Relinks, Restarts, Calls, Asks, Refuses, Says}
-use Rattle.network_laws.specs.NodeEvents.NodeEvent.{Takes, Keys}
+use Rattle.net_events.specs.OneLine.{LineState, node_at, with_turn, direction_of, direction_to}
+use Rattle.net_events.specs.NodeEvents.{NodeEvent, IsFor, turn_of, key_turn, LeftBy}
+use Rattle.net_events.specs.NodeEvents.NodeEvent.{Hears, Expires, Relinks, Restarts, Calls, Asks, Refuses, Says}
+use Rattle.net_events.specs.NodeEvents.NodeEvent.{Takes, Keys}
 use Rattle.network_laws.specs.IsLine.{line_of, IsKept, AreQuiet, IsLine}
 use Rattle.network_laws.proofs.Flying.{Landed, landed}
 use Rattle.network_laws.proofs.Fitting.{Comes, comes-same, kept-after, stands}

@@ -14,10 +14,10 @@ use Rattle.line_nodes.specs.Turn.{Turn}
 use Rattle.line_nodes.specs.HostTurns.{host_calls, host_asks, host_refuses, host_says, host_takes}
 use Rattle.line_nodes.specs.PadTurns.{pad_keys}
 use Rattle.line_nodes.specs.LineTurns.{hears, expires, relinks, restarts}
-use Rattle.network_laws.specs.OneLine.{LineState, node_at}
-use Rattle.network_laws.specs.NodeEvents.{NodeEvent, IsFor, turn_of, key_turn}
-use Rattle.network_laws.specs.NodeEvents.NodeEvent.{Hears, Expires, Relinks, Restarts, Calls, Asks, Refuses, Says}
-use Rattle.network_laws.specs.NodeEvents.NodeEvent.{Takes, Keys}
+use Rattle.net_events.specs.OneLine.{LineState, node_at}
+use Rattle.net_events.specs.NodeEvents.{NodeEvent, IsFor, turn_of, key_turn}
+use Rattle.net_events.specs.NodeEvents.NodeEvent.{Hears, Expires, Relinks, Restarts, Calls, Asks, Refuses, Says}
+use Rattle.net_events.specs.NodeEvents.NodeEvent.{Takes, Keys}
 use Rattle.memory_line.specs.Lines.{LineService}
 use Rattle.network_laws.specs.IsLine.{line_of, AreQuiet, IsLine}
 use Rattle.network_laws.proofs.Fitting.{Leaves, stands, quiet-at}

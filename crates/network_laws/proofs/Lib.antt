@@ -4,6 +4,7 @@ pub mod NodeKinds
 mod Fitting
 mod Leaving
 mod Keeping
+mod Answering
 pub mod Lines
 pub mod Made
 pub mod Networks

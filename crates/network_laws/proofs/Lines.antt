@@ -9,8 +9,8 @@ use Rattle.line_nodes.specs.Node.{NodeState, Pad, Host, end_of, is_pad, node_ela
 use Rattle.memory_line.specs.declared.line.Direction.{Direction}
 use Rattle.memory_line.specs.declared.line.Direction.TheVariants.{FromDte, FromDce}
 use Rattle.memory_line.specs.Lines.{Flights, without_first, LineService}
-use Rattle.network_laws.specs.OneLine.{LineState, node_at}
-use Rattle.network_laws.specs.NodeEvents.{NodeEvent, turn_of, Happened}
+use Rattle.net_events.specs.OneLine.{LineState, node_at}
+use Rattle.net_events.specs.NodeEvents.{NodeEvent, turn_of, Happened}
 use Rattle.network_laws.specs.IsLine.{line_of, IsKept, IsLine}
 use Rattle.network_laws.specs.LineLaw.{elapsed}
 use Rattle.network_laws.proofs.Fitting.{after-turn}

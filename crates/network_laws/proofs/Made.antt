@@ -18,9 +18,10 @@ use Rattle.pad_laws.specs.PadHolds.{NodeHolds}
 use Rattle.line_nodes.specs.Node.{NodeState, Pad, Host, end_of, is_pad, drained, frames_of}
 use Rattle.memory_line.specs.declared.line.Direction.TheVariants.{FromDte, FromDce}
 use Rattle.memory_line.specs.Lines.{Flights, no_flights, LineService}
-use Rattle.network_laws.specs.OneLine.{LineState}
+use Rattle.net_events.specs.OneLine.{LineState}
 use Rattle.network_laws.specs.IsLine.{line_of, IsLine}
-use Rattle.network_laws.specs.LineLaw.{NewDte, NewPad, NewHost, new_dte, new_dce, made_line, AreSent}
+use Rattle.net_events.specs.Opening.{NewDte, NewPad, NewHost, new_dte, new_dce, AreSent}
+use Rattle.network_laws.specs.LineLaw.{made_line}
 use Rattle.network_laws.proofs.Flying.{landed}
 use Rattle.network_laws.proofs.Fitting.{end-drained}
 use Rattle.line_record_laws.proofs.Keeping as keeping_law

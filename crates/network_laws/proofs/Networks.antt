@@ -16,12 +16,13 @@ use Rattle.line_nodes.specs.Node.{NodeState, drained, frames_of}
 use Rattle.line_nodes.specs.Turn.{Turn}
 use Rattle.memory_line.specs.declared.line.Direction.{Direction}
 use Rattle.memory_line.specs.Lines.{Flights, LineService, ArePut}
-use Rattle.network_laws.specs.OneLine.{LineState, node_at, direction_of}
-use Rattle.network_laws.specs.OneLine as one
-use Rattle.network_laws.specs.NodeEvents.{NodeEvent, IsFor, turn_of, LeftBy}
+use Rattle.net_events.specs.OneLine.{LineState, node_at, direction_of}
+use Rattle.net_events.specs.OneLine as one
+use Rattle.net_events.specs.NodeEvents.{NodeEvent, IsFor, turn_of, LeftBy}
 use Rattle.network_laws.specs.IsLine.{IsLine}
-use Rattle.network_laws.specs.Network.{PlacedNode, NetLine, Network, place_at, net_turn, with_turn, HappenedAt, LostAt}
-use Rattle.network_laws.specs.IsNetwork.{line_state, LineHolds, StandsAtLine, IsNetwork}
+use Rattle.net_events.specs.Network.{PlacedNode, NetLine, Network, place_at, net_turn, with_turn, HappenedAt, LostAt}
+use Rattle.net_events.specs.Network.{StandsAtLine}
+use Rattle.network_laws.specs.IsNetwork.{line_state, LineHolds, IsNetwork}
 use Rattle.network_laws.proofs.Lines.{happened_line, lost_line}
 use Rattle.network_laws.proofs.Uniform.{IsUniform, uniform}
 

@@ -14,9 +14,10 @@ use Rattle.register_laws.specs.Law.{HaveChannels}
 use Rattle.register_laws.proofs.Making.{made_seen}
 use Rattle.book_laws.proofs.Basics.{get_there}
 use Rattle.memory_line.specs.Lines.{LineService}
-use Rattle.network_laws.specs.Network.{PlacedNode, NetLine, Network, elapsed_node, all_elapsed}
-use Rattle.network_laws.specs.IsNetwork.{line_state, LineHolds, StandsAtLine, IsNetwork}
-use Rattle.network_laws.specs.Opening.{NewNode, NewLine, NetPlan, IsLinePlan, IsNodePlan, IsPlan, new_end, placed_new, line_plan, LineIsMade, IsMade}
+use Rattle.net_events.specs.Network.{PlacedNode, NetLine, Network, elapsed_node, all_elapsed}
+use Rattle.net_events.specs.Network.{StandsAtLine}
+use Rattle.network_laws.specs.IsNetwork.{line_state, LineHolds, IsNetwork}
+use Rattle.net_events.specs.Opening.{NewNode, NewLine, NetPlan, IsLinePlan, IsNodePlan, IsPlan, new_end, placed_new, line_plan, LineIsMade, IsMade}
 use Rattle.network_laws.proofs.Lines.{elapsed_lines}
 use Rattle.network_laws.proofs.Made.{made_lines}
 

@@ -10,17 +10,18 @@ use Rattle.call_records.specs.Book.{Book, side_of}
 use Rattle.book_laws.specs.Headline.{BookHolds, has_call}
 use Rattle.pad_laws.specs.Typed.{IsTyped}
 use Rattle.register_laws.specs.Law.{IsOfBook, IsAtNoOther}
-use Rattle.register_laws.proofs.Seeing.{present_seen}
-use Rattle.register_laws.proofs.Promising.{promised, of_one_line}
+use Rattle.register_laws.proofs.Seeing.{present_seen, came_seen}
+use Rattle.register_laws.proofs.Promising.{promised, of_one_line, paired_seen}
 use Rattle.line_record_laws.specs.Kept.{end_at}
 use Rattle.line_record_laws.proofs.Keeping as keeping_law
 use Rattle.line_nodes.specs.Node.{end_of, is_pad}
 use Rattle.memory_line.specs.Lines.{LineService}
-use Rattle.network_laws.specs.OneLine.{LineState}
+use Rattle.net_events.specs.OneLine.{LineState}
 use Rattle.network_laws.specs.IsLine.{line_of, IsLine, IsKept}
-use Rattle.network_laws.specs.Network.{PlacedNode, NetLine, Network, place_at}
+use Rattle.net_events.specs.Network.{PlacedNode, NetLine, Network, place_at}
 use Rattle.network_laws.specs.IsNetwork.{line_state, LineHolds, IsNetwork}
 use Rattle.network_laws.specs.Promise.{EndHolds, NetworkHolds}
+use Rattle.network_laws.proofs.Answering.{came_kept, paired_kept}
 use Rattle.network_laws.proofs.Made.{book_line, typed_line}
 use Rattle.network_laws.proofs.Networks.{book_there, placed, there_is, line_there}
 
@@ -57,6 +58,11 @@ end_holds L s n f line l role at =
       present = λ channel. present_seen s.register n.books line b.0 role channel b.1 n.seen
           ∙ keeping_law.present_kept k.setting b.0 (line_of own) role channel k.kept
           ∙ ap (λ e. has_call (channel_of e.layer channel)) (end_is role l h.dte h.dce b.0);
+      came = λ channel ch there may. came_seen s.register n.books line b.0 role channel b.1 n.seen
+          ∙ came_kept k.setting b.0 (line_of own) role channel ch k.kept (ap (λ e. channel_of e.layer channel) (end_is role l h.dte h.dce b.0) ∙ there) may;
+      paired = λ channel ch there up some. paired_seen s.register n.books line b.0 role channel b.1 n.seen
+          (paired_kept k.setting b.0 (line_of own) role channel ch k.kept (ap (λ e. channel_of e.layer channel) (end_is role l h.dte h.dce b.0) ∙ there) up
+          (sym (came_seen s.register n.books line b.0 role channel b.1 n.seen) ∙ some));
     }
 
 -- ---- what a PAD typed

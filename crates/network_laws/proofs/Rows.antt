@@ -8,11 +8,11 @@ use Rattle.packet_end.specs.declared.params.EndParams.{EndParams}
 use Rattle.packet_end.specs.Params.{AreParams}
 use Rattle.line_nodes.specs.Node.{frames_of}
 use Rattle.memory_line.specs.Lines.{Flights, no_flights, LineService}
-use Rattle.network_laws.specs.LineLaw.{NewDte, NewHost, new_dte, new_dce, AreSent}
-use Rattle.network_laws.specs.NodeEvents.NodeEvent.{Relinks, Restarts}
-use Rattle.network_laws.specs.Network.{PlacedNode, NetLine, Network, place_at, net_turn, with_turn, HappenedAt}
+use Rattle.net_events.specs.Opening.{NewDte, NewHost, new_dte, new_dce, AreSent}
+use Rattle.net_events.specs.NodeEvents.NodeEvent.{Relinks, Restarts}
+use Rattle.net_events.specs.Network.{PlacedNode, NetLine, Network, place_at, net_turn, with_turn, HappenedAt}
 use Rattle.network_laws.specs.IsNetwork.{IsNetwork}
-use Rattle.network_laws.specs.Opening.{NewNode, NewLine, NetPlan, IsLinePlan, IsNodePlan, IsPlan, placed_new, line_plan, LineIsMade, IsMade}
+use Rattle.net_events.specs.Opening.{NewNode, NewLine, NetPlan, IsLinePlan, IsNodePlan, IsPlan, placed_new, line_plan, LineIsMade, IsMade}
 use Rattle.network_laws.proofs.Networks.{happened_network}
 use Rattle.network_laws.proofs.Opened.{made_network}
 

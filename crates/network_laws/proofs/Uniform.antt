@@ -21,9 +21,9 @@ use Rattle.line_nodes.specs.Node.{NodeState, Pad, Host, end_of}
 use Rattle.line_nodes.specs.Turn.{Turn, told, unchanged}
 use Rattle.line_nodes.specs.HostTurns.{taken_turn}
 use Rattle.line_nodes.specs.PadTurns.{keyed, pad_event, pad_ends, pad_read, last_incoming, without_call, closed_call}
-use Rattle.network_laws.specs.NodeEvents.{NodeEvent, turn_of}
-use Rattle.network_laws.specs.NodeEvents.NodeEvent.{Hears, Expires, Relinks, Restarts, Calls, Asks, Refuses, Says}
-use Rattle.network_laws.specs.NodeEvents.NodeEvent.{Takes, Keys}
+use Rattle.net_events.specs.NodeEvents.{NodeEvent, turn_of}
+use Rattle.net_events.specs.NodeEvents.NodeEvent.{Hears, Expires, Relinks, Restarts, Calls, Asks, Refuses, Says}
+use Rattle.net_events.specs.NodeEvents.NodeEvent.{Takes, Keys}
 
 pub record IsUniform (role : Role) (turn : Book → Turn) : Type 0 where
   pub node : (b c : Book) → (turn b).node ≡ (turn c).node

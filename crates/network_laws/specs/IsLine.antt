@@ -7,7 +7,7 @@ use Rattle.node_laws.specs.Quiet.{IsQuiet}
 use Rattle.pad_laws.specs.PadHolds.{NodeHolds}
 use Rattle.line_nodes.specs.Node.{end_of, is_pad}
 use Rattle.memory_line.specs.Lines.{LineService}
-use Rattle.network_laws.specs.OneLine.{LineState}
+use Rattle.net_events.specs.OneLine.{LineState}
 
 -- the line with its two ends
 abbrev pub line_of : LineState → Line

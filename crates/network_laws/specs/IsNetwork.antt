@@ -1,11 +1,11 @@
 -- What holds of a network between events.
-use Rattle.std.specs.Prelude.{◌≡◌, ℕ, ◌⊎◌, List, length, slice_get, Some}
+use Rattle.std.specs.Prelude.{◌≡◌, ℕ, List, length, slice_get, Some}
 use Rattle.call_records.specs.Book.{Book}
 use Rattle.register_laws.specs.Seen.{Seen}
 use Rattle.memory_line.specs.Lines.{LineService}
-use Rattle.network_laws.specs.OneLine.{LineState}
+use Rattle.net_events.specs.OneLine.{LineState}
 use Rattle.network_laws.specs.IsLine.{IsLine}
-use Rattle.network_laws.specs.Network.{PlacedNode, NetLine, Network}
+use Rattle.net_events.specs.Network.{PlacedNode, NetLine, Network, StandsAtLine}
 
 -- one line with the two nodes at its ends, and with a book of its own
 abbrev pub line_state : NetLine → (dte dce : PlacedNode) → Book → LineState
@@ -27,12 +27,6 @@ pub record LineHolds (L : LineService) (nodes : List PlacedNode) (line : ℕ) (l
   pub dte_line : dte.line ≡ line
   pub dce_line : dce.line ≡ line
   pub holds : IsLine L (line_state l dte dce book)
-
--- the node of this place stands at an end of its line
-pub record StandsAtLine (lines : List NetLine) (place : ℕ) (n : PlacedNode) : Type 0 where
-  pub line : NetLine
-  pub there : slice_get lines n.line ≡ Some line
-  pub at_end : (line.dte ≡ place) ⊎ (line.dce ≡ place)
 
 -- each line has a book that nobody stores, and the register has what these books have
 pub record IsNetwork (L : LineService) (s : Network) : Type 0 where

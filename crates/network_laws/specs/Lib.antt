@@ -1,10 +1,6 @@
-pub mod OneLine
-pub mod NodeEvents
 pub mod IsLine
 pub mod LineLaw
-pub mod Network
 pub mod IsNetwork
 pub mod Promise
 pub mod Waiting
 pub mod NetworkLaw
-pub mod Opening

@@ -3,10 +3,10 @@ use Rattle.std.specs.Prelude.{ℕ}
 use Rattle.link_timers.specs.declared.role.Role.{Role}
 use Rattle.memory_line.specs.declared.line.Direction.{Direction}
 use Rattle.memory_line.specs.Lines.{LineService}
-use Rattle.network_laws.specs.NodeEvents.{NodeEvent}
-use Rattle.network_laws.specs.Network.{Network, HappenedAt, LostAt, all_elapsed}
+use Rattle.net_events.specs.NodeEvents.{NodeEvent}
+use Rattle.net_events.specs.Network.{Network, HappenedAt, LostAt, all_elapsed}
 use Rattle.network_laws.specs.IsNetwork.{IsNetwork}
-use Rattle.network_laws.specs.Opening.{NetPlan, IsPlan, IsMade}
+use Rattle.net_events.specs.Opening.{NetPlan, IsPlan, IsMade}
 use Rattle.network_laws.specs.Promise.{NetworkHolds}
 
 abbrev pub MadeLaw : LineService → Type 0

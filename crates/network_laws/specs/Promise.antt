@@ -1,25 +1,36 @@
 -- What a network promises.
 use Rattle.std.specs.Prelude.{◌≡◌, ℕ, true, slice_get, Some, is_some}
 use Rattle.link_timers.specs.declared.role.Role.{Role}
+use Rattle.packet_layer.specs.Channel.{Channel, may_accept, in_transfer}
 use Rattle.packet_layer.specs.Layer.{channel_of}
 use Rattle.call_records.specs.Records.{RecordValue}
-use Rattle.call_records.specs.Book.{slot_at}
-use Rattle.call_records.specs.Register.{book_at}
-use Rattle.book_laws.specs.Headline.{has_call}
+use Rattle.call_records.specs.Book.{Slot, slot_at}
+use Rattle.call_records.specs.Register.{Register, book_at}
+use Rattle.book_laws.specs.Headline.{has_call, IsPaired}
 use Rattle.pad_laws.specs.Typed.{IsTyped}
 use Rattle.register_laws.specs.Promise.{RegisterHolds}
 use Rattle.line_nodes.specs.Node.{end_of, is_pad}
-use Rattle.network_laws.specs.Network.{PlacedNode, NetLine, Network, place_at}
+use Rattle.net_events.specs.Network.{PlacedNode, NetLine, Network, place_at}
+
+-- the register's slot of a channel at the end of a role of a line
+abbrev pub its_slot : (line : ℕ) → Role → (channel : ℕ) → Register → Slot
+its_slot line role channel g = slot_at role channel (book_at line g)
 
 -- at the end of a role of a line: the register has it as this node's, and a channel has a present record exactly where
--- the packet layer has a call there
+-- the packet layer has a call there; a call that may be accepted is one that came in, and in data transfer each that
+-- came in is in a pair
 pub record EndHolds (s : Network) (line : ℕ) (l : NetLine) (role : Role) : Type 0 where
   pub node : PlacedNode
   pub node_there : slice_get s.nodes (place_at role l) ≡ Some node
   pub node_line : node.line ≡ line
   pub own : (Rattle.call_records.specs.Book.side_of role (book_at line s.register)).node ≡ place_at role l
-  pub present : (channel : ℕ) → is_some (slot_at role channel (book_at line s.register)).present
+  pub present : (channel : ℕ) → is_some (its_slot line role channel s.register).present
       ≡ has_call (channel_of (end_of node.node).layer channel)
+  pub came : (channel : ℕ) (ch : Channel) → channel_of (end_of node.node).layer channel ≡ Some ch
+      → may_accept role ch.state ≡ true → is_some (its_slot line role channel s.register).caller ≡ true
+  pub paired : (channel : ℕ) (ch : Channel) → channel_of (end_of node.node).layer channel ≡ Some ch
+      → in_transfer ch.state ≡ true → is_some (its_slot line role channel s.register).caller ≡ true
+      → IsPaired (its_slot line role channel s.register) s.register.pairs
 
 pub record NetworkHolds (s : Network) : Type 0 where
   -- for each pair what one end took matches what the other one sent, both ways, and the pair is right; no record is in

@@ -1,7 +1,7 @@
 use Rattle.std.proofs.Common.{rules, ◌≡◌, true, sym, subst}
-use Rattle.network_laws.specs.Opening.{IsPlan}
+use Rattle.net_events.specs.Opening.{IsPlan}
 use Rattle.net_config.specs.Served.{is_served}
-use Rattle.net_config.specs.Plan.{plan_of}
+use Rattle.net_config.specs.Plan.{plan_of, StandsAlone}
 use Rattle.net_config.proofs.Answering.{on_ok, if_ok, if_err, no_memory}
 use Rattle.net_config.proofs.Planned.{plan_law}
 use Rattle.net_config.proofs.plan.plan_of.Goals as goal
@@ -13,6 +13,7 @@ returns c =
     record {
       served = on_ok c.new_plan.result _ served;
       value = c.new_plan.ensures.ok;
-      plan = if_ok c.new_plan.result _ _ c.new_plan.ensures.ok (λ p e. subst IsPlan (sym e) (plan_law config served));
+      plan = if_ok c.new_plan.result _ _ c.new_plan.ensures.ok (λ p e. subst IsPlan (sym e) ((plan_law config served).0));
+      alone = if_ok c.new_plan.result _ _ c.new_plan.ensures.ok (λ p e. subst StandsAlone (sym e) (plan_law config served).1);
       faults = if_err c.new_plan.result _ _ c.new_plan.ensures.err (no_memory config served);
     }

@@ -1,22 +1,23 @@
-use Rattle.line_sim.proofs.Fits.{happens-net}
-use Rattle.line_sim.proofs.FewerDue.{fewer-due}
-use Rattle.line_sim.proofs.Promises.{promises}
+use Rattle.network_laws.proofs.Promising.{holds_network}
+use Rattle.line_sim.proofs.Standing.{standing}
+use Rattle.line_sim.proofs.Events.{happens_network}
+use Rattle.line_sim.proofs.FewerDue.{fewer_due}
 use Rattle.line_sim.proofs.RunsMore.{has-memory}
 use Rattle.line_sim.proofs.net.Net.step.Goals as goal
 
 pub happen-requires : goal.happen-requires
-happen-requires g c = c.self.invariant.quiet
+happen-requires g c = standing g.L.Line.service _ c.self.invariant
 
 pub invariant_of-self : goal.invariant_of-self
-invariant_of-self g c = happens-net g.L.Line.service c.args.event.now _ c.happen.result c.happen.new.self c.happen.ensures c.self.invariant
+invariant_of-self g c = happens_network g.L.Line.service c.args.event.now _ c.happen.result c.happen.new.self c.self.invariant c.happen.ensures
 
 pub returns-clause-fewer_due : goal.returns-clause-fewer_due
-returns-clause-fewer_due g c = rw (← c.self.view_is) (fewer-due g.L.Line.service c.args.event.now _ c.happen.result c.happen.new.self c.self.invariant c.happen.ensures)
+returns-clause-fewer_due g c = rw (← c.self.view_is) (fewer_due g.L.Line.service c.args.event.now _ c.happen.result c.happen.new.self c.self.invariant c.happen.ensures)
 
 pub returns-clause-memory : goal.returns-clause-memory
 returns-clause-memory g c = has-memory g.L.Line.service c.args.event.now _ c.happen.result c.happen.new.self c.happen.ensures
 
 pub returns-clause-headline : goal.returns-clause-headline
 returns-clause-headline g c =
-    promises g.L.Line.service c.happen.new.self
-    (happens-net g.L.Line.service c.args.event.now _ c.happen.result c.happen.new.self c.happen.ensures c.self.invariant)
+    holds_network g.L.Line.service c.happen.new.self
+    (happens_network g.L.Line.service c.args.event.now _ c.happen.result c.happen.new.self c.self.invariant c.happen.ensures)

@@ -1,5 +1,5 @@
 use Rattle.std.proofs.Common.{◌++◌, List, ℕ}
-use Rattle.line_sim.specs.NetState.{NetState}
+use Rattle.line_sim.specs.Network.{Network}
 use Rattle.net_player.specs.InTurn.{Writes}
 use Rattle.net_player.specs.Playing.{Flows}
 use Rattle.net_player.proofs.player.Player.flow.Given as goal
@@ -7,7 +7,7 @@ use Rattle.net_player.proofs.player.Player.flow.Given as goal
 -- what is written, and what the passes to come will write, is what the flow writes
 abbrev pub invariant-loop-still_left : goal.invariant-loop-still_left
 invariant-loop-still_left g l = Writes (g.W.Write.contents l.initial.out) (g.W.Write.contents l.out)
-    (λ (told : List ℕ). (rest : List ℕ) (t : NetState)
+    (λ (told : List ℕ). (rest : List ℕ) (t : Network)
     → Flows g.L.Line.service l.self.names.now l.self.traces l.self.lines (record { left = l.left; net = l.net }) rest t
     → Flows g.L.Line.service l.self.names.now l.self.traces l.self.lines (record { left = l.initial.left; net = l.initial.net }) (told ++ rest) t)
 

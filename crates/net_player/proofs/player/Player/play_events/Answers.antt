@@ -1,5 +1,5 @@
 use Rattle.std.proofs.Common.{arith, length, ◌<◌, ◌≡◌, List, ℕ, get_or}
-use Rattle.line_sim.specs.declared.event.Event.{Event}
+use Rattle.net_events.specs.declared.event.Event.{Event}
 use Rattle.net_player.specs.InTurn.InTurn.{nothing}
 use Rattle.net_player.proofs.Turns.{in_turn_next, writes_nothing, writes_append}
 use Rattle.net_player.proofs.player.Player.play_events.Goals as goal

@@ -1,4 +1,4 @@
-use Rattle.line_sim.specs.Due.{net_due_count}
+use Rattle.line_sim.specs.Waiting.{all_due}
 use Rattle.net_player.specs.InTurn.{Writes}
 use Rattle.net_player.proofs.Expiries.{Onward}
 use Rattle.net_player.proofs.player.Player.tick.Given as goal
@@ -10,4 +10,4 @@ invariant-loop-expiry g l = Writes (g.W.Write.contents l.initial.out) (g.W.Write
 
 -- each expiry leaves fewer due
 abbrev pub decreases-loop-expiry : goal.decreases-loop-expiry
-decreases-loop-expiry g l = net_due_count l.net
+decreases-loop-expiry g l = all_due l.net.nodes

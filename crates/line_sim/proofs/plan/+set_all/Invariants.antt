@@ -1,5 +1,0 @@
-use Rattle.std.proofs.Common.{length}
-use Rattle.line_sim.proofs.plan.+set_all.Given as goal
-
-abbrev pub decreases-set_all : goal.decreases-set_all
-decreases-set_all l = length l.settings.now

@@ -1,0 +1,30 @@
+-- An event of a node, as the code has it, in the terms of the laws of a network.
+use Rattle.std.specs.Prelude.{ℕ, true, false}
+use Rattle.packet_layer.specs.Channel.{Request as ask}
+use Rattle.packet_host.specs.declared.request.HostRequest.{HostRequest}
+use Rattle.packet_host.specs.declared.request.HostRequest.TheVariants.{Answer, Refuse, Say, Interrupt, Reset, Clear}
+use Rattle.packet_host.specs.declared.request.HostRequest.TheVariants.{Stop, Go}
+use Rattle.net_events.specs.NodeEvents as law
+use Rattle.net_events.specs.declared.node_event.NodeEvent.{NodeEvent}
+use Rattle.net_events.specs.declared.node_event.NodeEvent.TheVariants as event_is
+
+-- a host is asked something of the call on a channel
+abbrev pub request_event : (channel : ℕ) → HostRequest → law.NodeEvent
+request_event channel Answer = law.Asks channel ask.Accept
+request_event channel Refuse = law.Refuses channel
+request_event channel (Say octets qualified delivery) = law.Says channel octets.items qualified delivery
+request_event channel (Interrupt octets) = law.Asks channel (ask.Interrupting octets.items)
+request_event channel Reset = law.Asks channel (ask.Resetting 0 0)
+request_event channel Clear = law.Asks channel (ask.Clearing 0 0)
+request_event channel Stop = law.Asks channel (ask.Stopping true)
+request_event channel Go = law.Asks channel (ask.Stopping false)
+
+abbrev pub event_of : NodeEvent → law.NodeEvent
+event_of (event_is.Hears octets) = law.Hears octets.now
+event_of (event_is.Expires timer) = law.Expires timer
+event_of event_is.Relinks = law.Relinks
+event_of event_is.Restarts = law.Restarts
+event_of (event_is.Calls address user_data) = law.Calls address user_data.now
+event_of (event_is.Asks channel request) = request_event channel request.now
+event_of (event_is.Takes channel) = law.Takes channel
+event_of (event_is.Keys octet) = law.Keys octet

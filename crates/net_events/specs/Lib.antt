@@ -1,0 +1,6 @@
+pub mod OneLine
+pub mod NodeEvents
+pub mod EventView
+pub mod Network
+pub mod Waiting
+pub mod Opening

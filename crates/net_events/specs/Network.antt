@@ -1,0 +1,85 @@
+-- A network of nodes and lines: the nodes, each at one line; the lines, each between two nodes; and the register of the
+-- records and pairs of all calls.
+use Rattle.std.specs.Prelude.{◌≡◌, ℕ, ◌⊎◌, List, map, set, slice_get, Some}
+use Rattle.link_timers.specs.declared.role.Role.{Role}
+use Rattle.link_timers.specs.declared.role.Role.TheVariants.{Dte, Dce}
+use Rattle.call_records.specs.Register.{Register, book_at, with_book}
+use Rattle.line_nodes.specs.Node.{NodeState, drained, frames_of, node_elapsed}
+use Rattle.line_nodes.specs.Turn.{Turn}
+use Rattle.memory_line.specs.declared.line.Direction.{Direction}
+use Rattle.memory_line.specs.Lines.{Flights, without_first, LineService, ArePut}
+use Rattle.net_events.specs.OneLine.{direction_of}
+use Rattle.net_events.specs.NodeEvents.{NodeEvent, IsFor, turn_of, LeftBy}
+
+-- a node: the line at which it stands, how many terminals it has, and its state
+pub record PlacedNode : Type 0 where
+  pub line : ℕ
+  pub terminals : ℕ
+  pub node : NodeState
+
+-- a line: the places of the nodes at its ends, how many logical channels it has, and the frames in flight
+pub record NetLine : Type 0 where
+  pub dte : ℕ
+  pub dce : ℕ
+  pub channels : ℕ
+  pub flights : Flights
+
+pub record Network : Type 0 where
+  pub nodes : List PlacedNode
+  pub lines : List NetLine
+  pub register : Register
+
+-- the place of the node at the end of a role
+abbrev pub place_at : Role → NetLine → ℕ
+place_at Dte l = l.dte
+place_at Dce l = l.dce
+
+-- the node of this place stands at an end of its line
+pub record StandsAtLine (lines : List NetLine) (place : ℕ) (n : PlacedNode) : Type 0 where
+  pub line : NetLine
+  pub there : slice_get lines n.line ≡ Some line
+  pub at_end : (line.dte ≡ place) ⊎ (line.dce ≡ place)
+
+-- ---- what happens
+
+-- a turn of a node at this place, at the end of a line, whose frames were put: these are in flight then
+abbrev pub with_turn : (line : ℕ) → NetLine → (place : ℕ) → PlacedNode → Turn → Flights → Network → Network
+with_turn line l place n turn flights s = record {
+  nodes = set s.nodes place (record n { node = drained turn.node });
+  lines = set s.lines line (record l { flights = flights });
+  register = with_book line turn.book s.register;
+}
+
+-- what an event at a node makes of it and of what the register has of its line
+abbrev pub net_turn : NodeEvent → (line : ℕ) → Role → PlacedNode → Network → Turn
+net_turn event line role n s = turn_of event role n.node (book_at line s.register)
+
+-- the event happened at the node at the end of a role of a line: the node had its turn, its frames were put on the
+-- line, and what it asked and told was written at the line
+pub record HappenedAt (L : LineService) (event : NodeEvent) (line : ℕ) (role : Role) (s t : Network) : Type 0 where
+  pub line_is : NetLine
+  pub line_there : slice_get s.lines line ≡ Some line_is
+  pub node : PlacedNode
+  pub node_there : slice_get s.nodes (place_at role line_is) ≡ Some node
+  pub is_for : IsFor event node.node
+  pub between : Flights
+  pub left : L.faithful → LeftBy event role line_is.flights between
+  pub flights : Flights
+  pub put : L.faithful
+      → ArePut L (direction_of role) (frames_of (net_turn event line role node s).node) between flights
+  pub others : t ≡ with_turn line line_is (place_at role line_is) node (net_turn event line role node s) flights s
+
+-- the first frame in flight in a direction of a line, if any, is lost
+pub record LostAt (L : LineService) (line : ℕ) (d : Direction) (s t : Network) : Type 0 where
+  pub line_is : NetLine
+  pub line_there : slice_get s.lines line ≡ Some line_is
+  pub flights : Flights
+  pub rest : L.faithful → flights ≡ without_first d line_is.flights
+  pub others : t ≡ record s { lines = set s.lines line (record line_is { flights = flights }) }
+
+-- ticks pass at every node
+abbrev pub elapsed_node : (ticks : ℕ) → PlacedNode → PlacedNode
+elapsed_node ticks n = record n { node = node_elapsed ticks n.node }
+
+abbrev pub all_elapsed : (ticks : ℕ) → Network → Network
+all_elapsed ticks s = record s { nodes = map (elapsed_node ticks) s.nodes }

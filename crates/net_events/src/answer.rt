@@ -1,0 +1,36 @@
+//! What answers an event of a network.
+use frame_codec::FrameBuf;
+use line_nodes::{HostNote, KeyAnswer};
+use memory_line::Direction;
+use packet_layer::Taken;
+
+/// What an event gave, besides frames.
+#[derive(Drop)]
+pub enum Outcome {
+    /// Whether a frame arrived.
+    Delivered(bool),
+    /// What a PAD did with a key.
+    Keyed(KeyAnswer),
+    /// A host's call was placed on this logical channel.
+    Called { channel: u8 },
+    /// What a host took, if anything waited.
+    Took(Option<Taken>),
+    /// Nothing besides frames and notes.
+    Done,
+}
+
+/// A frame that was put on a line.
+#[derive(Drop)]
+pub struct Put {
+    pub line: usize,
+    pub direction: Direction,
+    pub octets: FrameBuf,
+}
+
+/// The answer to an event: each frame that was put, in order, what a host noted, and the outcome.
+#[derive(Drop)]
+pub struct Answer {
+    pub frames: Vec<Put>,
+    pub notes: Vec<HostNote>,
+    pub outcome: Outcome,
+}

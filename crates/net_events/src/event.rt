@@ -1,0 +1,93 @@
+//! The events of a network, and why they are refused.
+use arrayvec::ArrayVec;
+use line_nodes::NodeFault;
+use link_timers::TimerId;
+use memory_line::Direction;
+use packet_codec::Address;
+use packet_host::HostRequest;
+use std::alloc::AllocError;
+use thiserror::Error;
+
+/// An event, which is handled whole before the next one. Nodes and lines go by their place in the network's
+/// configuration, counted from 0.
+#[derive(Debug, Drop)]
+pub enum Event {
+    /// A key at a terminal of a PAD.
+    Key {
+        node: usize,
+        terminal: u16,
+        octet: u8,
+    },
+    /// A host calls an address, with at most 16 octets of user data (X.25 4.1.2).
+    Call {
+        node: usize,
+        address: Address,
+        user_data: ArrayVec<u8, 16>,
+    },
+    /// A host asks something of the call on a logical channel.
+    Ask {
+        node: usize,
+        channel: u16,
+        request: HostRequest,
+    },
+    /// A host takes what waits on a logical channel.
+    Take {
+        node: usize,
+        channel: u16,
+    },
+    /// The first frame in flight in this direction arrives.
+    Deliver {
+        line: usize,
+        direction: Direction,
+    },
+    /// The first frame in flight in this direction is lost.
+    Lose {
+        line: usize,
+        direction: Direction,
+    },
+    /// A timer of a node's end of a line expires. Where it does not run nothing happens.
+    Expire {
+        node: usize,
+        line: usize,
+        timer: TimerId,
+    },
+    /// The DTE gives the link of a line up and sets it up again.
+    Relink {
+        line: usize,
+    },
+    /// A node begins anew, and its lines lose all frames in flight.
+    Restart {
+        node: usize,
+    },
+}
+
+/// Why an event is refused, in the order in which the faults are tested. A refused event changes nothing.
+#[derive(Clone, Copy, Debug, PartialEq, Eq, Error)]
+pub enum StepFault {
+    /// No node or line has the number, or the node is of another kind.
+    #[error("no such node")]
+    NoSuchNode,
+    /// The PAD has no such terminal.
+    #[error("no such terminal")]
+    NoSuchTerminal,
+    /// The channel is 0 or beyond those of the line.
+    #[error("no such call")]
+    NoSuchCall,
+    /// The node refuses it, for this reason.
+    #[error("refused: {0}")]
+    Refused(NodeFault),
+    /// No memory was left.
+    #[error("out of memory")]
+    OutOfMemory,
+}
+
+impl From<AllocError> for StepFault {
+    ghost use Rattle.std.specs.Prelude.{◌≡◌};
+    ghost use Rattle.net_events.specs.declared.event.StepFault.TheVariants.{OutOfMemory};
+
+    ghost from_gives = { λ _ fault. fault ≡ OutOfMemory };
+
+    fn from(_: AllocError) -> Self {
+        StepFault::OutOfMemory
+    }
+}

@@ -1,0 +1,10 @@
+//! What may happen in a network of nodes and lines, and what answers it.
+#![tactic(auto)]
+
+mod answer;
+mod event;
+mod node_event;
+
+pub use answer::{Answer, Outcome, Put};
+pub use event::{Event, StepFault};
+pub use node_event::NodeEvent;

@@ -1,0 +1,182 @@
+-- What an event at an end of a line does to the network.
+use Rattle.std.proofs.Common.{◌≡◌, ℕ, ◌<◌, ◌≤◌, zero, suc, List, [], ◌∷◌, length, set, Option, Some, None, Result, Ok, Err, refl, sym, ap, ◌∙◌, subst, arith, inl}
+use Rattle.std.specs.Prelude.{slice_get, MatchResult}
+use Rattle.std.proofs.lemmas.List.{length-map, length-set}
+use Rattle.std.proofs.lemmas.Option.{same_Some}
+use Rattle.link_timers.specs.declared.role.Role.{Role}
+use Rattle.link_timers.specs.declared.role.Role.TheVariants.{Dte, Dce}
+use Rattle.call_records.specs.Register as spec
+use Rattle.call_records.specs.Register.{LineEnds, book_at}
+use Rattle.call_records.specs.Book.{Book}
+use Rattle.call_records.specs.RegisterView.{ends_of, lines_of, ends_in, register_with, register_of, IsOpen}
+use Rattle.call_records.specs.declared.register.Register.{Register}
+use Rattle.line_nodes.specs.Node.{frames_of}
+use Rattle.net_turns.specs.Quiet.{IsQuiet}
+use Rattle.line_nodes.specs.Notes.{user_notes}
+use Rattle.line_nodes.specs.declared.fault.NodeFault.{NodeFault}
+use Rattle.memory_line.specs.declared.line.Direction.{Direction}
+use Rattle.memory_line.specs.declared.line.Direction.TheVariants.{FromDte, FromDce}
+use Rattle.memory_line.specs.Lines.{Flights, LineService, flying, without_first}
+use Rattle.net_nodes.specs.Steps.{hearer}
+use Rattle.net_events.specs.NodeEvents.{NodeEvent, IsFor, LeftBy, Hears, Restarts}
+use Rattle.net_events.specs.Network.{PlacedNode, NetLine, Network, place_at}
+use Rattle.net_events.specs.declared.answer.Answer.{Answer}
+use Rattle.net_events.specs.declared.answer.Outcome.{Outcome}
+use Rattle.net_turns.specs.declared.room.Room.{Room}
+use Rattle.net_turns.specs.Outcomes.{event_fault, IsOutcome}
+use Rattle.net_turns.specs.Served.{IsEmpty}
+use Rattle.net_events.specs.declared.event.StepFault.{StepFault}
+use Rattle.net_events.specs.declared.event.StepFault.TheVariants.{OutOfMemory, Refused}
+use Rattle.net_nodes.specs.declared.nodes.LineEnd.{LineEnd}
+use Rattle.net_nodes.specs.Turns.{CanServe, CanAct, HadTurn, HadNone, AtEnd, IsRefusal, ActsSo, LeavesLine, IsAnswer, its_turn}
+use Rattle.net_nodes.proofs.Serving.{set_there}
+
+-- ---- before the turn
+
+line_count : (o : Option ℕ) (b : Book) (lines : List LineEnds) → length (register_with o b lines).lines ≡ length lines
+line_count None b lines = refl
+line_count (Some line) b lines = length-set lines line (ends_in b)
+
+pub count_is : (g : Register) → length (register_of g).lines ≡ length g.lines.items
+count_is g = line_count g.open g.book.book (lines_of g.lines.items) ∙ length-map g.lines.items ends_of
+
+pub same_place : (role : Role) (l : NetLine) (flights : Flights) → place_at role (record l { flights = flights }) ≡ place_at role l
+same_place Dte l flights = refl
+same_place Dce l flights = refl
+
+-- the register is opened at the line with room, and the frames in flight may have changed
+pub can_serve : (end : LineEnd) (event : NodeEvent) (nodes : List PlacedNode) (l : NetLine) (n : PlacedNode) → slice_get nodes (place_at end.role l) ≡ Some n → IsFor event n.node → IsQuiet n.node
+    → (g : Register) → end.line < length (register_of g).lines → (v : NetLine) (flights : Flights) (h : Register) (room : Room)
+    → v ≡ record l { flights = flights } → register_of h ≡ register_of g
+    → (end.line < length g.lines.items → IsOpen end.line h) → (end.line < length g.lines.items → h.book.book ≡ book_at end.line (register_of g))
+    → h.book.room ≡ 8 → IsEmpty room → CanServe end event nodes v h room
+can_serve end event nodes l n node_there is_for quiet g registered v flights h room is_line same opens has_book has_room empty =
+    let here : end.line < length g.lines.items = (let count = count_is g in omega (arith, count, registered)) in
+    let place : place_at end.role v ≡ place_at end.role l = ap (place_at end.role) is_line ∙ same_place end.role l flights in
+    record {
+      node = n;
+      there = ap (λ i. slice_get nodes i) place ∙ node_there;
+      is_for = is_for;
+      quiet = quiet;
+      opened = opens here;
+      book = has_book here ∙ ap (book_at end.line) (sym same);
+      writes = (let many = has_room in omega (arith, many));
+      empty = empty;
+    }
+
+-- ---- after it
+
+-- what the event did: this was in flight before the node's turn
+pub at_end : (L : LineService) (end : LineEnd) (event : NodeEvent) (s : Network) (l : NetLine) (n : PlacedNode) (between : Flights) (o : Outcome) (room : Room)
+    (nodes : List PlacedNode) (line : NetLine) (g : spec.Register) (a : Answer)
+    → slice_get s.lines end.line ≡ Some l → slice_get s.nodes (place_at end.role l) ≡ Some n → IsFor event n.node
+    → (L.faithful → LeftBy event end.role l.flights between)
+    → HadTurn L end event n s.nodes (record l { flights = between }) s.register o room nodes line g
+    → a.frames.items ≡ room.frames.items → a.notes.items ≡ room.notes.items → a.outcome ≡ o
+    → AtEnd L end event s a (record { nodes = nodes; lines = set s.lines end.line line; register = g })
+at_end L end event s l n between o room nodes line g a line_there node_there is_for left w frames notes outcome =
+    let turn = its_turn end event n s.register in
+    let place = same_place end.role l between in
+    let O : Outcome → Type 0 = λ x. IsOutcome event n.node x in
+    record {
+      happened = record {
+        line_is = l;
+        line_there = line_there;
+        node = n;
+        node_there = node_there;
+        is_for = is_for;
+        between = between;
+        left = left;
+        flights = line.flights;
+        put = w.sends.put;
+        others = λ i. record {
+          nodes = (w.nodes_are ∙ ap (λ k. set s.nodes k (record n { node = Rattle.line_nodes.specs.Node.drained turn.node })) place) i;
+          lines = set s.lines end.line (w.line_is i);
+          register = w.register_is i;
+        };
+      };
+      puts = subst (Rattle.net_turns.specs.Sends.ArePutsOf (Rattle.net_events.specs.OneLine.direction_of end.role) end.line (frames_of turn.node)) (sym frames) w.sends.puts_are;
+      told = notes ∙ w.told ∙ ap (λ k. user_notes n.node k turn.notes) place;
+      outcome = subst O (sym outcome) w.outcome;
+    }
+
+-- nothing changed where the node refused the event and the frames in flight were left
+pub none_changed : (event : NodeEvent) (s : Network) (line : ℕ) (l : NetLine) (n : PlacedNode) (fault : NodeFault) (nodes : List PlacedNode) (v : NetLine) (g : spec.Register)
+    → slice_get s.lines line ≡ Some l → HadNone event n fault s.nodes l s.register nodes v g
+    → record { nodes = nodes; lines = set s.lines line v; register = g } ≡ s
+none_changed event s line l n fault nodes v g there w =
+    (λ i. record { nodes = w.nodes_are i; lines = set s.lines line (w.line_is i); register = w.register_is i })
+    ∙ (λ i. record s { lines = set_there s.lines line l there i })
+
+pub refusal : (o : Option NodeFault) (nf : NodeFault) (fault : StepFault) → o ≡ Some nf → fault ≡ Refused nf → IsRefusal o fault
+refusal None nf fault e f = absurd (cc)
+refusal (Some x) nf fault e f = let same : x ≡ nf = cc in inl (f ∙ ap Refused (sym same))
+
+pub wanting : (o : Option NodeFault) (fault : StepFault) → fault ≡ OutOfMemory → IsRefusal o fault
+wanting None fault e = e
+wanting (Some x) fault e = Rattle.std.proofs.Common.inr e
+
+pub leaves : (event : NodeEvent) (role : Role) (flights : Flights) → LeavesLine event → LeftBy event role flights flights
+leaves (Hears octets) role flights h = absurd h
+leaves Restarts role flights h = absurd h
+leaves (Rattle.net_events.specs.NodeEvents.Expires id) role flights h = refl
+leaves Rattle.net_events.specs.NodeEvents.Relinks role flights h = refl
+leaves (Rattle.net_events.specs.NodeEvents.Calls address user_data) role flights h = refl
+leaves (Rattle.net_events.specs.NodeEvents.Asks channel r) role flights h = refl
+leaves (Rattle.net_events.specs.NodeEvents.Refuses channel) role flights h = refl
+leaves (Rattle.net_events.specs.NodeEvents.Says channel octets qualified delivery) role flights h = refl
+leaves (Rattle.net_events.specs.NodeEvents.Takes channel) role flights h = refl
+leaves (Rattle.net_events.specs.NodeEvents.Keys octet) role flights h = refl
+
+-- what the node answered, where the event left the frames in flight
+pub acts : (L : LineService) (end : LineEnd) (event : NodeEvent) (s : Network) (l : NetLine) (n : PlacedNode) (r : Result Outcome NodeFault) (x : Result Answer StepFault)
+    (room : Room) (nodes : List PlacedNode) (line : NetLine) (g : spec.Register)
+    → slice_get s.lines end.line ≡ Some l → slice_get s.nodes (place_at end.role l) ≡ Some n → IsFor event n.node → LeavesLine event
+    → MatchResult r (λ o. HadTurn L end event n s.nodes l s.register o room nodes line g) (λ fault. HadNone event n fault s.nodes l s.register nodes line g)
+    → IsAnswer r room x → ActsSo L end event n s x (record { nodes = nodes; lines = set s.lines end.line line; register = g })
+acts L end event s l n (Ok o) (Ok a) room nodes line g line_there node_there is_for left w a_is =
+    (w.no_fault, at_end L end event s l n l.flights o room nodes line g a line_there node_there is_for (λ f. leaves event end.role l.flights left) w a_is.0 a_is.1 a_is.2)
+acts L end event s l n (Err nf) (Err fault) room nodes line g line_there node_there is_for left w a_is =
+    (refusal (event_fault event n.node) nf fault w.refuses a_is, none_changed event s end.line l n nf nodes line g line_there w)
+acts L end event s l n (Ok o) (Err fault) room nodes line g line_there node_there is_for left w a_is = absurd a_is
+acts L end event s l n (Err nf) (Ok a) room nodes line g line_there node_there is_for left w a_is = absurd a_is
+
+-- and where an event that no node refuses changed them
+pub acts_anew : (L : LineService) (end : LineEnd) (event : NodeEvent) (s : Network) (l : NetLine) (n : PlacedNode) (between : Flights) (r : Result Outcome NodeFault) (x : Result Answer StepFault)
+    (room : Room) (nodes : List PlacedNode) (line : NetLine) (g : spec.Register)
+    → slice_get s.lines end.line ≡ Some l → slice_get s.nodes (place_at end.role l) ≡ Some n → IsFor event n.node → (L.faithful → LeftBy event end.role l.flights between)
+    → event_fault event n.node ≡ None
+    → MatchResult r (λ o. HadTurn L end event n s.nodes (record l { flights = between }) s.register o room nodes line g)
+    (λ fault. HadNone event n fault s.nodes (record l { flights = between }) s.register nodes line g)
+    → IsAnswer r room x → (a : Answer) × (x ≡ Ok a) × AtEnd L end event s a (record { nodes = nodes; lines = set s.lines end.line line; register = g })
+acts_anew L end event s l n between (Ok o) (Ok a) room nodes line g line_there node_there is_for left none w a_is =
+    (a, refl, at_end L end event s l n between o room nodes line g a line_there node_there is_for left w a_is.0 a_is.1 a_is.2)
+acts_anew L end event s l n between (Err nf) (Err fault) room nodes line g line_there node_there is_for left none w a_is = absurd (let f = w.refuses in cc)
+acts_anew L end event s l n between (Ok o) (Err fault) room nodes line g line_there node_there is_for left none w a_is = absurd a_is
+acts_anew L end event s l n between (Err nf) (Ok a) room nodes line g line_there node_there is_for left none w a_is = absurd a_is
+
+pub can_is_for : (end : LineEnd) (event : NodeEvent) (s : Network) (can : CanAct end event s) (l : NetLine) (n : PlacedNode)
+    → slice_get s.lines end.line ≡ Some l → slice_get s.nodes (place_at end.role l) ≡ Some n → IsFor event n.node
+can_is_for end event s can l n line_there node_there =
+    let line : can.line ≡ l = same_Some can.line l (sym can.line_there ∙ line_there) in
+    let node : can.node ≡ n = same_Some can.node n (sym can.node_there ∙ ap (λ (x : NetLine). slice_get s.nodes (place_at end.role x)) line ∙ node_there) in
+    subst (λ (x : PlacedNode). IsFor event x.node) node can.is_for
+
+-- a turn is told of the same line and the same register
+pub turned_from : (L : LineService) (end : LineEnd) (event : NodeEvent) (n : PlacedNode) (r : Result Outcome NodeFault) (nodes : List PlacedNode) (v l : NetLine) (h g : spec.Register)
+    (room : Room) (nodes' : List PlacedNode) (line : NetLine) (g' : spec.Register) → v ≡ l → h ≡ g
+    → MatchResult r (λ o. HadTurn L end event n nodes v h o room nodes' line g') (λ fault. HadNone event n fault nodes v h nodes' line g')
+    → MatchResult r (λ o. HadTurn L end event n nodes l g o room nodes' line g') (λ fault. HadNone event n fault nodes l g nodes' line g')
+turned_from L end event n r nodes v l h g room nodes' line g' is_line is_register w =
+    let P : NetLine → spec.Register → Type 0 = λ x y. MatchResult r (λ o. HadTurn L end event n nodes x y o room nodes' line g') (λ fault. HadNone event n fault nodes x y nodes' line g') in
+    let Q : NetLine → Type 0 = λ x. P x g in
+    let R : spec.Register → Type 0 = λ y. P v y in
+    subst Q is_line (subst R is_register w)
+
+-- the first frame in flight was taken from the line
+pub left_hears : (d : Direction) (role : Role) → role ≡ hearer d → (before between : Flights) (frame octets : List ℕ) → octets ≡ frame
+    → Some frame ≡ slice_get (flying d before) 0 → between ≡ without_first d before → LeftBy (Hears octets) role before between
+left_hears FromDte role is before between frame octets same taken rest =
+    let P : Role → Type 0 = λ r. LeftBy (Hears octets) r before between in subst P (sym is) (sym taken ∙ ap Some (sym same), rest)
+left_hears FromDce role is before between frame octets same taken rest =
+    let P : Role → Type 0 = λ r. LeftBy (Hears octets) r before between in subst P (sym is) (sym taken ∙ ap Some (sym same), rest)

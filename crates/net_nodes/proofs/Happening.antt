@@ -1,0 +1,183 @@
+-- What an event at a node is to the network.
+use Rattle.std.proofs.Common.{◌≡◌, ℕ, ◌<◌, Bool, true, false, List, length, Option, Some, None, Result, Ok, Err, refl, sym, ap, ◌∙◌, subst, arith, inl, inr}
+use Rattle.std.specs.Prelude.{slice_get, ◌⊎◌, if◌then◌else◌, is_some, not}
+use Rattle.std.proofs.lemmas.Option.{same_Some}
+use Rattle.std.proofs.lemmas.Bool.{lt-ltb}
+use Rattle.link_timers.specs.declared.role.Role.TheVariants.{Dte}
+use Rattle.memory_line.specs.declared.line.Direction.{Direction}
+use Rattle.net_turns.specs.Quiet.{IsQuiet}
+use Rattle.line_nodes.specs.Node.{NodeState, is_pad}
+use Rattle.line_nodes.specs.declared.fault.NodeFault.{NodeFault}
+use Rattle.memory_line.specs.Lines.{LineService}
+use Rattle.net_events.specs.NodeEvents.{NodeEvent, IsFor, Hears, Relinks, Restarts}
+use Rattle.net_events.specs.Network.{PlacedNode, NetLine, Network, place_at}
+use Rattle.net_events.specs.declared.answer.Answer as answered
+use Rattle.net_turns.specs.Outcomes.{event_fault}
+use Rattle.net_events.specs.EventView.{request_event}
+use Rattle.packet_host.specs.declared.request.HostRequest.{HostRequest}
+use Rattle.packet_host.specs.declared.request.HostRequest.TheVariants.{Answer, Refuse, Say, Interrupt, Reset, Clear, Stop, Go}
+use Rattle.net_events.specs.declared.event.Event.{Event}
+use Rattle.net_events.specs.declared.event.Event.TheVariants.{Deliver, Relink, Restart}
+use Rattle.net_events.specs.declared.event.StepFault.{StepFault}
+use Rattle.net_events.specs.declared.event.StepFault.TheVariants.{OutOfMemory, NoSuchNode, NoSuchTerminal, NoSuchCall}
+use Rattle.net_nodes.specs.declared.nodes.LineEnd.{LineEnd}
+use Rattle.net_nodes.specs.Places.{IsStanding, IsPlaceOf, is_host, is_host_at, terminals_of, pad_terminals}
+use Rattle.net_nodes.specs.Faults.{refused, step_fault, takes_memory, IsLeftToNode, MayWant, at_node, at_host, at_terminal, where_there_is, on_channel, is_channel_at}
+use Rattle.net_nodes.specs.Turns.{CanAct, AtEnd, IsRefusal, ActsSo, Acts}
+use Rattle.net_nodes.specs.Steps.{AtNode, StepOf, hearer}
+use Rattle.net_nodes.specs.Happening.{Happens}
+use Rattle.net_nodes.proofs.Places.{within}
+
+-- ---- the node of a place
+
+pub at_end_of : (place : ℕ) (end : LineEnd) (s : Network) (p : IsPlaceOf place end s) → slice_get s.nodes (place_at end.role p.line) ≡ Some p.node
+at_end_of place end s p = ap (λ i. slice_get s.nodes i) p.at_end ∙ p.node_there
+
+pub registered_at : (line : ℕ) (l : NetLine) (s : Network) → IsStanding s → slice_get s.lines line ≡ Some l → line < length s.register.lines
+registered_at line l s st there = let h = within s.lines line l there in let count = st.registered in omega (arith, h, count)
+
+pub quiet_at : (place : ℕ) (end : LineEnd) (s : Network) → IsStanding s → (p : IsPlaceOf place end s) → IsQuiet p.node.node
+quiet_at place end s st p =
+    let e = st.ends end.line p.line end.role p.line_there in
+    subst (λ (x : PlacedNode). IsQuiet x.node) (same_Some e.node p.node (sym e.node_there ∙ at_end_of place end s p)) e.quiet
+
+pub can_act : (place : ℕ) (end : LineEnd) (event : NodeEvent) (s : Network) → IsStanding s → (p : IsPlaceOf place end s) → IsFor event p.node.node → CanAct end event s
+can_act place end event s st p is_for = record {
+  line = p.line;
+  line_there = p.line_there;
+  node = p.node;
+  node_there = at_end_of place end s p;
+  is_for = is_for;
+  quiet = quiet_at place end s st p;
+  registered = registered_at end.line p.line s st p.line_there;
+}
+
+pub own_node : (L : LineService) (place : ℕ) (end : LineEnd) (event : NodeEvent) (s : Network) (a : answered.Answer) (t : Network) → IsPlaceOf place end s → AtEnd L end event s a t → AtNode L place event s a t
+own_node L place end event s a t p w =
+    let line : w.happened.line_is ≡ p.line = same_Some w.happened.line_is p.line (sym w.happened.line_there ∙ p.line_there) in
+    let at : place_at end.role w.happened.line_is ≡ place = ap (place_at end.role) line ∙ p.at_end in
+    let node : w.happened.node ≡ p.node = same_Some w.happened.node p.node (sym w.happened.node_there ∙ ap (λ i. slice_get s.nodes i) at ∙ p.node_there) in
+    record { end = end; does = w; own_line = ap (λ (x : PlacedNode). x.line) node ∙ p.node_line; own_place = at }
+
+-- ---- what the node refuses, and want of memory
+
+refused_so : (e : Event) (s : Network) (o : Option NodeFault) (fault : StepFault) → step_fault e s ≡ refused o → takes_memory e ≡ true → IsRefusal o fault
+    → (step_fault e s ≡ Some fault) ⊎ MayWant e s × (fault ≡ OutOfMemory)
+refused_so e s None fault is takes f = inr ((takes, subst IsLeftToNode (sym is) tt), f)
+refused_so e s (Some nf) fault is takes (inl f) = inl (is ∙ ap Some (sym f))
+refused_so e s (Some nf) fault is takes (inr f) = inr ((takes, subst IsLeftToNode (sym is) tt), f)
+
+pub acted : (L : LineService) (e : Event) (place : ℕ) (event : NodeEvent) (end : LineEnd) (s t : Network) (r : Result answered.Answer StepFault) (p : IsPlaceOf place end s)
+    → step_fault e s ≡ refused (event_fault event p.node.node) → takes_memory e ≡ true
+    → ((a : answered.Answer) → AtNode L place event s a t → StepOf L e s a t) → Acts L end event s r t → Happens L e s r t
+acted L e place event end s t (Ok a) p is takes step acts =
+    let so = acts p.line p.node p.line_there (at_end_of place end s p) in
+    (is ∙ ap refused so.0, step a (own_node L place end event s a t p so.1))
+acted L e place event end s t (Err fault) p is takes step acts =
+    let so = acts p.line p.node p.line_there (at_end_of place end s p) in
+    (refused_so e s (event_fault event p.node.node) fault is takes so.0, so.1)
+
+-- ---- hosts
+
+host_is : (o : Option PlacedNode) (n : PlacedNode) → o ≡ Some n → is_host o ≡ true → is_pad n.node ≡ false
+host_is None n e h = absurd (cc)
+host_is (Some m) n e h = by (is_pad m.node) refl h
+  where
+    same : m ≡ n
+    same = same_Some m n e
+
+    by : (v : Bool) → is_pad m.node ≡ v → not v ≡ true → is_pad n.node ≡ false
+    by true is h = absurd (cc)
+    by false is h = ap (λ (x : PlacedNode). is_pad x.node) (sym same) ∙ is
+
+pub host_at : (place : ℕ) (end : LineEnd) (s : Network) (p : IsPlaceOf place end s) → is_host_at place s ≡ true → is_pad p.node.node ≡ false
+host_at place end s p h = host_is (slice_get s.nodes place) p.node p.node_there h
+
+pub fault_at : (place : ℕ) (end : LineEnd) (s : Network) (p : IsPlaceOf place end s) (fault : PlacedNode → Option StepFault) → is_host_at place s ≡ true
+    → at_host place s fault ≡ fault p.node
+fault_at place end s p fault h =
+    (λ i. if h i then at_node (slice_get s.nodes place) fault else Some NoSuchNode) ∙ ap (λ o. at_node o fault) p.node_there
+
+pub no_host : (place : ℕ) (s : Network) (fault : PlacedNode → Option StepFault) → is_host_at place s ≡ false → at_host place s fault ≡ Some NoSuchNode
+no_host place s fault h = λ i. if h i then at_node (slice_get s.nodes place) fault else Some NoSuchNode
+
+pub channel_at : (place : ℕ) (end : LineEnd) (s : Network) (p : IsPlaceOf place end s) (channel : ℕ) (fault : Option StepFault) → is_channel_at end.line channel s ≡ true
+    → on_channel channel s p.node fault ≡ fault
+channel_at place end s p channel fault h =
+    (λ i. if is_channel_at (p.node_line i) channel s then fault else Some NoSuchCall) ∙ (λ i. if h i then fault else Some NoSuchCall)
+
+pub no_channel : (place : ℕ) (end : LineEnd) (s : Network) (p : IsPlaceOf place end s) (channel : ℕ) (fault : Option StepFault) → is_channel_at end.line channel s ≡ false
+    → on_channel channel s p.node fault ≡ Some NoSuchCall
+no_channel place end s p channel fault h =
+    (λ i. if is_channel_at (p.node_line i) channel s then fault else Some NoSuchCall) ∙ (λ i. if h i then fault else Some NoSuchCall)
+
+pub asks_for : (channel : ℕ) (r : HostRequest) (n : NodeState) → is_pad n ≡ false → IsFor (request_event channel r) n
+asks_for channel Answer n h = h
+asks_for channel Refuse n h = h
+asks_for channel (Say octets qualified delivery) n h = h
+asks_for channel (Interrupt octets) n h = h
+asks_for channel Reset n h = h
+asks_for channel Clear n h = h
+asks_for channel Stop n h = h
+asks_for channel Go n h = h
+
+-- ---- PADs
+
+pads : (o : Option PlacedNode) (n : PlacedNode) (terminals : ℕ) → o ≡ Some n → terminals_of o ≡ Some terminals → is_pad n.node ≡ true
+pads None n terminals e h = absurd (cc)
+pads (Some m) n terminals e h = by (is_pad m.node) refl h
+  where
+    by : (v : Bool) → is_pad m.node ≡ v → (if v then Some m.terminals else None) ≡ Some terminals → is_pad n.node ≡ true
+    by true is h = ap (λ (x : PlacedNode). is_pad x.node) (sym (same_Some m n e)) ∙ is
+    by false is h = absurd (cc)
+
+pub pad_at : (place : ℕ) (end : LineEnd) (s : Network) (p : IsPlaceOf place end s) (terminals : ℕ) → pad_terminals place s ≡ Some terminals → is_pad p.node.node ≡ true
+pad_at place end s p terminals h = pads (slice_get s.nodes place) p.node terminals p.node_there h
+
+pub terminal_there : (place terminal terminals : ℕ) (s : Network) → pad_terminals place s ≡ Some terminals → terminal < terminals
+    → at_terminal terminal (pad_terminals place s) ≡ None
+terminal_there place terminal terminals s h lt = ap (at_terminal terminal) h ∙ (λ i. if lt-ltb terminal terminals lt i then None else Some NoSuchTerminal)
+
+-- ---- lines
+
+pub can_at : (end : LineEnd) (event : NodeEvent) (s : Network) → IsStanding s → (l : NetLine) → slice_get s.lines end.line ≡ Some l
+    → ((n : NodeState) → IsFor event n) → CanAct end event s
+can_at end event s st l there is_for =
+    let e = st.ends end.line l end.role there in
+    record {
+      line = l;
+      line_there = there;
+      node = e.node;
+      node_there = e.node_there;
+      is_for = is_for e.node.node;
+      quiet = e.quiet;
+      registered = registered_at end.line l s st there;
+    }
+
+pub relinked : (L : LineService) (line : ℕ) (s t : Network) (r : Result answered.Answer StepFault) → IsStanding s → (l : NetLine) → slice_get s.lines line ≡ Some l
+    → Acts L (record { line = line; role = Dte }) Relinks s r t → Happens L (Relink line) s r t
+relinked L line s t r st l there acts =
+    let e = st.ends line l Dte there in
+    by r (acts l e.node there e.node_there)
+  where
+    none : step_fault (Relink line) s ≡ None
+    none = ap (λ o. where_there_is (is_some o)) there
+
+    by : (r : Result answered.Answer StepFault) → ActsSo L (record { line = line; role = Dte }) Relinks (st.ends line l Dte there).node s r t → Happens L (Relink line) s r t
+    by (Ok a) so = (none, so.1)
+    by (Err fault) so = (refused_so (Relink line) s None fault none refl so.0, so.1)
+
+pub delivered : (L : LineService) (line : ℕ) (d : Direction) (end : LineEnd) → end.line ≡ line → end.role ≡ hearer d → (octets : List ℕ) (s : Network) (l : NetLine)
+    → slice_get s.lines line ≡ Some l → (r : Result answered.Answer StepFault) (t : Network)
+    → (a : answered.Answer) × (r ≡ Ok a) × AtEnd L end (Hears octets) s a t → Happens L (Deliver line d) s r t
+delivered L line d end is_line is_role octets s l there r t w =
+    let same : end ≡ record { line = line; role = hearer d } = λ i. record { line = is_line i; role = is_role i } in
+    let P : LineEnd → Type 0 = λ e. AtEnd L e (Hears octets) s w.0 t in
+    let Q : Result answered.Answer StepFault → Type 0 = λ x. Happens L (Deliver line d) s x t in
+    subst Q (sym w.1) (ap (λ o. where_there_is (is_some o)) there, inr (octets, subst P same w.2))
+
+pub began_anew : (L : LineService) (place : ℕ) (end : LineEnd) (s : Network) (r : Result answered.Answer StepFault) (t : Network) → IsPlaceOf place end s
+    → (a : answered.Answer) × (r ≡ Ok a) × AtEnd L end Restarts s a t → Happens L (Restart place) s r t
+began_anew L place end s r t p w =
+    let Q : Result answered.Answer StepFault → Type 0 = λ x. Happens L (Restart place) s x t in
+    subst Q (sym w.1) (ap (λ o. where_there_is (is_some o)) p.node_there, own_node L place end Restarts s w.0 t p w.2)

@@ -1,0 +1,5 @@
+mod Places
+mod Serving
+mod Acting
+mod Happening
+mod Making

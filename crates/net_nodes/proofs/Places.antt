@@ -1,0 +1,61 @@
+-- Where nodes stand, and what is at a place of a list.
+use Rattle.std.proofs.Common.{◌≡◌, ◌≢◌, ℕ, ◌<◌, zero, suc, List, [], ◌∷◌, length, Some, None, refl, sym, ap, ◌∙◌, subst, arith, get_or}
+use Rattle.std.specs.Prelude.{slice_get, ◌⊎◌, Result, Ok, Err, OnErr}
+use Rattle.std.proofs.Common.{inl, inr}
+use Rattle.std.proofs.lemmas.Option.{same_Some, slice_get-get_or, none-some}
+use Rattle.link_timers.specs.declared.role.Role.{Role}
+use Rattle.link_timers.specs.declared.role.Role.TheVariants.{Dte, Dce}
+use Rattle.net_events.specs.Network.{PlacedNode, NetLine, Network}
+use Rattle.net_nodes.specs.Places.{IsStanding, IsPlaceOf}
+
+pub found : {X : Type 0} (xs : List X) (i : ℕ) (d x y : X) → i < length xs → x ≡ get_or xs i d → slice_get xs i ≡ Some y → x ≡ y
+found xs i d x y h is there = is ∙ same_Some (get_or xs i d) y (sym (slice_get-get_or xs i d h) ∙ there)
+
+pub there : {X : Type 0} (xs : List X) (i : ℕ) (d x : X) → i < length xs → x ≡ get_or xs i d → slice_get xs i ≡ Some x
+there xs i d x h is = slice_get-get_or xs i d h ∙ ap Some (sym is)
+
+pub within : {X : Type 0} (xs : List X) (i : ℕ) (x : X) → slice_get xs i ≡ Some x → i < length xs
+within [] i x e = absurd (none-some x e)
+within (y ∷ xs) zero x e = omega arith
+within (y ∷ xs) (suc i) x e = let h = within xs i x e in omega (arith, h)
+
+pub none_from : {X : Type 0} (xs : List X) (i : ℕ) → (i < length xs → ⊥) → slice_get xs i ≡ None
+none_from [] i h = refl
+none_from (x ∷ xs) zero h = absurd (h (omega arith))
+none_from (x ∷ xs) (suc i) h = none_from xs i (λ k. h (omega (arith, k)))
+
+-- a node of a network that stands has a line
+pub has_line : (s : Network) (place : ℕ) (n : PlacedNode) → IsStanding s → slice_get s.nodes place ≡ Some n → n.line < length s.lines
+has_line s place n st e = let at = st.nodes place n e in within s.lines n.line at.line at.there
+
+pub as_dte : (s : Network) (place : ℕ) (n : PlacedNode) (l : NetLine) → slice_get s.nodes place ≡ Some n → slice_get s.lines n.line ≡ Some l
+    → l.dte ≡ place → IsPlaceOf place (record { line = n.line; role = Dte }) s
+as_dte s place n l node line e = record { node = n; node_there = node; node_line = refl; line = l; line_there = line; at_end = e }
+
+pub as_dce : (s : Network) (place : ℕ) (n : PlacedNode) (l : NetLine) → IsStanding s → slice_get s.nodes place ≡ Some n → slice_get s.lines n.line ≡ Some l
+    → l.dte ≢ place → IsPlaceOf place (record { line = n.line; role = Dce }) s
+as_dce s place n l st node line not_dte = record {
+  node = n;
+  node_there = node;
+  node_line = refl;
+  line = l;
+  line_there = line;
+  at_end = by (let at = st.nodes place n node in subst (λ (x : NetLine). (x.dte ≡ place) ⊎ (x.dce ≡ place)) (same_Some at.line l (sym at.there ∙ line)) at.at_end);
+}
+  where
+    by : (l.dte ≡ place) ⊎ (l.dce ≡ place) → l.dce ≡ place
+    by (inl e) = absurd (not_dte e)
+    by (inr e) = e
+
+pub mapped_err : {A B X Y : Type 0} (r : Result A B) → (X → Y) → OnErr r X → OnErr r Y
+mapped_err (Ok a) f x = tt
+mapped_err (Err e) f x = f x
+
+pub at_line : (place line : ℕ) (role : Role) (s : Network) {k : ℕ} → k ≡ line → IsPlaceOf place (record { line = k; role = role }) s
+    → IsPlaceOf place (record { line = line; role = role }) s
+at_line place line role s e h = subst (λ i. IsPlaceOf place (record { line = i; role = role }) s) e h
+
+pub at_index : {X : Type 0} (xs : List X) (i : ℕ) → i < length xs → (x : X) × (slice_get xs i ≡ Some x)
+at_index [] i h = absurd (omega (arith, h))
+at_index (x ∷ xs) zero h = (x, refl)
+at_index (x ∷ xs) (suc i) h = at_index xs i (omega (arith, h))

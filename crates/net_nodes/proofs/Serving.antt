@@ -1,0 +1,104 @@
+-- What serving an event does to the nodes, to the line and to the register.
+use Rattle.std.proofs.Common.{◌≡◌, ℕ, zero, suc, List, [], ◌∷◌, set, Option, Some, None, Result, Ok, Err, refl, sym, ap, ◌∙◌, subst}
+use Rattle.std.specs.Prelude.{slice_get, MatchResult, OnOk, OnErr}
+use Rattle.std.proofs.lemmas.List.{set-set}
+use Rattle.std.proofs.lemmas.Option.{same_Some}
+use Rattle.call_records.specs.Book.{Book}
+use Rattle.call_records.specs.Register.{LineEnds, book_at, with_book}
+use Rattle.call_records.specs.RegisterView.{register_with, register_of, lines_of, ends_in, IsOpen}
+use Rattle.call_records.specs.declared.register.Register.{Register}
+use Rattle.line_nodes.specs.Node.{NodeState, drained, frames_of}
+use Rattle.line_nodes.specs.Turn.{Turn}
+use Rattle.line_nodes.specs.Notes.{user_notes}
+use Rattle.line_nodes.specs.declared.fault.NodeFault.{NodeFault}
+use Rattle.memory_line.specs.Lines.{Flights, LineService}
+use Rattle.net_events.specs.OneLine.{direction_of}
+use Rattle.net_events.specs.NodeEvents.{NodeEvent, turn_of}
+use Rattle.net_events.specs.Network.{PlacedNode, NetLine, place_at}
+use Rattle.net_events.specs.declared.answer.Outcome.{Outcome}
+use Rattle.net_turns.specs.declared.room.Room.{Room}
+use Rattle.net_turns.specs.Outcomes.{event_fault, IsOutcome}
+use Rattle.net_turns.specs.Sends.{Sends}
+use Rattle.net_turns.specs.Served.{Served}
+use Rattle.net_nodes.specs.declared.nodes.LineEnd.{LineEnd}
+use Rattle.net_nodes.specs.Turns.{its_turn, HadTurn, HadNone}
+
+pub set_there : {X : Type 0} (xs : List X) (n : ℕ) (x : X) → slice_get xs n ≡ Some x → set xs n x ≡ xs
+set_there [] n x e = refl
+set_there (y ∷ xs) zero x e = ap (λ z. z ∷ xs) (sym (same_Some y x e))
+set_there (y ∷ xs) (suc n) x e = ap (λ zs. y ∷ zs) (set_there xs n x e)
+
+-- the register with another book at the line where it is open
+rewritten : (o : Option ℕ) (line : ℕ) (old new : Book) (lines : List LineEnds) → o ≡ Some line
+    → register_with o new lines ≡ with_book line new (register_with o old lines)
+rewritten o line old new lines is =
+    let P : Option ℕ → Type 0 = λ x. register_with x new lines ≡ with_book line new (register_with x old lines) in
+    subst P (sym is) (λ i. record { records = new.records; pairs = new.pairs; lines = sym (set-set lines line (ends_in old) (ends_in new)) i })
+
+pub register_turned : (g : Register) (line : ℕ) (b t : Book) → IsOpen line g → b ≡ t
+    → register_with g.open b (lines_of g.lines.items) ≡ with_book line t (register_of g)
+register_turned g line b t at_line is =
+    rewritten g.open line g.book.book b (lines_of g.lines.items) at_line.at ∙ ap (λ x. with_book line x (register_of g)) is
+
+module _ (L : LineService) (end : LineEnd) (event : NodeEvent) (p n : PlacedNode) (nodes : List PlacedNode) (v l : NetLine)
+    (g : Register) (place : ℕ) (is_node : p ≡ n) (is_line : v ≡ l) (is_place : place ≡ place_at end.role l)
+    (at_line : IsOpen end.line g) (book : g.book.book ≡ book_at end.line (register_of g)) where
+  abbrev turn : Turn
+  turn = its_turn end event n (register_of g)
+
+  same_turn : turn_of event end.role p.node g.book.book ≡ turn
+  same_turn = λ i. turn_of event end.role (is_node i).node (book i)
+
+  turned : (o : Outcome) (room : Room) (node : NodeState) (flights : Flights) (b : Book)
+      → (event_fault event p.node ≡ None) × IsOutcome event p.node o
+      → Served L (record { line = end.line; place = record { role = end.role; node = place } }) p.node
+      (turn_of event end.role p.node g.book.book) v.flights room.frames.items room.notes.items node flights b
+      → HadTurn L end event n nodes l (register_of g) o room (set nodes place (record p { node = node }))
+      (record v { flights = flights }) (register_with g.open b (lines_of g.lines.items))
+  turned o room node flights b a w =
+      let P : Turn → Flights → Type 0 = λ t f. Sends L (direction_of end.role) end.line (frames_of t.node) f room.frames.items flights in
+      let Q : Turn → Type 0 = λ t. P t l.flights in
+      let R : Flights → Type 0 = λ f. P (turn_of event end.role p.node g.book.book) f in
+      let N : NodeState → Type 0 = λ m. event_fault event m ≡ None in
+      let O : NodeState → Type 0 = λ m. IsOutcome event m o in
+      let node_is : p.node ≡ n.node = ap (λ (x : PlacedNode). x.node) is_node in
+      let drained_is : node ≡ drained turn.node = w.node_is ∙ ap (λ (t : Turn). drained t.node) same_turn in
+      record {
+        no_fault = subst N node_is a.0;
+        outcome = subst O node_is a.1;
+        sends = subst Q same_turn (subst R (ap (λ (x : NetLine). x.flights) is_line) w.sends);
+        told = w.told ∙ (λ i. user_notes (node_is i) (is_place i) (same_turn i).notes);
+        nodes_are = λ i. set nodes (is_place i) (record (is_node i) { node = drained_is i });
+        line_is = λ i. record (is_line i) { flights = flights };
+        register_is = register_turned g end.line b turn.book at_line (w.book_is ∙ ap (λ (t : Turn). t.book) same_turn);
+      }
+
+  refused : (fault : NodeFault) (node : NodeState) (flights : Flights) (b : Book) → slice_get nodes (place_at end.role l) ≡ Some n
+      → event_fault event p.node ≡ Some fault → node ≡ p.node → flights ≡ v.flights → b ≡ g.book.book
+      → HadNone event n fault nodes l (register_of g) (set nodes place (record p { node = node }))
+      (record v { flights = flights }) (register_with g.open b (lines_of g.lines.items))
+  refused fault node flights b there f same_node same_flights same_book =
+      let N : NodeState → Type 0 = λ m. event_fault event m ≡ Some fault in
+      let node_is : p.node ≡ n.node = ap (λ (x : PlacedNode). x.node) is_node in
+      let put : set nodes place (record p { node = node }) ≡ set nodes (place_at end.role l) n
+      = λ i. set nodes (is_place i) (record (is_node i) { node = (same_node ∙ node_is) i }) in
+      record {
+        refuses = subst N node_is f;
+        nodes_are = put ∙ set_there nodes (place_at end.role l) n there;
+        line_is = (λ i. record v { flights = same_flights i }) ∙ is_line;
+        register_is = ap (λ x. register_with g.open x (lines_of g.lines.items)) same_book;
+      }
+
+  pub served : (r : Result Outcome NodeFault) (room : Room) (node : NodeState) (flights : Flights) (b : Book)
+      → slice_get nodes (place_at end.role l) ≡ Some n
+      → MatchResult r (λ o. (event_fault event p.node ≡ None) × IsOutcome event p.node o) (λ fault. event_fault event p.node ≡ Some fault)
+      → OnOk r (Served L (record { line = end.line; place = record { role = end.role; node = place } }) p.node
+      (turn_of event end.role p.node g.book.book) v.flights room.frames.items room.notes.items node flights b)
+      → OnErr r (node ≡ p.node) → OnErr r (flights ≡ v.flights) → OnErr r (b ≡ g.book.book)
+      → MatchResult r
+      (λ o. HadTurn L end event n nodes l (register_of g) o room (set nodes place (record p { node = node }))
+      (record v { flights = flights }) (register_with g.open b (lines_of g.lines.items)))
+      (λ fault. HadNone event n fault nodes l (register_of g) (set nodes place (record p { node = node }))
+      (record v { flights = flights }) (register_with g.open b (lines_of g.lines.items)))
+  served (Ok o) room node flights b there a w same_node same_flights same_book = turned o room node flights b a w
+  served (Err fault) room node flights b there a w same_node same_flights same_book = refused fault node flights b there a same_node same_flights same_book

@@ -1,0 +1,27 @@
+use Rattle.std.proofs.Common.{ℕ, refl, sym, ◌∙◌, subst}
+use Rattle.net_events.specs.EventView.{request_event}
+use Rattle.net_turns.specs.Outcomes.{event_fault}
+use Rattle.net_events.specs.declared.event.Event.TheVariants.{Ask}
+use Rattle.net_nodes.specs.Faults.{refused, on_channel}
+use Rattle.net_nodes.specs.Turns.{Acts}
+use Rattle.net_nodes.proofs.Happening.{acted, can_act, host_at, fault_at, channel_at, asks_for}
+use Rattle.net_nodes.proofs.nodes.Nodes.ask.Goals as goal
+
+pub act-requires-clause-can : goal.act-requires-clause-can
+act-requires-clause-can g c =
+    let p = c.in-Some.ensures in
+    let host = host_at c.args.node c.in-Some.end c.args.self.now p (sym c.if-not-is_host_at.ensures) in
+    can_act c.args.node c.in-Some.end (request_event c.in-Some-channel.channel c.args.request.now) c.args.self.now c.requires p
+    (asks_for c.in-Some-channel.channel c.args.request.now _ host)
+
+pub returns : goal.returns
+returns g c =
+    let p = c.in-Some.ensures in
+    let s = c.args.self.now in
+    let ch = c.in-Some-channel.ensures in
+    let event = request_event c.args.channel c.args.request.now in
+    let P : ℕ → Type 0 = λ k. Acts g.L.Line.service c.in-Some.end (request_event k c.args.request.now) s c.act.result c.act.new.self in
+    acted g.L.Line.service (Ask c.args.node c.args.channel c.args.request.now) c.args.node event c.in-Some.end s c.act.new.self c.act.result p
+    (fault_at c.args.node c.in-Some.end s p (λ n. on_channel c.args.channel s n (refused (event_fault event n.node))) (sym c.if-not-is_host_at.ensures)
+    ∙ channel_at c.args.node c.in-Some.end s p c.args.channel (refused (event_fault event p.node.node)) ch.0)
+    refl (λ a w. w) (subst P ch.1 c.act.ensures)

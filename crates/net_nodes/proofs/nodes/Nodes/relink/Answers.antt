@@ -1,0 +1,23 @@
+use Rattle.std.proofs.Common.{◌<◌, length, ap, arith}
+use Rattle.link_timers.specs.declared.role.Role.TheVariants.{Dte}
+use Rattle.net_events.specs.NodeEvents.{Relinks}
+use Rattle.net_events.specs.Network.{Network}
+use Rattle.net_nodes.proofs.Places.{at_index}
+use Rattle.net_nodes.proofs.Happening.{can_at, relinked}
+use Rattle.net_nodes.proofs.nodes.Nodes.relink.Goals as goal
+
+pub act-requires-clause-can : goal.act-requires-clause-can
+act-requires-clause-can g c =
+    let s = c.args.self.now in
+    let same = ap (λ (s : Network). s.lines) c.self.view_is in
+    let h : c.args.line < length s.lines = (let count = ap length same in omega (arith, c.if-line-len.false, c.len.ensures, count)) in
+    let l = at_index s.lines c.args.line h in
+    can_at (record { line = c.args.line; role = Dte }) Relinks s c.requires l.0 l.1 (λ n. tt)
+
+pub returns : goal.returns
+returns g c =
+    let s = c.args.self.now in
+    let same = ap (λ (s : Network). s.lines) c.self.view_is in
+    let h : c.args.line < length s.lines = (let count = ap length same in omega (arith, c.if-line-len.false, c.len.ensures, count)) in
+    let l = at_index s.lines c.args.line h in
+    relinked g.L.Line.service c.args.line s c.act.new.self c.act.result c.requires l.0 l.1 c.act.ensures

@@ -1,0 +1,63 @@
+use Rattle.std.proofs.Common.{◌≡◌, ℕ, ◌<◌, suc, ◌++◌, [], ◌∷◌, List, length, vec_len, slice_get, sym, ap, ◌∙◌, subst, arith}
+use Rattle.net_events.specs.Network.{NetLine}
+use Rattle.net_events.specs.Opening.{NewLine, NetPlan}
+use Rattle.net_nodes.specs.Making.{waiting, AreNew, HaveBegun}
+use Rattle.net_nodes.proofs.Places.{there}
+use Rattle.net_nodes.proofs.Making.{none_begun, ends_of, waits_at, one_more, line_more}
+use Rattle.net_nodes.proofs.nodes.making.begin_lines.Goals as goal
+
+pub loop-line-init : goal.loop-line-init
+loop-line-init g c =
+    let none = c.new-begun.ensures.len in
+    record {
+      nodes = subst (λ k. AreNew k c.args.plan.now c.args.nodes.now.items) (sym none) c.requires.made;
+      lines = none_begun g.L.Line.service (vec_len c.new-begun.result) c.args.plan.now c.new-begun.result.items none c.new-begun.ensures.items;
+      left = omega (arith, none, c.into_iter-line-iterator.ensures.into_iter_gives.1, c.requires.count);
+    }
+
+pub index-planned-requires : goal.index-planned-requires
+index-planned-requires g c =
+    let lines = ap (λ (p : NetPlan). length p.lines) c.plan.view_is in
+    omega (arith, c.len-number.ensures, c.loop-line.invariant.left, c.in-Some.ensures.steps.1, lines)
+
+pub begin-requires : goal.begin-requires
+begin-requires g c =
+    let h : c.len-number.result < length c.plan.inside.lines.items = (let lines = ap (λ (p : NetPlan). length p.lines) c.plan.view_is in omega (arith, c.len-number.ensures, c.loop-line.invariant.left, c.in-Some.ensures.steps.1, lines)) in
+    let planned = ap (λ (p : NetPlan). slice_get p.lines (vec_len c.loop-line.begun)) (sym c.plan.view_is) ∙ ap (slice_get c.plan.inside.lines.items) (sym c.len-number.ensures)
+    ∙ there c.plan.inside.lines.items c.len-number.result _ c.index-planned.result.now h c.index-planned.ensures in
+    ends_of (vec_len c.loop-line.begun) c.args.plan.now c.loop-line.nodes.items c.index-planned.result.now c.requires.plan c.loop-line.invariant.nodes planned
+
+pub loop-line-preserved : goal.loop-line-preserved
+loop-line-preserved g c =
+    let L = g.L.Line.service in
+    let plan = c.args.plan.now in
+    let k = vec_len c.loop-line.begun in
+    let l = c.index-planned.result.now in
+    let flights = g.L.Line.flights c.begin.new.line in
+    let h : c.len-number.result < length c.plan.inside.lines.items = (let lines = ap (λ (p : NetPlan). length p.lines) c.plan.view_is in omega (arith, c.len-number.ensures, c.loop-line.invariant.left, c.in-Some.ensures.steps.1, lines)) in
+    let planned = ap (λ (p : NetPlan). slice_get p.lines (vec_len c.loop-line.begun)) (sym c.plan.view_is) ∙ ap (slice_get c.plan.inside.lines.items) (sym c.len-number.ensures)
+    ∙ there c.plan.inside.lines.items c.len-number.result _ c.index-planned.result.now h c.index-planned.ensures in
+    let p = c.requires.plan.lines k l planned in
+    let w = c.in_ok-begin.ensures (waiting p.dte l.params) (waiting p.dce l.params)
+    (waits_at k plan c.loop-line.nodes.items l.dte p.dte l c.loop-line.invariant.nodes p.dte_there p.dte_line planned)
+    (waits_at k plan c.loop-line.nodes.items l.dce p.dce l c.loop-line.invariant.nodes p.dce_there p.dce_line planned) in
+    let more : suc k ≡ vec_len c.push.new.self = (let e = c.in_ok-push.ensures.len in omega (arith, e)) in
+    let pushed = c.in_ok-push.ensures.items ∙ ap (λ (x : NewLine). c.loop-line.begun.items ++ record { dte = x.dte; dce = x.dce; channels = x.params.channels; flights = flights } ∷ []) c.planned.view_is in
+    let P : ℕ → Type 0 = λ n. AreNew n plan c.begin.new.nodes.items in
+    let Q : ℕ → Type 0 = λ n. HaveBegun L n plan c.push.new.self.items in
+    let R : List NetLine → Type 0 = λ xs. HaveBegun L (suc k) plan xs in
+    record {
+      nodes = subst P more (one_more L k plan c.loop-line.nodes.items c.begin.new.nodes.items l flights c.requires.plan p c.loop-line.invariant.nodes planned w);
+      lines = subst Q more (subst R (sym pushed) (line_more L k plan c.loop-line.begun.items l flights p c.loop-line.invariant.lines planned (λ f. w.sent f)));
+      left = omega (arith, c.in_ok-push.ensures.len, c.loop-line.invariant.left, c.in-Some.ensures.steps.1);
+    }
+
+pub returns-clause-nodes : goal.returns-clause-nodes
+returns-clause-nodes g c =
+    let all : vec_len c.loop-line.begun ≡ length c.args.plan.now.lines = omega (arith, c.loop-line.invariant.left, c.in-None.ensures.steps.0) in
+    subst (λ k. AreNew k c.args.plan.now c.loop-line.nodes.items) all c.loop-line.invariant.nodes
+
+pub returns-clause-lines : goal.returns-clause-lines
+returns-clause-lines g c =
+    let all : vec_len c.loop-line.begun ≡ length c.args.plan.now.lines = omega (arith, c.loop-line.invariant.left, c.in-None.ensures.steps.0) in
+    subst (λ k. HaveBegun g.L.Line.service k c.args.plan.now c.loop-line.begun.items) all c.loop-line.invariant.lines

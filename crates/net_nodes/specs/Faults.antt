@@ -1,0 +1,90 @@
+-- When an event is refused (X.25 is silent: these are the network's own, or the node's).
+use Rattle.std.specs.Prelude.{ℕ, ◌≡◌, ◌==◌, ◌&&◌, not, Bool, true, false, Option, Some, None, slice_get, nat_lt}
+use Rattle.std.specs.Prelude.{if◌then◌else◌, is_some}
+use Rattle.line_nodes.specs.declared.fault.NodeFault.{NodeFault}
+use Rattle.net_events.specs.NodeEvents.{Calls}
+use Rattle.net_events.specs.Network.{PlacedNode, NetLine, Network}
+use Rattle.net_events.specs.EventView.{request_event}
+use Rattle.net_turns.specs.Outcomes.{event_fault}
+use Rattle.net_events.specs.declared.event.Event.{Event}
+use Rattle.net_events.specs.declared.event.Event.TheVariants.{Key, Call, Ask, Take, Deliver, Lose, Expire, Relink}
+use Rattle.net_events.specs.declared.event.Event.TheVariants.{Restart}
+use Rattle.net_events.specs.declared.event.StepFault.{StepFault}
+use Rattle.net_events.specs.declared.event.StepFault.TheVariants.{NoSuchNode, NoSuchTerminal, NoSuchCall, Refused}
+use Rattle.net_nodes.specs.Places.{is_host_at, pad_terminals}
+
+-- ---- where an event is
+
+-- the line has the channel
+abbrev pub has_channel : ℕ → Option NetLine → Bool
+has_channel channel (Some l) = not (channel == 0) && not (nat_lt l.channels channel)
+has_channel channel None = false
+
+abbrev pub is_channel_at : (line channel : ℕ) → Network → Bool
+is_channel_at line channel s = has_channel channel (slice_get s.lines line)
+
+-- ---- the first fault of an event, want of memory apart
+
+-- what the node refuses
+abbrev pub refused : Option NodeFault → Option StepFault
+refused None = None
+refused (Some fault) = Some (Refused fault)
+
+-- at a node, if there is one
+abbrev pub at_node : Option PlacedNode → (PlacedNode → Option StepFault) → Option StepFault
+at_node (Some n) fault = fault n
+at_node None fault = Some NoSuchNode
+
+-- at a host: no such node, or a PAD; else this
+abbrev pub at_host : ℕ → Network → (PlacedNode → Option StepFault) → Option StepFault
+at_host place s fault = if is_host_at place s then at_node (slice_get s.nodes place) fault else Some NoSuchNode
+
+-- on a channel of the node's line
+abbrev pub on_channel : ℕ → Network → PlacedNode → Option StepFault → Option StepFault
+on_channel channel s n fault = if is_channel_at n.line channel s then fault else Some NoSuchCall
+
+-- at a node, or on a line
+abbrev pub where_there_is : Bool → Option StepFault
+where_there_is there = if there then None else Some NoSuchNode
+
+-- the node has this line
+abbrev pub stands_at : (line : ℕ) → Option PlacedNode → Bool
+stands_at line (Some n) = n.line == line
+stands_at line None = false
+
+-- at a terminal of a PAD that has so many
+abbrev pub at_terminal : (terminal : ℕ) → Option ℕ → Option StepFault
+at_terminal terminal (Some terminals) = if nat_lt terminal terminals then None else Some NoSuchTerminal
+at_terminal terminal None = Some NoSuchNode
+
+abbrev pub step_fault : Event → Network → Option StepFault
+step_fault (Key node terminal octet) s = at_terminal terminal (pad_terminals node s)
+step_fault (Call node address user_data) s =
+    at_host node s (λ n. refused (event_fault (Calls address user_data.items) n.node))
+step_fault (Ask node channel request) s =
+    at_host node s (λ n. on_channel channel s n (refused (event_fault (request_event channel request) n.node)))
+step_fault (Take node channel) s = at_host node s (λ n. on_channel channel s n None)
+step_fault (Deliver line direction) s = where_there_is (is_some (slice_get s.lines line))
+step_fault (Lose line direction) s = where_there_is (is_some (slice_get s.lines line))
+step_fault (Expire node line timer) s = where_there_is (stands_at line (slice_get s.nodes node))
+step_fault (Relink line) s = where_there_is (is_some (slice_get s.lines line))
+step_fault (Restart node) s = where_there_is (is_some (slice_get s.nodes node))
+
+-- ---- want of memory
+
+-- whether an event takes memory where the network itself does not refuse it: all do but a key at a terminal without a
+-- call, and the loss of a frame
+abbrev pub takes_memory : Event → Bool
+takes_memory (Key node terminal octet) = terminal == 0
+takes_memory (Lose line direction) = false
+takes_memory _ = true
+
+-- the network itself does not refuse the event, though the node may
+abbrev pub IsLeftToNode : Option StepFault → Type 0
+IsLeftToNode None = Unit {0}
+IsLeftToNode (Some (Refused fault)) = Unit {0}
+IsLeftToNode (Some fault) = ⊥
+
+-- memory may be wanting: it is looked for behind what the network itself refuses, and before the node is asked
+abbrev pub MayWant : Event → Network → Type 0
+MayWant e s = (takes_memory e ≡ true) × IsLeftToNode (step_fault e s)

@@ -1,0 +1,23 @@
+-- What an event does, refused or not.
+use Rattle.std.specs.Prelude.{◌≡◌, ◌⊎◌, Option, Some, None, Result, Ok, Err, IsOkUnless}
+use Rattle.memory_line.specs.Lines.{LineService}
+use Rattle.net_events.specs.declared.event.Event.{Event}
+use Rattle.net_events.specs.declared.event.StepFault.{StepFault}
+use Rattle.net_events.specs.declared.event.StepFault.TheVariants.{OutOfMemory, Refused}
+use Rattle.net_events.specs.declared.answer.Answer.{Answer}
+use Rattle.net_events.specs.Network.{Network}
+use Rattle.net_nodes.specs.Faults.{step_fault, MayWant}
+use Rattle.net_nodes.specs.Steps.{StepOf}
+
+-- the event is answered, or refused with its fault, or for want of memory where it takes memory and the network itself
+-- does not refuse it; refused, it changes nothing
+abbrev pub Happens : (L : LineService) → Event → Network → Result Answer StepFault → Network → Type 0
+Happens L e s (Ok answer) t = (step_fault e s ≡ None) × StepOf L e s answer t
+Happens L e s (Err fault) t = ((step_fault e s ≡ Some fault) ⊎ MayWant e s × (fault ≡ OutOfMemory)) × (t ≡ s)
+
+-- an event with a fault of its own is refused with it, or, where only the node refuses it, for want of memory; one
+-- without is refused for want of memory alone
+abbrev pub IsRefusedSo : Option StepFault → Result Answer StepFault → Type 0
+IsRefusedSo None r = IsOkUnless r OutOfMemory
+IsRefusedSo (Some (Refused fault)) r = (r ≡ Err (Refused fault)) ⊎ (r ≡ Err OutOfMemory)
+IsRefusedSo (Some fault) r = r ≡ Err fault

@@ -1,0 +1,9 @@
+pub use Rattle.net_turns.specs.Outcomes
+pub mod Places
+pub mod Faults
+pub mod Turns
+pub mod Steps
+pub mod Happening
+pub mod Due
+pub mod Questions
+pub mod Making

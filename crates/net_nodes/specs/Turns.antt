@@ -1,0 +1,116 @@
+-- What an event does at the node at an end of a line.
+use Rattle.std.specs.Prelude.{◌≡◌, ◌≤◌, ◌<◌, ◌⊎◌, List, length, set, slice_get, Option, Some, None, Result, Ok, Err}
+use Rattle.call_records.specs.Register as spec
+use Rattle.call_records.specs.Register.{book_at, with_book}
+use Rattle.call_records.specs.RegisterView.{IsOpen}
+use Rattle.call_records.specs.declared.register.Register.{Register}
+use Rattle.net_turns.specs.Quiet.{IsQuiet}
+use Rattle.line_nodes.specs.Node.{drained, frames_of}
+use Rattle.line_nodes.specs.Turn.{Turn}
+use Rattle.line_nodes.specs.Notes.{user_notes}
+use Rattle.line_nodes.specs.declared.fault.NodeFault.{NodeFault}
+use Rattle.memory_line.specs.Lines.{LineService}
+use Rattle.net_events.specs.OneLine.{direction_of}
+use Rattle.net_events.specs.NodeEvents.{NodeEvent, Hears, Restarts, IsFor, turn_of}
+use Rattle.net_events.specs.Network.{PlacedNode, NetLine, Network, place_at, net_turn, HappenedAt}
+use Rattle.net_events.specs.declared.answer.Answer.{Answer}
+use Rattle.net_events.specs.declared.answer.Outcome.{Outcome}
+use Rattle.net_turns.specs.declared.room.Room.{Room}
+use Rattle.net_turns.specs.Outcomes.{event_fault, IsOutcome}
+use Rattle.net_turns.specs.Sends.{ArePutsOf, Sends}
+use Rattle.net_turns.specs.Served.{IsEmpty}
+use Rattle.net_events.specs.declared.event.StepFault.{StepFault}
+use Rattle.net_events.specs.declared.event.StepFault.TheVariants.{OutOfMemory, Refused}
+use Rattle.net_nodes.specs.declared.nodes.LineEnd.{LineEnd}
+
+-- ---- the turn of the node
+
+-- the node is there, it has no frame or note that waits, and the event is for its kind; the register is open at the
+-- line, with room for all that may be written, and so are the lists of the answer
+pub record CanServe (end : LineEnd) (event : NodeEvent) (nodes : List PlacedNode) (l : NetLine) (g : Register)
+    (room : Room) : Type 0 where
+  pub node : PlacedNode
+  pub there : slice_get nodes (place_at end.role l) ≡ Some node
+  pub is_for : IsFor event node.node
+  pub quiet : IsQuiet node.node
+  pub opened : IsOpen end.line g
+  pub book : g.book.book ≡ book_at end.line (Rattle.call_records.specs.RegisterView.register_of g)
+  pub writes : 8 ≤ g.book.room
+  pub empty : IsEmpty room
+
+abbrev pub its_turn : LineEnd → NodeEvent → PlacedNode → spec.Register → Turn
+its_turn end event n g = turn_of event end.role n.node (book_at end.line g)
+
+-- the node had its turn: its frames were put and listed, its notes told, and all was written
+pub record HadTurn (L : LineService) (end : LineEnd) (event : NodeEvent) (n : PlacedNode) (nodes : List PlacedNode)
+    (l : NetLine) (g : spec.Register) (o : Outcome) (room : Room) (nodes' : List PlacedNode) (l' : NetLine)
+    (g' : spec.Register) : Type 0 where
+  pub no_fault : event_fault event n.node ≡ None
+  pub outcome : IsOutcome event n.node o
+  pub sends : Sends L (direction_of end.role) end.line (frames_of (its_turn end event n g).node) l.flights
+      room.frames.items l'.flights
+  pub told : room.notes.items ≡ user_notes n.node (place_at end.role l) (its_turn end event n g).notes
+  pub nodes_are : nodes' ≡ set nodes (place_at end.role l) (record n { node = drained (its_turn end event n g).node })
+  pub line_is : l' ≡ record l { flights = l'.flights }
+  pub register_is : g' ≡ with_book end.line (its_turn end event n g).book g
+
+-- the node refused it, and nothing changed
+pub record HadNone (event : NodeEvent) (n : PlacedNode) (fault : NodeFault) (nodes : List PlacedNode) (l : NetLine)
+    (g : spec.Register) (nodes' : List PlacedNode) (l' : NetLine) (g' : spec.Register) : Type 0 where
+  pub refuses : event_fault event n.node ≡ Some fault
+  pub nodes_are : nodes' ≡ nodes
+  pub line_is : l' ≡ l
+  pub register_is : g' ≡ g
+
+-- ---- the answer
+
+-- the outcome with the frames and notes that were listed, or the node's refusal
+abbrev pub IsAnswer : Result Outcome NodeFault → Room → Result Answer StepFault → Type 0
+IsAnswer (Ok o) room (Ok a) =
+    (a.frames.items ≡ room.frames.items) × (a.notes.items ≡ room.notes.items) × (a.outcome ≡ o)
+IsAnswer (Err refusal) room (Err fault) = fault ≡ Refused refusal
+IsAnswer _ room _ = ⊥
+
+-- ---- in the network
+
+-- the event happened at an end of a line, and this is the answer: the frames that were put, what a host is told, and
+-- what the event gives
+pub record AtEnd (L : LineService) (end : LineEnd) (event : NodeEvent) (s : Network) (a : Answer)
+    (t : Network) : Type 0 where
+  pub happened : HappenedAt L event end.line end.role s t
+  pub puts : ArePutsOf (direction_of end.role) end.line
+      (frames_of (net_turn event end.line end.role happened.node s).node) a.frames.items
+  pub told : a.notes.items ≡ user_notes happened.node.node (place_at end.role happened.line_is)
+      (net_turn event end.line end.role happened.node s).notes
+  pub outcome : IsOutcome event happened.node.node a.outcome
+
+-- an event can be at this end
+pub record CanAct (end : LineEnd) (event : NodeEvent) (s : Network) : Type 0 where
+  pub line : NetLine
+  pub line_there : slice_get s.lines end.line ≡ Some line
+  pub node : PlacedNode
+  pub node_there : slice_get s.nodes (place_at end.role line) ≡ Some node
+  pub is_for : IsFor event node.node
+  pub quiet : IsQuiet node.node
+  pub registered : end.line < length s.register.lines
+
+-- it is refused with this fault: that of the node, or for want of memory
+abbrev pub IsRefusal : Option NodeFault → StepFault → Type 0
+IsRefusal None fault = fault ≡ OutOfMemory
+IsRefusal (Some refusal) fault = (fault ≡ Refused refusal) ⊎ (fault ≡ OutOfMemory)
+
+abbrev pub ActsSo
+    : LineService → LineEnd → NodeEvent → PlacedNode → Network → Result Answer StepFault → Network → Type 0
+ActsSo L end event n s (Ok answer) t = (event_fault event n.node ≡ None) × AtEnd L end event s answer t
+ActsSo L end event n s (Err fault) t = IsRefusal (event_fault event n.node) fault × (t ≡ s)
+
+-- the event leaves the frames in flight to the node's turn: no frame arrives, and the node does not begin anew
+abbrev pub LeavesLine : NodeEvent → Type 0
+LeavesLine (Hears octets) = ⊥
+LeavesLine Restarts = ⊥
+LeavesLine _ = Unit {0}
+
+-- the event is answered, or refused and changes nothing
+abbrev pub Acts : LineService → LineEnd → NodeEvent → Network → Result Answer StepFault → Network → Type 0
+Acts L end event s r t = (l : NetLine) (n : PlacedNode) → slice_get s.lines end.line ≡ Some l
+    → slice_get s.nodes (place_at end.role l) ≡ Some n → ActsSo L end event n s r t

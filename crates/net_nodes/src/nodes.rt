@@ -1,0 +1,165 @@
+//! The nodes of a network on their lines, and the register of their calls: each event, exactly.
+ghost use Rattle.std.specs.Prelude.{◌≡◌, MatchOption, None, Some, true, false, slice_get};
+ghost use Rattle.net_nodes.specs.Faults.{is_channel_at};
+ghost use Rattle.net_nodes.specs.Places.{IsStanding, IsPlaceOf, is_host_at, pad_terminals};
+ghost use Rattle.net_nodes.specs.Happening.{Happens};
+
+mod asking;
+mod making;
+mod questions;
+mod serving;
+mod turn;
+
+use call_records::Register;
+use line_nodes::Node;
+use link_timers::Role;
+use memory_line::Line;
+use net_events::{Answer, Event, StepFault};
+use std::alloc::Global;
+use std::marker::Model;
+
+/// A node: its line, how many terminals it has, and the node itself.
+#[derive(Drop)]
+pub(crate) struct PlacedNode {
+    line: usize,
+    terminals: u16,
+    node: Node,
+}
+
+impl Model for PlacedNode {
+    ghost use Rattle.line_nodes.specs.NodeView.{node_of};
+    ghost use Rattle.net_events.specs.Network as network;
+
+    ghost Value = { network.PlacedNode };
+
+    ghost view = { λ n. record { line = n.line; terminals = n.terminals; node = node_of n.node } };
+}
+
+/// A line between two nodes, which go by their places.
+#[derive(Drop)]
+pub(crate) struct NetLine<L: Line> {
+    dte: usize,
+    dce: usize,
+    channels: u8,
+    line: L,
+}
+
+impl<L: Line> Model for NetLine<L> {
+    ghost use Rattle.net_events.specs.Network as network;
+
+    ghost Value = { network.NetLine };
+
+    ghost view = { λ l. record { dte = l.dte; dce = l.dce; channels = l.channels; flights = L.flights l.line } };
+}
+
+/// An end of a line.
+#[derive(Clone, Copy)]
+pub(crate) struct LineEnd {
+    line: usize,
+    role: Role,
+}
+
+/// The nodes of a network, its lines, and the register of all calls.
+#[derive(Drop)]
+pub struct Nodes<L: Line> {
+    alloc: Global,
+    nodes: Vec<PlacedNode>,
+    lines: Vec<NetLine<L>>,
+    register: Register,
+}
+
+impl<L: Line> Model for Nodes<L> {
+    ghost use Rattle.call_records.specs.RegisterView.{register_of};
+    ghost use Rattle.net_events.specs.Network.{Network};
+
+    ghost Value = { Network };
+
+    ghost view = { λ n. record {
+      nodes = n.nodes.items;
+      lines = n.lines.items;
+      register = register_of n.register;
+    } };
+}
+
+impl<L: Line> Nodes<L> {
+    /// The end of its line that the node of this place is, if there is such a node.
+    fn end_of(&self, place: usize) -> Option<LineEnd>
+        requires { IsStanding self.now }
+        ensures { MatchOption result (slice_get self.now.nodes place ≡ None) (λ end. IsPlaceOf place end self.now) }
+    {
+        if place >= self.nodes.len() {
+            return None;
+        }
+        let line = self.nodes[place].line;
+        if line >= self.lines.len() {
+            return None;
+        }
+        let role = if self.lines[line].dte == place {
+            Role::Dte
+        } else {
+            Role::Dce
+        };
+        Some(LineEnd { line, role })
+    }
+
+    /// Whether a host is at this place.
+    fn is_host_at(&self, place: usize) -> bool
+        ensures { result ≡ is_host_at place self.now }
+    {
+        place < self.nodes.len() && !self.nodes[place].node.is_pad()
+    }
+
+    /// How many terminals the PAD at this place has, if there is one.
+    fn terminals_at(&self, place: usize) -> Option<u16>
+        ensures { result ≡ pad_terminals place self.now }
+    {
+        if place < self.nodes.len() && self.nodes[place].node.is_pad() {
+            return Some(self.nodes[place].terminals);
+        }
+        None
+    }
+
+    /// The channel of this number, if the line has it.
+    fn channel(&self, line: usize, channel: u16) -> Option<u8>
+        ensures { MatchOption result (is_channel_at line channel self.now ≡ false)
+            (λ c. (is_channel_at line channel self.now ≡ true) × (c ≡ channel)) }
+    {
+        if line >= self.lines.len() || channel == 0 {
+            return None;
+        }
+        if channel > u16::from(self.lines[line].channels) {
+            return None;
+        }
+        Some(channel as u8)
+    }
+
+    /// Handles an event.
+    pub fn happen(&mut self, event: &Event) -> Result<Answer, StepFault>
+        requires { IsStanding self.old }
+        ensures { Happens L.service event.now self.old result self.new }
+    {
+        match event {
+            Event::Key {
+                node,
+                terminal,
+                octet,
+            } => self.key(*node, *terminal, *octet),
+            Event::Call {
+                node,
+                address,
+                user_data,
+            } => self.call(*node, *address, user_data),
+            Event::Ask {
+                node,
+                channel,
+                request,
+            } => self.ask(*node, *channel, request),
+            Event::Take { node, channel } => self.take(*node, *channel),
+            Event::Deliver { line, direction } => self.deliver(*line, *direction),
+            Event::Lose { line, direction } => self.lose(*line, *direction),
+            Event::Expire { node, line, timer } => self.expire(*node, *line, *timer),
+            Event::Relink { line } => self.relink(*line),
+            Event::Restart { node } => self.restart(*node),
+        }
+    }
+}

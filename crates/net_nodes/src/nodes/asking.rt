@@ -1,0 +1,94 @@
+//! What the users of the nodes ask.
+ghost use Rattle.std.specs.Prelude.{◌≡◌};
+ghost use Rattle.net_events.specs.declared.event.Event.TheVariants as event_is;
+ghost use Rattle.net_nodes.specs.Places.{IsStanding};
+ghost use Rattle.net_nodes.specs.Happening.{Happens};
+
+use crate::nodes::Nodes;
+use arrayvec::ArrayVec;
+use line_nodes::KeyAnswer;
+use memory_line::Line;
+use net_events::{Answer, NodeEvent, Outcome, StepFault};
+use net_turns::bare_answer;
+use packet_codec::Address;
+use packet_host::HostRequest;
+
+impl<L: Line> Nodes<L> {
+    /// A key at a terminal of a PAD. The call is that of terminal 0.
+    pub(super) fn key(&mut self, node: usize, terminal: u16, octet: u8) -> Result<Answer, StepFault>
+        requires { IsStanding self.old }
+        ensures { Happens L.service (event_is.Key node terminal octet) self.old result self.new }
+    {
+        let Some(terminals) = self.terminals_at(node) else {
+            return Err(StepFault::NoSuchNode);
+        };
+        if terminal >= terminals {
+            return Err(StepFault::NoSuchTerminal);
+        }
+        if terminal != 0 {
+            return Ok(bare_answer(self.alloc, Outcome::Keyed(KeyAnswer::Taken)));
+        }
+        let Some(end) = self.end_of(node) else {
+            return Err(StepFault::NoSuchNode);
+        };
+        self.act(end, &NodeEvent::Keys(octet))
+    }
+
+    /// A host places a call.
+    pub(super) fn call(
+        &mut self,
+        node: usize,
+        address: Address,
+        user_data: &ArrayVec<u8, 16>,
+    ) -> Result<Answer, StepFault>
+        requires { IsStanding self.old }
+        ensures { Happens L.service (event_is.Call node address user_data.now) self.old result self.new }
+    {
+        if !self.is_host_at(node) {
+            return Err(StepFault::NoSuchNode);
+        }
+        let Some(end) = self.end_of(node) else {
+            return Err(StepFault::NoSuchNode);
+        };
+        self.act(end, &NodeEvent::Calls(address, user_data.as_slice()))
+    }
+
+    /// A host is asked something on a channel.
+    pub(super) fn ask(
+        &mut self,
+        node: usize,
+        channel: u16,
+        request: &HostRequest,
+    ) -> Result<Answer, StepFault>
+        requires { IsStanding self.old }
+        ensures { Happens L.service (event_is.Ask node channel request.now) self.old result self.new }
+    {
+        if !self.is_host_at(node) {
+            return Err(StepFault::NoSuchNode);
+        }
+        let Some(end) = self.end_of(node) else {
+            return Err(StepFault::NoSuchNode);
+        };
+        let Some(channel) = self.channel(end.line, channel) else {
+            return Err(StepFault::NoSuchCall);
+        };
+        self.act(end, &NodeEvent::Asks(channel, request))
+    }
+
+    /// A host takes what waits on a channel.
+    pub(super) fn take(&mut self, node: usize, channel: u16) -> Result<Answer, StepFault>
+        requires { IsStanding self.old }
+        ensures { Happens L.service (event_is.Take node channel) self.old result self.new }
+    {
+        if !self.is_host_at(node) {
+            return Err(StepFault::NoSuchNode);
+        }
+        let Some(end) = self.end_of(node) else {
+            return Err(StepFault::NoSuchNode);
+        };
+        let Some(channel) = self.channel(end.line, channel) else {
+            return Err(StepFault::NoSuchCall);
+        };
+        self.act(end, &NodeEvent::Takes(channel))
+    }
+}

@@ -1,0 +1,108 @@
+//! What is asked of the nodes, and time.
+ghost use Rattle.std.specs.Prelude.{◌≡◌, map};
+ghost use Rattle.std.specs.List.{list_all};
+ghost use Rattle.call_records.specs.RecordView.{shown, pair_of};
+ghost use Rattle.net_events.specs.Network.{all_elapsed, elapsed_node};
+ghost use Rattle.net_nodes.specs.Due.{net_due};
+ghost use Rattle.net_nodes.specs.Questions.{net_confirmed, net_rests, is_empty, rests};
+
+use crate::nodes::{NetLine, Nodes, PlacedNode};
+use call_records::{Pair, Record};
+use memory_line::{Direction, Line};
+use net_events::Event;
+
+impl PlacedNode {
+    fn elapse(&mut self, ticks: u16)
+        ensures { self.new ≡ elapsed_node ticks self.old }
+    {
+        self.node.elapse(ticks);
+    }
+}
+
+impl<L: Line> NetLine<L> {
+    /// Whether no frame is in flight.
+    fn is_empty(&self) -> bool
+        ensures { L.service.faithful → result ≡ is_empty self.now }
+    {
+        !self.line.in_flight(Direction::FromDte) && !self.line.in_flight(Direction::FromDce)
+    }
+}
+
+impl<L: Line> Nodes<L> {
+    pub fn records(&self) -> &[Record]
+        ensures { map shown result.now ≡ self.now.register.records }
+    {
+        self.register.book.records()
+    }
+
+    pub fn pairs(&self) -> &[Pair]
+        ensures { map pair_of result.now ≡ self.now.register.pairs }
+    {
+        self.register.book.pairs()
+    }
+
+    /// Whether no frame is in flight.
+    fn are_lines_empty(&self) -> bool
+        ensures { L.service.faithful → result ≡ list_all is_empty self.now.lines }
+    {
+        for line in &self.lines {
+            if !line.is_empty() {
+                return false;
+            }
+        }
+        true
+    }
+
+    fn are_nodes_at_rest(&self) -> bool
+        ensures { result ≡ list_all rests self.now.nodes }
+    {
+        self.nodes.iter().all(|placed| placed.node.is_at_rest())
+    }
+
+    /// Whether nothing is in flight, unacknowledged, owed, or waits to be sent or taken.
+    pub fn is_at_rest(&self) -> bool
+        ensures { L.service.faithful → result ≡ net_rests self.now }
+    {
+        self.are_lines_empty() && self.are_nodes_at_rest()
+    }
+
+    /// What a host answers on confirmed delivery.
+    pub fn confirmed(&self, node: usize, channel: u16) -> bool
+        ensures { result ≡ net_confirmed node channel self.now }
+    {
+        if node >= self.nodes.len() {
+            return false;
+        }
+        let placed = &self.nodes[node];
+        let Some(channel) = self.channel(placed.line, channel) else {
+            return false;
+        };
+        placed.node.confirmed(channel)
+    }
+
+    /// Lets ticks pass.
+    pub fn elapse(&mut self, ticks: u16)
+        ensures { self.new ≡ all_elapsed ticks self.old }
+    {
+        for placed in self.nodes.iter_mut() {
+            placed.elapse(ticks);
+        }
+    }
+
+    /// The expiry of the first timer without a tick left, of the first node that has one.
+    pub fn next_due(&self) -> Option<Event>
+        ensures { result ≡ net_due self.now }
+    {
+        for node in 0..self.nodes.len() {
+            let placed = &self.nodes[node];
+            if let Some(timer) = placed.node.due() {
+                return Some(Event::Expire {
+                    node,
+                    line: placed.line,
+                    timer,
+                });
+            }
+        }
+        None
+    }
+}

@@ -1,0 +1,86 @@
+//! The turn of a node at its end of a line.
+ghost use Rattle.std.specs.Prelude.{◌≡◌, Some, MatchResult, slice_get};
+ghost use Rattle.call_records.specs.RegisterView.{register_of};
+ghost use Rattle.net_events.specs.EventView.{event_of};
+ghost use Rattle.net_events.specs.Network as network;
+ghost use Rattle.net_nodes.specs.Turns.{CanServe, HadTurn, HadNone, CanAct, LeavesLine, Acts, IsAnswer};
+
+use crate::nodes::{LineEnd, NetLine, Nodes, PlacedNode};
+use call_records::Register;
+use line_nodes::{NodeFault, Place};
+use link_timers::Role;
+use memory_line::Line;
+use net_events::{Answer, NodeEvent, Outcome, StepFault};
+use net_turns::{MOST_WRITES, NetPlace, Room, serve};
+
+/// Serves an event at the node at an end of a line, at which the register is open.
+pub(super) fn serve_at<L: Line>(
+    nodes: &mut Vec<PlacedNode>,
+    net_line: &mut NetLine<L>,
+    register: &mut Register,
+    end: LineEnd,
+    event: &NodeEvent<'_>,
+    room: &mut Room,
+) -> Result<Outcome, NodeFault>
+    requires { CanServe end (event_of event.now) nodes.old.items net_line.old register.old room.old }
+    ensures { (n : network.PlacedNode)
+        → slice_get nodes.old.items (network.place_at end.role net_line.old) ≡ Some n
+        → MatchResult result
+        (λ outcome. HadTurn L.service end (event_of event.now) n nodes.old.items net_line.old (register_of register.old)
+        outcome room.new nodes.new.items net_line.new (register_of register.new))
+        (λ fault. HadNone (event_of event.now) n fault nodes.old.items net_line.old (register_of register.old)
+        nodes.new.items net_line.new (register_of register.new)) }
+{
+    let node = match end.role {
+        Role::Dte => net_line.dte,
+        Role::Dce => net_line.dce,
+    };
+    let at = NetPlace {
+        line: end.line,
+        place: Place {
+            role: end.role,
+            node,
+        },
+    };
+    let placed = &mut nodes[node];
+    serve(
+        &mut placed.node,
+        at,
+        event,
+        &mut net_line.line,
+        &mut register.book,
+        room,
+    )
+}
+
+/// The answer of an event that a node served or refused.
+pub(super) fn answered(served: Result<Outcome, NodeFault>, room: Room) -> Result<Answer, StepFault>
+    ensures { IsAnswer served room result }
+{
+    match served {
+        Ok(outcome) => Ok(room.answer(outcome)),
+        Err(fault) => Err(StepFault::Refused(fault)),
+    }
+}
+
+impl<L: Line> Nodes<L> {
+    /// Something happens at the node at an end of a line; it is not that a frame arrives or that the node begins anew.
+    pub(super) fn act(&mut self, end: LineEnd, event: &NodeEvent<'_>) -> Result<Answer, StepFault>
+        requires can { CanAct end (event_of event.now) self.old }
+        requires leaves { LeavesLine (event_of event.now) }
+        ensures { Acts L.service end (event_of event.now) self.old result self.new }
+    {
+        let mut room = Room::new(self.alloc)?;
+        self.register.open(end.line, MOST_WRITES)?;
+        let (nodes, register) = (&mut self.nodes, &mut self.register);
+        let served = serve_at(
+            nodes,
+            &mut self.lines[end.line],
+            register,
+            end,
+            event,
+            &mut room,
+        );
+        answered(served, room)
+    }
+}

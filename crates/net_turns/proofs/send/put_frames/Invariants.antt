@@ -1,0 +1,15 @@
+use Rattle.std.proofs.Common.{◌≡◌, ◌+◌, ◌≤◌, length, vec_len, vec_capacity}
+use Rattle.line_nodes.specs.Node.{frames_of}
+use Rattle.line_nodes.specs.NodeView.{node_of}
+use Rattle.net_turns.proofs.Sending.{Putting, with_frames}
+use Rattle.net_turns.proofs.send.put_frames.Given as goal
+
+abbrev pub invariant-loop : goal.invariant-loop
+invariant-loop g l = record {
+  putting : Putting g.L.Line.service l.direction l.number (frames_of (node_of l.initial.node)) (g.L.Line.flights l.initial.line) l.puts.items (frames_of (node_of l.node)) (g.L.Line.flights l.line);
+  node_is : node_of l.node ≡ with_frames (frames_of (node_of l.node)) (node_of l.initial.node);
+  left : length (frames_of (node_of l.node)) + l.counter ≡ l.end;
+  most : l.end ≤ 9;
+  put : vec_len l.puts ≡ l.counter;
+  room : 9 ≤ vec_capacity l.puts;
+}

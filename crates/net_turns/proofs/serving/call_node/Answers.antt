@@ -1,0 +1,32 @@
+use Rattle.std.proofs.Common.{ap, subst}
+use Rattle.line_nodes.specs.NodeView.{node_of}
+use Rattle.node_laws.specs.Quiet.{IsQuiet}
+use Rattle.net_turns.proofs.Writing.{called_hears, called_expires, called_relinks, called_takes, called_keys}
+use Rattle.net_turns.proofs.serving.call_node.Goals as goal
+
+pub returns-in-Hears-clause-ok : goal.returns-in-Hears-clause-ok
+returns-in-Hears-clause-ok c =
+    rw (c.in-Hears.is, c.hear.ensures)
+    (called_hears c.args.role (node_of c.args.node.now) c.in-Hears.octets.now c.args.book.now c.requires.quiet c.requires.writes)
+
+pub returns-in-Expires-clause-ok : goal.returns-in-Expires-clause-ok
+returns-in-Expires-clause-ok c =
+    rw (c.in-Expires.is, c.expire.ensures.node)
+    (called_expires c.args.role (node_of c.args.node.now) c.in-Expires.timer c.args.book.now c.requires.quiet c.requires.writes)
+
+pub returns-in-Relinks-clause-ok : goal.returns-in-Relinks-clause-ok
+returns-in-Relinks-clause-ok c =
+    rw (c.in-Relinks.is, c.relink.ensures)
+    (called_relinks c.args.role (node_of c.args.node.now) c.args.book.now c.requires.quiet c.requires.writes)
+
+pub returns-in-Host-node-2-clause-ok : goal.returns-in-Host-node-2-clause-ok
+returns-in-Host-node-2-clause-ok c =
+    let q : IsQuiet _ = subst IsQuiet (ap node_of c.in-Host-node-2.is) c.requires.quiet in
+    rw (c.in-Takes.is, c.in-Host-node-2.is, c.take.ensures.host, c.take.ensures.book)
+    (called_takes c.args.role c.in-Host-node-2.host c.in-Takes.channel c.args.book.now.book c.take.new.book.room q)
+
+pub returns-in-Pad-node-3-clause-ok : goal.returns-in-Pad-node-3-clause-ok
+returns-in-Pad-node-3-clause-ok c =
+    let q : IsQuiet _ = subst IsQuiet (ap node_of c.in-Pad-node-3.is) c.requires.quiet in
+    rw (c.in-Keys.is, c.in-Pad-node-3.is, c.on_key.ensures.pad)
+    (called_keys c.args.role c.in-Pad-node-3.pad c.in-Keys.octet c.args.book.now q c.requires.writes)

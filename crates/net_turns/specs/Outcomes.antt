@@ -1,0 +1,68 @@
+-- What a node answers to an event, or with which fault it refuses it.
+use Rattle.std.specs.Prelude.{◌≡◌, ℕ, true, Option, Some, None}
+use Rattle.packet_channel.specs.declared.taken.Taken as taken
+use Rattle.packet_channel.specs.declared.fault.ChannelFault.TheVariants as channel_fault
+use Rattle.packet_layer.specs.Channel.{Refusal}
+use Rattle.packet_layer.specs.Layer.{call_refusal, channel_given, request_refusal, front_on}
+use Rattle.packet_layer.specs.TakenView.{maybe_taken}
+use Rattle.packet_layer.specs.declared.fault.CallFault.TheVariants as call_fault
+use Rattle.packet_host.specs.Host.{refuse_refusal}
+use Rattle.packet_host.specs.Saying.{say_refusal}
+use Rattle.packet_pad.specs.Keys.{after_octet, key_answer}
+use Rattle.line_nodes.specs.Node.{NodeState, Pad, Host, end_of}
+use Rattle.line_nodes.specs.declared.fault.NodeFault.{NodeFault}
+use Rattle.line_nodes.specs.declared.fault.NodeFault.TheVariants.{Call, Channel}
+use Rattle.net_events.specs.NodeEvents.{NodeEvent, Hears, Calls, Asks, Refuses, Says}
+use Rattle.net_events.specs.NodeEvents.{Takes, Keys}
+use Rattle.net_events.specs.declared.answer.Outcome.{Outcome}
+use Rattle.net_events.specs.declared.answer.Outcome.TheVariants.{Delivered, Keyed, Called, Took, Done}
+
+-- ---- what is refused
+
+abbrev pub call_fault_of : Option Refusal → Option NodeFault
+call_fault_of None = None
+call_fault_of (Some Refusal.NotReady) = Some (Call call_fault.NotReady)
+call_fault_of (Some refusal) = Some (Call call_fault.NoChannel)
+
+abbrev pub channel_fault_of : Option Refusal → Option NodeFault
+channel_fault_of None = None
+channel_fault_of (Some Refusal.IsResetting) = Some (Channel channel_fault.Resetting)
+channel_fault_of (Some Refusal.QueueFull) = Some (Channel channel_fault.QueueFull)
+channel_fault_of (Some Refusal.TooLong) = Some (Channel channel_fault.TooLong)
+channel_fault_of (Some Refusal.InterruptPending) = Some (Channel channel_fault.InterruptPending)
+channel_fault_of (Some refusal) = Some (Channel channel_fault.NoCall)
+
+-- a host may refuse a call that is to be placed, and what is asked of a call; nothing else is refused
+abbrev pub event_fault : NodeEvent → NodeState → Option NodeFault
+event_fault (Calls address user_data) n = call_fault_of (call_refusal (end_of n).layer (end_of n).layer.phase)
+event_fault (Asks channel r) n = channel_fault_of (request_refusal (end_of n).layer channel r)
+event_fault (Refuses channel) n = channel_fault_of (refuse_refusal (end_of n) channel)
+event_fault (Says channel octets qualified delivery) n =
+    channel_fault_of (say_refusal (end_of n).layer channel octets qualified)
+event_fault _ n = None
+
+-- ---- what is answered
+
+-- a call was placed on the channel that the packet layer gave it
+pub record CalledOn (n : NodeState) (o : Outcome) : Type 0 where
+  pub channel : ℕ
+  pub given : channel_given (end_of n).layer (end_of n).layer.phase ≡ Some channel
+  pub answered : o ≡ Called channel
+
+-- what came next on the channel, if anything, was taken
+pub record TookFrom (channel : ℕ) (n : NodeState) (o : Outcome) : Type 0 where
+  pub shown : Option taken.Taken
+  pub front : maybe_taken shown ≡ front_on (end_of n).layer channel
+  pub answered : o ≡ Took shown
+
+-- what a PAD answers to a key
+abbrev pub KeyedSo : (octet : ℕ) → NodeState → Outcome → Type 0
+KeyedSo octet (Pad p) o = o ≡ Keyed (key_answer (after_octet p octet).dropped)
+KeyedSo octet (Host e) o = ⊥
+
+abbrev pub IsOutcome : NodeEvent → NodeState → Outcome → Type 0
+IsOutcome (Hears octets) n o = o ≡ Delivered true
+IsOutcome (Calls address user_data) n o = CalledOn n o
+IsOutcome (Takes channel) n o = TookFrom channel n o
+IsOutcome (Keys octet) n o = KeyedSo octet n o
+IsOutcome _ n o = o ≡ Done

@@ -1,0 +1,47 @@
+-- What serving an event does to one node, its line and the book.
+use Rattle.std.specs.Prelude.{◌≡◌, ℕ, ◌≤◌, List, [], vec_capacity, Option, Some, None}
+use Rattle.link_timers.specs.declared.role.Role.{Role}
+use Rattle.packet_layer.specs.Traffic.{Taken}
+use Rattle.call_records.specs.Book.{Book, takes}
+use Rattle.call_records.specs.Room.{BookState}
+use Rattle.line_nodes.specs.Node.{NodeState, is_pad, drained, frames_of}
+use Rattle.line_nodes.specs.Turn.{Turn}
+use Rattle.line_nodes.specs.HostTurns.{let_go}
+use Rattle.line_nodes.specs.Notes.{user_notes}
+use Rattle.line_nodes.specs.Writing.{reads, IsRoomFor}
+use Rattle.line_nodes.specs.declared.note.HostNote.{HostNote}
+use Rattle.memory_line.specs.Lines.{Flights, LineService}
+use Rattle.net_events.specs.OneLine.{direction_of}
+use Rattle.net_events.specs.NodeEvents.{NodeEvent, turn_of}
+use Rattle.net_events.specs.declared.answer.Put.{Put}
+use Rattle.net_turns.specs.declared.place.NetPlace.{NetPlace}
+use Rattle.net_turns.specs.declared.room.Room.{Room}
+use Rattle.net_turns.specs.Sends.{Sends}
+
+-- the node was called, and what was asked is in the book: when its notes are read and written there as well, this is
+-- the turn of the event; there is room for them
+pub record IsCalled (event : NodeEvent) (role : Role) (old : NodeState) (before : Book) (node : NodeState)
+    (book : BookState) : Type 0 where
+  pub reads_so : reads role node book.book ≡ turn_of event role old before
+  pub room_for : IsRoomFor node book.room
+  pub kind : is_pad node ≡ is_pad old
+
+-- the turn of a node is taken: its frames are put, a host is told its notes, and the book is written
+pub record Served (L : LineService) (at : NetPlace) (old : NodeState) (turn : Turn) (before : Flights)
+    (frames : List Put) (notes : List HostNote) (node : NodeState) (after : Flights) (book : Book) : Type 0 where
+  pub sends : Sends L (direction_of at.place.role) at.line (frames_of turn.node) before frames after
+  pub told : notes ≡ user_notes old at.place.node turn.notes
+  pub node_is : node ≡ drained turn.node
+  pub book_is : book ≡ turn.book
+
+-- the lists of an answer are empty, with places for the frames and notes of one event
+pub record IsEmpty (r : Room) : Type 0 where
+  pub frames : r.frames.items ≡ []
+  pub notes : r.notes.items ≡ []
+  pub frame_places : 9 ≤ vec_capacity r.frames
+  pub note_places : 96 ≤ vec_capacity r.notes
+
+-- what was taken is written, and a packet is released at once
+abbrev pub taken_written : Option Taken → Role → (channel : ℕ) → Book → Book
+taken_written None role channel b = b
+taken_written (Some x) role channel b = let_go x role channel (takes role channel (Some x) b)

@@ -1,0 +1,13 @@
+//! What an event does at one node of a network: the node is called, the network writes what was asked and what the
+//! node noted at the node's line, and the node's frames go onto the line.
+#![tactic(auto)]
+
+mod place;
+mod room;
+mod send;
+mod serving;
+
+pub use place::NetPlace;
+pub use room::{Room, bare_answer};
+pub use send::put_frames;
+pub use serving::{MOST_WRITES, serve};

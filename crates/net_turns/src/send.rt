@@ -1,0 +1,45 @@
+//! The frames that a node has to send at the end of an event.
+ghost use Rattle.std.specs.Prelude.{◌≡◌, ◌≤◌, [], vec_capacity};
+ghost use Rattle.line_nodes.specs.Node.{drained, frames_of};
+ghost use Rattle.line_nodes.specs.NodeView.{node_of};
+ghost use Rattle.net_turns.specs.Sends.{Sends};
+
+use frame_codec::FrameBuf;
+use line_end::MOST_FRAMES;
+use line_nodes::Node;
+use memory_line::{Direction, Line};
+use net_events::Put;
+
+fn copy_of(frame: &FrameBuf) -> FrameBuf
+    ensures { result ≡ frame.now }
+{
+    let mut copy = FrameBuf::new();
+    copy.extend(frame.as_slice());
+    copy
+}
+
+/// Puts all frames that wait at a node on its line, which is that of this number, and lists them.
+pub fn put_frames<L: Line>(
+    node: &mut Node,
+    number: usize,
+    line: &mut L,
+    direction: Direction,
+    puts: &mut Vec<Put>,
+)
+    requires empty { puts.old.items ≡ [] }
+    requires room { MOST_FRAMES ≤ vec_capacity puts.old }
+    ensures node { node_of node.new ≡ drained (node_of node.old) }
+    ensures puts { Sends L.service direction number (frames_of (node_of node.old)) (L.flights line.old) puts.new.items
+        (L.flights line.new) }
+{
+    for _ in 0..node.waiting_frames() {
+        let mut frame = FrameBuf::new();
+        node.out(&mut frame);
+        line.put(direction, copy_of(&frame));
+        puts.push_reserved(Put {
+            line: number,
+            direction,
+            octets: frame,
+        });
+    }
+}

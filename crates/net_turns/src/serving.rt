@@ -1,0 +1,192 @@
+//! What an event does at one node, on its line and in the book: the node is called, the network writes what was asked
+//! and what the node noted, and the frames go onto the line.
+ghost use Rattle.std.specs.Prelude.{◌≡◌, ◌≤◌, None, Some, OnOk, OnErr, MatchResult, length};
+ghost use Rattle.packet_layer.specs.Layer.{front_on};
+ghost use Rattle.packet_layer.specs.TakenView.{maybe_taken};
+ghost use Rattle.packet_host.specs.Host.{after_take};
+ghost use Rattle.line_nodes.specs.Node.{Host as host_node};
+ghost use Rattle.line_nodes.specs.NodeView.{node_of};
+ghost use Rattle.node_laws.specs.Quiet.{IsQuiet};
+ghost use Rattle.net_events.specs.NodeEvents.{Calls as calls, Takes as takes, IsFor, turn_of};
+ghost use Rattle.net_events.specs.OneLine.{direction_of};
+ghost use Rattle.net_events.specs.EventView.{event_of, request_event};
+ghost use Rattle.net_turns.specs.Outcomes.{event_fault, IsOutcome};
+ghost use Rattle.net_turns.specs.Served.{IsCalled, Served, IsEmpty, taken_written};
+
+use crate::place::NetPlace;
+use crate::room::Room;
+use crate::send::put_frames;
+use call_records::Book;
+use line_nodes::{Node, NodeFault, write_notes, write_request, write_taken};
+use link_timers::Role;
+use memory_line::{Direction, Line};
+use net_events::{NodeEvent, Outcome};
+use packet_codec::Address;
+use packet_host::{Host, HostRequest};
+use packet_layer::Taken;
+
+/// An event needs room in the book for no more writes than this: those of a message of eight packets.
+pub const MOST_WRITES: usize = 8;
+
+/// The direction in which the end of a role sends.
+fn direction_of(role: Role) -> Direction
+    ensures { result ≡ direction_of role }
+{
+    match role {
+        Role::Dte => Direction::FromDte,
+        Role::Dce => Direction::FromDce,
+    }
+}
+
+/// A host places a call, which is written.
+fn place_call(
+    host: &mut Host,
+    role: Role,
+    address: Address,
+    user_data: &[u8],
+    book: &mut Book,
+) -> Result<Outcome, NodeFault>
+    requires user_data { length user_data.now ≤ 16 }
+    requires writes { MOST_WRITES ≤ book.old.room }
+    requires quiet { IsQuiet (host_node host.old) }
+    ensures answer { MatchResult result
+        (λ outcome. (event_fault (calls address user_data.now) (host_node host.old) ≡ None)
+        × IsOutcome (calls address user_data.now) (host_node host.old) outcome)
+        (λ fault. event_fault (calls address user_data.now) (host_node host.old) ≡ Some fault) }
+    ensures ok { OnOk result (IsCalled (calls address user_data.now) role (host_node host.old) book.old.book
+        (host_node host.new) book.new) }
+    ensures host { OnErr result (host.new ≡ host.old) }
+    ensures book { OnErr result (book.new ≡ book.old) }
+{
+    let channel = host.call(address, user_data)?;
+    book.place(role, channel, &address);
+    Ok(Outcome::Called { channel })
+}
+
+/// A host is asked something of a call, which is written.
+fn ask(
+    host: &mut Host,
+    role: Role,
+    channel: u8,
+    request: &HostRequest,
+    book: &mut Book,
+) -> Result<Outcome, NodeFault>
+    requires writes { MOST_WRITES ≤ book.old.room }
+    requires quiet { IsQuiet (host_node host.old) }
+    ensures answer { MatchResult result
+        (λ outcome. (event_fault (request_event channel request.now) (host_node host.old) ≡ None)
+        × IsOutcome (request_event channel request.now) (host_node host.old) outcome)
+        (λ fault. event_fault (request_event channel request.now) (host_node host.old) ≡ Some fault) }
+    ensures ok { OnOk result (IsCalled (request_event channel request.now) role (host_node host.old) book.old.book
+        (host_node host.new) book.new) }
+    ensures host { OnErr result (host.new ≡ host.old) }
+    ensures book { OnErr result (book.new ≡ book.old) }
+{
+    host.ask(channel, request)?;
+    write_request(book, role, channel, request);
+    Ok(Outcome::Done)
+}
+
+/// Takes what comes next on a channel of a host, if anything, and writes it.
+fn take(host: &mut Host, role: Role, channel: u8, book: &mut Book) -> Option<Taken>
+    requires { 1 ≤ book.old.room }
+    ensures taken { maybe_taken result ≡ front_on host.old.layer channel }
+    ensures host { host.new ≡ after_take host.old channel }
+    ensures book { book.new.book ≡ taken_written (front_on host.old.layer channel) role channel book.old.book }
+{
+    let taken = host.take(channel)?;
+    write_taken(book, role, channel, &taken);
+    Some(taken)
+}
+
+/// Calls the node, and writes what was asked of it.
+fn call_node(
+    node: &mut Node,
+    role: Role,
+    event: &NodeEvent<'_>,
+    book: &mut Book,
+) -> Result<Outcome, NodeFault>
+    requires is_for { IsFor (event_of event.now) (node_of node.old) }
+    requires writes { MOST_WRITES ≤ book.old.room }
+    requires quiet { IsQuiet (node_of node.old) }
+    ensures answer { MatchResult result
+        (λ outcome. (event_fault (event_of event.now) (node_of node.old) ≡ None)
+        × IsOutcome (event_of event.now) (node_of node.old) outcome)
+        (λ fault. event_fault (event_of event.now) (node_of node.old) ≡ Some fault) }
+    ensures ok { OnOk result (IsCalled (event_of event.now) role (node_of node.old) book.old.book (node_of node.new)
+        book.new) }
+    ensures node { OnErr result (node_of node.new ≡ node_of node.old) }
+    ensures book { OnErr result (book.new ≡ book.old) }
+{
+    match event {
+        NodeEvent::Hears(octets) => {
+            node.hear(octets);
+            Ok(Outcome::Delivered(true))
+        }
+        NodeEvent::Expires(timer) => {
+            let _ = node.expire(*timer);
+            Ok(Outcome::Done)
+        }
+        NodeEvent::Relinks => {
+            node.relink();
+            Ok(Outcome::Done)
+        }
+        NodeEvent::Restarts => {
+            node.restart();
+            book.close_all(role);
+            Ok(Outcome::Done)
+        }
+        NodeEvent::Calls(address, user_data) => match node {
+            Node::Host(host) => place_call(host, role, *address, user_data, book),
+            Node::Pad(_) => unreachable!(),
+        },
+        NodeEvent::Asks(channel, request) => match node {
+            Node::Host(host) => ask(host, role, *channel, request, book),
+            Node::Pad(_) => unreachable!(),
+        },
+        NodeEvent::Takes(channel) => match node {
+            Node::Host(host) => Ok(Outcome::Took(take(host, role, *channel, book))),
+            Node::Pad(_) => unreachable!(),
+        },
+        NodeEvent::Keys(octet) => match node {
+            Node::Pad(pad) => Ok(Outcome::Keyed(pad.on_key(*octet))),
+            Node::Host(_) => unreachable!(),
+        },
+    }
+}
+
+/// Serves an event at a node, where a host is asked and a PAD is typed at. What the node refuses changes nothing.
+pub fn serve<L: Line>(
+    node: &mut Node,
+    at: NetPlace,
+    event: &NodeEvent<'_>,
+    line: &mut L,
+    book: &mut Book,
+    room: &mut Room,
+) -> Result<Outcome, NodeFault>
+    requires is_for { IsFor (event_of event.now) (node_of node.old) }
+    requires quiet { IsQuiet (node_of node.old) }
+    requires writes { MOST_WRITES ≤ book.old.room }
+    requires empty { IsEmpty room.old }
+    ensures answer { MatchResult result
+        (λ outcome. (event_fault (event_of event.now) (node_of node.old) ≡ None)
+        × IsOutcome (event_of event.now) (node_of node.old) outcome)
+        (λ fault. event_fault (event_of event.now) (node_of node.old) ≡ Some fault) }
+    ensures served { OnOk result (Served L.service at (node_of node.old)
+        (turn_of (event_of event.now) at.place.role (node_of node.old) book.old.book) (L.flights line.old)
+        room.new.frames.items room.new.notes.items (node_of node.new) (L.flights line.new) book.new.book) }
+    ensures node { OnErr result (node_of node.new ≡ node_of node.old) }
+    ensures line { OnErr result (line.new ≡ line.old) }
+    ensures book { OnErr result (book.new ≡ book.old) }
+{
+    let outcome = call_node(node, at.place.role, event, book)?;
+    write_notes(node, at.place, book, &mut room.notes);
+    put_frames(
+        node,
+        at.line,
+        line,
+        direction_of(at.place.role),
+        &mut room.frames,
+    );
+    Ok(outcome)
+}
