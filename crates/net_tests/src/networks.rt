@@ -41,6 +41,34 @@ dce = "b"
 channels = 1
 "#;
 
+/// Two lines of two hosts each, of which the second has its DTE behind its DCE and one channel.
+const TWO_LINES: &str = r#"
+[[node]]
+name = "a"
+kind = "host"
+
+[[node]]
+name = "b"
+kind = "host"
+
+[[node]]
+name = "c"
+kind = "host"
+
+[[node]]
+name = "d"
+kind = "host"
+
+[[line]]
+dte = "a"
+dce = "b"
+
+[[line]]
+dte = "d"
+dce = "c"
+channels = 1
+"#;
+
 /// Seventeen terminals are one more than a PAD has.
 const CROWDED: &str = r#"
 [[node]]
@@ -105,7 +133,7 @@ const FIRST_PAIR: Pair = Pair {
     callee: 1,
 };
 
-const CASES: [Case; 8] = [
+const CASES: [Case; 9] = [
     // A network begins fresh.
     Case {
         network: FIRST,
@@ -237,6 +265,44 @@ const CASES: [Case; 8] = [
             Kept {
                 node: 1,
                 own: &[1],
+                ..FRESH
+            },
+        ],
+    },
+    // Calls on two lines have records and pairs in the order of their making.
+    Case {
+        network: TWO_LINES,
+        script: b"flow\ncall d 7\nflow\ncall b 2001\nflow\nanswer a 1\nanswer c 1\nflow\nsay d 1 - HI\nflow\ntake c 1\ntake a 1\nflow\ntake c 4\ndeliver 2 >\n",
+        printed: "d/1 called\nc/1 incoming\nb/1 called\na/1 incoming\nb/1 connected\nd/1 connected\nc/1 data - \"HI\"\na/1 none\nrefused 3 NoSuchCall\nrefused 1 NoSuchNode\nend rest\n",
+        pairs: &[
+            Pair {
+                caller: 2,
+                callee: 3,
+            },
+            FIRST_PAIR,
+        ],
+        records: &[
+            Kept {
+                node: 3,
+                far: &[7],
+                sent: &[b"HI"],
+                covered: 1,
+                ..FRESH
+            },
+            Kept {
+                node: 2,
+                own: &[7],
+                taken: &[b"HI"],
+                released: 1,
+                ..FRESH
+            },
+            Kept {
+                node: 1,
+                far: &[2, 0, 0, 1],
+                ..FRESH
+            },
+            Kept {
+                own: &[2, 0, 0, 1],
                 ..FRESH
             },
         ],
