@@ -72,8 +72,8 @@ step_fault (Restart node) s = where_there_is (is_some (slice_get s.nodes node))
 
 -- ---- want of memory
 
--- whether an event takes memory where the network itself does not refuse it: all do but a key at a terminal without a
--- call, and the loss of a frame
+-- whether an event takes memory where the network itself does not refuse it: all do but a key at a terminal other than
+-- 0, which never has the call, and the loss of a frame
 abbrev pub takes_memory : Event → Bool
 takes_memory (Key node terminal octet) = terminal == 0
 takes_memory (Lose line direction) = false
