@@ -1,0 +1,32 @@
+//! Why a trace gives no capture.
+use std::alloc::{AllocError, AllocFailed};
+use thiserror::Error;
+
+/// Why a trace gives no capture.
+#[derive(Clone, Copy, Debug, PartialEq, Eq, Error)]
+pub enum TraceFault {
+    /// The line of this number, counted from 1, begins as that of a frame and is none.
+    #[error("line {0} is no frame")]
+    Line(u32),
+    /// The trace could not be read, or is too long.
+    #[error("the trace could not be read, or is too long")]
+    Input,
+    /// The capture could not be written.
+    #[error("the capture could not be written")]
+    Write,
+    /// No memory was left.
+    #[error("no memory was left")]
+    OutOfMemory,
+}
+
+impl From<AllocError> for TraceFault {
+    fn from(_: AllocError) -> Self {
+        TraceFault::OutOfMemory
+    }
+}
+
+impl<T: Drop> From<AllocFailed<T>> for TraceFault {
+    fn from(_: AllocFailed<T>) -> Self {
+        TraceFault::OutOfMemory
+    }
+}

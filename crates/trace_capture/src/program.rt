@@ -1,0 +1,60 @@
+//! The program that makes a capture.
+ghost use Rattle.std.specs.Prelude.{◌≡◌, ◌⊎◌, Some, None};
+
+use crate::blocks::capture;
+use crate::fault::TraceFault;
+use std::alloc::Global;
+use std::io::{self, Read, Write};
+
+/// How many octets a trace has at most.
+const TEXT_OCTETS: u64 = 67_108_864;
+
+/// The status of a run that wrote a capture, and of one that a fault ended.
+const DONE: u8 = 0;
+
+const FAULT: u8 = 1;
+
+/// Reads what a run has printed with its frames traced, and writes the capture of the frames; gives the status to end
+/// with. A fault is told on `err`, and then nothing was written but for what could be of a capture whose writing failed.
+pub fn convert<R: Read, W: Write, E: Write>(
+    alloc: Global,
+    input: &mut R,
+    out: &mut W,
+    err: &mut E,
+) -> u8
+    ensures { (result ≡ DONE) ⊎ (result ≡ FAULT) }
+{
+    match try_convert(alloc, input, out) {
+        Ok(()) => DONE,
+        Err(fault) => {
+            let _ = writeln!(err, "{fault}");
+            FAULT
+        }
+    }
+}
+
+fn try_convert<R: Read, W: Write>(
+    alloc: Global,
+    input: &mut R,
+    out: &mut W,
+) -> Result<(), TraceFault> {
+    let text = read_all(alloc, input)?;
+    let capture = capture(alloc, text.as_slice())?;
+    match out.write_all(capture.as_slice()).and_then(|()| out.flush()) {
+        Ok(()) => Ok(()),
+        Err(_) => Err(TraceFault::Write),
+    }
+}
+
+/// Reads all that a reader has.
+fn read_all<R: Read>(alloc: Global, input: &mut R) -> Result<Vec<u8>, TraceFault> {
+    let mut text = Vec::new(alloc);
+    match input.by_ref().take(TEXT_OCTETS + 1).read_to_end(&mut text) {
+        Ok(count) if count as u64 <= TEXT_OCTETS => Ok(text),
+        Ok(_) => Err(TraceFault::Input),
+        Err(error) => match error.kind() {
+            io::ErrorKind::OutOfMemory => Err(TraceFault::OutOfMemory),
+            _ => Err(TraceFault::Input),
+        },
+    }
+}

@@ -1,0 +1,46 @@
+//! Why a pair of sockets is not made.
+use std::alloc::{AllocError, AllocFailed};
+use std::io;
+use thiserror::Error;
+
+/// Why a pair of sockets is not made.
+#[derive(Clone, Copy, Debug, PartialEq, Eq, Error)]
+pub enum SocketFault {
+    /// No memory was left.
+    #[error("no memory was left")]
+    OutOfMemory,
+    /// The system gave no socket.
+    #[error("a socket could not be made")]
+    Socket,
+}
+
+impl From<AllocError> for SocketFault {
+    ghost use Rattle.std.specs.Prelude.{◌≡◌};
+    ghost use Rattle.udp_line.specs.declared.fault.SocketFault.TheVariants.{OutOfMemory};
+
+    ghost from_gives = { λ _ fault. fault ≡ OutOfMemory };
+
+    fn from(_: AllocError) -> Self {
+        SocketFault::OutOfMemory
+    }
+}
+
+impl<T: Drop> From<AllocFailed<T>> for SocketFault {
+    ghost use Rattle.std.specs.Prelude.{◌≡◌};
+    ghost use Rattle.udp_line.specs.declared.fault.SocketFault.TheVariants.{OutOfMemory};
+
+    ghost from_gives = { λ _ fault. fault ≡ OutOfMemory };
+
+    fn from(_: AllocFailed<T>) -> Self {
+        SocketFault::OutOfMemory
+    }
+}
+
+impl From<io::Error> for SocketFault {
+    fn from(error: io::Error) -> Self {
+        match error.kind() {
+            io::ErrorKind::OutOfMemory => SocketFault::OutOfMemory,
+            _ => SocketFault::Socket,
+        }
+    }
+}
