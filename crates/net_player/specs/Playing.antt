@@ -3,6 +3,11 @@ use Rattle.std.specs.declared.alloc.Global.{Global}
 use Rattle.std.specs.Prelude.{Vec, ◌≡◌, ◌≢◌, ◌⊎◌, ℕ, zero, suc, ◌+◌, ◌<◌, Bool, true, false, List, [], ◌∷◌, ◌++◌}
 use Rattle.std.specs.Prelude.{Option, Some, None, Result, Ok, Err, codes}
 use Rattle.memory_line.specs.declared.line.Direction.TheVariants.{FromDte, FromDce}
+use Rattle.command_words.specs.declared.invocation.Mode.{Mode}
+use Rattle.command_words.specs.declared.invocation.Mode.TheVariants.{Sim, Run}
+use Rattle.command_words.specs.declared.invocation.Invocation.{Invocation}
+use Rattle.command_words.specs.Invocations.{Asks}
+use Rattle.udp_line.specs.Sockets.{socket_service}
 use Rattle.memory_line.specs.Lines.{LineService, memory_service}
 use Rattle.net_events.specs.declared.event.Event.{Event}
 use Rattle.net_events.specs.declared.event.Event.TheVariants.{Deliver}
@@ -137,12 +142,28 @@ pub record Plays (L : LineService) (script : Script) (s : Network) (text : List 
   pub rest : L.faithful → at_rest ≡ net_rests t
   pub whole : text ≡ told ++ end_line at_rest
 
--- a network was made, on faithful lines, a script played on it, and its text written behind what was known to be
+-- a network was made on lines of this service, a script played on it, and its text written behind what was known to be
 -- written
-pub record PlaysSome (before after : Option (List ℕ)) : Type 0 where
+pub record PlaysOn (L : LineService) (before after : Option (List ℕ)) : Type 0 where
   pub config : Config
   pub start : Network
-  pub made : IsMadeBy memory_service config start
+  pub made : IsMadeBy L config start
   pub script : Script
   pub ended : Network
-  pub writes : Writes before after (λ text. Plays memory_service script start text ended)
+  pub writes : Writes before after (λ text. Plays L script start text ended)
+
+-- the lines of a mode
+abbrev pub lines_of : Mode → LineService
+lines_of Sim = memory_service
+lines_of Run = socket_service
+
+-- those that command words ask for: lines in memory where there are no words
+abbrev pub lines_asked : Option Invocation → LineService
+lines_asked None = memory_service
+lines_asked (Some invocation) = lines_of invocation.mode
+
+-- this was over the lines that the words ask for
+pub record PlaysAsked (words : List (List ℕ)) (before after : Option (List ℕ)) : Type 0 where
+  pub asked : Option Invocation
+  pub asks : Asks words asked
+  pub plays : PlaysOn (lines_asked asked) before after

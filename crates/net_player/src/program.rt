@@ -1,6 +1,8 @@
 //! The program.
-ghost use Rattle.std.specs.Prelude.{◌≡◌, ◌≢◌, ◌≤◌, ◌⊎◌, [], Ok, true, false, OnOk};
-ghost use Rattle.net_player.specs.Playing.{PlaysSome};
+ghost use Rattle.std.specs.Prelude.{◌≡◌, ◌≢◌, ◌≤◌, ◌⊎◌, [], Ok, true, false, OnOk, IfOk, length, map, string_bytes};
+ghost use Rattle.memory_line.specs.Lines.{memory_service};
+ghost use Rattle.udp_line.specs.Sockets.{socket_service};
+ghost use Rattle.net_player.specs.Playing.{PlaysOn, PlaysAsked, lines_of};
 
 use crate::player::play;
 use command_words::{Invocation, Mode, WordsFault, read_words};
@@ -9,7 +11,9 @@ use net_files::{FIRST, ProgFault, Script, read_net, read_script};
 use std::alloc::Global;
 use std::fs::{File, Files};
 use std::io::{Read, Write};
-use std::{io, str};
+use std::net::UdpSocket;
+use std::{io, net, str};
+use udp_line::{SocketFault, UdpLine};
 
 /// How many octets a network file or a script has at most.
 const TEXT_OCTETS: u64 = 1_048_576;
@@ -23,14 +27,13 @@ const BAD_WORDS: u8 = 2;
 
 /// The program on its command words, of which its own name is none. Without words it plays the script that the input
 /// has on the built-in network; with `sim --net FILE --script FILE` that of a file on the network of another, over
-/// lines in memory.
+/// lines in memory; with `run` and the same words over pairs of sockets.
 ///
 /// Gives the status to end with: 0 at the end of the script, 1 where a fault ended the run, which is told on `err`, and
-/// 2 where the words are others, which is told there too. `run`, over sockets, is not there yet. Faults are looked for
-/// in this order: the words, the network file, its text, the script file or the input, its lines, the network's values,
-/// the writing.
-pub fn perform<F: Files, R: Read, W: Write, E: Write>(
-    files: &F,
+/// 2 where the words are others, which is told there too. Faults are looked for in this order: the words, the network
+/// file, its text, the script file or the input, its lines, the sockets, the network's values, the writing.
+pub fn perform<S: Files + net::Net, R: Read, W: Write, E: Write>(
+    system: &S,
     alloc: Global,
     words: &[String],
     input: &mut R,
@@ -39,10 +42,13 @@ pub fn perform<F: Files, R: Read, W: Write, E: Write>(
 ) -> u8
     ensures status { result ≤ BAD_WORDS }
     ensures no_words { words.now ≡ [] → result ≢ BAD_WORDS }
-    ensures done { result ≡ DONE → PlaysSome (W.contents out.old) (W.contents out.new) }
+    ensures done { result ≡ DONE
+        → PlaysAsked (map (λ word. string_bytes word) words.now) (W.contents out.old) (W.contents out.new) }
+    ensures first { words.now ≡ [] → result ≡ DONE
+        → PlaysOn memory_service (W.contents out.old) (W.contents out.new) }
     ensures bad_words { result ≡ BAD_WORDS → W.contents out.new ≡ W.contents out.old }
 {
-    match run(files, alloc, words, input, out) {
+    match run(system, alloc, words, input, out) {
         Ok(true) => DONE,
         Ok(false) => tell_bad_words(err),
         Err(fault) => tell_fault(fault, err),
@@ -50,14 +56,17 @@ pub fn perform<F: Files, R: Read, W: Write, E: Write>(
 }
 
 /// Plays what the words ask for; false where they ask for nothing that is there.
-fn run<F: Files, R: Read, W: Write>(
-    files: &F,
+fn run<S: Files + net::Net, R: Read, W: Write>(
+    system: &S,
     alloc: Global,
     words: &[String],
     input: &mut R,
     out: &mut W,
 ) -> Result<bool, ProgFault>
-    ensures played { result ≡ Ok true → PlaysSome (W.contents out.old) (W.contents out.new) }
+    ensures played { result ≡ Ok true
+        → PlaysAsked (map (λ word. string_bytes word) words.now) (W.contents out.old) (W.contents out.new) }
+    ensures first { words.now ≡ [] → result ≡ Ok true
+        → PlaysOn memory_service (W.contents out.old) (W.contents out.new) }
     ensures bad_words { result ≡ Ok false → W.contents out.new ≡ W.contents out.old }
     ensures no_words { words.now ≡ [] → result ≢ Ok false }
 {
@@ -66,12 +75,12 @@ fn run<F: Files, R: Read, W: Write>(
             play_first(alloc, input, out)?;
             Ok(true)
         }
-        Ok(Some(invocation)) if invocation.mode == Mode::Sim => {
-            play_files(files, alloc, &invocation, out)?;
+        Ok(Some(invocation)) => {
+            play_files(system, alloc, &invocation, out)?;
             Ok(true)
         }
         Err(WordsFault::OutOfMemory) => Err(ProgFault::OutOfMemory),
-        _ => Ok(false),
+        Err(WordsFault::BadWords) => Ok(false),
     }
 }
 
@@ -101,42 +110,80 @@ fn tell_bad_words<E: Write>(err: &mut E) -> u8
 
 /// Plays the script that the input has on the built-in network.
 fn play_first<R: Read, W: Write>(alloc: Global, input: &mut R, out: &mut W) -> Result<(), ProgFault>
-    ensures { OnOk result (PlaysSome (W.contents out.old) (W.contents out.new)) }
+    ensures { OnOk result (PlaysOn memory_service (W.contents out.old) (W.contents out.new)) }
 {
     let config = read_net(alloc, FIRST)?;
     let text = read_all(alloc, input)?;
     let script = read_script(alloc, text.as_slice(), &config)?;
-    play_on(alloc, &config, &script, out)
+    play_in_memory(alloc, &config, &script, out)
 }
 
-/// Plays a script file on the network of a network file.
-fn play_files<F: Files, W: Write>(
-    files: &F,
+/// Plays a script file on the network of a network file, over the lines that the words ask for.
+fn play_files<S: Files + net::Net, W: Write>(
+    system: &S,
     alloc: Global,
     invocation: &Invocation<'_>,
     out: &mut W,
 ) -> Result<(), ProgFault>
-    ensures { OnOk result (PlaysSome (W.contents out.old) (W.contents out.new)) }
+    ensures { OnOk result (PlaysOn (lines_of invocation.now.mode) (W.contents out.old) (W.contents out.new)) }
 {
-    let text = read_file(files, alloc, invocation.net)?;
+    let text = read_file(system, alloc, invocation.net)?;
     let config = read_net(alloc, text_of(text.as_slice())?)?;
-    let text = read_file(files, alloc, invocation.script)?;
+    let text = read_file(system, alloc, invocation.script)?;
     let script = read_script(alloc, text.as_slice(), &config)?;
-    play_on(alloc, &config, &script, out)
+    match invocation.mode {
+        Mode::Sim => play_in_memory(alloc, &config, &script, out),
+        Mode::Run => play_over_sockets(system, alloc, &config, &script, out),
+    }
 }
 
 /// Plays a script on a network over memory lines.
-fn play_on<W: Write>(
+fn play_in_memory<W: Write>(
     alloc: Global,
     config: &Config,
     script: &Script,
     out: &mut W,
 ) -> Result<(), ProgFault>
-    ensures { OnOk result (PlaysSome (W.contents out.old) (W.contents out.new)) }
+    ensures { OnOk result (PlaysOn memory_service (W.contents out.old) (W.contents out.new)) }
 {
     let mut net = Net::on_memory_lines(alloc, config)?;
     play(alloc, &mut net, script, out)?;
     Ok(())
+}
+
+/// Plays a script on a network over pairs of sockets.
+fn play_over_sockets<N: net::Net, W: Write>(
+    system: &N,
+    alloc: Global,
+    config: &Config,
+    script: &Script,
+    out: &mut W,
+) -> Result<(), ProgFault>
+    ensures { OnOk result (PlaysOn socket_service (W.contents out.old) (W.contents out.new)) }
+{
+    let lines = socket_lines(system, alloc, config.lines.len())?;
+    let mut net = Net::new(alloc, config, lines)?;
+    play(alloc, &mut net, script, out)?;
+    Ok(())
+}
+
+/// So many lines over pairs of sockets.
+fn socket_lines<N: net::Net>(
+    system: &N,
+    alloc: Global,
+    count: usize,
+) -> Result<Vec<UdpLine<UdpSocket>>, ProgFault>
+    ensures { IfOk result (λ lines. length lines.items ≡ count) }
+{
+    let mut lines = Vec::new(alloc);
+    for _ in 0..count {
+        match UdpLine::pair(system, alloc) {
+            Ok(line) => lines.push(line)?,
+            Err(SocketFault::OutOfMemory) => return Err(ProgFault::OutOfMemory),
+            Err(SocketFault::Socket) => return Err(ProgFault::Socket),
+        }
+    }
+    Ok(lines)
 }
 
 /// Octets that have to be text, as a network file's have.

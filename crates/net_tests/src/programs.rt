@@ -4,10 +4,11 @@ use net_player::{perform, play};
 use packet_codec::Address;
 use std::alloc::{AllocError, Global};
 use std::fs::Files;
-use std::io;
 use std::io::{Read, Write};
 use std::process::Abort;
 use std::test::Fail;
+use std::{io, net};
+use udp_line::UdpLine;
 use x3_params::Profile;
 
 /// A script of the input, what is printed for it, and what is told of a fault.
@@ -129,7 +130,7 @@ pub(crate) fn played_on(
 }
 
 /// The program on these words and this input ends with the status, what it prints and what it tells.
-fn ends<F: Files + Abort, R: Read>(
+fn ends<F: Files + net::Net + Abort, R: Read>(
     rt: &F,
     alloc: Global,
     words: &[String],
@@ -152,6 +153,21 @@ fn a_link_is_set_up_and_begins_with_restarts(rt: HostRuntime) -> Result<(), Fail
     let expected: &[u8] =
         b"0 < 01 73\n0 > 01 11\n0 < 01 11\n0 < 03 00 10 00 FB 07 00\n0 > 01 00 10 00 FB 00 00\n0 < 01 21\n0 > 03 21\nend rest\n";
     assert_eq!(rt; printed.as_slice(), expected);
+    Ok(())
+}
+
+#[test]
+fn a_line_over_sockets_plays_what_one_in_memory_does(rt: HostRuntime) -> Result<(), Fail> {
+    let config = read_net(rt.alloc(), FIRST)?;
+    let script: &[u8] = b"key pad 0 HEX\\7FLLO\\0D\nflow\ntake host 1\nflow\n";
+    let script = read_script(rt.alloc(), script, &config)?;
+    let lines = vec![in rt.alloc(); UdpLine::pair(&rt, rt.alloc())?]?;
+    assert!(rt; lines.len() == config.lines.len());
+    let mut net = Net::new(rt.alloc(), &config, lines)?;
+    let mut out = Vec::new(rt.alloc());
+    play(rt.alloc(), &mut net, &script, &mut out)?;
+    let expected: &[u8] = b"host/1 data - \"HELLO\\0D\"\nend rest\n";
+    assert_eq!(rt; out.as_slice(), expected);
     Ok(())
 }
 
@@ -622,15 +638,15 @@ fn faults_are_told(rt: HostRuntime) -> Result<(), Fail> {
         b"",
         b"bad words\n",
     );
-    let words = words_of(rt.alloc(), "run --net net --script script")?;
+    let words = words_of(rt.alloc(), "run --net nowhere/net --script nowhere/script")?;
     ends(
         &rt,
         rt.alloc(),
         words.as_slice(),
         &mut flow,
-        2,
+        1,
         b"",
-        b"bad words\n",
+        b"fault 7\n",
     );
     let words = words_of(rt.alloc(), "sim --net nowhere/net --script nowhere/script")?;
     ends(

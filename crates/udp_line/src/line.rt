@@ -1,6 +1,7 @@
 //! The line.
 ghost use Rattle.std.specs.Prelude.{◌≡◌, ◌≤◌, ◌<◌, false, length, IfSome};
-ghost use Rattle.memory_line.specs.Lines.{LineService, no_flights};
+ghost use Rattle.memory_line.specs.Lines.{no_flights};
+ghost use Rattle.udp_line.specs.Sockets.{socket_service};
 
 use crate::datagrams::Datagrams;
 use crate::fault::SocketFault;
@@ -69,7 +70,7 @@ impl<D: Datagrams> UdpLine<D> {
 impl<D: Datagrams> Line for UdpLine<D> {
     ghost flights = { λ _. no_flights };
 
-    ghost service = { record { faithful = ⊥; may_lose = λ _ _. ⊥ } };
+    ghost service = { socket_service };
 
     fn put(&mut self, direction: Direction, frame: FrameBuf) {
         let _ = self.sender(direction).send(frame.as_slice());

@@ -1,4 +1,4 @@
-use Rattle.net_player.proofs.program.play_on.Goals as goal
+use Rattle.net_player.proofs.program.play_over_sockets.Goals as goal
 
 pub returns : goal.returns
 returns g c = record {

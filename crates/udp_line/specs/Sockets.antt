@@ -1,0 +1,6 @@
+-- What a line over sockets promises.
+use Rattle.memory_line.specs.Lines.{LineService}
+
+-- nothing: it is not known to be faithful
+abbrev pub socket_service : LineService
+socket_service = record { faithful = ⊥; may_lose = λ d f. ⊥ }
