@@ -17,6 +17,8 @@ pub mod Effects
 pub mod Running
 pub mod Turning
 pub mod Finishing
+pub mod Happening
+pub mod Pairing
 pub mod Octets
 pub mod Rounds
 pub mod Links

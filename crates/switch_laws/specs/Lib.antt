@@ -8,5 +8,7 @@ pub mod Turn
 pub mod Offers
 pub mod Stays
 pub mod Calls
+pub mod Events
+pub mod Pairs
 pub mod Law
 pub mod Run

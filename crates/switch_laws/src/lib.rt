@@ -3,4 +3,4 @@
 
 mod relay;
 
-pub use relay::{join_law, relay_law, run_law, switch_law, turn_law};
+pub use relay::{event_law, join_law, pair_law, relay_law, run_law, switch_law, turn_law};

@@ -1,4 +1,6 @@
+ghost use Rattle.switch_laws.specs.Events.{EventLaw};
 ghost use Rattle.switch_laws.specs.Law.{JoinLaw, RelayLaw, SwitchLaw, TurnLaw};
+ghost use Rattle.switch_laws.specs.Pairs.{PairLaw};
 ghost use Rattle.switch_laws.specs.Run.{RunLaw};
 
 /// One direction of a join, over the definitions of the layer and of the switch alone: what the switch sends on the far
@@ -22,10 +24,22 @@ pub fn switch_law()
     ensures { SwitchLaw }
 {}
 
+/// What becomes of a call that comes in, with the causes for which it is cleared in their order; and a channel has a
+/// call exactly while it is joined, and then the other leg has one too.
+pub fn pair_law()
+    ensures { PairLaw }
+{}
+
 /// Whole events of a switch, whatever octets come on its lines: all joins hold after each of them, and nothing waits on
 /// a leg that the other leg takes.
 pub fn turn_law()
     ensures { TurnLaw }
+{}
+
+/// A switch from its making on, whatever comes to it and in whatever order: it stays one of which the laws above speak,
+/// and its legs move as its packet layers do. Who owns a switch keeps so, from event to event, what the laws ask for.
+pub fn event_law()
+    ensures { EventLaw }
 {}
 
 /// A run of one join, and a switch of two lines without calls: they meet what the laws above ask for.
