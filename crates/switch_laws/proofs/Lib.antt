@@ -18,6 +18,7 @@ pub mod Running
 pub mod Turning
 pub mod Finishing
 pub mod Happening
+pub mod Newness
 pub mod Pairing
 pub mod Octets
 pub mod Rounds

@@ -20,6 +20,7 @@ use Rattle.switch_laws.specs.Joined.{IsSwitch, IsPair, WaitsFor}
 use Rattle.switch_laws.specs.Joined.IsPair.{connected, waiting}
 use Rattle.switch_laws.specs.Calls.{CallsAreJoined, HasCall}
 use Rattle.switch_laws.specs.Pairs.{HasPartner, PairLaw}
+use Rattle.switch_laws.proofs.Newness.{frame_joins, timer_joins}
 
 -- ---- causes
 
@@ -111,6 +112,8 @@ pairs_hold = record {
   not_ready = λ routes ls parts n l e r got no. to_line routes ls parts n (Some l) e r got ∙ unready n l.end.layer l.end.layer.phase no;
   no_channel = λ routes ls parts n l e r got is none. to_line routes ls parts n (Some l) e r got ∙ ready n l.end.layer l.end.layer.phase None is none;
   goes_on = λ routes ls parts n l c e r got is free. to_line routes ls parts n (Some l) e r got ∙ ready n l.end.layer l.end.layer.phase (Some c) is free;
+  frame_joins = frame_joins;
+  timer_joins = timer_joins;
   have_calls = have_calls;
   have_partners = have_partners;
 }
