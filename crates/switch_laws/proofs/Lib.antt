@@ -20,6 +20,7 @@ pub mod Finishing
 pub mod Happening
 pub mod Newness
 pub mod Pairing
+pub mod Concerning
 pub mod Octets
 pub mod Rounds
 pub mod Links

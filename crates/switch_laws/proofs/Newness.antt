@@ -23,6 +23,7 @@ use Rattle.x25_switch.specs.Lines.{SwitchLine, changed, flat, nth_joined, joined
 use Rattle.x25_switch.specs.Relay.{with_kept, freed, moved, moved_unless, moved_front, moved_joined, relayed, relayed_from, all_relayed, kept_anew, covered_on, told_joined, told_of}
 use Rattle.x25_switch.specs.Switch.{Switch, Answer, answer, answered, forwarded, place_call, with_join, heed, heed_all, with_end, notes_of, without_notes, quieted, acted, to_relink, relinked_at, all_relinked, may_offer, offered_from, rounds, finished, all_begun, on_frame, on_timer}
 use Rattle.x25_switch.specs.Switch.Answer.{Clears, Joins}
+use Rattle.switch_laws.specs.Concern.{before_relay}
 use Rattle.switch_laws.specs.Pairs.{caller, callee, IsNoted, WasJoined, IsNewJoin, JoinsByRoute, noted_in}
 use Rattle.switch_laws.proofs.Places.{joined_kept}
 use Rattle.switch_laws.proofs.SettingUp.{joins_by_route}
@@ -339,6 +340,15 @@ from_finished routes ls =
     from_ends settled ls (rounds (7 * length rs) rs) (from_then ls rs _ (from_relinks (length ls) routes ls) (from_rounds (7 * length rs) rs))
 
 -- ---- events
+
+-- before the relay, and after the event
+pub before_joins : (n : ℕ) (f : PacketEnd → PacketEnd) (s : Switch) → JoinsByRoute s.routes n (noted_in n f s) s.lines (before_relay n f s)
+before_joins n f s =
+    let ls = all_begun s.lines in
+    let ms = acted s.routes n f ls in
+    joins_before s.routes n (noted_in n f s) s.lines ms (before_relay n f s)
+    (joins_after s.routes n (noted_in n f s) s.lines ls ms (from_ends begun s.lines s.lines (from_same s.lines)) (acted_joins s.routes n f ls))
+    (from_relinks (length ms) s.routes ms)
 
 event_joins : (n : ℕ) (f : PacketEnd → PacketEnd) (s : Switch) → JoinsByRoute s.routes n (noted_in n f s) s.lines (finished s.routes (acted s.routes n f (all_begun s.lines)))
 event_joins n f s =

@@ -10,5 +10,6 @@ pub mod Stays
 pub mod Calls
 pub mod Events
 pub mod Pairs
+pub mod Concern
 pub mod Law
 pub mod Run

@@ -3,4 +3,6 @@
 
 mod relay;
 
-pub use relay::{event_law, join_law, pair_law, relay_law, run_law, switch_law, turn_law};
+pub use relay::{
+    concern_law, event_law, join_law, pair_law, relay_law, run_law, switch_law, turn_law,
+};

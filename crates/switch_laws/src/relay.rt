@@ -1,3 +1,4 @@
+ghost use Rattle.switch_laws.specs.Concern.{ConcernLaw};
 ghost use Rattle.switch_laws.specs.Events.{EventLaw};
 ghost use Rattle.switch_laws.specs.Law.{JoinLaw, RelayLaw, SwitchLaw, TurnLaw};
 ghost use Rattle.switch_laws.specs.Pairs.{PairLaw};
@@ -34,6 +35,12 @@ pub fn pair_law()
 /// a leg that the other leg takes.
 pub fn turn_law()
     ensures { TurnLaw }
+{}
+
+/// Which joins an event has to relay: those with a leg on its line or on one whose link is set up anew in it. Where
+/// nothing waited before that could go on, the relay on all joins is the relay on these.
+pub fn concern_law()
+    ensures { ConcernLaw }
 {}
 
 /// A switch from its making on, whatever comes to it and in whatever order: it stays one of which the laws above speak,
