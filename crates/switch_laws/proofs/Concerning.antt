@@ -1,33 +1,37 @@
 -- Joins with no leg on a line of the event are left with nothing to relay, and the relay of the others is that of all.
-use Rattle.std.proofs.Common.{◌≡◌, ℕ, zero, suc, ◌⊎◌, inl, inr, Bool, true, false, ◌||◌, ◌==◌, if◌then◌else◌, List, [], ◌∷◌, length, Option, Some, None, is_some, refl, sym, ap, subst, ◌∙◌, true≢false}
+use Rattle.std.proofs.Common.{◌≡◌, ℕ, zero, suc, ◌+◌, ◌&&◌, map, arith, option_map, ◌⊎◌, inl, inr, Bool, true, false, ◌||◌, ◌==◌, if◌then◌else◌, List, [], ◌∷◌, length, Option, Some, None, is_some, refl, sym, ap, subst, ◌∙◌, true≢false}
 use Rattle.std.specs.Prelude.{slice_get}
+use Rattle.std.proofs.lemmas.Bool.{eq-eqb}
 use Rattle.std.proofs.lemmas.Option.{none-some, same_Some}
 use Rattle.link_timers.specs.declared.timers.TimerId.{TimerId}
+use Rattle.lapb.specs.Machine.{can_offer}
 use Rattle.packet_layer.specs.Packets.{Note}
 use Rattle.packet_layer.specs.Traffic.{Taken, front}
 use Rattle.packet_layer.specs.Channel.{Channel, Request, Refusal, refusal}
-use Rattle.packet_layer.specs.Layer.{Layer, channel_of, refusal_at as refusal_of_channel, front_at as front_of_channel}
+use Rattle.packet_layer.specs.Layer.{Layer, channel_of, next_packet, refusal_at as refusal_of_channel, front_at as front_of_channel}
 use Rattle.packet_end.specs.PacketEnd.{PacketEnd, begun, received, after_timer, relinked}
+use Rattle.packet_end.proofs.Offering.{no_room, no_packet}
 use Rattle.address_routes.specs.Routes.{RouteMap}
 use Rattle.x25_switch.specs.Direction.{request_for}
 use Rattle.x25_switch.specs.declared.place.Place.{Place}
 use Rattle.x25_switch.specs.declared.place.Joined.{Joined}
-use Rattle.x25_switch.specs.Lines.{SwitchLine, same_place, joined_at, front_at, front_of_line, refusal_at, refusal_of_line, places}
+use Rattle.x25_switch.specs.Lines.{SwitchLine, same_place, joined_on, joined_at, front_at, front_of_line, refusal_at, refusal_of_line, places}
 use Rattle.x25_switch.specs.Relay.{moved, moved_joined, moved_front, moved_unless, relayed, relayed_from, all_relayed}
-use Rattle.x25_switch.specs.Switch.{Switch, acted, all_begun, to_relink, relinked_at, all_relinked, relinks_of}
+use Rattle.x25_switch.specs.Switch.{Switch, acted, all_begun, may_offer, offered_from, to_relink, relinked_at, all_relinked, relinks_of}
 use Rattle.switch_laws.specs.Turn.{AreOctets}
 use Rattle.switch_laws.specs.World.{World, Shown, shown_as, shown_on, shown_at, layers_of}
 use Rattle.switch_laws.specs.Joined.{IsSwitch, Becomes, HasRelayedAll}
 use Rattle.switch_laws.specs.Stays.{IsNone, relinked_in}
 use Rattle.switch_laws.specs.Pairs.{caller, WasJoined, IsNewJoin, noted_in}
-use Rattle.switch_laws.specs.Concern.{is_one_of, joined_to, is_concerned, concerned, relayed_on, HasRelayedBut, lines_of_event, before_relay, RelaysItsOwn, ConcernLaw}
-use Rattle.switch_laws.proofs.Lists.{decided, place_is, not_equal}
+use Rattle.switch_laws.specs.Concern.{offering_from, is_one_of, joined_to, is_concerned, concerned, relayed_on, HasRelayedBut, lines_of_event, before_relay, RelaysItsOwn, ConcernLaw}
+use Rattle.switch_laws.proofs.Lists.{decided, place_is, not_equal, get_map}
+use Rattle.switch_laws.proofs.Rounds.{offers_line, in_turn}
 use Rattle.switch_laws.proofs.Relaying.{StuckAt, Visited, visited, relayed_same}
 use Rattle.switch_laws.proofs.Staying.{IsOther, Beside, acted_beside}
 use Rattle.switch_laws.proofs.Turning.{relinked_effect, acted_right}
 use Rattle.switch_laws.proofs.Keeping.{layers_on_ends, joined_on_ends}
 use Rattle.switch_laws.proofs.Newness.{before_joins}
-use Rattle.switch_laws.proofs.Finishing.{begun_right, came, ran, readable, none_relinks, all_relinks}
+use Rattle.switch_laws.proofs.Finishing.{begun_right, came, ran, readable, none_relinks, all_relinks, offers_from}
 
 -- ---- joins that are passed over
 
@@ -132,14 +136,19 @@ none_of (m ∷ ms) n e = let both = neither (m == n) (is_one_of ms n) e in ((λ 
     neither true b e = absurd (true≢false e)
     neither false b e = (refl, e)
 
-unconcerned : (lines : List ℕ) (ls : List SwitchLine) (p : Place) (j : Joined) → joined_at ls p ≡ Some j → is_concerned lines ls p ≡ false → IsNone p.line lines × IsNone j.other.line lines
-unconcerned lines ls p j e f =
+neither_one : (lines : List ℕ) (ls : List SwitchLine) (p : Place) (j : Joined) → joined_at ls p ≡ Some j → is_concerned lines ls p ≡ false → (is_one_of lines p.line ≡ false) × (is_one_of lines j.other.line ≡ false)
+neither_one lines ls p j e f =
     let both = neither (is_one_of lines p.line) (joined_to lines (joined_at ls p)) f in
-    (none_of lines p.line both.0, none_of lines j.other.line (ap (λ (o : Option Joined). joined_to lines o) (sym e) ∙ both.1))
+    (both.0, ap (λ (o : Option Joined). joined_to lines o) (sym e) ∙ both.1)
   where
     neither : (a b : Bool) → (a || b) ≡ false → (a ≡ false) × (b ≡ false)
     neither true b e = absurd (true≢false e)
     neither false b e = (refl, e)
+
+unconcerned : (lines : List ℕ) (ls : List SwitchLine) (p : Place) (j : Joined) → joined_at ls p ≡ Some j → is_concerned lines ls p ≡ false → IsNone p.line lines × IsNone j.other.line lines
+unconcerned lines ls p j e f =
+    let both = neither_one lines ls p j e f in
+    (none_of lines p.line both.0, none_of lines j.other.line both.1)
 
 -- ---- an event
 
@@ -200,5 +209,61 @@ timer n id s w i all =
     let r = before_right n (λ e. after_timer e id) s c.world c.right in
     relays (lines_of_event n (λ e. after_timer e id) s) (before_relay n (λ e. after_timer e id) s) r.world r.right (event_but n (λ e. after_timer e id) s b.world c.world b.right c.right all)
 
+-- ---- packets are offered
+
+offers_nothing : (l : SwitchLine) → may_offer l ≡ false → offers_line l ≡ l
+offers_nothing l e = by_room (decided (can_offer l.end.line.link))
+  where
+    by_room : (can_offer l.end.line.link ≡ true) ⊎ (can_offer l.end.line.link ≡ false) → offers_line l ≡ l
+    by_room (inl t) = (λ k. record l { end = no_packet 7 l.end (sym (ap (λ (b : Bool). b && is_some (next_packet l.end.layer).packet) t) ∙ e) k })
+    by_room (inr f) = (λ k. record l { end = no_room 7 l.end f k })
+
+not_first : (b : Bool) (n m : ℕ) (more : List ℕ) → is_one_of (if b then n ∷ more else more) m ≡ false → is_one_of more m ≡ false
+not_first true n m more e = neither (n == m) (is_one_of more m) e
+  where
+    neither : (a c : Bool) → (a || c) ≡ false → c ≡ false
+    neither true c f = absurd (true≢false f)
+    neither false c f = f
+not_first false n m more e = e
+
+itself : (b : Bool) (n : ℕ) (more : List ℕ) → is_one_of (if b then n ∷ more else more) n ≡ false → b ≡ false
+itself true n more e = absurd (true≢false (ap (λ (c : Bool). c || is_one_of more n) (sym (eq-eqb n n refl)) ∙ e))
+itself false n more e = refl
+
+-- a line whose link takes none is as it was
+not_offering : (m n k : ℕ) (ls : List SwitchLine) → k ≡ m + n → is_one_of (offering_from m ls) k ≡ false → slice_get (map offers_line ls) n ≡ slice_get ls n
+not_offering m n k [] e f = refl
+not_offering m zero k (l ∷ ls) e f =
+    let same : k ≡ m = omega (arith, e) in
+    ap Some (offers_nothing l (itself (may_offer l) m (offering_from (suc m) ls) (ap (λ (x : ℕ). is_one_of (offering_from m (l ∷ ls)) x) (sym same) ∙ f)))
+not_offering m (suc n) k (l ∷ ls) e f = not_offering (suc m) n k ls (omega (arith, e)) (not_first (may_offer l) m k (offering_from (suc m) ls) f)
+
+same_line : (ls ms : List SwitchLine) (p : Place) → slice_get ms p.line ≡ slice_get ls p.line → SameShown ls ms p
+same_line ls ms p e =
+    ap (λ (o : Option Layer). shown_on o p.channel)
+    (get_map (λ l. l.end.layer) ms p.line ∙ (ap (λ (o : Option SwitchLine). option_map (λ l. l.end.layer) o) e ∙ sym (get_map (λ l. l.end.layer) ls p.line)))
+
+joined_offered : (ls : List SwitchLine) (n c : ℕ) → joined_on (slice_get (map offers_line ls) n) c ≡ joined_on (slice_get ls n) c
+joined_offered [] n c = refl
+joined_offered (l ∷ ls) zero c = refl
+joined_offered (l ∷ ls) (suc n) c = joined_offered ls n c
+
+offered_but : (ls : List SwitchLine) → HasRelayedAll ls → HasRelayedBut (offering_from 0 ls) (map offers_line ls)
+offered_but ls all p j t away e g =
+    let ms = map offers_line ls in
+    let lines = offering_from 0 ls in
+    let both = neither_one lines ms p j e away in
+    let here = same_line ls ms p (not_offering 0 p.line p.line ls (omega arith) both.0) in
+    let there = same_line ls ms j.other (not_offering 0 j.other.line j.other.line ls (omega arith) both.1) in
+    ap (λ (o : Option Refusal). is_some o) (same_refusal ls ms j.other (request_for t) there)
+    ∙ all p j t (sym (joined_offered ls p.line p.channel) ∙ e) (sym (same_front ls ms p here) ∙ g)
+
+offers : (ls : List SwitchLine) (w : World) → IsSwitch ls w → HasRelayedAll ls
+    → all_relayed (offered_from (length ls) 0 ls) ≡ relayed_on (offering_from 0 ls) (offered_from (length ls) 0 ls)
+offers ls w i all =
+    let b = offers_from (length ls) 0 ls w i in
+    relays (offering_from 0 ls) (offered_from (length ls) 0 ls) b.world b.right
+    (subst (λ (ms : List SwitchLine). HasRelayedBut (offering_from 0 ls) ms) (sym (in_turn ls)) (offered_but ls all))
+
 pub concerns_hold : ConcernLaw
-concerns_hold = record { relays = relays; frame = frame; timer = timer }
+concerns_hold = record { relays = relays; frame = frame; timer = timer; offers = offers }

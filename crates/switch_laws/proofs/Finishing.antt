@@ -181,7 +181,7 @@ all_offers : (n : ℕ) (ls : List SwitchLine) (w : World) → IsSwitch ls w → 
 unfolding all_offered
 all_offers n ls w i = offers 7 n ls w i
 
-offers_from : (count n : ℕ) (ls : List SwitchLine) (w : World) → IsSwitch ls w → Becomes ls w (offered_from count n ls)
+pub offers_from : (count n : ℕ) (ls : List SwitchLine) (w : World) → IsSwitch ls w → Becomes ls w (offered_from count n ls)
 offers_from zero n ls w i = becomes_same ls ls w refl i
 offers_from (suc count) n ls w i =
     let a = all_offers n ls w i in

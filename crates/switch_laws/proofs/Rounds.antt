@@ -112,7 +112,7 @@ has_room l small may = by_size (decided (nat_le l.k (length l.queue)))
 
 -- ---- all lines
 
-abbrev offers_line : SwitchLine → SwitchLine
+abbrev pub offers_line : SwitchLine → SwitchLine
 offers_line l = record l { end = offered 7 l.end }
 
 no_more : (ls : List SwitchLine) → total (lines_of (map offers_line ls)) ≤ total (lines_of ls)
@@ -155,7 +155,7 @@ offered_line : (l : SwitchLine) → with_end all_offered l ≡ offers_line l
 unfolding all_offered
 offered_line l = refl
 
-in_turn : (ls : List SwitchLine) → offered_from (length ls) 0 ls ≡ map offers_line ls
+pub in_turn : (ls : List SwitchLine) → offered_from (length ls) 0 ls ≡ map offers_line ls
 in_turn [] = refl
 in_turn (l ∷ ls) = shifted (length ls) 0 (with_end all_offered l) ls ∙ ap₂ (λ (x : SwitchLine) (xs : List SwitchLine). x ∷ xs) (offered_line l) (in_turn ls)
 
