@@ -2,7 +2,6 @@
 use Rattle.std.proofs.Common.{◌≡◌, ℕ, zero, suc, ◌+◌, ◌&&◌, map, arith, option_map, ◌⊎◌, inl, inr, Bool, true, false, ◌||◌, ◌==◌, if◌then◌else◌, List, [], ◌∷◌, length, Option, Some, None, is_some, refl, sym, ap, subst, ◌∙◌, true≢false}
 use Rattle.std.specs.Prelude.{slice_get}
 use Rattle.std.proofs.lemmas.Bool.{eq-eqb}
-use Rattle.std.proofs.lemmas.Option.{none-some, same_Some}
 use Rattle.link_timers.specs.declared.timers.TimerId.{TimerId}
 use Rattle.lapb.specs.Machine.{can_offer}
 use Rattle.packet_layer.specs.Packets.{Note}
@@ -16,18 +15,18 @@ use Rattle.x25_switch.specs.Direction.{request_for}
 use Rattle.x25_switch.specs.declared.place.Place.{Place}
 use Rattle.x25_switch.specs.declared.place.Joined.{Joined}
 use Rattle.x25_switch.specs.Lines.{SwitchLine, same_place, joined_on, joined_at, front_at, front_of_line, refusal_at, refusal_of_line, places}
-use Rattle.x25_switch.specs.Relay.{moved, moved_joined, moved_front, moved_unless, relayed, relayed_from, all_relayed}
+use Rattle.x25_switch.specs.Relay.{moved_joined, moved_front, moved_unless, relayed, relayed_from, all_relayed}
 use Rattle.x25_switch.specs.Switch.{Switch, acted, all_begun, may_offer, offered_from, to_relink, relinked_at, all_relinked, relinks_of}
 use Rattle.switch_laws.specs.Turn.{AreOctets}
 use Rattle.switch_laws.specs.World.{World, Shown, shown_as, shown_on, shown_at, layers_of}
 use Rattle.switch_laws.specs.Joined.{IsSwitch, Becomes, HasRelayedAll}
-use Rattle.switch_laws.specs.Stays.{IsNone, relinked_in}
-use Rattle.switch_laws.specs.Pairs.{caller, WasJoined, IsNewJoin, noted_in}
+use Rattle.switch_laws.specs.Stays.{IsNone}
+use Rattle.switch_laws.specs.Pairs.{WasJoined, IsNewJoin}
 use Rattle.switch_laws.specs.Concern.{offering_from, is_one_of, joined_to, is_concerned, concerned, relayed_on, HasRelayedBut, lines_of_event, before_relay, RelaysItsOwn, ConcernLaw}
 use Rattle.switch_laws.proofs.Lists.{decided, place_is, not_equal, get_map}
 use Rattle.switch_laws.proofs.Rounds.{offers_line, in_turn}
 use Rattle.switch_laws.proofs.Relaying.{StuckAt, Visited, visited, relayed_same}
-use Rattle.switch_laws.proofs.Staying.{IsOther, Beside, acted_beside}
+use Rattle.switch_laws.proofs.Staying.{IsOther, acted_beside}
 use Rattle.switch_laws.proofs.Turning.{relinked_effect, acted_right}
 use Rattle.switch_laws.proofs.Keeping.{layers_on_ends, joined_on_ends}
 use Rattle.switch_laws.proofs.Newness.{before_joins}
@@ -77,11 +76,11 @@ relays lines ls w i but = passes_over lines ls (places ls) ls w i (λ p f j t e 
 
 -- ---- what waits on a channel, and what it takes, as its line shows it
 
-abbrev front_shown : Option Shown → Option Taken
+abbrev pub front_shown : Option Shown → Option Taken
 front_shown None = None
 front_shown (Some s) = front s.channel.traffic
 
-abbrev refusal_shown : Request → Option Shown → Option Refusal
+abbrev pub refusal_shown : Request → Option Shown → Option Refusal
 refusal_shown q None = Some Refusal.NoCall
 refusal_shown q (Some s) = refusal s.role s.channel q
 
@@ -103,13 +102,13 @@ line_refusal [] n c q = refl
 line_refusal (l ∷ ls) zero c q = channel_refusal l.end.layer q (channel_of l.end.layer c)
 line_refusal (l ∷ ls) (suc n) c q = line_refusal ls n c q
 
-abbrev SameShown : (ls ms : List SwitchLine) → Place → Type 0
+abbrev pub SameShown : (ls ms : List SwitchLine) → Place → Type 0
 SameShown ls ms p = shown_at (layers_of ms) p ≡ shown_at (layers_of ls) p
 
-same_front : (ls ms : List SwitchLine) (p : Place) → SameShown ls ms p → front_at ms p ≡ front_at ls p
+pub same_front : (ls ms : List SwitchLine) (p : Place) → SameShown ls ms p → front_at ms p ≡ front_at ls p
 same_front ls ms p e = line_front ms p.line p.channel ∙ (ap (λ (o : Option Shown). front_shown o) e ∙ sym (line_front ls p.line p.channel))
 
-same_refusal : (ls ms : List SwitchLine) (p : Place) (q : Request) → SameShown ls ms p → refusal_at ms p q ≡ refusal_at ls p q
+pub same_refusal : (ls ms : List SwitchLine) (p : Place) (q : Request) → SameShown ls ms p → refusal_at ms p q ≡ refusal_at ls p q
 same_refusal ls ms p q e = line_refusal ms p.line p.channel q ∙ (ap (λ (o : Option Shown). refusal_shown q o) e ∙ sym (line_refusal ls p.line p.channel q))
 
 -- ---- links that are set up anew

@@ -342,7 +342,7 @@ there_on : (js : List (Option Joined)) (c : ℕ) → has_nth (no_joins js) c ≡
 there_on js zero = refl
 there_on js (suc i) = there_nth js i
 
-restarted_joined : (ls : List SwitchLine) (n c : ℕ) → joined_on (slice_get (map without_joins ls) n) c ≡ None
+pub restarted_joined : (ls : List SwitchLine) (n c : ℕ) → joined_on (slice_get (map without_joins ls) n) c ≡ None
 restarted_joined [] n c = refl
 restarted_joined (l ∷ ls) zero c = none_on l.joined c
 restarted_joined (l ∷ ls) (suc n) c = restarted_joined ls n c

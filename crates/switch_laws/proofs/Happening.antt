@@ -10,15 +10,17 @@ use Rattle.lapb.specs.Machine as link
 use Rattle.lapb.specs.Machine.{Octets, Link, sendable, send_all, settle_in}
 use Rattle.line_end.specs.End as line
 use Rattle.line_end.specs.End.{End}
-use Rattle.packet_layer.specs.Channel.{Channel, closed_channel, had_call}
+use Rattle.packet_layer.specs.Channel.{Refusal, Channel, closed_channel, had_call}
 use Rattle.packet_layer.specs.Layer.{Layer, channel_of, nth_channel, standing_channels}
 use Rattle.packet_laws.specs.History.{empty_epoch}
 use Rattle.packet_laws.specs.Readable.{Every}
 use Rattle.packet_end.specs.PacketEnd.{PacketEnd, received, after_timer, all_offered, settled, elapsed, without_first_frame}
 use Rattle.address_routes.specs.Routes.{RouteMap}
+use Rattle.x25_switch.specs.Direction.{request_for}
+use Rattle.x25_switch.specs.declared.place.Place.{Place}
 use Rattle.x25_switch.specs.declared.place.Joined.{Joined}
 use Rattle.x25_switch.specs.declared.config.LineConfig.{LineConfig}
-use Rattle.x25_switch.specs.Lines.{SwitchLine, changed, flat, nth_joined, joined_on}
+use Rattle.x25_switch.specs.Lines.{SwitchLine, changed, flat, nth_joined, joined_on, joined_at}
 use Rattle.x25_switch.specs.Relay.{all_relayed}
 use Rattle.x25_switch.specs.Making.{IsConfig, IsLineConfig, made, made_line}
 use Rattle.x25_switch.specs.Switch.{Switch, with_end, all_begun, all_relinked, all_offered_on, finished, may_offer, offered_from, rounds, on_frame, on_timer, restart, elapse, without_frame, without_joins}
@@ -26,7 +28,7 @@ use Rattle.switch_laws.specs.Offers.{HaveSmallLinks}
 use Rattle.switch_laws.specs.Leg.{Leg}
 use Rattle.switch_laws.specs.Calls.{CallsAreJoined}
 use Rattle.switch_laws.specs.World.{World, Shown, Agrees, shown_as, shown_on, shown_at, layers_of, closed}
-use Rattle.switch_laws.specs.Joined.{IsSwitch, Becomes, Reached, has_nth, has_place_on}
+use Rattle.switch_laws.specs.Joined.{IsSwitch, Becomes, Reached, has_nth, has_place_on, HasRelayedAll}
 use Rattle.switch_laws.specs.Events.{Event, after_event, MayCome, SwitchHolds, AfterEvent, HoldsOn, window_of, new_legs, EventLaw}
 use Rattle.switch_laws.specs.Events.Event.{Arrives, Expires, Restarts, Elapses, Departs}
 use Rattle.switch_laws.specs.Events.HoldsOn.{ended, goes_on}
@@ -37,9 +39,10 @@ use Rattle.switch_laws.proofs.Places.{joined_kept, place_after}
 use Rattle.switch_laws.proofs.Effects.{steady}
 use Rattle.switch_laws.proofs.Rounds.{lines_of, all_lines, grows}
 use Rattle.switch_laws.proofs.Offered.{ks, AreSmall, acted_ks, act_ks, all_relinked_ks, begun_ks, small_links, received_k, timer_k}
-use Rattle.switch_laws.proofs.Keeping.{ends_keep}
+use Rattle.switch_laws.proofs.Keeping.{ends_keep, layers_on_ends, joined_on_ends}
+use Rattle.switch_laws.proofs.Concerning.{same_front, same_refusal}
 use Rattle.switch_laws.proofs.Coming.{begins_right}
-use Rattle.switch_laws.proofs.Finishing.{turns}
+use Rattle.switch_laws.proofs.Finishing.{turns, restarted_joined}
 
 -- ---- sizes of links
 
@@ -116,6 +119,12 @@ departs_calls n ls all x h =
     ap (λ (o : Option Joined). is_some o) (joined_kept n x.line x.channel (with_end without_first_frame) ls (λ l. refl))
     ∙ all x (record { channel = h.channel; there = sym (ap (λ (ys : List Layer). shown_at ys x) (departs_layers n ls)) ∙ h.there; call = h.call })
 
+-- what waits and is taken is as before where the layers and the joins are
+still_relayed : (ls ms : List SwitchLine) → layers_of ms ≡ layers_of ls → ((x : Place) → joined_at ms x ≡ joined_at ls x) → HasRelayedAll ls → HasRelayedAll ms
+still_relayed ls ms same joined_ all p j t e f =
+    ap (λ (o : Option Refusal). is_some o) (same_refusal ls ms j.other (request_for t) (ap (λ (ys : List Layer). shown_at ys j.other) same))
+    ∙ all p j t (sym (joined_ p) ∙ e) (sym (same_front ls ms p (ap (λ (ys : List Layer). shown_at ys p) same)) ∙ f)
+
 -- ---- events
 
 stays : (event : Event) (s : Switch) (w : World) → MayCome event → SwitchHolds s w → AfterEvent event s w
@@ -127,10 +136,11 @@ stays (Arrives n octets) s w are h =
       holds = record {
         joins = b.right;
         calls = turns.frame_joins_calls n octets s w are h.joins h.calls;
+        relayed = turns.frame_keeps_nothing_back n octets s w are h.joins;
         links = same_links s.lines (on_frame n octets s).lines
             (finished_ks s.routes _ ∙ (act_ks s.routes n (λ e. received e octets) (all_begun s.lines) (λ e. received_k octets e) ∙ begun_ks s.lines)) h.links;
       };
-      nothing_kept_back = record { relayed = turns.frame_keeps_nothing_back n octets s w are h.joins; offered = turns.frame_offers n octets s h.links };
+      nothing_kept_back = turns.frame_offers n octets s h.links;
     }
 stays (Expires n id) s w are h =
     let b = turns.timer n id s w h.joins in
@@ -140,10 +150,11 @@ stays (Expires n id) s w are h =
       holds = record {
         joins = b.right;
         calls = turns.timer_joins_calls n id s w h.joins h.calls;
+        relayed = turns.timer_keeps_nothing_back n id s w h.joins;
         links = same_links s.lines (on_timer n id s).lines
             (finished_ks s.routes _ ∙ (act_ks s.routes n (λ e. after_timer e id) (all_begun s.lines) (λ e. timer_k id e) ∙ begun_ks s.lines)) h.links;
       };
-      nothing_kept_back = record { relayed = turns.timer_keeps_nothing_back n id s w h.joins; offered = turns.timer_offers n id s h.links };
+      nothing_kept_back = turns.timer_offers n id s h.links;
     }
 stays Restarts s w are h = record {
   world = λ x. closed (w x);
@@ -151,6 +162,7 @@ stays Restarts s w are h = record {
   holds = record {
     joins = turns.restarts s w h.joins;
     calls = λ x c. absurd (turns.restart_ends_calls s w h.joins x c);
+    relayed = λ p j t e f. absurd (none-some j (sym (restarted_joined s.lines p.line p.channel) ∙ e));
     links = same_links s.lines (restart s).lines (restarted_ks s.lines) h.links;
   };
   nothing_kept_back = tt;
@@ -163,6 +175,7 @@ stays (Elapses ticks) s w are h =
       holds = record {
         joins = b.right;
         calls = ends_keep (λ e. elapsed e ticks) s.lines (λ e. refl) h.calls;
+        relayed = still_relayed s.lines (elapse ticks s).lines (layers_on_ends (λ e. elapsed e ticks) s.lines (λ e. refl)) (λ x. joined_on_ends (λ e. elapsed e ticks) s.lines x.line x.channel) h.relayed;
         links = same_links s.lines (elapse ticks s).lines (all_ks (λ e. elapsed e ticks) s.lines (λ e. refl)) h.links;
       };
       nothing_kept_back = tt;
@@ -175,6 +188,7 @@ stays (Departs n) s w are h =
       holds = record {
         joins = b.right;
         calls = departs_calls n s.lines h.calls;
+        relayed = still_relayed s.lines (without_frame n s).lines (departs_layers n s.lines) (λ x. joined_kept n x.line x.channel (with_end without_first_frame) s.lines (λ l. refl)) h.relayed;
         links = same_links s.lines (without_frame n s).lines (acted_ks n without_first_frame s.lines (λ e. refl)) h.links;
       };
       nothing_kept_back = tt;
@@ -274,6 +288,7 @@ begins routes lines is = record {
       (λ x. new_joined lines x.line x.channel);
   calls = λ x h.
       absurd (true≢false (sym h.call ∙ ap (λ (s : Shown). had_call s.channel.state) (new_agrees lines x.line x.channel h.channel is.each h.there).shown));
+  relayed = λ p j t e f. absurd (none-some j (sym (new_joined lines p.line p.channel) ∙ e));
   links = new_links lines is.each;
 }
 

@@ -14,14 +14,14 @@ use Rattle.packet_layer.specs.Channel.{Channel, Request, Refusal, had_call}
 use Rattle.packet_layer.specs.Channel.Request.{Accept, Clearing, Resetting, Taking, Releasing, Confirming}
 use Rattle.packet_layer.specs.Layer.{closing_notes}
 use Rattle.packet_end.specs.PacketEnd.{PacketEnd, received, after_timer, relinked, all_offered, settled, begun}
-use Rattle.address_routes.specs.Routes.{RouteMap, line_for}
+use Rattle.address_routes.specs.Routes.{RouteMap}
 use Rattle.x25_switch.specs.Direction.{Direction, new_direction, releasable, released, carried_by, covered_by, request_for}
 use Rattle.x25_switch.specs.Causes.{reset_cause, clear_cause, far_diagnostic}
 use Rattle.x25_switch.specs.declared.place.Place.{Place}
 use Rattle.x25_switch.specs.declared.place.Joined.{Joined}
 use Rattle.x25_switch.specs.Lines.{SwitchLine, changed, flat, nth_joined, joined_on, joined_at, with_nth_joined, with_joined, ask, front_at, refusal_at, places}
 use Rattle.x25_switch.specs.Relay.{with_kept, freed, moved, moved_unless, moved_front, moved_joined, relayed, relayed_from, all_relayed, kept_anew, covered_on, told_joined, told_of}
-use Rattle.x25_switch.specs.Switch.{Switch, Answer, answer, answered, forwarded, place_call, with_join, heed, heed_all, with_end, notes_of, without_notes, quieted, acted, to_relink, relinked_at, all_relinked, may_offer, offered_from, rounds, finished, all_begun, on_frame, on_timer}
+use Rattle.x25_switch.specs.Switch.{Switch, Answer, answer, answered, forwarded, place_call, heed, heed_all, with_end, notes_of, without_notes, quieted, acted, to_relink, relinked_at, all_relinked, may_offer, offered_from, rounds, finished, all_begun, on_frame, on_timer}
 use Rattle.x25_switch.specs.Switch.Answer.{Clears, Joins}
 use Rattle.switch_laws.specs.Concern.{before_relay}
 use Rattle.switch_laws.specs.Pairs.{caller, callee, IsNoted, WasJoined, IsNewJoin, JoinsByRoute, noted_in}

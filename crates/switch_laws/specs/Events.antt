@@ -42,10 +42,12 @@ MayCome event = Unit {0}
 
 -- ---- what always holds of a switch and the legs of its channels
 
--- all joins hold, each channel that has a call is joined, and the links are of the sizes that a switch is made with
+-- all joins hold, each channel that has a call is joined, nothing waits on a leg that the other one takes, and the
+-- links are of the sizes that a switch is made with
 pub record SwitchHolds (s : Switch) (w : World) : Type 0 where
   pub joins : IsSwitch s.lines w
   pub calls : CallsAreJoined s.lines
+  pub relayed : HasRelayedAll s.lines
   pub links : HaveSmallLinks s.lines
 
 -- the packet layers and the legs move together, by acts; in a restart all legs close
@@ -53,14 +55,10 @@ abbrev pub LegsMove : Event → List SwitchLine → World → List SwitchLine �
 LegsMove Restarts ls w ms v = v ≡ (λ x. closed (w x))
 LegsMove event ls w ms v = Reached ls w ms v
 
--- after a frame and after an expiry nothing is kept back: on the legs, in the packet layers, at the links
-pub record NothingIsLeft (ls : List SwitchLine) : Type 0 where
-  pub relayed : HasRelayedAll ls
-  pub offered : EndsKeepNothingBack ls
-
+-- after a frame and after an expiry nothing is kept back in the packet layers and at the links either
 abbrev pub NothingIsKeptBack : Event → List SwitchLine → Type 0
-NothingIsKeptBack (Arrives n octets) ls = NothingIsLeft ls
-NothingIsKeptBack (Expires n id) ls = NothingIsLeft ls
+NothingIsKeptBack (Arrives n octets) ls = EndsKeepNothingBack ls
+NothingIsKeptBack (Expires n id) ls = EndsKeepNothingBack ls
 NothingIsKeptBack event ls = Unit {0}
 
 pub record AfterEvent (event : Event) (s : Switch) (w : World) : Type 0 where
