@@ -4,5 +4,5 @@
 mod relay;
 
 pub use relay::{
-    concern_law, event_law, join_law, pair_law, relay_law, run_law, switch_law, turn_law,
+    concern_law, join_law, pair_law, relay_law, run_law, switch_events_law, switch_law, turn_law,
 };

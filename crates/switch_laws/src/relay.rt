@@ -45,7 +45,7 @@ pub fn concern_law()
 
 /// A switch from its making on, whatever comes to it and in whatever order: it stays one of which the laws above speak,
 /// and its legs move as its packet layers do. Who owns a switch keeps so, from event to event, what the laws ask for.
-pub fn event_law()
+pub fn switch_events_law()
     ensures { EventLaw }
 {}
 
