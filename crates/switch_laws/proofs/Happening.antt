@@ -23,7 +23,7 @@ use Rattle.x25_switch.specs.declared.config.LineConfig.{LineConfig}
 use Rattle.x25_switch.specs.Lines.{SwitchLine, changed, flat, nth_joined, joined_on, joined_at}
 use Rattle.x25_switch.specs.Relay.{all_relayed}
 use Rattle.x25_switch.specs.Making.{IsConfig, IsLineConfig, made, made_line}
-use Rattle.x25_switch.specs.Switch.{Switch, with_end, all_begun, all_relinked, all_offered_on, finished, may_offer, offered_from, rounds, on_frame, on_timer, restart, elapse, without_frame, without_joins}
+use Rattle.x25_switch.specs.Switch.{Switch, with_end, acted, all_begun, all_relinked, all_offered_on, finished, may_offer, offered_from, rounds, on_frame, on_timer, restart, elapse, without_frame, without_joins, to_relink, raised}
 use Rattle.switch_laws.specs.Offers.{HaveSmallLinks}
 use Rattle.switch_laws.specs.Leg.{Leg}
 use Rattle.switch_laws.specs.Calls.{CallsAreJoined}
@@ -40,6 +40,7 @@ use Rattle.switch_laws.proofs.Effects.{steady}
 use Rattle.switch_laws.proofs.Rounds.{lines_of, all_lines, grows}
 use Rattle.switch_laws.proofs.Offered.{ks, AreSmall, acted_ks, act_ks, all_relinked_ks, begun_ks, small_links, received_k, timer_k}
 use Rattle.switch_laws.proofs.Keeping.{ends_keep, layers_on_ends, joined_on_ends}
+use Rattle.switch_laws.proofs.Relinking.{finished_end, ends_ask, same_asking}
 use Rattle.switch_laws.proofs.Concerning.{same_front, same_refusal}
 use Rattle.switch_laws.proofs.Coming.{begins_right}
 use Rattle.switch_laws.proofs.Finishing.{turns, restarted_joined}
@@ -125,6 +126,10 @@ still_relayed ls ms same joined_ all p j t e f =
     ap (λ (o : Option Refusal). is_some o) (same_refusal ls ms j.other (request_for t) (ap (λ (ys : List Layer). shown_at ys j.other) same))
     ∙ all p j t (sym (joined_ p) ∙ e) (sym (same_front ls ms p (ap (λ (ys : List Layer). shown_at ys p) same)) ∙ f)
 
+restarted_end : (ls : List SwitchLine) → to_relink (map without_joins ls) ≡ None
+restarted_end [] = refl
+restarted_end (l ∷ ls) = ap (λ (o : Option ℕ). raised o) (restarted_end ls)
+
 -- ---- events
 
 stays : (event : Event) (s : Switch) (w : World) → MayCome event → SwitchHolds s w → AfterEvent event s w
@@ -137,6 +142,7 @@ stays (Arrives n octets) s w are h =
         joins = b.right;
         calls = turns.frame_joins_calls n octets s w are h.joins h.calls;
         relayed = turns.frame_keeps_nothing_back n octets s w are h.joins;
+        no_relink = finished_end s.routes (acted s.routes n (λ e. received e octets) (all_begun s.lines));
         links = same_links s.lines (on_frame n octets s).lines
             (finished_ks s.routes _ ∙ (act_ks s.routes n (λ e. received e octets) (all_begun s.lines) (λ e. received_k octets e) ∙ begun_ks s.lines)) h.links;
       };
@@ -151,6 +157,7 @@ stays (Expires n id) s w are h =
         joins = b.right;
         calls = turns.timer_joins_calls n id s w h.joins h.calls;
         relayed = turns.timer_keeps_nothing_back n id s w h.joins;
+        no_relink = finished_end s.routes (acted s.routes n (λ e. after_timer e id) (all_begun s.lines));
         links = same_links s.lines (on_timer n id s).lines
             (finished_ks s.routes _ ∙ (act_ks s.routes n (λ e. after_timer e id) (all_begun s.lines) (λ e. timer_k id e) ∙ begun_ks s.lines)) h.links;
       };
@@ -163,6 +170,7 @@ stays Restarts s w are h = record {
     joins = turns.restarts s w h.joins;
     calls = λ x c. absurd (turns.restart_ends_calls s w h.joins x c);
     relayed = λ p j t e f. absurd (none-some j (sym (restarted_joined s.lines p.line p.channel) ∙ e));
+    no_relink = restarted_end s.lines;
     links = same_links s.lines (restart s).lines (restarted_ks s.lines) h.links;
   };
   nothing_kept_back = tt;
@@ -176,6 +184,7 @@ stays (Elapses ticks) s w are h =
         joins = b.right;
         calls = ends_keep (λ e. elapsed e ticks) s.lines (λ e. refl) h.calls;
         relayed = still_relayed s.lines (elapse ticks s).lines (layers_on_ends (λ e. elapsed e ticks) s.lines (λ e. refl)) (λ x. joined_on_ends (λ e. elapsed e ticks) s.lines x.line x.channel) h.relayed;
+        no_relink = ends_ask (λ e. elapsed e ticks) s.lines (λ e. refl) ∙ h.no_relink;
         links = same_links s.lines (elapse ticks s).lines (all_ks (λ e. elapsed e ticks) s.lines (λ e. refl)) h.links;
       };
       nothing_kept_back = tt;
@@ -189,6 +198,7 @@ stays (Departs n) s w are h =
         joins = b.right;
         calls = departs_calls n s.lines h.calls;
         relayed = still_relayed s.lines (without_frame n s).lines (departs_layers n s.lines) (λ x. joined_kept n x.line x.channel (with_end without_first_frame) s.lines (λ l. refl)) h.relayed;
+        no_relink = same_asking s.lines (without_frame n s).lines (map_unchanged (λ l. l.end.layer.relink) (with_end without_first_frame) n s.lines (λ l. refl)) ∙ h.no_relink;
         links = same_links s.lines (without_frame n s).lines (acted_ks n without_first_frame s.lines (λ e. refl)) h.links;
       };
       nothing_kept_back = tt;
@@ -282,6 +292,10 @@ new_links (x ∷ xs) are zero l e =
     (subst (λ (k : ℕ). k ≤ 7) (sym (new_k x.params.k x.params.n2 x.params.standing)) (are 0 x refl).params.link.k_most)
 new_links (x ∷ xs) are (suc n) l e = new_links xs (λ m y f. are (suc m) y f) n l e
 
+new_end : (lines : List LineConfig) → to_relink (map made_line lines) ≡ None
+new_end [] = refl
+new_end (x ∷ xs) = ap (λ (o : Option ℕ). raised o) (new_end xs)
+
 begins : (routes : RouteMap) (lines : List LineConfig) → IsConfig lines → SwitchHolds (made routes lines) (new_legs lines)
 begins routes lines is = record {
   joins = begins_right (map made_line lines) (new_legs lines) (λ x s e. new_agrees lines x.line x.channel s is.each e) (λ x e. new_place lines x.line x.channel is.each e)
@@ -289,6 +303,7 @@ begins routes lines is = record {
   calls = λ x h.
       absurd (true≢false (sym h.call ∙ ap (λ (s : Shown). had_call s.channel.state) (new_agrees lines x.line x.channel h.channel is.each h.there).shown));
   relayed = λ p j t e f. absurd (none-some j (sym (new_joined lines p.line p.channel) ∙ e));
+  no_relink = new_end lines;
   links = new_links lines is.each;
 }
 

@@ -9,7 +9,7 @@ use Rattle.address_routes.specs.Routes.{RouteMap}
 use Rattle.x25_switch.specs.declared.config.LineConfig.{LineConfig}
 use Rattle.x25_switch.specs.Lines.{SwitchLine}
 use Rattle.x25_switch.specs.Making.{IsConfig, made}
-use Rattle.x25_switch.specs.Switch.{Switch, on_frame, on_timer, restart, elapse, without_frame}
+use Rattle.x25_switch.specs.Switch.{Switch, on_frame, on_timer, restart, elapse, without_frame, to_relink}
 use Rattle.switch_laws.specs.Turn.{AreOctets}
 use Rattle.switch_laws.specs.Calls.{CallsAreJoined}
 use Rattle.switch_laws.specs.Offers.{HaveSmallLinks, EndsKeepNothingBack}
@@ -42,12 +42,13 @@ MayCome event = Unit {0}
 
 -- ---- what always holds of a switch and the legs of its channels
 
--- all joins hold, each channel that has a call is joined, nothing waits on a leg that the other one takes, and the
--- links are of the sizes that a switch is made with
+-- all joins hold, each channel that has a call is joined, nothing waits on a leg that the other one takes, no link has
+-- to be set up anew, and the links are of the sizes that a switch is made with
 pub record SwitchHolds (s : Switch) (w : World) : Type 0 where
   pub joins : IsSwitch s.lines w
   pub calls : CallsAreJoined s.lines
   pub relayed : HasRelayedAll s.lines
+  pub no_relink : to_relink s.lines ≡ None
   pub links : HaveSmallLinks s.lines
 
 -- the packet layers and the legs move together, by acts; in a restart all legs close
