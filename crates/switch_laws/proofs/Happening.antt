@@ -1,5 +1,5 @@
 -- What is made is a switch of which the laws speak, and each event leaves it one.
-use Rattle.std.proofs.Common.{◌≡◌, ℕ, zero, suc, ◌*◌, ◌≤◌, Bool, true, false, if◌then◌else◌, List, [], ◌∷◌, map, length, replicate, Option, Some, None, is_some, refl, sym, ap, ap₂, subst, ◌∙◌, true≢false}
+use Rattle.std.proofs.Common.{◌≡◌, ℕ, zero, suc, ◌*◌, ◌≤◌, Bool, true, false, if◌then◌else◌, ◌&&◌, ◌||◌, inl, inr, List, [], ◌∷◌, map, length, replicate, Option, Some, None, is_some, refl, sym, ap, ap₂, subst, ◌∙◌, true≢false}
 use Rattle.std.specs.Prelude.{slice_get}
 use Rattle.std.specs.List.{list_any}
 use Rattle.std.proofs.lemmas.Option.{none-some, same_Some}
@@ -7,14 +7,15 @@ use Rattle.link_timers.specs.declared.role.Role.TheVariants.{Dce}
 use Rattle.lapb.specs.declared.phase.Phase.{Phase}
 use Rattle.lapb.specs.declared.phase.Phase.TheVariants as phase
 use Rattle.lapb.specs.Machine as link
-use Rattle.lapb.specs.Machine.{Octets, Link, sendable, send_all, settle_in}
+use Rattle.lapb.specs.Machine.{Octets, Link, can_offer, sendable, send_all, settle_in}
 use Rattle.line_end.specs.End as line
 use Rattle.line_end.specs.End.{End}
+use Rattle.packet_layer.specs.Packets.{Packet}
 use Rattle.packet_layer.specs.Channel.{Refusal, Channel, closed_channel, had_call}
-use Rattle.packet_layer.specs.Layer.{Layer, channel_of, nth_channel, standing_channels}
+use Rattle.packet_layer.specs.Layer.{Layer, channel_of, nth_channel, standing_channels, start_phase, next_in, next_packet}
 use Rattle.packet_laws.specs.History.{empty_epoch}
 use Rattle.packet_laws.specs.Readable.{Every}
-use Rattle.packet_end.specs.PacketEnd.{PacketEnd, received, after_timer, all_offered, settled, elapsed, without_first_frame}
+use Rattle.packet_end.specs.PacketEnd.{PacketEnd, HasOfferedAll, received, after_timer, all_offered, settled, elapsed, without_first_frame}
 use Rattle.address_routes.specs.Routes.{RouteMap}
 use Rattle.x25_switch.specs.Direction.{request_for}
 use Rattle.x25_switch.specs.declared.place.Place.{Place}
@@ -24,7 +25,7 @@ use Rattle.x25_switch.specs.Lines.{SwitchLine, changed, flat, nth_joined, joined
 use Rattle.x25_switch.specs.Relay.{all_relayed}
 use Rattle.x25_switch.specs.Making.{IsConfig, IsLineConfig, made, made_line}
 use Rattle.x25_switch.specs.Switch.{Switch, with_end, acted, all_begun, all_relinked, all_offered_on, finished, may_offer, offered_from, rounds, on_frame, on_timer, restart, elapse, without_frame, without_joins, to_relink, raised}
-use Rattle.switch_laws.specs.Offers.{HaveSmallLinks}
+use Rattle.switch_laws.specs.Offers.{HaveSmallLinks, EndsKeepNothingBack}
 use Rattle.switch_laws.specs.Leg.{Leg}
 use Rattle.switch_laws.specs.Calls.{CallsAreJoined}
 use Rattle.switch_laws.specs.World.{World, Shown, Agrees, shown_as, shown_on, shown_at, layers_of, closed}
@@ -126,6 +127,35 @@ still_relayed ls ms same joined_ all p j t e f =
     ap (λ (o : Option Refusal). is_some o) (same_refusal ls ms j.other (request_for t) (ap (λ (ys : List Layer). shown_at ys j.other) same))
     ∙ all p j t (sym (joined_ p) ∙ e) (sym (same_front ls ms p (ap (λ (ys : List Layer). shown_at ys p) same)) ∙ f)
 
+-- ---- no link takes a packet
+
+and_false : (b : Bool) → (b && false) ≡ false
+and_false true = refl
+and_false false = refl
+
+keeps_none : (l : SwitchLine) → HasOfferedAll l.end → may_offer l ≡ false
+keeps_none l (inl room) = ap (λ (b : Bool). b && is_some (next_packet l.end.layer).packet) room
+keeps_none l (inr silent) = ap (λ (o : Option Packet). can_offer l.end.line.link && is_some o) silent ∙ and_false (can_offer l.end.line.link)
+
+none_offer : (ls : List SwitchLine) → EndsKeepNothingBack ls → list_any may_offer ls ≡ false
+none_offer [] h = refl
+none_offer (l ∷ ls) h =
+    ap (λ (b : Bool). b || list_any may_offer ls) (keeps_none l (h 0 l refl).offered) ∙ none_offer ls (λ n x e. h (suc n) x e)
+
+restarted_offer : (ls : List SwitchLine) → list_any may_offer (map without_joins ls) ≡ false
+restarted_offer [] = refl
+restarted_offer (l ∷ ls) =
+    ap (λ (b : Bool). b || list_any may_offer (map without_joins ls)) (and_false (can_offer (without_joins l).end.line.link)) ∙ restarted_offer ls
+
+elapsed_offer : (ticks : ℕ) (ls : List SwitchLine) → list_any may_offer (map (with_end (λ e. elapsed e ticks)) ls) ≡ list_any may_offer ls
+elapsed_offer ticks [] = refl
+elapsed_offer ticks (l ∷ ls) = ap (λ (b : Bool). may_offer l || b) (elapsed_offer ticks ls)
+
+departs_offer : (n : ℕ) (ls : List SwitchLine) → list_any may_offer (changed n (with_end without_first_frame) ls) ≡ list_any may_offer ls
+departs_offer n [] = refl
+departs_offer zero (l ∷ ls) = refl
+departs_offer (suc n) (l ∷ ls) = ap (λ (b : Bool). may_offer l || b) (departs_offer n ls)
+
 restarted_end : (ls : List SwitchLine) → to_relink (map without_joins ls) ≡ None
 restarted_end [] = refl
 restarted_end (l ∷ ls) = ap (λ (o : Option ℕ). raised o) (restarted_end ls)
@@ -142,6 +172,7 @@ stays (Arrives n octets) s w are h =
         joins = b.right;
         calls = turns.frame_joins_calls n octets s w are h.joins h.calls;
         relayed = turns.frame_keeps_nothing_back n octets s w are h.joins;
+        offered = none_offer (on_frame n octets s).lines (turns.frame_offers n octets s h.links);
         no_relink = finished_end s.routes (acted s.routes n (λ e. received e octets) (all_begun s.lines));
         links = same_links s.lines (on_frame n octets s).lines
             (finished_ks s.routes _ ∙ (act_ks s.routes n (λ e. received e octets) (all_begun s.lines) (λ e. received_k octets e) ∙ begun_ks s.lines)) h.links;
@@ -157,6 +188,7 @@ stays (Expires n id) s w are h =
         joins = b.right;
         calls = turns.timer_joins_calls n id s w h.joins h.calls;
         relayed = turns.timer_keeps_nothing_back n id s w h.joins;
+        offered = none_offer (on_timer n id s).lines (turns.timer_offers n id s h.links);
         no_relink = finished_end s.routes (acted s.routes n (λ e. after_timer e id) (all_begun s.lines));
         links = same_links s.lines (on_timer n id s).lines
             (finished_ks s.routes _ ∙ (act_ks s.routes n (λ e. after_timer e id) (all_begun s.lines) (λ e. timer_k id e) ∙ begun_ks s.lines)) h.links;
@@ -170,6 +202,7 @@ stays Restarts s w are h = record {
     joins = turns.restarts s w h.joins;
     calls = λ x c. absurd (turns.restart_ends_calls s w h.joins x c);
     relayed = λ p j t e f. absurd (none-some j (sym (restarted_joined s.lines p.line p.channel) ∙ e));
+    offered = restarted_offer s.lines;
     no_relink = restarted_end s.lines;
     links = same_links s.lines (restart s).lines (restarted_ks s.lines) h.links;
   };
@@ -184,6 +217,7 @@ stays (Elapses ticks) s w are h =
         joins = b.right;
         calls = ends_keep (λ e. elapsed e ticks) s.lines (λ e. refl) h.calls;
         relayed = still_relayed s.lines (elapse ticks s).lines (layers_on_ends (λ e. elapsed e ticks) s.lines (λ e. refl)) (λ x. joined_on_ends (λ e. elapsed e ticks) s.lines x.line x.channel) h.relayed;
+        offered = elapsed_offer ticks s.lines ∙ h.offered;
         no_relink = ends_ask (λ e. elapsed e ticks) s.lines (λ e. refl) ∙ h.no_relink;
         links = same_links s.lines (elapse ticks s).lines (all_ks (λ e. elapsed e ticks) s.lines (λ e. refl)) h.links;
       };
@@ -198,6 +232,7 @@ stays (Departs n) s w are h =
         joins = b.right;
         calls = departs_calls n s.lines h.calls;
         relayed = still_relayed s.lines (without_frame n s).lines (departs_layers n s.lines) (λ x. joined_kept n x.line x.channel (with_end without_first_frame) s.lines (λ l. refl)) h.relayed;
+        offered = departs_offer n s.lines ∙ h.offered;
         no_relink = same_asking s.lines (without_frame n s).lines (map_unchanged (λ l. l.end.layer.relink) (with_end without_first_frame) n s.lines (λ l. refl)) ∙ h.no_relink;
         links = same_links s.lines (without_frame n s).lines (acted_ks n without_first_frame s.lines (λ e. refl)) h.links;
       };
@@ -292,6 +327,16 @@ new_links (x ∷ xs) are zero l e =
     (subst (λ (k : ℕ). k ≤ 7) (sym (new_k x.params.k x.params.n2 x.params.standing)) (are 0 x refl).params.link.k_most)
 new_links (x ∷ xs) are (suc n) l e = new_links xs (λ m y f. are (suc m) y f) n l e
 
+unready : (standing : Bool) (l : Layer) → standing ≡ false → (next_in (start_phase standing) false l).packet ≡ None
+unready true l e = absurd (true≢false e)
+unready false l e = refl
+
+new_offer : (lines : List LineConfig) → AreConfigs lines → list_any may_offer (map made_line lines) ≡ false
+new_offer [] are = refl
+new_offer (x ∷ xs) are =
+    ap (λ (b : Bool). b || list_any may_offer (map made_line xs))
+    (keeps_none (made_line x) (inr (unready x.params.standing (made_line x).end.layer (are 0 x refl).not_standing))) ∙ new_offer xs (λ m y f. are (suc m) y f)
+
 new_end : (lines : List LineConfig) → to_relink (map made_line lines) ≡ None
 new_end [] = refl
 new_end (x ∷ xs) = ap (λ (o : Option ℕ). raised o) (new_end xs)
@@ -303,6 +348,7 @@ begins routes lines is = record {
   calls = λ x h.
       absurd (true≢false (sym h.call ∙ ap (λ (s : Shown). had_call s.channel.state) (new_agrees lines x.line x.channel h.channel is.each h.there).shown));
   relayed = λ p j t e f. absurd (none-some j (sym (new_joined lines p.line p.channel) ∙ e));
+  offered = new_offer lines is.each;
   no_relink = new_end lines;
   links = new_links lines is.each;
 }

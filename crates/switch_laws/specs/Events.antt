@@ -1,5 +1,6 @@
 -- A switch as it is made, and whatever happens to it then: it stays one of which the laws speak.
-use Rattle.std.specs.Prelude.{◌≡◌, ℕ, List, [], ◌∷◌, slice_get, Option, Some, None}
+use Rattle.std.specs.Prelude.{◌≡◌, ℕ, false, List, [], ◌∷◌, slice_get, Option, Some, None}
+use Rattle.std.specs.List.{list_any}
 use Rattle.link_timers.specs.declared.role.Role.TheVariants.{Dce}
 use Rattle.link_timers.specs.declared.timers.TimerId.{TimerId}
 use Rattle.packet_layer.specs.Channel.{closed_channel}
@@ -9,7 +10,7 @@ use Rattle.address_routes.specs.Routes.{RouteMap}
 use Rattle.x25_switch.specs.declared.config.LineConfig.{LineConfig}
 use Rattle.x25_switch.specs.Lines.{SwitchLine}
 use Rattle.x25_switch.specs.Making.{IsConfig, made}
-use Rattle.x25_switch.specs.Switch.{Switch, on_frame, on_timer, restart, elapse, without_frame, to_relink}
+use Rattle.x25_switch.specs.Switch.{Switch, on_frame, on_timer, restart, elapse, without_frame, to_relink, may_offer}
 use Rattle.switch_laws.specs.Turn.{AreOctets}
 use Rattle.switch_laws.specs.Calls.{CallsAreJoined}
 use Rattle.switch_laws.specs.Offers.{HaveSmallLinks, EndsKeepNothingBack}
@@ -42,12 +43,13 @@ MayCome event = Unit {0}
 
 -- ---- what always holds of a switch and the legs of its channels
 
--- all joins hold, each channel that has a call is joined, nothing waits on a leg that the other one takes, no link has
--- to be set up anew, and the links are of the sizes that a switch is made with
+-- all joins hold, each channel that has a call is joined, nothing waits on a leg that the other one takes, no link
+-- takes a packet that its layer has, none has to be set up anew, and all are of the sizes that a switch is made with
 pub record SwitchHolds (s : Switch) (w : World) : Type 0 where
   pub joins : IsSwitch s.lines w
   pub calls : CallsAreJoined s.lines
   pub relayed : HasRelayedAll s.lines
+  pub offered : list_any may_offer s.lines ≡ false
   pub no_relink : to_relink s.lines ≡ None
   pub links : HaveSmallLinks s.lines
 
