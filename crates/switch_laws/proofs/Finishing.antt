@@ -181,7 +181,7 @@ all_offers : (n : ℕ) (ls : List SwitchLine) (w : World) → IsSwitch ls w → 
 unfolding all_offered
 all_offers n ls w i = offers 7 n ls w i
 
-offers_from : (count n : ℕ) (ls : List SwitchLine) (w : World) → IsSwitch ls w → Becomes ls w (offered_from count n ls)
+pub offers_from : (count n : ℕ) (ls : List SwitchLine) (w : World) → IsSwitch ls w → Becomes ls w (offered_from count n ls)
 offers_from zero n ls w i = becomes_same ls ls w refl i
 offers_from (suc count) n ls w i =
     let a = all_offers n ls w i in
@@ -219,7 +219,7 @@ relinks_at : (o : Option ℕ) (routes : RouteMap) (ls : List SwitchLine) (w : Wo
 relinks_at None routes ls w i = becomes_same ls ls w refl i
 relinks_at (Some n) routes ls w i = acted_right routes n relinked ls w i (λ line e. relinked_effect n line.end)
 
-all_relinks : (most : ℕ) (routes : RouteMap) (ls : List SwitchLine) (w : World) → IsSwitch ls w → Becomes ls w (all_relinked most routes ls)
+pub all_relinks : (most : ℕ) (routes : RouteMap) (ls : List SwitchLine) (w : World) → IsSwitch ls w → Becomes ls w (all_relinked most routes ls)
 all_relinks zero routes ls w i = becomes_same ls ls w refl i
 all_relinks (suc most) routes ls w i =
     let a = relinks_at (to_relink ls) routes ls w i in
@@ -268,7 +268,7 @@ finished_stuck routes ls w i p j t e f =
 
 -- ---- events
 
-begun_right : (ls : List SwitchLine) (w : World) → IsSwitch ls w → Becomes ls w (all_begun ls)
+pub begun_right : (ls : List SwitchLine) (w : World) → IsSwitch ls w → Becomes ls w (all_begun ls)
 begun_right ls w i = same_ends begun ls w (λ e. refl) i
 
 begun_line : (n : ℕ) (ls : List SwitchLine) (line : SwitchLine) → slice_get (all_begun ls) n ≡ Some line → (old : SwitchLine) × ((slice_get ls n ≡ Some old) × (with_end begun old ≡ line))
@@ -280,7 +280,7 @@ begun_line (suc n) (l ∷ ls) line e = begun_line n ls line e
 abbrev pub Readable : ℕ → Octets → List SwitchLine → Type 0
 Readable n octets ls = (line : SwitchLine) → slice_get ls n ≡ Some line → ReadsNumbers (link_octets.on_octets line.end.line.link octets).accepted
 
-came : (n : ℕ) (octets : Octets) (routes : RouteMap) (ls : List SwitchLine) (w : World) → Readable n octets ls → IsSwitch ls w → Becomes ls w (acted routes n (λ e. received e octets) (all_begun ls))
+pub came : (n : ℕ) (octets : Octets) (routes : RouteMap) (ls : List SwitchLine) (w : World) → Readable n octets ls → IsSwitch ls w → Becomes ls w (acted routes n (λ e. received e octets) (all_begun ls))
 came n octets routes ls w read i =
     let a = begun_right ls w i in
     becomes_then ls (all_begun ls) _ w a.world a.reached (acted_right routes n (λ e. received e octets) (all_begun ls) a.world a.right
@@ -288,7 +288,7 @@ came n octets routes ls w read i =
     let old = begun_line n ls line e in
     received_effect n octets line.end (subst (λ (l : SwitchLine). ReadsNumbers (link_octets.on_octets l.end.line.link octets).accepted) old.1.1 (read old.0 old.1.0))))
 
-ran : (n : ℕ) (id : TimerId) (routes : RouteMap) (ls : List SwitchLine) (w : World) → IsSwitch ls w → Becomes ls w (acted routes n (λ e. after_timer e id) (all_begun ls))
+pub ran : (n : ℕ) (id : TimerId) (routes : RouteMap) (ls : List SwitchLine) (w : World) → IsSwitch ls w → Becomes ls w (acted routes n (λ e. after_timer e id) (all_begun ls))
 ran n id routes ls w i =
     let a = begun_right ls w i in
     becomes_then ls (all_begun ls) _ w a.world a.reached (acted_right routes n (λ e. after_timer e id) (all_begun ls) a.world a.right (λ line e. timer_effect n id line.end))
@@ -311,7 +311,7 @@ octets_read : (o : Option Octets) → IfAny (λ packet. AreOctets packet) o → 
 octets_read None are = tt
 octets_read (Some octets) are = reads_numbers octets are
 
-readable : (n : ℕ) (octets : Octets) (ls : List SwitchLine) → AreOctets octets → Readable n octets ls
+pub readable : (n : ℕ) (octets : Octets) (ls : List SwitchLine) → AreOctets octets → Readable n octets ls
 readable n octets ls are line e = octets_read (link_octets.on_octets line.end.line.link octets).accepted (accepts_octets line.end.line.link octets are)
 
 -- ---- a restart
@@ -342,7 +342,7 @@ there_on : (js : List (Option Joined)) (c : ℕ) → has_nth (no_joins js) c ≡
 there_on js zero = refl
 there_on js (suc i) = there_nth js i
 
-restarted_joined : (ls : List SwitchLine) (n c : ℕ) → joined_on (slice_get (map without_joins ls) n) c ≡ None
+pub restarted_joined : (ls : List SwitchLine) (n c : ℕ) → joined_on (slice_get (map without_joins ls) n) c ≡ None
 restarted_joined [] n c = refl
 restarted_joined (l ∷ ls) zero c = none_on l.joined c
 restarted_joined (l ∷ ls) (suc n) c = restarted_joined ls n c
@@ -374,7 +374,7 @@ restart_right s w i = record {
 
 -- ---- the joins of other lines
 
-none_relinks : (most : ℕ) (routes : RouteMap) (ls : List SwitchLine) → to_relink ls ≡ None → all_relinked most routes ls ≡ ls
+pub none_relinks : (most : ℕ) (routes : RouteMap) (ls : List SwitchLine) → to_relink ls ≡ None → all_relinked most routes ls ≡ ls
 none_relinks zero routes ls e = refl
 none_relinks (suc most) routes ls e =
     ap (λ (o : Option ℕ). all_relinked most routes (relinked_at o routes ls)) e ∙ none_relinks most routes ls e

@@ -17,6 +17,11 @@ pub mod Effects
 pub mod Running
 pub mod Turning
 pub mod Finishing
+pub mod Relinking
+pub mod Happening
+pub mod Newness
+pub mod Pairing
+pub mod Concerning
 pub mod Octets
 pub mod Rounds
 pub mod Links

@@ -77,15 +77,15 @@ heed_all_lines routes n (x ∷ xs) ls = heed_all_lines routes n xs (heed routes 
 
 -- ---- no event changes k
 
-abbrev ks : List End → List ℕ
+abbrev pub ks : List End → List ℕ
 ks es = map (λ e. e.link.k) es
 
-acted_ks : (n : ℕ) (g : PacketEnd → PacketEnd) (ls : List SwitchLine) → ((e : PacketEnd) → (g e).line.link.k ≡ e.line.link.k) → ks (lines_of (changed n (with_end g) ls)) ≡ ks (lines_of ls)
+pub acted_ks : (n : ℕ) (g : PacketEnd → PacketEnd) (ls : List SwitchLine) → ((e : PacketEnd) → (g e).line.link.k ≡ e.line.link.k) → ks (lines_of (changed n (with_end g) ls)) ≡ ks (lines_of ls)
 acted_ks n g [] same = refl
 acted_ks zero g (l ∷ ls) same = ap (λ (k : ℕ). k ∷ ks (lines_of ls)) (same l.end)
 acted_ks (suc n) g (l ∷ ls) same = ap (λ (xs : List ℕ). l.end.line.link.k ∷ xs) (acted_ks n g ls same)
 
-act_ks : (routes : RouteMap) (n : ℕ) (f : PacketEnd → PacketEnd) (ls : List SwitchLine) → ((e : PacketEnd) → (f (quieted e)).line.link.k ≡ e.line.link.k) → ks (lines_of (acted routes n f ls)) ≡ ks (lines_of ls)
+pub act_ks : (routes : RouteMap) (n : ℕ) (f : PacketEnd → PacketEnd) (ls : List SwitchLine) → ((e : PacketEnd) → (f (quieted e)).line.link.k ≡ e.line.link.k) → ks (lines_of (acted routes n f ls)) ≡ ks (lines_of ls)
 act_ks routes n f ls same =
     let l1 = changed n (with_end (λ e. f (quieted e))) ls in
     ap (λ (es : List End). ks es) (heed_all_lines routes n (notes_of (slice_get l1 n)) (changed n (with_end without_notes) l1))
@@ -99,7 +99,7 @@ brought_k Up (Some octets) e k is = is
 brought_k Down None e k is = is
 brought_k Down (Some octets) e k is = is
 
-received_k : (octets : Octets) (e : PacketEnd) → (received (quieted e) octets).line.link.k ≡ e.line.link.k
+pub received_k : (octets : Octets) (e : PacketEnd) → (received (quieted e) octets).line.link.k ≡ e.line.link.k
 received_k octets e =
     brought_k (link_octets.on_octets e.line.link octets).note (link_octets.on_octets e.line.link octets).accepted (record (quieted e) { line = line.received e.line octets }) e.line.link.k (octets_keep_k e.line.link octets)
 
@@ -111,7 +111,7 @@ by_bool : {X : Type 0} (P : X → Type 0) (b : Bool) (x y : X) → P x → P y �
 by_bool P true x y f g = f
 by_bool P false x y f g = g
 
-timer_k : (id : TimerId) (e : PacketEnd) → (after_timer (quieted e) id).line.link.k ≡ e.line.link.k
+pub timer_k : (id : TimerId) (e : PacketEnd) → (after_timer (quieted e) id).line.link.k ≡ e.line.link.k
 timer_k id e = by_bool (λ (f : PacketEnd). f.line.link.k ≡ e.line.link.k) (runs_at (quieted e) id) _ _ (expired_k id e) refl
 
 relinked_k : (e : PacketEnd) → (relinked (quieted e)).line.link.k ≡ e.line.link.k
@@ -121,21 +121,21 @@ relinked_at_ks : (o : Option ℕ) (routes : RouteMap) (ls : List SwitchLine) →
 relinked_at_ks None routes ls = refl
 relinked_at_ks (Some n) routes ls = act_ks routes n relinked ls relinked_k
 
-all_relinked_ks : (most : ℕ) (routes : RouteMap) (ls : List SwitchLine) → ks (lines_of (all_relinked most routes ls)) ≡ ks (lines_of ls)
+pub all_relinked_ks : (most : ℕ) (routes : RouteMap) (ls : List SwitchLine) → ks (lines_of (all_relinked most routes ls)) ≡ ks (lines_of ls)
 all_relinked_ks zero routes ls = refl
 all_relinked_ks (suc most) routes ls = all_relinked_ks most routes (relinked_at (to_relink ls) routes ls) ∙ relinked_at_ks (to_relink ls) routes ls
 
-begun_ks : (ls : List SwitchLine) → ks (lines_of (all_begun ls)) ≡ ks (lines_of ls)
+pub begun_ks : (ls : List SwitchLine) → ks (lines_of (all_begun ls)) ≡ ks (lines_of ls)
 begun_ks [] = refl
 begun_ks (l ∷ ls) = ap (λ (xs : List ℕ). l.end.line.link.k ∷ xs) (begun_ks ls)
 
 -- ---- small ones
 
-abbrev AreSmall : List ℕ → Type 0
+abbrev pub AreSmall : List ℕ → Type 0
 AreSmall [] = Unit {0}
 AreSmall (k ∷ more) = (k ≤ 7) × AreSmall more
 
-small_links : (ls : List SwitchLine) → HaveSmallLinks ls → AreSmall (ks (lines_of ls))
+pub small_links : (ls : List SwitchLine) → HaveSmallLinks ls → AreSmall (ks (lines_of ls))
 small_links [] h = tt
 small_links (l ∷ ls) h = (h 0 l refl, small_links ls (λ n x e. h (suc n) x e))
 

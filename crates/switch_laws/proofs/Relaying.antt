@@ -222,7 +222,7 @@ pub record Visited (ls : List SwitchLine) (w : World) (x : Place) (ms : List Swi
   pub stuck_here : StuckAt ms x
   pub stuck_elsewhere : (p : Place) → same_place p x ≡ false → StuckAt ls p → StuckAt ms p
 
-relayed_same : (most : ℕ) (p : Place) (ls : List SwitchLine) → moved p ls ≡ ls → relayed most p ls ≡ ls
+pub relayed_same : (most : ℕ) (p : Place) (ls : List SwitchLine) → moved p ls ≡ ls → relayed most p ls ≡ ls
 relayed_same zero p ls e = refl
 relayed_same (suc most) p ls e = ap (λ (ms : List SwitchLine). relayed most p ms) e ∙ relayed_same most p ls e
 

@@ -51,7 +51,7 @@ from_lines : (ps : List Place) (ls : List SwitchLine) → lines_of (relayed_from
 from_lines [] ls = refl
 from_lines (p ∷ ps) ls = from_lines ps (relayed 8 p ls) ∙ relayed_lines 8 p ls
 
-all_lines : (ls : List SwitchLine) → lines_of (all_relayed ls) ≡ lines_of ls
+pub all_lines : (ls : List SwitchLine) → lines_of (all_relayed ls) ≡ lines_of ls
 all_lines ls = from_lines (places ls) ls
 
 -- ---- places for packets that are left at the links
@@ -72,9 +72,9 @@ offer_grows true queue packet = let e = length-append queue (packet ∷ []) in o
 offer_grows false queue packet = omega arith
 
 -- what an end has after it was offered packets, against what it had
-record Grows (e f : PacketEnd) : Type 0 where
-  k : f.line.link.k ≡ e.line.link.k
-  queue : length e.line.link.queue ≤ length f.line.link.queue
+pub record Grows (e f : PacketEnd) : Type 0 where
+  pub k : f.line.link.k ≡ e.line.link.k
+  pub queue : length e.line.link.queue ≤ length f.line.link.queue
 
 grows_same : (e : PacketEnd) → Grows e e
 grows_same e = record { k = refl; queue = omega arith }
@@ -89,7 +89,7 @@ by_bool : {X : Type 0} (P : X → Type 0) (b : Bool) (x y : X) → P x → P y �
 by_bool P true x y f g = f
 by_bool P false x y f g = g
 
-grows : (most : ℕ) (e : PacketEnd) → Grows e (offered most e)
+pub grows : (most : ℕ) (e : PacketEnd) → Grows e (offered most e)
 grows zero e = grows_same e
 grows (suc most) e =
     by_bool (λ (f : PacketEnd). Grows e f) (can_offer e.line.link) _ _
@@ -112,7 +112,7 @@ has_room l small may = by_size (decided (nat_le l.k (length l.queue)))
 
 -- ---- all lines
 
-abbrev offers_line : SwitchLine → SwitchLine
+abbrev pub offers_line : SwitchLine → SwitchLine
 offers_line l = record l { end = offered 7 l.end }
 
 no_more : (ls : List SwitchLine) → total (lines_of (map offers_line ls)) ≤ total (lines_of ls)
@@ -155,7 +155,7 @@ offered_line : (l : SwitchLine) → with_end all_offered l ≡ offers_line l
 unfolding all_offered
 offered_line l = refl
 
-in_turn : (ls : List SwitchLine) → offered_from (length ls) 0 ls ≡ map offers_line ls
+pub in_turn : (ls : List SwitchLine) → offered_from (length ls) 0 ls ≡ map offers_line ls
 in_turn [] = refl
 in_turn (l ∷ ls) = shifted (length ls) 0 (with_end all_offered l) ls ∙ ap₂ (λ (x : SwitchLine) (xs : List SwitchLine). x ∷ xs) (offered_line l) (in_turn ls)
 

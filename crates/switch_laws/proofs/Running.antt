@@ -1,16 +1,28 @@
 -- The run of one join, and the switch of two lines.
-use Rattle.std.proofs.Common.{◌≡◌, ℕ, zero, suc, ◌≤◌, true, [], ◌∷◌, Option, Some, None, is_some, refl, sym, ap, subst, ◌∙◌, arith, true≢false}
+use Rattle.std.proofs.Common.{◌≡◌, ℕ, zero, suc, ◌≤◌, nat_lt, true, List, [], ◌∷◌, Option, Some, None, is_some, refl, sym, ap, subst, ◌∙◌, arith, true≢false}
 use Rattle.std.proofs.lemmas.Option.{none-some, same_Some}
 use Rattle.link_timers.specs.declared.role.Role.TheVariants.{Dce}
 use Rattle.packet_layer.specs.Packets.Body.{Data, Interrupt, InterruptConfirmation, ReceiveReady, Reset}
 use Rattle.packet_layer.specs.Channel.{had_call}
+use Rattle.packet_laws.specs.Readable.{Every}
+use Rattle.packet_end.specs.Params.{AreParams}
+use Rattle.packet_end.specs.PacketEnd as offers
+use Rattle.std.specs.List.{list_all}
+use Rattle.std.specs.Prelude.{slice_get}
+use Rattle.std.proofs.lemmas.Bool.{ltb-true}
+use Rattle.x25_switch.specs.declared.config.LineConfig.{LineConfig}
 use Rattle.x25_switch.specs.declared.place.Place.{Place}
+use Rattle.x25_switch.specs.Making.{IsConfig, IsLineConfig}
 use Rattle.x25_switch.specs.declared.place.Joined.{Joined}
 use Rattle.x25_switch.specs.Lines.{joined_at}
 use Rattle.switch_laws.specs.Join.{IsJoin, turned, hears, gives}
 use Rattle.switch_laws.specs.World.{Shown, Agrees, shown_at, shown_of, layers_of}
 use Rattle.switch_laws.specs.Joined.{IsSwitch, has_place}
-use Rattle.switch_laws.specs.Run.{started, letter, carried, covered, interrupted, confirmed, reset, two_lines, no_calls, RunLaw}
+use Rattle.switch_laws.specs.Turn.{AreOctets}
+use Rattle.switch_laws.specs.Events.{MayCome, new_legs}
+use Rattle.switch_laws.specs.Run.{started, letter, carried, covered, interrupted, confirmed, reset, two_lines, no_calls, parameters, config, configs, new_switch, sabm, restart_request, call_request, events, RunLaw}
+use Rattle.switch_laws.proofs.Happening.{events_hold}
+use Rattle.switch_laws.proofs.Lists.{and_both}
 use Rattle.switch_laws.proofs.Joins.{join_begins, both_right, gives_right, turned_join}
 use Rattle.switch_laws.proofs.Hearing.{hears_right}
 use Rattle.switch_laws.proofs.Standing.{start_good}
@@ -87,7 +99,32 @@ switch_right = record {
   joined = λ x j e. absurd (none-some j (subst (λ (o : Option Joined). o ≡ Some j) (none_joined x.line x.channel) e));
 }
 
+parameters_right : AreParams parameters
+parameters_right = record {
+  link = record { k_least = omega arith; k_most = omega arith; n2_least = omega arith; n2_most = omega arith };
+  layer = record { channels_least = omega arith; channels_most = omega arith; window_least = omega arith; window_most = omega arith };
+}
+
+config_right : (address : List ℕ) → IsLineConfig (config address)
+config_right address = record { params = parameters_right; not_standing = refl }
+
+each_config : (n : ℕ) (c : LineConfig) → slice_get configs n ≡ Some c → IsLineConfig c
+each_config zero c e = subst (λ (x : LineConfig). IsLineConfig x) (same_Some _ c e) (config_right (1 ∷ []))
+each_config (suc zero) c e = subst (λ (x : LineConfig). IsLineConfig x) (same_Some _ c e) (config_right (2 ∷ []))
+each_config (suc (suc n)) c e = absurd (none-some c e)
+
+configs_right : IsConfig configs
+configs_right = record { least = omega arith; most = omega arith; each = each_config }
+
+are_octets : (xs : List ℕ) → list_all (λ x. nat_lt x 256) xs ≡ true → AreOctets xs
+are_octets [] e = tt
+are_octets (x ∷ xs) e = let both = and_both (nat_lt x 256) _ e in (ltb-true x 256 both.0, are_octets xs both.1)
+
+events_come : Every MayCome events
+events_come = (are_octets sabm refl, (tt, (are_octets restart_request refl, (tt, (are_octets call_request refl, tt)))))
+
 pub run_holds : RunLaw
+unfolding offers.all_offered
 run_holds = record {
   waits_for_cover = refl;
   is_sent = refl;
@@ -99,4 +136,8 @@ run_holds = record {
   holds = reset_right_;
   switch = switch_right;
   calls = λ x h. absurd (true≢false (sym h.call ∙ ap (λ (t : Shown). had_call t.channel.state) (world_right x.line x.channel h.channel h.there).shown));
+  can_be_made = configs_right;
+  may_come = events_come;
+  is_cleared = refl;
+  holds_on = events_hold.holds_on events new_switch (new_legs configs) events_come (events_hold.begins _ configs configs_right);
 }

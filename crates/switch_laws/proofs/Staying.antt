@@ -296,13 +296,16 @@ begins_beside n g ls w same i = record {
         let same_join : j ≡ at_x.other = same_Some j at_x.other (sym o.joined ∙ (ap (λ (y : Place). joined_at ls y) is ∙ at_x.joined)) in
         absurd (o.there (ap (λ (y : Joined). y.other.line) same_join ∙ (ap (λ (y : Place). y.line) at_x.back ∙ e)))
 
-pub acted_stays : (routes : RouteMap) (n : ℕ) (f : PacketEnd → PacketEnd) (ls : List SwitchLine) (w : World) → IsSwitch ls w → (p : Place) (j : Joined) → IsOther n ls p j → joined_at (acted routes n f ls) p ≡ Some j
-acted_stays routes n f ls w i p j o =
+pub acted_beside : (routes : RouteMap) (n : ℕ) (f : PacketEnd → PacketEnd) (ls : List SwitchLine) (w : World) → IsSwitch ls w → Beside n ls (acted routes n f ls)
+acted_beside routes n f ls w i =
     let g = with_end (λ e. f (quieted e)) in
     let l1 = changed n g ls in
     let twice : changed n (with_end without_notes) l1 ≡ changed n (λ l. with_end without_notes (g l)) ls = changed_twice n (with_end without_notes) g ls in
     let b = begins_beside n (λ l. with_end without_notes (g l)) ls w (λ l. refl) i in
-    (beside_all routes n (notes_of (slice_get l1 n)) ls (changed n (with_end without_notes) l1) (have_calls n ls w i) (subst (λ (ms : List SwitchLine). Beside n ls ms) (sym twice) b)).stays p j o
+    beside_all routes n (notes_of (slice_get l1 n)) ls (changed n (with_end without_notes) l1) (have_calls n ls w i) (subst (λ (ms : List SwitchLine). Beside n ls ms) (sym twice) b)
+
+pub acted_stays : (routes : RouteMap) (n : ℕ) (f : PacketEnd → PacketEnd) (ls : List SwitchLine) (w : World) → IsSwitch ls w → (p : Place) (j : Joined) → IsOther n ls p j → joined_at (acted routes n f ls) p ≡ Some j
+acted_stays routes n f ls w i p j o = (acted_beside routes n f ls w i).stays p j o
 
 -- ---- relays and offers keep all joins
 

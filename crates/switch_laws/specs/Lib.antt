@@ -8,5 +8,8 @@ pub mod Turn
 pub mod Offers
 pub mod Stays
 pub mod Calls
+pub mod Events
+pub mod Pairs
+pub mod Concern
 pub mod Law
 pub mod Run

@@ -1,19 +1,26 @@
 -- A run of one join, and a switch of two lines: they meet what the laws ask for, by computation.
-use Rattle.std.specs.Prelude.{◌≡◌, ℕ, true, false, List, [], ◌∷◌, Some, None}
+use Rattle.std.specs.Prelude.{◌≡◌, ℕ, true, false, List, [], ◌∷◌, slice_get, Some, None}
 use Rattle.link_timers.specs.declared.role.Role.TheVariants.{Dce}
 use Rattle.packet_layer.specs.Packets.{Datum}
 use Rattle.packet_layer.specs.Packets.Body.{Data, Interrupt, InterruptConfirmation, ReceiveReady, Reset}
 use Rattle.packet_layer.specs.Channel.{closed_channel}
 use Rattle.packet_laws.specs.History.{empty_epoch}
+use Rattle.packet_laws.specs.Readable.{Every}
+use Rattle.std.specs.FinMap.{empty}
 use Rattle.packet_end.specs.PacketEnd.{made}
 use Rattle.packet_end.specs.declared.params.EndParams.{EndParams}
 use Rattle.x25_switch.specs.Direction.{new_direction}
+use Rattle.x25_switch.specs.declared.config.LineConfig.{LineConfig}
 use Rattle.x25_switch.specs.Lines.{SwitchLine}
+use Rattle.x25_switch.specs.Making.{IsConfig, made as made_switch}
+use Rattle.x25_switch.specs.Switch.{Switch, frames_on}
 use Rattle.switch_laws.specs.Leg.{connected}
 use Rattle.switch_laws.specs.Join.{Join, IsJoin, turned, relayed_both, hears, gives}
 use Rattle.switch_laws.specs.World.{World}
 use Rattle.switch_laws.specs.Joined.{IsSwitch}
 use Rattle.switch_laws.specs.Calls.{CallsAreJoined}
+use Rattle.switch_laws.specs.Events.{Event, after_events, MayCome, HoldsOn, new_legs}
+use Rattle.switch_laws.specs.Events.Event.{Arrives, Departs, Elapses}
 
 -- ---- one join, of two channels with a window of 2
 
@@ -56,6 +63,34 @@ two_lines = line (1 ∷ []) ∷ line (2 ∷ []) ∷ []
 abbrev pub no_calls : World
 no_calls = λ x. record { role = Dce; window = 2; channel = closed_channel; before = []; epoch = empty_epoch }
 
+-- ---- the same two lines as they are made, and a call with a facility that comes on line 0
+
+abbrev pub config : (address : List ℕ) → LineConfig
+config address = record { params = parameters; address = address }
+
+abbrev pub configs : List LineConfig
+configs = config (1 ∷ []) ∷ config (2 ∷ []) ∷ []
+
+abbrev pub new_switch : Switch
+new_switch = made_switch empty configs
+
+-- the link is set up, its acknowledgement is taken, the packet layer is restarted, time passes, the call is asked for
+abbrev pub sabm : List ℕ
+sabm = 1 ∷ 63 ∷ []
+
+abbrev pub restart_request : List ℕ
+restart_request = 1 ∷ 0 ∷ 16 ∷ 0 ∷ 251 ∷ 0 ∷ 0 ∷ []
+
+abbrev pub call_request : List ℕ
+call_request = 1 ∷ 2 ∷ 16 ∷ 2 ∷ 11 ∷ 1 ∷ 48 ∷ 2 ∷ 1 ∷ 1 ∷ []
+
+abbrev pub events : List Event
+events = Arrives 0 sabm ∷ Departs 0 ∷ Arrives 0 restart_request ∷ Elapses 20 ∷ Arrives 0 call_request ∷ []
+
+-- it is cleared with cause 3, in the second I frame
+abbrev pub clear_indication : List ℕ
+clear_indication = 3 ∷ 66 ∷ 16 ∷ 2 ∷ 19 ∷ 3 ∷ 0 ∷ []
+
 pub record RunLaw : Type 0 where
   pub waits_for_cover : carried.b.epoch.released ≡ 0
   pub is_sent : carried.a.epoch.sent ≡ letter ∷ []
@@ -67,3 +102,7 @@ pub record RunLaw : Type 0 where
   pub holds : IsJoin reset
   pub switch : IsSwitch two_lines no_calls
   pub calls : CallsAreJoined two_lines
+  pub can_be_made : IsConfig configs
+  pub may_come : Every MayCome events
+  pub is_cleared : frames_on (slice_get (after_events events new_switch).lines 0) ≡ clear_indication ∷ []
+  pub holds_on : HoldsOn events new_switch (new_legs configs)

@@ -3,4 +3,6 @@
 
 mod relay;
 
-pub use relay::{join_law, relay_law, run_law, switch_law, turn_law};
+pub use relay::{
+    concern_law, join_law, pair_law, relay_law, run_law, switch_events_law, switch_law, turn_law,
+};

@@ -1,4 +1,7 @@
+ghost use Rattle.switch_laws.specs.Concern.{ConcernLaw};
+ghost use Rattle.switch_laws.specs.Events.{EventLaw};
 ghost use Rattle.switch_laws.specs.Law.{JoinLaw, RelayLaw, SwitchLaw, TurnLaw};
+ghost use Rattle.switch_laws.specs.Pairs.{PairLaw};
 ghost use Rattle.switch_laws.specs.Run.{RunLaw};
 
 /// One direction of a join, over the definitions of the layer and of the switch alone: what the switch sends on the far
@@ -22,10 +25,28 @@ pub fn switch_law()
     ensures { SwitchLaw }
 {}
 
+/// What becomes of a call that comes in, with the causes for which it is cleared in their order; and a channel has a
+/// call exactly while it is joined, and then the other leg has one too.
+pub fn pair_law()
+    ensures { PairLaw }
+{}
+
 /// Whole events of a switch, whatever octets come on its lines: all joins hold after each of them, and nothing waits on
 /// a leg that the other leg takes.
 pub fn turn_law()
     ensures { TurnLaw }
+{}
+
+/// Which joins an event has to relay: those with a leg on its line or on one whose link is set up anew in it. Where
+/// nothing waited before that could go on, the relay on all joins is the relay on these.
+pub fn concern_law()
+    ensures { ConcernLaw }
+{}
+
+/// A switch from its making on, whatever comes to it and in whatever order: it stays one of which the laws above speak,
+/// and its legs move as its packet layers do. Who owns a switch keeps so, from event to event, what the laws ask for.
+pub fn switch_events_law()
+    ensures { EventLaw }
 {}
 
 /// A run of one join, and a switch of two lines without calls: they meet what the laws above ask for.

@@ -1,0 +1,268 @@
+-- Joins with no leg on a line of the event are left with nothing to relay, and the relay of the others is that of all.
+use Rattle.std.proofs.Common.{◌≡◌, ℕ, zero, suc, ◌+◌, ◌&&◌, map, arith, option_map, ◌⊎◌, inl, inr, Bool, true, false, ◌||◌, ◌==◌, if◌then◌else◌, List, [], ◌∷◌, length, Option, Some, None, is_some, refl, sym, ap, subst, ◌∙◌, true≢false}
+use Rattle.std.specs.Prelude.{slice_get}
+use Rattle.std.proofs.lemmas.Bool.{eq-eqb}
+use Rattle.link_timers.specs.declared.timers.TimerId.{TimerId}
+use Rattle.lapb.specs.Machine.{can_offer}
+use Rattle.packet_layer.specs.Packets.{Note}
+use Rattle.packet_layer.specs.Traffic.{Taken, front}
+use Rattle.packet_layer.specs.Channel.{Channel, Request, Refusal, refusal}
+use Rattle.packet_layer.specs.Layer.{Layer, channel_of, next_packet, refusal_at as refusal_of_channel, front_at as front_of_channel}
+use Rattle.packet_end.specs.PacketEnd.{PacketEnd, begun, received, after_timer, relinked}
+use Rattle.packet_end.proofs.Offering.{no_room, no_packet}
+use Rattle.address_routes.specs.Routes.{RouteMap}
+use Rattle.x25_switch.specs.Direction.{request_for}
+use Rattle.x25_switch.specs.declared.place.Place.{Place}
+use Rattle.x25_switch.specs.declared.place.Joined.{Joined}
+use Rattle.x25_switch.specs.Lines.{SwitchLine, same_place, joined_on, joined_at, front_at, front_of_line, refusal_at, refusal_of_line, places}
+use Rattle.x25_switch.specs.Relay.{moved_joined, moved_front, moved_unless, relayed, relayed_from, all_relayed}
+use Rattle.x25_switch.specs.Switch.{Switch, acted, all_begun, may_offer, offered_from, to_relink, relinked_at, all_relinked, relinks_of}
+use Rattle.switch_laws.specs.Turn.{AreOctets}
+use Rattle.switch_laws.specs.World.{World, Shown, shown_as, shown_on, shown_at, layers_of}
+use Rattle.switch_laws.specs.Joined.{IsSwitch, Becomes, HasRelayedAll}
+use Rattle.switch_laws.specs.Stays.{IsNone}
+use Rattle.switch_laws.specs.Pairs.{WasJoined, IsNewJoin}
+use Rattle.switch_laws.specs.Concern.{offering_from, is_one_of, joined_to, is_concerned, concerned, relayed_on, HasRelayedBut, lines_of_event, before_relay, RelaysItsOwn, ConcernLaw}
+use Rattle.switch_laws.proofs.Lists.{decided, place_is, not_equal, get_map}
+use Rattle.switch_laws.proofs.Rounds.{offers_line, in_turn}
+use Rattle.switch_laws.proofs.Relaying.{StuckAt, Visited, visited, relayed_same}
+use Rattle.switch_laws.proofs.Staying.{IsOther, acted_beside}
+use Rattle.switch_laws.proofs.Turning.{relinked_effect, acted_right}
+use Rattle.switch_laws.proofs.Keeping.{layers_on_ends, joined_on_ends}
+use Rattle.switch_laws.proofs.Newness.{before_joins}
+use Rattle.switch_laws.proofs.Finishing.{begun_right, came, ran, readable, none_relinks, all_relinks, offers_from}
+
+-- ---- joins that are passed over
+
+unless_stuck : (r : Option Refusal) (t : Taken) (x : Place) (j : Joined) (ls : List SwitchLine) → is_some r ≡ true → moved_unless r t x j ls ≡ ls
+unless_stuck None t x j ls e = absurd (true≢false (sym e))
+unless_stuck (Some r) t x j ls e = refl
+
+front_stuck : (o : Option Taken) (x : Place) (j : Joined) (ls : List SwitchLine) → front_at ls x ≡ o → joined_at ls x ≡ Some j → StuckAt ls x → moved_front o x j ls ≡ ls
+front_stuck None x j ls f e s = refl
+front_stuck (Some t) x j ls f e s = unless_stuck (refusal_at ls j.other (request_for t)) t x j ls (s j t e f)
+
+joined_stuck : (o : Option Joined) (x : Place) (ls : List SwitchLine) → joined_at ls x ≡ o → StuckAt ls x → moved_joined o x ls ≡ ls
+joined_stuck None x ls e s = refl
+joined_stuck (Some j) x ls e s = front_stuck (front_at ls x) x j ls refl e s
+
+stuck_stays : (x : Place) (ls : List SwitchLine) → StuckAt ls x → relayed 8 x ls ≡ ls
+stuck_stays x ls s = relayed_same 8 x ls (joined_stuck (joined_at ls x) x ls refl s)
+
+passes_over : (lines : List ℕ) (first : List SwitchLine) (ps : List Place) (ls : List SwitchLine) (w : World) → IsSwitch ls w → ((p : Place) → is_concerned lines first p ≡ false → StuckAt ls p)
+    → relayed_from ps ls ≡ relayed_from (concerned lines first ps) ls
+passes_over lines first [] ls w i stuck = refl
+passes_over lines first (x ∷ ps) ls w i stuck = by_concern (decided (is_concerned lines first x)) (visited ls w x i) (λ ms v k s. passes_over lines first ps ms v k s)
+  where
+    apart : (p : Place) → is_concerned lines first x ≡ true → is_concerned lines first p ≡ false → same_place p x ≡ false
+    apart p t f = by_same (decided (same_place p x))
+      where
+        by_same : (same_place p x ≡ true) ⊎ (same_place p x ≡ false) → same_place p x ≡ false
+        by_same (inl e) = absurd (true≢false (sym t ∙ (ap (λ (y : Place). is_concerned lines first y) (sym (place_is p x e)) ∙ f)))
+        by_same (inr e) = e
+
+    by_concern : (is_concerned lines first x ≡ true) ⊎ (is_concerned lines first x ≡ false) → (a : Visited ls w x (relayed 8 x ls))
+        → ((ms : List SwitchLine) (v : World) → IsSwitch ms v → ((p : Place) → is_concerned lines first p ≡ false → StuckAt ms p) → relayed_from ps ms ≡ relayed_from (concerned lines first ps) ms)
+        → relayed_from ps (relayed 8 x ls) ≡ relayed_from (if is_concerned lines first x then x ∷ concerned lines first ps else concerned lines first ps) ls
+    by_concern (inl t) a more =
+        more (relayed 8 x ls) a.world a.switch (λ p f. a.stuck_elsewhere p (apart p t f) (stuck p f))
+        ∙ ap (λ (b : Bool). relayed_from (if b then x ∷ concerned lines first ps else concerned lines first ps) ls) (sym t)
+    by_concern (inr f) a more =
+        ap (λ (ms : List SwitchLine). relayed_from ps ms) (stuck_stays x ls (stuck x f)) ∙ more ls w i stuck
+        ∙ ap (λ (b : Bool). relayed_from (if b then x ∷ concerned lines first ps else concerned lines first ps) ls) (sym f)
+
+relays : (lines : List ℕ) (ls : List SwitchLine) (w : World) → IsSwitch ls w → HasRelayedBut lines ls → all_relayed ls ≡ relayed_on lines ls
+relays lines ls w i but = passes_over lines ls (places ls) ls w i (λ p f j t e g. but p j t f e g)
+
+-- ---- what waits on a channel, and what it takes, as its line shows it
+
+abbrev pub front_shown : Option Shown → Option Taken
+front_shown None = None
+front_shown (Some s) = front s.channel.traffic
+
+abbrev pub refusal_shown : Request → Option Shown → Option Refusal
+refusal_shown q None = Some Refusal.NoCall
+refusal_shown q (Some s) = refusal s.role s.channel q
+
+channel_front : (l : Layer) (o : Option Channel) → front_of_channel o ≡ front_shown (shown_as l o)
+channel_front l None = refl
+channel_front l (Some ch) = refl
+
+channel_refusal : (l : Layer) (q : Request) (o : Option Channel) → refusal_of_channel l.role q o ≡ refusal_shown q (shown_as l o)
+channel_refusal l q None = refl
+channel_refusal l q (Some ch) = refl
+
+line_front : (ls : List SwitchLine) (n c : ℕ) → front_of_line (slice_get ls n) c ≡ front_shown (shown_on (slice_get (layers_of ls) n) c)
+line_front [] n c = refl
+line_front (l ∷ ls) zero c = channel_front l.end.layer (channel_of l.end.layer c)
+line_front (l ∷ ls) (suc n) c = line_front ls n c
+
+line_refusal : (ls : List SwitchLine) (n c : ℕ) (q : Request) → refusal_of_line (slice_get ls n) c q ≡ refusal_shown q (shown_on (slice_get (layers_of ls) n) c)
+line_refusal [] n c q = refl
+line_refusal (l ∷ ls) zero c q = channel_refusal l.end.layer q (channel_of l.end.layer c)
+line_refusal (l ∷ ls) (suc n) c q = line_refusal ls n c q
+
+abbrev pub SameShown : (ls ms : List SwitchLine) → Place → Type 0
+SameShown ls ms p = shown_at (layers_of ms) p ≡ shown_at (layers_of ls) p
+
+pub same_front : (ls ms : List SwitchLine) (p : Place) → SameShown ls ms p → front_at ms p ≡ front_at ls p
+same_front ls ms p e = line_front ms p.line p.channel ∙ (ap (λ (o : Option Shown). front_shown o) e ∙ sym (line_front ls p.line p.channel))
+
+pub same_refusal : (ls ms : List SwitchLine) (p : Place) (q : Request) → SameShown ls ms p → refusal_at ms p q ≡ refusal_at ls p q
+same_refusal ls ms p q e = line_refusal ms p.line p.channel q ∙ (ap (λ (o : Option Shown). refusal_shown q o) e ∙ sym (line_refusal ls p.line p.channel q))
+
+-- ---- links that are set up anew
+
+relinks_beside : (most : ℕ) (o : Option ℕ) (routes : RouteMap) (ls : List SwitchLine) (w : World) → to_relink ls ≡ o → IsSwitch ls w → (p : Place) (j : Joined) → joined_at ls p ≡ Some j
+    → IsNone p.line (relinks_of most o routes ls) → IsNone j.other.line (relinks_of most o routes ls) → SameShown ls (all_relinked most routes ls) p
+relinks_beside zero o routes ls w t i p j e a b = refl
+relinks_beside (suc most) None routes ls w t i p j e a b = ap (λ (ms : List SwitchLine). shown_at (layers_of ms) p) (none_relinks (suc most) routes ls t)
+relinks_beside (suc most) (Some n) routes ls w t i p j e a b =
+    let ms = acted routes n relinked ls in
+    let c = acted_right routes n relinked ls w i (λ line g. relinked_effect n line.end) in
+    let other : IsOther n ls p j = record { joined = e; here = a.0; there = b.0 } in
+    let beside = acted_beside routes n relinked ls w i in
+    ap (λ (x : Option ℕ). shown_at (layers_of (all_relinked most routes (relinked_at x routes ls))) p) t
+    ∙ (relinks_beside most (to_relink ms) routes ms c.world refl c.right p j (beside.stays p j other) a.1 b.1 ∙ beside.shown p j other)
+
+-- ---- a channel on no line of an event
+
+none_of : (lines : List ℕ) (n : ℕ) → is_one_of lines n ≡ false → IsNone n lines
+none_of [] n e = tt
+none_of (m ∷ ms) n e = let both = neither (m == n) (is_one_of ms n) e in ((λ h. not_equal m n both.0 (sym h)), none_of ms n both.1)
+  where
+    neither : (a b : Bool) → (a || b) ≡ false → (a ≡ false) × (b ≡ false)
+    neither true b e = absurd (true≢false e)
+    neither false b e = (refl, e)
+
+neither_one : (lines : List ℕ) (ls : List SwitchLine) (p : Place) (j : Joined) → joined_at ls p ≡ Some j → is_concerned lines ls p ≡ false → (is_one_of lines p.line ≡ false) × (is_one_of lines j.other.line ≡ false)
+neither_one lines ls p j e f =
+    let both = neither (is_one_of lines p.line) (joined_to lines (joined_at ls p)) f in
+    (both.0, ap (λ (o : Option Joined). joined_to lines o) (sym e) ∙ both.1)
+  where
+    neither : (a b : Bool) → (a || b) ≡ false → (a ≡ false) × (b ≡ false)
+    neither true b e = absurd (true≢false e)
+    neither false b e = (refl, e)
+
+unconcerned : (lines : List ℕ) (ls : List SwitchLine) (p : Place) (j : Joined) → joined_at ls p ≡ Some j → is_concerned lines ls p ≡ false → IsNone p.line lines × IsNone j.other.line lines
+unconcerned lines ls p j e f =
+    let both = neither_one lines ls p j e f in
+    (none_of lines p.line both.0, none_of lines j.other.line both.1)
+
+-- ---- an event
+
+-- a join of two other lines was there before
+was_joined : (n : ℕ) (routes : RouteMap) (ls : List SwitchLine) (p : Place) (j : Joined) → (p.line ≡ n → ⊥) → (j.other.line ≡ n → ⊥) → {notes : List Note} → WasJoined ls p j ⊎ IsNewJoin routes n notes p j → WasJoined ls p j
+was_joined n routes ls p j here there (inl a) = a
+was_joined n routes ls p j here there (inr h) = absurd (by_caller j.came_in (ap (λ (x : Place). x.line) h.came_on))
+  where
+    by_caller : (b : Bool) → (if b then p else j.other).line ≡ n → ⊥
+    by_caller true e = here e
+    by_caller false e = there e
+
+event_but : (n : ℕ) (f : PacketEnd → PacketEnd) (s : Switch) (w v : World) → IsSwitch (all_begun s.lines) w → IsSwitch (acted s.routes n f (all_begun s.lines)) v → HasRelayedAll s.lines
+    → HasRelayedBut (lines_of_event n f s) (before_relay n f s)
+event_but n f s w v i k all p j t away e g =
+    let ls = all_begun s.lines in
+    let ms = acted s.routes n f ls in
+    let rs = before_relay n f s in
+    let off = unconcerned (lines_of_event n f s) rs p j e away in
+    let was = was_joined n s.routes s.lines p j off.0.0 off.1.0 (before_joins n f s p j e) in
+    let old = was.old in
+    let there : IsNone old.other.line (lines_of_event n f s) = subst (λ (q : Place). IsNone q.line (lines_of_event n f s)) (sym was.other) off.1 in
+    let joined_ : joined_at ls p ≡ Some old = joined_on_ends begun s.lines p.line p.channel ∙ was.joined in
+    let pair = i.joined p old joined_ in
+    let back = pair.other in
+    let to_p : IsNone back.other.line (lines_of_event n f s) = subst (λ (q : Place). IsNone q.line (lines_of_event n f s)) (sym pair.back) off.0 in
+    let beside = acted_beside s.routes n f ls w i in
+    let one : IsOther n ls p old = record { joined = joined_; here = off.0.0; there = there.0 } in
+    let two : IsOther n ls old.other back = record { joined = pair.joined; here = there.0; there = to_p.0 } in
+    let begun_ = layers_on_ends begun s.lines (λ x. refl) in
+    let shown_p : SameShown s.lines rs p =
+    relinks_beside (length ms) (to_relink ms) s.routes ms v refl k p old (beside.stays p old one) off.0.1 there.1
+    ∙ (beside.shown p old one ∙ ap (λ (ys : List Layer). shown_at ys p) begun_) in
+    let shown_q : SameShown s.lines rs old.other =
+    relinks_beside (length ms) (to_relink ms) s.routes ms v refl k old.other back (beside.stays old.other back two) there.1 to_p.1
+    ∙ (beside.shown old.other back two ∙ ap (λ (ys : List Layer). shown_at ys old.other) begun_) in
+    ap (λ (q : Place). is_some (refusal_at rs q (request_for t))) (sym was.other)
+    ∙ (ap (λ (o : Option Refusal). is_some o) (same_refusal s.lines rs old.other (request_for t) shown_q)
+    ∙ all p old t was.joined (sym (same_front s.lines rs p shown_p) ∙ g))
+
+before_right : (n : ℕ) (f : PacketEnd → PacketEnd) (s : Switch) (v : World) → IsSwitch (acted s.routes n f (all_begun s.lines)) v
+    → Becomes (acted s.routes n f (all_begun s.lines)) v (before_relay n f s)
+before_right n f s v k = let ms = acted s.routes n f (all_begun s.lines) in all_relinks (length ms) s.routes ms v k
+
+frame : (n : ℕ) (octets : List ℕ) (s : Switch) (w : World) → AreOctets octets → IsSwitch s.lines w → HasRelayedAll s.lines
+    → RelaysItsOwn n (λ e. received e octets) s
+frame n octets s w are i all =
+    let b = begun_right s.lines w i in
+    let c = came n octets s.routes s.lines w (readable n octets s.lines are) i in
+    let r = before_right n (λ e. received e octets) s c.world c.right in
+    relays (lines_of_event n (λ e. received e octets) s) (before_relay n (λ e. received e octets) s) r.world r.right (event_but n (λ e. received e octets) s b.world c.world b.right c.right all)
+
+timer : (n : ℕ) (id : TimerId) (s : Switch) (w : World) → IsSwitch s.lines w → HasRelayedAll s.lines
+    → RelaysItsOwn n (λ e. after_timer e id) s
+timer n id s w i all =
+    let b = begun_right s.lines w i in
+    let c = ran n id s.routes s.lines w i in
+    let r = before_right n (λ e. after_timer e id) s c.world c.right in
+    relays (lines_of_event n (λ e. after_timer e id) s) (before_relay n (λ e. after_timer e id) s) r.world r.right (event_but n (λ e. after_timer e id) s b.world c.world b.right c.right all)
+
+-- ---- packets are offered
+
+offers_nothing : (l : SwitchLine) → may_offer l ≡ false → offers_line l ≡ l
+offers_nothing l e = by_room (decided (can_offer l.end.line.link))
+  where
+    by_room : (can_offer l.end.line.link ≡ true) ⊎ (can_offer l.end.line.link ≡ false) → offers_line l ≡ l
+    by_room (inl t) = (λ k. record l { end = no_packet 7 l.end (sym (ap (λ (b : Bool). b && is_some (next_packet l.end.layer).packet) t) ∙ e) k })
+    by_room (inr f) = (λ k. record l { end = no_room 7 l.end f k })
+
+not_first : (b : Bool) (n m : ℕ) (more : List ℕ) → is_one_of (if b then n ∷ more else more) m ≡ false → is_one_of more m ≡ false
+not_first true n m more e = neither (n == m) (is_one_of more m) e
+  where
+    neither : (a c : Bool) → (a || c) ≡ false → c ≡ false
+    neither true c f = absurd (true≢false f)
+    neither false c f = f
+not_first false n m more e = e
+
+itself : (b : Bool) (n : ℕ) (more : List ℕ) → is_one_of (if b then n ∷ more else more) n ≡ false → b ≡ false
+itself true n more e = absurd (true≢false (ap (λ (c : Bool). c || is_one_of more n) (sym (eq-eqb n n refl)) ∙ e))
+itself false n more e = refl
+
+-- a line whose link takes none is as it was
+not_offering : (m n k : ℕ) (ls : List SwitchLine) → k ≡ m + n → is_one_of (offering_from m ls) k ≡ false → slice_get (map offers_line ls) n ≡ slice_get ls n
+not_offering m n k [] e f = refl
+not_offering m zero k (l ∷ ls) e f =
+    let same : k ≡ m = omega (arith, e) in
+    ap Some (offers_nothing l (itself (may_offer l) m (offering_from (suc m) ls) (ap (λ (x : ℕ). is_one_of (offering_from m (l ∷ ls)) x) (sym same) ∙ f)))
+not_offering m (suc n) k (l ∷ ls) e f = not_offering (suc m) n k ls (omega (arith, e)) (not_first (may_offer l) m k (offering_from (suc m) ls) f)
+
+same_line : (ls ms : List SwitchLine) (p : Place) → slice_get ms p.line ≡ slice_get ls p.line → SameShown ls ms p
+same_line ls ms p e =
+    ap (λ (o : Option Layer). shown_on o p.channel)
+    (get_map (λ l. l.end.layer) ms p.line ∙ (ap (λ (o : Option SwitchLine). option_map (λ l. l.end.layer) o) e ∙ sym (get_map (λ l. l.end.layer) ls p.line)))
+
+joined_offered : (ls : List SwitchLine) (n c : ℕ) → joined_on (slice_get (map offers_line ls) n) c ≡ joined_on (slice_get ls n) c
+joined_offered [] n c = refl
+joined_offered (l ∷ ls) zero c = refl
+joined_offered (l ∷ ls) (suc n) c = joined_offered ls n c
+
+offered_but : (ls : List SwitchLine) → HasRelayedAll ls → HasRelayedBut (offering_from 0 ls) (map offers_line ls)
+offered_but ls all p j t away e g =
+    let ms = map offers_line ls in
+    let lines = offering_from 0 ls in
+    let both = neither_one lines ms p j e away in
+    let here = same_line ls ms p (not_offering 0 p.line p.line ls (omega arith) both.0) in
+    let there = same_line ls ms j.other (not_offering 0 j.other.line j.other.line ls (omega arith) both.1) in
+    ap (λ (o : Option Refusal). is_some o) (same_refusal ls ms j.other (request_for t) there)
+    ∙ all p j t (sym (joined_offered ls p.line p.channel) ∙ e) (sym (same_front ls ms p here) ∙ g)
+
+offers : (ls : List SwitchLine) (w : World) → IsSwitch ls w → HasRelayedAll ls
+    → all_relayed (offered_from (length ls) 0 ls) ≡ relayed_on (offering_from 0 ls) (offered_from (length ls) 0 ls)
+offers ls w i all =
+    let b = offers_from (length ls) 0 ls w i in
+    relays (offering_from 0 ls) (offered_from (length ls) 0 ls) b.world b.right
+    (subst (λ (ms : List SwitchLine). HasRelayedBut (offering_from 0 ls) ms) (sym (in_turn ls)) (offered_but ls all))
+
+pub concerns_hold : ConcernLaw
+concerns_hold = record { relays = relays; frame = frame; timer = timer; offers = offers }

@@ -1,0 +1,100 @@
+-- A switch as it is made, and whatever happens to it then: it stays one of which the laws speak.
+use Rattle.std.specs.Prelude.{◌≡◌, ℕ, false, List, [], ◌∷◌, slice_get, Option, Some, None}
+use Rattle.std.specs.List.{list_any}
+use Rattle.link_timers.specs.declared.role.Role.TheVariants.{Dce}
+use Rattle.link_timers.specs.declared.timers.TimerId.{TimerId}
+use Rattle.packet_layer.specs.Channel.{closed_channel}
+use Rattle.packet_laws.specs.History.{empty_epoch}
+use Rattle.packet_laws.specs.Readable.{Every}
+use Rattle.address_routes.specs.Routes.{RouteMap}
+use Rattle.x25_switch.specs.declared.config.LineConfig.{LineConfig}
+use Rattle.x25_switch.specs.Lines.{SwitchLine}
+use Rattle.x25_switch.specs.Making.{IsConfig, made}
+use Rattle.x25_switch.specs.Switch.{Switch, on_frame, on_timer, restart, elapse, without_frame, to_relink, may_offer}
+use Rattle.switch_laws.specs.Turn.{AreOctets}
+use Rattle.switch_laws.specs.Calls.{CallsAreJoined}
+use Rattle.switch_laws.specs.Offers.{HaveSmallLinks, EndsKeepNothingBack}
+use Rattle.switch_laws.specs.World.{World, closed}
+use Rattle.switch_laws.specs.Joined.{IsSwitch, Reached, HasRelayedAll}
+
+-- a frame comes on a line, a timer of a line expires, the switch begins anew, ticks pass, a frame of a line is taken
+pub data Event : Type 0 where
+  Arrives : (line : ℕ) → (octets : List ℕ) → Event
+  Expires : (line : ℕ) → TimerId → Event
+  Restarts : Event
+  Elapses : (ticks : ℕ) → Event
+  Departs : (line : ℕ) → Event
+
+abbrev pub after_event : Event → Switch → Switch
+after_event (Arrives n octets) s = on_frame n octets s
+after_event (Expires n id) s = on_timer n id s
+after_event Restarts s = restart s
+after_event (Elapses ticks) s = elapse ticks s
+after_event (Departs n) s = without_frame n s
+
+abbrev pub after_events : List Event → Switch → Switch
+after_events [] s = s
+after_events (event ∷ events) s = after_events events (after_event event s)
+
+-- a frame is of octets, whatever they are
+abbrev pub MayCome : Event → Type 0
+MayCome (Arrives n octets) = AreOctets octets
+MayCome event = Unit {0}
+
+-- ---- what always holds of a switch and the legs of its channels
+
+-- all joins hold, each channel that has a call is joined, nothing waits on a leg that the other one takes, no link
+-- takes a packet that its layer has, none has to be set up anew, and all are of the sizes that a switch is made with
+pub record SwitchHolds (s : Switch) (w : World) : Type 0 where
+  pub joins : IsSwitch s.lines w
+  pub calls : CallsAreJoined s.lines
+  pub relayed : HasRelayedAll s.lines
+  pub offered : list_any may_offer s.lines ≡ false
+  pub no_relink : to_relink s.lines ≡ None
+  pub links : HaveSmallLinks s.lines
+
+-- the packet layers and the legs move together, by acts; in a restart all legs close
+abbrev pub LegsMove : Event → List SwitchLine → World → List SwitchLine → World → Type 0
+LegsMove Restarts ls w ms v = v ≡ (λ x. closed (w x))
+LegsMove event ls w ms v = Reached ls w ms v
+
+-- after a frame and after an expiry nothing is kept back in the packet layers and at the links either
+abbrev pub NothingIsKeptBack : Event → List SwitchLine → Type 0
+NothingIsKeptBack (Arrives n octets) ls = EndsKeepNothingBack ls
+NothingIsKeptBack (Expires n id) ls = EndsKeepNothingBack ls
+NothingIsKeptBack event ls = Unit {0}
+
+pub record AfterEvent (event : Event) (s : Switch) (w : World) : Type 0 where
+  pub world : World
+  pub moved : LegsMove event s.lines w (after_event event s).lines world
+  pub holds : SwitchHolds (after_event event s) world
+  pub nothing_kept_back : NothingIsKeptBack event (after_event event s).lines
+
+-- so it is after each of these events, one after the other
+pub data HoldsOn : List Event → Switch → World → Type 0 where
+  ended : {s : Switch} {w : World} → HoldsOn [] s w
+  goes_on : {event : Event} {events : List Event} {s : Switch} {w : World} → (after : AfterEvent event s w)
+      → HoldsOn events (after_event event s) after.world → HoldsOn (event ∷ events) s w
+
+-- ---- the legs of a switch as it is made
+
+abbrev pub window_of : Option LineConfig → ℕ
+window_of None = 0
+window_of (Some c) = c.params.window
+
+abbrev pub new_legs : List LineConfig → World
+new_legs lines = λ x. record {
+  role = Dce;
+  window = window_of (slice_get lines x.line);
+  channel = closed_channel;
+  before = [];
+  epoch = empty_epoch;
+}
+
+-- a switch as it is made is one of which the laws speak, each event leaves it one, and so does any list of events
+pub record EventLaw : Type 0 where
+  pub begins : (routes : RouteMap) (lines : List LineConfig) → IsConfig lines
+      → SwitchHolds (made routes lines) (new_legs lines)
+  pub stays : (event : Event) (s : Switch) (w : World) → MayCome event → SwitchHolds s w → AfterEvent event s w
+  pub holds_on : (events : List Event) (s : Switch) (w : World) → Every MayCome events → SwitchHolds s w
+      → HoldsOn events s w

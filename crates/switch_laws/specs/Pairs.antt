@@ -1,0 +1,100 @@
+-- What becomes of a call that comes in, and the two legs of a join.
+use Rattle.std.specs.Prelude.{◌≡◌, ℕ, true, false, if◌then◌else◌, ◌⊎◌, List, [], ◌∷◌, slice_get, Some, None}
+use Rattle.link_timers.specs.declared.timers.TimerId.{TimerId}
+use Rattle.packet_codec.specs.ClearCause.{invalid_facility, not_obtainable, out_of_order, number_busy}
+use Rattle.packet_layer.specs.Packets.{CallParts, Note}
+use Rattle.packet_layer.specs.Packets.Note.{Incoming}
+use Rattle.packet_layer.specs.Layer.{free_channel}
+use Rattle.packet_layer.specs.Layer.Phase.{PacketReady}
+use Rattle.packet_end.specs.PacketEnd as end
+use Rattle.packet_end.specs.PacketEnd.{PacketEnd}
+use Rattle.address_routes.specs.Routes.{RouteMap, line_for}
+use Rattle.x25_switch.specs.declared.place.Place.{Place}
+use Rattle.x25_switch.specs.declared.place.Joined.{Joined}
+use Rattle.x25_switch.specs.Lines.{SwitchLine, changed, joined_at}
+use Rattle.x25_switch.specs.Switch.{Switch, answer, has_any, on_frame, on_timer, all_begun, with_end, quieted, notes_of}
+use Rattle.x25_switch.specs.Switch.Answer.{Clears, Joins}
+use Rattle.switch_laws.specs.World.{World}
+use Rattle.switch_laws.specs.Joined.{IsSwitch}
+use Rattle.switch_laws.specs.Calls.{CallsAreJoined, HasCall}
+
+-- the call of the channel p is joined to that of another one, which is joined to p and has its call
+pub record HasPartner (ls : List SwitchLine) (p : Place) : Type 0 where
+  pub join : Joined
+  pub joined : joined_at ls p ≡ Some join
+  pub other : Joined
+  pub back : joined_at ls join.other ≡ Some other
+  pub to_p : other.other ≡ p
+  pub call : HasCall ls join.other
+
+-- ---- joins that are new after an event
+
+-- the channel where the call of a join came in, and the one where it goes on
+abbrev pub caller : Place → Joined → Place
+caller p j = if j.came_in then p else j.other
+
+abbrev pub callee : Place → Joined → Place
+callee p j = if j.came_in then j.other else p
+
+-- one of these notes says that a call came in on the channel, with these parts
+abbrev pub IsNoted : List Note → (channel : ℕ) → CallParts → Type 0
+IsNoted [] c parts = ⊥
+IsNoted (note ∷ more) c parts = (note ≡ Incoming c parts) ⊎ IsNoted more c parts
+
+-- the join was there before
+pub record WasJoined (ls : List SwitchLine) (p : Place) (j : Joined) : Type 0 where
+  pub old : Joined
+  pub joined : joined_at ls p ≡ Some old
+  pub other : old.other ≡ j.other
+  pub came_in : old.came_in ≡ j.came_in
+
+-- or it is that of a call that came in on the line, and goes on on the line of the longest prefix of its address
+pub record IsNewJoin (routes : RouteMap) (n : ℕ) (notes : List Note) (p : Place) (j : Joined) : Type 0 where
+  pub channel : ℕ
+  pub parts : CallParts
+  pub noted : IsNoted notes channel parts
+  pub came_on : caller p j ≡ record { line = n; channel = channel }
+  pub route : line_for routes parts.called ≡ Some (callee p j).line
+
+abbrev pub JoinsByRoute : RouteMap → (line : ℕ) → List Note → (ls ms : List SwitchLine) → Type 0
+JoinsByRoute routes n notes ls ms = (p : Place) (j : Joined) → joined_at ms p ≡ Some j
+    → WasJoined ls p j ⊎ IsNewJoin routes n notes p j
+
+-- what the packet layer of line n notes in an event there
+abbrev pub noted_in : (line : ℕ) → (PacketEnd → PacketEnd) → Switch → List Note
+noted_in n f s = notes_of (slice_get (changed n (with_end (λ e. f (quieted e))) (all_begun s.lines)) n)
+
+-- ---- the law
+
+-- the causes in their order: a call is cleared for a facility (3), else where its address has no route, or one to a
+-- line that is not there (13), else where the packet layer there is not in r1 (9), else where no channel is free there
+-- (1); else it goes on to the lowest free channel of the line of its route, and so does each call by which an event
+-- makes a join. And while there is a join both its channels have a call; a channel has a call only while it is joined:
+-- both legs begin and end together
+pub record PairLaw : Type 0 where
+  pub facility : (routes : RouteMap) (ls : List SwitchLine) (parts : CallParts) → has_any parts.facilities ≡ true
+      → answer routes ls parts ≡ Clears invalid_facility
+  pub no_route : (routes : RouteMap) (ls : List SwitchLine) (parts : CallParts) → has_any parts.facilities ≡ false
+      → line_for routes parts.called ≡ None → answer routes ls parts ≡ Clears not_obtainable
+  pub no_line : (routes : RouteMap) (ls : List SwitchLine) (parts : CallParts) (n : ℕ)
+      → has_any parts.facilities ≡ false → line_for routes parts.called ≡ Some n → slice_get ls n ≡ None
+      → answer routes ls parts ≡ Clears not_obtainable
+  pub not_ready : (routes : RouteMap) (ls : List SwitchLine) (parts : CallParts) (n : ℕ) (l : SwitchLine)
+      → has_any parts.facilities ≡ false → line_for routes parts.called ≡ Some n → slice_get ls n ≡ Some l
+      → (l.end.layer.phase ≡ PacketReady → ⊥) → answer routes ls parts ≡ Clears out_of_order
+  pub no_channel : (routes : RouteMap) (ls : List SwitchLine) (parts : CallParts) (n : ℕ) (l : SwitchLine)
+      → has_any parts.facilities ≡ false → line_for routes parts.called ≡ Some n → slice_get ls n ≡ Some l
+      → l.end.layer.phase ≡ PacketReady → free_channel l.end.layer.role l.end.layer.channels ≡ None
+      → answer routes ls parts ≡ Clears number_busy
+  pub goes_on : (routes : RouteMap) (ls : List SwitchLine) (parts : CallParts) (n : ℕ) (l : SwitchLine) (c : ℕ)
+      → has_any parts.facilities ≡ false → line_for routes parts.called ≡ Some n → slice_get ls n ≡ Some l
+      → l.end.layer.phase ≡ PacketReady → free_channel l.end.layer.role l.end.layer.channels ≡ Some c
+      → answer routes ls parts ≡ Joins (record { line = n; channel = c })
+  pub frame_joins : (n : ℕ) (octets : List ℕ) (s : Switch)
+      → JoinsByRoute s.routes n (noted_in n (λ e. end.received e octets) s) s.lines (on_frame n octets s).lines
+  pub timer_joins : (n : ℕ) (id : TimerId) (s : Switch)
+      → JoinsByRoute s.routes n (noted_in n (λ e. end.after_timer e id) s) s.lines (on_timer n id s).lines
+  pub have_calls : (ls : List SwitchLine) (w : World) (p : Place) (j : Joined) → IsSwitch ls w
+      → joined_at ls p ≡ Some j → HasCall ls p × HasCall ls j.other
+  pub have_partners : (ls : List SwitchLine) (w : World) (p : Place) → IsSwitch ls w → CallsAreJoined ls
+      → HasCall ls p → HasPartner ls p
