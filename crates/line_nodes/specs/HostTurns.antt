@@ -8,14 +8,11 @@ use Rattle.packet_layer.specs.Layer.{channel_given, request_refusal, front_on}
 use Rattle.packet_end.specs.PacketEnd.{PacketEnd}
 use Rattle.packet_host.specs.Saying.{cut, say_refusal}
 use Rattle.packet_host.specs.Host.{after_call, after_request, refuse_refusal, after_refuse, after_say, after_take}
-use Rattle.packet_host.specs.Asking.{ask_refusal, after_ask}
-use Rattle.packet_host.specs.declared.request.HostRequest.{HostRequest}
 use Rattle.call_records.specs.Book.{Book, closes, takes}
 use Rattle.call_records.specs.Carried.{carried, unless_refused, placed_on}
 pub use Rattle.call_records.specs.Writes.{let_go}
 use Rattle.line_nodes.specs.Node.{Host}
 use Rattle.line_nodes.specs.Turn.{Turn, unchanged, told, all_sent}
-use Rattle.line_nodes.specs.Writing.{request_written}
 
 -- it places a call
 abbrev pub host_calls : Role → PacketEnd → CallParts → Book → Turn
@@ -48,9 +45,3 @@ taken_turn (Some x) role e channel b =
 -- it takes what comes next on a call, if anything
 abbrev pub host_takes : Role → PacketEnd → (channel : ℕ) → Book → Turn
 host_takes role e channel b = taken_turn (front_on e.layer channel) role e channel b
-
--- it is asked something on a channel
-abbrev pub host_asked : Role → PacketEnd → (channel : ℕ) → HostRequest → Book → Turn
-host_asked role e channel r b =
-    told role (Host (after_ask e channel r))
-    (unless_refused (ask_refusal e channel r) (request_written role channel r b) b)

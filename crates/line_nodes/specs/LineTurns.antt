@@ -1,5 +1,5 @@
 -- What comes to a node from its line, and what is written of it.
-use Rattle.std.specs.Prelude.{ℕ, cond, List}
+use Rattle.std.specs.Prelude.{ℕ, List, if◌then◌else◌}
 use Rattle.link_timers.specs.declared.role.Role.{Role}
 use Rattle.link_timers.specs.declared.timers.TimerId.{TimerId}
 use Rattle.packet_end.specs.PacketEnd.{PacketEnd, runs_at}
@@ -19,7 +19,8 @@ abbrev pub host_hears : Role → PacketEnd → (octets : List ℕ) → Book → 
 host_hears role e octets b = told role (Host (host.after_frame e octets)) b
 
 abbrev pub host_expires : Role → PacketEnd → TimerId → Book → Turn
-host_expires role e id b = cond (runs_at e id) (told role (Host (host.after_expiry e id)) b) (unchanged (Host e) b)
+host_expires role e id b =
+    if runs_at e id then told role (Host (host.after_expiry e id)) b else unchanged (Host e) b
 
 abbrev pub host_relinks : Role → PacketEnd → Book → Turn
 host_relinks role e b = told role (Host (host.after_relink e)) b
@@ -30,7 +31,8 @@ abbrev pub pad_hears : Role → PadState → (octets : List ℕ) → Book → Tu
 pad_hears role p octets b = pad_event role (pad.after_frame p octets) b
 
 abbrev pub pad_expires : Role → PadState → TimerId → Book → Turn
-pad_expires role p id b = cond (runs_at p.end id) (pad_event role (pad.after_expiry p id) b) (unchanged (Pad p) b)
+pad_expires role p id b =
+    if runs_at p.end id then pad_event role (pad.after_expiry p id) b else unchanged (Pad p) b
 
 abbrev pub pad_relinks : Role → PadState → Book → Turn
 pad_relinks role p b = pad_event role (pad.after_relink p) b

@@ -134,9 +134,6 @@ impl Node {
     pub fn is_pad(&self) -> bool
         ensures { result ≡ is_pad (node_of self.now) }
     {
-        match self {
-            Node::Pad(_) => true,
-            Node::Host(_) => false,
-        }
+        matches!(self, Node::Pad(_))
     }
 }

@@ -35,33 +35,21 @@ impl HostNote {
     pub(crate) fn of(node: usize, note: &LayerNote) -> Option<HostNote>
         ensures { option_to_list result ≡ host_note node (note_of note.now) }
     {
-        let (channel, kind) = match note {
-            LayerNote::Incoming(channel, _) => (*channel, NoteKind::Incoming),
-            LayerNote::Connected(channel) => (*channel, NoteKind::Connected),
+        let (channel, kind) = match *note {
+            LayerNote::Incoming(channel, _) => (channel, NoteKind::Incoming),
+            LayerNote::Connected(channel) => (channel, NoteKind::Connected),
             LayerNote::Closed {
                 channel,
                 cause,
                 diagnostic,
                 ..
-            } => (
-                *channel,
-                NoteKind::Cleared {
-                    cause: *cause,
-                    diagnostic: *diagnostic,
-                },
-            ),
+            } => (channel, NoteKind::Cleared { cause, diagnostic }),
             LayerNote::Reset {
                 channel,
                 cause,
                 diagnostic,
                 ..
-            } => (
-                *channel,
-                NoteKind::Reset {
-                    cause: *cause,
-                    diagnostic: *diagnostic,
-                },
-            ),
+            } => (channel, NoteKind::Reset { cause, diagnostic }),
             LayerNote::InterruptConfirmed(_) | LayerNote::Covered { .. } => return None,
         };
         Some(HostNote {

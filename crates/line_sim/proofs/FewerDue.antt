@@ -8,8 +8,8 @@ use Rattle.memory_line.specs.Lines.{LineService}
 use Rattle.net_events.specs.NodeEvents.{Expires}
 use Rattle.net_events.specs.Network.{PlacedNode, Network, place_at}
 use Rattle.network_laws.specs.IsNetwork.{IsNetwork}
-use Rattle.net_events.specs.Waiting.{DueTimer, due_of, due_from, next_due}
-use Rattle.network_laws.specs.Waiting.{all_due}
+use Rattle.net_events.specs.NextDue.{DueTimer, due_of, due_from, next_due}
+use Rattle.network_laws.specs.DueCount.{all_due}
 use Rattle.network_laws.proofs.Due as due_law
 use Rattle.net_events.specs.declared.answer.Answer.{Answer}
 use Rattle.net_events.specs.declared.event.Event.{Event}

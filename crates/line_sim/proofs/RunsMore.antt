@@ -17,20 +17,20 @@ use Rattle.net_events.specs.declared.event.StepFault.TheVariants.{OutOfMemory, N
 use Rattle.net_nodes.specs.Places.{is_host_at, pad_terminals}
 use Rattle.net_nodes.specs.Faults.{step_fault, refused, at_node, at_host, is_channel_at, on_channel, stands_at, at_terminal, where_there_is, takes_memory, MayWant}
 use Rattle.net_nodes.specs.Happening.{Happens}
-use Rattle.line_sim.specs.Runs.{Happened, Ran, HasRun, HasStopped}
+use Rattle.line_sim.specs.Runs.{IsHandled, Ran, HasRun, HasStopped}
 
 -- what was answered, or refused for another reason than want of memory, happened
-pub happened : (L : LineService) (e : Event) (s : Network) (r : Result Answer StepFault) (t : Network) → Happens L e s r t → (r ≡ Err OutOfMemory → ⊥) → Happened L e s (step_fault e s) t
-happened L e s (Ok answer) t h not_memory = let P : Option StepFault → Type 0 = λ o. Happened L e s o t in subst P (sym h.0) (answer, h.1)
+pub happened : (L : LineService) (e : Event) (s : Network) (r : Result Answer StepFault) (t : Network) → Happens L e s r t → (r ≡ Err OutOfMemory → ⊥) → IsHandled L e s (step_fault e s) t
+happened L e s (Ok answer) t h not_memory = let P : Option StepFault → Type 0 = λ o. IsHandled L e s o t in subst P (sym h.0) (answer, h.1)
 happened L e s (Err fault) t h not_memory =
-    let P : Option StepFault → Type 0 = λ o. Happened L e s o t in
+    let P : Option StepFault → Type 0 = λ o. IsHandled L e s o t in
     elim h.0 [
       | inl is ↦ subst P (sym is) h.1
       | inr memory ↦ absurd (not_memory (ap Err memory.1))
     ]
 
-pub ran-more : (L : LineService) (es : List Event) (s t : Network) (e : Event) (u : Network) → Ran L s es t → Happened L e t (step_fault e t) u → Ran L s (es ++ e ∷ []) u
-ran-more L [] s t e u r h = let P : Network → Type 0 = λ x. Happened L e x (step_fault e x) u in (u, subst P (sym r) h, refl)
+pub ran-more : (L : LineService) (es : List Event) (s t : Network) (e : Event) (u : Network) → Ran L s es t → IsHandled L e t (step_fault e t) u → Ran L s (es ++ e ∷ []) u
+ran-more L [] s t e u r h = let P : Network → Type 0 = λ x. IsHandled L e x (step_fault e x) u in (u, subst P (sym r) h, refl)
 ran-more L (x ∷ es) s t e u r h = (r.0, r.1, ran-more L es r.0 t e u r.2 h)
 
 take-more : {A : Type 0} (xs : List A) (i : ℕ) (x d : A) → i < length xs → x ≡ get_or xs i d → take (suc i) xs ≡ take i xs ++ x ∷ []
@@ -39,7 +39,7 @@ take-more (y ∷ ys) zero x d h e = ap (λ z. z ∷ []) (sym e)
 take-more (y ∷ ys) (suc i) x d h e = ap (λ zs. y ∷ zs) (take-more ys i x d (omega arith) e)
 
 pub run-more : (config : Config) (events : List Event) (i : ℕ) (d e : Event) (t u : Network) → i < length events → e ≡ get_or events i d
-    → HasRun config (take i events) t → Happened memory_service e t (step_fault e t) u → HasRun config (take (i + 1) events) u
+    → HasRun config (take i events) t → IsHandled memory_service e t (step_fault e t) u → HasRun config (take (i + 1) events) u
 run-more config events i d e t u h is run happens =
     let P : List Event → Type 0 = λ es. Ran memory_service run.start es u in
     let next : take (i + 1) events ≡ take i events ++ e ∷ [] = (let same : i + 1 ≡ suc i = omega arith in ap (λ n. take n events) same ∙ take-more events i e d h is) in

@@ -3,6 +3,6 @@ pub use Rattle.net_events.specs.Network
 pub use Rattle.net_nodes.specs.Happening
 pub use Rattle.net_nodes.specs.Due
 pub use Rattle.net_nodes.specs.Questions
-pub use Rattle.network_laws.specs.Waiting
+pub use Rattle.network_laws.specs.DueCount
 pub mod Runs
 pub mod Expiries

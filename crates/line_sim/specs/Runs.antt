@@ -21,14 +21,14 @@ pub record IsMadeBy (L : LineService) (config : Config) (net : Network) : Type 0
   pub made : IsMade L (plan_of config) net
 
 -- the event is answered, or refused with its fault, but not for want of memory
-abbrev pub Happened : (L : LineService) → Event → Network → Option StepFault → Network → Type 0
-Happened L e s None t = (answer : Answer) × StepOf L e s answer t
-Happened L e s (Some fault) t = t ≡ s
+abbrev pub IsHandled : (L : LineService) → Event → Network → Option StepFault → Network → Type 0
+IsHandled L e s None t = (answer : Answer) × StepOf L e s answer t
+IsHandled L e s (Some fault) t = t ≡ s
 
 -- the events happen, one after the other
 abbrev pub Ran : (L : LineService) → Network → List Event → Network → Type 0
 Ran L s [] t = s ≡ t
-Ran L s (e ∷ es) t = (mid : Network) × Happened L e s (step_fault e s) mid × Ran L mid es t
+Ran L s (e ∷ es) t = (mid : Network) × IsHandled L e s (step_fault e s) mid × Ran L mid es t
 
 -- from a network as it is made by this configuration, on lines in memory, the events lead to this one
 pub record HasRun (config : Config) (events : List Event) (net : Network) : Type 0 where

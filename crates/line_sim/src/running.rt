@@ -7,7 +7,7 @@ ghost use Rattle.net_config.specs.declared.fault.MakeFault.TheVariants.{BadConfi
 ghost use Rattle.net_config.specs.Served.{is_served};
 ghost use Rattle.net_nodes.specs.Faults.{step_fault, MayWant};
 ghost use Rattle.line_sim.specs.declared.running.RunFault.TheVariants.{Made};
-ghost use Rattle.line_sim.specs.Runs.{Happened, IsMadeBy, HasRun, IsRunFault};
+ghost use Rattle.line_sim.specs.Runs.{IsHandled, IsMadeBy, HasRun, IsRunFault};
 
 use crate::net::Net;
 use memory_line::{MemLine, mem_lines};
@@ -69,7 +69,8 @@ pub fn run(alloc: Global, config: &Config, events: &[Event]) -> Result<Net<MemLi
 /// itself does not refuse it.
 #[tactic(auto, using(crate::proofs::RunsMore::happened, crate::proofs::RunsMore::wanting))]
 fn goes_on(net: &mut Net<MemLine>, event: &Event) -> bool
-    ensures handled { OnTrue result (Happened memory_service event.now net.old (step_fault event.now net.old) net.new) }
+    ensures handled { OnTrue result (IsHandled memory_service event.now net.old (step_fault event.now net.old)
+        net.new) }
     ensures wanting { OnFalse result (MayWant event.now net.old) }
     ensures headline { NetworkHolds net.new }
 {

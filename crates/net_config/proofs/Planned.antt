@@ -10,7 +10,7 @@ use Rattle.link_timers.specs.declared.role.Role.{Role}
 use Rattle.link_timers.specs.declared.role.Role.TheVariants.{Dte, Dce}
 use Rattle.net_events.specs.Opening.{NewNode, NewLine, NetPlan, IsLinePlan, IsNodePlan, IsPlan}
 use Rattle.net_config.specs.Served.{same_text, is_named, has_dte, has_end, is_host, is_host_named, is_pad_named, may_stand, is_served}
-use Rattle.net_config.specs.Plan.{place_of, role_of, new_node, new_line, plan_of, StandsAlone, PlanLaw}
+use Rattle.net_config.specs.Plan.{place_of, role_of, planned_node, new_line, plan_of, StandsAlone, PlanLaw}
 use Rattle.net_config.specs.declared.config.Config.{Config}
 use Rattle.net_config.specs.declared.config.NodeConfig.{NodeConfig}
 use Rattle.net_config.specs.declared.config.LineConfig.{LineConfig}
@@ -69,11 +69,11 @@ dce_of c l h =
 
 -- the node that a line names stands in the plan where the line says
 planned_at : (c : Config) → is_served c ≡ true → (name : List ℕ) (d : NodeOf c name)
-    → slice_get (plan_of c).nodes (place_of (is_named name) c.nodes.items) ≡ Some (new_node c.lines.items d.node)
+    → slice_get (plan_of c).nodes (place_of (is_named name) c.nodes.items) ≡ Some (planned_node c.lines.items d.node)
 planned_at c served name d =
-    subst (λ i. slice_get (plan_of c).nodes i ≡ Some (new_node c.lines.items d.node))
+    subst (λ i. slice_get (plan_of c).nodes i ≡ Some (planned_node c.lines.items d.node))
     (sym (node_place c served name d.place d.node d.there d.name_is))
-    (there_mapped (new_node c.lines.items) c.nodes.items d.place d.node d.there)
+    (there_mapped (planned_node c.lines.items) c.nodes.items d.place d.node d.there)
 
 has_own_dte : (l : LineConfig) (name : List ℕ) → name ≡ string_bytes l.dte → has_dte name l ≡ true
 has_own_dte l name e = so_same (string_bytes l.dte) name (sym e)
@@ -135,8 +135,8 @@ line_planned c served j l there =
     let dte = dte_of c l h in
     let dce = dce_of c l h in
     record {
-      dte = new_node c.lines.items dte.node;
-      dce = new_node c.lines.items dce.node;
+      dte = planned_node c.lines.items dte.node;
+      dce = planned_node c.lines.items dce.node;
       dte_there = planned_at c served (string_bytes l.dte) dte;
       dce_there = planned_at c served (string_bytes l.dce) dce;
       dte_line = line_place c served dte.place dte.node dte.there j l there
@@ -157,7 +157,7 @@ end_place c served i n there name same =
     node_place c served name i n there (sym (same_so name (string_bytes n.name) same))
 
 node_planned : (c : Config) → is_served c ≡ true → (i : ℕ) (n : NodeConfig) → slice_get c.nodes.items i ≡ Some n
-    → IsNodePlan (plan_of c).lines i (new_node c.lines.items n)
+    → IsNodePlan (plan_of c).lines i (planned_node c.lines.items n)
 node_planned c served i n there =
     let name = string_bytes n.name in
     let h = served_node c served i n there in
@@ -193,7 +193,7 @@ plan_law c served = (
         let m = mapped_there (new_line c.nodes.items) c.lines.items j l e in
         subst (IsLinePlan (plan_of c).nodes j) m.value (line_planned c served j m.item m.there);
     nodes = λ i n e.
-        let m = mapped_there (new_node c.lines.items) c.nodes.items i n e in
+        let m = mapped_there (planned_node c.lines.items) c.nodes.items i n e in
         subst (IsNodePlan (plan_of c).lines i) m.value (node_planned c served i m.item m.there);
   },
   stands_alone c served,

@@ -47,8 +47,8 @@ new_kind node_kind.Switch = NewHost
 abbrev pub role_of : List LineConfig → List ℕ → Role
 role_of lines name = if list_any (has_dte name) lines then Dte else Dce
 
-abbrev pub new_node : List LineConfig → NodeConfig → NewNode
-new_node lines n = record {
+abbrev pub planned_node : List LineConfig → NodeConfig → NewNode
+planned_node lines n = record {
   line = place_of (has_end (string_bytes n.name)) lines;
   role = role_of lines (string_bytes n.name);
   terminals = terminals_of n.kind;
@@ -71,7 +71,7 @@ new_line nodes l = record {
 
 abbrev pub plan_of : Config → NetPlan
 plan_of c = record {
-  nodes = map (new_node c.lines.items) c.nodes.items;
+  nodes = map (planned_node c.lines.items) c.nodes.items;
   lines = map (new_line c.nodes.items) c.lines.items;
 }
 

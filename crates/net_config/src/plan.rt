@@ -3,7 +3,8 @@ ghost use Rattle.std.specs.Prelude.{◌≡◌, ◌≤◌, true, false, List, map
 ghost use Rattle.net_config.specs.Served.{is_named, has_dte, has_end, is_served};
 ghost use Rattle.net_config.specs.Served.{is_kind_served, is_pad_served, is_within};
 ghost use Rattle.std.specs.List.{list_any, position};
-ghost use Rattle.net_config.specs.Plan.{set_one, initial_params, terminals_of, new_kind, role_of, new_node, new_line};
+ghost use Rattle.net_config.specs.Plan.{set_one, initial_params, terminals_of, new_kind, role_of};
+ghost use Rattle.net_config.specs.Plan.{planned_node, new_line};
 ghost use Rattle.net_config.specs.Plan.{end_params, plan_of, StandsAlone};
 ghost use Rattle.net_config.specs.PlanView.{kind_value};
 ghost use Rattle.net_events.specs.Opening.{IsPlan};
@@ -147,9 +148,9 @@ fn role_of(lines: &[LineConfig], name: &str) -> Role
     }
 }
 
-fn new_node(lines: &[LineConfig], node: &NodeConfig) -> NewNode
+fn planned_node(lines: &[LineConfig], node: &NodeConfig) -> NewNode
     requires { is_kind_served node.now.kind ≡ true }
-    ensures { result ≡ new_node lines.now node.now }
+    ensures { result ≡ planned_node lines.now node.now }
 {
     NewNode {
         line: find_line(lines, &node.name).unwrap_or(0),
@@ -183,7 +184,7 @@ fn new_nodes(alloc: Global, config: &Config) -> Result<Vec<NewNode>, MakeFault>
 {
     let mut nodes = Vec::new(alloc);
     for node in &config.nodes {
-        nodes.push(new_node(&config.lines, node))?;
+        nodes.push(planned_node(&config.lines, node))?;
     }
     Ok(nodes)
 }

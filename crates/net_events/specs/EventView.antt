@@ -1,5 +1,8 @@
 -- An event of a node, as the code has it, in the terms of the laws of a network.
 use Rattle.std.specs.Prelude.{ℕ, true, false}
+use Rattle.packet_codec.specs.ClearCause as clear_cause
+use Rattle.packet_codec.specs.ResetCause as reset_cause
+use Rattle.packet_codec.specs.Diagnostic.{no_information}
 use Rattle.packet_layer.specs.Channel.{Request as ask}
 use Rattle.packet_host.specs.declared.request.HostRequest.{HostRequest}
 use Rattle.packet_host.specs.declared.request.HostRequest.TheVariants.{Answer, Refuse, Say, Interrupt, Reset, Clear}
@@ -14,8 +17,8 @@ request_event channel Answer = law.Asks channel ask.Accept
 request_event channel Refuse = law.Refuses channel
 request_event channel (Say octets qualified delivery) = law.Says channel octets.items qualified delivery
 request_event channel (Interrupt octets) = law.Asks channel (ask.Interrupting octets.items)
-request_event channel Reset = law.Asks channel (ask.Resetting 0 0)
-request_event channel Clear = law.Asks channel (ask.Clearing 0 0)
+request_event channel Reset = law.Asks channel (ask.Resetting reset_cause.dte_originated no_information)
+request_event channel Clear = law.Asks channel (ask.Clearing clear_cause.dte_originated no_information)
 request_event channel Stop = law.Asks channel (ask.Stopping true)
 request_event channel Go = law.Asks channel (ask.Stopping false)
 

@@ -2,5 +2,5 @@ pub mod OneLine
 pub mod NodeEvents
 pub mod EventView
 pub mod Network
-pub mod Waiting
+pub mod NextDue
 pub mod Opening

@@ -43,8 +43,8 @@ pub record StandsAtLine (lines : List NetLine) (place : ℕ) (n : PlacedNode) : 
 -- ---- what happens
 
 -- a turn of a node at this place, at the end of a line, whose frames were put: these are in flight then
-abbrev pub with_turn : (line : ℕ) → NetLine → (place : ℕ) → PlacedNode → Turn → Flights → Network → Network
-with_turn line l place n turn flights s = record {
+abbrev pub with_turn_at : (line : ℕ) → NetLine → (place : ℕ) → PlacedNode → Turn → Flights → Network → Network
+with_turn_at line l place n turn flights s = record {
   nodes = set s.nodes place (record n { node = drained turn.node });
   lines = set s.lines line (record l { flights = flights });
   register = with_book line turn.book s.register;
@@ -67,7 +67,7 @@ pub record HappenedAt (L : LineService) (event : NodeEvent) (line : ℕ) (role :
   pub flights : Flights
   pub put : L.faithful
       → ArePut L (direction_of role) (frames_of (net_turn event line role node s).node) between flights
-  pub others : t ≡ with_turn line line_is (place_at role line_is) node (net_turn event line role node s) flights s
+  pub others : t ≡ with_turn_at line line_is (place_at role line_is) node (net_turn event line role node s) flights s
 
 -- the first frame in flight in a direction of a line, if any, is lost
 pub record LostAt (L : LineService) (line : ℕ) (d : Direction) (s t : Network) : Type 0 where

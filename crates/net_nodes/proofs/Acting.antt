@@ -21,14 +21,13 @@ use Rattle.net_nodes.specs.Steps.{hearer}
 use Rattle.net_events.specs.NodeEvents.{NodeEvent, IsFor, LeftBy, Hears, Restarts}
 use Rattle.net_events.specs.Network.{PlacedNode, NetLine, Network, place_at}
 use Rattle.net_events.specs.declared.answer.Answer.{Answer}
-use Rattle.net_events.specs.declared.answer.Outcome.{Outcome}
 use Rattle.net_turns.specs.declared.room.Room.{Room}
-use Rattle.net_turns.specs.Outcomes.{event_fault, IsOutcome}
+use Rattle.net_turns.specs.Outcomes.{event_fault}
 use Rattle.net_turns.specs.Served.{IsEmpty}
 use Rattle.net_events.specs.declared.event.StepFault.{StepFault}
 use Rattle.net_events.specs.declared.event.StepFault.TheVariants.{OutOfMemory, Refused}
 use Rattle.net_nodes.specs.declared.nodes.LineEnd.{LineEnd}
-use Rattle.net_nodes.specs.Turns.{CanServe, CanAct, HadTurn, HadNone, AtEnd, IsRefusal, ActsSo, LeavesLine, IsAnswer, its_turn}
+use Rattle.net_nodes.specs.Turns.{CanServe, CanAct, HadTurn, HadNone, AtEnd, IsRefusal, ActsSo, LeavesLine, its_turn}
 use Rattle.net_nodes.proofs.Serving.{set_there}
 
 -- ---- before the turn
@@ -67,17 +66,15 @@ can_serve end event nodes l n node_there is_for quiet g registered v flights h r
 -- ---- after it
 
 -- what the event did: this was in flight before the node's turn
-pub at_end : (L : LineService) (end : LineEnd) (event : NodeEvent) (s : Network) (l : NetLine) (n : PlacedNode) (between : Flights) (o : Outcome) (room : Room)
+pub at_end : (L : LineService) (end : LineEnd) (event : NodeEvent) (s : Network) (l : NetLine) (n : PlacedNode) (between : Flights)
     (nodes : List PlacedNode) (line : NetLine) (g : spec.Register) (a : Answer)
     → slice_get s.lines end.line ≡ Some l → slice_get s.nodes (place_at end.role l) ≡ Some n → IsFor event n.node
     → (L.faithful → LeftBy event end.role l.flights between)
-    → HadTurn L end event n s.nodes (record l { flights = between }) s.register o room nodes line g
-    → a.frames.items ≡ room.frames.items → a.notes.items ≡ room.notes.items → a.outcome ≡ o
+    → HadTurn L end event n s.nodes (record l { flights = between }) s.register a nodes line g
     → AtEnd L end event s a (record { nodes = nodes; lines = set s.lines end.line line; register = g })
-at_end L end event s l n between o room nodes line g a line_there node_there is_for left w frames notes outcome =
+at_end L end event s l n between nodes line g a line_there node_there is_for left w =
     let turn = its_turn end event n s.register in
     let place = same_place end.role l between in
-    let O : Outcome → Type 0 = λ x. IsOutcome event n.node x in
     record {
       happened = record {
         line_is = l;
@@ -95,13 +92,13 @@ at_end L end event s l n between o room nodes line g a line_there node_there is_
           register = w.register_is i;
         };
       };
-      puts = subst (Rattle.net_turns.specs.Sends.ArePutsOf (Rattle.net_events.specs.OneLine.direction_of end.role) end.line (frames_of turn.node)) (sym frames) w.sends.puts_are;
-      told = notes ∙ w.told ∙ ap (λ k. user_notes n.node k turn.notes) place;
-      outcome = subst O (sym outcome) w.outcome;
+      puts = w.sends.puts_are;
+      told = w.told ∙ ap (λ k. user_notes n.node k turn.notes) place;
+      outcome = w.outcome;
     }
 
 -- nothing changed where the node refused the event and the frames in flight were left
-pub none_changed : (event : NodeEvent) (s : Network) (line : ℕ) (l : NetLine) (n : PlacedNode) (fault : NodeFault) (nodes : List PlacedNode) (v : NetLine) (g : spec.Register)
+pub none_changed : (event : NodeEvent) (s : Network) (line : ℕ) (l : NetLine) (n : PlacedNode) (fault : StepFault) (nodes : List PlacedNode) (v : NetLine) (g : spec.Register)
     → slice_get s.lines line ≡ Some l → HadNone event n fault s.nodes l s.register nodes v g
     → record { nodes = nodes; lines = set s.lines line v; register = g } ≡ s
 none_changed event s line l n fault nodes v g there w =
@@ -129,31 +126,27 @@ leaves (Rattle.net_events.specs.NodeEvents.Takes channel) role flights h = refl
 leaves (Rattle.net_events.specs.NodeEvents.Keys octet) role flights h = refl
 
 -- what the node answered, where the event left the frames in flight
-pub acts : (L : LineService) (end : LineEnd) (event : NodeEvent) (s : Network) (l : NetLine) (n : PlacedNode) (r : Result Outcome NodeFault) (x : Result Answer StepFault)
-    (room : Room) (nodes : List PlacedNode) (line : NetLine) (g : spec.Register)
+pub acts : (L : LineService) (end : LineEnd) (event : NodeEvent) (s : Network) (l : NetLine) (n : PlacedNode) (r : Result Answer StepFault)
+    (nodes : List PlacedNode) (line : NetLine) (g : spec.Register)
     → slice_get s.lines end.line ≡ Some l → slice_get s.nodes (place_at end.role l) ≡ Some n → IsFor event n.node → LeavesLine event
-    → MatchResult r (λ o. HadTurn L end event n s.nodes l s.register o room nodes line g) (λ fault. HadNone event n fault s.nodes l s.register nodes line g)
-    → IsAnswer r room x → ActsSo L end event n s x (record { nodes = nodes; lines = set s.lines end.line line; register = g })
-acts L end event s l n (Ok o) (Ok a) room nodes line g line_there node_there is_for left w a_is =
-    (w.no_fault, at_end L end event s l n l.flights o room nodes line g a line_there node_there is_for (λ f. leaves event end.role l.flights left) w a_is.0 a_is.1 a_is.2)
-acts L end event s l n (Err nf) (Err fault) room nodes line g line_there node_there is_for left w a_is =
-    (refusal (event_fault event n.node) nf fault w.refuses a_is, none_changed event s end.line l n nf nodes line g line_there w)
-acts L end event s l n (Ok o) (Err fault) room nodes line g line_there node_there is_for left w a_is = absurd a_is
-acts L end event s l n (Err nf) (Ok a) room nodes line g line_there node_there is_for left w a_is = absurd a_is
+    → MatchResult r (λ a. HadTurn L end event n s.nodes l s.register a nodes line g) (λ fault. HadNone event n fault s.nodes l s.register nodes line g)
+    → ActsSo L end event n s r (record { nodes = nodes; lines = set s.lines end.line line; register = g })
+acts L end event s l n (Ok a) nodes line g line_there node_there is_for left w =
+    (w.no_fault, at_end L end event s l n l.flights nodes line g a line_there node_there is_for (λ f. leaves event end.role l.flights left) w)
+acts L end event s l n (Err fault) nodes line g line_there node_there is_for left w =
+    (refusal (event_fault event n.node) w.refusal fault w.refuses w.fault_is, none_changed event s end.line l n fault nodes line g line_there w)
 
 -- and where an event that no node refuses changed them
-pub acts_anew : (L : LineService) (end : LineEnd) (event : NodeEvent) (s : Network) (l : NetLine) (n : PlacedNode) (between : Flights) (r : Result Outcome NodeFault) (x : Result Answer StepFault)
-    (room : Room) (nodes : List PlacedNode) (line : NetLine) (g : spec.Register)
+pub acts_anew : (L : LineService) (end : LineEnd) (event : NodeEvent) (s : Network) (l : NetLine) (n : PlacedNode) (between : Flights) (r : Result Answer StepFault)
+    (nodes : List PlacedNode) (line : NetLine) (g : spec.Register)
     → slice_get s.lines end.line ≡ Some l → slice_get s.nodes (place_at end.role l) ≡ Some n → IsFor event n.node → (L.faithful → LeftBy event end.role l.flights between)
     → event_fault event n.node ≡ None
-    → MatchResult r (λ o. HadTurn L end event n s.nodes (record l { flights = between }) s.register o room nodes line g)
+    → MatchResult r (λ a. HadTurn L end event n s.nodes (record l { flights = between }) s.register a nodes line g)
     (λ fault. HadNone event n fault s.nodes (record l { flights = between }) s.register nodes line g)
-    → IsAnswer r room x → (a : Answer) × (x ≡ Ok a) × AtEnd L end event s a (record { nodes = nodes; lines = set s.lines end.line line; register = g })
-acts_anew L end event s l n between (Ok o) (Ok a) room nodes line g line_there node_there is_for left none w a_is =
-    (a, refl, at_end L end event s l n between o room nodes line g a line_there node_there is_for left w a_is.0 a_is.1 a_is.2)
-acts_anew L end event s l n between (Err nf) (Err fault) room nodes line g line_there node_there is_for left none w a_is = absurd (let f = w.refuses in cc)
-acts_anew L end event s l n between (Ok o) (Err fault) room nodes line g line_there node_there is_for left none w a_is = absurd a_is
-acts_anew L end event s l n between (Err nf) (Ok a) room nodes line g line_there node_there is_for left none w a_is = absurd a_is
+    → (a : Answer) × (r ≡ Ok a) × AtEnd L end event s a (record { nodes = nodes; lines = set s.lines end.line line; register = g })
+acts_anew L end event s l n between (Ok a) nodes line g line_there node_there is_for left none w =
+    (a, refl, at_end L end event s l n between nodes line g a line_there node_there is_for left w)
+acts_anew L end event s l n between (Err fault) nodes line g line_there node_there is_for left none w = absurd (let f = w.refuses in cc)
 
 pub can_is_for : (end : LineEnd) (event : NodeEvent) (s : Network) (can : CanAct end event s) (l : NetLine) (n : PlacedNode)
     → slice_get s.lines end.line ≡ Some l → slice_get s.nodes (place_at end.role l) ≡ Some n → IsFor event n.node
@@ -163,12 +156,12 @@ can_is_for end event s can l n line_there node_there =
     subst (λ (x : PlacedNode). IsFor event x.node) node can.is_for
 
 -- a turn is told of the same line and the same register
-pub turned_from : (L : LineService) (end : LineEnd) (event : NodeEvent) (n : PlacedNode) (r : Result Outcome NodeFault) (nodes : List PlacedNode) (v l : NetLine) (h g : spec.Register)
-    (room : Room) (nodes' : List PlacedNode) (line : NetLine) (g' : spec.Register) → v ≡ l → h ≡ g
-    → MatchResult r (λ o. HadTurn L end event n nodes v h o room nodes' line g') (λ fault. HadNone event n fault nodes v h nodes' line g')
-    → MatchResult r (λ o. HadTurn L end event n nodes l g o room nodes' line g') (λ fault. HadNone event n fault nodes l g nodes' line g')
-turned_from L end event n r nodes v l h g room nodes' line g' is_line is_register w =
-    let P : NetLine → spec.Register → Type 0 = λ x y. MatchResult r (λ o. HadTurn L end event n nodes x y o room nodes' line g') (λ fault. HadNone event n fault nodes x y nodes' line g') in
+pub turned_from : (L : LineService) (end : LineEnd) (event : NodeEvent) (n : PlacedNode) (r : Result Answer StepFault) (nodes : List PlacedNode) (v l : NetLine) (h g : spec.Register)
+    (nodes' : List PlacedNode) (line : NetLine) (g' : spec.Register) → v ≡ l → h ≡ g
+    → MatchResult r (λ a. HadTurn L end event n nodes v h a nodes' line g') (λ fault. HadNone event n fault nodes v h nodes' line g')
+    → MatchResult r (λ a. HadTurn L end event n nodes l g a nodes' line g') (λ fault. HadNone event n fault nodes l g nodes' line g')
+turned_from L end event n r nodes v l h g nodes' line g' is_line is_register w =
+    let P : NetLine → spec.Register → Type 0 = λ x y. MatchResult r (λ a. HadTurn L end event n nodes x y a nodes' line g') (λ fault. HadNone event n fault nodes x y nodes' line g') in
     let Q : NetLine → Type 0 = λ x. P x g in
     let R : spec.Register → Type 0 = λ y. P v y in
     subst Q is_line (subst R is_register w)

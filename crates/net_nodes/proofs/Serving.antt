@@ -15,9 +15,13 @@ use Rattle.memory_line.specs.Lines.{Flights, LineService}
 use Rattle.net_events.specs.OneLine.{direction_of}
 use Rattle.net_events.specs.NodeEvents.{NodeEvent, turn_of}
 use Rattle.net_events.specs.Network.{PlacedNode, NetLine, place_at}
+use Rattle.net_events.specs.declared.answer.Answer.{Answer}
 use Rattle.net_events.specs.declared.answer.Outcome.{Outcome}
+use Rattle.net_events.specs.declared.answer.Put.{Put}
+use Rattle.net_events.specs.declared.event.StepFault.{StepFault}
+use Rattle.net_events.specs.declared.event.StepFault.TheVariants.{Refused}
 use Rattle.net_turns.specs.declared.room.Room.{Room}
-use Rattle.net_turns.specs.Outcomes.{event_fault, IsOutcome}
+use Rattle.net_turns.specs.Outcomes.{event_fault, IsOutcome, IsAnswered}
 use Rattle.net_turns.specs.Sends.{Sends}
 use Rattle.net_turns.specs.Served.{Served}
 use Rattle.net_nodes.specs.declared.nodes.LineEnd.{LineEnd}
@@ -49,56 +53,80 @@ module _ (L : LineService) (end : LineEnd) (event : NodeEvent) (p n : PlacedNode
   same_turn : turn_of event end.role p.node g.book.book ≡ turn
   same_turn = λ i. turn_of event end.role (is_node i).node (book i)
 
-  turned : (o : Outcome) (room : Room) (node : NodeState) (flights : Flights) (b : Book)
+  turned : (o : Outcome) (room : Room) (a : Answer) (node : NodeState) (flights : Flights) (b : Book)
       → (event_fault event p.node ≡ None) × IsOutcome event p.node o
       → Served L (record { line = end.line; place = record { role = end.role; node = place } }) p.node
       (turn_of event end.role p.node g.book.book) v.flights room.frames.items room.notes.items node flights b
-      → HadTurn L end event n nodes l (register_of g) o room (set nodes place (record p { node = node }))
+      → a.frames.items ≡ room.frames.items → a.notes.items ≡ room.notes.items → a.outcome ≡ o
+      → HadTurn L end event n nodes l (register_of g) a (set nodes place (record p { node = node }))
       (record v { flights = flights }) (register_with g.open b (lines_of g.lines.items))
-  turned o room node flights b a w =
-      let P : Turn → Flights → Type 0 = λ t f. Sends L (direction_of end.role) end.line (frames_of t.node) f room.frames.items flights in
-      let Q : Turn → Type 0 = λ t. P t l.flights in
-      let R : Flights → Type 0 = λ f. P (turn_of event end.role p.node g.book.book) f in
+  turned o room a node flights b answered w frames notes outcome =
+      let P : Turn → Flights → List Put → Type 0 = λ t f puts. Sends L (direction_of end.role) end.line (frames_of t.node) f puts flights in
+      let Q : Turn → Type 0 = λ t. P t l.flights a.frames.items in
+      let R : Flights → Type 0 = λ f. P (turn_of event end.role p.node g.book.book) f a.frames.items in
+      let S : List Put → Type 0 = λ puts. P (turn_of event end.role p.node g.book.book) v.flights puts in
       let N : NodeState → Type 0 = λ m. event_fault event m ≡ None in
-      let O : NodeState → Type 0 = λ m. IsOutcome event m o in
+      let O : NodeState → Outcome → Type 0 = λ m x. IsOutcome event m x in
       let node_is : p.node ≡ n.node = ap (λ (x : PlacedNode). x.node) is_node in
       let drained_is : node ≡ drained turn.node = w.node_is ∙ ap (λ (t : Turn). drained t.node) same_turn in
       record {
-        no_fault = subst N node_is a.0;
-        outcome = subst O node_is a.1;
-        sends = subst Q same_turn (subst R (ap (λ (x : NetLine). x.flights) is_line) w.sends);
-        told = w.told ∙ (λ i. user_notes (node_is i) (is_place i) (same_turn i).notes);
+        no_fault = subst N node_is answered.0;
+        outcome = subst (O n.node) (sym outcome) (subst (λ m. O m o) node_is answered.1);
+        sends = subst Q same_turn (subst R (ap (λ (x : NetLine). x.flights) is_line) (subst S (sym frames) w.sends));
+        told = notes ∙ w.told ∙ (λ i. user_notes (node_is i) (is_place i) (same_turn i).notes);
         nodes_are = λ i. set nodes (is_place i) (record (is_node i) { node = drained_is i });
         line_is = λ i. record (is_line i) { flights = flights };
         register_is = register_turned g end.line b turn.book at_line (w.book_is ∙ ap (λ (t : Turn). t.book) same_turn);
       }
 
-  refused : (fault : NodeFault) (node : NodeState) (flights : Flights) (b : Book) → slice_get nodes (place_at end.role l) ≡ Some n
-      → event_fault event p.node ≡ Some fault → node ≡ p.node → flights ≡ v.flights → b ≡ g.book.book
+  refused : (refusal : NodeFault) (fault : StepFault) (node : NodeState) (flights : Flights) (b : Book) → slice_get nodes (place_at end.role l) ≡ Some n
+      → event_fault event p.node ≡ Some refusal → fault ≡ Refused refusal → node ≡ p.node → flights ≡ v.flights → b ≡ g.book.book
       → HadNone event n fault nodes l (register_of g) (set nodes place (record p { node = node }))
       (record v { flights = flights }) (register_with g.open b (lines_of g.lines.items))
-  refused fault node flights b there f same_node same_flights same_book =
-      let N : NodeState → Type 0 = λ m. event_fault event m ≡ Some fault in
+  refused refusal fault node flights b there f is same_node same_flights same_book =
+      let N : NodeState → Type 0 = λ m. event_fault event m ≡ Some refusal in
       let node_is : p.node ≡ n.node = ap (λ (x : PlacedNode). x.node) is_node in
       let put : set nodes place (record p { node = node }) ≡ set nodes (place_at end.role l) n
       = λ i. set nodes (is_place i) (record (is_node i) { node = (same_node ∙ node_is) i }) in
       record {
+        refusal = refusal;
         refuses = subst N node_is f;
+        fault_is = is;
         nodes_are = put ∙ set_there nodes (place_at end.role l) n there;
         line_is = (λ i. record v { flights = same_flights i }) ∙ is_line;
         register_is = ap (λ x. register_with g.open x (lines_of g.lines.items)) same_book;
       }
 
-  pub served : (r : Result Outcome NodeFault) (room : Room) (node : NodeState) (flights : Flights) (b : Book)
-      → slice_get nodes (place_at end.role l) ≡ Some n
-      → MatchResult r (λ o. (event_fault event p.node ≡ None) × IsOutcome event p.node o) (λ fault. event_fault event p.node ≡ Some fault)
-      → OnOk r (Served L (record { line = end.line; place = record { role = end.role; node = place } }) p.node
-      (turn_of event end.role p.node g.book.book) v.flights room.frames.items room.notes.items node flights b)
-      → OnErr r (node ≡ p.node) → OnErr r (flights ≡ v.flights) → OnErr r (b ≡ g.book.book)
-      → MatchResult r
-      (λ o. HadTurn L end event n nodes l (register_of g) o room (set nodes place (record p { node = node }))
+  -- ---- what serving answers
+
+  abbrev IsTurn : Result Answer StepFault → NodeState → Flights → Book → Type 0
+  IsTurn x node flights b = MatchResult x
+      (λ a. HadTurn L end event n nodes l (register_of g) a (set nodes place (record p { node = node }))
       (record v { flights = flights }) (register_with g.open b (lines_of g.lines.items)))
       (λ fault. HadNone event n fault nodes l (register_of g) (set nodes place (record p { node = node }))
       (record v { flights = flights }) (register_with g.open b (lines_of g.lines.items)))
-  served (Ok o) room node flights b there a w same_node same_flights same_book = turned o room node flights b a w
-  served (Err fault) room node flights b there a w same_node same_flights same_book = refused fault node flights b there a same_node same_flights same_book
+
+  pub answered : (r : Result Outcome NodeFault) (x : Result Answer StepFault) (o : Outcome) (room : Room) (a : Answer) (node : NodeState) (flights : Flights) (b : Book)
+      → r ≡ Ok o → x ≡ Ok a → IsAnswered event p.node r
+      → OnOk r (Served L (record { line = end.line; place = record { role = end.role; node = place } }) p.node
+      (turn_of event end.role p.node g.book.book) v.flights room.frames.items room.notes.items node flights b)
+      → a.frames.items ≡ room.frames.items → a.notes.items ≡ room.notes.items → a.outcome ≡ o
+      → IsTurn x node flights b
+  answered r x o room a node flights b is_ok is_answer of_node w frames notes outcome =
+      let A : Result Outcome NodeFault → Type 0 = λ y. IsAnswered event p.node y in
+      let S : Result Outcome NodeFault → Type 0 = λ y. OnOk y (Served L (record { line = end.line; place = record { role = end.role; node = place } }) p.node
+      (turn_of event end.role p.node g.book.book) v.flights room.frames.items room.notes.items node flights b) in
+      let X : Result Answer StepFault → Type 0 = λ y. IsTurn y node flights b in
+      subst X (sym is_answer) (turned o room a node flights b (subst A is_ok of_node) (subst S is_ok w) frames notes outcome)
+
+  pub answered_not : (r : Result Outcome NodeFault) (x : Result Answer StepFault) (refusal : NodeFault) (node : NodeState) (flights : Flights) (b : Book)
+      → slice_get nodes (place_at end.role l) ≡ Some n → r ≡ Err refusal → x ≡ Err (Refused refusal) → IsAnswered event p.node r
+      → OnErr r (node ≡ p.node) → OnErr r (flights ≡ v.flights) → OnErr r (b ≡ g.book.book) → IsTurn x node flights b
+  answered_not r x refusal node flights b there is_err is_refusal of_node same_node same_flights same_book =
+      let A : Result Outcome NodeFault → Type 0 = λ y. IsAnswered event p.node y in
+      let N : Result Outcome NodeFault → Type 0 = λ y. OnErr y (node ≡ p.node) in
+      let F : Result Outcome NodeFault → Type 0 = λ y. OnErr y (flights ≡ v.flights) in
+      let B : Result Outcome NodeFault → Type 0 = λ y. OnErr y (b ≡ g.book.book) in
+      let X : Result Answer StepFault → Type 0 = λ y. IsTurn y node flights b in
+      subst X (sym is_refusal)
+      (refused refusal (Refused refusal) node flights b there (subst A is_err of_node) refl (subst N is_err same_node) (subst F is_err same_flights) (subst B is_err same_book))

@@ -3,7 +3,7 @@ use Rattle.std.specs.Prelude.{Option, Some, None}
 use Rattle.net_events.specs.declared.event.Event.{Event}
 use Rattle.net_events.specs.declared.event.Event.TheVariants.{Expire}
 use Rattle.net_events.specs.Network.{Network}
-use Rattle.net_events.specs.Waiting.{DueTimer, next_due}
+use Rattle.net_events.specs.NextDue.{DueTimer, next_due}
 
 abbrev pub expiry_of : Option DueTimer → Option Event
 expiry_of None = None

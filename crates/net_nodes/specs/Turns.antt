@@ -14,7 +14,6 @@ use Rattle.net_events.specs.OneLine.{direction_of}
 use Rattle.net_events.specs.NodeEvents.{NodeEvent, Hears, Restarts, IsFor, turn_of}
 use Rattle.net_events.specs.Network.{PlacedNode, NetLine, Network, place_at, net_turn, HappenedAt}
 use Rattle.net_events.specs.declared.answer.Answer.{Answer}
-use Rattle.net_events.specs.declared.answer.Outcome.{Outcome}
 use Rattle.net_turns.specs.declared.room.Room.{Room}
 use Rattle.net_turns.specs.Outcomes.{event_fault, IsOutcome}
 use Rattle.net_turns.specs.Sends.{ArePutsOf, Sends}
@@ -41,35 +40,28 @@ pub record CanServe (end : LineEnd) (event : NodeEvent) (nodes : List PlacedNode
 abbrev pub its_turn : LineEnd → NodeEvent → PlacedNode → spec.Register → Turn
 its_turn end event n g = turn_of event end.role n.node (book_at end.line g)
 
--- the node had its turn: its frames were put and listed, its notes told, and all was written
+-- the node had its turn: its frames were put and listed, its notes told, and all was written; this is the answer
 pub record HadTurn (L : LineService) (end : LineEnd) (event : NodeEvent) (n : PlacedNode) (nodes : List PlacedNode)
-    (l : NetLine) (g : spec.Register) (o : Outcome) (room : Room) (nodes' : List PlacedNode) (l' : NetLine)
+    (l : NetLine) (g : spec.Register) (a : Answer) (nodes' : List PlacedNode) (l' : NetLine)
     (g' : spec.Register) : Type 0 where
   pub no_fault : event_fault event n.node ≡ None
-  pub outcome : IsOutcome event n.node o
+  pub outcome : IsOutcome event n.node a.outcome
   pub sends : Sends L (direction_of end.role) end.line (frames_of (its_turn end event n g).node) l.flights
-      room.frames.items l'.flights
-  pub told : room.notes.items ≡ user_notes n.node (place_at end.role l) (its_turn end event n g).notes
+      a.frames.items l'.flights
+  pub told : a.notes.items ≡ user_notes n.node (place_at end.role l) (its_turn end event n g).notes
   pub nodes_are : nodes' ≡ set nodes (place_at end.role l) (record n { node = drained (its_turn end event n g).node })
   pub line_is : l' ≡ record l { flights = l'.flights }
   pub register_is : g' ≡ with_book end.line (its_turn end event n g).book g
 
--- the node refused it, and nothing changed
-pub record HadNone (event : NodeEvent) (n : PlacedNode) (fault : NodeFault) (nodes : List PlacedNode) (l : NetLine)
+-- the node refused it, which is the fault, and nothing changed
+pub record HadNone (event : NodeEvent) (n : PlacedNode) (fault : StepFault) (nodes : List PlacedNode) (l : NetLine)
     (g : spec.Register) (nodes' : List PlacedNode) (l' : NetLine) (g' : spec.Register) : Type 0 where
-  pub refuses : event_fault event n.node ≡ Some fault
+  pub refusal : NodeFault
+  pub refuses : event_fault event n.node ≡ Some refusal
+  pub fault_is : fault ≡ Refused refusal
   pub nodes_are : nodes' ≡ nodes
   pub line_is : l' ≡ l
   pub register_is : g' ≡ g
-
--- ---- the answer
-
--- the outcome with the frames and notes that were listed, or the node's refusal
-abbrev pub IsAnswer : Result Outcome NodeFault → Room → Result Answer StepFault → Type 0
-IsAnswer (Ok o) room (Ok a) =
-    (a.frames.items ≡ room.frames.items) × (a.notes.items ≡ room.notes.items) × (a.outcome ≡ o)
-IsAnswer (Err refusal) room (Err fault) = fault ≡ Refused refusal
-IsAnswer _ room _ = ⊥
 
 -- ---- in the network
 

@@ -1,5 +1,6 @@
 //! The nodes of a network on their lines, and the register of their calls: each event, exactly.
-ghost use Rattle.std.specs.Prelude.{◌≡◌, MatchOption, None, Some, true, false, slice_get};
+ghost use Rattle.std.specs.Prelude.{◌≡◌, MatchResult, None, Some, true, false, slice_get};
+ghost use Rattle.net_events.specs.declared.event.StepFault.TheVariants.{NoSuchNode, NoSuchCall};
 ghost use Rattle.net_nodes.specs.Faults.{is_channel_at};
 ghost use Rattle.net_nodes.specs.Places.{IsStanding, IsPlaceOf, is_host_at, pad_terminals};
 ghost use Rattle.net_nodes.specs.Happening.{Happens};
@@ -82,31 +83,37 @@ impl<L: Line> Model for Nodes<L> {
 }
 
 impl<L: Line> Nodes<L> {
-    /// The end of its line that the node of this place is, if there is such a node.
-    fn end_of(&self, place: usize) -> Option<LineEnd>
+    /// The end of its line that the node of this place is.
+    fn end_of(&self, place: usize) -> Result<LineEnd, StepFault>
         requires { IsStanding self.now }
-        ensures { MatchOption result (slice_get self.now.nodes place ≡ None) (λ end. IsPlaceOf place end self.now) }
+        ensures { MatchResult result (λ end. IsPlaceOf place end self.now)
+            (λ fault. (slice_get self.now.nodes place ≡ None) × (fault ≡ NoSuchNode)) }
     {
         if place >= self.nodes.len() {
-            return None;
+            return Err(StepFault::NoSuchNode);
         }
         let line = self.nodes[place].line;
         if line >= self.lines.len() {
-            return None;
+            return Err(StepFault::NoSuchNode);
         }
         let role = if self.lines[line].dte == place {
             Role::Dte
         } else {
             Role::Dce
         };
-        Some(LineEnd { line, role })
+        Ok(LineEnd { line, role })
     }
 
-    /// Whether a host is at this place.
-    fn is_host_at(&self, place: usize) -> bool
-        ensures { result ≡ is_host_at place self.now }
+    /// The end of its line that the host of this place is.
+    fn host_end(&self, place: usize) -> Result<LineEnd, StepFault>
+        requires { IsStanding self.now }
+        ensures { MatchResult result (λ end. (is_host_at place self.now ≡ true) × IsPlaceOf place end self.now)
+            (λ fault. (is_host_at place self.now ≡ false) × (fault ≡ NoSuchNode)) }
     {
-        place < self.nodes.len() && !self.nodes[place].node.is_pad()
+        if place >= self.nodes.len() || self.nodes[place].node.is_pad() {
+            return Err(StepFault::NoSuchNode);
+        }
+        self.end_of(place)
     }
 
     /// How many terminals the PAD at this place has, if there is one.
@@ -119,18 +126,18 @@ impl<L: Line> Nodes<L> {
         None
     }
 
-    /// The channel of this number, if the line has it.
-    fn channel(&self, line: usize, channel: u16) -> Option<u8>
-        ensures { MatchOption result (is_channel_at line channel self.now ≡ false)
-            (λ c. (is_channel_at line channel self.now ≡ true) × (c ≡ channel)) }
+    /// The channel of this number, which the line has.
+    fn channel(&self, line: usize, channel: u16) -> Result<u8, StepFault>
+        ensures { MatchResult result (λ c. (is_channel_at line channel self.now ≡ true) × (c ≡ channel))
+            (λ fault. (is_channel_at line channel self.now ≡ false) × (fault ≡ NoSuchCall)) }
     {
         if line >= self.lines.len() || channel == 0 {
-            return None;
+            return Err(StepFault::NoSuchCall);
         }
         if channel > u16::from(self.lines[line].channels) {
-            return None;
+            return Err(StepFault::NoSuchCall);
         }
-        Some(channel as u8)
+        Ok(channel as u8)
     }
 
     /// Handles an event.

@@ -1,5 +1,5 @@
 -- What a node answers to an event, or with which fault it refuses it.
-use Rattle.std.specs.Prelude.{◌≡◌, ℕ, true, Option, Some, None}
+use Rattle.std.specs.Prelude.{◌≡◌, ℕ, true, Option, Some, None, Result, MatchResult}
 use Rattle.packet_channel.specs.declared.taken.Taken as taken
 use Rattle.packet_channel.specs.declared.fault.ChannelFault.TheVariants as channel_fault
 use Rattle.packet_layer.specs.Channel.{Refusal}
@@ -66,3 +66,9 @@ IsOutcome (Calls address user_data) n o = CalledOn n o
 IsOutcome (Takes channel) n o = TookFrom channel n o
 IsOutcome (Keys octet) n o = KeyedSo octet n o
 IsOutcome _ n o = o ≡ Done
+
+-- it is answered with such an outcome where nothing is refused, else refused with the fault
+abbrev pub IsAnswered : NodeEvent → NodeState → Result Outcome NodeFault → Type 0
+IsAnswered event n result = MatchResult result
+    (λ outcome. (event_fault event n ≡ None) × IsOutcome event n outcome)
+    (λ fault. event_fault event n ≡ Some fault)

@@ -1,16 +1,15 @@
 //! What an event does at one node, on its line and in the book: the node is called, the network writes what was asked
 //! and what the node noted, and the frames go onto the line.
-ghost use Rattle.std.specs.Prelude.{◌≡◌, ◌≤◌, None, Some, OnOk, OnErr, MatchResult, length};
+ghost use Rattle.std.specs.Prelude.{◌≡◌, ◌≤◌, OnOk, OnErr};
 ghost use Rattle.packet_layer.specs.Layer.{front_on};
 ghost use Rattle.packet_layer.specs.TakenView.{maybe_taken};
 ghost use Rattle.packet_host.specs.Host.{after_take};
-ghost use Rattle.line_nodes.specs.Node.{Host as host_node};
 ghost use Rattle.line_nodes.specs.NodeView.{node_of};
 ghost use Rattle.node_laws.specs.Quiet.{IsQuiet};
-ghost use Rattle.net_events.specs.NodeEvents.{Calls as calls, Takes as takes, IsFor, turn_of};
+ghost use Rattle.net_events.specs.NodeEvents.{IsFor, turn_of};
 ghost use Rattle.net_events.specs.OneLine.{direction_of};
-ghost use Rattle.net_events.specs.EventView.{event_of, request_event};
-ghost use Rattle.net_turns.specs.Outcomes.{event_fault, IsOutcome};
+ghost use Rattle.net_events.specs.EventView.{event_of};
+ghost use Rattle.net_turns.specs.Outcomes.{IsAnswered};
 ghost use Rattle.net_turns.specs.Served.{IsCalled, Served, IsEmpty, taken_written};
 
 use crate::place::NetPlace;
@@ -21,8 +20,7 @@ use line_nodes::{Node, NodeFault, write_notes, write_request, write_taken};
 use link_timers::Role;
 use memory_line::{Direction, Line};
 use net_events::{NodeEvent, Outcome};
-use packet_codec::Address;
-use packet_host::{Host, HostRequest};
+use packet_host::Host;
 use packet_layer::Taken;
 
 /// An event needs room in the book for no more writes than this: those of a message of eight packets.
@@ -36,55 +34,6 @@ fn direction_of(role: Role) -> Direction
         Role::Dte => Direction::FromDte,
         Role::Dce => Direction::FromDce,
     }
-}
-
-/// A host places a call, which is written.
-fn place_call(
-    host: &mut Host,
-    role: Role,
-    address: Address,
-    user_data: &[u8],
-    book: &mut Book,
-) -> Result<Outcome, NodeFault>
-    requires user_data { length user_data.now ≤ 16 }
-    requires writes { MOST_WRITES ≤ book.old.room }
-    requires quiet { IsQuiet (host_node host.old) }
-    ensures answer { MatchResult result
-        (λ outcome. (event_fault (calls address user_data.now) (host_node host.old) ≡ None)
-        × IsOutcome (calls address user_data.now) (host_node host.old) outcome)
-        (λ fault. event_fault (calls address user_data.now) (host_node host.old) ≡ Some fault) }
-    ensures ok { OnOk result (IsCalled (calls address user_data.now) role (host_node host.old) book.old.book
-        (host_node host.new) book.new) }
-    ensures host { OnErr result (host.new ≡ host.old) }
-    ensures book { OnErr result (book.new ≡ book.old) }
-{
-    let channel = host.call(address, user_data)?;
-    book.place(role, channel, &address);
-    Ok(Outcome::Called { channel })
-}
-
-/// A host is asked something of a call, which is written.
-fn ask(
-    host: &mut Host,
-    role: Role,
-    channel: u8,
-    request: &HostRequest,
-    book: &mut Book,
-) -> Result<Outcome, NodeFault>
-    requires writes { MOST_WRITES ≤ book.old.room }
-    requires quiet { IsQuiet (host_node host.old) }
-    ensures answer { MatchResult result
-        (λ outcome. (event_fault (request_event channel request.now) (host_node host.old) ≡ None)
-        × IsOutcome (request_event channel request.now) (host_node host.old) outcome)
-        (λ fault. event_fault (request_event channel request.now) (host_node host.old) ≡ Some fault) }
-    ensures ok { OnOk result (IsCalled (request_event channel request.now) role (host_node host.old) book.old.book
-        (host_node host.new) book.new) }
-    ensures host { OnErr result (host.new ≡ host.old) }
-    ensures book { OnErr result (book.new ≡ book.old) }
-{
-    host.ask(channel, request)?;
-    write_request(book, role, channel, request);
-    Ok(Outcome::Done)
 }
 
 /// Takes what comes next on a channel of a host, if anything, and writes it.
@@ -109,10 +58,7 @@ fn call_node(
     requires is_for { IsFor (event_of event.now) (node_of node.old) }
     requires writes { MOST_WRITES ≤ book.old.room }
     requires quiet { IsQuiet (node_of node.old) }
-    ensures answer { MatchResult result
-        (λ outcome. (event_fault (event_of event.now) (node_of node.old) ≡ None)
-        × IsOutcome (event_of event.now) (node_of node.old) outcome)
-        (λ fault. event_fault (event_of event.now) (node_of node.old) ≡ Some fault) }
+    ensures answer { IsAnswered (event_of event.now) (node_of node.old) result }
     ensures ok { OnOk result (IsCalled (event_of event.now) role (node_of node.old) book.old.book (node_of node.new)
         book.new) }
     ensures node { OnErr result (node_of node.new ≡ node_of node.old) }
@@ -137,11 +83,19 @@ fn call_node(
             Ok(Outcome::Done)
         }
         NodeEvent::Calls(address, user_data) => match node {
-            Node::Host(host) => place_call(host, role, *address, user_data, book),
+            Node::Host(host) => {
+                let channel = host.call(*address, user_data)?;
+                book.place(role, channel, address);
+                Ok(Outcome::Called { channel })
+            }
             Node::Pad(_) => unreachable!(),
         },
         NodeEvent::Asks(channel, request) => match node {
-            Node::Host(host) => ask(host, role, *channel, request, book),
+            Node::Host(host) => {
+                host.ask(*channel, request)?;
+                write_request(book, role, *channel, request);
+                Ok(Outcome::Done)
+            }
             Node::Pad(_) => unreachable!(),
         },
         NodeEvent::Takes(channel) => match node {
@@ -168,10 +122,7 @@ pub fn serve<L: Line>(
     requires quiet { IsQuiet (node_of node.old) }
     requires writes { MOST_WRITES ≤ book.old.room }
     requires empty { IsEmpty room.old }
-    ensures answer { MatchResult result
-        (λ outcome. (event_fault (event_of event.now) (node_of node.old) ≡ None)
-        × IsOutcome (event_of event.now) (node_of node.old) outcome)
-        (λ fault. event_fault (event_of event.now) (node_of node.old) ≡ Some fault) }
+    ensures answer { IsAnswered (event_of event.now) (node_of node.old) result }
     ensures served { OnOk result (Served L.service at (node_of node.old)
         (turn_of (event_of event.now) at.place.role (node_of node.old) book.old.book) (L.flights line.old)
         room.new.frames.items room.new.notes.items (node_of node.new) (L.flights line.new) book.new.book) }

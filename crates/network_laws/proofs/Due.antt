@@ -14,7 +14,7 @@ use Rattle.memory_line.specs.Lines.{LineService}
 use Rattle.net_events.specs.NodeEvents.NodeEvent.{Expires}
 use Rattle.net_events.specs.Network.{PlacedNode, NetLine, Network, place_at, net_turn, HappenedAt}
 use Rattle.network_laws.specs.IsNetwork.{LineHolds, IsNetwork}
-use Rattle.network_laws.specs.Waiting.{all_due}
+use Rattle.network_laws.specs.DueCount.{all_due}
 use Rattle.network_laws.proofs.Networks.{placed, node_is, book_there}
 
 fewer_of : (nodes : List PlacedNode) (place : ℕ) (p q : PlacedNode) → slice_get nodes place ≡ Some p → due_count (end_of q.node) < due_count (end_of p.node)

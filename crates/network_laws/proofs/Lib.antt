@@ -1,5 +1,6 @@
 mod Flying
 mod Uniform
+mod Channels
 pub mod NodeKinds
 mod Fitting
 mod Leaving

@@ -1,12 +1,12 @@
 -- What holds of a network holds after an event at a node, a loss, and ticks that pass.
-use Rattle.std.proofs.Common.{◌≡◌, ◌≢◌, ℕ, zero, suc, arith, List, [], ◌∷◌, set, Some, refl, sym, ap, ◌∙◌, subst}
+use Rattle.std.proofs.Common.{◌≡◌, ◌≢◌, ℕ, zero, suc, arith, List, [], ◌∷◌, length, set, Some, refl, sym, ap, ◌∙◌, subst}
 use Rattle.std.proofs.Common.{inl, inr}
 use Rattle.std.specs.Prelude.{◌⊎◌, slice_get}
 use Rattle.std.proofs.lemmas.Option.{same_Some, slice_get_within}
 use Rattle.std.proofs.lemmas.Bool.{cases_eq}
 use Rattle.link_timers.specs.declared.role.Role.{Role}
 use Rattle.link_timers.specs.declared.role.Role.TheVariants.{Dte, Dce}
-use Rattle.call_records.specs.Book.{Book}
+use Rattle.call_records.specs.Book.{Book, side_of}
 use Rattle.call_records.specs.Writes.{all_written}
 use Rattle.call_records.specs.Register.{Register, book_at, with_book, all_written_at}
 use Rattle.register_laws.specs.Seen.{Seen}
@@ -20,10 +20,11 @@ use Rattle.net_events.specs.OneLine.{LineState, node_at, direction_of}
 use Rattle.net_events.specs.OneLine as one
 use Rattle.net_events.specs.NodeEvents.{NodeEvent, IsFor, turn_of, LeftBy}
 use Rattle.network_laws.specs.IsLine.{IsLine}
-use Rattle.net_events.specs.Network.{PlacedNode, NetLine, Network, place_at, net_turn, with_turn, HappenedAt, LostAt}
+use Rattle.net_events.specs.Network.{PlacedNode, NetLine, Network, place_at, net_turn, with_turn_at, HappenedAt, LostAt}
 use Rattle.net_events.specs.Network.{StandsAtLine}
 use Rattle.network_laws.specs.IsNetwork.{line_state, LineHolds, IsNetwork}
 use Rattle.network_laws.proofs.Lines.{happened_line, lost_line}
+use Rattle.network_laws.proofs.Channels.{channels_after}
 use Rattle.network_laws.proofs.Uniform.{IsUniform, uniform}
 
 -- ---- lists
@@ -49,6 +50,7 @@ moved L nodes new line k m c w apart h = record {
   dce_there = w.others m.dce h.dce h.dce_there (λ e. apart (sym h.dce_line ∙ e));
   dte_line = h.dte_line;
   dce_line = h.dce_line;
+  channels = h.channels;
   holds = h.holds;
 }
 
@@ -120,24 +122,27 @@ one_set nodes place line q x at is same = record {
 
 -- the line with its book after the node at the end of a role had its turn
 here_after : (L : LineService) (nodes : List PlacedNode) (line : ℕ) (l : NetLine) (book : Book) (h : LineHolds L nodes line l book) (role : Role) (turn : Turn) (flights : Flights)
+    → ((end : Role) → length (side_of end turn.book).slots ≡ l.channels)
     → IsLine L (one.with_turn role turn flights (line_state l h.dte h.dce book))
     → LineHolds L (set nodes (place_at role l) (record (placed role h.dte h.dce) { node = drained turn.node })) line (record l { flights = flights }) turn.book
-here_after L nodes line l book h Dte turn flights holds = record {
+here_after L nodes line l book h Dte turn flights channels holds = record {
   dte = record h.dte { node = drained turn.node };
   dce = h.dce;
   dte_there = set_here nodes l.dte (record h.dte { node = drained turn.node }) h.dte h.dte_there;
   dce_there = set_elsewhere nodes l.dte l.dce (record h.dte { node = drained turn.node }) (λ e. h.holds.apart (sym e)) ∙ h.dce_there;
   dte_line = h.dte_line;
   dce_line = h.dce_line;
+  channels = channels;
   holds = holds;
 }
-here_after L nodes line l book h Dce turn flights holds = record {
+here_after L nodes line l book h Dce turn flights channels holds = record {
   dte = h.dte;
   dce = record h.dce { node = drained turn.node };
   dte_there = set_elsewhere nodes l.dce l.dte (record h.dce { node = drained turn.node }) h.holds.apart ∙ h.dte_there;
   dce_there = set_here nodes l.dce (record h.dce { node = drained turn.node }) h.dce h.dce_there;
   dte_line = h.dte_line;
   dce_line = h.dce_line;
+  channels = channels;
   holds = holds;
 }
 
@@ -187,6 +192,7 @@ turned_here L event nodes line l book h role between flights made is_for left sa
     let flown : after.flights ≡ flights = flights_are role turn flights own in
     subst P same
     (here_after L nodes line l book h role turn flights
+    (channels_after event role (placed role h.dte h.dce).node book l.channels h.channels)
     (happened_line L event role own after h.holds (record {
       is_for = subst (IsFor event) (sym (at_role role l h.dte h.dce book)) is_for;
       between = between;
@@ -201,7 +207,7 @@ happened_with : (L : LineService) (event : NodeEvent) (s : Network) (n : IsNetwo
     → (h : LineHolds L s.nodes line l book) (role : Role) (between flights : Flights)
     → IsFor event (placed role h.dte h.dce).node → (L.faithful → LeftBy event role l.flights between)
     → (L.faithful → ArePut L (direction_of role) (frames_of (net_turn event line role (placed role h.dte h.dce) s).node) between flights)
-    → IsNetwork L (with_turn line l (place_at role l) (placed role h.dte h.dce) (net_turn event line role (placed role h.dte h.dce) s) flights s)
+    → IsNetwork L (with_turn_at line l (place_at role l) (placed role h.dte h.dce) (net_turn event line role (placed role h.dte h.dce) s) flights s)
 happened_with L event s n line l book at book_at_line h role between flights is_for left put =
     let p : PlacedNode = placed role h.dte h.dce in
     let u : IsUniform role (λ b. turn_of event role p.node b) = uniform event role p.node in
@@ -223,7 +229,7 @@ happened_network L event line role s t n d =
     let h : LineHolds L s.nodes line d.line_is b.0 = n.lines line d.line_is b.0 d.line_there b.1 in
     let is : d.node ≡ placed role h.dte h.dce = sym (node_is L s.nodes line d.line_is b.0 h role d.node d.node_there) in
     let F : PlacedNode → Type 0 = λ x. L.faithful → ArePut L (direction_of role) (frames_of (net_turn event line role x s).node) d.between d.flights in
-    let after : PlacedNode → Network = λ x. with_turn line d.line_is (place_at role d.line_is) x (net_turn event line role x s) d.flights s in
+    let after : PlacedNode → Network = λ x. with_turn_at line d.line_is (place_at role d.line_is) x (net_turn event line role x s) d.flights s in
     subst (IsNetwork L) (sym (d.others ∙ ap after is))
     (happened_with L event s n line d.line_is b.0 d.line_there b.1 h role d.between d.flights
     (subst (λ (x : PlacedNode). IsFor event x.node) is d.is_for) d.left (subst F is d.put))
@@ -246,6 +252,7 @@ lost_network L line d s t n w =
       dce_there = h.dce_there;
       dte_line = h.dte_line;
       dce_line = h.dce_line;
+      channels = h.channels;
       holds = lost_line L d (line_state w.line_is h.dte h.dce b.0) w.flights h.holds w.rest;
     })
     (subst (Seen s.register) (sym (set_there n.books line b.0 b.1)) n.seen))

@@ -1,5 +1,5 @@
 -- What each turn of a node leaves as it was: the nodes of the book, and the kind of the node.
-use Rattle.std.proofs.Common.{◌≡◌, ℕ, Bool, true, false, List, [], ◌∷◌, Option, Some, None, refl}
+use Rattle.std.proofs.Common.{◌≡◌, ℕ, Bool, true, false, List, [], ◌∷◌, Option, Some, None, refl, ap}
 use Rattle.std.specs.Prelude.{cond}
 use Rattle.link_timers.specs.declared.role.Role.{Role}
 use Rattle.link_timers.specs.declared.role.Role.TheVariants.{Dte, Dce}
@@ -13,7 +13,7 @@ use Rattle.packet_pad.specs.Pad as pad
 use Rattle.packet_pad.specs.Pad.{PadState}
 use Rattle.packet_pad.specs.Keys.{KeyEffect, after_octet}
 use Rattle.call_records.specs.Book.{Book}
-use Rattle.pad_laws.specs.Nodes.{NodesStay}
+use Rattle.pad_laws.specs.Nodes.{EndsStay}
 use Rattle.line_nodes.specs.Node.{NodeState, Pad, Host, is_pad}
 use Rattle.line_nodes.specs.Turn.{told, unchanged}
 use Rattle.line_nodes.specs.HostTurns.{host_takes, taken_turn}
@@ -25,8 +25,8 @@ pub record SameNodes (b c : Book) : Type 0 where
   pub dte : c.dte.node ≡ b.dte.node
   pub dce : c.dce.node ≡ b.dce.node
 
-pub same : (b c : Book) → NodesStay b c → SameNodes b c
-same b c h = record { dte = h Dte; dce = h Dce }
+pub same : (b c : Book) → EndsStay b c → SameNodes b c
+same b c h = record { dte = ap (λ (p : ℕ × ℕ). p.0) (h Dte); dce = ap (λ (p : ℕ × ℕ). p.0) (h Dce) }
 
 -- ---- the kind of a node
 

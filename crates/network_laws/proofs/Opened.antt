@@ -19,6 +19,7 @@ use Rattle.net_events.specs.Network.{StandsAtLine}
 use Rattle.network_laws.specs.IsNetwork.{line_state, LineHolds, IsNetwork}
 use Rattle.net_events.specs.Opening.{NewNode, NewLine, NetPlan, IsLinePlan, IsNodePlan, IsPlan, new_end, placed_new, line_plan, LineIsMade, IsMade}
 use Rattle.network_laws.proofs.Lines.{elapsed_lines}
+use Rattle.network_laws.proofs.Channels.{channels_made}
 use Rattle.network_laws.proofs.Made.{made_lines}
 
 -- ---- lists
@@ -43,6 +44,7 @@ elapsed_holds L nodes line l b ticks h = record {
   dce_there = mapped (elapsed_node ticks) nodes l.dce h.dce h.dce_there;
   dte_line = h.dte_line;
   dce_line = h.dce_line;
+  channels = h.channels;
   holds = elapsed_lines L (line_state l h.dte h.dce b) ticks h.holds;
 }
 
@@ -87,6 +89,7 @@ line_of_plan L plan s line l p at m made = record {
   dce_there = m.nodes l.dce p.dce p.dce_there l (ap (λ k. slice_get plan.lines k) p.dce_line ∙ at) ∙ ap Some (as_role Dce p.dce l.params p.dce_role);
   dte_line = p.dte_line;
   dce_line = p.dce_line;
+  channels = channels_made l.dte l.dce l.params.channels l.params.standing;
   holds = made_lines L l.dte l.dce p.dte.as_dte l.params made.flights p.apart p.params (λ f. made.sent f p.dte p.dte_there);
 }
 

@@ -1,13 +1,15 @@
 -- What holds of a network of faithful lines has all that the network promises.
-use Rattle.std.proofs.Common.{◌≡◌, ℕ, true, false, List, Some, refl, sym, ap, ◌∙◌, subst, inl, inr}
+use Rattle.std.proofs.Common.{◌≡◌, ℕ, true, false, List, length, Some, refl, sym, ap, ◌∙◌, subst, inl, inr}
 use Rattle.std.specs.Prelude.{◌⊎◌, slice_get}
 use Rattle.std.proofs.lemmas.Option.{same_Some}
 use Rattle.link_timers.specs.declared.role.Role.{Role}
 use Rattle.link_timers.specs.declared.role.Role.TheVariants.{Dte, Dce}
 use Rattle.packet_layer.specs.Layer.{channel_of}
+use Rattle.packet_end.specs.PacketEnd.{PacketEnd}
 use Rattle.call_records.specs.Records.{RecordValue}
 use Rattle.call_records.specs.Book.{Book, side_of}
 use Rattle.book_laws.specs.Headline.{BookHolds, has_call}
+use Rattle.node_laws.specs.Quiet.{IsQuiet}
 use Rattle.pad_laws.specs.Typed.{IsTyped}
 use Rattle.register_laws.specs.Law.{IsOfBook, IsAtNoOther}
 use Rattle.register_laws.proofs.Seeing.{present_seen, came_seen}
@@ -39,6 +41,10 @@ own_node : (L : LineService) (s : LineState) (role : Role) (l : NetLine) (dte dc
 own_node L s Dte l dte dce b h = h.dte_node
 own_node L s Dce l dte dce b h = h.dce_node
 
+quiet_node : (L : LineService) (role : Role) (l : NetLine) (dte dce : PlacedNode) (b : Book) → IsLine L (line_state l dte dce b) → IsQuiet (placed role dte dce).node
+quiet_node L Dte l dte dce b h = h.quiet.dte
+quiet_node L Dce l dte dce b h = h.quiet.dce
+
 end_is : (role : Role) (l : NetLine) (dte dce : PlacedNode) (b : Book) → end_at role (line_of (line_state l dte dce b)) ≡ end_of (placed role dte dce).node
 end_is Dte l dte dce b = refl
 end_is Dce l dte dce b = refl
@@ -54,7 +60,11 @@ end_holds L s n f line l role at =
       node = placed role h.dte h.dce;
       node_there = where_is.0;
       node_line = where_is.1;
+      quiet = quiet_node L role l h.dte h.dce b.0 h.holds;
       own = (let w = n.seen.line line b.0 b.1 in (w.sides role).node ∙ own_node L own role l h.dte h.dce b.0 h.holds);
+      slots = (let w = n.seen.line line b.0 b.1 in (w.sides role).channels ∙ h.channels role);
+      channels = ap (λ (e : PacketEnd). length e.layer.channels) (sym (end_is role l h.dte h.dce b.0))
+          ∙ sym (keeping_law.channels_kept k.setting b.0 (line_of own) role k.kept) ∙ h.channels role;
       present = λ channel. present_seen s.register n.books line b.0 role channel b.1 n.seen
           ∙ keeping_law.present_kept k.setting b.0 (line_of own) role channel k.kept
           ∙ ap (λ e. has_call (channel_of e.layer channel)) (end_is role l h.dte h.dce b.0);
@@ -94,7 +104,7 @@ pad_place L nodes line l b place p h at pad (inr e) =
     absurd (let bad : true ≡ false = sym pad ∙ no in cc)
 
 typed_record : (b : Book) (n : ℕ) (r : RecordValue) (w : IsOfBook b n r) → IsTyped w.own → IsTyped r
-typed_record b n r w h = subst IsTyped (sym w.same) h
+typed_record b n r w h = subst IsTyped (sym w.same) (record { items = h.items; plain = h.plain })
 
 typed_holds : (L : LineService) (s : Network) (n : IsNetwork L s) → L.faithful → (place : ℕ) (p : PlacedNode) (i : ℕ) (r : RecordValue) → slice_get s.nodes place ≡ Some p
     → is_pad p.node ≡ true → slice_get s.register.records i ≡ Some r → r.node ≡ place → IsTyped r

@@ -1,5 +1,5 @@
 -- A network of two lines of hosts as it is made, and an event at each line: they meet what the law asks.
-use Rattle.std.proofs.Common.{◌≡◌, ◌≤◌, ◌≢◌, ℕ, zero, suc, false, List, [], ◌∷◌, length, arith, Some, refl, sym, ap, ◌∙◌, subst, inl, inr}
+use Rattle.std.proofs.Common.{◌≡◌, ◌≤◌, ℕ, zero, suc, false, List, [], ◌∷◌, arith, Some, refl, sym, ap, ◌∙◌, subst, inl, inr}
 use Rattle.std.specs.Prelude.{slice_get}
 use Rattle.std.proofs.lemmas.Option.{same_Some, none-some}
 use Rattle.link_timers.specs.declared.role.Role.{Role}
@@ -9,8 +9,8 @@ use Rattle.packet_end.specs.Params.{AreParams}
 use Rattle.line_nodes.specs.Node.{frames_of}
 use Rattle.memory_line.specs.Lines.{Flights, no_flights, LineService}
 use Rattle.net_events.specs.Opening.{NewDte, NewHost, new_dte, new_dce, AreSent}
-use Rattle.net_events.specs.NodeEvents.NodeEvent.{Relinks, Restarts}
-use Rattle.net_events.specs.Network.{PlacedNode, NetLine, Network, place_at, net_turn, with_turn, HappenedAt}
+use Rattle.net_events.specs.NodeEvents.NodeEvent.{Restarts}
+use Rattle.net_events.specs.Network.{NetLine, Network, net_turn, with_turn_at, HappenedAt}
 use Rattle.network_laws.specs.IsNetwork.{IsNetwork}
 use Rattle.net_events.specs.Opening.{NewNode, NewLine, NetPlan, IsLinePlan, IsNodePlan, IsPlan, placed_new, line_plan, LineIsMade, IsMade}
 use Rattle.network_laws.proofs.Networks.{happened_network}
@@ -152,7 +152,7 @@ holds L = made_network L plan network planned (made L)
 -- ---- the host at the DCE of the second line begins anew: its line loses all frames, and it sends its first one
 
 abbrev anew : Network
-anew = with_turn 1 (net_line 2 3) 3 (placed_new (node 1 Dce) params) (net_turn Restarts 1 Dce (placed_new (node 1 Dce) params) network)
+anew = with_turn_at 1 (net_line 2 3) 3 (placed_new (node 1 Dce) params) (net_turn Restarts 1 Dce (placed_new (node 1 Dce) params) network)
     (record { from_dte = []; from_dce = down }) network
 
 restarted : (L : LineService) → HappenedAt L Restarts 1 Dce network anew

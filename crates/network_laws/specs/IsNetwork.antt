@@ -1,6 +1,7 @@
 -- What holds of a network between events.
 use Rattle.std.specs.Prelude.{◌≡◌, ℕ, List, length, slice_get, Some}
-use Rattle.call_records.specs.Book.{Book}
+use Rattle.link_timers.specs.declared.role.Role.{Role}
+use Rattle.call_records.specs.Book.{Book, side_of}
 use Rattle.register_laws.specs.Seen.{Seen}
 use Rattle.memory_line.specs.Lines.{LineService}
 use Rattle.net_events.specs.OneLine.{LineState}
@@ -18,7 +19,8 @@ line_state l dte dce book = record {
   book = book;
 }
 
--- the nodes at the ends of a line are there and stand at this line, and with this book it is as a line has to be
+-- the nodes at the ends of a line are there and stand at this line; and with this book, which has its channels, it is
+-- as a line has to be
 pub record LineHolds (L : LineService) (nodes : List PlacedNode) (line : ℕ) (l : NetLine) (book : Book) : Type 0 where
   pub dte : PlacedNode
   pub dce : PlacedNode
@@ -26,6 +28,7 @@ pub record LineHolds (L : LineService) (nodes : List PlacedNode) (line : ℕ) (l
   pub dce_there : slice_get nodes l.dce ≡ Some dce
   pub dte_line : dte.line ≡ line
   pub dce_line : dce.line ≡ line
+  pub channels : (role : Role) → length (side_of role book).slots ≡ l.channels
   pub holds : IsLine L (line_state l dte dce book)
 
 -- each line has a book that nobody stores, and the register has what these books have

@@ -2,5 +2,5 @@ pub mod IsLine
 pub mod LineLaw
 pub mod IsNetwork
 pub mod Promise
-pub mod Waiting
+pub mod DueCount
 pub mod NetworkLaw

@@ -1,12 +1,13 @@
 -- What a network promises.
-use Rattle.std.specs.Prelude.{◌≡◌, ℕ, true, slice_get, Some, is_some}
+use Rattle.std.specs.Prelude.{◌≡◌, ℕ, true, length, slice_get, Some, is_some}
 use Rattle.link_timers.specs.declared.role.Role.{Role}
 use Rattle.packet_layer.specs.Channel.{Channel, may_accept, in_transfer}
 use Rattle.packet_layer.specs.Layer.{channel_of}
 use Rattle.call_records.specs.Records.{RecordValue}
-use Rattle.call_records.specs.Book.{Slot, slot_at}
+use Rattle.call_records.specs.Book.{Slot, side_of, slot_at}
 use Rattle.call_records.specs.Register.{Register, book_at}
 use Rattle.book_laws.specs.Headline.{has_call, IsPaired}
+use Rattle.node_laws.specs.Quiet.{IsQuiet}
 use Rattle.pad_laws.specs.Typed.{IsTyped}
 use Rattle.register_laws.specs.Promise.{RegisterHolds}
 use Rattle.line_nodes.specs.Node.{end_of, is_pad}
@@ -16,14 +17,18 @@ use Rattle.net_events.specs.Network.{PlacedNode, NetLine, Network, place_at}
 abbrev pub its_slot : (line : ℕ) → Role → (channel : ℕ) → Register → Slot
 its_slot line role channel g = slot_at role channel (book_at line g)
 
--- at the end of a role of a line: the register has it as this node's, and a channel has a present record exactly where
--- the packet layer has a call there; a call that may be accepted is one that came in, and in data transfer each that
--- came in is in a pair
+-- at the end of a role of a line: no frame or note waits at the node to be taken; the register has the end as this
+-- node's, register and packet layer have the line's channels, and a channel has a present record exactly where the
+-- packet layer has a call there; a call that may be accepted is one that came in, and in data transfer each that came
+-- in is in a pair
 pub record EndHolds (s : Network) (line : ℕ) (l : NetLine) (role : Role) : Type 0 where
   pub node : PlacedNode
   pub node_there : slice_get s.nodes (place_at role l) ≡ Some node
   pub node_line : node.line ≡ line
-  pub own : (Rattle.call_records.specs.Book.side_of role (book_at line s.register)).node ≡ place_at role l
+  pub quiet : IsQuiet node.node
+  pub own : (side_of role (book_at line s.register)).node ≡ place_at role l
+  pub slots : length (side_of role (book_at line s.register)).slots ≡ l.channels
+  pub channels : length (end_of node.node).layer.channels ≡ l.channels
   pub present : (channel : ℕ) → is_some (its_slot line role channel s.register).present
       ≡ has_call (channel_of (end_of node.node).layer channel)
   pub came : (channel : ℕ) (ch : Channel) → channel_of (end_of node.node).layer channel ≡ Some ch
@@ -38,6 +43,7 @@ pub record NetworkHolds (s : Network) : Type 0 where
   pub calls : RegisterHolds s.register
   -- the ends of each line
   pub ends : (line : ℕ) (l : NetLine) (role : Role) → slice_get s.lines line ≡ Some l → EndHolds s line l role
-  -- what a PAD sent on a call is, block for block with its end, what its editing rules make of the keys
+  -- what a PAD sent on a call is, block for block with its end, what its editing rules make of the keys; it sent
+  -- nothing else
   pub typed : (place : ℕ) (n : PlacedNode) (i : ℕ) (r : RecordValue) → slice_get s.nodes place ≡ Some n
       → is_pad n.node ≡ true → slice_get s.register.records i ≡ Some r → r.node ≡ place → IsTyped r

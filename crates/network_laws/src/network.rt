@@ -1,6 +1,6 @@
 //! A network of many nodes and lines.
 ghost use Rattle.network_laws.specs.NetworkLaw.{MadeLaw, EventLaw, LossLaw, TimeLaw, PromiseLaw};
-ghost use Rattle.network_laws.specs.Waiting.{FewerLaw};
+ghost use Rattle.network_laws.specs.DueCount.{FewerLaw};
 
 use memory_line::Line;
 

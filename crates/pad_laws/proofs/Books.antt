@@ -15,7 +15,7 @@ use Rattle.call_records.specs.Book.{Book, Side, Slot, side_of, nth_slot, slot_at
 use Rattle.call_records.specs.Closing.{closes_if, closes_present, closed_from, all_closed}
 use Rattle.pad_laws.specs.Typed.{IsTyped}
 use Rattle.pad_laws.specs.PadHolds.{node_at, HasItsRecords, IsLeft, NoneCame}
-use Rattle.pad_laws.proofs.Records.{IsQuiet, interrupt_sent_quiet, taken_quiet, interrupt_taken_quiet, released_quiet, covered_quiet, epoch_quiet, closed_quiet}
+use Rattle.pad_laws.proofs.Records.{IsQuiet, new_typed, taken_quiet, interrupt_taken_quiet, released_quiet, covered_quiet, epoch_quiet, closed_quiet}
 use Rattle.pad_laws.proofs.Lists.{get_before, get_last, get_pushed, get_changed, changed_here, changed_there, changed_twice, nth_cases, other_differs}
 
 -- the book of a line with a PAD at the end of this role; while P holds this text is what the present call's steps leave
@@ -248,7 +248,7 @@ opens_holds role P held b x c z near far new never h =
       ap (λ (s : Side). s.node) (sym (side_record r b x)),
     ))
     (λ p same one n e. never p same one)
-    (record_holds role P held b r refl h)
+    (record_holds role P held b r (new_typed (length b.records) (side_of x b).node near far) h)
 
 -- ---- what is written
 
@@ -306,7 +306,7 @@ pub far_renews : (role : Role) (P : Type 0) (held : List ℕ) (c : ℕ) (b : Boo
 far_renews role P held c b h = quiet_holds role P held b (slot_at (other_of role) c b).present with_epoch epoch_quiet h
 
 pub far_interrupts : (role : Role) (P : Type 0) (held : List ℕ) (c : ℕ) (octets : List ℕ) (b : Book) → BookHolds role P held b → BookHolds role P held (interrupts (other_of role) c octets b)
-far_interrupts role P held c octets b h = quiet_holds role P held b (slot_at (other_of role) c b).present (with_interrupt_sent octets) (interrupt_sent_quiet octets) h
+far_interrupts role P held c octets b h = far_holds role P held b c (with_interrupt_sent octets) (λ r. refl) h
 
 pub far_releases : (role : Role) (P : Type 0) (held : List ℕ) (c count : ℕ) (b : Book) → BookHolds role P held b → BookHolds role P held (releases (other_of role) c count b)
 far_releases role P held c count b h = quiet_holds role P held b (slot_at (other_of role) c b).present (with_released count) (released_quiet count) h

@@ -14,6 +14,7 @@ use Rattle.pad_laws.specs.Typed.{IsTyped}
 use Rattle.pad_laws.specs.PadHolds.{node_at, HasItsRecords, waits_at}
 use Rattle.pad_laws.specs.Law.{MadeLaw}
 use Rattle.pad_laws.proofs.Lists.{nth_cases}
+use Rattle.pad_laws.proofs.Records.{new_typed}
 
 -- ---- slots
 
@@ -58,8 +59,8 @@ standing_begins dte_node dce_node channels = record { has = has; typed = typed; 
         (new_record 1 dce_node None None, ap (λ (i : ℕ). slice_get (standing_book (new_book dte_node dce_node channels)).records i) (sym k), refl)
 
     typed : (n : ℕ) (r : RecordValue) → slice_get (standing_book (new_book dte_node dce_node channels)).records n ≡ Some r → IsTyped r
-    typed zero r e = subst (λ (z : RecordValue). IsTyped z) (same_Some (new_record 0 dte_node None None) r e) refl
-    typed (suc zero) r e = subst (λ (z : RecordValue). IsTyped z) (same_Some (new_record 1 dce_node None None) r e) refl
+    typed zero r e = subst (λ (z : RecordValue). IsTyped z) (same_Some (new_record 0 dte_node None None) r e) (new_typed 0 dte_node None None)
+    typed (suc zero) r e = subst (λ (z : RecordValue). IsTyped z) (same_Some (new_record 1 dce_node None None) r e) (new_typed 1 dce_node None None)
     typed (suc (suc n)) r e = absurd (none-some r e)
 
     nothing : (n : ℕ) (r : RecordValue) → slice_get (standing_book (new_book dte_node dce_node channels)).records n ≡ Some r → (edit_of r.steps).held ≡ []

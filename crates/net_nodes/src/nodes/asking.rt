@@ -28,9 +28,7 @@ impl<L: Line> Nodes<L> {
         if terminal != 0 {
             return Ok(bare_answer(self.alloc, Outcome::Keyed(KeyAnswer::Taken)));
         }
-        let Some(end) = self.end_of(node) else {
-            return Err(StepFault::NoSuchNode);
-        };
+        let end = self.end_of(node)?;
         self.act(end, &NodeEvent::Keys(octet))
     }
 
@@ -44,12 +42,7 @@ impl<L: Line> Nodes<L> {
         requires { IsStanding self.old }
         ensures { Happens L.service (event_is.Call node address user_data.now) self.old result self.new }
     {
-        if !self.is_host_at(node) {
-            return Err(StepFault::NoSuchNode);
-        }
-        let Some(end) = self.end_of(node) else {
-            return Err(StepFault::NoSuchNode);
-        };
+        let end = self.host_end(node)?;
         self.act(end, &NodeEvent::Calls(address, user_data.as_slice()))
     }
 
@@ -63,15 +56,8 @@ impl<L: Line> Nodes<L> {
         requires { IsStanding self.old }
         ensures { Happens L.service (event_is.Ask node channel request.now) self.old result self.new }
     {
-        if !self.is_host_at(node) {
-            return Err(StepFault::NoSuchNode);
-        }
-        let Some(end) = self.end_of(node) else {
-            return Err(StepFault::NoSuchNode);
-        };
-        let Some(channel) = self.channel(end.line, channel) else {
-            return Err(StepFault::NoSuchCall);
-        };
+        let end = self.host_end(node)?;
+        let channel = self.channel(end.line, channel)?;
         self.act(end, &NodeEvent::Asks(channel, request))
     }
 
@@ -80,15 +66,8 @@ impl<L: Line> Nodes<L> {
         requires { IsStanding self.old }
         ensures { Happens L.service (event_is.Take node channel) self.old result self.new }
     {
-        if !self.is_host_at(node) {
-            return Err(StepFault::NoSuchNode);
-        }
-        let Some(end) = self.end_of(node) else {
-            return Err(StepFault::NoSuchNode);
-        };
-        let Some(channel) = self.channel(end.line, channel) else {
-            return Err(StepFault::NoSuchCall);
-        };
+        let end = self.host_end(node)?;
+        let channel = self.channel(end.line, channel)?;
         self.act(end, &NodeEvent::Takes(channel))
     }
 }

@@ -74,7 +74,7 @@ impl<L: Line> Nodes<L> {
             return false;
         }
         let placed = &self.nodes[node];
-        let Some(channel) = self.channel(placed.line, channel) else {
+        let Ok(channel) = self.channel(placed.line, channel) else {
             return false;
         };
         placed.node.confirmed(channel)

@@ -5,7 +5,7 @@ ghost use Rattle.net_nodes.specs.Places.{IsStanding};
 ghost use Rattle.net_nodes.specs.Happening.{Happens};
 ghost use Rattle.net_nodes.specs.Steps.{hearer};
 
-use crate::nodes::turn::{answered, serve_at};
+use crate::nodes::turn::serve_at;
 use crate::nodes::{LineEnd, Nodes};
 use link_timers::{Role, TimerId};
 use memory_line::{Direction, Line};
@@ -31,7 +31,7 @@ impl<L: Line> Nodes<L> {
         if line >= self.lines.len() {
             return Err(StepFault::NoSuchNode);
         }
-        let mut room = Room::new(self.alloc)?;
+        let room = Room::new(self.alloc)?;
         self.register.open(line, MOST_WRITES)?;
         let net_line = &mut self.lines[line];
         let Some(frame) = net_line.line.take(direction) else {
@@ -43,8 +43,7 @@ impl<L: Line> Nodes<L> {
         };
         let event = NodeEvent::Hears(frame.as_slice());
         let (nodes, register) = (&mut self.nodes, &mut self.register);
-        let served = serve_at(nodes, net_line, register, end, &event, &mut room);
-        answered(served, room)
+        serve_at(nodes, net_line, register, end, &event, room)
     }
 
     /// The first frame in flight in a direction is lost.
@@ -68,9 +67,7 @@ impl<L: Line> Nodes<L> {
         requires { IsStanding self.old }
         ensures { Happens L.service (event_is.Expire node line timer) self.old result self.new }
     {
-        let Some(end) = self.end_of(node) else {
-            return Err(StepFault::NoSuchNode);
-        };
+        let end = self.end_of(node)?;
         if end.line != line {
             return Err(StepFault::NoSuchNode);
         }
@@ -97,16 +94,13 @@ impl<L: Line> Nodes<L> {
         requires { IsStanding self.old }
         ensures { Happens L.service (event_is.Restart node) self.old result self.new }
     {
-        let Some(end) = self.end_of(node) else {
-            return Err(StepFault::NoSuchNode);
-        };
-        let mut room = Room::new(self.alloc)?;
+        let end = self.end_of(node)?;
+        let room = Room::new(self.alloc)?;
         self.register.open(end.line, MOST_WRITES)?;
         let net_line = &mut self.lines[end.line];
         net_line.line.empty();
         let (nodes, register) = (&mut self.nodes, &mut self.register);
         let event = NodeEvent::Restarts;
-        let served = serve_at(nodes, net_line, register, end, &event, &mut room);
-        answered(served, room)
+        serve_at(nodes, net_line, register, end, &event, room)
     }
 }

@@ -3,31 +3,31 @@ ghost use Rattle.std.specs.Prelude.{◌≡◌, Some, MatchResult, slice_get};
 ghost use Rattle.call_records.specs.RegisterView.{register_of};
 ghost use Rattle.net_events.specs.EventView.{event_of};
 ghost use Rattle.net_events.specs.Network as network;
-ghost use Rattle.net_nodes.specs.Turns.{CanServe, HadTurn, HadNone, CanAct, LeavesLine, Acts, IsAnswer};
+ghost use Rattle.net_nodes.specs.Turns.{CanServe, HadTurn, HadNone, CanAct, LeavesLine, Acts};
 
 use crate::nodes::{LineEnd, NetLine, Nodes, PlacedNode};
 use call_records::Register;
-use line_nodes::{NodeFault, Place};
+use line_nodes::Place;
 use link_timers::Role;
 use memory_line::Line;
-use net_events::{Answer, NodeEvent, Outcome, StepFault};
+use net_events::{Answer, NodeEvent, StepFault};
 use net_turns::{MOST_WRITES, NetPlace, Room, serve};
 
-/// Serves an event at the node at an end of a line, at which the register is open.
+/// Serves an event at the node at an end of a line, at which the register is open, and answers it.
 pub(super) fn serve_at<L: Line>(
     nodes: &mut Vec<PlacedNode>,
     net_line: &mut NetLine<L>,
     register: &mut Register,
     end: LineEnd,
     event: &NodeEvent<'_>,
-    room: &mut Room,
-) -> Result<Outcome, NodeFault>
-    requires { CanServe end (event_of event.now) nodes.old.items net_line.old register.old room.old }
+    mut room: Room,
+) -> Result<Answer, StepFault>
+    requires { CanServe end (event_of event.now) nodes.old.items net_line.old register.old room }
     ensures { (n : network.PlacedNode)
         → slice_get nodes.old.items (network.place_at end.role net_line.old) ≡ Some n
         → MatchResult result
-        (λ outcome. HadTurn L.service end (event_of event.now) n nodes.old.items net_line.old (register_of register.old)
-        outcome room.new nodes.new.items net_line.new (register_of register.new))
+        (λ answer. HadTurn L.service end (event_of event.now) n nodes.old.items net_line.old (register_of register.old)
+        answer nodes.new.items net_line.new (register_of register.new))
         (λ fault. HadNone (event_of event.now) n fault nodes.old.items net_line.old (register_of register.old)
         nodes.new.items net_line.new (register_of register.new)) }
 {
@@ -43,20 +43,14 @@ pub(super) fn serve_at<L: Line>(
         },
     };
     let placed = &mut nodes[node];
-    serve(
+    let served = serve(
         &mut placed.node,
         at,
         event,
         &mut net_line.line,
         &mut register.book,
-        room,
-    )
-}
-
-/// The answer of an event that a node served or refused.
-pub(super) fn answered(served: Result<Outcome, NodeFault>, room: Room) -> Result<Answer, StepFault>
-    ensures { IsAnswer served room result }
-{
+        &mut room,
+    );
     match served {
         Ok(outcome) => Ok(room.answer(outcome)),
         Err(fault) => Err(StepFault::Refused(fault)),
@@ -70,17 +64,9 @@ impl<L: Line> Nodes<L> {
         requires leaves { LeavesLine (event_of event.now) }
         ensures { Acts L.service end (event_of event.now) self.old result self.new }
     {
-        let mut room = Room::new(self.alloc)?;
+        let room = Room::new(self.alloc)?;
         self.register.open(end.line, MOST_WRITES)?;
         let (nodes, register) = (&mut self.nodes, &mut self.register);
-        let served = serve_at(
-            nodes,
-            &mut self.lines[end.line],
-            register,
-            end,
-            event,
-            &mut room,
-        );
-        answered(served, room)
+        serve_at(nodes, &mut self.lines[end.line], register, end, event, room)
     }
 }

@@ -1,7 +1,7 @@
 use Rattle.std.proofs.Common.{◌≡◌, map, take}
-use Rattle.net_config.specs.Plan.{new_node}
+use Rattle.net_config.specs.Plan.{planned_node}
 use Rattle.net_config.proofs.plan.new_nodes.Given as goal
 
 abbrev pub invariant-loop-node : goal.invariant-loop-node
 invariant-loop-node l =
-    l.nodes.items ≡ map (new_node l.fn.config.lines.items) (take l.node-index l.node-items)
+    l.nodes.items ≡ map (planned_node l.fn.config.lines.items) (take l.node-index l.node-items)

@@ -1,7 +1,7 @@
 use Rattle.std.proofs.Common.{ap, subst}
 use Rattle.line_nodes.specs.NodeView.{node_of}
 use Rattle.node_laws.specs.Quiet.{IsQuiet}
-use Rattle.net_turns.proofs.Writing.{called_hears, called_expires, called_relinks, called_takes, called_keys}
+use Rattle.net_turns.proofs.Writing.{called_hears, called_expires, called_relinks, called_calls, called_asks, called_takes, called_keys}
 use Rattle.net_turns.proofs.serving.call_node.Goals as goal
 
 pub returns-in-Hears-clause-ok : goal.returns-in-Hears-clause-ok
@@ -18,6 +18,18 @@ pub returns-in-Relinks-clause-ok : goal.returns-in-Relinks-clause-ok
 returns-in-Relinks-clause-ok c =
     rw (c.in-Relinks.is, c.relink.ensures)
     (called_relinks c.args.role (node_of c.args.node.now) c.args.book.now c.requires.quiet c.requires.writes)
+
+pub returns-in_ok-channel-in-Host-clause-ok : goal.returns-in_ok-channel-in-Host-clause-ok
+returns-in_ok-channel-in-Host-clause-ok c =
+    let q : IsQuiet _ = subst IsQuiet (ap node_of c.in-Host.is) c.requires.quiet in
+    rw (c.in-Calls.is, c.in-Host.is, c.call.ensures.host, c.place.ensures)
+    (called_calls c.args.role c.in-Host.host c.in-Calls.address c.in-Calls.user_data.now c.in_ok-channel-in-Host.channel c.args.book.now.book 0 q c.in_ok-channel-in-Host.ensures.answer)
+
+pub returns-in_ok-ask-in-Host-node-clause-ok : goal.returns-in_ok-ask-in-Host-node-clause-ok
+returns-in_ok-ask-in-Host-node-clause-ok c =
+    let q : IsQuiet _ = subst IsQuiet (ap node_of c.in-Host-node.is) c.requires.quiet in
+    rw (c.in-Asks.is, c.in-Host-node.is, c.ask.ensures.host, c.write_request.ensures)
+    (called_asks c.args.role c.in-Host-node.host c.in-Asks.channel c.in-Asks.request.now c.args.book.now.book c.write_request.new.book.room q c.in_ok-ask-in-Host-node.ensures.answer)
 
 pub returns-in-Host-node-2-clause-ok : goal.returns-in-Host-node-2-clause-ok
 returns-in-Host-node-2-clause-ok c =

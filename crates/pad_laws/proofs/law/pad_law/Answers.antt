@@ -1,7 +1,7 @@
 use Rattle.pad_laws.proofs.Turns.{key_kept, hears_kept, expires_kept, relinks_kept, restarts_kept, out_kept, drained_kept, elapses_kept}
 use Rattle.pad_laws.proofs.FarTurns.{far_hears_kept, far_expires_kept, far_relinks_kept, far_restarts_kept, far_key_kept, far_calls_kept, far_asks_kept, far_refuses_kept, far_says_kept, far_takes_kept}
 use Rattle.pad_laws.proofs.Making.{made_holds}
-use Rattle.pad_laws.proofs.Nodes.{nodes_stay}
+use Rattle.pad_laws.proofs.Nodes.{ends_stay}
 use Rattle.pad_laws.proofs.law.pad_law.Goals as goal
 
 pub returns-clause-key : goal.returns-clause-key
@@ -61,5 +61,5 @@ returns-clause-far_takes c = far_takes_kept
 pub returns-clause-made : goal.returns-clause-made
 returns-clause-made c = made_holds
 
-pub returns-clause-nodes : goal.returns-clause-nodes
-returns-clause-nodes c = nodes_stay
+pub returns-clause-ends : goal.returns-clause-ends
+returns-clause-ends c = ends_stay

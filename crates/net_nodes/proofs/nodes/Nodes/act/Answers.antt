@@ -7,8 +7,8 @@ use Rattle.net_nodes.proofs.Places.{found, within}
 use Rattle.net_nodes.proofs.Acting.{can_serve, acts, can_is_for, turned_from}
 use Rattle.net_nodes.proofs.nodes.Nodes.act.Goals as goal
 
-pub serve_at-served-requires : goal.serve_at-served-requires
-serve_at-served-requires g c =
+pub serve_at-requires : goal.serve_at-requires
+serve_at-requires g c =
     let end = c.args.end in
     let lines = c.self.inside.lines.items in
     let can = subst (CanAct end (event_of c.args.event.now)) (sym c.self.view_is) c.requires.can in
@@ -26,8 +26,8 @@ returns g c =
     rw (← c.self.view_is)
     (λ l n line_there node_there.
     let is_line : c.index_mut.result.now ≡ l = found lines end.line _ _ l (within lines end.line l line_there) c.index_mut.ensures.value line_there in
-    let w = c.serve_at-served.ensures n (ap (λ (x : NetLine). slice_get c.self.inside.nodes.items (place_at end.role x)) is_line ∙ node_there) in
-    acts L end event _ l n c.serve_at-served.result c.answered.result c.serve_at-served.new.room c.serve_at-served.new.nodes.items c.serve_at-served.new.net_line (register_of c.serve_at-served.new.register)
+    let w = c.serve_at.ensures n (ap (λ (x : NetLine). slice_get c.self.inside.nodes.items (place_at end.role x)) is_line ∙ node_there) in
+    acts L end event _ l n c.serve_at.result c.serve_at.new.nodes.items c.serve_at.new.net_line (register_of c.serve_at.new.register)
     line_there node_there (can_is_for end event _ can l n line_there node_there) c.requires.leaves
-    (turned_from L end event n c.serve_at-served.result c.self.inside.nodes.items _ l _ (register_of c.self.inside.register) c.serve_at-served.new.room c.serve_at-served.new.nodes.items c.serve_at-served.new.net_line
-    (register_of c.serve_at-served.new.register) is_line c.open.ensures.same w) c.answered.ensures)
+    (turned_from L end event n c.serve_at.result c.self.inside.nodes.items _ l _ (register_of c.self.inside.register) c.serve_at.new.nodes.items c.serve_at.new.net_line
+    (register_of c.serve_at.new.register) is_line c.open.ensures.same w))

@@ -9,19 +9,19 @@ use Rattle.net_nodes.proofs.nodes.Nodes.ask.Goals as goal
 
 pub act-requires-clause-can : goal.act-requires-clause-can
 act-requires-clause-can g c =
-    let p = c.in-Some.ensures in
-    let host = host_at c.args.node c.in-Some.end c.args.self.now p (sym c.if-not-is_host_at.ensures) in
-    can_act c.args.node c.in-Some.end (request_event c.in-Some-channel.channel c.args.request.now) c.args.self.now c.requires p
-    (asks_for c.in-Some-channel.channel c.args.request.now _ host)
+    let p = c.in_ok-end.ensures.1 in
+    let host = host_at c.args.node c.in_ok-end.end c.args.self.now p (c.in_ok-end.ensures.0) in
+    can_act c.args.node c.in_ok-end.end (request_event c.in_ok-channel.channel c.args.request.now) c.args.self.now c.requires p
+    (asks_for c.in_ok-channel.channel c.args.request.now _ host)
 
 pub returns : goal.returns
 returns g c =
-    let p = c.in-Some.ensures in
+    let p = c.in_ok-end.ensures.1 in
     let s = c.args.self.now in
-    let ch = c.in-Some-channel.ensures in
+    let ch = c.in_ok-channel.ensures in
     let event = request_event c.args.channel c.args.request.now in
-    let P : ℕ → Type 0 = λ k. Acts g.L.Line.service c.in-Some.end (request_event k c.args.request.now) s c.act.result c.act.new.self in
-    acted g.L.Line.service (Ask c.args.node c.args.channel c.args.request.now) c.args.node event c.in-Some.end s c.act.new.self c.act.result p
-    (fault_at c.args.node c.in-Some.end s p (λ n. on_channel c.args.channel s n (refused (event_fault event n.node))) (sym c.if-not-is_host_at.ensures)
-    ∙ channel_at c.args.node c.in-Some.end s p c.args.channel (refused (event_fault event p.node.node)) ch.0)
+    let P : ℕ → Type 0 = λ k. Acts g.L.Line.service c.in_ok-end.end (request_event k c.args.request.now) s c.act.result c.act.new.self in
+    acted g.L.Line.service (Ask c.args.node c.args.channel c.args.request.now) c.args.node event c.in_ok-end.end s c.act.new.self c.act.result p
+    (fault_at c.args.node c.in_ok-end.end s p (λ n. on_channel c.args.channel s n (refused (event_fault event n.node))) (c.in_ok-end.ensures.0)
+    ∙ channel_at c.args.node c.in_ok-end.end s p c.args.channel (refused (event_fault event p.node.node)) ch.0)
     refl (λ a w. w) (subst P ch.1 c.act.ensures)

@@ -36,8 +36,8 @@ returns-in_default g c =
       }),
     )
 
-pub serve_at-served-requires : goal.serve_at-served-requires
-serve_at-served-requires g c =
+pub serve_at-requires : goal.serve_at-requires
+serve_at-requires g c =
     let lines = c.self.inside.lines.items in
     let end : LineEnd = record { line = c.args.line; role = c.hearer.result } in
     let st = subst IsStanding (sym c.self.view_is) c.requires in
@@ -58,13 +58,13 @@ returns g c =
     let h : c.args.line < length lines = omega (arith, c.if-line-len.false, c.len.ensures) in
     let here = there lines c.args.line _ c.index_mut-net_line.result.now h c.index_mut-net_line.ensures.value ∙ ap Some (sym c.net_line.view_is) in
     let e = st.ends c.args.line _ c.hearer.result here in
-    let w = c.serve_at-served.ensures e.node (ap (λ i. slice_get c.self.inside.nodes.items i) (same_place c.hearer.result _ (g.L.Line.flights c.take.new.self)) ∙ e.node_there) in
+    let w = c.serve_at.ensures e.node (ap (λ i. slice_get c.self.inside.nodes.items i) (same_place c.hearer.result _ (g.L.Line.flights c.take.new.self)) ∙ e.node_there) in
     rw (← c.self.view_is)
-    (delivered L c.args.line c.args.direction end refl c.hearer.ensures c.as_slice.result.now _ _ here c.answered.result _
-    (acts_anew L end event _ _ e.node (g.L.Line.flights c.take.new.self) c.serve_at-served.result c.answered.result c.serve_at-served.new.room c.serve_at-served.new.nodes.items
-    c.serve_at-served.new.net_line (register_of c.serve_at-served.new.register) here e.node_there tt
+    (delivered L c.args.line c.args.direction end refl c.hearer.ensures c.as_slice.result.now _ _ here c.serve_at.result _
+    (acts_anew L end event _ _ e.node (g.L.Line.flights c.take.new.self) c.serve_at.result c.serve_at.new.nodes.items
+    c.serve_at.new.net_line (register_of c.serve_at.new.register) here e.node_there tt
     (λ f. left_hears c.args.direction c.hearer.result c.hearer.ensures _ _ _ c.as_slice.result.now c.as_slice.ensures.value (c.in-Some.ensures.taken f) (c.in-Some.ensures.others f))
     refl
-    (turned_from L end event e.node c.serve_at-served.result c.self.inside.nodes.items _ _ _ (register_of c.self.inside.register) c.serve_at-served.new.room c.serve_at-served.new.nodes.items
-    c.serve_at-served.new.net_line (register_of c.serve_at-served.new.register) refl c.open.ensures.same w)
-    c.answered.ensures))
+    (turned_from L end event e.node c.serve_at.result c.self.inside.nodes.items _ _ _ (register_of c.self.inside.register) c.serve_at.new.nodes.items
+    c.serve_at.new.net_line (register_of c.serve_at.new.register) refl c.open.ensures.same w)
+    ))

@@ -8,17 +8,17 @@ use Rattle.net_nodes.proofs.nodes.Nodes.take.Goals as goal
 
 pub act-requires-clause-can : goal.act-requires-clause-can
 act-requires-clause-can g c =
-    let p = c.in-Some.ensures in
-    can_act c.args.node c.in-Some.end (Takes c.in-Some-channel.channel) c.args.self.now c.requires p
-    (host_at c.args.node c.in-Some.end c.args.self.now p (sym c.if-not-is_host_at.ensures))
+    let p = c.in_ok-end.ensures.1 in
+    can_act c.args.node c.in_ok-end.end (Takes c.in_ok-channel.channel) c.args.self.now c.requires p
+    (host_at c.args.node c.in_ok-end.end c.args.self.now p (c.in_ok-end.ensures.0))
 
 pub returns : goal.returns
 returns g c =
-    let p = c.in-Some.ensures in
+    let p = c.in_ok-end.ensures.1 in
     let s = c.args.self.now in
-    let ch = c.in-Some-channel.ensures in
-    let P : ℕ → Type 0 = λ k. Acts g.L.Line.service c.in-Some.end (Takes k) s c.act.result c.act.new.self in
-    acted g.L.Line.service (Take c.args.node c.args.channel) c.args.node (Takes c.args.channel) c.in-Some.end s c.act.new.self c.act.result p
-    (fault_at c.args.node c.in-Some.end s p (λ n. on_channel c.args.channel s n None) (sym c.if-not-is_host_at.ensures)
-    ∙ channel_at c.args.node c.in-Some.end s p c.args.channel None ch.0)
+    let ch = c.in_ok-channel.ensures in
+    let P : ℕ → Type 0 = λ k. Acts g.L.Line.service c.in_ok-end.end (Takes k) s c.act.result c.act.new.self in
+    acted g.L.Line.service (Take c.args.node c.args.channel) c.args.node (Takes c.args.channel) c.in_ok-end.end s c.act.new.self c.act.result p
+    (fault_at c.args.node c.in_ok-end.end s p (λ n. on_channel c.args.channel s n None) (c.in_ok-end.ensures.0)
+    ∙ channel_at c.args.node c.in_ok-end.end s p c.args.channel None ch.0)
     refl (λ a w. w) (subst P ch.1 c.act.ensures)
