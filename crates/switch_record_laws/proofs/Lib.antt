@@ -1,0 +1,9 @@
+pub mod Cells
+pub mod Steps
+pub mod Notes
+pub mod Lines
+pub mod Acts
+pub mod Partner
+pub mod Relaying
+pub mod Resting
+pub mod Turning

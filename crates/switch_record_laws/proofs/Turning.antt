@@ -1,0 +1,118 @@
+-- Whole events of a switch, and the run.
+use Rattle.std.specs.Prelude.{◌≡◌, ℕ, zero, suc, ◌≤◌, false, List, [], ◌∷◌, map, length, slice_get, Option, Some, None, is_some, true}
+use Rattle.std.proofs.Common.{refl, sym, ap, subst, ◌∙◌, arith, option_map, true≢false}
+use Rattle.std.proofs.lemmas.Option.{none-some, same_Some}
+use Rattle.link_timers.specs.declared.role.Role.{Role}
+use Rattle.link_timers.specs.declared.role.Role.TheVariants.{Dte, Dce}
+use Rattle.epochs.specs.Epoch.{nothing_sent, nothing_taken}
+use Rattle.packet_layer.specs.Layer.{Layer, made, channel_of, link_down, unread}
+use Rattle.call_records.specs.Book.{side_of, slot_at, made_book}
+use Rattle.x25_switch.specs.Lines.{SwitchLine}
+use Rattle.switch_laws.specs.Leg.{Leg}
+use Rattle.switch_laws.specs.World.{World, layers_of, after_acts, closed}
+use Rattle.switch_laws.specs.Joined.{IsSwitch, Becomes}
+use Rattle.switch_laws.specs.Run.{letter, two_lines, no_calls}
+use Rattle.switch_laws.proofs.Finishing.{turns}
+use Rattle.switch_record_laws.specs.Records.{AreRecords, AreApart, Has, call_on}
+use Rattle.switch_record_laws.specs.Written.{Books, books_after_all, HaveRecords, restart_writes, restarted_books}
+use Rattle.switch_record_laws.specs.Relayed.{IsHandedOn}
+use Rattle.switch_record_laws.specs.Relayed.RelayedTo.{none, both}
+use Rattle.switch_record_laws.specs.Law.{Goes, FrameLaw, TimerLaw, ElapseLaw, RestartLaw}
+use Rattle.switch_record_laws.specs.Run.{books, RunLaw}
+use Rattle.switch_record_laws.proofs.Lines.{line_closes}
+use Rattle.switch_record_laws.proofs.Acts.{acts_write}
+
+goes : (ls ms : List SwitchLine) (w : World) (bs : Books) → IsSwitch ls w → HaveRecords (layers_of ls) w bs → Becomes ls w ms → Goes ls w bs ms
+goes ls ms w bs i h b = record {
+  world = b.world;
+  reached = b.reached;
+  right = b.right;
+  records =
+      subst (λ (ys : List Layer). HaveRecords ys b.world (books_after_all b.reached.acts (layers_of ls) bs)) (sym b.reached.layers)
+      (subst (λ (v : World). HaveRecords (after_acts b.reached.acts (layers_of ls)) v (books_after_all b.reached.acts (layers_of ls) bs)) (sym b.reached.legs)
+      (acts_write b.reached.acts (layers_of ls) w bs b.reached.may i.world h));
+}
+
+pub frame_goes : FrameLaw
+frame_goes n octets s w bs are i h = goes s.lines _ w bs i h (turns.frame n octets s w are i)
+
+pub timer_goes : TimerLaw
+timer_goes n id s w bs i h = goes s.lines _ w bs i h (turns.timer n id s w i)
+
+pub elapse_goes : ElapseLaw
+elapse_goes ticks s w bs i h = goes s.lines _ w bs i h (turns.elapses ticks s w i)
+
+-- ---- a restart
+
+restarted_layer : (n : ℕ) (ls : List SwitchLine) (r : SwitchLine → SwitchLine) → ((l : SwitchLine) → (r l).end.layer ≡ unread (link_down l.end.layer)) → slice_get (layers_of (map r ls)) n ≡ option_map (λ l. unread (link_down l)) (slice_get (layers_of ls) n)
+restarted_layer n [] r e = refl
+restarted_layer zero (l ∷ ls) r e = ap (λ (y : Layer). Some y) (e l)
+restarted_layer (suc n) (l ∷ ls) r e = restarted_layer n ls r e
+
+pub restarts : RestartLaw
+restarts s w bs h n l' e = by_layer (slice_get (layers_of s.lines) n) refl
+  where
+    by_layer : (o : Option Layer) → slice_get (layers_of s.lines) n ≡ o → AreRecords Dce l' (λ c. closed (w (record { line = n; channel = c }))) (restarted_books (layers_of s.lines) bs n)
+    by_layer None f = absurd (none-some l' (sym (restarted_layer n s.lines _ (λ l. refl) ∙ ap (λ (o : Option Layer). option_map (λ l. unread (link_down l)) o) f) ∙ e))
+    by_layer (Some l) f =
+        let is : unread (link_down l) ≡ l' = same_Some _ _ (sym (restarted_layer n s.lines _ (λ x. refl) ∙ ap (λ (o : Option Layer). option_map (λ x. unread (link_down x)) o) f) ∙ e) in
+        subst (λ (y : Layer). AreRecords Dce y (λ c. closed (w (record { line = n; channel = c }))) (restarted_books (layers_of s.lines) bs n)) is
+        (subst (λ (o : Option Layer). AreRecords Dce (unread (link_down l)) (λ c. closed (w (record { line = n; channel = c }))) (restart_writes o (bs n))) (sym f)
+        (line_closes Dce l (unread (link_down l)) _ (λ c. w (record { line = n; channel = c })) (bs n) refl (h n l f)))
+
+-- ---- the run
+
+empty_slots : (node other : ℕ) (role : Role) (c : ℕ) → (slot_at role c (made_book node other 2 false)).present ≡ None
+empty_slots node other Dte zero = refl
+empty_slots node other Dte (suc zero) = refl
+empty_slots node other Dte (suc (suc zero)) = refl
+empty_slots node other Dte (suc (suc (suc c))) = refl
+empty_slots node other Dce zero = refl
+empty_slots node other Dce (suc zero) = refl
+empty_slots node other Dce (suc (suc zero)) = refl
+empty_slots node other Dce (suc (suc (suc c))) = refl
+
+empty_apart : (node other : ℕ) → AreApart (made_book node other 2 false)
+empty_apart node other = record {
+  there = λ role c n e. absurd (none-some n (sym (empty_slots node other role c) ∙ e));
+  apart = λ role y c d n e f. absurd (none-some n (sym (empty_slots node other role c) ∙ e));
+}
+
+two_channels : (node other c : ℕ) → is_some (channel_of (made Dce 2 2 false) c) ≡ true → (1 ≤ c) × (c ≤ length (side_of Dce (made_book node other 2 false)).slots)
+two_channels node other zero e = absurd (true≢false (sym e))
+two_channels node other (suc zero) e = (omega arith, omega arith)
+two_channels node other (suc (suc zero)) e = (omega arith, omega arith)
+two_channels node other (suc (suc (suc c))) e = absurd (true≢false (sym e))
+
+no_call : (c : ℕ) (g : Leg) → call_on (channel_of (made Dce 2 2 false) c) g ≡ None
+no_call zero g = refl
+no_call (suc zero) g = refl
+no_call (suc (suc zero)) g = refl
+no_call (suc (suc (suc c))) g = refl
+
+empty_records : (node other : ℕ) (legs : ℕ → Leg) → AreRecords Dce (made Dce 2 2 false) legs (made_book node other 2 false)
+empty_records node other legs = record {
+  slots = two_channels node other;
+  apart = empty_apart node other;
+  has = λ c. subst (λ (o : Option Leg). Has Dce c o (made_book node other 2 false)) (sym (no_call c (legs c))) (empty_slots node other Dce c);
+}
+
+run_begins : (n : ℕ) (l : Layer) → slice_get (layers_of two_lines) n ≡ Some l → AreRecords Dce l (λ c. no_calls (record { line = n; channel = c })) (books n)
+run_begins zero l e = subst (λ (y : Layer). AreRecords Dce y (λ c. no_calls (record { line = 0; channel = c })) (books 0)) (same_Some _ _ e) (empty_records 3 9 _)
+run_begins (suc zero) l e = subst (λ (y : Layer). AreRecords Dce y (λ c. no_calls (record { line = 1; channel = c })) (books 1)) (same_Some _ _ e) (empty_records 4 9 _)
+run_begins (suc (suc n)) l e = absurd (none-some l e)
+
+handed : IsHandedOn (record { packets = letter ∷ []; interrupts = []; released = 1 }) (record { packets = letter ∷ []; interrupts = []; covered = 1 })
+handed = record { packets = refl; interrupts = refl; delivered = (λ e. omega arith, tt) }
+
+nothing_handed : IsHandedOn nothing_taken nothing_sent
+nothing_handed = record { packets = refl; interrupts = refl; delivered = tt }
+
+pub run_holds : RunLaw
+run_holds = record {
+  begins = run_begins;
+  may = (tt, (tt, (tt, (tt, (tt, (tt, (tt, (tt, (tt, (tt, (tt, (tt, (omega arith, (tt, (tt, (tt, (omega arith, (tt, (tt, (tt, tt))))))))))))))))))));
+  near_book = refl;
+  far_book = refl;
+  relayed = record { there = both handed (both nothing_handed none); back = both nothing_handed (both nothing_handed none) };
+}

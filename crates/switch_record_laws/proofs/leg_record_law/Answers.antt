@@ -1,0 +1,7 @@
+use Rattle.switch_record_laws.proofs.Acts.{acts_write}
+use Rattle.switch_record_laws.proofs.Partner.{partner_leaves}
+use Rattle.switch_record_laws.proofs.Resting.{event_rests, acts_rest}
+use Rattle.switch_record_laws.proofs.leg_record_law.Goals as goal
+
+pub returns : goal.returns
+returns c = record { acts = acts_write; partner = partner_leaves; rest = event_rests; rests = acts_rest }
