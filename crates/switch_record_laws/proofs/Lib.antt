@@ -7,3 +7,10 @@ pub mod Partner
 pub mod Relaying
 pub mod Resting
 pub mod Turning
+pub mod Chains
+pub mod Happenings
+pub mod Stepping
+pub mod Leading
+pub mod Fitting
+pub mod Calming
+pub mod Events

@@ -11,14 +11,20 @@ use Rattle.x25_switch.specs.Lines.{SwitchLine}
 use Rattle.switch_laws.specs.Leg.{Leg}
 use Rattle.switch_laws.specs.World.{World, layers_of, after_acts, closed}
 use Rattle.switch_laws.specs.Joined.{IsSwitch, Becomes}
-use Rattle.switch_laws.specs.Run.{letter, two_lines, no_calls}
+use Rattle.switch_laws.specs.Run.{letter, parameters, two_lines, no_calls}
 use Rattle.switch_laws.proofs.Finishing.{turns}
 use Rattle.switch_record_laws.specs.Records.{AreRecords, AreApart, Has, call_on}
 use Rattle.switch_record_laws.specs.Written.{Books, books_after_all, HaveRecords, restart_writes, restarted_books}
 use Rattle.switch_record_laws.specs.Relayed.{IsHandedOn}
 use Rattle.switch_record_laws.specs.Relayed.RelayedTo.{none, both}
 use Rattle.switch_record_laws.specs.Law.{Goes, FrameLaw, TimerLaw, ElapseLaw, RestartLaw}
-use Rattle.switch_record_laws.specs.Run.{books, RunLaw}
+use Rattle.switch_record_laws.specs.Run.{books, partners, RunLaw}
+use Rattle.switch_record_laws.specs.Kept.{line_with}
+use Rattle.packet_codec.specs.Address.{MayBeDigits}
+use Rattle.packet_end.specs.Params.{AreParams}
+use Rattle.line_laws.specs.Line.{At, Sends, happens, made as made_ends}
+use Rattle.line_record_laws.specs.Kept.{Setting, Kept}
+use Rattle.line_record_laws.proofs.Keeping.{made_kept, silent_kept}
 use Rattle.switch_record_laws.proofs.Lines.{line_closes}
 use Rattle.switch_record_laws.proofs.Acts.{acts_write}
 
@@ -108,8 +114,34 @@ handed = record { packets = refl; interrupts = refl; delivered = (λ e. omega ar
 nothing_handed : IsHandedOn nothing_taken nothing_sent
 nothing_handed = record { packets = refl; interrupts = refl; delivered = tt }
 
+are_params : AreParams parameters
+are_params = record {
+  link = record { k_least = omega arith; k_most = omega arith; n2_least = omega arith; n2_most = omega arith };
+  layer = record { channels_least = omega arith; channels_most = omega arith; window_least = omega arith; window_most = omega arith };
+}
+
+-- a line as it is made, whose first frame went out
+made_line : (node : ℕ) → Kept (record { dte = parameters; dce = parameters; dte_node = node; dce_node = 9 }) (made_book node 9 2 false) (happens (At Dte (Sends [])) (made_ends parameters parameters))
+made_line node =
+    let s : Setting = record { dte = parameters; dce = parameters; dte_node = node; dce_node = 9 } in
+    silent_kept s (made_book node 9 2 false) (made_ends parameters parameters) Dte (Sends []) tt
+    (made_kept s (record { dte = are_params; dce = are_params; alike = record { channels = refl; window = refl; standing = refl } }))
+
+run_kept : (n : ℕ) (l : SwitchLine) → slice_get two_lines n ≡ Some l → Kept (partners n).setting (books n) (line_with (partners n) l.end)
+run_kept zero l e = subst (λ (y : SwitchLine). Kept (partners 0).setting (books 0) (line_with (partners 0) y.end)) (same_Some _ l e) (made_line 3)
+run_kept (suc zero) l e = subst (λ (y : SwitchLine). Kept (partners 1).setting (books 1) (line_with (partners 1) y.end)) (same_Some _ l e) (made_line 4)
+run_kept (suc (suc n)) l e = absurd (none-some l e)
+
+run_addresses : (n : ℕ) (l : SwitchLine) → slice_get two_lines n ≡ Some l → MayBeDigits l.address
+run_addresses zero l e = subst (λ (y : SwitchLine). MayBeDigits y.address) (same_Some _ l e) (omega arith, refl)
+run_addresses (suc zero) l e = subst (λ (y : SwitchLine). MayBeDigits y.address) (same_Some _ l e) (omega arith, refl)
+run_addresses (suc (suc n)) l e = absurd (none-some l e)
+
 pub run_holds : RunLaw
 run_holds = record {
+  kept = run_kept;
+  addresses = run_addresses;
+  frame = (_, ((_, refl), (omega arith, (omega arith, tt))));
   begins = run_begins;
   may = (tt, (tt, (tt, (tt, (tt, (tt, (tt, (tt, (tt, (tt, (tt, (tt, (omega arith, (tt, (tt, (tt, (omega arith, (tt, (tt, (tt, tt))))))))))))))))))));
   near_book = refl;

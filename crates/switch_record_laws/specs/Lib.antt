@@ -3,5 +3,8 @@ pub mod Written
 pub mod Relayed
 pub mod Rests
 pub mod Joined
+pub mod Steps
+pub mod Events
+pub mod Kept
 pub mod Law
 pub mod Run

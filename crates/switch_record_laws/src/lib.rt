@@ -3,6 +3,8 @@
 
 ghost use Rattle.switch_record_laws.specs.Law.{ActsLaw, PartnerLaw, RestLaw, RestsLaw, JoinsLaw, MatchLaw};
 ghost use Rattle.switch_record_laws.specs.Law.{FrameLaw, TimerLaw, ElapseLaw, RestartLaw};
+ghost use Rattle.switch_record_laws.specs.Kept.{StepsLaw, FrameKeptLaw, TimerKeptLaw, ElapseKeptLaw, RestartKeptLaw};
+ghost use Rattle.switch_record_laws.specs.Kept.{OutLaw, LeadsLaw, LegsLaw};
 ghost use Rattle.switch_record_laws.specs.Run.{RunLaw};
 
 /// What a switch does at its end of a line is written in the line's book, so that the present record of each channel
@@ -32,6 +34,22 @@ pub fn switch_record_law()
     ensures timers { TimerLaw }
     ensures elapses { ElapseLaw }
     ensures restarts { RestartLaw }
+{}
+
+/// The law of each line of a switch, which is its DCE, whatever its partners are: what is kept of a line and of its
+/// book is kept over each event of the switch, with the book that the acts of the event write. The same acts move the
+/// legs.
+pub fn kept_lines_law()
+    ensures frames { FrameKeptLaw }
+    ensures timers { TimerKeptLaw }
+    ensures elapses { ElapseKeptLaw }
+    ensures restarts { RestartKeptLaw }
+    ensures out { OutLaw }
+
+    // Each event is a list of steps at the ends of the lines, and these are acts of their packet layers.
+    ensures steps { StepsLaw }
+    ensures leads { LeadsLaw }
+    ensures legs { LegsLaw }
 {}
 
 /// A call through a switch of two lines: a packet with D = 1 that is confirmed, and a reset.
