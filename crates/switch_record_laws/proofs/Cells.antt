@@ -18,12 +18,12 @@ got_below [] n x e = absurd (none-some x e)
 got_below (y ∷ xs) zero x e = omega arith
 got_below (y ∷ xs) (suc n) x e = let h = got_below xs n x e in omega arith
 
-changed_here : (rs : List RecordValue) (n : ℕ) (f : RecordValue → RecordValue) (r : RecordValue) → slice_get rs n ≡ Some r → slice_get (changed_at n f rs) n ≡ Some (f r)
+pub changed_here : (rs : List RecordValue) (n : ℕ) (f : RecordValue → RecordValue) (r : RecordValue) → slice_get rs n ≡ Some r → slice_get (changed_at n f rs) n ≡ Some (f r)
 changed_here [] n f r e = absurd (none-some r e)
 changed_here (s ∷ rs) zero f r e = ap (λ (x : RecordValue). Some (f x)) (same_Some s r e)
 changed_here (s ∷ rs) (suc n) f r e = changed_here rs n f r e
 
-changed_else : (rs : List RecordValue) (m n : ℕ) (f : RecordValue → RecordValue) → n ≢ m → slice_get (changed_at m f rs) n ≡ slice_get rs n
+pub changed_else : (rs : List RecordValue) (m n : ℕ) (f : RecordValue → RecordValue) → n ≢ m → slice_get (changed_at m f rs) n ≡ slice_get rs n
 changed_else [] m n f h = refl
 changed_else (s ∷ rs) zero zero f h = absurd (h refl)
 changed_else (s ∷ rs) zero (suc n) f h = refl
@@ -164,7 +164,7 @@ slot_elsewhere x d z b y c h =
       | inr e ↦ subst (λ (r : Role). slot_at r c (with_slot x d z b) ≡ slot_at r c b) (sym e) (slot_there x d c z b)
     ]
 
-slot_records : (x : Role) (d : ℕ) (z : Slot) (b : Book) → (with_slot x d z b).records ≡ b.records
+pub slot_records : (x : Role) (d : ℕ) (z : Slot) (b : Book) → (with_slot x d z b).records ≡ b.records
 slot_records Dte d z b = refl
 slot_records Dce d z b = refl
 

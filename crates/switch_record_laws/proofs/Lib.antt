@@ -6,6 +6,8 @@ pub mod Acts
 pub mod Partner
 pub mod Relaying
 pub mod Resting
+pub mod Heads
+pub mod Making
 pub mod Turning
 pub mod Chains
 pub mod Happenings

@@ -1,19 +1,17 @@
 -- Whole events of a switch, and the run.
-use Rattle.std.specs.Prelude.{◌≡◌, ℕ, zero, suc, ◌≤◌, false, List, [], ◌∷◌, map, length, slice_get, Option, Some, None, is_some, true}
-use Rattle.std.proofs.Common.{refl, sym, ap, subst, ◌∙◌, arith, option_map, true≢false}
+use Rattle.std.specs.Prelude.{◌≡◌, ℕ, zero, suc, false, List, [], ◌∷◌, map, slice_get, Option, Some, None}
+use Rattle.std.proofs.Common.{refl, sym, ap, subst, ◌∙◌, arith, option_map}
 use Rattle.std.proofs.lemmas.Option.{none-some, same_Some}
-use Rattle.link_timers.specs.declared.role.Role.{Role}
 use Rattle.link_timers.specs.declared.role.Role.TheVariants.{Dte, Dce}
 use Rattle.epochs.specs.Epoch.{nothing_sent, nothing_taken}
-use Rattle.packet_layer.specs.Layer.{Layer, made, channel_of, link_down, unread}
-use Rattle.call_records.specs.Book.{side_of, slot_at, made_book}
+use Rattle.packet_layer.specs.Layer.{Layer, link_down, unread}
+use Rattle.call_records.specs.Book.{made_book}
 use Rattle.x25_switch.specs.Lines.{SwitchLine}
-use Rattle.switch_laws.specs.Leg.{Leg}
 use Rattle.switch_laws.specs.World.{World, layers_of, after_acts, closed}
 use Rattle.switch_laws.specs.Joined.{IsSwitch, Becomes}
 use Rattle.switch_laws.specs.Run.{letter, parameters, two_lines, no_calls}
 use Rattle.switch_laws.proofs.Finishing.{turns}
-use Rattle.switch_record_laws.specs.Records.{AreRecords, AreApart, Has, call_on}
+use Rattle.switch_record_laws.specs.Records.{AreRecords}
 use Rattle.switch_record_laws.specs.Written.{Books, books_after_all, HaveRecords, restart_writes, restarted_books}
 use Rattle.switch_record_laws.specs.Relayed.{IsHandedOn}
 use Rattle.switch_record_laws.specs.Relayed.RelayedTo.{none, both}
@@ -27,6 +25,7 @@ use Rattle.line_record_laws.specs.Kept.{Setting, Kept}
 use Rattle.line_record_laws.proofs.Keeping.{made_kept, silent_kept}
 use Rattle.switch_record_laws.proofs.Lines.{line_closes}
 use Rattle.switch_record_laws.proofs.Acts.{acts_write}
+use Rattle.switch_record_laws.proofs.Making.{made_records}
 
 goes : (ls ms : List SwitchLine) (w : World) (bs : Books) → IsSwitch ls w → HaveRecords (layers_of ls) w bs → Becomes ls w ms → Goes ls w bs ms
 goes ls ms w bs i h b = record {
@@ -68,44 +67,9 @@ restarts s w bs h n l' e = by_layer (slice_get (layers_of s.lines) n) refl
 
 -- ---- the run
 
-empty_slots : (node other : ℕ) (role : Role) (c : ℕ) → (slot_at role c (made_book node other 2 false)).present ≡ None
-empty_slots node other Dte zero = refl
-empty_slots node other Dte (suc zero) = refl
-empty_slots node other Dte (suc (suc zero)) = refl
-empty_slots node other Dte (suc (suc (suc c))) = refl
-empty_slots node other Dce zero = refl
-empty_slots node other Dce (suc zero) = refl
-empty_slots node other Dce (suc (suc zero)) = refl
-empty_slots node other Dce (suc (suc (suc c))) = refl
-
-empty_apart : (node other : ℕ) → AreApart (made_book node other 2 false)
-empty_apart node other = record {
-  there = λ role c n e. absurd (none-some n (sym (empty_slots node other role c) ∙ e));
-  apart = λ role y c d n e f. absurd (none-some n (sym (empty_slots node other role c) ∙ e));
-}
-
-two_channels : (node other c : ℕ) → is_some (channel_of (made Dce 2 2 false) c) ≡ true → (1 ≤ c) × (c ≤ length (side_of Dce (made_book node other 2 false)).slots)
-two_channels node other zero e = absurd (true≢false (sym e))
-two_channels node other (suc zero) e = (omega arith, omega arith)
-two_channels node other (suc (suc zero)) e = (omega arith, omega arith)
-two_channels node other (suc (suc (suc c))) e = absurd (true≢false (sym e))
-
-no_call : (c : ℕ) (g : Leg) → call_on (channel_of (made Dce 2 2 false) c) g ≡ None
-no_call zero g = refl
-no_call (suc zero) g = refl
-no_call (suc (suc zero)) g = refl
-no_call (suc (suc (suc c))) g = refl
-
-empty_records : (node other : ℕ) (legs : ℕ → Leg) → AreRecords Dce (made Dce 2 2 false) legs (made_book node other 2 false)
-empty_records node other legs = record {
-  slots = two_channels node other;
-  apart = empty_apart node other;
-  has = λ c. subst (λ (o : Option Leg). Has Dce c o (made_book node other 2 false)) (sym (no_call c (legs c))) (empty_slots node other Dce c);
-}
-
 run_begins : (n : ℕ) (l : Layer) → slice_get (layers_of two_lines) n ≡ Some l → AreRecords Dce l (λ c. no_calls (record { line = n; channel = c })) (books n)
-run_begins zero l e = subst (λ (y : Layer). AreRecords Dce y (λ c. no_calls (record { line = 0; channel = c })) (books 0)) (same_Some _ _ e) (empty_records 3 9 _)
-run_begins (suc zero) l e = subst (λ (y : Layer). AreRecords Dce y (λ c. no_calls (record { line = 1; channel = c })) (books 1)) (same_Some _ _ e) (empty_records 4 9 _)
+run_begins zero l e = subst (λ (y : Layer). AreRecords Dce y (λ c. no_calls (record { line = 0; channel = c })) (books 0)) (same_Some _ _ e) (made_records Dce 2 2 3 9 (λ c. no_calls (record { line = 0; channel = c })))
+run_begins (suc zero) l e = subst (λ (y : Layer). AreRecords Dce y (λ c. no_calls (record { line = 1; channel = c })) (books 1)) (same_Some _ _ e) (made_records Dce 2 2 4 9 (λ c. no_calls (record { line = 1; channel = c })))
 run_begins (suc (suc n)) l e = absurd (none-some l e)
 
 handed : IsHandedOn (record { packets = letter ∷ []; interrupts = []; released = 1 }) (record { packets = letter ∷ []; interrupts = []; covered = 1 })

@@ -1,16 +1,16 @@
 -- What holds of the books of a switch's lines, whatever its partners send.
-use Rattle.std.specs.Prelude.{◌≡◌, ℕ, List, map, Some}
+use Rattle.std.specs.Prelude.{◌≡◌, ℕ, false, List, map, Some}
 use Rattle.link_timers.specs.declared.role.Role.{Role}
 use Rattle.link_timers.specs.Role.{other_of}
 use Rattle.link_timers.specs.declared.timers.TimerId.{TimerId}
 use Rattle.epochs.specs.Epoch.{sent_epoch, taken_epoch, SentEpoch, TakenEpoch}
 use Rattle.epochs.specs.Match.{Match}
-use Rattle.packet_layer.specs.Layer.{Layer}
+use Rattle.packet_layer.specs.Layer.{Layer, made}
 use Rattle.packet_laws.specs.Line as layers
 use Rattle.packet_laws.specs.Line.{Event}
 use Rattle.packet_laws.specs.Readable.{Every}
 use Rattle.call_records.specs.Records.{RecordValue}
-use Rattle.call_records.specs.Book.{Book}
+use Rattle.call_records.specs.Book.{Book, made_book}
 use Rattle.book_laws.specs.Told.{written}
 use Rattle.x25_switch.specs.declared.place.Place.{Place}
 use Rattle.x25_switch.specs.declared.place.Joined.{Joined}
@@ -25,6 +25,13 @@ use Rattle.switch_record_laws.specs.Written.{Books, books_after_all, HaveRecords
 use Rattle.switch_record_laws.specs.Relayed.{RelayedTo}
 use Rattle.switch_record_laws.specs.Rests.{Rests}
 use Rattle.switch_record_laws.specs.Joined.{JoinsRecords}
+
+-- ---- the making
+
+-- on a line without a standing call no channel has a record
+abbrev pub MadeLaw : Type 0
+MadeLaw = (role : Role) (channels window dte_node dce_node : ℕ) (legs : ℕ → Leg)
+    → AreRecords role (made role channels window false) legs (made_book dte_node dce_node channels false)
 
 -- ---- acts
 

@@ -3,6 +3,7 @@ pub mod Written
 pub mod Relayed
 pub mod Rests
 pub mod Joined
+pub mod Opened
 pub mod Steps
 pub mod Events
 pub mod Kept

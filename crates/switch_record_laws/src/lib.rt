@@ -1,22 +1,30 @@
 //! The legs of a switch's calls are the present records of its lines' books.
 #![tactic(auto)]
 
-ghost use Rattle.switch_record_laws.specs.Law.{ActsLaw, PartnerLaw, RestLaw, RestsLaw, JoinsLaw, MatchLaw};
+ghost use Rattle.switch_record_laws.specs.Law.{MadeLaw, ActsLaw, PartnerLaw, RestLaw, RestsLaw, JoinsLaw, MatchLaw};
 ghost use Rattle.switch_record_laws.specs.Law.{FrameLaw, TimerLaw, ElapseLaw, RestartLaw};
 ghost use Rattle.switch_record_laws.specs.Kept.{StepsLaw, FrameKeptLaw, TimerKeptLaw, ElapseKeptLaw, RestartKeptLaw};
 ghost use Rattle.switch_record_laws.specs.Kept.{OutLaw, LeadsLaw, LegsLaw};
+ghost use Rattle.switch_record_laws.specs.Opened.{ComesLaw, PlacesLaw, HeadLaw, HeadsLaw};
 ghost use Rattle.switch_record_laws.specs.Run.{RunLaw};
 
 /// What a switch does at its end of a line is written in the line's book, so that the present record of each channel
 /// has the epochs of its leg, reset by reset: the packets and interrupts sent and taken, and how many of them were
 /// covered and released. What is written at the other end changes none of these records (X.25 4).
 pub fn leg_record_law()
+    ensures made { MadeLaw }
     ensures acts { ActsLaw }
     ensures partner { PartnerLaw }
 
     // A record that is of no present call stays as it is.
     ensures rest { RestLaw }
     ensures rests { RestsLaw }
+
+    // A new record has the addresses of its call, and no record changes them.
+    ensures comes { ComesLaw }
+    ensures places { PlacesLaw }
+    ensures head { HeadLaw }
+    ensures heads { HeadsLaw }
 {}
 
 /// So the two records of a join have, epoch by epoch, what the switch handed on: what it sent on one leg is what it
