@@ -142,8 +142,8 @@ module _ (s : Setting) (b : Book) (role : Role) (me you : PacketEnd) (going comi
 
   -- ---- a user's
 
-  pub calls_at : (parts : CallParts) → CanBePlaced parts → parts.calling ≡ [] → AfterAct (Calls parts) (placed_on role (channel_given me.layer me.layer.phase) parts b)
-  calls_at parts fits calling =
+  pub calls_at : (parts : CallParts) → CanBePlaced parts → AfterAct (Calls parts) (placed_on role (channel_given me.layer me.layer.phase) parts b)
+  calls_at parts fits =
       subst (λ (x : Book). AfterAct (Calls parts) x)
       (ap (λ (o : Option ℕ). placed_on role o parts b) (sym (given_unread k.line.me.layer.phase k.line.me.layer) ∙ ap (λ (l : Layer). channel_given l l.phase) k.joint.mine.layer))
       (allowed_act (Calls parts) fits (tt, tt) k.mine)

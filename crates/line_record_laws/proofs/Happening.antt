@@ -118,11 +118,11 @@ module _ (s : Setting) (b : Book) (l : Line) (role : Role) where
       Kept s (all_told role (finished (begun e)).notes x) (with_event role (finished (begun e)) kept (coming_to role l) l)
   asked_on e x kept k = ends_on s x role (begun e) l (coming_to role l) kept (begins_at s x role e you going (coming_to role l) k)
 
-  pub called_on : (parts : CallParts) (kept : List Bool) → CanBePlaced parts → parts.calling ≡ [] → Kept s b l →
+  pub called_on : (parts : CallParts) (kept : List Bool) → CanBePlaced parts → Kept s b l →
       Kept s (all_told role (finished (begun (called me parts))).notes (placed_on role (channel_given me.layer me.layer.phase) parts b)) (with_event role (finished (begun (called me parts))) kept (coming_to role l) l)
-  called_on parts kept fits calling k =
+  called_on parts kept fits k =
       asked_on (called me parts) (placed_on role (channel_given me.layer me.layer.phase) parts b) kept
-      (calls_at s b role me you going (coming_to role l) (seen s b role l k) parts fits calling)
+      (calls_at s b role me you going (coming_to role l) (seen s b role l k) parts fits)
 
   all_asked : (channel : ℕ) (rs : List Request) (e : PacketEnd) (x : Book) → KeptAt s x role e you going (coming_to role l) →
       KeptAt s (requested_all role channel rs e x) role (asked_all channel rs e) you going (coming_to role l)
@@ -145,7 +145,7 @@ pub relink_kept : RelinkLaw
 relink_kept s b l role kept k = relink_on s b l role kept k
 
 pub called_kept : CalledLaw
-called_kept s b l role parts kept fits calling k = called_on s b l role parts kept fits calling k
+called_kept s b l role parts kept fits k = called_on s b l role parts kept fits k
 
 pub requested_kept : RequestedLaw
 requested_kept s b l role channel rs kept k = requests_on s b l role channel rs kept k

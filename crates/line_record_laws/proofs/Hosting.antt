@@ -94,12 +94,12 @@ module _ (s : Setting) (b : Book) (l : Line) (role : Role) (kept : List Bool) (n
       by true = expiry_on s b l role id kept k
       by false = unchanged
 
-  pub call_after : (parts : CallParts) → CanBePlaced parts → parts.calling ≡ [] → IsKeptAfter s role (after_call me parts) (placed_on role (channel_given me.layer me.layer.phase) parts b) kept l
-  call_after parts fits calling = by (call_refusal me.layer me.layer.phase) refl
+  pub call_after : (parts : CallParts) → CanBePlaced parts → IsKeptAfter s role (after_call me parts) (placed_on role (channel_given me.layer me.layer.phase) parts b) kept l
+  call_after parts fits = by (call_refusal me.layer me.layer.phase) refl
     where
       by : (o : Option Refusal) → call_refusal me.layer me.layer.phase ≡ o →
           IsKeptAfter s role (host.unless_refused o (ended (called me parts)) me) (placed_on role (channel_given me.layer me.layer.phase) parts b) kept l
-      by None e = called_on s b l role parts kept fits calling k
+      by None e = called_on s b l role parts kept fits k
       by (Some x) e = subst (λ (o : Option ℕ). IsKeptAfter s role me (placed_on role o parts b) kept l) (sym (refused_given me.layer.phase me.layer x e)) unchanged
 
   -- a request, and what is written of it
@@ -184,7 +184,7 @@ pub expiry_kept : HostExpiryLaw
 expiry_kept s b l role id kept none k = expiry_after s b l role kept none k id
 
 pub call_kept : HostCallLaw
-call_kept s b l role parts kept fits calling none k = call_after s b l role kept none k parts fits calling
+call_kept s b l role parts kept fits none k = call_after s b l role kept none k parts fits
 
 pub request_kept : HostRequestLaw
 request_kept s b l role channel r kept none k = request_after s b l role kept none k channel r

@@ -112,9 +112,9 @@ silent_kept s b l role (Requests channel r) is k = absurd is
 -- ---- acts of a user
 
 pub call_kept : CallLaw
-call_kept s b l role parts fits calling k =
+call_kept s b l role parts fits k =
     kept_happens s (placed_on role (channel_given (end_at role l).layer (end_at role l).layer.phase) parts b) role (Calls parts) l
-    (calls_at s b role (end_at role l) (end_at (other_of role) l) (coming_to (other_of role) l) (coming_to role l) (seen s b role l k) parts fits calling)
+    (calls_at s b role (end_at role l) (end_at (other_of role) l) (coming_to (other_of role) l) (coming_to role l) (seen s b role l k) parts fits)
 
 pub request_kept : RequestLaw
 request_kept s b l role channel r k =

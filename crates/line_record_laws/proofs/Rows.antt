@@ -59,7 +59,7 @@ after (h ∷ hs) n = after hs (after_one h n)
 -- ---- what is kept
 
 abbrev IsFitOne : Happening → Type 0
-IsFitOne (Places role parts) = CanBePlaced parts × (parts.calling ≡ [])
+IsFitOne (Places role parts) = CanBePlaced parts
 IsFitOne h = Unit {0}
 
 abbrev AreFit : List Happening → Type 0
@@ -73,7 +73,7 @@ heard_kept s role (octets ∷ coming) n is k = frame_kept s n.book n.line role o
 one_kept : (s : Setting) (h : Happening) (n : Net) → IsFitOne h → Kept s n.book n.line → Kept s (after_one h n).book (after_one h n).line
 one_kept s (Starts role) n fits k = silent_kept s n.book n.line role (Sends []) tt k
 one_kept s (Hears role) n fits k = heard_kept s role (coming_to role n.line) n refl k
-one_kept s (Places role parts) n fits k = called_kept s n.book n.line role parts [] fits.0 fits.1 k
+one_kept s (Places role parts) n fits k = called_kept s n.book n.line role parts [] fits k
 one_kept s (Asks role channel rs) n fits k = requested_kept s n.book n.line role channel rs [] k
 
 all_kept : (s : Setting) (hs : List Happening) (n : Net) → AreFit hs → Kept s n.book n.line → Kept s (after hs n).book (after hs n).line
@@ -185,7 +185,7 @@ fit_further hs h f g = fit_append hs (h ∷ rounds 2) f (g, fit_rounds 2)
 fits : AreFit taken
 fits =
     let up : AreFit comes_up = (tt, (tt, fit_rounds 6)) in
-    let calls : AreFit placed = fit_further comes_up (Places Dte digits) up (can_be_placed, refl) in
+    let calls : AreFit placed = fit_further comes_up (Places Dte digits) up can_be_placed in
     let answers : AreFit answered = fit_further placed (Asks Dce 4 (Accept ∷ [])) calls tt in
     let takes : AreFit (rounds 2 ++ Asks Dce 4 (Taking ∷ Releasing 1 ∷ []) ∷ rounds 2) = fit_further (rounds 2) (Asks Dce 4 (Taking ∷ Releasing 1 ∷ [])) (fit_rounds 2) tt in
     fit_append answered (Asks Dte 4 (Sending hi ∷ []) ∷ (rounds 2 ++ Asks Dce 4 (Taking ∷ Releasing 1 ∷ []) ∷ rounds 2)) answers (tt, takes)

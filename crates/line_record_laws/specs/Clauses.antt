@@ -63,9 +63,9 @@ RestartLaw = (s : Setting) (b : Book) (l : Line) (role : Role) → Kept s b l
 
 -- ---- acts of a user
 
--- a line without a switch has no address, so a caller names none of its own
+-- a caller names its own address, if it has one
 abbrev pub CallLaw : Type 0
-CallLaw = (s : Setting) (b : Book) (l : Line) (role : Role) (parts : CallParts) → CanBePlaced parts → parts.calling ≡ []
+CallLaw = (s : Setting) (b : Book) (l : Line) (role : Role) (parts : CallParts) → CanBePlaced parts
     → Kept s b l
     → Kept s (placed_on role (channel_given (end_at role l).layer (end_at role l).layer.phase) parts b)
     (happens (At role (Calls parts)) l)

@@ -83,7 +83,7 @@ RestartedLaw = (s : Setting) (b : Book) (l : Line) (role : Role) (kept : List Bo
 
 abbrev pub CalledLaw : Type 0
 CalledLaw = (s : Setting) (b : Book) (l : Line) (role : Role) (parts : CallParts) (kept : List Bool) → CanBePlaced parts
-    → parts.calling ≡ [] → Kept s b l
+    → Kept s b l
     → let before = end_at role l in let e = finished (begun (called before parts)) in
     Kept s (all_told role e.notes (placed_on role (channel_given before.layer before.layer.phase) parts b))
     (with_event role e kept (coming_to role l) l)

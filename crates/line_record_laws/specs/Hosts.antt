@@ -58,7 +58,7 @@ HostExpiryLaw = (s : Setting) (b : Book) (l : Line) (role : Role) (id : TimerId)
 
 abbrev pub HostCallLaw : Type 0
 HostCallLaw = (s : Setting) (b : Book) (l : Line) (role : Role) (parts : CallParts) (kept : List Bool)
-    → CanBePlaced parts → parts.calling ≡ [] → (end_at role l).notes ≡ [] → Kept s b l
+    → CanBePlaced parts → (end_at role l).notes ≡ [] → Kept s b l
     → let e = end_at role l in
     IsKeptAfter s role (after_call e parts) (placed_on role (channel_given e.layer e.layer.phase) parts b) kept l
 

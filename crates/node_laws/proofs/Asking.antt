@@ -45,7 +45,7 @@ calls_keeps s b l role e address user_data kept digits short h k =
     at_end role l e (λ (x : PacketEnd). KeepsBy s role l kept (host_calls role x parts b)) h
     (λ g. let me : PacketEnd = end_at role l in
     told_keeps s (placed_on role (channel_given me.layer me.layer.phase) parts b) role (Host (after_call me parts)) l kept (coming_to role l) tt
-    (call_kept s b l role parts kept (can_be_placed address user_data digits short) refl g.node.read k))
+    (call_kept s b l role parts kept (can_be_placed address user_data digits short) g.node.read k))
 
 pub asks_keeps : AsksLaw
 asks_keeps s b l role e channel r kept h k =

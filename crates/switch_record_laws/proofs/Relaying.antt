@@ -1,0 +1,197 @@
+-- The records of a join, from the clause of the relay.
+use Rattle.std.specs.Prelude.{◌≡◌, ℕ, suc, ◌⊎◌, Bool, true, false, List, [], ◌∷◌, ◌++◌, length, take, slice_get, Option, Some, None, is_some}
+use Rattle.std.proofs.Common.{inl, inr, refl, sym, ap, ap₂, subst, ◌∙◌, true≢false, append-nil}
+use Rattle.link_timers.specs.declared.role.Role.{Role}
+use Rattle.link_timers.specs.declared.role.Role.TheVariants.{Dte, Dce}
+use Rattle.epochs.specs.Item.{DataPacket, all_items}
+use Rattle.epochs.specs.Epoch.{SentEpoch, TakenEpoch, sent_epoch, taken_epoch, IsPrefixOf}
+use Rattle.epochs.specs.Match.{Match}
+use Rattle.packet_layer.specs.Packets.{Datum}
+use Rattle.packet_layer.specs.Channel.{CallState, Channel, had_call, may_accept, waits_for_call}
+use Rattle.packet_layer.specs.Channel.CallState.{Ready, OwnWaiting, FarWaiting, Transfer, Collision, OwnClear}
+use Rattle.packet_layer.specs.Layer.{Layer, channel_of}
+use Rattle.packet_laws.specs.History.{Epoch, empty_epoch}
+use Rattle.call_records.specs.Records.{RecordValue}
+use Rattle.x25_switch.specs.declared.place.Place.{Place}
+use Rattle.x25_switch.specs.declared.place.Joined.{Joined}
+use Rattle.x25_switch.specs.Lines.{SwitchLine}
+use Rattle.switch_laws.specs.Leg.{Leg}
+use Rattle.switch_laws.specs.Clause.{Carries, Passed, AreCovered, taken_part, sent_part}
+use Rattle.switch_laws.specs.Way.{Way, Holds}
+use Rattle.switch_laws.specs.World.{World, Shown, shown_as, shown_on, shown_at, layers_of, IsWorld, IsAtStart, IsCallLeg}
+use Rattle.switch_laws.specs.Joined.{IsPair, IsJoinedAt, WaitsFor}
+use Rattle.switch_laws.specs.Joined.IsPair.{connected, waiting}
+use Rattle.switch_laws.proofs.Places.{some_there}
+use Rattle.switch_laws.proofs.Relaying.{waits_before}
+use Rattle.switch_record_laws.specs.Records.{sent_of, taken_of, all_sent, all_taken, IsRecordOf, HasRecord, leg_if, call_on, Has}
+use Rattle.switch_record_laws.specs.Written.{Books, HaveRecords}
+use Rattle.switch_record_laws.specs.Relayed.{AreDelivered, IsHandedOn, RelayedTo, AreRelayed}
+use Rattle.switch_record_laws.specs.Relayed.RelayedTo.{none, both, taken_alone, sent_alone}
+use Rattle.switch_record_laws.specs.Joined.{IsPresent, JoinsRecords}
+use Rattle.switch_record_laws.specs.Law.{JoinsLaw, MatchLaw}
+
+-- ---- one epoch
+
+take_first : {X : Type 0} (xs ys : List X) → take (length xs) (xs ++ ys) ≡ xs
+take_first [] [] = refl
+take_first [] (y ∷ ys) = refl
+take_first (x ∷ xs) ys = ap (λ zs. x ∷ zs) (take_first xs ys)
+
+delivered : (count place : ℕ) (ds : List Datum) → AreCovered count place ds → AreDelivered count place ds
+delivered count place [] c = tt
+delivered count place (d ∷ ds) c = (c.0, delivered count (suc place) ds c.1)
+
+handed_on : (n f : Epoch) → Carries (taken_part n) (sent_part f) → IsHandedOn (taken_of n) (sent_of f)
+handed_on n f c = record {
+  packets = c.packets;
+  interrupts = c.interrupts;
+  delivered =
+      subst (λ (ds : List Datum). AreDelivered f.covered 0 ds)
+      (sym (take_first c.out c.kept) ∙ ap₂ (λ (k : ℕ) (ds : List Datum). take k ds) (sym c.released) c.parts)
+      (delivered f.covered 0 c.out c.covered);
+}
+
+-- ---- lists
+
+both_later : (ts : List TakenEpoch) (ss : List SentEpoch) (t : TakenEpoch) (s : SentEpoch) → IsHandedOn t s → RelayedTo ts ss → RelayedTo (ts ++ t ∷ []) (ss ++ s ∷ [])
+both_later ts ss t s h none = both h none
+both_later ts ss t s h (both i r) = both i (both_later _ _ t s h r)
+both_later ts ss t s h (taken_alone p q r) = taken_alone p q (both_later _ _ t s h r)
+both_later ts ss t s h (sent_alone p q r) = sent_alone p q (both_later _ _ t s h r)
+
+taken_later : (ts : List TakenEpoch) (ss : List SentEpoch) (t : TakenEpoch) → t.packets ≡ [] → t.interrupts ≡ [] → RelayedTo ts ss → RelayedTo (ts ++ t ∷ []) ss
+taken_later ts ss t p q none = taken_alone p q none
+taken_later ts ss t p q (both i r) = both i (taken_later _ _ t p q r)
+taken_later ts ss t p q (taken_alone a b r) = taken_alone a b (taken_later _ _ t p q r)
+taken_later ts ss t p q (sent_alone a b r) = sent_alone a b (taken_later _ _ t p q r)
+
+sent_later : (ts : List TakenEpoch) (ss : List SentEpoch) (s : SentEpoch) → s.packets ≡ [] → s.interrupts ≡ [] → RelayedTo ts ss → RelayedTo ts (ss ++ s ∷ [])
+sent_later ts ss s p q none = sent_alone p q none
+sent_later ts ss s p q (both i r) = both i (sent_later _ _ s p q r)
+sent_later ts ss s p q (taken_alone a b r) = taken_alone a b (sent_later _ _ s p q r)
+sent_later ts ss s p q (sent_alone a b r) = sent_alone a b (sent_later _ _ s p q r)
+
+passed : (ns fs : List Epoch) → Passed ns fs → RelayedTo (all_taken ns) (all_sent fs)
+passed [] [] Passed.none = none
+passed (n ∷ ns) (f ∷ fs) (Passed.both c p) = both_later (all_taken ns) (all_sent fs) (taken_of n) (sent_of f) (handed_on n f c) (passed ns fs p)
+passed (n ∷ ns) fs (Passed.near_alone a b p) = taken_later (all_taken ns) (all_sent fs) (taken_of n) a b (passed ns fs p)
+passed ns (f ∷ fs) (Passed.far_alone a b p) = sent_later (all_taken ns) (all_sent fs) (sent_of f) a b (passed ns fs p)
+
+-- ---- a way
+
+way_relayed : (w : Way) (a b : RecordValue) → Holds w → IsRecordOf w.near a → IsRecordOf w.far b → RelayedTo (a.taken_before ++ a.taken ∷ []) (b.sent_before ++ b.sent ∷ [])
+way_relayed w a b h i k =
+    subst (λ (ts : List TakenEpoch). RelayedTo ts (b.sent_before ++ b.sent ∷ [])) (sym (ap₂ (λ (ts : List TakenEpoch) (t : TakenEpoch). ts ++ t ∷ []) i.taken_before i.taken))
+    (subst (λ (ss : List SentEpoch). RelayedTo (all_taken w.near.before ++ taken_of w.near.epoch ∷ []) ss) (sym (ap₂ (λ (ss : List SentEpoch) (s : SentEpoch). ss ++ s ∷ []) k.sent_before k.sent))
+    (both_later (all_taken w.near.before) (all_sent w.far.before) (taken_of w.near.epoch) (sent_of w.far.epoch) (handed_on w.near.epoch w.far.epoch h.direction.carries) (passed w.near.before w.far.before h.passed)))
+
+nothing_on : IsHandedOn (taken_of empty_epoch) (sent_of empty_epoch)
+nothing_on = record { packets = refl; interrupts = refl; delivered = tt }
+
+start_relayed : (g h : Leg) (a b : RecordValue) → IsAtStart g → IsAtStart h → IsRecordOf g a → IsRecordOf h b → RelayedTo (a.taken_before ++ a.taken ∷ []) (b.sent_before ++ b.sent ∷ [])
+start_relayed g h a b s t i k =
+    subst (λ (ts : List TakenEpoch). RelayedTo ts (b.sent_before ++ b.sent ∷ []))
+    (sym (ap₂ (λ (ts : List TakenEpoch) (x : TakenEpoch). ts ++ x ∷ []) (i.taken_before ∙ ap (λ (es : List Epoch). all_taken es) s.before) (i.taken ∙ ap (λ (e : Epoch). taken_of e) s.epoch)))
+    (subst (λ (ss : List SentEpoch). RelayedTo (taken_of empty_epoch ∷ []) ss)
+    (sym (ap₂ (λ (ss : List SentEpoch) (x : SentEpoch). ss ++ x ∷ []) (k.sent_before ∙ ap (λ (es : List Epoch). all_sent es) t.before) (k.sent ∙ ap (λ (e : Epoch). sent_of e) t.epoch)))
+    (both nothing_on none))
+
+-- ---- a join
+
+pair_relayed : (g h : Leg) (j k : Joined) (a b : RecordValue) → IsCallLeg g → IsCallLeg h → IsPair g h j k → IsRecordOf g a → IsRecordOf h b → AreRelayed a b
+pair_relayed g h j k a b ig ih (connected c) i m = record { there = way_relayed _ a b c.there.holds i m; back = way_relayed _ b a c.back.holds m i }
+pair_relayed g h j k a b ig ih (waiting p q w) i m =
+    let z = waits_before j.came_in g h w in
+    let s = ig.start z.0 in let t = ih.start z.1 in
+    record { there = start_relayed g h a b s t i m; back = start_relayed h g b a t s m i }
+
+acceptable : (role : Role) (s : CallState) → may_accept role s ≡ true → had_call s ≡ true
+acceptable role FarWaiting e = refl
+acceptable Dce Collision e = refl
+acceptable Dte Collision e = refl
+acceptable role OwnWaiting e = refl
+acceptable role Transfer e = refl
+acceptable Dte Ready e = absurd (true≢false (sym e))
+acceptable Dce Ready e = absurd (true≢false (sym e))
+acceptable Dte OwnClear e = absurd (true≢false (sym e))
+acceptable Dce OwnClear e = absurd (true≢false (sym e))
+
+waiting_call : (role : Role) (s : CallState) → waits_for_call role s ≡ true → had_call s ≡ true
+waiting_call role OwnWaiting e = refl
+waiting_call Dte Collision e = refl
+waiting_call Dce Collision e = refl
+waiting_call role FarWaiting e = refl
+waiting_call role Transfer e = refl
+waiting_call Dte Ready e = absurd (true≢false (sym e))
+waiting_call Dce Ready e = absurd (true≢false (sym e))
+waiting_call Dte OwnClear e = absurd (true≢false (sym e))
+waiting_call Dce OwnClear e = absurd (true≢false (sym e))
+
+waits_call : (v : Bool) (g h : Leg) → WaitsFor v g h → (had_call g.channel.state ≡ true) × (had_call h.channel.state ≡ true)
+waits_call true g h w = (acceptable g.role g.channel.state w.can_accept, waiting_call h.role h.channel.state w.waits)
+waits_call false g h w = (waiting_call g.role g.channel.state w.waits, acceptable h.role h.channel.state w.can_accept)
+
+pair_call : (g h : Leg) (j k : Joined) → IsPair g h j k → (had_call g.channel.state ≡ true) × (had_call h.channel.state ≡ true)
+pair_call g h j k (connected c) = (ap (λ (s : CallState). had_call s) c.there.holds.near_call, ap (λ (s : CallState). had_call s) c.there.holds.far_call)
+pair_call g h j k (waiting p q w) = waits_call j.came_in g h w
+
+-- the record of a channel that has a call
+record OfLeg (bs : Books) (x : Place) (g : Leg) : Type 0 where
+  it : RecordValue
+  there : IsPresent x.channel it (bs x.line)
+  is_of : IsRecordOf g it
+
+of_record : (bs : Books) (x : Place) (g : Leg) → HasRecord Dce x.channel g (bs x.line) → OfLeg bs x g
+of_record bs x g h = record { it = h.it; there = record { number = h.number; present = h.present; there = h.there; is_open = h.is_of.open_ }; is_of = h.is_of }
+
+found : (ls : List SwitchLine) (w : World) (bs : Books) (x : Place) → IsWorld (layers_of ls) w → HaveRecords (layers_of ls) w bs → is_some (shown_at (layers_of ls) x) ≡ true → had_call (w x).channel.state ≡ true
+    → OfLeg bs x (w x)
+found ls w bs x i h there call = by_layer (slice_get (layers_of ls) x.line) refl
+  where
+    by_channel : (l : Layer) (o : Option Channel) → slice_get (layers_of ls) x.line ≡ Some l → channel_of l x.channel ≡ o → OfLeg bs x (w x)
+    by_channel l None e f = absurd (true≢false (sym there ∙ (ap (λ (y : Option Layer). is_some (shown_on y x.channel)) e ∙ ap (λ (o : Option Channel). is_some (shown_as l o)) f)))
+    by_channel l (Some ch) e f =
+        let a = i x _ (ap (λ (y : Option Layer). shown_on y x.channel) e ∙ ap (λ (o : Option Channel). shown_as l o) f) in
+        let has : Has Dce x.channel (leg_if (had_call ch.state) (w x)) (bs x.line) = subst (λ (o : Option Channel). Has Dce x.channel (call_on o (w x)) (bs x.line)) f ((h x.line l e).has x.channel) in
+        of_record bs x (w x) (subst (λ (v : Bool). Has Dce x.channel (leg_if v (w x)) (bs x.line)) (ap (λ (s : Shown). had_call s.channel.state) a.shown ∙ call) has)
+
+    by_layer : (o : Option Layer) → slice_get (layers_of ls) x.line ≡ o → OfLeg bs x (w x)
+    by_layer None e = absurd (true≢false (sym there ∙ ap (λ (y : Option Layer). is_some (shown_on y x.channel)) e))
+    by_layer (Some l) e = by_channel l (channel_of l x.channel) e refl
+
+pub joins_relay : JoinsLaw
+joins_relay ls w bs i h p j e = by_pair k.pair
+  where
+    k : IsJoinedAt 0 [] ls w p j
+    k = i.joined p j e
+
+    q_there : is_some (shown_at (layers_of ls) j.other) ≡ true
+    q_there = (i.joined j.other k.other k.joined).there
+
+    leg : (x : Place) → is_some (shown_at (layers_of ls) x) ≡ true → IsCallLeg (w x)
+    leg x t = let s = some_there (shown_at (layers_of ls) x) t in (i.world x s.0 s.1).leg
+
+    of_pair : IsPair (w p) (w j.other) j k.other → JoinsRecords bs p j.other
+    of_pair c =
+        let calls = pair_call (w p) (w j.other) j k.other c in
+        let a = found ls w bs p i.world h k.there calls.0 in
+        let b = found ls w bs j.other i.world h q_there calls.1 in
+        record { near = a.it; far = b.it; near_there = a.there; far_there = b.there; relayed = pair_relayed (w p) (w j.other) j k.other a.it b.it (leg p k.there) (leg j.other q_there) c a.is_of b.is_of }
+
+    by_pair : IsPair (w p) (w j.other) j k.other ⊎ (⊥ ⊎ ⊥) → JoinsRecords bs p j.other
+    by_pair (inl c) = of_pair c
+    by_pair (inr z) = elim z [ inl y ↦ absurd y | inr y ↦ absurd y ]
+
+-- ---- matching
+
+same_prefix : (t : TakenEpoch) (s : SentEpoch) → IsHandedOn t s → IsPrefixOf (sent_epoch s) (taken_epoch t)
+same_prefix t s h = record {
+  items = record { rest = []; whole = append-nil (all_items s.packets) ∙ ap (λ (ps : List DataPacket). all_items ps) h.packets };
+  interrupts = record { rest = []; whole = append-nil s.interrupts ∙ h.interrupts };
+}
+
+pub relayed_match : MatchLaw
+relayed_match [] [] none = Match.nothing
+relayed_match (t ∷ ts) (s ∷ ss) (both h r) = Match.join (same_prefix t s h) (relayed_match ts ss r)
+relayed_match (t ∷ ts) ss (taken_alone p q r) = Match.skip (relayed_match ts ss r)
+relayed_match ts (s ∷ ss) (sent_alone p q r) = Match.drop_empty (record { items = ap (λ (ps : List DataPacket). all_items ps) p; interrupts = q }) (relayed_match ts ss r)

@@ -1,0 +1,149 @@
+-- The steps of each event of a switch.
+use Rattle.std.specs.Prelude.{ℕ, zero, suc, ◌*◌, if◌then◌else◌, List, [], ◌∷◌, ◌++◌, length, slice_get, Option}
+use Rattle.std.specs.Prelude.{Some, None}
+use Rattle.std.specs.Prelude.{true, false}
+use Rattle.std.specs.List.{list_any}
+use Rattle.packet_codec.specs.Diagnostic.{no_information}
+use Rattle.packet_layer.specs.Packets.{CallParts, Note}
+use Rattle.packet_layer.specs.Packets.Note.{Incoming, Connected, Closed, WasReset, InterruptConfirmed, Covered}
+use Rattle.packet_layer.specs.Traffic.{Taken}
+use Rattle.packet_layer.specs.Channel.{Refusal}
+use Rattle.packet_layer.specs.Channel.Request.{Accept, Clearing, Resetting, Taking, Releasing, Confirming}
+use Rattle.address_routes.specs.Routes.{RouteMap}
+use Rattle.x25_switch.specs.Direction.{Direction, new_direction, releasable, released, covered_by, carried_by}
+use Rattle.x25_switch.specs.Direction.{request_for}
+use Rattle.x25_switch.specs.Causes.{reset_cause, clear_cause, far_diagnostic}
+use Rattle.x25_switch.specs.declared.place.Place.{Place}
+use Rattle.x25_switch.specs.declared.place.Joined.{Joined}
+use Rattle.x25_switch.specs.Lines.{SwitchLine, changed, joined_at, places, front_at, refusal_at}
+use Rattle.x25_switch.specs.Relay.{moved, relayed, all_relayed}
+use Rattle.x25_switch.specs.Switch.{Answer, answer, forwarded, heed, notes_of, with_end, quieted, acted, to_relink}
+use Rattle.x25_switch.specs.Switch.{relinked_at, all_relinked, may_offer, offered_from, all_begun}
+use Rattle.x25_switch.specs.Switch.Answer.{Clears, Joins}
+use Rattle.switch_record_laws.specs.Steps.{Happening, does, Step, lines_after}
+use Rattle.switch_record_laws.specs.Steps.Happening.{Relinks}
+use Rattle.switch_record_laws.specs.Steps.Step.{Asks, Places, Keeps, Happens, Offers, Begins, Settles}
+
+-- ---- relay
+
+abbrev pub freed_steps : Place → Joined → Direction → List Step
+freed_steps p j v = Asks p (Releasing (releasable v.held)) ∷ Keeps p (Some (record j { kept = released v })) ∷ []
+
+abbrev pub moved_unless_steps : Option Refusal → Taken → Place → Joined → List Step
+moved_unless_steps None t p j = Asks p Taking ∷ Asks j.other (request_for t) ∷ freed_steps p j (carried_by t j.kept)
+moved_unless_steps (Some r) t p j = []
+
+abbrev pub moved_front_steps : Option Taken → Place → Joined → List SwitchLine → List Step
+moved_front_steps None p j ls = []
+moved_front_steps (Some t) p j ls = moved_unless_steps (refusal_at ls j.other (request_for t)) t p j
+
+abbrev pub moved_joined_steps : Option Joined → Place → List SwitchLine → List Step
+moved_joined_steps None p ls = []
+moved_joined_steps (Some j) p ls = moved_front_steps (front_at ls p) p j ls
+
+abbrev pub relayed_steps : (most : ℕ) → Place → List SwitchLine → List Step
+relayed_steps zero p ls = []
+relayed_steps (suc most) p ls = moved_joined_steps (joined_at ls p) p ls ++ relayed_steps most p (moved p ls)
+
+abbrev pub relayed_from_steps : List Place → List SwitchLine → List Step
+relayed_from_steps [] ls = []
+relayed_from_steps (p ∷ ps) ls = relayed_steps 8 p ls ++ relayed_from_steps ps (relayed 8 p ls)
+
+abbrev pub all_relayed_steps : List SwitchLine → List Step
+all_relayed_steps ls = relayed_from_steps (places ls) ls
+
+-- ---- notes
+
+abbrev pub anew_steps : Option Joined → Place → List Step
+anew_steps None p = []
+anew_steps (Some j) p = Keeps p (Some (record j { kept = new_direction })) ∷ []
+
+abbrev pub covered_steps : ℕ → Option Joined → Place → List Step
+covered_steps n None p = []
+covered_steps n (Some j) p = freed_steps p j (covered_by n j.kept)
+
+abbrev pub told_joined_steps : Note → Place → Joined → List SwitchLine → List Step
+told_joined_steps (Connected c) p j ls = Asks j.other Accept ∷ []
+told_joined_steps (Closed c cause diagnostic reason) p j ls =
+    Keeps p None ∷ Keeps j.other None
+    ∷ Asks j.other (Clearing (clear_cause reason cause) (far_diagnostic reason diagnostic)) ∷ []
+told_joined_steps (WasReset c cause diagnostic reason) p j ls =
+    Asks j.other (Resetting (reset_cause reason cause) (far_diagnostic reason diagnostic))
+    ∷ (anew_steps (Some j) p ++ anew_steps (joined_at ls j.other) j.other)
+told_joined_steps (InterruptConfirmed c) p j ls = Asks j.other Confirming ∷ []
+told_joined_steps (Covered c n) p j ls = covered_steps n (joined_at ls j.other) j.other
+told_joined_steps _ p j ls = []
+
+abbrev pub told_steps : Option Joined → Note → Place → List SwitchLine → List Step
+told_steps None n p ls = []
+told_steps (Some j) n p ls = told_joined_steps n p j ls
+
+abbrev pub answered_steps : Answer → Place → CallParts → List SwitchLine → List Step
+answered_steps (Clears cause) p parts ls = Asks p (Clearing cause no_information) ∷ []
+answered_steps (Joins q) p parts ls =
+    Places q.line (forwarded ls p.line parts)
+    ∷ Keeps p (Some (record { other = q; came_in = true; kept = new_direction }))
+    ∷ Keeps q (Some (record { other = p; came_in = false; kept = new_direction })) ∷ []
+
+abbrev pub on_channel : (line channel : ℕ) → Note → List SwitchLine → List Step
+on_channel n c note ls =
+    told_steps (joined_at ls (record { line = n; channel = c })) note (record { line = n; channel = c }) ls
+
+abbrev pub heed_steps : RouteMap → (line : ℕ) → Note → List SwitchLine → List Step
+heed_steps routes n (Incoming c parts) ls =
+    answered_steps (answer routes ls parts) (record { line = n; channel = c }) parts ls
+heed_steps routes n (Connected c) ls = on_channel n c (Connected c) ls
+heed_steps routes n (Closed c cause diagnostic reason) ls = on_channel n c (Closed c cause diagnostic reason) ls
+heed_steps routes n (WasReset c cause diagnostic reason) ls = on_channel n c (WasReset c cause diagnostic reason) ls
+heed_steps routes n (InterruptConfirmed c) ls = on_channel n c (InterruptConfirmed c) ls
+heed_steps routes n (Covered c count) ls = on_channel n c (Covered c count) ls
+
+abbrev pub heed_all_steps : RouteMap → (line : ℕ) → List Note → List SwitchLine → List Step
+heed_all_steps routes n [] ls = []
+heed_all_steps routes n (x ∷ xs) ls = heed_steps routes n x ls ++ heed_all_steps routes n xs (heed routes n x ls)
+
+-- ---- what happens at the end of a line, with its notes
+
+abbrev pub acted_steps : RouteMap → (line : ℕ) → Happening → List SwitchLine → List Step
+acted_steps routes n what ls =
+    Happens n what
+    ∷ heed_all_steps routes n (notes_of (slice_get (changed n (with_end (λ e. does what (quieted e))) ls) n))
+    (lines_after (Happens n what) ls)
+
+abbrev pub relinked_steps : Option ℕ → RouteMap → List SwitchLine → List Step
+relinked_steps None routes ls = []
+relinked_steps (Some n) routes ls = acted_steps routes n Relinks ls
+
+abbrev pub all_relinked_steps : (most : ℕ) → RouteMap → List SwitchLine → List Step
+all_relinked_steps zero routes ls = []
+all_relinked_steps (suc most) routes ls =
+    relinked_steps (to_relink ls) routes ls
+    ++ all_relinked_steps most routes (relinked_at (to_relink ls) routes ls)
+
+-- ---- rounds
+
+abbrev pub offered_steps : (count line : ℕ) → List Step
+offered_steps zero n = []
+offered_steps (suc count) n = Offers n ∷ offered_steps count (suc n)
+
+abbrev pub rounds_steps : (most : ℕ) → List SwitchLine → List Step
+rounds_steps zero ls = all_relayed_steps ls
+rounds_steps (suc most) ls =
+    all_relayed_steps ls
+    ++ (if list_any may_offer (all_relayed ls)
+    then offered_steps (length ls) 0 ++ rounds_steps most (offered_from (length ls) 0 (all_relayed ls))
+    else [])
+
+abbrev pub finished_steps : RouteMap → List SwitchLine → List Step
+finished_steps routes ls =
+    all_relinked_steps (length ls) routes ls
+    ++ (rounds_steps (7 * length (all_relinked (length ls) routes ls)) (all_relinked (length ls) routes ls)
+    ++ Settles ∷ [])
+
+-- ---- events
+
+abbrev pub event_steps : RouteMap → (line : ℕ) → Happening → List SwitchLine → List Step
+event_steps routes n what ls =
+    Begins
+    ∷ (acted_steps routes n what (all_begun ls)
+    ++ finished_steps routes (acted routes n (does what) (all_begun ls)))

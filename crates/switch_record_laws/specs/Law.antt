@@ -1,0 +1,95 @@
+-- What holds of the books of a switch's lines, whatever its partners send.
+use Rattle.std.specs.Prelude.{◌≡◌, ℕ, false, List, map, Some}
+use Rattle.link_timers.specs.declared.role.Role.{Role}
+use Rattle.link_timers.specs.Role.{other_of}
+use Rattle.link_timers.specs.declared.timers.TimerId.{TimerId}
+use Rattle.epochs.specs.Epoch.{sent_epoch, taken_epoch, SentEpoch, TakenEpoch}
+use Rattle.epochs.specs.Match.{Match}
+use Rattle.packet_layer.specs.Layer.{Layer, made}
+use Rattle.packet_laws.specs.Line as layers
+use Rattle.packet_laws.specs.Line.{Event}
+use Rattle.packet_laws.specs.Readable.{Every}
+use Rattle.call_records.specs.Records.{RecordValue}
+use Rattle.call_records.specs.Book.{Book, made_book}
+use Rattle.book_laws.specs.Told.{written}
+use Rattle.x25_switch.specs.declared.place.Place.{Place}
+use Rattle.x25_switch.specs.declared.place.Joined.{Joined}
+use Rattle.x25_switch.specs.Lines.{SwitchLine, joined_at}
+use Rattle.x25_switch.specs.Switch.{Switch, on_frame, on_timer, restart, elapse}
+use Rattle.switch_laws.specs.Turn.{AreOctets}
+use Rattle.switch_laws.specs.Leg.{Leg}
+use Rattle.switch_laws.specs.World.{World, IsWorld, Act, MayHappen, layers_of, after_acts, world_after_all, closed}
+use Rattle.switch_laws.specs.Joined.{IsSwitch, Reached}
+use Rattle.switch_record_laws.specs.Records.{AreRecords}
+use Rattle.switch_record_laws.specs.Written.{Books, books_after_all, HaveRecords, restarted_books}
+use Rattle.switch_record_laws.specs.Relayed.{RelayedTo}
+use Rattle.switch_record_laws.specs.Rests.{Rests}
+use Rattle.switch_record_laws.specs.Joined.{JoinsRecords}
+
+-- ---- the making
+
+-- on a line without a standing call no channel has a record
+abbrev pub MadeLaw : Type 0
+MadeLaw = (role : Role) (channels window dte_node dce_node : ℕ) (legs : ℕ → Leg)
+    → AreRecords role (made role channels window false) legs (made_book dte_node dce_node channels false)
+
+-- ---- acts
+
+-- acts that move the legs move the books, so that the present records are the legs
+abbrev pub ActsLaw : Type 0
+ActsLaw = (acts : List Act) (ys : List Layer) (w : World) (bs : Books) → Every MayHappen acts → IsWorld ys w
+    → HaveRecords ys w bs
+    → HaveRecords (after_acts acts ys) (world_after_all acts ys w) (books_after_all acts ys bs)
+
+-- what is written at the other end of a line leaves the records of this end as they are
+abbrev pub PartnerLaw : Type 0
+PartnerLaw = (role : Role) (l : Layer) (legs : ℕ → Leg) (b : Book) (event : Event) (v : layers.Line)
+    → AreRecords role l legs b
+    → AreRecords role l legs (written (other_of role) event v b)
+
+-- a record that is of no present call stays as it is, whatever is written at an end of its line
+abbrev pub RestLaw : Type 0
+RestLaw = (role : Role) (event : Event) (v : layers.Line) (n : ℕ) (r : RecordValue) (b : Book) → Rests n r b
+    → Rests n r (written role event v b)
+
+abbrev pub RestsLaw : Type 0
+RestsLaw = (acts : List Act) (ys : List Layer) (bs : Books) (line n : ℕ) (r : RecordValue) → Rests n r (bs line)
+    → Rests n r (books_after_all acts ys bs line)
+
+-- ---- joins
+
+abbrev pub JoinsLaw : Type 0
+JoinsLaw = (ls : List SwitchLine) (w : World) (bs : Books) → IsSwitch ls w → HaveRecords (layers_of ls) w bs
+    → (p : Place) (j : Joined) → joined_at ls p ≡ Some j → JoinsRecords bs p j.other
+
+-- what was handed on matches what was taken
+abbrev pub MatchLaw : Type 0
+MatchLaw = (taken : List TakenEpoch) (sent : List SentEpoch) → RelayedTo taken sent
+    → Match (map sent_epoch sent) (map taken_epoch taken)
+
+-- ---- events of a switch
+
+-- acts move the switch, its legs and its books to a switch whose joins hold and whose present records are its legs
+pub record Goes (ls : List SwitchLine) (w : World) (bs : Books) (ms : List SwitchLine) : Type 0 where
+  pub world : World
+  pub reached : Reached ls w ms world
+  pub right : IsSwitch ms world
+  pub records : HaveRecords (layers_of ms) world (books_after_all reached.acts (layers_of ls) bs)
+
+abbrev pub FrameLaw : Type 0
+FrameLaw = (n : ℕ) (octets : List ℕ) (s : Switch) (w : World) (bs : Books) → AreOctets octets
+    → IsSwitch s.lines w → HaveRecords (layers_of s.lines) w bs
+    → Goes s.lines w bs (on_frame n octets s).lines
+
+abbrev pub TimerLaw : Type 0
+TimerLaw = (n : ℕ) (id : TimerId) (s : Switch) (w : World) (bs : Books) → IsSwitch s.lines w
+    → HaveRecords (layers_of s.lines) w bs → Goes s.lines w bs (on_timer n id s).lines
+
+abbrev pub ElapseLaw : Type 0
+ElapseLaw = (ticks : ℕ) (s : Switch) (w : World) (bs : Books) → IsSwitch s.lines w
+    → HaveRecords (layers_of s.lines) w bs → Goes s.lines w bs (elapse ticks s).lines
+
+-- a restart of the switch closes all calls
+abbrev pub RestartLaw : Type 0
+RestartLaw = (s : Switch) (w : World) (bs : Books) → HaveRecords (layers_of s.lines) w bs
+    → HaveRecords (layers_of (restart s).lines) (λ x. closed (w x)) (restarted_books (layers_of s.lines) bs)

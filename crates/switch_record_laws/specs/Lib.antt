@@ -1,0 +1,11 @@
+pub mod Records
+pub mod Written
+pub mod Relayed
+pub mod Rests
+pub mod Joined
+pub mod Opened
+pub mod Steps
+pub mod Events
+pub mod Kept
+pub mod Law
+pub mod Run

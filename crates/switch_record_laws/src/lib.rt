@@ -1,0 +1,66 @@
+//! The legs of a switch's calls are the present records of its lines' books.
+#![tactic(auto)]
+
+ghost use Rattle.switch_record_laws.specs.Law.{MadeLaw, ActsLaw, PartnerLaw, RestLaw, RestsLaw, JoinsLaw, MatchLaw};
+ghost use Rattle.switch_record_laws.specs.Law.{FrameLaw, TimerLaw, ElapseLaw, RestartLaw};
+ghost use Rattle.switch_record_laws.specs.Kept.{StepsLaw, FrameKeptLaw, TimerKeptLaw, ElapseKeptLaw, RestartKeptLaw};
+ghost use Rattle.switch_record_laws.specs.Kept.{OutLaw, LeadsLaw, LegsLaw};
+ghost use Rattle.switch_record_laws.specs.Opened.{ComesLaw, PlacesLaw, HeadLaw, HeadsLaw};
+ghost use Rattle.switch_record_laws.specs.Run.{RunLaw};
+
+/// What a switch does at its end of a line is written in the line's book, so that the present record of each channel
+/// has the epochs of its leg, reset by reset: the packets and interrupts sent and taken, and how many of them were
+/// covered and released. What is written at the other end changes none of these records (X.25 4).
+pub fn leg_record_law()
+    ensures made { MadeLaw }
+    ensures acts { ActsLaw }
+    ensures partner { PartnerLaw }
+
+    // A record that is of no present call stays as it is.
+    ensures rest { RestLaw }
+    ensures rests { RestsLaw }
+
+    // A new record has the addresses of its call, and no record changes them.
+    ensures comes { ComesLaw }
+    ensures places { PlacesLaw }
+    ensures head { HeadLaw }
+    ensures heads { HeadsLaw }
+{}
+
+/// So the two records of a join have, epoch by epoch, what the switch handed on: what it sent on one leg is what it
+/// took on the other, and of the packets that it released each with D = 1 was covered there. What is sent matches
+/// what was taken (X.25 4.3.3, 4.4.3).
+pub fn join_record_law()
+    ensures joins { JoinsLaw }
+    ensures matches { MatchLaw }
+{}
+
+/// The same of whole events of a switch, whatever octets come on its lines: the acts that lead to the switch after the
+/// event, all of whose joins hold, write the books, whose present records are its legs.
+pub fn switch_record_law()
+    ensures frames { FrameLaw }
+    ensures timers { TimerLaw }
+    ensures elapses { ElapseLaw }
+    ensures restarts { RestartLaw }
+{}
+
+/// The law of each line of a switch, which is its DCE, whatever its partners are: what is kept of a line and of its
+/// book is kept over each event of the switch, with the book that the acts of the event write. The same acts move the
+/// legs.
+pub fn kept_lines_law()
+    ensures frames { FrameKeptLaw }
+    ensures timers { TimerKeptLaw }
+    ensures elapses { ElapseKeptLaw }
+    ensures restarts { RestartKeptLaw }
+    ensures out { OutLaw }
+
+    // Each event is a list of steps at the ends of the lines, and these are acts of their packet layers.
+    ensures steps { StepsLaw }
+    ensures leads { LeadsLaw }
+    ensures legs { LegsLaw }
+{}
+
+/// A call through a switch of two lines: a packet with D = 1 that is confirmed, and a reset.
+pub fn run_record_law()
+    ensures { RunLaw }
+{}
