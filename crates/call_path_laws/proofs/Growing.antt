@@ -86,6 +86,7 @@ module _ (plan : Plan) (os : List Origin) (js : List Join) (ps : List Origin) (k
     to_there = x.origins b j.to j.to_there;
     to_switch = j.to_switch;
     placed = j.placed;
+    one_switch = j.one_switch;
     order = j.order;
   }
 

@@ -1,8 +1,9 @@
 -- What the register promises where the lines and the joins hold.
-use Rattle.std.proofs.Common.{◌≡◌, ℕ, zero, suc, ◌+◌, ◌<◌, ◌≤◌, ◌⊎◌, inl, inr, true, false, List, length, Option, Some, None, refl, sym, ap, subst, ◌∙◌, arith}
+use Rattle.std.proofs.Common.{◌≡◌, ℕ, zero, suc, ◌+◌, ◌<◌, ◌≤◌, ◌⊎◌, inl, inr, true, List, length, Option, Some, None, refl, sym, ap, subst, ◌∙◌, arith}
 use Rattle.std.specs.Prelude.{slice_get, map, [], ◌∷◌, ◌++◌}
 use Rattle.std.proofs.lemmas.Bool.{cases_Bool}
 use Rattle.std.proofs.lemmas.Option.{none-some, same_Some, slice_get_within}
+use Rattle.link_timers.specs.declared.role.Role.{Role}
 use Rattle.link_timers.specs.declared.role.Role.TheVariants.{Dte, Dce}
 use Rattle.link_timers.specs.Role.{other_of}
 use Rattle.epochs.specs.Confirmed.{Confirms}
@@ -19,11 +20,18 @@ use Rattle.register_laws.proofs.Steps.{same_place}
 use Rattle.call_path_laws.specs.World.{Origin, World, Plan}
 use Rattle.call_path_laws.specs.Seen.{kind, numbers, CameFrom, Way, Begins, JoinIsSeen, PairIsSeen, PairCame, Seen}
 use Rattle.call_path_laws.specs.Seen.Way.{here, onward}
-use Rattle.call_path_laws.specs.Promise.{Arrives, PathHolds, PathsHold, CallsHold, JoinsHold, JoinHolds, sent_by, taken_by}
-use Rattle.call_path_laws.specs.Promise.Arrives.{direct, switched}
+use Rattle.call_path_laws.specs.Promise.{IsPlacedAt, PathHolds, PathsHold, CallsHold, JoinsHold, JoinHolds, sent_by, taken_by}
+use Rattle.call_path_laws.specs.Promise.IsPlacedAt.{by_caller, by_switch}
 use Rattle.call_path_laws.specs.Law.{PromiseLaw}
-use Rattle.call_path_laws.proofs.Ways.{from_first, from_last, one_callee, one_first, numbered_user, kind_user}
+use Rattle.call_path_laws.proofs.Ways.{along, from_first, one_callee, one_first, numbered_user, kind_user}
 use Rattle.call_path_laws.proofs.Carrying.{line_confirms, Carried, CarriedTo, carried_along, all_confirmed, all_match, empty_of_empty, took_nothing, are_empty}
+
+-- the number of the caller's record does not matter
+placed_like : {plan : Plan} {c : RecordValue} {line : ℕ} {role : Role} → IsPlacedAt plan c line role → (r : RecordValue) → r.node ≡ c.node → r.far ≡ c.far
+    → IsPlacedAt plan r line role
+placed_like (by_caller e) r node far = by_caller (node ∙ e)
+placed_like {plan} {line = line} {role = role} (by_switch from end p same switch routed) r node far =
+    by_switch from end (placed_like p r node far) same switch (routed ∙ ap (λ (d : Option (List ℕ)). plan.route (plan.node line role) d) (sym far))
 
 module _ (plan : Plan) (w : World) (s : Seen plan w) where
   -- the pair of the whole register whose callee is a user's, in the register
@@ -116,25 +124,27 @@ module _ (plan : Plan) (w : World) (s : Seen plan w) (calls : CallsHold w) (join
       let next = j.order in
       omega arith
 
-  arrives : (o : Origin) (x y b : ℕ) (first last : RecordValue) → slice_get w.origins y ≡ Some o → o.caller ≡ Some b → Way w.origins w.joins x b
-      → slice_get w.whole.records b ≡ Some last → Carried first last → slice_get w.whole.records x ≡ Some first → Arrives plan o.line o.role first
-  arrives o x y b first last there came way at carried first_there =
-      let before : slice_get w.origins b ≡ Some (record { line = o.line; role = other_of o.role; caller = None }) = s.records.callers y b o there came in
-      let node : last.node ≡ plan.node o.line (other_of o.role) = s.records.nodes b (record { line = o.line; role = other_of o.role; caller = None }) last before at in
-      elim (from_last w.origins w.joins x b way) [
-        | inl e ↦
-            let same : first ≡ last = same_Some first last (sym first_there ∙ ap (λ (i : ℕ). slice_get w.whole.records i) e ∙ at) in
-            direct (ap (λ (r : RecordValue). r.node) same ∙ node)
-        | inr hop ↦
-            let j : JoinIsSeen plan w.origins hop.callee b = s.records.joined hop.callee b hop.is_joined in
-            let r : JoinHolds plan w hop.callee b = joins.joins hop.callee b hop.is_joined in
-            let origin : j.to ≡ record { line = o.line; role = other_of o.role; caller = None } = same_Some j.to (record { line = o.line; role = other_of o.role; caller = None }) (sym j.to_there ∙ before) in
-            let same : r.to ≡ last = same_Some r.to last (sym r.to_there ∙ at) in
-            let switch : plan.has_user o.line (other_of o.role) ≡ false = ap (λ (z : Origin). plan.has_user z.line z.role) (sym origin) ∙ j.to_switch in
-            let routed : o.line ≡ plan.route r.to.node r.to.far = r.routed (record { line = o.line; role = other_of o.role; caller = None }) before in
-            switched switch (routed ∙ ap (λ (z : RecordValue). plan.route z.node z.far) same
-            ∙ ap (λ (n : ℕ). plan.route n last.far) node ∙ ap (λ (a : Option (List ℕ)). plan.route (plan.node o.line (other_of o.role)) a) carried.far)
-      ]
+  -- the record of each end on the way is where the call was placed
+  placed_at : (x b : ℕ) → Way w.origins w.joins x b → (first : RecordValue) → slice_get w.whole.records x ≡ Some first
+      → (o : Origin) → slice_get w.origins b ≡ Some o → IsPlacedAt plan first o.line o.role
+  placed_at = along w.origins w.joins
+      (λ x b. (first : RecordValue) → slice_get w.whole.records x ≡ Some first → (o : Origin) → slice_get w.origins b ≡ Some o → IsPlacedAt plan first o.line o.role)
+      (λ x first there o at. by_caller (s.records.nodes x o first at there))
+      (λ x y a b way before came joined first there o at.
+      let j : JoinIsSeen plan w.origins a b = s.records.joined a b joined in
+      let r : JoinHolds plan w a b = joins.joins a b joined in
+      let to : j.to ≡ o = same_Some j.to o (sym j.to_there ∙ at) in
+      let from : came.origin ≡ j.from = same_Some came.origin j.from (sym came.there ∙ j.from_there) in
+      let origin : slice_get w.origins y ≡ Some (record { line = j.from.line; role = other_of j.from.role; caller = None }) =
+      s.records.callers a y j.from j.from_there (ap (λ (p : Origin). p.caller) (sym from) ∙ came.came) in
+      let c : CarriedTo w first b = carried_along plan w calls joins x b (onward a b way came joined) first there in
+      let same : r.to ≡ c.record_ = same_Some r.to c.record_ (sym r.to_there ∙ c.there) in
+      let node : r.to.node ≡ plan.node o.line o.role = s.records.nodes b o r.to at r.to_there in
+      by_switch j.from.line j.from.role (before first there (record { line = j.from.line; role = other_of j.from.role; caller = None }) origin)
+      (j.one_switch ∙ ap (λ (p : Origin). plan.node p.line p.role) to)
+      (ap (λ (p : Origin). plan.has_user p.line p.role) (sym to) ∙ j.to_switch)
+      (r.routed o at ∙ ap (λ (n : ℕ). plan.route n r.to.far) node
+      ∙ ap (λ (d : Option (List ℕ)). plan.route (plan.node o.line o.role) d) (ap (λ (q : RecordValue). q.far) same ∙ c.carried.far)))
 
   pair_holds : (q : ℕ) (pair : PairValue) → slice_get w.register.pairs q ≡ Some pair → PathHolds plan w.register pair
   pair_holds q pair at =
@@ -178,14 +188,11 @@ module _ (plan : Plan) (w : World) (s : Seen plan w) (calls : CallsHold w) (join
           line = p.came.origin.line;
           role = p.came.origin.role;
           node = s.records.nodes y p.came.origin (renumbered y to.value) p.came.there to.seen_there;
-          arrives = node_blind from.value x p.came.origin
-              (arrives p.came.origin x y p.whole.caller (renumbered x from.value) h.caller p.came.there p.came.came p.caller.way h.caller_there carried from.seen_there);
+          placed = placed_like
+              (placed_at x p.whole.caller p.caller.way (renumbered x from.value) from.seen_there (record { line = p.came.origin.line; role = other_of p.came.origin.role; caller = None })
+              (s.records.callers y p.whole.caller p.came.origin p.came.there p.came.came)) from.value refl refl;
         };
       }
-    where
-      node_blind : (r : RecordValue) (x : ℕ) (o : Origin) → Arrives plan o.line o.role (renumbered x r) → Arrives plan o.line o.role r
-      node_blind r x o (direct e) = direct e
-      node_blind r x o (switched u e) = switched u e
 
   -- ---- numbers and nodes
 

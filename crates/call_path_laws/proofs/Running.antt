@@ -60,6 +60,7 @@ may_all = (
       record {
         from_end = record { there = zero_two; switch = refl };
         to_end = record { there = one_two; switch = refl };
+        one_switch = refl;
         came_in = 1;
         caller = 0;
         present = refl;
@@ -105,6 +106,7 @@ may_all = (
                                           record {
                                             from_end = record { there = zero_two; switch = refl };
                                             to_end = record { there = one_two; switch = refl };
+                                            one_switch = refl;
                                             came_in = 5;
                                             caller = 4;
                                             present = refl;

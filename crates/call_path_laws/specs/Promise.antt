@@ -33,15 +33,18 @@ pub record PathMatches (caller callee : RecordValue) : Type 0 where
   pub onward_confirmed : Confirms (all_taken_by callee) (sent_by caller)
   pub backward_confirmed : Confirms (all_taken_by caller) (sent_by callee)
 
--- the end that called is the other one of the callee's line; or a switch has that end, and sent the call to this line
--- since its route for the called address names it
-pub data Arrives (plan : Plan) (line : ℕ) (role : Role) (caller : RecordValue) : Type 0 where
-  direct : caller.node ≡ plan.node line (other_of role) → Arrives plan line role caller
-  switched : plan.has_user line (other_of role) ≡ false
-      → line ≡ plan.route (plan.node line (other_of role)) caller.far → Arrives plan line role caller
+-- the call was placed at this end of a line: by the caller itself, or by a switch, at another of whose ends it came in,
+-- and whose route for the called address names this line
+pub data IsPlacedAt : Plan → (caller : RecordValue) → (line : ℕ) → Role → Type 0 where
+  by_caller : {plan : Plan} {caller : RecordValue} {line : ℕ} {role : Role} → caller.node ≡ plan.node line role
+      → IsPlacedAt plan caller line role
+  by_switch : {plan : Plan} {caller : RecordValue} {line : ℕ} {role : Role} (from : ℕ) (end : Role)
+      → IsPlacedAt plan caller from (other_of end) → plan.node from end ≡ plan.node line role
+      → plan.has_user line role ≡ false → line ≡ plan.route (plan.node line role) caller.far
+      → IsPlacedAt plan caller line role
 
 -- the caller's record was made first; the callee's own address is the one that was called, and the far one is the
--- caller's own; the callee is at the end of a line at which the call arrives
+-- caller's own; the callee is at an end of a line at whose other end the call was placed
 pub record PathIsRight (plan : Plan) (caller callee : RecordValue) : Type 0 where
   pub order : caller.number < callee.number
   pub own : callee.own ≡ caller.far
@@ -49,7 +52,7 @@ pub record PathIsRight (plan : Plan) (caller callee : RecordValue) : Type 0 wher
   pub line : ℕ
   pub role : Role
   pub node : callee.node ≡ plan.node line role
-  pub arrives : Arrives plan line role caller
+  pub placed : IsPlacedAt plan caller line (other_of role)
 
 pub record PathHolds (plan : Plan) (g : Register) (pair : PairValue) : Type 0 where
   pub caller : RecordValue

@@ -87,6 +87,7 @@ pub record JoinIsSeen (plan : Plan) (origins : List Origin) (a b : ℕ) : Type 0
   pub to_there : slice_get origins b ≡ Some to
   pub to_switch : plan.has_user to.line to.role ≡ false
   pub placed : to.caller ≡ None
+  pub one_switch : plan.node from.line from.role ≡ plan.node to.line to.role
   pub order : a < b
 
 pub record RecordsAreSeen (plan : Plan) (origins : List Origin) (joins : List Join) (seen whole : List RecordValue)

@@ -127,10 +127,11 @@ pub record IsSwitchEnd (plan : Plan) (line : ℕ) (role : Role) (w : World) : Ty
   pub there : line < length w.whole.lines
   pub switch : plan.has_user line role ≡ false
 
--- a call is joined as it comes in: the end that placed it placed none since, and no join has it yet
+-- a switch joins a call as it comes in: the end that placed it placed none since, and no join has it yet
 pub record MayJoin (plan : Plan) (from to : Place) (w : World) : Type 0 where
   pub from_end : IsSwitchEnd plan from.line from.role w
   pub to_end : IsSwitchEnd plan to.line to.role w
+  pub one_switch : plan.node from.line from.role ≡ plan.node to.line to.role
   pub came_in : ℕ
   pub caller : ℕ
   pub present : (slot_at from.role from.channel (book_at from.line w.whole)).present ≡ Some came_in
