@@ -3,6 +3,8 @@
 
 ghost use Rattle.epochs.specs.Laws.{IsReflexive, IsTransitive, IsKeptByGrowth, IsKeptByOpening, IsKeptByBothOpening};
 ghost use Rattle.epochs.specs.Laws.{AlignedListsMatch, HasRisingPlaces};
+ghost use Rattle.epochs.specs.ConfirmedLaws.{ConfirmsItself, ConfirmsOnward, AlignedListsConfirm, NothingConfirms};
+ghost use Rattle.epochs.specs.ConfirmedLaws.{ConfirmedIsTaken, ConfirmsIsMatch, RelayConfirms};
 
 /// The laws of matching, as a contract: it does nothing.
 pub fn match_laws()
@@ -14,4 +16,18 @@ pub fn match_laws()
     ensures aligned { AlignedListsMatch }
     // What a match is, and so what it refuses: two taken epochs of one sent epoch, or of two in the other order.
     ensures rising { HasRisingPlaces }
+{}
+
+/// The laws of matching with confirmed items, as a contract: it does nothing. By one matching, what was taken matches
+/// what was sent, and what is confirmed was taken.
+pub fn confirmation_laws()
+    ensures itself { ConfirmsItself }
+    ensures onward { ConfirmsOnward }
+    ensures aligned { AlignedListsConfirm }
+    ensures none { NothingConfirms }
+    ensures taken { ConfirmedIsTaken }
+    ensures is_match { ConfirmsIsMatch }
+
+    // What a switch releases confirms no more than what is covered on its other leg.
+    ensures relay { RelayConfirms }
 {}

@@ -1,5 +1,5 @@
-mod Positions
-mod Steps
+pub mod Positions
+pub mod Steps
 pub mod Writing
 pub mod Seeing
 pub mod Making

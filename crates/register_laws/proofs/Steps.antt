@@ -122,11 +122,11 @@ sides_put numbers Dte c s t own seen h w Dce = h Dce
 sides_put numbers Dce c s t own seen h w Dte = h Dte
 sides_put numbers Dce c s t own seen h w Dce = side_put numbers own.dce seen.dce c s t (h Dce) w
 
-records_put : (role : Role) (c : ℕ) (s : Slot) (b : Book) → (with_slot role c s b).records ≡ b.records
+pub records_put : (role : Role) (c : ℕ) (s : Slot) (b : Book) → (with_slot role c s b).records ≡ b.records
 records_put Dte c s b = refl
 records_put Dce c s b = refl
 
-pairs_put : (role : Role) (c : ℕ) (s : Slot) (b : Book) → (with_slot role c s b).pairs ≡ b.pairs
+pub pairs_put : (role : Role) (c : ℕ) (s : Slot) (b : Book) → (with_slot role c s b).pairs ≡ b.pairs
 pairs_put Dte c s b = refl
 pairs_put Dce c s b = refl
 
@@ -166,12 +166,12 @@ puts lines line x role c s t h w = record {
 abbrev pub IsBlind : (RecordValue → RecordValue) → Type 0
 IsBlind change = (n : ℕ) (r : RecordValue) → change (renumbered n r) ≡ renumbered n (change r)
 
-changed_here : (rs : List RecordValue) (n : ℕ) (f : RecordValue → RecordValue) (r : RecordValue) → slice_get rs n ≡ Some r → slice_get (changed_at n f rs) n ≡ Some (f r)
+pub changed_here : (rs : List RecordValue) (n : ℕ) (f : RecordValue → RecordValue) (r : RecordValue) → slice_get rs n ≡ Some r → slice_get (changed_at n f rs) n ≡ Some (f r)
 changed_here [] n f r e = absurd (none-some r e)
 changed_here (x ∷ rs) zero f r e = ap (λ (y : RecordValue). Some (f y)) (same_Some x r e)
 changed_here (x ∷ rs) (suc n) f r e = changed_here rs n f r e
 
-changed_elsewhere : (rs : List RecordValue) (n m : ℕ) (f : RecordValue → RecordValue) → m ≢ n → slice_get (changed_at n f rs) m ≡ slice_get rs m
+pub changed_elsewhere : (rs : List RecordValue) (n m : ℕ) (f : RecordValue → RecordValue) → m ≢ n → slice_get (changed_at n f rs) m ≡ slice_get rs m
 changed_elsewhere [] n m f h = refl
 changed_elsewhere (x ∷ rs) zero zero f h = absurd (h refl)
 changed_elsewhere (x ∷ rs) zero (suc m) f h = refl
@@ -189,7 +189,7 @@ same_place line owners i j n p q =
       | inr h ↦ let bad = rises_from 0 line owners j i n n q p h in absurd (omega arith)
     ]
 
-changed_record : (own seen : List RecordValue) (numbers : List ℕ) (f : RecordValue → RecordValue) → IsBlind f → (a m i n : ℕ)
+pub changed_record : (own seen : List RecordValue) (numbers : List ℕ) (f : RecordValue → RecordValue) → IsBlind f → (a m i n : ℕ)
     → slice_get numbers a ≡ Some m → slice_get numbers i ≡ Some n → ((i ≡ a) ⊎ (i ≢ a)) → (m ≡ n → i ≡ a)
     → RecordIsSeen own seen i n → RecordIsSeen (changed_at a f own) (changed_at m f seen) i n
 changed_record own seen numbers f blind a m i n at here (inl e) one h =
@@ -292,7 +292,7 @@ more_sides : (line : ℕ) (owners : List ℕ) (own seen : Book) (r t : RecordVal
 more_sides line owners own seen r t w Dte = more_side line owners own.dte seen.dte (w Dte)
 more_sides line owners own seen r t w Dce = more_side line owners own.dce seen.dce (w Dce)
 
-more_records : (own seen : List RecordValue) (numbers : List ℕ) (r t : RecordValue) → length own ≡ length numbers → t ≡ renumbered (length seen) r
+pub more_records : (own seen : List RecordValue) (numbers : List ℕ) (r t : RecordValue) → length own ≡ length numbers → t ≡ renumbered (length seen) r
     → ((i n : ℕ) → slice_get numbers i ≡ Some n → RecordIsSeen own seen i n)
     → (i n : ℕ) → slice_get (numbers ++ length seen ∷ []) i ≡ Some n → RecordIsSeen (own ++ r ∷ []) (seen ++ t ∷ []) i n
 more_records own seen numbers r t count is h i n at =

@@ -1,0 +1,15 @@
+pub mod Ways
+pub mod Carrying
+pub mod Promising
+pub mod Growing
+pub mod Slots
+pub mod Records
+pub mod Steps
+pub mod Inducing
+pub mod Writing
+pub mod Joining
+pub mod Happening
+pub mod Making
+pub mod Beginning
+pub mod Showing
+pub mod Running

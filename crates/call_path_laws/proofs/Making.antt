@@ -1,0 +1,98 @@
+-- Free lines.
+use Rattle.std.proofs.Common.{◌≡◌, ℕ, zero, suc, ◌+◌, ◌<◌, Bool, true, false, List, [], ◌∷◌, length, map, replicate, None, refl, sym, ap, subst, ◌∙◌, arith}
+use Rattle.std.specs.Prelude.{slice_get}
+use Rattle.std.proofs.lemmas.Option.{none-some}
+use Rattle.link_timers.specs.declared.role.Role.{Role}
+use Rattle.link_timers.specs.declared.role.Role.TheVariants.{Dte, Dce}
+use Rattle.call_records.specs.Book.{Side, Slot, free_slot, found_slot, nth_slot, side_of}
+use Rattle.call_records.specs.Register.{LinePlan, LineEnds, free_ends, found_ends, book_at}
+use Rattle.call_path_laws.specs.World.{Plan, AreBetween, free_register}
+use Rattle.call_path_laws.specs.Seen.{PresentIsSeen, CallerIsSeen, SlotIsSeen, SideIsSeen}
+use Rattle.call_path_laws.specs.Law.{MadeLaw}
+
+nth_free : (n i : ℕ) → found_slot (slice_get (replicate n free_slot) i) ≡ free_slot
+nth_free zero i = refl
+nth_free (suc n) zero = refl
+nth_free (suc n) (suc i) = nth_free n i
+
+slot_free : (n c : ℕ) → nth_slot (replicate n free_slot) c ≡ free_slot
+slot_free n zero = refl
+slot_free n (suc c) = nth_free n c
+
+module _ (plan : Plan) where
+  no_present : (u : Bool) → PresentIsSeen u [] None None
+  no_present true = tt
+  no_present false = refl
+
+  no_caller : (u : Bool) → CallerIsSeen u plan [] [] None None
+  no_caller true = tt
+  no_caller false = refl
+
+  free_seen : (line : ℕ) (role : Role) → SlotIsSeen plan [] [] line role free_slot free_slot
+  free_seen line role = record {
+    present = no_present (plan.has_user line role);
+    caller = no_caller (plan.has_user line role);
+    placed = tt;
+    present_origin = λ m e. absurd (none-some m e);
+    placed_origin = λ m e. absurd (none-some m e);
+  }
+
+  side_free : (line : ℕ) (role : Role) (node n : ℕ) → node ≡ plan.node line role
+      → SideIsSeen plan [] [] line role (record { node = node; slots = replicate n free_slot }) (record { node = node; slots = replicate n free_slot })
+  side_free line role node n e = record {
+    seen_node = e;
+    whole_node = e;
+    channels = refl;
+    slot = λ c. subst (λ (s : Slot). SlotIsSeen plan [] [] line role s s) (sym (slot_free n c)) (free_seen line role);
+  }
+
+  abbrev end_of : Role → LineEnds → Side
+  end_of Dte e = e.dte
+  end_of Dce e = e.dce
+
+  ends_free : (lines : List LinePlan) (first i : ℕ) (role : Role) → AreBetween plan first lines → i < length (map free_ends lines)
+      → SideIsSeen plan [] [] (first + i) role (end_of role (found_ends (slice_get (map free_ends lines) i))) (end_of role (found_ends (slice_get (map free_ends lines) i)))
+  ends_free [] first i role h less = absurd (omega arith)
+  ends_free (l ∷ ls) first zero Dte h less =
+      let same : first ≡ first + 0 = omega arith in
+      side_free (first + 0) Dte l.dte_node l.channels (h.0 ∙ ap (λ (n : ℕ). plan.node n Dte) same)
+  ends_free (l ∷ ls) first zero Dce h less =
+      let same : first ≡ first + 0 = omega arith in
+      side_free (first + 0) Dce l.dce_node l.channels (h.1.0 ∙ ap (λ (n : ℕ). plan.node n Dce) same)
+  ends_free (l ∷ ls) first (suc i) role h less =
+      let same : suc first + i ≡ first + suc i = omega arith in
+      subst (λ (n : ℕ). SideIsSeen plan [] [] n role (end_of role (found_ends (slice_get (map free_ends ls) i))) (end_of role (found_ends (slice_get (map free_ends ls) i)))) same
+      (ends_free ls (suc first) i role h.1.1 (omega arith))
+
+  free_sides : (lines : List LinePlan) → AreBetween plan 0 lines → (i : ℕ) (role : Role) → i < length (map free_ends lines)
+      → SideIsSeen plan [] [] i role (side_of role (book_at i (free_register lines))) (side_of role (book_at i (free_register lines)))
+  free_sides lines h i Dte less =
+      let same : 0 + i ≡ i = omega arith in
+      subst (λ (n : ℕ). SideIsSeen plan [] [] n Dte (found_ends (slice_get (map free_ends lines) i)).dte (found_ends (slice_get (map free_ends lines) i)).dte) same (ends_free lines 0 i Dte h less)
+  free_sides lines h i Dce less =
+      let same : 0 + i ≡ i = omega arith in
+      subst (λ (n : ℕ). SideIsSeen plan [] [] n Dce (found_ends (slice_get (map free_ends lines) i)).dce (found_ends (slice_get (map free_ends lines) i)).dce) same (ends_free lines 0 i Dce h less)
+
+pub made_seen : MadeLaw
+made_seen plan lines h = record {
+  kinds = [];
+  records = record {
+    count = refl;
+    seen_count = refl;
+    records = λ n m at. absurd (none-some m at);
+    numbered = λ n r at. absurd (none-some r at);
+    nodes = λ m o r at there. absurd (none-some o at);
+    callers = λ m x o at came. absurd (none-some o at);
+    joined = λ a b j. absurd (none-some _ j.there);
+    joined_once = λ a b c j k. absurd (none-some _ j.there);
+    placed_once = λ a b c j k. absurd (none-some _ j.there);
+  };
+  pairs = record {
+    count = refl;
+    seen_count = refl;
+    pairs = λ q p at. absurd (none-some p at);
+    came = λ p pair at. absurd (none-some pair at);
+  };
+  lines = refl;
+  sides = free_sides plan lines h;
+}

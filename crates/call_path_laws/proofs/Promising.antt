@@ -1,0 +1,367 @@
+-- What the register promises where the lines and the joins hold.
+use Rattle.std.proofs.Common.{◌≡◌, ℕ, zero, suc, ◌+◌, ◌<◌, ◌≤◌, ◌⊎◌, inl, inr, true, List, length, Option, Some, None, refl, sym, ap, subst, ◌∙◌, arith}
+use Rattle.std.specs.Prelude.{slice_get, map, [], ◌∷◌, ◌++◌}
+use Rattle.std.proofs.lemmas.Bool.{cases_Bool}
+use Rattle.std.proofs.lemmas.Option.{none-some, same_Some, slice_get_within}
+use Rattle.link_timers.specs.declared.role.Role.{Role}
+use Rattle.link_timers.specs.declared.role.Role.TheVariants.{Dte, Dce}
+use Rattle.link_timers.specs.Role.{other_of}
+use Rattle.epochs.specs.Confirmed.{Confirms}
+use Rattle.epochs.specs.ConfirmedLaws.{AreEmpty}
+use Rattle.epochs.proofs.Confirms.{confirms_trans}
+use Rattle.call_records.specs.Records.{RecordValue, PairValue, taken_epochs}
+use Rattle.call_records.specs.Register.{LineEnds, found_ends}
+use Rattle.book_laws.specs.Headline.{IsIn, TookNothing}
+use Rattle.book_laws.proofs.Basics.{get_there, order}
+use Rattle.register_laws.specs.Seen.{positions, RecordIsSeen, renumbered}
+use Rattle.register_laws.specs.Promise.{IsOfEnd}
+use Rattle.register_laws.proofs.Positions.{IsNth, place_of, rises_from}
+use Rattle.register_laws.proofs.Steps.{same_place}
+use Rattle.call_path_laws.specs.World.{Origin, World, Plan}
+use Rattle.call_path_laws.specs.Seen.{kind, numbers, CameFrom, Way, Begins, JoinIsSeen, PairIsSeen, PairCame, Seen}
+use Rattle.call_path_laws.specs.Seen.Way.{here, onward}
+use Rattle.call_path_laws.specs.Promise.{IsPlacedAt, PathHolds, PathsHold, CallsHold, JoinsHold, JoinHolds, sent_by, taken_by}
+use Rattle.call_path_laws.specs.Promise.IsPlacedAt.{by_caller, by_switch}
+use Rattle.call_path_laws.specs.Law.{PromiseLaw}
+use Rattle.call_path_laws.proofs.Ways.{along, from_first, one_callee, one_first, numbered_user, kind_user}
+use Rattle.call_path_laws.proofs.Carrying.{line_confirms, Carried, CarriedTo, carried_along, all_confirmed, all_match, empty_of_empty, took_nothing, are_empty}
+
+-- the number of the caller's record does not matter
+placed_like : {plan : Plan} {c : RecordValue} {line : ℕ} {role : Role} → IsPlacedAt plan c line role → (r : RecordValue) → r.node ≡ c.node → r.far ≡ c.far
+    → IsPlacedAt plan r line role
+placed_like (by_caller e) r node far = by_caller (node ∙ e)
+placed_like {plan} {line = line} {role = role} (by_switch from end p same switch routed) r node far =
+    by_switch from end (placed_like p r node far) same switch (routed ∙ ap (λ (d : Option (List ℕ)). plan.route (plan.node line role) d) (sym far))
+
+module _ (plan : Plan) (w : World) (s : Seen plan w) where
+  -- the pair of the whole register whose callee is a user's, in the register
+  pub record PairFor (i : ℕ) (whole : PairValue) : Type 0 where
+    pub place : ℕ
+    pub pair : PairValue
+    pub there : slice_get w.register.pairs place ≡ Some pair
+    pub callee : slice_get (numbers plan w.origins) pair.callee ≡ Some whole.callee
+    pub caller : Begins plan w.origins w.joins pair.caller whole.caller
+
+  pub pair_for : (i : ℕ) (whole : PairValue) → slice_get w.whole.pairs i ≡ Some whole → (c : PairCame plan w.origins s.kinds i whole)
+      → plan.has_user c.origin.line c.origin.role ≡ true → PairFor i whole
+  pair_for i whole at c user =
+      let q : IsNth (positions 1 s.kinds) i = place_of 1 s.kinds i (c.of_kind ∙ ap (λ (k : ℕ). Some k) (kind_user plan c.origin user)) in
+      let p : PairIsSeen plan w.origins w.joins w.register.pairs w.whole.pairs q.place i = s.pairs.pairs q.place i q.there in
+      let same : p.whole_pair ≡ whole = same_Some p.whole_pair whole (sym p.whole_there ∙ at) in
+      record {
+        place = q.place;
+        pair = p.seen_pair;
+        there = p.seen_there;
+        callee = p.callee ∙ ap (λ (z : PairValue). Some z.callee) same;
+        caller = subst (λ (z : PairValue). Begins plan w.origins w.joins p.seen_pair.caller z.caller) same p.caller;
+      }
+
+module _ (plan : Plan) (w : World) (s : Seen plan w) (calls : CallsHold w) (joins : JoinsHold plan w) where
+  -- ---- pairs of the two registers
+
+  record PairOf (q : ℕ) (pair : PairValue) : Type 0 where
+    pub place : ℕ
+    pub numbered : slice_get (positions 1 s.kinds) q ≡ Some place
+    pub whole : PairValue
+    pub whole_there : slice_get w.whole.pairs place ≡ Some whole
+    pub callee : slice_get (numbers plan w.origins) pair.callee ≡ Some whole.callee
+    pub caller : Begins plan w.origins w.joins pair.caller whole.caller
+    pub came : PairCame plan w.origins s.kinds place whole
+
+  pair_of : (q : ℕ) (pair : PairValue) → slice_get w.register.pairs q ≡ Some pair → PairOf q pair
+  pair_of q pair at =
+      let less : q < length (positions 1 s.kinds) = subst (λ (k : ℕ). q < k) s.pairs.seen_count (slice_get_within w.register.pairs q pair at) in
+      let place = get_there (positions 1 s.kinds) q less in
+      let p : PairIsSeen plan w.origins w.joins w.register.pairs w.whole.pairs q place.0 = s.pairs.pairs q place.0 place.1 in
+      let same : p.seen_pair ≡ pair = same_Some p.seen_pair pair (sym p.seen_there ∙ at) in
+      record {
+        place = place.0;
+        numbered = place.1;
+        whole = p.whole_pair;
+        whole_there = p.whole_there;
+        callee = ap (λ (x : PairValue). slice_get (numbers plan w.origins) x.callee) (sym same) ∙ p.callee;
+        caller = subst (λ (x : PairValue). Begins plan w.origins w.joins x.caller p.whole_pair.caller) same p.caller;
+        came = s.pairs.came place.0 p.whole_pair p.whole_there;
+      }
+
+  came_from : (q : ℕ) (pair : PairValue) (p : PairOf q pair) → CameFrom w.origins p.whole.callee p.whole.caller
+  came_from q pair p = record { origin = p.came.origin; there = p.came.there; came = p.came.came }
+
+  -- ---- each pair holds
+
+  ordered : (x y n k : ℕ) → slice_get (numbers plan w.origins) n ≡ Some x → slice_get (numbers plan w.origins) k ≡ Some y → x < y → n < k
+  ordered x y n k at there less =
+      elim (order k n) [
+        | inr h ↦ h
+        | inl h ↦ elim (order n k) [
+          | inl e ↦
+              let same : n ≡ k = omega arith in
+              let equal : x ≡ y = same_Some x y (sym at ∙ ap (λ (i : ℕ). slice_get (numbers plan w.origins) i) same ∙ there) in
+              absurd (omega arith)
+          | inr e ↦
+              let more = rises_from 0 1 (map (kind plan) w.origins) k n y x there at e in
+              absurd (omega arith)
+        ]
+      ]
+
+  record_number : (x : ℕ) (r : RecordValue) → slice_get w.whole.records x ≡ Some r → r.number ≡ x
+  record_number x r at = calls.register.numbers x r at
+
+  caller_first : (a x : ℕ) → CameFrom w.origins a x → x < a
+  caller_first a x came =
+      let h = calls.came a x came in
+      let less : h.caller.number < h.callee.number = h.is_right.order in
+      let caller : h.caller.number ≡ x = record_number x h.caller h.caller_there in
+      let callee : h.callee.number ≡ a = record_number a h.callee h.callee_there in
+      omega arith
+
+  no_later : (x b : ℕ) → Way w.origins w.joins x b → x ≤ b
+  no_later x b here = omega arith
+  no_later x b (onward {y = y} a c way came joined) =
+      let rest = no_later x y way in
+      let less = caller_first a y came in
+      let j : JoinIsSeen plan w.origins a b = s.records.joined a b joined in
+      let next = j.order in
+      omega arith
+
+  -- the record of each end on the way is where the call was placed
+  placed_at : (x b : ℕ) → Way w.origins w.joins x b → (first : RecordValue) → slice_get w.whole.records x ≡ Some first
+      → (o : Origin) → slice_get w.origins b ≡ Some o → IsPlacedAt plan first o.line o.role
+  placed_at = along w.origins w.joins
+      (λ x b. (first : RecordValue) → slice_get w.whole.records x ≡ Some first → (o : Origin) → slice_get w.origins b ≡ Some o → IsPlacedAt plan first o.line o.role)
+      (λ x first there o at. by_caller (s.records.nodes x o first at there))
+      (λ x y a b way before came joined first there o at.
+      let j : JoinIsSeen plan w.origins a b = s.records.joined a b joined in
+      let r : JoinHolds plan w a b = joins.joins a b joined in
+      let to : j.to ≡ o = same_Some j.to o (sym j.to_there ∙ at) in
+      let from : came.origin ≡ j.from = same_Some came.origin j.from (sym came.there ∙ j.from_there) in
+      let origin : slice_get w.origins y ≡ Some (record { line = j.from.line; role = other_of j.from.role; caller = None }) =
+      s.records.callers a y j.from j.from_there (ap (λ (p : Origin). p.caller) (sym from) ∙ came.came) in
+      let c : CarriedTo w first b = carried_along plan w calls joins x b (onward a b way came joined) first there in
+      let same : r.to ≡ c.record_ = same_Some r.to c.record_ (sym r.to_there ∙ c.there) in
+      let node : r.to.node ≡ plan.node o.line o.role = s.records.nodes b o r.to at r.to_there in
+      by_switch j.from.line j.from.role (before first there (record { line = j.from.line; role = other_of j.from.role; caller = None }) origin)
+      (j.one_switch ∙ ap (λ (p : Origin). plan.node p.line p.role) to)
+      (ap (λ (p : Origin). plan.has_user p.line p.role) (sym to) ∙ j.to_switch)
+      (r.routed o at ∙ ap (λ (n : ℕ). plan.route n r.to.far) node
+      ∙ ap (λ (d : Option (List ℕ)). plan.route (plan.node o.line o.role) d) (ap (λ (q : RecordValue). q.far) same ∙ c.carried.far)))
+
+  pair_holds : (q : ℕ) (pair : PairValue) → slice_get w.register.pairs q ≡ Some pair → PathHolds plan w.register pair
+  pair_holds q pair at =
+      let p : PairOf q pair = pair_of q pair at in
+      let x : ℕ = p.caller.first in
+      let y : ℕ = p.whole.callee in
+      let from : RecordIsSeen w.register.records w.whole.records pair.caller x = s.records.records pair.caller x p.caller.numbered in
+      let to : RecordIsSeen w.register.records w.whole.records pair.callee y = s.records.records pair.callee y p.callee in
+      let h = calls.came y p.whole.caller (came_from q pair p) in
+      let c : CarriedTo w (renumbered x from.value) p.whole.caller = carried_along plan w calls joins x p.whole.caller p.caller.way (renumbered x from.value) from.seen_there in
+      let caller : h.caller ≡ c.record_ = same_Some h.caller c.record_ (sym h.caller_there ∙ c.there) in
+      let callee : h.callee ≡ renumbered y to.value = same_Some h.callee (renumbered y to.value) (sym h.callee_there ∙ to.seen_there) in
+      let carried : Carried (renumbered x from.value) h.caller = subst (λ (r : RecordValue). Carried (renumbered x from.value) r) (sym caller) c.carried in
+      let on : Confirms (taken_by to.value) (sent_by from.value) =
+      subst (λ (r : RecordValue). Confirms (taken_by r) (sent_by from.value)) callee
+      (confirms_trans carried.onward (taken_by h.callee) (line_confirms h.caller h.callee h.matches.onward_aligned)) in
+      let back : Confirms (taken_by from.value) (sent_by to.value) =
+      subst (λ (r : RecordValue). Confirms (taken_by from.value) (sent_by r)) callee
+      (confirms_trans (line_confirms h.callee h.caller h.matches.backward_aligned) (taken_by from.value) carried.backward) in
+      let less : x < y =
+      let first = no_later x p.whole.caller p.caller.way in
+      let last = caller_first y p.whole.caller (came_from q pair p) in omega arith in
+      record {
+        caller = from.value;
+        callee = to.value;
+        caller_there = from.own_there;
+        callee_there = to.own_there;
+        matches = record {
+          onward = all_match to.value from.value on;
+          backward = all_match from.value to.value back;
+          onward_confirmed = all_confirmed to.value from.value on;
+          backward_confirmed = all_confirmed from.value to.value back;
+        };
+        is_right = record {
+          order =
+              let numbers_rise = ordered x y pair.caller pair.callee p.caller.numbered p.callee less in
+              let caller_number = s.records.numbered pair.caller from.value from.own_there in
+              let callee_number = s.records.numbered pair.callee to.value to.own_there in omega arith;
+          own = ap (λ (r : RecordValue). r.own) (sym callee) ∙ h.is_right.own ∙ carried.far;
+          far = ap (λ (r : RecordValue). r.far) (sym callee) ∙ h.is_right.far ∙ carried.own;
+          line = p.came.origin.line;
+          role = p.came.origin.role;
+          node = s.records.nodes y p.came.origin (renumbered y to.value) p.came.there to.seen_there;
+          placed = placed_like
+              (placed_at x p.whole.caller p.caller.way (renumbered x from.value) from.seen_there (record { line = p.came.origin.line; role = other_of p.came.origin.role; caller = None })
+              (s.records.callers y p.whole.caller p.came.origin p.came.there p.came.came)) from.value refl refl;
+        };
+      }
+
+  -- ---- numbers and nodes
+
+  end_there : (node : ℕ) (h : IsOfEnd w.whole node) → h.line < length w.whole.lines → IsOfEnd w.register node
+  end_there node h within =
+      let ends = get_there w.register.lines h.line (subst (λ (k : ℕ). h.line < k) (sym s.lines) within) in
+      record { line = h.line; line_ends = ends.0; line_there = ends.1; at_end = one_of ends.0 ends.1 h.at_end }
+    where
+      one_of : (ends : LineEnds) → slice_get w.register.lines h.line ≡ Some ends → (node ≡ h.line_ends.dte.node) ⊎ (node ≡ h.line_ends.dce.node)
+          → (node ≡ ends.dte.node) ⊎ (node ≡ ends.dce.node)
+      one_of ends there (inl e) = inl (e ∙ ap (λ (o : Option LineEnds). (found_ends o).dte.node) (sym h.line_there) ∙ (s.sides h.line Dte within).whole_node
+          ∙ sym (s.sides h.line Dte within).seen_node ∙ ap (λ (o : Option LineEnds). (found_ends o).dte.node) there)
+      one_of ends there (inr e) = inr (e ∙ ap (λ (o : Option LineEnds). (found_ends o).dce.node) (sym h.line_there) ∙ (s.sides h.line Dce within).whole_node
+          ∙ sym (s.sides h.line Dce within).seen_node ∙ ap (λ (o : Option LineEnds). (found_ends o).dce.node) there)
+
+  nodes : (n : ℕ) (r : RecordValue) → slice_get w.register.records n ≡ Some r → IsOfEnd w.register r.node
+  nodes n r at =
+      let less : n < length (numbers plan w.origins) = subst (λ (k : ℕ). n < k) s.records.seen_count (slice_get_within w.register.records n r at) in
+      let m = get_there (numbers plan w.origins) n less in
+      let seen : RecordIsSeen w.register.records w.whole.records n m.0 = s.records.records n m.0 m.1 in
+      let same : seen.value ≡ r = same_Some seen.value r (sym seen.own_there ∙ at) in
+      let h : IsOfEnd w.whole seen.value.node = calls.register.nodes m.0 (renumbered m.0 seen.value) seen.seen_there in
+      let within : h.line < length w.whole.lines = slice_get_within w.whole.lines h.line h.line_ends h.line_there in
+      subst (λ (v : RecordValue). IsOfEnd w.register v.node) same (end_there seen.value.node h within)
+
+  -- ---- a record is in at most one pair
+
+  one_place : (i j : ℕ) (p q : PairValue) (a : PairOf i p) (c : PairOf j q) → a.whole.callee ≡ c.whole.callee → i ≡ j
+  one_place i j p q a c same =
+      let place : a.place ≡ c.place = calls.register.in_one a.place c.place a.whole c.whole c.whole.callee a.whole_there c.whole_there (inr same) (inr refl) in
+      same_place 1 s.kinds i j a.place a.numbered (c.numbered ∙ ap (λ (k : ℕ). Some k) (sym place))
+
+  same_callee : (i j : ℕ) (p q : PairValue) (a : PairOf i p) (c : PairOf j q) → p.callee ≡ q.callee → i ≡ j
+  same_callee i j p q a c e =
+      one_place i j p q a c (same_Some a.whole.callee c.whole.callee (sym a.callee ∙ ap (λ (k : ℕ). slice_get (numbers plan w.origins) k) e ∙ c.callee))
+
+  same_caller : (i j : ℕ) (p q : PairValue) (a : PairOf i p) (c : PairOf j q) → p.caller ≡ q.caller → i ≡ j
+  same_caller i j p q a c e =
+      let first : c.caller.first ≡ a.caller.first =
+      same_Some c.caller.first a.caller.first (sym c.caller.numbered ∙ ap (λ (k : ℕ). slice_get (numbers plan w.origins) k) (sym e) ∙ a.caller.numbered) in
+      one_place i j p q a c
+      (one_callee plan w.origins w.joins calls.once s.records.joined_once s.records.joined a.caller.first a.whole.caller c.whole.caller a.whole.callee c.whole.callee p.callee q.callee
+      a.caller.way (subst (λ (k : ℕ). Way w.origins w.joins k c.whole.caller) first c.caller.way) (came_from i p a) (came_from j q c) a.callee c.callee)
+
+  none_here : (o : Option ℕ) (b : ℕ) → o ≡ None → o ≡ Some b → ⊥
+  none_here o b e f = none-some b (sym e ∙ f)
+
+  -- the first record of a way is that of a call that was placed
+  first_placed : (x b y : ℕ) → Way w.origins w.joins x b → CameFrom w.origins y b → (o : Origin) → slice_get w.origins x ≡ Some o → o.caller ≡ None
+  first_placed x b y way came o at =
+      elim (from_first w.origins w.joins x b way) [
+        | inl e ↦
+            let before = s.records.callers y b came.origin came.there came.came in
+            ap (λ (z : Origin). z.caller) (same_Some o (record { line = came.origin.line; role = other_of came.origin.role; caller = None })
+            (sym at ∙ ap (λ (k : ℕ). slice_get w.origins k) e ∙ before))
+        | inr f ↦
+            let before = s.records.callers f.callee x f.came.origin f.came.there f.came.came in
+            ap (λ (z : Origin). z.caller) (same_Some o (record { line = f.came.origin.line; role = other_of f.came.origin.role; caller = None }) (sym at ∙ before))
+      ]
+
+  not_both : (i j : ℕ) (p q : PairValue) (a : PairOf i p) (c : PairOf j q) → p.caller ≡ q.callee → ⊥
+  not_both i j p q a c e =
+      let same : a.caller.first ≡ c.whole.callee =
+      same_Some a.caller.first c.whole.callee (sym a.caller.numbered ∙ ap (λ (k : ℕ). slice_get (numbers plan w.origins) k) e ∙ c.callee) in
+      let none : c.came.origin.caller ≡ None =
+      first_placed a.caller.first a.whole.caller a.whole.callee a.caller.way (came_from i p a) c.came.origin (ap (λ (k : ℕ). slice_get w.origins k) same ∙ c.came.there) in
+      none_here c.came.origin.caller c.whole.caller none c.came.came
+
+  in_one : (i j : ℕ) (p q : PairValue) (number : ℕ) → slice_get w.register.pairs i ≡ Some p → slice_get w.register.pairs j ≡ Some q → IsIn p number → IsIn q number → i ≡ j
+  in_one i j p q number at there (inl x) (inl y) = same_caller i j p q (pair_of i p at) (pair_of j q there) (x ∙ sym y)
+  in_one i j p q number at there (inr x) (inr y) = same_callee i j p q (pair_of i p at) (pair_of j q there) (x ∙ sym y)
+  in_one i j p q number at there (inl x) (inr y) = absurd (not_both i j p q (pair_of i p at) (pair_of j q there) (x ∙ sym y))
+  in_one i j p q number at there (inr x) (inl y) = absurd (not_both j i q p (pair_of j q there) (pair_of i p at) (y ∙ sym x))
+
+  -- ---- a record that took anything is in a pair
+
+  abbrev InPair : ℕ → Type 0
+  InPair n = (i : ℕ) × (p : PairValue) × (slice_get w.register.pairs i ≡ Some p) × IsIn p n
+
+  -- where nothing was sent on a call that came in, or nothing taken on the call with which it was placed onward, nothing
+  -- was taken at the end that placed it
+  nothing_back : (y b : ℕ) (rb ry : RecordValue) → CameFrom w.origins y b → slice_get w.whole.records b ≡ Some rb → slice_get w.whole.records y ≡ Some ry
+      → AreEmpty (sent_by ry) → AreEmpty (taken_by rb)
+  nothing_back y b rb ry came at there none =
+      let h = calls.came y b came in
+      let caller : h.caller ≡ rb = same_Some h.caller rb (sym h.caller_there ∙ at) in
+      let callee : h.callee ≡ ry = same_Some h.callee ry (sym h.callee_there ∙ there) in
+      let taken : Confirms (taken_by rb) (sent_by ry) =
+      subst (λ (q : RecordValue). Confirms (taken_by rb) (sent_by q)) callee
+      (subst (λ (q : RecordValue). Confirms (taken_by q) (sent_by h.callee)) caller (line_confirms h.callee h.caller h.matches.backward_aligned)) in
+      empty_of_empty taken none
+
+  nothing_over : (y b c : ℕ) (rb : RecordValue) → CameFrom w.origins y b → slice_get w.whole.records b ≡ Some rb → (j : JoinHolds plan w y c)
+      → AreEmpty (taken_by j.to) → AreEmpty (taken_by rb)
+  nothing_over y b c rb came at j none = nothing_back y b rb j.from came at j.from_there (empty_of_empty j.backward none)
+
+  for_user : (i : ℕ) (whole : PairValue) (n x : ℕ) → PairFor plan w s i whole → slice_get (numbers plan w.origins) n ≡ Some x → Way w.origins w.joins x whole.caller → InPair n
+  for_user i whole n x p at way =
+      let first : p.caller.first ≡ x =
+      one_first plan w.origins w.joins s.records.placed_once s.records.joined p.caller.first whole.caller p.caller.way x way
+      (record { number = p.pair.caller; numbered = p.caller.numbered }) (record { number = n; numbered = at }) in
+      let same : p.pair.caller ≡ n = same_place 1 (map (kind plan) w.origins) p.pair.caller n x (p.caller.numbered ∙ ap (λ (k : ℕ). Some k) first) at in
+      (p.place, p.pair, p.there, inl same)
+
+  -- from the pair of an end that placed a call on, along the way to the user's end at which it arrived
+  reach : (fuel i : ℕ) (whole : PairValue) → slice_get w.whole.pairs i ≡ Some whole → (n x : ℕ) → slice_get (numbers plan w.origins) n ≡ Some x
+      → Way w.origins w.joins x whole.caller → length w.whole.records ≤ whole.caller + fuel
+      → (rb : RecordValue) → slice_get w.whole.records whole.caller ≡ Some rb → AreEmpty (taken_by rb) ⊎ InPair n
+  reach zero i whole there n x at way bound rb rb_there =
+      let less = slice_get_within w.whole.records whole.caller rb rb_there in absurd (omega arith)
+  reach (suc fuel) i whole there n x at way bound rb rb_there =
+      let c : PairCame plan w.origins s.kinds i whole = s.pairs.came i whole there in
+      let came : CameFrom w.origins whole.callee whole.caller = record { origin = c.origin; there = c.there; came = c.came } in
+      let h = calls.came whole.callee whole.caller came in
+      elim (cases_Bool (plan.has_user c.origin.line c.origin.role)) [
+        | inl user ↦ inr (for_user i whole n x (pair_for plan w s i whole there c user) at way)
+        | inr switch ↦ elim (joins.sent whole.callee whole.caller c.origin h.callee c.there c.came switch h.callee_there) [
+          | inl none ↦ inl (nothing_back whole.callee whole.caller rb h.callee came rb_there h.callee_there none)
+          | inr next ↦
+              let j : JoinHolds plan w whole.callee next.0 = joins.joins whole.callee next.0 next.1 in
+              let seen : JoinIsSeen plan w.origins whole.callee next.0 = s.records.joined whole.callee next.0 next.1 in
+              let on : Way w.origins w.joins x next.0 = onward whole.callee next.0 way came next.1 in
+              elim (calls.register.took next.0 j.to j.to_there) [
+                | inl none ↦ inl (nothing_over whole.callee whole.caller next.0 rb came rb_there j (are_empty (j.to.taken_before ++ j.to.taken ∷ []) none))
+                | inr pair ↦ elim pair.3 [
+                  | inr e ↦
+                      let d : PairCame plan w.origins s.kinds pair.0 pair.1 = s.pairs.came pair.0 pair.1 pair.2 in
+                      let origin : d.origin ≡ seen.to = same_Some d.origin seen.to (sym d.there ∙ ap (λ (k : ℕ). slice_get w.origins k) e ∙ seen.to_there) in
+                      absurd (none_here d.origin.caller pair.1.caller (ap (λ (o : Origin). o.caller) origin ∙ seen.placed) d.came)
+                  | inl e ↦
+                      let first = caller_first whole.callee whole.caller came in
+                      let later = seen.order in
+                      elim (reach fuel pair.0 pair.1 pair.2 n x at (subst (λ (k : ℕ). Way w.origins w.joins x k) (sym e) on) (omega arith) j.to
+                      (ap (λ (k : ℕ). slice_get w.whole.records k) e ∙ j.to_there)) [
+                        | inl none ↦ inl (nothing_over whole.callee whole.caller next.0 rb came rb_there j none)
+                        | inr found ↦ inr found
+                      ]
+                ]
+              ]
+        ]
+      ]
+
+  took : (n : ℕ) (r : RecordValue) → slice_get w.register.records n ≡ Some r → TookNothing (taken_epochs r) ⊎ InPair n
+  took n r at =
+      let less : n < length (numbers plan w.origins) = subst (λ (k : ℕ). n < k) s.records.seen_count (slice_get_within w.register.records n r at) in
+      let m = get_there (numbers plan w.origins) n less in
+      let seen : RecordIsSeen w.register.records w.whole.records n m.0 = s.records.records n m.0 m.1 in
+      let same : seen.value ≡ r = same_Some seen.value r (sym seen.own_there ∙ at) in
+      subst (λ (v : RecordValue). TookNothing (taken_epochs v) ⊎ InPair n) same
+      (elim (calls.register.took m.0 (renumbered m.0 seen.value) seen.seen_there) [
+        | inl none ↦ inl none
+        | inr pair ↦ elim pair.3 [
+          | inl e ↦ elim (reach (length w.whole.records) pair.0 pair.1 pair.2 n m.0 m.1
+              (subst (λ (k : ℕ). Way w.origins w.joins m.0 k) (sym e) here) (omega arith) (renumbered m.0 seen.value) (ap (λ (k : ℕ). slice_get w.whole.records k) e ∙ seen.seen_there)) [
+                | inl none ↦ inl (took_nothing (seen.value.taken_before ++ seen.value.taken ∷ []) none)
+                | inr found ↦ inr found
+              ]
+          | inr e ↦
+              let c : PairCame plan w.origins s.kinds pair.0 pair.1 = s.pairs.came pair.0 pair.1 pair.2 in
+              let user : plan.has_user c.origin.line c.origin.role ≡ true =
+              numbered_user plan w.origins n m.0 c.origin m.1 (ap (λ (k : ℕ). slice_get w.origins k) (sym e) ∙ c.there) in
+              let p : PairFor plan w s pair.0 pair.1 = pair_for plan w s pair.0 pair.1 pair.2 c user in
+              let number : p.pair.callee ≡ n = same_place 1 (map (kind plan) w.origins) p.pair.callee n m.0 (p.callee ∙ ap (λ (k : ℕ). Some k) e) m.1 in
+              inr (p.place, p.pair, p.there, inr number)
+        ]
+      ])
+
+  paths_hold : PathsHold plan w.register
+  paths_hold = record { pairs_hold = pair_holds; numbers = s.records.numbered; nodes = nodes; in_one = in_one; took = took }
+
+pub promised : PromiseLaw
+promised plan w s calls joins = paths_hold plan w s calls joins

@@ -1,0 +1,270 @@
+-- The worked run: each premise by computation.
+use Rattle.std.proofs.Common.{◌≡◌, ℕ, zero, suc, ◌+◌, ◌<◌, ◌⊎◌, inl, inr, false, List, [], ◌∷◌, Some, None, refl, sym, ap, subst, ◌∙◌, arith, true≢false}
+use Rattle.std.specs.Prelude.{slice_get}
+use Rattle.std.proofs.lemmas.Option.{none-some, same_Some}
+use Rattle.link_timers.specs.declared.role.Role.TheVariants.{Dce}
+use Rattle.epochs.specs.Epoch.{IsAligned}
+use Rattle.epochs.specs.ConfirmedLaws.{AreEmpty}
+use Rattle.epochs.proofs.Matching.{aligned-match}
+use Rattle.epochs.proofs.Confirms.{confirms_itself}
+use Rattle.call_records.specs.Records.{RecordValue, PairValue, taken_epochs}
+use Rattle.call_records.specs.Register.{LineEnds}
+use Rattle.book_laws.specs.Headline.{IsTakenFrom, IsIn, TookNothing}
+use Rattle.register_laws.specs.Promise.{PairIsRight, PairHolds, IsOfEnd, RegisterHolds}
+use Rattle.call_path_laws.specs.World.{Origin, Join, made_world, MayAll}
+use Rattle.call_path_laws.specs.Seen.{IsJoined}
+use Rattle.call_path_laws.specs.Promise.{CallsHold, JoinHolds, JoinsHold, sent_by}
+use Rattle.call_path_laws.specs.Run.{plan, lines, events, world, RunLaw}
+
+-- ---- what holds of each element of a list
+
+abbrev AllFrom : {X : Type 0} → (ℕ → X → Type 0) → ℕ → List X → Type 0
+AllFrom P first [] = Unit {0}
+AllFrom P first (x ∷ xs) = P first x × AllFrom P (suc first) xs
+
+each_from : {X : Type 0} (P : ℕ → X → Type 0) (first : ℕ) (xs : List X) → AllFrom P first xs → (i : ℕ) (x : X) → slice_get xs i ≡ Some x → P (first + i) x
+each_from P first [] h i x at = absurd (none-some x at)
+each_from P first (y ∷ ys) h zero x at =
+    let same : first ≡ first + 0 = omega arith in
+    subst (λ (n : ℕ). P n x) same (subst (λ z. P first z) (same_Some y x at) h.0)
+each_from P first (y ∷ ys) h (suc i) x at =
+    let same : suc first + i ≡ first + suc i = omega arith in
+    subst (λ (n : ℕ). P n x) same (each_from P (suc first) ys h.1 i x at)
+
+each : {X : Type 0} (P : ℕ → X → Type 0) (xs : List X) → AllFrom P 0 xs → (i : ℕ) (x : X) → slice_get xs i ≡ Some x → P i x
+each P xs h i x at =
+    let same : 0 + i ≡ i = omega arith in
+    subst (λ (n : ℕ). P n x) same (each_from P 0 xs h i x at)
+
+-- ---- the run is allowed
+
+zero_two : 0 < 2
+zero_two = omega arith
+
+one_two : 1 < 2
+one_two = omega arith
+
+not_again : (k : ℕ) (j : Join) → slice_get (record { came_in = 1; placed = 2 } ∷ []) k ≡ Some j → j.came_in ≡ 5 → ⊥
+not_again zero j at e =
+    let one : 1 ≡ j.came_in = ap (λ (x : Join). x.came_in) (same_Some (record { came_in = 1; placed = 2 }) j at) in
+    let five : j.came_in ≡ 5 = e in
+    absurd (omega arith)
+not_again (suc k) j at e = absurd (none-some j at)
+
+may_all : MayAll plan events (made_world lines)
+may_all = (
+  (zero_two, refl),
+  (
+    (record { there = zero_two; switch = refl }, (tt, tt)),
+    (
+      record {
+        from_end = record { there = zero_two; switch = refl };
+        to_end = record { there = one_two; switch = refl };
+        one_switch = refl;
+        came_in = 1;
+        caller = 0;
+        present = refl;
+        came = refl;
+        last = refl;
+        first = λ k j at e. none-some j at;
+      },
+      (
+        (one_two, refl),
+        (
+          (record { there = one_two; switch = refl }, (tt, tt)),
+          (
+            (record { there = zero_two; switch = refl }, (tt, tt)),
+            (
+              (zero_two, refl),
+              (
+                (zero_two, refl),
+                (
+                  (record { there = zero_two; switch = refl }, (tt, tt)),
+                  (
+                    (record { there = one_two; switch = refl }, (tt, tt)),
+                    (
+                      (one_two, refl),
+                      (
+                        (record { there = one_two; switch = refl }, (tt, tt)),
+                        (
+                          (record { there = zero_two; switch = refl }, (tt, tt)),
+                          (
+                            (zero_two, refl),
+                            (
+                              (zero_two, refl),
+                              (
+                                (record { there = zero_two; switch = refl }, (tt, tt)),
+                                (
+                                  (record { there = one_two; switch = refl }, (tt, tt)),
+                                  (
+                                    (one_two, refl),
+                                    (
+                                      (zero_two, refl),
+                                      (
+                                        (record { there = zero_two; switch = refl }, (tt, tt)),
+                                        (
+                                          record {
+                                            from_end = record { there = zero_two; switch = refl };
+                                            to_end = record { there = one_two; switch = refl };
+                                            one_switch = refl;
+                                            came_in = 5;
+                                            caller = 4;
+                                            present = refl;
+                                            came = refl;
+                                            last = refl;
+                                            first = not_again;
+                                          },
+                                          ((one_two, refl), tt),
+                                        ),
+                                      ),
+                                    ),
+                                  ),
+                                ),
+                              ),
+                            ),
+                          ),
+                        ),
+                      ),
+                    ),
+                  ),
+                ),
+              ),
+            ),
+          ),
+        ),
+      ),
+    ),
+  ),
+)
+
+-- ---- each call on a line holds
+
+pair_with : (x a : ℕ) (caller callee : RecordValue) → slice_get world.whole.records x ≡ Some caller → slice_get world.whole.records a ≡ Some callee
+    → IsTakenFrom caller callee → IsTakenFrom callee caller → PairIsRight world.whole caller callee → PairHolds world.whole (record { caller = x; callee = a })
+pair_with x a caller callee caller_there callee_there on back right = record {
+  caller = caller;
+  callee = callee;
+  caller_there = caller_there;
+  callee_there = callee_there;
+  matches = record {
+    onward_aligned = on;
+    backward_aligned = back;
+    onward = aligned-match _ _ on;
+    backward = aligned-match _ _ back;
+  };
+  is_right = right;
+}
+
+nothing_passed : IsAligned (record { packets = []; interrupts = []; covered = 0 }) (record { packets = []; interrupts = []; released = 0 })
+nothing_passed = record {
+  packets = record { rest = []; whole = refl };
+  interrupts = record { rest = []; whole = refl };
+  covered = omega arith;
+  released = omega arith;
+}
+
+first_host : PairHolds world.whole (record { caller = 0; callee = 1 })
+first_host = pair_with 0 1 _ _ refl refl
+    (record { packets = record { rest = []; whole = refl }; interrupts = record { rest = []; whole = refl }; covered = omega arith; released = omega arith }, tt)
+    (nothing_passed, tt)
+    (record { order = omega arith; line = 0; line_ends = _; line_there = refl; ends = inl (refl, refl); own = refl; far = refl })
+
+second_host : PairHolds world.whole (record { caller = 2; callee = 3 })
+second_host = pair_with 2 3 _ _ refl refl
+    (record { packets = record { rest = []; whole = refl }; interrupts = record { rest = []; whole = refl }; covered = omega arith; released = omega arith }, tt)
+    (nothing_passed, tt)
+    (record { order = omega arith; line = 1; line_ends = _; line_there = refl; ends = inr (refl, refl); own = refl; far = refl })
+
+first_again : PairHolds world.whole (record { caller = 4; callee = 5 })
+first_again = pair_with 4 5 _ _ refl refl (nothing_passed, tt) (nothing_passed, tt)
+    (record { order = omega arith; line = 0; line_ends = _; line_there = refl; ends = inl (refl, refl); own = refl; far = refl })
+
+second_again : PairHolds world.whole (record { caller = 6; callee = 7 })
+second_again = pair_with 6 7 _ _ refl refl (nothing_passed, tt) (nothing_passed, tt)
+    (record { order = omega arith; line = 1; line_ends = _; line_there = refl; ends = inr (refl, refl); own = refl; far = refl })
+
+-- ---- the whole register holds
+
+of_line : (line : ℕ) (ends : LineEnds) (node : ℕ) → slice_get world.whole.lines line ≡ Some ends → (node ≡ ends.dte.node) ⊎ (node ≡ ends.dce.node) → IsOfEnd world.whole node
+of_line line ends node there at = record { line = line; line_ends = ends; line_there = there; at_end = at }
+
+-- the place of the pair that a record is in
+abbrev pair_place : ℕ → ℕ
+pair_place zero = 1
+pair_place (suc zero) = 1
+pair_place (suc (suc zero)) = 0
+pair_place (suc (suc (suc zero))) = 0
+pair_place (suc (suc (suc (suc n)))) = 2
+
+in_place : (i : ℕ) (p : PairValue) → slice_get world.whole.pairs i ≡ Some p → (pair_place p.caller ≡ i) × (pair_place p.callee ≡ i)
+in_place = each (λ i (p : PairValue). (pair_place p.caller ≡ i) × (pair_place p.callee ≡ i)) world.whole.pairs ((refl, refl), ((refl, refl), ((refl, refl), tt)))
+
+place_of : (i : ℕ) (p : PairValue) (number : ℕ) → slice_get world.whole.pairs i ≡ Some p → IsIn p number → pair_place number ≡ i
+place_of i p number at (inl e) = ap pair_place (sym e) ∙ (in_place i p at).0
+place_of i p number at (inr e) = ap pair_place (sym e) ∙ (in_place i p at).1
+
+abbrev Took : ℕ → RecordValue → Type 0
+Took n r = TookNothing (taken_epochs r) ⊎ ((i : ℕ) × (p : PairValue) × (slice_get world.whole.pairs i ≡ Some p) × IsIn p n)
+
+whole_holds : RegisterHolds world.whole
+whole_holds = record {
+  pairs_hold = each (λ i (p : PairValue). PairHolds world.whole p) world.whole.pairs (second_host, (first_host, (second_again, tt)));
+  numbers = each (λ i (r : RecordValue). r.number ≡ i) world.whole.records (refl, (refl, (refl, (refl, (refl, (refl, (refl, (refl, tt))))))));
+  nodes = each (λ i (r : RecordValue). IsOfEnd world.whole r.node) world.whole.records (of_line 0 _ 1 refl (inl refl), (of_line 0 _ 9 refl (inr refl), (of_line 1 _ 9 refl (inr refl), (of_line 1 _ 2 refl (inl refl), (of_line 0 _ 1 refl (inl refl), (of_line 0 _ 9 refl (inr refl), (of_line 1 _ 9 refl (inr refl), (of_line 1 _ 2 refl (inl refl), tt))))))));
+  in_one = λ i j p q number at there x y. sym (place_of i p number at x) ∙ place_of j q number there y;
+  took = each Took world.whole.records (inl (record { items = refl; interrupts = refl }, tt), (inr (1, record { caller = 0; callee = 1 }, refl, inr refl), (inl (record { items = refl; interrupts = refl }, tt), (inr (0, record { caller = 2; callee = 3 }, refl, inr refl), (inl (record { items = refl; interrupts = refl }, tt), (inl (record { items = refl; interrupts = refl }, tt), (inl (record { items = refl; interrupts = refl }, tt), (inl (record { items = refl; interrupts = refl }, tt), tt))))))));
+}
+
+came_to : (a y x : ℕ) → PairHolds world.whole (record { caller = y; callee = a }) → Some y ≡ Some x → PairHolds world.whole (record { caller = x; callee = a })
+came_to a y x h e = subst (λ (n : ℕ). PairHolds world.whole (record { caller = n; callee = a })) (same_Some y x e) h
+
+calls_hold : CallsHold world
+calls_hold = record {
+  register = whole_holds;
+  came = λ a x c. each (λ i (o : Origin). (x : ℕ) → o.caller ≡ Some x → PairHolds world.whole (record { caller = x; callee = i })) world.origins ((λ x e. absurd (none-some x e)), ((λ x e. came_to 1 0 x first_host e), ((λ x e. absurd (none-some x e)), ((λ x e. came_to 3 2 x second_host e), ((λ x e. absurd (none-some x e)), ((λ x e. came_to 5 4 x first_again e), ((λ x e. absurd (none-some x e)), ((λ x e. came_to 7 6 x second_again e), tt)))))))) a c.origin c.there x c.came;
+  once = λ a b x c d. next_is a x c.origin c.there c.came ∙ sym (next_is b x d.origin d.there d.came);
+}
+  where
+    next_is : (a x : ℕ) (o : Origin) → slice_get world.origins a ≡ Some o → o.caller ≡ Some x → a ≡ suc x
+    next_is a x o at e = each (λ i (p : Origin). (x : ℕ) → p.caller ≡ Some x → i ≡ suc x) world.origins ((λ x e. absurd (none-some x e)), ((λ x e. ap suc (same_Some 0 x e)), ((λ x e. absurd (none-some x e)), ((λ x e. ap suc (same_Some 2 x e)), ((λ x e. absurd (none-some x e)), ((λ x e. ap suc (same_Some 4 x e)), ((λ x e. absurd (none-some x e)), ((λ x e. ap suc (same_Some 6 x e)), tt)))))))) a o at x e
+
+-- ---- each join relays
+
+first_join : JoinHolds plan world 1 2
+first_join = record {
+  from = _;
+  to = _;
+  from_there = refl;
+  to_there = refl;
+  onward = confirms_itself _;
+  backward = confirms_itself _;
+  own = refl;
+  far = refl;
+  routed = λ o at. ap (λ (p : Origin). p.line) (sym (same_Some (record { line = 1; role = Dce; caller = None }) o at));
+}
+
+second_join : JoinHolds plan world 5 6
+second_join = record {
+  from = _;
+  to = _;
+  from_there = refl;
+  to_there = refl;
+  onward = confirms_itself _;
+  backward = confirms_itself _;
+  own = refl;
+  far = refl;
+  routed = λ o at. ap (λ (p : Origin). p.line) (sym (same_Some (record { line = 1; role = Dce; caller = None }) o at));
+}
+
+abbrev Sent : ℕ → Origin → Type 0
+Sent a o = (x : ℕ) (r : RecordValue) → o.caller ≡ Some x → plan.has_user o.line o.role ≡ false → slice_get world.whole.records a ≡ Some r
+    → AreEmpty (sent_by r) ⊎ ((b : ℕ) × IsJoined world.joins a b)
+
+joins_hold : JoinsHold plan world
+joins_hold = record {
+  joins = λ a b j. each (λ i (q : Join). JoinHolds plan world q.came_in q.placed) world.joins (first_join, (second_join, tt)) j.place (record { came_in = a; placed = b }) j.there;
+  sent = λ a x o r at came switch there. each Sent world.origins ((λ x r e u at. absurd (none-some x e)), ((λ x r e u at. inr (2, record { place = 0; there = refl })), ((λ x r e u at. absurd (none-some x e)), ((λ x r e u at. absurd (true≢false u)), ((λ x r e u at. absurd (none-some x e)), ((λ x r e u at. inr (6, record { place = 1; there = refl })), ((λ x r e u at. absurd (none-some x e)), ((λ x r e u at. absurd (true≢false u)), tt)))))))) a o at x r came switch there;
+}
+
+pub run_is_right : RunLaw
+run_is_right = record { may = may_all; calls = calls_hold; joins = joins_hold; pairs = refl; records = refl }

@@ -1,0 +1,19 @@
+use Rattle.call_path_laws.proofs.Making.{made_seen}
+use Rattle.call_path_laws.proofs.Happening.{happens}
+use Rattle.call_path_laws.proofs.Promising.{promised}
+use Rattle.call_path_laws.proofs.Beginning.{paths_hold, without_switch}
+use Rattle.call_path_laws.proofs.Showing.{owned, present_shown, came_shown, paired_shown}
+use Rattle.call_path_laws.proofs.path_law.Goals as goal
+
+pub returns : goal.returns
+returns c = record {
+  made = made_seen;
+  events = happens;
+  promise = promised;
+  path = paths_hold;
+  without = without_switch;
+  owned = owned;
+  present = present_shown;
+  came = came_shown;
+  paired = paired_shown;
+}

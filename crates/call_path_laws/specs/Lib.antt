@@ -1,0 +1,5 @@
+pub mod World
+pub mod Seen
+pub mod Promise
+pub mod Law
+pub mod Run

@@ -1,0 +1,169 @@
+-- The register of a network with switches, beside one that nobody stores. The whole register has the records of all
+-- ends of lines, a switch's among them; the register has those of the ends with users, PADs and hosts.
+use Rattle.std.specs.Prelude.{◌≡◌, ℕ, suc, ◌<◌, Bool, true, false, List, [], ◌∷◌, ◌++◌, length, slice_get, Option, Some, None, map}
+use Rattle.link_timers.specs.declared.role.Role.{Role}
+use Rattle.link_timers.specs.declared.role.Role.TheVariants.{Dte, Dce}
+use Rattle.link_timers.specs.Role.{other_of}
+use Rattle.packet_layer.specs.Packets.{CallParts, Note}
+use Rattle.packet_layer.specs.Packets.Note.{Incoming}
+use Rattle.call_records.specs.Book.{Book, slot_at, with_slot, places_from, told}
+use Rattle.call_records.specs.Writes.{Write, written_by}
+use Rattle.call_records.specs.Writes.Write.{Placed, Told}
+use Rattle.call_records.specs.Register.{Register, LinePlan, free_ends, book_at, written_at, all_written_at}
+
+-- ---- where a record comes from
+
+-- the end at which it was made, and, where the call came in there, the record of the end that placed it
+pub record Origin : Type 0 where
+  pub line : ℕ
+  pub role : Role
+  pub caller : Option ℕ
+
+-- of the records that a note adds to a book
+abbrev pub noted : (line : ℕ) → Role → Note → Book → List Origin → List Origin
+noted line role (Incoming channel parts) b origins =
+    origins ++ record { line = line; role = role; caller = (slot_at (other_of role) channel b).placed } ∷ []
+noted line role note b origins = origins
+
+abbrev pub all_noted : (line : ℕ) → Role → List Note → Book → List Origin → List Origin
+all_noted line role [] b origins = origins
+all_noted line role (note ∷ notes) b origins =
+    all_noted line role notes (told role note b) (noted line role note b origins)
+
+abbrev pub with_placed : (line : ℕ) → Role → Option ℕ → List Origin → List Origin
+with_placed line role None origins = origins
+with_placed line role (Some channel) origins = origins ++ record { line = line; role = role; caller = None } ∷ []
+
+-- of those that a write adds, and a list of writes
+abbrev pub traced : (line : ℕ) → Role → Write → Book → List Origin → List Origin
+traced line role (Told notes) b origins = all_noted line role notes b origins
+traced line role (Placed channel parts) b origins = with_placed line role channel origins
+traced line role write b origins = origins
+
+abbrev pub all_traced : (line : ℕ) → Role → List Write → Book → List Origin → List Origin
+all_traced line role [] b origins = origins
+all_traced line role (write ∷ writes) b origins =
+    all_traced line role writes (written_by role write b) (traced line role write b origins)
+
+-- ---- the network
+
+-- a channel at an end of a line
+pub record Place : Type 0 where
+  pub line : ℕ
+  pub role : Role
+  pub channel : ℕ
+
+-- a switch joined the call that came in with the one that it then placed: the numbers of its two records
+pub record Join : Type 0 where
+  pub came_in : ℕ
+  pub placed : ℕ
+
+pub record World : Type 0 where
+  pub register : Register
+  pub whole : Register
+  pub origins : List Origin
+  pub joins : List Join
+
+-- the node at each end of each line, and whether it is one with users; and, for each switch, the line to which it sends
+-- calls to an address
+pub record Plan : Type 0 where
+  pub node : (line : ℕ) → Role → ℕ
+  pub has_user : (line : ℕ) → Role → Bool
+  pub route : (switch : ℕ) → Option (List ℕ) → ℕ
+
+-- ---- what happens
+
+-- writes at an end with a user, and at one of a switch; a call that came in at a switch is placed onward, and joined
+pub data Event : Type 0 where
+  Writes : (line : ℕ) → Role → List Write → Event
+  SwitchWrites : (line : ℕ) → Role → List Write → Event
+  Joins : (from to : Place) → CallParts → Event
+
+-- a channel holds the record of the end that placed the call, as if the channel's end had placed it
+abbrev pub holds : Role → (channel : ℕ) → Option ℕ → Book → Book
+holds role channel holder b = with_slot role channel (record (slot_at role channel b) { placed = holder }) b
+
+-- the holder for the channel to which a call goes on: that of the far end of the channel on which it came
+abbrev pub holder_of : Place → Register → Option ℕ
+holder_of from g = (slot_at (other_of from.role) from.channel (book_at from.line g)).placed
+
+abbrev pub with_join : Option ℕ → (placed : ℕ) → List Join → List Join
+with_join None placed joins = joins
+with_join (Some came_in) placed joins = joins ++ record { came_in = came_in; placed = placed } ∷ []
+
+abbrev pub after_event : Event → World → World
+after_event (Writes line role writes) w = record w {
+  register = all_written_at line role writes w.register;
+  whole = all_written_at line role writes w.whole;
+  origins = all_traced line role writes (book_at line w.whole) w.origins;
+}
+after_event (SwitchWrites line role writes) w = record w {
+  whole = all_written_at line role writes w.whole;
+  origins = all_traced line role writes (book_at line w.whole) w.origins;
+}
+after_event (Joins from to parts) w = record {
+  register = written_at to.line (holds to.role to.channel (holder_of from w.register)) w.register;
+  whole = written_at to.line (places_from to.role to.channel parts.calling parts.called) w.whole;
+  origins = w.origins ++ record { line = to.line; role = to.role; caller = None } ∷ [];
+  joins = with_join (slot_at from.role from.channel (book_at from.line w.whole)).present (length w.whole.records) w.joins;
+}
+
+abbrev pub after_all : List Event → World → World
+after_all [] w = w
+after_all (event ∷ events) w = after_all events (after_event event w)
+
+-- ---- what may happen
+
+abbrev pub PlacesNone : Write → Type 0
+PlacesNone (Placed (Some channel) parts) = ⊥
+PlacesNone write = Unit {0}
+
+abbrev pub AllPlaceNone : List Write → Type 0
+AllPlaceNone [] = Unit {0}
+AllPlaceNone (write ∷ writes) = PlacesNone write × AllPlaceNone writes
+
+-- a switch writes at its own end; it places a call where it joins one
+pub record IsSwitchEnd (plan : Plan) (line : ℕ) (role : Role) (w : World) : Type 0 where
+  pub there : line < length w.whole.lines
+  pub switch : plan.has_user line role ≡ false
+
+-- a switch joins a call as it comes in: the end that placed it placed none since, and no join has it yet
+pub record MayJoin (plan : Plan) (from to : Place) (w : World) : Type 0 where
+  pub from_end : IsSwitchEnd plan from.line from.role w
+  pub to_end : IsSwitchEnd plan to.line to.role w
+  pub one_switch : plan.node from.line from.role ≡ plan.node to.line to.role
+  pub came_in : ℕ
+  pub caller : ℕ
+  pub present : (slot_at from.role from.channel (book_at from.line w.whole)).present ≡ Some came_in
+  pub came : (slot_at from.role from.channel (book_at from.line w.whole)).caller ≡ Some caller
+  pub last : (slot_at (other_of from.role) from.channel (book_at from.line w.whole)).placed ≡ Some caller
+  pub first : (k : ℕ) (j : Join) → slice_get w.joins k ≡ Some j → j.came_in ≡ came_in → ⊥
+
+abbrev pub MayHappen : Plan → Event → World → Type 0
+MayHappen plan (Writes line role writes) w = (line < length w.whole.lines) × (plan.has_user line role ≡ true)
+MayHappen plan (SwitchWrites line role writes) w = IsSwitchEnd plan line role w × AllPlaceNone writes
+MayHappen plan (Joins from to parts) w = MayJoin plan from to w
+
+abbrev pub MayAll : Plan → List Event → World → Type 0
+MayAll plan [] w = Unit {0}
+MayAll plan (event ∷ events) w = MayHappen plan event w × MayAll plan events (after_event event w)
+
+-- ---- the making
+
+-- free lines; a call that stands on one is placed, comes in and is accepted as any other
+abbrev pub free_register : List LinePlan → Register
+free_register plans = record { records = []; pairs = []; lines = map free_ends plans }
+
+abbrev pub made_world : List LinePlan → World
+made_world plans = record {
+  register = free_register plans;
+  whole = free_register plans;
+  origins = [];
+  joins = [];
+}
+
+-- the lines are between the nodes of the plan
+abbrev pub AreBetween : Plan → (first : ℕ) → List LinePlan → Type 0
+AreBetween plan first [] = Unit {0}
+AreBetween plan first (line ∷ lines) =
+    (line.dte_node ≡ plan.node first Dte) × ((line.dce_node ≡ plan.node first Dce) × AreBetween plan (suc first) lines)

@@ -1,0 +1,30 @@
+//! What the register of a network with switches has of its calls, over paths of any length.
+#![tactic(auto)]
+
+ghost use Rattle.call_path_laws.specs.Law.{MadeLaw, EventLaw, PromiseLaw, PathLaw, WithoutSwitchLaw};
+ghost use Rattle.call_path_laws.specs.Law.{OwnedLaw, PresentLaw, CameLaw, PairedLaw};
+ghost use Rattle.call_path_laws.specs.Run.{RunLaw};
+
+/// The law of calls through switches, over definitions alone: beside the register stands a whole one, which has a
+/// record of each leg of each switch too, and whatever happens, the register has what the whole one has of the ends
+/// with users. Where all lines hold and all joins relay, each pair of the register holds over a path of any length.
+pub fn path_law()
+    ensures made { MadeLaw }
+    ensures events { EventLaw }
+    ensures promise { PromiseLaw }
+    ensures path { PathLaw }
+    ensures without { WithoutSwitchLaw }
+
+    // The register's records are among those of the whole one; a channel at a user's end has in both what is known of
+    // its call.
+    ensures owned { OwnedLaw }
+    ensures present { PresentLaw }
+    ensures came { CameLaw }
+    ensures paired { PairedLaw }
+{}
+
+/// A run of two hosts and a switch between them, by computation: it meets what the law asks for, with a message sent
+/// with D = 1 and confirmed, and with channels used again.
+pub fn run_law()
+    ensures { RunLaw }
+{}

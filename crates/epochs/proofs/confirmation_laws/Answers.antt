@@ -1,0 +1,14 @@
+use Rattle.epochs.proofs.Confirms.{confirms_itself, confirms_onward, aligned_confirms, nothing_confirms, confirmed_taken, confirms_match}
+use Rattle.epochs.proofs.Confirming.{relay_confirms}
+use Rattle.epochs.proofs.confirmation_laws.Goals as goal
+
+pub returns : goal.returns
+returns c = record {
+  itself = confirms_itself;
+  onward = confirms_onward;
+  aligned = aligned_confirms;
+  none = nothing_confirms;
+  taken = confirmed_taken;
+  is_match = confirms_match;
+  relay = relay_confirms;
+}
