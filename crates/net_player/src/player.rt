@@ -5,7 +5,7 @@ ghost use Rattle.std.specs.List.{flat_map};
 ghost use Rattle.net_player.specs.Answers.{frame_text, note_text, frames_text, answer_text};
 ghost use Rattle.net_events.specs.declared.event.Event.{Event};
 ghost use Rattle.line_sim.specs.Network.{Network};
-ghost use Rattle.line_sim.specs.Waiting.{all_due};
+ghost use Rattle.line_sim.specs.DueCount.{all_due};
 ghost use Rattle.line_sim.specs.Due.{net_due};
 ghost use Rattle.net_player.specs.InTurn.{InTurn, Writes};
 ghost use Rattle.net_player.specs.Playing.{has_arrived, Tells, TellsEvent, Delivers, Passes, Flows};

@@ -1,4 +1,4 @@
-use Rattle.line_sim.specs.Waiting.{all_due}
+use Rattle.line_sim.specs.DueCount.{all_due}
 use Rattle.net_player.specs.InTurn.{Writes}
 use Rattle.net_player.proofs.Expiries.{Onward}
 use Rattle.net_player.proofs.player.Player.tick.Given as goal
