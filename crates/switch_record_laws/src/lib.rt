@@ -1,10 +1,12 @@
 //! The legs of a switch's calls are the present records of its lines' books.
 #![tactic(auto)]
 
-ghost use Rattle.switch_record_laws.specs.Law.{MadeLaw, ActsLaw, PartnerLaw, RestLaw, RestsLaw, JoinsLaw, MatchLaw};
+ghost use Rattle.switch_record_laws.specs.Law.{MadeLaw, ActsLaw, WritesLaw, PartnerLaw, RestLaw, RestsLaw};
+ghost use Rattle.switch_record_laws.specs.Law.{JoinsLaw, MatchLaw};
 ghost use Rattle.switch_record_laws.specs.Law.{FrameLaw, TimerLaw, ElapseLaw, RestartLaw};
 ghost use Rattle.switch_record_laws.specs.Kept.{StepsLaw, FrameKeptLaw, TimerKeptLaw, ElapseKeptLaw, RestartKeptLaw};
 ghost use Rattle.switch_record_laws.specs.Kept.{OutLaw, LeadsLaw, LegsLaw};
+ghost use Rattle.switch_record_laws.specs.Confirmed.{ConfirmedLaw};
 ghost use Rattle.switch_record_laws.specs.Opened.{ComesLaw, PlacesLaw, HeadLaw, HeadsLaw};
 ghost use Rattle.switch_record_laws.specs.Run.{RunLaw};
 
@@ -14,6 +16,9 @@ ghost use Rattle.switch_record_laws.specs.Run.{RunLaw};
 pub fn leg_record_law()
     ensures made { MadeLaw }
     ensures acts { ActsLaw }
+    ensures writes { WritesLaw }
+
+    // What is written at the other end.
     ensures partner { PartnerLaw }
 
     // A record that is of no present call stays as it is.
@@ -33,6 +38,9 @@ pub fn leg_record_law()
 pub fn join_record_law()
     ensures joins { JoinsLaw }
     ensures matches { MatchLaw }
+
+    // No more is confirmed on the leg where packets are taken than on the one where they are sent.
+    ensures confirmed { ConfirmedLaw }
 {}
 
 /// The same of whole events of a switch, whatever octets come on its lines: the acts that lead to the switch after the
