@@ -5,6 +5,7 @@ use Rattle.link_timers.specs.Role.{other_of}
 use Rattle.link_timers.specs.declared.timers.TimerId.{TimerId}
 use Rattle.epochs.specs.Epoch.{sent_epoch, taken_epoch, SentEpoch, TakenEpoch}
 use Rattle.epochs.specs.Match.{Match}
+use Rattle.epochs.specs.Confirmed.{Confirms, sent_confirmed, taken_confirmed}
 use Rattle.packet_layer.specs.Layer.{Layer, made}
 use Rattle.packet_laws.specs.Readable.{Every}
 use Rattle.call_records.specs.Records.{RecordValue}
@@ -68,6 +69,11 @@ JoinsLaw = (ls : List SwitchLine) (w : World) (bs : Books) → IsSwitch ls w →
 abbrev pub MatchLaw : Type 0
 MatchLaw = (taken : List TakenEpoch) (sent : List SentEpoch) → RelayedTo taken sent
     → Match (map sent_epoch sent) (map taken_epoch taken)
+
+-- and by one such matching what is confirmed on the leg where packets are taken is on the one where they are sent
+abbrev pub ConfirmsLaw : Type 0
+ConfirmsLaw = (taken : List TakenEpoch) (sent : List SentEpoch) → RelayedTo taken sent
+    → Confirms (map sent_confirmed sent) (map taken_confirmed taken)
 
 -- ---- events of a switch
 

@@ -1,7 +1,6 @@
 pub mod Records
 pub mod Written
 pub mod Relayed
-pub mod Confirmed
 pub mod Rests
 pub mod Joined
 pub mod Opened

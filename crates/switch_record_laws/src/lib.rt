@@ -2,11 +2,10 @@
 #![tactic(auto)]
 
 ghost use Rattle.switch_record_laws.specs.Law.{MadeLaw, ActsLaw, WritesLaw, PartnerLaw, RestLaw, RestsLaw};
-ghost use Rattle.switch_record_laws.specs.Law.{JoinsLaw, MatchLaw};
+ghost use Rattle.switch_record_laws.specs.Law.{JoinsLaw, MatchLaw, ConfirmsLaw};
 ghost use Rattle.switch_record_laws.specs.Law.{FrameLaw, TimerLaw, ElapseLaw, RestartLaw};
 ghost use Rattle.switch_record_laws.specs.Kept.{StepsLaw, FrameKeptLaw, TimerKeptLaw, ElapseKeptLaw, RestartKeptLaw};
 ghost use Rattle.switch_record_laws.specs.Kept.{OutLaw, LeadsLaw, LegsLaw};
-ghost use Rattle.switch_record_laws.specs.Confirmed.{ConfirmedLaw};
 ghost use Rattle.switch_record_laws.specs.Opened.{ComesLaw, PlacesLaw, HeadLaw, HeadsLaw};
 ghost use Rattle.switch_record_laws.specs.Run.{RunLaw};
 
@@ -39,8 +38,8 @@ pub fn join_record_law()
     ensures joins { JoinsLaw }
     ensures matches { MatchLaw }
 
-    // No more is confirmed on the leg where packets are taken than on the one where they are sent.
-    ensures confirmed { ConfirmedLaw }
+    // By one matching no more is confirmed on the leg where packets are taken than on the one where they are sent.
+    ensures confirms { ConfirmsLaw }
 {}
 
 /// The same of whole events of a switch, whatever octets come on its lines: the acts that lead to the switch after the
