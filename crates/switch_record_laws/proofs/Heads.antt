@@ -1,20 +1,20 @@
 -- New records, and what of a record stays.
-use Rattle.std.specs.Prelude.{◌≡◌, ℕ, ◌≤◌, Bool, true, false, cond, if◌then◌else◌, ◌==◌, List, [], ◌∷◌, length, slice_get, Option, Some, None}
+use Rattle.std.specs.Prelude.{◌≡◌, ℕ, zero, suc, ◌≤◌, Bool, true, false, cond, if◌then◌else◌, ◌==◌, List, [], ◌∷◌, length, slice_get, Option, Some, None}
 use Rattle.std.proofs.Common.{inl, inr, refl, sym, ap, subst, ◌∙◌}
 use Rattle.link_timers.specs.declared.role.Role.{Role}
 use Rattle.link_timers.specs.declared.role.Role.TheVariants.{Dce}
-use Rattle.packet_layer.specs.Packets.{Note, CallParts}
+use Rattle.packet_layer.specs.Packets.{Note, CallParts, Datum}
 use Rattle.packet_layer.specs.Packets.Note.{Incoming, Connected, Closed, WasReset, InterruptConfirmed, Covered}
 use Rattle.packet_layer.specs.Traffic.{Taken}
 use Rattle.packet_layer.specs.Traffic.Taken.{TakenInterrupt, TakenPacket}
 use Rattle.packet_layer.specs.Channel.{Channel, Request, Refusal}
 use Rattle.packet_layer.specs.Channel.Request.{Accept, Clearing, Resetting, Sending, Interrupting, Stopping, Taking, Releasing, Confirming}
-use Rattle.packet_layer.specs.Layer.{Layer, channel_of, channel_given, front_on, front_at, request_refusal}
-use Rattle.packet_laws.specs.Line.Event.{Up, Down, Calls, Requests, Expires, Offers, Arrives}
-use Rattle.call_records.specs.Records.{RecordValue, new_record, changed_at, with_sent, with_interrupt_sent, with_taken, with_interrupt_taken, with_released, with_covered, with_epoch, with_closed}
-use Rattle.call_records.specs.Book.{Book, Slot, slot_at, with_slot, with_record, with_change, changed, closes, with_pair, takes, told, all_told}
+use Rattle.packet_layer.specs.Layer.{Layer, channel_of, channel_given, front_at, request_refusal}
+use Rattle.call_records.specs.Closing.{closes_if, closes_present, closed_from}
+use Rattle.call_records.specs.Writes.{Write, all_sent, let_go, written_by}
+use Rattle.call_records.specs.Records.{RecordValue, new_record, changed_at, with_sent, with_interrupt_sent, with_taken, with_interrupt_taken, with_released, with_covered, with_epoch, with_closed, with_step}
+use Rattle.call_records.specs.Book.{Book, Slot, side_of, slot_at, with_slot, with_record, with_change, changed, closes, with_pair, takes, sends, told, all_told}
 use Rattle.call_records.specs.Carried.{carried, unless_refused, placed_on}
-use Rattle.book_laws.specs.Told.{notes_of}
 use Rattle.book_laws.proofs.Basics.{get_before, get_last, number_is}
 use Rattle.book_laws.proofs.Writing.{slot_here, size_record}
 use Rattle.switch_laws.specs.World.{Act, line_of, after_act}
@@ -127,14 +127,35 @@ requests_head x c (Releasing k) o n r b h = by_room (may_release_on o k)
     by_room false = h
 requests_head x c q o n r b h = carried_head x c q (front_at o) n r b h
 
+sent_head : (x : Role) (c : ℕ) (ds : List Datum) (n : ℕ) (r : RecordValue) (b : Book) → SameHead r n b → SameHead r n (all_sent x c ds b)
+sent_head x c [] n r b h = h
+sent_head x c (d ∷ ds) n r b h = sent_head x c ds n r (sends x c d b) (changed_head x c (with_sent d) n r b (λ s. (refl, (refl, (refl, refl)))) h)
+
+let_go_head : (x : Role) (c : ℕ) (t : Taken) (n : ℕ) (r : RecordValue) (b : Book) → SameHead r n b → SameHead r n (let_go t x c b)
+let_go_head x c (TakenInterrupt octets) n r b h = h
+let_go_head x c (TakenPacket d) n r b h = changed_head x c (with_released 1) n r b (λ s. (refl, (refl, (refl, refl)))) h
+
+close_head : (x : Role) (o : Option ℕ) (c n : ℕ) (r : RecordValue) (b : Book) → SameHead r n b → SameHead r n (closes_if o x c b)
+close_head x None c n r b h = h
+close_head x (Some k) c n r b h = closes_head x c n r b h
+
+closed_head : (x : Role) (count c n : ℕ) (r : RecordValue) (b : Book) → SameHead r n b → SameHead r n (closed_from count c x b)
+closed_head x zero c n r b h = h
+closed_head x (suc count) c n r b h = closed_head x count (suc c) n r (closes_present x c b) (close_head x (slot_at x c b).present c n r b h)
+
+write_head : (x : Role) (w : Write) (n : ℕ) (r : RecordValue) (b : Book) → SameHead r n b → SameHead r n (written_by x w b)
+write_head x (Write.Told notes) n r b h = all_told_head x notes n r b h
+write_head x (Write.Placed o parts) n r b h = places_head x o parts n r b h
+write_head x (Write.Asked o c q f) n r b h = unless_head o n r b (carried x c q f b) h (carried_head x c q f n r b h)
+write_head x (Write.Said o c ds) n r b h = unless_head o n r b (all_sent x c ds b) h (sent_head x c ds n r b h)
+write_head x (Write.Took c t) n r b h = let_go_head x c t n r (takes x c (Some t) b) (takes_head x c (Some t) n r b h)
+write_head x (Write.Cleared o c) n r b h = unless_head o n r b (closes x c b) h (closes_head x c n r b h)
+write_head x (Write.Edited c step) n r b h = changed_head x c (with_step step) n r b (λ s. (refl, (refl, (refl, refl)))) h
+write_head x Write.AllClosed n r b h = closed_head x (length (side_of x b).slots) 1 n r b h
+
 pub event_head : HeadLaw
-event_head x (Calls parts) v n r b h = places_head x (channel_given v.me.layer v.me.layer.phase) parts n r b h
-event_head x (Requests c q) v n r b h = unless_head (request_refusal v.me.layer c q) n r b (carried x c q (front_on v.me.layer c) b) h (carried_head x c q (front_on v.me.layer c) n r b h)
-event_head x (Up s) v n r b h = all_told_head x (notes_of (Up s) v) n r b h
-event_head x Down v n r b h = all_told_head x (notes_of Down v) n r b h
-event_head x (Expires t) v n r b h = all_told_head x (notes_of (Expires t) v) n r b h
-event_head x Offers v n r b h = h
-event_head x Arrives v n r b h = all_told_head x (notes_of Arrives v) n r b h
+event_head x [] n r b h = h
+event_head x (w ∷ ws) n r b h = event_head x ws n r (written_by x w b) (write_head x w n r b h)
 
 act_head : (x : Role) (a : Act) (l : Layer) (n : ℕ) (r : RecordValue) (b : Book) → SameHead r n b → SameHead r n (writes x a l b)
 act_head x (Act.Asks p q) l n r b h = unless_head (request_refusal l p.channel q) n r b (request_writes x p.channel q (channel_of l p.channel) b) h (requests_head x p.channel q (channel_of l p.channel) n r b h)

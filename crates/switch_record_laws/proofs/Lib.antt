@@ -5,6 +5,7 @@ pub mod Lines
 pub mod Acts
 pub mod Partner
 pub mod Relaying
+pub mod Confirming
 pub mod Resting
 pub mod Heads
 pub mod Making

@@ -1,20 +1,20 @@
 -- What is written at the other end of a line.
-use Rattle.std.specs.Prelude.{ℕ, ◌≤◌, List, [], ◌∷◌, Option, Some, None}
+use Rattle.std.specs.Prelude.{ℕ, zero, suc, ◌≤◌, List, [], ◌∷◌, length, Option, Some, None}
 use Rattle.std.proofs.Common.{refl, sym, subst}
 use Rattle.link_timers.specs.declared.role.Role.{Role}
 use Rattle.link_timers.specs.Role.{other_of}
-use Rattle.packet_layer.specs.Packets.{Note, CallParts}
+use Rattle.packet_layer.specs.Packets.{Note, CallParts, Datum}
 use Rattle.packet_layer.specs.Traffic.{Taken}
 use Rattle.packet_layer.specs.Traffic.Taken.{TakenInterrupt, TakenPacket}
 use Rattle.packet_layer.specs.Channel.{Request, Refusal}
 use Rattle.packet_layer.specs.Channel.Request.{Accept, Clearing, Resetting, Sending, Interrupting, Stopping, Taking, Releasing, Confirming}
-use Rattle.packet_layer.specs.Layer.{Layer, channel_of, channel_given, front_on, request_refusal}
-use Rattle.packet_laws.specs.Line.Event.{Up, Down, Calls, Requests, Expires, Offers, Arrives}
-use Rattle.call_records.specs.Records.{with_sent, with_interrupt_sent, with_taken, with_interrupt_taken, with_released, with_epoch}
-use Rattle.call_records.specs.Book.{Book, told, all_told, takes}
+use Rattle.packet_layer.specs.Layer.{Layer, channel_of}
+use Rattle.call_records.specs.Records.{with_sent, with_interrupt_sent, with_taken, with_interrupt_taken, with_released, with_epoch, with_step}
+use Rattle.call_records.specs.Book.{Book, side_of, slot_at, told, all_told, takes, sends, releases, closes, edits}
 use Rattle.call_records.specs.Carried.{carried, unless_refused, placed_on}
-use Rattle.book_laws.specs.Told.{notes_of}
 use Rattle.book_laws.proofs.Basics.{other_differs}
+use Rattle.call_records.specs.Closing.{closes_if, closes_present, closed_from}
+use Rattle.call_records.specs.Writes.{Write, all_sent, let_go, written_by, all_written}
 use Rattle.switch_laws.specs.Leg.{Leg}
 use Rattle.switch_record_laws.specs.Records.{call_on, AreRecords}
 use Rattle.switch_record_laws.specs.Law.{PartnerLaw}
@@ -44,23 +44,52 @@ carried_touches x c Taking o b = takes_touch x c o b
 carried_touches x c (Releasing n) o b = changes x c (with_released n) b
 carried_touches x c Confirming o b = touches_none x c b
 
-requested : (x : Role) (c : ℕ) (q : Request) (f : Option Taken) (r : Option Refusal) (b : Book) → Touches x c b (unless_refused r (carried x c q f b) b)
-requested x c q f None b = carried_touches x c q f b
-requested x c q f (Some r) b = touches_none x c b
-
 pub placed_touches : (x : Role) (o : Option ℕ) (parts : CallParts) (b : Book) → TouchesOne x b (placed_on x o parts b)
 placed_touches x None parts b = record { channel = 0; touches = touches_none x 0 b }
 placed_touches x (Some c) parts b = record { channel = c; touches = touches_new x c _ _ b refl }
 
-all_there : (x : Role) (l : Layer) (legs : ℕ → Leg) (notes : List Note) (b : Book) → AreRecords x l legs b → AreRecords x l legs (all_told (other_of x) notes b)
-all_there x l legs [] b r = r
-all_there x l legs (note ∷ notes) b r = all_there x l legs notes (told (other_of x) note b) (there x l legs b (told (other_of x) note b) (told_touches (other_of x) note b) r)
+-- what holds over each change of one channel holds over all that may be written
+module _ (P : Book → Type 0) (x : Role) (keeps : (b b' : Book) → TouchesOne x b b' → P b → P b') where
+  at_one : (c : ℕ) (b b' : Book) → Touches x c b b' → P b → P b'
+  at_one c b b' t p = keeps b b' (record { channel = c; touches = t }) p
+
+  told_keeps : (notes : List Note) (b : Book) → P b → P (all_told x notes b)
+  told_keeps [] b p = p
+  told_keeps (note ∷ notes) b p = told_keeps notes (told x note b) (keeps b (told x note b) (told_touches x note b) p)
+
+  unless_keeps : (o : Option Refusal) (b b' : Book) → P b → P b' → P (unless_refused o b' b)
+  unless_keeps None b b' p q = q
+  unless_keeps (Some r) b b' p q = p
+
+  sent_keeps : (c : ℕ) (ds : List Datum) (b : Book) → P b → P (all_sent x c ds b)
+  sent_keeps c [] b p = p
+  sent_keeps c (d ∷ ds) b p = sent_keeps c ds (sends x c d b) (at_one c b (sends x c d b) (changes x c (with_sent d) b) p)
+
+  let_go_keeps : (c : ℕ) (t : Taken) (b : Book) → P b → P (let_go t x c b)
+  let_go_keeps c (TakenInterrupt octets) b p = p
+  let_go_keeps c (TakenPacket d) b p = at_one c b (releases x c 1 b) (changes x c (with_released 1) b) p
+
+  close_keeps : (o : Option ℕ) (c : ℕ) (b : Book) → P b → P (closes_if o x c b)
+  close_keeps None c b p = p
+  close_keeps (Some n) c b p = at_one c b (closes x c b) (touches_closed x c b) p
+
+  closed_keeps : (count c : ℕ) (b : Book) → P b → P (closed_from count c x b)
+  closed_keeps zero c b p = p
+  closed_keeps (suc count) c b p = closed_keeps count (suc c) (closes_present x c b) (close_keeps (slot_at x c b).present c b p)
+
+  pub write_keeps : (w : Write) (b : Book) → P b → P (written_by x w b)
+  write_keeps (Write.Told notes) b p = told_keeps notes b p
+  write_keeps (Write.Placed o parts) b p = keeps b (placed_on x o parts b) (placed_touches x o parts b) p
+  write_keeps (Write.Asked o c q f) b p = unless_keeps o b (carried x c q f b) p (at_one c b (carried x c q f b) (carried_touches x c q f b) p)
+  write_keeps (Write.Said o c ds) b p = unless_keeps o b (all_sent x c ds b) p (sent_keeps c ds b p)
+  write_keeps (Write.Took c t) b p = let_go_keeps c t (takes x c (Some t) b) (at_one c b (takes x c (Some t) b) (takes_touch x c (Some t) b) p)
+  write_keeps (Write.Cleared o c) b p = unless_keeps o b (closes x c b) p (at_one c b (closes x c b) (touches_closed x c b) p)
+  write_keeps (Write.Edited c step) b p = at_one c b (edits x c step b) (changes x c (with_step step) b) p
+  write_keeps Write.AllClosed b p = closed_keeps (length (side_of x b).slots) 1 b p
+
+  pub writes_keep : (ws : List Write) (b : Book) → P b → P (all_written x ws b)
+  writes_keep [] b p = p
+  writes_keep (w ∷ ws) b p = writes_keep ws (written_by x w b) (write_keeps w b p)
 
 pub partner_leaves : PartnerLaw
-partner_leaves x l legs b (Calls parts) v r = there x l legs b _ (placed_touches (other_of x) (channel_given v.me.layer v.me.layer.phase) parts b) r
-partner_leaves x l legs b (Requests c q) v r = there x l legs b _ (record { channel = c; touches = requested (other_of x) c q (front_on v.me.layer c) (request_refusal v.me.layer c q) b }) r
-partner_leaves x l legs b (Up s) v r = all_there x l legs (notes_of (Up s) v) b r
-partner_leaves x l legs b Down v r = all_there x l legs (notes_of Down v) b r
-partner_leaves x l legs b (Expires t) v r = all_there x l legs (notes_of (Expires t) v) b r
-partner_leaves x l legs b Offers v r = r
-partner_leaves x l legs b Arrives v r = all_there x l legs (notes_of Arrives v) b r
+partner_leaves x l legs ws b r = writes_keep (λ (y : Book). AreRecords x l legs y) (other_of x) (λ y y' t h. there x l legs y y' t h) ws b r

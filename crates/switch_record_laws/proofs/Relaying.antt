@@ -184,7 +184,7 @@ joins_relay ls w bs i h p j e = by_pair k.pair
 
 -- ---- matching
 
-same_prefix : (t : TakenEpoch) (s : SentEpoch) → IsHandedOn t s → IsPrefixOf (sent_epoch s) (taken_epoch t)
+pub same_prefix : (t : TakenEpoch) (s : SentEpoch) → IsHandedOn t s → IsPrefixOf (sent_epoch s) (taken_epoch t)
 same_prefix t s h = record {
   items = record { rest = []; whole = append-nil (all_items s.packets) ∙ ap (λ (ps : List DataPacket). all_items ps) h.packets };
   interrupts = record { rest = []; whole = append-nil s.interrupts ∙ h.interrupts };

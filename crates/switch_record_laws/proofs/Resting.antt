@@ -1,25 +1,24 @@
 -- Records that are of no present call stay as they are.
 use Rattle.std.specs.Prelude.{◌≡◌, ℕ, Bool, true, false, cond, if◌then◌else◌, ◌==◌, List, [], ◌∷◌, slice_get, Option, Some, None}
-use Rattle.std.proofs.Common.{inl, inr, sym, subst, ◌∙◌, arith}
+use Rattle.std.proofs.Common.{refl, inl, inr, sym, subst, ◌∙◌, arith}
 use Rattle.link_timers.specs.declared.role.Role.{Role}
 use Rattle.link_timers.specs.declared.role.Role.TheVariants.{Dce}
 use Rattle.packet_layer.specs.Packets.{Note}
 use Rattle.packet_layer.specs.Channel.{Channel, Request, Refusal}
 use Rattle.packet_layer.specs.Channel.Request.{Releasing}
-use Rattle.packet_layer.specs.Layer.{Layer, channel_of, channel_given, front_on, front_at, request_refusal}
-use Rattle.packet_laws.specs.Line.Event.{Up, Down, Calls, Requests, Expires, Offers, Arrives}
+use Rattle.packet_layer.specs.Layer.{Layer, channel_of, channel_given, front_at, request_refusal}
 use Rattle.call_records.specs.Records.{RecordValue}
 use Rattle.call_records.specs.Book.{Book, slot_at, told, all_told}
 use Rattle.call_records.specs.Carried.{carried, unless_refused}
-use Rattle.book_laws.specs.Told.{notes_of}
 use Rattle.switch_laws.specs.World.{Act, line_of, after_act}
 use Rattle.switch_laws.specs.Joined.{notes_made}
-use Rattle.switch_record_laws.specs.Written.{may_release_on, request_writes, writes, writes_at, books_after}
+use Rattle.call_records.specs.Writes.{Write, written_by, all_written}
+use Rattle.switch_record_laws.specs.Written.{asked_writes, may_release_on, request_writes, writes, writes_at, books_after}
 use Rattle.switch_record_laws.specs.Rests.{Rests}
-use Rattle.switch_record_laws.specs.Law.{RestLaw, RestsLaw}
+use Rattle.switch_record_laws.specs.Law.{RestLaw, RestsLaw, WritesLaw}
 use Rattle.switch_record_laws.proofs.Cells.{Touches, got_below, here_or_not}
 use Rattle.switch_record_laws.proofs.Notes.{told_touches}
-use Rattle.switch_record_laws.proofs.Partner.{carried_touches, placed_touches}
+use Rattle.switch_record_laws.proofs.Partner.{carried_touches, placed_touches, writes_keep}
 
 rests : (x : Role) (d n : ℕ) (r : RecordValue) (b b' : Book) → Touches x d b b' → Rests n r b → Rests n r b'
 rests x d n r b b' t i = record { there = t.kept n r i.there (i.not_present x d); not_present = not_present }
@@ -54,13 +53,7 @@ requests_rest x c (Releasing k) o n r b i = by_room (may_release_on o k)
 requests_rest x c q o n r b i = carried_rests x c q o n r b i
 
 pub event_rests : RestLaw
-event_rests x (Calls parts) v n r b i = let t = placed_touches x (channel_given v.me.layer v.me.layer.phase) parts b in rests x t.channel n r b _ t.touches i
-event_rests x (Requests c q) v n r b i = asked_rests x (request_refusal v.me.layer c q) n r b (carried x c q (front_on v.me.layer c) b) (λ j. carried_rests x c q (channel_of v.me.layer c) n r b j) i
-event_rests x (Up s) v n r b i = told_rests x (notes_of (Up s) v) n r b i
-event_rests x Down v n r b i = told_rests x (notes_of Down v) n r b i
-event_rests x (Expires t) v n r b i = told_rests x (notes_of (Expires t) v) n r b i
-event_rests x Offers v n r b i = i
-event_rests x Arrives v n r b i = told_rests x (notes_of Arrives v) n r b i
+event_rests x ws n r b i = writes_keep (λ (y : Book). Rests n r y) x (λ y y' t h. rests x t.channel n r y y' t.touches h) ws b i
 
 act_rests : (x : Role) (a : Act) (l : Layer) (n : ℕ) (r : RecordValue) (b : Book) → Rests n r b → Rests n r (writes x a l b)
 act_rests x (Act.Asks p q) l n r b i = asked_rests x (request_refusal l p.channel q) n r b (request_writes x p.channel q (channel_of l p.channel) b) (λ j. requests_rest x p.channel q (channel_of l p.channel) n r b j) i
@@ -83,3 +76,33 @@ one_rests a false o n r b i = i
 pub acts_rest : RestsLaw
 acts_rest [] ys bs line n r i = i
 acts_rest (a ∷ more) ys bs line n r i = acts_rest more (after_act a ys) (books_after a ys bs) line n r (one_rests a (line == line_of a) (slice_get ys line) n r (bs line) i)
+
+-- ---- as a list of writes
+
+releases_as : (x : Role) (c k : ℕ) (v : Bool) (o : Option Refusal) (done b : Book) (w : Write) → unless_refused o done b ≡ written_by x w b → unless_refused o (cond v done b) b ≡ all_written x (if v then w ∷ [] else []) b
+releases_as x c k true o done b w e = e
+releases_as x c k false None done b w e = refl
+releases_as x c k false (Some r) done b w e = refl
+
+asks_as : (x : Role) (c : ℕ) (q : Request) (l : Layer) (b : Book) → unless_refused (request_refusal l c q) (request_writes x c q (channel_of l c) b) b ≡ all_written x (asked_writes c q l) b
+asks_as x c (Releasing k) l b =
+    releases_as x c k (may_release_on (channel_of l c) k) (request_refusal l c (Releasing k)) (carried x c (Releasing k) (front_at (channel_of l c)) b) b
+    (Write.Asked (request_refusal l c (Releasing k)) c (Releasing k) (front_at (channel_of l c))) refl
+asks_as x c Request.Accept l b = refl
+asks_as x c (Request.Clearing cause diagnostic) l b = refl
+asks_as x c (Request.Resetting cause diagnostic) l b = refl
+asks_as x c (Request.Sending d) l b = refl
+asks_as x c (Request.Interrupting octets) l b = refl
+asks_as x c (Request.Stopping v) l b = refl
+asks_as x c Request.Taking l b = refl
+asks_as x c Request.Confirming l b = refl
+
+pub act_writes_are : WritesLaw
+act_writes_are x (Act.Asks p q) l b = asks_as x p.channel q l b
+act_writes_are x (Act.Calls k parts) l b = refl
+act_writes_are x (Act.Comes k y) l b = refl
+act_writes_are x (Act.Expires k t) l b = refl
+act_writes_are x (Act.GoesUp k) l b = refl
+act_writes_are x (Act.GoesDown k) l b = refl
+act_writes_are x (Act.Gives k) l b = refl
+act_writes_are x (Act.Reads k) l b = refl

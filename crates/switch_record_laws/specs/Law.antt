@@ -5,13 +5,12 @@ use Rattle.link_timers.specs.Role.{other_of}
 use Rattle.link_timers.specs.declared.timers.TimerId.{TimerId}
 use Rattle.epochs.specs.Epoch.{sent_epoch, taken_epoch, SentEpoch, TakenEpoch}
 use Rattle.epochs.specs.Match.{Match}
+use Rattle.epochs.specs.Confirmed.{Confirms, sent_confirmed, taken_confirmed}
 use Rattle.packet_layer.specs.Layer.{Layer, made}
-use Rattle.packet_laws.specs.Line as layers
-use Rattle.packet_laws.specs.Line.{Event}
 use Rattle.packet_laws.specs.Readable.{Every}
 use Rattle.call_records.specs.Records.{RecordValue}
 use Rattle.call_records.specs.Book.{Book, made_book}
-use Rattle.book_laws.specs.Told.{written}
+use Rattle.call_records.specs.Writes.{Write, all_written}
 use Rattle.x25_switch.specs.declared.place.Place.{Place}
 use Rattle.x25_switch.specs.declared.place.Joined.{Joined}
 use Rattle.x25_switch.specs.Lines.{SwitchLine, joined_at}
@@ -21,7 +20,7 @@ use Rattle.switch_laws.specs.Leg.{Leg}
 use Rattle.switch_laws.specs.World.{World, IsWorld, Act, MayHappen, layers_of, after_acts, world_after_all, closed}
 use Rattle.switch_laws.specs.Joined.{IsSwitch, Reached}
 use Rattle.switch_record_laws.specs.Records.{AreRecords}
-use Rattle.switch_record_laws.specs.Written.{Books, books_after_all, HaveRecords, restarted_books}
+use Rattle.switch_record_laws.specs.Written.{Books, writes, act_writes, books_after_all, HaveRecords, restarted_books}
 use Rattle.switch_record_laws.specs.Relayed.{RelayedTo}
 use Rattle.switch_record_laws.specs.Rests.{Rests}
 use Rattle.switch_record_laws.specs.Joined.{JoinsRecords}
@@ -35,22 +34,26 @@ MadeLaw = (role : Role) (channels window dte_node dce_node : ℕ) (legs : ℕ �
 
 -- ---- acts
 
+-- what an act writes is a list of writes
+abbrev pub WritesLaw : Type 0
+WritesLaw = (role : Role) (act : Act) (l : Layer) (b : Book)
+    → writes role act l b ≡ all_written role (act_writes act l) b
+
 -- acts that move the legs move the books, so that the present records are the legs
 abbrev pub ActsLaw : Type 0
 ActsLaw = (acts : List Act) (ys : List Layer) (w : World) (bs : Books) → Every MayHappen acts → IsWorld ys w
     → HaveRecords ys w bs
     → HaveRecords (after_acts acts ys) (world_after_all acts ys w) (books_after_all acts ys bs)
 
--- what is written at the other end of a line leaves the records of this end as they are
+-- whatever is written at the other end of a line leaves the records of this end as they are
 abbrev pub PartnerLaw : Type 0
-PartnerLaw = (role : Role) (l : Layer) (legs : ℕ → Leg) (b : Book) (event : Event) (v : layers.Line)
-    → AreRecords role l legs b
-    → AreRecords role l legs (written (other_of role) event v b)
+PartnerLaw = (role : Role) (l : Layer) (legs : ℕ → Leg) (written : List Write) (b : Book) → AreRecords role l legs b
+    → AreRecords role l legs (all_written (other_of role) written b)
 
 -- a record that is of no present call stays as it is, whatever is written at an end of its line
 abbrev pub RestLaw : Type 0
-RestLaw = (role : Role) (event : Event) (v : layers.Line) (n : ℕ) (r : RecordValue) (b : Book) → Rests n r b
-    → Rests n r (written role event v b)
+RestLaw = (role : Role) (written : List Write) (n : ℕ) (r : RecordValue) (b : Book) → Rests n r b
+    → Rests n r (all_written role written b)
 
 abbrev pub RestsLaw : Type 0
 RestsLaw = (acts : List Act) (ys : List Layer) (bs : Books) (line n : ℕ) (r : RecordValue) → Rests n r (bs line)
@@ -66,6 +69,11 @@ JoinsLaw = (ls : List SwitchLine) (w : World) (bs : Books) → IsSwitch ls w →
 abbrev pub MatchLaw : Type 0
 MatchLaw = (taken : List TakenEpoch) (sent : List SentEpoch) → RelayedTo taken sent
     → Match (map sent_epoch sent) (map taken_epoch taken)
+
+-- and by one such matching what is confirmed on the leg where packets are taken is on the one where they are sent
+abbrev pub ConfirmsLaw : Type 0
+ConfirmsLaw = (taken : List TakenEpoch) (sent : List SentEpoch) → RelayedTo taken sent
+    → Confirms (map sent_confirmed sent) (map taken_confirmed taken)
 
 -- ---- events of a switch
 

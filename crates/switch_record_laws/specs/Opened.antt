@@ -5,12 +5,10 @@ use Rattle.link_timers.specs.declared.role.Role.TheVariants.{Dce}
 use Rattle.packet_layer.specs.Packets.{CallParts}
 use Rattle.packet_layer.specs.Packets.Note.{Incoming}
 use Rattle.packet_layer.specs.Layer.{Layer}
-use Rattle.packet_laws.specs.Line as layers
-use Rattle.packet_laws.specs.Line.{Event}
 use Rattle.call_records.specs.Records.{RecordValue}
 use Rattle.call_records.specs.Book.{Book, side_of, slot_at, told, address_of}
 use Rattle.call_records.specs.Carried.{placed_on}
-use Rattle.book_laws.specs.Told.{written}
+use Rattle.call_records.specs.Writes.{Write, all_written}
 use Rattle.switch_laws.specs.World.{Act}
 use Rattle.switch_record_laws.specs.Written.{Books, books_after_all}
 
@@ -45,8 +43,8 @@ pub record SameHead (r : RecordValue) (n : ℕ) (b : Book) : Type 0 where
   pub far : it.far ≡ r.far
 
 abbrev pub HeadLaw : Type 0
-HeadLaw = (role : Role) (event : Event) (v : layers.Line) (n : ℕ) (r : RecordValue) (b : Book) → SameHead r n b
-    → SameHead r n (written role event v b)
+HeadLaw = (role : Role) (written : List Write) (n : ℕ) (r : RecordValue) (b : Book) → SameHead r n b
+    → SameHead r n (all_written role written b)
 
 abbrev pub HeadsLaw : Type 0
 HeadsLaw = (acts : List Act) (ys : List Layer) (bs : Books) (line n : ℕ) (r : RecordValue) → SameHead r n (bs line)

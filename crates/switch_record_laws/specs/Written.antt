@@ -8,6 +8,8 @@ use Rattle.packet_layer.specs.Channel.Request.{Releasing}
 use Rattle.packet_layer.specs.Layer.{Layer, channel_of, channel_given, request_refusal, front_at, link_down}
 use Rattle.call_records.specs.Book.{Book, all_told}
 use Rattle.call_records.specs.Carried.{carried, unless_refused, placed_on}
+use Rattle.call_records.specs.Writes.{Write}
+use Rattle.call_records.specs.Writes.Write.{Told, Placed, Asked}
 use Rattle.switch_laws.specs.World.{World, Act, line_of, after_act}
 use Rattle.switch_laws.specs.World.Act.{Asks, Calls}
 use Rattle.switch_laws.specs.Joined.{notes_made}
@@ -30,6 +32,19 @@ writes role (Asks p q) l b =
     unless_refused (request_refusal l p.channel q) (request_writes role p.channel q (channel_of l p.channel) b) b
 writes role (Calls n parts) l b = placed_on role (channel_given l l.phase) parts b
 writes role act l b = all_told role (notes_made act (Some l)) b
+
+-- the same as a list of writes
+abbrev pub asked_writes : (channel : ℕ) → Request → Layer → List Write
+asked_writes c (Releasing n) l =
+    if may_release_on (channel_of l c) n
+    then Asked (request_refusal l c (Releasing n)) c (Releasing n) (front_at (channel_of l c)) ∷ []
+    else []
+asked_writes c q l = Asked (request_refusal l c q) c q (front_at (channel_of l c)) ∷ []
+
+abbrev pub act_writes : Act → Layer → List Write
+act_writes (Asks p q) l = asked_writes p.channel q l
+act_writes (Calls n parts) l = Placed (channel_given l l.phase) parts ∷ []
+act_writes act l = Told (notes_made act (Some l)) ∷ []
 
 -- ---- the books of all lines of a switch, which is their DCE
 

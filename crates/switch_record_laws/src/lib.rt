@@ -1,7 +1,8 @@
 //! The legs of a switch's calls are the present records of its lines' books.
 #![tactic(auto)]
 
-ghost use Rattle.switch_record_laws.specs.Law.{MadeLaw, ActsLaw, PartnerLaw, RestLaw, RestsLaw, JoinsLaw, MatchLaw};
+ghost use Rattle.switch_record_laws.specs.Law.{MadeLaw, ActsLaw, WritesLaw, PartnerLaw, RestLaw, RestsLaw};
+ghost use Rattle.switch_record_laws.specs.Law.{JoinsLaw, MatchLaw, ConfirmsLaw};
 ghost use Rattle.switch_record_laws.specs.Law.{FrameLaw, TimerLaw, ElapseLaw, RestartLaw};
 ghost use Rattle.switch_record_laws.specs.Kept.{StepsLaw, FrameKeptLaw, TimerKeptLaw, ElapseKeptLaw, RestartKeptLaw};
 ghost use Rattle.switch_record_laws.specs.Kept.{OutLaw, LeadsLaw, LegsLaw};
@@ -14,6 +15,9 @@ ghost use Rattle.switch_record_laws.specs.Run.{RunLaw};
 pub fn leg_record_law()
     ensures made { MadeLaw }
     ensures acts { ActsLaw }
+    ensures writes { WritesLaw }
+
+    // What is written at the other end.
     ensures partner { PartnerLaw }
 
     // A record that is of no present call stays as it is.
@@ -33,6 +37,9 @@ pub fn leg_record_law()
 pub fn join_record_law()
     ensures joins { JoinsLaw }
     ensures matches { MatchLaw }
+
+    // By one matching no more is confirmed on the leg where packets are taken than on the one where they are sent.
+    ensures confirms { ConfirmsLaw }
 {}
 
 /// The same of whole events of a switch, whatever octets come on its lines: the acts that lead to the switch after the
