@@ -13,3 +13,7 @@ pub mod Making
 pub mod Beginning
 pub mod Showing
 pub mod Running
+pub mod Owning
+pub mod Tracing
+pub mod Lining
+pub mod Freeing

@@ -3,3 +3,4 @@ pub mod Seen
 pub mod Promise
 pub mod Law
 pub mod Run
+pub mod Lines

@@ -3,6 +3,7 @@
 
 ghost use Rattle.call_path_laws.specs.Law.{MadeLaw, EventLaw, PromiseLaw, PathLaw, WithoutSwitchLaw};
 ghost use Rattle.call_path_laws.specs.Law.{OwnedLaw, PresentLaw, CameLaw, PairedLaw};
+ghost use Rattle.call_path_laws.specs.Lines.{MadeLinesLaw, TraceLaw, LinesLaw};
 ghost use Rattle.call_path_laws.specs.Run.{RunLaw};
 
 /// The law of calls through switches, over definitions alone: beside the register stands a whole one, which has a
@@ -21,6 +22,15 @@ pub fn path_law()
     ensures present { PresentLaw }
     ensures came { CameLaw }
     ensures paired { PairedLaw }
+{}
+
+/// The whole register and the books of the lines: from free lines on, and whatever is written at one of them, each
+/// record of the whole register comes from where that of the line's book comes from; and where the calls of each line
+/// hold, so do those of the whole register.
+pub fn lines_law()
+    ensures made { MadeLinesLaw }
+    ensures traces { TraceLaw }
+    ensures holds { LinesLaw }
 {}
 
 /// A run of two hosts and a switch between them, by computation: it meets what the law asks for, with a message sent

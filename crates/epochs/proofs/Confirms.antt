@@ -1,11 +1,11 @@
 -- Matching with confirmed items: transitive, from aligned lists, and what follows from it.
 use Rattle.std.proofs.Common.{◌≡◌, ℕ, ◌≤◌, List, [], ◌∷◌, refl, ap, arith}
-use Rattle.std.specs.Prelude.{map}
+use Rattle.std.specs.Prelude.{map, ◌++◌}
 use Rattle.epochs.specs.Epoch.{SentEpoch, TakenEpoch, IsEmpty, IsAligned, AreAligned, taken_epoch}
 use Rattle.epochs.specs.Match.Match.{nothing as none_match, drop_empty as dropped, join as joined, skip as skipped}
 use Rattle.epochs.specs.Confirmed.{Confirmed, Has, Confirms, confirmed_from, sent_confirmed, taken_confirmed, all_taken}
 use Rattle.epochs.specs.Confirmed.Confirms.{nothing, drop_empty, join, skip}
-use Rattle.epochs.specs.ConfirmedLaws.{ConfirmsOnward, AreEmpty, AreUnconfirmed, ConfirmedIsTaken, ConfirmsIsMatch}
+use Rattle.epochs.specs.ConfirmedLaws.{ConfirmsInTurn, ConfirmsOnward, AreEmpty, AreUnconfirmed, ConfirmedIsTaken, ConfirmsIsMatch}
 use Rattle.epochs.proofs.Prefixes.{prefix-refl, prefix-trans, empty-prefix, all_items-prefix}
 use Rattle.epochs.proofs.Confirming.{within, more, same_of_prefix}
 
@@ -38,6 +38,15 @@ confirms_trans (skip e n) xs m = skip e (confirms_trans n xs m)
 
 pub confirms_onward : ConfirmsOnward
 confirms_onward xs ys zs m n = confirms_trans n xs m
+
+in_turn : {xs ys us vs : List Confirmed} → Confirms xs ys → Confirms us vs → Confirms (xs ++ us) (ys ++ vs)
+in_turn nothing n = n
+in_turn (drop_empty e m) n = drop_empty e (in_turn m n)
+in_turn (join h m) n = join h (in_turn m n)
+in_turn (skip e m) n = skip e (in_turn m n)
+
+pub confirms_in_turn : ConfirmsInTurn
+confirms_in_turn xs ys us vs m n = in_turn m n
 
 -- ---- the two ends of a line
 

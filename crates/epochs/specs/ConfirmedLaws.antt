@@ -1,5 +1,5 @@
 -- The laws of matching with confirmed items.
-use Rattle.std.specs.Prelude.{◌≡◌, ℕ, ◌≤◌, ◌<◌, true, List, [], ◌∷◌, map, slice_get, Some}
+use Rattle.std.specs.Prelude.{◌≡◌, ℕ, ◌≤◌, ◌<◌, true, List, [], ◌∷◌, ◌++◌, map, slice_get, Some}
 use Rattle.epochs.specs.Item.{DataPacket}
 use Rattle.epochs.specs.Epoch.{SentEpoch, TakenEpoch, IsEmpty, AreAligned}
 use Rattle.epochs.specs.Match.{Match}
@@ -11,6 +11,11 @@ ConfirmsItself = (es : List Confirmed) → Confirms es es
 
 abbrev pub ConfirmsOnward : Type 0
 ConfirmsOnward = (xs ys zs : List Confirmed) → Confirms xs ys → Confirms ys zs → Confirms xs zs
+
+-- what matched before is followed by what matches after it
+abbrev pub ConfirmsInTurn : Type 0
+ConfirmsInTurn =
+    (xs ys us vs : List Confirmed) → Confirms xs ys → Confirms us vs → Confirms (xs ++ us) (ys ++ vs)
 
 -- the two ends of a line match
 abbrev pub AlignedListsConfirm : Type 0

@@ -3,8 +3,8 @@
 
 ghost use Rattle.epochs.specs.Laws.{IsReflexive, IsTransitive, IsKeptByGrowth, IsKeptByOpening, IsKeptByBothOpening};
 ghost use Rattle.epochs.specs.Laws.{AlignedListsMatch, HasRisingPlaces};
-ghost use Rattle.epochs.specs.ConfirmedLaws.{ConfirmsItself, ConfirmsOnward, AlignedListsConfirm, NothingConfirms};
-ghost use Rattle.epochs.specs.ConfirmedLaws.{ConfirmedIsTaken, ConfirmsIsMatch, RelayConfirms};
+ghost use Rattle.epochs.specs.ConfirmedLaws.{ConfirmsItself, ConfirmsOnward, ConfirmsInTurn, AlignedListsConfirm};
+ghost use Rattle.epochs.specs.ConfirmedLaws.{NothingConfirms, ConfirmedIsTaken, ConfirmsIsMatch, RelayConfirms};
 
 /// The laws of matching, as a contract: it does nothing.
 pub fn match_laws()
@@ -23,6 +23,7 @@ pub fn match_laws()
 pub fn confirmation_laws()
     ensures itself { ConfirmsItself }
     ensures onward { ConfirmsOnward }
+    ensures in_turn { ConfirmsInTurn }
     ensures aligned { AlignedListsConfirm }
     ensures none { NothingConfirms }
     ensures taken { ConfirmedIsTaken }

@@ -70,10 +70,10 @@ other_line numbers pair_numbers own seen seen' h records pairs dte dce = record 
     sides Dte = subst (λ s. SideIsSeen numbers own.dte s) (sym dte) (h.sides Dte)
     sides Dce = subst (λ s. SideIsSeen numbers own.dce s) (sym dce) (h.sides Dce)
 
-abbrev beside : (g : Register) (books : List Book) (line : ℕ) (b : Book) → Seen g books → Beside
+abbrev pub beside : (g : Register) (books : List Book) (line : ℕ) (b : Book) → Seen g books → Beside
 beside g books line b w = record { owners = w.owners; pair_owners = w.pair_owners; own = b; seen = book_at line g }
 
-is_beside : (g : Register) (books : List Book) (line : ℕ) (b : Book) (at : slice_get books line ≡ Some b) (w : Seen g books) → IsRight (length books) line (beside g books line b w)
+pub is_beside : (g : Register) (books : List Book) (line : ℕ) (b : Book) (at : slice_get books line ≡ Some b) (w : Seen g books) → IsRight (length books) line (beside g books line b w)
 is_beside g books line b at w = record {
   records_owned = w.records_owned;
   pairs_owned = w.pairs_owned;
@@ -83,7 +83,7 @@ is_beside g books line b at w = record {
   line = w.line line b at;
 }
 
-led_seen : (g : Register) (books : List Book) (line : ℕ) (b own seen : Book) → slice_get books line ≡ Some b → (w : Seen g books)
+unfoldable pub led_seen : (g : Register) (books : List Book) (line : ℕ) (b own seen : Book) → slice_get books line ≡ Some b → (w : Seen g books)
     → Leads (length books) line (beside g books line b w) own seen → Seen (with_book line seen g) (set books line own)
 led_seen g books line b own seen at w a = record {
   owners = a.owners;

@@ -19,7 +19,7 @@ use Rattle.register_laws.specs.Seen.{positions, IsNumbered, renumbered, SlotIsSe
 use Rattle.register_laws.proofs.Steps.{Beside, IsRight, Leads, IsBlind, after, no_step, then, puts, changes, added, with_owner, adds_right, adds_leaves, more_numbered, last_number, pairs_up}
 
 -- a write, of which it is to be shown that it goes the same way in both
-abbrev Goes : (lines line : ℕ) → (Book → Book) → Type 0
+abbrev pub Goes : (lines line : ℕ) → (Book → Book) → Type 0
 Goes lines line write = (x : Beside) → IsRight lines line x → Leads lines line x (write x.own) (write x.seen)
 
 module _ (lines line : ℕ) where
@@ -29,12 +29,12 @@ module _ (lines line : ℕ) where
       let a : Leads lines line x (first x.own) (first x.seen) = f x h in
       then lines line x (first x.own) (first x.seen) (rest (first x.own)) (rest (first x.seen)) a (g (after lines line x (first x.own) (first x.seen) a) a.is_right)
 
-  slot_seen : (x : Beside) → IsRight lines line x → (role : Role) (c : ℕ) → SlotIsSeen (positions line x.owners) (slot_at role c x.own) (slot_at role c x.seen)
+  pub slot_seen : (x : Beside) → IsRight lines line x → (role : Role) (c : ℕ) → SlotIsSeen (positions line x.owners) (slot_at role c x.own) (slot_at role c x.seen)
   slot_seen x h role c = (h.line.sides role).slot c
 
   -- ---- the record of the present call
 
-  changed_goes : (role : Role) (c : ℕ) (f : RecordValue → RecordValue) → IsBlind f → Goes lines line (changed role c f)
+  pub changed_goes : (role : Role) (c : ℕ) (f : RecordValue → RecordValue) → IsBlind f → Goes lines line (changed role c f)
   changed_goes role c f blind x h =
       changes lines line x f (slot_at role c x.own).present (slot_at role c x.seen).present blind h (slot_seen x h role c).present
 
@@ -43,7 +43,7 @@ module _ (lines line : ℕ) where
   slot_stays Dte c (Some n) f b = refl
   slot_stays Dce c (Some n) f b = refl
 
-  closes_goes : (role : Role) (c : ℕ) → Goes lines line (closes role c)
+  pub closes_goes : (role : Role) (c : ℕ) → Goes lines line (closes role c)
   closes_goes role c x h =
       let own : Book = changed role c with_closed x.own in
       let seen : Book = changed role c with_closed x.seen in
@@ -75,7 +75,7 @@ module _ (lines line : ℕ) where
       ≡ renumbered (length x.seen.records) (new_record (length x.own.records) (side_of role x.own).node own far)
   new_same x role own far h = ap (λ (node : ℕ). new_record (length x.seen.records) node own far) (h.line.sides role).node
 
-  places_goes : (role : Role) (c : ℕ) (calling called : List ℕ) → Goes lines line (places_from role c calling called)
+  pub places_goes : (role : Role) (c : ℕ) (calling called : List ℕ) → Goes lines line (places_from role c calling called)
   places_goes role c calling called x h =
       adds_and_puts x (new_record (length x.own.records) (side_of role x.own).node (address_of calling) (address_of called))
       (new_record (length x.seen.records) (side_of role x.seen).node (address_of calling) (address_of called)) role c
@@ -83,7 +83,7 @@ module _ (lines line : ℕ) where
       (record { present = Some (length x.seen.records); placed = Some (length x.seen.records); caller = None }) h (new_same x role (address_of calling) (address_of called) h)
       (record { present = newest x h; placed = newest x h; caller = tt })
 
-  comes_goes : (role : Role) (c : ℕ) (parts : CallParts) → Goes lines line (comes role c parts)
+  pub comes_goes : (role : Role) (c : ℕ) (parts : CallParts) → Goes lines line (comes role c parts)
   comes_goes role c parts x h =
       adds_and_puts x (new_record (length x.own.records) (side_of role x.own).node (address_of parts.called) (address_of parts.calling))
       (new_record (length x.seen.records) (side_of role x.seen).node (address_of parts.called) (address_of parts.calling)) role c
@@ -96,7 +96,7 @@ module _ (lines line : ℕ) where
         caller = more_numbered line x.owners (slot_at (other_of role) c x.own).placed (slot_at (other_of role) c x.seen).placed (slot_seen x h (other_of role) c).placed;
       })
 
-  answers_goes : (role : Role) (c : ℕ) → Goes lines line (answers role c)
+  pub answers_goes : (role : Role) (c : ℕ) → Goes lines line (answers role c)
   answers_goes role c x h =
       pairs_up lines line x (slot_at role c x.own).caller (slot_at role c x.seen).caller (slot_at role c x.own).present (slot_at role c x.seen).present h
       (slot_seen x h role c).caller (slot_seen x h role c).present
@@ -147,7 +147,7 @@ module _ (lines line : ℕ) where
   closed_from_goes zero c role x h = no_step lines line x h
   closed_from_goes (suc count) c role x h = in_turn x (closes_present role c) (closed_from count (suc c) role) h (closes_present_goes role c) (closed_from_goes count (suc c) role)
 
-  all_closed_goes : (role : Role) → Goes lines line (all_closed role)
+  pub all_closed_goes : (role : Role) → Goes lines line (all_closed role)
   all_closed_goes role x h =
       subst (λ (count : ℕ). Leads lines line x (all_closed role x.own) (closed_from count 1 role x.seen)) (sym (h.line.sides role).channels)
       (closed_from_goes (length (side_of role x.own).slots) 1 role x h)

@@ -1,0 +1,7 @@
+use Rattle.call_path_laws.proofs.Freeing.{made_lines}
+use Rattle.call_path_laws.proofs.Tracing.{traced}
+use Rattle.call_path_laws.proofs.Lining.{lines_hold}
+use Rattle.call_path_laws.proofs.lines_law.Goals as goal
+
+pub returns : goal.returns
+returns c = record { made = made_lines; traces = traced; holds = lines_hold }

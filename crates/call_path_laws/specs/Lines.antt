@@ -1,0 +1,69 @@
+-- The whole register and the books of the lines: where each record of a line's book comes from, in its numbers, and in
+-- those of the whole register.
+use Rattle.std.specs.Prelude.{◌≡◌, ℕ, List, [], length, map, slice_get, set, Option, Some}
+use Rattle.link_timers.specs.declared.role.Role.{Role}
+use Rattle.call_records.specs.Book.{Book, new_book}
+use Rattle.call_records.specs.Writes.{Write, all_written}
+use Rattle.call_records.specs.Register.{Register, LinePlan, book_at, all_written_at}
+use Rattle.book_laws.specs.Headline.{BookHolds}
+use Rattle.book_laws.specs.Headline as book
+use Rattle.register_laws.specs.Seen.{positions, IsNumbered}
+use Rattle.register_laws.specs.Seen as line
+use Rattle.call_path_laws.specs.World.{Origin, World, all_traced, free_register}
+use Rattle.call_path_laws.specs.Seen.{CameFrom}
+use Rattle.call_path_laws.specs.Promise.{CallsHold}
+
+-- the origin of a record in the line's numbers, and in those of the whole register
+pub record OriginIsSeen (numbers : List ℕ) (own whole : List Origin) (i n : ℕ) : Type 0 where
+  pub line : ℕ
+  pub role : Role
+  pub own_caller : Option ℕ
+  pub whole_caller : Option ℕ
+  pub own_there : slice_get own i ≡ Some (record { line = line; role = role; caller = own_caller })
+  pub whole_there : slice_get whole n ≡ Some (record { line = line; role = role; caller = whole_caller })
+  pub caller : IsNumbered numbers own_caller whole_caller
+
+-- `owners` are the lines of the whole register's records
+pub record OriginsSeen (line : ℕ) (owners : List ℕ) (own whole : List Origin) : Type 0 where
+  pub owners_are : owners ≡ map (λ o. o.line) whole
+  pub count : length own ≡ length (positions line owners)
+  pub origins : (i n : ℕ) → slice_get (positions line owners) i ≡ Some n
+      → OriginIsSeen (positions line owners) own whole i n
+
+pub record LinesSeen (g : Register) (origins : List Origin) (books : List Book) (traces : List (List Origin))
+    : Type 0 where
+  pub seen : line.Seen g books
+  pub owned : length origins ≡ length g.records
+  pub count : length traces ≡ length books
+  pub lines : (j : ℕ) (own : List Origin) → slice_get traces j ≡ Some own → OriginsSeen j seen.owners own origins
+
+-- of a line's book: each call that came in holds as a pair does, accepted or not, and it came in once
+pub record BookCallsHold (line_book : Book) (origins : List Origin) : Type 0 where
+  pub holds : BookHolds line_book
+  pub came : (a x : ℕ) → CameFrom origins a x → book.PairHolds line_book (record { caller = x; callee = a })
+  pub once : (a b x : ℕ) → CameFrom origins a x → CameFrom origins b x → a ≡ b
+
+-- ---- laws
+
+-- what is written at a line leaves the whole register with what the books of all lines have
+abbrev pub TraceLaw : Type 0
+TraceLaw = (g : Register) (origins : List Origin) (books : List Book) (traces : List (List Origin))
+    (line : ℕ) (b : Book) (own : List Origin) (role : Role) (writes : List Write)
+    → slice_get books line ≡ Some b → slice_get traces line ≡ Some own → LinesSeen g origins books traces
+    → LinesSeen (all_written_at line role writes g) (all_traced line role writes (book_at line g) origins)
+    (set books line (all_written role writes b)) (set traces line (all_traced line role writes b own))
+
+-- where the calls of each line hold, so do those of the whole register
+abbrev pub LinesLaw : Type 0
+LinesLaw = (w : World) (books : List Book) (traces : List (List Origin)) → LinesSeen w.whole w.origins books traces
+    → ((j : ℕ) (b : Book) (own : List Origin) → slice_get books j ≡ Some b → slice_get traces j ≡ Some own
+    → BookCallsHold b own)
+    → CallsHold w
+
+-- free lines, of which nothing is known yet
+abbrev pub free_book : LinePlan → Book
+free_book plan = new_book plan.dte_node plan.dce_node plan.channels
+
+abbrev pub MadeLinesLaw : Type 0
+MadeLinesLaw = (plans : List LinePlan)
+    → LinesSeen (free_register plans) [] (map free_book plans) (map (λ plan. []) plans)
