@@ -1,0 +1,4 @@
+pub mod Selecting
+pub mod Asking
+pub mod Terminals
+pub mod Events
