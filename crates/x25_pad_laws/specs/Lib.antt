@@ -1,3 +1,6 @@
 pub mod Writing
 pub mod Standing
 pub mod Clauses
+pub mod Sending
+pub mod Holds
+pub mod RecordClauses

@@ -23,8 +23,8 @@ pub record StandsAt (role : Role) (l : Line) (p : PadState) : Type 0 where
   pub noted : p.line.notes ≡ []
   pub sent : p.line.end.line.frames ≡ []
 
--- after an event the line is this, and the PAD that: with these writes in the book what is kept of the line is kept, the
--- PAD stands at its end, and the other end is `other`
+-- after an event the line is this, and the PAD that: with these writes in the book what is kept of the line is kept,
+-- the PAD stands at its end, and the other end is `other`
 pub record Keeps (s : Setting) (b : Book) (role : Role) (l : Line) (p : PadState) (writes : List Write)
     (other : PacketEnd) : Type 0 where
   pub kept : Kept s (all_written role writes b) l
