@@ -13,4 +13,5 @@ pub mod Printing
 pub mod Ports
 pub mod Holding
 pub mod Begins
+pub mod Owning
 pub mod Events

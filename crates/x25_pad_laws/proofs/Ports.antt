@@ -95,27 +95,27 @@ text_back ports after b c t x =
 
 -- ---- what a terminal learns
 
-abbrev connected_by : (channel : ℕ) → PortState → PortState
+abbrev pub connected_by : (channel : ℕ) → PortState → PortState
 connected_by d p = port.connects d p
 
-abbrev cleared_by : (cause : ℕ) → PortState → PortState
+abbrev pub cleared_by : (cause : ℕ) → PortState → PortState
 cleared_by cause p = record p { terminal = calls.cleared cause p.terminal; call = None }
 
-abbrev reset_by : (channel cause : ℕ) → PortState → PortState
+abbrev pub reset_by : (channel cause : ℕ) → PortState → PortState
 reset_by d cause p = record p { terminal = calls.reset cause p.terminal; call = Some (call_on d) }
 
-abbrev confirmed_by : (channel : ℕ) → PortState → PortState
+abbrev pub confirmed_by : (channel : ℕ) → PortState → PortState
 confirmed_by d p = record p { call = Some (call_on d) }
 
 -- the port that has its call on the channel changes, if there is one
-abbrev changed_for : Option ℕ → (PortState → PortState) → List PortState → List PortState
+abbrev pub changed_for : Option ℕ → (PortState → PortState) → List PortState → List PortState
 changed_for None f ports = ports
 changed_for (Some i) f ports = changed_at i f ports
 
-abbrev changed_on : (channel : ℕ) → (PortState → PortState) → List PortState → List PortState
+abbrev pub changed_on : (channel : ℕ) → (PortState → PortState) → List PortState → List PortState
 changed_on d f ports = changed_for (holder d ports) f ports
 
-heard_connected : (d : ℕ) (ports : List PortState) → all_heard (learnt_of (Connected d)) ports ≡ changed_on d (connected_by d) ports
+pub heard_connected : (d : ℕ) (ports : List PortState) → all_heard (learnt_of (Connected d)) ports ≡ changed_on d (connected_by d) ports
 unfolding all_heard
 heard_connected d ports = by (holder d ports) refl
   where
@@ -123,7 +123,7 @@ heard_connected d ports = by (holder d ports) refl
     by None h = rw h refl
     by (Some i) h = rw h refl
 
-heard_cleared : (d cause diagnostic : ℕ) (reason : Reason) (ports : List PortState) → all_heard (learnt_of (Closed d cause diagnostic reason)) ports ≡ changed_on d (cleared_by cause) ports
+pub heard_cleared : (d cause diagnostic : ℕ) (reason : Reason) (ports : List PortState) → all_heard (learnt_of (Closed d cause diagnostic reason)) ports ≡ changed_on d (cleared_by cause) ports
 unfolding all_heard
 heard_cleared d cause diagnostic reason ports = by (holder d ports) refl
   where
@@ -131,7 +131,7 @@ heard_cleared d cause diagnostic reason ports = by (holder d ports) refl
     by None h = rw h refl
     by (Some i) h = rw h refl
 
-heard_reset : (d cause diagnostic : ℕ) (reason : Reason) (ports : List PortState) → all_heard (learnt_of (WasReset d cause diagnostic reason)) ports ≡ changed_on d (reset_by d cause) ports
+pub heard_reset : (d cause diagnostic : ℕ) (reason : Reason) (ports : List PortState) → all_heard (learnt_of (WasReset d cause diagnostic reason)) ports ≡ changed_on d (reset_by d cause) ports
 unfolding all_heard
 heard_reset d cause diagnostic reason ports = by (holder d ports) refl
   where
@@ -139,7 +139,7 @@ heard_reset d cause diagnostic reason ports = by (holder d ports) refl
     by None h = rw h refl
     by (Some i) h = rw h refl
 
-heard_confirmed : (d : ℕ) (ports : List PortState) → all_heard (learnt_of (InterruptConfirmed d)) ports ≡ changed_on d (confirmed_by d) ports
+pub heard_confirmed : (d : ℕ) (ports : List PortState) → all_heard (learnt_of (InterruptConfirmed d)) ports ≡ changed_on d (confirmed_by d) ports
 unfolding all_heard
 heard_confirmed d ports = by (holder d ports) refl
   where
@@ -147,7 +147,7 @@ heard_confirmed d ports = by (holder d ports) refl
     by None h = rw h refl
     by (Some i) h = rw h refl
 
-heard_none : (ports : List PortState) → all_heard (all_learnt []) ports ≡ ports
+pub heard_none : (ports : List PortState) → all_heard (all_learnt []) ports ≡ ports
 unfolding all_heard
 heard_none ports = refl
 

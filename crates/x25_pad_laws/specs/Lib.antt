@@ -4,3 +4,4 @@ pub mod Clauses
 pub mod Sending
 pub mod Holds
 pub mod RecordClauses
+pub mod Own

@@ -2,11 +2,13 @@
 //! its calls carry what its terminals typed.
 #![tactic(auto)]
 
+mod own;
 mod sending;
 
 ghost use Rattle.x25_pad_laws.specs.Clauses.{KeyLaw, BreakLaw, IdleLaw, PrintLaw, FrameLaw, TimerLaw, RelinkLaw};
 ghost use Rattle.x25_pad_laws.specs.Clauses.{RestartLaw, TimeLaw, MakingLaw};
 
+pub use own::own_text_law;
 pub use sending::pad_records_law;
 
 /// The law of a PAD on a line, over definitions alone. From the making on, whatever comes to it and whatever happens
