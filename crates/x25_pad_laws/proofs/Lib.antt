@@ -14,4 +14,5 @@ pub mod Ports
 pub mod Holding
 pub mod Begins
 pub mod Owning
+pub mod Expiring
 pub mod Events

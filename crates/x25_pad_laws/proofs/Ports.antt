@@ -155,7 +155,7 @@ fold_append : {N P : Type 0} (f : P → N → P) (xs ys : List N) (p : P) → fo
 fold_append f [] ys p = refl
 fold_append f (x ∷ xs) ys p = fold_append f xs ys (f p x)
 
-heard_more : (note : Note) (ns : List Note) (ports : List PortState) → all_heard (all_learnt (note ∷ ns)) ports ≡ all_heard (all_learnt ns) (all_heard (learnt_of note) ports)
+pub heard_more : (note : Note) (ns : List Note) (ports : List PortState) → all_heard (all_learnt (note ∷ ns)) ports ≡ all_heard (all_learnt ns) (all_heard (learnt_of note) ports)
 unfolding all_heard
 heard_more note ns ports = fold_append one_learnt (learnt_of note) (all_learnt ns) ports
 

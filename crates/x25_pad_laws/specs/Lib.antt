@@ -5,3 +5,4 @@ pub mod Sending
 pub mod Holds
 pub mod RecordClauses
 pub mod Own
+pub mod Expiry

@@ -2,12 +2,14 @@
 //! its calls carry what its terminals typed.
 #![tactic(auto)]
 
+mod expiry;
 mod own;
 mod sending;
 
 ghost use Rattle.x25_pad_laws.specs.Clauses.{KeyLaw, BreakLaw, IdleLaw, PrintLaw, FrameLaw, TimerLaw, RelinkLaw};
 ghost use Rattle.x25_pad_laws.specs.Clauses.{RestartLaw, TimeLaw, MakingLaw};
 
+pub use expiry::pad_expiry_law;
 pub use own::own_text_law;
 pub use sending::pad_records_law;
 
