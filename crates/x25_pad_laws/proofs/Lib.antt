@@ -15,4 +15,5 @@ pub mod Holding
 pub mod Begins
 pub mod Owning
 pub mod Expiring
+mod Rows
 pub mod Events
