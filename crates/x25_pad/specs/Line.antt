@@ -2,6 +2,7 @@
 use Rattle.std.specs.Prelude.{ℕ, Bool, true, false, ◌==◌, List, [], ◌∷◌, ◌++◌, Option, Some, None}
 use Rattle.std.specs.List.{flat_map}
 use Rattle.packet_layer.specs.Packets.{CallParts, Datum, Note}
+use Rattle.packet_layer.specs.Traffic.{Taken}
 use Rattle.packet_layer.specs.Packets.Note.{Incoming, Connected, Closed, WasReset, InterruptConfirmed, Covered}
 use Rattle.packet_layer.specs.Channel.{Refusal, Request}
 use Rattle.packet_layer.specs.Layer.{room, flow_refusal, request_refusal, call_refusal, channel_given}
@@ -67,6 +68,12 @@ placed address user_data l = record {
   end = end.called l.end (call_parts address user_data);
   notes = l.notes ++ placed_note (channel_given l.end.layer l.end.layer.phase) address;
 }
+
+-- what waits first on a call is taken, if anything does
+abbrev pub taken : (channel : ℕ) → Option Taken → PadLine → PadLine
+taken channel None l = record l { end = end.asked l.end channel Request.Taking }
+taken channel (Some x) l =
+    record { end = end.asked l.end channel Request.Taking; notes = l.notes ++ notes.Took channel x ∷ [] }
 
 -- ---- what a terminal must know of its call
 

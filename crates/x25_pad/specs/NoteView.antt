@@ -2,6 +2,7 @@
 use Rattle.std.specs.Prelude.{◌≡◌, ◌∷◌, [], List, map, Option, Some, None}
 use Rattle.pad_editing.specs.Edited.Step.{key, idle}
 use Rattle.packet_layer.specs.NoteView.{note_of}
+use Rattle.packet_layer.specs.TakenView.{taken_of}
 use Rattle.x25_pad.specs.Notes as spec
 use Rattle.x25_pad.specs.declared.note.PadNote.{PadNote}
 use Rattle.x25_pad.specs.declared.note.PadNote.TheVariants as note
@@ -17,6 +18,7 @@ pad_note_of (note.Edited channel octet params) = spec.Edited channel (key octet 
 pad_note_of (note.Paused channel params) = spec.Edited channel (idle params)
 pad_note_of (note.Sent channel user_data) = spec.Sent channel user_data
 pad_note_of (note.Interrupted channel octet) = spec.Interrupted channel (octet ∷ [])
+pad_note_of (note.Took channel taken) = spec.Took channel (taken_of taken)
 
 abbrev pub maybe_pad_note : Option PadNote → Option spec.PadNote
 maybe_pad_note None = None

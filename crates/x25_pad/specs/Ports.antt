@@ -180,8 +180,8 @@ after_message octets a =
     replies answered.reply (record a { port = with_terminal answered.terminal a.port })
 
 -- what waits first is taken
-abbrev pub takes : Call → AtLine → AtLine
-takes call a = record a { line = record a.line { end = end.asked a.line.end call.channel ask.Taking } }
+abbrev pub takes : TakenValue → Call → AtLine → AtLine
+takes taken call a = record a { line = line.taken call.channel (Some taken) a.line }
 
 -- P(R) may pass it, or an interrupt is confirmed
 abbrev pub releases : ask → Call → AtLine → AtLine
@@ -227,7 +227,7 @@ taken_of a = if terminal.may_show a.port.terminal then next_on a.port.call a els
 
 abbrev pub with_taken : Option TakenValue → AtLine → AtLine
 with_taken None a = a
-with_taken (Some taken) a = on_call takes a.port.call a
+with_taken (Some taken) a = on_call (takes taken) a.port.call a
 
 abbrev pub after_taken : Option TakenValue → AtLine → AtLine
 after_taken None a = a

@@ -3,6 +3,7 @@ ghost use Rattle.std.specs.Prelude.{◌≡◌, ◌≤◌, ◌<◌, ◌+◌, ◌+
 ghost use Rattle.packet_layer.specs.Layer as machine;
 ghost use Rattle.packet_layer.specs.NoteView.{note_of};
 ghost use Rattle.packet_layer.specs.RequestView.{request_of, call_refusal_of};
+ghost use Rattle.packet_layer.specs.TakenView.{taken_of, maybe_taken};
 ghost use Rattle.packet_end.specs.PacketEnd as end;
 ghost use Rattle.packet_end.specs.Timing.{TimersAgree};
 ghost use Rattle.x25_pad.specs.NoteView.{pad_note_of};
@@ -13,7 +14,7 @@ use crate::note::{MOST_NOTES, PadNote, PadNotes};
 use arrayvec::ArrayVec;
 use packet_codec::{Address, CallData};
 use packet_end::PacketEnd;
-use packet_layer::{CallFault, ChannelFault, LayerNote, Request, UserData};
+use packet_layer::{CallFault, ChannelFault, InterruptData, LayerNote, Request, Taken, UserData};
 use pad_terminal::CallCondition;
 
 /// The user data of an interrupt.
@@ -147,6 +148,22 @@ impl PadLine {
         Ok(channel)
     }
 
+    /// Takes what waits first on a call, if anything does.
+    pub(crate) fn take(&mut self, channel: u8) -> Option<Taken>
+        requires { length self.old.notes < MOST_NOTES }
+        ensures taken { maybe_taken result ≡ machine.front_on self.old.end.layer channel }
+        ensures line { self.new ≡ spec.taken channel (machine.front_on self.old.end.layer channel) self.old }
+        ensures room { length self.new.notes ≤ length self.old.notes + 1 }
+        ensures told { self.new.end.notes ≡ self.old.end.notes }
+    {
+        let taken = self.end.take(channel)?;
+        self.notes.add(PadNote::Took {
+            channel,
+            taken: copy_of(&taken),
+        });
+        Some(taken)
+    }
+
     /// What a terminal must know of its call. Without a call no packet is taken to be sent.
     pub(crate) fn condition(&self, call: Option<Call>) -> CallCondition
         ensures { result ≡ spec.condition call self.now }
@@ -189,6 +206,20 @@ impl PadLine {
             self.notes.add(PadNote::Told(note));
         }
         Gathered { incoming, learnt }
+    }
+}
+
+fn copy_of(taken: &Taken) -> Taken
+    ensures { taken_of result ≡ taken_of taken.now }
+{
+    match taken {
+        Taken::Interrupt(data) => Taken::Interrupt(InterruptData::new(data.octets())),
+        Taken::Data(data) => Taken::Data(UserData::new(
+            data.octets(),
+            data.more(),
+            data.qualified(),
+            data.delivery(),
+        )),
     }
 }
 

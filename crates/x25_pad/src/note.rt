@@ -4,7 +4,7 @@ ghost use Rattle.x25_pad.specs.NoteView.{pad_note_of, maybe_pad_note};
 
 use circular_buffer::HeapCircularBuffer;
 use packet_codec::Address;
-use packet_layer::{LayerNote, UserData};
+use packet_layer::{LayerNote, Taken, UserData};
 use std::alloc::{AllocError, Global};
 use std::marker::Model;
 use x3_params::Params;
@@ -48,6 +48,12 @@ pub enum PadNote {
     Interrupted {
         channel: u8,
         octet: u8,
+    },
+    /// A terminal took what waited first on its call: a packet, which P(R) may pass now, or an interrupt, which is
+    /// confirmed.
+    Took {
+        channel: u8,
+        taken: Taken,
     },
 }
 

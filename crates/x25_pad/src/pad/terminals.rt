@@ -144,7 +144,7 @@ impl Pad {
         ensures pad { self.new ≡ spec.at_port terminal port.after_print self.old }
         ensures taken { maybe_taken result ≡ spec.print_taken_now terminal self.old }
         ensures text { out.new.items ≡ out.old.items ++ spec.print_text_now terminal self.old }
-        ensures room { length self.new.line.notes ≤ length self.old.line.notes + 1 }
+        ensures room { length self.new.line.notes ≤ length self.old.line.notes + 2 }
         ensures told { self.new.line.end.notes ≡ self.old.line.end.notes }
     {
         self.ports[usize::from(terminal)].print(&mut self.line, out)

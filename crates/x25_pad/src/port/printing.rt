@@ -1,5 +1,5 @@
 //! What a terminal shows.
-ghost use Rattle.std.specs.Prelude.{◌≡◌, ◌≤◌, ◌+◌, ◌*◌, ◌++◌, length};
+ghost use Rattle.std.specs.Prelude.{◌≡◌, ◌≤◌, ◌<◌, ◌+◌, ◌*◌, ◌++◌, length};
 ghost use Rattle.arrayvec.specs.ArrayVec.{array_vec_len};
 ghost use Rattle.packet_layer.specs.TakenView.{taken_of as value_of, maybe_taken};
 ghost use Rattle.x25_pad.specs.Ports as spec;
@@ -18,13 +18,13 @@ impl Port {
         line: &mut PadLine,
         out: &mut ArrayVec<u8, N>,
     ) -> Option<Taken>
-        requires notes { length line.old.notes + 1 ≤ MOST_NOTES }
+        requires notes { length line.old.notes + 2 ≤ MOST_NOTES }
         requires room { array_vec_len out.old + 3200 ≤ N }
         ensures port { self.new ≡ (spec.after_print (record { port = self.old; line = line.old })).port }
         ensures line { line.new ≡ (spec.after_print (record { port = self.old; line = line.old })).line }
         ensures taken { maybe_taken result ≡ spec.taken_of (record { port = self.old; line = line.old }) }
         ensures text { out.new.items ≡ out.old.items ++ spec.printed (record { port = self.old; line = line.old }) }
-        ensures room { length line.new.notes ≤ length line.old.notes + 1 }
+        ensures room { length line.new.notes ≤ length line.old.notes + 2 }
         ensures told { line.new.end.notes ≡ line.old.end.notes }
     {
         self.terminal.print(out);
@@ -37,9 +37,11 @@ impl Port {
 
     // Takes what waits first on the call, if it is to be shown now: a message waits while the send queue is full.
     fn take_next(&self, line: &mut PadLine) -> Option<Taken>
+        requires { length line.old.notes < MOST_NOTES }
         ensures taken { maybe_taken result ≡ spec.taken_of (record { port = self.now; line = line.old }) }
         ensures line { line.new ≡ (spec.with_taken (spec.taken_of (record { port = self.now; line = line.old }))
             (record { port = self.now; line = line.old })).line }
+        ensures room { length line.new.notes ≤ length line.old.notes + 1 }
         ensures told { line.new.end.notes ≡ line.old.end.notes }
     {
         if !self.terminal.may_show() {
@@ -56,7 +58,7 @@ impl Port {
                     ..
                 },
             ) if line.end.room(call.channel) == 0 => None,
-            Some(_) => line.end.take(call.channel),
+            Some(_) => line.take(call.channel),
         }
     }
 

@@ -1,0 +1,19 @@
+pub mod Selecting
+pub mod Asking
+pub mod Terminals
+pub mod Channels
+pub mod Layers
+pub mod Ends
+pub mod Records
+pub mod Lists
+pub mod Books
+pub mod Modes
+pub mod Typing
+pub mod Printing
+pub mod Ports
+pub mod Holding
+pub mod Begins
+pub mod Owning
+pub mod Expiring
+mod Rows
+pub mod Events
