@@ -162,7 +162,7 @@ module _ (s : Setting) (b : Book) (role : Role) (you : PacketEnd) (going coming 
         let parts = call_parts selection.address selection.user_data.items in
         subst (λ (z : Book). KeptIn z (end.called l.end parts))
         (sym (placed_noted (channel_given l.end.layer l.end.layer.phase) selection.address selection.user_data.items l.notes))
-        (calls_at s (noted role l.notes b) role l.end you going coming h.kept parts (may_be_placed selection fits) refl);
+        (calls_at s (noted role l.notes b) role l.end you going coming h.kept parts (may_be_placed selection fits));
   }
 
   -- ---- a step of editing
