@@ -1,6 +1,7 @@
 //! What a capture is, by octets that Wireshark read, and lines that are none of a trace.
 use crate::capture;
 use crate::fault::TraceFault;
+use std::test::Fail;
 
 /// The head of each capture.
 const HEAD: &[u8] =
@@ -11,10 +12,11 @@ const PACKET: &[u8] =
     b"\x06\0\0\0\x48\0\0\0\0\0\0\0\0\0\0\0\0\0\0\0\x16\0\0\0\x16\0\0\0\0\x0C\0\x04lapb\0\x23\0\x04\0\0\0\x01\0\0\0\0\x01\x73\0\0\x01\0\x06\0line 0\0\0\0\0\0\0\x48\0\0\0";
 
 #[test]
-fn captures_the_frames_of_a_trace(rt: HostRuntime) {
-    let made = capture(rt.alloc(), b"host/1 incoming\n0 < 01 73\nend rest\n").unwrap();
+fn captures_the_frames_of_a_trace(rt: HostRuntime) -> Result<(), Fail> {
+    let made = capture(rt.alloc(), b"host/1 incoming\n0 < 01 73\nend rest\n")?;
     assert_eq!(rt; &made.as_slice()[..HEAD.len()], HEAD);
     assert_eq!(rt; &made.as_slice()[HEAD.len()..], PACKET);
+    Ok(())
 }
 
 #[test]

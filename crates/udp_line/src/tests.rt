@@ -3,6 +3,7 @@ use crate::{Datagrams, UdpLine};
 use frame_codec::FrameBuf;
 use memory_line::{Direction, Line};
 use std::io;
+use std::test::Fail;
 
 /// A partner that can send nothing, and whose one datagram has so many octets; where it has none to give it fails.
 #[derive(Drop)]
@@ -36,7 +37,7 @@ fn frame_of(octets: &[u8; 2]) -> FrameBuf {
 }
 
 #[test]
-fn takes_datagrams_that_are_frames(rt: HostRuntime) {
+fn takes_datagrams_that_are_frames(rt: HostRuntime) -> Result<(), Fail> {
     for (octets, taken) in [
         (None, None),
         (Some(0), None),
@@ -47,7 +48,7 @@ fn takes_datagrams_that_are_frames(rt: HostRuntime) {
     ] {
         let dte = Partner { octets: None };
         let dce = Partner { octets };
-        let mut line = UdpLine::over(rt.alloc(), dte, dce).unwrap();
+        let mut line = UdpLine::over(rt.alloc(), dte, dce)?;
         line.put(Direction::FromDte, frame_of(b"AB"));
         let frame = line.take(Direction::FromDte);
         assert_eq!(rt;
@@ -57,11 +58,12 @@ fn takes_datagrams_that_are_frames(rt: HostRuntime) {
         );
         assert!(rt; line.take(Direction::FromDte).is_none(), "after {octets:?}");
     }
+    Ok(())
 }
 
 #[test]
-fn carries_frames_in_order(rt: HostRuntime) {
-    let mut line = UdpLine::pair(&rt, rt.alloc()).unwrap();
+fn carries_frames_in_order(rt: HostRuntime) -> Result<(), Fail> {
+    let mut line = UdpLine::pair(&rt, rt.alloc())?;
     line.put(Direction::FromDte, frame_of(b"AB"));
     line.put(Direction::FromDte, frame_of(b"CD"));
     line.put(Direction::FromDce, frame_of(b"EF"));
@@ -71,19 +73,23 @@ fn carries_frames_in_order(rt: HostRuntime) {
         (Direction::FromDte, b"CD"),
     ] {
         assert!(rt; !line.in_flight(direction));
-        let frame = line.take(direction).unwrap();
+        let Some(frame) = line.take(direction) else {
+            panic!(rt; "no frame came");
+        };
         assert_eq!(rt; frame.as_slice(), octets.as_slice());
     }
     assert!(rt; line.take(Direction::FromDte).is_none());
     assert!(rt; line.take(Direction::FromDce).is_none());
+    Ok(())
 }
 
 #[test]
-fn loses_what_is_in_flight(rt: HostRuntime) {
-    let mut line = UdpLine::pair(&rt, rt.alloc()).unwrap();
+fn loses_what_is_in_flight(rt: HostRuntime) -> Result<(), Fail> {
+    let mut line = UdpLine::pair(&rt, rt.alloc())?;
     line.put(Direction::FromDte, frame_of(b"AB"));
     line.put(Direction::FromDce, frame_of(b"CD"));
     line.empty();
     assert!(rt; line.take(Direction::FromDte).is_none());
     assert!(rt; line.take(Direction::FromDce).is_none());
+    Ok(())
 }
