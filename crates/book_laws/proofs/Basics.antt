@@ -6,7 +6,10 @@ use Rattle.std.proofs.lemmas.Bool.{eq-eqb, cases_eq}
 use Rattle.link_timers.specs.declared.role.Role.{Role}
 use Rattle.link_timers.specs.declared.role.Role.TheVariants.{Dte, Dce}
 use Rattle.link_timers.specs.Role.{other_of}
+use Rattle.epochs.specs.Confirmed.{Confirms}
+use Rattle.epochs.proofs.Confirms.{aligned_confirms, confirmed_taken}
 use Rattle.call_records.specs.Records.{RecordValue, changed_at}
+use Rattle.book_laws.specs.Headline.{IsTakenFrom, sent_by, all_taken_by}
 
 -- ---- lists
 
@@ -151,3 +154,10 @@ is_role x r =
 
 pub all_same : {X Y : Type 0} (f g : X → Y) → ((x : X) → f x ≡ g x) → f ≡ g
 all_same f g h = λ i x. h x i
+
+-- ---- what is confirmed to the one end was taken by the other
+
+pub confirmed_of : (sender taker : RecordValue) → IsTakenFrom sender taker → Confirms (all_taken_by taker) (sent_by sender)
+confirmed_of sender taker h =
+    confirmed_taken (taker.taken_before ++ taker.taken ∷ []) (sent_by sender)
+    (aligned_confirms (sender.sent_before ++ sender.sent ∷ []) (taker.taken_before ++ taker.taken ∷ []) h)

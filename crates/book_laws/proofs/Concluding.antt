@@ -17,7 +17,7 @@ use Rattle.packet_laws.specs.Law.{Aligned, HasNoLogs}
 use Rattle.call_records.specs.Records.{RecordValue, PairValue, taken_epochs}
 use Rattle.call_records.specs.Book.{Book, side_of, packet_of}
 use Rattle.book_laws.specs.Headline.{IsTakenFrom, AreEnds, PairHolds, IsIn, TookNothing, BookHolds}
-use Rattle.book_laws.proofs.Basics.{twice, get_there}
+use Rattle.book_laws.proofs.Basics.{twice, get_there, confirmed_of}
 use Rattle.book_laws.proofs.Invariant.{EndView, ChannelUse, Kind, Tag, book_parts, IsLive, Tells, IsCaller, IsCallee, IsPaired, IsRight, caller_of, callee_of, epoch_at, answered_at, sent_of, taken_of, nth_sent, nth_taken, all_sent, all_taken, Passed, HasSent, HasTaken, passed_sent, passed_taken}
 use Rattle.book_laws.proofs.Invariant.Kind.{Caller, Callee, Cancelled}
 use Rattle.book_laws.proofs.Carrying.{same_tag}
@@ -154,6 +154,8 @@ module _ (views : Role → EndView) (b : Book) (tags : List Tag) (w : IsRight vi
           backward_aligned = backward;
           onward = aligned-match (all_sent mine.0) (all_taken yours.0) onward;
           backward = aligned-match (all_sent yours.0) (all_taken mine.0) backward;
+          onward_confirmed = confirmed_of mine.0 yours.0 onward;
+          backward_confirmed = confirmed_of yours.0 mine.0 backward;
         };
         is_right = record {
           order = let a = fm.number in let c = fy.number in let l = m.order in omega arith;

@@ -1,12 +1,13 @@
 -- What the book of a line promises of its calls.
 use Rattle.std.specs.Prelude.{◌≡◌, ℕ, ◌<◌, ◌≤◌, ◌⊎◌, Bool, false, List, [], ◌∷◌, ◌++◌, length, slice_get, Option, Some, None}
-use Rattle.std.specs.Prelude.{is_some, true}
+use Rattle.std.specs.Prelude.{is_some, true, map}
 use Rattle.link_timers.specs.declared.role.Role.{Role}
 use Rattle.link_timers.specs.declared.role.Role.TheVariants.{Dte, Dce}
 use Rattle.packet_layer.specs.Channel.{Channel, may_accept, in_transfer}
 use Rattle.packet_layer.specs.Layer.{Layer, channel_of, had_call}
 use Rattle.epochs.specs.Epoch.{Epoch, IsEmpty, AreAligned}
 use Rattle.epochs.specs.Match.{Match}
+use Rattle.epochs.specs.Confirmed.{Confirmed, Confirms, sent_confirmed, taken_confirmed, all_taken}
 use Rattle.call_records.specs.Records.{RecordValue, PairValue, sent_epochs, taken_epochs}
 use Rattle.call_records.specs.Book.{Book, Slot, side_of, slot_at}
 use Rattle.book_laws.specs.Told.{World, Move, after_all, AreAllowed, start}
@@ -17,12 +18,26 @@ abbrev pub IsTakenFrom : (sender taker : RecordValue) → Type 0
 IsTakenFrom sender taker =
     AreAligned (sender.sent_before ++ sender.sent ∷ []) (taker.taken_before ++ taker.taken ∷ [])
 
--- so it is both ways, and so the epochs that one end took match those that the other end sent
+-- the epochs that an end sent and took, each with what is confirmed of it
+abbrev pub sent_by : RecordValue → List Confirmed
+sent_by r = map sent_confirmed (r.sent_before ++ r.sent ∷ [])
+
+abbrev pub taken_by : RecordValue → List Confirmed
+taken_by r = map taken_confirmed (r.taken_before ++ r.taken ∷ [])
+
+-- and each with all that was taken in it
+abbrev pub all_taken_by : RecordValue → List Confirmed
+all_taken_by r = map all_taken (r.taken_before ++ r.taken ∷ [])
+
+-- so it is both ways, and so the epochs that one end took match those that the other end sent; by one such matching
+-- what is confirmed to the one end was taken by the other
 pub record PairMatches (caller callee : RecordValue) : Type 0 where
   pub onward_aligned : IsTakenFrom caller callee
   pub backward_aligned : IsTakenFrom callee caller
   pub onward : Match (taken_epochs callee) (sent_epochs caller)
   pub backward : Match (taken_epochs caller) (sent_epochs callee)
+  pub onward_confirmed : Confirms (all_taken_by callee) (sent_by caller)
+  pub backward_confirmed : Confirms (all_taken_by caller) (sent_by callee)
 
 -- two nodes are those of the line's two ends
 abbrev pub AreEnds : Book → (a b : ℕ) → Type 0

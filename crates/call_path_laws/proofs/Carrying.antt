@@ -10,11 +10,11 @@ use Rattle.epochs.specs.ConfirmedLaws.{AreEmpty}
 use Rattle.epochs.proofs.Confirms.{confirms_itself, confirms_trans, aligned_confirms, confirms_match, confirmed_taken}
 use Rattle.epochs.proofs.Prefixes.{empty-prefix}
 use Rattle.call_records.specs.Records.{RecordValue, sent_epochs, taken_epochs}
-use Rattle.book_laws.specs.Headline.{IsTakenFrom, TookNothing}
+use Rattle.book_laws.specs.Headline.{IsTakenFrom, TookNothing, sent_by, taken_by, all_taken_by}
 use Rattle.register_laws.specs.Promise.{PairHolds}
 use Rattle.call_path_laws.specs.World.{World, Plan}
 use Rattle.call_path_laws.specs.Seen.{Way}
-use Rattle.call_path_laws.specs.Promise.{CallsHold, JoinsHold, JoinHolds, sent_by, taken_by, all_taken_by}
+use Rattle.call_path_laws.specs.Promise.{CallsHold, JoinsHold, JoinHolds}
 use Rattle.call_path_laws.proofs.Ways.{along}
 
 -- ---- a line

@@ -106,6 +106,8 @@ module _ (w : World) (books : List Book) (traces : List (List Origin)) (s : Line
           backward_aligned = p.matches.backward_aligned;
           onward = p.matches.onward;
           backward = p.matches.backward;
+          onward_confirmed = p.matches.onward_confirmed;
+          backward_confirmed = p.matches.backward_confirmed;
         };
         is_right = record {
           order = rises_from 0 c.j s.seen.owners c.caller c.callee x a c.caller_numbered c.callee_numbered less;

@@ -11,7 +11,7 @@ use Rattle.epochs.specs.ConfirmedLaws.{AreEmpty}
 use Rattle.epochs.proofs.Confirms.{confirms_trans}
 use Rattle.call_records.specs.Records.{RecordValue, PairValue, taken_epochs}
 use Rattle.call_records.specs.Register.{LineEnds, found_ends}
-use Rattle.book_laws.specs.Headline.{IsIn, TookNothing}
+use Rattle.book_laws.specs.Headline.{IsIn, TookNothing, sent_by, taken_by}
 use Rattle.book_laws.proofs.Basics.{get_there, order}
 use Rattle.register_laws.specs.Seen.{positions, RecordIsSeen, renumbered}
 use Rattle.register_laws.specs.Promise.{IsOfEnd}
@@ -20,7 +20,7 @@ use Rattle.register_laws.proofs.Steps.{same_place}
 use Rattle.call_path_laws.specs.World.{Origin, World, Plan}
 use Rattle.call_path_laws.specs.Seen.{kind, numbers, CameFrom, Way, Begins, JoinIsSeen, PairIsSeen, PairCame, Seen}
 use Rattle.call_path_laws.specs.Seen.Way.{here, onward}
-use Rattle.call_path_laws.specs.Promise.{IsPlacedAt, PathHolds, PathsHold, CallsHold, JoinsHold, JoinHolds, sent_by, taken_by}
+use Rattle.call_path_laws.specs.Promise.{IsPlacedAt, PathHolds, PathsHold, CallsHold, JoinsHold, JoinHolds}
 use Rattle.call_path_laws.specs.Promise.IsPlacedAt.{by_caller, by_switch}
 use Rattle.call_path_laws.specs.Law.{PromiseLaw}
 use Rattle.call_path_laws.proofs.Ways.{along, from_first, one_callee, one_first, numbered_user, kind_user}

@@ -9,11 +9,12 @@ use Rattle.epochs.proofs.Matching.{aligned-match}
 use Rattle.epochs.proofs.Confirms.{confirms_itself}
 use Rattle.call_records.specs.Records.{RecordValue, PairValue, taken_epochs}
 use Rattle.call_records.specs.Register.{LineEnds}
-use Rattle.book_laws.specs.Headline.{IsTakenFrom, IsIn, TookNothing}
+use Rattle.book_laws.specs.Headline.{IsTakenFrom, IsIn, TookNothing, sent_by}
+use Rattle.book_laws.proofs.Basics.{confirmed_of}
 use Rattle.register_laws.specs.Promise.{PairIsRight, PairHolds, IsOfEnd, RegisterHolds}
 use Rattle.call_path_laws.specs.World.{Origin, Join, made_world, MayAll}
 use Rattle.call_path_laws.specs.Seen.{IsJoined}
-use Rattle.call_path_laws.specs.Promise.{CallsHold, JoinHolds, JoinsHold, sent_by}
+use Rattle.call_path_laws.specs.Promise.{CallsHold, JoinHolds, JoinsHold}
 use Rattle.call_path_laws.specs.Run.{plan, lines, events, world, RunLaw}
 
 -- ---- what holds of each element of a list
@@ -151,6 +152,8 @@ pair_with x a caller callee caller_there callee_there on back right = record {
     backward_aligned = back;
     onward = aligned-match _ _ on;
     backward = aligned-match _ _ back;
+    onward_confirmed = confirmed_of caller callee on;
+    backward_confirmed = confirmed_of callee caller back;
   };
   is_right = right;
 }

@@ -1,30 +1,17 @@
 -- What the register of a network with switches promises of its calls.
-use Rattle.std.specs.Prelude.{◌≡◌, ℕ, ◌<◌, ◌⊎◌, false, List, map, ◌∷◌, [], ◌++◌, slice_get, Some}
+use Rattle.std.specs.Prelude.{◌≡◌, ℕ, ◌<◌, ◌⊎◌, false, List, slice_get, Some}
 use Rattle.link_timers.specs.declared.role.Role.{Role}
 use Rattle.link_timers.specs.Role.{other_of}
 use Rattle.epochs.specs.Match.{Match}
-use Rattle.epochs.specs.Confirmed.{Confirmed, Confirms, sent_confirmed, taken_confirmed, all_taken}
+use Rattle.epochs.specs.Confirmed.{Confirms}
 use Rattle.epochs.specs.ConfirmedLaws.{AreEmpty}
 use Rattle.call_records.specs.Records.{RecordValue, PairValue, sent_epochs, taken_epochs}
 use Rattle.call_records.specs.Register.{Register}
-use Rattle.book_laws.specs.Headline.{IsIn, TookNothing}
+use Rattle.book_laws.specs.Headline.{IsIn, TookNothing, sent_by, taken_by, all_taken_by}
 use Rattle.register_laws.specs.Promise.{IsOfEnd, RegisterHolds}
 use Rattle.register_laws.specs.Promise as line
 use Rattle.call_path_laws.specs.World.{Origin, World, Plan}
 use Rattle.call_path_laws.specs.Seen.{CameFrom, IsJoined}
-
--- ---- what an end sent and took, with what is confirmed
-
-abbrev pub sent_by : RecordValue → List Confirmed
-sent_by r = map sent_confirmed (r.sent_before ++ r.sent ∷ [])
-
-abbrev pub taken_by : RecordValue → List Confirmed
-taken_by r = map taken_confirmed (r.taken_before ++ r.taken ∷ [])
-
-abbrev pub all_taken_by : RecordValue → List Confirmed
-all_taken_by r = map all_taken (r.taken_before ++ r.taken ∷ [])
-
--- ---- the promise
 
 -- what one end took matches what the other sent, both ways; by one such matching what is confirmed was taken
 pub record PathMatches (caller callee : RecordValue) : Type 0 where

@@ -92,6 +92,8 @@ module _ (g : Register) (books : List Book) (w : Seen g books) (holds : (j : ℕ
           backward_aligned = h.matches.backward_aligned;
           onward = h.matches.onward;
           backward = h.matches.backward;
+          onward_confirmed = h.matches.onward_confirmed;
+          backward_confirmed = h.matches.backward_confirmed;
         };
         is_right = record {
           order = rises_from 0 o.j w.owners o.pair.own.caller o.pair.own.callee q.caller q.callee o.pair.caller o.pair.callee less;
