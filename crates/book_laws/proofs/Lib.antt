@@ -1,5 +1,6 @@
 pub mod Basics
 mod Invariant
+mod Presence
 mod Carrying
 mod Ending
 mod Adding
