@@ -1,11 +1,11 @@
 -- Which records are open and present on a channel, after each kind of change to a book.
 use Rattle.std.specs.Prelude.{◌≡◌, ℕ, ◌<◌, ◌⊎◌, true, false, List, [], ◌∷◌, ◌++◌, length, slice_get, Some, None}
-use Rattle.std.proofs.Common.{inl, inr, refl, sym, ap, subst, ◌∙◌, arith, true≢false}
+use Rattle.std.proofs.Common.{inl, inr, sym, ap, subst, ◌∙◌, arith, true≢false}
 use Rattle.std.proofs.lemmas.Option.{none-some, same_Some, slice_get_within}
 use Rattle.link_timers.specs.declared.role.Role.{Role}
 use Rattle.call_records.specs.Records.{RecordValue}
 use Rattle.call_records.specs.Book.{Slot}
-use Rattle.book_laws.proofs.Basics.{is_role, number_is, get_before, get_last, get_pushed}
+use Rattle.book_laws.proofs.Basics.{is_role, number_is, get_pushed}
 use Rattle.book_laws.proofs.Invariant.{EndView, CallStatus, Tag, IsSomewhere, AreOpen, Present, SlotIs}
 use Rattle.book_laws.proofs.Invariant.CallStatus.{Idle, OwnCall, FarCall, Open}
 

@@ -3,7 +3,7 @@ use Rattle.std.proofs.Common.{◌≡◌, ℕ, Bool, true, false, ◌&&◌, ◌||
 use Rattle.link_timers.specs.declared.role.Role.{Role}
 use Rattle.packet_layer.specs.Packets.{Body}
 use Rattle.packet_laws.specs.History.{Epoch, History}
-use Rattle.packet_layer.specs.Channel.{Channel, CallState}
+use Rattle.packet_layer.specs.Channel.{Channel}
 use Rattle.packet_layer.specs.Channel.CallState.{Transfer}
 use Rattle.packet_laws.specs.Line.{Line}
 use Rattle.packet_laws.specs.Law.{HasNoLogs, OneAnswers, IsAccepted}
