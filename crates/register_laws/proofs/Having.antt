@@ -6,7 +6,7 @@ use Rattle.link_timers.specs.declared.role.Role.{Role}
 use Rattle.link_timers.specs.declared.role.Role.TheVariants.{Dte, Dce}
 use Rattle.link_timers.specs.Role.{other_of}
 use Rattle.call_records.specs.Records.{RecordValue, PairValue}
-use Rattle.call_records.specs.Book.{Book, slot_at, side_of}
+use Rattle.call_records.specs.Book.{Book, slot_at}
 use Rattle.call_records.specs.Register.{Register, LineEnds, book_at, found_ends}
 use Rattle.book_laws.specs.Headline.{HaveRecords, IsOpenHere, HasCallee}
 use Rattle.book_laws.specs.Headline as line
@@ -18,7 +18,7 @@ use Rattle.register_laws.specs.Law.{RecordsLaw, CalleeLaw}
 use Rattle.register_laws.proofs.Positions.{is_place}
 use Rattle.register_laws.proofs.Steps.{same_place}
 use Rattle.register_laws.proofs.Seeing.{OfLine, of_line}
-use Rattle.register_laws.proofs.Promising.{Numbered, numbered}
+use Rattle.register_laws.proofs.Promising.{numbered}
 
 -- ---- numbers
 
