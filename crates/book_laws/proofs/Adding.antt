@@ -1,5 +1,5 @@
 -- A call begins at an end: a record is added, and all else of the book stays right.
-use Rattle.std.specs.Prelude.{◌≡◌, ◌≢◌, ℕ, suc, ◌⊎◌, Bool, true, false, List, [], ◌∷◌, ◌++◌, length, slice_get, Option, Some, None}
+use Rattle.std.specs.Prelude.{◌≡◌, ◌≢◌, ℕ, suc, ◌<◌, ◌⊎◌, Bool, true, false, List, [], ◌∷◌, ◌++◌, length, slice_get, Option, Some, None}
 use Rattle.std.proofs.Common.{inl, inr, refl, sym, ap, subst, ◌∙◌, arith, true≢false}
 use Rattle.std.proofs.lemmas.Option.{none-some, same_Some, slice_get_within}
 use Rattle.link_timers.specs.declared.role.Role.{Role}
@@ -12,6 +12,7 @@ use Rattle.book_laws.proofs.Basics.{role_is, number_is, get_before, get_pushed, 
 use Rattle.book_laws.proofs.Invariant.{EndView, CallStatus, ChannelUse, Kind, Tag, BookParts, IsLive, Stands, Means, Fits, HasEpochs, Present, SlotIs, PlacedIs, IsPair, IsRight, epoch_at, called_at, answered_at, now, sent_of, taken_of, sent_as, taken_as}
 use Rattle.book_laws.proofs.Invariant.CallStatus.{Idle, OwnCall, FarCall, Open}
 use Rattle.book_laws.proofs.Invariant.Kind.{Caller, Callee, Cancelled}
+use Rattle.book_laws.proofs.Presence.{more_open, present_in}
 use Rattle.book_laws.proofs.Carrying.{slot_same, placed_same, past_same, channel_use_same}
 
 -- ---- more tags
@@ -33,7 +34,7 @@ slot_more : (m : CallStatus) (f : EndView) (tags more : List Tag) (x : Role) (c 
 slot_more Idle f tags more x c slot w = w
 slot_more OwnCall f tags more x c slot w = (present_more f tags more x c slot w.0, w.1, w.2)
 slot_more FarCall f tags more x c slot w = (present_more f tags more x c slot w.0, w.1, w.2, w.3)
-slot_more Open f tags more x c slot w = (present_more f tags more x c slot w.0, w.1)
+slot_more Open f tags more x c slot w = (present_more f tags more x c slot w.0, w.1, w.2)
 
 pub placed_more : (o : Option ℕ) (f : EndView) (tags more : List Tag) (x : Role) (c : ℕ) → PlacedIs o f tags x c → PlacedIs o f (tags ++ more) x c
 placed_more None f tags more x c w = w
@@ -76,6 +77,8 @@ pub record Begins (x : Role) (s c : ℕ) (views views' : Role → EndView) (b : 
   pub role : t.role ≡ x
   pub channel_use : t.channel_use ≡ now (views x) s c
   pub live : IsLive t.kind
+  pub present : (slots x c).present ≡ Some (length b.records)
+  pub is_open : r.closed ≡ false
   pub stands : Stands (views' x) (slots x) (length b.records) t
   pub means : Means (views' x) (views' (other_of x)) b.pairs (tags ++ t ∷ []) (length b.records) t
   pub fits : Fits (views' x) (b.nodes x) (length b.records) t r
@@ -109,6 +112,7 @@ module _ (x : Role) (s c : ℕ) (views views' : Role → EndView) (b : BookParts
   old_stands_here : (n : ℕ) (t : Tag) → slice_get tags n ≡ Some t → t.role ≡ x → (t.channel_use.channel ≡ c) ⊎ (t.channel_use.channel ≢ c) → Stands (views x) (b.slots x) n t → Stands (views' x) (slots x) n t
   old_stands_here n t there role (inl here) o = record {
     begun = q.here.begun t.channel_use o.begun;
+    top = let a = o.top in let e = q.here.top in omega arith;
     past = λ up. past_same t.channel_use ((views x).histories t.channel_use.session t.channel_use.channel) ((views' x).histories t.channel_use.session t.channel_use.channel) (q.here.restart t.channel_use.session t.channel_use.channel) (q.here.uses t.channel_use.session t.channel_use.channel) (o.past (sym q.here.session ∙ up));
     present = λ up is live.
         let when : s ≡ t.channel_use.session = same_Some s t.channel_use.session (sym q.here.up ∙ sym q.here.session ∙ up) in
@@ -116,6 +120,7 @@ module _ (x : Role) (s c : ℕ) (views views' : Role → EndView) (b : BookParts
   }
   old_stands_here n t there role (inr other) o = record {
     begun = q.here.begun t.channel_use o.begun;
+    top = let a = o.top in let e = q.here.top in omega arith;
     past = λ up. past_same t.channel_use ((views x).histories t.channel_use.session t.channel_use.channel) ((views' x).histories t.channel_use.session t.channel_use.channel) (q.here.restart t.channel_use.session t.channel_use.channel) (q.here.uses t.channel_use.session t.channel_use.channel) (o.past (sym q.here.session ∙ up));
     present = λ up is live. ap (λ (z : Slot). z.present) (q.slots_else t.channel_use.channel other) ∙ o.present (sym q.here.session ∙ up) (is ∙ now_is t.channel_use.session t.channel_use.channel) live;
   }
@@ -132,6 +137,7 @@ module _ (x : Role) (s c : ℕ) (views views' : Role → EndView) (b : BookParts
       old_stands_there : (n : ℕ) (t : Tag) → Stands (views (other_of x)) (b.slots (other_of x)) n t → Stands (views (other_of x)) (slots (other_of x)) n t
       old_stands_there n t o = record {
         begun = o.begun;
+        top = o.top;
         past = o.past;
         present = λ up is live. ap (λ (z : Slot). z.present) (q.slots_there t.channel_use.channel) ∙ o.present up is live;
       }
@@ -169,6 +175,10 @@ module _ (x : Role) (s c : ℕ) (views views' : Role → EndView) (b : BookParts
       let o = w.means n t there in
       record {
         caller = λ e. let z = o.caller e in record {
+          called = elim (called_of t.role t.channel_use) [
+            | inl h ↦ subst (λ (p : Option CallParts). IsSome p) (sym h) z.called
+            | inr h ↦ h.2
+          ];
           not_answered = answered_of t.role t.channel_use ∙ z.not_answered;
           paired = λ a. z.paired (sym (answered_of (other_of t.role) t.channel_use) ∙ a);
         };
@@ -340,6 +350,21 @@ module _ (x : Role) (s c : ℕ) (views views' : Role → EndView) (b : BookParts
         answered = answered_of o.tag.role o.tag.channel_use ∙ o.answered;
       }
 
+  slots_other : (y : Role) (d : ℕ) → ((y ≡ x) × (d ≡ c) → ⊥) → slots y d ≡ b.slots y d
+  slots_other y d apart =
+      elim (role_is x y) [
+        | inl e ↦ subst (λ (z : Role). slots z d ≡ b.slots z d) (sym e) (q.slots_else d (λ h. apart (e, h)))
+        | inr e ↦ subst (λ (z : Role). slots z d ≡ b.slots z d) (sym e) (q.slots_there d)
+      ]
+
+  -- the number of a present record is that of a record
+  number_within : (y : Role) (d n : ℕ) → (b.slots y d).present ≡ Some n → n < length b.records
+  number_within y d n e =
+      let p = present_in ((views y).status d) (views y) tags y d (b.slots y d) n (w.slot y d) e in
+      let h = slice_get_within tags n p.0.tag p.1 in
+      let m = w.count in
+      omega arith
+
   pub added_right : IsRight views' (record b { slots = slots; records = b.records ++ r0 ∷ [] }) (tags ++ t0 ∷ [])
   added_right = record {
     stands = stands_of;
@@ -352,4 +377,6 @@ module _ (x : Role) (s c : ℕ) (views views' : Role → EndView) (b : BookParts
     pairs = pairs_of;
     once = w.once;
     count = length_pushed tags t0 ∙ ap suc w.count ∙ sym (length_pushed b.records r0);
+    opened = more_open x c b.slots slots b.records r0
+        (subst (λ (m : CallStatus). SlotIs m (views x) tags x c (b.slots x c)) q.here.idle (w.slot x c)) q.present slots_other q.is_open number_within w.opened;
   }

@@ -1,21 +1,27 @@
 -- Calls that came in: what the book has of them until they are accepted, and in data transfer.
-use Rattle.std.specs.Prelude.{◌≡◌, ℕ, true, List, is_some, slice_get, Option, Some, None}
-use Rattle.std.proofs.Common.{refl, sym, ap, subst, ◌∙◌, true≢false}
+use Rattle.std.specs.Prelude.{◌≡◌, ℕ, ◌≤◌, Bool, true, false, ◌||◌, List, [], is_some, slice_get, Option, Some, None}
+use Rattle.std.proofs.Common.{refl, sym, ap, subst, ◌∙◌, arith, true≢false}
 use Rattle.link_timers.specs.declared.role.Role.{Role}
 use Rattle.link_timers.specs.declared.role.Role.TheVariants.{Dte, Dce}
+use Rattle.link_timers.specs.Role.{other_of}
 use Rattle.packet_layer.specs.Channel.{CallState, Channel, may_accept, in_transfer}
 use Rattle.packet_layer.specs.Channel.CallState.{Ready, OwnWaiting, FarWaiting, Transfer, Collision, OwnClear}
 use Rattle.packet_layer.specs.Layer.{channel_of}
 use Rattle.call_records.specs.Records.{PairValue}
 use Rattle.call_records.specs.Book.{Book, Slot, slot_at}
+use Rattle.packet_laws.specs.Law.{Holds}
+use Rattle.packet_laws.specs.Line.{End}
 use Rattle.packet_laws.proofs.Line.LineHolds.{line_holds}
 use Rattle.book_laws.specs.Told.{World, after_all, start}
-use Rattle.book_laws.specs.Headline.{IsPaired, AreAnswered, AnsweredLaw, layer_at}
-use Rattle.book_laws.proofs.Invariant.{EndView, CallStatus, Kind, Tag, SlotIs, IsRight, book_parts, answered_at}
+use Rattle.book_laws.specs.Headline.{IsPaired, HasCallee, AreAnswered, AnsweredLaw, layer_at}
+use Rattle.book_laws.proofs.Invariant.{EndView, CallStatus, ChannelUse, Kind, Tag, SlotIs, IsRight, book_parts, answered_at, now}
 use Rattle.book_laws.proofs.Invariant.CallStatus.{FarCall, Open}
 use Rattle.book_laws.proofs.Invariant.Kind.{Caller, Callee, Cancelled}
 use Rattle.book_laws.proofs.Carrying.{same_tag}
 use Rattle.book_laws.proofs.EndSteps.{status_of, status_at, view_of, views_of}
+use Rattle.book_laws.proofs.Layers.{in_range}
+use Rattle.book_laws.proofs.Moving.{IsEnd}
+use Rattle.book_laws.proofs.Placed.{pair_is, has_callee}
 use Rattle.book_laws.proofs.Lines.{KeptIn, all_kept}
 use Rattle.book_laws.proofs.Starting.{start_kept}
 
@@ -45,9 +51,6 @@ callee_number Caller = 0
 callee_number (Callee a) = a
 callee_number Cancelled = 0
 
-pub pair_is : (p : PairValue) (a n : ℕ) → p.caller ≡ a → p.callee ≡ n → p ≡ record { caller = a; callee = n }
-pair_is p a n e h = ap (λ (i : ℕ). (record { caller = i; callee = p.callee })) e ∙ ap (λ (i : ℕ). (record { caller = a; callee = i })) h
-
 came_in : (f : EndView) (tags : List Tag) (x : Role) (c : ℕ) (slot : Slot) → SlotIs FarCall f tags x c slot → is_some slot.caller ≡ true
 came_in f tags x c slot w = ap (λ (o : Option ℕ). is_some o) w.3
 
@@ -70,8 +73,38 @@ paired views b tags x c r w some =
       there = found.2 ∙ ap (λ (q : PairValue). Some q) (pair_is found.1 a.0 w.0.number caller found.3);
     }
 
-kept_answered : (n : ℕ) (w : World) → KeptIn n w → AreAnswered w
-kept_answered n w k = record { came = came; paired = found }
+-- in data transfer one of the two ends accepted; where an end placed the call, it was the other one
+accepted_there : (a b : Bool) → a ≡ false → (a || b) ≡ true → b ≡ true
+accepted_there false b e h = h
+accepted_there true b e h = absurd (true≢false e)
+
+no_caller : (o : Option ℕ) → is_some o ≡ false → o ≡ None
+no_caller None e = refl
+no_caller (Some n) e = absurd (true≢false e)
+
+transfer_state : (s : CallState) → in_transfer s ≡ true → s ≡ Transfer
+transfer_state Transfer e = refl
+transfer_state Ready e = absurd (true≢false (sym e))
+transfer_state OwnWaiting e = absurd (true≢false (sym e))
+transfer_state FarWaiting e = absurd (true≢false (sym e))
+transfer_state Collision e = absurd (true≢false (sym e))
+transfer_state OwnClear e = absurd (true≢false (sym e))
+
+-- a call that an end placed
+placed_in : (views : Role → EndView) (b : Book) (tags : List Tag) (x : Role) (c : ℕ) → IsRight views (book_parts b) tags → SlotIs Open (views x) tags x c (slot_at x c b)
+    → is_some (slot_at x c b).caller ≡ false
+    → ((s : ℕ) → (views x).session ≡ Some s → (answered_at (views x) (now (views x) s c) || answered_at (views (other_of x)) (now (views x) s c)) ≡ true)
+    → HasCallee b x c
+placed_in views b tags x c r w none accepted =
+    let p = w.0 in
+    let own : p.tag.kind ≡ Caller = w.2 (no_caller (slot_at x c b).caller none) in
+    let not_here : answered_at (views x) p.tag.channel_use ≡ false =
+    subst (λ (y : Role). answered_at (views y) p.tag.channel_use ≡ false) p.role ((r.means p.number p.tag p.there).caller own).not_answered in
+    has_callee views b tags r x c p own (accepted_there (answered_at (views x) p.tag.channel_use) (answered_at (views (other_of x)) p.tag.channel_use) not_here
+    (subst (λ (k : ChannelUse). (answered_at (views x) k || answered_at (views (other_of x)) k) ≡ true) (sym p.channel_use) (accepted p.session p.up)))
+
+kept_answered : (n : ℕ) (w : World) → KeptIn n w → ((s c : ℕ) → 1 ≤ c → c ≤ n → Holds w.line s c) → AreAnswered w
+kept_answered n w k law = record { came = came; paired = found; placed = placed }
   where
     came : (role : Role) (c : ℕ) (ch : Channel) → channel_of (layer_at role w) c ≡ Some ch → may_accept role ch.state ≡ true → is_some (slot_at role c w.book).caller ≡ true
     came Dte c ch at may = came_in (view_of Dte w.line.me w.top_me) k.tags Dte c (slot_at Dte c w.book) (subst (λ (m : CallStatus). SlotIs m (view_of Dte w.line.me w.top_me) k.tags Dte c (slot_at Dte c w.book)) (ap (status_at Dte) at ∙ far_call Dte ch.state may) (k.right.slot Dte c))
@@ -83,8 +116,23 @@ kept_answered n w k = record { came = came; paired = found }
     found Dce c ch at open_ some =
         paired (views_of Dte w.line.me w.line.you w.top_me w.top_you) w.book k.tags Dce c k.right (subst (λ (m : CallStatus). SlotIs m (view_of Dce w.line.you w.top_you) k.tags Dce c (slot_at Dce c w.book)) (ap (status_at Dce) at ∙ open_call Dce ch.state open_) (k.right.slot Dce c)) some
 
+    -- an end's channel is one of the line
+    range_of : (x : Role) (e : End) (c : ℕ) (ch : Channel) → IsEnd n x e → channel_of e.layer c ≡ Some ch → (1 ≤ c) × (c ≤ n)
+    range_of x e c ch end at = let h = in_range e.layer.channels c ch at in (h.0, let a = h.1 in let b = end.count in omega arith)
+
+    placed : (role : Role) (c : ℕ) (ch : Channel) → channel_of (layer_at role w) c ≡ Some ch → in_transfer ch.state ≡ true → is_some (slot_at role c w.book).caller ≡ false → HasCallee w.book role c
+    placed Dte c ch at open_ none =
+        let h = range_of Dte w.line.me c ch k.here at in
+        placed_in (views_of Dte w.line.me w.line.you w.top_me w.top_you) w.book k.tags Dte c k.right (subst (λ (m : CallStatus). SlotIs m (view_of Dte w.line.me w.top_me) k.tags Dte c (slot_at Dte c w.book)) (ap (status_at Dte) at ∙ open_call Dte ch.state open_) (k.right.slot Dte c)) none
+        (λ s up. (law s c h.0 h.1).accepted_here ch 0 up at (transfer_state ch.state open_))
+    placed Dce c ch at open_ none =
+        let h = range_of Dce w.line.you c ch k.there at in
+        placed_in (views_of Dte w.line.me w.line.you w.top_me w.top_you) w.book k.tags Dce c k.right (subst (λ (m : CallStatus). SlotIs m (view_of Dce w.line.you w.top_you) k.tags Dce c (slot_at Dce c w.book)) (ap (status_at Dce) at ∙ open_call Dce ch.state open_) (k.right.slot Dce c)) none
+        (λ s up. (law s c h.0 h.1).accepted_there ch 0 up at (transfer_state ch.state open_))
+
 pub are_answered : AnsweredLaw
 are_answered dte_node dce_node channels window standing some small ms allowed =
-    kept_answered channels (after_all ms (start dte_node dce_node channels window standing))
-    (all_kept channels ms (start dte_node dce_node channels window standing) (start_kept dte_node dce_node channels window standing some)
-    (λ hs. (line_holds channels window standing some small hs).0) allowed).0
+    let w : World = after_all ms (start dte_node dce_node channels window standing) in
+    let k = all_kept channels ms (start dte_node dce_node channels window standing) (start_kept dte_node dce_node channels window standing some)
+    (λ hs. (line_holds channels window standing some small hs).0) allowed in
+    kept_answered channels w k.0 (λ s c least most. k.1 [] s c least most)

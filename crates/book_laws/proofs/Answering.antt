@@ -7,7 +7,7 @@ use Rattle.packet_layer.specs.Packets.{CallParts}
 use Rattle.std.specs.Option.{IsSome}
 use Rattle.call_records.specs.Records.{RecordValue, PairValue}
 use Rattle.book_laws.proofs.Basics.{role_is, number_is, twice, get_before, get_pushed, get_last}
-use Rattle.std.proofs.lemmas.Option.{same_Some}
+use Rattle.std.proofs.lemmas.Option.{none-some, same_Some}
 use Rattle.book_laws.proofs.Invariant.{EndView, CallStatus, ChannelUse, Tag, BookParts, IsLive, Stands, Means, Fits, HasEpochs, Present, SlotIs, IsPair, IsPaired, IsRight, caller_of, callee_of, epoch_at, called_at, answered_at, now, sent_of, taken_of, sent_as, taken_as}
 use Rattle.book_laws.proofs.Invariant.CallStatus.{FarCall, Open}
 use Rattle.book_laws.proofs.Invariant.Kind.{Caller, Callee}
@@ -101,6 +101,7 @@ module _ (x : Role) (c : ℕ) (views views' : Role → EndView) (b : BookParts) 
       let o = w.means n t there in
       record {
         caller = λ e. let z = o.caller e in record {
+          called = subst (λ (p : Option CallParts). IsSome p) (sym (called_of t.role t.channel_use)) z.called;
           not_answered = elim (answered_of t.role t.channel_use) [
             | inl h ↦ h ∙ z.not_answered
             | inr h ↦ absurd (not_caller n t there h.0 h.1 e)
@@ -182,6 +183,7 @@ module _ (x : Role) (c : ℕ) (views views' : Role → EndView) (b : BookParts) 
   slot_own = subst (λ (m : CallStatus). SlotIs m (views' x) tags x c (b.slots x c)) (sym q.here.opens) (
     present_same (views x) (views' x) tags x c (b.slots x c) (same_of x).session (λ s u. now_same (views x) (views' x) (same_of x) s c) q.own,
     λ i e. (q.kind ∙ ap (λ (k : ℕ). Callee k) (same_Some a i (sym q.caller ∙ e)), ap (λ (u : ChannelUse). answered_at (views' x) u) q.own.channel_use ∙ q.here.since),
+    λ none. absurd (none-some a (sym none ∙ q.caller)),
   )
 
   slot_of : (y : Role) (d : ℕ) → SlotIs ((views' y).status d) (views' y) tags y d (b.slots y d)
@@ -248,4 +250,5 @@ module _ (x : Role) (c : ℕ) (views views' : Role → EndView) (b : BookParts) 
     ];
     once = once_of;
     count = w.count;
+    opened = w.opened;
   }

@@ -44,8 +44,9 @@ module _ (f f' : EndView) (s c node n : ℕ) (slots : ℕ → Slot) (own far : O
   abbrev tag : Tag → Type 0
   tag t = (t.channel_use ≡ now f s c) × (t.own ≡ own) × (t.far ≡ far)
 
-  pub new_stands : (t : Tag) → t.channel_use ≡ now f s c → (slots c).present ≡ Some n → Stands f' slots n t
-  new_stands t e here = record {
+  pub new_stands : (t : Tag) → t.channel_use ≡ now f s c → (slots c).present ≡ Some n → s ≡ f.top → Stands f' slots n t
+  new_stands t e here least = record {
+    top = subst (λ (k : ChannelUse). k.session ≤ f'.top) (sym e) (let h = q.top in omega arith);
     begun = subst (λ (k : ChannelUse). f'.begun k ≡ true) (sym e) (q.begun (now f s c) new.begun);
     past = λ up. subst (λ (k : ChannelUse). IsPast k (f'.histories k.session k.channel)) (sym e)
         (record { restarts = let h = q.restart s c in omega arith; uses = λ a. let h = q.uses s c in omega arith });
@@ -116,6 +117,7 @@ module _ (x : Role) (s c : ℕ) (parts : CallParts) (views views' : Role → End
   means : Means (views' x) (views' (other_of x)) b.pairs (tags ++ placed_tag ∷ []) (length b.records) placed_tag
   means = record {
     caller = λ e. record {
+      called = some_is (called_at (views' x) (now (views x) s c)) parts q.called;
       not_answered = q.here.answered (now (views x) s c) ∙ q.new.not_answered;
       paired = λ v. absurd (true≢false (sym v ∙ ap (λ (f : EndView). answered_at f (now (views x) s c)) q.there ∙ q.not_answered));
     };
@@ -160,7 +162,9 @@ module _ (x : Role) (s c : ℕ) (parts : CallParts) (views views' : Role → End
     role = refl;
     channel_use = refl;
     live = caller_not_cancelled;
-    stands = new_stands (views x) (views' x) s c (b.nodes x) (length b.records) (slots x) (address_of parts.calling) (address_of parts.called) Caller q.here q.new placed_tag refl (ap (λ (z : Slot). z.present) q.slot);
+    stands = new_stands (views x) (views' x) s c (b.nodes x) (length b.records) (slots x) (address_of parts.calling) (address_of parts.called) Caller q.here q.new placed_tag refl (ap (λ (z : Slot). z.present) q.slot) (w.tops x s q.here.up);
+    present = ap (λ (z : Slot). z.present) q.slot;
+    is_open = refl;
     means = means;
     fits = new_fits (views x) (views' x) s c (b.nodes x) (length b.records) (slots x) (address_of parts.calling) (address_of parts.called) Caller q.here q.new placed_tag refl refl refl caller_not_cancelled;
     slot = subst (λ (m : CallStatus). SlotIs m (views' x) (tags ++ placed_tag ∷ []) x c (slots x c)) (sym q.status) (present, refl, ap (λ (z : Slot). z.caller) q.slot);
@@ -310,7 +314,9 @@ module _ (x : Role) (s c : ℕ) (parts : CallParts) (views views' : Role → End
     role = refl;
     channel_use = refl;
     live = callee_not_cancelled mate.number;
-    stands = new_stands (views x) (views' x) s c (b.nodes x) (length b.records) (slots x) (address_of parts.called) (address_of parts.calling) Caller q.here q.new come_tag refl (ap (λ (z : Slot). z.present) q.slot);
+    stands = new_stands (views x) (views' x) s c (b.nodes x) (length b.records) (slots x) (address_of parts.called) (address_of parts.calling) Caller q.here q.new come_tag refl (ap (λ (z : Slot). z.present) q.slot) (w.tops x s q.here.up);
+    present = ap (λ (z : Slot). z.present) q.slot;
+    is_open = refl;
     means = come_means;
     fits = new_fits (views x) (views' x) s c (b.nodes x) (length b.records) (slots x) (address_of parts.called) (address_of parts.calling) Caller q.here q.new come_tag refl refl refl (callee_not_cancelled mate.number);
     slot = subst (λ (m : CallStatus). SlotIs m (views' x) (tags ++ come_tag ∷ []) x c (slots x c)) (sym q.status) (come_present, mate.number, refl, ap (λ (z : Slot). z.caller) q.slot ∙ mate.is_placed);

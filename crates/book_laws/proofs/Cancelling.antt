@@ -10,7 +10,7 @@ use Rattle.std.specs.Option.{IsSome}
 use Rattle.call_records.specs.Records.{RecordValue, PairValue}
 use Rattle.call_records.specs.Book.{Slot}
 use Rattle.book_laws.proofs.Basics.{is_role, number_is, twice, get_set, set_here, set_elsewhere, length_set}
-use Rattle.book_laws.proofs.Invariant.{EndView, CallStatus, ChannelUse, Kind, Tag, BookParts, IsLive, Stands, Means, Fits, Present, SlotIs, PlacedIs, UpTo, IsPair, IsRight, epoch_at, called_at, now, taken_of, nothing_passed, taken_as}
+use Rattle.book_laws.proofs.Invariant.{EndView, CallStatus, ChannelUse, Kind, Tag, BookParts, AreOpen, IsLive, Stands, Means, Fits, Present, SlotIs, PlacedIs, UpTo, IsPair, IsRight, epoch_at, called_at, now, taken_of, nothing_passed, taken_as}
 use Rattle.book_laws.proofs.Invariant.CallStatus.{Idle, OwnCall, FarCall, Open}
 use Rattle.book_laws.proofs.Invariant.Kind.{Caller, Callee, Cancelled}
 use Rattle.book_laws.proofs.Carrying.{is_present, same_tag}
@@ -60,6 +60,7 @@ pub record Cancels (x : Role) (c : ℕ) (views : Role → EndView) (status : Rol
   pub free : (slots x c).present ≡ None
   pub placed : (slots x c).placed ≡ (b.slots x c).placed
   pub slots_else : (y : Role) (d : ℕ) → ((y ≡ x) × (d ≡ c) → ⊥) → slots y d ≡ b.slots y d
+  pub opened : AreOpen b.slots b.records → AreOpen slots records
   pub count : length records ≡ length b.records
   pub kept : (n : ℕ) (r' : RecordValue) → slice_get records n ≡ Some r' → (r : RecordValue) × (slice_get b.records n ≡ Some r) × Alike r r'
 
@@ -118,7 +119,7 @@ slot_else : (mo : CallStatus) (f : EndView) (m : ℕ → CallStatus) (tags : Lis
 slot_else Idle f m tags n t x c slot e w = w
 slot_else OwnCall f m tags n t x c slot e w = (present_else f m tags n t x c slot w.0 (e w.0), w.1, w.2)
 slot_else FarCall f m tags n t x c slot e w = (present_else f m tags n t x c slot w.0 (e w.0), w.1, w.2, w.3)
-slot_else Open f m tags n t x c slot e w = (present_else f m tags n t x c slot w.0 (e w.0), w.1)
+slot_else Open f m tags n t x c slot e w = (present_else f m tags n t x c slot w.0 (e w.0), w.1, w.2)
 
 module _ (x : Role) (c : ℕ) (views : Role → EndView) (status : Role → ℕ → CallStatus) (b : BookParts) (slots : Role → ℕ → Slot) (records : List RecordValue) (tags : List Tag) (w : IsRight views b tags) (q : Cancels x c views status b slots records tags) where
   abbrev number : ℕ
@@ -135,6 +136,7 @@ module _ (x : Role) (c : ℕ) (views : Role → EndView) (status : Role → ℕ 
       let o = w.stands n t there in
       record {
         begun = o.begun;
+        top = o.top;
         past = o.past;
         present = λ up is live. elim (is_role x t.role) [
           | inl e ↦ elim (number_is t.channel_use.channel c) [
@@ -165,7 +167,7 @@ module _ (x : Role) (c : ℕ) (views : Role → EndView) (status : Role → ℕ 
   means_else n t there =
       let o = w.means n t there in
       record {
-        caller = λ e. let z = o.caller e in record { not_answered = z.not_answered; paired = z.paired };
+        caller = λ e. let z = o.caller e in record { called = z.called; not_answered = z.not_answered; paired = z.paired };
         callee = λ a e. let z = o.callee a e in record {
           far = z.far;
           order = z.order;
@@ -212,7 +214,7 @@ module _ (x : Role) (c : ℕ) (views : Role → EndView) (status : Role → ℕ 
   stands_own : Stands (with_statuses status views x) (slots x) q.own.number (cancelled_tag q.own.tag)
   stands_own =
       let o : Stands (views x) (b.slots x) q.own.number q.own.tag = subst (λ (y : Role). Stands (views y) (b.slots y) q.own.number q.own.tag) q.own.role (w.stands q.own.number q.own.tag q.own.there) in
-      record { begun = o.begun; past = o.past; present = λ up is live. absurd (live refl) }
+      record { begun = o.begun; top = o.top; past = o.past; present = λ up is live. absurd (live refl) }
 
   means_own : Means (with_statuses status views x) (with_statuses status views (other_of x)) b.pairs tags' q.own.number (cancelled_tag q.own.tag)
   means_own = record {
@@ -318,4 +320,5 @@ module _ (x : Role) (c : ℕ) (views : Role → EndView) (status : Role → ℕ 
     pairs = pairs_of;
     once = w.once;
     count = length_set tags q.own.number (cancelled_tag q.own.tag) ∙ w.count ∙ sym q.count;
+    opened = q.opened w.opened;
   }

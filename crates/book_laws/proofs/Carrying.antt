@@ -11,6 +11,7 @@ use Rattle.call_records.specs.Records.{RecordValue, PairValue}
 use Rattle.call_records.specs.Book.{Slot}
 use Rattle.book_laws.proofs.Basics.{is_role, number_is}
 use Rattle.book_laws.proofs.Invariant.{EndView, CallStatus, ChannelUse, Tag, BookParts, IsLive, Stands, Means, Fits, Tells, HasEpochs, Present, SlotIs, PlacedIs, IsPast, IsPair, IsRight, epoch_at, called_at, answered_at, now, channel_use_in, sent_of, taken_of, sent_as, taken_as}
+use Rattle.book_laws.proofs.Presence.{kept_open}
 use Rattle.book_laws.proofs.Invariant.CallStatus.{Idle, OwnCall, FarCall, Open}
 
 -- ---- an end of which the book sees the same but for what is sent and taken
@@ -53,6 +54,7 @@ past_same k st st' r u h = record {
 pub stands_same : (f f' : EndView) (slots slots' : ℕ → Slot) (n : ℕ) (t : Tag) → SameEnd f f' → (slots' t.channel_use.channel).present ≡ (slots t.channel_use.channel).present → Stands f slots n t → Stands f' slots' n t
 stands_same f f' slots slots' n t h e w = record {
   begun = h.begun t.channel_use w.begun;
+  top = let a = w.top in let e = h.top in omega arith;
   past = λ up. past_same t.channel_use (f.histories t.channel_use.session t.channel_use.channel) (f'.histories t.channel_use.session t.channel_use.channel) (h.restart t.channel_use.session t.channel_use.channel) (h.uses t.channel_use.session t.channel_use.channel) (w.past (sym h.session ∙ up));
   present = λ up is live. e ∙ w.present (sym h.session ∙ up) (is ∙ now_same f f' h t.channel_use.session t.channel_use.channel) live;
 }
@@ -60,6 +62,7 @@ stands_same f f' slots slots' n t h e w = record {
 pub means_same : (f f' y y' : EndView) (pairs : List PairValue) (tags : List Tag) (n : ℕ) (t : Tag) → SameCalls f f' → SameCalls y y' → Means f y pairs tags n t → Means f' y' pairs tags n t
 means_same f f' y y' pairs tags n t h g w = record {
   caller = λ e. let o = w.caller e in record {
+    called = subst (λ (p : Option CallParts). IsSome p) (sym (h.called t.channel_use)) o.called;
     not_answered = h.answered t.channel_use ∙ o.not_answered;
     paired = λ a. o.paired (sym (g.answered t.channel_use) ∙ a);
   };
@@ -98,7 +101,7 @@ pub slot_same : (m : CallStatus) (f f' : EndView) (tags : List Tag) (x : Role) (
 slot_same Idle f f' tags x c slot h a n w = w
 slot_same OwnCall f f' tags x c slot h a n w = (present_same f f' tags x c slot h a w.0, w.1, w.2)
 slot_same FarCall f f' tags x c slot h a n w = (present_same f f' tags x c slot h a w.0, w.1, w.2, w.3)
-slot_same Open f f' tags x c slot h a n w = (present_same f f' tags x c slot h a w.0, λ b e. let v = w.1 b e in (v.0, n w.0.tag.channel_use v.1))
+slot_same Open f f' tags x c slot h a n w = (present_same f f' tags x c slot h a w.0, λ b e. let v = w.1 b e in (v.0, n w.0.tag.channel_use v.1), w.2)
 
 pub placed_same : (o : Option ℕ) (f f' : EndView) (tags : List Tag) (x : Role) (c : ℕ) → f.top ≤ f'.top → ((k : ChannelUse) → k.channel ≡ c → called_at f' k ≡ called_at f k) → PlacedIs o f tags x c → PlacedIs o f' tags x c
 placed_same None f f' tags x c top called w = λ k e. called k e ∙ w k e
@@ -139,6 +142,7 @@ pub record SameHead (r r' : RecordValue) : Type 0 where
 -- the record of the present call grows as its end's history does
 pub record Grows (f f' : EndView) (s c : ℕ) (r r' : RecordValue) : Type 0 where
   pub head : SameHead r r'
+  pub closed : r'.closed ≡ r.closed
   pub tells : Tells f (now f s c) r → HasEpochs r (f.histories s c).epoch → Tells f' (now f s c) r'
   pub epochs : HasEpochs r (f.histories s c).epoch → HasEpochs r' (f'.histories s c).epoch
 
@@ -251,4 +255,8 @@ module _ (x : Role) (c : ℕ) (views views' : Role → EndView) (b : BookParts) 
     pairs = λ i p e. pair_same views views' tags p q.calls (w.pairs i p e);
     once = w.once;
     count = w.count ∙ sym q.count;
+    opened = kept_open b.slots b.records records (λ n r' e. let k = q.kept n r' e in (k.0, k.1, elim k.2 [
+      | inl h ↦ h.1.closed
+      | inr h ↦ ap (λ (r : RecordValue). r.closed) h.1
+    ])) w.opened;
   }

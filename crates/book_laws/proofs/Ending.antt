@@ -7,7 +7,7 @@ use Rattle.packet_laws.specs.History.{Epoch, History}
 use Rattle.call_records.specs.Records.{RecordValue}
 use Rattle.call_records.specs.Book.{Slot}
 use Rattle.book_laws.proofs.Basics.{role_is}
-use Rattle.book_laws.proofs.Invariant.{EndView, CallStatus, ChannelUse, Tag, BookParts, Stands, Fits, Tells, HasEpochs, SlotIs, PlacedIs, IsPast, IsRight, epoch_at, now, channel_use_in, sent_of, taken_of, sent_as, taken_as}
+use Rattle.book_laws.proofs.Invariant.{EndView, CallStatus, ChannelUse, Tag, BookParts, AreOpen, Stands, Fits, Tells, HasEpochs, SlotIs, PlacedIs, IsPast, IsRight, epoch_at, now, channel_use_in, sent_of, taken_of, sent_as, taken_as}
 use Rattle.book_laws.proofs.Invariant.CallStatus.{Idle}
 use Rattle.book_laws.proofs.Carrying.{SameCalls, SameHead, same_end, same_calls, stands_same, means_same, slot_same, placed_same, pair_same, past_same, channel_use_same}
 
@@ -54,6 +54,7 @@ pub record Ends (x : Role) (views views' : Role → EndView) (b : BookParts) (sl
   pub begun : (k : ChannelUse) → (views x).begun k ≡ true → (views' x).begun k ≡ true
   pub top : (views x).top ≤ (views' x).top
   pub up : (s : ℕ) → (views' x).session ≡ Some s → s ≡ (views' x).top
+  pub opened : AreOpen b.slots b.records → AreOpen slots records
   pub how : Stays (views x) (views' x) (b.slots x) (slots x) ⊎ Leaves (views x) (views' x) (slots x)
   pub placed : (c : ℕ) → (slots x c).placed ≡ (b.slots x c).placed
   pub slots_there : (c : ℕ) → slots (other_of x) c ≡ b.slots (other_of x) c
@@ -75,26 +76,29 @@ never_now k s c st st' p (inr h) e =
 
 -- ---- a tag at the end itself
 
-stays_stands : (f f' : EndView) (slots slots' : ℕ → Slot) (n : ℕ) (t : Tag) → ((k : ChannelUse) → f.begun k ≡ true → f'.begun k ≡ true) → Stays f f' slots slots' → Stands f slots n t → Stands f' slots' n t
-stays_stands f f' slots slots' n t begun st w =
+stays_stands : (f f' : EndView) (slots slots' : ℕ → Slot) (n : ℕ) (t : Tag) → ((k : ChannelUse) → f.begun k ≡ true → f'.begun k ≡ true) → f.top ≤ f'.top → Stays f f' slots slots' → Stands f slots n t → Stands f' slots' n t
+stays_stands f f' slots slots' n t begun le st w =
     let s = t.channel_use.session in let c = t.channel_use.channel in
     elim (st.channels c) [
       | inl h ↦ record {
         begun = begun t.channel_use w.begun;
+        top = let a = w.top in omega arith;
         past = λ up. let u : f.session ≡ Some s = sym st.session ∙ up in past_same t.channel_use (f.histories s c) (f'.histories s c) (h.restart s u) (h.uses s u) (w.past u);
         present = λ up is live. let u : f.session ≡ Some s = sym st.session ∙ up in
             ap (λ (z : Slot). z.present) h.slot_is ∙ w.present u (is ∙ channel_use_same s c (f.histories s c) (f'.histories s c) (h.restart s u) (h.uses s u)) live;
       }
       | inr h ↦ record {
         begun = begun t.channel_use w.begun;
+        top = let a = w.top in omega arith;
         past = λ up. let u : f.session ≡ Some s = sym st.session ∙ up in past_further t.channel_use (f.histories s c) (f'.histories s c) (w.past u) (h.further s u);
         present = λ up is live. let u : f.session ≡ Some s = sym st.session ∙ up in absurd (never_now t.channel_use s c (f.histories s c) (f'.histories s c) (w.past u) (h.further s u) is);
       }
     ]
 
-leaves_stands : (f f' : EndView) (slots slots' : ℕ → Slot) (n : ℕ) (t : Tag) → ((k : ChannelUse) → f.begun k ≡ true → f'.begun k ≡ true) → Leaves f f' slots' → Stands f slots n t → Stands f' slots' n t
-leaves_stands f f' slots slots' n t begun l w = record {
+leaves_stands : (f f' : EndView) (slots slots' : ℕ → Slot) (n : ℕ) (t : Tag) → ((k : ChannelUse) → f.begun k ≡ true → f'.begun k ≡ true) → f.top ≤ f'.top → Leaves f f' slots' → Stands f slots n t → Stands f' slots' n t
+leaves_stands f f' slots slots' n t begun le l w = record {
   begun = begun t.channel_use w.begun;
+  top = let a = w.top in omega arith;
   past = λ up. absurd (true≢false (sym w.begun ∙ l.fresh t.channel_use up));
   present = λ up is live. absurd (true≢false (sym w.begun ∙ l.fresh t.channel_use up));
 }
@@ -143,8 +147,8 @@ module _ (x : Role) (views views' : Role → EndView) (b : BookParts) (slots : R
   stands_of : (y : Role) (n : ℕ) (t : Tag) → (y ≡ x) ⊎ (y ≡ other_of x) → Stands (views y) (b.slots y) n t → Stands (views' y) (slots y) n t
   stands_of y n t (inl e) old = subst (λ (z : Role). Stands (views z) (b.slots z) n t → Stands (views' z) (slots z) n t) (sym e)
       (λ o. elim q.how [
-        | inl h ↦ stays_stands (views x) (views' x) (b.slots x) (slots x) n t q.begun h o
-        | inr h ↦ leaves_stands (views x) (views' x) (b.slots x) (slots x) n t q.begun h o
+        | inl h ↦ stays_stands (views x) (views' x) (b.slots x) (slots x) n t q.begun q.top h o
+        | inr h ↦ leaves_stands (views x) (views' x) (b.slots x) (slots x) n t q.begun q.top h o
       ]) old
   stands_of y n t (inr e) old = subst (λ (z : Role). Stands (views z) (b.slots z) n t → Stands (views' z) (slots z) n t) (sym e)
       (λ o. stands_same (views (other_of x)) (views' (other_of x)) (b.slots (other_of x)) (slots (other_of x)) n t (same_end (views (other_of x)) (views' (other_of x)) q.there) (ap (λ (z : Slot). z.present) (q.slots_there t.channel_use.channel)) o) old
@@ -239,4 +243,5 @@ module _ (x : Role) (views views' : Role → EndView) (b : BookParts) (slots : R
     pairs = λ i p e. pair_same views views' tags p calls_of (w.pairs i p e);
     once = w.once;
     count = w.count ∙ sym q.count;
+    opened = q.opened w.opened;
   }

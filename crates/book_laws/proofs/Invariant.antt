@@ -160,6 +160,7 @@ pub record IsPast (k : ChannelUse) (st : History) : Type 0 where
 
 pub record Stands (f : EndView) (slots : ℕ → Slot) (n : ℕ) (t : Tag) : Type 0 where
   pub begun : f.begun t.channel_use ≡ true
+  pub top : t.channel_use.session ≤ f.top
   pub past : f.session ≡ Some t.channel_use.session → IsPast t.channel_use (f.histories t.channel_use.session t.channel_use.channel)
   pub present : f.session ≡ Some t.channel_use.session → t.channel_use ≡ now f t.channel_use.session t.channel_use.channel → IsLive t.kind → (slots t.channel_use.channel).present ≡ Some n
 
@@ -177,6 +178,7 @@ abbrev pub callee_of : PairValue → ℕ
 callee_of p = p.callee
 
 pub record IsCaller (f y : EndView) (pairs : List PairValue) (n : ℕ) (t : Tag) : Type 0 where
+  pub called : IsSome (called_at f t.channel_use)
   pub not_answered : answered_at f t.channel_use ≡ false
   pub paired : answered_at y t.channel_use ≡ true → IsPaired caller_of pairs n
 
@@ -245,7 +247,7 @@ abbrev pub SlotIs : CallStatus → EndView → List Tag → Role → ℕ → Slo
 SlotIs Idle f tags x c slot = slot.present ≡ None
 SlotIs OwnCall f tags x c slot = (p : Present f tags x c slot) × (p.tag.kind ≡ Caller) × (slot.caller ≡ None)
 SlotIs FarCall f tags x c slot = (p : Present f tags x c slot) × (a : ℕ) × (p.tag.kind ≡ Callee a) × (slot.caller ≡ Some a)
-SlotIs Open f tags x c slot = (p : Present f tags x c slot) × IsAnswered f slot.caller p.tag
+SlotIs Open f tags x c slot = (p : Present f tags x c slot) × IsAnswered f slot.caller p.tag × (slot.caller ≡ None → p.tag.kind ≡ Caller)
 
 -- a use is not later than another one of the channel
 pub record UpTo (k last : ChannelUse) : Type 0 where
@@ -271,6 +273,18 @@ abbrev pub PlacedIs : Option ℕ → EndView → List Tag → Role → ℕ → T
 PlacedIs None f tags x c = (k : ChannelUse) → k.channel ≡ c → called_at f k ≡ None
 PlacedIs (Some number) f tags x c = IsPlaced f tags x c number
 
+-- ---- what is open
+
+-- the record of this number is that of the present call of some channel
+abbrev pub IsSomewhere : (slots : Role → ℕ → Slot) → ℕ → Type 0
+IsSomewhere slots n = (x : Role) × (c : ℕ) × ((slots x c).present ≡ Some n)
+
+-- each open record is present on some channel, each that is present is open, and none is present on two channels
+pub record AreOpen (slots : Role → ℕ → Slot) (records : List RecordValue) : Type 0 where
+  pub somewhere : (n : ℕ) (r : RecordValue) → slice_get records n ≡ Some r → r.closed ≡ false → IsSomewhere slots n
+  pub is_open : (x : Role) (c n : ℕ) (r : RecordValue) → (slots x c).present ≡ Some n → slice_get records n ≡ Some r → r.closed ≡ false
+  pub one_place : (x y : Role) (c d n : ℕ) → (slots x c).present ≡ Some n → (slots y d).present ≡ Some n → (x ≡ y) × (c ≡ d)
+
 -- ---- all together
 
 pub record IsPair (views : Role → EndView) (tags : List Tag) (p : PairValue) : Type 0 where
@@ -290,3 +304,4 @@ pub record IsRight (views : Role → EndView) (b : BookParts) (tags : List Tag) 
   pub pairs : (i : ℕ) (p : PairValue) → slice_get b.pairs i ≡ Some p → IsPair views tags p
   pub once : (i j : ℕ) (p q : PairValue) → slice_get b.pairs i ≡ Some p → slice_get b.pairs j ≡ Some q → p.callee ≡ q.callee → i ≡ j
   pub count : length tags ≡ length b.records
+  pub opened : AreOpen b.slots b.records

@@ -1,5 +1,6 @@
 pub mod Basics
 mod Invariant
+mod Presence
 mod Carrying
 mod Ending
 mod Adding
@@ -22,6 +23,8 @@ mod Coming
 mod Lines
 mod Starting
 pub mod BookHolds
+pub mod Having
 pub mod Beside
+pub mod Placed
 pub mod Answered
 pub mod Rows

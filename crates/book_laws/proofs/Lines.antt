@@ -1,5 +1,5 @@
 -- Whatever happens at the two ends of a line keeps its book right.
-use Rattle.std.specs.Prelude.{◌≡◌, ℕ, zero, suc, ◌≤◌, Bool, true, false, cond, ◌&&◌, ◌||◌, List, [], ◌∷◌, length, Option, Some, None}
+use Rattle.std.specs.Prelude.{◌≡◌, ℕ, zero, suc, ◌≤◌, Bool, true, false, cond, ◌&&◌, ◌||◌, List, [], ◌∷◌, length, slice_get, Option, Some, None}
 use Rattle.std.proofs.Common.{inl, inr, refl, sym, ap, subst, ◌∙◌, arith, true≢false}
 use Rattle.std.proofs.lemmas.Bool.{ltb-true}
 use Rattle.link_timers.specs.declared.role.Role.{Role}
@@ -12,12 +12,13 @@ use Rattle.packet_laws.specs.Law.{Holds, HasNoLogs, Aligned}
 use Rattle.packet_laws.specs.Line.{End, Line, Event, Happening, turned, happens, after, may_begin, begun, offers, accepts, arrives_in, next_of_session}
 use Rattle.packet_laws.specs.Line.Event.{Up, Down, Calls, Requests, Expires, Offers, Arrives}
 use Rattle.packet_laws.specs.Line.Happening.{Here, There}
-use Rattle.call_records.specs.Records.{with_step}
-use Rattle.call_records.specs.Book.{Book, Slot, slot_at, edits, all_told}
+use Rattle.call_records.specs.Records.{RecordValue, with_step}
+use Rattle.call_records.specs.Book.{Book, Slot, slot_at, edits, all_told, with_change}
 use Rattle.book_laws.specs.Told.{World, Move, notes_in, notes_by_packet, written, top_after, after_move, after_all, InOrder, IsAllowed, AreAllowed}
 use Rattle.book_laws.specs.Told.Move.{Happens, Edits}
 use Rattle.book_laws.specs.Headline.{BookHolds}
-use Rattle.book_laws.proofs.Basics.{all_same}
+use Rattle.book_laws.proofs.Basics.{all_same, get_changed}
+use Rattle.book_laws.proofs.Presence.{kept_open, moved_open}
 use Rattle.book_laws.proofs.Invariant.{EndView, ChannelUse, IsRight, book_parts, answered_at, epoch_at}
 use Rattle.book_laws.proofs.Writing.{Closes, size_changed, slot_changed, pairs_changed, count_changed, kept_changed}
 use Rattle.book_laws.proofs.EndSteps.{view_of, views_of, within, has_come, end_step}
@@ -120,6 +121,19 @@ turned_back n e y te ty b k = record {
 
 -- ---- a step of editing
 
+-- a step of editing closes nothing
+step_kept : (o : Option ℕ) (step : Step) (b : Book) (n : ℕ) (r' : RecordValue) → slice_get (with_change o (with_step step) b).records n ≡ Some r' → (r : RecordValue) × (slice_get b.records n ≡ Some r) × (r'.closed ≡ r.closed)
+step_kept None step b n r' e = (r', e, refl)
+step_kept (Some m) step b n r' e =
+    let g = get_changed b.records m (with_step step) n r' e in (
+      g.0,
+      g.1,
+      elim g.2 [
+        | inl h ↦ ap (λ (r : RecordValue). r.closed) h.1
+        | inr h ↦ ap (λ (r : RecordValue). r.closed) h.1
+      ],
+    )
+
 edit_kept : (n : ℕ) (e y : End) (te ty : ℕ) (b : Book) (role : Role) (channel : ℕ) (step : Step) → KeptAt n Dte e y te ty b → KeptAt n Dte e y te ty (edits role channel step b)
 edit_kept n e y te ty b role channel step k =
     let o : Option ℕ = (slot_at role channel b).present in
@@ -130,6 +144,8 @@ edit_kept n e y te ty b role channel step k =
       there = λ c. slot_changed Dce c o (with_step step) b;
       placed = λ c. ap (λ (z : Slot). z.placed) (slot_changed Dte c o (with_step step) b);
       present = λ c. inr (slot_changed Dte c o (with_step step) b);
+      opened = λ w. moved_open (book_parts b).slots (book_parts b').slots b'.records (λ y c. slot_changed y c o (with_step step) b)
+          (kept_open (book_parts b).slots b.records b'.records (λ n r' e. step_kept o step b n r' e) w);
       count = count_changed o (with_step step) b;
       kept = kept_changed o (with_step step) b (λ r. record { head = record { number = refl; node = refl; own = refl; far = refl }; sent_before = refl; sent = refl; taken_before = refl; taken = refl });
     } in

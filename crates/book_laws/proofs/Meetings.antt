@@ -68,6 +68,7 @@ module _ (e e' y : End) (s d te ty : ℕ) (parts : CallParts) (b : Book) (tags :
     free = closed_here Dce d b;
     placed = (closes_one Dce d b).placed d;
     slots_else = slots_else;
+    opened = (closes_one Dce d b).opened;
     count = (closes_one Dce d b).count;
     kept = (closes_one Dce d b).kept;
   }

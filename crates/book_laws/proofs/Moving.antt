@@ -227,6 +227,7 @@ module _ (n : ℕ) (x : Role) (e e' y : End) (te ty : ℕ) (b : Book) (s d : ℕ
       subst (λ (a : ℕ). Grows (view_of x e te) (view_of x e' te) a d r r') (same_Some s p.session (sym q.on.up ∙ p.up))
       (record {
         head = g.head;
+        closed = g.closed;
         tells = λ t h.
             let after = g.tells (record { sent = t.sent; taken = t.taken }) h (facts.within s d q.least q.most) in
             record {
@@ -262,6 +263,7 @@ module _ (n : ℕ) (x : Role) (e e' y : End) (te ty : ℕ) (b : Book) (s d : ℕ
   same_record : (st st' : History) (r : RecordValue) → SameHistory st st' → RecordGrows st st' r r
   same_record st st' r h = record {
     head = record { number = refl; node = refl; own = refl; far = refl };
+    closed = refl;
     tells = λ t a w. record {
       sent = λ g. sent_as _ _ _ (ap sent_of (h.epochs st.restart st.use_ g)) (t.sent g);
       taken = λ g. taken_as _ _ _ (ap taken_of (h.epochs st.restart st.use_ g)) (t.taken g);
@@ -280,7 +282,7 @@ module _ (n : ℕ) (x : Role) (e e' y : End) (te ty : ℕ) (b : Book) (s d : ℕ
   connects_after : status_of x ch.state ≡ OwnCall → status_of x ch'.state ≡ Open → ((st : History) → SameHistory st (told st)) → KeptAt n x e' y te ty b
   connects_after m m' same =
       let w = subst (λ (z : CallStatus). SlotIs z (view_of x e te) k.tags x d (slot_at x d b)) (status_now ∙ m) (slot_of x e y te ty b k.tags d k.right) in
-      goes_after b w.0 (subst (λ (z : CallStatus). SlotIs z (view_of x e te) k.tags x d (slot_at x d b)) (sym (q.found_after ∙ m')) (w.0, λ a e. absurd (none-some a (sym w.2 ∙ e)))) (same_grows (e.histories s d) (told (e.histories s d)) (same (e.histories s d))) refl
+      goes_after b w.0 (subst (λ (z : CallStatus). SlotIs z (view_of x e te) k.tags x d (slot_at x d b)) (sym (q.found_after ∙ m')) (w.0, λ a e. absurd (none-some a (sym w.2 ∙ e)), λ none. w.1)) (same_grows (e.histories s d) (told (e.histories s d)) (same (e.histories s d))) refl
       (λ i r' got. (
         r',
         got,

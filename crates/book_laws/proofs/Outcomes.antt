@@ -45,6 +45,7 @@ pub record TellsIn (z st : History) (r : RecordValue) : Type 0 where
 
 pub record RecordGrows (st st' : History) (r r' : RecordValue) : Type 0 where
   pub head : SameHead r r'
+  pub closed : r'.closed ≡ r.closed
   pub tells : TellsIn st st r → HasEpochs r st.epoch → IsWithin st → TellsIn st' st r'
   pub epochs : HasEpochs r st.epoch → HasEpochs r' st'.epoch
 
@@ -119,6 +120,7 @@ opens_grows st st' o = record {
 opens_record : (st st' : History) (r : RecordValue) → OpensEpoch st st' → RecordGrows st st' r (with_epoch r)
 opens_record st st' r o = record {
   head = record { number = refl; node = refl; own = refl; far = refl };
+  closed = refl;
   tells = λ t h w. record {
     sent = λ g. own_sent _ _ _ (nth_more (all_sent r) g) (sent_as _ _ _ (ap sent_of (o.epochs st.restart st.use_ g)) (t.sent g));
     taken = λ g. own_taken _ _ _ (nth_more_taken (all_taken r) g) (taken_as _ _ _ (ap taken_of (o.epochs st.restart st.use_ g)) (t.taken g));
@@ -137,6 +139,7 @@ pub record GrowsBy (f : Epoch → Epoch) (change : RecordValue → RecordValue) 
   pub called : (e : Epoch) → (f e).called ≡ e.called
   pub answered : (e : Epoch) → (f e).answered ≡ e.answered
   pub head : (r : RecordValue) → SameHead r (change r)
+  pub closed : (r : RecordValue) → (change r).closed ≡ r.closed
   pub sent_before : (r : RecordValue) → (change r).sent_before ≡ r.sent_before
   pub taken_before : (r : RecordValue) → (change r).taken_before ≡ r.taken_before
   pub sent : (r : RecordValue) (e : Epoch) → HasSent (passed_sent r.sent) (sent_of e) → HasSent (passed_sent (change r).sent) (sent_of (f e))
@@ -184,6 +187,7 @@ grown_taken f change q st r t h w g =
 grown_record : (f : Epoch → Epoch) (change : RecordValue → RecordValue) → GrowsBy f change → (st : History) (r : RecordValue) → RecordGrows st (grown f st) r (change r)
 grown_record f change q st r = record {
   head = q.head r;
+  closed = q.closed r;
   tells = λ t h w. record { sent = grown_sent f change q st r t h; taken = grown_taken f change q st r t h w };
   epochs = λ h. record { sent = ap length (q.sent_before r) ∙ h.sent; taken = ap length (q.taken_before r) ∙ h.taken };
 }
@@ -219,6 +223,7 @@ by_sending d = record {
   called = λ e. refl;
   answered = λ e. refl;
   head = λ r. record { number = refl; node = refl; own = refl; far = refl };
+  closed = λ r. refl;
   sent_before = λ r. refl;
   taken_before = λ r. refl;
   sent = λ r e h. record { packets = ap (λ (l : List DataPacket). l ++ packet_of d ∷ []) h.packets ∙ sym (map_pushed e.sent d); interrupts = h.interrupts; count = h.count };
@@ -230,6 +235,7 @@ by_interrupting octets = record {
   called = λ e. refl;
   answered = λ e. refl;
   head = λ r. record { number = refl; node = refl; own = refl; far = refl };
+  closed = λ r. refl;
   sent_before = λ r. refl;
   taken_before = λ r. refl;
   sent = λ r e h. record { packets = h.packets; interrupts = ap (λ (l : List (List ℕ)). l ++ octets ∷ []) h.interrupts; count = h.count };
@@ -241,6 +247,7 @@ by_taking d = record {
   called = λ e. refl;
   answered = λ e. refl;
   head = λ r. record { number = refl; node = refl; own = refl; far = refl };
+  closed = λ r. refl;
   sent_before = λ r. refl;
   taken_before = λ r. refl;
   sent = λ r e h. h;
@@ -258,6 +265,7 @@ by_interrupt_taken octets = record {
   called = λ e. refl;
   answered = λ e. refl;
   head = λ r. record { number = refl; node = refl; own = refl; far = refl };
+  closed = λ r. refl;
   sent_before = λ r. refl;
   taken_before = λ r. refl;
   sent = λ r e h. h;
@@ -269,6 +277,7 @@ by_covering n = record {
   called = λ e. refl;
   answered = λ e. refl;
   head = λ r. record { number = refl; node = refl; own = refl; far = refl };
+  closed = λ r. refl;
   sent_before = λ r. refl;
   taken_before = λ r. refl;
   sent = λ r e h. record {
@@ -284,6 +293,7 @@ by_covering_none n = record {
   called = λ e. refl;
   answered = λ e. refl;
   head = λ r. record { number = refl; node = refl; own = refl; far = refl };
+  closed = λ r. refl;
   sent_before = λ r. refl;
   taken_before = λ r. refl;
   sent = λ r e h. record { packets = h.packets; interrupts = h.interrupts; count = let old = h.count in omega arith };
@@ -295,6 +305,7 @@ by_releasing true n = record {
   called = λ e. refl;
   answered = λ e. refl;
   head = λ r. record { number = refl; node = refl; own = refl; far = refl };
+  closed = λ r. refl;
   sent_before = λ r. refl;
   taken_before = λ r. refl;
   sent = λ r e h. h;
@@ -310,6 +321,7 @@ by_releasing false n = record {
   called = λ e. refl;
   answered = λ e. refl;
   head = λ r. record { number = refl; node = refl; own = refl; far = refl };
+  closed = λ r. refl;
   sent_before = λ r. refl;
   taken_before = λ r. refl;
   sent = λ r e h. h;

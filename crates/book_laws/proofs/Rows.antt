@@ -7,12 +7,13 @@ use Rattle.packet_layer.specs.Channel.Request.{Accept, Resetting, Sending, Takin
 use Rattle.packet_laws.specs.Line.Happening.{Here, There}
 use Rattle.packet_laws.specs.Line.Event.{Up, Calls, Requests, Offers, Arrives}
 use Rattle.call_records.specs.Records.{RecordValue, new_record}
-use Rattle.link_timers.specs.declared.role.Role.TheVariants.{Dce}
+use Rattle.link_timers.specs.declared.role.Role.TheVariants.{Dte, Dce}
 use Rattle.call_records.specs.Book.{packet_of, slot_at}
 use Rattle.book_laws.specs.Told.{World, Move, after_all, start, AreAllowed}
 use Rattle.book_laws.specs.Told.Move.{Happens}
-use Rattle.book_laws.specs.Headline.{IsPaired, BookHolds}
+use Rattle.book_laws.specs.Headline.{IsPaired, HasCallee, HaveRecords, BookHolds}
 use Rattle.book_laws.proofs.Answered.{are_answered}
+use Rattle.book_laws.proofs.Having.{have_records}
 use Rattle.book_laws.proofs.BookHolds.{book_holds}
 
 abbrev pub parts : CallParts
@@ -101,6 +102,14 @@ small = omega arith
 
 is_paired : IsPaired (slot_at Dce 1 (after_all whole made).book) (after_all whole made).book.pairs
 is_paired = (are_answered 3 4 1 2 false one_one small whole is_allowed).paired Dce 1 _ refl refl refl
+
+-- and so is the call at the end that placed it
+has_callee : HasCallee (after_all whole made).book Dte 1
+has_callee = (are_answered 3 4 1 2 false one_one small whole is_allowed).placed Dte 1 _ refl refl refl
+
+-- both records are open and present
+has_records : HaveRecords (after_all whole made).book
+has_records = have_records 3 4 1 2 false one_one small whole is_allowed
 
 -- before it is accepted, the book has it as one that came in
 abbrev incoming : List Move

@@ -15,7 +15,7 @@ use Rattle.call_records.specs.Records.{RecordValue, PairValue, new_record}
 use Rattle.call_records.specs.Book.{Book, Slot, free_slot, slot_at, side_of, nth_slot, new_book, standing_book}
 use Rattle.book_laws.specs.Told.{start}
 use Rattle.book_laws.proofs.Basics.{dte_not_dce}
-use Rattle.book_laws.proofs.Invariant.{EndView, CallStatus, ChannelUse, Tag, book_parts, IsLive, IsCallee, Stands, Means, Fits, SlotIs, PlacedIs, UpTo, IsPair, IsRight, called_at, own_sent, own_taken, nothing_passed, nothing_sent_yet, nothing_taken_yet}
+use Rattle.book_laws.proofs.Invariant.{EndView, CallStatus, ChannelUse, Tag, AreOpen, book_parts, IsLive, IsCallee, Stands, Means, Fits, SlotIs, PlacedIs, UpTo, IsPair, IsRight, called_at, own_sent, own_taken, nothing_passed, nothing_sent_yet, nothing_taken_yet}
 use Rattle.book_laws.proofs.Invariant.CallStatus.{Idle}
 use Rattle.book_laws.proofs.Invariant.Kind.{Caller, Callee}
 use Rattle.book_laws.proofs.Cancelling.{caller_not_callee, caller_not_cancelled, callee_not_cancelled}
@@ -72,6 +72,10 @@ module _ (a b n window : ℕ) where
   down_tops Dte s e = absurd (none-some s e)
   down_tops Dce s e = absurd (none-some s e)
 
+  down_free : (x : Role) (c : ℕ) → (slot_at x c (new_book a b n)).present ≡ None
+  down_free Dte c = ap (λ (z : Slot). z.present) (free_all n c)
+  down_free Dce c = ap (λ (z : Slot). z.present) (free_all n c)
+
   down_right : IsRight (views_of Dte me you 0 0) (book_parts (new_book a b n)) []
   down_right = record {
     stands = λ i t e. absurd (none-some t e);
@@ -84,6 +88,11 @@ module _ (a b n window : ℕ) where
     pairs = λ i p e. absurd (none-some p e);
     once = λ i j p q e g. absurd (none-some p e);
     count = refl;
+    opened = record {
+      somewhere = λ i r e. absurd (none-some r e);
+      is_open = λ x c i r e g. absurd (none-some r g);
+      one_place = λ x y c d i e g. absurd (none-some i (sym (down_free x c) ∙ e));
+    };
   }
 
   down_sizes : (z : Role) → length (side_of z (new_book a b n)).slots ≡ n
@@ -163,14 +172,14 @@ module _ (a b m window : ℕ) where
   up_stands n t e =
       elim (two_cases caller_tag callee_tag n t e) [
         | inl h ↦ subst (λ (u : Tag). Stands (up_views u.role) (λ c. slot_at u.role c book_up) n u) (sym h.1) (subst (λ (i : ℕ). Stands (up_views Dte) (λ c. slot_at Dte c book_up) i caller_tag) (sym h.0)
-            (record { begun = lt-ltb 0 (suc (length (replicate m closed_channel))) (omega arith); past = λ up. record { restarts = omega arith; uses = λ k. omega arith }; present = λ up is live. refl }))
+            (record { begun = lt-ltb 0 (suc (length (replicate m closed_channel))) (omega arith); top = omega arith; past = λ up. record { restarts = omega arith; uses = λ k. omega arith }; present = λ up is live. refl }))
         | inr h ↦ subst (λ (u : Tag). Stands (up_views u.role) (λ c. slot_at u.role c book_up) n u) (sym h.1) (subst (λ (i : ℕ). Stands (up_views Dce) (λ c. slot_at Dce c book_up) i callee_tag) (sym h.0)
-            (record { begun = lt-ltb 0 (suc (length (replicate m closed_channel))) (omega arith); past = λ up. record { restarts = omega arith; uses = λ k. omega arith }; present = λ up is live. refl }))
+            (record { begun = lt-ltb 0 (suc (length (replicate m closed_channel))) (omega arith); top = omega arith; past = λ up. record { restarts = omega arith; uses = λ k. omega arith }; present = λ up is live. refl }))
       ]
 
   caller_means : Means (up_views Dte) (up_views Dce) book_up.pairs both 0 caller_tag
   caller_means = record {
-    caller = λ e. record { not_answered = refl; paired = λ v. (0, record { caller = 0; callee = 1 }, refl, refl) };
+    caller = λ e. record { called = refl; not_answered = refl; paired = λ v. (0, record { caller = 0; callee = 1 }, refl, refl) };
     callee = λ k e. absurd (caller_not_callee k e);
     cancelled = λ e. absurd (caller_not_cancelled e);
   }
@@ -240,10 +249,10 @@ module _ (a b m window : ℕ) where
 
   up_slot : (x : Role) (c : ℕ) → SlotIs ((up_views x).status c) (up_views x) both x c (slot_at x c book_up)
   up_slot Dte zero = refl
-  up_slot Dte (suc zero) = (record { session = 0; number = 0; tag = caller_tag; up = refl; is_present = refl; there = refl; role = refl; channel_use = refl; live = caller_not_cancelled }, λ a e. absurd (none-some a e))
+  up_slot Dte (suc zero) = (record { session = 0; number = 0; tag = caller_tag; up = refl; is_present = refl; there = refl; role = refl; channel_use = refl; live = caller_not_cancelled }, λ a e. absurd (none-some a e), λ none. refl)
   up_slot Dte (suc (suc i)) = subst (λ (v : CallStatus). SlotIs v (up_views Dte) both Dte (suc (suc i)) (slot_at Dte (suc (suc i)) book_up)) (sym (idle_at Dte m i)) (ap (λ (z : Slot). z.present) (free_all m (suc i)))
   up_slot Dce zero = refl
-  up_slot Dce (suc zero) = (record { session = 0; number = 1; tag = callee_tag; up = refl; is_present = refl; there = refl; role = refl; channel_use = refl; live = callee_not_cancelled 0 }, λ a e. (ap (λ (k : ℕ). Callee k) (same_Some 0 a e), refl))
+  up_slot Dce (suc zero) = (record { session = 0; number = 1; tag = callee_tag; up = refl; is_present = refl; there = refl; role = refl; channel_use = refl; live = callee_not_cancelled 0 }, λ a e. (ap (λ (k : ℕ). Callee k) (same_Some 0 a e), refl), λ none. absurd (none-some 0 (sym none)))
   up_slot Dce (suc (suc i)) = subst (λ (v : CallStatus). SlotIs v (up_views Dce) both Dce (suc (suc i)) (slot_at Dce (suc (suc i)) book_up)) (sym (idle_at Dce m i)) (ap (λ (z : Slot). z.present) (free_all m (suc i)))
 
   up_last : (k : ChannelUse) → k.channel ≡ 1 → IsSome (called_at (up_views Dte) k) → UpTo k first
@@ -298,6 +307,40 @@ module _ (a b m window : ℕ) where
   abbrev the_pair : PairValue
   the_pair = record { caller = 0; callee = 1 }
 
+  -- the DTE's channel 1 has record 0, the DCE's record 1, and no other channel has any
+  up_present : (x : Role) (c i : ℕ) → (slot_at x c book_up).present ≡ Some i → ((x ≡ Dte) × (c ≡ 1) × (i ≡ 0)) ⊎ ((x ≡ Dce) × (c ≡ 1) × (i ≡ 1))
+  up_present Dte zero i e = absurd (none-some i e)
+  up_present Dte (suc zero) i e = inl (refl, refl, sym (same_Some 0 i e))
+  up_present Dte (suc (suc c)) i e = absurd (none-some i (sym (ap (λ (z : Slot). z.present) (free_all m (suc c))) ∙ e))
+  up_present Dce zero i e = absurd (none-some i e)
+  up_present Dce (suc zero) i e = inr (refl, refl, sym (same_Some 1 i e))
+  up_present Dce (suc (suc c)) i e = absurd (none-some i (sym (ap (λ (z : Slot). z.present) (free_all m (suc c))) ∙ e))
+
+  not_zero_one : (i : ℕ) → i ≡ 0 → i ≡ 1 → ⊥
+  not_zero_one i e h = omega arith
+
+  up_opened : AreOpen (book_parts book_up).slots book_up.records
+  up_opened = record {
+    somewhere = λ i r e closed. elim (two_cases (new_record 0 a None None) (new_record 1 b None None) i r e) [
+      | inl h ↦ (Dte, 1, ap (λ (k : ℕ). Some k) (sym h.0))
+      | inr h ↦ (Dce, 1, ap (λ (k : ℕ). Some k) (sym h.0))
+    ];
+    is_open = λ x c i r e g. elim (two_cases (new_record 0 a None None) (new_record 1 b None None) i r g) [
+      | inl h ↦ ap (λ (z : RecordValue). z.closed) h.1
+      | inr h ↦ ap (λ (z : RecordValue). z.closed) h.1
+    ];
+    one_place = λ x y c d i e g. elim (up_present x c i e) [
+      | inl h ↦ elim (up_present y d i g) [
+        | inl k ↦ (h.0 ∙ sym k.0, h.1 ∙ sym k.1)
+        | inr k ↦ absurd (not_zero_one i h.2 k.2)
+      ]
+      | inr h ↦ elim (up_present y d i g) [
+        | inl k ↦ absurd (not_zero_one i k.2 h.2)
+        | inr k ↦ (h.0 ∙ sym k.0, h.1 ∙ sym k.1)
+      ]
+    ];
+  }
+
   up_right : IsRight up_views (book_parts book_up) both
   up_right = record {
     stands = up_stands;
@@ -310,6 +353,7 @@ module _ (a b m window : ℕ) where
     pairs = λ i p e. subst (λ (z : PairValue). IsPair up_views both z) (sym (one_case the_pair i p e).1) (record { tag = callee_tag; there = refl; kind = refl; answered = refl });
     once = λ i j p q e g h. (one_case the_pair i p e).0 ∙ sym (one_case the_pair j q g).0;
     count = refl;
+    opened = up_opened;
   }
 
   up_sizes : (z : Role) → length (side_of z book_up).slots ≡ suc m

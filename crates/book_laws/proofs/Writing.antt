@@ -11,8 +11,9 @@ use Rattle.packet_layer.specs.Channel.{Channel}
 use Rattle.packet_layer.specs.Layer.{closing_notes, had_call}
 use Rattle.call_records.specs.Records.{RecordValue, PairValue, with_closed}
 use Rattle.call_records.specs.Book.{Book, Slot, side_of, nth_slot, with_nth, found_slot, slot_at, with_slot, with_change, changed, with_record, closes, all_told}
-use Rattle.book_laws.proofs.Basics.{all_same, get_changed, length_changed, length_set, set_elsewhere, set_here, get_there, number_is}
-use Rattle.book_laws.proofs.Invariant.{book_parts}
+use Rattle.book_laws.proofs.Basics.{all_same, get_changed, length_changed, length_set, set_elsewhere, set_here, get_there, number_is, role_is}
+use Rattle.book_laws.proofs.Invariant.{AreOpen, book_parts}
+use Rattle.book_laws.proofs.Presence.{closing_open}
 use Rattle.book_laws.proofs.Ending.{Alike, alike}
 
 -- ---- slots
@@ -158,6 +159,7 @@ pub record Closes (x : Role) (b b' : Book) : Type 0 where
   pub there : (c : ℕ) → slot_at (other_of x) c b' ≡ slot_at (other_of x) c b
   pub placed : (c : ℕ) → (slot_at x c b').placed ≡ (slot_at x c b).placed
   pub present : (c : ℕ) → ((slot_at x c b').present ≡ None) ⊎ (slot_at x c b' ≡ slot_at x c b)
+  pub opened : AreOpen (book_parts b).slots b.records → AreOpen (book_parts b').slots b'.records
   pub count : length b'.records ≡ length b.records
   pub kept : (n : ℕ) (r' : RecordValue) → slice_get b'.records n ≡ Some r' → (r : RecordValue) × (slice_get b.records n ≡ Some r) × Alike r r'
 
@@ -168,6 +170,7 @@ closes_none x b = record {
   there = λ c. refl;
   placed = λ c. refl;
   present = λ c. inr refl;
+  opened = λ w. w;
   count = refl;
   kept = λ n r e. (r, e, alike r);
 }
@@ -189,6 +192,7 @@ closes_trans x a b c p q = record {
       | inr h ↦ inr (e ∙ h)
     ]
   ];
+  opened = λ w. q.opened (p.opened w);
   count = q.count ∙ p.count;
   kept = λ n r'' e. let k = q.kept n r'' e in let h = p.kept n k.0 k.1 in (h.0, h.1, alike_trans h.0 k.0 r'' h.2 k.2);
 }
@@ -207,6 +211,31 @@ closed_slot : (x : Role) (d : ℕ) (b : Book) → ((slot_at x d (closes x d b)).
 closed_slot Dte d b = nth_closed (side_of Dte (changed Dte d with_closed b)).slots d (slot_at Dte d b).placed (ap (λ (z : Slot). z.placed) (slot_changed Dte d (slot_at Dte d b).present with_closed b))
 closed_slot Dce d b = nth_closed (side_of Dce (changed Dce d with_closed b)).slots d (slot_at Dce d b).placed (ap (λ (z : Slot). z.placed) (slot_changed Dce d (slot_at Dce d b).present with_closed b))
 
+-- the other channels
+closed_other : (x : Role) (d : ℕ) (b : Book) (y : Role) (c : ℕ) → ((y ≡ x) × (c ≡ d) → ⊥) → slot_at y c (closes x d b) ≡ slot_at y c b
+closed_other x d b y c apart =
+    let z : Slot = record (slot_at x d b) { present = None; caller = None } in
+    let o : Option ℕ = (slot_at x d b).present in
+    let v : Book = changed x d with_closed b in
+    elim (role_is x y) [
+      | inl e ↦ subst (λ (k : Role). slot_at k c (closes x d b) ≡ slot_at k c b) (sym e) (slot_else x d c z v (λ h. apart (e, h)) ∙ slot_changed x c o with_closed b)
+      | inr e ↦ subst (λ (k : Role). slot_at k c (closes x d b) ≡ slot_at k c b) (sym e) (slot_there x d c z v ∙ slot_changed (other_of x) c o with_closed b)
+    ]
+
+-- the record of the call is closed, and any other one is as it was
+closed_kept : (o : Option ℕ) (b : Book) (n : ℕ) (r' : RecordValue) → slice_get (with_change o with_closed b).records n ≡ Some r'
+    → (r : RecordValue) × (slice_get b.records n ≡ Some r) × (((o ≡ Some n) × (r'.closed ≡ true)) ⊎ ((o ≡ Some n → ⊥) × (r'.closed ≡ r.closed)))
+closed_kept None b n r' e = (r', e, inr (λ h. none-some n h, refl))
+closed_kept (Some m) b n r' e =
+    let g = get_changed b.records m with_closed n r' e in (
+      g.0,
+      g.1,
+      elim g.2 [
+        | inl h ↦ inl (ap (λ (k : ℕ). Some k) (sym h.0), ap (λ (r : RecordValue). r.closed) h.1)
+        | inr h ↦ inr (λ k. h.0 (sym (same_Some m n k)), ap (λ (r : RecordValue). r.closed) h.1)
+      ],
+    )
+
 pub closes_one : (x : Role) (d : ℕ) (b : Book) → Closes x b (closes x d b)
 closes_one x d b =
     let z : Slot = record (slot_at x d b) { present = None; caller = None } in
@@ -224,6 +253,8 @@ closes_one x d b =
         | inl e ↦ inl (subst (λ (k : ℕ). (slot_at x k (closes x d b)).present ≡ None) (sym e) (closed_slot x d b).0)
         | inr e ↦ inr (slot_else x d c z v e ∙ slot_changed x c o with_closed b)
       ];
+      opened = closing_open x d (book_parts b).slots (book_parts (closes x d b)).slots b.records (closes x d b).records (closed_slot x d b).0 (closed_other x d b)
+          (λ n r' e. closed_kept o b n r' (ap (λ (l : List RecordValue). slice_get l n) (sym (records_slot x d z v)) ∙ e));
       count = ap length (records_slot x d z v) ∙ count_changed o with_closed b;
       kept = λ n r' e. kept_changed o with_closed b closed_alike n r' (ap (λ (l : List RecordValue). slice_get l n) (sym (records_slot x d z v)) ∙ e);
     }

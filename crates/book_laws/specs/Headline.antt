@@ -3,6 +3,7 @@ use Rattle.std.specs.Prelude.{◌≡◌, ℕ, ◌<◌, ◌≤◌, ◌⊎◌, Boo
 use Rattle.std.specs.Prelude.{is_some, true, map}
 use Rattle.link_timers.specs.declared.role.Role.{Role}
 use Rattle.link_timers.specs.declared.role.Role.TheVariants.{Dte, Dce}
+use Rattle.link_timers.specs.Role.{other_of}
 use Rattle.packet_layer.specs.Channel.{Channel, may_accept, in_transfer}
 use Rattle.packet_layer.specs.Layer.{Layer, channel_of, had_call}
 use Rattle.epochs.specs.Epoch.{Epoch, IsEmpty, AreAligned}
@@ -89,6 +90,36 @@ BookLaw = (dte_node dce_node channels window : ℕ) (standing : Bool) → 1 ≤ 
     → (ms : List Move) → AreAllowed ms (start dte_node dce_node channels window standing)
     → BookHolds (after_all ms (start dte_node dce_node channels window standing)).book
 
+-- ---- present records
+
+-- the record of this number is there, is one of this end's node, and its call is not closed
+pub record IsOpenHere (book : Book) (role : Role) (number : ℕ) : Type 0 where
+  pub value : RecordValue
+  pub there : slice_get book.records number ≡ Some value
+  pub node : value.node ≡ (side_of role book).node
+  pub is_open : value.closed ≡ false
+
+-- a channel at an end has this record as the present one
+pub record IsPresent (book : Book) (number : ℕ) : Type 0 where
+  pub role : Role
+  pub channel : ℕ
+  pub present : (slot_at role channel book).present ≡ Some number
+
+-- each present record is there, of this end's node and open, and no other channel has it; and each open record is
+-- present
+pub record HaveRecords (book : Book) : Type 0 where
+  pub present : (role : Role) (channel number : ℕ) → (slot_at role channel book).present ≡ Some number
+      → IsOpenHere book role number
+  pub one_place : (a b : Role) (c d number : ℕ) → (slot_at a c book).present ≡ Some number
+      → (slot_at b d book).present ≡ Some number → (a ≡ b) × (c ≡ d)
+  pub are_present : (number : ℕ) (r : RecordValue) → slice_get book.records number ≡ Some r → r.closed ≡ false
+      → IsPresent book number
+
+abbrev pub RecordsLaw : Type 0
+RecordsLaw = (dte_node dce_node channels window : ℕ) (standing : Bool) → 1 ≤ channels → window ≤ 7
+    → (ms : List Move) → AreAllowed ms (start dte_node dce_node channels window standing)
+    → HaveRecords (after_all ms (start dte_node dce_node channels window standing)).book
+
 -- ---- the book beside the packet layers
 
 abbrev pub layer_at : Role → World → Layer
@@ -111,7 +142,7 @@ PresentLaw = (dte_node dce_node channels window : ℕ) (standing : Bool) → 1 �
     → (ms : List Move) → AreAllowed ms (start dte_node dce_node channels window standing)
     → IsBeside (after_all ms (start dte_node dce_node channels window standing))
 
--- ---- calls that came in
+-- ---- calls that came in, and calls that were placed
 
 -- the present call of a channel came in, and its record is in a pair with that of the end that placed it
 pub record IsPaired (slot : Slot) (pairs : List PairValue) : Type 0 where
@@ -122,8 +153,20 @@ pub record IsPaired (slot : Slot) (pairs : List PairValue) : Type 0 where
   pub place : ℕ
   pub there : slice_get pairs place ≡ Some (record { caller = caller; callee = callee })
 
--- where an end may accept a call, the book has it as one that came in; and in data transfer each call that came in is
--- in a pair
+-- the present call of a channel is the last that the end placed there, and its record is in a pair; where the present
+-- call of the channel at the other end came in, the pair is of that one
+pub record HasCallee (book : Book) (role : Role) (channel : ℕ) : Type 0 where
+  pub caller : ℕ
+  pub callee : ℕ
+  pub present : (slot_at role channel book).present ≡ Some caller
+  pub placed : (slot_at role channel book).placed ≡ Some caller
+  pub place : ℕ
+  pub there : slice_get book.pairs place ≡ Some (record { caller = caller; callee = callee })
+  pub far : (a c : ℕ) → (slot_at (other_of role) channel book).caller ≡ Some a
+      → (slot_at (other_of role) channel book).present ≡ Some c → (a ≡ caller) × (c ≡ callee)
+
+-- where an end may accept a call, the book has it as one that came in; and in data transfer each call is in a pair,
+-- whether it came in or was placed
 pub record AreAnswered (w : World) : Type 0 where
   pub came : (role : Role) (c : ℕ) (ch : Channel) → channel_of (layer_at role w) c ≡ Some ch
       → may_accept role ch.state ≡ true
@@ -131,6 +174,8 @@ pub record AreAnswered (w : World) : Type 0 where
   pub paired : (role : Role) (c : ℕ) (ch : Channel) → channel_of (layer_at role w) c ≡ Some ch
       → in_transfer ch.state ≡ true → is_some (slot_at role c w.book).caller ≡ true
       → IsPaired (slot_at role c w.book) w.book.pairs
+  pub placed : (role : Role) (c : ℕ) (ch : Channel) → channel_of (layer_at role w) c ≡ Some ch
+      → in_transfer ch.state ≡ true → is_some (slot_at role c w.book).caller ≡ false → HasCallee w.book role c
 
 abbrev pub AnsweredLaw : Type 0
 AnsweredLaw = (dte_node dce_node channels window : ℕ) (standing : Bool) → 1 ≤ channels → window ≤ 7

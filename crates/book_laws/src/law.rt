@@ -1,4 +1,4 @@
-ghost use Rattle.book_laws.specs.Headline.{BookLaw, PresentLaw, AnsweredLaw};
+ghost use Rattle.book_laws.specs.Headline.{BookLaw, RecordsLaw, PresentLaw, AnsweredLaw};
 
 /// The law of the book of a line, over the definitions alone: whatever is called at the two ends of a line whose
 /// sessions come in rising order, the epochs that one end of a pair took match those that the other end sent, both
@@ -6,9 +6,13 @@ ghost use Rattle.book_laws.specs.Headline.{BookLaw, PresentLaw, AnsweredLaw};
 pub fn book_law()
     ensures book { BookLaw }
 
+    // A present record is open and of the node at its end, and each open record is present on one channel.
+    ensures records { RecordsLaw }
+
     // A channel has a present record exactly where the packet layer of its end has a call there.
     ensures present { PresentLaw }
 
-    // Where an end may accept a call, the book has it as one that came in; in data transfer such a call is in a pair.
+    // Where an end may accept a call, the book has it as one that came in. In data transfer each call is in a pair, at
+    // the end that placed it too.
     ensures answered { AnsweredLaw }
 {}

@@ -1,6 +1,6 @@
--- Calls that came in, on a line with its book.
+-- Present records, calls that came in and calls that were placed, on a line with its book.
 use Rattle.std.proofs.Common.{◌≡◌, ℕ, Some, sym, ap, ◌∙◌, subst}
-use Rattle.std.specs.Prelude.{is_some, true}
+use Rattle.std.specs.Prelude.{is_some, true, false}
 use Rattle.link_timers.specs.declared.role.Role.{Role}
 use Rattle.link_timers.specs.declared.role.Role.TheVariants.{Dte, Dce}
 use Rattle.packet_layer.specs.Channel.{Channel, may_accept, in_transfer}
@@ -8,8 +8,9 @@ use Rattle.packet_layer.specs.Layer.{Layer, channel_of}
 use Rattle.line_laws.specs.Line.{Line}
 use Rattle.call_records.specs.Book.{Book, slot_at}
 use Rattle.book_laws.specs.Told.{after_all}
-use Rattle.book_laws.specs.Headline.{IsPaired, AreAnswered, layer_at}
+use Rattle.book_laws.specs.Headline.{HaveRecords, IsPaired, HasCallee, AreAnswered, layer_at}
 use Rattle.book_laws.proofs.Answered.{are_answered}
+use Rattle.book_laws.proofs.Having.{have_records}
 use Rattle.line_record_laws.specs.Kept.{Setting, Kept, beginning, end_at}
 
 answered : (s : Setting) (b : Book) (l : Line) (k : Kept s b l) → AreAnswered (after_all k.moves (beginning s))
@@ -39,3 +40,19 @@ paired_kept s b l role channel ch k at up some =
     subst (λ (x : Book). IsPaired (slot_at role channel x) x.pairs) k.book
     ((answered s b l k).paired role channel ch (channel_is s b l k role channel ∙ at) up
     (ap (λ (x : Book). is_some (slot_at role channel x).caller) k.book ∙ some))
+
+-- and each that was placed
+pub placed_kept : (s : Setting) (b : Book) (l : Line) (role : Role) (channel : ℕ) (ch : Channel) → Kept s b l
+    → channel_of (end_at role l).layer channel ≡ Some ch → in_transfer ch.state ≡ true
+    → is_some (slot_at role channel b).caller ≡ false → HasCallee b role channel
+placed_kept s b l role channel ch k at up none =
+    subst (λ (x : Book). HasCallee x role channel) k.book
+    ((answered s b l k).placed role channel ch (channel_is s b l k role channel ∙ at) up
+    (ap (λ (x : Book). is_some (slot_at role channel x).caller) k.book ∙ none))
+
+-- the records that are present
+pub records_kept : (s : Setting) (b : Book) (l : Line) → Kept s b l → HaveRecords b
+records_kept s b l k =
+    subst HaveRecords k.book
+    (have_records s.dte_node s.dce_node s.dte.channels s.dte.window s.dte.standing k.setting.dte.layer.channels_least
+    k.setting.dte.layer.window_most k.moves k.allowed)

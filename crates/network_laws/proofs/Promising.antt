@@ -8,11 +8,12 @@ use Rattle.packet_layer.specs.Layer.{channel_of}
 use Rattle.packet_end.specs.PacketEnd.{PacketEnd}
 use Rattle.call_records.specs.Records.{RecordValue}
 use Rattle.call_records.specs.Book.{Book, side_of}
-use Rattle.book_laws.specs.Headline.{BookHolds, has_call}
+use Rattle.book_laws.specs.Headline.{BookHolds, HaveRecords, has_call}
 use Rattle.node_laws.specs.Quiet.{IsQuiet}
 use Rattle.pad_laws.specs.Typed.{IsTyped}
 use Rattle.register_laws.specs.Law.{IsOfBook, IsAtNoOther}
 use Rattle.register_laws.proofs.Seeing.{present_seen, came_seen}
+use Rattle.register_laws.proofs.Having.{records_seen, callee_seen}
 use Rattle.register_laws.proofs.Promising.{promised, of_one_line, paired_seen}
 use Rattle.line_record_laws.specs.Kept.{end_at}
 use Rattle.line_record_laws.proofs.Keeping as keeping_law
@@ -23,7 +24,7 @@ use Rattle.network_laws.specs.IsLine.{line_of, IsLine, IsKept}
 use Rattle.net_events.specs.Network.{PlacedNode, NetLine, Network, place_at}
 use Rattle.network_laws.specs.IsNetwork.{line_state, LineHolds, IsNetwork}
 use Rattle.network_laws.specs.Promise.{EndHolds, NetworkHolds}
-use Rattle.network_laws.proofs.Answering.{came_kept, paired_kept}
+use Rattle.network_laws.proofs.Answering.{came_kept, paired_kept, placed_kept, records_kept}
 use Rattle.network_laws.proofs.Made.{book_line, typed_line}
 use Rattle.network_laws.proofs.Networks.{book_there, placed, there_is, line_there}
 
@@ -34,6 +35,13 @@ books_hold L s n f line b at =
     let l = line_there L s n line b at in
     let h : LineHolds L s.nodes line l.0 b = n.lines line l.0 b l.1 at in
     book_line L (line_state l.0 h.dte h.dce b) h.holds f
+
+have_their_records : (L : LineService) (s : Network) (n : IsNetwork L s) → L.faithful → (line : ℕ) (b : Book) → slice_get n.books line ≡ Some b → HaveRecords b
+have_their_records L s n f line b at =
+    let l = line_there L s n line b at in
+    let h : LineHolds L s.nodes line l.0 b = n.lines line l.0 b l.1 at in
+    let k : IsKept (line_state l.0 h.dte h.dce b) = h.holds.kept f in
+    records_kept k.setting b (line_of (line_state l.0 h.dte h.dce b)) k.kept
 
 -- ---- the ends
 
@@ -73,6 +81,9 @@ end_holds L s n f line l role at =
       paired = λ channel ch there up some. paired_seen s.register n.books line b.0 role channel b.1 n.seen
           (paired_kept k.setting b.0 (line_of own) role channel ch k.kept (ap (λ e. channel_of e.layer channel) (end_is role l h.dte h.dce b.0) ∙ there) up
           (sym (came_seen s.register n.books line b.0 role channel b.1 n.seen) ∙ some));
+      placed = λ channel ch there up none. callee_seen s.register n.books line b.0 role channel b.1 n.seen
+          (placed_kept k.setting b.0 (line_of own) role channel ch k.kept (ap (λ e. channel_of e.layer channel) (end_is role l h.dte h.dce b.0) ∙ there) up
+          (sym (came_seen s.register n.books line b.0 role channel b.1 n.seen) ∙ none));
     }
 
 -- ---- what a PAD typed
@@ -123,6 +134,7 @@ typed_holds L s n f place p i r at pad there node =
 pub holds_network : (L : LineService) (s : Network) → IsNetwork L s → L.faithful → NetworkHolds s
 holds_network L s n f = record {
   calls = promised s.register n.books n.seen (books_hold L s n f);
+  records = records_seen s.register n.books n.seen (have_their_records L s n f);
   ends = end_holds L s n f;
   typed = typed_holds L s n f;
 }

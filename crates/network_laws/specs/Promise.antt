@@ -1,15 +1,15 @@
 -- What a network promises.
-use Rattle.std.specs.Prelude.{◌≡◌, ℕ, true, length, slice_get, Some, is_some}
+use Rattle.std.specs.Prelude.{◌≡◌, ℕ, true, false, length, slice_get, Some, is_some}
 use Rattle.link_timers.specs.declared.role.Role.{Role}
 use Rattle.packet_layer.specs.Channel.{Channel, may_accept, in_transfer}
 use Rattle.packet_layer.specs.Layer.{channel_of}
 use Rattle.call_records.specs.Records.{RecordValue}
 use Rattle.call_records.specs.Book.{Slot, side_of, slot_at}
 use Rattle.call_records.specs.Register.{Register, book_at}
-use Rattle.book_laws.specs.Headline.{has_call, IsPaired}
+use Rattle.book_laws.specs.Headline.{has_call, IsPaired, HasCallee}
 use Rattle.node_laws.specs.Quiet.{IsQuiet}
 use Rattle.pad_laws.specs.Typed.{IsTyped}
-use Rattle.register_laws.specs.Promise.{RegisterHolds}
+use Rattle.register_laws.specs.Promise.{RegisterHolds, HasRecords}
 use Rattle.line_nodes.specs.Node.{end_of, is_pad}
 use Rattle.net_events.specs.Network.{PlacedNode, NetLine, Network, place_at}
 
@@ -19,8 +19,8 @@ its_slot line role channel g = slot_at role channel (book_at line g)
 
 -- at the end of a role of a line: no frame or note waits at the node to be taken; the register has the end as this
 -- node's, register and packet layer have the line's channels, and a channel has a present record exactly where the
--- packet layer has a call there; a call that may be accepted is one that came in, and in data transfer each that came
--- in is in a pair
+-- packet layer has a call there; a call that may be accepted is one that came in; and in data transfer each that came
+-- in is in a pair, and each that was placed is the last one placed there and is in a pair
 pub record EndHolds (s : Network) (line : ℕ) (l : NetLine) (role : Role) : Type 0 where
   pub node : PlacedNode
   pub node_there : slice_get s.nodes (place_at role l) ≡ Some node
@@ -36,11 +36,16 @@ pub record EndHolds (s : Network) (line : ℕ) (l : NetLine) (role : Role) : Typ
   pub paired : (channel : ℕ) (ch : Channel) → channel_of (end_of node.node).layer channel ≡ Some ch
       → in_transfer ch.state ≡ true → is_some (its_slot line role channel s.register).caller ≡ true
       → IsPaired (its_slot line role channel s.register) s.register.pairs
+  pub placed : (channel : ℕ) (ch : Channel) → channel_of (end_of node.node).layer channel ≡ Some ch
+      → in_transfer ch.state ≡ true → is_some (its_slot line role channel s.register).caller ≡ false
+      → HasCallee (book_at line s.register) role channel
 
 pub record NetworkHolds (s : Network) : Type 0 where
   -- for each pair what one end took matches what the other one sent, both ways, and the pair is right; no record is in
   -- two pairs, and each that took anything is in one
   pub calls : RegisterHolds s.register
+  -- each present record is open and of the node at its end, at no other channel; each open record is present
+  pub records : HasRecords s.register
   -- the ends of each line
   pub ends : (line : ℕ) (l : NetLine) (role : Role) → slice_get s.lines line ≡ Some l → EndHolds s line l role
   -- what a PAD sent on a call is, block for block with its end, what its editing rules make of the keys; it sent

@@ -183,10 +183,17 @@ pub record HoldsAt (e : End) (s c : ℕ) : Type 0 where
   pub in_use : (ch : Channel) → e.session ≡ Some s → channel_of e.layer c ≡ Some ch
       → InUse e.layer.role ch.state (e.histories s c)
 
+-- in data transfer: one of the two ends accepted the call
+abbrev pub IsAccepted : End → (yours : History) → (s c : ℕ) → Type 0
+IsAccepted e yours s c = (ch : Channel) (g : ℕ) → e.session ≡ Some s → channel_of e.layer c ≡ Some ch
+    → ch.state ≡ Transfer → let mine = e.histories s c in
+    ((mine.epochs mine.restart mine.use_ g).answered || (yours.epochs mine.restart mine.use_ g).answered) ≡ true
+
 -- on channel c in session s, both ways: each epoch of the one end is aligned with the epoch of the same restart, use
 -- and reset at the other end (which is empty where there is none); the histories are in step; where nothing is on its
 -- way, nothing is missing; a Call that makes an Incoming Call is the one that the other end placed; at each end the
--- history goes with the state of the channel, and of the two ends of a call one accepted it
+-- history goes with the state of the channel, and of the two ends of a call one accepted it, as soon as one of them is
+-- in data transfer
 pub record Holds (w : Line) (s c : ℕ) : Type 0 where
   pub forth : (r u g : ℕ) → Aligned ((w.me.histories s c).epochs r u g) ((w.you.histories s c).epochs r u g)
   pub back : (r u g : ℕ) → Aligned ((w.you.histories s c).epochs r u g) ((w.me.histories s c).epochs r u g)
@@ -200,6 +207,8 @@ pub record Holds (w : Line) (s c : ℕ) : Type 0 where
   pub there : HoldsAt w.you s c
   pub answers_here : OneAnswers (w.me.histories s c) (w.you.histories s c)
   pub answers_there : OneAnswers (w.you.histories s c) (w.me.histories s c)
+  pub accepted_here : IsAccepted w.me (w.you.histories s c) s c
+  pub accepted_there : IsAccepted w.you (w.me.histories s c) s c
 
 -- no packet that arrives at an end is a procedure error there
 abbrev pub NoFault : Line → Type 0

@@ -4,4 +4,5 @@ pub mod Writing
 pub mod Seeing
 pub mod Making
 pub mod Promising
+pub mod Having
 mod Rows

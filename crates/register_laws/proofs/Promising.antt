@@ -9,7 +9,7 @@ use Rattle.call_records.specs.Register.{Register, LineEnds, book_at, found_ends}
 use Rattle.book_laws.specs.Headline.{PairMatches, AreEnds, IsIn, TookNothing, BookHolds}
 use Rattle.book_laws.specs.Headline as line
 use Rattle.book_laws.proofs.Basics.{get_there}
-use Rattle.book_laws.proofs.Answered.{pair_is}
+use Rattle.book_laws.proofs.Placed.{pair_is}
 use Rattle.register_laws.specs.Seen.{positions, IsNumbered, SlotIsSeen, renumbered, RecordIsSeen, PairIsSeen, LineIsSeen, Seen}
 use Rattle.register_laws.specs.Promise.{PairHolds, IsOfEnd, RegisterHolds}
 use Rattle.register_laws.specs.Law.{PromiseLaw, NodeLaw, PairedLaw, IsOfBook, IsAtNoOther}
@@ -203,12 +203,12 @@ of_one_line g books line b n r w holds there alone at = of_node g books w holds 
 
 -- ---- a call that came in
 
-record Numbered (numbers : List ℕ) (seen : Option ℕ) (i : ℕ) : Type 0 where
+pub record Numbered (numbers : List ℕ) (seen : Option ℕ) (i : ℕ) : Type 0 where
   pub number : ℕ
   pub is : seen ≡ Some number
   pub there : slice_get numbers i ≡ Some number
 
-numbered : (numbers : List ℕ) (o p : Option ℕ) (i : ℕ) → o ≡ Some i → IsNumbered numbers o p → Numbered numbers p i
+pub numbered : (numbers : List ℕ) (o p : Option ℕ) (i : ℕ) → o ≡ Some i → IsNumbered numbers o p → Numbered numbers p i
 numbered numbers (Some k) (Some n) i e h = record { number = n; is = refl; there = ap (λ (j : ℕ). slice_get numbers j) (sym (same_Some k i e)) ∙ h }
 numbered numbers (Some k) None i e h = absurd h
 numbered numbers None p i e h = absurd (none-some i e)

@@ -11,16 +11,19 @@ use Rattle.call_records.specs.Records.{RecordValue}
 use Rattle.call_records.specs.Book.{Book, packet_of}
 use Rattle.call_records.specs.Writes.{Write, all_written}
 use Rattle.call_records.specs.Writes.Write.{Told, Placed, Asked}
-use Rattle.call_records.specs.Register.{Register, LinePlan, all_written_at, made_register, planned_book}
+use Rattle.call_records.specs.Register.{Register, LinePlan, all_written_at, book_at, made_register, planned_book}
 use Rattle.book_laws.specs.Told.{World, Move, after_all, start, AreAllowed}
-use Rattle.book_laws.specs.Headline.{BookHolds}
+use Rattle.book_laws.specs.Headline.{BookHolds, HaveRecords, HasCallee}
+use Rattle.book_laws.proofs.Answered.{are_answered}
+use Rattle.book_laws.proofs.Having.{have_records}
 use Rattle.book_laws.proofs.BookHolds.{book_holds}
 use Rattle.book_laws.proofs.Rows.{parts, said, set_up, called, says, zero_one, one_one}
 use Rattle.register_laws.specs.Seen.{Seen}
-use Rattle.register_laws.specs.Promise.{RegisterHolds}
+use Rattle.register_laws.specs.Promise.{RegisterHolds, HasRecords}
 use Rattle.register_laws.proofs.Making.{made_seen}
 use Rattle.register_laws.proofs.Seeing.{writes_seen}
 use Rattle.register_laws.proofs.Promising.{promised}
+use Rattle.register_laws.proofs.Having.{records_seen, callee_seen}
 
 -- ---- what happens on each line, between two nodes
 
@@ -116,6 +119,21 @@ books_hold (suc (suc line)) b at = absurd (none-some b at)
 
 all_holds : RegisterHolds all
 all_holds = promised all (book 3 4 ∷ book 5 6 ∷ []) all_seen books_hold
+
+-- the four records are open and present
+books_have : (line : ℕ) (b : Book) → slice_get (book 3 4 ∷ book 5 6 ∷ []) line ≡ Some b → HaveRecords b
+books_have zero b at = subst HaveRecords (same_Some (book 3 4) b at) (have_records 3 4 1 2 false one_one small moves (is_allowed 3 4))
+books_have (suc zero) b at = subst HaveRecords (same_Some (book 5 6) b at) (have_records 5 6 1 2 false one_one small moves (is_allowed 5 6))
+books_have (suc (suc line)) b at = absurd (none-some b at)
+
+all_have_records : HasRecords all
+all_have_records = records_seen all (book 3 4 ∷ book 5 6 ∷ []) all_seen books_have
+
+-- the call that the DTE of the second line placed is in a pair
+has_callee : HasCallee (book_at 1 all) Dte 1
+has_callee =
+    callee_seen all (book 3 4 ∷ book 5 6 ∷ []) 1 (book 5 6) Dte 1 refl all_seen
+    ((are_answered 5 6 1 2 false one_one small moves (is_allowed 5 6)).placed Dte 1 _ refl refl refl)
 
 -- the callers have the first two numbers, and the second line accepted first
 pairs_are : all.pairs ≡ record { caller = 1; callee = 2 } ∷ record { caller = 0; callee = 3 } ∷ []

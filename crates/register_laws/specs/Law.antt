@@ -6,9 +6,9 @@ use Rattle.call_records.specs.Book.{Book, slot_at}
 use Rattle.call_records.specs.Writes.{Write, written_by, all_written}
 use Rattle.call_records.specs.Register.{Register, LinePlan, book_at, written_at, all_written_at, planned_book}
 use Rattle.call_records.specs.Register.{made_register}
-use Rattle.book_laws.specs.Headline.{BookHolds, IsPaired}
+use Rattle.book_laws.specs.Headline.{BookHolds, HaveRecords, IsPaired, HasCallee}
 use Rattle.register_laws.specs.Seen.{Seen, renumbered}
-use Rattle.register_laws.specs.Promise.{RegisterHolds}
+use Rattle.register_laws.specs.Promise.{RegisterHolds, HasRecords}
 
 -- ---- the making, and each write
 
@@ -41,6 +41,12 @@ PromiseLaw = (g : Register) (books : List Book) → Seen g books
     → ((line : ℕ) (b : Book) → slice_get books line ≡ Some b → BookHolds b)
     → RegisterHolds g
 
+-- where each line's book has open records where one is present and there alone, so has the register
+abbrev pub RecordsLaw : Type 0
+RecordsLaw = (g : Register) (books : List Book) → Seen g books
+    → ((line : ℕ) (b : Book) → slice_get books line ≡ Some b → HaveRecords b)
+    → HasRecords g
+
 -- a channel has a present record in the register exactly where it has one in the line's book
 abbrev pub PresentLaw : Type 0
 PresentLaw = (g : Register) (books : List Book) (line : ℕ) (b : Book) (role : Role) (channel : ℕ)
@@ -58,6 +64,12 @@ abbrev pub PairedLaw : Type 0
 PairedLaw = (g : Register) (books : List Book) (line : ℕ) (b : Book) (role : Role) (channel : ℕ)
     → slice_get books line ≡ Some b → Seen g books
     → IsPaired (slot_at role channel b) b.pairs → IsPaired (slot_at role channel (book_at line g)) g.pairs
+
+-- where the call that an end placed is in a pair in the line's book, so it is in the register
+abbrev pub CalleeLaw : Type 0
+CalleeLaw = (g : Register) (books : List Book) (line : ℕ) (b : Book) (role : Role) (channel : ℕ)
+    → slice_get books line ≡ Some b → Seen g books
+    → HasCallee b role channel → HasCallee (book_at line g) role channel
 
 -- a record of the register is one of this book, but for its number
 pub record IsOfBook (book : Book) (n : ℕ) (r : RecordValue) : Type 0 where

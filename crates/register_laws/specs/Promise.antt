@@ -1,8 +1,10 @@
 -- What the register of a network promises of its calls.
-use Rattle.std.specs.Prelude.{◌≡◌, ℕ, ◌<◌, ◌⊎◌, slice_get, Some}
+use Rattle.std.specs.Prelude.{◌≡◌, ℕ, ◌<◌, ◌⊎◌, false, slice_get, Some}
+use Rattle.link_timers.specs.declared.role.Role.{Role}
 use Rattle.call_records.specs.Records.{RecordValue, PairValue, taken_epochs}
+use Rattle.call_records.specs.Book.{slot_at}
 use Rattle.call_records.specs.Register.{Register, LineEnds, book_at}
-use Rattle.book_laws.specs.Headline.{PairMatches, AreEnds, IsIn, TookNothing}
+use Rattle.book_laws.specs.Headline.{PairMatches, AreEnds, IsIn, TookNothing, IsOpenHere}
 
 -- the caller's record was made first; the nodes are those of the two ends of one line; the callee's own address is the
 -- one that was called, and the far one is the caller's own
@@ -43,3 +45,22 @@ pub record RegisterHolds (g : Register) : Type 0 where
       → slice_get g.pairs i ≡ Some p → slice_get g.pairs j ≡ Some q → IsIn p number → IsIn q number → i ≡ j
   pub took : (n : ℕ) (r : RecordValue) → slice_get g.records n ≡ Some r
       → TookNothing (taken_epochs r) ⊎ ((i : ℕ) × (p : PairValue) × (slice_get g.pairs i ≡ Some p) × IsIn p n)
+
+-- ---- present records
+
+-- a channel at an end of a line has this record as the present one
+pub record IsPresent (g : Register) (number : ℕ) : Type 0 where
+  pub line : ℕ
+  pub role : Role
+  pub channel : ℕ
+  pub present : (slot_at role channel (book_at line g)).present ≡ Some number
+
+-- each present record is there, of the node at its end and open, and no other channel of any line has it; and each open
+-- record is present
+pub record HasRecords (g : Register) : Type 0 where
+  pub present : (line : ℕ) (role : Role) (channel number : ℕ)
+      → (slot_at role channel (book_at line g)).present ≡ Some number → IsOpenHere (book_at line g) role number
+  pub one_place : (i j : ℕ) (a b : Role) (c d number : ℕ) → (slot_at a c (book_at i g)).present ≡ Some number
+      → (slot_at b d (book_at j g)).present ≡ Some number → (i ≡ j) × ((a ≡ b) × (c ≡ d))
+  pub are_present : (number : ℕ) (r : RecordValue) → slice_get g.records number ≡ Some r → r.closed ≡ false
+      → IsPresent g number

@@ -2,7 +2,7 @@
 #![tactic(auto)]
 
 ghost use Rattle.register_laws.specs.Law.{MadeLaw, WriteLaw, InTurnLaw, PromiseLaw, PresentLaw, OwnedLaw, NodeLaw};
-ghost use Rattle.register_laws.specs.Law.{CameLaw, PairedLaw};
+ghost use Rattle.register_laws.specs.Law.{CameLaw, PairedLaw, CalleeLaw, RecordsLaw};
 
 /// The law of the register of a network of many lines, over definitions alone: from the making on, and whatever is
 /// written at its lines, it has the records, pairs and channels of each line's book, numbered over the whole network.
@@ -20,8 +20,12 @@ pub fn register_law()
     ensures owned { OwnedLaw }
     ensures nodes { NodeLaw }
 
+    // Where each line's book has open records where one is present and there alone, so has the register.
+    ensures records { RecordsLaw }
+
     // A call that came in is known as one in the register where it is in the line's book, and is in a pair in the
-    // register where it is in the book.
+    // register where it is in the book; and so is a call that was placed.
     ensures came { CameLaw }
     ensures paired { PairedLaw }
+    ensures callee { CalleeLaw }
 {}

@@ -21,7 +21,7 @@ use Rattle.packet_laws.proofs.Line.Arriving.{ties_of, drop_packet, well_get, con
 use Rattle.packet_laws.proofs.Line.Resting.{tied_rests}
 use Rattle.packet_laws.proofs.Line.Calling.{call_known}
 use Rattle.packet_laws.proofs.Line.Using.{holds_at}
-use Rattle.packet_laws.proofs.Line.Answering.{one_answers}
+use Rattle.packet_laws.proofs.Line.Answering.{one_answers, is_accepted}
 use Rattle.link_timers.specs.declared.role.Role.TheVariants.{Dte, Dce}
 use Rattle.link_timers.specs.Role.{other_of}
 
@@ -124,6 +124,8 @@ tied_holds window role w s c t = record {
   there = holds_at window (other_of role) (turned w) s c (turned_tied window role w s c t);
   answers_here = one_answers window role t.x t.y t.o t.b _ _ t.mine.history t.yours.history t.good;
   answers_there = one_answers window (other_of role) t.y t.x t.b t.o _ _ t.yours.history t.mine.history (whole_turned window role _ t.good);
+  accepted_here = is_accepted window role w s c t;
+  accepted_there = is_accepted window (other_of role) (turned w) s c (turned_tied window role w s c t);
 }
 
 -- ---- no procedure error

@@ -1,6 +1,7 @@
 use Rattle.register_laws.proofs.Making.{made_seen}
 use Rattle.register_laws.proofs.Seeing.{writes_seen, in_turn, present_seen, came_seen, owned}
 use Rattle.register_laws.proofs.Promising.{promised, of_one_line, paired_seen}
+use Rattle.register_laws.proofs.Having.{records_seen, callee_seen}
 use Rattle.register_laws.proofs.register_law.Goals as goal
 
 pub returns : goal.returns
@@ -12,6 +13,8 @@ returns c = record {
   present = present_seen;
   owned = owned;
   nodes = of_one_line;
+  records = records_seen;
   came = came_seen;
   paired = paired_seen;
+  callee = callee_seen;
 }
