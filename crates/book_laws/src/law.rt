@@ -16,6 +16,6 @@ pub fn book_law()
     // the end that placed it too.
     ensures answered { AnsweredLaw }
 
-    // Each call that came in holds as a pair does, accepted or not, and each call that was placed comes in once at most.
+    // Each call that came in holds as a pair does, accepted or not, and a call that was placed comes in once at most.
     ensures calls { CallsLaw }
 {}

@@ -88,8 +88,8 @@ writes_of (Requests channel r) w =
 writes_of event w = Told (notes_of event w) ∷ []
 
 abbrev pub WrittenLaw : Type 0
-WrittenLaw =
-    (role : Role) (event : Event) (w : Line) (b : Book) → all_written role (writes_of event w) b ≡ written role event w b
+WrittenLaw = (role : Role) (event : Event) (w : Line) (b : Book)
+    → all_written role (writes_of event w) b ≡ written role event w b
 
 -- where the records come from that it adds
 abbrev pub traced_by : (line : ℕ) → Move → told.World → List Origin → List Origin

@@ -32,8 +32,8 @@ pub fn lines_law()
     ensures traces { TraceLaw }
     ensures holds { LinesLaw }
 
-    // Whatever happens on a line, the calls of its book hold: what an event writes is a list of writes, and each call that
-    // came in by them holds as a pair does, accepted or not, and came in once.
+    // Whatever happens on a line, the calls of its book hold: what an event writes is a list of writes, and each call
+    // that came in by them holds as a pair does, accepted or not, and came in once.
     ensures written { WrittenLaw }
     ensures calls { BookCallsLaw }
 {}
