@@ -12,7 +12,7 @@ use Rattle.call_records.specs.Book.{Book, Slot, slot_at}
 use Rattle.packet_laws.specs.Law.{Holds}
 use Rattle.packet_laws.specs.Line.{End}
 use Rattle.packet_laws.proofs.Line.LineHolds.{line_holds}
-use Rattle.book_laws.specs.Told.{World, after_all, start}
+use Rattle.book_laws.specs.Told.{World, after_all, start, made_callers}
 use Rattle.book_laws.specs.Headline.{IsPaired, HasCallee, AreAnswered, AnsweredLaw, layer_at}
 use Rattle.book_laws.proofs.Invariant.{EndView, CallStatus, ChannelUse, Kind, Tag, SlotIs, IsRight, book_parts, answered_at, now}
 use Rattle.book_laws.proofs.Invariant.CallStatus.{FarCall, Open}
@@ -103,8 +103,8 @@ placed_in views b tags x c r w none accepted =
     has_callee views b tags r x c p own (accepted_there (answered_at (views x) p.tag.channel_use) (answered_at (views (other_of x)) p.tag.channel_use) not_here
     (subst (λ (k : ChannelUse). (answered_at (views x) k || answered_at (views (other_of x)) k) ≡ true) (sym p.channel_use) (accepted p.session p.up)))
 
-kept_answered : (n : ℕ) (w : World) → KeptIn n w → ((s c : ℕ) → 1 ≤ c → c ≤ n → Holds w.line s c) → AreAnswered w
-kept_answered n w k law = record { came = came; paired = found; placed = placed }
+kept_answered : (n : ℕ) (w : World) (cs : List (Option ℕ)) → KeptIn n w cs → ((s c : ℕ) → 1 ≤ c → c ≤ n → Holds w.line s c) → AreAnswered w
+kept_answered n w cs k law = record { came = came; paired = found; placed = placed }
   where
     came : (role : Role) (c : ℕ) (ch : Channel) → channel_of (layer_at role w) c ≡ Some ch → may_accept role ch.state ≡ true → is_some (slot_at role c w.book).caller ≡ true
     came Dte c ch at may = came_in (view_of Dte w.line.me w.top_me) k.tags Dte c (slot_at Dte c w.book) (subst (λ (m : CallStatus). SlotIs m (view_of Dte w.line.me w.top_me) k.tags Dte c (slot_at Dte c w.book)) (ap (status_at Dte) at ∙ far_call Dte ch.state may) (k.right.slot Dte c))
@@ -133,6 +133,6 @@ kept_answered n w k law = record { came = came; paired = found; placed = placed 
 pub are_answered : AnsweredLaw
 are_answered dte_node dce_node channels window standing some small ms allowed =
     let w : World = after_all ms (start dte_node dce_node channels window standing) in
-    let k = all_kept channels ms (start dte_node dce_node channels window standing) (start_kept dte_node dce_node channels window standing some)
+    let k = all_kept channels ms (start dte_node dce_node channels window standing) (made_callers standing) (start_kept dte_node dce_node channels window standing some)
     (λ hs. (line_holds channels window standing some small hs).0) allowed in
-    kept_answered channels w k.0 (λ s c least most. k.1 [] s c least most)
+    kept_answered channels w _ k.0 (λ s c least most. k.1 [] s c least most)

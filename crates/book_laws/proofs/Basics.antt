@@ -1,5 +1,5 @@
 -- Small facts of lists, numbers and roles.
-use Rattle.std.proofs.Common.{◌≡◌, ◌≢◌, ℕ, zero, suc, ◌<◌, ◌≤◌, ◌⊎◌, inl, inr, Bool, true, false, cond, ◌==◌, List, [], ◌∷◌, ◌++◌, length, set, Some, refl, sym, ap, ◌∙◌, arith, true≢false}
+use Rattle.std.proofs.Common.{◌≡◌, ◌≢◌, ℕ, zero, suc, ◌<◌, ◌≤◌, ◌⊎◌, inl, inr, Bool, true, false, cond, ◌==◌, List, [], ◌∷◌, ◌++◌, length, map, set, Some, refl, sym, ap, ◌∙◌, arith, true≢false}
 use Rattle.std.specs.Prelude.{slice_get}
 use Rattle.std.proofs.lemmas.Option.{none-some, same_Some}
 use Rattle.std.proofs.lemmas.Bool.{eq-eqb, cases_eq}
@@ -161,3 +161,19 @@ pub confirmed_of : (sender taker : RecordValue) → IsTakenFrom sender taker →
 confirmed_of sender taker h =
     confirmed_taken (taker.taken_before ++ taker.taken ∷ []) (sent_by sender)
     (aligned_confirms (sender.sent_before ++ sender.sent ∷ []) (taker.taken_before ++ taker.taken ∷ []) h)
+
+-- ---- a view of each element
+
+pub map_pushed : {X Y : Type 0} (f : X → Y) (xs : List X) (x : X) → map f (xs ++ x ∷ []) ≡ map f xs ++ f x ∷ []
+map_pushed f [] x = refl
+map_pushed f (y ∷ xs) x = ap (λ (l : List _). f y ∷ l) (map_pushed f xs x)
+
+pub map_set : {X Y : Type 0} (f : X → Y) (xs : List X) (n : ℕ) (x y : X) → slice_get xs n ≡ Some x → f y ≡ f x → map f (set xs n y) ≡ map f xs
+map_set f [] n x y e h = refl
+map_set f (z ∷ xs) zero x y e h = ap (λ (o : _). o ∷ map f xs) (h ∙ ap f (sym (same_Some z x e)))
+map_set f (z ∷ xs) (suc n) x y e h = ap (λ (l : List _). f z ∷ l) (map_set f xs n x y e h)
+
+pub map_at : {X Y : Type 0} (f : X → Y) (xs : List X) (n : ℕ) (y : Y) → slice_get (map f xs) n ≡ Some y → (x : X) × (slice_get xs n ≡ Some x) × (f x ≡ y)
+map_at f [] n y e = absurd (none-some y e)
+map_at f (x ∷ xs) zero y e = (x, refl, same_Some (f x) y e)
+map_at f (x ∷ xs) (suc n) y e = map_at f xs n y e

@@ -8,7 +8,7 @@ use Rattle.packet_layer.specs.Channel.CallState.{Ready, OwnWaiting, FarWaiting, 
 use Rattle.packet_layer.specs.Layer.{channel_of, had_call}
 use Rattle.packet_laws.proofs.Line.LineHolds.{line_holds}
 use Rattle.call_records.specs.Book.{Slot, side_of, slot_at}
-use Rattle.book_laws.specs.Told.{World, after_all, start}
+use Rattle.book_laws.specs.Told.{World, after_all, start, made_callers}
 use Rattle.book_laws.specs.Headline.{PresentLaw, IsBeside, has_call, layer_at}
 use Rattle.book_laws.proofs.Invariant.{EndView, CallStatus, Tag, SlotIs}
 use Rattle.book_laws.proofs.Invariant.CallStatus.{Idle, OwnCall, FarCall, Open}
@@ -45,8 +45,8 @@ slot_call OwnCall f tags x c slot h = ap is_some h.0.is_present
 slot_call FarCall f tags x c slot h = ap is_some h.0.is_present
 slot_call Open f tags x c slot h = ap is_some h.0.is_present
 
-kept_beside : (n : ℕ) (w : World) → KeptIn n w → IsBeside w
-kept_beside n w k = record { channels = λ role. channels role; present = λ role c. present role c }
+kept_beside : (n : ℕ) (w : World) (cs : List (Option ℕ)) → KeptIn n w cs → IsBeside w
+kept_beside n w cs k = record { channels = λ role. channels role; present = λ role c. present role c }
   where
     channels : (role : Role) → length (side_of role w.book).slots ≡ length (layer_at role w).channels
     channels Dte = k.sizes Dte ∙ sym k.here.count
@@ -58,6 +58,6 @@ kept_beside n w k = record { channels = λ role. channels role; present = λ rol
 
 pub is_beside : PresentLaw
 is_beside dte_node dce_node channels window standing some small ms allowed =
-    kept_beside channels (after_all ms (start dte_node dce_node channels window standing))
-    (all_kept channels ms (start dte_node dce_node channels window standing) (start_kept dte_node dce_node channels window standing some)
+    kept_beside channels (after_all ms (start dte_node dce_node channels window standing)) _
+    (all_kept channels ms (start dte_node dce_node channels window standing) (made_callers standing) (start_kept dte_node dce_node channels window standing some)
     (λ hs. (line_holds channels window standing some small hs).0) allowed).0

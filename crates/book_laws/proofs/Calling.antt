@@ -1,5 +1,5 @@
 -- A call is placed, and a call comes in: the record that it makes.
-use Rattle.std.specs.Prelude.{◌≡◌, ◌≢◌, ℕ, zero, suc, ◌≤◌, true, false, List, [], ◌∷◌, ◌++◌, length, slice_get, Option, Some, None}
+use Rattle.std.specs.Prelude.{◌≡◌, ◌≢◌, ℕ, zero, suc, ◌≤◌, true, false, List, [], ◌∷◌, ◌++◌, length, map, slice_get, Option, Some, None}
 use Rattle.std.proofs.Common.{inl, inr, refl, sym, ap, subst, ◌∙◌, arith, true≢false}
 use Rattle.std.proofs.lemmas.Option.{same_Some, slice_get_within}
 use Rattle.epochs.specs.Epoch.{nothing_sent, nothing_taken}
@@ -10,8 +10,8 @@ use Rattle.packet_layer.specs.Packets.{CallParts}
 use Rattle.std.specs.Option.{IsSome}
 use Rattle.call_records.specs.Records.{new_record}
 use Rattle.call_records.specs.Book.{Slot, address_of}
-use Rattle.book_laws.proofs.Basics.{twice, get_last, get_before}
-use Rattle.book_laws.proofs.Invariant.{EndView, CallStatus, ChannelUse, Kind, Tag, BookParts, Stands, Means, Fits, Tells, HasEpochs, Present, SlotIs, IsPlaced, PlacedIs, UpTo, IsPast, IsRight, IsCallee, epoch_at, called_at, answered_at, now, sent_of, taken_of, nth_sent, nth_taken, nothing_passed, own_sent, own_taken, sent_as, taken_as, nothing_sent_yet, nothing_taken_yet}
+use Rattle.book_laws.proofs.Basics.{twice, get_last, get_before, map_pushed}
+use Rattle.book_laws.proofs.Invariant.{EndView, CallStatus, ChannelUse, Kind, Tag, came_from, BookParts, Stands, Means, Fits, Tells, HasEpochs, Present, SlotIs, IsPlaced, PlacedIs, UpTo, IsPast, IsRight, IsCallee, epoch_at, called_at, answered_at, now, sent_of, taken_of, nth_sent, nth_taken, nothing_passed, own_sent, own_taken, sent_as, taken_as, nothing_sent_yet, nothing_taken_yet}
 use Rattle.book_laws.proofs.Invariant.CallStatus.{OwnCall, FarCall}
 use Rattle.book_laws.proofs.Invariant.Kind.{Caller, Callee, Cancelled}
 use Rattle.book_laws.proofs.Carrying.{channel_use_same, placed_same}
@@ -171,8 +171,8 @@ module _ (x : Role) (s c : ℕ) (parts : CallParts) (views views' : Role → End
     placed = subst (λ (o : Option ℕ). PlacedIs o (views' x) (tags ++ placed_tag ∷ []) x c) (sym (ap (λ (z : Slot). z.placed) q.slot)) is_placed;
   }
 
-  pub placing_right : (tags' : List Tag) × IsRight views' (record b { slots = slots; records = b.records ++ new_record (length b.records) (b.nodes x) (address_of parts.calling) (address_of parts.called) ∷ [] }) tags'
-  placing_right = (tags ++ placed_tag ∷ [], added_right x s c views views' b slots tags placed_tag (new_record (length b.records) (b.nodes x) (address_of parts.calling) (address_of parts.called)) w begins)
+  pub placing_right : (tags' : List Tag) × (map came_from tags' ≡ map came_from tags ++ None ∷ []) × IsRight views' (record b { slots = slots; records = b.records ++ new_record (length b.records) (b.nodes x) (address_of parts.calling) (address_of parts.called) ∷ [] }) tags'
+  placing_right = (tags ++ placed_tag ∷ [], map_pushed came_from tags placed_tag, added_right x s c views views' b slots tags placed_tag (new_record (length b.records) (b.nodes x) (address_of parts.calling) (address_of parts.called)) w begins)
 
 -- ---- a call comes in
 
@@ -324,5 +324,5 @@ module _ (x : Role) (s c : ℕ) (parts : CallParts) (views views' : Role → End
         (placed_same (b.slots x c).placed (views x) (views' x) (tags ++ come_tag ∷ []) x c (let h = q.here.top in omega arith) (λ k e. q.called k) (placed_more (b.slots x c).placed (views x) tags (come_tag ∷ []) x c (w.placed x c)));
   }
 
-  pub coming_right : (tags' : List Tag) × IsRight views' (record b { slots = slots; records = b.records ++ new_record (length b.records) (b.nodes x) (address_of parts.called) (address_of parts.calling) ∷ [] }) tags'
-  coming_right = (tags ++ come_tag ∷ [], added_right x s c views views' b slots tags come_tag (new_record (length b.records) (b.nodes x) (address_of parts.called) (address_of parts.calling)) w come_begins)
+  pub coming_right : (tags' : List Tag) × (map came_from tags' ≡ map came_from tags ++ (b.slots (other_of x) c).placed ∷ []) × IsRight views' (record b { slots = slots; records = b.records ++ new_record (length b.records) (b.nodes x) (address_of parts.called) (address_of parts.calling) ∷ [] }) tags'
+  coming_right = (tags ++ come_tag ∷ [], map_pushed came_from tags come_tag ∙ ap (λ (o : Option ℕ). map came_from tags ++ o ∷ []) (sym mate.is_placed), added_right x s c views views' b slots tags come_tag (new_record (length b.records) (b.nodes x) (address_of parts.called) (address_of parts.calling)) w come_begins)

@@ -255,8 +255,12 @@ module _ (x : Role) (c : ℕ) (views views' : Role → EndView) (b : BookParts) 
     pairs = λ i p e. pair_same views views' tags p q.calls (w.pairs i p e);
     once = w.once;
     count = w.count ∙ sym q.count;
-    opened = kept_open b.slots b.records records (λ n r' e. let k = q.kept n r' e in (k.0, k.1, elim k.2 [
-      | inl h ↦ h.1.closed
-      | inr h ↦ ap (λ (r : RecordValue). r.closed) h.1
-    ])) w.opened;
+    opened = kept_open b.slots b.records records (λ n r' e. let k = q.kept n r' e in (
+      k.0,
+      k.1,
+      elim k.2 [
+        | inl h ↦ h.1.closed
+        | inr h ↦ ap (λ (r : RecordValue). r.closed) h.1
+      ],
+    )) w.opened;
   }

@@ -15,6 +15,7 @@ use Rattle.packet_laws.specs.History.{History, received_history, packet_history,
 use Rattle.packet_laws.specs.Law.{TakesCall}
 use Rattle.packet_laws.specs.Line.{End, accepts, next_of_session, is_session}
 use Rattle.call_records.specs.Book.{Book, all_told}
+use Rattle.book_laws.specs.Told.{all_came_by}
 use Rattle.book_laws.proofs.Basics.{by_true}
 use Rattle.book_laws.proofs.Ending.{Further}
 use Rattle.book_laws.proofs.EndSteps.{status_at, has_come}
@@ -64,14 +65,14 @@ history_at v ph o l p c st = cond v (restart_history ph p.body st) (cond (c == p
 abbrev arrived : Bool → Phase → Option Channel → End → ℕ → Packet → End
 arrived v ph o e s p = moved_end e (layer_at v ph o e.layer p) (λ c st. history_at v ph o e.layer p c st) (one_more e s)
 
-abbrev Arrived : ℕ → End → End → ℕ → ℕ → Book → ℕ → Packet → Bool → Phase → Option Channel → Type 0
-Arrived n e y te ty b s p v ph o = KeptAt n e.layer.role (arrived v ph o e s p) y te ty (all_told e.layer.role (layer_at v ph o e.layer p).notes b)
+abbrev Arrived : ℕ → End → End → ℕ → ℕ → Book → List (Option ℕ) → ℕ → Packet → Bool → Phase → Option Channel → Type 0
+Arrived n e y te ty b cs s p v ph o = KeptAt n e.layer.role (arrived v ph o e s p) y te ty (all_told e.layer.role (layer_at v ph o e.layer p).notes b) (all_came_by e.layer.role (layer_at v ph o e.layer p).notes b cs)
 
 -- nothing but the count changes
-counts_only : (n : ℕ) (e y : End) (te ty : ℕ) (b : Book) (s : ℕ) (l' : Layer) (f : ℕ → History → History) → KeptAt n e.layer.role e y te ty b → l'.channels ≡ e.layer.channels → l'.role ≡ e.layer.role → l'.phase ≡ e.layer.phase → ((c : ℕ) (st : History) → SameHistory st (f c st))
-    → KeptAt n e.layer.role (moved_end e l' f (one_more e s)) y te ty b
-counts_only n e y te ty b s l' f k chs role phase history =
-    still n e y te ty b l' f (one_more e s) k (λ c. ap (λ (l : List Channel). status_at e.layer.role (nth_channel l c)) chs) history (more_rises e s) (ap length chs)
+counts_only : (n : ℕ) (e y : End) (te ty : ℕ) (b : Book) (cs : List (Option ℕ)) (s : ℕ) (l' : Layer) (f : ℕ → History → History) → KeptAt n e.layer.role e y te ty b cs → l'.channels ≡ e.layer.channels → l'.role ≡ e.layer.role → l'.phase ≡ e.layer.phase → ((c : ℕ) (st : History) → SameHistory st (f c st))
+    → KeptAt n e.layer.role (moved_end e l' f (one_more e s)) y te ty b cs
+counts_only n e y te ty b cs s l' f k chs role phase history =
+    still n e y te ty b cs l' f (one_more e s) k (λ c. ap (λ (l : List Channel). status_at e.layer.role (nth_channel l c)) chs) history (more_rises e s) (ap length chs)
     (same_end_is n e (moved_end e l' f (one_more e s)) k.here refl (more_rises e s) role phase (ap length chs))
 
 same_if : (v : Bool) (st : History) → SameHistory st (cond v st st)
@@ -79,12 +80,12 @@ same_if true st = history_refl st
 same_if false st = history_refl st
 
 -- a restart packet closes all calls
-closes_calls : (n : ℕ) (e y : End) (te ty : ℕ) (b : Book) (s : ℕ) (reason : Reason) (l' : Layer) → KeptAt n e.layer.role e y te ty b → l'.channels ≡ map (λ ch. closed_channel) e.layer.channels → l'.role ≡ e.layer.role → (l'.phase ≡ PacketReady → e.layer.phase ≡ PacketReady)
-    → KeptAt n e.layer.role (moved_end e l' (λ c st. next_restart_of st) (one_more e s)) y te ty (all_told e.layer.role (closing_notes 1 reason e.layer.channels) b)
-closes_calls n e y te ty b s reason l' k chs role phase =
+closes_calls : (n : ℕ) (e y : End) (te ty : ℕ) (b : Book) (cs : List (Option ℕ)) (s : ℕ) (reason : Reason) (l' : Layer) → KeptAt n e.layer.role e y te ty b cs → l'.channels ≡ map (λ ch. closed_channel) e.layer.channels → l'.role ≡ e.layer.role → (l'.phase ≡ PacketReady → e.layer.phase ≡ PacketReady)
+    → KeptAt n e.layer.role (moved_end e l' (λ c st. next_restart_of st) (one_more e s)) y te ty (all_told e.layer.role (closing_notes 1 reason e.layer.channels) b) (all_came_by e.layer.role (closing_notes 1 reason e.layer.channels) b cs)
+closes_calls n e y te ty b cs s reason l' k chs role phase =
     let e' : End = moved_end e l' (λ c st. next_restart_of st) (one_more e s) in
     let count : length l'.channels ≡ length e.layer.channels = ap length chs ∙ closed_length e.layer.channels in
-    restart_step n e.layer.role e e' y te ty b reason k (record {
+    restart_step n e.layer.role e e' y te ty b cs reason k (record {
       channels = chs;
       epochs = λ i c p u g. either_way (λ (z : History). z.epochs p u g ≡ (e.histories i c).epochs p u g) (is_session e.session i) (next_restart_of (e.histories i c)) (e.histories i c) refl refl;
       begun = begun_rises e.layer.role e e' (more_rises e s) count;
@@ -103,28 +104,28 @@ closes_calls n e y te ty b s reason l' k chs role phase =
         or_up false b c h e = h e
 
 -- the own restart is over
-now_ready : (n : ℕ) (e y : End) (te ty : ℕ) (b : Book) (s : ℕ) (l' : Layer) → KeptAt n e.layer.role e y te ty b → e.session ≡ Some s → l'.channels ≡ e.layer.channels → l'.role ≡ e.layer.role → KeptAt n e.layer.role (moved_end e l' (λ c st. st) (one_more e s)) y te ty b
-now_ready n e y te ty b s l' k up chs role =
-    still n e y te ty b l' (λ c st. st) (one_more e s) k (λ c. ap (λ (l : List Channel). status_at e.layer.role (nth_channel l c)) chs) (λ c st. history_refl st) (more_rises e s) (ap length chs)
+now_ready : (n : ℕ) (e y : End) (te ty : ℕ) (b : Book) (cs : List (Option ℕ)) (s : ℕ) (l' : Layer) → KeptAt n e.layer.role e y te ty b cs → e.session ≡ Some s → l'.channels ≡ e.layer.channels → l'.role ≡ e.layer.role → KeptAt n e.layer.role (moved_end e l' (λ c st. st) (one_more e s)) y te ty b cs
+now_ready n e y te ty b cs s l' k up chs role =
+    still n e y te ty b cs l' (λ c st. st) (one_more e s) k (λ c. ap (λ (l : List Channel). status_at e.layer.role (nth_channel l c)) chs) (λ c st. history_refl st) (more_rises e s) (ap length chs)
     (record { role = role; count = ap length chs ∙ k.here.count; up = λ p. (s, up, come_now e s) })
 
-restart_in : (n : ℕ) (e y : End) (te ty : ℕ) (b : Book) (s c : ℕ) (o : Option Channel) (body : Body) (ph : Phase) → KeptAt n e.layer.role e y te ty b → e.session ≡ Some s → e.layer.phase ≡ ph → Arrived n e y te ty b s (record { channel = c; body = body }) true ph o
-restart_in n e y te ty b s c o (Restart cause diagnostic) PacketReady k up phase = closes_calls n e y te ty b s FarRestart (restart_packet PacketReady (Restart cause diagnostic) (unread e.layer)) k refl refl (λ p. phase)
-restart_in n e y te ty b s c o RestartConfirmation PacketReady k up phase = closes_calls n e y te ty b s LocalFault (restart_packet PacketReady RestartConfirmation (unread e.layer)) k refl refl (λ p. phase)
-restart_in n e y te ty b s c o (Restart cause diagnostic) OwnRestart k up phase = now_ready n e y te ty b s (restart_packet OwnRestart (Restart cause diagnostic) (unread e.layer)) k up refl refl
-restart_in n e y te ty b s c o RestartConfirmation OwnRestart k up phase = now_ready n e y te ty b s (restart_packet OwnRestart RestartConfirmation (unread e.layer)) k up refl refl
-restart_in n e y te ty b s c o body PacketReady k up phase = counts_only n e y te ty b s (unread e.layer) (λ d st. st) k refl refl refl (λ d st. history_refl st)
-restart_in n e y te ty b s c o body OwnRestart k up phase = counts_only n e y te ty b s (unread e.layer) (λ d st. st) k refl refl refl (λ d st. history_refl st)
-restart_in n e y te ty b s c o body NoSession k up phase = counts_only n e y te ty b s (unread e.layer) (λ d st. st) k refl refl refl (λ d st. history_refl st)
+restart_in : (n : ℕ) (e y : End) (te ty : ℕ) (b : Book) (cs : List (Option ℕ)) (s c : ℕ) (o : Option Channel) (body : Body) (ph : Phase) → KeptAt n e.layer.role e y te ty b cs → e.session ≡ Some s → e.layer.phase ≡ ph → Arrived n e y te ty b cs s (record { channel = c; body = body }) true ph o
+restart_in n e y te ty b cs s c o (Restart cause diagnostic) PacketReady k up phase = closes_calls n e y te ty b cs s FarRestart (restart_packet PacketReady (Restart cause diagnostic) (unread e.layer)) k refl refl (λ p. phase)
+restart_in n e y te ty b cs s c o RestartConfirmation PacketReady k up phase = closes_calls n e y te ty b cs s LocalFault (restart_packet PacketReady RestartConfirmation (unread e.layer)) k refl refl (λ p. phase)
+restart_in n e y te ty b cs s c o (Restart cause diagnostic) OwnRestart k up phase = now_ready n e y te ty b cs s (restart_packet OwnRestart (Restart cause diagnostic) (unread e.layer)) k up refl refl
+restart_in n e y te ty b cs s c o RestartConfirmation OwnRestart k up phase = now_ready n e y te ty b cs s (restart_packet OwnRestart RestartConfirmation (unread e.layer)) k up refl refl
+restart_in n e y te ty b cs s c o body PacketReady k up phase = counts_only n e y te ty b cs s (unread e.layer) (λ d st. st) k refl refl refl (λ d st. history_refl st)
+restart_in n e y te ty b cs s c o body OwnRestart k up phase = counts_only n e y te ty b cs s (unread e.layer) (λ d st. st) k refl refl refl (λ d st. history_refl st)
+restart_in n e y te ty b cs s c o body NoSession k up phase = counts_only n e y te ty b cs s (unread e.layer) (λ d st. st) k refl refl refl (λ d st. history_refl st)
 
 -- on a channel
 takes_call : (s : CallState) → (s ≡ Ready) ⊎ (s ≡ OwnWaiting) → TakesCall s
 takes_call s (inl e) = subst (λ (z : CallState). TakesCall z) (sym e) tt
 takes_call s (inr e) = subst (λ (z : CallState). TakesCall z) (sym e) tt
 
-arrival_of : (n : ℕ) (e y : End) (te ty : ℕ) (b : Book) (s d : ℕ) (body : Body) (ch : Channel) → KeptAt n e.layer.role e y te ty b → e.session ≡ Some s → next_of_session (record { me = e; you = y }) s ≡ Some (record { channel = d; body = body }) → ty ≤ s → e.layer.phase ≡ PacketReady
+arrival_of : (n : ℕ) (e y : End) (te ty : ℕ) (b : Book) (cs : List (Option ℕ)) (s d : ℕ) (body : Body) (ch : Channel) → KeptAt n e.layer.role e y te ty b cs → e.session ≡ Some s → next_of_session (record { me = e; you = y }) s ≡ Some (record { channel = d; body = body }) → ty ≤ s → e.layer.phase ≡ PacketReady
     → channel_of e.layer d ≡ Some ch → (parts : CallParts) → body ≡ Call parts → (ch.state ≡ Ready) ⊎ (ch.state ≡ OwnWaiting) → Arrival e y s d ty parts
-arrival_of n e y te ty b s d body ch k up next order phase found parts is state =
+arrival_of n e y te ty b cs s d body ch k up next order phase found parts is state =
     let u = k.here.up phase in
     record {
       arrives = record {
@@ -139,29 +140,29 @@ arrival_of n e y te ty b s d body ch k up next order phase found parts is state 
       come = subst (λ (i : ℕ). has_come e i ≡ true) (same_Some u.0 s (sym u.1 ∙ up)) u.2;
     }
 
-channel_in : (n : ℕ) (e y : End) (te ty : ℕ) (b : Book) (s d : ℕ) (body : Body) (ph : Phase) (o : Option Channel) → KeptAt n e.layer.role e y te ty b → Facts n e y → e.session ≡ Some s → next_of_session (record { me = e; you = y }) s ≡ Some (record { channel = d; body = body }) → ty ≤ s → e.layer.phase ≡ ph
-    → channel_of e.layer d ≡ o → Arrived n e y te ty b s (record { channel = d; body = body }) false ph o
-channel_in n e y te ty b s d body PacketReady (Some ch) k facts up next order phase found =
+channel_in : (n : ℕ) (e y : End) (te ty : ℕ) (b : Book) (cs : List (Option ℕ)) (s d : ℕ) (body : Body) (ph : Phase) (o : Option Channel) → KeptAt n e.layer.role e y te ty b cs → Facts n e y → e.session ≡ Some s → next_of_session (record { me = e; you = y }) s ≡ Some (record { channel = d; body = body }) → ty ≤ s → e.layer.phase ≡ ph
+    → channel_of e.layer d ≡ o → Arrived n e y te ty b cs s (record { channel = d; body = body }) false ph o
+channel_in n e y te ty b cs s d body PacketReady (Some ch) k facts up next order phase found =
     let st : Step = received e.layer.role e.layer.window d ch body in
-    on_one n e y te ty b s d ch (owing st) st.channel (after_step (unread e.layer) d st) (λ c z. cond (c == d) (received_history e.layer.role e.layer.window d ch body z) z) (one_more e s)
-    (λ z. received_history e.layer.role e.layer.window d ch body z) (λ v. all_told e.layer.role st.notes v) (λ parts. body ≡ Call parts) k facts up found refl refl refl refl
+    on_one n e y te ty b cs s d ch (owing st) st.channel (after_step (unread e.layer) d st) (λ c z. cond (c == d) (received_history e.layer.role e.layer.window d ch body z) z) (one_more e s)
+    (λ z. received_history e.layer.role e.layer.window d ch body z) (λ v. all_told e.layer.role st.notes v) (λ v l. all_came_by e.layer.role st.notes v l) (λ parts. body ≡ Call parts) k facts up found refl refl refl refl
     (λ z. here_history d (received_history e.layer.role e.layer.window d ch body z) z) (λ c z h. else_history c d (received_history e.layer.role e.layer.window d ch body z) z h) (more_rises e s)
-    (arrival_of n e y te ty b s d body ch k up next order phase found) (received_outcome e.layer.role e.layer.window d ch body)
-channel_in n e y te ty b s d body PacketReady None k facts up next order phase found = counts_only n e y te ty b s (unread e.layer) (λ c st. cond (c == d) st st) k refl refl refl (λ c st. same_if (c == d) st)
-channel_in n e y te ty b s d body OwnRestart o k facts up next order phase found = counts_only n e y te ty b s (unread e.layer) (λ c st. cond (c == d) st st) k refl refl refl (λ c st. same_if (c == d) st)
-channel_in n e y te ty b s d body NoSession o k facts up next order phase found = counts_only n e y te ty b s (unread e.layer) (λ c st. cond (c == d) st st) k refl refl refl (λ c st. same_if (c == d) st)
+    (arrival_of n e y te ty b cs s d body ch k up next order phase found) (received_outcome e.layer.role e.layer.window d ch body)
+channel_in n e y te ty b cs s d body PacketReady None k facts up next order phase found = counts_only n e y te ty b cs s (unread e.layer) (λ c st. cond (c == d) st st) k refl refl refl (λ c st. same_if (c == d) st)
+channel_in n e y te ty b cs s d body OwnRestart o k facts up next order phase found = counts_only n e y te ty b cs s (unread e.layer) (λ c st. cond (c == d) st st) k refl refl refl (λ c st. same_if (c == d) st)
+channel_in n e y te ty b cs s d body NoSession o k facts up next order phase found = counts_only n e y te ty b cs s (unread e.layer) (λ c st. cond (c == d) st st) k refl refl refl (λ c st. same_if (c == d) st)
 
-arrived_any : (n : ℕ) (e y : End) (te ty : ℕ) (b : Book) (s : ℕ) (p : Packet) (v : Bool) → KeptAt n e.layer.role e y te ty b → Facts n e y → e.session ≡ Some s → next_of_session (record { me = e; you = y }) s ≡ Some p → ty ≤ s
-    → Arrived n e y te ty b s p v e.layer.phase (channel_of e.layer p.channel)
-arrived_any n e y te ty b s p true k facts up next order = restart_in n e y te ty b s p.channel (channel_of e.layer p.channel) p.body e.layer.phase k up refl
-arrived_any n e y te ty b s p false k facts up next order = channel_in n e y te ty b s p.channel p.body e.layer.phase (channel_of e.layer p.channel) k facts up next order refl refl
+arrived_any : (n : ℕ) (e y : End) (te ty : ℕ) (b : Book) (cs : List (Option ℕ)) (s : ℕ) (p : Packet) (v : Bool) → KeptAt n e.layer.role e y te ty b cs → Facts n e y → e.session ≡ Some s → next_of_session (record { me = e; you = y }) s ≡ Some p → ty ≤ s
+    → Arrived n e y te ty b cs s p v e.layer.phase (channel_of e.layer p.channel)
+arrived_any n e y te ty b cs s p true k facts up next order = restart_in n e y te ty b cs s p.channel (channel_of e.layer p.channel) p.body e.layer.phase k up refl
+arrived_any n e y te ty b cs s p false k facts up next order = channel_in n e y te ty b cs s p.channel p.body e.layer.phase (channel_of e.layer p.channel) k facts up next order refl refl
 
 -- the layer after the packet
 layer_is : (l : Layer) (p : Packet) → layer_at (p.channel == 0) l.phase (channel_of l p.channel) l p ≡ on_packet l (Whole p)
 layer_is l p = ap (λ (z : Layer). cond (p.channel == 0) (restart_packet l.phase p.body (unread l)) z) (on_is l.phase (unread l) p.channel (λ ch. step_of l p ch))
 
-pub accepts_kept : (n : ℕ) (e y : End) (te ty : ℕ) (b : Book) (s : ℕ) (p : Packet) → KeptAt n e.layer.role e y te ty b → Facts n e y → e.session ≡ Some s → next_of_session (record { me = e; you = y }) s ≡ Some p → ty ≤ s
-    → KeptAt n e.layer.role (accepts s (Some p) e) y te ty (all_told e.layer.role (on_packet e.layer (Whole p)).notes b)
-accepts_kept n e y te ty b s p k facts up next order =
-    subst (λ (l : Layer). KeptAt n e.layer.role (moved_end e l (λ c st. packet_history e.layer p c st) (one_more e s)) y te ty (all_told e.layer.role l.notes b)) (layer_is e.layer p)
-    (arrived_any n e y te ty b s p (p.channel == 0) k facts up next order)
+pub accepts_kept : (n : ℕ) (e y : End) (te ty : ℕ) (b : Book) (cs : List (Option ℕ)) (s : ℕ) (p : Packet) → KeptAt n e.layer.role e y te ty b cs → Facts n e y → e.session ≡ Some s → next_of_session (record { me = e; you = y }) s ≡ Some p → ty ≤ s
+    → KeptAt n e.layer.role (accepts s (Some p) e) y te ty (all_told e.layer.role (on_packet e.layer (Whole p)).notes b) (all_came_by e.layer.role (on_packet e.layer (Whole p)).notes b cs)
+accepts_kept n e y te ty b cs s p k facts up next order =
+    subst (λ (l : Layer). KeptAt n e.layer.role (moved_end e l (λ c st. packet_history e.layer p c st) (one_more e s)) y te ty (all_told e.layer.role l.notes b) (all_came_by e.layer.role l.notes b cs)) (layer_is e.layer p)
+    (arrived_any n e y te ty b cs s p (p.channel == 0) k facts up next order)

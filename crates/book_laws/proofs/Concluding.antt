@@ -1,7 +1,7 @@
 -- What is right of the book of a line, with the law of the line, gives what the book promises.
 use Rattle.std.specs.Prelude.{◌≡◌, ℕ, suc, ◌≤◌, length, ◌⊎◌, Bool, true, false, ◌||◌, List, [], ◌∷◌, ◌++◌, map, slice_get, Some}
 use Rattle.std.proofs.Common.{inl, inr, refl, sym, ap, subst, ◌∙◌, arith, true≢false}
-use Rattle.std.proofs.lemmas.Option.{slice_get_within}
+use Rattle.std.proofs.lemmas.Option.{none-some, same_Some, slice_get_within}
 use Rattle.link_timers.specs.declared.role.Role.{Role}
 use Rattle.link_timers.specs.declared.role.Role.TheVariants.{Dte, Dce}
 use Rattle.link_timers.specs.Role.{other_of}
@@ -16,9 +16,9 @@ use Rattle.packet_laws.specs.History.{Epoch}
 use Rattle.packet_laws.specs.Law.{Aligned, HasNoLogs}
 use Rattle.call_records.specs.Records.{RecordValue, PairValue, taken_epochs}
 use Rattle.call_records.specs.Book.{Book, side_of, packet_of}
-use Rattle.book_laws.specs.Headline.{IsTakenFrom, AreEnds, PairHolds, IsIn, TookNothing, BookHolds}
-use Rattle.book_laws.proofs.Basics.{twice, get_there, confirmed_of}
-use Rattle.book_laws.proofs.Invariant.{EndView, ChannelUse, Kind, Tag, book_parts, IsLive, Tells, IsCaller, IsCallee, IsPaired, IsRight, caller_of, callee_of, epoch_at, answered_at, sent_of, taken_of, nth_sent, nth_taken, all_sent, all_taken, Passed, HasSent, HasTaken, passed_sent, passed_taken}
+use Rattle.book_laws.specs.Headline.{IsTakenFrom, AreEnds, PairHolds, CallsHold, IsIn, TookNothing, BookHolds}
+use Rattle.book_laws.proofs.Basics.{twice, get_there, map_at, confirmed_of}
+use Rattle.book_laws.proofs.Invariant.{EndView, ChannelUse, Kind, Tag, came_from, placed_of, book_parts, IsLive, Tells, IsCaller, IsCallee, IsPaired, IsRight, caller_of, callee_of, epoch_at, answered_at, sent_of, taken_of, nth_sent, nth_taken, all_sent, all_taken, Passed, HasSent, HasTaken, passed_sent, passed_taken}
 use Rattle.book_laws.proofs.Invariant.Kind.{Caller, Callee, Cancelled}
 use Rattle.book_laws.proofs.Carrying.{same_tag}
 use Rattle.book_laws.proofs.Cancelling.{caller_not_callee, caller_not_cancelled, callee_not_cancelled}
@@ -128,19 +128,18 @@ module _ (views : Role → EndView) (b : Book) (tags : List Tag) (w : IsRight vi
   record_of : (n : ℕ) (t : Tag) → slice_get tags n ≡ Some t → (r : RecordValue) × (slice_get b.records n ≡ Some r)
   record_of n t e = get_there b.records n (let h = slice_get_within tags n t e in let c = w.count in omega arith)
 
-  pair_holds : (i : ℕ) (p : PairValue) → slice_get b.pairs i ≡ Some p → PairHolds b p
-  pair_holds i p e =
-      let o = w.pairs i p e in
-      let t = o.tag in
-      let m = (w.means p.callee t o.there).callee p.caller o.kind in
+  -- of a call that came in, accepted or not
+  call_holds : (a n : ℕ) (t : Tag) → slice_get tags n ≡ Some t → t.kind ≡ Callee a → PairHolds b (record { caller = a; callee = n })
+  call_holds a n t t_there kind =
+      let m = (w.means n t t_there).callee a kind in
       let u = m.mate in
-      let mine = record_of p.caller u m.there in
-      let yours = record_of p.callee t o.there in
-      let fm = w.fits p.caller u mine.0 m.there mine.1 in
-      let fy = w.fits p.callee t yours.0 o.there yours.1 in
+      let mine = record_of a u m.there in
+      let yours = record_of n t t_there in
+      let fm = w.fits a u mine.0 m.there mine.1 in
+      let fy = w.fits n t yours.0 t_there yours.1 in
       let lm : IsLive u.kind = λ h. caller_not_cancelled (sym m.calls ∙ h) in
-      let ly : IsLive t.kind = λ h. callee_not_cancelled p.caller (sym o.kind ∙ h) in
-      let begun = (w.stands p.callee t o.there).begun in
+      let ly : IsLive t.kind = λ h. callee_not_cancelled a (sym kind ∙ h) in
+      let begun = (w.stands n t t_there).begun in
       let tells : Tells (views (other_of t.role)) t.channel_use mine.0 = subst (λ (y : Role). Tells (views y) t.channel_use mine.0) m.role (subst (λ (k : ChannelUse). Tells (views u.role) k mine.0) m.channel_use (fm.tells lm)) in
       let onward : IsTakenFrom mine.0 yours.0 = taken_from (views (other_of t.role)) (views t.role) t.channel_use mine.0 yours.0 (λ g. says.aligned_back t.role t.channel_use g begun) tells (fy.tells ly) in
       let backward : IsTakenFrom yours.0 mine.0 = taken_from (views t.role) (views (other_of t.role)) t.channel_use yours.0 mine.0 (λ g. says.aligned t.role t.channel_use g begun) (fy.tells ly) tells in
@@ -165,6 +164,9 @@ module _ (views : Role → EndView) (b : Book) (tags : List Tag) (w : IsRight vi
           calling = fy.far ∙ sym m.far ∙ sym fm.own;
         };
       }
+
+  pair_holds : (i : ℕ) (p : PairValue) → slice_get b.pairs i ≡ Some p → PairHolds b p
+  pair_holds i p e = let o = w.pairs i p e in call_holds p.caller p.callee o.tag o.there o.kind
 
   number_of : (i : ℕ) (r : RecordValue) → slice_get b.records i ≡ Some r → r.number ≡ i
   number_of i r e =
@@ -240,6 +242,32 @@ module _ (views : Role → EndView) (b : Book) (tags : List Tag) (w : IsRight vi
         | inl h ↦ inl h
         | inr h ↦ inr (took_some n t.0 r h.0 t.1 e h.1)
       ]
+
+  -- of one call that was placed at most one came in
+  came_once : (a m n : ℕ) (t u : Tag) → slice_get tags m ≡ Some t → slice_get tags n ≡ Some u → t.kind ≡ Callee a → u.kind ≡ Callee a → m ≡ n
+  came_once a m n t u em en kt ku =
+      let p = (w.means m t em).callee a kt in
+      let q = (w.means n u en).callee a ku in
+      let same : p.mate ≡ q.mate = same_tag tags a p.mate q.mate p.there q.there in
+      let roles : t.role ≡ u.role = sym (twice t.role) ∙ ap other_of (sym p.role ∙ ap (λ (z : Tag). z.role) same ∙ q.role) ∙ twice u.role in
+      let uses : t.channel_use ≡ u.channel_use = sym p.channel_use ∙ ap (λ (z : Tag). z.channel_use) same ∙ q.channel_use in
+      w.alone m n t u em en (λ h. callee_not_cancelled a (sym kt ∙ h)) (λ h. callee_not_cancelled a (sym ku ∙ h)) roles uses
+
+  -- the record of which another one came
+  is_callee : (n a : ℕ) → slice_get (map came_from tags) n ≡ Some (Some a) → (t : Tag) × (slice_get tags n ≡ Some t) × (t.kind ≡ Callee a)
+  is_callee n a e = let t = map_at came_from tags n (Some a) e in (t.0, t.1, by_kind t.0.kind a t.2)
+    where
+      by_kind : (k : Kind) (a : ℕ) → placed_of k ≡ Some a → k ≡ Callee a
+      by_kind Caller a e = absurd (none-some a e)
+      by_kind Cancelled a e = absurd (none-some a e)
+      by_kind (Callee c) a e = ap (λ (i : ℕ). Callee i) (same_Some c a e)
+
+  pub calls_concluded : CallsHold b (map came_from tags)
+  calls_concluded = record {
+    count = length-map tags came_from ∙ w.count;
+    came = λ n a e. let t = is_callee n a e in call_holds a n t.0 t.1 t.2;
+    once = λ m n a e h. let t = is_callee m a e in let u = is_callee n a h in came_once a m n t.0 u.0 t.1 u.1 t.2 u.2;
+  }
 
   pub concluded : BookHolds b
   concluded = record {

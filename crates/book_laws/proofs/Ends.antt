@@ -1,14 +1,16 @@
 -- Events at an end that leave all calls as they are, and those that end all of them.
-use Rattle.std.specs.Prelude.{◌≡◌, ℕ, zero, suc, ◌+◌, ◌≤◌, ◌⊎◌, Bool, true, false, ◌&&◌, List, length, map, Option, Some, None}
+use Rattle.std.specs.Prelude.{◌≡◌, ℕ, zero, suc, ◌+◌, ◌≤◌, ◌⊎◌, Bool, true, false, cond, ◌&&◌, List, [], ◌∷◌, length, map, Option, Some, None}
 use Rattle.std.proofs.Common.{inl, inr, refl, sym, ap, subst, ◌∙◌, arith}
 use Rattle.std.proofs.lemmas.Option.{none-some}
 use Rattle.link_timers.specs.declared.role.Role.{Role}
-use Rattle.packet_layer.specs.Packets.{Reason}
+use Rattle.packet_layer.specs.Packets.{Note, Reason}
+use Rattle.packet_layer.specs.Packets.Note.{Closed}
 use Rattle.packet_layer.specs.Channel.{CallState, Channel, closed_channel}
 use Rattle.packet_layer.specs.Channel.CallState.{Ready, OwnWaiting, FarWaiting, Transfer, Collision, OwnClear}
 use Rattle.packet_layer.specs.Layer.{nth_channel, channel_of, closing_notes, had_call}
 use Rattle.packet_laws.specs.Line.{End}
-use Rattle.call_records.specs.Book.{Book, Slot, slot_at, all_told}
+use Rattle.call_records.specs.Book.{Book, Slot, slot_at, told, all_told}
+use Rattle.book_laws.specs.Told.{all_came_by}
 use Rattle.book_laws.proofs.Invariant.{CallStatus, ChannelUse, SlotIs}
 use Rattle.book_laws.proofs.Invariant.CallStatus.{Idle}
 use Rattle.book_laws.proofs.Ending.{Further}
@@ -26,9 +28,10 @@ pub record Quiet (x : Role) (e e' : End) : Type 0 where
   pub history : (s c : ℕ) → SameHistory (e.histories s c) (e'.histories s c)
   pub begun : (k : ChannelUse) → (view_of x e 0).begun k ≡ true → (view_of x e' 0).begun k ≡ true
 
-pub quiet_step : (n : ℕ) (x : Role) (e e' y : End) (te ty : ℕ) (b : Book) → KeptAt n x e y te ty b → Quiet x e e' → IsEnd n x e' → KeptAt n x e' y te ty b
-quiet_step n x e e' y te ty b k q end = record {
+pub quiet_step : (n : ℕ) (x : Role) (e e' y : End) (te ty : ℕ) (b : Book) (cs : List (Option ℕ)) → KeptAt n x e y te ty b cs → Quiet x e e' → IsEnd n x e' → KeptAt n x e' y te ty b cs
+quiet_step n x e e' y te ty b cs k q end = record {
   tags = k.tags;
+  callers = k.callers;
   right = end_step x e e' y te te ty b b k.tags (record {
     epochs = λ s c r u g. (q.history s c).epochs r u g;
     begun = q.begun;
@@ -78,8 +81,19 @@ none_at x e b reason (suc i) (Some ch) found idle =
       | inr h ↦ none_kept x b (all_told x (closing_notes 1 reason e.layer.channels) b) (suc i) (closes_all x 1 reason e.layer.channels b) (idle h)
     ]
 
-all_none : (n : ℕ) (x : Role) (e y : End) (te ty : ℕ) (b : Book) (reason : Reason) → KeptAt n x e y te ty b → (c : ℕ) → (slot_at x c (all_told x (closing_notes 1 reason e.layer.channels) b)).present ≡ None
-all_none n x e y te ty b reason k c = none_at x e b reason c (channel_of e.layer c) refl (λ h. subst (λ (m : CallStatus). SlotIs m (view_of x e te) k.tags x c (slot_at x c b)) h (slot_of x e y te ty b k.tags c k.right))
+all_none : (n : ℕ) (x : Role) (e y : End) (te ty : ℕ) (b : Book) (cs : List (Option ℕ)) (reason : Reason) → KeptAt n x e y te ty b cs → (c : ℕ) → (slot_at x c (all_told x (closing_notes 1 reason e.layer.channels) b)).present ≡ None
+all_none n x e y te ty b cs reason k c = none_at x e b reason c (channel_of e.layer c) refl (λ h. subst (λ (m : CallStatus). SlotIs m (view_of x e te) k.tags x c (slot_at x c b)) h (slot_of x e y te ty b k.tags c k.right))
+
+-- what closes calls adds no record
+closing_same : (x : Role) (k : ℕ) (reason : Reason) (v : Bool) (notes : List Note) (cs : List (Option ℕ)) → ((u : Book) → all_came_by x notes u cs ≡ cs)
+    → (u : Book) → all_came_by x (cond v (Closed k 9 0 reason ∷ notes) notes) u cs ≡ cs
+closing_same x k reason true notes cs h u = h (told x (Closed k 9 0 reason) u)
+closing_same x k reason false notes cs h u = h u
+
+closings_same : (x : Role) (k : ℕ) (reason : Reason) (chs : List Channel) (b : Book) (cs : List (Option ℕ)) → all_came_by x (closing_notes k reason chs) b cs ≡ cs
+closings_same x k reason [] b cs = refl
+closings_same x k reason (ch ∷ chs) b cs =
+    closing_same x k reason (had_call ch.state) (closing_notes (suc k) reason chs) cs (λ u. closings_same x (suc k) reason chs u cs) b
 
 pub record AllOver (x : Role) (e e' : End) : Type 0 where
   pub channels : e'.layer.channels ≡ map (λ ch. closed_channel) e.layer.channels
@@ -87,13 +101,14 @@ pub record AllOver (x : Role) (e e' : End) : Type 0 where
   pub begun : (k : ChannelUse) → (view_of x e 0).begun k ≡ true → (view_of x e' 0).begun k ≡ true
 
 -- by a restart
-pub restart_step : (n : ℕ) (x : Role) (e e' y : End) (te ty : ℕ) (b : Book) (reason : Reason) → KeptAt n x e y te ty b → AllOver x e e' → e'.session ≡ e.session → ((s c : ℕ) → e.session ≡ Some s → Further (e.histories s c) (e'.histories s c)) → IsEnd n x e'
-    → KeptAt n x e' y te ty (all_told x (closing_notes 1 reason e.layer.channels) b)
-restart_step n x e e' y te ty b reason k q same further end =
+pub restart_step : (n : ℕ) (x : Role) (e e' y : End) (te ty : ℕ) (b : Book) (cs : List (Option ℕ)) (reason : Reason) → KeptAt n x e y te ty b cs → AllOver x e e' → e'.session ≡ e.session → ((s c : ℕ) → e.session ≡ Some s → Further (e.histories s c) (e'.histories s c)) → IsEnd n x e'
+    → KeptAt n x e' y te ty (all_told x (closing_notes 1 reason e.layer.channels) b) (all_came_by x (closing_notes 1 reason e.layer.channels) b cs)
+restart_step n x e e' y te ty b cs reason k q same further end =
     let b' : Book = all_told x (closing_notes 1 reason e.layer.channels) b in
     let closed : Closes x b b' = closes_all x 1 reason e.layer.channels b in
     record {
       tags = k.tags;
+      callers = k.callers ∙ sym (closings_same x 1 reason e.layer.channels b cs);
       right = end_step x e e' y te te ty b b' k.tags (record {
         epochs = q.epochs;
         begun = q.begun;
@@ -104,7 +119,7 @@ restart_step n x e e' y te ty b reason k q same further end =
           channels = λ c. inr (record {
             status = ap (λ (l : List Channel). status_at x (nth_channel l c)) q.channels ∙ closed_idle x e.layer.channels c;
             further = λ s up. further s c up;
-            present = all_none n x e y te ty b reason k c;
+            present = all_none n x e y te ty b cs reason k c;
           });
         });
         closed = closed;
@@ -115,13 +130,14 @@ restart_step n x e e' y te ty b reason k q same further end =
     }
 
 -- by the link's session
-pub session_step : (n : ℕ) (x : Role) (e e' y : End) (te te' ty : ℕ) (b : Book) (reason : Reason) → KeptAt n x e y te ty b → AllOver x e e' → te ≤ te' → ((s : ℕ) → e'.session ≡ Some s → (s ≡ te') × (has_come e s ≡ false)) → IsEnd n x e'
-    → KeptAt n x e' y te' ty (all_told x (closing_notes 1 reason e.layer.channels) b)
-session_step n x e e' y te te' ty b reason k q top new end =
+pub session_step : (n : ℕ) (x : Role) (e e' y : End) (te te' ty : ℕ) (b : Book) (cs : List (Option ℕ)) (reason : Reason) → KeptAt n x e y te ty b cs → AllOver x e e' → te ≤ te' → ((s : ℕ) → e'.session ≡ Some s → (s ≡ te') × (has_come e s ≡ false)) → IsEnd n x e'
+    → KeptAt n x e' y te' ty (all_told x (closing_notes 1 reason e.layer.channels) b) (all_came_by x (closing_notes 1 reason e.layer.channels) b cs)
+session_step n x e e' y te te' ty b cs reason k q top new end =
     let b' : Book = all_told x (closing_notes 1 reason e.layer.channels) b in
     let closed : Closes x b b' = closes_all x 1 reason e.layer.channels b in
     record {
       tags = k.tags;
+      callers = k.callers ∙ sym (closings_same x 1 reason e.layer.channels b cs);
       right = end_step x e e' y te te' ty b b' k.tags (record {
         epochs = q.epochs;
         begun = q.begun;
@@ -130,7 +146,7 @@ session_step n x e e' y te te' ty b reason k q top new end =
         how = inr (record {
           fresh = λ z up. ap (λ (v : Bool). v && within (length e.layer.channels) z.channel) (new z.session up).1;
           status = λ c. ap (λ (l : List Channel). status_at x (nth_channel l c)) q.channels ∙ closed_idle x e.layer.channels c;
-          present = λ c. all_none n x e y te ty b reason k c;
+          present = λ c. all_none n x e y te ty b cs reason k c;
         });
         closed = closed;
       }) k.right;

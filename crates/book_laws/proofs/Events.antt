@@ -21,7 +21,7 @@ use Rattle.book_laws.proofs.Invariant.CallStatus.{Idle, OwnCall, FarCall, Open}
 use Rattle.book_laws.proofs.Ending.{IsOver}
 use Rattle.book_laws.proofs.EndSteps.{status_of, status_at, within, has_come, view_of, end_step}
 use Rattle.book_laws.proofs.Steps.{SameHistory, history_refl}
-use Rattle.book_laws.proofs.Moving.{KeptAt, IsEnd, Facts, Arrival, channel_step, sized, slot_of, status_number}
+use Rattle.book_laws.proofs.Moving.{KeptAt, kept_as, IsEnd, Facts, Arrival, channel_step, sized, slot_of, status_number}
 use Rattle.book_laws.proofs.Outcomes.{Outcome, NoCalls, asked}
 use Rattle.book_laws.proofs.Outcomes.Outcome.{stays, ends, ends_none, goes, connects, accepts, comes as call_comes, collides}
 use Rattle.book_laws.proofs.Layers.{put_here, put_else, put_length, in_range, told_here, told_else, either_way}
@@ -60,16 +60,16 @@ same_end_is n e e' h ses r role phase count = record {
 
 -- ---- a step on one channel
 
-pub on_one : (n : ℕ) (e y : End) (te ty : ℕ) (b : Book) (s d : ℕ) (ch ch2 ch' : Channel) (l' : Layer) (f : ℕ → History → History) (acc : ℕ → ℕ) (told_ : History → History) (write : Book → Book) (came : CallParts → Type 0)
-    → KeptAt n e.layer.role e y te ty b → Facts n e y → e.session ≡ Some s → channel_of e.layer d ≡ Some ch → l'.channels ≡ with_nth e.layer.channels d ch2 → ch2.state ≡ ch'.state → l'.role ≡ e.layer.role → l'.phase ≡ e.layer.phase
+pub on_one : (n : ℕ) (e y : End) (te ty : ℕ) (b : Book) (cs : List (Option ℕ)) (s d : ℕ) (ch ch2 ch' : Channel) (l' : Layer) (f : ℕ → History → History) (acc : ℕ → ℕ) (told_ : History → History) (write : Book → Book) (trace : Book → List (Option ℕ) → List (Option ℕ)) (came : CallParts → Type 0)
+    → KeptAt n e.layer.role e y te ty b cs → Facts n e y → e.session ≡ Some s → channel_of e.layer d ≡ Some ch → l'.channels ≡ with_nth e.layer.channels d ch2 → ch2.state ≡ ch'.state → l'.role ≡ e.layer.role → l'.phase ≡ e.layer.phase
     → ((st : History) → f d st ≡ told_ st) → ((c : ℕ) (st : History) → c ≢ d → f c st ≡ st) → Rises e acc
-    → ((parts : CallParts) → came parts → (ch.state ≡ Ready) ⊎ (ch.state ≡ OwnWaiting) → Arrival e y s d ty parts) → Outcome e.layer.role d ch ch' told_ write came
-    → KeptAt n e.layer.role (moved_end e l' f acc) y te ty (write b)
-on_one n e y te ty b s d ch ch2 ch' l' f acc told_ write came k facts up found chs state role phase here else rises arrival out =
+    → ((parts : CallParts) → came parts → (ch.state ≡ Ready) ⊎ (ch.state ≡ OwnWaiting) → Arrival e y s d ty parts) → Outcome e.layer.role d ch ch' told_ write trace came
+    → KeptAt n e.layer.role (moved_end e l' f acc) y te ty (write b) (trace b cs)
+on_one n e y te ty b cs s d ch ch2 ch' l' f acc told_ write trace came k facts up found chs state role phase here else rises arrival out =
     let e' : End = moved_end e l' f acc in
     let range = in_range e.layer.channels d ch found in
     let count : length l'.channels ≡ length e.layer.channels = ap length chs ∙ put_length e.layer.channels d ch2 in
-    channel_step n e.layer.role e e' y te ty b s d ch ch' told_ write came k facts (record {
+    channel_step n e.layer.role e e' y te ty b cs s d ch ch' told_ write trace came k facts (record {
       on = record {
         session = refl;
         up = up;
@@ -95,10 +95,10 @@ on_one n e y te ty b s d ch ch2 ch' l' f acc told_ write came k facts up found c
 
 -- ---- an event that changes no call
 
-pub still : (n : ℕ) (e y : End) (te ty : ℕ) (b : Book) (l' : Layer) (f : ℕ → History → History) (acc : ℕ → ℕ) → KeptAt n e.layer.role e y te ty b → ((c : ℕ) → status_at e.layer.role (channel_of l' c) ≡ status_at e.layer.role (channel_of e.layer c))
-    → ((c : ℕ) (st : History) → SameHistory st (f c st)) → Rises e acc → length l'.channels ≡ length e.layer.channels → IsEnd n e.layer.role (moved_end e l' f acc) → KeptAt n e.layer.role (moved_end e l' f acc) y te ty b
-still n e y te ty b l' f acc k status history rises count end =
-    quiet_step n e.layer.role e (moved_end e l' f acc) y te ty b k (record {
+pub still : (n : ℕ) (e y : End) (te ty : ℕ) (b : Book) (cs : List (Option ℕ)) (l' : Layer) (f : ℕ → History → History) (acc : ℕ → ℕ) → KeptAt n e.layer.role e y te ty b cs → ((c : ℕ) → status_at e.layer.role (channel_of l' c) ≡ status_at e.layer.role (channel_of e.layer c))
+    → ((c : ℕ) (st : History) → SameHistory st (f c st)) → Rises e acc → length l'.channels ≡ length e.layer.channels → IsEnd n e.layer.role (moved_end e l' f acc) → KeptAt n e.layer.role (moved_end e l' f acc) y te ty b cs
+still n e y te ty b cs l' f acc k status history rises count end =
+    quiet_step n e.layer.role e (moved_end e l' f acc) y te ty b cs k (record {
       session = refl;
       status = status;
       history = λ s c. either_way (λ (z : History). SameHistory (e.histories s c) z) (is_session e.session s) (f c (e.histories s c)) (e.histories s c) (history c (e.histories s c)) (history_refl (e.histories s c));
@@ -137,7 +137,7 @@ refused_told z ch (Releasing n) st = history_refl st
 refused_told z ch Confirming st = history_refl st
 
 abbrev Asked : Role → ℕ → Channel → Request → Option Refusal → Type 0
-Asked x d ch r o = Outcome x d ch (unless o (carried_out ch r) ch).channel (λ st. told_of o r ch st) (λ b. unless_refused o (carried x d r (front ch.traffic) b) b) NoCalls
+Asked x d ch r o = Outcome x d ch (unless o (carried_out ch r) ch).channel (λ st. told_of o r ch st) (λ b. unless_refused o (carried x d r (front ch.traffic) b) b) (λ b l. l) NoCalls
 
 asked_of : (x : Role) (d : ℕ) (ch : Channel) (r : Request) → refusal x ch r ≡ None → Asked x d ch r None
 asked_of x d ch Accept e = asked x d ch Accept e
@@ -152,7 +152,7 @@ asked_of x d ch Confirming e = asked x d ch Confirming e
 
 asked_any : (x : Role) (d : ℕ) (ch : Channel) (r : Request) (o : Option Refusal) → refusal x ch r ≡ o → Asked x d ch r o
 asked_any x d ch r None e = asked_of x d ch r e
-asked_any x d ch r (Some z) e = stays refl (λ st. refused_told z ch r st) (λ b. refl)
+asked_any x d ch r (Some z) e = stays refl (λ st. refused_told z ch r st) (λ b. refl) (λ b l. refl)
 
 -- the history of another channel
 pub else_history : (c d : ℕ) (a st : History) → c ≢ d → cond (c == d) a st ≡ st
@@ -162,8 +162,8 @@ pub here_history : (d : ℕ) (a st : History) → cond (d == d) a st ≡ a
 here_history d a st = by_true (d == d) a st (eq-eqb d d refl)
 
 -- with no session a channel has no call
-no_session : (n : ℕ) (e y : End) (te ty : ℕ) (b : Book) (d : ℕ) (ch : Channel) → KeptAt n e.layer.role e y te ty b → channel_of e.layer d ≡ Some ch → e.session ≡ None → status_of e.layer.role ch.state ≡ Idle
-no_session n e y te ty b d ch k found none =
+no_session : (n : ℕ) (e y : End) (te ty : ℕ) (b : Book) (cs : List (Option ℕ)) (d : ℕ) (ch : Channel) → KeptAt n e.layer.role e y te ty b cs → channel_of e.layer d ≡ Some ch → e.session ≡ None → status_of e.layer.role ch.state ≡ Idle
+no_session n e y te ty b cs d ch k found none =
     idle_of (status_of e.layer.role ch.state) (subst (λ (o : Option Channel). SlotIs (status_at e.layer.role o) (view_of e.layer.role e te) k.tags e.layer.role d (slot_at e.layer.role d b)) found (slot_of e.layer.role e y te ty b k.tags d k.right))
   where
     idle_of : (m : CallStatus) → SlotIs m (view_of e.layer.role e te) k.tags e.layer.role d (slot_at e.layer.role d b) → m ≡ Idle
@@ -185,17 +185,17 @@ not_own : Idle ≡ OwnCall → ⊥
 not_own e = let h : ◌≡◌ {A = ℕ} 0 1 = ap status_number e in omega arith
 
 -- what is owed further changes nothing of this
-owed_same : (x : Role) (d : ℕ) (ch : Channel) (st : Step) (told_ : History → History) (write : Book → Book) → Outcome x d ch st.channel told_ write NoCalls → Outcome x d ch (owing st) told_ write NoCalls
-owed_same x d ch st told_ write (stays m same h) = stays m same h
-owed_same x d ch st told_ write (ends m uses h) = ends m uses h
-owed_same x d ch st told_ write (ends_none m m' uses h) = ends_none m m' uses h
-owed_same x d ch st told_ write (goes change m m' g r h) = goes change m m' g r h
-owed_same x d ch st told_ write (connects m m' s h) = connects m m' s h
-owed_same x d ch st told_ write (accepts m m' s h) = accepts m m' s h
-owed_same x d ch st told_ write (call_comes parts c r m s h) = absurd c
-owed_same x d ch st told_ write (collides parts c z o m s h) = absurd c
+owed_same : (x : Role) (d : ℕ) (ch : Channel) (st : Step) (told_ : History → History) (write : Book → Book) (trace : Book → List (Option ℕ) → List (Option ℕ)) → Outcome x d ch st.channel told_ write trace NoCalls → Outcome x d ch (owing st) told_ write trace NoCalls
+owed_same x d ch st told_ write trace (stays m same h j) = stays m same h j
+owed_same x d ch st told_ write trace (ends m uses h j) = ends m uses h j
+owed_same x d ch st told_ write trace (ends_none m m' uses h j) = ends_none m m' uses h j
+owed_same x d ch st told_ write trace (goes change m m' g r h j) = goes change m m' g r h j
+owed_same x d ch st told_ write trace (connects m m' s h j) = connects m m' s h j
+owed_same x d ch st told_ write trace (accepts m m' s h j) = accepts m m' s h j
+owed_same x d ch st told_ write trace (call_comes parts c r m s h j) = absurd c
+owed_same x d ch st told_ write trace (collides parts c z o m s h j) = absurd c
 
-module _ (n : ℕ) (e y : End) (te ty : ℕ) (b : Book) (d : ℕ) (ch ch' : Channel) (l' : Layer) (f : ℕ → History → History) (k : KeptAt n e.layer.role e y te ty b) (none : e.session ≡ None) (idle : status_of e.layer.role ch.state ≡ Idle)
+module _ (n : ℕ) (e y : End) (te ty : ℕ) (b : Book) (cs : List (Option ℕ)) (d : ℕ) (ch ch' : Channel) (l' : Layer) (f : ℕ → History → History) (k : KeptAt n e.layer.role e y te ty b cs) (none : e.session ≡ None) (idle : status_of e.layer.role ch.state ≡ Idle)
     (found : channel_of e.layer d ≡ Some ch) (chs : l'.channels ≡ with_nth e.layer.channels d ch') (role : l'.role ≡ e.layer.role) (phase : l'.phase ≡ e.layer.phase) where
   abbrev after : End
   after = moved_end e l' f e.accepted
@@ -209,9 +209,10 @@ module _ (n : ℕ) (e y : End) (te ty : ℕ) (b : Book) (d : ℕ) (ch ch' : Chan
   status_there : status_at e.layer.role (channel_of l' d) ≡ status_of e.layer.role ch'.state
   status_there = ap (λ (l : List Channel). status_at e.layer.role (nth_channel l d)) chs ∙ ap (status_at e.layer.role) (put_here e.layer.channels d ch ch' found)
 
-  none_over : (b' : Book) → Closes e.layer.role b b' → ((c : ℕ) → c ≢ d → slot_at e.layer.role c b' ≡ slot_at e.layer.role c b) → (slot_at e.layer.role d b').present ≡ None → status_of e.layer.role ch'.state ≡ Idle → KeptAt n e.layer.role after y te ty b'
+  none_over : (b' : Book) → Closes e.layer.role b b' → ((c : ℕ) → c ≢ d → slot_at e.layer.role c b' ≡ slot_at e.layer.role c b) → (slot_at e.layer.role d b').present ≡ None → status_of e.layer.role ch'.state ≡ Idle → KeptAt n e.layer.role after y te ty b' cs
   none_over b' closed same present status = record {
     tags = k.tags;
+    callers = k.callers;
     right = end_step e.layer.role e after y te te ty b b' k.tags (record {
       epochs = λ s c r u g. ap (λ (z : History). z.epochs r u g) (told_none e f s c none);
       begun = begun_rises e.layer.role e after (same_rises e) none_count;
@@ -241,15 +242,15 @@ module _ (n : ℕ) (e y : End) (te ty : ℕ) (b : Book) (d : ℕ) (ch ch' : Chan
   free_there : (slot_at e.layer.role d b).present ≡ None
   free_there = subst (λ (m : CallStatus). SlotIs m (view_of e.layer.role e te) k.tags e.layer.role d (slot_at e.layer.role d b)) (ap (status_at e.layer.role) found ∙ idle) (slot_of e.layer.role e y te ty b k.tags d k.right)
 
-  pub none_step : (told_ : History → History) (write : Book → Book) → Outcome e.layer.role d ch ch' told_ write NoCalls → KeptAt n e.layer.role after y te ty (write b)
-  none_step told_ write (stays m same h) = subst (λ (v : Book). KeptAt n e.layer.role after y te ty v) (sym (h b)) (none_over b (closes_none e.layer.role b) (λ c z. refl) free_there (m ∙ idle))
-  none_step told_ write (ends m uses h) = subst (λ (v : Book). KeptAt n e.layer.role after y te ty v) (sym (h b)) (none_over (closes e.layer.role d b) (closes_one e.layer.role d b) (closed_else e.layer.role d b) (closed_here e.layer.role d b) m)
-  none_step told_ write (ends_none m m' uses h) = subst (λ (v : Book). KeptAt n e.layer.role after y te ty v) (sym (h b)) (none_over b (closes_none e.layer.role b) (λ c z. refl) free_there m')
-  none_step told_ write (goes change m m' g r h) = absurd (not_open (sym idle ∙ m))
-  none_step told_ write (connects m m' s h) = absurd (not_own (sym idle ∙ m))
-  none_step told_ write (accepts m m' s h) = absurd (not_far (sym idle ∙ m))
-  none_step told_ write (call_comes parts c r m s h) = absurd c
-  none_step told_ write (collides parts c x o m s h) = absurd c
+  pub none_step : (told_ : History → History) (write : Book → Book) (trace : Book → List (Option ℕ) → List (Option ℕ)) → Outcome e.layer.role d ch ch' told_ write trace NoCalls → KeptAt n e.layer.role after y te ty (write b) (trace b cs)
+  none_step told_ write trace (stays m same h j) = kept_as n e.layer.role after y te ty _ (write b) _ (trace b cs) (h b) (j b cs) (none_over b (closes_none e.layer.role b) (λ c z. refl) free_there (m ∙ idle))
+  none_step told_ write trace (ends m uses h j) = kept_as n e.layer.role after y te ty _ (write b) _ (trace b cs) (h b) (j b cs) (none_over (closes e.layer.role d b) (closes_one e.layer.role d b) (closed_else e.layer.role d b) (closed_here e.layer.role d b) m)
+  none_step told_ write trace (ends_none m m' uses h j) = kept_as n e.layer.role after y te ty _ (write b) _ (trace b cs) (h b) (j b cs) (none_over b (closes_none e.layer.role b) (λ c z. refl) free_there m')
+  none_step told_ write trace (goes change m m' g r h j) = absurd (not_open (sym idle ∙ m))
+  none_step told_ write trace (connects m m' s h j) = absurd (not_own (sym idle ∙ m))
+  none_step told_ write trace (accepts m m' s h j) = absurd (not_far (sym idle ∙ m))
+  none_step told_ write trace (call_comes parts c r m s h j) = absurd c
+  none_step told_ write trace (collides parts c x o m s h j) = absurd c
 
 -- ---- a request
 
@@ -259,25 +260,25 @@ after_request e d r o = moved_end e (on_found e.layer d (λ ch. requested e.laye
 abbrev after_refusal : End → ℕ → Request → Channel → Option Refusal → End
 after_refusal e d r ch o = moved_end e (after_step e.layer d (unless o (carried_out ch r) ch)) (λ c st. cond (c == d) (requested_history e.layer.role ch r st) st) e.accepted
 
-request_on : (n : ℕ) (e y : End) (te ty : ℕ) (b : Book) (d : ℕ) (r : Request) (ch : Channel) → KeptAt n e.layer.role e y te ty b → Facts n e y → channel_of e.layer d ≡ Some ch → (o : Option Refusal) → refusal e.layer.role ch r ≡ o
-    → (ses : Option ℕ) → e.session ≡ ses → KeptAt n e.layer.role (after_refusal e d r ch o) y te ty (unless_refused o (carried e.layer.role d r (front ch.traffic) b) b)
-request_on n e y te ty b d r ch k facts found o refused (Some s) up =
-    on_one n e y te ty b s d ch (owing (unless o (carried_out ch r) ch)) (unless o (carried_out ch r) ch).channel (after_step e.layer d (unless o (carried_out ch r) ch)) (λ c st. cond (c == d) (requested_history e.layer.role ch r st) st) e.accepted
-    (λ st. told_of o r ch st) (λ v. unless_refused o (carried e.layer.role d r (front ch.traffic) v) v) NoCalls k facts up found refl refl refl refl
+request_on : (n : ℕ) (e y : End) (te ty : ℕ) (b : Book) (cs : List (Option ℕ)) (d : ℕ) (r : Request) (ch : Channel) → KeptAt n e.layer.role e y te ty b cs → Facts n e y → channel_of e.layer d ≡ Some ch → (o : Option Refusal) → refusal e.layer.role ch r ≡ o
+    → (ses : Option ℕ) → e.session ≡ ses → KeptAt n e.layer.role (after_refusal e d r ch o) y te ty (unless_refused o (carried e.layer.role d r (front ch.traffic) b) b) cs
+request_on n e y te ty b cs d r ch k facts found o refused (Some s) up =
+    on_one n e y te ty b cs s d ch (owing (unless o (carried_out ch r) ch)) (unless o (carried_out ch r) ch).channel (after_step e.layer d (unless o (carried_out ch r) ch)) (λ c st. cond (c == d) (requested_history e.layer.role ch r st) st) e.accepted
+    (λ st. told_of o r ch st) (λ v. unless_refused o (carried e.layer.role d r (front ch.traffic) v) v) (λ v l. l) NoCalls k facts up found refl refl refl refl
     (λ st. here_history d (requested_history e.layer.role ch r st) st ∙ told_is e.layer.role ch r st ∙ ap (λ (z : Option Refusal). told_of z r ch st) refused) (λ c st h. else_history c d (requested_history e.layer.role ch r st) st h) (same_rises e)
     (λ parts c h. absurd c) (asked_any e.layer.role d ch r o refused)
-request_on n e y te ty b d r ch k facts found o refused None none =
-    none_step n e y te ty b d ch (owing (unless o (carried_out ch r) ch)) (after_step e.layer d (unless o (carried_out ch r) ch)) (λ c st. cond (c == d) (requested_history e.layer.role ch r st) st) k none
-    (no_session n e y te ty b d ch k found none) found refl refl refl (λ st. told_of o r ch st) (λ v. unless_refused o (carried e.layer.role d r (front ch.traffic) v) v)
-    (owed_same e.layer.role d ch (unless o (carried_out ch r) ch) (λ st. told_of o r ch st) (λ v. unless_refused o (carried e.layer.role d r (front ch.traffic) v) v) (asked_any e.layer.role d ch r o refused))
+request_on n e y te ty b cs d r ch k facts found o refused None none =
+    none_step n e y te ty b cs d ch (owing (unless o (carried_out ch r) ch)) (after_step e.layer d (unless o (carried_out ch r) ch)) (λ c st. cond (c == d) (requested_history e.layer.role ch r st) st) k none
+    (no_session n e y te ty b cs d ch k found none) found refl refl refl (λ st. told_of o r ch st) (λ v. unless_refused o (carried e.layer.role d r (front ch.traffic) v) v) (λ v l. l)
+    (owed_same e.layer.role d ch (unless o (carried_out ch r) ch) (λ st. told_of o r ch st) (λ v. unless_refused o (carried e.layer.role d r (front ch.traffic) v) v) (λ v l. l) (asked_any e.layer.role d ch r o refused))
 
-request_found : (n : ℕ) (e y : End) (te ty : ℕ) (b : Book) (d : ℕ) (r : Request) → KeptAt n e.layer.role e y te ty b → Facts n e y → (o : Option Channel) → channel_of e.layer d ≡ o
-    → KeptAt n e.layer.role (after_request e d r o) y te ty (unless_refused (refusal_at e.layer.role r o) (carried e.layer.role d r (front_at o) b) b)
-request_found n e y te ty b d r k facts None found =
-    still n e y te ty b e.layer (λ c st. cond (c == d) st st) e.accepted k (λ c. refl) (λ c st. either_way (λ (z : History). SameHistory st z) (c == d) st st (history_refl st) (history_refl st)) (same_rises e) refl
+request_found : (n : ℕ) (e y : End) (te ty : ℕ) (b : Book) (cs : List (Option ℕ)) (d : ℕ) (r : Request) → KeptAt n e.layer.role e y te ty b cs → Facts n e y → (o : Option Channel) → channel_of e.layer d ≡ o
+    → KeptAt n e.layer.role (after_request e d r o) y te ty (unless_refused (refusal_at e.layer.role r o) (carried e.layer.role d r (front_at o) b) b) cs
+request_found n e y te ty b cs d r k facts None found =
+    still n e y te ty b cs e.layer (λ c st. cond (c == d) st st) e.accepted k (λ c. refl) (λ c st. either_way (λ (z : History). SameHistory st z) (c == d) st st (history_refl st) (history_refl st)) (same_rises e) refl
     (same_end_is n e (after_request e d r None) k.here refl (same_rises e) refl refl refl)
-request_found n e y te ty b d r k facts (Some ch) found = request_on n e y te ty b d r ch k facts found (refusal e.layer.role ch r) refl e.session refl
+request_found n e y te ty b cs d r k facts (Some ch) found = request_on n e y te ty b cs d r ch k facts found (refusal e.layer.role ch r) refl e.session refl
 
-pub requests_kept : (n : ℕ) (e y : End) (te ty : ℕ) (b : Book) (d : ℕ) (r : Request) → KeptAt n e.layer.role e y te ty b → Facts n e y
-    → KeptAt n e.layer.role (after_request e d r (channel_of e.layer d)) y te ty (unless_refused (request_refusal e.layer d r) (carried e.layer.role d r (front_on e.layer d) b) b)
-requests_kept n e y te ty b d r k facts = request_found n e y te ty b d r k facts (channel_of e.layer d) refl
+pub requests_kept : (n : ℕ) (e y : End) (te ty : ℕ) (b : Book) (cs : List (Option ℕ)) (d : ℕ) (r : Request) → KeptAt n e.layer.role e y te ty b cs → Facts n e y
+    → KeptAt n e.layer.role (after_request e d r (channel_of e.layer d)) y te ty (unless_refused (request_refusal e.layer d r) (carried e.layer.role d r (front_on e.layer d) b) b) cs
+requests_kept n e y te ty b cs d r k facts = request_found n e y te ty b cs d r k facts (channel_of e.layer d) refl

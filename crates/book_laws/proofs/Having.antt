@@ -5,7 +5,7 @@ use Rattle.std.proofs.lemmas.Option.{slice_get_within}
 use Rattle.link_timers.specs.declared.role.Role.{Role}
 use Rattle.packet_laws.proofs.Line.LineHolds.{line_holds}
 use Rattle.call_records.specs.Book.{Book, slot_at, side_of}
-use Rattle.book_laws.specs.Told.{World, after_all, start}
+use Rattle.book_laws.specs.Told.{World, after_all, all_callers, start, made_callers}
 use Rattle.book_laws.specs.Headline.{IsOpenHere, HaveRecords, RecordsLaw}
 use Rattle.book_laws.proofs.Basics.{get_there}
 use Rattle.book_laws.proofs.Invariant.{EndView, Tag, IsRight, book_parts}
@@ -35,7 +35,7 @@ module _ (views : Role → EndView) (b : Book) (tags : List Tag) (w : IsRight vi
 pub have_records : RecordsLaw
 have_records dte_node dce_node channels window standing some small ms allowed =
     let w : World = after_all ms (start dte_node dce_node channels window standing) in
-    let k : KeptIn channels w =
-    (all_kept channels ms (start dte_node dce_node channels window standing) (start_kept dte_node dce_node channels window standing some)
+    let k : KeptIn channels w (all_callers ms (start dte_node dce_node channels window standing) (made_callers standing)) =
+    (all_kept channels ms (start dte_node dce_node channels window standing) (made_callers standing) (start_kept dte_node dce_node channels window standing some)
     (λ hs. (line_holds channels window standing some small hs).0) allowed).0 in
     right_records _ w.book k.tags k.right

@@ -121,6 +121,15 @@ pub record Tag : Type 0 where
   pub own : Option (List ℕ)
   pub far : Option (List ℕ)
 
+-- the record of the end that placed the call, where it came in
+abbrev pub placed_of : Kind → Option ℕ
+placed_of Caller = None
+placed_of (Callee caller) = Some caller
+placed_of Cancelled = None
+
+abbrev pub came_from : Tag → Option ℕ
+came_from t = placed_of t.kind
+
 abbrev pub IsLive : Kind → Type 0
 IsLive kind = kind ≢ Cancelled
 

@@ -14,9 +14,9 @@ use Rattle.packet_laws.specs.Line.Event.{Up, Down, Calls, Requests, Expires, Off
 use Rattle.packet_laws.specs.Line.Happening.{Here, There}
 use Rattle.call_records.specs.Records.{RecordValue, with_step}
 use Rattle.call_records.specs.Book.{Book, Slot, slot_at, edits, all_told, with_change}
-use Rattle.book_laws.specs.Told.{World, Move, notes_in, notes_by_packet, written, top_after, after_move, after_all, InOrder, IsAllowed, AreAllowed}
+use Rattle.book_laws.specs.Told.{World, Move, all_came_by, callers_by, callers_after, all_callers, notes_in, notes_by_packet, written, top_after, after_move, after_all, InOrder, IsAllowed, AreAllowed}
 use Rattle.book_laws.specs.Told.Move.{Happens, Edits}
-use Rattle.book_laws.specs.Headline.{BookHolds}
+use Rattle.book_laws.specs.Headline.{BookHolds, CallsHold}
 use Rattle.book_laws.proofs.Basics.{all_same, get_changed}
 use Rattle.book_laws.proofs.Presence.{kept_open, moved_open}
 use Rattle.book_laws.proofs.Invariant.{EndView, ChannelUse, IsRight, book_parts, answered_at, epoch_at}
@@ -29,45 +29,45 @@ use Rattle.book_laws.proofs.Ends.{quiet_step}
 use Rattle.book_laws.proofs.Events.{requests_kept, begun_rises, same_rises, same_end_is}
 use Rattle.book_laws.proofs.Placing.{calls_given, timer_runs, down_kept, up_kept}
 use Rattle.book_laws.proofs.Coming.{accepts_kept}
-use Rattle.book_laws.proofs.Concluding.{LineSays, concluded}
+use Rattle.book_laws.proofs.Concluding.{LineSays, concluded, calls_concluded}
 
 -- ---- an event at `me`
 
-up_by : (n : ℕ) (e y : End) (te ty : ℕ) (b : Book) (s : ℕ) (v : Bool) → KeptAt n e.layer.role e y te ty b → te ≤ s → may_begin s (record { me = e; you = y }) ≡ v
-    → KeptAt n e.layer.role (cond {A = Line} v (record { me = begun s e; you = y }) (record { me = e; you = y })).me y (cond v s te) ty (all_told e.layer.role (cond v (link_up e.layer).notes []) b)
-up_by n e y te ty b s true k le may = up_kept n e y te ty b s k le may
-up_by n e y te ty b s false k le may = k
+up_by : (n : ℕ) (e y : End) (te ty : ℕ) (b : Book) (cs : List (Option ℕ)) (s : ℕ) (v : Bool) → KeptAt n e.layer.role e y te ty b cs → te ≤ s → may_begin s (record { me = e; you = y }) ≡ v
+    → KeptAt n e.layer.role (cond {A = Line} v (record { me = begun s e; you = y }) (record { me = e; you = y })).me y (cond v s te) ty (all_told e.layer.role (cond v (link_up e.layer).notes []) b) (all_came_by e.layer.role (cond v (link_up e.layer).notes []) b cs)
+up_by n e y te ty b cs s true k le may = up_kept n e y te ty b cs s k le may
+up_by n e y te ty b cs s false k le may = k
 
-offers_by : (n : ℕ) (e y : End) (te ty : ℕ) (b : Book) (o : Option ℕ) → KeptAt n e.layer.role e y te ty b → KeptAt n e.layer.role (offers o e) y te ty b
-offers_by n e y te ty b None k = k
-offers_by n e y te ty b (Some s) k =
+offers_by : (n : ℕ) (e y : End) (te ty : ℕ) (b : Book) (cs : List (Option ℕ)) (o : Option ℕ) → KeptAt n e.layer.role e y te ty b cs → KeptAt n e.layer.role (offers o e) y te ty b cs
+offers_by n e y te ty b cs None k = k
+offers_by n e y te ty b cs (Some s) k =
     let l = next_same e.layer.role e.layer in
-    quiet_step n e.layer.role e (offers (Some s) e) y te ty b k (record {
+    quiet_step n e.layer.role e (offers (Some s) e) y te ty b cs k (record {
       session = refl;
       status = l.status;
       history = λ i c. history_refl (e.histories i c);
       begun = begun_rises e.layer.role e (offers (Some s) e) (same_rises e) l.count;
     }) (same_end_is n e (offers (Some s) e) k.here refl (same_rises e) l.role l.phase l.count)
 
-accepts_by : (n : ℕ) (e y : End) (te ty : ℕ) (b : Book) (s : ℕ) (o : Option Packet) → KeptAt n e.layer.role e y te ty b → Facts n e y → e.session ≡ Some s → next_of_session (record { me = e; you = y }) s ≡ o → ty ≤ s
-    → KeptAt n e.layer.role (accepts s o e) y te ty (all_told e.layer.role (notes_by_packet e.layer o) b)
-accepts_by n e y te ty b s None k facts up next order = k
-accepts_by n e y te ty b s (Some p) k facts up next order = accepts_kept n e y te ty b s p k facts up next order
+accepts_by : (n : ℕ) (e y : End) (te ty : ℕ) (b : Book) (cs : List (Option ℕ)) (s : ℕ) (o : Option Packet) → KeptAt n e.layer.role e y te ty b cs → Facts n e y → e.session ≡ Some s → next_of_session (record { me = e; you = y }) s ≡ o → ty ≤ s
+    → KeptAt n e.layer.role (accepts s o e) y te ty (all_told e.layer.role (notes_by_packet e.layer o) b) (all_came_by e.layer.role (notes_by_packet e.layer o) b cs)
+accepts_by n e y te ty b cs s None k facts up next order = k
+accepts_by n e y te ty b cs s (Some p) k facts up next order = accepts_kept n e y te ty b cs s p k facts up next order
 
-arrives_by : (n : ℕ) (e y : End) (te ty : ℕ) (b : Book) (o : Option ℕ) → KeptAt n e.layer.role e y te ty b → Facts n e y → e.session ≡ o → InOrder Arrives o te ty
-    → KeptAt n e.layer.role (arrives_in o (record { me = e; you = y })).me y te ty (all_told e.layer.role (notes_in o (record { me = e; you = y })) b)
-arrives_by n e y te ty b None k facts up order = k
-arrives_by n e y te ty b (Some s) k facts up order = accepts_by n e y te ty b s (next_of_session (record { me = e; you = y }) s) k facts up refl order
+arrives_by : (n : ℕ) (e y : End) (te ty : ℕ) (b : Book) (cs : List (Option ℕ)) (o : Option ℕ) → KeptAt n e.layer.role e y te ty b cs → Facts n e y → e.session ≡ o → InOrder Arrives o te ty
+    → KeptAt n e.layer.role (arrives_in o (record { me = e; you = y })).me y te ty (all_told e.layer.role (notes_in o (record { me = e; you = y })) b) (all_came_by e.layer.role (notes_in o (record { me = e; you = y })) b cs)
+arrives_by n e y te ty b cs None k facts up order = k
+arrives_by n e y te ty b cs (Some s) k facts up order = accepts_by n e y te ty b cs s (next_of_session (record { me = e; you = y }) s) k facts up refl order
 
-pub event_kept : (n : ℕ) (e y : End) (te ty : ℕ) (b : Book) (event : Event) → KeptAt n e.layer.role e y te ty b → Facts n e y → InOrder event e.session te ty
-    → KeptAt n e.layer.role (happens event (record { me = e; you = y })).me y (top_after event (record { me = e; you = y }) te) ty (written e.layer.role event (record { me = e; you = y }) b)
-event_kept n e y te ty b (Up s) k facts order = up_by n e y te ty b s (may_begin s (record { me = e; you = y })) k order refl
-event_kept n e y te ty b Down k facts order = down_kept n e y te ty b k
-event_kept n e y te ty b (Calls parts) k facts order = calls_given n e y te ty b parts k facts (channel_given e.layer e.layer.phase) refl
-event_kept n e y te ty b (Requests d r) k facts order = requests_kept n e y te ty b d r k facts
-event_kept n e y te ty b (Expires t) k facts order = timer_runs n e y te ty b t k facts (runs e.layer t) refl
-event_kept n e y te ty b Offers k facts order = offers_by n e y te ty b e.session k
-event_kept n e y te ty b Arrives k facts order = arrives_by n e y te ty b e.session k facts refl order
+pub event_kept : (n : ℕ) (e y : End) (te ty : ℕ) (b : Book) (cs : List (Option ℕ)) (event : Event) → KeptAt n e.layer.role e y te ty b cs → Facts n e y → InOrder event e.session te ty
+    → KeptAt n e.layer.role (happens event (record { me = e; you = y })).me y (top_after event (record { me = e; you = y }) te) ty (written e.layer.role event (record { me = e; you = y }) b) (callers_by e.layer.role event (record { me = e; you = y }) b cs)
+event_kept n e y te ty b cs (Up s) k facts order = up_by n e y te ty b cs s (may_begin s (record { me = e; you = y })) k order refl
+event_kept n e y te ty b cs Down k facts order = down_kept n e y te ty b cs k
+event_kept n e y te ty b cs (Calls parts) k facts order = calls_given n e y te ty b cs parts k facts (channel_given e.layer e.layer.phase) refl
+event_kept n e y te ty b cs (Requests d r) k facts order = requests_kept n e y te ty b cs d r k facts
+event_kept n e y te ty b cs (Expires t) k facts order = timer_runs n e y te ty b cs t k facts (runs e.layer t) refl
+event_kept n e y te ty b cs Offers k facts order = offers_by n e y te ty b cs e.session k
+event_kept n e y te ty b cs Arrives k facts order = arrives_by n e y te ty b cs e.session k facts refl order
 
 -- the other end stays as it is
 arrives_you : (o : Option ℕ) (w : Line) → (arrives_in o w).you ≡ w.you
@@ -84,13 +84,13 @@ happens_you Offers w = refl
 happens_you Arrives w = arrives_you w.me.session w
 
 -- at an end of this role
-event_at : (n : ℕ) (x : Role) (e y : End) (te ty : ℕ) (b : Book) (event : Event) → KeptAt n x e y te ty b → Facts n e y → InOrder event e.session te ty
-    → KeptAt n x (happens event (record { me = e; you = y })).me (happens event (record { me = e; you = y })).you (top_after event (record { me = e; you = y }) te) ty (written x event (record { me = e; you = y }) b)
-event_at n x e y te ty b event k facts order =
+event_at : (n : ℕ) (x : Role) (e y : End) (te ty : ℕ) (b : Book) (cs : List (Option ℕ)) (event : Event) → KeptAt n x e y te ty b cs → Facts n e y → InOrder event e.session te ty
+    → KeptAt n x (happens event (record { me = e; you = y })).me (happens event (record { me = e; you = y })).you (top_after event (record { me = e; you = y }) te) ty (written x event (record { me = e; you = y }) b) (callers_by x event (record { me = e; you = y }) b cs)
+event_at n x e y te ty b cs event k facts order =
     let w : Line = record { me = e; you = y } in
-    subst (λ (z : End). KeptAt n x (happens event w).me z (top_after event w te) ty (written x event w b)) (sym (happens_you event w))
-    (subst (λ (r : Role). KeptAt n r (happens event w).me y (top_after event w te) ty (written r event w b)) k.here.role
-    (event_kept n e y te ty b event (subst (λ (r : Role). KeptAt n r e y te ty b) (sym k.here.role) k) facts order))
+    subst (λ (z : End). KeptAt n x (happens event w).me z (top_after event w te) ty (written x event w b) (callers_by x event w b cs)) (sym (happens_you event w))
+    (subst (λ (r : Role). KeptAt n r (happens event w).me y (top_after event w te) ty (written r event w b) (callers_by r event w b cs)) k.here.role
+    (event_kept n e y te ty b cs event (subst (λ (r : Role). KeptAt n r e y te ty b cs) (sym k.here.role) k) facts order))
 
 -- ---- the two ends change places
 
@@ -101,18 +101,20 @@ turned_views e y te ty = all_same (views_of Dte e y te ty) (views_of Dce y e ty 
     by_role Dte = refl
     by_role Dce = refl
 
-turned_there : (n : ℕ) (e y : End) (te ty : ℕ) (b : Book) → KeptAt n Dte e y te ty b → KeptAt n Dce y e ty te b
-turned_there n e y te ty b k = record {
+turned_there : (n : ℕ) (e y : End) (te ty : ℕ) (b : Book) (cs : List (Option ℕ)) → KeptAt n Dte e y te ty b cs → KeptAt n Dce y e ty te b cs
+turned_there n e y te ty b cs k = record {
   tags = k.tags;
+  callers = k.callers;
   right = subst (λ (f : Role → EndView). IsRight f (book_parts b) k.tags) (turned_views e y te ty) k.right;
   sizes = k.sizes;
   here = k.there;
   there = k.here;
 }
 
-turned_back : (n : ℕ) (e y : End) (te ty : ℕ) (b : Book) → KeptAt n Dce y e ty te b → KeptAt n Dte e y te ty b
-turned_back n e y te ty b k = record {
+turned_back : (n : ℕ) (e y : End) (te ty : ℕ) (b : Book) (cs : List (Option ℕ)) → KeptAt n Dce y e ty te b cs → KeptAt n Dte e y te ty b cs
+turned_back n e y te ty b cs k = record {
   tags = k.tags;
+  callers = k.callers;
   right = subst (λ (f : Role → EndView). IsRight f (book_parts b) k.tags) (sym (turned_views e y te ty)) k.right;
   sizes = k.sizes;
   here = k.there;
@@ -134,8 +136,8 @@ step_kept (Some m) step b n r' e =
       ],
     )
 
-edit_kept : (n : ℕ) (e y : End) (te ty : ℕ) (b : Book) (role : Role) (channel : ℕ) (step : Step) → KeptAt n Dte e y te ty b → KeptAt n Dte e y te ty (edits role channel step b)
-edit_kept n e y te ty b role channel step k =
+edit_kept : (n : ℕ) (e y : End) (te ty : ℕ) (b : Book) (cs : List (Option ℕ)) (role : Role) (channel : ℕ) (step : Step) → KeptAt n Dte e y te ty b cs → KeptAt n Dte e y te ty (edits role channel step b) cs
+edit_kept n e y te ty b cs role channel step k =
     let o : Option ℕ = (slot_at role channel b).present in
     let b' : Book = edits role channel step b in
     let closed : Closes Dte b b' = record {
@@ -151,6 +153,7 @@ edit_kept n e y te ty b role channel step k =
     } in
     record {
       tags = k.tags;
+      callers = k.callers;
       right = end_step Dte e e y te te ty b b' k.tags (record {
         epochs = λ s c r u g. refl;
         begun = λ z h. h;
@@ -191,24 +194,24 @@ facts_there n w law = record {
   call = λ s c parts lo hi a. (law [] s c lo hi).call_there parts a;
 }
 
-abbrev pub KeptIn : ℕ → World → Type 0
-KeptIn n v = KeptAt n Dte v.line.me v.line.you v.top_me v.top_you v.book
+abbrev pub KeptIn : ℕ → World → List (Option ℕ) → Type 0
+KeptIn n v cs = KeptAt n Dte v.line.me v.line.you v.top_me v.top_you v.book cs
 
-move_kept : (n : ℕ) (m : Move) (v : World) → KeptIn n v → Laws n v.line → IsAllowed m v → KeptIn n (after_move m v)
-move_kept n (Happens (Here event)) v k law a = event_at n Dte v.line.me v.line.you v.top_me v.top_you v.book event k (facts_here n v.line law) a
-move_kept n (Happens (There event)) v k law a =
-    turned_back n (happens event (turned v.line)).you (happens event (turned v.line)).me v.top_me (top_after event (turned v.line) v.top_you) (written Dce event (turned v.line) v.book)
-    (event_at n Dce v.line.you v.line.me v.top_you v.top_me v.book event (turned_there n v.line.me v.line.you v.top_me v.top_you v.book k) (facts_there n v.line law) a)
-move_kept n (Edits role channel step) v k law a = edit_kept n v.line.me v.line.you v.top_me v.top_you v.book role channel step k
+move_kept : (n : ℕ) (m : Move) (v : World) (cs : List (Option ℕ)) → KeptIn n v cs → Laws n v.line → IsAllowed m v → KeptIn n (after_move m v) (callers_after m v cs)
+move_kept n (Happens (Here event)) v cs k law a = event_at n Dte v.line.me v.line.you v.top_me v.top_you v.book cs event k (facts_here n v.line law) a
+move_kept n (Happens (There event)) v cs k law a =
+    turned_back n (happens event (turned v.line)).you (happens event (turned v.line)).me v.top_me (top_after event (turned v.line) v.top_you) (written Dce event (turned v.line) v.book) (callers_by Dce event (turned v.line) v.book cs)
+    (event_at n Dce v.line.you v.line.me v.top_you v.top_me v.book cs event (turned_there n v.line.me v.line.you v.top_me v.top_you v.book cs k) (facts_there n v.line law) a)
+move_kept n (Edits role channel step) v cs k law a = edit_kept n v.line.me v.line.you v.top_me v.top_you v.book cs role channel step k
 
 move_laws : (n : ℕ) (m : Move) (v : World) → Laws n v.line → Laws n (after_move m v).line
 move_laws n (Happens (Here event)) v law = λ hs. law (Here event ∷ hs)
 move_laws n (Happens (There event)) v law = λ hs. law (There event ∷ hs)
 move_laws n (Edits role channel step) v law = law
 
-pub all_kept : (n : ℕ) (ms : List Move) (v : World) → KeptIn n v → Laws n v.line → AreAllowed ms v → KeptIn n (after_all ms v) × Laws n (after_all ms v).line
-all_kept n [] v k law a = (k, law)
-all_kept n (m ∷ ms) v k law a = all_kept n ms (after_move m v) (move_kept n m v k law a.0) (move_laws n m v law) a.1
+pub all_kept : (n : ℕ) (ms : List Move) (v : World) (cs : List (Option ℕ)) → KeptIn n v cs → Laws n v.line → AreAllowed ms v → KeptIn n (after_all ms v) (all_callers ms v cs) × Laws n (after_all ms v).line
+all_kept n [] v cs k law a = (k, law)
+all_kept n (m ∷ ms) v cs k law a = all_kept n ms (after_move m v) (callers_after m v cs) (move_kept n m v cs k law a.0) (move_laws n m v law) a.1
 
 -- ---- what the line says of the uses that may have a call
 
@@ -251,6 +254,13 @@ says_of n e y te ty here there law = record {
         ap (λ (a : Bool). a || answered_at (view_of Dte e te) k) (w.there.one_call.answered k.restart k.use_ 0 g) ∙ ap (λ (a : Bool). ((y.histories k.session k.channel).epochs k.restart k.use_ g).answered || a) (w.here.one_call.answered k.restart k.use_ 0 g)
         ∙ w.answers_there.answered k.restart k.use_ g some
 
-pub kept_holds : (n : ℕ) (v : World) → KeptIn n v → Laws n v.line → BookHolds v.book
-kept_holds n v k law = concluded (views_of Dte v.line.me v.line.you v.top_me v.top_you) v.book k.tags k.right
+pub kept_holds : (n : ℕ) (v : World) (cs : List (Option ℕ)) → KeptIn n v cs → Laws n v.line → BookHolds v.book
+kept_holds n v cs k law = concluded (views_of Dte v.line.me v.line.you v.top_me v.top_you) v.book k.tags k.right
     (says_of n v.line.me v.line.you v.top_me v.top_you k.here.count k.there.count (λ s c lo hi. law [] s c lo hi))
+
+-- and each call that came in holds as a pair does
+pub kept_calls : (n : ℕ) (v : World) (cs : List (Option ℕ)) → KeptIn n v cs → Laws n v.line → CallsHold v.book cs
+kept_calls n v cs k law =
+    subst (λ (l : List (Option ℕ)). CallsHold v.book l) k.callers
+    (calls_concluded (views_of Dte v.line.me v.line.you v.top_me v.top_you) v.book k.tags k.right
+    (says_of n v.line.me v.line.you v.top_me v.top_you k.here.count k.there.count (λ s c lo hi. law [] s c lo hi)))

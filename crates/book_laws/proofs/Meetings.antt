@@ -1,5 +1,5 @@
 -- What a collision at the DCE and the acceptance of a call make of the book.
-use Rattle.std.specs.Prelude.{◌≡◌, ◌≢◌, ℕ, ◌⊎◌, true, false, cond, ◌==◌, List, [], ◌∷◌, ◌++◌, length, set, is_some, Option, Some, None}
+use Rattle.std.specs.Prelude.{◌≡◌, ◌≢◌, ℕ, ◌⊎◌, true, false, cond, ◌==◌, List, [], ◌∷◌, ◌++◌, length, map, set, is_some, Option, Some, None}
 use Rattle.std.proofs.Common.{inl, inr, refl, sym, ap, subst, ◌∙◌, arith}
 use Rattle.std.specs.Option.{IsSome}
 use Rattle.std.proofs.lemmas.Option.{same_Some}
@@ -11,9 +11,9 @@ use Rattle.packet_laws.specs.History.{Epoch, History, call_accepted, with_answer
 use Rattle.packet_laws.specs.Line.{End}
 use Rattle.call_records.specs.Records.{RecordValue, PairValue, new_record}
 use Rattle.call_records.specs.Book.{Book, Slot, slot_at, with_record, answers, with_pair, comes, closes, address_of}
-use Rattle.book_laws.proofs.Basics.{number_is, eq_true, by_true, by_false, dte_not_dce}
+use Rattle.book_laws.proofs.Basics.{map_set, number_is, eq_true, by_true, by_false, dte_not_dce}
 use Rattle.std.proofs.lemmas.Bool.{ne_eqb}
-use Rattle.book_laws.proofs.Invariant.{CallStatus, ChannelUse, Tag, BookParts, book_parts, Present, SlotIs, IsRight, epoch_at, called_at, answered_at, now, sent_of, taken_of, nothing_passed}
+use Rattle.book_laws.proofs.Invariant.{CallStatus, ChannelUse, Tag, came_from, placed_of, BookParts, book_parts, Present, SlotIs, IsRight, epoch_at, called_at, answered_at, now, sent_of, taken_of, nothing_passed}
 use Rattle.book_laws.proofs.Invariant.CallStatus.{Idle, OwnCall, FarCall, Open}
 use Rattle.book_laws.proofs.Invariant.Kind.{Caller, Callee}
 use Rattle.book_laws.proofs.Calling.{coming_right, channel_use_is}
@@ -74,16 +74,17 @@ module _ (e e' y : End) (s d te ty : ℕ) (parts : CallParts) (b : Book) (tags :
   }
 
   abbrev Between : Type 0
-  Between = (tags' : List Tag) × IsRight (with_statuses (between e y d) (views_of Dce e y te ty)) (book_parts (closes Dce d b)) tags'
+  Between = (tags' : List Tag) × (map came_from tags' ≡ map came_from tags) × IsRight (with_statuses (between e y d) (views_of Dce e y te ty)) (book_parts (closes Dce d b)) tags'
 
   meets : Between
   meets = (
     set tags cancels.own.number (cancelled_tag cancels.own.tag),
+    map_set came_from tags cancels.own.number cancels.own.tag (cancelled_tag cancels.own.tag) cancels.own.there (sym (ap placed_of cancels.kind)),
     subst (λ (v : BookParts). IsRight (with_statuses (between e y d) (views_of Dce e y te ty)) v (set tags cancels.own.number (cancelled_tag cancels.own.tag))) (book_parts_same b (closes Dce d b) (closes_one Dce d b).pairs (closes_one Dce d b).size.node)
         (cancelled_right Dce d (views_of Dce e y te ty) (between e y d) (book_parts b) (book_parts (closes Dce d b)).slots (closes Dce d b).records tags w cancels),
   )
 
-  pub collide_step : (tags' : List Tag) × IsRight (views_of Dce e' y te ty) (book_parts (comes Dce d parts (closes Dce d b))) tags'
+  pub collide_step : (tags' : List Tag) × (map came_from tags' ≡ map came_from tags ++ (slot_at Dte d (closes Dce d b)).placed ∷ []) × IsRight (views_of Dce e' y te ty) (book_parts (comes Dce d parts (closes Dce d b))) tags'
   collide_step =
       let m = meets in
       let b1 : Book = closes Dce d b in
@@ -91,7 +92,7 @@ module _ (e e' y : End) (s d te ty : ℕ) (parts : CallParts) (b : Book) (tags :
       let r0 : RecordValue = new_record (length b1.records) b1.dce.node (address_of parts.called) (address_of parts.calling) in
       let v : Book = with_record r0 b1 in
       let z : Slot = record { present = Some (length b1.records); placed = (slot_at Dce d b1).placed; caller = (slot_at Dte d b1).placed } in
-      let r = coming_right Dce s d parts (with_statuses (between e y d) (views_of Dce e y te ty)) (views_of Dce e' y te ty) (book_parts b1) (book_parts b').slots m.0 m.1 (record {
+      let r = coming_right Dce s d parts (with_statuses (between e y d) (views_of Dce e y te ty)) (views_of Dce e' y te ty) (book_parts b1) (book_parts b').slots m.0 m.2 (record {
         there = refl;
         here = come_adds Dce e e' y s d te ty parts b q (between e y d Dce) (between_here e y d) (between_else e y d);
         new = record { begun = q.new.begun; first = q.new.first; not_answered = q.new.not_answered; sent = q.new.sent; taken = q.new.taken };
@@ -105,7 +106,7 @@ module _ (e e' y : End) (s d te ty : ℕ) (parts : CallParts) (b : Book) (tags :
         slots_else = λ c h. slot_else Dce d c z v h;
         slots_there = λ c. refl;
       }) in
-      (r.0, subst (λ (sh : BookParts). IsRight (views_of Dce e' y te ty) sh r.0) (book_parts_same b1 b' refl (λ k. (size_slot Dce d z v).node k ∙ (size_record r0 b1).node k)) r.1)
+      (r.0, r.1 ∙ ap (λ (l : List (Option ℕ)). l ++ (slot_at Dte d b1).placed ∷ []) m.1, subst (λ (sh : BookParts). IsRight (views_of Dce e' y te ty) sh r.0) (book_parts_same b1 b' refl (λ k. (size_slot Dce d z v).node k ∙ (size_record r0 b1).node k)) r.2)
 
 -- ---- an end accepts a call
 

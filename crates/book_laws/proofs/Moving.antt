@@ -1,5 +1,5 @@
 -- A step on one channel of an end keeps the book right.
-use Rattle.std.specs.Prelude.{◌≡◌, ◌≢◌, ℕ, zero, suc, ◌≤◌, ◌⊎◌, Bool, true, false, ◌&&◌, List, length, slice_get, is_some, Option, Some, None}
+use Rattle.std.specs.Prelude.{◌≡◌, ◌≢◌, ℕ, zero, suc, ◌≤◌, ◌⊎◌, Bool, true, false, ◌&&◌, List, [], ◌∷◌, ◌++◌, length, map, slice_get, is_some, Option, Some, None}
 use Rattle.std.proofs.Common.{inl, inr, refl, sym, ap, subst, ◌∙◌, arith, true≢false}
 use Rattle.std.specs.Option.{IsSome}
 use Rattle.std.proofs.lemmas.Option.{none-some, same_Some}
@@ -18,7 +18,7 @@ use Rattle.packet_laws.specs.Line.{End}
 use Rattle.call_records.specs.Records.{RecordValue}
 use Rattle.call_records.specs.Book.{Book, slot_at, side_of, with_change, changed, answers, with_pair, closes, comes, with_record}
 use Rattle.book_laws.proofs.Basics.{number_is, order, dte_not_dce, get_changed}
-use Rattle.book_laws.proofs.Invariant.{EndView, CallStatus, ChannelUse, Tag, book_parts, Present, SlotIs, IsPast, IsRight, HasEpochs, called_at, now, sent_of, taken_of, sent_as, taken_as, IsWithin}
+use Rattle.book_laws.proofs.Invariant.{EndView, CallStatus, ChannelUse, Tag, came_from, book_parts, Present, SlotIs, IsPast, IsRight, HasEpochs, called_at, now, sent_of, taken_of, sent_as, taken_as, IsWithin}
 use Rattle.book_laws.proofs.Invariant.CallStatus.{Idle, OwnCall, FarCall, Open}
 use Rattle.book_laws.proofs.Carrying.{Grows}
 use Rattle.book_laws.proofs.Ending.{StandsStill, IsOver, Further}
@@ -37,8 +37,9 @@ pub record IsEnd (n : ℕ) (x : Role) (e : End) : Type 0 where
   pub count : length e.layer.channels ≡ n
   pub up : e.layer.phase ≡ PacketReady → (s : ℕ) × (e.session ≡ Some s) × (has_come e s ≡ true)
 
-pub record KeptAt (n : ℕ) (x : Role) (e y : End) (te ty : ℕ) (b : Book) : Type 0 where
+pub record KeptAt (n : ℕ) (x : Role) (e y : End) (te ty : ℕ) (b : Book) (cs : List (Option ℕ)) : Type 0 where
   pub tags : List Tag
+  pub callers : map came_from tags ≡ cs
   pub right : IsRight (views_of x e y te ty) (book_parts b) tags
   pub sizes : (z : Role) → length (side_of z b).slots ≡ n
   pub here : IsEnd n x e
@@ -143,7 +144,7 @@ slot_of x e y te ty b tags c w = view_here x e y te ty (λ f. SlotIs (f.status c
 pub top_of : (x : Role) (e y : End) (te ty : ℕ) (b : Book) (tags : List Tag) (s : ℕ) → IsRight (views_of x e y te ty) (book_parts b) tags → e.session ≡ Some s → s ≡ te
 top_of x e y te ty b tags s w = view_here x e y te ty (λ f. f.session ≡ Some s → s ≡ f.top) (w.tops x s)
 
-module _ (n : ℕ) (x : Role) (e e' y : End) (te ty : ℕ) (b : Book) (s d : ℕ) (ch ch' : Channel) (told : History → History) (came : CallParts → Type 0) (k : KeptAt n x e y te ty b) (facts : Facts n e y)
+module _ (n : ℕ) (x : Role) (e e' y : End) (te ty : ℕ) (b : Book) (cs : List (Option ℕ)) (s d : ℕ) (ch ch' : Channel) (told : History → History) (came : CallParts → Type 0) (k : KeptAt n x e y te ty b cs) (facts : Facts n e y)
     (q : ChannelStep n x e e' y s d ty ch ch' told came) where
   status_now : status_at x (channel_of e.layer d) ≡ status_of x ch.state
   status_now = ap (status_at x) q.found
@@ -167,9 +168,10 @@ module _ (n : ℕ) (x : Role) (e e' y : End) (te ty : ℕ) (b : Book) (s d : ℕ
   at_now P h a up = subst P (same_Some s a (sym q.on.up ∙ up)) h
 
   end_after : (b' : Book) → Closes x b b' → ((st : History) (r u g : ℕ) → (told st).epochs r u g ≡ st.epochs r u g)
-      → ((c : ℕ) → StandsStill (view_of x e te) (view_of x e' te) c (slot_at x c b) (slot_at x c b') ⊎ IsOver (view_of x e te) (view_of x e' te) c (slot_at x c b) (slot_at x c b')) → KeptAt n x e' y te ty b'
+      → ((c : ℕ) → StandsStill (view_of x e te) (view_of x e' te) c (slot_at x c b) (slot_at x c b') ⊎ IsOver (view_of x e te) (view_of x e' te) c (slot_at x c b) (slot_at x c b')) → KeptAt n x e' y te ty b' cs
   end_after b' closed same channels = record {
     tags = k.tags;
+    callers = k.callers;
     right = end_step x e e' y te te ty b b' k.tags (record {
       epochs = same_epochs same;
       begun = q.on.begun;
@@ -183,7 +185,7 @@ module _ (n : ℕ) (x : Role) (e e' y : End) (te ty : ℕ) (b : Book) (s d : ℕ
     there = k.there;
   }
 
-  stays_after : status_of x ch'.state ≡ status_of x ch.state → ((st : History) → SameHistory st (told st)) → KeptAt n x e' y te ty b
+  stays_after : status_of x ch'.state ≡ status_of x ch.state → ((st : History) → SameHistory st (told st)) → KeptAt n x e' y te ty b cs
   stays_after status same = end_after b (closes_none x b) (λ st. (same st).epochs)
       (λ c. elim (number_is c d) [
         | inl h ↦ inl (subst (λ (m : ℕ). StandsStill (view_of x e te) (view_of x e' te) m (slot_at x m b) (slot_at x m b)) (sym h) (record {
@@ -196,7 +198,7 @@ module _ (n : ℕ) (x : Role) (e e' y : End) (te ty : ℕ) (b : Book) (s d : ℕ
         | inr h ↦ inl (still b c h refl)
       ])
 
-  over_after : (b' : Book) → Closes x b b' → ((c : ℕ) → c ≢ d → slot_at x c b' ≡ slot_at x c b) → (slot_at x d b').present ≡ None → status_of x ch'.state ≡ Idle → ((st : History) → EndsUse st (told st)) → KeptAt n x e' y te ty b'
+  over_after : (b' : Book) → Closes x b b' → ((c : ℕ) → c ≢ d → slot_at x c b' ≡ slot_at x c b) → (slot_at x d b').present ≡ None → status_of x ch'.state ≡ Idle → ((st : History) → EndsUse st (told st)) → KeptAt n x e' y te ty b' cs
   over_after b' closed else none status uses = end_after b' closed (λ st. (uses st).epochs)
       (λ c. elim (number_is c d) [
         | inl h ↦ inr (subst (λ (m : ℕ). IsOver (view_of x e te) (view_of x e' te) m (slot_at x m b) (slot_at x m b')) (sym h) (record {
@@ -213,9 +215,10 @@ module _ (n : ℕ) (x : Role) (e e' y : End) (te ty : ℕ) (b : Book) (s d : ℕ
   -- a call goes on
   goes_after : (b' : Book) (p : Present (view_of x e te) k.tags x d (slot_at x d b)) → SlotIs (status_at x (channel_of e'.layer d)) (view_of x e te) k.tags x d (slot_at x d b) → HistoryGrows (e.histories s d) (told (e.histories s d)) → length b'.records ≡ length b.records
       → ((m : ℕ) (r' : RecordValue) → slice_get b'.records m ≡ Some r' → (r : RecordValue) × (slice_get b.records m ≡ Some r) × (((m ≡ p.number) × Grows (view_of x e te) (view_of x e' te) p.session d r r') ⊎ ((m ≢ p.number) × (r' ≡ r))))
-      → record (book_parts b) { records = b'.records } ≡ book_parts b' → SameSize b b' → KeptAt n x e' y te ty b'
+      → record (book_parts b) { records = b'.records } ≡ book_parts b' → SameSize b b' → KeptAt n x e' y te ty b' cs
   goes_after b' p opens grows count kept parts size = record {
     tags = k.tags;
+    callers = k.callers;
     right = carry_step x e e' y s d te ty b b' k.tags k.right p (record { on = q.on; opens = opens; history = subst (λ (z : History). HistoryGrows (e.histories s d) z) (sym q.history) grows; count = count; kept = kept }) parts;
     sizes = sized n b b' size k.sizes;
     here = q.end_is;
@@ -251,7 +254,7 @@ module _ (n : ℕ) (x : Role) (e e' y : End) (te ty : ℕ) (b : Book) (s d : ℕ
         ],
       )
 
-  changed_after : (change : RecordValue → RecordValue) → status_of x ch.state ≡ Open → status_of x ch'.state ≡ Open → ((st : History) → HistoryGrows st (told st)) → ((st : History) (r : RecordValue) → RecordGrows st (told st) r (change r)) → KeptAt n x e' y te ty (changed x d change b)
+  changed_after : (change : RecordValue → RecordValue) → status_of x ch.state ≡ Open → status_of x ch'.state ≡ Open → ((st : History) → HistoryGrows st (told st)) → ((st : History) (r : RecordValue) → RecordGrows st (told st) r (change r)) → KeptAt n x e' y te ty (changed x d change b) cs
   changed_after change m m' grows rgrows =
       let o : Option ℕ = (slot_at x d b).present in
       let open_ = subst (λ (z : CallStatus). SlotIs z (view_of x e te) k.tags x d (slot_at x d b)) (status_now ∙ m) (slot_of x e y te ty b k.tags d k.right) in
@@ -279,7 +282,7 @@ module _ (n : ℕ) (x : Role) (e e' y : End) (te ty : ℕ) (b : Book) (s d : ℕ
     logs = λ r u g other. h.epochs r u g;
   }
 
-  connects_after : status_of x ch.state ≡ OwnCall → status_of x ch'.state ≡ Open → ((st : History) → SameHistory st (told st)) → KeptAt n x e' y te ty b
+  connects_after : status_of x ch.state ≡ OwnCall → status_of x ch'.state ≡ Open → ((st : History) → SameHistory st (told st)) → KeptAt n x e' y te ty b cs
   connects_after m m' same =
       let w = subst (λ (z : CallStatus). SlotIs z (view_of x e te) k.tags x d (slot_at x d b)) (status_now ∙ m) (slot_of x e y te ty b k.tags d k.right) in
       goes_after b w.0 (subst (λ (z : CallStatus). SlotIs z (view_of x e te) k.tags x d (slot_at x d b)) (sym (q.found_after ∙ m')) (w.0, λ a e. absurd (none-some a (sym w.2 ∙ e)), λ none. w.1)) (same_grows (e.histories s d) (told (e.histories s d)) (same (e.histories s d))) refl
@@ -292,9 +295,10 @@ module _ (n : ℕ) (x : Role) (e e' y : End) (te ty : ℕ) (b : Book) (s d : ℕ
         ],
       )) refl (size_refl b)
 
-  answers_after : status_of x ch.state ≡ FarCall → status_of x ch'.state ≡ Open → ((st : History) → told st ≡ call_accepted st) → KeptAt n x e' y te ty (answers x d b)
+  answers_after : status_of x ch.state ≡ FarCall → status_of x ch'.state ≡ Open → ((st : History) → told st ≡ call_accepted st) → KeptAt n x e' y te ty (answers x d b) cs
   answers_after m m' history = record {
     tags = k.tags;
+    callers = k.callers;
     right = answer_step x e e' y s d te ty b k.tags (record {
       on = q.on;
       far = status_now ∙ m;
@@ -350,45 +354,51 @@ module _ (n : ℕ) (x : Role) (e e' y : End) (te ty : ℕ) (b : Book) (s d : ℕ
         most = let h = k.sizes x in let l = q.most in omega arith;
       }
 
-  comes_after : (parts : CallParts) → came parts → ch.state ≡ Ready → status_of x ch'.state ≡ FarCall → ((st : History) → SameHistory st (told st)) → KeptAt n x e' y te ty (comes x d parts b)
+  comes_after : (parts : CallParts) → came parts → ch.state ≡ Ready → status_of x ch'.state ≡ FarCall → ((st : History) → SameHistory st (told st)) → KeptAt n x e' y te ty (comes x d parts b) (cs ++ (slot_at (other_of x) d b).placed ∷ [])
   comes_after parts c ready m' same =
       let arrival = q.arrival parts c (inl ready) in
       let unused : IsUnused (e.histories s d) = subst (λ (z : CallState). InUse x z (e.histories s d)) ready use_now in
       let r = come_step x e e' y s d te ty parts b k.tags (come_at parts arrival (new_use unused arrival.come) m' same) (status_now ∙ ap (status_of x) ready) unused k.right in
-      record { tags = r.0; right = r.1; sizes = sized n b (comes x d parts b) (comes_size x d parts b) k.sizes; here = q.end_is; there = k.there }
+      record { tags = r.0; callers = r.1 ∙ ap (λ (l : List (Option ℕ)). l ++ (slot_at (other_of x) d b).placed ∷ []) k.callers; right = r.2; sizes = sized n b (comes x d parts b) (comes_size x d parts b) k.sizes; here = q.end_is; there = k.there }
 
-pub collides_after : (n : ℕ) (x : Role) (e e' y : End) (te ty : ℕ) (b : Book) (s d : ℕ) (ch ch' : Channel) (told : History → History) (came : CallParts → Type 0) → KeptAt n x e y te ty b → Facts n e y → ChannelStep n x e e' y s d ty ch ch' told came
-    → (parts : CallParts) → came parts → x ≡ Dce → ch.state ≡ OwnWaiting → status_of x ch'.state ≡ FarCall → ((st : History) → SameHistory st (told st)) → KeptAt n x e' y te ty (comes x d parts (closes x d b))
-collides_after n Dte e e' y te ty b s d ch ch' told came k facts q parts c role own m' same = absurd (dte_not_dce role)
-collides_after n Dce e e' y te ty b s d ch ch' told came k facts q parts c role own m' same =
+pub collides_after : (n : ℕ) (x : Role) (e e' y : End) (te ty : ℕ) (b : Book) (cs : List (Option ℕ)) (s d : ℕ) (ch ch' : Channel) (told : History → History) (came : CallParts → Type 0) → KeptAt n x e y te ty b cs → Facts n e y → ChannelStep n x e e' y s d ty ch ch' told came
+    → (parts : CallParts) → came parts → x ≡ Dce → ch.state ≡ OwnWaiting → status_of x ch'.state ≡ FarCall → ((st : History) → SameHistory st (told st)) → KeptAt n x e' y te ty (comes x d parts (closes x d b)) (cs ++ (slot_at (other_of x) d (closes x d b)).placed ∷ [])
+collides_after n Dte e e' y te ty b cs s d ch ch' told came k facts q parts c role own m' same = absurd (dte_not_dce role)
+collides_after n Dce e e' y te ty b cs s d ch ch' told came k facts q parts c role own m' same =
     let arrival = q.arrival parts c (inr own) in
-    let placed : HasPlaced (e.histories s d) = subst (λ (z : CallState). InUse Dce z (e.histories s d)) own (use_now n Dce e e' y te ty b s d ch ch' told came k facts q) in
+    let placed : HasPlaced (e.histories s d) = subst (λ (z : CallState). InUse Dce z (e.histories s d)) own (use_now n Dce e e' y te ty b cs s d ch ch' told came k facts q) in
     let r = collide_step e e' y s d te ty parts b k.tags
-    (come_at n Dce e e' y te ty b s d ch ch' told came k facts q parts arrival (placed_use n Dce e e' y te ty b s d ch ch' told came k facts q placed arrival.come) m' same)
+    (come_at n Dce e e' y te ty b cs s d ch ch' told came k facts q parts arrival (placed_use n Dce e e' y te ty b cs s d ch ch' told came k facts q placed arrival.come) m' same)
     (ap (status_at Dce) q.found ∙ ap (status_of Dce) own) k.right in
     record {
       tags = r.0;
-      right = r.1;
+      callers = r.1 ∙ ap (λ (l : List (Option ℕ)). l ++ (slot_at Dte d (closes Dce d b)).placed ∷ []) k.callers;
+      right = r.2;
       sizes = sized n b (comes Dce d parts (closes Dce d b)) (size_trans b (closes Dce d b) (comes Dce d parts (closes Dce d b)) (closes_one Dce d b).size (comes_size Dce d parts (closes Dce d b))) k.sizes;
       here = q.end_is;
       there = k.there;
     }
 
-pub channel_step : (n : ℕ) (x : Role) (e e' y : End) (te ty : ℕ) (b : Book) (s d : ℕ) (ch ch' : Channel) (told : History → History) (write : Book → Book) (came : CallParts → Type 0) → KeptAt n x e y te ty b → Facts n e y → ChannelStep n x e e' y s d ty ch ch' told came
-    → Outcome x d ch ch' told write came → KeptAt n x e' y te ty (write b)
-channel_step n x e e' y te ty b s d ch ch' told write came k f q (stays m same h) =
-    subst (λ (v : Book). KeptAt n x e' y te ty v) (sym (h b)) (stays_after n x e e' y te ty b s d ch ch' told came k f q m same)
-channel_step n x e e' y te ty b s d ch ch' told write came k f q (ends m uses h) =
-    subst (λ (v : Book). KeptAt n x e' y te ty v) (sym (h b)) (over_after n x e e' y te ty b s d ch ch' told came k f q (closes x d b) (closes_one x d b) (closed_else x d b) (closed_here x d b) m uses)
-channel_step n x e e' y te ty b s d ch ch' told write came k f q (ends_none m m' uses h) =
-    subst (λ (v : Book). KeptAt n x e' y te ty v) (sym (h b)) (over_after n x e e' y te ty b s d ch ch' told came k f q b (closes_none x b) (λ c l. refl) (idle_none n x e e' y te ty b s d ch ch' told came k f q m) m' uses)
-channel_step n x e e' y te ty b s d ch ch' told write came k f q (goes change m m' grows rgrows h) =
-    subst (λ (v : Book). KeptAt n x e' y te ty v) (sym (h b)) (changed_after n x e e' y te ty b s d ch ch' told came k f q change m m' grows rgrows)
-channel_step n x e e' y te ty b s d ch ch' told write came k f q (connects m m' same h) =
-    subst (λ (v : Book). KeptAt n x e' y te ty v) (sym (h b)) (connects_after n x e e' y te ty b s d ch ch' told came k f q m m' same)
-channel_step n x e e' y te ty b s d ch ch' told write came k f q (accepts m m' history h) =
-    subst (λ (v : Book). KeptAt n x e' y te ty v) (sym (h b)) (answers_after n x e e' y te ty b s d ch ch' told came k f q m m' history)
-channel_step n x e e' y te ty b s d ch ch' told write came k f q (call_comes parts c ready m' same h) =
-    subst (λ (v : Book). KeptAt n x e' y te ty v) (sym (h b)) (comes_after n x e e' y te ty b s d ch ch' told came k f q parts c ready m' same)
-channel_step n x e e' y te ty b s d ch ch' told write came k f q (collides parts c role own m' same h) =
-    subst (λ (v : Book). KeptAt n x e' y te ty v) (sym (h b)) (collides_after n x e e' y te ty b s d ch ch' told came k f q parts c role own m' same)
+-- the same book and callers
+pub kept_as : (n : ℕ) (x : Role) (e y : End) (te ty : ℕ) (b b' : Book) (cs cs' : List (Option ℕ)) → b' ≡ b → cs' ≡ cs → KeptAt n x e y te ty b cs → KeptAt n x e y te ty b' cs'
+kept_as n x e y te ty b b' cs cs' h j k =
+    subst (λ (v : Book). KeptAt n x e y te ty v cs') (sym h) (subst (λ (l : List (Option ℕ)). KeptAt n x e y te ty b l) (sym j) k)
+
+pub channel_step : (n : ℕ) (x : Role) (e e' y : End) (te ty : ℕ) (b : Book) (cs : List (Option ℕ)) (s d : ℕ) (ch ch' : Channel) (told : History → History) (write : Book → Book) (trace : Book → List (Option ℕ) → List (Option ℕ)) (came : CallParts → Type 0) → KeptAt n x e y te ty b cs → Facts n e y → ChannelStep n x e e' y s d ty ch ch' told came
+    → Outcome x d ch ch' told write trace came → KeptAt n x e' y te ty (write b) (trace b cs)
+channel_step n x e e' y te ty b cs s d ch ch' told write trace came k f q (stays m same h j) =
+    kept_as n x e' y te ty _ (write b) _ (trace b cs) (h b) (j b cs) (stays_after n x e e' y te ty b cs s d ch ch' told came k f q m same)
+channel_step n x e e' y te ty b cs s d ch ch' told write trace came k f q (ends m uses h j) =
+    kept_as n x e' y te ty _ (write b) _ (trace b cs) (h b) (j b cs) (over_after n x e e' y te ty b cs s d ch ch' told came k f q (closes x d b) (closes_one x d b) (closed_else x d b) (closed_here x d b) m uses)
+channel_step n x e e' y te ty b cs s d ch ch' told write trace came k f q (ends_none m m' uses h j) =
+    kept_as n x e' y te ty _ (write b) _ (trace b cs) (h b) (j b cs) (over_after n x e e' y te ty b cs s d ch ch' told came k f q b (closes_none x b) (λ c l. refl) (idle_none n x e e' y te ty b cs s d ch ch' told came k f q m) m' uses)
+channel_step n x e e' y te ty b cs s d ch ch' told write trace came k f q (goes change m m' grows rgrows h j) =
+    kept_as n x e' y te ty _ (write b) _ (trace b cs) (h b) (j b cs) (changed_after n x e e' y te ty b cs s d ch ch' told came k f q change m m' grows rgrows)
+channel_step n x e e' y te ty b cs s d ch ch' told write trace came k f q (connects m m' same h j) =
+    kept_as n x e' y te ty _ (write b) _ (trace b cs) (h b) (j b cs) (connects_after n x e e' y te ty b cs s d ch ch' told came k f q m m' same)
+channel_step n x e e' y te ty b cs s d ch ch' told write trace came k f q (accepts m m' history h j) =
+    kept_as n x e' y te ty _ (write b) _ (trace b cs) (h b) (j b cs) (answers_after n x e e' y te ty b cs s d ch ch' told came k f q m m' history)
+channel_step n x e e' y te ty b cs s d ch ch' told write trace came k f q (call_comes parts c ready m' same h j) =
+    kept_as n x e' y te ty _ (write b) _ (trace b cs) (h b) (j b cs) (comes_after n x e e' y te ty b cs s d ch ch' told came k f q parts c ready m' same)
+channel_step n x e e' y te ty b cs s d ch ch' told write trace came k f q (collides parts c role own m' same h j) =
+    kept_as n x e' y te ty _ (write b) _ (trace b cs) (h b) (j b cs) (collides_after n x e e' y te ty b cs s d ch ch' told came k f q parts c role own m' same)

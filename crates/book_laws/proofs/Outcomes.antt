@@ -20,7 +20,8 @@ use Rattle.call_records.specs.Records.{RecordValue, with_sent, with_interrupt_se
 use Rattle.call_records.specs.Records as records
 use Rattle.call_records.specs.Book.{Book, slot_at, with_change, changed, answers, closes, packet_of, all_told}
 use Rattle.call_records.specs.Book as book
-use Rattle.book_laws.specs.Told.{carried}
+use Rattle.link_timers.specs.Role.{other_of}
+use Rattle.book_laws.specs.Told.{carried, all_came_by}
 use Rattle.book_laws.proofs.Invariant.{HasEpochs, HasSent, HasTaken, IsWithin, sent_as, taken_as, own_sent, own_taken, sent_of, taken_of, passed_sent, passed_taken, nth_sent, nth_taken, all_sent, all_taken}
 use Rattle.std.proofs.Math.Nat.{min-le_left, min-le_right, min-eq_right, le-min}
 use Rattle.std.proofs.lemmas.List.{length-map}
@@ -49,16 +50,16 @@ pub record RecordGrows (st st' : History) (r r' : RecordValue) : Type 0 where
   pub tells : TellsIn st st r → HasEpochs r st.epoch → IsWithin st → TellsIn st' st r'
   pub epochs : HasEpochs r st.epoch → HasEpochs r' st'.epoch
 
-pub data Outcome (x : Role) (d : ℕ) (ch ch' : Channel) (told : History → History) (write : Book → Book) (came : CallParts → Type 0) : Type 0 where
-  stays : status_of x ch'.state ≡ status_of x ch.state → ((st : History) → SameHistory st (told st)) → ((b : Book) → write b ≡ b) → Outcome x d ch ch' told write came
-  ends : status_of x ch'.state ≡ Idle → ((st : History) → EndsUse st (told st)) → ((b : Book) → write b ≡ closes x d b) → Outcome x d ch ch' told write came
-  ends_none : status_of x ch.state ≡ Idle → status_of x ch'.state ≡ Idle → ((st : History) → EndsUse st (told st)) → ((b : Book) → write b ≡ b) → Outcome x d ch ch' told write came
+pub data Outcome (x : Role) (d : ℕ) (ch ch' : Channel) (told : History → History) (write : Book → Book) (trace : Book → List (Option ℕ) → List (Option ℕ)) (came : CallParts → Type 0) : Type 0 where
+  stays : status_of x ch'.state ≡ status_of x ch.state → ((st : History) → SameHistory st (told st)) → ((b : Book) → write b ≡ b) → ((b : Book) (l : List (Option ℕ)) → trace b l ≡ l) → Outcome x d ch ch' told write trace came
+  ends : status_of x ch'.state ≡ Idle → ((st : History) → EndsUse st (told st)) → ((b : Book) → write b ≡ closes x d b) → ((b : Book) (l : List (Option ℕ)) → trace b l ≡ l) → Outcome x d ch ch' told write trace came
+  ends_none : status_of x ch.state ≡ Idle → status_of x ch'.state ≡ Idle → ((st : History) → EndsUse st (told st)) → ((b : Book) → write b ≡ b) → ((b : Book) (l : List (Option ℕ)) → trace b l ≡ l) → Outcome x d ch ch' told write trace came
   goes : (change : RecordValue → RecordValue) → status_of x ch.state ≡ Open → status_of x ch'.state ≡ Open → ((st : History) → HistoryGrows st (told st)) → ((st : History) (r : RecordValue) → RecordGrows st (told st) r (change r))
-      → ((b : Book) → write b ≡ changed x d change b) → Outcome x d ch ch' told write came
-  connects : status_of x ch.state ≡ OwnCall → status_of x ch'.state ≡ Open → ((st : History) → SameHistory st (told st)) → ((b : Book) → write b ≡ b) → Outcome x d ch ch' told write came
-  accepts : status_of x ch.state ≡ FarCall → status_of x ch'.state ≡ Open → ((st : History) → told st ≡ call_accepted st) → ((b : Book) → write b ≡ answers x d b) → Outcome x d ch ch' told write came
-  comes : (parts : CallParts) → came parts → ch.state ≡ Ready → status_of x ch'.state ≡ FarCall → ((st : History) → SameHistory st (told st)) → ((b : Book) → write b ≡ book.comes x d parts b) → Outcome x d ch ch' told write came
-  collides : (parts : CallParts) → came parts → x ≡ Dce → ch.state ≡ OwnWaiting → status_of x ch'.state ≡ FarCall → ((st : History) → SameHistory st (told st)) → ((b : Book) → write b ≡ book.comes x d parts (closes x d b)) → Outcome x d ch ch' told write came
+      → ((b : Book) → write b ≡ changed x d change b) → ((b : Book) (l : List (Option ℕ)) → trace b l ≡ l) → Outcome x d ch ch' told write trace came
+  connects : status_of x ch.state ≡ OwnCall → status_of x ch'.state ≡ Open → ((st : History) → SameHistory st (told st)) → ((b : Book) → write b ≡ b) → ((b : Book) (l : List (Option ℕ)) → trace b l ≡ l) → Outcome x d ch ch' told write trace came
+  accepts : status_of x ch.state ≡ FarCall → status_of x ch'.state ≡ Open → ((st : History) → told st ≡ call_accepted st) → ((b : Book) → write b ≡ answers x d b) → ((b : Book) (l : List (Option ℕ)) → trace b l ≡ l) → Outcome x d ch ch' told write trace came
+  comes : (parts : CallParts) → came parts → ch.state ≡ Ready → status_of x ch'.state ≡ FarCall → ((st : History) → SameHistory st (told st)) → ((b : Book) → write b ≡ book.comes x d parts b) → ((b : Book) (l : List (Option ℕ)) → trace b l ≡ l ++ (slot_at (other_of x) d b).placed ∷ []) → Outcome x d ch ch' told write trace came
+  collides : (parts : CallParts) → came parts → x ≡ Dce → ch.state ≡ OwnWaiting → status_of x ch'.state ≡ FarCall → ((st : History) → SameHistory st (told st)) → ((b : Book) → write b ≡ book.comes x d parts (closes x d b)) → ((b : Book) (l : List (Option ℕ)) → trace b l ≡ l ++ (slot_at (other_of x) d (closes x d b)).placed ∷ []) → Outcome x d ch ch' told write trace came
 
 pub next_use : (st : History) → EndsUse st (next_use_of st)
 next_use st = record { further = inr (refl, omega arith); epochs = λ r u g. refl }
@@ -349,84 +350,84 @@ unchanged (Some n) b = ap (λ (l : List RecordValue). record b { records = l }) 
 
 abbrev Got : CallState → Role → ℕ → ℕ → Channel → Body → Type 0
 Got s x w d ch body = Outcome x d ch (received_in s x w d ch body).channel (λ st. opened (received_in s x w d ch body).owes (heard_history s ch.resetting (hears w ch.traffic body) st))
-    (λ b. all_told x (received_in s x w d ch body).notes b) (λ parts. body ≡ Call parts)
+    (λ b. all_told x (received_in s x w d ch body).notes b) (λ b l. all_came_by x (received_in s x w d ch body).notes b l) (λ parts. body ≡ Call parts)
 
 got_ready : (x : Role) (w d : ℕ) (ch : Channel) → ch.state ≡ Ready → (body : Body) → Got Ready x w d ch body
-got_ready x w d ch e (Call parts) = comes parts refl e refl (λ st. history_refl st) (λ b. refl)
-got_ready x w d ch e (Clear cause diagnostic) = ends_none (ap (status_of x) e) (ap (status_of x) e) next_use (λ b. refl)
-got_ready x w d ch e body = ends_none (ap (status_of x) e) refl next_use (λ b. refl)
+got_ready x w d ch e (Call parts) = comes parts refl e refl (λ st. history_refl st) (λ b. refl) (λ b l. refl)
+got_ready x w d ch e (Clear cause diagnostic) = ends_none (ap (status_of x) e) (ap (status_of x) e) next_use (λ b. refl) (λ b l. refl)
+got_ready x w d ch e body = ends_none (ap (status_of x) e) refl next_use (λ b. refl) (λ b l. refl)
 
 got_call : (x : Role) (w d : ℕ) (ch : Channel) → ch.state ≡ OwnWaiting → (parts : CallParts) → Got OwnWaiting x w d ch (Call parts)
-got_call Dte w d ch e parts = stays (sym (ap (status_of Dte) e)) (λ st. history_refl st) (λ b. refl)
-got_call Dce w d ch e parts = collides parts refl refl e refl (λ st. history_refl st) (λ b. refl)
+got_call Dte w d ch e parts = stays (sym (ap (status_of Dte) e)) (λ st. history_refl st) (λ b. refl) (λ b l. refl)
+got_call Dce w d ch e parts = collides parts refl refl e refl (λ st. history_refl st) (λ b. refl) (λ b l. refl)
 
 got_own_waiting : (x : Role) (w d : ℕ) (ch : Channel) → ch.state ≡ OwnWaiting → (body : Body) → Got OwnWaiting x w d ch body
-got_own_waiting x w d ch e Accepted = connects (ap (status_of x) e) refl (λ st. history_refl st) (λ b. refl)
+got_own_waiting x w d ch e Accepted = connects (ap (status_of x) e) refl (λ st. history_refl st) (λ b. refl) (λ b l. refl)
 got_own_waiting x w d ch e (Call parts) = got_call x w d ch e parts
-got_own_waiting x w d ch e (Clear cause diagnostic) = ends refl next_use (λ b. refl)
-got_own_waiting x w d ch e body = ends refl next_use (λ b. refl)
+got_own_waiting x w d ch e (Clear cause diagnostic) = ends refl next_use (λ b. refl) (λ b l. refl)
+got_own_waiting x w d ch e body = ends refl next_use (λ b. refl) (λ b l. refl)
 
 got_far_waiting : (x : Role) (w d : ℕ) (ch : Channel) → (body : Body) → Got FarWaiting x w d ch body
-got_far_waiting x w d ch (Clear cause diagnostic) = ends refl next_use (λ b. refl)
-got_far_waiting x w d ch body = ends refl next_use (λ b. refl)
+got_far_waiting x w d ch (Clear cause diagnostic) = ends refl next_use (λ b. refl) (λ b l. refl)
+got_far_waiting x w d ch body = ends refl next_use (λ b. refl) (λ b l. refl)
 
 got_collision : (x : Role) (w d : ℕ) (ch : Channel) → ch.state ≡ Collision → (body : Body) → Got Collision x w d ch body
-got_collision Dte w d ch e Accepted = connects (ap (status_of Dte) e) refl (λ st. history_refl st) (λ b. refl)
-got_collision Dte w d ch e (Clear cause diagnostic) = ends refl next_use (λ b. refl)
-got_collision Dte w d ch e body = ends refl next_use (λ b. refl)
-got_collision Dce w d ch e (Clear cause diagnostic) = ends refl next_use (λ b. refl)
-got_collision Dce w d ch e body = ends refl next_use (λ b. refl)
+got_collision Dte w d ch e Accepted = connects (ap (status_of Dte) e) refl (λ st. history_refl st) (λ b. refl) (λ b l. refl)
+got_collision Dte w d ch e (Clear cause diagnostic) = ends refl next_use (λ b. refl) (λ b l. refl)
+got_collision Dte w d ch e body = ends refl next_use (λ b. refl) (λ b l. refl)
+got_collision Dce w d ch e (Clear cause diagnostic) = ends refl next_use (λ b. refl) (λ b l. refl)
+got_collision Dce w d ch e body = ends refl next_use (λ b. refl) (λ b l. refl)
 
 got_own_clear : (x : Role) (w d : ℕ) (ch : Channel) → ch.state ≡ OwnClear → (body : Body) → Got OwnClear x w d ch body
-got_own_clear x w d ch e (Clear cause diagnostic) = stays (sym (ap (status_of x) e)) (λ st. history_refl st) (λ b. refl)
-got_own_clear x w d ch e ClearConfirmation = stays (sym (ap (status_of x) e)) (λ st. history_refl st) (λ b. refl)
-got_own_clear x w d ch e body = stays refl (λ st. history_refl st) (λ b. refl)
+got_own_clear x w d ch e (Clear cause diagnostic) = stays (sym (ap (status_of x) e)) (λ st. history_refl st) (λ b. refl) (λ b l. refl)
+got_own_clear x w d ch e ClearConfirmation = stays (sym (ap (status_of x) e)) (λ st. history_refl st) (λ b. refl) (λ b l. refl)
+got_own_clear x w d ch e body = stays refl (λ st. history_refl st) (λ b. refl) (λ b l. refl)
 
 -- in data transfer
 abbrev GotIn : Bool → Role → ℕ → ℕ → Channel → Body → Type 0
 GotIn v x w d ch body = Outcome x d ch (cond v (in_own_reset x d ch body) (in_flow_ready x w d ch body)).channel
     (λ st. opened (cond v (in_own_reset x d ch body) (in_flow_ready x w d ch body)).owes (heard_history Transfer v (hears w ch.traffic body) st))
-    (λ b. all_told x (cond v (in_own_reset x d ch body) (in_flow_ready x w d ch body)).notes b) (λ parts. body ≡ Call parts)
+    (λ b. all_told x (cond v (in_own_reset x d ch body) (in_flow_ready x w d ch body)).notes b) (λ b l. all_came_by x (cond v (in_own_reset x d ch body) (in_flow_ready x w d ch body)).notes b l) (λ parts. body ≡ Call parts)
 
 got_resetting : (x : Role) (w d : ℕ) (ch : Channel) → (body : Body) → GotIn true x w d ch body
-got_resetting x w d ch (Clear cause diagnostic) = ends refl next_use (λ b. refl)
-got_resetting x w d ch (Reset cause diagnostic) = stays refl (λ st. history_refl st) (λ b. refl)
-got_resetting x w d ch ResetConfirmation = stays refl (λ st. history_refl st) (λ b. refl)
-got_resetting x w d ch (Data send receive datum) = stays refl (λ st. history_refl st) (λ b. refl)
-got_resetting x w d ch (ReceiveReady receive) = stays refl (λ st. history_refl st) (λ b. refl)
-got_resetting x w d ch (ReceiveNotReady receive) = stays refl (λ st. history_refl st) (λ b. refl)
-got_resetting x w d ch (Interrupt octets) = stays refl (λ st. history_refl st) (λ b. refl)
-got_resetting x w d ch InterruptConfirmation = stays refl (λ st. history_refl st) (λ b. refl)
-got_resetting x w d ch body = ends refl next_use (λ b. refl)
+got_resetting x w d ch (Clear cause diagnostic) = ends refl next_use (λ b. refl) (λ b l. refl)
+got_resetting x w d ch (Reset cause diagnostic) = stays refl (λ st. history_refl st) (λ b. refl) (λ b l. refl)
+got_resetting x w d ch ResetConfirmation = stays refl (λ st. history_refl st) (λ b. refl) (λ b l. refl)
+got_resetting x w d ch (Data send receive datum) = stays refl (λ st. history_refl st) (λ b. refl) (λ b l. refl)
+got_resetting x w d ch (ReceiveReady receive) = stays refl (λ st. history_refl st) (λ b. refl) (λ b l. refl)
+got_resetting x w d ch (ReceiveNotReady receive) = stays refl (λ st. history_refl st) (λ b. refl) (λ b l. refl)
+got_resetting x w d ch (Interrupt octets) = stays refl (λ st. history_refl st) (λ b. refl) (λ b l. refl)
+got_resetting x w d ch InterruptConfirmation = stays refl (λ st. history_refl st) (λ b. refl) (λ b l. refl)
+got_resetting x w d ch body = ends refl next_use (λ b. refl) (λ b l. refl)
 
 -- a reset, by either end
-resets : (x : Role) (d : ℕ) (ch ch' : Channel) (write : Book → Book) (came : CallParts → Type 0) → status_of x ch.state ≡ Open → status_of x ch'.state ≡ Open → ((b : Book) → write b ≡ changed x d with_epoch b)
-    → Outcome x d ch ch' (λ st. next_epoch_of st) write came
-resets x d ch ch' write came e f h = goes with_epoch e f (λ st. opens_grows st (next_epoch_of st) (opens st)) (λ st r. opens_record st (next_epoch_of st) r (opens st)) h
+resets : (x : Role) (d : ℕ) (ch ch' : Channel) (write : Book → Book) (trace : Book → List (Option ℕ) → List (Option ℕ)) (came : CallParts → Type 0) → status_of x ch.state ≡ Open → status_of x ch'.state ≡ Open → ((b : Book) → write b ≡ changed x d with_epoch b)
+    → ((b : Book) (l : List (Option ℕ)) → trace b l ≡ l) → Outcome x d ch ch' (λ st. next_epoch_of st) write trace came
+resets x d ch ch' write trace came e f h j = goes with_epoch e f (λ st. opens_grows st (next_epoch_of st) (opens st)) (λ st r. opens_record st (next_epoch_of st) r (opens st)) h j
 
 got_keeps : (v : Bool) (x : Role) (d n : ℕ) (ch : Channel) (t : Traffic) (came : CallParts → Type 0) → status_of x ch.state ≡ Open
-    → Outcome x d ch (record ch { traffic = t }) (λ st. grown (λ e. logged_heard (Keeps n t) e) st) (λ b. all_told x (cond v [] (Covered d n ∷ [])) b) came
+    → Outcome x d ch (record ch { traffic = t }) (λ st. grown (λ e. logged_heard (Keeps n t) e) st) (λ b. all_told x (cond v [] (Covered d n ∷ [])) b) (λ b l. all_came_by x (cond v [] (Covered d n ∷ [])) b l) came
 got_keeps true x d n ch t came e = goes (λ r. r) e e (grown_grows (λ z. record z { covered = z.covered + n }) (λ r. r) (by_covering_none n)) (grown_record (λ z. record z { covered = z.covered + n }) (λ r. r) (by_covering_none n))
-    (λ b. unchanged (slot_at x d b).present b)
+    (λ b. unchanged (slot_at x d b).present b) (λ b l. refl)
 got_keeps false x d n ch t came e = goes (λ r. with_covered n r) e e (grown_grows (λ z. record z { covered = z.covered + n }) (λ r. with_covered n r) (by_covering n)) (grown_record (λ z. record z { covered = z.covered + n }) (λ r. with_covered n r) (by_covering n))
-    (λ b. refl)
+    (λ b. refl) (λ b l. refl)
 
 got_heard : (x : Role) (d : ℕ) (ch : Channel) (came : CallParts → Type 0) → status_of x ch.state ≡ Open → (h : Heard)
-    → Outcome x d ch (after_heard x d ch h).channel (λ st. opened (after_heard x d ch h).owes (heard_history Transfer false h st)) (λ b. all_told x (after_heard x d ch h).notes b) came
+    → Outcome x d ch (after_heard x d ch h).channel (λ st. opened (after_heard x d ch h).owes (heard_history Transfer false h st)) (λ b. all_told x (after_heard x d ch h).notes b) (λ b l. all_came_by x (after_heard x d ch h).notes b l) came
 got_heard x d ch came e (Keeps n t) = got_keeps (n == 0) x d n ch t came e
-got_heard x d ch came e (Confirms t) = stays refl (grown_same (λ z. z) (λ z. refl)) (λ b. refl)
-got_heard x d ch came e (Wrong diagnostic) = resets x d ch (record ch { resetting = true; traffic = Rattle.packet_layer.specs.Traffic.fresh }) (λ b. all_told x (after_heard x d ch (Wrong diagnostic)).notes b) came e e (λ b. refl)
+got_heard x d ch came e (Confirms t) = stays refl (grown_same (λ z. z) (λ z. refl)) (λ b. refl) (λ b l. refl)
+got_heard x d ch came e (Wrong diagnostic) = resets x d ch (record ch { resetting = true; traffic = Rattle.packet_layer.specs.Traffic.fresh }) (λ b. all_told x (after_heard x d ch (Wrong diagnostic)).notes b) (λ b l. all_came_by x (after_heard x d ch (Wrong diagnostic)).notes b l) came e e (λ b. refl) (λ b l. refl)
 
 got_ready_flow : (x : Role) (w d : ℕ) (ch : Channel) → status_of x ch.state ≡ Open → (body : Body) → GotIn false x w d ch body
-got_ready_flow x w d ch e (Clear cause diagnostic) = ends refl next_use (λ b. refl)
-got_ready_flow x w d ch e (Reset cause diagnostic) = resets x d ch (in_flow_ready x w d ch (Reset cause diagnostic)).channel (λ b. all_told x (in_flow_ready x w d ch (Reset cause diagnostic)).notes b) (λ parts. Reset cause diagnostic ≡ Call parts) e e (λ b. refl)
-got_ready_flow x w d ch e ResetConfirmation = resets x d ch (in_flow_ready x w d ch ResetConfirmation).channel (λ b. all_told x (in_flow_ready x w d ch ResetConfirmation).notes b) (λ parts. ResetConfirmation ≡ Call parts) e e (λ b. refl)
+got_ready_flow x w d ch e (Clear cause diagnostic) = ends refl next_use (λ b. refl) (λ b l. refl)
+got_ready_flow x w d ch e (Reset cause diagnostic) = resets x d ch (in_flow_ready x w d ch (Reset cause diagnostic)).channel (λ b. all_told x (in_flow_ready x w d ch (Reset cause diagnostic)).notes b) (λ b l. all_came_by x (in_flow_ready x w d ch (Reset cause diagnostic)).notes b l) (λ parts. Reset cause diagnostic ≡ Call parts) e e (λ b. refl) (λ b l. refl)
+got_ready_flow x w d ch e ResetConfirmation = resets x d ch (in_flow_ready x w d ch ResetConfirmation).channel (λ b. all_told x (in_flow_ready x w d ch ResetConfirmation).notes b) (λ b l. all_came_by x (in_flow_ready x w d ch ResetConfirmation).notes b l) (λ parts. ResetConfirmation ≡ Call parts) e e (λ b. refl) (λ b l. refl)
 got_ready_flow x w d ch e (Data send receive datum) = got_heard x d ch (λ parts. Data send receive datum ≡ Call parts) e (hears w ch.traffic (Data send receive datum))
 got_ready_flow x w d ch e (ReceiveReady receive) = got_heard x d ch (λ parts. ReceiveReady receive ≡ Call parts) e (hears w ch.traffic (ReceiveReady receive))
 got_ready_flow x w d ch e (ReceiveNotReady receive) = got_heard x d ch (λ parts. ReceiveNotReady receive ≡ Call parts) e (hears w ch.traffic (ReceiveNotReady receive))
 got_ready_flow x w d ch e (Interrupt octets) = got_heard x d ch (λ parts. Interrupt octets ≡ Call parts) e (hears w ch.traffic (Interrupt octets))
 got_ready_flow x w d ch e InterruptConfirmation = got_heard x d ch (λ parts. InterruptConfirmation ≡ Call parts) e (hears w ch.traffic InterruptConfirmation)
-got_ready_flow x w d ch e body = ends refl next_use (λ b. refl)
+got_ready_flow x w d ch e body = ends refl next_use (λ b. refl) (λ b l. refl)
 
 got_transfer : (v : Bool) (x : Role) (w d : ℕ) (ch : Channel) → status_of x ch.state ≡ Open → (body : Body) → GotIn v x w d ch body
 got_transfer true x w d ch e body = got_resetting x w d ch body
@@ -441,7 +442,7 @@ got_by Collision x w d ch e body = got_collision x w d ch e body
 got_by OwnClear x w d ch e body = got_own_clear x w d ch e body
 
 pub received_outcome : (x : Role) (w d : ℕ) (ch : Channel) (body : Body)
-    → Outcome x d ch (received x w d ch body).channel (λ st. received_history x w d ch body st) (λ b. all_told x (received x w d ch body).notes b) (λ parts. body ≡ Call parts)
+    → Outcome x d ch (received x w d ch body).channel (λ st. received_history x w d ch body st) (λ b. all_told x (received x w d ch body).notes b) (λ b l. all_came_by x (received x w d ch body).notes b l) (λ parts. body ≡ Call parts)
 received_outcome x w d ch body = got_by ch.state x w d ch refl body
 
 -- ---- a request
@@ -475,14 +476,14 @@ NoCalls parts = ⊥
 
 -- what was at the front is taken
 asked_taking : (x : Role) (d : ℕ) (ch ch' : Channel) (o : Option Taken) → status_of x ch.state ≡ Open → status_of x ch'.state ≡ Open
-    → Outcome x d ch ch' (λ st. grown (λ e. with_taken o e) st) (λ b. book.takes x d o b) NoCalls
-asked_taking x d ch ch' None e f = stays (f ∙ sym e) (grown_same (λ z. z) (λ z. refl)) (λ b. refl)
+    → Outcome x d ch ch' (λ st. grown (λ e. with_taken o e) st) (λ b. book.takes x d o b) (λ b l. l) NoCalls
+asked_taking x d ch ch' None e f = stays (f ∙ sym e) (grown_same (λ z. z) (λ z. refl)) (λ b. refl) (λ b l. refl)
 asked_taking x d ch ch' (Some (TakenInterrupt octets)) e f =
     goes (λ r. with_interrupt_taken octets r) e f (grown_grows (λ z. record z { interrupts_taken = z.interrupts_taken ++ octets ∷ [] }) (λ r. with_interrupt_taken octets r) (by_interrupt_taken octets))
-    (grown_record (λ z. record z { interrupts_taken = z.interrupts_taken ++ octets ∷ [] }) (λ r. with_interrupt_taken octets r) (by_interrupt_taken octets)) (λ b. refl)
+    (grown_record (λ z. record z { interrupts_taken = z.interrupts_taken ++ octets ∷ [] }) (λ r. with_interrupt_taken octets r) (by_interrupt_taken octets)) (λ b. refl) (λ b l. refl)
 asked_taking x d ch ch' (Some (TakenPacket datum)) e f =
     goes (λ r. records.with_taken (packet_of datum) r) e f (grown_grows (λ z. record z { taken = z.taken ++ datum ∷ [] }) (λ r. records.with_taken (packet_of datum) r) (by_taking datum))
-    (grown_record (λ z. record z { taken = z.taken ++ datum ∷ [] }) (λ r. records.with_taken (packet_of datum) r) (by_taking datum)) (λ b. refl)
+    (grown_record (λ z. record z { taken = z.taken ++ datum ∷ [] }) (λ r. records.with_taken (packet_of datum) r) (by_taking datum)) (λ b. refl) (λ b l. refl)
 
 -- the history of a request that is not refused
 abbrev history_of : Channel → Request → History → History
@@ -490,25 +491,25 @@ history_of ch Accept st = call_accepted st
 history_of ch r st = opened (carried_out ch r).owes (grown (λ e. logged ch.traffic r e) st)
 
 pub asked : (x : Role) (d : ℕ) (ch : Channel) (r : Request) → refusal x ch r ≡ None
-    → Outcome x d ch (carried_out ch r).channel (λ st. history_of ch r st) (λ b. carried x d r (front ch.traffic) b) NoCalls
-asked x d ch Accept e = accepts (accept_of x ch.state e) refl (λ st. refl) (λ b. refl)
-asked x d ch (Clearing cause diagnostic) e = ends refl ends_after (λ b. refl)
+    → Outcome x d ch (carried_out ch r).channel (λ st. history_of ch r st) (λ b. carried x d r (front ch.traffic) b) (λ b l. l) NoCalls
+asked x d ch Accept e = accepts (accept_of x ch.state e) refl (λ st. refl) (λ b. refl) (λ b l. refl)
+asked x d ch (Clearing cause diagnostic) e = ends refl ends_after (λ b. refl) (λ b l. refl)
 asked x d ch (Resetting cause diagnostic) e =
     let open_ = transfer_of ch.state (refused_if ch.resetting Refusal.IsResetting None) x e in
-    goes with_epoch open_ open_ (λ st. opens_grows st (next_epoch_of (grown (λ z. z) st)) (opens_after st)) (λ st r. opens_record st (next_epoch_of (grown (λ z. z) st)) r (opens_after st)) (λ b. refl)
+    goes with_epoch open_ open_ (λ st. opens_grows st (next_epoch_of (grown (λ z. z) st)) (opens_after st)) (λ st r. opens_record st (next_epoch_of (grown (λ z. z) st)) r (opens_after st)) (λ b. refl) (λ b l. refl)
 asked x d ch (Sending datum) e =
     let open_ = transfer_of ch.state _ x e in
     goes (λ r. with_sent (packet_of datum) r) open_ open_ (grown_grows (λ z. record z { sent = z.sent ++ datum ∷ [] }) (λ r. with_sent (packet_of datum) r) (by_sending datum))
-    (grown_record (λ z. record z { sent = z.sent ++ datum ∷ [] }) (λ r. with_sent (packet_of datum) r) (by_sending datum)) (λ b. refl)
+    (grown_record (λ z. record z { sent = z.sent ++ datum ∷ [] }) (λ r. with_sent (packet_of datum) r) (by_sending datum)) (λ b. refl) (λ b l. refl)
 asked x d ch (Interrupting octets) e =
     let open_ = transfer_of ch.state _ x e in
     goes (λ r. with_interrupt_sent octets r) open_ open_ (grown_grows (λ z. record z { interrupts_sent = z.interrupts_sent ++ octets ∷ [] }) (λ r. with_interrupt_sent octets r) (by_interrupting octets))
-    (grown_record (λ z. record z { interrupts_sent = z.interrupts_sent ++ octets ∷ [] }) (λ r. with_interrupt_sent octets r) (by_interrupting octets)) (λ b. refl)
-asked x d ch (Stopping v) e = stays refl (grown_same (λ z. z) (λ z. refl)) (λ b. refl)
+    (grown_record (λ z. record z { interrupts_sent = z.interrupts_sent ++ octets ∷ [] }) (λ r. with_interrupt_sent octets r) (by_interrupting octets)) (λ b. refl) (λ b l. refl)
+asked x d ch (Stopping v) e = stays refl (grown_same (λ z. z) (λ z. refl)) (λ b. refl) (λ b l. refl)
 asked x d ch Taking e = let open_ = transfer_of ch.state None x e in asked_taking x d ch (carried_out ch Taking).channel (front ch.traffic) open_ open_
 asked x d ch (Releasing n) e =
     let open_ = transfer_of ch.state None x e in
     let v = may_release n ch.traffic in
     goes (λ r. with_released n r) open_ open_ (grown_grows (λ z. cond v (record z { released = z.released + n }) z) (λ r. with_released n r) (by_releasing v n))
-    (grown_record (λ z. cond v (record z { released = z.released + n }) z) (λ r. with_released n r) (by_releasing v n)) (λ b. refl)
-asked x d ch Confirming e = stays refl (grown_same (λ z. z) (λ z. refl)) (λ b. refl)
+    (grown_record (λ z. cond v (record z { released = z.released + n }) z) (λ r. with_released n r) (by_releasing v n)) (λ b. refl) (λ b l. refl)
+asked x d ch Confirming e = stays refl (grown_same (λ z. z) (λ z. refl)) (λ b. refl) (λ b l. refl)

@@ -1,5 +1,5 @@
 -- The user's calls, the expiry of a timer and the link's sessions keep the book right.
-use Rattle.std.specs.Prelude.{◌≡◌, ℕ, zero, suc, ◌≤◌, Bool, true, false, cond, not, ◌&&◌, ◌||◌, ◌==◌, nat_lt, List, [], length, is_some, Option, Some, None}
+use Rattle.std.specs.Prelude.{◌≡◌, ℕ, zero, suc, ◌≤◌, Bool, true, false, cond, not, ◌&&◌, ◌||◌, ◌==◌, nat_lt, List, [], ◌∷◌, ◌++◌, length, is_some, Option, Some, None}
 use Rattle.std.proofs.Common.{inl, inr, refl, sym, ap, subst, ◌∙◌, arith, true≢false}
 use Rattle.std.proofs.lemmas.Option.{none-some, same_Some}
 use Rattle.std.proofs.lemmas.Bool.{ne_eqb}
@@ -16,7 +16,7 @@ use Rattle.packet_laws.specs.History.{Epoch, History, placed, call_history, expi
 use Rattle.packet_laws.specs.Law.{InUse, IsUnused}
 use Rattle.packet_laws.specs.Line.{End, begun, may_begin, is_session}
 use Rattle.call_records.specs.Book.{Book, places_from, closes, with_record, all_told}
-use Rattle.book_laws.specs.Told.{placed_on}
+use Rattle.book_laws.specs.Told.{placed_on, placed_by, all_came_by}
 use Rattle.book_laws.proofs.Basics.{number_is}
 use Rattle.book_laws.proofs.Ending.{Further}
 use Rattle.book_laws.proofs.Writing.{size_trans, size_record, size_slot, SameSize}
@@ -49,10 +49,10 @@ not_answered_there n e y s d facts lo hi u false h = refl
 not_answered_there n e y s d facts lo hi u true h =
     absurd (true≢false (sym ((facts.answers_there s d lo hi).was_called (e.histories s d).restart (e.histories s d).use_ 0 h) ∙ ap (λ (z : Epoch). is_some z.called) (u.empty 0)))
 
-call_on : (n : ℕ) (e y : End) (te ty : ℕ) (b : Book) (parts : CallParts) (d : ℕ) (ch : Channel) (found_ : Option Channel) → KeptAt n e.layer.role e y te ty b → Facts n e y → e.layer.phase ≡ PacketReady → channel_of e.layer d ≡ found_ → found_ ≡ Some ch → ch.state ≡ Ready
-    → KeptAt n e.layer.role (moved_end e (on_found e.layer d (λ z. placing parts z) found_) (λ c st. call_history parts (Some d) c st) e.accepted) y te ty (places_from e.layer.role d parts.calling parts.called b)
-call_on n e y te ty b parts d ch None k facts phase f is ready = absurd (none-some ch is)
-call_on n e y te ty b parts d ch0 (Some ch) k facts phase found is0 ready0 =
+call_on : (n : ℕ) (e y : End) (te ty : ℕ) (b : Book) (cs : List (Option ℕ)) (parts : CallParts) (d : ℕ) (ch : Channel) (found_ : Option Channel) → KeptAt n e.layer.role e y te ty b cs → Facts n e y → e.layer.phase ≡ PacketReady → channel_of e.layer d ≡ found_ → found_ ≡ Some ch → ch.state ≡ Ready
+    → KeptAt n e.layer.role (moved_end e (on_found e.layer d (λ z. placing parts z) found_) (λ c st. call_history parts (Some d) c st) e.accepted) y te ty (places_from e.layer.role d parts.calling parts.called b) (cs ++ None ∷ [])
+call_on n e y te ty b cs parts d ch None k facts phase f is ready = absurd (none-some ch is)
+call_on n e y te ty b cs parts d ch0 (Some ch) k facts phase found is0 ready0 =
     let x : Role = e.layer.role in
     let ready : ch.state ≡ Ready = ap (λ (z : Channel). z.state) (same_Some ch ch0 is0) ∙ ready0 in
     let up = k.here.up phase in
@@ -86,19 +86,20 @@ call_on n e y te ty b parts d ch0 (Some ch) k facts phase found is0 ready0 =
     }) k.right in
     record {
       tags = r.0;
-      right = r.1;
+      callers = r.1 ∙ ap (λ (l : List (Option ℕ)). l ++ None ∷ []) k.callers;
+      right = r.2;
       sizes = sized n b (places_from x d parts.calling parts.called b) (places_size x d parts.calling parts.called b) k.sizes;
       here = same_end_is n e e' k.here refl (same_rises e) refl refl count;
       there = k.there;
     }
 
-pub calls_given : (n : ℕ) (e y : End) (te ty : ℕ) (b : Book) (parts : CallParts) → KeptAt n e.layer.role e y te ty b → Facts n e y → (o : Option ℕ) → channel_given e.layer e.layer.phase ≡ o
-    → KeptAt n e.layer.role (after_call e parts o) y te ty (placed_on e.layer.role o parts b)
-calls_given n e y te ty b parts k facts None given =
-    still n e y te ty b e.layer (λ c st. st) e.accepted k (λ c. refl) (λ c st. history_refl st) (same_rises e) refl (same_end_is n e (after_call e parts None) k.here refl (same_rises e) refl refl refl)
-calls_given n e y te ty b parts k facts (Some d) given =
+pub calls_given : (n : ℕ) (e y : End) (te ty : ℕ) (b : Book) (cs : List (Option ℕ)) (parts : CallParts) → KeptAt n e.layer.role e y te ty b cs → Facts n e y → (o : Option ℕ) → channel_given e.layer e.layer.phase ≡ o
+    → KeptAt n e.layer.role (after_call e parts o) y te ty (placed_on e.layer.role o parts b) (placed_by o cs)
+calls_given n e y te ty b cs parts k facts None given =
+    still n e y te ty b cs e.layer (λ c st. st) e.accepted k (λ c. refl) (λ c st. history_refl st) (same_rises e) refl (same_end_is n e (after_call e parts None) k.here refl (same_rises e) refl refl refl)
+calls_given n e y te ty b cs parts k facts (Some d) given =
     let g = given_is e.layer e.layer.phase d refl given in
-    call_on n e y te ty b parts d g.1.0 (channel_of e.layer d) k facts g.0 refl g.1.1 g.1.2
+    call_on n e y te ty b cs parts d g.1.0 (channel_of e.layer d) k facts g.0 refl g.1.1 g.1.2
 
 -- ---- a timer expires
 
@@ -115,33 +116,33 @@ next_restart_further : (st : History) → Further st (next_restart_of st)
 next_restart_further st = inl (omega arith)
 
 -- the timer of a call or of a reset clears it
-clears : (n : ℕ) (e y : End) (te ty : ℕ) (b : Book) (d : ℕ) → KeptAt n e.layer.role e y te ty b → Facts n e y → e.layer.phase ≡ PacketReady → (found_ : Option Channel) → channel_of e.layer d ≡ found_ → (ch0 : Channel) → found_ ≡ Some ch0
-    → KeptAt n e.layer.role (moved_end e (on_found (unread e.layer) d (λ z. clear_error e.layer.role d 0 true z) found_) (λ c st. cond (c == d) (next_use_of st) st) e.accepted) y te ty (all_told e.layer.role (on_found (unread e.layer) d (λ z. clear_error e.layer.role d 0 true z) found_).notes b)
-clears n e y te ty b d k facts phase None found ch0 is = absurd (none-some ch0 is)
-clears n e y te ty b d k facts phase (Some ch) found ch0 is =
+clears : (n : ℕ) (e y : End) (te ty : ℕ) (b : Book) (cs : List (Option ℕ)) (d : ℕ) → KeptAt n e.layer.role e y te ty b cs → Facts n e y → e.layer.phase ≡ PacketReady → (found_ : Option Channel) → channel_of e.layer d ≡ found_ → (ch0 : Channel) → found_ ≡ Some ch0
+    → KeptAt n e.layer.role (moved_end e (on_found (unread e.layer) d (λ z. clear_error e.layer.role d 0 true z) found_) (λ c st. cond (c == d) (next_use_of st) st) e.accepted) y te ty (all_told e.layer.role (on_found (unread e.layer) d (λ z. clear_error e.layer.role d 0 true z) found_).notes b) (all_came_by e.layer.role (on_found (unread e.layer) d (λ z. clear_error e.layer.role d 0 true z) found_).notes b cs)
+clears n e y te ty b cs d k facts phase None found ch0 is = absurd (none-some ch0 is)
+clears n e y te ty b cs d k facts phase (Some ch) found ch0 is =
     let up = k.here.up phase in
-    on_one n e y te ty b up.0 d ch (owing (clear_error e.layer.role d 0 true ch)) (clear_error e.layer.role d 0 true ch).channel (after_step (unread e.layer) d (clear_error e.layer.role d 0 true ch)) (λ c st. cond (c == d) (next_use_of st) st) e.accepted
-    next_use_of (λ v. closes e.layer.role d v) NoCalls k facts up.1 found refl refl refl refl (λ st. here_history d (next_use_of st) st) (λ c st h. else_history c d (next_use_of st) st h) (same_rises e) (λ parts c h. absurd c)
-    (ends refl next_use (λ v. refl))
+    on_one n e y te ty b cs up.0 d ch (owing (clear_error e.layer.role d 0 true ch)) (clear_error e.layer.role d 0 true ch).channel (after_step (unread e.layer) d (clear_error e.layer.role d 0 true ch)) (λ c st. cond (c == d) (next_use_of st) st) e.accepted
+    next_use_of (λ v. closes e.layer.role d v) (λ v l. l) NoCalls k facts up.1 found refl refl refl refl (λ st. here_history d (next_use_of st) st) (λ c st h. else_history c d (next_use_of st) st h) (same_rises e) (λ parts c h. absurd c)
+    (ends refl next_use (λ v. refl) (λ v l. refl))
 
 abbrev TimerNotes : End → Timer → Bool → List Note
 TimerNotes e t v = cond v (cond v (expired (unread e.layer) t) e.layer).notes []
 
-pub timer_runs : (n : ℕ) (e y : End) (te ty : ℕ) (b : Book) (t : Timer) → KeptAt n e.layer.role e y te ty b → Facts n e y → (v : Bool) → runs e.layer t ≡ v → KeptAt n e.layer.role (after_timer e t v) y te ty (all_told e.layer.role (TimerNotes e t v) b)
-timer_runs n e y te ty b t k facts false r =
-    still n e y te ty b e.layer (λ c st. st) e.accepted k (λ c. refl) (λ c st. history_refl st) (same_rises e) refl (same_end_is n e (after_timer e t false) k.here refl (same_rises e) refl refl refl)
-timer_runs n e y te ty b RestartTimer k facts true r =
-    still n e y te ty b (expired (unread e.layer) RestartTimer) (λ c st. st) e.accepted k (λ c. refl) (λ c st. history_refl st) (same_rises e) refl (same_end_is n e (after_timer e RestartTimer true) k.here refl (same_rises e) refl refl refl)
-timer_runs n e y te ty b (CallTimer d) k facts true r =
+pub timer_runs : (n : ℕ) (e y : End) (te ty : ℕ) (b : Book) (cs : List (Option ℕ)) (t : Timer) → KeptAt n e.layer.role e y te ty b cs → Facts n e y → (v : Bool) → runs e.layer t ≡ v → KeptAt n e.layer.role (after_timer e t v) y te ty (all_told e.layer.role (TimerNotes e t v) b) (all_came_by e.layer.role (TimerNotes e t v) b cs)
+timer_runs n e y te ty b cs t k facts false r =
+    still n e y te ty b cs e.layer (λ c st. st) e.accepted k (λ c. refl) (λ c st. history_refl st) (same_rises e) refl (same_end_is n e (after_timer e t false) k.here refl (same_rises e) refl refl refl)
+timer_runs n e y te ty b cs RestartTimer k facts true r =
+    still n e y te ty b cs (expired (unread e.layer) RestartTimer) (λ c st. st) e.accepted k (λ c. refl) (λ c st. history_refl st) (same_rises e) refl (same_end_is n e (after_timer e RestartTimer true) k.here refl (same_rises e) refl refl refl)
+timer_runs n e y te ty b cs (CallTimer d) k facts true r =
     let f = runs_found (λ ch. waits_for_call e.layer.role ch.state) e.layer.phase (channel_of e.layer d) r in
-    clears n e y te ty b d k facts f.0 (channel_of e.layer d) refl f.1.0 f.1.1
-timer_runs n e y te ty b (ResetTimer d) k facts true r =
+    clears n e y te ty b cs d k facts f.0 (channel_of e.layer d) refl f.1.0 f.1.1
+timer_runs n e y te ty b cs (ResetTimer d) k facts true r =
     let f = runs_found (λ ch. in_transfer ch.state && ch.resetting) e.layer.phase (channel_of e.layer d) r in
-    clears n e y te ty b d k facts f.0 (channel_of e.layer d) refl f.1.0 f.1.1
-timer_runs n e y te ty b (ClearTimer d) k facts true r =
+    clears n e y te ty b cs d k facts f.0 (channel_of e.layer d) refl f.1.0 f.1.1
+timer_runs n e y te ty b cs (ClearTimer d) k facts true r =
     let e' : End = after_timer e (ClearTimer d) true in
     let count : length e'.layer.channels ≡ length e.layer.channels = closed_length e.layer.channels in
-    restart_step n e.layer.role e e' y te ty b LocalFault k (record {
+    restart_step n e.layer.role e e' y te ty b cs LocalFault k (record {
       channels = refl;
       epochs = λ s c p u g. either_way (λ (z : History). z.epochs p u g ≡ (e.histories s c).epochs p u g) (is_session e.session s) (next_restart_of (e.histories s c)) (e.histories s c) refl refl;
       begun = begun_rises e.layer.role e e' (same_rises e) count;
@@ -163,11 +164,11 @@ no_session_phase ph = false
 pub no_session_not_ready : NoSession ≡ PacketReady → ⊥
 no_session_not_ready p = true≢false (ap no_session_phase p)
 
-pub down_kept : (n : ℕ) (e y : End) (te ty : ℕ) (b : Book) → KeptAt n e.layer.role e y te ty b → KeptAt n e.layer.role (record e { layer = link_down e.layer; session = None }) y te ty (all_told e.layer.role (link_down e.layer).notes b)
-down_kept n e y te ty b k =
+pub down_kept : (n : ℕ) (e y : End) (te ty : ℕ) (b : Book) (cs : List (Option ℕ)) → KeptAt n e.layer.role e y te ty b cs → KeptAt n e.layer.role (record e { layer = link_down e.layer; session = None }) y te ty (all_told e.layer.role (link_down e.layer).notes b) (all_came_by e.layer.role (link_down e.layer).notes b cs)
+down_kept n e y te ty b cs k =
     let e' : End = record e { layer = link_down e.layer; session = None } in
     let count : length e'.layer.channels ≡ length e.layer.channels = closed_length e.layer.channels in
-    session_step n e.layer.role e e' y te te ty b LinkLost k (record {
+    session_step n e.layer.role e e' y te te ty b cs LinkLost k (record {
       channels = refl;
       epochs = λ s c p u g. refl;
       begun = begun_rises e.layer.role e e' (same_rises e) count;
@@ -184,13 +185,13 @@ zero_not_below : (m : ℕ) → (m == 0) ≡ true → nat_lt 0 m ≡ false
 zero_not_below zero e = refl
 zero_not_below (suc m) e = absurd (true≢false (sym e ∙ ne_eqb (suc m) 0 (λ h. omega arith)))
 
-pub up_kept : (n : ℕ) (e y : End) (te ty : ℕ) (b : Book) (s : ℕ) → KeptAt n e.layer.role e y te ty b → te ≤ s → may_begin s (record { me = e; you = y }) ≡ true → KeptAt n e.layer.role (begun s e) y s ty (all_told e.layer.role (link_up e.layer).notes b)
-up_kept n e y te ty b s k le may =
+pub up_kept : (n : ℕ) (e y : End) (te ty : ℕ) (b : Book) (cs : List (Option ℕ)) (s : ℕ) → KeptAt n e.layer.role e y te ty b cs → te ≤ s → may_begin s (record { me = e; you = y }) ≡ true → KeptAt n e.layer.role (begun s e) y s ty (all_told e.layer.role (link_up e.layer).notes b) (all_came_by e.layer.role (link_up e.layer).notes b cs)
+up_kept n e y te ty b cs s k le may =
     let e' : End = begun s e in
     let count : length e'.layer.channels ≡ length e.layer.channels = closed_length e.layer.channels in
     let f = fresh_of (s == 0) (e.accepted s == 0) (y.accepted s == 0) may in
     let fresh : has_come e s ≡ false = ap (λ (v : Bool). v || nat_lt 0 (e.accepted s)) f.0 ∙ zero_not_below (e.accepted s) f.1 in
-    session_step n e.layer.role e e' y te s ty b LinkLost k (record {
+    session_step n e.layer.role e e' y te s ty b cs LinkLost k (record {
       channels = refl;
       epochs = λ i c p u g. refl;
       begun = begun_rises e.layer.role e e' (same_rises e) count;

@@ -9,12 +9,12 @@ use Rattle.packet_laws.specs.Line.Event.{Up, Calls, Requests, Offers, Arrives}
 use Rattle.call_records.specs.Records.{RecordValue, new_record}
 use Rattle.link_timers.specs.declared.role.Role.TheVariants.{Dte, Dce}
 use Rattle.call_records.specs.Book.{packet_of, slot_at}
-use Rattle.book_laws.specs.Told.{World, Move, after_all, start, AreAllowed}
+use Rattle.book_laws.specs.Told.{World, Move, after_all, all_callers, start, AreAllowed}
 use Rattle.book_laws.specs.Told.Move.{Happens}
-use Rattle.book_laws.specs.Headline.{IsPaired, HasCallee, HaveRecords, BookHolds}
+use Rattle.book_laws.specs.Headline.{IsPaired, HasCallee, HaveRecords, PairHolds, BookHolds}
 use Rattle.book_laws.proofs.Answered.{are_answered}
 use Rattle.book_laws.proofs.Having.{have_records}
-use Rattle.book_laws.proofs.BookHolds.{book_holds}
+use Rattle.book_laws.proofs.BookHolds.{book_holds, calls_hold}
 
 abbrev pub parts : CallParts
 parts = record { called = 5 ∷ 7 ∷ []; calling = []; facilities = []; user_part = [] }
@@ -48,7 +48,7 @@ resets ms = Happens (There (Requests 1 (Releasing 1))) ∷ backward (Happens (He
 abbrev whole : List Move
 whole = set_up (called (says 72 (resets (says 73 []))))
 
-abbrev made : World
+abbrev pub made : World
 made = start 3 4 1 2 false
 
 abbrev caller : RecordValue
@@ -97,7 +97,7 @@ is_allowed =
     (zero_one, (zero_one, (tt, (tt, (one_one, (one_one, (tt, (tt, (one_one, (tt, (tt, (one_one, (tt, (tt, (one_one, (tt, (tt, (tt, (one_one, (tt, (tt, (one_one, (tt, (one_one, (tt, (tt, (one_one, (tt, tt))))))))))))))))))))))))))))
 
 -- the call that came in is in the pair, in data transfer
-small : 2 ≤ 7
+pub small : 2 ≤ 7
 small = omega arith
 
 is_paired : IsPaired (slot_at Dce 1 (after_all whole made).book) (after_all whole made).book.pairs
@@ -112,14 +112,24 @@ has_records : HaveRecords (after_all whole made).book
 has_records = have_records 3 4 1 2 false one_one small whole is_allowed
 
 -- before it is accepted, the book has it as one that came in
-abbrev incoming : List Move
+abbrev pub incoming : List Move
 incoming = set_up (Happens (Here (Calls parts)) ∷ onward [])
 
-incoming_allowed : AreAllowed incoming made
+pub incoming_allowed : AreAllowed incoming made
 incoming_allowed = (zero_one, (zero_one, (tt, (tt, (one_one, (one_one, (tt, (tt, (one_one, tt)))))))))
 
 came_in : is_some (slot_at Dce 1 (after_all incoming made).book).caller ≡ true
 came_in = (are_answered 3 4 1 2 false one_one small incoming incoming_allowed).came Dce 1 _ refl refl
+
+-- and its record holds with the caller's as a pair does, though there is no pair yet
+callers_are : all_callers incoming made [] ≡ None ∷ Some 0 ∷ []
+callers_are = refl
+
+no_pair_yet : (after_all incoming made).book.pairs ≡ []
+no_pair_yet = refl
+
+call_holds : PairHolds (after_all incoming made).book (record { caller = 0; callee = 1 })
+call_holds = (calls_hold 3 4 1 2 false one_one small incoming incoming_allowed).came 1 0 refl
 
 -- ---- a call that gives a calling address, as a switch does
 

@@ -13,7 +13,7 @@ use Rattle.packet_laws.specs.History.{Epoch, new_history, with_call, with_answer
 use Rattle.packet_laws.specs.Line.{End, start_end, start_history, no_parts}
 use Rattle.call_records.specs.Records.{RecordValue, PairValue, new_record}
 use Rattle.call_records.specs.Book.{Book, Slot, free_slot, slot_at, side_of, nth_slot, new_book, standing_book}
-use Rattle.book_laws.specs.Told.{start}
+use Rattle.book_laws.specs.Told.{start, made_callers}
 use Rattle.book_laws.proofs.Basics.{dte_not_dce}
 use Rattle.book_laws.proofs.Invariant.{EndView, CallStatus, ChannelUse, Tag, AreOpen, book_parts, IsLive, IsCallee, Stands, Means, Fits, SlotIs, PlacedIs, UpTo, IsPair, IsRight, called_at, own_sent, own_taken, nothing_passed, nothing_sent_yet, nothing_taken_yet}
 use Rattle.book_laws.proofs.Invariant.CallStatus.{Idle}
@@ -99,9 +99,10 @@ module _ (a b n window : ℕ) where
   down_sizes Dte = slots_length n
   down_sizes Dce = slots_length n
 
-  pub down_kept : KeptAt n Dte me you 0 0 (new_book a b n)
+  pub down_kept : KeptAt n Dte me you 0 0 (new_book a b n) []
   down_kept = record {
     tags = [];
+    callers = refl;
     right = down_right;
     sizes = down_sizes;
     here = record { role = refl; count = channels_length n; up = λ p. absurd (no_session_not_ready p) };
@@ -360,16 +361,17 @@ module _ (a b m window : ℕ) where
   up_sizes Dte = ap suc (slots_length m)
   up_sizes Dce = ap suc (slots_length m)
 
-  pub up_kept : KeptAt (suc m) Dte me_up you_up 0 0 book_up
+  pub up_kept : KeptAt (suc m) Dte me_up you_up 0 0 book_up (None ∷ Some 0 ∷ [])
   up_kept = record {
     tags = both;
+    callers = refl;
     right = up_right;
     sizes = up_sizes;
     here = record { role = refl; count = ap suc (channels_length m); up = λ p. (0, refl, refl) };
     there = record { role = refl; count = ap suc (channels_length m); up = λ p. (0, refl, refl) };
   }
 
-pub start_kept : (a b n window : ℕ) (standing : Bool) → 1 ≤ n → KeptIn n (start a b n window standing)
+pub start_kept : (a b n window : ℕ) (standing : Bool) → 1 ≤ n → KeptIn n (start a b n window standing) (made_callers standing)
 start_kept a b n window false some = down_kept a b n window
 start_kept a b zero window true some = absurd (omega arith)
 start_kept a b (suc m) window true some = up_kept a b m window

@@ -1,5 +1,5 @@
 -- What the beginning and the acceptance of a call at an end of a line make of the book.
-use Rattle.std.specs.Prelude.{◌≡◌, ◌≢◌, ℕ, ◌≤◌, ◌⊎◌, true, false, List, length, is_some, Some, None}
+use Rattle.std.specs.Prelude.{◌≡◌, ◌≢◌, ℕ, ◌≤◌, ◌⊎◌, true, false, List, [], ◌∷◌, ◌++◌, length, map, is_some, Some, None}
 use Rattle.std.proofs.Common.{inl, inr, refl, sym, ap, subst, ◌∙◌, true≢false}
 use Rattle.std.specs.Option.{IsSome}
 use Rattle.link_timers.specs.declared.role.Role.{Role}
@@ -13,7 +13,7 @@ use Rattle.packet_laws.specs.Line.{End}
 use Rattle.call_records.specs.Records.{RecordValue, new_record}
 use Rattle.call_records.specs.Book.{Book, Slot, slot_at, side_of, with_record, places_from, comes, address_of}
 use Rattle.book_laws.proofs.Basics.{number_is, order}
-use Rattle.book_laws.proofs.Invariant.{CallStatus, ChannelUse, Tag, BookParts, book_parts, IsPast, IsRight, epoch_at, called_at, answered_at, now, sent_of, taken_of}
+use Rattle.book_laws.proofs.Invariant.{CallStatus, ChannelUse, Tag, came_from, BookParts, book_parts, IsPast, IsRight, epoch_at, called_at, answered_at, now, sent_of, taken_of}
 use Rattle.book_laws.proofs.Invariant.CallStatus.{Idle, OwnCall, FarCall}
 use Rattle.book_laws.proofs.Adding.{Adds}
 use Rattle.book_laws.proofs.Calling.{IsNew, placing_right, coming_right, channel_use_is}
@@ -115,7 +115,7 @@ module _ (x : Role) (e e' y : End) (s d te ty : ℕ) (parts : CallParts) (b : Bo
       record { restarts = h.0; uses = h.1 }
 
 pub place_step : (x : Role) (e e' y : End) (s d te ty : ℕ) (parts : CallParts) (b : Book) (tags : List Tag) → PlaceStep x e e' y s d te ty parts b → IsRight (views_of x e y te ty) (book_parts b) tags
-    → (tags' : List Tag) × IsRight (views_of x e' y te ty) (book_parts (places_from x d parts.calling parts.called b)) tags'
+    → (tags' : List Tag) × (map came_from tags' ≡ map came_from tags ++ None ∷ []) × IsRight (views_of x e' y te ty) (book_parts (places_from x d parts.calling parts.called b)) tags'
 place_step Dte e e' y s d te ty parts b tags q w =
     let b' : Book = places_from Dte d parts.calling parts.called b in
     let v : Book = with_record (new_record (length b.records) b.dte.node (address_of parts.calling) (address_of parts.called)) b in
@@ -132,7 +132,7 @@ place_step Dte e e' y s d te ty parts b tags q w =
       slots_else = λ c h. slot_else Dte d c z v h;
       slots_there = λ c. refl;
     }) in
-    (r.0, subst (λ (sh : BookParts). IsRight (views_of Dte e' y te ty) sh r.0) (book_parts_same b b' refl (λ k. (size_slot Dte d z v).node k ∙ (size_record (new_record (length b.records) b.dte.node (address_of parts.calling) (address_of parts.called)) b).node k)) r.1)
+    (r.0, r.1, subst (λ (sh : BookParts). IsRight (views_of Dte e' y te ty) sh r.0) (book_parts_same b b' refl (λ k. (size_slot Dte d z v).node k ∙ (size_record (new_record (length b.records) b.dte.node (address_of parts.calling) (address_of parts.called)) b).node k)) r.2)
 place_step Dce e e' y s d te ty parts b tags q w =
     let b' : Book = places_from Dce d parts.calling parts.called b in
     let v : Book = with_record (new_record (length b.records) b.dce.node (address_of parts.calling) (address_of parts.called)) b in
@@ -149,7 +149,7 @@ place_step Dce e e' y s d te ty parts b tags q w =
       slots_else = λ c h. slot_else Dce d c z v h;
       slots_there = λ c. refl;
     }) in
-    (r.0, subst (λ (sh : BookParts). IsRight (views_of Dce e' y te ty) sh r.0) (book_parts_same b b' refl (λ k. (size_slot Dce d z v).node k ∙ (size_record (new_record (length b.records) b.dce.node (address_of parts.calling) (address_of parts.called)) b).node k)) r.1)
+    (r.0, r.1, subst (λ (sh : BookParts). IsRight (views_of Dce e' y te ty) sh r.0) (book_parts_same b b' refl (λ k. (size_slot Dce d z v).node k ∙ (size_record (new_record (length b.records) b.dce.node (address_of parts.calling) (address_of parts.called)) b).node k)) r.2)
 
 -- ---- a call comes in at an end
 
@@ -196,7 +196,7 @@ module _ (x : Role) (e e' y : End) (s d te ty : ℕ) (parts : CallParts) (b : Bo
   }
 
 pub come_step : (x : Role) (e e' y : End) (s d te ty : ℕ) (parts : CallParts) (b : Book) (tags : List Tag) → ComeStep x e e' y s d te ty parts b → status_at x (channel_of e.layer d) ≡ Idle → IsUnused (e.histories s d)
-    → IsRight (views_of x e y te ty) (book_parts b) tags → (tags' : List Tag) × IsRight (views_of x e' y te ty) (book_parts (comes x d parts b)) tags'
+    → IsRight (views_of x e y te ty) (book_parts b) tags → (tags' : List Tag) × (map came_from tags' ≡ map came_from tags ++ (slot_at (other_of x) d b).placed ∷ []) × IsRight (views_of x e' y te ty) (book_parts (comes x d parts b)) tags'
 come_step Dte e e' y s d te ty parts b tags q idle unused w =
     let b' : Book = comes Dte d parts b in
     let r0 : RecordValue = new_record (length b.records) b.dte.node (address_of parts.called) (address_of parts.calling) in
@@ -216,7 +216,7 @@ come_step Dte e e' y s d te ty parts b tags q idle unused w =
       slots_else = λ c h. slot_else Dte d c z v h;
       slots_there = λ c. refl;
     }) in
-    (r.0, subst (λ (sh : BookParts). IsRight (views_of Dte e' y te ty) sh r.0) (book_parts_same b b' refl (λ k. (size_slot Dte d z v).node k ∙ (size_record r0 b).node k)) r.1)
+    (r.0, r.1, subst (λ (sh : BookParts). IsRight (views_of Dte e' y te ty) sh r.0) (book_parts_same b b' refl (λ k. (size_slot Dte d z v).node k ∙ (size_record r0 b).node k)) r.2)
 come_step Dce e e' y s d te ty parts b tags q idle unused w =
     let b' : Book = comes Dce d parts b in
     let r0 : RecordValue = new_record (length b.records) b.dce.node (address_of parts.called) (address_of parts.calling) in
@@ -236,4 +236,4 @@ come_step Dce e e' y s d te ty parts b tags q idle unused w =
       slots_else = λ c h. slot_else Dce d c z v h;
       slots_there = λ c. refl;
     }) in
-    (r.0, subst (λ (sh : BookParts). IsRight (views_of Dce e' y te ty) sh r.0) (book_parts_same b b' refl (λ k. (size_slot Dce d z v).node k ∙ (size_record r0 b).node k)) r.1)
+    (r.0, r.1, subst (λ (sh : BookParts). IsRight (views_of Dce e' y te ty) sh r.0) (book_parts_same b b' refl (λ k. (size_slot Dce d z v).node k ∙ (size_record r0 b).node k)) r.2)

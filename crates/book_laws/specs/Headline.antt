@@ -11,7 +11,7 @@ use Rattle.epochs.specs.Match.{Match}
 use Rattle.epochs.specs.Confirmed.{Confirmed, Confirms, sent_confirmed, taken_confirmed, all_taken}
 use Rattle.call_records.specs.Records.{RecordValue, PairValue, sent_epochs, taken_epochs}
 use Rattle.call_records.specs.Book.{Book, Slot, side_of, slot_at}
-use Rattle.book_laws.specs.Told.{World, Move, after_all, AreAllowed, start}
+use Rattle.book_laws.specs.Told.{World, Move, after_all, all_callers, made_callers, AreAllowed, start}
 
 -- epoch by epoch, what one end of a call took begins what the other end sent, packet by packet; what is covered at the
 -- sender was released at the taker, and what is released was taken
@@ -181,3 +181,18 @@ abbrev pub AnsweredLaw : Type 0
 AnsweredLaw = (dte_node dce_node channels window : ℕ) (standing : Bool) → 1 ≤ channels → window ≤ 7
     → (ms : List Move) → AreAllowed ms (start dte_node dce_node channels window standing)
     → AreAnswered (after_all ms (start dte_node dce_node channels window standing))
+
+-- each call that came in holds as a pair does, accepted or not, and of each call that was placed one came in at most;
+-- `callers` has for each record, where the call came in, the record of the end that placed it
+pub record CallsHold (book : Book) (callers : List (Option ℕ)) : Type 0 where
+  pub count : length callers ≡ length book.records
+  pub came : (callee caller : ℕ) → slice_get callers callee ≡ Some (Some caller)
+      → PairHolds book (record { caller = caller; callee = callee })
+  pub once : (a b caller : ℕ) → slice_get callers a ≡ Some (Some caller) → slice_get callers b ≡ Some (Some caller)
+      → a ≡ b
+
+abbrev pub CallsLaw : Type 0
+CallsLaw = (dte_node dce_node channels window : ℕ) (standing : Bool) → 1 ≤ channels → window ≤ 7
+    → (ms : List Move) → AreAllowed ms (start dte_node dce_node channels window standing)
+    → CallsHold (after_all ms (start dte_node dce_node channels window standing)).book
+    (all_callers ms (start dte_node dce_node channels window standing) (made_callers standing))

@@ -1,16 +1,18 @@
 -- A line and its book, side by side: whatever happens at an end's packet layer is written into the book.
-use Rattle.std.specs.Prelude.{ℕ, ◌≤◌, Bool, if◌then◌else◌, List, [], ◌∷◌, Option, Some, None}
+use Rattle.std.specs.Prelude.{ℕ, ◌≤◌, Bool, if◌then◌else◌, List, [], ◌∷◌, ◌++◌, Option, Some, None}
 use Rattle.link_timers.specs.declared.role.Role.{Role}
 use Rattle.link_timers.specs.declared.role.Role.TheVariants.{Dte, Dce}
+use Rattle.link_timers.specs.Role.{other_of}
 use Rattle.pad_editing.specs.Edited.{Step}
 use Rattle.packet_layer.specs.Packets.{Packet, Note}
+use Rattle.packet_layer.specs.Packets.Note.{Incoming}
 use Rattle.packet_layer.specs.Packets.Received.{Whole}
 use Rattle.packet_layer.specs.Layer.{Layer, runs, link_up, link_down, on_packet, on_timer, channel_given}
 use Rattle.packet_layer.specs.Layer.{request_refusal, front_on}
 use Rattle.packet_laws.specs.Line.{Line, Event, Happening, turned, start_line, may_begin, next_of_session, after_one}
 use Rattle.packet_laws.specs.Line.Event.{Up, Down, Calls, Requests, Expires, Arrives}
 use Rattle.packet_laws.specs.Line.Happening.{Here, There}
-use Rattle.call_records.specs.Book.{Book, edits, all_told, made_book}
+use Rattle.call_records.specs.Book.{Book, slot_at, edits, told, all_told, made_book}
 pub use Rattle.call_records.specs.Carried.{carried, unless_refused, placed_on}
 
 -- ---- what an end's packet layer tells by an event
@@ -77,6 +79,40 @@ after_move (Edits role channel step) v = record v { book = edits role channel st
 abbrev pub after_all : List Move → World → World
 after_all [] v = v
 after_all (m ∷ ms) v = after_all ms (after_move m v)
+
+-- ---- where calls come from
+-- of each record of the book, in order: the record of the end that placed the call, where the call came in
+
+abbrev pub came_by : Role → Note → Book → List (Option ℕ) → List (Option ℕ)
+came_by role (Incoming channel parts) b callers = callers ++ (slot_at (other_of role) channel b).placed ∷ []
+came_by role note b callers = callers
+
+abbrev pub all_came_by : Role → List Note → Book → List (Option ℕ) → List (Option ℕ)
+all_came_by role [] b callers = callers
+all_came_by role (note ∷ notes) b callers = all_came_by role notes (told role note b) (came_by role note b callers)
+
+abbrev pub placed_by : Option ℕ → List (Option ℕ) → List (Option ℕ)
+placed_by None callers = callers
+placed_by (Some channel) callers = callers ++ None ∷ []
+
+-- at `me`, which has this role
+abbrev pub callers_by : Role → Event → Line → Book → List (Option ℕ) → List (Option ℕ)
+callers_by role (Calls parts) w b callers = placed_by (channel_given w.me.layer w.me.layer.phase) callers
+callers_by role (Requests channel r) w b callers = callers
+callers_by role event w b callers = all_came_by role (notes_of event w) b callers
+
+abbrev pub callers_after : Move → World → List (Option ℕ) → List (Option ℕ)
+callers_after (Happens (Here event)) v callers = callers_by Dte event v.line v.book callers
+callers_after (Happens (There event)) v callers = callers_by Dce event (turned v.line) v.book callers
+callers_after (Edits role channel step) v callers = callers
+
+abbrev pub all_callers : List Move → World → List (Option ℕ) → List (Option ℕ)
+all_callers [] v callers = callers
+all_callers (m ∷ ms) v callers = all_callers ms (after_move m v) (callers_after m v callers)
+
+-- at the making: of a call that stands, the DTE counts as the end that placed it
+abbrev pub made_callers : Bool → List (Option ℕ)
+made_callers standing = if standing then None ∷ Some 0 ∷ [] else []
 
 -- ---- what the links promise
 -- of sessions: they come in rising order, and a packet that arrives in a session comes from an end that was up in none

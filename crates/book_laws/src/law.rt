@@ -1,4 +1,4 @@
-ghost use Rattle.book_laws.specs.Headline.{BookLaw, RecordsLaw, PresentLaw, AnsweredLaw};
+ghost use Rattle.book_laws.specs.Headline.{BookLaw, RecordsLaw, PresentLaw, AnsweredLaw, CallsLaw};
 
 /// The law of the book of a line, over the definitions alone: whatever is called at the two ends of a line whose
 /// sessions come in rising order, the epochs that one end of a pair took match those that the other end sent, both
@@ -15,4 +15,7 @@ pub fn book_law()
     // Where an end may accept a call, the book has it as one that came in. In data transfer each call is in a pair, at
     // the end that placed it too.
     ensures answered { AnsweredLaw }
+
+    // Each call that came in holds as a pair does, accepted or not, and a call that was placed comes in once at most.
+    ensures calls { CallsLaw }
 {}

@@ -17,3 +17,4 @@ pub mod Owning
 pub mod Tracing
 pub mod Lining
 pub mod Freeing
+mod Moves

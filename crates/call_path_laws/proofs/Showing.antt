@@ -8,7 +8,7 @@ use Rattle.call_records.specs.Book.{Slot, slot_at}
 use Rattle.call_records.specs.Register.{book_at}
 use Rattle.book_laws.specs.Headline.{IsPaired}
 use Rattle.book_laws.proofs.Basics.{get_there}
-use Rattle.book_laws.proofs.Answered.{pair_is}
+use Rattle.book_laws.proofs.Placed.{pair_is}
 use Rattle.register_laws.specs.Seen.{IsNumbered, RecordIsSeen, renumbered}
 use Rattle.register_laws.proofs.Steps.{same_place}
 use Rattle.call_path_laws.specs.World.{World, Plan}

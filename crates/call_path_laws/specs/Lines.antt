@@ -1,10 +1,20 @@
 -- The whole register and the books of the lines: where each record of a line's book comes from, in its numbers, and in
 -- those of the whole register.
-use Rattle.std.specs.Prelude.{◌≡◌, ℕ, List, [], length, map, slice_get, set, Option, Some}
+use Rattle.std.specs.Prelude.{◌≡◌, ℕ, ◌≤◌, Bool, if◌then◌else◌, List, [], ◌∷◌, length, map, slice_get, set}
+use Rattle.std.specs.Prelude.{Option, Some, None}
 use Rattle.link_timers.specs.declared.role.Role.{Role}
+use Rattle.link_timers.specs.declared.role.Role.TheVariants.{Dte, Dce}
+use Rattle.packet_layer.specs.Layer.{channel_given, request_refusal, front_on}
+use Rattle.packet_laws.specs.Line.{Line, Event, turned}
+use Rattle.packet_laws.specs.Line.Event.{Calls, Requests}
+use Rattle.packet_laws.specs.Line.Happening.{Here, There}
 use Rattle.call_records.specs.Book.{Book, new_book}
 use Rattle.call_records.specs.Writes.{Write, all_written}
+use Rattle.call_records.specs.Writes.Write.{Told, Placed, Asked, Edited}
 use Rattle.call_records.specs.Register.{Register, LinePlan, book_at, all_written_at}
+use Rattle.book_laws.specs.Told.{Move, written, notes_of, after_move, after_all, AreAllowed, start}
+use Rattle.book_laws.specs.Told.Move.{Happens, Edits}
+use Rattle.book_laws.specs.Told as told
 use Rattle.book_laws.specs.Headline.{BookHolds}
 use Rattle.book_laws.specs.Headline as book
 use Rattle.register_laws.specs.Seen.{positions, IsNumbered}
@@ -67,3 +77,40 @@ free_book plan = new_book plan.dte_node plan.dce_node plan.channels
 abbrev pub MadeLinesLaw : Type 0
 MadeLinesLaw = (plans : List LinePlan)
     → LinesSeen (free_register plans) [] (map free_book plans) (map (λ plan. []) plans)
+
+-- ---- the calls of a line's book
+
+-- what an event at an end of a line writes, at `me`
+abbrev pub writes_of : Event → Line → List Write
+writes_of (Calls parts) w = Placed (channel_given w.me.layer w.me.layer.phase) parts ∷ []
+writes_of (Requests channel r) w =
+    Asked (request_refusal w.me.layer channel r) channel r (front_on w.me.layer channel) ∷ []
+writes_of event w = Told (notes_of event w) ∷ []
+
+abbrev pub WrittenLaw : Type 0
+WrittenLaw = (role : Role) (event : Event) (w : Line) (b : Book)
+    → all_written role (writes_of event w) b ≡ written role event w b
+
+-- where the records come from that it adds
+abbrev pub traced_by : (line : ℕ) → Move → told.World → List Origin → List Origin
+traced_by line (Happens (Here event)) v origins = all_traced line Dte (writes_of event v.line) v.book origins
+traced_by line (Happens (There event)) v origins = all_traced line Dce (writes_of event (turned v.line)) v.book origins
+traced_by line (Edits role channel step) v origins = all_traced line role (Edited channel step ∷ []) v.book origins
+
+abbrev pub traced_by_all : (line : ℕ) → List Move → told.World → List Origin → List Origin
+traced_by_all line [] v origins = origins
+traced_by_all line (m ∷ ms) v origins = traced_by_all line ms (after_move m v) (traced_by line m v origins)
+
+-- at the making: of a call that stands, the DTE counts as the end that placed it
+abbrev pub made_origins : (line : ℕ) → (standing : Bool) → List Origin
+made_origins line standing =
+    if standing then
+    record { line = line; role = Dte; caller = None } ∷ record { line = line; role = Dce; caller = Some 0 } ∷ []
+    else []
+
+-- whatever happens on a line whose sessions come in rising order, its calls hold
+abbrev pub BookCallsLaw : Type 0
+BookCallsLaw = (line dte_node dce_node channels window : ℕ) (standing : Bool) → 1 ≤ channels → window ≤ 7
+    → (ms : List Move) → AreAllowed ms (start dte_node dce_node channels window standing)
+    → BookCallsHold (after_all ms (start dte_node dce_node channels window standing)).book
+    (traced_by_all line ms (start dte_node dce_node channels window standing) (made_origins line standing))

@@ -3,7 +3,7 @@
 
 ghost use Rattle.call_path_laws.specs.Law.{MadeLaw, EventLaw, PromiseLaw, PathLaw, WithoutSwitchLaw};
 ghost use Rattle.call_path_laws.specs.Law.{OwnedLaw, PresentLaw, CameLaw, PairedLaw};
-ghost use Rattle.call_path_laws.specs.Lines.{MadeLinesLaw, TraceLaw, LinesLaw};
+ghost use Rattle.call_path_laws.specs.Lines.{MadeLinesLaw, TraceLaw, LinesLaw, WrittenLaw, BookCallsLaw};
 ghost use Rattle.call_path_laws.specs.Run.{RunLaw};
 
 /// The law of calls through switches, over definitions alone: beside the register stands a whole one, which has a
@@ -31,6 +31,11 @@ pub fn lines_law()
     ensures made { MadeLinesLaw }
     ensures traces { TraceLaw }
     ensures holds { LinesLaw }
+
+    // Whatever happens on a line, the calls of its book hold: what an event writes is a list of writes, and each call
+    // that came in by them holds as a pair does, accepted or not, and came in once.
+    ensures written { WrittenLaw }
+    ensures calls { BookCallsLaw }
 {}
 
 /// A run of two hosts and a switch between them, by computation: it meets what the law asks for, with a message sent
