@@ -14,8 +14,8 @@ all_happen plan [] w may s = s
 all_happen plan (event ∷ events) w may s = all_happen plan events (after_event event w) may.1 (happens plan event w may.0 s)
 
 pub paths_hold : PathLaw
-paths_hold plan lines events between may calls joins =
-    promised plan (after_all events (made_world lines)) (all_happen plan events (made_world lines) may (made_seen plan lines between)) calls joins
+paths_hold plan lines events addressed between may calls joins =
+    promised plan (after_all events (made_world lines)) addressed (all_happen plan events (made_world lines) may (made_seen plan lines between)) calls joins
 
 pub without_switch : WithoutSwitchLaw
 without_switch plan [] w users same may = same

@@ -28,7 +28,6 @@ line_confirms sender taker h = aligned_confirms (sender.sent_before ++ sender.se
 pub record Carried (x b : RecordValue) : Type 0 where
   pub onward : Confirms (sent_by b) (sent_by x)
   pub backward : Confirms (taken_by x) (taken_by b)
-  pub own : b.own ≡ x.own
   pub far : b.far ≡ x.far
 
 pub record CarriedTo (w : World) (x : RecordValue) (b : ℕ) : Type 0 where
@@ -38,8 +37,8 @@ pub record CarriedTo (w : World) (x : RecordValue) (b : ℕ) : Type 0 where
 
 over_hop : (w : World) (r x : RecordValue) (y a b : ℕ) → CarriedTo w r y → (h : PairHolds w.whole (record { caller = y; callee = a }))
     → (from to : RecordValue) → slice_get w.whole.records a ≡ Some from → slice_get w.whole.records b ≡ Some to
-    → Confirms (sent_by to) (taken_by from) → Confirms (sent_by from) (taken_by to) → to.own ≡ from.far → to.far ≡ from.own → CarriedTo w r b
-over_hop w r x y a b c h from to from_there to_there onward backward own far =
+    → Confirms (sent_by to) (taken_by from) → Confirms (sent_by from) (taken_by to) → to.far ≡ from.own → CarriedTo w r b
+over_hop w r x y a b c h from to from_there to_there onward backward far =
     let caller : h.caller ≡ c.record_ = same_Some h.caller c.record_ (sym h.caller_there ∙ c.there) in
     let callee : h.callee ≡ from = same_Some h.callee from (sym h.callee_there ∙ from_there) in
     let sent : Confirms (taken_by from) (sent_by c.record_) =
@@ -54,7 +53,6 @@ over_hop w r x y a b c h from to from_there to_there onward backward own far =
       carried = record {
         onward = confirms_trans c.carried.onward (sent_by to) (confirms_trans sent (sent_by to) onward);
         backward = confirms_trans backward (taken_by r) (confirms_trans taken (taken_by r) c.carried.backward);
-        own = own ∙ ap (λ (q : RecordValue). q.far) (sym callee) ∙ h.is_right.far ∙ ap (λ (q : RecordValue). q.own) caller ∙ c.carried.own;
         far = far ∙ ap (λ (q : RecordValue). q.own) (sym callee) ∙ h.is_right.own ∙ ap (λ (q : RecordValue). q.far) caller ∙ c.carried.far;
       };
     }
@@ -66,11 +64,11 @@ carried_along plan w calls joins =
     (λ x r there. record {
       record_ = r;
       there = there;
-      carried = record { onward = confirms_itself (sent_by r); backward = confirms_itself (taken_by r); own = refl; far = refl };
+      carried = record { onward = confirms_itself (sent_by r); backward = confirms_itself (taken_by r); far = refl };
     })
     (λ x y a b way h came joined r there.
     let j : JoinHolds plan w a b = joins.joins a b joined in
-    over_hop w r r y a b (h r there) (calls.came a y came) j.from j.to j.from_there j.to_there j.onward j.backward j.own j.far)
+    over_hop w r r y a b (h r there) (calls.came a y came) j.from j.to j.from_there j.to_there j.onward j.backward j.far)
 
 -- ---- what follows
 

@@ -1,5 +1,5 @@
 -- What the register promises where the lines and the joins hold.
-use Rattle.std.proofs.Common.{◌≡◌, ℕ, zero, suc, ◌+◌, ◌<◌, ◌≤◌, ◌⊎◌, inl, inr, true, List, length, Option, Some, None, refl, sym, ap, subst, ◌∙◌, arith}
+use Rattle.std.proofs.Common.{◌≡◌, ℕ, zero, suc, ◌+◌, ◌<◌, ◌≤◌, ◌⊎◌, inl, inr, true, false, List, length, Option, Some, None, refl, sym, ap, subst, ◌∙◌, arith}
 use Rattle.std.specs.Prelude.{slice_get, map, [], ◌∷◌, ◌++◌}
 use Rattle.std.proofs.lemmas.Bool.{cases_Bool}
 use Rattle.std.proofs.lemmas.Option.{none-some, same_Some, slice_get_within}
@@ -17,7 +17,7 @@ use Rattle.register_laws.specs.Seen.{positions, RecordIsSeen, renumbered}
 use Rattle.register_laws.specs.Promise.{IsOfEnd}
 use Rattle.register_laws.proofs.Positions.{IsNth, place_of, rises_from}
 use Rattle.register_laws.proofs.Steps.{same_place}
-use Rattle.call_path_laws.specs.World.{Origin, World, Plan}
+use Rattle.call_path_laws.specs.World.{Origin, World, Plan, AreAddressed, calling_on}
 use Rattle.call_path_laws.specs.Seen.{kind, numbers, CameFrom, Way, Begins, JoinIsSeen, PairIsSeen, PairCame, Seen}
 use Rattle.call_path_laws.specs.Seen.Way.{here, onward}
 use Rattle.call_path_laws.specs.Promise.{IsPlacedAt, PathHolds, PathsHold, CallsHold, JoinsHold, JoinHolds}
@@ -27,9 +27,9 @@ use Rattle.call_path_laws.proofs.Ways.{along, from_first, one_callee, one_first,
 use Rattle.call_path_laws.proofs.Carrying.{line_confirms, Carried, CarriedTo, carried_along, all_confirmed, all_match, empty_of_empty, took_nothing, are_empty}
 
 -- the number of the caller's record does not matter
-placed_like : {plan : Plan} {c : RecordValue} {line : ℕ} {role : Role} → IsPlacedAt plan c line role → (r : RecordValue) → r.node ≡ c.node → r.far ≡ c.far
-    → IsPlacedAt plan r line role
-placed_like (by_caller e) r node far = by_caller (node ∙ e)
+placed_like : {plan : Plan} {c : RecordValue} {first line : ℕ} {role : Role} → IsPlacedAt plan c first line role → (r : RecordValue) → r.node ≡ c.node → r.far ≡ c.far
+    → IsPlacedAt plan r first line role
+placed_like (by_caller e u) r node far = by_caller (node ∙ e) u
 placed_like {plan} {line = line} {role = role} (by_switch from end p same switch routed) r node far =
     by_switch from end (placed_like p r node far) same switch (routed ∙ ap (λ (d : Option (List ℕ)). plan.route (plan.node line role) d) (sym far))
 
@@ -56,7 +56,7 @@ module _ (plan : Plan) (w : World) (s : Seen plan w) where
         caller = subst (λ (z : PairValue). Begins plan w.origins w.joins p.seen_pair.caller z.caller) same p.caller;
       }
 
-module _ (plan : Plan) (w : World) (s : Seen plan w) (calls : CallsHold w) (joins : JoinsHold plan w) where
+module _ (plan : Plan) (w : World) (addressed : AreAddressed plan) (s : Seen plan w) (calls : CallsHold w) (joins : JoinsHold plan w) where
   -- ---- pairs of the two registers
 
   record PairOf (q : ℕ) (pair : PairValue) : Type 0 where
@@ -124,13 +124,65 @@ module _ (plan : Plan) (w : World) (s : Seen plan w) (calls : CallsHold w) (join
       let next = j.order in
       omega arith
 
+  -- the calling address on the way: that of the caller's record at its own end; at a switch's that of its line
+  data CallingAt (first : Origin) (x b : RecordValue) (o : Origin) : Type 0 where
+    at_caller : b.own ≡ x.own → o ≡ first → CallingAt first x b o
+    at_switch : b.own ≡ calling_on (plan.address first.line) x.own → plan.has_user o.line o.role ≡ false → CallingAt first x b o
+
+  no_users : (line : ℕ) (role : Role) → plan.has_user line role ≡ false → plan.has_user line (other_of role) ≡ false → plan.address line ≡ []
+  no_users line Dte e f = addressed line (e ∙ sym f)
+  no_users line Dce e f = addressed line (f ∙ sym e)
+
+  only_users : (line : ℕ) (role : Role) → plan.has_user line role ≡ true → plan.has_user line (other_of role) ≡ true → plan.address line ≡ []
+  only_users line Dte e f = addressed line (e ∙ sym f)
+  only_users line Dce e f = addressed line (f ∙ sym e)
+
+  calling_handed : (first : Origin) (x y b : RecordValue) (line : ℕ) (role : Role) (o : Origin) → CallingAt first x y (record { line = line; role = other_of role; caller = None })
+      → plan.has_user line role ≡ false → plan.has_user o.line o.role ≡ false → b.own ≡ calling_on (plan.address line) y.own → CallingAt first x b o
+  calling_handed first x y b line role o (at_caller e same) from to own =
+      at_switch (own ∙ ap (λ (a : Option (List ℕ)). calling_on (plan.address line) a) e ∙ ap (λ (p : Origin). calling_on (plan.address p.line) x.own) same) to
+  calling_handed first x y b line role o (at_switch e switch) from to own =
+      at_switch (own ∙ ap (λ (a : List ℕ). calling_on a y.own) (no_users line role from switch) ∙ e) to
+
+  calling_at : (x b : ℕ) → Way w.origins w.joins x b → (first : Origin) → slice_get w.origins x ≡ Some first → (r : RecordValue) → slice_get w.whole.records x ≡ Some r
+      → (o : Origin) → slice_get w.origins b ≡ Some o → (q : RecordValue) → slice_get w.whole.records b ≡ Some q → CallingAt first r q o
+  calling_at = along w.origins w.joins
+      (λ x b. (first : Origin) → slice_get w.origins x ≡ Some first → (r : RecordValue) → slice_get w.whole.records x ≡ Some r
+      → (o : Origin) → slice_get w.origins b ≡ Some o → (q : RecordValue) → slice_get w.whole.records b ≡ Some q → CallingAt first r q o)
+      (λ x first begins r there o at q is. at_caller (ap (λ (p : RecordValue). p.own) (same_Some q r (sym is ∙ there))) (same_Some o first (sym at ∙ begins)))
+      (λ x y a b way before came joined first begins r there o at q is.
+      let j : JoinIsSeen plan w.origins a b = s.records.joined a b joined in
+      let k : JoinHolds plan w a b = joins.joins a b joined in
+      let from : came.origin ≡ j.from = same_Some came.origin j.from (sym came.there ∙ j.from_there) in
+      let origin : slice_get w.origins y ≡ Some (record { line = j.from.line; role = other_of j.from.role; caller = None }) =
+      s.records.callers a y j.from j.from_there (ap (λ (p : Origin). p.caller) (sym from) ∙ came.came) in
+      let h = calls.came a y came in
+      let callee : h.callee ≡ k.from = same_Some h.callee k.from (sym h.callee_there ∙ k.from_there) in
+      let to : k.to ≡ q = same_Some k.to q (sym k.to_there ∙ is) in
+      calling_handed first r h.caller q j.from.line j.from.role o (before first begins r there (record { line = j.from.line; role = other_of j.from.role; caller = None }) origin h.caller h.caller_there)
+      j.from_switch (ap (λ (p : Origin). plan.has_user p.line p.role) (sym (same_Some j.to o (sym j.to_there ∙ at))) ∙ j.to_switch)
+      (ap (λ (p : RecordValue). p.own) (sym to) ∙ k.own j.from j.from_there
+      ∙ ap (λ (p : RecordValue). calling_on (plan.address j.from.line) p.far) (sym callee)
+      ∙ ap (λ (d : Option (List ℕ)). calling_on (plan.address j.from.line) d) h.is_right.far))
+
+  -- to a user's end the call comes with that of the caller's line
+  calling_to_user : (first : Origin) (x b : RecordValue) (line : ℕ) (role : Role) → CallingAt first x b (record { line = line; role = other_of role; caller = None })
+      → plan.has_user line role ≡ true → plan.has_user first.line first.role ≡ true → b.own ≡ calling_on (plan.address first.line) x.own
+  calling_to_user first x b line role (at_switch e switch) user caller = e
+  calling_to_user first x b line role (at_caller e same) user caller =
+      let other : plan.has_user line (other_of role) ≡ true = ap (λ (p : Origin). plan.has_user p.line p.role) same ∙ caller in
+      let none : plan.address first.line ≡ [] = ap (λ (p : Origin). plan.address p.line) (sym same) ∙ only_users line role user other in
+      e ∙ ap (λ (a : List ℕ). calling_on a x.own) (sym none)
+
   -- the record of each end on the way is where the call was placed
-  placed_at : (x b : ℕ) → Way w.origins w.joins x b → (first : RecordValue) → slice_get w.whole.records x ≡ Some first
-      → (o : Origin) → slice_get w.origins b ≡ Some o → IsPlacedAt plan first o.line o.role
+  placed_at : (x b : ℕ) → Way w.origins w.joins x b → (begin_ : Origin) → slice_get w.origins x ≡ Some begin_ → plan.has_user begin_.line begin_.role ≡ true
+      → (first : RecordValue) → slice_get w.whole.records x ≡ Some first → (o : Origin) → slice_get w.origins b ≡ Some o → IsPlacedAt plan first begin_.line o.line o.role
   placed_at = along w.origins w.joins
-      (λ x b. (first : RecordValue) → slice_get w.whole.records x ≡ Some first → (o : Origin) → slice_get w.origins b ≡ Some o → IsPlacedAt plan first o.line o.role)
-      (λ x first there o at. by_caller (s.records.nodes x o first at there))
-      (λ x y a b way before came joined first there o at.
+      (λ x b. (begin_ : Origin) → slice_get w.origins x ≡ Some begin_ → plan.has_user begin_.line begin_.role ≡ true
+      → (first : RecordValue) → slice_get w.whole.records x ≡ Some first → (o : Origin) → slice_get w.origins b ≡ Some o → IsPlacedAt plan first begin_.line o.line o.role)
+      (λ x begin_ begins user first there o at.
+      subst (λ (p : Origin). IsPlacedAt plan first begin_.line p.line p.role) (same_Some begin_ o (sym begins ∙ at)) (by_caller (s.records.nodes x begin_ first begins there) user))
+      (λ x y a b way before came joined begin_ begins user first there o at.
       let j : JoinIsSeen plan w.origins a b = s.records.joined a b joined in
       let r : JoinHolds plan w a b = joins.joins a b joined in
       let to : j.to ≡ o = same_Some j.to o (sym j.to_there ∙ at) in
@@ -140,7 +192,7 @@ module _ (plan : Plan) (w : World) (s : Seen plan w) (calls : CallsHold w) (join
       let c : CarriedTo w first b = carried_along plan w calls joins x b (onward a b way came joined) first there in
       let same : r.to ≡ c.record_ = same_Some r.to c.record_ (sym r.to_there ∙ c.there) in
       let node : r.to.node ≡ plan.node o.line o.role = s.records.nodes b o r.to at r.to_there in
-      by_switch j.from.line j.from.role (before first there (record { line = j.from.line; role = other_of j.from.role; caller = None }) origin)
+      by_switch j.from.line j.from.role (before begin_ begins user first there (record { line = j.from.line; role = other_of j.from.role; caller = None }) origin)
       (j.one_switch ∙ ap (λ (p : Origin). plan.node p.line p.role) to)
       (ap (λ (p : Origin). plan.has_user p.line p.role) (sym to) ∙ j.to_switch)
       (r.routed o at ∙ ap (λ (n : ℕ). plan.route n r.to.far) node
@@ -164,6 +216,10 @@ module _ (plan : Plan) (w : World) (s : Seen plan w) (calls : CallsHold w) (join
       let back : Confirms (taken_by from.value) (sent_by to.value) =
       subst (λ (r : RecordValue). Confirms (taken_by from.value) (sent_by r)) callee
       (confirms_trans (line_confirms h.callee h.caller h.matches.backward_aligned) (taken_by from.value) carried.backward) in
+      let begin_ = get_there w.origins x (subst (λ (k : ℕ). x < k) (sym s.records.count) (slice_get_within w.whole.records x (renumbered x from.value) from.seen_there)) in
+      let user : plan.has_user begin_.0.line begin_.0.role ≡ true = numbered_user plan w.origins pair.caller x begin_.0 p.caller.numbered begin_.1 in
+      let placer : slice_get w.origins p.whole.caller ≡ Some (record { line = p.came.origin.line; role = other_of p.came.origin.role; caller = None }) =
+      s.records.callers y p.whole.caller p.came.origin p.came.there p.came.came in
       let less : x < y =
       let first = no_later x p.whole.caller p.caller.way in
       let last = caller_first y p.whole.caller (came_from q pair p) in omega arith in
@@ -184,13 +240,20 @@ module _ (plan : Plan) (w : World) (s : Seen plan w) (calls : CallsHold w) (join
               let caller_number = s.records.numbered pair.caller from.value from.own_there in
               let callee_number = s.records.numbered pair.callee to.value to.own_there in omega arith;
           own = ap (λ (r : RecordValue). r.own) (sym callee) ∙ h.is_right.own ∙ carried.far;
-          far = ap (λ (r : RecordValue). r.far) (sym callee) ∙ h.is_right.far ∙ carried.own;
+          first = begin_.0.line;
+          far =
+              ap (λ (r : RecordValue). r.far) (sym callee)
+              ∙ h.is_right.far
+              ∙ calling_to_user begin_.0 (renumbered x from.value) h.caller p.came.origin.line p.came.origin.role
+              (calling_at x p.whole.caller p.caller.way begin_.0 begin_.1 (renumbered x from.value) from.seen_there (record { line = p.came.origin.line; role = other_of p.came.origin.role; caller = None })
+              placer h.caller h.caller_there)
+              (numbered_user plan w.origins pair.callee y p.came.origin p.callee p.came.there) user;
           line = p.came.origin.line;
           role = p.came.origin.role;
           node = s.records.nodes y p.came.origin (renumbered y to.value) p.came.there to.seen_there;
           placed = placed_like
-              (placed_at x p.whole.caller p.caller.way (renumbered x from.value) from.seen_there (record { line = p.came.origin.line; role = other_of p.came.origin.role; caller = None })
-              (s.records.callers y p.whole.caller p.came.origin p.came.there p.came.came)) from.value refl refl;
+              (placed_at x p.whole.caller p.caller.way begin_.0 begin_.1 user (renumbered x from.value) from.seen_there (record { line = p.came.origin.line; role = other_of p.came.origin.role; caller = None }) placer)
+              from.value refl refl;
         };
       }
 
@@ -364,4 +427,4 @@ module _ (plan : Plan) (w : World) (s : Seen plan w) (calls : CallsHold w) (join
   paths_hold = record { pairs_hold = pair_holds; numbers = s.records.numbered; nodes = nodes; in_one = in_one; took = took }
 
 pub promised : PromiseLaw
-promised plan w s calls joins = paths_hold plan w s calls joins
+promised plan w addressed s calls joins = paths_hold plan w addressed s calls joins

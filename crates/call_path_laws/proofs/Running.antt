@@ -12,7 +12,7 @@ use Rattle.call_records.specs.Register.{LineEnds}
 use Rattle.book_laws.specs.Headline.{IsTakenFrom, IsIn, TookNothing, sent_by}
 use Rattle.book_laws.proofs.Basics.{confirmed_of}
 use Rattle.register_laws.specs.Promise.{PairIsRight, PairHolds, IsOfEnd, RegisterHolds}
-use Rattle.call_path_laws.specs.World.{Origin, Join, made_world, MayAll}
+use Rattle.call_path_laws.specs.World.{Origin, Join, made_world, MayAll, calling_on}
 use Rattle.call_path_laws.specs.Seen.{IsJoined}
 use Rattle.call_path_laws.specs.Promise.{CallsHold, JoinHolds, JoinsHold}
 use Rattle.call_path_laws.specs.Run.{plan, lines, events, world, RunLaw}
@@ -241,7 +241,7 @@ first_join = record {
   to_there = refl;
   onward = confirms_itself _;
   backward = confirms_itself _;
-  own = refl;
+  own = λ o at. ap (λ (p : Origin). calling_on (plan.address p.line) None) (same_Some (record { line = 0; role = Dce; caller = Some 0 }) o at);
   far = refl;
   routed = λ o at. ap (λ (p : Origin). p.line) (sym (same_Some (record { line = 1; role = Dce; caller = None }) o at));
 }
@@ -254,7 +254,7 @@ second_join = record {
   to_there = refl;
   onward = confirms_itself _;
   backward = confirms_itself _;
-  own = refl;
+  own = λ o at. ap (λ (p : Origin). calling_on (plan.address p.line) None) (same_Some (record { line = 0; role = Dce; caller = Some 4 }) o at);
   far = refl;
   routed = λ o at. ap (λ (p : Origin). p.line) (sym (same_Some (record { line = 1; role = Dce; caller = None }) o at));
 }
@@ -270,4 +270,4 @@ joins_hold = record {
 }
 
 pub run_is_right : RunLaw
-run_is_right = record { may = may_all; calls = calls_hold; joins = joins_hold; pairs = refl; records = refl }
+run_is_right = record { addressed = λ line e. absurd (true≢false e); may = may_all; calls = calls_hold; joins = joins_hold; pairs = refl; records = refl }

@@ -7,7 +7,7 @@ use Rattle.call_records.specs.Register.{LinePlan, book_at}
 use Rattle.book_laws.specs.Headline.{IsPaired}
 use Rattle.register_laws.specs.Seen.{renumbered}
 use Rattle.call_path_laws.specs.World.{World, Plan, Event, after_event, after_all, MayHappen, MayAll, made_world}
-use Rattle.call_path_laws.specs.World.{AreBetween}
+use Rattle.call_path_laws.specs.World.{AreBetween, AreAddressed}
 use Rattle.call_path_laws.specs.Seen.{numbers, Seen}
 use Rattle.call_path_laws.specs.Promise.{CallsHold, JoinsHold, PathsHold}
 
@@ -24,11 +24,12 @@ EventLaw =
 
 -- where the lines and the joins hold, so does the register
 abbrev pub PromiseLaw : Type 0
-PromiseLaw = (plan : Plan) (w : World) → Seen plan w → CallsHold w → JoinsHold plan w → PathsHold plan w.register
+PromiseLaw = (plan : Plan) (w : World) → AreAddressed plan → Seen plan w → CallsHold w → JoinsHold plan w
+    → PathsHold plan w.register
 
 -- so from the making on
 abbrev pub PathLaw : Type 0
-PathLaw = (plan : Plan) (lines : List LinePlan) (events : List Event) → AreBetween plan 0 lines
+PathLaw = (plan : Plan) (lines : List LinePlan) (events : List Event) → AreAddressed plan → AreBetween plan 0 lines
     → MayAll plan events (made_world lines)
     → CallsHold (after_all events (made_world lines)) → JoinsHold plan (after_all events (made_world lines))
     → PathsHold plan (after_all events (made_world lines)).register

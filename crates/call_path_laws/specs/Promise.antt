@@ -1,5 +1,5 @@
 -- What the register of a network with switches promises of its calls.
-use Rattle.std.specs.Prelude.{◌≡◌, ℕ, ◌<◌, ◌⊎◌, false, List, slice_get, Some}
+use Rattle.std.specs.Prelude.{◌≡◌, ℕ, ◌<◌, ◌⊎◌, true, false, List, slice_get, Some}
 use Rattle.link_timers.specs.declared.role.Role.{Role}
 use Rattle.link_timers.specs.Role.{other_of}
 use Rattle.epochs.specs.Match.{Match}
@@ -10,7 +10,7 @@ use Rattle.call_records.specs.Register.{Register}
 use Rattle.book_laws.specs.Headline.{IsIn, TookNothing, sent_by, taken_by, all_taken_by}
 use Rattle.register_laws.specs.Promise.{IsOfEnd, RegisterHolds}
 use Rattle.register_laws.specs.Promise as line
-use Rattle.call_path_laws.specs.World.{Origin, World, Plan}
+use Rattle.call_path_laws.specs.World.{Origin, World, Plan, calling_on}
 use Rattle.call_path_laws.specs.Seen.{CameFrom, IsJoined}
 
 -- what one end took matches what the other sent, both ways; by one such matching what is confirmed was taken
@@ -20,26 +20,28 @@ pub record PathMatches (caller callee : RecordValue) : Type 0 where
   pub onward_confirmed : Confirms (all_taken_by callee) (sent_by caller)
   pub backward_confirmed : Confirms (all_taken_by caller) (sent_by callee)
 
--- the call was placed at this end of a line: by the caller itself, or by a switch, at another of whose ends it came in,
--- and whose route for the called address names this line
-pub data IsPlacedAt : Plan → (caller : RecordValue) → (line : ℕ) → Role → Type 0 where
+-- the call was placed at this end of a line: by the caller itself, on the first line of its way, or by a switch, at
+-- another of whose ends it came in, and whose route for the called address names this line
+pub data IsPlacedAt : Plan → (caller : RecordValue) → (first line : ℕ) → Role → Type 0 where
   by_caller : {plan : Plan} {caller : RecordValue} {line : ℕ} {role : Role} → caller.node ≡ plan.node line role
-      → IsPlacedAt plan caller line role
-  by_switch : {plan : Plan} {caller : RecordValue} {line : ℕ} {role : Role} (from : ℕ) (end : Role)
-      → IsPlacedAt plan caller from (other_of end) → plan.node from end ≡ plan.node line role
+      → plan.has_user line role ≡ true → IsPlacedAt plan caller line line role
+  by_switch : {plan : Plan} {caller : RecordValue} {first line : ℕ} {role : Role} (from : ℕ) (end : Role)
+      → IsPlacedAt plan caller first from (other_of end) → plan.node from end ≡ plan.node line role
       → plan.has_user line role ≡ false → line ≡ plan.route (plan.node line role) caller.far
-      → IsPlacedAt plan caller line role
+      → IsPlacedAt plan caller first line role
 
--- the caller's record was made first; the callee's own address is the one that was called, and the far one is the
--- caller's own; the callee is at an end of a line at whose other end the call was placed
+-- the caller's record was made first; the callee's own address is the one that was called, and the far one is that of
+-- the caller's line, or on a line without an address the one that the caller gave; the callee is at an end of a line at
+-- whose other end the call was placed
 pub record PathIsRight (plan : Plan) (caller callee : RecordValue) : Type 0 where
   pub order : caller.number < callee.number
   pub own : callee.own ≡ caller.far
-  pub far : callee.far ≡ caller.own
+  pub first : ℕ
+  pub far : callee.far ≡ calling_on (plan.address first) caller.own
   pub line : ℕ
   pub role : Role
   pub node : callee.node ≡ plan.node line role
-  pub placed : IsPlacedAt plan caller line (other_of role)
+  pub placed : IsPlacedAt plan caller first line (other_of role)
 
 pub record PathHolds (plan : Plan) (g : Register) (pair : PairValue) : Type 0 where
   pub caller : RecordValue
@@ -70,8 +72,9 @@ pub record CallsHold (w : World) : Type 0 where
   pub came : (a x : ℕ) → CameFrom w.origins a x → line.PairHolds w.whole (record { caller = x; callee = a })
   pub once : (a b x : ℕ) → CameFrom w.origins a x → CameFrom w.origins b x → a ≡ b
 
--- of the relay of a join: what was sent on the one leg comes of what was taken on the other one, both ways; the
--- addresses are handed on, and the line is that of the switch's route
+-- of the relay of a join: what was sent on the one leg comes of what was taken on the other one, both ways; the called
+-- address is handed on, and so is the calling one where the line that the call came on has no address; the line is that
+-- of the switch's route
 pub record JoinHolds (plan : Plan) (w : World) (a b : ℕ) : Type 0 where
   pub from : RecordValue
   pub to : RecordValue
@@ -79,7 +82,7 @@ pub record JoinHolds (plan : Plan) (w : World) (a b : ℕ) : Type 0 where
   pub to_there : slice_get w.whole.records b ≡ Some to
   pub onward : Confirms (sent_by to) (taken_by from)
   pub backward : Confirms (sent_by from) (taken_by to)
-  pub own : to.own ≡ from.far
+  pub own : (o : Origin) → slice_get w.origins a ≡ Some o → to.own ≡ calling_on (plan.address o.line) from.far
   pub far : to.far ≡ from.own
   pub routed : (o : Origin) → slice_get w.origins b ≡ Some o → o.line ≡ plan.route to.node to.far
 

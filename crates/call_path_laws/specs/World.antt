@@ -1,6 +1,7 @@
 -- The register of a network with switches, beside one that nobody stores. The whole register has the records of all
 -- ends of lines, a switch's among them; the register has those of the ends with users, PADs and hosts.
-use Rattle.std.specs.Prelude.{◌≡◌, ℕ, suc, ◌<◌, Bool, true, false, List, [], ◌∷◌, ◌++◌, length, slice_get, Option, Some, None, map}
+use Rattle.std.specs.Prelude.{◌≡◌, ℕ, suc, ◌<◌, Bool, true, false, List, [], ◌∷◌, ◌++◌, length, slice_get}
+use Rattle.std.specs.Prelude.{Option, Some, None, map}
 use Rattle.link_timers.specs.declared.role.Role.{Role}
 use Rattle.link_timers.specs.declared.role.Role.TheVariants.{Dte, Dce}
 use Rattle.link_timers.specs.Role.{other_of}
@@ -64,12 +65,23 @@ pub record World : Type 0 where
   pub origins : List Origin
   pub joins : List Join
 
--- the node at each end of each line, and whether it is one with users; and, for each switch, the line to which it sends
--- calls to an address
+-- the node at each end of each line, and whether it is one with users; the address of each line, which lines between an
+-- end with users and a switch have, and others not; and, for each switch, the line to which it sends calls to an address
 pub record Plan : Type 0 where
   pub node : (line : ℕ) → Role → ℕ
   pub has_user : (line : ℕ) → Role → Bool
+  pub address : (line : ℕ) → List ℕ
   pub route : (switch : ℕ) → Option (List ℕ) → ℕ
+
+-- a line between two ends of one kind has no address
+abbrev pub AreAddressed : Plan → Type 0
+AreAddressed plan = (line : ℕ) → plan.has_user line Dte ≡ plan.has_user line Dce → plan.address line ≡ []
+
+-- the calling address of a call that was placed on a line with this address: it is the line's, or on a line without an
+-- address the one that the call has
+abbrev pub calling_on : (address : List ℕ) → (given : Option (List ℕ)) → Option (List ℕ)
+calling_on [] given = given
+calling_on (digit ∷ digits) given = Some (digit ∷ digits)
 
 -- ---- what happens
 
@@ -105,7 +117,8 @@ after_event (Joins from to parts) w = record {
   register = written_at to.line (holds to.role to.channel (holder_of from w.register)) w.register;
   whole = written_at to.line (places_from to.role to.channel parts.calling parts.called) w.whole;
   origins = w.origins ++ record { line = to.line; role = to.role; caller = None } ∷ [];
-  joins = with_join (slot_at from.role from.channel (book_at from.line w.whole)).present (length w.whole.records) w.joins;
+  joins =
+      with_join (slot_at from.role from.channel (book_at from.line w.whole)).present (length w.whole.records) w.joins;
 }
 
 abbrev pub after_all : List Event → World → World

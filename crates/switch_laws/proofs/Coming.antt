@@ -1,5 +1,5 @@
 -- Something comes on one channel: once its notes are heeded, all joins are right again.
-use Rattle.std.proofs.Common.{◌≡◌, ℕ, ◌⊎◌, inl, inr, Bool, true, false, not, List, [], ◌∷◌, Option, Some, None, is_some, refl, sym, ap, ap₂, subst, ◌∙◌, true≢false}
+use Rattle.std.proofs.Common.{◌≡◌, ℕ, ◌⊎◌, inl, inr, Bool, true, false, not, List, [], ◌∷◌, ◌++◌, Option, Some, None, is_some, refl, sym, ap, ap₂, subst, ◌∙◌, true≢false, append-nil}
 use Rattle.std.proofs.lemmas.Option.{none-some, same_Some}
 use Rattle.link_timers.specs.declared.role.Role.{Role}
 use Rattle.link_timers.specs.declared.role.Role.TheVariants.{Dte, Dce}
@@ -23,7 +23,11 @@ use Rattle.switch_laws.specs.Clause.{Passed, IsDirection, taken_part, sent_part}
 use Rattle.switch_laws.specs.Way.{IsRight}
 use Rattle.switch_laws.specs.Join.{Join, IsJoin}
 use Rattle.switch_laws.specs.Join as join
-use Rattle.switch_laws.specs.World.{World, IsWorld, IsAtStart, IsCallLeg, shown_at, layers_of}
+use Rattle.switch_laws.specs.Steps.{acts_of_all}
+use Rattle.switch_laws.specs.Steps as steps
+use Rattle.switch_laws.specs.EventSteps.{told_steps, heed_steps, heed_all_steps}
+use Rattle.switch_laws.specs.World.Act.{Asks}
+use Rattle.switch_laws.specs.World.{Act, World, IsWorld, IsAtStart, IsCallLeg, shown_at, layers_of}
 use Rattle.switch_laws.specs.Joined.{IsWaiting, WaitsFor, IsPair, IsOver, IsJoinedAt, IsSwitchBefore, IsSwitch, Reached, Becomes, has_place}
 use Rattle.switch_laws.specs.Joined.IsPair.{connected, waiting}
 use Rattle.switch_laws.proofs.Directions.{direction_begins}
@@ -33,7 +37,8 @@ use Rattle.switch_laws.proofs.Standing.{accepts_before, start_good}
 use Rattle.switch_laws.proofs.Relaying.{waits_before, waiting_before}
 use Rattle.switch_laws.proofs.Places.{some_there}
 use Rattle.switch_laws.proofs.Frame.{Touches, touches_none, touches_then, reached_none, reached_then, reached_there, frame, Pairing, pairing, pair_kept, apart_turned, not_not}
-use Rattle.switch_laws.proofs.Telling.{GoesOn, Stands, Told, tells, Asked, asks_other, Ended, closes, closes_none}
+use Rattle.switch_laws.proofs.Leading.{Leads, acts_lead, told_leads, heed_leads}
+use Rattle.switch_laws.proofs.Telling.{told_acts, GoesOn, Stands, Told, tells, Asked, asks_other, Ended, closes, closes_none}
 use Rattle.switch_laws.proofs.Outcomes.{AreOf, Outcome}
 use Rattle.switch_laws.proofs.Outcomes.Outcome.{ends, connects, waits, goes_on}
 use Rattle.switch_laws.proofs.SettingUp.{incoming_right, pair_call}
@@ -65,36 +70,49 @@ fewer n ns ms ls w f i = record {
       record { there = k.there; apart = k.apart; other = k.other; joined = k.joined; back = k.back; one_came_in = k.one_came_in; pair = elim k.pair [ inl h ↦ inl h | inr h ↦ inr (elim h [ inl y ↦ inl (f x y) | inr y ↦ inr (f j.other y) ]) ] };
 }
 
-untold : (note : Note) (n c d : ℕ) (ls : List SwitchLine) → d ≡ c → joined_at ls (at n c) ≡ None → told note (at n d) ls ≡ ls
-untold note n c d ls e none = ap (λ (o : Option Joined). told_of o note (at n d) ls) (ap (λ (k : ℕ). joined_at ls (at n k)) e ∙ none)
-
 -- the legs and the lines are as before
-pub becomes_same : (ls ms : List SwitchLine) (w : World) → ms ≡ ls → IsSwitch ls w → Becomes ls w ms
-becomes_same ls ms w e i = subst (λ (ks : List SwitchLine). Becomes ls w ks) (sym e) (record { world = w; reached = reached_none ls w; right = i })
+pub becomes_same : (ls ms : List SwitchLine) (w : World) → ms ≡ ls → IsSwitch ls w → Becomes [] ls w ms
+becomes_same ls ms w e i = subst (λ (ks : List SwitchLine). Becomes [] ls w ks) (sym e) (record { world = w; reached = reached_none ls w; right = i })
 
-pub becomes_then : (ls ms ks : List SwitchLine) (w v : World) → Reached ls w ms v → Becomes ms v ks → Becomes ls w ks
+pub becomes_then : {as_ bs : List Act} (ls ms ks : List SwitchLine) (w v : World) → Reached as_ ls w ms v → Becomes bs ms v ks → Becomes (as_ ++ bs) ls w ks
 becomes_then ls ms ks w v r b = record { world = b.world; reached = reached_then ls ms ks w v b.world r b.reached; right = b.right }
+
+-- and so it is by steps, one list after the other
+pub becomes_by : (as_ bs : List steps.Step) (ls ms ks : List SwitchLine) (w v : World) → Leads as_ ls ms → Reached (acts_of_all as_ ls) ls w ms v → Becomes (acts_of_all bs ms) ms v ks → Becomes (acts_of_all (as_ ++ bs) ls) ls w ks
+becomes_by as_ bs ls ms ks w v e r b = subst (λ (acts : List Act). Becomes acts ls w ks) (acts_lead as_ bs ls ms e) (becomes_then ls ms ks w v r b)
+
+-- the lines and legs after these notes were heeded
+abbrev pub Heeded : RouteMap → ℕ → List Note → List SwitchLine → World → Type 0
+Heeded routes n ns ls w = Becomes (acts_of_all (heed_all_steps routes n ns ls) ls) ls w (heed_all routes n ns ls)
+
+-- the first note is not of a joined channel
+untold_first : (routes : RouteMap) (note : Note) (n c d : ℕ) (ns : List Note) (ls : List SwitchLine) (w : World) → d ≡ c → joined_at ls (at n c) ≡ None → Heeded routes n ns ls w
+    → Becomes (acts_of_all (told_steps (joined_at ls (at n d)) note (at n d) ls ++ heed_all_steps routes n ns (told note (at n d) ls)) ls) ls w (heed_all routes n ns (told note (at n d) ls))
+untold_first routes note n c d ns ls w e none h =
+    subst (λ (o : Option Joined). Becomes (acts_of_all (told_steps o note (at n d) ls ++ heed_all_steps routes n ns (told_of o note (at n d) ls)) ls) ls w (heed_all routes n ns (told_of o note (at n d) ls)))
+    (sym (ap (λ (k : ℕ). joined_at ls (at n k)) e ∙ none)) h
 
 pub heeds_alone : (routes : RouteMap) (n c : ℕ) (s : CallState) (role : Role) (ns : List Note) (ls : List SwitchLine) (w : World) → AreOf c role s ns → IsSwitchBefore n ns ls w
     → joined_at ls (at n c) ≡ None → is_some (shown_at (layers_of ls) (at n c)) ≡ true → role ≡ (w (at n c)).role → s ≡ (w (at n c)).channel.state
-    → Becomes ls w (heed_all routes n ns ls)
+    → Heeded routes n ns ls w
 heeds_alone routes n c s role [] ls w of i none there r e = becomes_same ls ls w refl (always n ls w i)
 heeds_alone routes n c s role (Incoming d parts ∷ ns) ls w of i none there r e =
-    subst (λ (more : List Note). Becomes ls w (heed_all routes n more (heed routes n (Incoming d parts) ls))) (sym of.1.1)
-    (subst (λ (k : ℕ). Becomes ls w (heed routes n (Incoming k parts) ls)) (sym of.0)
+    subst (λ (more : List Note). Becomes (acts_of_all (heed_steps routes n (Incoming d parts) ls ++ heed_all_steps routes n more (heed routes n (Incoming d parts) ls)) ls) ls w (heed_all routes n more (heed routes n (Incoming d parts) ls))) (sym of.1.1)
+    (subst (λ (ss : List steps.Step). Becomes (acts_of_all ss ls) ls w (heed routes n (Incoming d parts) ls)) (sym (append-nil (heed_steps routes n (Incoming d parts) ls)))
+    (subst (λ (k : ℕ). Becomes (acts_of_all (heed_steps routes n (Incoming k parts) ls) ls) ls w (heed routes n (Incoming k parts) ls)) (sym of.0)
     (incoming_right routes n c parts ls w (always n ls w (fewer n (Incoming d parts ∷ ns) [] ls w (λ x h. subst (λ (more : List Note). IsOver n more x) of.1.1 h) i)) none there
-    (ap₂ (λ (y : Role) (z : CallState). may_accept y z) (sym r) (sym e) ∙ of.1.0)))
+    (ap₂ (λ (y : Role) (z : CallState). may_accept y z) (sym r) (sym e) ∙ of.1.0))))
 heeds_alone routes n c s role (Connected d ∷ ns) ls w of i none there r e =
-    subst (λ (ms : List SwitchLine). Becomes ls w (heed_all routes n ns ms)) (sym (untold (Connected d) n c d ls of.0 none)) (heeds_alone routes n c s role ns ls w of.1 (fewer n (Connected d ∷ ns) ns ls w (λ x h. h) i) none there r e)
+    untold_first routes (Connected d) n c d ns ls w of.0 none (heeds_alone routes n c s role ns ls w of.1 (fewer n (Connected d ∷ ns) ns ls w (λ x h. h) i) none there r e)
 heeds_alone routes n c s role (Closed d cause diagnostic reason ∷ ns) ls w of i none there r e =
-    subst (λ (ms : List SwitchLine). Becomes ls w (heed_all routes n ns ms)) (sym (untold (Closed d cause diagnostic reason) n c d ls of.0 none))
+    untold_first routes (Closed d cause diagnostic reason) n c d ns ls w of.0 none
     (heeds_alone routes n c s role ns ls w of.1 (closes_none n d cause diagnostic reason ns ls w (ap (λ (k : ℕ). joined_at ls (at n k)) of.0 ∙ none) i) none there r e)
 heeds_alone routes n c s role (WasReset d cause diagnostic reason ∷ ns) ls w of i none there r e =
-    subst (λ (ms : List SwitchLine). Becomes ls w (heed_all routes n ns ms)) (sym (untold (WasReset d cause diagnostic reason) n c d ls of.0 none)) (heeds_alone routes n c s role ns ls w of.1 (fewer n (WasReset d cause diagnostic reason ∷ ns) ns ls w (λ x h. h) i) none there r e)
+    untold_first routes (WasReset d cause diagnostic reason) n c d ns ls w of.0 none (heeds_alone routes n c s role ns ls w of.1 (fewer n (WasReset d cause diagnostic reason ∷ ns) ns ls w (λ x h. h) i) none there r e)
 heeds_alone routes n c s role (InterruptConfirmed d ∷ ns) ls w of i none there r e =
-    subst (λ (ms : List SwitchLine). Becomes ls w (heed_all routes n ns ms)) (sym (untold (InterruptConfirmed d) n c d ls of.0 none)) (heeds_alone routes n c s role ns ls w of.1 (fewer n (InterruptConfirmed d ∷ ns) ns ls w (λ x h. h) i) none there r e)
+    untold_first routes (InterruptConfirmed d) n c d ns ls w of.0 none (heeds_alone routes n c s role ns ls w of.1 (fewer n (InterruptConfirmed d ∷ ns) ns ls w (λ x h. h) i) none there r e)
 heeds_alone routes n c s role (Covered d k ∷ ns) ls w of i none there r e =
-    subst (λ (ms : List SwitchLine). Becomes ls w (heed_all routes n ns ms)) (sym (untold (Covered d k) n c d ls of.0 none)) (heeds_alone routes n c s role ns ls w of.1 (fewer n (Covered d k ∷ ns) ns ls w (λ x h. h) i) none there r e)
+    untold_first routes (Covered d k) n c d ns ls w of.0 none (heeds_alone routes n c s role ns ls w of.1 (fewer n (Covered d k ∷ ns) ns ls w (λ x h. h) i) none there r e)
 
 -- ---- notes of a call that goes on
 
@@ -106,17 +124,30 @@ heeds_note routes n c (WasReset d cause diagnostic reason) ls e = ap (λ (k : �
 heeds_note routes n c (InterruptConfirmed d) ls e = ap (λ (k : ℕ). told (InterruptConfirmed d) (at n k) ls) e
 heeds_note routes n c (Covered d k) ls e = ap (λ (m : ℕ). told (Covered d k) (at n m) ls) e
 
+heeds_steps : (routes : RouteMap) (n c : ℕ) (note : Note) (ls : List SwitchLine) → GoesOn c note → heed_steps routes n note ls ≡ told_steps (joined_at ls (at n c)) note (at n c) ls
+heeds_steps routes n c (Incoming d parts) ls e = absurd e
+heeds_steps routes n c (Connected d) ls e = absurd e
+heeds_steps routes n c (Closed d cause diagnostic reason) ls e = absurd e
+heeds_steps routes n c (WasReset d cause diagnostic reason) ls e = ap (λ (k : ℕ). told_steps (joined_at ls (at n k)) (WasReset d cause diagnostic reason) (at n k) ls) e
+heeds_steps routes n c (InterruptConfirmed d) ls e = ap (λ (k : ℕ). told_steps (joined_at ls (at n k)) (InterruptConfirmed d) (at n k) ls) e
+heeds_steps routes n c (Covered d k) ls e = ap (λ (m : ℕ). told_steps (joined_at ls (at n m)) (Covered d k) (at n m) ls) e
+
 tells_all : (routes : RouteMap) (n c : ℕ) (ns : List Note) (ls : List SwitchLine) (w : World) (j k : Joined) (i : Join) → Every (GoesOn c) ns → Stands ls w (at n c) j k i
-    → Told ls w (at n c) j k (heed_all routes n ns ls) (join.all_told ns i)
+    → Told (acts_of_all (heed_all_steps routes n ns ls) ls) ls w (at n c) j k (heed_all routes n ns ls) (join.all_told ns i)
 tells_all routes n c [] ls w j k i e s = record { world = w; touches = touches_none (at n c) j.other ls w; stands = s }
 tells_all routes n c (x ∷ ns) ls w j k i e s =
     let t = tells c x ls w (at n c) j k i e.0 s in
     let u = tells_all routes n c ns (told x (at n c) ls) t.world j k (join.told x i) e.1 t.stands in
-    subst (λ (ms : List SwitchLine). Told ls w (at n c) j k (heed_all routes n ns ms) (join.all_told ns (join.told x i))) (sym (heeds_note routes n c x ls e.0)) (record {
+    let first : List steps.Step = told_steps (joined_at ls (at n c)) x (at n c) ls in
+    let all : Told (acts_of_all (first ++ heed_all_steps routes n ns (told x (at n c) ls)) ls) ls w (at n c) j k (heed_all routes n ns (told x (at n c) ls)) (join.all_told ns (join.told x i)) = record {
       world = u.world;
-      touches = touches_then (at n c) j.other ls (told x (at n c) ls) (heed_all routes n ns (told x (at n c) ls)) w t.world u.world t.touches u.touches;
+      touches = subst (λ (acts : List Act). Touches acts (at n c) j.other ls w (heed_all routes n ns (told x (at n c) ls)) u.world)
+          (acts_lead first (heed_all_steps routes n ns (told x (at n c) ls)) ls (told x (at n c) ls) (told_leads (joined_at ls (at n c)) x (at n c) ls))
+          (touches_then (at n c) j.other ls (told x (at n c) ls) (heed_all routes n ns (told x (at n c) ls)) w t.world u.world t.touches u.touches);
       stands = u.stands;
-    })
+    } in
+    subst (λ (ms : List SwitchLine). Told (acts_of_all (heed_steps routes n x ls ++ heed_all_steps routes n ns ms) ls) ls w (at n c) j k (heed_all routes n ns ms) (join.all_told ns (join.told x i))) (sym (heeds_note routes n c x ls e.0))
+    (subst (λ (ss : List steps.Step). Told (acts_of_all (ss ++ heed_all_steps routes n ns (told x (at n c) ls)) ls) ls w (at n c) j k (heed_all routes n ns (told x (at n c) ls)) (join.all_told ns (join.told x i))) (sym (heeds_steps routes n c x ls e.0)) all)
 
 -- ---- a call is connected
 
@@ -166,8 +197,8 @@ waits_again false g g' h i e f = record { can_accept = i.can_accept; waits = f }
 -- ---- a step of the channel
 
 -- what came on the channel, before its notes are heeded
-pub record Came (n c : ℕ) (ls : List SwitchLine) (w : World) (st : Step) (e : Epoch) (ms : List SwitchLine) (v : World) : Type 0 where
-  pub touches : (q : Place) → Touches (at n c) q ls w ms v
+pub record Came (acts : List Act) (n c : ℕ) (ls : List SwitchLine) (w : World) (st : Step) (e : Epoch) (ms : List SwitchLine) (v : World) : Type 0 where
+  pub touches : (q : Place) → Touches acts (at n c) q ls w ms v
   pub joined : (x : Place) → joined_at ms x ≡ joined_at ls x
   pub there : is_some (shown_at (layers_of ls) (at n c)) ≡ true
   pub leg : v (at n c) ≡ stepped st e (w (at n c))
@@ -178,15 +209,19 @@ pub record Came (n c : ℕ) (ls : List SwitchLine) (w : World) (st : Step) (e : 
   pub goes : (h : Leg) (there back : Direction) → st.channel.state ≡ Transfer → IsJoin (record { a = h; b = w (at n c); there = there; back = back })
       → IsJoin (join.all_told st.notes (record { a = h; b = v (at n c); there = there; back = back }))
 
-none_joined : (n c : ℕ) (ls ms : List SwitchLine) (w v : World) (st : Step) (e : Epoch) → Came n c ls w st e ms v → IsSwitch ls w → joined_at ls (at n c) ≡ None → IsSwitch ms v
+none_joined : {acts : List Act} (n c : ℕ) (ls ms : List SwitchLine) (w v : World) (st : Step) (e : Epoch) → Came acts n c ls w st e ms v → IsSwitch ls w → joined_at ls (at n c) ≡ None → IsSwitch ms v
 none_joined n c ls ms w v st e k i none =
     let gone : joined_at ms (at n c) ≡ None = k.joined (at n c) ∙ none in
     frame 0 0 [] [] (at n c) (at n c) ls ms w v i (k.touches (at n c))
     (λ j f. absurd (none-some j (sym none ∙ f))) (λ j f. absurd (none-some j (sym none ∙ f))) (λ j f. absurd (none-some j (sym gone ∙ f))) (λ j f. absurd (none-some j (sym gone ∙ f)))
     (λ x a b f. f)
 
-comes_alone : (routes : RouteMap) (n c : ℕ) (ls ms : List SwitchLine) (w v : World) (st : Step) (e : Epoch) → Came n c ls w st e ms v → IsSwitch ls w → joined_at ls (at n c) ≡ None
-    → Becomes ls w (heed_all routes n st.notes ms)
+-- the notes of what came are heeded
+abbrev pub After : List Act → RouteMap → ℕ → List Note → List SwitchLine → World → List SwitchLine → Type 0
+After acts routes n ns ls w ms = Becomes (acts ++ acts_of_all (heed_all_steps routes n ns ms) ms) ls w (heed_all routes n ns ms)
+
+comes_alone : {acts : List Act} (routes : RouteMap) (n c : ℕ) (ls ms : List SwitchLine) (w v : World) (st : Step) (e : Epoch) → Came acts n c ls w st e ms v → IsSwitch ls w → joined_at ls (at n c) ≡ None
+    → After acts routes n st.notes ls w ms
 comes_alone routes n c ls ms w v st e k i none =
     let right = none_joined n c ls ms w v st e k i none in
     let before : IsSwitchBefore n st.notes ms v = lift ms v right st.notes n in
@@ -204,14 +239,16 @@ comes_alone routes n c ls ms w v st e k i none =
     }
 
 -- the call on it is over
-comes_over : (routes : RouteMap) (n c cause diagnostic : ℕ) (reason : Reason) (rest : List Note) (ls ms : List SwitchLine) (w v : World) (st : Step) (e : Epoch) (j k : Joined)
-    → Came n c ls w st e ms v → IsSwitch ls w → Pairing ls (at n c) j k → st.notes ≡ Closed c cause diagnostic reason ∷ rest → Becomes ls w (heed_all routes n st.notes ms)
-comes_over routes n c cause diagnostic reason rest ls ms w v st e j k came i s is =
-    subst (λ (ns : List Note). Becomes ls w (heed_all routes n ns ms)) (sym is)
-    (becomes_then ls over_ (heed_all routes n rest over_) w ended.world (reached_then ls ms over_ w v ended.world t.reached ended.reached)
+comes_over : {acts : List Act} (routes : RouteMap) (n c cause diagnostic : ℕ) (reason : Reason) (rest : List Note) (ls ms : List SwitchLine) (w v : World) (st : Step) (e : Epoch) (j k : Joined)
+    → Came acts n c ls w st e ms v → IsSwitch ls w → Pairing ls (at n c) j k → st.notes ≡ Closed c cause diagnostic reason ∷ rest → After acts routes n st.notes ls w ms
+comes_over {acts} routes n c cause diagnostic reason rest ls ms w v st e j k came i s is =
+    subst (λ (ns : List Note). After acts routes n ns ls w ms) (sym is)
+    (becomes_then ls ms (heed_all routes n ns ms) w v t.reached
+    (becomes_by (heed_steps routes n (Closed c cause diagnostic reason) ms) (heed_all_steps routes n rest over_) ms over_ (heed_all routes n rest over_) v ended.world
+    (heed_leads routes n (Closed c cause diagnostic reason) ms) ended.reached
     (heeds_alone routes n c st.channel.state (w p).role rest over_ ended.world (subst (λ (ns : List Note). AreOf c (w p).role st.channel.state ns) is came.notes_of_it).1 ended.right ended.not_joined
     (reached_there ms over_ v ended.world ended.reached p ∙ (reached_there ls ms w v t.reached p ∙ s.p_there))
-    (sym (ap (λ (g : Leg). g.role) ended.leg ∙ came.same_role)) (sym (ap (λ (g : Leg). g.channel.state) ended.leg ∙ came.state))))
+    (sym (ap (λ (g : Leg). g.role) ended.leg ∙ came.same_role)) (sym (ap (λ (g : Leg). g.channel.state) ended.leg ∙ came.state)))))
   where
     p : Place
     p = at n c
@@ -222,7 +259,7 @@ comes_over routes n c cause diagnostic reason rest ls ms w v st e j k came i s i
     ns : List Note
     ns = Closed c cause diagnostic reason ∷ rest
 
-    t : Touches p q ls w ms v
+    t : Touches acts p q ls w ms v
     t = came.touches q
 
     here : joined_at ms p ≡ Some j
@@ -257,13 +294,13 @@ comes_over routes n c cause diagnostic reason rest ls ms w v st e j k came i s i
     over_ : List SwitchLine
     over_ = told (Closed c cause diagnostic reason) p ms
 
-    ended : Ended n rest ms v over_ p
+    ended : Ended (told_acts (Closed c cause diagnostic reason) p ms) n rest ms v over_ p
     ended = closes n c cause diagnostic reason rest ms v before
 
 -- the call on it goes on
-comes_on : (routes : RouteMap) (n c : ℕ) (ls ms : List SwitchLine) (w v : World) (st : Step) (e : Epoch) (j k : Joined) → Came n c ls w st e ms v → IsSwitch ls w → Pairing ls (at n c) j k
-    → IsJoin (record { a = w (at n c); b = w j.other; there = j.kept; back = k.kept }) → st.channel.state ≡ Transfer → Every (GoesOn c) st.notes → Becomes ls w (heed_all routes n st.notes ms)
-comes_on routes n c ls ms w v st e j k came i s right state notes = record {
+comes_on : {acts : List Act} (routes : RouteMap) (n c : ℕ) (ls ms : List SwitchLine) (w v : World) (st : Step) (e : Epoch) (j k : Joined) → Came acts n c ls w st e ms v → IsSwitch ls w → Pairing ls (at n c) j k
+    → IsJoin (record { a = w (at n c); b = w j.other; there = j.kept; back = k.kept }) → st.channel.state ≡ Transfer → Every (GoesOn c) st.notes → After acts routes n st.notes ls w ms
+comes_on {acts} routes n c ls ms w v st e j k came i s right state notes = record {
   world = told_.world;
   reached = all.reached;
   right = pair_kept 0 0 [] [] ls ks w told_.world p j k after.back after.there i s all told_.stands.pair.here told_.stands.pair.there (connected joined) (λ x a b f. f);
@@ -278,7 +315,7 @@ comes_on routes n c ls ms w v st e j k came i s right state notes = record {
     ks : List SwitchLine
     ks = heed_all routes n st.notes ms
 
-    t : Touches p q ls w ms v
+    t : Touches acts p q ls w ms v
     t = came.touches q
 
     before : Join
@@ -302,10 +339,10 @@ comes_on routes n c ls ms w v st e j k came i s right state notes = record {
       far = (came.touches p).legs q (apart_turned p q s.apart) (apart_turned p q s.apart);
     }
 
-    told_ : Told ms v p j k ks after
+    told_ : Told (acts_of_all (heed_all_steps routes n st.notes ms) ms) ms v p j k ks after
     told_ = tells_all routes n c st.notes ms v j k before notes stands
 
-    all : Touches p q ls w ks told_.world
+    all : Touches (acts ++ acts_of_all (heed_all_steps routes n st.notes ms) ms) p q ls w ks told_.world
     all = touches_then p q ls ms ks w v told_.world t told_.touches
 
     is_join : IsJoin after
@@ -317,12 +354,12 @@ comes_on routes n c ls ms w v st e j k came i s right state notes = record {
         (subst (λ (h : Leg). IsJoin (record { a = after.b; b = h; there = after.back; back = after.there })) (sym told_.stands.far) (turned_join after is_join))
 
 -- the call that was placed on it is connected
-comes_connected : (routes : RouteMap) (n c : ℕ) (ls ms : List SwitchLine) (w v : World) (st : Step) (e : Epoch) (j k : Joined) → Came n c ls w st e ms v → IsSwitch ls w → Pairing ls (at n c) j k
+comes_connected : {acts : List Act} (routes : RouteMap) (n c : ℕ) (ls ms : List SwitchLine) (w v : World) (st : Step) (e : Epoch) (j k : Joined) → Came acts n c ls w st e ms v → IsSwitch ls w → Pairing ls (at n c) j k
     → j.kept ≡ new_direction → k.kept ≡ new_direction → WaitsFor j.came_in (w (at n c)) (w j.other) → waits_for_call (w (at n c)).role (w (at n c)).channel.state ≡ true
-    → e ≡ (w (at n c)).epoch → st ≡ record { channel = entered Transfer (w (at n c)).channel; owes = None; notes = Connected c ∷ [] } → Becomes ls w (heed_all routes n st.notes ms)
-comes_connected routes n c ls ms w v st e j k came i s new_here new_there waiting_ callee epoch is =
-    subst (λ (ns : List Note). Becomes ls w (heed_all routes n ns ms)) (sym (ap (λ (x : Step). x.notes) is))
-    (subst (λ (ks : List SwitchLine). Becomes ls w ks) (sym (ap (λ (o : Option Joined). told_of o (Connected c) p ms) here)) (record {
+    → e ≡ (w (at n c)).epoch → st ≡ record { channel = entered Transfer (w (at n c)).channel; owes = None; notes = Connected c ∷ [] } → After acts routes n st.notes ls w ms
+comes_connected {acts} routes n c ls ms w v st e j k came i s new_here new_there waiting_ callee epoch is =
+    subst (λ (ns : List Note). After acts routes n ns ls w ms) (sym (ap (λ (x : Step). x.notes) is))
+    (subst (λ (o : Option Joined). Becomes (acts ++ acts_of_all (told_steps o (Connected c) p ms ++ []) ms) ls w (told_of o (Connected c) p ms)) (sym here) (record {
       world = a.world;
       reached = all.reached;
       right = pair_kept 0 0 [] [] ls ks w a.world p j k j.kept k.kept i s all a.here a.there (connected joined) (λ x b d f. f);
@@ -337,7 +374,7 @@ comes_connected routes n c ls ms w v st e j k came i s new_here new_there waitin
     ks : List SwitchLine
     ks = ask q Accept ms
 
-    t : Touches p q ls w ms v
+    t : Touches acts p q ls w ms v
     t = came.touches q
 
     here : joined_at ms p ≡ Some j
@@ -357,7 +394,7 @@ comes_connected routes n c ls ms w v st e j k came i s new_here new_there waitin
     a : Asked Accept ms v p j k ks
     a = asks_other Accept ms v p j k tt pair
 
-    all : Touches p q ls w ks a.world
+    all : Touches (acts ++ Asks q Accept ∷ []) p q ls w ks a.world
     all = touches_then p q ls ms ks w v a.world t a.touches
 
     caller : IsWaiting (w q) (w p)
@@ -401,13 +438,13 @@ comes_connected routes n c ls ms w v st e j k came i s new_here new_there waitin
         (subst (λ (d : Direction). IsJoin (record { a = near; b = far; there = new_direction; back = d })) (sym new_there) right)))
 
 -- it still waits for its answer
-comes_waiting : (routes : RouteMap) (n c : ℕ) (ls ms : List SwitchLine) (w v : World) (st : Step) (e : Epoch) (j k : Joined) → Came n c ls w st e ms v → IsSwitch ls w → Pairing ls (at n c) j k
+comes_waiting : {acts : List Act} (routes : RouteMap) (n c : ℕ) (ls ms : List SwitchLine) (w v : World) (st : Step) (e : Epoch) (j k : Joined) → Came acts n c ls w st e ms v → IsSwitch ls w → Pairing ls (at n c) j k
     → j.kept ≡ new_direction → k.kept ≡ new_direction → WaitsFor j.came_in (w (at n c)) (w j.other) → waits_for_call (w (at n c)).role (w (at n c)).channel.state ≡ true
-    → waits_for_call (w (at n c)).role st.channel.state ≡ true → st.notes ≡ [] → Becomes ls w (heed_all routes n st.notes ms)
-comes_waiting routes n c ls ms w v st e j k came i s new_here new_there waiting_ callee still none =
-    subst (λ (ns : List Note). Becomes ls w (heed_all routes n ns ms)) (sym none) (record {
+    → waits_for_call (w (at n c)).role st.channel.state ≡ true → st.notes ≡ [] → After acts routes n st.notes ls w ms
+comes_waiting {acts} routes n c ls ms w v st e j k came i s new_here new_there waiting_ callee still none =
+    subst (λ (ns : List Note). After acts routes n ns ls w ms) (sym none) (record {
       world = v;
-      reached = t.reached;
+      reached = reached_then ls ms ms w v v t.reached (reached_none ms v);
       right = pair_kept 0 0 [] [] ls ms w v p j k j.kept k.kept i s t (came.joined p ∙ s.here) (came.joined q ∙ s.there) (waiting new_here new_there now) (λ x b d f. f);
     })
   where
@@ -417,7 +454,7 @@ comes_waiting routes n c ls ms w v st e j k came i s new_here new_there waiting_
     q : Place
     q = j.other
 
-    t : Touches p q ls w ms v
+    t : Touches acts p q ls w ms v
     t = came.touches q
 
     now : WaitsFor j.came_in (v p) (v q)
@@ -425,9 +462,9 @@ comes_waiting routes n c ls ms w v st e j k came i s new_here new_there waiting_
         subst (λ (h : Leg). WaitsFor j.came_in (v p) h) (sym ((came.touches p).legs q (apart_turned p q s.apart) (apart_turned p q s.apart)))
         (waits_again j.came_in (w p) (v p) (w q) waiting_ callee (ap₂ (λ (x : Role) (y : CallState). waits_for_call x y) came.same_role came.state ∙ still))
 
-comes_pair : (routes : RouteMap) (n c : ℕ) (ls ms : List SwitchLine) (w v : World) (st : Step) (e : Epoch) (j k : Joined) → e ≡ (w (at n c)).epoch ⊎ (in_transfer (w (at n c)).channel.state ≡ true)
-    → Came n c ls w st e ms v → IsSwitch ls w → Pairing ls (at n c) j k → IsPair (w (at n c)) (w j.other) j k → Outcome c (w (at n c)).role (w (at n c)).channel st
-    → Becomes ls w (heed_all routes n st.notes ms)
+comes_pair : {acts : List Act} (routes : RouteMap) (n c : ℕ) (ls ms : List SwitchLine) (w v : World) (st : Step) (e : Epoch) (j k : Joined) → e ≡ (w (at n c)).epoch ⊎ (in_transfer (w (at n c)).channel.state ≡ true)
+    → Came acts n c ls w st e ms v → IsSwitch ls w → Pairing ls (at n c) j k → IsPair (w (at n c)) (w j.other) j k → Outcome c (w (at n c)).role (w (at n c)).channel st
+    → After acts routes n st.notes ls w ms
 comes_pair routes n c ls ms w v st e j k ep came i s pair (ends cause diagnostic reason rest is) = comes_over routes n c cause diagnostic reason rest ls ms w v st e j k came i s is
 comes_pair routes n c ls ms w v st e j k ep came i s (connected h) (goes_on before after notes) = comes_on routes n c ls ms w v st e j k came i s h after notes
 comes_pair routes n c ls ms w v st e j k ep came i s (connected h) (connects callee is) =
@@ -445,8 +482,8 @@ comes_pair routes n c ls ms w v st e j k ep came i s (waiting a b h) (connects c
 comes_pair routes n c ls ms w v st e j k ep came i s (waiting a b h) (waits callee is still) =
     comes_waiting routes n c ls ms w v st e j k came i s a b h callee (ap (λ (x : Step). waits_for_call (w (at n c)).role x.channel.state) is ∙ still) (ap (λ (x : Step). x.notes) is)
 
-comes_by : (o : Option Joined) (routes : RouteMap) (n c : ℕ) (ls ms : List SwitchLine) (w v : World) (st : Step) (e : Epoch) → joined_at ls (at n c) ≡ o → e ≡ (w (at n c)).epoch ⊎ (in_transfer (w (at n c)).channel.state ≡ true)
-    → Came n c ls w st e ms v → IsSwitch ls w → Becomes ls w (heed_all routes n st.notes ms)
+comes_by : {acts : List Act} (o : Option Joined) (routes : RouteMap) (n c : ℕ) (ls ms : List SwitchLine) (w v : World) (st : Step) (e : Epoch) → joined_at ls (at n c) ≡ o → e ≡ (w (at n c)).epoch ⊎ (in_transfer (w (at n c)).channel.state ≡ true)
+    → Came acts n c ls w st e ms v → IsSwitch ls w → After acts routes n st.notes ls w ms
 comes_by None routes n c ls ms w v st e f ep came i = comes_alone routes n c ls ms w v st e came i f
 comes_by (Some j) routes n c ls ms w v st e f ep came i =
     let k = i.joined (at n c) j f in
@@ -455,8 +492,8 @@ comes_by (Some j) routes n c ls ms w v st e f ep came i =
       | inr h ↦ elim h [ inl y ↦ absurd y | inr y ↦ absurd y ]
     ]
 
-pub comes : (routes : RouteMap) (n c : ℕ) (ls ms : List SwitchLine) (w v : World) (st : Step) (e : Epoch) → e ≡ (w (at n c)).epoch ⊎ (in_transfer (w (at n c)).channel.state ≡ true)
-    → Came n c ls w st e ms v → IsSwitch ls w → Becomes ls w (heed_all routes n st.notes ms)
+pub comes : {acts : List Act} (routes : RouteMap) (n c : ℕ) (ls ms : List SwitchLine) (w v : World) (st : Step) (e : Epoch) → e ≡ (w (at n c)).epoch ⊎ (in_transfer (w (at n c)).channel.state ≡ true)
+    → Came acts n c ls w st e ms v → IsSwitch ls w → After acts routes n st.notes ls w ms
 comes routes n c ls ms w v st e ep came i = comes_by (joined_at ls (at n c)) routes n c ls ms w v st e refl ep came i
 
 -- ---- no joins yet

@@ -18,6 +18,9 @@ use Rattle.x25_switch.specs.Lines.{SwitchLine, same_place, joined_on, joined_at,
 use Rattle.x25_switch.specs.Relay.{moved_joined, moved_front, moved_unless, relayed, relayed_from, all_relayed}
 use Rattle.x25_switch.specs.Switch.{Switch, acted, all_begun, may_offer, offered_from, to_relink, relinked_at, all_relinked, relinks_of}
 use Rattle.switch_laws.specs.Turn.{AreOctets}
+use Rattle.switch_laws.specs.Steps.{acts_of_all}
+use Rattle.switch_laws.specs.Steps.Happening.{Relinks}
+use Rattle.switch_laws.specs.EventSteps.{relayed_steps, all_relinked_steps}
 use Rattle.switch_laws.specs.World.{World, Shown, shown_as, shown_on, shown_at, layers_of}
 use Rattle.switch_laws.specs.Joined.{IsSwitch, Becomes, HasRelayedAll}
 use Rattle.switch_laws.specs.Stays.{IsNone}
@@ -25,7 +28,7 @@ use Rattle.switch_laws.specs.Pairs.{WasJoined, IsNewJoin}
 use Rattle.switch_laws.specs.Concern.{offering_from, is_one_of, joined_to, is_concerned, concerned, relayed_on, HasRelayedBut, lines_of_event, before_relay, RelaysItsOwn, ConcernLaw}
 use Rattle.switch_laws.proofs.Lists.{decided, place_is, not_equal, get_map}
 use Rattle.switch_laws.proofs.Rounds.{offers_line, in_turn}
-use Rattle.switch_laws.proofs.Relaying.{StuckAt, Visited, visited, relayed_same}
+use Rattle.switch_laws.proofs.Relaying.{StuckAt, VisitedBy, visited, relayed_same}
 use Rattle.switch_laws.proofs.Staying.{IsOther, acted_beside}
 use Rattle.switch_laws.proofs.Turning.{relinked_effect, acted_right}
 use Rattle.switch_laws.proofs.Keeping.{layers_on_ends, joined_on_ends}
@@ -61,7 +64,7 @@ passes_over lines first (x ∷ ps) ls w i stuck = by_concern (decided (is_concer
         by_same (inl e) = absurd (true≢false (sym t ∙ (ap (λ (y : Place). is_concerned lines first y) (sym (place_is p x e)) ∙ f)))
         by_same (inr e) = e
 
-    by_concern : (is_concerned lines first x ≡ true) ⊎ (is_concerned lines first x ≡ false) → (a : Visited ls w x (relayed 8 x ls))
+    by_concern : (is_concerned lines first x ≡ true) ⊎ (is_concerned lines first x ≡ false) → (a : VisitedBy (relayed_steps 8 x ls) ls w x (relayed 8 x ls))
         → ((ms : List SwitchLine) (v : World) → IsSwitch ms v → ((p : Place) → is_concerned lines first p ≡ false → StuckAt ms p) → relayed_from ps ms ≡ relayed_from (concerned lines first ps) ms)
         → relayed_from ps (relayed 8 x ls) ≡ relayed_from (if is_concerned lines first x then x ∷ concerned lines first ps else concerned lines first ps) ls
     by_concern (inl t) a more =
@@ -119,7 +122,7 @@ relinks_beside zero o routes ls w t i p j e a b = refl
 relinks_beside (suc most) None routes ls w t i p j e a b = ap (λ (ms : List SwitchLine). shown_at (layers_of ms) p) (none_relinks (suc most) routes ls t)
 relinks_beside (suc most) (Some n) routes ls w t i p j e a b =
     let ms = acted routes n relinked ls in
-    let c = acted_right routes n relinked ls w i (λ line g. relinked_effect n line.end) in
+    let c = acted_right routes n Relinks ls w i (λ line g. relinked_effect n line.end) in
     let other : IsOther n ls p j = record { joined = e; here = a.0; there = b.0 } in
     let beside = acted_beside routes n relinked ls w i in
     ap (λ (x : Option ℕ). shown_at (layers_of (all_relinked most routes (relinked_at x routes ls))) p) t
@@ -189,7 +192,7 @@ event_but n f s w v i k all p j t away e g =
     ∙ all p old t was.joined (sym (same_front s.lines rs p shown_p) ∙ g))
 
 before_right : (n : ℕ) (f : PacketEnd → PacketEnd) (s : Switch) (v : World) → IsSwitch (acted s.routes n f (all_begun s.lines)) v
-    → Becomes (acted s.routes n f (all_begun s.lines)) v (before_relay n f s)
+    → Becomes (acts_of_all (all_relinked_steps (length (acted s.routes n f (all_begun s.lines))) s.routes (acted s.routes n f (all_begun s.lines))) (acted s.routes n f (all_begun s.lines))) (acted s.routes n f (all_begun s.lines)) v (before_relay n f s)
 before_right n f s v k = let ms = acted s.routes n f (all_begun s.lines) in all_relinks (length ms) s.routes ms v k
 
 frame : (n : ℕ) (octets : List ℕ) (s : Switch) (w : World) → AreOctets octets → IsSwitch s.lines w → HasRelayedAll s.lines

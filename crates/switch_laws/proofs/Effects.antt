@@ -22,24 +22,26 @@ use Rattle.x25_switch.specs.Direction.{Direction}
 use Rattle.x25_switch.specs.declared.place.Place.{Place}
 use Rattle.x25_switch.specs.declared.place.Joined.{Joined}
 use Rattle.x25_switch.specs.Lines.{SwitchLine, same_place, joined_at}
-use Rattle.x25_switch.specs.Switch.{heed_all}
+use Rattle.x25_switch.specs.Switch.{heed}
 use Rattle.switch_laws.specs.Leg.{Leg, stepped, heard, misheard, heard_epoch}
 use Rattle.switch_laws.specs.Join.{Join, IsJoin}
 use Rattle.switch_laws.specs.Join as join
 use Rattle.switch_laws.specs.World.{World, Shown, shown_of, shown_as, shown_on, shown_at, layers_of, Act, MayHappen, IsReadAs, world_after, leg_after, line_of, closed, restarted, came_in, ran_out, cleared_if}
 use Rattle.switch_laws.specs.World.Act.{Comes, Expires, GoesUp, GoesDown}
-use Rattle.switch_laws.specs.Joined.{IsPair, IsOver, IsSwitchBefore, IsSwitch, Reached, Becomes, HasActed, IsTold, notes_made, has_place}
+use Rattle.switch_laws.specs.Joined.{IsPair, IsOver, IsSwitchBefore, IsSwitch, Reached, HasActed, IsTold, notes_made, has_place}
 use Rattle.switch_laws.proofs.Lists.{decided}
 use Rattle.switch_laws.proofs.Places.{some_there}
 use Rattle.switch_laws.proofs.Layers.{seen, opened_shown}
-use Rattle.switch_laws.proofs.Frame.{Touches, pair_turned, same_pair, frame, reached_none, reached_there, reached_world}
+use Rattle.switch_laws.specs.EventSteps.{heed_steps, heed_all_steps}
+use Rattle.switch_laws.proofs.Leading.{heed_leads}
+use Rattle.switch_laws.proofs.Frame.{Touches, pair_turned, same_pair, frame, reached_none, reached_then, reached_there, reached_world}
 use Rattle.switch_laws.proofs.Hearing.{hears_right, mishears_right}
 use Rattle.switch_laws.proofs.Telling.{closes}
 use Rattle.switch_laws.proofs.Outcomes.{AreOf, Outcome, received_outcome, received_notes, unreadable_outcome, unreadable_notes}
 use Rattle.switch_laws.proofs.Outcomes.Outcome.{ends}
 use Rattle.switch_laws.proofs.Arriving.{StepCalls, received_calls, unreadable_calls, cleared_calls}
 use Rattle.switch_laws.proofs.SettingUp.{pair_call}
-use Rattle.switch_laws.proofs.Coming.{at, always, Came, comes, becomes_then}
+use Rattle.switch_laws.proofs.Coming.{at, always, Came, comes, becomes_then, becomes_by, Heeded, After}
 
 -- ---- the effect of an act on its layer
 
@@ -204,7 +206,7 @@ effect a l m = absurd m
 
 -- ---- nothing happened at any joined channel
 
-pub steady : (ls ms : List SwitchLine) (w v : World) → IsSwitch ls w → Reached ls w ms v → ((x : Place) → joined_at ms x ≡ joined_at ls x) → ((x : Place) → has_place ms x ≡ has_place ls x)
+pub steady : {acts : List Act} (ls ms : List SwitchLine) (w v : World) → IsSwitch ls w → Reached acts ls w ms v → ((x : Place) → joined_at ms x ≡ joined_at ls x) → ((x : Place) → has_place ms x ≡ has_place ls x)
     → ((x : Place) → v x ≡ w x) → IsSwitch ms v
 steady ls ms w v i r joined places legs = record {
   world = reached_world ls ms w v r i.world;
@@ -253,16 +255,18 @@ over_channel n zero reason chs ch e h = absurd (none-some ch e)
 over_channel n (suc i) reason chs ch e h = let same : 1 + i ≡ suc i = omega arith in subst (λ (k : ℕ). IsOver n (closing_notes 1 reason chs) (at n k)) same (over_notes n 1 i reason chs ch e h)
 
 closings : (routes : RouteMap) (n c : ℕ) (reason : Reason) (chs : List Channel) (ls : List SwitchLine) (w : World) → IsSwitchBefore n (closing_notes c reason chs) ls w
-    → Becomes ls w (heed_all routes n (closing_notes c reason chs) ls)
+    → Heeded routes n (closing_notes c reason chs) ls w
 closings routes n c reason [] ls w i = record { world = w; reached = reached_none ls w; right = always n ls w i }
 closings routes n c reason (x ∷ xs) ls w i = by_call (had_call x.state) (λ ms v h. closings routes n (suc c) reason xs ms v h) i
   where
-    by_call : (b : Bool) → ((ms : List SwitchLine) (v : World) → IsSwitchBefore n (closing_notes (suc c) reason xs) ms v → Becomes ms v (heed_all routes n (closing_notes (suc c) reason xs) ms))
+    by_call : (b : Bool) → ((ms : List SwitchLine) (v : World) → IsSwitchBefore n (closing_notes (suc c) reason xs) ms v → Heeded routes n (closing_notes (suc c) reason xs) ms v)
         → IsSwitchBefore n (cond b (Closed c clear_cause.out_of_order no_information reason ∷ closing_notes (suc c) reason xs) (closing_notes (suc c) reason xs)) ls w
-        → Becomes ls w (heed_all routes n (cond b (Closed c clear_cause.out_of_order no_information reason ∷ closing_notes (suc c) reason xs) (closing_notes (suc c) reason xs)) ls)
+        → Heeded routes n (cond b (Closed c clear_cause.out_of_order no_information reason ∷ closing_notes (suc c) reason xs) (closing_notes (suc c) reason xs)) ls w
     by_call true onward i =
         let e = closes n c clear_cause.out_of_order no_information reason (closing_notes (suc c) reason xs) ls w i in
-        becomes_then ls _ _ w e.world e.reached (onward _ e.world e.right)
+        let first = Closed c clear_cause.out_of_order no_information reason in
+        becomes_by (heed_steps routes n first ls) (heed_all_steps routes n (closing_notes (suc c) reason xs) (heed routes n first ls)) ls (heed routes n first ls) _ w e.world
+        (heed_leads routes n first ls) e.reached (onward _ e.world e.right)
     by_call false onward i = onward ls w i
 
 -- ---- any effect
@@ -272,18 +276,18 @@ channel_shown l None s e = absurd (none-some s e)
 channel_shown l (Some ch) s e = (ch, (refl, same_Some _ s e))
 
 -- what happened at line n, before its notes are heeded: its legs moved, and those of no other line
-pub record Happened (n : ℕ) (f : ℕ → Leg → Leg) (ls ms : List SwitchLine) (w v : World) : Type 0 where
-  pub reached : Reached ls w ms v
+pub record Happened (acts : List Act) (n : ℕ) (f : ℕ → Leg → Leg) (ls ms : List SwitchLine) (w v : World) : Type 0 where
+  pub reached : Reached acts ls w ms v
   pub joined : (x : Place) → joined_at ms x ≡ joined_at ls x
   pub places : (x : Place) → has_place ms x ≡ has_place ls x
   pub here : (x : Place) → (x.line == n) ≡ true → v x ≡ f x.channel (w x)
   pub elsewhere : (x : Place) → (x.line == n) ≡ false → v x ≡ w x
 
-pub effect_right : (routes : RouteMap) (n : ℕ) (f : ℕ → Leg → Leg) (l : Layer) (ls ms : List SwitchLine) (w v : World) (notes : List Note) → Effect f l notes → slice_get (layers_of ls) n ≡ Some l
-    → Happened n f ls ms w v → IsSwitch ls w → Becomes ls w (heed_all routes n notes ms)
-effect_right routes n f l ls ms w v notes eff got h i = by_effect eff
+pub effect_right : {acts : List Act} (routes : RouteMap) (n : ℕ) (f : ℕ → Leg → Leg) (l : Layer) (ls ms : List SwitchLine) (w v : World) (notes : List Note) → Effect f l notes → slice_get (layers_of ls) n ≡ Some l
+    → Happened acts n f ls ms w v → IsSwitch ls w → After acts routes n notes ls w ms
+effect_right {acts} routes n f l ls ms w v notes eff got h i = by_effect eff
   where
-    reached : Reached ls w ms v
+    reached : Reached acts ls w ms v
     reached = h.reached
 
     here : (x : Place) → (x.line == n) ≡ true → v x ≡ f x.channel (w x)
@@ -327,7 +331,7 @@ effect_right routes n f l ls ms w v notes eff got h i = by_effect eff
         now x j k p there other q (inr no_) (inr nor) = inl (same_pair x j.other w v j k (h.elsewhere x no_) (h.elsewhere j.other nor) p)
 
     -- a step of one channel
-    touches : (d : ℕ) → ((c : ℕ) (g : Leg) → (c == d) ≡ false → f c g ≡ g) → (q : Place) → Touches (at n d) q ls w ms v
+    touches : (d : ℕ) → ((c : ℕ) (g : Leg) → (c == d) ≡ false → f c g ≡ g) → (q : Place) → Touches acts (at n d) q ls w ms v
     touches d apart q = record {
       reached = reached;
       joined = λ x e f. h.joined x;
@@ -347,18 +351,18 @@ effect_right routes n f l ls ms w v notes eff got h i = by_effect eff
 
     one_step : (d : ℕ) (st : Shown → Step) (e : Leg → Epoch) → IsStep d st e → ((c : ℕ) (g : Leg) → (c == d) ≡ false → f c g ≡ g)
         → ((g : Leg) → f d g ≡ stepped (st (shown_of g)) (e g) g) → (o : Option Channel) → channel_of l d ≡ o → (o ≡ None → notes ≡ [])
-        → ((ch : Channel) → o ≡ Some ch → notes ≡ (st (seen l ch)).notes) → Becomes ls w (heed_all routes n notes ms)
+        → ((ch : Channel) → o ≡ Some ch → notes ≡ (st (seen l ch)).notes) → After acts routes n notes ls w ms
     one_step d st e is apart leg None fd empty some =
-        subst (λ (ns : List Note). Becomes ls w (heed_all routes n ns ms)) (sym (empty refl)) (record {
+        subst (λ (ns : List Note). After acts routes n ns ls w ms) (sym (empty refl)) (record {
           world = v;
-          reached = reached;
+          reached = reached_then ls ms ms w v v reached (reached_none ms v);
           right = frame 0 0 [] [] (at n d) (at n d) ls ms w v i (touches d apart (at n d)) (λ j g. none j g) (λ j g. none j g) (λ j g. none j (sym (h.joined (at n d)) ∙ g)) (λ j g. none j (sym (h.joined (at n d)) ∙ g)) (λ x y z g. g);
         })
       where
         none : {X : Type 0} → (j : Joined) → joined_at ls (at n d) ≡ Some j → X
         none j g = absurd (true≢false (sym (i.joined (at n d) j g).there ∙ ap (λ (o : Option Shown). is_some o) (not_there d fd)))
     one_step d st e is apart leg (Some ch) fd empty some =
-        subst (λ (ns : List Note). Becomes ls w (heed_all routes n ns ms)) (sym (some ch refl ∙ ap (λ (s : Shown). (st s).notes) agree))
+        subst (λ (ns : List Note). After acts routes n ns ls w ms) (sym (some ch refl ∙ ap (λ (s : Shown). (st s).notes) agree))
         (comes routes n d ls ms w v (st (shown_of (w (at n d)))) (e (w (at n d))) (is.epoch (w (at n d))) came i)
       where
         p : Place
@@ -373,7 +377,7 @@ effect_right routes n f l ls ms w v notes eff got h i = by_effect eff
         after : shown_of (v p) ≡ record (shown_of (w p)) { channel = owing (st (shown_of (w p))) }
         after = ap (λ (g : Leg). shown_of g) leg_is ∙ opened_shown (st (shown_of (w p))).owes _
 
-        came : Came n d ls w (st (shown_of (w p))) (e (w p)) ms v
+        came : Came acts n d ls w (st (shown_of (w p))) (e (w p)) ms v
         came = record {
           touches = touches d apart;
           joined = h.joined;
@@ -387,11 +391,11 @@ effect_right routes n f l ls ms w v notes eff got h i = by_effect eff
               subst (λ (x : Leg). IsJoin (join.all_told (st (shown_of (w p))).notes (record { a = g; b = x; there = t; back = b }))) (sym leg_is) (is.goes (w p) g t b state j);
         }
 
-    by_effect : Effect f l notes → Becomes ls w (heed_all routes n notes ms)
+    by_effect : Effect f l notes → After acts routes n notes ls w ms
     by_effect (nothing none legs) =
-        subst (λ (ns : List Note). Becomes ls w (heed_all routes n ns ms)) (sym none) (record {
+        subst (λ (ns : List Note). After acts routes n ns ls w ms) (sym none) (record {
           world = v;
-          reached = reached;
+          reached = reached_then ls ms ms w v v reached (reached_none ms v);
           right = steady ls ms w v i reached h.joined h.places (λ x. by_line x (decided (x.line == n)));
         })
       where
@@ -399,15 +403,15 @@ effect_right routes n f l ls ms w v notes eff got h i = by_effect eff
         by_line x (inl t) = here x t ∙ legs x.channel (w x)
         by_line x (inr no_) = h.elsewhere x no_
     by_effect (closes_all reason is legs) =
-        subst (λ (ns : List Note). Becomes ls w (heed_all routes n ns ms)) (sym is) (becomes_then ls ms _ w v reached (closings routes n 1 reason l.channels ms v (all_close reason legs)))
+        subst (λ (ns : List Note). After acts routes n ns ls w ms) (sym is) (becomes_then ls ms _ w v reached (closings routes n 1 reason l.channels ms v (all_close reason legs)))
     by_effect (on_one d st e is apart leg empty some) = one_step d st e is apart leg (channel_of l d) refl empty some
 
 -- ---- one act
 
 act_happened : (a : Act) (l : Layer) (ls ms : List SwitchLine) (w : World) → MayHappen a → slice_get (layers_of ls) (line_of a) ≡ Some l → HasActed a ls ms
-    → Happened (line_of a) (λ c g. leg_after a (Some l) c g) ls ms w (world_after a (layers_of ls) w)
+    → Happened (a ∷ []) (line_of a) (λ c g. leg_after a (Some l) c g) ls ms w (world_after a (layers_of ls) w)
 act_happened a l ls ms w may got h = record {
-  reached = record { acts = a ∷ []; may = (may, tt); layers = h.layers; legs = refl };
+  reached = record { may = (may, tt); layers = h.layers; legs = refl };
   joined = h.joined;
   places = h.places;
   here = λ x t. leg_on_line a (layers_of ls) w x (Some l) t got;
@@ -422,6 +426,6 @@ may_happen (GoesDown n) m = tt
 may_happen a m = absurd m
 
 pub heeds_right : (routes : RouteMap) (a : Act) (l : Layer) (ls ms : List SwitchLine) (w : World) → IsTold a → slice_get (layers_of ls) (line_of a) ≡ Some l → HasActed a ls ms → IsSwitch ls w
-    → Becomes ls w (heed_all routes (line_of a) (notes_made a (Some l)) ms)
+    → After (a ∷ []) routes (line_of a) (notes_made a (Some l)) ls w ms
 heeds_right routes a l ls ms w m got h i =
     effect_right routes (line_of a) _ l ls ms w _ (notes_made a (Some l)) (effect a l m) got (act_happened a l ls ms w (may_happen a m) got h) i

@@ -1,5 +1,5 @@
 -- The end of an event, and whole events.
-use Rattle.std.proofs.Common.{true≢false, ◌≡◌, ℕ, zero, suc, ◌*◌, ◌⊎◌, inl, inr, Bool, true, false, cond, if◌then◌else◌, ◌==◌, List, [], ◌∷◌, map, length, Option, Some, None, is_some, refl, sym, ap, subst, ◌∙◌, option_map}
+use Rattle.std.proofs.Common.{true≢false, ◌≡◌, ℕ, zero, suc, ◌*◌, ◌⊎◌, inl, inr, Bool, true, false, cond, if◌then◌else◌, ◌==◌, List, [], ◌∷◌, ◌++◌, map, length, append-nil, Option, Some, None, is_some, refl, sym, ap, subst, ◌∙◌, option_map}
 use Rattle.std.specs.Prelude.{slice_get}
 use Rattle.std.specs.List.{list_any}
 use Rattle.std.proofs.lemmas.Option.{none-some, same_Some}
@@ -20,7 +20,12 @@ use Rattle.x25_switch.specs.Switch.{Switch, with_end, acted, to_relink, relinked
 use Rattle.switch_laws.specs.Leg.{Leg, gave}
 use Rattle.switch_laws.specs.Join.{Join, gives}
 use Rattle.switch_laws.specs.World.{World, Shown, Agrees, IsCallLeg, closed, shown_as, shown_on, shown_at, layers_of, world_after, gave_if}
+use Rattle.switch_laws.specs.World.{Act}
 use Rattle.switch_laws.specs.World.Act.{Gives, GoesDown}
+use Rattle.switch_laws.specs.Steps.{Step, Happening, does, offer_acts, on_line, acts_of, acts_of_all}
+use Rattle.switch_laws.specs.Steps.Happening.{Brings, RunsOut, Relinks}
+use Rattle.switch_laws.specs.Steps.Step.{Settles}
+use Rattle.switch_laws.specs.EventSteps.{all_relayed_steps, acted_steps, relinked_steps, all_relinked_steps, offered_steps, rounds_steps, finished_steps, event_acts}
 use Rattle.switch_laws.specs.Joined.{WaitsFor, IsPair, IsSwitch, Reached, Becomes, HasRelayedAll, has_nth, has_place_on}
 use Rattle.switch_laws.specs.Joined.IsPair.{connected, waiting}
 use Rattle.packet_laws.specs.Readable.{IfAny}
@@ -41,9 +46,10 @@ use Rattle.switch_laws.proofs.Lists.{decided}
 use Rattle.switch_laws.proofs.Places.{joined_kept, place_after, some_there, line_there, shown_there}
 use Rattle.switch_laws.proofs.Frame.{reached_there, reached_world}
 use Rattle.switch_laws.proofs.Relaying.{all_relayed_right, all_relayed_stuck}
-use Rattle.switch_laws.proofs.Coming.{becomes_same, becomes_then}
+use Rattle.switch_laws.proofs.Leading.{acts_lead, all_relayed_leads, offered_leads, rounds_leads, relinked_leads, all_relinked_leads, acted_leads}
+use Rattle.switch_laws.proofs.Coming.{becomes_same, becomes_then, becomes_by}
 use Rattle.switch_laws.proofs.Effects.{steady, leg_on_line, leg_elsewhere}
-use Rattle.switch_laws.proofs.Turning.{changed_at, changed_none, changed_twice, changed_same, layer_got, layers_changed, ReadsNumbers, acted_right, relinked_effect, received_effect, timer_effect}
+use Rattle.switch_laws.proofs.Turning.{changed_at, changed_none, changed_twice, changed_same, got_changed, layer_got, layers_changed, ReadsNumbers, acted_right, relinked_effect, received_effect, timer_effect}
 
 -- ---- a packet goes to a link
 
@@ -89,7 +95,7 @@ pair_given_other g h h' j k i (something e) p = subst (λ (x : Leg). IsPair g x 
 abbrev given : SwitchLine → SwitchLine
 given = with_end (λ e. with_next e (next_packet e.layer))
 
-gives_line : (n : ℕ) (line : SwitchLine) (ls : List SwitchLine) (w : World) → slice_get ls n ≡ Some line → IsSwitch ls w → Becomes ls w (changed n given ls)
+gives_line : (n : ℕ) (line : SwitchLine) (ls : List SwitchLine) (w : World) → slice_get ls n ≡ Some line → IsSwitch ls w → Becomes (Gives n ∷ []) ls w (changed n given ls)
 gives_line n line ls w got i = record {
   world = v;
   reached = reached;
@@ -119,9 +125,8 @@ gives_line n line ls w got i = record {
     v : World
     v = world_after (Gives n) (layers_of ls) w
 
-    reached : Reached ls w ms v
+    reached : Reached (Gives n ∷ []) ls w ms v
     reached = record {
-      acts = Gives n ∷ [];
       may = (tt, tt);
       layers = layers_changed n given ls line got ∙ sym (changed_at n (λ l. (next_packet l).layer) (λ y. (next_packet line.end.layer).layer) (layers_of ls) line.end.layer (layer_got n ls line got) refl);
       legs = refl;
@@ -140,13 +145,20 @@ gives_line n line ls w got i = record {
 
 -- ---- packets are offered
 
+-- what may be offered by a link that takes one, and by a layer that has one
+abbrev offer_if : Bool → Bool → (most line : ℕ) → PacketEnd → List Act
+offer_if a b most n e = if a then (if b then Gives n ∷ offer_acts most n (with_next e (next_packet e.layer)) else []) else []
+
+abbrev Offered : ℕ → ℕ → List SwitchLine → World → Type 0
+Offered most n ls w = Becomes (on_line (λ e. offer_acts most n e) (slice_get ls n)) ls w (changed n (with_end (λ e. offered most e)) ls)
+
 -- none is offered
 keeps_line : (n : ℕ) (f : SwitchLine → SwitchLine) (line : SwitchLine) (ls : List SwitchLine) → slice_get ls n ≡ Some line → f line ≡ line → changed n f ls ≡ ls
 keeps_line n f line ls got e = changed_at n f (λ x. line) ls line got e ∙ changed_same n ls line got
 
 offers_at : (most n : ℕ) (line : SwitchLine) (ls : List SwitchLine) (w : World) (a b : Bool) → slice_get ls n ≡ Some line → can_offer line.end.line.link ≡ a
-    → is_some (next_packet line.end.layer).packet ≡ b → ((ms : List SwitchLine) (v : World) → IsSwitch ms v → Becomes ms v (changed n (with_end (λ e. offered most e)) ms)) → IsSwitch ls w
-    → Becomes ls w (changed n (with_end (λ e. offered (suc most) e)) ls)
+    → is_some (next_packet line.end.layer).packet ≡ b → ((ms : List SwitchLine) (v : World) → IsSwitch ms v → Offered most n ms v) → IsSwitch ls w
+    → Becomes (offer_if a b most n line.end) ls w (changed n (with_end (λ e. offered (suc most) e)) ls)
 offers_at most n line ls w false b got may has more i =
     becomes_same ls _ w (keeps_line n _ line ls got (ap (λ (x : Bool). record line { end = cond x (cond (is_some (next_packet line.end.layer).packet) (offered most (with_next line.end (next_packet line.end.layer))) line.end) line.end }) may)) i
 offers_at most n line ls w true false got may has more i =
@@ -161,10 +173,13 @@ offers_at most n line ls w true true got may has more i =
     (ap (λ (x : Bool). record line { end = cond x (cond (is_some (next_packet line.end.layer).packet) (offered most (with_next line.end (next_packet line.end.layer))) line.end) line.end }) may
     ∙ ap (λ (x : Bool). record line { end = cond x (offered most (with_next line.end (next_packet line.end.layer))) line.end }) has)
     ∙ sym (changed_twice n (with_end (λ e. offered most e)) given ls) in
-    subst (λ (ms : List SwitchLine). Becomes ls w ms) (sym is) (becomes_then ls (changed n given ls) _ w first.world first.reached then_)
+    let next : PacketEnd = with_next line.end (next_packet line.end.layer) in
+    let then_acts : Becomes (offer_acts most n next) (changed n given ls) first.world (changed n (with_end (λ e. offered most e)) (changed n given ls)) =
+    subst (λ (o : Option SwitchLine). Becomes (on_line (λ e. offer_acts most n e) o) (changed n given ls) first.world (changed n (with_end (λ e. offered most e)) (changed n given ls))) (got_changed n given ls line got) then_ in
+    subst (λ (ms : List SwitchLine). Becomes (Gives n ∷ offer_acts most n next) ls w ms) (sym is) (becomes_then ls (changed n given ls) _ w first.world first.reached then_acts)
 
-offers_by : (most n : ℕ) (o : Option SwitchLine) (ls : List SwitchLine) (w : World) → slice_get ls n ≡ o → ((ms : List SwitchLine) (v : World) → IsSwitch ms v → Becomes ms v (changed n (with_end (λ e. offered most e)) ms))
-    → IsSwitch ls w → Becomes ls w (changed n (with_end (λ e. offered (suc most) e)) ls)
+offers_by : (most n : ℕ) (o : Option SwitchLine) (ls : List SwitchLine) (w : World) → slice_get ls n ≡ o → ((ms : List SwitchLine) (v : World) → IsSwitch ms v → Offered most n ms v)
+    → IsSwitch ls w → Becomes (on_line (λ e. offer_acts (suc most) n e) o) ls w (changed n (with_end (λ e. offered (suc most) e)) ls)
 offers_by most n None ls w e more i = becomes_same ls _ w (changed_none n _ ls e) i
 offers_by most n (Some line) ls w e more i = offers_at most n line ls w (can_offer line.end.line.link) (is_some (next_packet line.end.layer).packet) e refl refl more i
 
@@ -173,15 +188,20 @@ changed_itself n [] = refl
 changed_itself zero (l ∷ ls) = refl
 changed_itself (suc n) (l ∷ ls) = ap (λ (ms : List SwitchLine). l ∷ ms) (changed_itself n ls)
 
-offers : (most n : ℕ) (ls : List SwitchLine) (w : World) → IsSwitch ls w → Becomes ls w (changed n (with_end (λ e. offered most e)) ls)
-offers zero n ls w i = becomes_same ls _ w (changed_itself n ls) i
+no_acts : (n : ℕ) (o : Option SwitchLine) → on_line (λ e. offer_acts 0 n e) o ≡ []
+no_acts n None = refl
+no_acts n (Some l) = refl
+
+offers : (most n : ℕ) (ls : List SwitchLine) (w : World) → IsSwitch ls w → Offered most n ls w
+offers zero n ls w i =
+    subst (λ (acts : List Act). Becomes acts ls w (changed n (with_end (λ e. offered 0 e)) ls)) (sym (no_acts n (slice_get ls n))) (becomes_same ls _ w (changed_itself n ls) i)
 offers (suc most) n ls w i = offers_by most n (slice_get ls n) ls w refl (λ ms v h. offers most n ms v h) i
 
-all_offers : (n : ℕ) (ls : List SwitchLine) (w : World) → IsSwitch ls w → Becomes ls w (changed n (with_end all_offered) ls)
+all_offers : (n : ℕ) (ls : List SwitchLine) (w : World) → IsSwitch ls w → Becomes (acts_of (Step.Offers n) ls) ls w (changed n (with_end all_offered) ls)
 unfolding all_offered
 all_offers n ls w i = offers 7 n ls w i
 
-pub offers_from : (count n : ℕ) (ls : List SwitchLine) (w : World) → IsSwitch ls w → Becomes ls w (offered_from count n ls)
+pub offers_from : (count n : ℕ) (ls : List SwitchLine) (w : World) → IsSwitch ls w → Becomes (acts_of_all (offered_steps count n) ls) ls w (offered_from count n ls)
 offers_from zero n ls w i = becomes_same ls ls w refl i
 offers_from (suc count) n ls w i =
     let a = all_offers n ls w i in
@@ -189,15 +209,20 @@ offers_from (suc count) n ls w i =
 
 -- ---- rounds
 
-rounds_by : (b : Bool) (most : ℕ) (ls : List SwitchLine) (w : World) → IsSwitch ls w → ((ms : List SwitchLine) (v : World) → IsSwitch ms v → Becomes ms v (rounds most ms))
-    → Becomes ls w (if b then rounds most (offered_from (length ls) 0 (all_relayed ls)) else all_relayed ls)
+abbrev Rounds : ℕ → List SwitchLine → World → Type 0
+Rounds most ls w = Becomes (acts_of_all (rounds_steps most ls) ls) ls w (rounds most ls)
+
+rounds_by : (b : Bool) (most : ℕ) (ls : List SwitchLine) (w : World) → IsSwitch ls w → ((ms : List SwitchLine) (v : World) → IsSwitch ms v → Rounds most ms v)
+    → Becomes (acts_of_all (all_relayed_steps ls ++ (if b then offered_steps (length ls) 0 ++ rounds_steps most (offered_from (length ls) 0 (all_relayed ls)) else [])) ls) ls w (if b then rounds most (offered_from (length ls) 0 (all_relayed ls)) else all_relayed ls)
 rounds_by true most ls w i more =
     let a = all_relayed_right ls w i in
     let b = offers_from (length ls) 0 (all_relayed ls) a.world a.right in
-    becomes_then ls (all_relayed ls) _ w a.world a.reached (becomes_then (all_relayed ls) _ _ a.world b.world b.reached (more _ b.world b.right))
-rounds_by false most ls w i more = all_relayed_right ls w i
+    let later : List Step = rounds_steps most (offered_from (length ls) 0 (all_relayed ls)) in
+    becomes_by (all_relayed_steps ls) (offered_steps (length ls) 0 ++ later) ls (all_relayed ls) _ w a.world (all_relayed_leads ls) a.reached
+    (becomes_by (offered_steps (length ls) 0) later (all_relayed ls) _ _ a.world b.world (offered_leads (length ls) 0 (all_relayed ls)) b.reached (more _ b.world b.right))
+rounds_by false most ls w i more = subst (λ (ss : List Step). Becomes (acts_of_all ss ls) ls w (all_relayed ls)) (sym (append-nil (all_relayed_steps ls))) (all_relayed_right ls w i)
 
-rounds_right : (most : ℕ) (ls : List SwitchLine) (w : World) → IsSwitch ls w → Becomes ls w (rounds most ls)
+rounds_right : (most : ℕ) (ls : List SwitchLine) (w : World) → IsSwitch ls w → Rounds most ls w
 rounds_right zero ls w i = all_relayed_right ls w i
 rounds_right (suc most) ls w i = rounds_by (list_any may_offer (all_relayed ls)) most ls w i (λ ms v h. rounds_right most ms v h)
 
@@ -215,15 +240,16 @@ rounds_stuck (suc most) ls w i = stuck_by (list_any may_offer (all_relayed ls)) 
 
 -- ---- links that are set up anew
 
-relinks_at : (o : Option ℕ) (routes : RouteMap) (ls : List SwitchLine) (w : World) → IsSwitch ls w → Becomes ls w (relinked_at o routes ls)
+relinks_at : (o : Option ℕ) (routes : RouteMap) (ls : List SwitchLine) (w : World) → IsSwitch ls w → Becomes (acts_of_all (relinked_steps o routes ls) ls) ls w (relinked_at o routes ls)
 relinks_at None routes ls w i = becomes_same ls ls w refl i
-relinks_at (Some n) routes ls w i = acted_right routes n relinked ls w i (λ line e. relinked_effect n line.end)
+relinks_at (Some n) routes ls w i = acted_right routes n Relinks ls w i (λ line e. relinked_effect n line.end)
 
-pub all_relinks : (most : ℕ) (routes : RouteMap) (ls : List SwitchLine) (w : World) → IsSwitch ls w → Becomes ls w (all_relinked most routes ls)
+pub all_relinks : (most : ℕ) (routes : RouteMap) (ls : List SwitchLine) (w : World) → IsSwitch ls w → Becomes (acts_of_all (all_relinked_steps most routes ls) ls) ls w (all_relinked most routes ls)
 all_relinks zero routes ls w i = becomes_same ls ls w refl i
 all_relinks (suc most) routes ls w i =
     let a = relinks_at (to_relink ls) routes ls w i in
-    becomes_then ls (relinked_at (to_relink ls) routes ls) _ w a.world a.reached (all_relinks most routes (relinked_at (to_relink ls) routes ls) a.world a.right)
+    becomes_by (relinked_steps (to_relink ls) routes ls) (all_relinked_steps most routes (relinked_at (to_relink ls) routes ls)) ls (relinked_at (to_relink ls) routes ls) _ w a.world
+    (relinked_leads (to_relink ls) routes ls) a.reached (all_relinks most routes (relinked_at (to_relink ls) routes ls) a.world a.right)
 
 -- ---- what leaves the packet layers and the joins as they are
 
@@ -232,20 +258,21 @@ same_place_on f [] n c = refl
 same_place_on f (l ∷ ls) zero c = refl
 same_place_on f (l ∷ ls) (suc n) c = same_place_on f ls n c
 
-same_ends : (f : PacketEnd → PacketEnd) (ls : List SwitchLine) (w : World) → ((e : PacketEnd) → (f e).layer ≡ e.layer) → IsSwitch ls w → Becomes ls w (map (with_end f) ls)
+same_ends : (f : PacketEnd → PacketEnd) (ls : List SwitchLine) (w : World) → ((e : PacketEnd) → (f e).layer ≡ e.layer) → IsSwitch ls w → Becomes [] ls w (map (with_end f) ls)
 same_ends f ls w same i =
-    let r : Reached ls w (map (with_end f) ls) w = record { acts = []; may = tt; layers = layers_on_ends f ls same; legs = refl } in
+    let r : Reached [] ls w (map (with_end f) ls) w = record { may = tt; layers = layers_on_ends f ls same; legs = refl } in
     record { world = w; reached = r; right = steady ls (map (with_end f) ls) w w i r (λ x. joined_on_ends f ls x.line x.channel) (λ x. same_place_on f ls x.line x.channel) (λ x. refl) }
 
 -- ---- the end of an event
 
-pub finished_right : (routes : RouteMap) (ls : List SwitchLine) (w : World) → IsSwitch ls w → Becomes ls w (finished routes ls)
+pub finished_right : (routes : RouteMap) (ls : List SwitchLine) (w : World) → IsSwitch ls w → Becomes (acts_of_all (finished_steps routes ls) ls) ls w (finished routes ls)
 finished_right routes ls w i =
     let a = all_relinks (length ls) routes ls w i in
     let ks = all_relinked (length ls) routes ls in
     let b = rounds_right (7 * length ks) ks a.world a.right in
     let c = same_ends settled (rounds (7 * length ks) ks) b.world (λ e. refl) b.right in
-    becomes_then ls ks _ w a.world a.reached (becomes_then ks _ _ a.world b.world b.reached c)
+    becomes_by (all_relinked_steps (length ls) routes ls) (rounds_steps (7 * length ks) ks ++ Settles ∷ []) ls ks _ w a.world (all_relinked_leads (length ls) routes ls) a.reached
+    (becomes_by (rounds_steps (7 * length ks) ks) (Settles ∷ []) ks (rounds (7 * length ks) ks) _ a.world b.world (rounds_leads (7 * length ks) ks) b.reached c)
 
 settled_front : (ls : List SwitchLine) (n c : ℕ) → front_of_line (slice_get (map (with_end settled) ls) n) c ≡ front_of_line (slice_get ls n) c
 settled_front [] n c = refl
@@ -268,7 +295,7 @@ finished_stuck routes ls w i p j t e f =
 
 -- ---- events
 
-pub begun_right : (ls : List SwitchLine) (w : World) → IsSwitch ls w → Becomes ls w (all_begun ls)
+pub begun_right : (ls : List SwitchLine) (w : World) → IsSwitch ls w → Becomes [] ls w (all_begun ls)
 begun_right ls w i = same_ends begun ls w (λ e. refl) i
 
 begun_line : (n : ℕ) (ls : List SwitchLine) (line : SwitchLine) → slice_get (all_begun ls) n ≡ Some line → (old : SwitchLine) × ((slice_get ls n ≡ Some old) × (with_end begun old ≡ line))
@@ -280,27 +307,41 @@ begun_line (suc n) (l ∷ ls) line e = begun_line n ls line e
 abbrev pub Readable : ℕ → Octets → List SwitchLine → Type 0
 Readable n octets ls = (line : SwitchLine) → slice_get ls n ≡ Some line → ReadsNumbers (link_octets.on_octets line.end.line.link octets).accepted
 
-pub came : (n : ℕ) (octets : Octets) (routes : RouteMap) (ls : List SwitchLine) (w : World) → Readable n octets ls → IsSwitch ls w → Becomes ls w (acted routes n (λ e. received e octets) (all_begun ls))
+pub came : (n : ℕ) (octets : Octets) (routes : RouteMap) (ls : List SwitchLine) (w : World) → Readable n octets ls → IsSwitch ls w
+    → Becomes (acts_of_all (acted_steps routes n (Brings octets) (all_begun ls)) (all_begun ls)) ls w (acted routes n (λ e. received e octets) (all_begun ls))
 came n octets routes ls w read i =
     let a = begun_right ls w i in
-    becomes_then ls (all_begun ls) _ w a.world a.reached (acted_right routes n (λ e. received e octets) (all_begun ls) a.world a.right
+    becomes_then ls (all_begun ls) _ w a.world a.reached (acted_right routes n (Brings octets) (all_begun ls) a.world a.right
     (λ line e.
     let old = begun_line n ls line e in
     received_effect n octets line.end (subst (λ (l : SwitchLine). ReadsNumbers (link_octets.on_octets l.end.line.link octets).accepted) old.1.1 (read old.0 old.1.0))))
 
-pub ran : (n : ℕ) (id : TimerId) (routes : RouteMap) (ls : List SwitchLine) (w : World) → IsSwitch ls w → Becomes ls w (acted routes n (λ e. after_timer e id) (all_begun ls))
+pub ran : (n : ℕ) (id : TimerId) (routes : RouteMap) (ls : List SwitchLine) (w : World) → IsSwitch ls w
+    → Becomes (acts_of_all (acted_steps routes n (RunsOut id) (all_begun ls)) (all_begun ls)) ls w (acted routes n (λ e. after_timer e id) (all_begun ls))
 ran n id routes ls w i =
     let a = begun_right ls w i in
-    becomes_then ls (all_begun ls) _ w a.world a.reached (acted_right routes n (λ e. after_timer e id) (all_begun ls) a.world a.right (λ line e. timer_effect n id line.end))
+    becomes_then ls (all_begun ls) _ w a.world a.reached (acted_right routes n (RunsOut id) (all_begun ls) a.world a.right (λ line e. timer_effect n id line.end))
 
-pub frame_right : (n : ℕ) (octets : Octets) (s : Switch) (w : World) → Readable n octets s.lines → IsSwitch s.lines w → Becomes s.lines w (on_frame n octets s).lines
-frame_right n octets s w read i = let a = came n octets s.routes s.lines w read i in becomes_then s.lines _ _ w a.world a.reached (finished_right s.routes _ a.world a.right)
+-- the acts at the line and those of the end of the event, one after the other
+event_right : (n : ℕ) (what : Happening) (s : Switch) (w v : World) → Reached (acts_of_all (acted_steps s.routes n what (all_begun s.lines)) (all_begun s.lines)) s.lines w (acted s.routes n (does what) (all_begun s.lines)) v
+    → Becomes (acts_of_all (finished_steps s.routes (acted s.routes n (does what) (all_begun s.lines))) (acted s.routes n (does what) (all_begun s.lines))) (acted s.routes n (does what) (all_begun s.lines)) v
+    (finished s.routes (acted s.routes n (does what) (all_begun s.lines)))
+    → Becomes (event_acts s.routes n what s.lines) s.lines w (finished s.routes (acted s.routes n (does what) (all_begun s.lines)))
+event_right n what s w v r b =
+    subst (λ (acts : List Act). Becomes acts s.lines w (finished s.routes (acted s.routes n (does what) (all_begun s.lines))))
+    (acts_lead (acted_steps s.routes n what (all_begun s.lines)) (finished_steps s.routes (acted s.routes n (does what) (all_begun s.lines))) (all_begun s.lines) (acted s.routes n (does what) (all_begun s.lines)) (acted_leads s.routes n what (all_begun s.lines)))
+    (becomes_then s.lines (acted s.routes n (does what) (all_begun s.lines)) _ w v r b)
+
+pub frame_right : (n : ℕ) (octets : Octets) (s : Switch) (w : World) → Readable n octets s.lines → IsSwitch s.lines w → Becomes (event_acts s.routes n (Brings octets) s.lines) s.lines w (on_frame n octets s).lines
+frame_right n octets s w read i =
+    let a = came n octets s.routes s.lines w read i in event_right n (Brings octets) s w a.world a.reached (finished_right s.routes _ a.world a.right)
 
 pub frame_stuck : (n : ℕ) (octets : Octets) (s : Switch) (w : World) → Readable n octets s.lines → IsSwitch s.lines w → HasRelayedAll (on_frame n octets s).lines
 frame_stuck n octets s w read i = let a = came n octets s.routes s.lines w read i in finished_stuck s.routes _ a.world a.right
 
-pub timer_right : (n : ℕ) (id : TimerId) (s : Switch) (w : World) → IsSwitch s.lines w → Becomes s.lines w (on_timer n id s).lines
-timer_right n id s w i = let a = ran n id s.routes s.lines w i in becomes_then s.lines _ _ w a.world a.reached (finished_right s.routes _ a.world a.right)
+pub timer_right : (n : ℕ) (id : TimerId) (s : Switch) (w : World) → IsSwitch s.lines w → Becomes (event_acts s.routes n (RunsOut id) s.lines) s.lines w (on_timer n id s).lines
+timer_right n id s w i =
+    let a = ran n id s.routes s.lines w i in event_right n (RunsOut id) s w a.world a.reached (finished_right s.routes _ a.world a.right)
 
 pub timer_stuck : (n : ℕ) (id : TimerId) (s : Switch) (w : World) → IsSwitch s.lines w → HasRelayedAll (on_timer n id s).lines
 timer_stuck n id s w i = let a = ran n id s.routes s.lines w i in finished_stuck s.routes _ a.world a.right
@@ -385,7 +426,7 @@ relinks_leave zero o routes ls w t i p j e a b = e
 relinks_leave (suc most) None routes ls w t i p j e a b = ap (λ (ms : List SwitchLine). joined_at ms p) (none_relinks (suc most) routes ls t) ∙ e
 relinks_leave (suc most) (Some n) routes ls w t i p j e a b =
     let ms = acted routes n relinked ls in
-    let c = acted_right routes n relinked ls w i (λ line g. relinked_effect n line.end) in
+    let c = acted_right routes n Relinks ls w i (λ line g. relinked_effect n line.end) in
     let kept : joined_at ms p ≡ Some j = acted_stays routes n relinked ls w i p j (record { joined = e; here = a.0; there = b.0 }) in
     ap (λ (x : Option ℕ). joined_at (all_relinked most routes (relinked_at x routes ls)) p) t
     ∙ relinks_leave most (to_relink ms) routes ms c.world refl c.right p j kept a.1 b.1
@@ -421,7 +462,7 @@ frame_calls n octets s w are i all =
     let read = readable n octets s.lines are in
     let c = came n octets s.routes s.lines w read i in
     finished_calls s.routes _ c.world c.right
-    (acted_calls s.routes n (λ e. received e octets) (all_begun s.lines) b.world b.right
+    (acted_calls s.routes n (Brings octets) (all_begun s.lines) b.world b.right
     (λ line e.
     let old = begun_line n s.lines line e in
     received_effect n octets line.end (subst (λ (l : SwitchLine). ReadsNumbers (link_octets.on_octets l.end.line.link octets).accepted) old.1.1 (read old.0 old.1.0))) (ends_keep begun s.lines (λ e. refl) all))
@@ -431,14 +472,14 @@ timer_calls n id s w i all =
     let b = begun_right s.lines w i in
     let c = ran n id s.routes s.lines w i in
     finished_calls s.routes _ c.world c.right
-    (acted_calls s.routes n (λ e. after_timer e id) (all_begun s.lines) b.world b.right (λ line e. timer_effect n id line.end) (ends_keep begun s.lines (λ e. refl) all))
+    (acted_calls s.routes n (RunsOut id) (all_begun s.lines) b.world b.right (λ line e. timer_effect n id line.end) (ends_keep begun s.lines (λ e. refl) all))
 
 restart_calls : (s : Switch) (w : World) → IsSwitch s.lines w → (p : Place) → HasCall (restart s).lines p → ⊥
 restart_calls s w i p h =
     let a = (restart_right s w i).world p h.channel h.there in
     true≢false (sym h.call ∙ ap (λ (x : Shown). had_call x.channel.state) a.shown)
 
-same_end_layers : (ticks : ℕ) (ls : List SwitchLine) (w : World) → IsSwitch ls w → Becomes ls w (map (with_end (λ e. elapsed e ticks)) ls)
+same_end_layers : (ticks : ℕ) (ls : List SwitchLine) (w : World) → IsSwitch ls w → Becomes [] ls w (map (with_end (λ e. elapsed e ticks)) ls)
 same_end_layers ticks ls w i = same_ends (λ e. elapsed e ticks) ls w (λ e. refl) i
 
 pub turns : TurnLaw

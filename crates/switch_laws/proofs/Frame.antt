@@ -33,40 +33,39 @@ pub every_then : (as_ bs : List Act) → Every MayHappen as_ → Every MayHappen
 every_then [] bs m k = k
 every_then (a ∷ as_) bs m k = (m.0, every_then as_ bs m.1 k)
 
-pub reached_none : (ls : List SwitchLine) (w : World) → Reached ls w ls w
-reached_none ls w = record { acts = []; may = tt; layers = refl; legs = refl }
+pub reached_none : (ls : List SwitchLine) (w : World) → Reached [] ls w ls w
+reached_none ls w = record { may = tt; layers = refl; legs = refl }
 
-pub reached_then : (ls ms ks : List SwitchLine) (w v u : World) → Reached ls w ms v → Reached ms v ks u → Reached ls w ks u
-reached_then ls ms ks w v u a b = record {
-  acts = a.acts ++ b.acts;
-  may = every_then a.acts b.acts a.may b.may;
-  layers = b.layers ∙ (ap (λ (ys : List Layer). after_acts b.acts ys) a.layers ∙ sym (acts_then a.acts b.acts (layers_of ls)));
-  legs = b.legs ∙ (ap (λ (x : World). world_after_all b.acts (layers_of ms) x) a.legs ∙ (ap (λ (ys : List Layer). world_after_all b.acts ys (world_after_all a.acts (layers_of ls) w)) a.layers ∙ sym (world_then a.acts b.acts (layers_of ls) w)));
+pub reached_then : {as_ bs : List Act} (ls ms ks : List SwitchLine) (w v u : World) → Reached as_ ls w ms v → Reached bs ms v ks u → Reached (as_ ++ bs) ls w ks u
+reached_then {as_} {bs} ls ms ks w v u a b = record {
+  may = every_then as_ bs a.may b.may;
+  layers = b.layers ∙ (ap (λ (ys : List Layer). after_acts bs ys) a.layers ∙ sym (acts_then as_ bs (layers_of ls)));
+  legs = b.legs ∙ (ap (λ (x : World). world_after_all bs (layers_of ms) x) a.legs ∙ (ap (λ (ys : List Layer). world_after_all bs ys (world_after_all as_ (layers_of ls) w)) a.layers ∙ sym (world_then as_ bs (layers_of ls) w)));
 }
 
-pub reached_world : (ls ms : List SwitchLine) (w v : World) → Reached ls w ms v → IsWorld (layers_of ls) w → IsWorld (layers_of ms) v
-reached_world ls ms w v r i =
-    subst (λ (ys : List Layer). IsWorld ys v) (sym r.layers) (subst (λ (x : World). IsWorld (after_acts r.acts (layers_of ls)) x) (sym r.legs) (world_acts_all r.acts (layers_of ls) w r.may i))
+pub reached_world : {acts : List Act} (ls ms : List SwitchLine) (w v : World) → Reached acts ls w ms v → IsWorld (layers_of ls) w → IsWorld (layers_of ms) v
+reached_world {acts} ls ms w v r i =
+    subst (λ (ys : List Layer). IsWorld ys v) (sym r.layers) (subst (λ (x : World). IsWorld (after_acts acts (layers_of ls)) x) (sym r.legs) (world_acts_all acts (layers_of ls) w r.may i))
 
 there_all : (as_ : List Act) (ys : List Layer) (x : Place) → is_some (shown_at (after_acts as_ ys) x) ≡ is_some (shown_at ys x)
 there_all [] ys x = refl
 there_all (a ∷ as_) ys x = there_all as_ (after_act a ys) x ∙ there_after a ys x
 
-pub reached_there : (ls ms : List SwitchLine) (w v : World) → Reached ls w ms v → (x : Place) → is_some (shown_at (layers_of ms) x) ≡ is_some (shown_at (layers_of ls) x)
-reached_there ls ms w v r x = ap (λ (ys : List Layer). is_some (shown_at ys x)) r.layers ∙ there_all r.acts (layers_of ls) x
+pub reached_there : {acts : List Act} (ls ms : List SwitchLine) (w v : World) → Reached acts ls w ms v → (x : Place) → is_some (shown_at (layers_of ms) x) ≡ is_some (shown_at (layers_of ls) x)
+reached_there {acts} ls ms w v r x = ap (λ (ys : List Layer). is_some (shown_at ys x)) r.layers ∙ there_all acts (layers_of ls) x
 
 -- ---- only at p and q
 
-pub record Touches (p q : Place) (ls : List SwitchLine) (w : World) (ms : List SwitchLine) (v : World) : Type 0 where
-  pub reached : Reached ls w ms v
+pub record Touches (acts : List Act) (p q : Place) (ls : List SwitchLine) (w : World) (ms : List SwitchLine) (v : World) : Type 0 where
+  pub reached : Reached acts ls w ms v
   pub joined : (x : Place) → same_place x p ≡ false → same_place x q ≡ false → joined_at ms x ≡ joined_at ls x
   pub legs : (x : Place) → same_place x p ≡ false → same_place x q ≡ false → v x ≡ w x
   pub places : (x : Place) → has_place ms x ≡ has_place ls x
 
-pub touches_none : (p q : Place) (ls : List SwitchLine) (w : World) → Touches p q ls w ls w
+pub touches_none : (p q : Place) (ls : List SwitchLine) (w : World) → Touches [] p q ls w ls w
 touches_none p q ls w = record { reached = reached_none ls w; joined = λ x a b. refl; legs = λ x a b. refl; places = λ x. refl }
 
-pub touches_then : (p q : Place) (ls ms ks : List SwitchLine) (w v u : World) → Touches p q ls w ms v → Touches p q ms v ks u → Touches p q ls w ks u
+pub touches_then : {as_ bs : List Act} (p q : Place) (ls ms ks : List SwitchLine) (w v u : World) → Touches as_ p q ls w ms v → Touches bs p q ms v ks u → Touches (as_ ++ bs) p q ls w ks u
 touches_then p q ls ms ks w v u a b = record {
   reached = reached_then ls ms ks w v u a.reached b.reached;
   joined = λ x e f. b.joined x e f ∙ a.joined x e f;
@@ -74,23 +73,23 @@ touches_then p q ls ms ks w v u a b = record {
   places = λ x. b.places x ∙ a.places x;
 }
 
-pub touches_turned : (p q : Place) (ls ms : List SwitchLine) (w v : World) → Touches p q ls w ms v → Touches q p ls w ms v
+pub touches_turned : {acts : List Act} (p q : Place) (ls ms : List SwitchLine) (w v : World) → Touches acts p q ls w ms v → Touches acts q p ls w ms v
 touches_turned p q ls ms w v t = record { reached = t.reached; joined = λ x e f. t.joined x f e; legs = λ x e f. t.legs x f e; places = t.places }
 
 pub asked_world : Place → Request → List SwitchLine → World → World
 asked_world p r ls w = world_after (Asks p r) (layers_of ls) w
 
-pub touches_asked : (p q : Place) (r : Request) (ls : List SwitchLine) (w : World) → MayAsk r → Touches p q ls w (ask p r ls) (world_after (Asks p r) (layers_of ls) w)
+pub touches_asked : (p q : Place) (r : Request) (ls : List SwitchLine) (w : World) → MayAsk r → Touches (Asks p r ∷ []) p q ls w (ask p r ls) (world_after (Asks p r) (layers_of ls) w)
 touches_asked p q r ls w m = record {
-  reached = record { acts = Asks p r ∷ []; may = (m, tt); layers = layers_asked p r ls; legs = refl };
+  reached = record { may = (m, tt); layers = layers_asked p r ls; legs = refl };
   joined = λ x a b. joined_asked p r x ls;
   legs = λ x a b. leg_apart p r (layers_of ls) w x a;
   places = λ x. place_after p.line _ ls x (λ l. refl);
 }
 
-pub touches_joined : (p q : Place) (o : Option Joined) (ls : List SwitchLine) (w : World) → Touches p q ls w (with_joined p o ls) w
+pub touches_joined : (p q : Place) (o : Option Joined) (ls : List SwitchLine) (w : World) → Touches [] p q ls w (with_joined p o ls) w
 touches_joined p q o ls w = record {
-  reached = record { acts = []; may = tt; layers = layers_joined p o ls; legs = refl };
+  reached = record { may = tt; layers = layers_joined p o ls; legs = refl };
   joined = λ x a b. joined_apart p o x ls a;
   legs = λ x a b. refl;
   places = λ x. place_joined p o ls x;
@@ -113,7 +112,7 @@ other_apart n ns ls w x p q j e i only f = by_same (decided (same_place j.other 
 pub same_pair : (x y : Place) (w v : World) (j k : Joined) → v x ≡ w x → v y ≡ w y → IsPair (w x) (w y) j k → IsPair (v x) (v y) j k
 same_pair x y w v j k a b i = subst (λ (g : Leg). IsPair g (v y) j k) (sym a) (subst (λ (h : Leg). IsPair (w x) h j k) (sym b) i)
 
-pub frame : (n m : ℕ) (ns more : List Note) (p q : Place) (ls ms : List SwitchLine) (w v : World) → IsSwitchBefore n ns ls w → Touches p q ls w ms v
+pub frame : {acts : List Act} (n m : ℕ) (ns more : List Note) (p q : Place) (ls ms : List SwitchLine) (w v : World) → IsSwitchBefore n ns ls w → Touches acts p q ls w ms v
     → ((j : Joined) → joined_at ls p ≡ Some j → j.other ≡ q) → ((j : Joined) → joined_at ls q ≡ Some j → j.other ≡ p)
     → ((j : Joined) → joined_at ms p ≡ Some j → IsJoinedAt m more ms v p j) → ((j : Joined) → joined_at ms q ≡ Some j → IsJoinedAt m more ms v q j)
     → ((x : Place) → same_place x p ≡ false → same_place x q ≡ false → IsOver n ns x → IsOver m more x)
@@ -197,8 +196,8 @@ pairing n ns ls w p j s e i = record {
 }
 
 -- both keep each other, with new directions
-pub pair_kept : (n m : ℕ) (ns more : List Note) (ls ms : List SwitchLine) (w v : World) (p : Place) (j k : Joined) (a b : Direction) → IsSwitchBefore n ns ls w → Pairing ls p j k
-    → Touches p j.other ls w ms v → joined_at ms p ≡ Some (record j { kept = a }) → joined_at ms j.other ≡ Some (record k { kept = b })
+pub pair_kept : {acts : List Act} (n m : ℕ) (ns more : List Note) (ls ms : List SwitchLine) (w v : World) (p : Place) (j k : Joined) (a b : Direction) → IsSwitchBefore n ns ls w → Pairing ls p j k
+    → Touches acts p j.other ls w ms v → joined_at ms p ≡ Some (record j { kept = a }) → joined_at ms j.other ≡ Some (record k { kept = b })
     → IsPair (v p) (v j.other) (record j { kept = a }) (record k { kept = b })
     → ((x : Place) → same_place x p ≡ false → same_place x j.other ≡ false → IsOver n ns x → IsOver m more x)
     → IsSwitchBefore m more ms v
@@ -233,8 +232,8 @@ pair_kept n m ns more ls ms w v p j k a b i s t here there pair over =
     }
 
 -- neither is joined any more
-pub pair_ended : (n m : ℕ) (ns more : List Note) (ls ms : List SwitchLine) (w v : World) (p : Place) (j k : Joined) → IsSwitchBefore n ns ls w → Pairing ls p j k
-    → Touches p j.other ls w ms v → joined_at ms p ≡ None → joined_at ms j.other ≡ None
+pub pair_ended : {acts : List Act} (n m : ℕ) (ns more : List Note) (ls ms : List SwitchLine) (w v : World) (p : Place) (j k : Joined) → IsSwitchBefore n ns ls w → Pairing ls p j k
+    → Touches acts p j.other ls w ms v → joined_at ms p ≡ None → joined_at ms j.other ≡ None
     → ((x : Place) → same_place x p ≡ false → same_place x j.other ≡ false → IsOver n ns x → IsOver m more x)
     → IsSwitchBefore m more ms v
 pair_ended n m ns more ls ms w v p j k i s t here there over =

@@ -24,7 +24,7 @@ use Rattle.x25_switch.specs.declared.config.LineConfig.{LineConfig}
 use Rattle.x25_switch.specs.Lines.{SwitchLine, changed, flat, nth_joined, joined_on, joined_at}
 use Rattle.x25_switch.specs.Relay.{all_relayed}
 use Rattle.x25_switch.specs.Making.{IsConfig, IsLineConfig, made, made_line}
-use Rattle.x25_switch.specs.Switch.{Switch, with_end, acted, all_begun, all_relinked, all_offered_on, finished, may_offer, offered_from, rounds, on_frame, on_timer, restart, elapse, without_frame, without_joins, to_relink, raised}
+use Rattle.x25_switch.specs.Switch.{Switch, with_end, acted, all_begun, all_relinked, all_offered_on, finished, may_offer, offered_from, rounds, on_frame, on_timer, restart, elapse, without_joins, to_relink, raised}
 use Rattle.switch_laws.specs.Offers.{HaveSmallLinks, EndsKeepNothingBack}
 use Rattle.switch_laws.specs.Leg.{Leg}
 use Rattle.switch_laws.specs.Calls.{CallsAreJoined}
@@ -100,26 +100,30 @@ restarted_ks [] = refl
 restarted_ks (l ∷ ls) =
     ap₂ (λ (k : ℕ) (more : List ℕ). k ∷ more) (relink_keeps_k (link.new l.end.line.link.role l.end.line.link.k l.end.line.link.n2 false)) (restarted_ks ls)
 
--- ---- a frame is taken
+-- ---- an end of which the layer and the link stay
 
-departs_layers : (n : ℕ) (ls : List SwitchLine) → layers_of (changed n (with_end without_first_frame) ls) ≡ layers_of ls
-departs_layers n ls = map_unchanged (λ l. l.end.layer) (with_end without_first_frame) n ls (λ l. refl)
+pub record IsSteady (f : PacketEnd → PacketEnd) : Type 0 where
+  pub layer : (e : PacketEnd) → (f e).layer ≡ e.layer
+  pub link : (e : PacketEnd) → (f e).line.link ≡ e.line.link
 
-departs : (n : ℕ) (s : Switch) (w : World) → IsSwitch s.lines w → Becomes s.lines w (without_frame n s).lines
-departs n s w i =
+steady_layers : (n : ℕ) (f : PacketEnd → PacketEnd) (ls : List SwitchLine) → IsSteady f → layers_of (changed n (with_end f) ls) ≡ layers_of ls
+steady_layers n f ls same = map_unchanged (λ l. l.end.layer) (with_end f) n ls (λ l. same.layer l.end)
+
+steady_right : (n : ℕ) (f : PacketEnd → PacketEnd) (s : Switch) (w : World) → IsSteady f → IsSwitch s.lines w → Becomes [] s.lines w (changed n (with_end f) s.lines)
+steady_right n f s w same i =
     let ls = s.lines in
-    let ms = changed n (with_end without_first_frame) ls in
-    let r : Reached ls w ms w = record { acts = []; may = tt; layers = departs_layers n ls; legs = refl } in
+    let ms = changed n (with_end f) ls in
+    let r : Reached [] ls w ms w = record { may = tt; layers = steady_layers n f ls same; legs = refl } in
     record {
       world = w;
       reached = r;
-      right = steady ls ms w w i r (λ x. joined_kept n x.line x.channel (with_end without_first_frame) ls (λ l. refl)) (λ x. place_after n (with_end without_first_frame) ls x (λ l. refl)) (λ x. refl);
+      right = steady ls ms w w i r (λ x. joined_kept n x.line x.channel (with_end f) ls (λ l. refl)) (λ x. place_after n (with_end f) ls x (λ l. refl)) (λ x. refl);
     }
 
-departs_calls : (n : ℕ) (ls : List SwitchLine) → CallsAreJoined ls → CallsAreJoined (changed n (with_end without_first_frame) ls)
-departs_calls n ls all x h =
-    ap (λ (o : Option Joined). is_some o) (joined_kept n x.line x.channel (with_end without_first_frame) ls (λ l. refl))
-    ∙ all x (record { channel = h.channel; there = sym (ap (λ (ys : List Layer). shown_at ys x) (departs_layers n ls)) ∙ h.there; call = h.call })
+steady_calls : (n : ℕ) (f : PacketEnd → PacketEnd) (ls : List SwitchLine) → IsSteady f → CallsAreJoined ls → CallsAreJoined (changed n (with_end f) ls)
+steady_calls n f ls same all x h =
+    ap (λ (o : Option Joined). is_some o) (joined_kept n x.line x.channel (with_end f) ls (λ l. refl))
+    ∙ all x (record { channel = h.channel; there = sym (ap (λ (ys : List Layer). shown_at ys x) (steady_layers n f ls same)) ∙ h.there; call = h.call })
 
 -- what waits and is taken is as before where the layers and the joins are
 still_relayed : (ls ms : List SwitchLine) → layers_of ms ≡ layers_of ls → ((x : Place) → joined_at ms x ≡ joined_at ls x) → HasRelayedAll ls → HasRelayedAll ms
@@ -151,14 +155,31 @@ elapsed_offer : (ticks : ℕ) (ls : List SwitchLine) → list_any may_offer (map
 elapsed_offer ticks [] = refl
 elapsed_offer ticks (l ∷ ls) = ap (λ (b : Bool). may_offer l || b) (elapsed_offer ticks ls)
 
-departs_offer : (n : ℕ) (ls : List SwitchLine) → list_any may_offer (changed n (with_end without_first_frame) ls) ≡ list_any may_offer ls
-departs_offer n [] = refl
-departs_offer zero (l ∷ ls) = refl
-departs_offer (suc n) (l ∷ ls) = ap (λ (b : Bool). may_offer l || b) (departs_offer n ls)
+steady_offer : (n : ℕ) (f : PacketEnd → PacketEnd) (ls : List SwitchLine) → IsSteady f → list_any may_offer (changed n (with_end f) ls) ≡ list_any may_offer ls
+steady_offer n f [] same = refl
+steady_offer zero f (l ∷ ls) same = ap (λ (b : Bool). b || list_any may_offer ls) (ap₂ (λ (k : Link) (y : Layer). can_offer k && is_some (next_packet y).packet) (same.link l.end) (same.layer l.end))
+steady_offer (suc n) f (l ∷ ls) same = ap (λ (b : Bool). may_offer l || b) (steady_offer n f ls same)
 
 restarted_end : (ls : List SwitchLine) → to_relink (map without_joins ls) ≡ None
 restarted_end [] = refl
 restarted_end (l ∷ ls) = ap (λ (o : Option ℕ). raised o) (restarted_end ls)
+
+pub steady_holds : (n : ℕ) (f : PacketEnd → PacketEnd) (s : Switch) (w : World) → IsSteady f → SwitchHolds s w → SwitchHolds (record s { lines = changed n (with_end f) s.lines }) w
+unfolding steady_right
+steady_holds n f s w same h =
+    let ms = changed n (with_end f) s.lines in
+    let b = steady_right n f s w same h.joins in
+    record {
+      joins = b.right;
+      calls = steady_calls n f s.lines same h.calls;
+      relayed = still_relayed s.lines ms (steady_layers n f s.lines same) (λ x. joined_kept n x.line x.channel (with_end f) s.lines (λ l. refl)) h.relayed;
+      offered = steady_offer n f s.lines same ∙ h.offered;
+      no_relink = same_asking s.lines ms (map_unchanged (λ l. l.end.layer.relink) (with_end f) n s.lines (λ l. ap (λ (y : Layer). y.relink) (same.layer l.end))) ∙ h.no_relink;
+      links = same_links s.lines ms (acted_ks n f s.lines (λ e. ap (λ (k : Link). k.k) (same.link e))) h.links;
+    }
+
+first_steady : IsSteady without_first_frame
+first_steady = record { layer = λ e. refl; link = λ e. refl }
 
 -- ---- events
 
@@ -223,21 +244,12 @@ stays (Elapses ticks) s w are h =
       };
       nothing_kept_back = tt;
     }
-stays (Departs n) s w are h =
-    let b = departs n s w h.joins in
-    record {
-      world = b.world;
-      moved = b.reached;
-      holds = record {
-        joins = b.right;
-        calls = departs_calls n s.lines h.calls;
-        relayed = still_relayed s.lines (without_frame n s).lines (departs_layers n s.lines) (λ x. joined_kept n x.line x.channel (with_end without_first_frame) s.lines (λ l. refl)) h.relayed;
-        offered = departs_offer n s.lines ∙ h.offered;
-        no_relink = same_asking s.lines (without_frame n s).lines (map_unchanged (λ l. l.end.layer.relink) (with_end without_first_frame) n s.lines (λ l. refl)) ∙ h.no_relink;
-        links = same_links s.lines (without_frame n s).lines (acted_ks n without_first_frame s.lines (λ e. refl)) h.links;
-      };
-      nothing_kept_back = tt;
-    }
+stays (Departs n) s w are h = record {
+  world = w;
+  moved = record { may = tt; layers = steady_layers n without_first_frame s.lines first_steady; legs = refl };
+  holds = steady_holds n without_first_frame s w first_steady h;
+  nothing_kept_back = tt;
+}
 
 holds_on : (events : List Event) (s : Switch) (w : World) → Every MayCome events → SwitchHolds s w → HoldsOn events s w
 holds_on [] s w may h = ended

@@ -10,14 +10,15 @@ use Rattle.packet_layer.specs.Packets.Note.{Incoming, Connected, Closed, WasRese
 use Rattle.packet_layer.specs.Channel.{CallState, Channel, Step, had_call}
 use Rattle.packet_layer.specs.Layer.{Layer, channel_of, closing_notes}
 use Rattle.packet_laws.specs.History.{Epoch}
-use Rattle.packet_end.specs.PacketEnd.{PacketEnd}
 use Rattle.address_routes.specs.Routes.{RouteMap}
 use Rattle.x25_switch.specs.declared.place.Place.{Place}
 use Rattle.x25_switch.specs.declared.place.Joined.{Joined}
 use Rattle.x25_switch.specs.Lines.{SwitchLine, same_place, changed, joined_at}
 use Rattle.x25_switch.specs.Switch.{heed_all, with_end, notes_of, without_notes, quieted, acted}
 use Rattle.switch_laws.specs.Leg.{Leg, stepped}
-use Rattle.switch_laws.specs.World.{World, Shown, shown_of, shown_as, shown_on, shown_at, layers_of, world_after_all}
+use Rattle.switch_laws.specs.World.Act.{Reads}
+use Rattle.switch_laws.specs.Steps.{Happening, does, happening_acts}
+use Rattle.switch_laws.specs.World.{Act, World, Shown, shown_of, shown_as, shown_on, shown_at, layers_of, world_after_all}
 use Rattle.switch_laws.specs.Joined.{IsSwitch, has_place}
 use Rattle.switch_laws.specs.Calls.{HasCall, CallsAreJoined}
 use Rattle.switch_laws.proofs.Lists.{decided, place_is}
@@ -73,7 +74,7 @@ of_closing n d role s (Covered c k ∷ ns) ls i f = of_closing n d role s ns ls 
 
 -- ---- an act, before its notes are heeded
 
-calls_effect : (n : ℕ) (f : ℕ → Leg → Leg) (l : Layer) (ls ms : List SwitchLine) (w v : World) (notes : List Note) → Effect f l notes → slice_get (layers_of ls) n ≡ Some l → Happened n f ls ms w v
+calls_effect : {acts : List Act} (n : ℕ) (f : ℕ → Leg → Leg) (l : Layer) (ls ms : List SwitchLine) (w v : World) (notes : List Note) → Effect f l notes → slice_get (layers_of ls) n ≡ Some l → Happened acts n f ls ms w v
     → IsSwitch ls w → CallsAreJoined ls → CallsBefore n notes ms
 calls_effect n f l ls ms w v notes eff got h i all = by_effect eff
   where
@@ -173,12 +174,12 @@ calls_effect n f l ls ms w v notes eff got h i all = by_effect eff
 
 -- ---- and once they are
 
-pub acted_calls : (routes : RouteMap) (n : ℕ) (f : PacketEnd → PacketEnd) (ls : List SwitchLine) (w : World) → IsSwitch ls w → ((line : SwitchLine) → slice_get ls n ≡ Some line → EndEffect n f line.end)
-    → CallsAreJoined ls → CallsAreJoined (acted routes n f ls)
-acted_calls routes n f ls w i eff all = by_line (slice_get ls n) refl
+pub acted_calls : (routes : RouteMap) (n : ℕ) (what : Happening) (ls : List SwitchLine) (w : World) → IsSwitch ls w → ((line : SwitchLine) → slice_get ls n ≡ Some line → EndEffect n what line.end)
+    → CallsAreJoined ls → CallsAreJoined (acted routes n (does what) ls)
+acted_calls routes n what ls w i eff all = by_line (slice_get ls n) refl
   where
     g : SwitchLine → SwitchLine
-    g = with_end (λ e. f (quieted e))
+    g = with_end (λ e. does what (quieted e))
 
     l1 : List SwitchLine
     l1 = changed n g ls
@@ -186,18 +187,19 @@ acted_calls routes n f ls w i eff all = by_line (slice_get ls n) refl
     ms : List SwitchLine
     ms = changed n (with_end without_notes) l1
 
-    by_line : (o : Option SwitchLine) → slice_get ls n ≡ o → CallsAreJoined (acted routes n f ls)
-    by_line None e = subst (λ (ks : List SwitchLine). CallsAreJoined ks) (sym (acted_none routes n f ls e)) all
+    by_line : (o : Option SwitchLine) → slice_get ls n ≡ o → CallsAreJoined (acted routes n (does what) ls)
+    by_line None e = subst (λ (ks : List SwitchLine). CallsAreJoined ks) (sym (acted_none routes n (does what) ls e)) all
     by_line (Some line) e =
-        let after = (f (quieted line.end)).layer in
-        let notes = (f (quieted line.end)).notes in
-        let x : LineEffect n line.end.layer after notes = reads_first n line.end.layer after notes (eff line e) in
+        let after = (does what (quieted line.end)).layer in
+        let notes = (does what (quieted line.end)).notes in
+        let acts : List Act = Reads n ∷ happening_acts n what line.end in
+        let x : LineEffect acts n line.end.layer after notes = reads_first n line.end.layer after notes (eff line e) in
         let is : layers_of ms ≡ changed n (λ y. after) (layers_of ls) =
         ap (λ (ks : List SwitchLine). layers_of ks) (changed_twice n (with_end without_notes) g ls) ∙ layers_changed n (λ y. with_end without_notes (g y)) ls line e in
         subst (λ (o : Option SwitchLine). CallsAreJoined (heed_all routes n (notes_of o) ms)) (sym (got_changed n g ls line e))
         (heed_calls routes n notes ms
-        (calls_effect n x.moves line.end.layer ls ms w (world_after_all x.acts (layers_of ls) w) notes x.effect (layer_got n ls line e) (record {
-          reached = record { acts = x.acts; may = x.may; layers = is ∙ sym (x.layers (layers_of ls) (layer_got n ls line e)); legs = refl };
+        (calls_effect {acts = acts} n x.moves line.end.layer ls ms w (world_after_all acts (layers_of ls) w) notes x.effect (layer_got n ls line e) (record {
+          reached = record { may = x.may; layers = is ∙ sym (x.layers (layers_of ls) (layer_got n ls line e)); legs = refl };
           joined = λ y. joined_kept n y.line y.channel (with_end without_notes) l1 (λ l. refl) ∙ joined_kept n y.line y.channel g ls (λ l. refl);
           places = λ y. place_after n (with_end without_notes) l1 y (λ l. refl) ∙ place_after n g ls y (λ l. refl);
           here = λ y t. x.here (layers_of ls) w y (layer_got n ls line e) t;

@@ -20,6 +20,7 @@ use Rattle.x25_switch.specs.declared.place.Joined.{Joined}
 use Rattle.x25_switch.specs.Lines.{SwitchLine, changed, joined_on, joined_at, ask, front_at, refusal_at, places}
 use Rattle.x25_switch.specs.Relay.{moved, moved_unless, moved_front, moved_joined, relayed, relayed_from, all_relayed}
 use Rattle.x25_switch.specs.Switch.{with_end, acted, to_relink, relinked_at, all_relinked, may_offer, offered_from, rounds, all_offered_on, finished}
+use Rattle.switch_laws.specs.Steps.Happening.{Relinks}
 use Rattle.switch_laws.specs.World.{World, Shown, shown_as, shown_on, shown_at, layers_of}
 use Rattle.switch_laws.specs.World.Act.{Gives}
 use Rattle.switch_laws.specs.Joined.{IsSwitch}
@@ -224,8 +225,8 @@ relinks_calls (suc most) routes ls w i all = by_line (to_relink ls) (λ ms v k c
     by_line : (o : Option ℕ) → ((ms : List SwitchLine) (v : World) → IsSwitch ms v → CallsAreJoined ms → CallsAreJoined (all_relinked most routes ms)) → CallsAreJoined (all_relinked most routes (relinked_at o routes ls))
     by_line None more = more ls w i all
     by_line (Some n) more =
-        let b = acted_right routes n relinked ls w i (λ line g. relinked_effect n line.end) in
-        more (acted routes n relinked ls) b.world b.right (acted_calls routes n relinked ls w i (λ line g. relinked_effect n line.end) all)
+        let b = acted_right routes n Relinks ls w i (λ line g. relinked_effect n line.end) in
+        more (acted routes n relinked ls) b.world b.right (acted_calls routes n Relinks ls w i (λ line g. relinked_effect n line.end) all)
 
 pub finished_calls : (routes : RouteMap) (ls : List SwitchLine) (w : World) → IsSwitch ls w → CallsAreJoined ls → CallsAreJoined (finished routes ls)
 finished_calls routes ls w i all =

@@ -9,6 +9,7 @@ pub mod Layers
 pub mod Places
 pub mod Frame
 pub mod Relaying
+pub mod Leading
 pub mod Telling
 pub mod Outcomes
 pub mod SettingUp

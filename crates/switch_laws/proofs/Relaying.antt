@@ -18,10 +18,13 @@ use Rattle.switch_laws.specs.Leg.{Leg, asked}
 use Rattle.switch_laws.specs.Way.{Way}
 use Rattle.switch_laws.specs.Way as way
 use Rattle.switch_laws.specs.Join.{IsJoin}
-use Rattle.switch_laws.specs.World.{World, IsWorld, Shown, shown_at, layers_of, MayAsk, world_after}
+use Rattle.switch_laws.specs.World.{World, IsWorld, Shown, shown_at, layers_of, Act, MayAsk, world_after}
 use Rattle.switch_laws.specs.World.Act.{Asks}
 use Rattle.switch_laws.specs.Joined.{WaitsFor, IsPair, IsSwitch, HasRelayedAll, Reached, Becomes, has_nth, has_place_on, has_place}
 use Rattle.switch_laws.specs.Joined.IsPair.{connected, waiting}
+use Rattle.switch_laws.specs.Steps.{Step, acts_of_all}
+use Rattle.switch_laws.specs.EventSteps.{moved_unless_steps, moved_front_steps, moved_joined_steps, relayed_steps, relayed_from_steps, all_relayed_steps}
+use Rattle.switch_laws.proofs.Leading.{acts_lead, moved_leads, relayed_leads}
 use Rattle.switch_laws.proofs.Joins.{there_right}
 use Rattle.switch_laws.proofs.Lists.{decided, place_is, same_as}
 use Rattle.switch_laws.proofs.Ways.{Beside, relayed_beside, relayed_stuck, same_refusal}
@@ -48,9 +51,9 @@ refusal_of_leg ls w p q i e =
 abbrev pub way_at : World → Place → Place → Direction → Way
 way_at w p q d = record { near = w p; far = w q; kept = d }
 
-pub record Moved (ls : List SwitchLine) (w : World) (p : Place) (j k : Joined) (ms : List SwitchLine) (to : Way) : Type 0 where
+pub record Moved (acts : List Act) (ls : List SwitchLine) (w : World) (p : Place) (j k : Joined) (ms : List SwitchLine) (to : Way) : Type 0 where
   pub world : World
-  pub touches : Touches p j.other ls w ms world
+  pub touches : Touches acts p j.other ls w ms world
   pub switch : IsSwitch ms world
   pub kept : Direction
   pub here : joined_at ms p ≡ Some (record j { kept = kept })
@@ -61,7 +64,7 @@ pub may_ask : (t : Taken) → MayAsk (request_for t)
 may_ask (TakenInterrupt octets) = tt
 may_ask (TakenPacket d) = tt
 
-stays : (ls : List SwitchLine) (w : World) (p : Place) (j k : Joined) → IsSwitch ls w → Pairing ls p j k → Moved ls w p j k ls (way_at w p j.other j.kept)
+stays : (ls : List SwitchLine) (w : World) (p : Place) (j k : Joined) → IsSwitch ls w → Pairing ls p j k → Moved [] ls w p j k ls (way_at w p j.other j.kept)
 stays ls w p j k i s = record { world = w; touches = touches_none p j.other ls w; switch = i; kept = j.kept; here = s.here; there = s.there; is = refl }
 
 same_way : (g h : Leg) (g' h' : Leg) (d : Direction) → g ≡ g' → h ≡ h' → ◌≡◌ {A = Way} (record { near = g; far = h; kept = d }) (record { near = g'; far = h'; kept = d })
@@ -70,7 +73,7 @@ same_way g h g' h' d a b = ap₂ (λ (x y : Leg). record { near = x; far = y; ke
 -- the request is not refused
 moves_on : (t : Taken) (ls : List SwitchLine) (w : World) (p : Place) (j k : Joined) → IsSwitch ls w → Pairing ls p j k
     → IsJoin (record { a = w p; b = w j.other; there = j.kept; back = k.kept }) → way.moved (way_at w p j.other j.kept) ≡ way.moved_unless None t (way_at w p j.other j.kept)
-    → Moved ls w p j k (moved_unless None t p j ls) (way.moved_unless None t (way_at w p j.other j.kept))
+    → Moved (acts_of_all (moved_unless_steps None t p j) ls) ls w p j k (moved_unless None t p j ls) (way.moved_unless None t (way_at w p j.other j.kept))
 moves_on t ls w p j k i s c e = record {
   world = v;
   touches = touches;
@@ -114,16 +117,16 @@ moves_on t ls w p j k i s c e = record {
     ms : List SwitchLine
     ms = moved_unless None t p j ls
 
-    t1 : Touches p q ls w l1 w1
+    t1 : Touches (Asks p Taking ∷ []) p q ls w l1 w1
     t1 = touches_asked p q Taking ls w tt
 
-    t2 : Touches p q ls w l2 w2
+    t2 : Touches (Asks p Taking ∷ Asks q r ∷ []) p q ls w l2 w2
     t2 = touches_then p q ls l1 l2 w w1 w2 t1 (touches_turned q p l1 l2 w1 w2 (touches_asked q p r l1 w1 (may_ask t)))
 
-    t3 : Touches p q ls w l3 v
+    t3 : Touches (Asks p Taking ∷ Asks q r ∷ Asks p (Releasing n) ∷ []) p q ls w l3 v
     t3 = touches_then p q ls l2 l3 w w2 v t2 (touches_asked p q (Releasing n) l2 w2 tt)
 
-    touches : Touches p q ls w ms v
+    touches : Touches (Asks p Taking ∷ Asks q r ∷ Asks p (Releasing n) ∷ []) p q ls w ms v
     touches = touches_then p q ls l3 ms w v v t3 (touches_joined p q (Some (record j { kept = kept })) l3 v)
 
     here : joined_at ms p ≡ Some (record j { kept = kept })
@@ -155,34 +158,34 @@ moves_on t ls w p j k i s c e = record {
 
 by_refusal : (r : Option Refusal) (t : Taken) (ls : List SwitchLine) (w : World) (p : Place) (j k : Joined) → IsSwitch ls w → Pairing ls p j k
     → IsJoin (record { a = w p; b = w j.other; there = j.kept; back = k.kept }) → way.moved (way_at w p j.other j.kept) ≡ way.moved_unless r t (way_at w p j.other j.kept)
-    → Moved ls w p j k (moved_unless r t p j ls) (way.moved_unless r t (way_at w p j.other j.kept))
+    → Moved (acts_of_all (moved_unless_steps r t p j) ls) ls w p j k (moved_unless r t p j ls) (way.moved_unless r t (way_at w p j.other j.kept))
 by_refusal (Some r) t ls w p j k i s c e = stays ls w p j k i s
 by_refusal None t ls w p j k i s c e = moves_on t ls w p j k i s c e
 
 by_front : (o : Option Taken) (ls : List SwitchLine) (w : World) (p : Place) (j k : Joined) → IsSwitch ls w → Pairing ls p j k
     → IsJoin (record { a = w p; b = w j.other; there = j.kept; back = k.kept }) → way.moved (way_at w p j.other j.kept) ≡ way.moved_front o (way_at w p j.other j.kept)
-    → Moved ls w p j k (moved_front o p j ls) (way.moved_front o (way_at w p j.other j.kept))
+    → Moved (acts_of_all (moved_front_steps o p j ls) ls) ls w p j k (moved_front o p j ls) (way.moved_front o (way_at w p j.other j.kept))
 by_front None ls w p j k i s c e = stays ls w p j k i s
 by_front (Some t) ls w p j k i s c e =
-    subst (λ (r : Option Refusal). Moved ls w p j k (moved_unless r t p j ls) (way.moved_front (Some t) (way_at w p j.other j.kept)))
+    subst (λ (r : Option Refusal). Moved (acts_of_all (moved_unless_steps r t p j) ls) ls w p j k (moved_unless r t p j ls) (way.moved_front (Some t) (way_at w p j.other j.kept)))
     (sym (refusal_of_leg ls w j.other (request_for t) i.world s.q_there)) (by_refusal _ t ls w p j k i s c e)
 
 pub moves : (ls : List SwitchLine) (w : World) (p : Place) (j k : Joined) → IsSwitch ls w → Pairing ls p j k → IsJoin (record { a = w p; b = w j.other; there = j.kept; back = k.kept })
-    → Moved ls w p j k (moved p ls) (way.moved (way_at w p j.other j.kept))
+    → Moved (acts_of_all (moved_joined_steps (joined_at ls p) p ls) ls) ls w p j k (moved p ls) (way.moved (way_at w p j.other j.kept))
 moves ls w p j k i s c =
-    subst (λ (o : Option Joined). Moved ls w p j k (moved_joined o p ls) (way.moved (way_at w p j.other j.kept))) (sym s.here)
-    (subst (λ (o : Option Taken). Moved ls w p j k (moved_front o p j ls) (way.moved (way_at w p j.other j.kept))) (sym (front_of_leg ls w p i.world s.p_there))
+    subst (λ (o : Option Joined). Moved (acts_of_all (moved_joined_steps o p ls) ls) ls w p j k (moved_joined o p ls) (way.moved (way_at w p j.other j.kept))) (sym s.here)
+    (subst (λ (o : Option Taken). Moved (acts_of_all (moved_front_steps o p j ls) ls) ls w p j k (moved_front o p j ls) (way.moved (way_at w p j.other j.kept))) (sym (front_of_leg ls w p i.world s.p_there))
     (by_front (front (w p).channel.traffic) ls w p j k i s c refl))
 
 -- ---- several moves
 
-moved_join : (ls ms : List SwitchLine) (w : World) (p : Place) (j k : Joined) → IsJoin (record { a = w p; b = w j.other; there = j.kept; back = k.kept })
-    → (m : Moved ls w p j k ms (way.moved (way_at w p j.other j.kept))) → IsJoin (record { a = m.world p; b = m.world j.other; there = m.kept; back = k.kept })
+moved_join : {acts : List Act} (ls ms : List SwitchLine) (w : World) (p : Place) (j k : Joined) → IsJoin (record { a = w p; b = w j.other; there = j.kept; back = k.kept })
+    → (m : Moved acts ls w p j k ms (way.moved (way_at w p j.other j.kept))) → IsJoin (record { a = m.world p; b = m.world j.other; there = m.kept; back = k.kept })
 moved_join ls ms w p j k c m =
     subst (λ (x : Way). IsJoin (record { a = x.near; b = x.far; there = x.kept; back = k.kept })) (sym m.is)
     (there_right 1 (record { a = w p; b = w j.other; there = j.kept; back = k.kept }) c)
 
-moved_pairing : (ls ms : List SwitchLine) (w : World) (p : Place) (j k : Joined) (to : Way) → Pairing ls p j k → (m : Moved ls w p j k ms to) → Pairing ms p (record j { kept = m.kept }) k
+moved_pairing : {acts : List Act} (ls ms : List SwitchLine) (w : World) (p : Place) (j k : Joined) (to : Way) → Pairing ls p j k → (m : Moved acts ls w p j k ms to) → Pairing ms p (record j { kept = m.kept }) k
 moved_pairing ls ms w p j k to s m = record {
   here = m.here;
   there = m.there;
@@ -194,14 +197,16 @@ moved_pairing ls ms w p j k to s m = record {
 }
 
 pub relays : (most : ℕ) (ls : List SwitchLine) (w : World) (p : Place) (j k : Joined) → IsSwitch ls w → Pairing ls p j k → IsJoin (record { a = w p; b = w j.other; there = j.kept; back = k.kept })
-    → Moved ls w p j k (relayed most p ls) (way.relayed most (way_at w p j.other j.kept))
+    → Moved (acts_of_all (relayed_steps most p ls) ls) ls w p j k (relayed most p ls) (way.relayed most (way_at w p j.other j.kept))
 relays zero ls w p j k i s c = stays ls w p j k i s
 relays (suc most) ls w p j k i s c =
     let m = moves ls w p j k i s c in
     let n = relays most (moved p ls) m.world p (record j { kept = m.kept }) k m.switch (moved_pairing ls (moved p ls) w p j k _ s m) (moved_join ls (moved p ls) w p j k c m) in
     record {
       world = n.world;
-      touches = touches_then p j.other ls (moved p ls) (relayed most p (moved p ls)) w m.world n.world m.touches n.touches;
+      touches = subst (λ (acts : List Act). Touches acts p j.other ls w (relayed most p (moved p ls)) n.world)
+          (acts_lead (moved_joined_steps (joined_at ls p) p ls) (relayed_steps most p (moved p ls)) ls (moved p ls) (moved_leads (joined_at ls p) p ls))
+          (touches_then p j.other ls (moved p ls) (relayed most p (moved p ls)) w m.world n.world m.touches n.touches);
       switch = n.switch;
       kept = n.kept;
       here = n.here;
@@ -214,9 +219,9 @@ relays (suc most) ls w p j k i s c =
 abbrev pub StuckAt : List SwitchLine → Place → Type 0
 StuckAt ls p = (j : Joined) (t : Taken) → joined_at ls p ≡ Some j → front_at ls p ≡ Some t → is_some (refusal_at ls j.other (request_for t)) ≡ true
 
-pub record Visited (ls : List SwitchLine) (w : World) (x : Place) (ms : List SwitchLine) : Type 0 where
+pub record Visited (acts : List Act) (ls : List SwitchLine) (w : World) (x : Place) (ms : List SwitchLine) : Type 0 where
   pub world : World
-  pub reached : Reached ls w ms world
+  pub reached : Reached acts ls w ms world
   pub switch : IsSwitch ms world
   pub places : (y : Place) → has_place ms y ≡ has_place ls y
   pub stuck_here : StuckAt ms x
@@ -226,15 +231,23 @@ pub relayed_same : (most : ℕ) (p : Place) (ls : List SwitchLine) → moved p l
 relayed_same zero p ls e = refl
 relayed_same (suc most) p ls e = ap (λ (ms : List SwitchLine). relayed most p ms) e ∙ relayed_same most p ls e
 
-visited_same : (ls ms : List SwitchLine) (w : World) (x : Place) → ms ≡ ls → IsSwitch ls w → StuckAt ls x → Visited ls w x ms
-visited_same ls ms w x e i s = subst (λ (ks : List SwitchLine). Visited ls w x ks) (sym e) (record {
+relayed_no_steps : (most : ℕ) (p : Place) (ls : List SwitchLine) → moved p ls ≡ ls → moved_joined_steps (joined_at ls p) p ls ≡ [] → relayed_steps most p ls ≡ []
+relayed_no_steps zero p ls e f = refl
+relayed_no_steps (suc most) p ls e f =
+    ap (λ (ss : List Step). ss ++ relayed_steps most p (moved p ls)) f ∙ (ap (λ (ms : List SwitchLine). relayed_steps most p ms) e ∙ relayed_no_steps most p ls e f)
+
+abbrev pub VisitedBy : List Step → List SwitchLine → World → Place → List SwitchLine → Type 0
+VisitedBy ss ls w x ms = Visited (acts_of_all ss ls) ls w x ms
+
+visited_same : (ss : List Step) (ls ms : List SwitchLine) (w : World) (x : Place) → ss ≡ [] → ms ≡ ls → IsSwitch ls w → StuckAt ls x → VisitedBy ss ls w x ms
+visited_same ss ls ms w x f e i s = subst (λ (us : List Step). VisitedBy us ls w x ms) (sym f) (subst (λ (ks : List SwitchLine). VisitedBy [] ls w x ks) (sym e) (record {
   world = w;
   reached = reached_none ls w;
   switch = i;
   places = λ y. refl;
   stuck_here = s;
   stuck_elsewhere = λ p a h. h;
-})
+}))
 
 pub waiting_before : (role : Role) (s : CallState) → waits_for_call role s ≡ true → in_transfer s ≡ false
 waiting_before role Ready e = refl
@@ -249,15 +262,18 @@ pub waits_before : (b : Bool) (g h : Leg) → WaitsFor b g h → (in_transfer g.
 waits_before true g h i = (accepts_before g.role g.channel.state i.can_accept, waiting_before h.role h.channel.state i.waits)
 waits_before false g h i = (waiting_before g.role g.channel.state i.waits, accepts_before h.role h.channel.state i.can_accept)
 
-visited_pair : (ls : List SwitchLine) (w : World) (x : Place) (j k : Joined) → IsSwitch ls w → Pairing ls x j k → IsPair (w x) (w j.other) j k → Visited ls w x (relayed 8 x ls)
+visited_pair : (ls : List SwitchLine) (w : World) (x : Place) (j k : Joined) → IsSwitch ls w → Pairing ls x j k → IsPair (w x) (w j.other) j k → VisitedBy (relayed_steps 8 x ls) ls w x (relayed 8 x ls)
 visited_pair ls w x j k i s (waiting a b c) =
-    visited_same ls (relayed 8 x ls) w x (relayed_same 8 x ls nothing) i (λ y t e f. absurd (none-some t (sym front_none ∙ f)))
+    visited_same (relayed_steps 8 x ls) ls (relayed 8 x ls) w x (relayed_no_steps 8 x ls nothing no_steps) (relayed_same 8 x ls nothing) i (λ y t e f. absurd (none-some t (sym front_none ∙ f)))
   where
     front_none : front_at ls x ≡ None
     front_none =
         let f = some_there (shown_at (layers_of ls) x) s.p_there in
         let start = (i.world x f.0 f.1).leg.start (waits_before j.came_in (w x) (w j.other) c).0 in
         front_of_leg ls w x i.world s.p_there ∙ ap (λ (t : Traffic). front t) start.traffic
+
+    no_steps : moved_joined_steps (joined_at ls x) x ls ≡ []
+    no_steps = ap (λ (o : Option Joined). moved_joined_steps o x ls) s.here ∙ ap (λ (o : Option Taken). moved_front_steps o x j ls) front_none
 
     nothing : moved x ls ≡ ls
     nothing = ap (λ (o : Option Joined). moved_joined o x ls) s.here ∙ ap (λ (o : Option Taken). moved_front o x j ls) front_none
@@ -276,7 +292,7 @@ visited_pair ls w x j k i s (connected c) = record {
     from : Way
     from = way_at w x j.other j.kept
 
-    m : Moved ls w x j k ms (way.relayed 8 from)
+    m : Moved (acts_of_all (relayed_steps 8 x ls) ls) ls w x j k ms (way.relayed 8 from)
     m = relays 8 ls w x j k i s c
 
     v : World
@@ -337,9 +353,10 @@ visited_pair ls w x j k i s (connected c) = record {
         by_other (inl t) = let is = place_is p j.other t in subst (λ (z : Place). StuckAt ms z) (sym is) (stuck_other (subst (λ (z : Place). StuckAt ls z) is h))
         by_other (inr f) = stuck_apart p a f h
 
-visited_joined : (o : Option Joined) (ls : List SwitchLine) (w : World) (x : Place) → joined_at ls x ≡ o → IsSwitch ls w → Visited ls w x (relayed 8 x ls)
+visited_joined : (o : Option Joined) (ls : List SwitchLine) (w : World) (x : Place) → joined_at ls x ≡ o → IsSwitch ls w → VisitedBy (relayed_steps 8 x ls) ls w x (relayed 8 x ls)
 visited_joined None ls w x e i =
-    visited_same ls (relayed 8 x ls) w x (relayed_same 8 x ls (ap (λ (o : Option Joined). moved_joined o x ls) e)) i (λ y t f g. absurd (none-some y (sym e ∙ f)))
+    visited_same (relayed_steps 8 x ls) ls (relayed 8 x ls) w x (relayed_no_steps 8 x ls (ap (λ (o : Option Joined). moved_joined o x ls) e) (ap (λ (o : Option Joined). moved_joined_steps o x ls) e))
+    (relayed_same 8 x ls (ap (λ (o : Option Joined). moved_joined o x ls) e)) i (λ y t f g. absurd (none-some y (sym e ∙ f)))
 visited_joined (Some j) ls w x e i =
     let d = i.joined x j e in
     elim d.pair [
@@ -347,7 +364,7 @@ visited_joined (Some j) ls w x e i =
       | inr h ↦ elim h [ inl z ↦ absurd z | inr z ↦ absurd z ]
     ]
 
-pub visited : (ls : List SwitchLine) (w : World) (x : Place) → IsSwitch ls w → Visited ls w x (relayed 8 x ls)
+pub visited : (ls : List SwitchLine) (w : World) (x : Place) → IsSwitch ls w → VisitedBy (relayed_steps 8 x ls) ls w x (relayed 8 x ls)
 visited ls w x i = visited_joined (joined_at ls x) ls w x refl i
 
 -- ---- all channels
@@ -356,14 +373,14 @@ pub data Among (p : Place) : List Place → Type 0 where
   first : {x : Place} {xs : List Place} → same_place p x ≡ true → Among p (x ∷ xs)
   later : {x : Place} {xs : List Place} → Among p xs → Among p (x ∷ xs)
 
-pub record RelayedFrom (ls : List SwitchLine) (w : World) (ps : List Place) (ms : List SwitchLine) : Type 0 where
+pub record RelayedFrom (acts : List Act) (ls : List SwitchLine) (w : World) (ps : List Place) (ms : List SwitchLine) : Type 0 where
   pub world : World
-  pub reached : Reached ls w ms world
+  pub reached : Reached acts ls w ms world
   pub switch : IsSwitch ms world
   pub places : (y : Place) → has_place ms y ≡ has_place ls y
   pub stuck : (p : Place) → StuckAt ls p ⊎ Among p ps → StuckAt ms p
 
-relays_from : (ps : List Place) (ls : List SwitchLine) (w : World) → IsSwitch ls w → RelayedFrom ls w ps (relayed_from ps ls)
+relays_from : (ps : List Place) (ls : List SwitchLine) (w : World) → IsSwitch ls w → RelayedFrom (acts_of_all (relayed_from_steps ps ls) ls) ls w ps (relayed_from ps ls)
 relays_from [] ls w i = record { world = w; reached = reached_none ls w; switch = i; places = λ y. refl; stuck = λ p h. none p h }
   where
     none : (p : Place) → StuckAt ls p ⊎ Among p [] → StuckAt ls p
@@ -371,10 +388,15 @@ relays_from [] ls w i = record { world = w; reached = reached_none ls w; switch 
     none p (inr h) = elim h [ ]
 relays_from (x ∷ ps) ls w i = then_ (visited ls w x i) (relays_from ps (relayed 8 x ls) (visited ls w x i).world (visited ls w x i).switch)
   where
-    then_ : (a : Visited ls w x (relayed 8 x ls)) → RelayedFrom (relayed 8 x ls) a.world ps (relayed_from ps (relayed 8 x ls)) → RelayedFrom ls w (x ∷ ps) (relayed_from ps (relayed 8 x ls))
+    bs : List Step
+    bs = relayed_from_steps ps (relayed 8 x ls)
+
+    then_ : (a : VisitedBy (relayed_steps 8 x ls) ls w x (relayed 8 x ls)) → RelayedFrom (acts_of_all bs (relayed 8 x ls)) (relayed 8 x ls) a.world ps (relayed_from ps (relayed 8 x ls))
+        → RelayedFrom (acts_of_all (relayed_steps 8 x ls ++ bs) ls) ls w (x ∷ ps) (relayed_from ps (relayed 8 x ls))
     then_ a b = record {
       world = b.world;
-      reached = reached_then ls (relayed 8 x ls) (relayed_from ps (relayed 8 x ls)) w a.world b.world a.reached b.reached;
+      reached = subst (λ (acts : List Act). Reached acts ls w (relayed_from ps (relayed 8 x ls)) b.world) (acts_lead (relayed_steps 8 x ls) bs ls (relayed 8 x ls) (relayed_leads 8 x ls))
+          (reached_then ls (relayed 8 x ls) (relayed_from ps (relayed 8 x ls)) w a.world b.world a.reached b.reached);
       switch = b.switch;
       places = λ y. b.places y ∙ a.places y;
       stuck = λ p h. by_here p (decided (same_place p x)) h;
@@ -424,7 +446,7 @@ among_from n (suc m) c (l ∷ ls) e =
 among_places : (p : Place) (ls : List SwitchLine) → has_place ls p ≡ true → Among p (places ls)
 among_places p ls e = let same : 0 + p.line ≡ p.line = omega arith in subst (λ (k : ℕ). Among (record { line = k; channel = p.channel }) (places ls)) same (among_from 0 p.line p.channel ls e)
 
-pub all_relayed_right : (ls : List SwitchLine) (w : World) → IsSwitch ls w → Becomes ls w (all_relayed ls)
+pub all_relayed_right : (ls : List SwitchLine) (w : World) → IsSwitch ls w → Becomes (acts_of_all (all_relayed_steps ls) ls) ls w (all_relayed ls)
 all_relayed_right ls w i = let r = relays_from (places ls) ls w i in record { world = r.world; reached = r.reached; right = r.switch }
 
 pub all_relayed_stuck : (ls : List SwitchLine) (w : World) → IsSwitch ls w → HasRelayedAll (all_relayed ls)

@@ -113,7 +113,7 @@ each_config zero c e = subst (λ (x : LineConfig). IsLineConfig x) (same_Some _ 
 each_config (suc zero) c e = subst (λ (x : LineConfig). IsLineConfig x) (same_Some _ c e) (config_right (2 ∷ []))
 each_config (suc (suc n)) c e = absurd (none-some c e)
 
-configs_right : IsConfig configs
+pub configs_right : IsConfig configs
 configs_right = record { least = omega arith; most = omega arith; each = each_config }
 
 are_octets : (xs : List ℕ) → list_all (λ x. nat_lt x 256) xs ≡ true → AreOctets xs

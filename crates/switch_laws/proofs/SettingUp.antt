@@ -28,6 +28,8 @@ use Rattle.switch_laws.specs.Joined.{WaitsFor, IsPair, IsJoinedAt, IsSwitch, Bec
 use Rattle.switch_laws.specs.Joined.IsPair.{connected, waiting}
 use Rattle.switch_laws.proofs.Lists.{decided, place_is, map_changed, get_map}
 use Rattle.switch_laws.proofs.Places.{joined_asked, joined_kept, joined_here, joined_apart, place_after}
+use Rattle.switch_laws.specs.Steps.{acts_of_all}
+use Rattle.switch_laws.specs.EventSteps.{answered_steps, heed_steps}
 use Rattle.switch_laws.proofs.Frame.{Touches, touches_then, touches_turned, touches_asked, touches_joined, reached_there, frame, apart_turned}
 
 -- ---- a joined channel has a call
@@ -83,7 +85,7 @@ ready_not_joined ls w x i r = by_joined (joined_at ls x) refl
 
 -- ---- cleared
 
-pub clears_call : (cause : ℕ) (p : Place) (ls : List SwitchLine) (w : World) → IsSwitch ls w → joined_at ls p ≡ None → Becomes ls w (ask p (Clearing cause no_information) ls)
+pub clears_call : (cause : ℕ) (p : Place) (ls : List SwitchLine) (w : World) → IsSwitch ls w → joined_at ls p ≡ None → Becomes (Asks p (Clearing cause no_information) ∷ []) ls w (ask p (Clearing cause no_information) ls)
 clears_call cause p ls w i none =
     let r = Clearing cause no_information in
     let t = touches_asked p p r ls w tt in
@@ -129,7 +131,7 @@ placed_apart q parts ls w f x e = by_line (decided (x.line == q.line))
     by_line (inr t) = ap (λ (b : Bool). if b then leg_after (Calls q.line parts) (slice_get (layers_of ls) x.line) x.channel (w x) else w x) t
 
 pub joins_call : (p q : Place) (parts : CallParts) (ls : List SwitchLine) (w : World) → IsSwitch ls w → joined_at ls p ≡ None → is_some (shown_at (layers_of ls) p) ≡ true
-    → may_accept (w p).role (w p).channel.state ≡ true → IsFreePlace ls q → Becomes ls w (with_join p q (place_call q.line parts ls))
+    → may_accept (w p).role (w p).channel.state ≡ true → IsFreePlace ls q → Becomes (Calls q.line parts ∷ []) ls w (with_join p q (place_call q.line parts ls))
 joins_call p q parts ls w i none p_there accepts f = record {
   world = v;
   reached = t.reached;
@@ -180,18 +182,18 @@ joins_call p q parts ls w i none p_there accepts f = record {
     ms : List SwitchLine
     ms = with_joined q (Some jq) l2
 
-    t1 : Touches q p ls w l1 v
+    t1 : Touches (Calls q.line parts ∷ []) q p ls w l1 v
     t1 = record {
-      reached = record { acts = Calls q.line parts ∷ []; may = (tt, tt); layers = map_changed (λ l. l.end.layer) _ _ q.line ls (λ l. refl); legs = refl };
+      reached = record { may = (tt, tt); layers = map_changed (λ l. l.end.layer) _ _ q.line ls (λ l. refl); legs = refl };
       joined = λ x a b. joined_kept q.line x.line x.channel _ ls (λ l. refl);
       legs = λ x a b. placed_apart q parts ls w f x a;
       places = λ x. place_after q.line _ ls x (λ l. refl);
     }
 
-    t2 : Touches p q ls w l2 v
+    t2 : Touches (Calls q.line parts ∷ []) p q ls w l2 v
     t2 = touches_then p q ls l1 l2 w v v (touches_turned q p ls l1 w v t1) (touches_joined p q (Some jp) l1 v)
 
-    t : Touches p q ls w ms v
+    t : Touches (Calls q.line parts ∷ []) p q ls w ms v
     t = touches_then p q ls l2 ms w v v t2 (touches_turned q p l2 ms v v (touches_joined q p (Some jq) l2 v))
 
     here : joined_at ms p ≡ Some jp
@@ -246,13 +248,13 @@ answer_if true ls cause a i = tt
 answer_if false ls cause a i = i
 
 answers : (a : Answer) (p : Place) (parts : CallParts) (ls : List SwitchLine) (w : World) → IsAnswer ls a → IsSwitch ls w → joined_at ls p ≡ None → is_some (shown_at (layers_of ls) p) ≡ true
-    → may_accept (w p).role (w p).channel.state ≡ true → Becomes ls w (answered a p parts ls)
+    → may_accept (w p).role (w p).channel.state ≡ true → Becomes (acts_of_all (answered_steps a p parts ls) ls) ls w (answered a p parts ls)
 answers (Clears cause) p parts ls w f i none there accepts = clears_call cause p ls w i none
 answers (Joins q) p parts ls w f i none there accepts = joins_call p q (forwarded ls p.line parts) ls w i none there accepts f
 
 pub incoming_right : (routes : RouteMap) (n c : ℕ) (parts : CallParts) (ls : List SwitchLine) (w : World) → IsSwitch ls w → joined_at ls (record { line = n; channel = c }) ≡ None
     → is_some (shown_at (layers_of ls) (record { line = n; channel = c })) ≡ true
-    → may_accept (w (record { line = n; channel = c })).role (w (record { line = n; channel = c })).channel.state ≡ true → Becomes ls w (heed routes n (Incoming c parts) ls)
+    → may_accept (w (record { line = n; channel = c })).role (w (record { line = n; channel = c })).channel.state ≡ true → Becomes (acts_of_all (heed_steps routes n (Incoming c parts) ls) ls) ls w (heed routes n (Incoming c parts) ls)
 incoming_right routes n c parts ls w i none there accepts =
     answers (answer routes ls parts) (record { line = n; channel = c }) parts ls w (answer_if (has_any parts.facilities) ls _ _ (answer_by_is ls (line_for routes parts.called))) i none there accepts
 

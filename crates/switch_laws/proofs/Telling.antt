@@ -1,5 +1,5 @@
 -- What the switch is told of a joined channel.
-use Rattle.std.proofs.Common.{◌≡◌, ℕ, ◌⊎◌, inl, inr, false, List, ◌∷◌, Option, Some, None, refl, sym, ap, subst, ◌∙◌, true≢false}
+use Rattle.std.proofs.Common.{◌≡◌, ℕ, ◌⊎◌, inl, inr, false, List, [], ◌∷◌, ◌++◌, Option, Some, None, refl, sym, ap, subst, ◌∙◌, true≢false}
 use Rattle.std.proofs.lemmas.Option.{none-some}
 use Rattle.packet_layer.specs.Packets.{Note, Reason}
 use Rattle.packet_layer.specs.Packets.Note.{Incoming, Connected, Closed, WasReset, InterruptConfirmed, Covered}
@@ -14,9 +14,11 @@ use Rattle.x25_switch.specs.Relay.{told, told_of, told_joined, covered_on, kept_
 use Rattle.switch_laws.specs.Leg.{Leg, asked}
 use Rattle.switch_laws.specs.Join.{Join, IsJoin}
 use Rattle.switch_laws.specs.Join as join
-use Rattle.switch_laws.specs.World.{World, layers_of, MayAsk, world_after}
+use Rattle.switch_laws.specs.World.{World, layers_of, Act, MayAsk, world_after}
 use Rattle.switch_laws.specs.World.Act.{Asks}
 use Rattle.switch_laws.specs.Joined.{IsOver, IsSwitchBefore, Reached}
+use Rattle.switch_laws.specs.Steps.{Step, acts_of_all}
+use Rattle.switch_laws.specs.EventSteps.{anew_steps, covered_steps, told_joined_steps, told_steps}
 use Rattle.switch_laws.proofs.Lists.{same_as}
 use Rattle.switch_laws.proofs.Places.{joined_asked, joined_here, joined_apart, joined_place, leg_asked, leg_apart}
 use Rattle.switch_laws.proofs.Frame.{Touches, touches_none, touches_then, touches_turned, touches_asked, touches_joined, reached_there, Pairing, pairing, pair_ended}
@@ -26,7 +28,7 @@ use Rattle.switch_laws.proofs.Frame.{Touches, touches_none, touches_then, touche
 -- a request at the other leg
 pub record Asked (r : Request) (ls : List SwitchLine) (w : World) (p : Place) (j k : Joined) (ms : List SwitchLine) : Type 0 where
   pub world : World
-  pub touches : Touches p j.other ls w ms world
+  pub touches : Touches (Asks j.other r ∷ []) p j.other ls w ms world
   pub here : joined_at ms p ≡ Some j
   pub there : joined_at ms j.other ≡ Some k
   pub near : world p ≡ w p
@@ -50,9 +52,9 @@ pub record Stands (ls : List SwitchLine) (w : World) (p : Place) (j k : Joined) 
   pub near : w p ≡ i.b
   pub far : w j.other ≡ i.a
 
-pub record Told (ls : List SwitchLine) (w : World) (p : Place) (j k : Joined) (ms : List SwitchLine) (i : Join) : Type 0 where
+pub record Told (acts : List Act) (ls : List SwitchLine) (w : World) (p : Place) (j k : Joined) (ms : List SwitchLine) (i : Join) : Type 0 where
   pub world : World
-  pub touches : Touches p j.other ls w ms world
+  pub touches : Touches acts p j.other ls w ms world
   pub stands : Stands ms world p j k i
 
 abbrev pub GoesOn : (channel : ℕ) → Note → Type 0
@@ -61,7 +63,7 @@ GoesOn c (InterruptConfirmed d) = d ≡ c
 GoesOn c (Covered d n) = d ≡ c
 GoesOn c n = ⊥
 
-new_pairing : (ls ms : List SwitchLine) (w v : World) (p : Place) (j k : Joined) (a b : Direction) → Pairing ls p j k → Touches p j.other ls w ms v
+new_pairing : {acts : List Act} (ls ms : List SwitchLine) (w v : World) (p : Place) (j k : Joined) (a b : Direction) → Pairing ls p j k → Touches acts p j.other ls w ms v
     → joined_at ms p ≡ Some (record j { kept = a }) → joined_at ms j.other ≡ Some (record k { kept = b }) → Pairing ms p (record j { kept = a }) (record k { kept = b })
 new_pairing ls ms w v p j k a b s t here there = record {
   here = here;
@@ -73,9 +75,15 @@ new_pairing ls ms w v p j k a b s t here there = record {
   q_there = reached_there ls ms w v t.reached j.other ∙ s.q_there;
 }
 
+-- the acts by which a note of p is told
+abbrev pub told_acts : Note → Place → List SwitchLine → List Act
+told_acts n p ls = acts_of_all (told_steps (joined_at ls p) n p ls) ls
+
 -- P(R) covered some: the other leg is released
-tells_covered : (c n : ℕ) (ls : List SwitchLine) (w : World) (p : Place) (j k : Joined) (i : Join) → Stands ls w p j k i → Told ls w p j k (told (Covered c n) p ls) (join.told (Covered c n) i)
-tells_covered c n ls w p j k i s = subst (λ (ms : List SwitchLine). Told ls w p j k ms (join.told (Covered c n) i)) (sym is) done
+tells_covered : (c n : ℕ) (ls : List SwitchLine) (w : World) (p : Place) (j k : Joined) (i : Join) → Stands ls w p j k i → Told (told_acts (Covered c n) p ls) ls w p j k (told (Covered c n) p ls) (join.told (Covered c n) i)
+tells_covered c n ls w p j k i s =
+    subst (λ (acts : List Act). Told acts ls w p j k (told (Covered c n) p ls) (join.told (Covered c n) i)) (sym acts_are)
+    (subst (λ (ms : List SwitchLine). Told (Asks q (Releasing (releasable d.held)) ∷ []) ls w p j k ms (join.told (Covered c n) i)) (sym is) done)
   where
     q : Place
     q = j.other
@@ -95,16 +103,19 @@ tells_covered c n ls w p j k i s = subst (λ (ms : List SwitchLine). Told ls w p
     ms : List SwitchLine
     ms = with_joined q (Some (record k' { kept = released d })) l1
 
+    acts_are : told_acts (Covered c n) p ls ≡ Asks q (Releasing (releasable d.held)) ∷ []
+    acts_are = ap (λ (o : Option Joined). acts_of_all (told_steps o (Covered c n) p ls) ls) s.pair.here ∙ ap (λ (o : Option Joined). acts_of_all (covered_steps n o q) ls) s.pair.there
+
     is : told (Covered c n) p ls ≡ ms
     is = ap (λ (o : Option Joined). told_of o (Covered c n) p ls) s.pair.here ∙ ap (λ (o : Option Joined). covered_on n o q ls) s.pair.there
 
     a : Asked (Releasing (releasable d.held)) ls w p j' k' l1
     a = asks_other (Releasing (releasable d.held)) ls w p j' k' tt s.pair
 
-    t : Touches p q ls w ms a.world
+    t : Touches (Asks q (Releasing (releasable d.held)) ∷ []) p q ls w ms a.world
     t = touches_then p q ls l1 ms w a.world a.world a.touches (touches_turned q p l1 ms a.world a.world (touches_joined q p (Some (record k' { kept = released d })) l1 a.world))
 
-    done : Told ls w p j k ms (join.told (Covered c n) i)
+    done : Told (Asks q (Releasing (releasable d.held)) ∷ []) ls w p j k ms (join.told (Covered c n) i)
     done = record {
       world = a.world;
       touches = t;
@@ -117,9 +128,9 @@ tells_covered c n ls w p j k i s = subst (λ (ms : List SwitchLine). Told ls w p
     }
 
 tells_confirmed : (c : ℕ) (ls : List SwitchLine) (w : World) (p : Place) (j k : Joined) (i : Join) → Stands ls w p j k i
-    → Told ls w p j k (told (InterruptConfirmed c) p ls) (join.told (InterruptConfirmed c) i)
+    → Told (told_acts (InterruptConfirmed c) p ls) ls w p j k (told (InterruptConfirmed c) p ls) (join.told (InterruptConfirmed c) i)
 tells_confirmed c ls w p j k i s =
-    subst (λ (ms : List SwitchLine). Told ls w p j k ms (join.told (InterruptConfirmed c) i)) (sym (ap (λ (o : Option Joined). told_of o (InterruptConfirmed c) p ls) s.pair.here))
+    subst (λ (o : Option Joined). Told (acts_of_all (told_steps o (InterruptConfirmed c) p ls) ls) ls w p j k (told_of o (InterruptConfirmed c) p ls) (join.told (InterruptConfirmed c) i)) (sym s.pair.here)
     (let a = asks_other Confirming ls w p (record j { kept = i.back }) (record k { kept = i.there }) tt s.pair in
     record {
       world = a.world;
@@ -132,8 +143,10 @@ tells_confirmed c ls w p j k i s =
     })
 
 tells_reset : (c cause diagnostic : ℕ) (reason : Reason) (ls : List SwitchLine) (w : World) (p : Place) (j k : Joined) (i : Join) → Stands ls w p j k i
-    → Told ls w p j k (told (WasReset c cause diagnostic reason) p ls) (join.told (WasReset c cause diagnostic reason) i)
-tells_reset c cause diagnostic reason ls w p j k i s = subst (λ (ms : List SwitchLine). Told ls w p j k ms (join.told (WasReset c cause diagnostic reason) i)) (sym is) done
+    → Told (told_acts (WasReset c cause diagnostic reason) p ls) ls w p j k (told (WasReset c cause diagnostic reason) p ls) (join.told (WasReset c cause diagnostic reason) i)
+tells_reset c cause diagnostic reason ls w p j k i s =
+    subst (λ (acts : List Act). Told acts ls w p j k (told (WasReset c cause diagnostic reason) p ls) (join.told (WasReset c cause diagnostic reason) i)) (sym acts_are)
+    (subst (λ (ms : List SwitchLine). Told (Asks q r ∷ []) ls w p j k ms (join.told (WasReset c cause diagnostic reason) i)) (sym is) done)
   where
     q : Place
     q = j.other
@@ -156,19 +169,23 @@ tells_reset c cause diagnostic reason ls w p j k i s = subst (λ (ms : List Swit
     ms : List SwitchLine
     ms = with_joined q (Some (record k' { kept = new_direction })) l2
 
+    acts_are : told_acts (WasReset c cause diagnostic reason) p ls ≡ Asks q r ∷ []
+    acts_are = ap (λ (o : Option Joined). acts_of_all (told_steps o (WasReset c cause diagnostic reason) p ls) ls) s.pair.here
+        ∙ ap (λ (o : Option Joined). acts_of_all (Step.Asks q r ∷ (anew_steps (Some j') p ++ anew_steps o q)) ls) s.pair.there
+
     is : told (WasReset c cause diagnostic reason) p ls ≡ ms
     is = ap (λ (o : Option Joined). told_of o (WasReset c cause diagnostic reason) p ls) s.pair.here ∙ ap (λ (o : Option Joined). kept_anew o q l2) s.pair.there
 
     a : Asked r ls w p j' k' l1
     a = asks_other r ls w p j' k' tt s.pair
 
-    t2 : Touches p q ls w l2 a.world
+    t2 : Touches (Asks q r ∷ []) p q ls w l2 a.world
     t2 = touches_then p q ls l1 l2 w a.world a.world a.touches (touches_joined p q (Some (record j' { kept = new_direction })) l1 a.world)
 
-    t : Touches p q ls w ms a.world
+    t : Touches (Asks q r ∷ []) p q ls w ms a.world
     t = touches_then p q ls l2 ms w a.world a.world t2 (touches_turned q p l2 ms a.world a.world (touches_joined q p (Some (record k' { kept = new_direction })) l2 a.world))
 
-    done : Told ls w p j k ms (join.told (WasReset c cause diagnostic reason) i)
+    done : Told (Asks q r ∷ []) ls w p j k ms (join.told (WasReset c cause diagnostic reason) i)
     done = record {
       world = a.world;
       touches = t;
@@ -182,7 +199,7 @@ tells_reset c cause diagnostic reason ls w p j k i s = subst (λ (ms : List Swit
       };
     }
 
-pub tells : (c : ℕ) (n : Note) (ls : List SwitchLine) (w : World) (p : Place) (j k : Joined) (i : Join) → GoesOn c n → Stands ls w p j k i → Told ls w p j k (told n p ls) (join.told n i)
+pub tells : (c : ℕ) (n : Note) (ls : List SwitchLine) (w : World) (p : Place) (j k : Joined) (i : Join) → GoesOn c n → Stands ls w p j k i → Told (told_acts n p ls) ls w p j k (told n p ls) (join.told n i)
 tells c (Incoming d parts) ls w p j k i e s = absurd e
 tells c (Connected d) ls w p j k i e s = absurd e
 tells c (Closed d cause diagnostic reason) ls w p j k i e s = absurd e
@@ -192,17 +209,17 @@ tells c (Covered d n) ls w p j k i e s = tells_covered d n ls w p j k i s
 
 -- ---- the call is over
 
-pub record Ended (n : ℕ) (ns : List Note) (ls : List SwitchLine) (w : World) (ms : List SwitchLine) (p : Place) : Type 0 where
+pub record Ended (acts : List Act) (n : ℕ) (ns : List Note) (ls : List SwitchLine) (w : World) (ms : List SwitchLine) (p : Place) : Type 0 where
   pub world : World
   -- the channel itself is as it was, and not joined
   pub leg : world p ≡ w p
   pub not_joined : joined_at ms p ≡ None
-  pub reached : Reached ls w ms world
+  pub reached : Reached acts ls w ms world
   pub right : IsSwitchBefore n ns ms world
 
 closes_joined : (n c cause diagnostic : ℕ) (reason : Reason) (ns : List Note) (ls : List SwitchLine) (w : World) (j k : Joined)
     → IsSwitchBefore n (Closed c cause diagnostic reason ∷ ns) ls w → Pairing ls (record { line = n; channel = c }) j k
-    → Ended n ns ls w (told_joined (Closed c cause diagnostic reason) (record { line = n; channel = c }) j ls) (record { line = n; channel = c })
+    → Ended (acts_of_all (told_joined_steps (Closed c cause diagnostic reason) (record { line = n; channel = c }) j ls) ls) n ns ls w (told_joined (Closed c cause diagnostic reason) (record { line = n; channel = c }) j ls) (record { line = n; channel = c })
 closes_joined n c cause diagnostic reason ns ls w j k i s = record {
   world = v;
   reached = t.reached;
@@ -232,10 +249,10 @@ closes_joined n c cause diagnostic reason ns ls w j k i s = record {
     v : World
     v = world_after (Asks q r) (layers_of l2) w
 
-    t2 : Touches p q ls w l2 w
+    t2 : Touches [] p q ls w l2 w
     t2 = touches_then p q ls l1 l2 w w w (touches_joined p q None ls w) (touches_turned q p l1 l2 w w (touches_joined q p None l1 w))
 
-    t : Touches p q ls w ms v
+    t : Touches (Asks q r ∷ []) p q ls w ms v
     t = touches_then p q ls l2 ms w w v t2 (touches_turned q p l2 ms w v (touches_asked q p r l2 w tt))
 
     here : joined_at ms p ≡ None
@@ -274,12 +291,14 @@ closes_none n c cause diagnostic reason ns ls w none i = record {
     not_here x j e (inr h) = h
 
 closes_by : (o : Option Joined) (n c cause diagnostic : ℕ) (reason : Reason) (ns : List Note) (ls : List SwitchLine) (w : World) → joined_at ls (record { line = n; channel = c }) ≡ o
-    → IsSwitchBefore n (Closed c cause diagnostic reason ∷ ns) ls w → Ended n ns ls w (told_of o (Closed c cause diagnostic reason) (record { line = n; channel = c }) ls) (record { line = n; channel = c })
+    → IsSwitchBefore n (Closed c cause diagnostic reason ∷ ns) ls w
+    → Ended (acts_of_all (told_steps o (Closed c cause diagnostic reason) (record { line = n; channel = c }) ls) ls) n ns ls w (told_of o (Closed c cause diagnostic reason) (record { line = n; channel = c }) ls) (record { line = n; channel = c })
 closes_by None n c cause diagnostic reason ns ls w e i = record { world = w; reached = (touches_none (record { line = n; channel = c }) (record { line = n; channel = c }) ls w).reached; leg = refl; not_joined = e; right = closes_none n c cause diagnostic reason ns ls w e i }
 closes_by (Some j) n c cause diagnostic reason ns ls w e i =
     let k = i.joined (record { line = n; channel = c }) j e in
     closes_joined n c cause diagnostic reason ns ls w j k.other i (pairing n (Closed c cause diagnostic reason ∷ ns) ls w (record { line = n; channel = c }) j i e k)
 
 pub closes : (n c cause diagnostic : ℕ) (reason : Reason) (ns : List Note) (ls : List SwitchLine) (w : World)
-    → IsSwitchBefore n (Closed c cause diagnostic reason ∷ ns) ls w → Ended n ns ls w (told (Closed c cause diagnostic reason) (record { line = n; channel = c }) ls) (record { line = n; channel = c })
+    → IsSwitchBefore n (Closed c cause diagnostic reason ∷ ns) ls w
+    → Ended (told_acts (Closed c cause diagnostic reason) (record { line = n; channel = c }) ls) n ns ls w (told (Closed c cause diagnostic reason) (record { line = n; channel = c }) ls) (record { line = n; channel = c })
 closes n c cause diagnostic reason ns ls w i = closes_by (joined_at ls (record { line = n; channel = c })) n c cause diagnostic reason ns ls w refl i

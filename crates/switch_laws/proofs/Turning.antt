@@ -1,5 +1,5 @@
 -- What happens at the end of one line, as acts of its packet layer whose notes are then heeded.
-use Rattle.std.proofs.Common.{◌≡◌, ℕ, zero, suc, Bool, true, false, cond, ◌==◌, List, [], ◌∷◌, ◌++◌, Option, Some, None, refl, sym, ap, subst, ◌∙◌, true≢false, append-nil}
+use Rattle.std.proofs.Common.{◌≡◌, ℕ, zero, suc, ◌⊎◌, inl, inr, if◌then◌else◌, option_map, Bool, true, false, cond, ◌==◌, List, [], ◌∷◌, ◌++◌, Option, Some, None, refl, sym, ap, subst, ◌∙◌, true≢false, append-nil}
 use Rattle.std.specs.Prelude.{slice_get}
 use Rattle.std.proofs.lemmas.Option.{none-some, same_Some}
 use Rattle.link_timers.specs.declared.timers.TimerId.{TimerId}
@@ -20,7 +20,11 @@ use Rattle.packet_layer.specs.Layer.Phase.{NoSession, OwnRestart, PacketReady}
 use Rattle.packet_layer.specs.Events.{after_hearing, on_named, timer_named}
 use Rattle.packet_laws.specs.Readable.{Every}
 use Rattle.packet_laws.proofs.Call.Saying.{by_cond}
-use Rattle.packet_end.specs.PacketEnd.{PacketEnd, received, heeded, after_packet, after_timer, expired, runs_at, relinked}
+use Rattle.switch_laws.specs.Steps.{Happening, does, note_acts, heard_acts, packet_acts, timer_acts, expiry_acts, happening_acts, on_line, acts_of_all}
+use Rattle.switch_laws.specs.Steps.Happening.{Brings, RunsOut, Relinks}
+use Rattle.switch_laws.specs.EventSteps.{heed_all_steps, acted_steps}
+use Rattle.switch_laws.proofs.Lists.{decided, get_map}
+use Rattle.packet_end.specs.PacketEnd.{PacketEnd, heeded, after_packet, expired, runs_at}
 use Rattle.address_routes.specs.Routes.{RouteMap}
 use Rattle.x25_switch.specs.declared.place.Place.{Place}
 use Rattle.x25_switch.specs.Lines.{SwitchLine, changed, joined_at}
@@ -28,12 +32,12 @@ use Rattle.x25_switch.specs.Switch.{heed_all, with_end, notes_of, without_notes,
 use Rattle.switch_laws.specs.Leg.{Leg}
 use Rattle.switch_laws.specs.World.{World, layers_of, Act, MayHappen, IsReadAs, after_act, after_acts, world_after, world_after_all, layer_after, leg_after, line_of, came_in}
 use Rattle.switch_laws.specs.World.Act.{Comes, Expires, GoesUp, GoesDown, Reads}
-use Rattle.switch_laws.specs.Joined.{IsSwitch, Becomes, has_place}
+use Rattle.switch_laws.specs.Joined.{IsSwitch, Reached, Becomes, has_place}
 use Rattle.switch_laws.proofs.Places.{joined_kept, place_after}
 use Rattle.switch_laws.proofs.Frame.{acts_then, world_then, every_then}
-use Rattle.switch_laws.proofs.Effects.{Effect, effect, effect_right, leg_on_line, leg_elsewhere}
+use Rattle.switch_laws.proofs.Effects.{Effect, effect, effect_right, steady, leg_on_line, leg_elsewhere}
 use Rattle.switch_laws.proofs.Effects.Effect.{nothing, closes_all, on_one}
-use Rattle.switch_laws.proofs.Coming.{becomes_same}
+use Rattle.switch_laws.proofs.Coming.{After}
 
 -- ---- lists
 
@@ -74,31 +78,28 @@ layers_changed (suc n) f (y ∷ ys) l e = ap (λ zs. y.end.layer ∷ zs) (layers
 
 -- ---- the effect on a line
 
-pub record LineEffect (n : ℕ) (l after : Layer) (notes : List Note) : Type 0 where
+pub record LineEffect (acts : List Act) (n : ℕ) (l after : Layer) (notes : List Note) : Type 0 where
   pub moves : ℕ → Leg → Leg
   pub effect : Effect moves l notes
-  pub acts : List Act
   pub may : Every MayHappen acts
   pub layers : (ys : List Layer) → slice_get ys n ≡ Some l → after_acts acts ys ≡ changed n (λ y. after) ys
   pub here : (ys : List Layer) (w : World) (x : Place) → slice_get ys n ≡ Some l → (x.line == n) ≡ true → world_after_all acts ys w x ≡ moves x.channel (w x)
   pub elsewhere : (ys : List Layer) (w : World) (x : Place) → (x.line == n) ≡ false → world_after_all acts ys w x ≡ w x
 
-no_effect : (n : ℕ) (l : Layer) → LineEffect n l l []
+no_effect : (n : ℕ) (l : Layer) → LineEffect [] n l l []
 no_effect n l = record {
   moves = λ c g. g;
   effect = nothing refl (λ c g. refl);
-  acts = [];
   may = tt;
   layers = λ ys e. sym (changed_same n ys l e);
   here = λ ys w x e t. refl;
   elsewhere = λ ys w x t. refl;
 }
 
-one_act : (a : Act) (l : Layer) (notes : List Note) → MayHappen a → Effect (λ c g. leg_after a (Some l) c g) l notes → LineEffect (line_of a) l (layer_after a l) notes
+one_act : (a : Act) (l : Layer) (notes : List Note) → MayHappen a → Effect (λ c g. leg_after a (Some l) c g) l notes → LineEffect (a ∷ []) (line_of a) l (layer_after a l) notes
 one_act a l notes m eff = record {
   moves = λ c g. leg_after a (Some l) c g;
   effect = eff;
-  acts = a ∷ [];
   may = (m, tt);
   layers = λ ys e. changed_at (line_of a) (λ x. layer_after a x) (λ x. layer_after a l) ys l e refl;
   here = λ ys w x e t. leg_on_line a ys w x (Some l) t e;
@@ -106,21 +107,20 @@ one_act a l notes m eff = record {
 }
 
 -- a second act moves no leg and makes no notes
-and_act : (a : Act) (l after : Layer) (notes : List Note) → MayHappen a → ((c : ℕ) (g : Leg) → leg_after a (Some after) c g ≡ g) → LineEffect (line_of a) l after notes
-    → LineEffect (line_of a) l (layer_after a after) notes
-and_act a l after notes m still e = record {
+and_act : {acts : List Act} (a : Act) (l after : Layer) (notes : List Note) → MayHappen a → ((c : ℕ) (g : Leg) → leg_after a (Some after) c g ≡ g) → LineEffect acts (line_of a) l after notes
+    → LineEffect (acts ++ a ∷ []) (line_of a) l (layer_after a after) notes
+and_act {acts} a l after notes m still e = record {
   moves = e.moves;
   effect = e.effect;
-  acts = e.acts ++ a ∷ [];
-  may = every_then e.acts (a ∷ []) e.may (m, tt);
+  may = every_then acts (a ∷ []) e.may (m, tt);
   layers = λ ys got.
-      acts_then e.acts (a ∷ []) ys ∙ (ap (λ (zs : List Layer). after_act a zs) (e.layers ys got) ∙ changed_twice (line_of a) (λ x. layer_after a x) (λ y. after) ys);
+      acts_then acts (a ∷ []) ys ∙ (ap (λ (zs : List Layer). after_act a zs) (e.layers ys got) ∙ changed_twice (line_of a) (λ x. layer_after a x) (λ y. after) ys);
   here = λ ys w x got t.
-      ap (λ (v : World). v x) (world_then e.acts (a ∷ []) ys w)
-      ∙ (leg_on_line a (after_acts e.acts ys) (world_after_all e.acts ys w) x (Some after) t (ap (λ (zs : List Layer). slice_get zs (line_of a)) (e.layers ys got) ∙ got_changed (line_of a) (λ y. after) ys l got)
-      ∙ (still x.channel (world_after_all e.acts ys w x) ∙ e.here ys w x got t));
+      ap (λ (v : World). v x) (world_then acts (a ∷ []) ys w)
+      ∙ (leg_on_line a (after_acts acts ys) (world_after_all acts ys w) x (Some after) t (ap (λ (zs : List Layer). slice_get zs (line_of a)) (e.layers ys got) ∙ got_changed (line_of a) (λ y. after) ys l got)
+      ∙ (still x.channel (world_after_all acts ys w x) ∙ e.here ys w x got t));
   elsewhere = λ ys w x t.
-      ap (λ (v : World). v x) (world_then e.acts (a ∷ []) ys w) ∙ (leg_elsewhere a (after_acts e.acts ys) (world_after_all e.acts ys w) x t ∙ e.elsewhere ys w x t);
+      ap (λ (v : World). v x) (world_then acts (a ∷ []) ys w) ∙ (leg_elsewhere a (after_acts acts ys) (world_after_all acts ys w) x t ∙ e.elsewhere ys w x t);
 }
 
 same_effect : (f : ℕ → Leg → Leg) (l : Layer) (notes : List Note) → Effect f (unread l) notes → Effect f l notes
@@ -129,11 +129,10 @@ same_effect f l notes (closes_all r a b) = closes_all r a b
 same_effect f l notes (on_one d st e is apart leg a b) = on_one d st e is apart leg a b
 
 -- notes of before are read first
-pub reads_first : (n : ℕ) (l after : Layer) (notes : List Note) → LineEffect n (unread l) after notes → LineEffect n l after notes
+pub reads_first : {acts : List Act} (n : ℕ) (l after : Layer) (notes : List Note) → LineEffect acts n (unread l) after notes → LineEffect (Reads n ∷ acts) n l after notes
 reads_first n l after notes e = record {
   moves = e.moves;
   effect = same_effect e.moves l notes e.effect;
-  acts = Reads n ∷ e.acts;
   may = (tt, e.may);
   layers = λ ys got. e.layers (after_act (Reads n) ys) (got_changed n (λ x. unread x) ys l got) ∙ changed_twice n (λ y. after) (λ x. unread x) ys;
   here = λ ys w x got t.
@@ -141,17 +140,17 @@ reads_first n l after notes e = record {
   elsewhere = λ ys w x t. e.elsewhere (after_act (Reads n) ys) (world_after (Reads n) ys w) x t ∙ leg_elsewhere (Reads n) ys w x t;
 }
 
-with_notes : (n : ℕ) (l after : Layer) (ns ms : List Note) → ns ≡ ms → LineEffect n l after ns → LineEffect n l after ms
-with_notes n l after ns ms e i = subst (λ (xs : List Note). LineEffect n l after xs) e i
+with_notes : {acts : List Act} (n : ℕ) (l after : Layer) (ns ms : List Note) → ns ≡ ms → LineEffect acts n l after ns → LineEffect acts n l after ms
+with_notes {acts} n l after ns ms e i = subst (λ (xs : List Note). LineEffect acts n l after xs) e i
 
 -- ---- heeded
 
-heeds_effect : (routes : RouteMap) (n : ℕ) (line : SwitchLine) (after : Layer) (notes : List Note) (ls ms : List SwitchLine) (w : World) → slice_get ls n ≡ Some line
-    → layers_of ms ≡ changed n (λ y. after) (layers_of ls) → ((x : Place) → joined_at ms x ≡ joined_at ls x) → ((x : Place) → has_place ms x ≡ has_place ls x) → LineEffect n line.end.layer after notes
-    → IsSwitch ls w → Becomes ls w (heed_all routes n notes ms)
-heeds_effect routes n line after notes ls ms w got layers joined places e i =
-    effect_right routes n e.moves line.end.layer ls ms w (world_after_all e.acts (layers_of ls) w) notes e.effect (layer_got n ls line got) (record {
-      reached = record { acts = e.acts; may = e.may; layers = layers ∙ sym (e.layers (layers_of ls) (layer_got n ls line got)); legs = refl };
+heeds_effect : {acts : List Act} (routes : RouteMap) (n : ℕ) (line : SwitchLine) (after : Layer) (notes : List Note) (ls ms : List SwitchLine) (w : World) → slice_get ls n ≡ Some line
+    → layers_of ms ≡ changed n (λ y. after) (layers_of ls) → ((x : Place) → joined_at ms x ≡ joined_at ls x) → ((x : Place) → has_place ms x ≡ has_place ls x) → LineEffect acts n line.end.layer after notes
+    → IsSwitch ls w → After acts routes n notes ls w ms
+heeds_effect {acts} routes n line after notes ls ms w got layers joined places e i =
+    effect_right routes n e.moves line.end.layer ls ms w (world_after_all acts (layers_of ls) w) notes e.effect (layer_got n ls line got) (record {
+      reached = record { may = e.may; layers = layers ∙ sym (e.layers (layers_of ls) (layer_got n ls line got)); legs = refl };
       joined = joined;
       places = places;
       here = λ x t. e.here (layers_of ls) w x (layer_got n ls line got) t;
@@ -159,20 +158,39 @@ heeds_effect routes n line after notes ls ms w got layers joined places e i =
     }) i
 
 -- what an end makes of what comes to it
-abbrev pub EndEffect : ℕ → (PacketEnd → PacketEnd) → PacketEnd → Type 0
-EndEffect n f e = LineEffect n (unread e.layer) (f (quieted e)).layer (f (quieted e)).notes
+abbrev pub EndEffect : ℕ → Happening → PacketEnd → Type 0
+EndEffect n what e = LineEffect (happening_acts n what e) n (unread e.layer) (does what (quieted e)).layer (does what (quieted e)).notes
 
 pub acted_none : (routes : RouteMap) (n : ℕ) (f : PacketEnd → PacketEnd) (ls : List SwitchLine) → slice_get ls n ≡ None → acted routes n f ls ≡ ls
 acted_none routes n f ls e =
     ap (λ (ms : List SwitchLine). notes_heeded routes n ms) (changed_none n _ ls e)
     ∙ (ap (λ (o : Option SwitchLine). heed_all routes n (notes_of o) (changed n (with_end without_notes) ls)) e ∙ changed_none n _ ls e)
 
-pub acted_right : (routes : RouteMap) (n : ℕ) (f : PacketEnd → PacketEnd) (ls : List SwitchLine) (w : World) → IsSwitch ls w → ((line : SwitchLine) → slice_get ls n ≡ Some line → EndEffect n f line.end)
-    → Becomes ls w (acted routes n f ls)
-acted_right routes n f ls w i eff = by_line (slice_get ls n) refl
+-- what is read on a line that is not there
+reads_none : (n : ℕ) (ls : List SwitchLine) (w : World) → slice_get ls n ≡ None → IsSwitch ls w → Becomes (Reads n ∷ []) ls w ls
+reads_none n ls w e i =
+    let none : slice_get (layers_of ls) n ≡ None = get_map (λ l. l.end.layer) ls n ∙ ap (λ (o : Option SwitchLine). option_map (λ l. l.end.layer) o) e in
+    let r : Reached (Reads n ∷ []) ls w ls (world_after (Reads n) (layers_of ls) w) = record { may = (tt, tt); layers = sym (changed_none n (λ x. unread x) (layers_of ls) none); legs = refl } in
+    record {
+      world = world_after (Reads n) (layers_of ls) w;
+      reached = r;
+      right = steady ls ls w (world_after (Reads n) (layers_of ls) w) i r (λ x. refl) (λ x. refl) (λ x. reads_leg x (decided (x.line == n)));
+    }
+  where
+    still : (o : Option Layer) (c : ℕ) (g : Leg) → leg_after (Reads n) o c g ≡ g
+    still None c g = refl
+    still (Some l) c g = refl
+
+    reads_leg : (x : Place) → ((x.line == n) ≡ true) ⊎ ((x.line == n) ≡ false) → world_after (Reads n) (layers_of ls) w x ≡ w x
+    reads_leg x (inl t) = leg_on_line (Reads n) (layers_of ls) w x (slice_get (layers_of ls) n) t refl ∙ still (slice_get (layers_of ls) n) x.channel (w x)
+    reads_leg x (inr f) = leg_elsewhere (Reads n) (layers_of ls) w x f
+
+pub acted_right : (routes : RouteMap) (n : ℕ) (what : Happening) (ls : List SwitchLine) (w : World) → IsSwitch ls w → ((line : SwitchLine) → slice_get ls n ≡ Some line → EndEffect n what line.end)
+    → Becomes (acts_of_all (acted_steps routes n what ls) ls) ls w (acted routes n (does what) ls)
+acted_right routes n what ls w i eff = by_line (slice_get ls n) refl
   where
     g : SwitchLine → SwitchLine
-    g = with_end (λ e. f (quieted e))
+    g = with_end (λ e. does what (quieted e))
 
     l1 : List SwitchLine
     l1 = changed n g ls
@@ -180,18 +198,25 @@ acted_right routes n f ls w i eff = by_line (slice_get ls n) refl
     ms : List SwitchLine
     ms = changed n (with_end without_notes) l1
 
-    by_line : (o : Option SwitchLine) → slice_get ls n ≡ o → Becomes ls w (acted routes n f ls)
-    by_line None e = becomes_same ls (acted routes n f ls) w (acted_none routes n f ls e) i
+    acts_as : Option SwitchLine → Option SwitchLine → List Act
+    acts_as o a = (Reads n ∷ on_line (λ y. happening_acts n what y) o) ++ acts_of_all (heed_all_steps routes n (notes_of a) ms) ms
+
+    by_line : (o : Option SwitchLine) → slice_get ls n ≡ o → Becomes (acts_as (slice_get ls n) (slice_get l1 n)) ls w (acted routes n (does what) ls)
+    by_line None e =
+        subst (λ (o : Option SwitchLine). Becomes (acts_as o (slice_get l1 n)) ls w (acted routes n (does what) ls)) (sym e)
+        (subst (λ (o : Option SwitchLine). Becomes (acts_as None o) ls w (acted routes n (does what) ls)) (sym (ap (λ (ks : List SwitchLine). slice_get ks n) (changed_none n g ls e) ∙ e))
+        (subst (λ (ks : List SwitchLine). Becomes (Reads n ∷ []) ls w ks) (sym (acted_none routes n (does what) ls e)) (reads_none n ls w e i)))
     by_line (Some line) e =
-        subst (λ (o : Option SwitchLine). Becomes ls w (heed_all routes n (notes_of o) ms)) (sym (got_changed n g ls line e))
-        (heeds_effect routes n line (f (quieted line.end)).layer (f (quieted line.end)).notes ls ms w e
+        subst (λ (o : Option SwitchLine). Becomes (acts_as o (slice_get l1 n)) ls w (heed_all routes n (notes_of (slice_get l1 n)) ms)) (sym e)
+        (subst (λ (o : Option SwitchLine). Becomes (acts_as (Some line) o) ls w (heed_all routes n (notes_of o) ms)) (sym (got_changed n g ls line e))
+        (heeds_effect routes n line (does what (quieted line.end)).layer (does what (quieted line.end)).notes ls ms w e
         (ap (λ (ks : List SwitchLine). layers_of ks) (changed_twice n (with_end without_notes) g ls) ∙ layers_changed n (λ x. with_end without_notes (g x)) ls line e)
         (λ x. joined_kept n x.line x.channel (with_end without_notes) l1 (λ l. refl) ∙ joined_kept n x.line x.channel g ls (λ l. refl))
-        (λ x. place_after n (with_end without_notes) l1 x (λ l. refl) ∙ place_after n g ls x (λ l. refl)) (reads_first n line.end.layer _ _ (eff line e)) i)
+        (λ x. place_after n (with_end without_notes) l1 x (λ l. refl) ∙ place_after n g ls x (λ l. refl)) (reads_first n line.end.layer _ _ (eff line e)) i))
 
 -- ---- a link that is set up anew
 
-pub relinked_effect : (n : ℕ) (e : PacketEnd) → EndEffect n relinked e
+pub relinked_effect : (n : ℕ) (e : PacketEnd) → EndEffect n Relinks e
 relinked_effect n e = one_act (GoesDown n) (unread e.layer) _ tt (effect (GoesDown n) (unread e.layer) tt)
 
 -- ---- a session of the link begins or ends, and a packet comes
@@ -229,17 +254,17 @@ is_ready_phase PacketReady = true
 is_ready_phase ph = false
 
 -- a packet after the session began or ended
-packet_later : (n : ℕ) (l after : Layer) (notes : List Note) (o : Option Received) → ((r : Received) → o ≡ Some r → IsReadAs r) → (after.phase ≡ PacketReady → ⊥) → unread after ≡ after
-    → LineEffect n l after notes → LineEffect n l (unread (after_hearing (unread after) o)) (notes ++ (after_hearing (unread after) o).notes)
-packet_later n l after notes None read ready quiet e =
-    with_notes n l (unread (unread after)) notes (notes ++ []) (sym (append-nil notes)) (subst (λ (y : Layer). LineEffect n l y notes) (sym (ap (λ (z : Layer). unread z) quiet ∙ quiet)) e)
+packet_later : {acts : List Act} (n : ℕ) (l after : Layer) (notes : List Note) (o : Option Received) → ((r : Received) → o ≡ Some r → IsReadAs r) → (after.phase ≡ PacketReady → ⊥) → unread after ≡ after
+    → LineEffect acts n l after notes → LineEffect (acts ++ heard_acts n o) n l (unread (after_hearing (unread after) o)) (notes ++ (after_hearing (unread after) o).notes)
+packet_later {acts} n l after notes None read ready quiet e =
+    with_notes n l (unread (unread after)) notes (notes ++ []) (sym (append-nil notes)) (subst (λ (as_ : List Act). LineEffect as_ n l (unread (unread after)) notes) (sym (append-nil acts)) (subst (λ (y : Layer). LineEffect acts n l y notes) (sym (ap (λ (z : Layer). unread z) quiet ∙ quiet)) e))
 packet_later n l after notes (Some r) read ready quiet e =
     with_notes n l (unread (on_received (unread after) r)) notes (notes ++ (on_received (unread after) r).notes)
     (sym (ap (λ (ns : List Note). notes ++ ns) (quiet_notes after.phase r after refl ready) ∙ append-nil notes))
     (and_act (Comes n r) l after notes (read r refl) (λ c g. quiet_leg after.phase r c g ready) e)
 
 -- a packet alone
-packet_first : (n : ℕ) (l : Layer) (o : Option Received) → ((r : Received) → o ≡ Some r → IsReadAs r) → LineEffect n (unread l) (unread (after_hearing (unread l) o)) (after_hearing (unread l) o).notes
+packet_first : (n : ℕ) (l : Layer) (o : Option Received) → ((r : Received) → o ≡ Some r → IsReadAs r) → LineEffect (heard_acts n o) n (unread l) (unread (after_hearing (unread l) o)) (after_hearing (unread l) o).notes
 packet_first n l None read = no_effect n (unread l)
 packet_first n l (Some r) read = one_act (Comes n r) (unread l) _ (read r refl) (effect (Comes n r) (unread l) (read r refl))
 
@@ -255,7 +280,7 @@ no_session_not_ready : NoSession ≡ PacketReady → ⊥
 no_session_not_ready e = true≢false (sym (ap (λ (ph : Phase). is_ready_phase ph) e))
 
 brought : (n : ℕ) (e : PacketEnd) (to : End) (note : link_note.Note) (accepted : Option Octets) → ReadsNumbers accepted
-    → LineEffect n (unread e.layer) (after_packet accepted (heeded note (record (quieted e) { line = to }))).layer (after_packet accepted (heeded note (record (quieted e) { line = to }))).notes
+    → LineEffect (note_acts n note ++ packet_acts n accepted) n (unread e.layer) (after_packet accepted (heeded note (record (quieted e) { line = to }))).layer (after_packet accepted (heeded note (record (quieted e) { line = to }))).notes
 brought n e to Nothing None read = no_effect n (unread e.layer)
 brought n e to Nothing (Some octets) read = packet_first n e.layer (heard octets) read
 brought n e to Up None read = one_act (GoesUp n) (unread e.layer) _ tt (effect (GoesUp n) (unread e.layer) tt)
@@ -267,18 +292,23 @@ brought n e to Down (Some octets) read =
     packet_later n (unread e.layer) (unread (link_down (unread e.layer))) (link_down (unread e.layer)).notes (heard octets) read no_session_not_ready refl
     (one_act (GoesDown n) (unread e.layer) _ tt (effect (GoesDown n) (unread e.layer) tt))
 
-pub received_effect : (n : ℕ) (octets : Octets) (e : PacketEnd) → ReadsNumbers (link_octets.on_octets e.line.link octets).accepted → EndEffect n (λ y. received y octets) e
+pub received_effect : (n : ℕ) (octets : Octets) (e : PacketEnd) → ReadsNumbers (link_octets.on_octets e.line.link octets).accepted → EndEffect n (Brings octets) e
 received_effect n octets e read = brought n e _ (link_octets.on_octets e.line.link octets).note (link_octets.on_octets e.line.link octets).accepted read
 
 -- ---- a timer runs out
 
-named_effect : (n : ℕ) (l : Layer) (o : Option Timer) → LineEffect n (unread l) (unread (on_named (unread l) o)) (on_named (unread l) o).notes
+named_effect : (n : ℕ) (l : Layer) (o : Option Timer) → LineEffect (timer_acts n o) n (unread l) (unread (on_named (unread l) o)) (on_named (unread l) o).notes
 named_effect n l None = no_effect n (unread l)
 named_effect n l (Some t) = one_act (Expires n t) (unread l) _ tt (effect (Expires n t) (unread l) tt)
 
-expired_effect_ : (n : ℕ) (id : TimerId) (e : PacketEnd) → LineEffect n (unread e.layer) (expired id (quieted e)).layer (expired id (quieted e)).notes
-expired_effect_ n T1 e = brought n e _ (link.on_t1 e.line.link).note None tt
+expired_effect_ : (n : ℕ) (id : TimerId) (e : PacketEnd) → LineEffect (expiry_acts n id e) n (unread e.layer) (expired id (quieted e)).layer (expired id (quieted e)).notes
+expired_effect_ n T1 e = subst (λ (acts : List Act). LineEffect acts n (unread e.layer) (expired T1 (quieted e)).layer (expired T1 (quieted e)).notes) (append-nil (note_acts n (link.on_t1 e.line.link).note)) (brought n e _ (link.on_t1 e.line.link).note None tt)
 expired_effect_ n id e = named_effect n e.layer (timer_named e.layer.role id)
 
-pub timer_effect : (n : ℕ) (id : TimerId) (e : PacketEnd) → EndEffect n (λ y. after_timer y id) e
-timer_effect n id e = by_cond (λ (y : PacketEnd). LineEffect n (unread e.layer) y.layer y.notes) (runs_at (quieted e) id) _ _ (λ h. expired_effect_ n id e) (λ h. no_effect n (unread e.layer))
+both_cond : (P : List Act → PacketEnd → Type 0) (b : Bool) (as_ bs : List Act) (e f : PacketEnd) → P as_ e → P bs f → P (if b then as_ else bs) (cond b e f)
+both_cond P true as_ bs e f p q = p
+both_cond P false as_ bs e f p q = q
+
+pub timer_effect : (n : ℕ) (id : TimerId) (e : PacketEnd) → EndEffect n (RunsOut id) e
+timer_effect n id e =
+    both_cond (λ (acts : List Act) (y : PacketEnd). LineEffect acts n (unread e.layer) y.layer y.notes) (runs_at (quieted e) id) _ _ _ _ (expired_effect_ n id e) (no_effect n (unread e.layer))

@@ -14,7 +14,9 @@ use Rattle.x25_switch.specs.Switch.{Switch, on_frame, on_timer, restart, elapse,
 use Rattle.switch_laws.specs.Turn.{AreOctets}
 use Rattle.switch_laws.specs.Calls.{CallsAreJoined}
 use Rattle.switch_laws.specs.Offers.{HaveSmallLinks, EndsKeepNothingBack}
-use Rattle.switch_laws.specs.World.{World, closed}
+use Rattle.switch_laws.specs.World.{World, Act, closed}
+use Rattle.switch_laws.specs.Steps.Happening.{Brings, RunsOut}
+use Rattle.switch_laws.specs.EventSteps.{event_acts}
 use Rattle.switch_laws.specs.Joined.{IsSwitch, Reached, HasRelayedAll}
 
 -- a frame comes on a line, a timer of a line expires, the switch begins anew, ticks pass, a frame of a line is taken
@@ -53,10 +55,16 @@ pub record SwitchHolds (s : Switch) (w : World) : Type 0 where
   pub no_relink : to_relink s.lines ≡ None
   pub links : HaveSmallLinks s.lines
 
--- the packet layers and the legs move together, by acts; in a restart all legs close
-abbrev pub LegsMove : Event → List SwitchLine → World → List SwitchLine → World → Type 0
-LegsMove Restarts ls w ms v = v ≡ (λ x. closed (w x))
-LegsMove event ls w ms v = Reached ls w ms v
+-- the acts of the packet layers that an event is
+abbrev pub acts_of_event : Event → Switch → List Act
+acts_of_event (Arrives n octets) s = event_acts s.routes n (Brings octets) s.lines
+acts_of_event (Expires n id) s = event_acts s.routes n (RunsOut id) s.lines
+acts_of_event event s = []
+
+-- the packet layers and the legs move together, by these acts; in a restart all legs close
+abbrev pub LegsMove : Event → Switch → World → List SwitchLine → World → Type 0
+LegsMove Restarts s w ms v = v ≡ (λ x. closed (w x))
+LegsMove event s w ms v = Reached (acts_of_event event s) s.lines w ms v
 
 -- after a frame and after an expiry nothing is kept back in the packet layers and at the links either
 abbrev pub NothingIsKeptBack : Event → List SwitchLine → Type 0
@@ -66,7 +74,7 @@ NothingIsKeptBack event ls = Unit {0}
 
 pub record AfterEvent (event : Event) (s : Switch) (w : World) : Type 0 where
   pub world : World
-  pub moved : LegsMove event s.lines w (after_event event s).lines world
+  pub moved : LegsMove event s w (after_event event s).lines world
   pub holds : SwitchHolds (after_event event s) world
   pub nothing_kept_back : NothingIsKeptBack event (after_event event s).lines
 

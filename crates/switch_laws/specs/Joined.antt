@@ -80,17 +80,17 @@ abbrev pub HasRelayedAll : List SwitchLine → Type 0
 HasRelayedAll ls = (p : Place) (j : Joined) (t : Taken) → joined_at ls p ≡ Some j → front_at ls p ≡ Some t
     → is_some (refusal_at ls j.other (request_for t)) ≡ true
 
--- the packet layers and the legs of one switch are reached from those of another one by acts
-pub record Reached (ls : List SwitchLine) (w : World) (ms : List SwitchLine) (v : World) : Type 0 where
-  pub acts : List Act
+-- the packet layers and the legs of one switch are reached from those of another one by these acts
+pub record Reached (acts : List Act) (ls : List SwitchLine) (w : World) (ms : List SwitchLine) (v : World)
+    : Type 0 where
   pub may : Every MayHappen acts
   pub layers : layers_of ms ≡ after_acts acts (layers_of ls)
   pub legs : v ≡ world_after_all acts (layers_of ls) w
 
 -- and it is right again
-pub record Becomes (ls : List SwitchLine) (w : World) (ms : List SwitchLine) : Type 0 where
+pub record Becomes (acts : List Act) (ls : List SwitchLine) (w : World) (ms : List SwitchLine) : Type 0 where
   pub world : World
-  pub reached : Reached ls w ms world
+  pub reached : Reached acts ls w ms world
   pub right : IsSwitch ms world
 
 -- ---- an act of a line's packet layer, before its notes are heeded

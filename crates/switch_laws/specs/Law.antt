@@ -1,5 +1,5 @@
 -- What holds of the relay of a switch, and of its joins, whatever its partners send.
-use Rattle.std.specs.Prelude.{◌≡◌, ℕ, ◌≤◌, Bool, true, List, ◌∷◌, slice_get, Some, None, is_some}
+use Rattle.std.specs.Prelude.{◌≡◌, ℕ, ◌≤◌, Bool, true, List, [], ◌∷◌, slice_get, Some, None, is_some}
 use Rattle.link_timers.specs.declared.role.Role.{Role}
 use Rattle.link_timers.specs.declared.timers.TimerId.{TimerId}
 use Rattle.packet_layer.specs.Packets.{Body, CallParts}
@@ -23,6 +23,9 @@ use Rattle.switch_laws.specs.Calls.{CallsAreJoined, HasCall}
 use Rattle.switch_laws.specs.Stays.{OthersStay, relinked_in}
 use Rattle.switch_laws.specs.Offers.{HaveSmallLinks, EndsKeepNothingBack}
 use Rattle.switch_laws.specs.World.{closed, World, IsWorld, layers_of, shown_at, Act, line_of}
+use Rattle.switch_laws.specs.Steps.{acts_of_all}
+use Rattle.switch_laws.specs.Steps.Happening.{Brings, RunsOut}
+use Rattle.switch_laws.specs.EventSteps.{all_relayed_steps, heed_all_steps, event_acts}
 use Rattle.switch_laws.specs.Joined.{IsSwitch, Becomes, HasRelayedAll, HasActed, IsTold, notes_made, has_place}
 
 -- one direction: releasing what may be released and relaying keep the clause, and after 8 of them nothing waits that
@@ -59,24 +62,26 @@ pub record SwitchLaw : Type 0 where
   pub begins : (ls : List SwitchLine) (w : World) → IsWorld (layers_of ls) w
       → ((x : Place) → is_some (shown_at (layers_of ls) x) ≡ true → has_place ls x ≡ true)
       → ((x : Place) → joined_at ls x ≡ None) → IsSwitch ls w
-  pub relays : (ls : List SwitchLine) (w : World) → IsSwitch ls w → Becomes ls w (all_relayed ls)
+  pub relays : (ls : List SwitchLine) (w : World) → IsSwitch ls w
+      → Becomes (acts_of_all (all_relayed_steps ls) ls) ls w (all_relayed ls)
   pub keeps_nothing_back : (ls : List SwitchLine) (w : World) → IsSwitch ls w → HasRelayedAll (all_relayed ls)
   pub heeds : (routes : RouteMap) (act : Act) (l : Layer) (ls ms : List SwitchLine) (w : World) → IsTold act
       → slice_get (layers_of ls) (line_of act) ≡ Some l → HasActed act ls ms → IsSwitch ls w
-      → Becomes ls w (heed_all routes (line_of act) (notes_made act (Some l)) ms)
+      → Becomes (act ∷ acts_of_all (heed_all_steps routes (line_of act) (notes_made act (Some l)) ms) ms) ls w
+      (heed_all routes (line_of act) (notes_made act (Some l)) ms)
   pub routes : (routes : RouteMap) (ls : List SwitchLine) (parts : CallParts) (q : Place)
       → answer routes ls parts ≡ Joins q → line_for routes parts.called ≡ Some q.line
 
--- whole events: after each of them all joins hold, and nothing is kept back, on legs, in packet layers and at links
--- with a k of at most 7; each channel that has a call is joined; a join of two other lines stays, but for the joins of
--- a line whose link is set up anew in the event; a restart leaves no call
+-- whole events: after each of them, by the acts that it is, all joins hold, and nothing is kept back, on legs, in packet
+-- layers and at links with a k of at most 7; each channel that has a call is joined; a join of two other lines stays,
+-- but for the joins of a line whose link is set up anew in the event; a restart leaves no call
 pub record TurnLaw : Type 0 where
   pub frame : (n : ℕ) (octets : List ℕ) (s : Switch) (w : World) → AreOctets octets → IsSwitch s.lines w
-      → Becomes s.lines w (on_frame n octets s).lines
+      → Becomes (event_acts s.routes n (Brings octets) s.lines) s.lines w (on_frame n octets s).lines
   pub frame_keeps_nothing_back : (n : ℕ) (octets : List ℕ) (s : Switch) (w : World) → AreOctets octets
       → IsSwitch s.lines w → HasRelayedAll (on_frame n octets s).lines
   pub timer : (n : ℕ) (id : TimerId) (s : Switch) (w : World) → IsSwitch s.lines w
-      → Becomes s.lines w (on_timer n id s).lines
+      → Becomes (event_acts s.routes n (RunsOut id) s.lines) s.lines w (on_timer n id s).lines
   pub timer_keeps_nothing_back : (n : ℕ) (id : TimerId) (s : Switch) (w : World) → IsSwitch s.lines w
       → HasRelayedAll (on_timer n id s).lines
   pub frame_offers : (n : ℕ) (octets : List ℕ) (s : Switch) → HaveSmallLinks s.lines
@@ -94,4 +99,4 @@ pub record TurnLaw : Type 0 where
   pub restarts : (s : Switch) (w : World) → IsSwitch s.lines w → IsSwitch (restart s).lines (λ x. closed (w x))
   pub restart_ends_calls : (s : Switch) (w : World) → IsSwitch s.lines w → (p : Place) → HasCall (restart s).lines p → ⊥
   pub elapses : (ticks : ℕ) (s : Switch) (w : World) → IsSwitch s.lines w
-      → Becomes s.lines w (elapse ticks s).lines
+      → Becomes [] s.lines w (elapse ticks s).lines

@@ -8,6 +8,8 @@ pub mod Turn
 pub mod Offers
 pub mod Stays
 pub mod Calls
+pub mod Steps
+pub mod EventSteps
 pub mod Events
 pub mod Pairs
 pub mod Concern

@@ -22,12 +22,12 @@ use Rattle.x25_switch.specs.Switch.Answer.{Clears, Joins}
 use Rattle.switch_laws.specs.World.{MayAsk}
 use Rattle.switch_laws.proofs.Relaying.{may_ask}
 use Rattle.switch_laws.proofs.Lists.{map_unchanged, get_map, get_changed}
-use Rattle.switch_record_laws.specs.Steps.{Happening, does, Step, lines_after, lines_after_all}
-use Rattle.switch_record_laws.specs.Steps.Happening.{Brings, RunsOut, Relinks}
-use Rattle.switch_record_laws.specs.Steps.Step.{Asks, Places, Keeps, Happens, Offers, Begins, Settles, Elapses}
-use Rattle.switch_record_laws.specs.Events.{moved_unless_steps, moved_front_steps, moved_joined_steps, relayed_steps, relayed_from_steps, all_relayed_steps, anew_steps, covered_steps, told_joined_steps, told_steps, answered_steps, on_channel, heed_steps, heed_all_steps, acted_steps, relinked_steps, all_relinked_steps, offered_steps, rounds_steps, finished_steps}
+use Rattle.switch_laws.specs.Steps.{Happening, does, Step, lines_after, lines_after_all}
+use Rattle.switch_laws.specs.Steps.Happening.{Brings, RunsOut, Relinks}
+use Rattle.switch_laws.specs.Steps.Step.{Asks, Places, Keeps, Happens, Offers, Begins, Settles, Elapses}
+use Rattle.switch_laws.specs.EventSteps.{moved_unless_steps, moved_front_steps, moved_joined_steps, relayed_steps, relayed_from_steps, all_relayed_steps, anew_steps, covered_steps, told_joined_steps, told_steps, answered_steps, on_channel, heed_steps, heed_all_steps, acted_steps, relinked_steps, all_relinked_steps, offered_steps, rounds_steps, finished_steps}
 use Rattle.switch_record_laws.specs.Kept.{ReadsOctets, Partners, partners_after, partners_after_all, IsFit, AreFit, HaveAddresses}
-use Rattle.switch_record_laws.proofs.Leading.{Leads, heed_leads, acted_leads, relinked_leads}
+use Rattle.switch_laws.proofs.Leading.{Leads, heed_leads, acted_leads, relinked_leads}
 use Rattle.switch_record_laws.proofs.Fitting.{NotesCarry, happening_carries}
 
 abbrev pub IsCalm : Step → Type 0
@@ -79,7 +79,7 @@ calm_fit (s ∷ more) ps c = (calm_one s ps c.0, calm_fit more (partners_after s
 
 -- ---- addresses
 
-abbrev addresses : List SwitchLine → List (List ℕ)
+abbrev pub addresses : List SwitchLine → List (List ℕ)
 addresses ls = map (λ l. l.address) ls
 
 on_ends : (f : PacketEnd → PacketEnd) (ls : List SwitchLine) → addresses (map (with_end f) ls) ≡ addresses ls

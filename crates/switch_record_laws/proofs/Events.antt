@@ -29,16 +29,16 @@ use Rattle.switch_laws.proofs.Layers.{world_acts_all}
 use Rattle.switch_laws.proofs.Frame.{acts_then, every_then}
 use Rattle.switch_laws.proofs.Turning.{layer_got}
 use Rattle.switch_record_laws.specs.Written.{Books, books_after_all, restart_writes, restarted_books}
-use Rattle.switch_record_laws.specs.Steps.{Happening, does, Step, lines_after, lines_after_all, note_acts, heard_acts, packet_acts, timer_acts, expiry_acts, happening_acts, offer_acts, on_line, acts_of, acts_of_all}
-use Rattle.switch_record_laws.specs.Steps.Happening.{Brings, RunsOut, Relinks}
-use Rattle.switch_record_laws.specs.Steps.Step.{Asks, Places, Keeps, Happens, Offers, Begins, Settles, Elapses}
-use Rattle.switch_record_laws.specs.Events.{heed_all_steps, finished_steps, event_steps}
+use Rattle.switch_laws.specs.Steps.{Happening, does, Step, lines_after, lines_after_all, note_acts, heard_acts, packet_acts, timer_acts, expiry_acts, happening_acts, offer_acts, on_line, acts_of, acts_of_all}
+use Rattle.switch_laws.specs.Steps.Happening.{Brings, RunsOut, Relinks}
+use Rattle.switch_laws.specs.Steps.Step.{Asks, Places, Keeps, Happens, Offers, Begins, Settles, Elapses}
+use Rattle.switch_laws.specs.EventSteps.{heed_all_steps, finished_steps, event_steps}
 use Rattle.switch_record_laws.specs.Kept.{Partner, Partners, line_with, AreKept, partners_after, IsFit, EventIsKept, FrameKeptLaw, TimerKeptLaw, ElapseKeptLaw, restarted_partner, RestartKeptLaw, sent_on, with_sent, all_frames_out, OutLaw, LeadsLaw, HaveAddresses, ReadsOctets, LegsLaw}
 use Rattle.switch_record_laws.proofs.Acts.{acts_write}
 use Rattle.switch_record_laws.proofs.Chains.{Changed, was_changed}
 use Rattle.switch_record_laws.proofs.Chains.Changed.{here, apart}
 use Rattle.switch_record_laws.proofs.Stepping.{step_layers, steps_kept}
-use Rattle.switch_record_laws.proofs.Leading.{event_leads}
+use Rattle.switch_laws.proofs.Leading.{event_leads}
 use Rattle.switch_record_laws.proofs.Calming.{IsCalm, AreCalm, calm_stay, calm_fit, addressed, addressed_then, later_calm}
 
 -- ---- what happens on a line

@@ -32,8 +32,8 @@ use Rattle.packet_end.specs.PacketEnd.{PacketEnd, heeded, after_packet, expired,
 use Rattle.x25_switch.specs.Switch.{quieted}
 use Rattle.switch_laws.proofs.Octets.{accepts_octets}
 use Rattle.switch_record_laws.specs.Kept.{ReadsOctets}
-use Rattle.switch_record_laws.specs.Steps.{Happening, does}
-use Rattle.switch_record_laws.specs.Steps.Happening.{Brings, RunsOut, Relinks}
+use Rattle.switch_laws.specs.Steps.{Happening, does}
+use Rattle.switch_laws.specs.Steps.Happening.{Brings, RunsOut, Relinks}
 use Rattle.packet_layer.specs.Octets.{heard, heard_by, body_of, unreadable_as}
 use Rattle.packet_laws.specs.Readable.{CanBePlaced, IfAny}
 use Rattle.packet_laws.proofs.Call.Saying.{by_cond}

@@ -17,8 +17,8 @@ use Rattle.packet_end.specs.PacketEnd.{PacketEnd, heeded, after_packet, expired,
 use Rattle.call_records.specs.Book.{Book, told, all_told}
 use Rattle.x25_switch.specs.Switch.{quieted}
 use Rattle.switch_laws.specs.World.{Act}
-use Rattle.switch_record_laws.specs.Steps.{Happening, does, note_acts, heard_acts, packet_acts, timer_acts, expiry_acts, happening_acts, offer_acts}
-use Rattle.switch_record_laws.specs.Steps.Happening.{Brings, RunsOut, Relinks}
+use Rattle.switch_laws.specs.Steps.{Happening, does, note_acts, heard_acts, packet_acts, timer_acts, expiry_acts, happening_acts, offer_acts}
+use Rattle.switch_laws.specs.Steps.Happening.{Brings, RunsOut, Relinks}
 use Rattle.switch_record_laws.proofs.Chains.{AllOn, chain, chain_writes, on_append}
 
 -- these acts lead from the one layer to the other, and write these notes

@@ -13,7 +13,8 @@ pub mod Turning
 pub mod Chains
 pub mod Happenings
 pub mod Stepping
-pub mod Leading
 pub mod Fitting
 pub mod Calming
 pub mod Events
+pub mod Tying
+pub mod Running

@@ -25,9 +25,9 @@ use Rattle.switch_laws.specs.World.{Act, layers_of, after_acts}
 use Rattle.switch_laws.proofs.Lists.{decided, get_map}
 use Rattle.switch_laws.proofs.Turning.{changed_none, changed_twice, layer_got, layers_changed}
 use Rattle.switch_record_laws.specs.Written.{Books, books_after_all, may_release_on, request_writes}
-use Rattle.switch_record_laws.specs.Steps.{Happening, does, Step, lines_after, lines_after_all, on_line, happening_acts, offer_acts, acts_of, acts_of_all}
-use Rattle.switch_record_laws.specs.Steps.Happening.{Brings, RunsOut, Relinks}
-use Rattle.switch_record_laws.specs.Steps.Step.{Asks, Places, Keeps, Happens, Offers, Begins, Settles, Elapses}
+use Rattle.switch_laws.specs.Steps.{Happening, does, Step, lines_after, lines_after_all, on_line, happening_acts, offer_acts, acts_of, acts_of_all}
+use Rattle.switch_laws.specs.Steps.Happening.{Brings, RunsOut, Relinks}
+use Rattle.switch_laws.specs.Steps.Step.{Asks, Places, Keeps, Happens, Offers, Begins, Settles, Elapses}
 use Rattle.switch_record_laws.specs.Kept.{Partner, Partners, line_with, AreKept, without_first, partners_after, partners_after_all, BeginWith, IsFit, StepsLaw}
 use Rattle.switch_record_laws.proofs.Chains.{AllOn, chain, chain_writes, layers_chain, layers_none, books_chain, books_apart, books_then, Changed, was_changed}
 use Rattle.switch_record_laws.proofs.Chains.Changed.{here, apart}

@@ -14,10 +14,10 @@ use Rattle.x25_switch.specs.Switch.{Switch, on_frame, on_timer, elapse, restart,
 use Rattle.switch_laws.specs.Turn.{AreOctets}
 use Rattle.switch_laws.specs.World.{World, IsWorld, MayHappen, layers_of, after_acts, world_after_all}
 use Rattle.switch_record_laws.specs.Written.{Books, books_after_all, restarted_books, HaveRecords}
-use Rattle.switch_record_laws.specs.Steps.{Happening, does, Step, lines_after_all, acts_of_all}
-use Rattle.switch_record_laws.specs.Events.{event_steps}
-use Rattle.switch_record_laws.specs.Steps.Happening.{Brings, RunsOut}
-use Rattle.switch_record_laws.specs.Steps.Step.{Places, Happens}
+use Rattle.switch_laws.specs.Steps.{Happening, does, Step, lines_after_all, acts_of_all}
+use Rattle.switch_laws.specs.EventSteps.{event_steps, event_acts}
+use Rattle.switch_laws.specs.Steps.Happening.{Brings, RunsOut}
+use Rattle.switch_laws.specs.Steps.Step.{Places, Happens}
 
 -- how a line is made, what is at the other end of it, and the frames on the way to the switch and from it
 pub record Partner : Type 0 where
@@ -80,7 +80,7 @@ HaveAddresses ls = (n : ℕ) (l : SwitchLine) → slice_get ls n ≡ Some l → 
 abbrev pub EventIsKept : (line : ℕ) → Happening → Switch → Partners → Books → List SwitchLine → Type 0
 EventIsKept n what s ps bs ms =
     AreKept (partners_after (Happens n what) ps)
-    (books_after_all (acts_of_all (event_steps s.routes n what s.lines) s.lines) (layers_of s.lines) bs) ms
+    (books_after_all (event_acts s.routes n what s.lines) (layers_of s.lines) bs) ms
 
 -- after each event of a switch each of its lines is kept with the book that the acts of the event write: the first
 -- frame on the way to it on a line comes; a timer runs out; ticks pass
@@ -125,17 +125,17 @@ LeadsLaw = (n : ℕ) (what : Happening) (s : Switch)
     → (lines_after_all (event_steps s.routes n what s.lines) s.lines
     ≡ finished s.routes (acted s.routes n (does what) (all_begun s.lines)))
     × (layers_of (lines_after_all (event_steps s.routes n what s.lines) s.lines)
-    ≡ after_acts (acts_of_all (event_steps s.routes n what s.lines) s.lines) (layers_of s.lines))
+    ≡ after_acts (event_acts s.routes n what s.lines) (layers_of s.lines))
 
 -- and the same acts move the legs, which are the present records of the books
 pub record LegsMove (n : ℕ) (what : Happening) (s : Switch) (w : World) (bs : Books) : Type 0 where
-  pub may : Every MayHappen (acts_of_all (event_steps s.routes n what s.lines) s.lines)
-  pub world : IsWorld (after_acts (acts_of_all (event_steps s.routes n what s.lines) s.lines) (layers_of s.lines))
-      (world_after_all (acts_of_all (event_steps s.routes n what s.lines) s.lines) (layers_of s.lines) w)
+  pub may : Every MayHappen (event_acts s.routes n what s.lines)
+  pub world : IsWorld (after_acts (event_acts s.routes n what s.lines) (layers_of s.lines))
+      (world_after_all (event_acts s.routes n what s.lines) (layers_of s.lines) w)
   pub records : HaveRecords
-      (after_acts (acts_of_all (event_steps s.routes n what s.lines) s.lines) (layers_of s.lines))
-      (world_after_all (acts_of_all (event_steps s.routes n what s.lines) s.lines) (layers_of s.lines) w)
-      (books_after_all (acts_of_all (event_steps s.routes n what s.lines) s.lines) (layers_of s.lines) bs)
+      (after_acts (event_acts s.routes n what s.lines) (layers_of s.lines))
+      (world_after_all (event_acts s.routes n what s.lines) (layers_of s.lines) w)
+      (books_after_all (event_acts s.routes n what s.lines) (layers_of s.lines) bs)
 
 abbrev pub ReadsOctets : Happening → Type 0
 ReadsOctets (Brings octets) = AreOctets octets

@@ -1,5 +1,5 @@
 -- What holds of the books of a switch's lines, whatever its partners send.
-use Rattle.std.specs.Prelude.{◌≡◌, ℕ, false, List, map, Some}
+use Rattle.std.specs.Prelude.{◌≡◌, ℕ, false, List, [], map, Some}
 use Rattle.link_timers.specs.declared.role.Role.{Role}
 use Rattle.link_timers.specs.Role.{other_of}
 use Rattle.link_timers.specs.declared.timers.TimerId.{TimerId}
@@ -18,6 +18,8 @@ use Rattle.x25_switch.specs.Switch.{Switch, on_frame, on_timer, restart, elapse}
 use Rattle.switch_laws.specs.Turn.{AreOctets}
 use Rattle.switch_laws.specs.Leg.{Leg}
 use Rattle.switch_laws.specs.World.{World, IsWorld, Act, MayHappen, layers_of, after_acts, world_after_all, closed}
+use Rattle.switch_laws.specs.Steps.Happening.{Brings, RunsOut}
+use Rattle.switch_laws.specs.EventSteps.{event_acts}
 use Rattle.switch_laws.specs.Joined.{IsSwitch, Reached}
 use Rattle.switch_record_laws.specs.Records.{AreRecords}
 use Rattle.switch_record_laws.specs.Written.{Books, writes, act_writes, books_after_all, HaveRecords, restarted_books}
@@ -77,25 +79,27 @@ ConfirmsLaw = (taken : List TakenEpoch) (sent : List SentEpoch) → RelayedTo ta
 
 -- ---- events of a switch
 
--- acts move the switch, its legs and its books to a switch whose joins hold and whose present records are its legs
-pub record Goes (ls : List SwitchLine) (w : World) (bs : Books) (ms : List SwitchLine) : Type 0 where
+-- these acts move the switch, its legs and its books to a switch whose joins hold and whose present records are its
+-- legs
+pub record Goes (acts : List Act) (ls : List SwitchLine) (w : World) (bs : Books) (ms : List SwitchLine) : Type 0 where
   pub world : World
-  pub reached : Reached ls w ms world
+  pub reached : Reached acts ls w ms world
   pub right : IsSwitch ms world
-  pub records : HaveRecords (layers_of ms) world (books_after_all reached.acts (layers_of ls) bs)
+  pub records : HaveRecords (layers_of ms) world (books_after_all acts (layers_of ls) bs)
 
 abbrev pub FrameLaw : Type 0
 FrameLaw = (n : ℕ) (octets : List ℕ) (s : Switch) (w : World) (bs : Books) → AreOctets octets
     → IsSwitch s.lines w → HaveRecords (layers_of s.lines) w bs
-    → Goes s.lines w bs (on_frame n octets s).lines
+    → Goes (event_acts s.routes n (Brings octets) s.lines) s.lines w bs (on_frame n octets s).lines
 
 abbrev pub TimerLaw : Type 0
 TimerLaw = (n : ℕ) (id : TimerId) (s : Switch) (w : World) (bs : Books) → IsSwitch s.lines w
-    → HaveRecords (layers_of s.lines) w bs → Goes s.lines w bs (on_timer n id s).lines
+    → HaveRecords (layers_of s.lines) w bs
+    → Goes (event_acts s.routes n (RunsOut id) s.lines) s.lines w bs (on_timer n id s).lines
 
 abbrev pub ElapseLaw : Type 0
 ElapseLaw = (ticks : ℕ) (s : Switch) (w : World) (bs : Books) → IsSwitch s.lines w
-    → HaveRecords (layers_of s.lines) w bs → Goes s.lines w bs (elapse ticks s).lines
+    → HaveRecords (layers_of s.lines) w bs → Goes [] s.lines w bs (elapse ticks s).lines
 
 -- a restart of the switch closes all calls
 abbrev pub RestartLaw : Type 0

@@ -4,8 +4,7 @@ pub mod Relayed
 pub mod Rests
 pub mod Joined
 pub mod Opened
-pub mod Steps
-pub mod Events
 pub mod Kept
+pub mod Tied
 pub mod Law
 pub mod Run

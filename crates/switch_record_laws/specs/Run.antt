@@ -16,7 +16,11 @@ use Rattle.x25_switch.specs.declared.place.Place.{Place}
 use Rattle.switch_laws.specs.World.{Act, MayHappen, layers_of}
 use Rattle.switch_laws.specs.World.Act.{Asks, Comes, GoesUp, Calls, Gives}
 use Rattle.switch_laws.specs.Turn.{AreOctets}
-use Rattle.switch_laws.specs.Run.{letter, parameters, two_lines, no_calls}
+use Rattle.switch_laws.specs.Run.{letter, parameters, two_lines, no_calls, configs, new_switch, sabm}
+use Rattle.switch_laws.specs.Events.{new_legs}
+use Rattle.switch_laws.specs.Steps.Happening.{Brings}
+use Rattle.x25_switch.specs.Switch.{on_frame}
+use Rattle.switch_record_laws.specs.Tied.{Histories, IsTied, happened}
 use Rattle.switch_record_laws.specs.Kept.{Partner, Partners, AreKept, BeginWith, HaveAddresses}
 use Rattle.switch_record_laws.specs.Written.{Books, books_after_all, HaveRecords}
 use Rattle.switch_record_laws.specs.Relayed.{AreRelayed}
@@ -92,12 +96,18 @@ partners n = record {
 abbrev pub FrameComes : Partner → Type 0
 FrameComes p = (octets : Octets) × (BeginWith octets p.up × AreOctets octets)
 
--- the run is one that the laws are about
+-- what nobody stores of the switch as it is made
+abbrev pub histories : Histories
+histories = record { legs = new_legs configs; books = books; partners = partners }
+
+-- the run is one that the laws are about; the first frame on the way comes
 pub record RunLaw : Type 0 where
   pub kept : AreKept partners books two_lines
   pub addresses : HaveAddresses two_lines
   pub frame : FrameComes (partners 0)
   pub begins : HaveRecords (layers_of two_lines) no_calls books
+  pub tied : IsTied new_switch histories
+  pub goes_on : IsTied (on_frame 0 sabm new_switch) (happened 0 (Brings sabm) new_switch histories)
   pub may : Every MayHappen run
   pub near_book : (books_after_all run (layers_of two_lines) books 0).records ≡ near_record ∷ []
   pub far_book : (books_after_all run (layers_of two_lines) books 1).records ≡ far_record ∷ []

@@ -7,6 +7,7 @@ ghost use Rattle.switch_record_laws.specs.Law.{FrameLaw, TimerLaw, ElapseLaw, Re
 ghost use Rattle.switch_record_laws.specs.Kept.{StepsLaw, FrameKeptLaw, TimerKeptLaw, ElapseKeptLaw, RestartKeptLaw};
 ghost use Rattle.switch_record_laws.specs.Kept.{OutLaw, LeadsLaw, LegsLaw};
 ghost use Rattle.switch_record_laws.specs.Opened.{ComesLaw, PlacesLaw, HeadLaw, HeadsLaw};
+ghost use Rattle.switch_record_laws.specs.Tied.{TiedLaw};
 ghost use Rattle.switch_record_laws.specs.Run.{RunLaw};
 
 /// What a switch does at its end of a line is written in the line's book, so that the present record of each channel
@@ -65,6 +66,14 @@ pub fn kept_lines_law()
     ensures steps { StepsLaw }
     ensures leads { LeadsLaw }
     ensures legs { LegsLaw }
+{}
+
+/// The law of the joins and that of the lines, of the same epochs: by one list of acts, those that an event is, each
+/// line of a switch is kept with its book, all joins hold of the legs that these acts move, and the present records of
+/// the books are these legs. So it is from the making of the switch on, and after each of its events, restarts among
+/// them; and the present records of the two legs of a join have what the switch handed on.
+pub fn tied_law()
+    ensures { TiedLaw }
 {}
 
 /// A call through a switch of two lines: a packet with D = 1 that is confirmed, and a reset.

@@ -1,4 +1,4 @@
-use Rattle.switch_record_laws.proofs.Turning.{run_holds}
+use Rattle.switch_record_laws.proofs.Running.{run_holds}
 use Rattle.switch_record_laws.proofs.run_record_law.Goals as goal
 
 pub returns : goal.returns

@@ -20,9 +20,10 @@ use Rattle.x25_switch.specs.Relay.{moved, relayed, all_relayed}
 use Rattle.x25_switch.specs.Switch.{Answer, answer, forwarded, heed, notes_of, with_end, quieted, acted, to_relink}
 use Rattle.x25_switch.specs.Switch.{relinked_at, all_relinked, may_offer, offered_from, all_begun}
 use Rattle.x25_switch.specs.Switch.Answer.{Clears, Joins}
-use Rattle.switch_record_laws.specs.Steps.{Happening, does, Step, lines_after}
-use Rattle.switch_record_laws.specs.Steps.Happening.{Relinks}
-use Rattle.switch_record_laws.specs.Steps.Step.{Asks, Places, Keeps, Happens, Offers, Begins, Settles}
+use Rattle.switch_laws.specs.World.{Act}
+use Rattle.switch_laws.specs.Steps.{Happening, does, Step, lines_after, acts_of_all}
+use Rattle.switch_laws.specs.Steps.Happening.{Relinks}
+use Rattle.switch_laws.specs.Steps.Step.{Asks, Places, Keeps, Happens, Offers, Begins, Settles}
 
 -- ---- relay
 
@@ -147,3 +148,7 @@ event_steps routes n what ls =
     Begins
     ∷ (acted_steps routes n what (all_begun ls)
     ++ finished_steps routes (acted routes n (does what) (all_begun ls)))
+
+-- the acts of the packet layers that they are
+abbrev pub event_acts : RouteMap → (line : ℕ) → Happening → List SwitchLine → List Act
+event_acts routes n what ls = acts_of_all (event_steps routes n what ls) ls

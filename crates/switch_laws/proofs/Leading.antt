@@ -1,6 +1,7 @@
 -- The steps of an event lead to what the event makes of the lines.
 use Rattle.std.specs.Prelude.{◌≡◌, ℕ, zero, suc, ◌*◌, Bool, true, false, if◌then◌else◌, List, [], ◌∷◌, ◌++◌, length, slice_get, Option, Some, None}
-use Rattle.std.proofs.Common.{refl, ap, ◌∙◌, append-nil}
+use Rattle.std.proofs.Common.{refl, sym, ap, ◌∙◌, append-nil, append_assoc}
+use Rattle.switch_laws.specs.World.{Act}
 use Rattle.std.specs.List.{list_any}
 use Rattle.packet_layer.specs.Packets.{CallParts, Note}
 use Rattle.packet_layer.specs.Packets.Note.{Incoming, Connected, Closed, WasReset, InterruptConfirmed, Covered}
@@ -16,10 +17,10 @@ use Rattle.x25_switch.specs.Lines.{SwitchLine, changed, joined_at, places, ask, 
 use Rattle.x25_switch.specs.Relay.{moved, moved_unless, moved_front, moved_joined, relayed, relayed_from, all_relayed, told_joined, told_of, kept_anew, covered_on}
 use Rattle.x25_switch.specs.Switch.{Answer, answer, answered, heed, heed_all, notes_of, with_end, quieted, acted, to_relink, relinked_at, all_relinked, may_offer, offered_from, rounds, finished, all_begun}
 use Rattle.x25_switch.specs.Switch.Answer.{Clears, Joins}
-use Rattle.switch_record_laws.specs.Steps.{Happening, does, Step, lines_after, lines_after_all}
-use Rattle.switch_record_laws.specs.Steps.Happening.{Relinks}
-use Rattle.switch_record_laws.specs.Steps.Step.{Settles, Happens}
-use Rattle.switch_record_laws.specs.Events.{moved_unless_steps, moved_front_steps, moved_joined_steps, relayed_steps, relayed_from_steps, all_relayed_steps, anew_steps, covered_steps, told_joined_steps, told_steps, answered_steps, on_channel, heed_steps, heed_all_steps, acted_steps, relinked_steps, all_relinked_steps, offered_steps, rounds_steps, finished_steps, event_steps}
+use Rattle.switch_laws.specs.Steps.{Happening, does, Step, lines_after, lines_after_all, acts_of, acts_of_all}
+use Rattle.switch_laws.specs.Steps.Happening.{Relinks}
+use Rattle.switch_laws.specs.Steps.Step.{Settles, Happens}
+use Rattle.switch_laws.specs.EventSteps.{moved_unless_steps, moved_front_steps, moved_joined_steps, relayed_steps, relayed_from_steps, all_relayed_steps, anew_steps, covered_steps, told_joined_steps, told_steps, answered_steps, on_channel, heed_steps, heed_all_steps, acted_steps, relinked_steps, all_relinked_steps, offered_steps, rounds_steps, finished_steps, event_steps}
 
 abbrev pub Leads : List Step → List SwitchLine → List SwitchLine → Type 0
 Leads steps ls ms = lines_after_all steps ls ≡ ms
@@ -31,6 +32,12 @@ lines_then (a ∷ as_) bs ls = lines_then as_ bs (lines_after a ls)
 leads_then : (as_ bs : List Step) (ls ms ks : List SwitchLine) → Leads as_ ls ms → Leads bs ms ks → Leads (as_ ++ bs) ls ks
 leads_then as_ bs ls ms ks e f = lines_then as_ bs ls ∙ (ap (λ (x : List SwitchLine). lines_after_all bs x) e ∙ f)
 
+pub acts_lead : (as_ bs : List Step) (ls ms : List SwitchLine) → Leads as_ ls ms → acts_of_all as_ ls ++ acts_of_all bs ms ≡ acts_of_all (as_ ++ bs) ls
+acts_lead [] bs ls ms e = ap (λ (x : List SwitchLine). acts_of_all bs x) (sym e)
+acts_lead (a ∷ as_) bs ls ms e =
+    append_assoc (acts_of a ls) (acts_of_all as_ (lines_after a ls)) (acts_of_all bs ms)
+    ∙ ap (λ (acts : List Act). acts_of a ls ++ acts) (acts_lead as_ bs (lines_after a ls) ms e)
+
 -- ---- relay
 
 moved_unless_leads : (o : Option Refusal) (t : Taken) (p : Place) (j : Joined) (ls : List SwitchLine) → Leads (moved_unless_steps o t p j) ls (moved_unless o t p j ls)
@@ -41,11 +48,11 @@ moved_front_leads : (o : Option Taken) (p : Place) (j : Joined) (ls : List Switc
 moved_front_leads None p j ls = refl
 moved_front_leads (Some t) p j ls = moved_unless_leads (refusal_at ls j.other (request_for t)) t p j ls
 
-moved_leads : (o : Option Joined) (p : Place) (ls : List SwitchLine) → Leads (moved_joined_steps o p ls) ls (moved_joined o p ls)
+pub moved_leads : (o : Option Joined) (p : Place) (ls : List SwitchLine) → Leads (moved_joined_steps o p ls) ls (moved_joined o p ls)
 moved_leads None p ls = refl
 moved_leads (Some j) p ls = moved_front_leads (front_at ls p) p j ls
 
-relayed_leads : (most : ℕ) (p : Place) (ls : List SwitchLine) → Leads (relayed_steps most p ls) ls (relayed most p ls)
+pub relayed_leads : (most : ℕ) (p : Place) (ls : List SwitchLine) → Leads (relayed_steps most p ls) ls (relayed most p ls)
 relayed_leads zero p ls = refl
 relayed_leads (suc most) p ls = leads_then (moved_joined_steps (joined_at ls p) p ls) (relayed_steps most p (moved p ls)) ls (moved p ls) _ (moved_leads (joined_at ls p) p ls) (relayed_leads most p (moved p ls))
 
@@ -53,7 +60,7 @@ from_leads : (ps : List Place) (ls : List SwitchLine) → Leads (relayed_from_st
 from_leads [] ls = refl
 from_leads (p ∷ ps) ls = leads_then (relayed_steps 8 p ls) (relayed_from_steps ps (relayed 8 p ls)) ls (relayed 8 p ls) _ (relayed_leads 8 p ls) (from_leads ps (relayed 8 p ls))
 
-all_relayed_leads : (ls : List SwitchLine) → Leads (all_relayed_steps ls) ls (all_relayed ls)
+pub all_relayed_leads : (ls : List SwitchLine) → Leads (all_relayed_steps ls) ls (all_relayed ls)
 all_relayed_leads ls = from_leads (places ls) ls
 
 -- ---- notes
@@ -75,7 +82,7 @@ joined_leads (WasReset c cause diagnostic reason) p j ls =
 joined_leads (InterruptConfirmed c) p j ls = refl
 joined_leads (Covered c n) p j ls = covered_leads n (joined_at ls j.other) j.other ls
 
-told_leads : (o : Option Joined) (note : Note) (p : Place) (ls : List SwitchLine) → Leads (told_steps o note p ls) ls (told_of o note p ls)
+pub told_leads : (o : Option Joined) (note : Note) (p : Place) (ls : List SwitchLine) → Leads (told_steps o note p ls) ls (told_of o note p ls)
 told_leads None note p ls = refl
 told_leads (Some j) note p ls = joined_leads note p j ls
 
@@ -107,7 +114,7 @@ pub relinked_leads : (o : Option ℕ) (routes : RouteMap) (ls : List SwitchLine)
 relinked_leads None routes ls = refl
 relinked_leads (Some n) routes ls = acted_leads routes n Relinks ls
 
-all_relinked_leads : (most : ℕ) (routes : RouteMap) (ls : List SwitchLine) → Leads (all_relinked_steps most routes ls) ls (all_relinked most routes ls)
+pub all_relinked_leads : (most : ℕ) (routes : RouteMap) (ls : List SwitchLine) → Leads (all_relinked_steps most routes ls) ls (all_relinked most routes ls)
 all_relinked_leads zero routes ls = refl
 all_relinked_leads (suc most) routes ls =
     leads_then (relinked_steps (to_relink ls) routes ls) (all_relinked_steps most routes (relinked_at (to_relink ls) routes ls)) ls (relinked_at (to_relink ls) routes ls) _
@@ -115,11 +122,11 @@ all_relinked_leads (suc most) routes ls =
 
 -- ---- rounds
 
-offered_leads : (count n : ℕ) (ls : List SwitchLine) → Leads (offered_steps count n) ls (offered_from count n ls)
+pub offered_leads : (count n : ℕ) (ls : List SwitchLine) → Leads (offered_steps count n) ls (offered_from count n ls)
 offered_leads zero n ls = refl
 offered_leads (suc count) n ls = offered_leads count (suc n) _
 
-rounds_leads : (most : ℕ) (ls : List SwitchLine) → Leads (rounds_steps most ls) ls (rounds most ls)
+pub rounds_leads : (most : ℕ) (ls : List SwitchLine) → Leads (rounds_steps most ls) ls (rounds most ls)
 rounds_leads zero ls = all_relayed_leads ls
 rounds_leads (suc most) ls = by (list_any may_offer (all_relayed ls)) (rounds_leads most (offered_from (length ls) 0 (all_relayed ls)))
   where
