@@ -37,8 +37,15 @@ pub fn write_note(book: &mut Book, role: Role, note: &PadNote)
         PadNote::Accepted(channel) => book.answer(role, *channel),
         PadNote::Cleared(channel) => book.close(role, *channel),
         PadNote::Reset(channel) => book.renew(role, *channel),
-        PadNote::Edited { channel, octet, params } => {
-            let step = EditStep::Key { octet: *octet, params: *params };
+        PadNote::Edited {
+            channel,
+            octet,
+            params,
+        } => {
+            let step = EditStep::Key {
+                octet: *octet,
+                params: *params,
+            };
             book.edit(role, *channel, step);
         }
         PadNote::Paused { channel, params } => {

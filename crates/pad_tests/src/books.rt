@@ -56,11 +56,37 @@ fn each_note_is_written_at_its_record(rt: HostRuntime) -> Result<(), Fail> {
     let mut book = Book::new(rt.alloc(), PAD_NODE, FAR_NODE, 2, true)?;
     let params = Params::profile(Profile::Simple, 14);
     book.reserve(8)?;
-    write_note(&mut book, Role::Dte, &PadNote::Edited { channel: 1, octet: 65, params });
-    write_note(&mut book, Role::Dte, &PadNote::Paused { channel: 1, params });
+    write_note(
+        &mut book,
+        Role::Dte,
+        &PadNote::Edited {
+            channel: 1,
+            octet: 65,
+            params,
+        },
+    );
+    write_note(
+        &mut book,
+        Role::Dte,
+        &PadNote::Paused { channel: 1, params },
+    );
     let user_data = UserData::new(b"A", false, false, false);
-    write_note(&mut book, Role::Dte, &PadNote::Sent { channel: 1, user_data });
-    write_note(&mut book, Role::Dte, &PadNote::Interrupted { channel: 1, octet: 1 });
+    write_note(
+        &mut book,
+        Role::Dte,
+        &PadNote::Sent {
+            channel: 1,
+            user_data,
+        },
+    );
+    write_note(
+        &mut book,
+        Role::Dte,
+        &PadNote::Interrupted {
+            channel: 1,
+            octet: 1,
+        },
+    );
     write_note(&mut book, Role::Dte, &PadNote::Reset(1));
     write_note(&mut book, Role::Dte, &PadNote::Cleared(1));
     let [pad, far] = book.records() else {

@@ -5,14 +5,12 @@ use Rattle.std.proofs.Common.{refl, sym, ap, subst, ◌∙◌, arith}
 use Rattle.std.proofs.lemmas.List.{append_assoc}
 use Rattle.link_timers.specs.declared.timers.TimerId.{TimerId}
 use Rattle.link_timers.specs.declared.timers.TimerId.TheVariants.{Idle}
-use Rattle.lapb.specs.Machine.{Octets}
 use Rattle.pad_editing.specs.Edited.{Step, key, idle}
 use Rattle.packet_layer.specs.Packets.{Datum, Note}
 use Rattle.packet_layer.specs.Packets.Note.{Incoming, Connected, Closed, WasReset, InterruptConfirmed, Covered}
 use Rattle.packet_layer.specs.Traffic.{Taken}
 use Rattle.packet_layer.specs.Traffic.Taken.{TakenInterrupt, TakenPacket}
-use Rattle.packet_layer.specs.Channel.{Refusal}
-use Rattle.packet_layer.specs.Channel.Request as ask
+use Rattle.packet_layer.specs.Channel.{Refusal, Request as ask}
 use Rattle.packet_layer.specs.Layer.{channel_given, request_refusal}
 use Rattle.packet_end.specs.PacketEnd as end
 use Rattle.packet_end.specs.PacketEnd.{PacketEnd, begun, received, after_timer, relinked, finished, runs_at}
@@ -25,7 +23,6 @@ use Rattle.x29_messages.specs.declared.message.Message.{Message}
 use Rattle.pad_terminal.specs.Terminal.{is_connected}
 use Rattle.pad_terminal.specs.Breaks as breaks
 use Rattle.pad_terminal.specs.Messages as messages
-use Rattle.pad_terminal.specs.declared.answers.BreakAnswer.{BreakAnswer}
 use Rattle.pad_terminal.specs.declared.answers.BreakAnswer.TheVariants as break_answer
 use Rattle.pad_terminal.specs.declared.answers.CallCondition.{CallCondition}
 use Rattle.pad_terminal.specs.declared.answers.InputAnswer.{InputAnswer}
@@ -44,7 +41,6 @@ use Rattle.x25_pad.specs.Ports.{PortState, AtLine}
 use Rattle.x25_pad.specs.Pad as pad
 use Rattle.x25_pad.specs.Pad.{PadState}
 use Rattle.x25_pad.specs.declared.call.Call.{Call}
-use Rattle.x25_pad.specs.declared.line.PadLine.{PadLine}
 use Rattle.x25_pad_laws.specs.Rooms.{NeedsTwoAtMost, KeyRoom, BreakRoom, PrintRoom, IdleRoom, FrameRoom, RelinkRoom, TimerRoom}
 
 -- ---- lists of notes
@@ -187,10 +183,12 @@ module _ (q : PortState) (e : PacketEnd) (told : e.notes ≡ []) where
 module _ (q : PortState) (e : PacketEnd) (told : e.notes ≡ []) (m : Message) where
   interrupt_told : (o : Option Call) → FitsAt (port.tells (Some m) (port.on_call port.interrupts o (bare (record q { call = o }) e)))
   interrupt_told None = (fits_none, told)
-  interrupt_told (Some call) =
-      (fits_interrupt_told (request_refusal e.layer call.channel (ask.Interrupting (line.interrupt_octet ∷ [])))
-      (request_refusal (end.asked e call.channel (ask.Interrupting (line.interrupt_octet ∷ []))).layer call.channel (ask.Sending (line.datum (octets_of m) true)))
-      call.channel call.channel (line.interrupt_octet ∷ []) (line.datum (octets_of m) true), told)
+  interrupt_told (Some call) = (
+    fits_interrupt_told (request_refusal e.layer call.channel (ask.Interrupting (line.interrupt_octet ∷ [])))
+        (request_refusal (end.asked e call.channel (ask.Interrupting (line.interrupt_octet ∷ []))).layer call.channel (ask.Sending (line.datum (octets_of m) true)))
+        call.channel call.channel (line.interrupt_octet ∷ []) (line.datum (octets_of m) true),
+    told,
+  )
 
   break_fits : (resets pending interrupts indicates : Bool)
       → FitsAt (port.answers_break (break_answer.Taken (record {
@@ -338,7 +336,7 @@ line_room p none opens = by (last_incoming None p.line.end.notes)
     by None room pairs two one =
         subst (λ (ns : List PadNote). HaveRoom (ns ++ all_told (finished told.line.end).notes) room pairs) first
         (have_one p.line.end.notes (all_told (finished told.line.end).notes) room pairs opens (omega (arith, two)) (λ left. late_room told refl left pairs))
-    by (Some channel) = answered_room (pad.first_free told.ports) channel
+    by (Some channel) room pairs two one = answered_room (pad.first_free told.ports) channel room pairs two one
 
 pub frame_room : FrameRoom
 frame_room p octets = line_room (pad.with_end (received (begun p.line.end) octets) (pad.begun p)) refl (frame_opens p.line.end octets).0
