@@ -39,6 +39,7 @@ pub less_room : (a : Inside) (k : ℕ) → k ≤ a.room → HasRoom a → HasRoo
 less_room a k h p = record {
   records = omega (arith, p.records);
   pairs = omega (arith, p.pairs);
+  pair_room = p.pair_room;
   dte = fewer_calls a.room k a.ends.dte.slots a.records.items h p.dte;
   dce = fewer_calls a.room k a.ends.dce.slots a.records.items h p.dce;
 }
@@ -67,22 +68,24 @@ pub put_room : (a : Inside) (ends : Ends) (role : Role) (channel : ℕ) (slot : 
 put_room a ends Dte channel slot e none p = record {
   records = p.records;
   pairs = p.pairs;
+  pair_room = p.pair_room;
   dte = put_places a.room channel ends.dte.slots a.ends.dte.slots slot a.records.items (ap (λ (b : Book). b.dte.slots) e) none p.dte;
   dce = same_places a.room ends.dce.slots a.ends.dce.slots a.records.items (ap (λ (b : Book). b.dce.slots) e) p.dce;
 }
 put_room a ends Dce channel slot e none p = record {
   records = p.records;
   pairs = p.pairs;
+  pair_room = p.pair_room;
   dte = same_places a.room ends.dte.slots a.ends.dte.slots a.records.items (ap (λ (b : Book). b.dte.slots) e) p.dte;
   dce = put_places a.room channel ends.dce.slots a.ends.dce.slots slot a.records.items (ap (λ (b : Book). b.dce.slots) e) none p.dce;
 }
 
 pub takes_interrupt : (s : BookState) (role : Role) (channel : ℕ) (t : Taken) (kept octets : List ℕ) → t ≡ Interrupt octets → kept ≡ octets
-    → ◌≡◌ {A = BookState} (record { book = changed role channel (with_interrupt_taken kept) s.book; room = s.room - 1 }) (record { book = takes role channel (Some (taken_of t)) s.book; room = s.room - 1 })
+    → ◌≡◌ {A = BookState} (record s { book = changed role channel (with_interrupt_taken kept) s.book; room = s.room - 1 }) (record s { book = takes role channel (Some (taken_of t)) s.book; room = s.room - 1 })
 takes_interrupt s role channel t kept octets e h = rw (e, h) refl
 
 pub takes_packet : (s : BookState) (role : Role) (channel : ℕ) (t : Taken) (kept : DataPacket) (d : Datum) → t ≡ «Data» d → kept ≡ packet_of d
-    → ◌≡◌ {A = BookState} (record { book = changed role channel (with_taken kept) s.book; room = s.room - 1 }) (record { book = takes role channel (Some (taken_of t)) s.book; room = s.room - 1 })
+    → ◌≡◌ {A = BookState} (record s { book = changed role channel (with_taken kept) s.book; room = s.room - 1 }) (record s { book = takes role channel (Some (taken_of t)) s.book; room = s.room - 1 })
 takes_packet s role channel t kept d e h = rw (e, h) refl
 
 -- the record of the present call on each channel up to the next one has the places, where it is a call's

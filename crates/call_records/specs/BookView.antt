@@ -16,7 +16,7 @@ abbrev pub book_of : Inside → Book
 book_of a = book_with (map shown a.records.items) (map pair_of a.pairs.items) a.ends
 
 abbrev pub state_of : Inside → BookState
-state_of a = record { book = book_of a; room = a.room }
+state_of a = record { book = book_of a; room = a.room; pairs = a.pair_room }
 
 -- the record of the present call on each channel, where there is one, has so many places
 abbrev pub CallsHavePlaces : (room : ℕ) → List Slot → List Record → Type 0
@@ -27,5 +27,6 @@ CallsHavePlaces room slots records = (channel number : ℕ) → (nth_slot slots 
 pub record HasRoom (a : Inside) : Type 0 where
   pub records : a.room ≤ vec_capacity a.records - vec_len a.records
   pub pairs : a.room ≤ vec_capacity a.pairs - vec_len a.pairs
+  pub pair_room : a.pair_room ≤ vec_capacity a.pairs - vec_len a.pairs
   pub dte : CallsHavePlaces a.room a.ends.dte.slots a.records.items
   pub dce : CallsHavePlaces a.room a.ends.dce.slots a.records.items

@@ -1,7 +1,7 @@
 -- What the code's records show, and what room they have.
 use Rattle.std.specs.Prelude.{◌≡◌, ℕ, ◌-◌, ◌≤◌, List, map, slice_get, Some, vec_len, vec_capacity}
 use Rattle.epochs.specs.Epoch.{SentEpoch as Sent, TakenEpoch as Taken}
-use Rattle.pad_editing.specs.Edited.{Step, key}
+use Rattle.pad_editing.specs.Edited.{Step, key, idle}
 use Rattle.call_records.specs.Records.{RecordValue, PairValue, with_step, with_sent, with_interrupt_sent, with_taken}
 use Rattle.call_records.specs.Records.{with_interrupt_taken, with_released, with_covered, with_epoch, with_closed}
 use Rattle.call_records.specs.declared.record.SentEpoch.{SentEpoch}
@@ -21,6 +21,7 @@ taken_of e = record { packets = e.packets.items; interrupts = e.interrupts.items
 
 abbrev pub step_of : EditStep → Step
 step_of (edit_step.Key octet params) = key octet params
+step_of (edit_step.Idle params) = idle params
 
 abbrev pub shown : Record → RecordValue
 shown r = record {

@@ -1,4 +1,4 @@
--- The book with its room: for how many writes memory was reserved.
+-- The book with its room: for how many writes memory was reserved, and for how many pairs.
 use Rattle.std.specs.Prelude.{ℕ, ◌+◌, Bool, true, false, List, [], ◌∷◌}
 use Rattle.packet_layer.specs.Packets.{Note}
 use Rattle.packet_layer.specs.Packets.Note.{Incoming, Connected, Closed, WasReset, InterruptConfirmed, Covered}
@@ -7,6 +7,7 @@ use Rattle.call_records.specs.Book.{Book}
 pub record BookState : Type 0 where
   pub book : Book
   pub room : ℕ
+  pub pairs : ℕ
 
 -- a note that opens something, a call or an epoch, for which no memory was reserved yet
 abbrev pub opens : Note → Bool

@@ -1,5 +1,5 @@
 //! The book of a line, and what is written into it.
-ghost use Rattle.std.specs.Prelude.{◌≡◌, ◌≤◌, ◌-◌, ℕ, IfOk, OnOk, OnErr, IsTrue, Some, map, length, vec_len};
+ghost use Rattle.std.specs.Prelude.{◌≡◌, ◌≤◌, ◌+◌, ◌-◌, ℕ, IfOk, OnOk, OnErr, IsTrue, Some, map, length, vec_len};
 ghost use Rattle.std.specs.Prelude.{vec_capacity};
 ghost use Rattle.packet_layer.specs.NoteView.{note_of};
 ghost use Rattle.packet_layer.specs.TakenView.{taken_of};
@@ -24,7 +24,7 @@ use std::marker::Model;
 
 /// The book of a line: the records of the calls' two ends, the pairs of them that make a call, and for each end,
 /// channel by channel, which records belong there. Only `new` and `reserve` take memory; what is written needs room
-/// that was reserved.
+/// that was reserved. A call that comes in leaves no room, but that for pairs stays: so it can be accepted at once.
 #[derive(Drop)]
 pub struct Book {
     alloc: Global,
@@ -32,6 +32,7 @@ pub struct Book {
     pairs: Vec<Pair>,
     ends: Ends,
     room: usize,
+    pair_room: usize,
 }
 
 impl Model for Book {
@@ -56,7 +57,11 @@ impl Book {
         channels: u8,
         standing: bool,
     ) -> Result<Book, AllocError>
-        ensures { IfOk result (λ b. b ≡ record { book = made_book dte_node dce_node channels standing; room = 0 }) }
+        ensures { IfOk result (λ b. b ≡ record {
+          book = made_book dte_node dce_node channels standing;
+          room = 0;
+          pairs = 0;
+        }) }
     {
         let mut ends = Ends {
             dte: Side::new(alloc, dte_node, channels)?,
@@ -90,6 +95,7 @@ impl Book {
             pairs,
             ends,
             room: 0,
+            pair_room: 0,
         })
     }
 
@@ -98,14 +104,18 @@ impl Book {
     pub fn reserve(&mut self, count: usize) -> Result<(), AllocError>
         ensures same { self.new.book ≡ self.old.book }
         ensures ok { OnOk result (self.new.room ≡ count) }
+        ensures pairs { OnOk result (self.new.pairs ≡ count) }
         ensures err { OnErr result (self.new.room ≡ 0) }
+        ensures no_pairs { OnErr result (self.new.pairs ≡ 0) }
     {
         self.room = 0;
+        self.pair_room = 0;
         self.records.reserve(count)?;
         self.pairs.reserve(count)?;
         reserve_present(&mut self.records, self.ends.of(Role::Dte), count)?;
         reserve_present(&mut self.records, self.ends.of(Role::Dce), count)?;
         self.room = count;
+        self.pair_room = count;
         Ok(())
     }
 
@@ -114,10 +124,12 @@ impl Book {
         ensures book { self.new ≡ record {
           book = record self.old.book { dte = ends.old.dte; dce = ends.old.dce };
           room = 0;
+          pairs = 0;
         } }
         ensures ends { ends.new ≡ record { dte = self.old.book.dte; dce = self.old.book.dce } }
     {
         self.room = 0;
+        self.pair_room = 0;
         std::mem::swap(&mut self.ends, ends);
     }
 
@@ -142,7 +154,7 @@ impl Book {
         self.ends.of(role).slot(channel).present
     }
 
-    /// For how many writes there is room.
+    /// For how many writes there is room. Where there is none, one pair may still have room.
     pub fn room(&self) -> usize
         ensures { result ≡ self.now.room }
     {
@@ -152,7 +164,7 @@ impl Book {
     /// An end places a call to an address (X.25 4.1.2). No room is left, since the new record has none.
     pub fn place(&mut self, role: Role, channel: u8, called: &Address)
         requires { 1 ≤ self.old.room }
-        ensures { self.new ≡ record { book = places role channel called.now self.old.book; room = 0 } }
+        ensures { self.new ≡ record self.old { book = places role channel called.now self.old.book; room = 0 } }
     {
         let number = self.records.len();
         let node = self.ends.of(role).node();
@@ -170,7 +182,7 @@ impl Book {
     // A call comes in at an end: it is the one that the other end placed last on this channel.
     fn receive_call(&mut self, role: Role, channel: u8, call: &CallBuf)
         requires { 1 ≤ self.old.room }
-        ensures { self.new ≡ record { book = comes role channel (parts_of call.now) self.old.book; room = 0 } }
+        ensures { self.new ≡ record self.old { book = comes role channel (parts_of call.now) self.old.book; room = 0 } }
     {
         let number = self.records.len();
         let here = self.ends.of(role);
@@ -196,15 +208,20 @@ impl Book {
 
     /// An end accepts the call that came in (X.25 4.1.4): its record and that of the end that placed it are a pair.
     pub fn answer(&mut self, role: Role, channel: u8)
-        requires { 1 ≤ self.old.room }
-        ensures { self.new ≡ record { book = answers role channel self.old.book; room = self.old.room - 1 } }
+        requires { 1 ≤ self.old.room + self.old.pairs }
+        ensures { self.new ≡ record {
+          book = answers role channel self.old.book;
+          room = self.old.room - 1;
+          pairs = self.old.pairs - 1;
+        } }
     {
         let Slot {
             present,
             caller,
             ..
         } = self.ends.of(role).slot(channel);
-        self.room -= 1;
+        self.room = self.room.saturating_sub(1);
+        self.pair_room = self.pair_room.saturating_sub(1);
         let (Some(caller), Some(callee)) = (caller, present) else {
             return;
         };
@@ -213,7 +230,7 @@ impl Book {
 
     /// The present call is over for an end (X.25 4.1.7, 4.1.8).
     pub fn close(&mut self, role: Role, channel: u8)
-        ensures { self.new ≡ record { book = closes role channel self.old.book; room = self.old.room } }
+        ensures { self.new ≡ record self.old { book = closes role channel self.old.book } }
     {
         self.grow(role, channel, Growth::Closed);
         let placed = self.ends.of(role).slot(channel).placed;
@@ -227,7 +244,7 @@ impl Book {
 
     /// The present calls on all channels of an end are over for it, in rising order of channels.
     pub fn close_all(&mut self, role: Role)
-        ensures { self.new ≡ record { book = all_closed role self.old.book; room = self.old.room } }
+        ensures { self.new ≡ record self.old { book = all_closed role self.old.book } }
     {
         let channels = self.ends.of(role).channels();
         for place in 0..channels {
@@ -241,7 +258,7 @@ impl Book {
     /// has none.
     pub fn renew(&mut self, role: Role, channel: u8)
         requires { 1 ≤ self.old.room }
-        ensures { self.new ≡ record { book = renews role channel self.old.book; room = 0 } }
+        ensures { self.new ≡ record self.old { book = renews role channel self.old.book; room = 0 } }
     {
         self.grow(role, channel, Growth::Epoch);
     }
@@ -258,7 +275,7 @@ impl Book {
     )
         requires room { 1 ≤ self.old.room }
         requires fits { length octets.now ≤ 128 }
-        ensures { self.new ≡ record {
+        ensures { self.new ≡ record self.old {
           book = sends role channel
               (record { octets = octets.now; more = more; qualified = qualified; delivery = delivery }) self.old.book;
           room = self.old.room - 1;
@@ -272,7 +289,7 @@ impl Book {
     pub fn interrupt(&mut self, role: Role, channel: u8, octets: &[u8])
         requires room { 1 ≤ self.old.room }
         requires fits { length octets.now ≤ 32 }
-        ensures { self.new ≡ record {
+        ensures { self.new ≡ record self.old {
           book = interrupts role channel octets.now self.old.book;
           room = self.old.room - 1;
         } }
@@ -283,7 +300,7 @@ impl Book {
     /// A packet or an interrupt was taken.
     pub fn take(&mut self, role: Role, channel: u8, taken: &Taken)
         requires { 1 ≤ self.old.room }
-        ensures { self.new ≡ record {
+        ensures { self.new ≡ record self.old {
           book = takes role channel (Some (taken_of taken.now)) self.old.book;
           room = self.old.room - 1;
         } }
@@ -307,14 +324,14 @@ impl Book {
 
     /// So many more of the packets taken are released, at most all of them (X.25 4.4.1.3).
     pub fn release(&mut self, role: Role, channel: u8, count: usize)
-        ensures { self.new ≡ record { book = releases role channel count self.old.book; room = self.old.room } }
+        ensures { self.new ≡ record self.old { book = releases role channel count self.old.book } }
     {
         self.grow(role, channel, Growth::Released(count));
     }
 
     /// So many more of the packets sent are covered, at most all of them (X.25 4.4.1.3).
     pub fn cover(&mut self, role: Role, channel: u8, count: usize)
-        ensures { self.new ≡ record { book = covers role channel count self.old.book; room = self.old.room } }
+        ensures { self.new ≡ record self.old { book = covers role channel count self.old.book } }
     {
         self.grow(role, channel, Growth::Covered(count));
     }
@@ -322,7 +339,7 @@ impl Book {
     /// A PAD took a step of editing on its call.
     pub fn edit(&mut self, role: Role, channel: u8, step: EditStep)
         requires { 1 ≤ self.old.room }
-        ensures { self.new ≡ record {
+        ensures { self.new ≡ record self.old {
           book = edits role channel (step_of step) self.old.book;
           room = self.old.room - 1;
         } }
@@ -334,7 +351,7 @@ impl Book {
     /// none.
     pub fn tell(&mut self, role: Role, note: &LayerNote)
         requires { IsTrue (opens (note_of note.now)) → 1 ≤ self.old.room }
-        ensures { self.new ≡ record {
+        ensures { self.new ≡ record self.old {
           book = told role (note_of note.now) self.old.book;
           room = room_after (note_of note.now) self.old.room;
         } }
@@ -353,7 +370,7 @@ impl Book {
     // The record of the present call on a channel grows by a write.
     fn grow(&mut self, role: Role, channel: u8, growth: Growth)
         requires { needed growth ≤ self.old.room }
-        ensures { self.new ≡ record {
+        ensures { self.new ≡ record self.old {
           book = changed role channel (grown growth) self.old.book;
           room = left growth self.old.room;
         } }

@@ -28,10 +28,13 @@ pub struct TakenEpoch {
     pub released: usize,
 }
 
-/// A step of editing at a PAD: a key that was taken, with the parameters that were then in force.
+/// A step of editing at a PAD, with the parameters that were then in force.
 #[derive(Clone, Copy)]
 pub enum EditStep {
+    /// A key that was taken.
     Key { octet: u8, params: Params },
+    /// The end of the idle time (X.3 3.4).
+    Idle { params: Params },
 }
 
 /// One end's part in one call.

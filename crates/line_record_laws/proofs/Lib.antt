@@ -7,4 +7,6 @@ pub mod Keeping
 pub mod Happening
 pub mod Opening
 mod Rows
+pub mod DueCounts
+pub mod DueEnds
 pub mod Hosting

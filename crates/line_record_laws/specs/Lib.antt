@@ -3,3 +3,4 @@ pub mod Clauses
 pub mod Happens
 pub mod Hosts
 pub mod Opening
+pub mod Due

@@ -12,9 +12,9 @@ use Rattle.line_nodes.specs.LineTurns.{expires}
 use Rattle.line_nodes.specs.PadTurns.{last_incoming, without_call, pad_read, pad_event}
 use Rattle.node_laws.specs.Due.{due_count}
 use Rattle.node_laws.specs.Quiet.{IsQuiet}
-use Rattle.node_laws.proofs.DueCounts.{no-more-same}
+use Rattle.line_record_laws.proofs.DueCounts.{no-more-same}
 use Rattle.node_laws.proofs.QuietTurns.{timers-apart}
-use Rattle.node_laws.proofs.DueEnds.{NoMoreDue, no-more-due, then-due, finished-due, IsFewer, due-expires}
+use Rattle.line_record_laws.proofs.DueEnds.{NoMoreDue, no-more-due, then-due, finished-due, IsFewer, due-expires}
 
 host-expires : (role : Role) (e : PacketEnd) (id : TimerId) (b : Book) → IsFewer e id
     → due_count (end_of (drained (expires role (Host e) id b).node)) < due_count e

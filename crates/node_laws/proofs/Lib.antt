@@ -5,8 +5,6 @@ pub mod Typing
 pub mod Making
 pub mod Opening
 mod Rows
-mod DueCounts
-pub mod DueEnds
 pub mod QuietEnds
 pub mod QuietTurns
 pub mod QuietOpens

@@ -30,7 +30,7 @@ use Rattle.line_nodes.specs.PadTurns.{keyed, pad_keys, last_incoming, without_ca
 use Rattle.node_laws.specs.Due.{TimersApart, AreApart}
 use Rattle.node_laws.specs.Nodes.{HoldsNoBlock}
 use Rattle.node_laws.specs.Quiet.{IsQuiet, LeavesQuiet}
-use Rattle.node_laws.proofs.DueEnds.{NoMoreDue, stays-apart, same-due, then-due, begun-due, received-due, timer-due, relinked-due, finished-due, calls-due, asks-due, refuses-due, says-due, takes-due, elapsed-apart, made-apart, restarted-apart}
+use Rattle.line_record_laws.proofs.DueEnds.{NoMoreDue, stays-apart, same-due, then-due, begun-due, received-due, timer-due, relinked-due, finished-due, calls-due, asks-due, refuses-due, says-due, takes-due, elapsed-apart, made-apart, restarted-apart}
 use Rattle.node_laws.proofs.QuietEnds.{IsUnread, received_unread, timer_unread, finished_unread, asked_unread, calls_unread, asks_unread, refuses_unread, says_unread, takes_unread}
 
 -- ---- the timers of a node

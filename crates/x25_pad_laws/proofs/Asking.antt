@@ -30,7 +30,7 @@ use Rattle.x25_pad.specs.Notes.{PadNote}
 use Rattle.x25_pad.specs.Line as line
 use Rattle.x25_pad.specs.Line.{asked, gathered, call_parts}
 use Rattle.x25_pad.specs.declared.line.PadLine.{PadLine}
-use Rattle.x25_pad_laws.specs.Writing.{write_of, writes_of}
+use Rattle.pad_records.specs.Writing.{write_of, writes_of}
 use Rattle.x25_pad_laws.proofs.Selecting.{IsSelection, may_be_placed}
 
 -- ---- notes that are written, one after the other

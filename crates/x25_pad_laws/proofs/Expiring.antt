@@ -17,9 +17,9 @@ use Rattle.packet_layer.specs.Channel.Request.{Releasing}
 use Rattle.packet_layer.specs.Layer.{channel_given, call_refusal}
 use Rattle.packet_end.specs.PacketEnd as end
 use Rattle.packet_end.specs.PacketEnd.{PacketEnd, begun, received, after_timer, relinked, finished, runs_at}
-use Rattle.node_laws.specs.Due.{TimersApart}
-use Rattle.node_laws.specs.Due as counts
-use Rattle.node_laws.proofs.DueEnds.{NoMoreDue, stays-apart, no-more-due, same-due, begun-due, then-due, received-due, timer-due, relinked-due, finished-due, elapsed-apart, restarted-apart, IsFewer, due-expires}
+use Rattle.line_record_laws.specs.Due.{TimersApart}
+use Rattle.line_record_laws.specs.Due as counts
+use Rattle.line_record_laws.proofs.DueEnds.{NoMoreDue, stays-apart, no-more-due, same-due, begun-due, then-due, received-due, timer-due, relinked-due, finished-due, elapsed-apart, restarted-apart, IsFewer, due-expires}
 use Rattle.x3_params.specs.Values.{value}
 use Rattle.x29_messages.specs.MessageForm.{octets_of}
 use Rattle.x29_messages.specs.declared.message.Message.{Message}

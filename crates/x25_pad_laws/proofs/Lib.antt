@@ -17,3 +17,4 @@ pub mod Owning
 pub mod Expiring
 mod Rows
 pub mod Events
+mod Rooms

@@ -30,7 +30,7 @@ use Rattle.x25_pad.specs.Ports as port
 use Rattle.x25_pad.specs.Ports.{PortState, AtLine, has_channel, call_on}
 use Rattle.x25_pad.specs.declared.call.Call.{Call}
 use Rattle.x25_pad.specs.declared.line.PadLine.{PadLine}
-use Rattle.x25_pad_laws.specs.Writing.{write_of}
+use Rattle.pad_records.specs.Writing.{write_of}
 use Rattle.x25_pad_laws.specs.Sending.{IsOfPad}
 use Rattle.x25_pad_laws.specs.Holds.{BookHolds, IsPort}
 use Rattle.x25_pad_laws.proofs.Asking.{noted, noted_append}

@@ -2,8 +2,8 @@
 use Rattle.std.specs.Prelude.{◌≡◌, ℕ, ◌+◌, ◌<◌, if◌then◌else◌, List, [], ◌∷◌, Some}
 use Rattle.link_timers.specs.declared.timers.TimerId.{TimerId}
 use Rattle.lapb.specs.Machine.{Octets}
-use Rattle.node_laws.specs.Due as end
-use Rattle.node_laws.specs.Due.{TimersApart}
+use Rattle.line_record_laws.specs.Due as end
+use Rattle.line_record_laws.specs.Due.{TimersApart}
 use Rattle.x25_pad.specs.Ports as port
 use Rattle.x25_pad.specs.Ports.{PortState}
 use Rattle.x25_pad.specs.Pad.{PadState, due, terminal_event, after_frame, after_timer, after_relink, restarted, elapsed}

@@ -1,4 +1,3 @@
-pub mod Writing
 pub mod Standing
 pub mod Clauses
 pub mod Sending
@@ -6,3 +5,4 @@ pub mod Holds
 pub mod RecordClauses
 pub mod Own
 pub mod Expiry
+pub mod Rooms

@@ -14,7 +14,7 @@ use Rattle.x25_pad.specs.Pad.{elapsed}
 use Rattle.x25_pad.specs.Ports as port
 use Rattle.x25_pad.specs.Making.{made, IsConfig}
 use Rattle.x25_pad.specs.declared.config.PadConfig.{PadConfig}
-use Rattle.x25_pad_laws.specs.Writing.{writes_of}
+use Rattle.pad_records.specs.Writing.{writes_of}
 use Rattle.x25_pad_laws.specs.Standing.{drained}
 use Rattle.x25_pad_laws.specs.Sending.{HasSent}
 use Rattle.x25_pad_laws.specs.Holds.{PadHolds, node_at}

@@ -10,7 +10,7 @@ use Rattle.call_records.specs.Writes.{Write, all_written}
 use Rattle.line_record_laws.specs.Kept.{Setting, Kept, end_at, coming_to}
 use Rattle.line_record_laws.specs.Happens.{sent, with_event}
 use Rattle.x25_pad.specs.Pad.{PadState}
-use Rattle.x25_pad_laws.specs.Writing.{writes_of}
+use Rattle.pad_records.specs.Writing.{writes_of}
 
 -- all its notes were read, and all its frames went onto the line
 abbrev pub drained : PadState → PadState

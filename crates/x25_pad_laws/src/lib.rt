@@ -4,6 +4,7 @@
 
 mod expiry;
 mod own;
+mod room;
 mod sending;
 
 ghost use Rattle.x25_pad_laws.specs.Clauses.{KeyLaw, BreakLaw, IdleLaw, PrintLaw, FrameLaw, TimerLaw, RelinkLaw};
@@ -11,6 +12,7 @@ ghost use Rattle.x25_pad_laws.specs.Clauses.{RestartLaw, TimeLaw, MakingLaw};
 
 pub use expiry::pad_expiry_law;
 pub use own::own_text_law;
+pub use room::pad_room_law;
 pub use sending::pad_records_law;
 
 /// The law of a PAD on a line, over definitions alone. From the making on, whatever comes to it and whatever happens

@@ -18,10 +18,12 @@ loop-place-preserved c =
         closed = ap (λ (s : BookState). closed_from (n - (i + 1)) (i + 1 + 1) role s.book) (w.self-is ∙ w.close.ensures)
             ∙ ap (λ (x : Book). closed_from (n - (i + 1)) (i + 1 + 1) role x) (close_some role (i + 1) b c.present.result c.present.ensures (sym c.is_some.ensures ∙ w.if-is_some.true)) ∙ rest;
         room = ap (λ (s : BookState). s.room) (w.self-is ∙ w.close.ensures) ∙ c.loop-place.invariant.room;
+        pairs = ap (λ (s : BookState). s.pairs) (w.self-is ∙ w.close.ensures) ∙ c.loop-place.invariant.pairs;
       }
       | else-is_some w ↦ record {
         closed = ap (λ (s : BookState). closed_from (n - (i + 1)) (i + 1 + 1) role s.book) w.self-is
             ∙ ap (λ (x : Book). closed_from (n - (i + 1)) (i + 1 + 1) role x) (close_none role (i + 1) b c.present.result c.present.ensures (sym c.is_some.ensures ∙ w.if-is_some.false)) ∙ rest;
         room = ap (λ (s : BookState). s.room) w.self-is ∙ c.loop-place.invariant.room;
+        pairs = ap (λ (s : BookState). s.pairs) w.self-is ∙ c.loop-place.invariant.pairs;
       }
     ]

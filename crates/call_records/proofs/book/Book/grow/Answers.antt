@@ -28,6 +28,7 @@ invariant_of-self-2 c =
     rw c.left-self-inside.ensures (record {
       records = omega (arith, less, p.records, c.grow_at.ensures.len, c.grow_at.ensures.capacity);
       pairs = omega (arith, less, p.pairs);
+      pair_room = p.pair_room;
       dte = λ channel number e. c.grow_at.ensures.room a.room number here (p.dte channel number e);
       dce = λ channel number e. c.grow_at.ensures.room a.room number here (p.dce channel number e);
     })

@@ -15,14 +15,14 @@ returns c =
       | then-standing w ↦
           let two = w.push_reserved-then-standing.new.self.items in
           let one = w.push_reserved-then-standing-2.new.self.items in
-          rw (w.ends-is, w.records-is, w.pairs-is, w.if-standing.true) (ap (λ (b : Book). record { book = b; room = 0 })
+          rw (w.ends-is, w.records-is, w.pairs-is, w.if-standing.true) (ap (λ (b : Book). record { book = b; room = 0; pairs = 0 })
           (standing_is c.args.dte_node c.args.dce_node c.args.channels first w.put.new.self w.put-then-standing.new.self (map shown two) (map pair_of one)
           c.in_ok-new.ensures c.in_ok-new-2.ensures (w.put.ensures (map shown two) (map pair_of one)) (w.put-then-standing.ensures (map shown two) (map pair_of one))
           (two_shown c.in_ok-records.records.items w.push_reserved.new.self.items two w.new-then-standing.result w.new-then-standing-2.result _ _
           c.in_ok-records.ensures.items w.push_reserved.ensures.items w.push_reserved-then-standing.ensures.items w.new-then-standing.ensures w.new-then-standing-2.ensures)
           (one_pair c.in_ok-pairs.pairs.items one (record { caller = 0; callee = 1 }) c.in_ok-pairs.ensures.items w.push_reserved-then-standing-2.ensures.items)))
       | else-standing w ↦
-          rw (w.ends-is, w.records-is, w.pairs-is, w.if-standing.false) (ap (λ (b : Book). record { book = b; room = 0 })
+          rw (w.ends-is, w.records-is, w.pairs-is, w.if-standing.false) (ap (λ (b : Book). record { book = b; room = 0; pairs = 0 })
           (free_is c.args.dte_node c.args.dce_node c.args.channels first (map shown c.in_ok-records.records.items) (map pair_of c.in_ok-pairs.pairs.items)
           c.in_ok-new.ensures c.in_ok-new-2.ensures (ap (λ (l : List Record). map shown l) c.in_ok-records.ensures.items) (ap (λ (l : List Pair). map pair_of l) c.in_ok-pairs.ensures.items)))
     ]

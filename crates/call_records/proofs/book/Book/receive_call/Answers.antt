@@ -1,4 +1,4 @@
-use Rattle.std.proofs.Common.{◌≡◌, ◌∙◌, ◌++◌, ◌∷◌, [], Some, ap, map, length, arith}
+use Rattle.std.proofs.Common.{◌≡◌, ℕ, ◌∙◌, ◌++◌, ◌∷◌, [], Some, ap, map, length, arith}
 use Rattle.link_timers.specs.declared.role.Role.{Role}
 use Rattle.packet_codec.specs.Packet.{CallValue}
 use Rattle.packet_layer.specs.Octets.{parts_of}
@@ -9,6 +9,10 @@ use Rattle.call_records.specs.RecordView.{shown, pair_of}
 use Rattle.call_records.specs.BookView.{book_of}
 use Rattle.call_records.proofs.Coming.{comes_is, some_address, shown_more, shown_length}
 use Rattle.call_records.proofs.book.Book.receive_call.Goals as goal
+
+-- without room but that for pairs
+abbrev with_pairs : ℕ → Book → BookState
+with_pairs pairs b = record { book = b; room = 0; pairs = pairs }
 
 pub returns : goal.returns
 returns c =
@@ -28,6 +32,7 @@ returns c =
     let number : c.len-number.result ≡ length a.records.items = omega (arith, c.len-number.ensures, a.records.ok) in
     let more = shown_more a.records.items c.push_reserved.new.self.items c.new.result c.push_reserved.ensures.items in
     let grown = more ∙ ap (λ (r : RecordValue). rs ++ r ∷ []) c.new.ensures in
-    ap (λ (b : Book). record { book = b; room = 0 }) (comes_is a c.args.role c.args.channel parts new c.put.new.self c.len-number.result c.node-node.result
+    ap (with_pairs a.pair_room) (comes_is a c.args.role c.args.channel parts new c.put.new.self c.len-number.result c.node-node.result
     (Some c.data-data.result.called) c.calling_of.result c.placed.inside.placed c.caller.inside.placed
-    (number ∙ shown_length a.records.items) node own far placed (caller ∙ other) grown (c.put.ensures new ps) ∙ ap (λ (s : BookState). comes c.args.role c.args.channel parts s.book) c.self.view_is)
+    (number ∙ shown_length a.records.items) node own far placed (caller ∙ other) grown (c.put.ensures new ps))
+    ∙ ap (λ (s : BookState). with_pairs s.pairs (comes c.args.role c.args.channel parts s.book)) c.self.view_is

@@ -25,8 +25,8 @@ use Rattle.packet_end.specs.PacketEnd.{PacketEnd, begun, heeded, after_packet, r
 use Rattle.packet_end.specs.declared.params.EndParams.{EndParams}
 use Rattle.packet_host.specs.Host.{ended, unless_refused, refuse_refusal, after_call, after_request, after_refuse, after_say, let_go, taken_as, after_take}
 use Rattle.packet_host.specs.Saying.{queued, cut, say_refusal}
-use Rattle.node_laws.specs.Due.{RunsOnly, TimersApart, due_count}
-use Rattle.node_laws.proofs.DueCounts.{NoMore, no-more-same, no-more-then, stopped-more, started-more, only-none, none-more, stopped-fewer, only-elapsed, brought-more}
+use Rattle.line_record_laws.specs.Due.{RunsOnly, TimersApart, due_count}
+use Rattle.line_record_laws.proofs.DueCounts.{NoMore, no-more-same, no-more-then, stopped-more, started-more, only-none, none-more, stopped-fewer, only-elapsed, brought-more}
 
 abbrev IsT1 : TimerId → Type 0
 IsT1 id = id ≡ timer.T1

@@ -1,9 +1,10 @@
--- What the network writes into the book of a line from the notes of a PAD there.
+-- What is written into the book of a line from the notes of a PAD there.
 use Rattle.std.specs.Prelude.{ℕ, List, [], ◌∷◌, map, Some, None}
 use Rattle.packet_layer.specs.Packets.{CallParts}
 use Rattle.packet_layer.specs.Channel.Request.{Accept, Resetting, Interrupting}
 use Rattle.call_records.specs.Writes.{Write, Write as write}
 use Rattle.x25_pad.specs.Notes.{PadNote, Told, Placed, Accepted, Cleared, WasReset, Edited, Sent, Interrupted, Took}
+use Rattle.x25_pad.specs.Pad.{PadState}
 
 -- a record has the address of a call, and no more of its parts
 abbrev pub parts_to : (address : List ℕ) → CallParts
@@ -23,3 +24,7 @@ write_of (Took channel taken) = write.Took channel taken
 
 abbrev pub writes_of : List PadNote → List Write
 writes_of notes = map write_of notes
+
+-- the PAD when all its notes were read
+abbrev pub without_notes : PadState → PadState
+without_notes p = record p { line = record p.line { notes = [] } }

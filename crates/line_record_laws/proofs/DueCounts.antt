@@ -9,7 +9,7 @@ use Rattle.link_timers.proofs.PlaceLaws.{others_left, none_left, left_after_tick
 use Rattle.packet_layer.specs.Layer.{Layer}
 use Rattle.packet_layer.specs.Events.{timer_named, runs_named}
 use Rattle.packet_end.specs.Timing.{packet_ticks, brought_as, brought_one, brought_channels, brought, IsPacketTimer}
-use Rattle.node_laws.specs.Due.{RunsOnly}
+use Rattle.line_record_laws.specs.Due.{RunsOnly}
 
 -- ---- how many are due
 

@@ -1,0 +1,80 @@
+//! What a PAD noted, written into the book of its line.
+#![tactic(auto)]
+
+ghost use Rattle.std.specs.Prelude.{◌≡◌, ◌≤◌, ◌-◌};
+ghost use Rattle.packet_layer.specs.TakenView.{taken_of};
+ghost use Rattle.call_records.specs.Writes.{all_written, written_by};
+ghost use Rattle.call_records.specs.Writes.Write.{Took};
+ghost use Rattle.x25_pad.specs.NoteView.{pad_note_of};
+ghost use Rattle.pad_records.specs.Writing.{writes_of, without_notes};
+ghost use Rattle.pad_records.specs.Room.{HasRoom, HaveRoom, written};
+
+use call_records::{Book, EditStep};
+use link_timers::Role;
+use packet_layer::Taken;
+use x25_pad::{Pad, PadNote};
+
+/// Reads the notes of an event at a PAD, and writes them in order into the book, at the PAD's end of the line. The book
+/// has room for them.
+pub fn write_notes(pad: &mut Pad, role: Role, book: &mut Book)
+    requires { HaveRoom pad.old.line.notes book.old.room book.old.pairs }
+    ensures pad { pad.new ≡ without_notes pad.old }
+    ensures book { book.new.book ≡ all_written role (writes_of pad.old.line.notes) book.old.book }
+{
+    while let Some(note) = pad.notes() {
+        write_note(book, role, &note);
+    }
+}
+
+/// Writes a note of a PAD into the book, at the PAD's end of the line. The book has room for it.
+pub fn write_note(book: &mut Book, role: Role, note: &PadNote)
+    requires { HasRoom (pad_note_of note.now) book.old.room book.old.pairs }
+    ensures { book.new ≡ written role (pad_note_of note.now) book.old }
+{
+    match note {
+        PadNote::Told(note) => book.tell(role, note),
+        PadNote::Placed { channel, address } => book.place(role, *channel, address),
+        PadNote::Accepted(channel) => book.answer(role, *channel),
+        PadNote::Cleared(channel) => book.close(role, *channel),
+        PadNote::Reset(channel) => book.renew(role, *channel),
+        PadNote::Edited {
+            channel,
+            octet,
+            params,
+        } => {
+            let step = EditStep::Key {
+                octet: *octet,
+                params: *params,
+            };
+            book.edit(role, *channel, step);
+        }
+        PadNote::Paused { channel, params } => {
+            book.edit(role, *channel, EditStep::Idle { params: *params });
+        }
+        PadNote::Sent { channel, user_data } => book.send(
+            role,
+            *channel,
+            user_data.octets(),
+            user_data.more(),
+            user_data.qualified(),
+            user_data.delivery(),
+        ),
+        PadNote::Interrupted { channel, octet } => book.interrupt(role, *channel, &[*octet]),
+        PadNote::Took { channel, taken } => write_taken(book, role, *channel, taken),
+    }
+}
+
+// What a terminal took: P(R) may pass a packet at once.
+fn write_taken(book: &mut Book, role: Role, channel: u8, taken: &Taken)
+    requires { 1 ≤ book.old.room }
+    ensures { book.new ≡ record {
+      book = written_by role (Took channel (taken_of taken.now)) book.old.book;
+      room = book.old.room - 1;
+      pairs = book.old.pairs;
+    } }
+{
+    book.take(role, channel, taken);
+    if let Taken::Data(_) = taken {
+        book.release(role, channel, 1);
+    }
+}
