@@ -17,3 +17,5 @@ pub mod Owning
 pub mod Tracing
 pub mod Lining
 pub mod Freeing
+pub mod Heading
+pub mod Forwarding
