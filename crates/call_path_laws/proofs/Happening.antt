@@ -19,7 +19,7 @@ use Rattle.call_path_laws.proofs.Writing.{user_writes, switch_writes}
 use Rattle.call_path_laws.proofs.Joining as joining
 
 -- a register in which the book of a line became this one
-record IsWritten (line : ℕ) (g : Register) (b : Book) (h : Register) : Type 0 where
+pub record IsWritten (line : ℕ) (g : Register) (b : Book) (h : Register) : Type 0 where
   pub records : h.records ≡ b.records
   pub pairs : h.pairs ≡ b.pairs
   pub lines : length h.lines ≡ length g.lines
@@ -32,7 +32,7 @@ not_written line g = record { records = refl; pairs = refl; lines = refl; here =
 abbrev ends_of : Book → LineEnds
 ends_of b = record { dte = b.dte; dce = b.dce }
 
-book_written : (line : ℕ) (g : Register) (b : Book) → line < length g.lines → IsWritten line g b (with_book line b g)
+pub book_written : (line : ℕ) (g : Register) (b : Book) → line < length g.lines → IsWritten line g b (with_book line b g)
 book_written line g b less = record {
   records = refl;
   pairs = refl;

@@ -19,11 +19,11 @@ record IsNewJoin (plan : Plan) (os : List Origin) (js : List Join) (a b : ℕ) :
   pub first : (c : ℕ) → IsJoined js a c → ⊥
   pub new : (c : ℕ) → IsJoined js c b → ⊥
 
-abbrev with_new : List Join → ℕ → ℕ → List Join
+abbrev pub with_new : List Join → ℕ → ℕ → List Join
 with_new js a b = js ++ record { came_in = a; placed = b } ∷ []
 
 -- either one of those before or the new one
-old_or_new : (js : List Join) (a b c d : ℕ) → IsJoined (with_new js a b) c d → IsJoined js c d ⊎ ((c ≡ a) × (d ≡ b))
+pub old_or_new : (js : List Join) (a b c d : ℕ) → IsJoined (with_new js a b) c d → IsJoined js c d ⊎ ((c ≡ a) × (d ≡ b))
 old_or_new js a b c d j =
     elim (get_pushed js (record { came_in = a; placed = b }) j.place (record { came_in = c; placed = d }) j.there) [
       | inl before ↦ inl (record { place = j.place; there = before })

@@ -18,3 +18,5 @@ pub mod Tracing
 pub mod Lining
 pub mod Freeing
 mod Moves
+pub mod Heading
+pub mod Forwarding

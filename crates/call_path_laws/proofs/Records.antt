@@ -13,11 +13,13 @@ use Rattle.call_path_laws.specs.Seen.{kind, numbers, Begins, RecordsAreSeen, Pai
 use Rattle.call_path_laws.proofs.Ways.{numbered_user}
 use Rattle.call_path_laws.proofs.Growing.{Extends, more_join, more_pair, more_pair_came, numbers_user, numbers_switch, user_extends, switch_extends}
 
--- a change that leaves the number and the node of a record as they are
+-- a change that leaves the number, the node and the addresses of a record as they are
 pub record IsMild (f : RecordValue → RecordValue) : Type 0 where
   pub blind : IsBlind f
   pub number : (r : RecordValue) → (f r).number ≡ r.number
   pub node : (r : RecordValue) → (f r).node ≡ r.node
+  pub own : (r : RecordValue) → (f r).own ≡ r.own
+  pub far : (r : RecordValue) → (f r).far ≡ r.far
 
 module _ (plan : Plan) (os : List Origin) (js : List Join) where
   -- ---- a record changes

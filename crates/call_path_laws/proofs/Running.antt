@@ -1,21 +1,22 @@
 -- The worked run: each premise by computation.
 use Rattle.std.proofs.Common.{◌≡◌, ℕ, zero, suc, ◌+◌, ◌<◌, ◌⊎◌, inl, inr, false, List, [], ◌∷◌, Some, None, refl, sym, ap, subst, ◌∙◌, arith, true≢false}
-use Rattle.std.specs.Prelude.{slice_get}
+use Rattle.std.specs.Prelude.{slice_get, take}
 use Rattle.std.proofs.lemmas.Option.{none-some, same_Some}
 use Rattle.link_timers.specs.declared.role.Role.TheVariants.{Dce}
 use Rattle.epochs.specs.Epoch.{IsAligned}
 use Rattle.epochs.specs.ConfirmedLaws.{AreEmpty}
 use Rattle.epochs.proofs.Matching.{aligned-match}
 use Rattle.epochs.proofs.Confirms.{confirms_itself}
-use Rattle.call_records.specs.Records.{RecordValue, PairValue, taken_epochs}
+use Rattle.call_records.specs.Records.{RecordValue, PairValue, taken_epochs, new_record}
 use Rattle.call_records.specs.Register.{LineEnds}
 use Rattle.book_laws.specs.Headline.{IsTakenFrom, IsIn, TookNothing, sent_by}
 use Rattle.book_laws.proofs.Basics.{confirmed_of}
 use Rattle.register_laws.specs.Promise.{PairIsRight, PairHolds, IsOfEnd, RegisterHolds}
-use Rattle.call_path_laws.specs.World.{Origin, Join, made_world, MayAll, calling_on}
+use Rattle.call_path_laws.specs.Forwards.{IsForwarded, AllForward}
+use Rattle.call_path_laws.specs.World.{Origin, Join, made_world, after_all, MayAll, calling_on}
 use Rattle.call_path_laws.specs.Seen.{IsJoined}
 use Rattle.call_path_laws.specs.Promise.{CallsHold, JoinHolds, JoinsHold}
-use Rattle.call_path_laws.specs.Run.{plan, lines, events, world, RunLaw}
+use Rattle.call_path_laws.specs.Run.{parts, plan, lines, events, world, RunLaw}
 
 -- ---- what holds of each element of a list
 
@@ -116,6 +117,77 @@ may_all = (
                                             first = not_again;
                                           },
                                           ((one_two, refl), tt),
+                                        ),
+                                      ),
+                                    ),
+                                  ),
+                                ),
+                              ),
+                            ),
+                          ),
+                        ),
+                      ),
+                    ),
+                  ),
+                ),
+              ),
+            ),
+          ),
+        ),
+      ),
+    ),
+  ),
+)
+
+-- ---- the switch forwards each call as it came
+
+known : (P : RecordValue → Type 0) (rs : List RecordValue) (k n : ℕ) (r came : RecordValue) → Some k ≡ Some n → slice_get rs k ≡ Some r → slice_get rs n ≡ Some came → P r → P came
+known P rs k n r came e there at p = subst (λ (x : RecordValue). P x) (same_Some r came (sym there ∙ (ap (λ (i : ℕ). slice_get rs i) (same_Some k n e) ∙ at))) p
+
+forward_all : AllForward plan events (made_world lines)
+forward_all = (
+  tt,
+  (
+    tt,
+    (
+      λ n came at there. known (λ (r : RecordValue). IsForwarded plan (record { line = 0; role = Dce; channel = 4 }) (record { line = 1; role = Dce; channel = 1 }) parts r) (after_all (take 2 events) (made_world lines)).whole.records 1 n (new_record 1 9 (Some (2 ∷ 0 ∷ [])) None) came at refl there (record { called = refl; calling = refl; routed = refl }),
+      (
+        tt,
+        (
+          tt,
+          (
+            tt,
+            (
+              tt,
+              (
+                tt,
+                (
+                  tt,
+                  (
+                    tt,
+                    (
+                      tt,
+                      (
+                        tt,
+                        (
+                          tt,
+                          (
+                            tt,
+                            (
+                              tt,
+                              (
+                                tt,
+                                (
+                                  tt,
+                                  (
+                                    tt,
+                                    (
+                                      tt,
+                                      (
+                                        tt,
+                                        (
+                                          λ n came at there. known (λ (r : RecordValue). IsForwarded plan (record { line = 0; role = Dce; channel = 4 }) (record { line = 1; role = Dce; channel = 1 }) parts r) (after_all (take 20 events) (made_world lines)).whole.records 5 n (new_record 5 9 (Some (2 ∷ 0 ∷ [])) None) came at refl there (record { called = refl; calling = refl; routed = refl }),
+                                          (tt, tt),
                                         ),
                                       ),
                                     ),
@@ -270,4 +342,4 @@ joins_hold = record {
 }
 
 pub run_is_right : RunLaw
-run_is_right = record { addressed = λ line e. absurd (true≢false e); may = may_all; calls = calls_hold; joins = joins_hold; pairs = refl; records = refl }
+run_is_right = record { addressed = λ line e. absurd (true≢false e); may = may_all; forwards = forward_all; calls = calls_hold; joins = joins_hold; pairs = refl; records = refl }

@@ -19,8 +19,8 @@ use Rattle.call_path_laws.proofs.Records.{IsMild, CallerIsThere}
 use Rattle.call_path_laws.proofs.Steps.{Beside, IsRight, Leads, after, no_step, then, puts_both, puts_whole, changes_both, changes_whole, adds_both, adds_whole, newest, last_origin, pairs_both, pairs_whole}
 use Rattle.call_path_laws.proofs.Inducing.{Property, Holds, Each, keeps, comes_at, writes_hold}
 
-closing_mild : IsMild with_closed
-closing_mild = record { blind = λ n r. refl; number = λ r. refl; node = λ r. refl }
+pub closing_mild : IsMild with_closed
+closing_mild = record { blind = λ n r. refl; number = λ r. refl; node = λ r. refl; own = λ r. refl; far = λ r. refl }
 
 module _ (plan : Plan) (js : List Join) (line : ℕ) (role : Role) where
   slot_seen : (x : Beside) → IsRight plan js line x → (end : Role) (c : ℕ) → SlotIsSeen plan x.origins js line end (slot_at end c x.seen) (slot_at end c x.whole)

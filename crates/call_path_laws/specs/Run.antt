@@ -15,6 +15,7 @@ use Rattle.call_records.specs.Register.{LinePlan}
 use Rattle.call_path_laws.specs.World.{World, Plan, Event, after_all, made_world, MayAll, AreAddressed}
 use Rattle.call_path_laws.specs.World.Event.{Writes, SwitchWrites, Joins}
 use Rattle.call_path_laws.specs.Promise.{CallsHold, JoinsHold}
+use Rattle.call_path_laws.specs.Forwards.{AllForward}
 
 -- ---- the network: node 1 on line 0 and node 2 on line 1, each at the DTE's end; the switch is node 9
 
@@ -108,6 +109,7 @@ ended number node own far = record (new_record number node own far) { closed = t
 pub record RunLaw : Type 0 where
   pub addressed : AreAddressed plan
   pub may : MayAll plan events (made_world lines)
+  pub forwards : AllForward plan events (made_world lines)
   pub calls : CallsHold world
   pub joins : JoinsHold plan world
   pub pairs : world.register.pairs ≡ record { caller = 0; callee = 1 } ∷ record { caller = 2; callee = 3 } ∷ []

@@ -1,6 +1,7 @@
 //! What the register of a network with switches has of its calls, over paths of any length.
 #![tactic(auto)]
 
+ghost use Rattle.call_path_laws.specs.Forwards.{MadeForwardLaw, ForwardLaw, RelayedLaw};
 ghost use Rattle.call_path_laws.specs.Law.{MadeLaw, EventLaw, PromiseLaw, PathLaw, WithoutSwitchLaw};
 ghost use Rattle.call_path_laws.specs.Law.{OwnedLaw, PresentLaw, CameLaw, PairedLaw};
 ghost use Rattle.call_path_laws.specs.Lines.{MadeLinesLaw, TraceLaw, LinesLaw, WrittenLaw, BookCallsLaw};
@@ -22,6 +23,16 @@ pub fn path_law()
     ensures present { PresentLaw }
     ensures came { CameLaw }
     ensures paired { PairedLaw }
+{}
+
+/// The addresses of the two records of each join: a switch that places a call onward with the called address that the
+/// call has, with the address of the line that it came on as the calling one, and on the line of its route, has these
+/// addresses in the records of its joins from then on, whatever is written. So of the joins the relay alone has to be
+/// shown.
+pub fn forward_law()
+    ensures made { MadeForwardLaw }
+    ensures events { ForwardLaw }
+    ensures joins { RelayedLaw }
 {}
 
 /// The whole register and the books of the lines: from free lines on, and whatever is written at one of them, each
