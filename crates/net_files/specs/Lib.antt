@@ -1,3 +1,4 @@
 pub mod Cuts
 pub mod Scripts
 pub mod Digits
+pub mod Marks

@@ -1,6 +1,7 @@
 //! The text of a network, in TOML.
-ghost use Rattle.std.specs.Prelude.{◌≡◌, ◌⊎◌, None, IsErrOf};
+ghost use Rattle.std.specs.Prelude.{◌≡◌, ◌⊎◌, None, IsErrOf, true};
 ghost use Rattle.toml.specs.Parse.{parse_document};
+ghost use Rattle.net_files.specs.Marks.{begins_with_mark};
 
 use crate::fault::ProgFault;
 use crate::settings::read_settings;
@@ -27,23 +28,37 @@ channels = 1
 standing = true
 "#;
 
+/// The byte order mark, which some editors write before a text.
+const BYTE_ORDER_MARK: &str = "\u{FEFF}";
+
 /// The most digits of an address.
 const ADDRESS_DIGITS: usize = 15;
 
 /// Reads a network: the tables `node`, `line` and `route`, in order.
 ///
-/// `NetText` where the text is no TOML document, where a key is unknown, missing or of the wrong type, where a number
-/// is not 0 to 65,535, and where a name, address, kind, profile or list of parameters has another form. What the values
-/// mean is tested when the network is made.
+/// `NetText` where the text is no TOML document or begins with a byte order mark, where a key is unknown, missing or of
+/// the wrong type, where a number is not 0 to 65,535, and where a name, address, kind, profile or list of parameters
+/// has another form. What the values mean is tested when the network is made.
 pub fn read_net(alloc: Global, text: &str) -> Result<Config, ProgFault>
+    ensures marked { begins_with_mark text.now ≡ true → IsErrOf result ProgFault.NetText }
     ensures no_document { parse_document text.now ≡ None
         → IsErrOf result ProgFault.NetText ⊎ IsErrOf result ProgFault.OutOfMemory }
 {
+    if begins_with_mark(text) {
+        return Err(ProgFault::NetText);
+    }
     match toml::table_from_str(alloc, text) {
         Ok(document) => read_document(alloc, &document),
         Err(error) if error.is_memory() => Err(ProgFault::OutOfMemory),
         Err(_) => Err(ProgFault::NetText),
     }
+}
+
+/// Whether a text begins with the byte order mark.
+fn begins_with_mark(text: &str) -> bool
+    ensures { result ≡ begins_with_mark text.now }
+{
+    text.starts_with(BYTE_ORDER_MARK)
 }
 
 fn read_document(alloc: Global, document: &Table) -> Result<Config, ProgFault> {
