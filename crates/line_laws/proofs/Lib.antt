@@ -7,4 +7,5 @@ pub mod Acts
 pub mod Offering
 pub mod Holding
 pub mod Finishing
+pub mod Resting
 mod Rows

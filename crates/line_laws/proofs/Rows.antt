@@ -6,15 +6,16 @@ use Rattle.link_timers.specs.declared.role.Role.TheVariants.{Dte, Dce}
 use Rattle.packet_layer.specs.Packets.{CallParts, Datum}
 use Rattle.packet_layer.specs.Packets.Note.{Incoming, Connected}
 use Rattle.packet_layer.specs.Traffic.Taken.{TakenPacket}
-use Rattle.packet_layer.specs.Channel.Request.{Accept, Sending, Taking}
+use Rattle.packet_layer.specs.Channel.Request.{Accept, Sending, Taking, Releasing}
 use Rattle.packet_laws.specs.Readable.{CanBePlaced}
 use Rattle.packet_layer.specs.Layer.{front_on}
 use Rattle.packet_layer.specs.Layer.Phase.{PacketReady}
-use Rattle.packet_end.specs.PacketEnd.{all_offered}
+use Rattle.packet_end.specs.PacketEnd.{all_offered, at_rest}
 use Rattle.packet_end.specs.declared.params.EndParams.{EndParams}
 use Rattle.packet_end.specs.Params.{AreParams}
 use Rattle.line_laws.specs.Fit.{IsFit, AreFit}
 use Rattle.line_laws.specs.Law.{Passes}
+use Rattle.line_laws.specs.Rest.{AreAtRest}
 use Rattle.line_laws.proofs.Holding.{line_ends_hold}
 use Rattle.line_laws.specs.Line.{Act, Event, At, Hears, Calls, Requests, Offers, Settles, Sends, made, after}
 
@@ -93,6 +94,19 @@ taken = said ++ (At Dce (Requests 4 Taking) ∷ ends Dce)
 none_left : front_on (after taken (made params params)).dce.layer 4 ≡ None
 unfolding all_offered
 none_left = refl
+
+-- what was taken is released, and P(R) tells it: then both ends are at rest
+abbrev released : List Event
+released = taken ++ (At Dce (Requests 4 (Releasing 1)) ∷ ends Dce) ++ rounds 2
+
+rests : AreAtRest (after released (made params params)).dte (after released (made params params)).dce
+unfolding all_offered
+rests = record { at_dte = refl; at_dce = refl; no_relink_at_dte = refl; no_relink_at_dce = refl }
+
+-- before that they are not
+waits : at_rest (after said (made params params)).dce ≡ false
+unfolding all_offered
+waits = refl
 
 -- ---- the law is about this run
 

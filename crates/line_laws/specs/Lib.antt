@@ -4,3 +4,4 @@ pub mod Fit
 pub mod Joint
 pub mod Steps
 pub mod Law
+pub mod Rest

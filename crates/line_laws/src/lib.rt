@@ -3,6 +3,7 @@
 #![tactic(auto)]
 
 ghost use Rattle.line_laws.specs.Law.{LineEndsLaw, ActLaw, LossLaw};
+ghost use Rattle.line_laws.specs.Rest.{RestLaw};
 
 /// The law of a line with both its ends, over definitions alone: whatever is called at them, whatever timers expire,
 /// whichever frames are lost and however often an end restarts, the two packet layers go through what happens to two
@@ -18,4 +19,10 @@ pub fn line_ends_law()
 
     // A loss is no event of the layers.
     ensures losses { LossLaw }
+{}
+
+/// The law of a line at rest, over definitions alone: where both ends are at rest, each took in the present epoch of a
+/// call all that the other one sent in its own (X.25 2.4, 4.3, 4.4). That a line ever comes to rest is not promised.
+pub fn rest_law()
+    ensures { RestLaw }
 {}
