@@ -12,11 +12,14 @@ pub mod Happening
 pub mod Making
 pub mod Beginning
 pub mod Showing
+mod Each
+mod Opened
 pub mod Running
 pub mod Owning
 pub mod Tracing
 pub mod Lining
 pub mod Freeing
+mod Having
 mod Moves
 pub mod Heading
 pub mod Forwarding

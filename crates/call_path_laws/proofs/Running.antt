@@ -17,26 +17,8 @@ use Rattle.call_path_laws.specs.World.{Origin, Join, made_world, after_all, MayA
 use Rattle.call_path_laws.specs.Seen.{IsJoined}
 use Rattle.call_path_laws.specs.Promise.{CallsHold, JoinHolds, JoinsHold}
 use Rattle.call_path_laws.specs.Run.{parts, plan, lines, events, world, RunLaw}
-
--- ---- what holds of each element of a list
-
-abbrev AllFrom : {X : Type 0} → (ℕ → X → Type 0) → ℕ → List X → Type 0
-AllFrom P first [] = Unit {0}
-AllFrom P first (x ∷ xs) = P first x × AllFrom P (suc first) xs
-
-each_from : {X : Type 0} (P : ℕ → X → Type 0) (first : ℕ) (xs : List X) → AllFrom P first xs → (i : ℕ) (x : X) → slice_get xs i ≡ Some x → P (first + i) x
-each_from P first [] h i x at = absurd (none-some x at)
-each_from P first (y ∷ ys) h zero x at =
-    let same : first ≡ first + 0 = omega arith in
-    subst (λ (n : ℕ). P n x) same (subst (λ z. P first z) (same_Some y x at) h.0)
-each_from P first (y ∷ ys) h (suc i) x at =
-    let same : suc first + i ≡ first + suc i = omega arith in
-    subst (λ (n : ℕ). P n x) same (each_from P (suc first) ys h.1 i x at)
-
-each : {X : Type 0} (P : ℕ → X → Type 0) (xs : List X) → AllFrom P 0 xs → (i : ℕ) (x : X) → slice_get xs i ≡ Some x → P i x
-each P xs h i x at =
-    let same : 0 + i ≡ i = omega arith in
-    subst (λ (n : ℕ). P n x) same (each_from P 0 xs h i x at)
+use Rattle.call_path_laws.proofs.Each.{each}
+use Rattle.call_path_laws.proofs.Opened.{whole_has}
 
 -- ---- the run is allowed
 
@@ -342,4 +324,4 @@ joins_hold = record {
 }
 
 pub run_is_right : RunLaw
-run_is_right = record { addressed = λ line e. absurd (true≢false e); may = may_all; forwards = forward_all; calls = calls_hold; joins = joins_hold; pairs = refl; records = refl }
+run_is_right = record { addressed = λ line e. absurd (true≢false e); may = may_all; forwards = forward_all; calls = calls_hold; joins = joins_hold; open_records = whole_has; pairs = refl; records = refl }

@@ -6,6 +6,7 @@ use Rattle.call_records.specs.Book.{slot_at}
 use Rattle.call_records.specs.Register.{LinePlan, book_at}
 use Rattle.book_laws.specs.Headline.{IsPaired}
 use Rattle.register_laws.specs.Seen.{renumbered}
+use Rattle.register_laws.specs.Promise.{HasRecords}
 use Rattle.call_path_laws.specs.World.{World, Plan, Event, after_event, after_all, MayHappen, MayAll, made_world}
 use Rattle.call_path_laws.specs.World.{AreBetween, AreAddressed}
 use Rattle.call_path_laws.specs.Seen.{numbers, Seen}
@@ -47,6 +48,10 @@ abbrev pub OwnedLaw : Type 0
 OwnedLaw = (plan : Plan) (w : World) (n : ℕ) (r : RecordValue) → Seen plan w
     → slice_get w.register.records n ≡ Some r
     → (m : ℕ) × (slice_get (numbers plan w.origins) n ≡ Some m) × (slice_get w.whole.records m ≡ Some (renumbered m r))
+
+-- where the whole register has open records where one is present and there alone, so has the register
+abbrev pub RecordsLaw : Type 0
+RecordsLaw = (plan : Plan) (w : World) → Seen plan w → HasRecords w.whole → HasRecords w.register
 
 -- at a user's end, a channel has a present record exactly where it has one in the whole register, and one that came in
 -- has one of the end that placed the call; where these two are a pair there, they are so in the register

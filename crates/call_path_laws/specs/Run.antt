@@ -12,6 +12,7 @@ use Rattle.call_records.specs.Records.{RecordValue, new_record}
 use Rattle.call_records.specs.Book.{packet_of}
 use Rattle.call_records.specs.Writes.Write.{Told, Placed, Asked, Cleared}
 use Rattle.call_records.specs.Register.{LinePlan}
+use Rattle.register_laws.specs.Promise.{HasRecords}
 use Rattle.call_path_laws.specs.World.{World, Plan, Event, after_all, made_world, MayAll, AreAddressed}
 use Rattle.call_path_laws.specs.World.Event.{Writes, SwitchWrites, Joins}
 use Rattle.call_path_laws.specs.Promise.{CallsHold, JoinsHold}
@@ -104,14 +105,15 @@ world = after_all events (made_world lines)
 abbrev pub ended : (number node : ℕ) → (own far : Option (List ℕ)) → RecordValue
 ended number node own far = record (new_record number node own far) { closed = true }
 
--- the run is allowed, its lines and its joins hold, and the register has two calls, in the first of which the message
--- was sent, taken and covered
+-- the run is allowed, its lines and its joins hold, open records are those that are present, and the register has two
+-- calls, in the first of which the message was sent, taken and covered
 pub record RunLaw : Type 0 where
   pub addressed : AreAddressed plan
   pub may : MayAll plan events (made_world lines)
   pub forwards : AllForward plan events (made_world lines)
   pub calls : CallsHold world
   pub joins : JoinsHold plan world
+  pub open_records : HasRecords world.whole
   pub pairs : world.register.pairs ≡ record { caller = 0; callee = 1 } ∷ record { caller = 2; callee = 3 } ∷ []
   pub records : world.register.records
       ≡ record (ended 0 1 None (Some (2 ∷ 0 ∷ []))) {

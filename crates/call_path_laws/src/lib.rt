@@ -3,7 +3,7 @@
 
 ghost use Rattle.call_path_laws.specs.Forwards.{MadeForwardLaw, ForwardLaw, RelayedLaw};
 ghost use Rattle.call_path_laws.specs.Law.{MadeLaw, EventLaw, PromiseLaw, PathLaw, WithoutSwitchLaw};
-ghost use Rattle.call_path_laws.specs.Law.{OwnedLaw, PresentLaw, CameLaw, PairedLaw};
+ghost use Rattle.call_path_laws.specs.Law.{OwnedLaw, RecordsLaw, PresentLaw, CameLaw, PairedLaw};
 ghost use Rattle.call_path_laws.specs.Lines.{MadeLinesLaw, TraceLaw, LinesLaw, WrittenLaw, BookCallsLaw};
 ghost use Rattle.call_path_laws.specs.Run.{RunLaw};
 
@@ -17,9 +17,10 @@ pub fn path_law()
     ensures path { PathLaw }
     ensures without { WithoutSwitchLaw }
 
-    // The register's records are among those of the whole one; a channel at a user's end has in both what is known of
-    // its call.
+    // The register's records are among those of the whole one, and open where they are present; a channel at a user's
+    // end has in both what is known of its call.
     ensures owned { OwnedLaw }
+    ensures records { RecordsLaw }
     ensures present { PresentLaw }
     ensures came { CameLaw }
     ensures paired { PairedLaw }

@@ -3,6 +3,7 @@ use Rattle.call_path_laws.proofs.Happening.{happens}
 use Rattle.call_path_laws.proofs.Promising.{promised}
 use Rattle.call_path_laws.proofs.Beginning.{paths_hold, without_switch}
 use Rattle.call_path_laws.proofs.Showing.{owned, present_shown, came_shown, paired_shown}
+use Rattle.call_path_laws.proofs.Having.{records_shown}
 use Rattle.call_path_laws.proofs.path_law.Goals as goal
 
 pub returns : goal.returns
@@ -13,6 +14,7 @@ returns c = record {
   path = paths_hold;
   without = without_switch;
   owned = owned;
+  records = records_shown;
   present = present_shown;
   came = came_shown;
   paired = paired_shown;
