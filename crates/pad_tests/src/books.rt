@@ -145,7 +145,7 @@ fn what_a_terminal_types_is_written(rt: HostRuntime) -> Result<(), Fail> {
     };
     assert!(rt; pad.steps.len() == 3);
     match pad.sent.packets.as_slice() {
-        [packet] => assert!(rt; packet.octets() == b"HI\r"),
+        [packet] => assert!(rt; packet.octets() == b"HI\r".as_slice()),
         _ => assert!(rt; false, "the block was sent"),
     }
     Ok(())
