@@ -1,6 +1,7 @@
 //! The words of a line of a script.
-ghost use Rattle.std.specs.Prelude.{◌≡◌, ◌<◌, ◌≤◌, ◌==◌, IfOk, MatchOption, length, position};
+ghost use Rattle.std.specs.Prelude.{◌≡◌, ◌<◌, ◌≤◌, ◌==◌, [], ◌∷◌, IfOk, IfErr, MatchOption, length, position};
 ghost use Rattle.net_files.specs.Digits.{hex_value};
+ghost use Rattle.net_files.specs.Texts.{TextForm, OctetForm};
 ghost use Rattle.std.specs.Option.{option_map};
 ghost use Rattle.net_files.specs.Cuts.{before, behind, length_left};
 
@@ -147,26 +148,43 @@ fn read_number(word: &[u8]) -> Option<u16> {
 }
 
 /// Reads a text: `\XX` is the octet of two hexadecimal digits, `\\` a backslash, and any other octet stands for itself.
-pub(crate) fn read_text(alloc: Global, text: &[u8]) -> Result<Vec<u8>, LineFault> {
+pub(crate) fn read_text(alloc: Global, text: &[u8]) -> Result<Vec<u8>, LineFault>
+    ensures spelled { IfOk result (λ octets. TextForm text.now octets.items) }
+{
     let mut octets = Vec::new(alloc);
     let mut rest = text;
-    loop {
-        rest = match rest {
-            [] => return Ok(octets),
-            [b'\\', b'\\', others @ ..] => {
-                octets.push(b'\\')?;
-                others
-            }
-            [b'\\', high, low, others @ ..] => {
-                octets.push(hex_value(*high)? * 16 + hex_value(*low)?)?;
-                others
-            }
-            [b'\\', ..] => return Err(LineFault::NotACommand),
-            [octet, others @ ..] => {
-                octets.push(*octet)?;
-                others
-            }
-        };
+    while !rest.is_empty() {
+        let (octet, others) = read_octet(rest)?;
+        octets.push(octet)?;
+        rest = others;
+    }
+    Ok(octets)
+}
+
+/// Reads the octet that a text begins with, and gives what stands behind it.
+fn read_octet(text: &[u8]) -> Result<(u8, &[u8]), LineFault>
+    ensures spelled { IfOk result (λ read. OctetForm text.entry.now read.0 read.1.now) }
+{
+    let (first, rest) = first_octet(text)?;
+    if first != b'\\' {
+        return Ok((first, rest));
+    }
+    let (high, rest) = first_octet(rest)?;
+    if high == b'\\' {
+        return Ok((b'\\', rest));
+    }
+    let (low, rest) = first_octet(rest)?;
+    Ok((hex_value(high)? * 16 + hex_value(low)?, rest))
+}
+
+/// The first octet, and those behind it.
+fn first_octet(octets: &[u8]) -> Result<(u8, &[u8]), LineFault>
+    ensures first { IfOk result (λ parts. octets.entry.now ≡ parts.0 ∷ parts.1.now) }
+    ensures none { IfErr result (λ fault. octets.entry.now ≡ []) }
+{
+    match octets.split_first() {
+        Some((first, rest)) => Ok((*first, rest)),
+        None => Err(LineFault::NotACommand),
     }
 }
 
