@@ -31,3 +31,4 @@ pub mod Calling
 pub mod Arriving
 pub mod Joining
 pub mod Keeping
+pub mod Alone

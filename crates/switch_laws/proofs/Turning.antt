@@ -22,9 +22,9 @@ use Rattle.packet_laws.specs.Readable.{Every}
 use Rattle.packet_laws.proofs.Call.Saying.{by_cond}
 use Rattle.packet_end.specs.PacketEnd.{PacketEnd, received, heeded, after_packet, after_timer, expired, runs_at, relinked}
 use Rattle.address_routes.specs.Routes.{RouteMap}
-use Rattle.x25_switch.specs.declared.place.Place.{Place}
-use Rattle.x25_switch.specs.Lines.{SwitchLine, changed, joined_at}
-use Rattle.x25_switch.specs.Switch.{heed_all, with_end, notes_of, without_notes, notes_heeded, quieted, acted}
+use Rattle.switch_lines.specs.declared.place.Place.{Place}
+use Rattle.switch_lines.specs.Lines.{SwitchLine, changed, joined_at}
+use Rattle.switch_lines.specs.Switch.{heed_all, with_end, notes_of, without_notes, notes_heeded, quieted, acted}
 use Rattle.switch_laws.specs.Leg.{Leg}
 use Rattle.switch_laws.specs.World.{World, layers_of, Act, MayHappen, IsReadAs, after_act, after_acts, world_after, world_after_all, layer_after, leg_after, line_of, came_in}
 use Rattle.switch_laws.specs.World.Act.{Comes, Expires, GoesUp, GoesDown, Reads}

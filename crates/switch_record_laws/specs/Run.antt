@@ -12,7 +12,7 @@ use Rattle.lapb.specs.Machine.{Octets}
 use Rattle.link_timers.specs.declared.role.Role.TheVariants.{Dte}
 use Rattle.call_records.specs.Records.{RecordValue}
 use Rattle.call_records.specs.Book.{made_book}
-use Rattle.x25_switch.specs.declared.place.Place.{Place}
+use Rattle.switch_lines.specs.declared.place.Place.{Place}
 use Rattle.switch_laws.specs.World.{Act, MayHappen, layers_of}
 use Rattle.switch_laws.specs.World.Act.{Asks, Comes, GoesUp, Calls, Gives}
 use Rattle.switch_laws.specs.Turn.{AreOctets}
