@@ -5,7 +5,6 @@ use Rattle.std.specs.List.{list_any}
 use Rattle.std.proofs.lemmas.Bool.{eqb-true}
 use Rattle.std.proofs.lemmas.Option.{none-some}
 use Rattle.link_timers.specs.declared.timers.TimerId.{TimerId}
-use Rattle.line_end.specs.End.{End}
 use Rattle.packet_end.specs.PacketEnd.{PacketEnd, received, after_timer, settled}
 use Rattle.switch_lines.specs.declared.place.Place.{Place}
 use Rattle.switch_lines.specs.declared.place.Joined.{Joined}
@@ -20,7 +19,7 @@ use Rattle.switch_laws.specs.Joined.{IsSwitch, HasRelayedAll, has_place_on}
 use Rattle.switch_laws.specs.Concern.{is_one_of, joined_to, is_concerned, HasRelayedBut, before_relay, ConcernLaw}
 use Rattle.switch_laws.proofs.Lists.{decided, place_is}
 use Rattle.switch_laws.proofs.Places.{joined_place}
-use Rattle.switch_laws.proofs.Rounds.{from_lines, offers_all, offers_line}
+use Rattle.switch_laws.proofs.Rounds.{from_lines, offers_all}
 use Rattle.switch_laws.proofs.Relaying.{StuckAt, Among, relays_from, among_here, among_left, among_right, among_nth}
 use Rattle.switch_laws.proofs.Relaying.Among.{first, later}
 use Rattle.switch_laws.proofs.Concerning.{stuck_stays, relays, frame, timer, offers, event_but, before_right, offered_but}
@@ -76,11 +75,11 @@ among_legs lines ls w p j i e t = by_line (decided (is_one_of lines p.line))
 -- ---- once they are relayed nothing is left to relay
 
 all_stuck : (lines : List ℕ) (ls : List SwitchLine) (w : World) → IsSwitch ls w → HasRelayedBut lines ls → HasRelayedAll (relayed_alone lines ls)
-all_stuck lines ls w i but p j t e f = (relays_from (legs_of lines ls) ls w i).stuck p (by_join (joined_at ls p) refl) j t e f
+all_stuck lines ls w i but p j u e f = (relays_from (legs_of lines ls) ls w i).stuck p (by_join (joined_at ls p) refl) j u e f
   where
     by_concern : (y : Joined) → joined_at ls p ≡ Some y → (is_concerned lines ls p ≡ true) ⊎ (is_concerned lines ls p ≡ false) → StuckAt ls p ⊎ Among p (legs_of lines ls)
-    by_concern y g (inl yes) = inr (among_legs lines ls w p y i g yes)
-    by_concern y g (inr no) = inl (λ z u h k. but p z u no h k)
+    by_concern y g (inl t) = inr (among_legs lines ls w p y i g t)
+    by_concern y g (inr away) = inl (λ z u h k. but p z u away h k)
 
     by_join : (o : Option Joined) → joined_at ls p ≡ o → StuckAt ls p ⊎ Among p (legs_of lines ls)
     by_join None g = inl (λ z u h k. absurd (none-some z (sym g ∙ h)))

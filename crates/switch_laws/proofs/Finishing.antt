@@ -15,7 +15,7 @@ use Rattle.address_routes.specs.Routes.{RouteMap}
 use Rattle.switch_lines.specs.declared.place.Place.{Place}
 use Rattle.switch_lines.specs.declared.place.Joined.{Joined}
 use Rattle.switch_lines.specs.Lines.{SwitchLine, changed, flat, nth_joined, joined_on, front_of_line, refusal_of_line}
-use Rattle.switch_lines.specs.Relay.{places_first, relayed_first}
+use Rattle.switch_lines.specs.Relay.{relayed_first}
 use Rattle.switch_lines.specs.Switch.{Switch, with_end, acted, to_relink, relinked_at, all_relinked, relinks_of, all_offered_on, may_offer, offering_from, offered_from, lines_first, rounds, finished, all_begun, on_frame, on_timer, restart, without_joins}
 use Rattle.switch_laws.specs.Leg.{Leg, gave}
 use Rattle.switch_laws.specs.Join.{Join, gives}

@@ -19,7 +19,7 @@ use Rattle.switch_lines.specs.Direction.{Direction, new_direction, releasable, r
 use Rattle.switch_lines.specs.Causes.{reset_cause, clear_cause, far_diagnostic}
 use Rattle.switch_lines.specs.declared.place.Place.{Place}
 use Rattle.switch_lines.specs.declared.place.Joined.{Joined}
-use Rattle.switch_lines.specs.Lines.{SwitchLine, changed, flat, nth_joined, joined_on, joined_at, with_nth_joined, with_joined, ask, front_at, refusal_at, places}
+use Rattle.switch_lines.specs.Lines.{SwitchLine, changed, flat, nth_joined, joined_on, joined_at, with_nth_joined, with_joined, ask, front_at, refusal_at}
 use Rattle.switch_lines.specs.Relay.{with_kept, freed, moved, moved_unless, moved_front, moved_joined, relayed, relayed_from, places_first, relayed_first, kept_anew, covered_on, told_joined, told_of}
 use Rattle.switch_lines.specs.Switch.{Switch, Answer, answer, answered, forwarded, place_call, heed, heed_all, with_end, notes_of, without_notes, quieted, acted, to_relink, relinked_at, all_relinked, may_offer, offering_from, offered_from, rounds, lines_first, finished, all_begun, on_frame, on_timer}
 use Rattle.switch_lines.specs.Switch.Answer.{Clears, Joins}

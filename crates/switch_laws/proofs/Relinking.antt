@@ -20,7 +20,7 @@ use Rattle.switch_lines.specs.Direction.{Direction, releasable, carried_by, requ
 use Rattle.switch_lines.specs.Causes.{reset_cause, clear_cause, far_diagnostic}
 use Rattle.switch_lines.specs.declared.place.Place.{Place}
 use Rattle.switch_lines.specs.declared.place.Joined.{Joined}
-use Rattle.switch_lines.specs.Lines.{SwitchLine, changed, joined_at, with_joined, ask, front_at, refusal_at, places}
+use Rattle.switch_lines.specs.Lines.{SwitchLine, changed, joined_at, with_joined, ask, front_at, refusal_at}
 use Rattle.switch_lines.specs.Relay.{freed, kept_anew, covered_on, told_joined, told_of, moved, moved_unless, moved_front, moved_joined, relayed, relayed_from, places_first, relayed_first}
 use Rattle.switch_lines.specs.Switch.{Answer, answer, answered, forwarded, place_call, heed, heed_all, with_end, notes_of, without_notes, quieted, acted, raised, to_relink, relinked_at, all_relinked, may_offer, offering_from, offered_from, rounds, all_offered_on, lines_first, finished}
 use Rattle.switch_lines.specs.Switch.Answer.{Clears, Joins}

@@ -14,7 +14,7 @@ use Rattle.packet_end.proofs.Offering.{takes_none, longer, one_offered}
 use Rattle.switch_lines.specs.Direction.{releasable, carried_by, request_for}
 use Rattle.switch_lines.specs.declared.place.Place.{Place}
 use Rattle.switch_lines.specs.declared.place.Joined.{Joined}
-use Rattle.switch_lines.specs.Lines.{SwitchLine, changed, joined_at, with_joined, ask, front_at, refusal_at, places}
+use Rattle.switch_lines.specs.Lines.{SwitchLine, changed, joined_at, with_joined, ask, front_at, refusal_at}
 use Rattle.switch_lines.specs.Relay.{moved, moved_unless, moved_front, moved_joined, relayed, relayed_from, places_first, relayed_first}
 use Rattle.switch_lines.specs.Switch.{with_end, may_offer, offering_from, offered_from, rounds}
 use Rattle.switch_laws.proofs.Lists.{map_unchanged, and_both, decided}

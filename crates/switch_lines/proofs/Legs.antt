@@ -1,12 +1,12 @@
 -- The relay on the joins of some lines, one channel after the other: what is joined to what stays as it is.
-use Rattle.std.proofs.Common.{◌≡◌, ℕ, zero, suc, ◌+◌, ◌-◌, ◌<◌, ◌≤◌, ◌⊎◌, inl, inr, Bool, true, false, List, [], ◌∷◌, ◌++◌, length, drop, get_or, refl, sym, ap, ap₂, ◌∙◌, arith, option_map, Option, Some, None}
+use Rattle.std.proofs.Common.{◌≡◌, ℕ, zero, suc, ◌+◌, ◌-◌, ◌<◌, ◌≤◌, ◌⊎◌, inl, inr, true, false, List, [], ◌∷◌, ◌++◌, length, drop, get_or, refl, sym, ap, ap₂, ◌∙◌, arith, option_map, Option, Some, None}
 use Rattle.std.specs.Prelude.{slice_get}
 use Rattle.std.proofs.lemmas.Option.{none-some, same_Some}
 use Rattle.packet_layer.specs.Traffic.{Taken}
-use Rattle.packet_layer.specs.Channel.{Refusal, Request}
+use Rattle.packet_layer.specs.Channel.{Refusal}
 use Rattle.packet_layer.specs.Channel.Request.{Taking, Releasing}
 use Rattle.switch_lines.specs.Direction.{released, releasable, carried_by, request_for}
-use Rattle.switch_lines.specs.Lines.{Place, Joined, SwitchLine, same_place, joined_at, with_joined, ask, front_at, refusal_at, places_on}
+use Rattle.switch_lines.specs.Lines.{Place, Joined, SwitchLine, same_place, joined_at, with_joined, ask, front_at, refusal_at}
 use Rattle.switch_lines.specs.Relay.{moved, moved_joined, moved_front, moved_unless, relayed, relayed_from, places_of, both_legs, legs_at, legs_of}
 use Rattle.switch_lines.specs.OfLine.{places_by}
 use Rattle.switch_lines.proofs.Places.{decided, place_is, joined_asked, joined_here, joined_apart}

@@ -1,4 +1,4 @@
-use Rattle.std.proofs.Common.{◌≡◌, ◌-◌, ◌+◌, ◌*◌, ◌≤◌, ap, ap₂, sym, ◌∙◌, arith, length, List, ℕ}
+use Rattle.std.proofs.Common.{◌≡◌, ◌-◌, ◌+◌, ◌*◌, ap, ap₂, sym, ◌∙◌, arith, length, List, ℕ}
 use Rattle.switch_lines.specs.Lines.{SwitchLine}
 use Rattle.switch_lines.specs.Switch.{offering_from}
 use Rattle.switch_lines.specs.Alone.{relayed_alone, offered_alone}

@@ -1,4 +1,4 @@
-use Rattle.std.proofs.Common.{◌-◌, ◌+◌, ◌<◌, ap, ◌∙◌, arith, length, List}
+use Rattle.std.proofs.Common.{◌-◌, ◌+◌, ap, ◌∙◌, arith, length, List}
 use Rattle.switch_lines.specs.Lines.{SwitchLine}
 use Rattle.switch_lines.specs.Relay.{relayed_from, legs_at}
 use Rattle.switch_lines.proofs.Rounds.{places_by}

@@ -1,5 +1,5 @@
 -- What is left of the channels makes the same lines as all of them did at the beginning.
-use Rattle.std.proofs.Common.{◌≡◌, ◌-◌, ◌+◌, ◌≤◌}
+use Rattle.std.proofs.Common.{◌≡◌, ◌-◌, ◌+◌}
 use Rattle.std.specs.Prelude.{slice_get}
 use Rattle.switch_lines.specs.Relay.{relayed_from, legs_at, places_of}
 use Rattle.switch_lines.proofs.Rounds.{places_by}

@@ -1,8 +1,8 @@
-use Rattle.std.proofs.Common.{◌≡◌, ◌-◌, ◌+◌, ◌≤◌, ◌++◌, ◌∷◌, [], ◌∙◌, ap, sym, subst, arith, length, List, ℕ}
+use Rattle.std.proofs.Common.{◌≡◌, ◌-◌, ◌+◌, ◌++◌, ◌∷◌, [], ◌∙◌, ap, sym, subst, arith, length, List, ℕ}
 use Rattle.packet_end.specs.PacketEnd.{relinked}
 use Rattle.switch_lines.specs.Lines.{SwitchLine}
 use Rattle.switch_lines.specs.OfLine.{AreRead}
-use Rattle.switch_lines.specs.Switch.{all_relinked, relinks_of, to_relink, acted}
+use Rattle.switch_lines.specs.Switch.{all_relinked, relinks_of, to_relink}
 use Rattle.switch_lines.proofs.Heeding.{acted_read}
 use Rattle.switch_lines.proofs.Ending.{first_to_relink, relinks_no_more, relinks_one, first_there, listed_one, listed_no_more, listed_all}
 use Rattle.switch_lines.proofs.lines.Lines.relink_all.Goals as goal
