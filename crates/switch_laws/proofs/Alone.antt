@@ -31,7 +31,7 @@ legs_both : (ps : List Place) (ls : List SwitchLine) (q : Place) (k : Joined) �
 legs_both (x ∷ xs) ls q k e (first same) =
     let there : joined_at ls x ≡ Some k = ap (λ (p : Place). joined_at ls p) (sym (place_is q x same)) ∙ e in (
       subst (λ (o : Option Joined). Among q (both_legs o x ++ legs_at xs ls)) (sym there) (first same),
-      subst (λ (o : Option Joined). Among k.other (both_legs o x ++ legs_at xs ls)) (sym there) (later (among_here k.other k.other (legs_at xs ls) refl))
+      subst (λ (o : Option Joined). Among k.other (both_legs o x ++ legs_at xs ls)) (sym there) (later (among_here k.other k.other (legs_at xs ls) refl)),
     )
 legs_both (x ∷ xs) ls q k e (later h) =
     let more = legs_both xs ls q k e h in

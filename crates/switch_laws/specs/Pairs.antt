@@ -12,7 +12,8 @@ use Rattle.address_routes.specs.Routes.{RouteMap, line_for}
 use Rattle.switch_lines.specs.declared.place.Place.{Place}
 use Rattle.switch_lines.specs.declared.place.Joined.{Joined}
 use Rattle.switch_lines.specs.Lines.{SwitchLine, changed, joined_at}
-use Rattle.switch_lines.specs.Switch.{Switch, answer, has_any, on_frame, on_timer, all_begun, with_end, quieted, notes_of}
+use Rattle.switch_lines.specs.Switch.{Switch, answer, has_any, on_frame, on_timer, all_begun, with_end, quieted}
+use Rattle.switch_lines.specs.Switch.{notes_of}
 use Rattle.switch_lines.specs.Switch.Answer.{Clears, Joins}
 use Rattle.switch_laws.specs.World.{World}
 use Rattle.switch_laws.specs.Joined.{IsSwitch}

@@ -8,8 +8,8 @@ use Rattle.packet_layer.specs.Channel.Request.{Accept, Clearing, Resetting, Taki
 use Rattle.switch_lines.specs.Direction.{Direction, new_direction, releasable, released, covered_by, carried_by}
 use Rattle.switch_lines.specs.Direction.{request_for}
 use Rattle.switch_lines.specs.Causes.{reset_cause, clear_cause, far_diagnostic}
-use Rattle.switch_lines.specs.Lines.{Place, Joined, SwitchLine, joined_at, with_joined, places, places_on, ask, front_at}
-use Rattle.switch_lines.specs.Lines.{refusal_at}
+use Rattle.switch_lines.specs.Lines.{Place, Joined, SwitchLine, joined_at, with_joined, places, places_on, ask}
+use Rattle.switch_lines.specs.Lines.{front_at, refusal_at}
 
 -- the joined channel p with this direction to the other leg
 abbrev pub with_kept : Place → Joined → Direction → List SwitchLine → List SwitchLine

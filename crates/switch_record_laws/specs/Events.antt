@@ -18,7 +18,8 @@ use Rattle.switch_lines.specs.declared.place.Joined.{Joined}
 use Rattle.switch_lines.specs.Lines.{SwitchLine, changed, joined_at, front_at, refusal_at}
 use Rattle.switch_lines.specs.Relay.{moved, relayed, places_first, relayed_first}
 use Rattle.switch_lines.specs.Switch.{Answer, answer, forwarded, heed, notes_of, with_end, quieted, acted, to_relink}
-use Rattle.switch_lines.specs.Switch.{relinked_at, all_relinked, may_offer, offering_from, offered_from, lines_first, all_begun}
+use Rattle.switch_lines.specs.Switch.{relinked_at, all_relinked, may_offer, offering_from, offered_from}
+use Rattle.switch_lines.specs.Switch.{lines_first, all_begun}
 use Rattle.switch_lines.specs.Switch.Answer.{Clears, Joins}
 use Rattle.switch_record_laws.specs.Steps.{Happening, does, Step, lines_after}
 use Rattle.switch_record_laws.specs.Steps.Happening.{Relinks}
