@@ -8,12 +8,12 @@ use Rattle.packet_layer.specs.Channel.CallState.{Transfer}
 use Rattle.packet_layer.specs.Layer.{Layer}
 use Rattle.packet_laws.specs.Counts.{IsNumbered}
 use Rattle.address_routes.specs.Routes.{RouteMap, line_for}
-use Rattle.x25_switch.specs.Direction.{new_direction}
-use Rattle.x25_switch.specs.declared.place.Place.{Place}
-use Rattle.x25_switch.specs.Lines.{SwitchLine, joined_at}
-use Rattle.x25_switch.specs.Relay.{all_relayed}
-use Rattle.x25_switch.specs.Switch.{Switch, answer, heed_all, on_frame, on_timer, restart, elapse}
-use Rattle.x25_switch.specs.Switch.Answer.{Joins}
+use Rattle.switch_lines.specs.Direction.{new_direction}
+use Rattle.switch_lines.specs.declared.place.Place.{Place}
+use Rattle.switch_lines.specs.Lines.{SwitchLine, joined_at}
+use Rattle.switch_lines.specs.Relay.{all_relayed}
+use Rattle.switch_lines.specs.Switch.{Switch, answer, heed_all, on_frame, on_timer, restart, elapse}
+use Rattle.switch_lines.specs.Switch.Answer.{Joins}
 use Rattle.switch_laws.specs.Leg.{connected}
 use Rattle.switch_laws.specs.Way.{Way, Holds, IsRight, IsStuck, freed, moved, relayed}
 use Rattle.switch_laws.specs.Join.{Join, IsJoin, IsAtRest, relayed_both, hears, mishears, gives}
