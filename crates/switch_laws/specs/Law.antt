@@ -72,9 +72,9 @@ pub record SwitchLaw : Type 0 where
   pub routes : (routes : RouteMap) (ls : List SwitchLine) (parts : CallParts) (q : Place)
       → answer routes ls parts ≡ Joins q → line_for routes parts.called ≡ Some q.line
 
--- whole events: after each of them, by the acts that it is, all joins hold, and nothing is kept back, on legs, in packet
--- layers and at links with a k of at most 7; each channel that has a call is joined; a join of two other lines stays,
--- but for the joins of a line whose link is set up anew in the event; a restart leaves no call
+-- whole events: after each of them, by the acts that it is, all joins hold, and nothing is kept back, on legs, in
+-- packet layers and at links with a k of at most 7; each channel that has a call is joined; a join of two other lines
+-- stays, but for the joins of a line whose link is set up anew in the event; a restart leaves no call
 pub record TurnLaw : Type 0 where
   pub frame : (n : ℕ) (octets : List ℕ) (s : Switch) (w : World) → AreOctets octets → IsSwitch s.lines w
       → Becomes (event_acts s.routes n (Brings octets) s.lines) s.lines w (on_frame n octets s).lines
