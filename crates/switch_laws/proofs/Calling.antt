@@ -12,14 +12,14 @@ use Rattle.packet_layer.specs.Channel.CallState.{Ready, OwnWaiting, FarWaiting, 
 use Rattle.packet_layer.specs.Layer.{Layer, channel_of, channel_given, on_found, request, call}
 use Rattle.packet_laws.proofs.Line.Lines.{nth_same}
 use Rattle.address_routes.specs.Routes.{RouteMap, line_for}
-use Rattle.x25_switch.specs.Direction.{Direction, new_direction, releasable, released}
-use Rattle.x25_switch.specs.Causes.{clear_cause, reset_cause, far_diagnostic}
-use Rattle.x25_switch.specs.declared.place.Place.{Place}
-use Rattle.x25_switch.specs.declared.place.Joined.{Joined}
-use Rattle.x25_switch.specs.Lines.{SwitchLine, same_place, changed, joined_at, with_joined, ask}
-use Rattle.x25_switch.specs.Relay.{freed, kept_anew, covered_on, told_joined, told_of}
-use Rattle.x25_switch.specs.Switch.{Answer, answer, answered, forwarded, place_call, has_any, heed, heed_all}
-use Rattle.x25_switch.specs.Switch.Answer.{Clears, Joins}
+use Rattle.switch_lines.specs.Direction.{Direction, new_direction, releasable, released}
+use Rattle.switch_lines.specs.Causes.{clear_cause, reset_cause, far_diagnostic}
+use Rattle.switch_lines.specs.declared.place.Place.{Place}
+use Rattle.switch_lines.specs.declared.place.Joined.{Joined}
+use Rattle.switch_lines.specs.Lines.{SwitchLine, same_place, changed, joined_at, with_joined, ask}
+use Rattle.switch_lines.specs.Relay.{freed, kept_anew, covered_on, told_joined, told_of}
+use Rattle.switch_lines.specs.Switch.{Answer, answer, answered, forwarded, place_call, has_any, heed, heed_all}
+use Rattle.switch_lines.specs.Switch.Answer.{Clears, Joins}
 use Rattle.switch_laws.specs.World.{Shown, shown_as, shown_on, shown_at, layers_of}
 use Rattle.switch_laws.specs.World.Act.{Asks, Calls}
 use Rattle.switch_laws.specs.Joined.{has_place}

@@ -12,12 +12,12 @@ use Rattle.packet_layer.specs.Channel.Request.{Accept}
 use Rattle.packet_laws.specs.History.{Epoch, empty_epoch}
 use Rattle.packet_laws.specs.Readable.{Every}
 use Rattle.address_routes.specs.Routes.{RouteMap}
-use Rattle.x25_switch.specs.Direction.{new_direction, Direction}
-use Rattle.x25_switch.specs.declared.place.Place.{Place}
-use Rattle.x25_switch.specs.declared.place.Joined.{Joined}
-use Rattle.x25_switch.specs.Lines.{SwitchLine, same_place, joined_at, ask}
-use Rattle.x25_switch.specs.Relay.{told, told_of}
-use Rattle.x25_switch.specs.Switch.{heed, heed_all}
+use Rattle.switch_lines.specs.Direction.{new_direction, Direction}
+use Rattle.switch_lines.specs.declared.place.Place.{Place}
+use Rattle.switch_lines.specs.declared.place.Joined.{Joined}
+use Rattle.switch_lines.specs.Lines.{SwitchLine, same_place, joined_at, ask}
+use Rattle.switch_lines.specs.Relay.{told, told_of}
+use Rattle.switch_lines.specs.Switch.{heed, heed_all}
 use Rattle.switch_laws.specs.Leg.{Leg, IsLeg, asked, asked_unless, stepped}
 use Rattle.switch_laws.specs.Clause.{Passed, IsDirection, taken_part, sent_part}
 use Rattle.switch_laws.specs.Way.{IsRight}

@@ -11,12 +11,12 @@ use Rattle.packet_layer.specs.Layer.{Layer, channel_of, next_packet, refusal_at 
 use Rattle.packet_end.specs.PacketEnd.{PacketEnd, begun, received, after_timer, relinked}
 use Rattle.packet_end.proofs.Offering.{no_room, no_packet}
 use Rattle.address_routes.specs.Routes.{RouteMap}
-use Rattle.x25_switch.specs.Direction.{request_for}
-use Rattle.x25_switch.specs.declared.place.Place.{Place}
-use Rattle.x25_switch.specs.declared.place.Joined.{Joined}
-use Rattle.x25_switch.specs.Lines.{SwitchLine, same_place, joined_on, joined_at, front_at, front_of_line, refusal_at, refusal_of_line, places}
-use Rattle.x25_switch.specs.Relay.{moved_joined, moved_front, moved_unless, relayed, relayed_from, all_relayed}
-use Rattle.x25_switch.specs.Switch.{Switch, acted, all_begun, may_offer, offered_from, to_relink, relinked_at, all_relinked, relinks_of}
+use Rattle.switch_lines.specs.Direction.{request_for}
+use Rattle.switch_lines.specs.declared.place.Place.{Place}
+use Rattle.switch_lines.specs.declared.place.Joined.{Joined}
+use Rattle.switch_lines.specs.Lines.{SwitchLine, same_place, joined_on, joined_at, front_at, front_of_line, refusal_at, refusal_of_line, places}
+use Rattle.switch_lines.specs.Relay.{moved_joined, moved_front, moved_unless, relayed, relayed_from, all_relayed}
+use Rattle.switch_lines.specs.Switch.{Switch, acted, all_begun, may_offer, offering_from, offered_from, to_relink, relinked_at, all_relinked, relinks_of}
 use Rattle.switch_laws.specs.Turn.{AreOctets}
 use Rattle.switch_laws.specs.Steps.{acts_of_all}
 use Rattle.switch_laws.specs.Steps.Happening.{Relinks}
@@ -25,7 +25,7 @@ use Rattle.switch_laws.specs.World.{World, Shown, shown_as, shown_on, shown_at, 
 use Rattle.switch_laws.specs.Joined.{IsSwitch, Becomes, HasRelayedAll}
 use Rattle.switch_laws.specs.Stays.{IsNone}
 use Rattle.switch_laws.specs.Pairs.{WasJoined, IsNewJoin}
-use Rattle.switch_laws.specs.Concern.{offering_from, is_one_of, joined_to, is_concerned, concerned, relayed_on, HasRelayedBut, lines_of_event, before_relay, RelaysItsOwn, ConcernLaw}
+use Rattle.switch_laws.specs.Concern.{is_one_of, joined_to, is_concerned, concerned, relayed_on, HasRelayedBut, lines_of_event, before_relay, RelaysItsOwn}
 use Rattle.switch_laws.proofs.Lists.{decided, place_is, not_equal, get_map}
 use Rattle.switch_laws.proofs.Rounds.{offers_line, in_turn}
 use Rattle.switch_laws.proofs.Relaying.{StuckAt, VisitedBy, visited, relayed_same}
@@ -49,7 +49,7 @@ joined_stuck : (o : Option Joined) (x : Place) (ls : List SwitchLine) → joined
 joined_stuck None x ls e s = refl
 joined_stuck (Some j) x ls e s = front_stuck (front_at ls x) x j ls refl e s
 
-stuck_stays : (x : Place) (ls : List SwitchLine) → StuckAt ls x → relayed 8 x ls ≡ ls
+pub stuck_stays : (x : Place) (ls : List SwitchLine) → StuckAt ls x → relayed 8 x ls ≡ ls
 stuck_stays x ls s = relayed_same 8 x ls (joined_stuck (joined_at ls x) x ls refl s)
 
 passes_over : (lines : List ℕ) (first : List SwitchLine) (ps : List Place) (ls : List SwitchLine) (w : World) → IsSwitch ls w → ((p : Place) → is_concerned lines first p ≡ false → StuckAt ls p)
@@ -74,7 +74,7 @@ passes_over lines first (x ∷ ps) ls w i stuck = by_concern (decided (is_concer
         ap (λ (ms : List SwitchLine). relayed_from ps ms) (stuck_stays x ls (stuck x f)) ∙ more ls w i stuck
         ∙ ap (λ (b : Bool). relayed_from (if b then x ∷ concerned lines first ps else concerned lines first ps) ls) (sym f)
 
-relays : (lines : List ℕ) (ls : List SwitchLine) (w : World) → IsSwitch ls w → HasRelayedBut lines ls → all_relayed ls ≡ relayed_on lines ls
+pub relays : (lines : List ℕ) (ls : List SwitchLine) (w : World) → IsSwitch ls w → HasRelayedBut lines ls → all_relayed ls ≡ relayed_on lines ls
 relays lines ls w i but = passes_over lines ls (places ls) ls w i (λ p f j t e g. but p j t f e g)
 
 -- ---- what waits on a channel, and what it takes, as its line shows it
@@ -163,7 +163,7 @@ was_joined n routes ls p j here there (inr h) = absurd (by_caller j.came_in (ap 
     by_caller true e = here e
     by_caller false e = there e
 
-event_but : (n : ℕ) (f : PacketEnd → PacketEnd) (s : Switch) (w v : World) → IsSwitch (all_begun s.lines) w → IsSwitch (acted s.routes n f (all_begun s.lines)) v → HasRelayedAll s.lines
+pub event_but : (n : ℕ) (f : PacketEnd → PacketEnd) (s : Switch) (w v : World) → IsSwitch (all_begun s.lines) w → IsSwitch (acted s.routes n f (all_begun s.lines)) v → HasRelayedAll s.lines
     → HasRelayedBut (lines_of_event n f s) (before_relay n f s)
 event_but n f s w v i k all p j t away e g =
     let ls = all_begun s.lines in
@@ -191,11 +191,11 @@ event_but n f s w v i k all p j t away e g =
     ∙ (ap (λ (o : Option Refusal). is_some o) (same_refusal s.lines rs old.other (request_for t) shown_q)
     ∙ all p old t was.joined (sym (same_front s.lines rs p shown_p) ∙ g))
 
-before_right : (n : ℕ) (f : PacketEnd → PacketEnd) (s : Switch) (v : World) → IsSwitch (acted s.routes n f (all_begun s.lines)) v
+pub before_right : (n : ℕ) (f : PacketEnd → PacketEnd) (s : Switch) (v : World) → IsSwitch (acted s.routes n f (all_begun s.lines)) v
     → Becomes (acts_of_all (all_relinked_steps (length (acted s.routes n f (all_begun s.lines))) s.routes (acted s.routes n f (all_begun s.lines))) (acted s.routes n f (all_begun s.lines))) (acted s.routes n f (all_begun s.lines)) v (before_relay n f s)
 before_right n f s v k = let ms = acted s.routes n f (all_begun s.lines) in all_relinks (length ms) s.routes ms v k
 
-frame : (n : ℕ) (octets : List ℕ) (s : Switch) (w : World) → AreOctets octets → IsSwitch s.lines w → HasRelayedAll s.lines
+pub frame : (n : ℕ) (octets : List ℕ) (s : Switch) (w : World) → AreOctets octets → IsSwitch s.lines w → HasRelayedAll s.lines
     → RelaysItsOwn n (λ e. received e octets) s
 frame n octets s w are i all =
     let b = begun_right s.lines w i in
@@ -203,7 +203,7 @@ frame n octets s w are i all =
     let r = before_right n (λ e. received e octets) s c.world c.right in
     relays (lines_of_event n (λ e. received e octets) s) (before_relay n (λ e. received e octets) s) r.world r.right (event_but n (λ e. received e octets) s b.world c.world b.right c.right all)
 
-timer : (n : ℕ) (id : TimerId) (s : Switch) (w : World) → IsSwitch s.lines w → HasRelayedAll s.lines
+pub timer : (n : ℕ) (id : TimerId) (s : Switch) (w : World) → IsSwitch s.lines w → HasRelayedAll s.lines
     → RelaysItsOwn n (λ e. after_timer e id) s
 timer n id s w i all =
     let b = begun_right s.lines w i in
@@ -250,7 +250,7 @@ joined_offered [] n c = refl
 joined_offered (l ∷ ls) zero c = refl
 joined_offered (l ∷ ls) (suc n) c = joined_offered ls n c
 
-offered_but : (ls : List SwitchLine) → HasRelayedAll ls → HasRelayedBut (offering_from 0 ls) (map offers_line ls)
+pub offered_but : (ls : List SwitchLine) → HasRelayedAll ls → HasRelayedBut (offering_from 0 ls) (map offers_line ls)
 offered_but ls all p j t away e g =
     let ms = map offers_line ls in
     let lines = offering_from 0 ls in
@@ -260,12 +260,9 @@ offered_but ls all p j t away e g =
     ap (λ (o : Option Refusal). is_some o) (same_refusal ls ms j.other (request_for t) there)
     ∙ all p j t (sym (joined_offered ls p.line p.channel) ∙ e) (sym (same_front ls ms p here) ∙ g)
 
-offers : (ls : List SwitchLine) (w : World) → IsSwitch ls w → HasRelayedAll ls
+pub offers : (ls : List SwitchLine) (w : World) → IsSwitch ls w → HasRelayedAll ls
     → all_relayed (offered_from (length ls) 0 ls) ≡ relayed_on (offering_from 0 ls) (offered_from (length ls) 0 ls)
 offers ls w i all =
     let b = offers_from (length ls) 0 ls w i in
     relays (offering_from 0 ls) (offered_from (length ls) 0 ls) b.world b.right
     (subst (λ (ms : List SwitchLine). HasRelayedBut (offering_from 0 ls) ms) (sym (in_turn ls)) (offered_but ls all))
-
-pub concerns_hold : ConcernLaw
-concerns_hold = record { relays = relays; frame = frame; timer = timer; offers = offers }

@@ -1,7 +1,7 @@
 -- What the switch keeps of a direction stays right when a packet is sent on, covered, released.
 use Rattle.std.proofs.Common.{◌≡◌, ℕ, zero, suc, ◌+◌, ◌-◌, ◌<◌, ◌≤◌, Bool, true, false, if◌then◌else◌, List, [], ◌∷◌, ◌++◌, length, map, take, refl, sym, ap, ap₂, subst, ◌∙◌, append_assoc, length-append, arith, true≢false}
 use Rattle.packet_layer.specs.Packets.{Datum}
-use Rattle.x25_switch.specs.Direction.{Direction, new_direction, one_more, carried, covered_by, releasable, unreleasable, released}
+use Rattle.switch_lines.specs.Direction.{Direction, new_direction, one_more, carried, covered_by, releasable, unreleasable, released}
 use Rattle.switch_laws.specs.Clause.{TakenPart, SentPart, AreCovered, needs, IsDirection}
 
 needs_append : (c i : ℕ) (xs ys : List Datum) → needs c i (xs ++ ys) ≡ needs c i xs ++ needs c (i + length xs) ys

@@ -18,11 +18,11 @@ use Rattle.packet_layer.specs.Layer.Phase.{NoSession, OwnRestart, PacketReady}
 use Rattle.packet_layer.specs.Layer.Timer.{RestartTimer, CallTimer, ResetTimer, ClearTimer}
 use Rattle.packet_laws.specs.History.{Epoch}
 use Rattle.address_routes.specs.Routes.{RouteMap}
-use Rattle.x25_switch.specs.Direction.{Direction}
-use Rattle.x25_switch.specs.declared.place.Place.{Place}
-use Rattle.x25_switch.specs.declared.place.Joined.{Joined}
-use Rattle.x25_switch.specs.Lines.{SwitchLine, same_place, joined_at}
-use Rattle.x25_switch.specs.Switch.{heed}
+use Rattle.switch_lines.specs.Direction.{Direction}
+use Rattle.switch_lines.specs.declared.place.Place.{Place}
+use Rattle.switch_lines.specs.declared.place.Joined.{Joined}
+use Rattle.switch_lines.specs.Lines.{SwitchLine, same_place, joined_at}
+use Rattle.switch_lines.specs.Switch.{heed}
 use Rattle.switch_laws.specs.Leg.{Leg, stepped, heard, misheard, heard_epoch}
 use Rattle.switch_laws.specs.Join.{Join, IsJoin}
 use Rattle.switch_laws.specs.Join as join

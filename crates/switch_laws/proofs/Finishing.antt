@@ -8,15 +8,15 @@ use Rattle.lapb.specs.Machine.{Octets, can_offer}
 use Rattle.lapb.specs.Octets as link_octets
 use Rattle.packet_layer.specs.Packets.{Packet}
 use Rattle.packet_layer.specs.Channel.{Channel, CallState, had_call, Request, Refusal, may_accept, waits_for_call}
-use Rattle.x25_switch.specs.Direction.{request_for}
+use Rattle.switch_lines.specs.Direction.{request_for}
 use Rattle.packet_layer.specs.Layer.{Layer, next_packet, channel_of, unread, link_down}
 use Rattle.packet_end.specs.PacketEnd.{PacketEnd, begun, received, after_timer, relinked, with_next, offered, all_offered, settled, elapsed}
 use Rattle.address_routes.specs.Routes.{RouteMap}
-use Rattle.x25_switch.specs.declared.place.Place.{Place}
-use Rattle.x25_switch.specs.declared.place.Joined.{Joined}
-use Rattle.x25_switch.specs.Lines.{SwitchLine, changed, flat, nth_joined, joined_on, front_of_line, refusal_of_line}
-use Rattle.x25_switch.specs.Relay.{all_relayed}
-use Rattle.x25_switch.specs.Switch.{Switch, with_end, acted, to_relink, relinked_at, all_relinked, relinks_of, all_offered_on, may_offer, offered_from, rounds, finished, all_begun, on_frame, on_timer, restart, without_joins}
+use Rattle.switch_lines.specs.declared.place.Place.{Place}
+use Rattle.switch_lines.specs.declared.place.Joined.{Joined}
+use Rattle.switch_lines.specs.Lines.{SwitchLine, changed, flat, nth_joined, joined_on, front_of_line, refusal_of_line}
+use Rattle.switch_lines.specs.Relay.{relayed_first}
+use Rattle.switch_lines.specs.Switch.{Switch, with_end, acted, to_relink, relinked_at, all_relinked, relinks_of, all_offered_on, may_offer, offering_from, offered_from, lines_first, rounds, finished, all_begun, on_frame, on_timer, restart, without_joins}
 use Rattle.switch_laws.specs.Leg.{Leg, gave}
 use Rattle.switch_laws.specs.Join.{Join, gives}
 use Rattle.switch_laws.specs.World.{World, Shown, Agrees, IsCallLeg, closed, shown_as, shown_on, shown_at, layers_of, world_after, gave_if}
@@ -25,7 +25,7 @@ use Rattle.switch_laws.specs.World.Act.{Gives, GoesDown}
 use Rattle.switch_laws.specs.Steps.{Step, Happening, does, offer_acts, on_line, acts_of, acts_of_all}
 use Rattle.switch_laws.specs.Steps.Happening.{Brings, RunsOut, Relinks}
 use Rattle.switch_laws.specs.Steps.Step.{Settles}
-use Rattle.switch_laws.specs.EventSteps.{all_relayed_steps, acted_steps, relinked_steps, all_relinked_steps, offered_steps, rounds_steps, finished_steps, event_acts}
+use Rattle.switch_laws.specs.EventSteps.{relayed_first_steps, acted_steps, relinked_steps, all_relinked_steps, offered_steps, rounds_steps, finished_steps, event_acts}
 use Rattle.switch_laws.specs.Joined.{WaitsFor, IsPair, IsSwitch, Reached, Becomes, HasRelayedAll, has_nth, has_place_on}
 use Rattle.switch_laws.specs.Joined.IsPair.{connected, waiting}
 use Rattle.packet_laws.specs.Readable.{IfAny}
@@ -33,7 +33,7 @@ use Rattle.switch_laws.specs.Turn.{AreOctets}
 use Rattle.switch_laws.specs.Law.{TurnLaw}
 use Rattle.switch_laws.proofs.Octets.{accepts_octets, reads_numbers}
 use Rattle.switch_laws.proofs.Layers.{all_close}
-use Rattle.x25_switch.specs.Lines.{joined_at}
+use Rattle.switch_lines.specs.Lines.{joined_at}
 use Rattle.switch_laws.specs.Stays.{IsNone, OthersStay, relinked_in}
 use Rattle.switch_laws.proofs.Staying.{acted_stays, stay_rounds}
 use Rattle.switch_laws.specs.Calls.{CallsAreJoined, HasCall}
@@ -45,8 +45,8 @@ use Rattle.switch_laws.proofs.Joins.{gives_right, turned_join}
 use Rattle.switch_laws.proofs.Lists.{decided}
 use Rattle.switch_laws.proofs.Places.{joined_kept, place_after, some_there, line_there, shown_there}
 use Rattle.switch_laws.proofs.Frame.{reached_there, reached_world}
-use Rattle.switch_laws.proofs.Relaying.{all_relayed_right, all_relayed_stuck}
-use Rattle.switch_laws.proofs.Leading.{acts_lead, all_relayed_leads, offered_leads, rounds_leads, relinked_leads, all_relinked_leads, acted_leads}
+use Rattle.switch_laws.proofs.Relaying.{relayed_first_right, relayed_first_stuck}
+use Rattle.switch_laws.proofs.Leading.{acts_lead, relayed_first_leads, offered_leads, rounds_leads, relinked_leads, all_relinked_leads, acted_leads}
 use Rattle.switch_laws.proofs.Coming.{becomes_same, becomes_then, becomes_by}
 use Rattle.switch_laws.proofs.Effects.{steady, leg_on_line, leg_elsewhere}
 use Rattle.switch_laws.proofs.Turning.{changed_at, changed_none, changed_twice, changed_same, got_changed, layer_got, layers_changed, ReadsNumbers, acted_right, relinked_effect, received_effect, timer_effect}
@@ -209,34 +209,39 @@ offers_from (suc count) n ls w i =
 
 -- ---- rounds
 
-abbrev Rounds : ℕ → List SwitchLine → World → Type 0
-Rounds most ls w = Becomes (acts_of_all (rounds_steps most ls) ls) ls w (rounds most ls)
+abbrev Rounds : ℕ → List ℕ → List SwitchLine → World → Type 0
+Rounds most first ls w = Becomes (acts_of_all (rounds_steps most first ls) ls) ls w (rounds most first ls)
 
-rounds_by : (b : Bool) (most : ℕ) (ls : List SwitchLine) (w : World) → IsSwitch ls w → ((ms : List SwitchLine) (v : World) → IsSwitch ms v → Rounds most ms v)
-    → Becomes (acts_of_all (all_relayed_steps ls ++ (if b then offered_steps (length ls) 0 ++ rounds_steps most (offered_from (length ls) 0 (all_relayed ls)) else [])) ls) ls w (if b then rounds most (offered_from (length ls) 0 (all_relayed ls)) else all_relayed ls)
-rounds_by true most ls w i more =
-    let a = all_relayed_right ls w i in
-    let b = offers_from (length ls) 0 (all_relayed ls) a.world a.right in
-    let later : List Step = rounds_steps most (offered_from (length ls) 0 (all_relayed ls)) in
-    becomes_by (all_relayed_steps ls) (offered_steps (length ls) 0 ++ later) ls (all_relayed ls) _ w a.world (all_relayed_leads ls) a.reached
-    (becomes_by (offered_steps (length ls) 0) later (all_relayed ls) _ _ a.world b.world (offered_leads (length ls) 0 (all_relayed ls)) b.reached (more _ b.world b.right))
-rounds_by false most ls w i more = subst (λ (ss : List Step). Becomes (acts_of_all ss ls) ls w (all_relayed ls)) (sym (append-nil (all_relayed_steps ls))) (all_relayed_right ls w i)
+rounds_by : (b : Bool) (most : ℕ) (first next : List ℕ) (ls : List SwitchLine) (w : World) → IsSwitch ls w → ((ms : List SwitchLine) (v : World) → IsSwitch ms v → Rounds most next ms v)
+    → Becomes (acts_of_all (relayed_first_steps first ls ++ (if b then offered_steps (length ls) 0 ++ rounds_steps most next (offered_from (length ls) 0 (relayed_first first ls)) else [])) ls) ls w
+    (if b then rounds most next (offered_from (length ls) 0 (relayed_first first ls)) else relayed_first first ls)
+rounds_by true most first next ls w i more =
+    let a = relayed_first_right first ls w i in
+    let b = offers_from (length ls) 0 (relayed_first first ls) a.world a.right in
+    let later : List Step = rounds_steps most next (offered_from (length ls) 0 (relayed_first first ls)) in
+    becomes_by (relayed_first_steps first ls) (offered_steps (length ls) 0 ++ later) ls (relayed_first first ls) _ w a.world (relayed_first_leads first ls) a.reached
+    (becomes_by (offered_steps (length ls) 0) later (relayed_first first ls) _ _ a.world b.world (offered_leads (length ls) 0 (relayed_first first ls)) b.reached (more _ b.world b.right))
+rounds_by false most first next ls w i more = subst (λ (ss : List Step). Becomes (acts_of_all ss ls) ls w (relayed_first first ls)) (sym (append-nil (relayed_first_steps first ls))) (relayed_first_right first ls w i)
 
-rounds_right : (most : ℕ) (ls : List SwitchLine) (w : World) → IsSwitch ls w → Rounds most ls w
-rounds_right zero ls w i = all_relayed_right ls w i
-rounds_right (suc most) ls w i = rounds_by (list_any may_offer (all_relayed ls)) most ls w i (λ ms v h. rounds_right most ms v h)
+rounds_right : (most : ℕ) (first : List ℕ) (ls : List SwitchLine) (w : World) → IsSwitch ls w → Rounds most first ls w
+rounds_right zero first ls w i = relayed_first_right first ls w i
+rounds_right (suc most) first ls w i =
+    let next = offering_from 0 (relayed_first first ls) in
+    rounds_by (list_any may_offer (relayed_first first ls)) most first next ls w i (λ ms v h. rounds_right most next ms v h)
 
-stuck_by : (b : Bool) (most : ℕ) (ls : List SwitchLine) (w : World) → IsSwitch ls w → ((ms : List SwitchLine) (v : World) → IsSwitch ms v → HasRelayedAll (rounds most ms))
-    → HasRelayedAll (if b then rounds most (offered_from (length ls) 0 (all_relayed ls)) else all_relayed ls)
-stuck_by true most ls w i more =
-    let a = all_relayed_right ls w i in
-    let b = offers_from (length ls) 0 (all_relayed ls) a.world a.right in
+stuck_by : (b : Bool) (most : ℕ) (first next : List ℕ) (ls : List SwitchLine) (w : World) → IsSwitch ls w → ((ms : List SwitchLine) (v : World) → IsSwitch ms v → HasRelayedAll (rounds most next ms))
+    → HasRelayedAll (if b then rounds most next (offered_from (length ls) 0 (relayed_first first ls)) else relayed_first first ls)
+stuck_by true most first next ls w i more =
+    let a = relayed_first_right first ls w i in
+    let b = offers_from (length ls) 0 (relayed_first first ls) a.world a.right in
     more _ b.world b.right
-stuck_by false most ls w i more = all_relayed_stuck ls w i
+stuck_by false most first next ls w i more = relayed_first_stuck first ls w i
 
-rounds_stuck : (most : ℕ) (ls : List SwitchLine) (w : World) → IsSwitch ls w → HasRelayedAll (rounds most ls)
-rounds_stuck zero ls w i = all_relayed_stuck ls w i
-rounds_stuck (suc most) ls w i = stuck_by (list_any may_offer (all_relayed ls)) most ls w i (λ ms v h. rounds_stuck most ms v h)
+rounds_stuck : (most : ℕ) (first : List ℕ) (ls : List SwitchLine) (w : World) → IsSwitch ls w → HasRelayedAll (rounds most first ls)
+rounds_stuck zero first ls w i = relayed_first_stuck first ls w i
+rounds_stuck (suc most) first ls w i =
+    let next = offering_from 0 (relayed_first first ls) in
+    stuck_by (list_any may_offer (relayed_first first ls)) most first next ls w i (λ ms v h. rounds_stuck most next ms v h)
 
 -- ---- links that are set up anew
 
@@ -265,14 +270,15 @@ same_ends f ls w same i =
 
 -- ---- the end of an event
 
-pub finished_right : (routes : RouteMap) (ls : List SwitchLine) (w : World) → IsSwitch ls w → Becomes (acts_of_all (finished_steps routes ls) ls) ls w (finished routes ls)
-finished_right routes ls w i =
+pub finished_right : (routes : RouteMap) (n : ℕ) (ls : List SwitchLine) (w : World) → IsSwitch ls w → Becomes (acts_of_all (finished_steps routes n ls) ls) ls w (finished routes n ls)
+finished_right routes n ls w i =
+    let first = lines_first n routes ls in
     let a = all_relinks (length ls) routes ls w i in
     let ks = all_relinked (length ls) routes ls in
-    let b = rounds_right (7 * length ks) ks a.world a.right in
-    let c = same_ends settled (rounds (7 * length ks) ks) b.world (λ e. refl) b.right in
-    becomes_by (all_relinked_steps (length ls) routes ls) (rounds_steps (7 * length ks) ks ++ Settles ∷ []) ls ks _ w a.world (all_relinked_leads (length ls) routes ls) a.reached
-    (becomes_by (rounds_steps (7 * length ks) ks) (Settles ∷ []) ks (rounds (7 * length ks) ks) _ a.world b.world (rounds_leads (7 * length ks) ks) b.reached c)
+    let b = rounds_right (7 * length ks) first ks a.world a.right in
+    let c = same_ends settled (rounds (7 * length ks) first ks) b.world (λ e. refl) b.right in
+    becomes_by (all_relinked_steps (length ls) routes ls) (rounds_steps (7 * length ks) first ks ++ Settles ∷ []) ls ks _ w a.world (all_relinked_leads (length ls) routes ls) a.reached
+    (becomes_by (rounds_steps (7 * length ks) first ks) (Settles ∷ []) ks (rounds (7 * length ks) first ks) _ a.world b.world (rounds_leads (7 * length ks) first ks) b.reached c)
 
 settled_front : (ls : List SwitchLine) (n c : ℕ) → front_of_line (slice_get (map (with_end settled) ls) n) c ≡ front_of_line (slice_get ls n) c
 settled_front [] n c = refl
@@ -284,12 +290,13 @@ settled_refusal [] n c q = refl
 settled_refusal (l ∷ ls) zero c q = refl
 settled_refusal (l ∷ ls) (suc n) c q = settled_refusal ls n c q
 
-pub finished_stuck : (routes : RouteMap) (ls : List SwitchLine) (w : World) → IsSwitch ls w → HasRelayedAll (finished routes ls)
-finished_stuck routes ls w i p j t e f =
+pub finished_stuck : (routes : RouteMap) (n : ℕ) (ls : List SwitchLine) (w : World) → IsSwitch ls w → HasRelayedAll (finished routes n ls)
+finished_stuck routes n ls w i p j t e f =
+    let first = lines_first n routes ls in
     let a = all_relinks (length ls) routes ls w i in
     let rs = all_relinked (length ls) routes ls in
-    let ks = rounds (7 * length rs) rs in
-    let stuck = rounds_stuck (7 * length rs) rs a.world a.right in
+    let ks = rounds (7 * length rs) first rs in
+    let stuck = rounds_stuck (7 * length rs) first rs a.world a.right in
     ap (λ (o : Option Refusal). is_some o) (settled_refusal ks j.other.line j.other.channel (request_for t))
     ∙ stuck p j t (sym (joined_on_ends settled ks p.line p.channel) ∙ e) (sym (settled_front ks p.line p.channel) ∙ f)
 
@@ -324,27 +331,27 @@ ran n id routes ls w i =
 
 -- the acts at the line and those of the end of the event, one after the other
 event_right : (n : ℕ) (what : Happening) (s : Switch) (w v : World) → Reached (acts_of_all (acted_steps s.routes n what (all_begun s.lines)) (all_begun s.lines)) s.lines w (acted s.routes n (does what) (all_begun s.lines)) v
-    → Becomes (acts_of_all (finished_steps s.routes (acted s.routes n (does what) (all_begun s.lines))) (acted s.routes n (does what) (all_begun s.lines))) (acted s.routes n (does what) (all_begun s.lines)) v
-    (finished s.routes (acted s.routes n (does what) (all_begun s.lines)))
-    → Becomes (event_acts s.routes n what s.lines) s.lines w (finished s.routes (acted s.routes n (does what) (all_begun s.lines)))
+    → Becomes (acts_of_all (finished_steps s.routes n (acted s.routes n (does what) (all_begun s.lines))) (acted s.routes n (does what) (all_begun s.lines))) (acted s.routes n (does what) (all_begun s.lines)) v
+    (finished s.routes n (acted s.routes n (does what) (all_begun s.lines)))
+    → Becomes (event_acts s.routes n what s.lines) s.lines w (finished s.routes n (acted s.routes n (does what) (all_begun s.lines)))
 event_right n what s w v r b =
-    subst (λ (acts : List Act). Becomes acts s.lines w (finished s.routes (acted s.routes n (does what) (all_begun s.lines))))
-    (acts_lead (acted_steps s.routes n what (all_begun s.lines)) (finished_steps s.routes (acted s.routes n (does what) (all_begun s.lines))) (all_begun s.lines) (acted s.routes n (does what) (all_begun s.lines)) (acted_leads s.routes n what (all_begun s.lines)))
+    subst (λ (acts : List Act). Becomes acts s.lines w (finished s.routes n (acted s.routes n (does what) (all_begun s.lines))))
+    (acts_lead (acted_steps s.routes n what (all_begun s.lines)) (finished_steps s.routes n (acted s.routes n (does what) (all_begun s.lines))) (all_begun s.lines) (acted s.routes n (does what) (all_begun s.lines)) (acted_leads s.routes n what (all_begun s.lines)))
     (becomes_then s.lines (acted s.routes n (does what) (all_begun s.lines)) _ w v r b)
 
 pub frame_right : (n : ℕ) (octets : Octets) (s : Switch) (w : World) → Readable n octets s.lines → IsSwitch s.lines w → Becomes (event_acts s.routes n (Brings octets) s.lines) s.lines w (on_frame n octets s).lines
 frame_right n octets s w read i =
-    let a = came n octets s.routes s.lines w read i in event_right n (Brings octets) s w a.world a.reached (finished_right s.routes _ a.world a.right)
+    let a = came n octets s.routes s.lines w read i in event_right n (Brings octets) s w a.world a.reached (finished_right s.routes n _ a.world a.right)
 
 pub frame_stuck : (n : ℕ) (octets : Octets) (s : Switch) (w : World) → Readable n octets s.lines → IsSwitch s.lines w → HasRelayedAll (on_frame n octets s).lines
-frame_stuck n octets s w read i = let a = came n octets s.routes s.lines w read i in finished_stuck s.routes _ a.world a.right
+frame_stuck n octets s w read i = let a = came n octets s.routes s.lines w read i in finished_stuck s.routes n _ a.world a.right
 
 pub timer_right : (n : ℕ) (id : TimerId) (s : Switch) (w : World) → IsSwitch s.lines w → Becomes (event_acts s.routes n (RunsOut id) s.lines) s.lines w (on_timer n id s).lines
 timer_right n id s w i =
-    let a = ran n id s.routes s.lines w i in event_right n (RunsOut id) s w a.world a.reached (finished_right s.routes _ a.world a.right)
+    let a = ran n id s.routes s.lines w i in event_right n (RunsOut id) s w a.world a.reached (finished_right s.routes n _ a.world a.right)
 
 pub timer_stuck : (n : ℕ) (id : TimerId) (s : Switch) (w : World) → IsSwitch s.lines w → HasRelayedAll (on_timer n id s).lines
-timer_stuck n id s w i = let a = ran n id s.routes s.lines w i in finished_stuck s.routes _ a.world a.right
+timer_stuck n id s w i = let a = ran n id s.routes s.lines w i in finished_stuck s.routes n _ a.world a.right
 
 -- ---- frames of octets
 
@@ -432,15 +439,16 @@ relinks_leave (suc most) (Some n) routes ls w t i p j e a b =
     ∙ relinks_leave most (to_relink ms) routes ms c.world refl c.right p j kept a.1 b.1
 
 event_leaves : (n : ℕ) (f : PacketEnd → PacketEnd) (s : Switch) (w v : World) → IsSwitch (all_begun s.lines) w → IsSwitch (acted s.routes n f (all_begun s.lines)) v
-    → OthersStay (n ∷ relinked_in n f s) s.lines (finished s.routes (acted s.routes n f (all_begun s.lines)))
+    → OthersStay (n ∷ relinked_in n f s) s.lines (finished s.routes n (acted s.routes n f (all_begun s.lines)))
 event_leaves n f s w v i k p j e a b =
     let ls = acted s.routes n f (all_begun s.lines) in
     let begun_ : joined_at (all_begun s.lines) p ≡ Some j = joined_on_ends begun s.lines p.line p.channel ∙ e in
-    let first : joined_at ls p ≡ Some j = acted_stays s.routes n f (all_begun s.lines) w i p j (record { joined = begun_; here = a.0; there = b.0 }) in
-    let then_ : joined_at (all_relinked (length ls) s.routes ls) p ≡ Some j = relinks_leave (length ls) (to_relink ls) s.routes ls v refl k p j first a.1 b.1 in
+    let here : joined_at ls p ≡ Some j = acted_stays s.routes n f (all_begun s.lines) w i p j (record { joined = begun_; here = a.0; there = b.0 }) in
+    let then_ : joined_at (all_relinked (length ls) s.routes ls) p ≡ Some j = relinks_leave (length ls) (to_relink ls) s.routes ls v refl k p j here a.1 b.1 in
     let rs = all_relinked (length ls) s.routes ls in
-    let last = stay_rounds (7 * length rs) rs p j then_ in
-    record { kept = last.kept; joined = joined_on_ends settled (all_offered_on rs) p.line p.channel ∙ last.joined }
+    let first = lines_first n s.routes ls in
+    let last = stay_rounds (7 * length rs) first rs p j then_ in
+    record { kept = last.kept; joined = joined_on_ends settled (all_offered_on first rs) p.line p.channel ∙ last.joined }
 
 frame_leaves : (n : ℕ) (octets : Octets) (s : Switch) (w : World) → AreOctets octets → IsSwitch s.lines w → OthersStay (n ∷ relinked_in n (λ e. received e octets) s) s.lines (on_frame n octets s).lines
 frame_leaves n octets s w are i =
@@ -461,7 +469,7 @@ frame_calls n octets s w are i all =
     let b = begun_right s.lines w i in
     let read = readable n octets s.lines are in
     let c = came n octets s.routes s.lines w read i in
-    finished_calls s.routes _ c.world c.right
+    finished_calls s.routes n _ c.world c.right
     (acted_calls s.routes n (Brings octets) (all_begun s.lines) b.world b.right
     (λ line e.
     let old = begun_line n s.lines line e in
@@ -471,7 +479,7 @@ timer_calls : (n : ℕ) (id : TimerId) (s : Switch) (w : World) → IsSwitch s.l
 timer_calls n id s w i all =
     let b = begun_right s.lines w i in
     let c = ran n id s.routes s.lines w i in
-    finished_calls s.routes _ c.world c.right
+    finished_calls s.routes n _ c.world c.right
     (acted_calls s.routes n (RunsOut id) (all_begun s.lines) b.world b.right (λ line e. timer_effect n id line.end) (ends_keep begun s.lines (λ e. refl) all))
 
 restart_calls : (s : Switch) (w : World) → IsSwitch s.lines w → (p : Place) → HasCall (restart s).lines p → ⊥

@@ -5,10 +5,10 @@ use Rattle.packet_layer.specs.Packets.{Note}
 use Rattle.packet_layer.specs.Channel.{Request}
 use Rattle.packet_layer.specs.Layer.{Layer}
 use Rattle.packet_laws.specs.Readable.{Every}
-use Rattle.x25_switch.specs.Direction.{Direction}
-use Rattle.x25_switch.specs.declared.place.Place.{Place}
-use Rattle.x25_switch.specs.declared.place.Joined.{Joined}
-use Rattle.x25_switch.specs.Lines.{SwitchLine, same_place, joined_at, with_joined, ask}
+use Rattle.switch_lines.specs.Direction.{Direction}
+use Rattle.switch_lines.specs.declared.place.Place.{Place}
+use Rattle.switch_lines.specs.declared.place.Joined.{Joined}
+use Rattle.switch_lines.specs.Lines.{SwitchLine, same_place, joined_at, with_joined, ask}
 use Rattle.switch_laws.specs.Leg.{Leg}
 use Rattle.switch_laws.specs.World.{World, IsWorld, shown_at, layers_of, Act, MayHappen, MayAsk, after_act, after_acts, world_after, world_after_all}
 use Rattle.switch_laws.specs.World.Act.{Asks}

@@ -17,14 +17,14 @@ use Rattle.packet_laws.specs.History.{empty_epoch}
 use Rattle.packet_laws.specs.Readable.{Every}
 use Rattle.packet_end.specs.PacketEnd.{PacketEnd, HasOfferedAll, received, after_timer, all_offered, settled, elapsed, without_first_frame}
 use Rattle.address_routes.specs.Routes.{RouteMap}
-use Rattle.x25_switch.specs.Direction.{request_for}
-use Rattle.x25_switch.specs.declared.place.Place.{Place}
-use Rattle.x25_switch.specs.declared.place.Joined.{Joined}
-use Rattle.x25_switch.specs.declared.config.LineConfig.{LineConfig}
-use Rattle.x25_switch.specs.Lines.{SwitchLine, changed, flat, nth_joined, joined_on, joined_at}
-use Rattle.x25_switch.specs.Relay.{all_relayed}
-use Rattle.x25_switch.specs.Making.{IsConfig, IsLineConfig, made, made_line}
-use Rattle.x25_switch.specs.Switch.{Switch, with_end, acted, all_begun, all_relinked, all_offered_on, finished, may_offer, offered_from, rounds, on_frame, on_timer, restart, elapse, without_joins, to_relink, raised}
+use Rattle.switch_lines.specs.Direction.{request_for}
+use Rattle.switch_lines.specs.declared.place.Place.{Place}
+use Rattle.switch_lines.specs.declared.place.Joined.{Joined}
+use Rattle.switch_lines.specs.declared.config.LineConfig.{LineConfig}
+use Rattle.switch_lines.specs.Lines.{SwitchLine, changed, flat, nth_joined, joined_on, joined_at}
+use Rattle.switch_lines.specs.Relay.{relayed_first}
+use Rattle.switch_lines.specs.Making.{IsConfig, IsLineConfig, made, made_line}
+use Rattle.switch_lines.specs.Switch.{Switch, with_end, acted, all_begun, all_relinked, all_offered_on, finished, may_offer, offering_from, offered_from, lines_first, rounds, on_frame, on_timer, restart, elapse, without_joins, to_relink, raised}
 use Rattle.switch_laws.specs.Offers.{HaveSmallLinks, EndsKeepNothingBack}
 use Rattle.switch_laws.specs.Leg.{Leg}
 use Rattle.switch_laws.specs.Calls.{CallsAreJoined}
@@ -38,7 +38,7 @@ use Rattle.switch_laws.proofs.Links.{relink_keeps_k}
 use Rattle.switch_laws.proofs.Lists.{map_unchanged}
 use Rattle.switch_laws.proofs.Places.{joined_kept, place_after}
 use Rattle.switch_laws.proofs.Effects.{steady}
-use Rattle.switch_laws.proofs.Rounds.{lines_of, all_lines, grows}
+use Rattle.switch_laws.proofs.Rounds.{lines_of, first_lines, grows}
 use Rattle.switch_laws.proofs.Offered.{ks, AreSmall, acted_ks, act_ks, all_relinked_ks, begun_ks, small_links, received_k, timer_k}
 use Rattle.switch_laws.proofs.Keeping.{ends_keep, layers_on_ends, joined_on_ends}
 use Rattle.switch_laws.proofs.Relinking.{finished_end, ends_ask, same_asking}
@@ -82,18 +82,20 @@ either_ks : (b : Bool) (x y : List SwitchLine) (k : List ℕ) → ks (lines_of x
 either_ks true x y k f g = f
 either_ks false x y k f g = g
 
-rounds_ks : (most : ℕ) (ls : List SwitchLine) → ks (lines_of (rounds most ls)) ≡ ks (lines_of ls)
-rounds_ks zero ls = ap (λ (es : List End). ks es) (all_lines ls)
-rounds_ks (suc most) ls =
-    let relayed_ = ap (λ (es : List End). ks es) (all_lines ls) in
-    either_ks (list_any may_offer (all_relayed ls)) (rounds most (offered_from (length ls) 0 (all_relayed ls))) (all_relayed ls) (ks (lines_of ls))
-    (rounds_ks most (offered_from (length ls) 0 (all_relayed ls)) ∙ (offered_ks (length ls) 0 (all_relayed ls) ∙ relayed_)) relayed_
+rounds_ks : (most : ℕ) (first : List ℕ) (ls : List SwitchLine) → ks (lines_of (rounds most first ls)) ≡ ks (lines_of ls)
+rounds_ks zero first ls = ap (λ (es : List End). ks es) (first_lines first ls)
+rounds_ks (suc most) first ls =
+    let ms = relayed_first first ls in
+    let relayed_ = ap (λ (es : List End). ks es) (first_lines first ls) in
+    either_ks (list_any may_offer ms) (rounds most (offering_from 0 ms) (offered_from (length ls) 0 ms)) ms (ks (lines_of ls))
+    (rounds_ks most (offering_from 0 ms) (offered_from (length ls) 0 ms) ∙ (offered_ks (length ls) 0 ms ∙ relayed_)) relayed_
 
-finished_ks : (routes : RouteMap) (ls : List SwitchLine) → ks (lines_of (finished routes ls)) ≡ ks (lines_of ls)
-finished_ks routes ls =
+finished_ks : (routes : RouteMap) (n : ℕ) (ls : List SwitchLine) → ks (lines_of (finished routes n ls)) ≡ ks (lines_of ls)
+finished_ks routes n ls =
     let rs = all_relinked (length ls) routes ls in
-    all_ks settled (all_offered_on rs) (λ e. settles_k e.line.link.phase e.line.link)
-    ∙ (rounds_ks (7 * length rs) rs ∙ all_relinked_ks (length ls) routes ls)
+    let first = lines_first n routes ls in
+    all_ks settled (all_offered_on first rs) (λ e. settles_k e.line.link.phase e.line.link)
+    ∙ (rounds_ks (7 * length rs) first rs ∙ all_relinked_ks (length ls) routes ls)
 
 restarted_ks : (ls : List SwitchLine) → ks (lines_of (map without_joins ls)) ≡ ks (lines_of ls)
 restarted_ks [] = refl
@@ -194,9 +196,9 @@ stays (Arrives n octets) s w are h =
         calls = turns.frame_joins_calls n octets s w are h.joins h.calls;
         relayed = turns.frame_keeps_nothing_back n octets s w are h.joins;
         offered = none_offer (on_frame n octets s).lines (turns.frame_offers n octets s h.links);
-        no_relink = finished_end s.routes (acted s.routes n (λ e. received e octets) (all_begun s.lines));
+        no_relink = finished_end s.routes n (acted s.routes n (λ e. received e octets) (all_begun s.lines));
         links = same_links s.lines (on_frame n octets s).lines
-            (finished_ks s.routes _ ∙ (act_ks s.routes n (λ e. received e octets) (all_begun s.lines) (λ e. received_k octets e) ∙ begun_ks s.lines)) h.links;
+            (finished_ks s.routes n _ ∙ (act_ks s.routes n (λ e. received e octets) (all_begun s.lines) (λ e. received_k octets e) ∙ begun_ks s.lines)) h.links;
       };
       nothing_kept_back = turns.frame_offers n octets s h.links;
     }
@@ -210,9 +212,9 @@ stays (Expires n id) s w are h =
         calls = turns.timer_joins_calls n id s w h.joins h.calls;
         relayed = turns.timer_keeps_nothing_back n id s w h.joins;
         offered = none_offer (on_timer n id s).lines (turns.timer_offers n id s h.links);
-        no_relink = finished_end s.routes (acted s.routes n (λ e. after_timer e id) (all_begun s.lines));
+        no_relink = finished_end s.routes n (acted s.routes n (λ e. after_timer e id) (all_begun s.lines));
         links = same_links s.lines (on_timer n id s).lines
-            (finished_ks s.routes _ ∙ (act_ks s.routes n (λ e. after_timer e id) (all_begun s.lines) (λ e. timer_k id e) ∙ begun_ks s.lines)) h.links;
+            (finished_ks s.routes n _ ∙ (act_ks s.routes n (λ e. after_timer e id) (all_begun s.lines) (λ e. timer_k id e) ∙ begun_ks s.lines)) h.links;
       };
       nothing_kept_back = turns.timer_offers n id s h.links;
     }

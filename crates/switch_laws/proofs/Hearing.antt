@@ -12,7 +12,7 @@ use Rattle.packet_layer.specs.Channel.Request.{Confirming}
 use Rattle.packet_laws.specs.History.{logged_heard}
 use Rattle.packet_laws.specs.Counts.{NamesAfter, NamesCounts, IsNumbered}
 use Rattle.packet_laws.proofs.Naming.{counts_hold}
-use Rattle.x25_switch.specs.Direction.{covered_by}
+use Rattle.switch_lines.specs.Direction.{covered_by}
 use Rattle.switch_laws.specs.Leg.{Leg, IsLeg, asked, asked_unless, stepped}
 use Rattle.switch_laws.specs.Clause.{taken_part, sent_part}
 use Rattle.switch_laws.specs.Way.{Way, Holds, IsRight, freed}

@@ -11,10 +11,10 @@ use Rattle.packet_layer.specs.Channel.{CallState, Channel, Step, had_call}
 use Rattle.packet_layer.specs.Layer.{Layer, channel_of, closing_notes}
 use Rattle.packet_laws.specs.History.{Epoch}
 use Rattle.address_routes.specs.Routes.{RouteMap}
-use Rattle.x25_switch.specs.declared.place.Place.{Place}
-use Rattle.x25_switch.specs.declared.place.Joined.{Joined}
-use Rattle.x25_switch.specs.Lines.{SwitchLine, same_place, changed, joined_at}
-use Rattle.x25_switch.specs.Switch.{heed_all, with_end, notes_of, without_notes, quieted, acted}
+use Rattle.switch_lines.specs.declared.place.Place.{Place}
+use Rattle.switch_lines.specs.declared.place.Joined.{Joined}
+use Rattle.switch_lines.specs.Lines.{SwitchLine, same_place, changed, joined_at}
+use Rattle.switch_lines.specs.Switch.{heed_all, with_end, notes_of, without_notes, quieted, acted}
 use Rattle.switch_laws.specs.Leg.{Leg, stepped}
 use Rattle.switch_laws.specs.World.Act.{Reads}
 use Rattle.switch_laws.specs.Steps.{Happening, does, happening_acts}

@@ -14,12 +14,12 @@ use Rattle.packet_layer.specs.Layer.Phase.{NoSession, OwnRestart, PacketReady}
 use Rattle.packet_laws.proofs.Line.Lines.{nth_same, nth_other}
 use Rattle.packet_end.specs.PacketEnd.{PacketEnd, relinked, with_next, offered, all_offered, settled}
 use Rattle.address_routes.specs.Routes.{RouteMap}
-use Rattle.x25_switch.specs.Direction.{carried_by, request_for}
-use Rattle.x25_switch.specs.declared.place.Place.{Place}
-use Rattle.x25_switch.specs.declared.place.Joined.{Joined}
-use Rattle.x25_switch.specs.Lines.{SwitchLine, changed, joined_on, joined_at, ask, front_at, refusal_at, places}
-use Rattle.x25_switch.specs.Relay.{moved, moved_unless, moved_front, moved_joined, relayed, relayed_from, all_relayed}
-use Rattle.x25_switch.specs.Switch.{with_end, acted, to_relink, relinked_at, all_relinked, may_offer, offered_from, rounds, all_offered_on, finished}
+use Rattle.switch_lines.specs.Direction.{carried_by, request_for}
+use Rattle.switch_lines.specs.declared.place.Place.{Place}
+use Rattle.switch_lines.specs.declared.place.Joined.{Joined}
+use Rattle.switch_lines.specs.Lines.{SwitchLine, changed, joined_on, joined_at, ask, front_at, refusal_at}
+use Rattle.switch_lines.specs.Relay.{moved, moved_unless, moved_front, moved_joined, relayed, relayed_from, places_first, relayed_first}
+use Rattle.switch_lines.specs.Switch.{with_end, acted, to_relink, relinked_at, all_relinked, may_offer, offering_from, offered_from, rounds, all_offered_on, lines_first, finished}
 use Rattle.switch_laws.specs.Steps.Happening.{Relinks}
 use Rattle.switch_laws.specs.World.{World, Shown, shown_as, shown_on, shown_at, layers_of}
 use Rattle.switch_laws.specs.World.Act.{Gives}
@@ -187,16 +187,19 @@ offered_keeps (suc count) n ls = keeps_then ls (changed n (with_end all_offered)
 
 -- ---- rounds
 
-rounds_by : (b : Bool) (most : ℕ) (ls : List SwitchLine) → ((ms : List SwitchLine) → Keeps ms (rounds most ms)) → Keeps ls (if b then rounds most (offered_from (length ls) 0 (all_relayed ls)) else all_relayed ls)
-rounds_by true most ls more =
-    let ms = all_relayed ls in
+rounds_by : (b : Bool) (most : ℕ) (first next : List ℕ) (ls : List SwitchLine) → ((ms : List SwitchLine) → Keeps ms (rounds most next ms))
+    → Keeps ls (if b then rounds most next (offered_from (length ls) 0 (relayed_first first ls)) else relayed_first first ls)
+rounds_by true most first next ls more =
+    let ms = relayed_first first ls in
     let xs = offered_from (length ls) 0 ms in
-    keeps_then ls ms _ (from_keeps (places ls) ls) (keeps_then ms xs _ (offered_keeps (length ls) 0 ms) (more xs))
-rounds_by false most ls more = from_keeps (places ls) ls
+    keeps_then ls ms _ (from_keeps (places_first first ls) ls) (keeps_then ms xs _ (offered_keeps (length ls) 0 ms) (more xs))
+rounds_by false most first next ls more = from_keeps (places_first first ls) ls
 
-rounds_keep : (most : ℕ) (ls : List SwitchLine) → Keeps ls (rounds most ls)
-rounds_keep zero ls = from_keeps (places ls) ls
-rounds_keep (suc most) ls = rounds_by (list_any may_offer (all_relayed ls)) most ls (λ ms. rounds_keep most ms)
+rounds_keep : (most : ℕ) (first : List ℕ) (ls : List SwitchLine) → Keeps ls (rounds most first ls)
+rounds_keep zero first ls = from_keeps (places_first first ls) ls
+rounds_keep (suc most) first ls =
+    let next = offering_from 0 (relayed_first first ls) in
+    rounds_by (list_any may_offer (relayed_first first ls)) most first next ls (λ ms. rounds_keep most next ms)
 
 pub keeps_calls : (ls ms : List SwitchLine) → Keeps ls ms → CallsAreJoined ls → CallsAreJoined ms
 keeps_calls ls ms k all x h = k.joins x (all x (k.calls x h))
@@ -228,7 +231,8 @@ relinks_calls (suc most) routes ls w i all = by_line (to_relink ls) (λ ms v k c
         let b = acted_right routes n Relinks ls w i (λ line g. relinked_effect n line.end) in
         more (acted routes n relinked ls) b.world b.right (acted_calls routes n Relinks ls w i (λ line g. relinked_effect n line.end) all)
 
-pub finished_calls : (routes : RouteMap) (ls : List SwitchLine) (w : World) → IsSwitch ls w → CallsAreJoined ls → CallsAreJoined (finished routes ls)
-finished_calls routes ls w i all =
+pub finished_calls : (routes : RouteMap) (n : ℕ) (ls : List SwitchLine) (w : World) → IsSwitch ls w → CallsAreJoined ls → CallsAreJoined (finished routes n ls)
+finished_calls routes n ls w i all =
     let rs = all_relinked (length ls) routes ls in
-    ends_keep settled (all_offered_on rs) (λ e. refl) (keeps_calls rs (all_offered_on rs) (rounds_keep (7 * length rs) rs) (relinks_calls (length ls) routes ls w i all))
+    let first = lines_first n routes ls in
+    ends_keep settled (all_offered_on first rs) (λ e. refl) (keeps_calls rs (all_offered_on first rs) (rounds_keep (7 * length rs) first rs) (relinks_calls (length ls) routes ls w i all))

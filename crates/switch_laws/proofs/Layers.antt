@@ -19,7 +19,7 @@ use Rattle.packet_laws.specs.Readable.{Every}
 use Rattle.packet_laws.proofs.Call.Saying.{by_cond, and_parts}
 use Rattle.packet_laws.proofs.Line.Lines.{nth_same, nth_other}
 use Rattle.packet_laws.proofs.Line.Outcomes.{free_is, given_ready}
-use Rattle.x25_switch.specs.Lines.{changed}
+use Rattle.switch_lines.specs.Lines.{changed}
 use Rattle.switch_laws.specs.Leg.{Leg, asked, asked_unless, opened, stepped, heard, misheard, heard_epoch, gave}
 use Rattle.switch_laws.specs.World.{World, Shown, shown_of, shown_as, shown_on, Agrees, IsWorld, Act, MayHappen, MayAsk, IsReadAs, after_act, after_acts, world_after, world_after_all, layer_after, leg_after, line_of, closed, restarted, came_in, cleared_if, ran_out, is_channel, placed_if, gave_if}
 use Rattle.switch_laws.specs.World.Act.{Asks, Comes, Expires, GoesUp, GoesDown, Calls, Gives, Reads}

@@ -9,18 +9,18 @@ use Rattle.packet_layer.specs.Traffic.{Taken}
 use Rattle.packet_layer.specs.Channel.{Refusal}
 use Rattle.packet_layer.specs.Channel.Request.{Resetting}
 use Rattle.address_routes.specs.Routes.{RouteMap}
-use Rattle.x25_switch.specs.Direction.{request_for}
-use Rattle.x25_switch.specs.Causes.{reset_cause, far_diagnostic}
-use Rattle.x25_switch.specs.declared.place.Place.{Place}
-use Rattle.x25_switch.specs.declared.place.Joined.{Joined}
-use Rattle.x25_switch.specs.Lines.{SwitchLine, changed, joined_at, places, ask, front_at, refusal_at}
-use Rattle.x25_switch.specs.Relay.{moved, moved_unless, moved_front, moved_joined, relayed, relayed_from, all_relayed, told_joined, told_of, kept_anew, covered_on}
-use Rattle.x25_switch.specs.Switch.{Answer, answer, answered, heed, heed_all, notes_of, with_end, quieted, acted, to_relink, relinked_at, all_relinked, may_offer, offered_from, rounds, finished, all_begun}
-use Rattle.x25_switch.specs.Switch.Answer.{Clears, Joins}
+use Rattle.switch_lines.specs.Direction.{request_for}
+use Rattle.switch_lines.specs.Causes.{reset_cause, far_diagnostic}
+use Rattle.switch_lines.specs.declared.place.Place.{Place}
+use Rattle.switch_lines.specs.declared.place.Joined.{Joined}
+use Rattle.switch_lines.specs.Lines.{SwitchLine, changed, joined_at, ask, front_at, refusal_at}
+use Rattle.switch_lines.specs.Relay.{moved, moved_unless, moved_front, moved_joined, relayed, relayed_from, places_first, relayed_first, told_joined, told_of, kept_anew, covered_on}
+use Rattle.switch_lines.specs.Switch.{Answer, answer, answered, heed, heed_all, notes_of, with_end, quieted, acted, to_relink, relinked_at, all_relinked, may_offer, offering_from, offered_from, rounds, lines_first, finished, all_begun}
+use Rattle.switch_lines.specs.Switch.Answer.{Clears, Joins}
 use Rattle.switch_laws.specs.Steps.{Happening, does, Step, lines_after, lines_after_all, acts_of, acts_of_all}
 use Rattle.switch_laws.specs.Steps.Happening.{Relinks}
 use Rattle.switch_laws.specs.Steps.Step.{Settles, Happens}
-use Rattle.switch_laws.specs.EventSteps.{moved_unless_steps, moved_front_steps, moved_joined_steps, relayed_steps, relayed_from_steps, all_relayed_steps, anew_steps, covered_steps, told_joined_steps, told_steps, answered_steps, on_channel, heed_steps, heed_all_steps, acted_steps, relinked_steps, all_relinked_steps, offered_steps, rounds_steps, finished_steps, event_steps}
+use Rattle.switch_laws.specs.EventSteps.{moved_unless_steps, moved_front_steps, moved_joined_steps, relayed_steps, relayed_from_steps, relayed_first_steps, anew_steps, covered_steps, told_joined_steps, told_steps, answered_steps, on_channel, heed_steps, heed_all_steps, acted_steps, relinked_steps, all_relinked_steps, offered_steps, rounds_steps, finished_steps, event_steps}
 
 abbrev pub Leads : List Step → List SwitchLine → List SwitchLine → Type 0
 Leads steps ls ms = lines_after_all steps ls ≡ ms
@@ -60,8 +60,8 @@ from_leads : (ps : List Place) (ls : List SwitchLine) → Leads (relayed_from_st
 from_leads [] ls = refl
 from_leads (p ∷ ps) ls = leads_then (relayed_steps 8 p ls) (relayed_from_steps ps (relayed 8 p ls)) ls (relayed 8 p ls) _ (relayed_leads 8 p ls) (from_leads ps (relayed 8 p ls))
 
-pub all_relayed_leads : (ls : List SwitchLine) → Leads (all_relayed_steps ls) ls (all_relayed ls)
-all_relayed_leads ls = from_leads (places ls) ls
+pub relayed_first_leads : (first : List ℕ) (ls : List SwitchLine) → Leads (relayed_first_steps first ls) ls (relayed_first first ls)
+relayed_first_leads first ls = from_leads (places_first first ls) ls
 
 -- ---- notes
 
@@ -126,24 +126,31 @@ pub offered_leads : (count n : ℕ) (ls : List SwitchLine) → Leads (offered_st
 offered_leads zero n ls = refl
 offered_leads (suc count) n ls = offered_leads count (suc n) _
 
-pub rounds_leads : (most : ℕ) (ls : List SwitchLine) → Leads (rounds_steps most ls) ls (rounds most ls)
-rounds_leads zero ls = all_relayed_leads ls
-rounds_leads (suc most) ls = by (list_any may_offer (all_relayed ls)) (rounds_leads most (offered_from (length ls) 0 (all_relayed ls)))
+pub rounds_leads : (most : ℕ) (first : List ℕ) (ls : List SwitchLine) → Leads (rounds_steps most first ls) ls (rounds most first ls)
+rounds_leads zero first ls = relayed_first_leads first ls
+rounds_leads (suc most) first ls = by (list_any may_offer ms) (rounds_leads most (offering_from 0 ms) (offered_from (length ls) 0 ms))
   where
-    by : (v : Bool) → Leads (rounds_steps most (offered_from (length ls) 0 (all_relayed ls))) (offered_from (length ls) 0 (all_relayed ls)) (rounds most (offered_from (length ls) 0 (all_relayed ls)))
-        → Leads (all_relayed_steps ls ++ (if v then offered_steps (length ls) 0 ++ rounds_steps most (offered_from (length ls) 0 (all_relayed ls)) else [])) ls (if v then rounds most (offered_from (length ls) 0 (all_relayed ls)) else all_relayed ls)
+    ms : List SwitchLine
+    ms = relayed_first first ls
+
+    onward : List Step
+    onward = rounds_steps most (offering_from 0 ms) (offered_from (length ls) 0 ms)
+
+    by : (v : Bool) → Leads onward (offered_from (length ls) 0 ms) (rounds most (offering_from 0 ms) (offered_from (length ls) 0 ms))
+        → Leads (relayed_first_steps first ls ++ (if v then offered_steps (length ls) 0 ++ onward else [])) ls (if v then rounds most (offering_from 0 ms) (offered_from (length ls) 0 ms) else ms)
     by true h =
-        leads_then (all_relayed_steps ls) (offered_steps (length ls) 0 ++ rounds_steps most (offered_from (length ls) 0 (all_relayed ls))) ls (all_relayed ls) _ (all_relayed_leads ls)
-        (leads_then (offered_steps (length ls) 0) (rounds_steps most (offered_from (length ls) 0 (all_relayed ls))) (all_relayed ls) (offered_from (length ls) 0 (all_relayed ls)) _ (offered_leads (length ls) 0 (all_relayed ls)) h)
-    by false h = ap (λ (steps : List Step). lines_after_all steps ls) (append-nil (all_relayed_steps ls)) ∙ all_relayed_leads ls
+        leads_then (relayed_first_steps first ls) (offered_steps (length ls) 0 ++ onward) ls ms _ (relayed_first_leads first ls)
+        (leads_then (offered_steps (length ls) 0) onward ms (offered_from (length ls) 0 ms) _ (offered_leads (length ls) 0 ms) h)
+    by false h = ap (λ (steps : List Step). lines_after_all steps ls) (append-nil (relayed_first_steps first ls)) ∙ relayed_first_leads first ls
 
-finished_leads : (routes : RouteMap) (ls : List SwitchLine) → Leads (finished_steps routes ls) ls (finished routes ls)
-finished_leads routes ls =
+finished_leads : (routes : RouteMap) (n : ℕ) (ls : List SwitchLine) → Leads (finished_steps routes n ls) ls (finished routes n ls)
+finished_leads routes n ls =
     let ks = all_relinked (length ls) routes ls in
-    leads_then (all_relinked_steps (length ls) routes ls) (rounds_steps (7 * length ks) ks ++ Settles ∷ []) ls ks (finished routes ls) (all_relinked_leads (length ls) routes ls)
-    (leads_then (rounds_steps (7 * length ks) ks) (Settles ∷ []) ks (rounds (7 * length ks) ks) (finished routes ls) (rounds_leads (7 * length ks) ks) refl)
+    let first = lines_first n routes ls in
+    leads_then (all_relinked_steps (length ls) routes ls) (rounds_steps (7 * length ks) first ks ++ Settles ∷ []) ls ks (finished routes n ls) (all_relinked_leads (length ls) routes ls)
+    (leads_then (rounds_steps (7 * length ks) first ks) (Settles ∷ []) ks (rounds (7 * length ks) first ks) (finished routes n ls) (rounds_leads (7 * length ks) first ks) refl)
 
-pub event_leads : (routes : RouteMap) (n : ℕ) (what : Happening) (ls : List SwitchLine) → Leads (event_steps routes n what ls) ls (finished routes (acted routes n (does what) (all_begun ls)))
+pub event_leads : (routes : RouteMap) (n : ℕ) (what : Happening) (ls : List SwitchLine) → Leads (event_steps routes n what ls) ls (finished routes n (acted routes n (does what) (all_begun ls)))
 event_leads routes n what ls =
-    leads_then (acted_steps routes n what (all_begun ls)) (finished_steps routes (acted routes n (does what) (all_begun ls))) (all_begun ls) (acted routes n (does what) (all_begun ls)) _
-    (acted_leads routes n what (all_begun ls)) (finished_leads routes (acted routes n (does what) (all_begun ls)))
+    leads_then (acted_steps routes n what (all_begun ls)) (finished_steps routes n (acted routes n (does what) (all_begun ls))) (all_begun ls) (acted routes n (does what) (all_begun ls)) _
+    (acted_leads routes n what (all_begun ls)) (finished_leads routes n (acted routes n (does what) (all_begun ls)))

@@ -32,3 +32,4 @@ pub mod Calling
 pub mod Arriving
 pub mod Joining
 pub mod Keeping
+pub mod Alone

@@ -15,14 +15,14 @@ use Rattle.packet_layer.specs.Channel.Request.{Accept, Clearing, Resetting, Taki
 use Rattle.packet_layer.specs.Layer.{closing_notes}
 use Rattle.packet_end.specs.PacketEnd.{PacketEnd, received, after_timer, relinked, all_offered, settled, begun}
 use Rattle.address_routes.specs.Routes.{RouteMap}
-use Rattle.x25_switch.specs.Direction.{Direction, new_direction, releasable, released, carried_by, covered_by, request_for}
-use Rattle.x25_switch.specs.Causes.{reset_cause, clear_cause, far_diagnostic}
-use Rattle.x25_switch.specs.declared.place.Place.{Place}
-use Rattle.x25_switch.specs.declared.place.Joined.{Joined}
-use Rattle.x25_switch.specs.Lines.{SwitchLine, changed, flat, nth_joined, joined_on, joined_at, with_nth_joined, with_joined, ask, front_at, refusal_at, places}
-use Rattle.x25_switch.specs.Relay.{with_kept, freed, moved, moved_unless, moved_front, moved_joined, relayed, relayed_from, all_relayed, kept_anew, covered_on, told_joined, told_of}
-use Rattle.x25_switch.specs.Switch.{Switch, Answer, answer, answered, forwarded, place_call, heed, heed_all, with_end, notes_of, without_notes, quieted, acted, to_relink, relinked_at, all_relinked, may_offer, offered_from, rounds, finished, all_begun, on_frame, on_timer}
-use Rattle.x25_switch.specs.Switch.Answer.{Clears, Joins}
+use Rattle.switch_lines.specs.Direction.{Direction, new_direction, releasable, released, carried_by, covered_by, request_for}
+use Rattle.switch_lines.specs.Causes.{reset_cause, clear_cause, far_diagnostic}
+use Rattle.switch_lines.specs.declared.place.Place.{Place}
+use Rattle.switch_lines.specs.declared.place.Joined.{Joined}
+use Rattle.switch_lines.specs.Lines.{SwitchLine, changed, flat, nth_joined, joined_on, joined_at, with_nth_joined, with_joined, ask, front_at, refusal_at}
+use Rattle.switch_lines.specs.Relay.{with_kept, freed, moved, moved_unless, moved_front, moved_joined, relayed, relayed_from, places_first, relayed_first, kept_anew, covered_on, told_joined, told_of}
+use Rattle.switch_lines.specs.Switch.{Switch, Answer, answer, answered, forwarded, place_call, heed, heed_all, with_end, notes_of, without_notes, quieted, acted, to_relink, relinked_at, all_relinked, may_offer, offering_from, offered_from, rounds, lines_first, finished, all_begun, on_frame, on_timer}
+use Rattle.switch_lines.specs.Switch.Answer.{Clears, Joins}
 use Rattle.switch_laws.specs.Concern.{before_relay}
 use Rattle.switch_laws.specs.Pairs.{caller, callee, IsNoted, WasJoined, IsNewJoin, JoinsByRoute, noted_in}
 use Rattle.switch_laws.proofs.Places.{joined_kept}
@@ -150,14 +150,15 @@ either_from : (b : Bool) (ls x y : List SwitchLine) → From ls x → From ls y 
 either_from true ls x y f g = f
 either_from false ls x y f g = g
 
-from_rounds : (most : ℕ) (ls : List SwitchLine) → From ls (rounds most ls)
-from_rounds zero ls = from_places (places ls) ls
-from_rounds (suc most) ls =
-    let ms = all_relayed ls in
+from_rounds : (most : ℕ) (first : List ℕ) (ls : List SwitchLine) → From ls (rounds most first ls)
+from_rounds zero first ls = from_places (places_first first ls) ls
+from_rounds (suc most) first ls =
+    let ms = relayed_first first ls in
+    let next = offering_from 0 ms in
     let ks = offered_from (length ls) 0 ms in
-    either_from (list_any may_offer ms) ls (rounds most ks) ms
-    (from_then ls ms _ (from_places (places ls) ls) (from_then ms ks _ (from_offered (length ls) 0 ms) (from_rounds most ks)))
-    (from_places (places ls) ls)
+    either_from (list_any may_offer ms) ls (rounds most next ks) ms
+    (from_then ls ms _ (from_places (places_first first ls) ls) (from_then ms ks _ (from_offered (length ls) 0 ms) (from_rounds most next ks)))
+    (from_places (places_first first ls) ls)
 
 -- ---- what is told
 
@@ -334,10 +335,11 @@ from_relinks zero routes ls = from_same ls
 from_relinks (suc most) routes ls =
     from_then ls (relinked_at (to_relink ls) routes ls) _ (from_relinked (to_relink ls) routes ls) (from_relinks most routes (relinked_at (to_relink ls) routes ls))
 
-from_finished : (routes : RouteMap) (ls : List SwitchLine) → From ls (finished routes ls)
-from_finished routes ls =
+from_finished : (routes : RouteMap) (n : ℕ) (ls : List SwitchLine) → From ls (finished routes n ls)
+from_finished routes n ls =
     let rs = all_relinked (length ls) routes ls in
-    from_ends settled ls (rounds (7 * length rs) rs) (from_then ls rs _ (from_relinks (length ls) routes ls) (from_rounds (7 * length rs) rs))
+    let first = lines_first n routes ls in
+    from_ends settled ls (rounds (7 * length rs) first rs) (from_then ls rs _ (from_relinks (length ls) routes ls) (from_rounds (7 * length rs) first rs))
 
 -- ---- events
 
@@ -350,12 +352,12 @@ before_joins n f s =
     (joins_after s.routes n (noted_in n f s) s.lines ls ms (from_ends begun s.lines s.lines (from_same s.lines)) (acted_joins s.routes n f ls))
     (from_relinks (length ms) s.routes ms)
 
-event_joins : (n : ℕ) (f : PacketEnd → PacketEnd) (s : Switch) → JoinsByRoute s.routes n (noted_in n f s) s.lines (finished s.routes (acted s.routes n f (all_begun s.lines)))
+event_joins : (n : ℕ) (f : PacketEnd → PacketEnd) (s : Switch) → JoinsByRoute s.routes n (noted_in n f s) s.lines (finished s.routes n (acted s.routes n f (all_begun s.lines)))
 event_joins n f s =
     let ls = all_begun s.lines in
     joins_before s.routes n (noted_in n f s) s.lines (acted s.routes n f ls) _
     (joins_after s.routes n (noted_in n f s) s.lines ls _ (from_ends begun s.lines s.lines (from_same s.lines)) (acted_joins s.routes n f ls))
-    (from_finished s.routes (acted s.routes n f ls))
+    (from_finished s.routes n (acted s.routes n f ls))
 
 pub frame_joins : (n : ℕ) (octets : List ℕ) (s : Switch) → JoinsByRoute s.routes n (noted_in n (λ e. received e octets) s) s.lines (on_frame n octets s).lines
 frame_joins n octets s = event_joins n (λ e. received e octets) s

@@ -21,13 +21,13 @@ use Rattle.packet_layer.specs.Layer.{next_packet}
 use Rattle.packet_end.specs.PacketEnd.{PacketEnd, received, heeded, after_packet, after_timer, expired, runs_at, relinked, settled, HasOfferedAll, KeepsNothingBack}
 use Rattle.packet_end.proofs.Offering.{silent_all_offered, settled_all_offered}
 use Rattle.address_routes.specs.Routes.{RouteMap}
-use Rattle.x25_switch.specs.Direction.{Direction, releasable}
-use Rattle.x25_switch.specs.declared.place.Place.{Place}
-use Rattle.x25_switch.specs.declared.place.Joined.{Joined}
-use Rattle.x25_switch.specs.Lines.{SwitchLine, changed, joined_at, with_joined}
-use Rattle.x25_switch.specs.Relay.{freed, kept_anew, covered_on, told_joined, told_of}
-use Rattle.x25_switch.specs.Switch.{Switch, Answer, answer, answered, forwarded, place_call, heed, heed_all, with_end, notes_of, without_notes, quieted, acted, to_relink, relinked_at, all_relinked, may_offer, all_offered_on, finished, all_begun, on_frame, on_timer}
-use Rattle.x25_switch.specs.Switch.Answer.{Clears, Joins}
+use Rattle.switch_lines.specs.Direction.{Direction, releasable}
+use Rattle.switch_lines.specs.declared.place.Place.{Place}
+use Rattle.switch_lines.specs.declared.place.Joined.{Joined}
+use Rattle.switch_lines.specs.Lines.{SwitchLine, changed, joined_at, with_joined}
+use Rattle.switch_lines.specs.Relay.{freed, kept_anew, covered_on, told_joined, told_of}
+use Rattle.switch_lines.specs.Switch.{Switch, Answer, answer, answered, forwarded, place_call, heed, heed_all, with_end, notes_of, without_notes, quieted, acted, to_relink, relinked_at, all_relinked, may_offer, all_offered_on, lines_first, finished, all_begun, on_frame, on_timer}
+use Rattle.switch_lines.specs.Switch.Answer.{Clears, Joins}
 use Rattle.switch_laws.specs.Offers.{HaveSmallLinks, EndsKeepNothingBack}
 use Rattle.switch_laws.proofs.Lists.{map_unchanged}
 use Rattle.switch_laws.proofs.Links.{octets_keep_k, relink_keeps_k, t1_keeps_k}
@@ -196,18 +196,19 @@ settled_offered [] h n l got = absurd (none-some l got)
 settled_offered (x ∷ xs) h zero l got = subst (λ (y : SwitchLine). KeepsNothingBack y.end) (same_Some _ l got) (record { offered = settled_all_offered x.end (h 0 x refl); sent = settled_sent x.end })
 settled_offered (x ∷ xs) h (suc n) l got = settled_offered xs (λ k y e. h (suc k) y e) n l got
 
-finished_offered : (routes : RouteMap) (ls : List SwitchLine) → AreSmall (ks (lines_of ls)) → EndsKeepNothingBack (finished routes ls)
-finished_offered routes ls small =
+finished_offered : (routes : RouteMap) (n : ℕ) (ls : List SwitchLine) → AreSmall (ks (lines_of ls)) → EndsKeepNothingBack (finished routes n ls)
+finished_offered routes n ls small =
     let rs = all_relinked (length ls) routes ls in
+    let first = lines_first n routes ls in
     let s : AreSmall (ks (lines_of rs)) = subst (λ (xs : List ℕ). AreSmall xs) (sym (all_relinked_ks (length ls) routes ls)) small in
-    settled_offered (all_offered_on rs) (none_may (all_offered_on rs) (rounds_offer (7 * length rs) rs (small_ends rs s) (within rs)))
+    settled_offered (all_offered_on first rs) (none_may (all_offered_on first rs) (rounds_offer (7 * length rs) first rs (small_ends rs s) (within rs)))
 
 pub frame_offered : (n : ℕ) (octets : Octets) (s : Switch) → HaveSmallLinks s.lines → EndsKeepNothingBack (on_frame n octets s).lines
 frame_offered n octets s h =
-    finished_offered s.routes (acted s.routes n (λ e. received e octets) (all_begun s.lines))
+    finished_offered s.routes n (acted s.routes n (λ e. received e octets) (all_begun s.lines))
     (subst (λ (xs : List ℕ). AreSmall xs) (sym (act_ks s.routes n (λ e. received e octets) (all_begun s.lines) (λ e. received_k octets e) ∙ begun_ks s.lines)) (small_links s.lines h))
 
 pub timer_offered : (n : ℕ) (id : TimerId) (s : Switch) → HaveSmallLinks s.lines → EndsKeepNothingBack (on_timer n id s).lines
 timer_offered n id s h =
-    finished_offered s.routes (acted s.routes n (λ e. after_timer e id) (all_begun s.lines))
+    finished_offered s.routes n (acted s.routes n (λ e. after_timer e id) (all_begun s.lines))
     (subst (λ (xs : List ℕ). AreSmall xs) (sym (act_ks s.routes n (λ e. after_timer e id) (all_begun s.lines) (λ e. timer_k id e) ∙ begun_ks s.lines)) (small_links s.lines h))

@@ -9,11 +9,11 @@ use Rattle.packet_layer.specs.Channel.CallState.{Ready, OwnWaiting, FarWaiting, 
 use Rattle.packet_layer.specs.Layer.{Layer, Phase, free_channel, channel_given}
 use Rattle.packet_layer.specs.Layer.Phase.{NoSession, OwnRestart, PacketReady}
 use Rattle.address_routes.specs.Routes.{RouteMap, line_for}
-use Rattle.x25_switch.specs.declared.place.Place.{Place}
-use Rattle.x25_switch.specs.declared.place.Joined.{Joined}
-use Rattle.x25_switch.specs.Lines.{SwitchLine, joined_at}
-use Rattle.x25_switch.specs.Switch.{answer, answer_by, answer_on, answer_free, has_any}
-use Rattle.x25_switch.specs.Switch.Answer.{Clears}
+use Rattle.switch_lines.specs.declared.place.Place.{Place}
+use Rattle.switch_lines.specs.declared.place.Joined.{Joined}
+use Rattle.switch_lines.specs.Lines.{SwitchLine, joined_at}
+use Rattle.switch_lines.specs.Switch.{answer, answer_by, answer_on, answer_free, has_any}
+use Rattle.switch_lines.specs.Switch.Answer.{Clears}
 use Rattle.switch_laws.specs.Leg.{Leg}
 use Rattle.switch_laws.specs.World.{World, Shown, shown_at, layers_of}
 use Rattle.switch_laws.specs.Joined.{IsSwitch, IsPair, WaitsFor}

@@ -9,11 +9,11 @@ use Rattle.packet_layer.specs.Traffic.Taken.{TakenInterrupt, TakenPacket}
 use Rattle.packet_layer.specs.Channel.{CallState, Request, Refusal, refusal, in_transfer, waits_for_call}
 use Rattle.packet_layer.specs.Channel.CallState.{Ready, OwnWaiting, FarWaiting, Transfer, Collision, OwnClear}
 use Rattle.packet_layer.specs.Channel.Request.{Taking, Releasing}
-use Rattle.x25_switch.specs.Direction.{Direction, releasable, released, carried_by, request_for}
-use Rattle.x25_switch.specs.declared.place.Place.{Place}
-use Rattle.x25_switch.specs.declared.place.Joined.{Joined}
-use Rattle.x25_switch.specs.Lines.{SwitchLine, same_place, joined_at, ask, front_at, refusal_at, places, places_on, places_from}
-use Rattle.x25_switch.specs.Relay.{moved, moved_joined, moved_front, moved_unless, relayed, relayed_from, all_relayed}
+use Rattle.switch_lines.specs.Direction.{Direction, releasable, released, carried_by, request_for}
+use Rattle.switch_lines.specs.declared.place.Place.{Place}
+use Rattle.switch_lines.specs.declared.place.Joined.{Joined}
+use Rattle.switch_lines.specs.Lines.{SwitchLine, same_place, joined_at, ask, front_at, refusal_at, places, places_on, places_from}
+use Rattle.switch_lines.specs.Relay.{moved, moved_joined, moved_front, moved_unless, relayed, relayed_from, all_relayed, legs_of, places_first, relayed_first}
 use Rattle.switch_laws.specs.Leg.{Leg, asked}
 use Rattle.switch_laws.specs.Way.{Way}
 use Rattle.switch_laws.specs.Way as way
@@ -23,7 +23,7 @@ use Rattle.switch_laws.specs.World.Act.{Asks}
 use Rattle.switch_laws.specs.Joined.{WaitsFor, IsPair, IsSwitch, HasRelayedAll, Reached, Becomes, has_nth, has_place_on, has_place}
 use Rattle.switch_laws.specs.Joined.IsPair.{connected, waiting}
 use Rattle.switch_laws.specs.Steps.{Step, acts_of_all}
-use Rattle.switch_laws.specs.EventSteps.{moved_unless_steps, moved_front_steps, moved_joined_steps, relayed_steps, relayed_from_steps, all_relayed_steps}
+use Rattle.switch_laws.specs.EventSteps.{moved_unless_steps, moved_front_steps, moved_joined_steps, relayed_steps, relayed_from_steps, all_relayed_steps, relayed_first_steps}
 use Rattle.switch_laws.proofs.Leading.{acts_lead, moved_leads, relayed_leads}
 use Rattle.switch_laws.proofs.Joins.{there_right}
 use Rattle.switch_laws.proofs.Lists.{decided, place_is, same_as}
@@ -380,7 +380,7 @@ pub record RelayedFrom (acts : List Act) (ls : List SwitchLine) (w : World) (ps 
   pub places : (y : Place) → has_place ms y ≡ has_place ls y
   pub stuck : (p : Place) → StuckAt ls p ⊎ Among p ps → StuckAt ms p
 
-relays_from : (ps : List Place) (ls : List SwitchLine) (w : World) → IsSwitch ls w → RelayedFrom (acts_of_all (relayed_from_steps ps ls) ls) ls w ps (relayed_from ps ls)
+pub relays_from : (ps : List Place) (ls : List SwitchLine) (w : World) → IsSwitch ls w → RelayedFrom (acts_of_all (relayed_from_steps ps ls) ls) ls w ps (relayed_from ps ls)
 relays_from [] ls w i = record { world = w; reached = reached_none ls w; switch = i; places = λ y. refl; stuck = λ p h. none p h }
   where
     none : (p : Place) → StuckAt ls p ⊎ Among p [] → StuckAt ls p
@@ -411,7 +411,7 @@ relays_from (x ∷ ps) ls w i = then_ (visited ls w x i) (relays_from ps (relaye
         by_here p (inl t) h = b.stuck p (inl (subst (λ (z : Place). StuckAt (relayed 8 x ls) z) (sym (place_is p x t)) a.stuck_here))
         by_here p (inr f) h = b.stuck p (onward p f h)
 
-among_here : (p x : Place) (xs : List Place) → p ≡ x → Among p (x ∷ xs)
+pub among_here : (p x : Place) (xs : List Place) → p ≡ x → Among p (x ∷ xs)
 among_here p x xs e = first (same_as p x e)
 
 among_on : (n c i : ℕ) (js : List (Option Joined)) → is_some (slice_get js i) ≡ true → Among (record { line = n; channel = c + i }) (places_on n c js)
@@ -421,16 +421,16 @@ among_on n c (suc i) (j ∷ js) e =
     let same : suc c + i ≡ c + suc i = omega arith in
     later (subst (λ (k : ℕ). Among (record { line = n; channel = k }) (places_on n (suc c) js)) same (among_on n (suc c) i js e))
 
-among_left : (p : Place) (xs ys : List Place) → Among p xs → Among p (xs ++ ys)
+pub among_left : (p : Place) (xs ys : List Place) → Among p xs → Among p (xs ++ ys)
 among_left p (x ∷ xs) ys (first e) = first e
 among_left p (x ∷ xs) ys (later h) = later (among_left p xs ys h)
 among_left p [] ys h = elim h [ ]
 
-among_right : (p : Place) (xs ys : List Place) → Among p ys → Among p (xs ++ ys)
+pub among_right : (p : Place) (xs ys : List Place) → Among p ys → Among p (xs ++ ys)
 among_right p [] ys h = h
 among_right p (x ∷ xs) ys h = later (among_right p xs ys h)
 
-among_nth : (n c : ℕ) (js : List (Option Joined)) → has_nth js c ≡ true → Among (record { line = n; channel = c }) (places_on n 1 js)
+pub among_nth : (n c : ℕ) (js : List (Option Joined)) → has_nth js c ≡ true → Among (record { line = n; channel = c }) (places_on n 1 js)
 among_nth n zero js e = absurd (true≢false (sym e))
 among_nth n (suc i) js e = let same : 1 + i ≡ suc i = omega arith in subst (λ (k : ℕ). Among (record { line = n; channel = k }) (places_on n 1 js)) same (among_on n 1 i js e)
 
@@ -445,6 +445,15 @@ among_from n (suc m) c (l ∷ ls) e =
 
 among_places : (p : Place) (ls : List SwitchLine) → has_place ls p ≡ true → Among p (places ls)
 among_places p ls e = let same : 0 + p.line ≡ p.line = omega arith in subst (λ (k : ℕ). Among (record { line = k; channel = p.channel }) (places ls)) same (among_from 0 p.line p.channel ls e)
+
+pub relayed_first_right : (first_ : List ℕ) (ls : List SwitchLine) (w : World) → IsSwitch ls w → Becomes (acts_of_all (relayed_first_steps first_ ls) ls) ls w (relayed_first first_ ls)
+relayed_first_right first_ ls w i = let r = relays_from (places_first first_ ls) ls w i in record { world = r.world; reached = r.reached; right = r.switch }
+
+pub relayed_first_stuck : (first_ : List ℕ) (ls : List SwitchLine) (w : World) → IsSwitch ls w → HasRelayedAll (relayed_first first_ ls)
+relayed_first_stuck first_ ls w i p j t e f =
+    let r = relays_from (places_first first_ ls) ls w i in
+    let here = sym (r.places p) ∙ joined_place (relayed_first first_ ls) p j e in
+    r.stuck p (inr (among_right p (legs_of first_ ls) (places ls) (among_places p ls here))) j t e f
 
 pub all_relayed_right : (ls : List SwitchLine) (w : World) → IsSwitch ls w → Becomes (acts_of_all (all_relayed_steps ls) ls) ls w (all_relayed ls)
 all_relayed_right ls w i = let r = relays_from (places ls) ls w i in record { world = r.world; reached = r.reached; right = r.switch }

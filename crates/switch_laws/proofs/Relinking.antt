@@ -16,14 +16,14 @@ use Rattle.packet_layer.specs.Layer.{Layer, Phase, Next, channel_of, nth_channel
 use Rattle.packet_layer.specs.Layer.Phase.{NoSession, OwnRestart, PacketReady}
 use Rattle.packet_end.specs.PacketEnd.{PacketEnd, relinked, offered, all_offered, with_next, settled}
 use Rattle.address_routes.specs.Routes.{RouteMap}
-use Rattle.x25_switch.specs.Direction.{Direction, releasable, carried_by, request_for}
-use Rattle.x25_switch.specs.Causes.{reset_cause, clear_cause, far_diagnostic}
-use Rattle.x25_switch.specs.declared.place.Place.{Place}
-use Rattle.x25_switch.specs.declared.place.Joined.{Joined}
-use Rattle.x25_switch.specs.Lines.{SwitchLine, changed, joined_at, with_joined, ask, front_at, refusal_at, places}
-use Rattle.x25_switch.specs.Relay.{freed, kept_anew, covered_on, told_joined, told_of, moved, moved_unless, moved_front, moved_joined, relayed, relayed_from, all_relayed}
-use Rattle.x25_switch.specs.Switch.{Answer, answer, answered, forwarded, place_call, heed, heed_all, with_end, notes_of, without_notes, quieted, acted, raised, to_relink, relinked_at, all_relinked, may_offer, offered_from, rounds, finished}
-use Rattle.x25_switch.specs.Switch.Answer.{Clears, Joins}
+use Rattle.switch_lines.specs.Direction.{Direction, releasable, carried_by, request_for}
+use Rattle.switch_lines.specs.Causes.{reset_cause, clear_cause, far_diagnostic}
+use Rattle.switch_lines.specs.declared.place.Place.{Place}
+use Rattle.switch_lines.specs.declared.place.Joined.{Joined}
+use Rattle.switch_lines.specs.Lines.{SwitchLine, changed, joined_at, with_joined, ask, front_at, refusal_at}
+use Rattle.switch_lines.specs.Relay.{freed, kept_anew, covered_on, told_joined, told_of, moved, moved_unless, moved_front, moved_joined, relayed, relayed_from, places_first, relayed_first}
+use Rattle.switch_lines.specs.Switch.{Answer, answer, answered, forwarded, place_call, heed, heed_all, with_end, notes_of, without_notes, quieted, acted, raised, to_relink, relinked_at, all_relinked, may_offer, offering_from, offered_from, rounds, all_offered_on, lines_first, finished}
+use Rattle.switch_lines.specs.Switch.Answer.{Clears, Joins}
 use Rattle.switch_laws.proofs.Lists.{map_unchanged}
 use Rattle.switch_laws.proofs.Finishing.{none_relinks}
 
@@ -344,19 +344,22 @@ either_asks : (b : Bool) (x y : List SwitchLine) (bs : List Bool) → asks x ≡
 either_asks true x y bs f g = f
 either_asks false x y bs f g = g
 
-rounds_asks : (most : ℕ) (ls : List SwitchLine) → asks (rounds most ls) ≡ asks ls
-rounds_asks zero ls = from_asks (places ls) ls
-rounds_asks (suc most) ls =
-    let ms = all_relayed ls in
+rounds_asks : (most : ℕ) (first : List ℕ) (ls : List SwitchLine) → asks (rounds most first ls) ≡ asks ls
+rounds_asks zero first ls = from_asks (places_first first ls) ls
+rounds_asks (suc most) first ls =
+    let ms = relayed_first first ls in
+    let next = offering_from 0 ms in
     let ks = offered_from (length ls) 0 ms in
-    either_asks (list_any may_offer ms) (rounds most ks) ms (asks ls) (rounds_asks most ks ∙ (offered_asks (length ls) 0 ms ∙ from_asks (places ls) ls)) (from_asks (places ls) ls)
+    let relayed_ = from_asks (places_first first ls) ls in
+    either_asks (list_any may_offer ms) (rounds most next ks) ms (asks ls) (rounds_asks most next ks ∙ (offered_asks (length ls) 0 ms ∙ relayed_)) relayed_
 
 pub ends_ask : (f : PacketEnd → PacketEnd) (ls : List SwitchLine) → ((e : PacketEnd) → (f e).layer.relink ≡ e.layer.relink) → to_relink (map (with_end f) ls) ≡ to_relink ls
 ends_ask f [] same = refl
 ends_ask f (l ∷ ls) same =
     ap (λ (b : Bool). if b then Some 0 else raised (to_relink (map (with_end f) ls))) (same l.end) ∙ ap (λ (o : Option ℕ). if l.end.layer.relink then Some 0 else raised o) (ends_ask f ls same)
 
-pub finished_end : (routes : RouteMap) (ls : List SwitchLine) → to_relink (finished routes ls) ≡ None
-finished_end routes ls =
+pub finished_end : (routes : RouteMap) (n : ℕ) (ls : List SwitchLine) → to_relink (finished routes n ls) ≡ None
+finished_end routes n ls =
     let rs = all_relinked (length ls) routes ls in
-    ends_ask settled (rounds (7 * length rs) rs) (λ e. refl) ∙ (same_asking rs (rounds (7 * length rs) rs) (rounds_asks (7 * length rs) rs) ∙ all_relinked_end routes ls)
+    let ms = all_offered_on (lines_first n routes ls) rs in
+    ends_ask settled ms (λ e. refl) ∙ (same_asking rs ms (rounds_asks (7 * length rs) (lines_first n routes ls) rs) ∙ all_relinked_end routes ls)

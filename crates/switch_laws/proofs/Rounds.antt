@@ -11,12 +11,12 @@ use Rattle.packet_layer.specs.Layer.{Next, next_packet}
 use Rattle.packet_layer.specs.Events.{written_packet}
 use Rattle.packet_end.specs.PacketEnd.{PacketEnd, offered, all_offered, with_next}
 use Rattle.packet_end.proofs.Offering.{takes_none, longer, one_offered}
-use Rattle.x25_switch.specs.Direction.{releasable, carried_by, request_for}
-use Rattle.x25_switch.specs.declared.place.Place.{Place}
-use Rattle.x25_switch.specs.declared.place.Joined.{Joined}
-use Rattle.x25_switch.specs.Lines.{SwitchLine, changed, joined_at, with_joined, ask, front_at, refusal_at, places}
-use Rattle.x25_switch.specs.Relay.{moved, moved_unless, moved_front, moved_joined, relayed, relayed_from, all_relayed}
-use Rattle.x25_switch.specs.Switch.{with_end, may_offer, offered_from, rounds}
+use Rattle.switch_lines.specs.Direction.{releasable, carried_by, request_for}
+use Rattle.switch_lines.specs.declared.place.Place.{Place}
+use Rattle.switch_lines.specs.declared.place.Joined.{Joined}
+use Rattle.switch_lines.specs.Lines.{SwitchLine, changed, joined_at, with_joined, ask, front_at, refusal_at}
+use Rattle.switch_lines.specs.Relay.{moved, moved_unless, moved_front, moved_joined, relayed, relayed_from, places_first, relayed_first}
+use Rattle.switch_lines.specs.Switch.{with_end, may_offer, offering_from, offered_from, rounds}
 use Rattle.switch_laws.proofs.Lists.{map_unchanged, and_both, decided}
 
 -- ---- the relay changes no link
@@ -47,12 +47,12 @@ relayed_lines : (most : ℕ) (p : Place) (ls : List SwitchLine) → lines_of (re
 relayed_lines zero p ls = refl
 relayed_lines (suc most) p ls = relayed_lines most p (moved p ls) ∙ moved_lines (joined_at ls p) p ls
 
-from_lines : (ps : List Place) (ls : List SwitchLine) → lines_of (relayed_from ps ls) ≡ lines_of ls
+pub from_lines : (ps : List Place) (ls : List SwitchLine) → lines_of (relayed_from ps ls) ≡ lines_of ls
 from_lines [] ls = refl
 from_lines (p ∷ ps) ls = from_lines ps (relayed 8 p ls) ∙ relayed_lines 8 p ls
 
-pub all_lines : (ls : List SwitchLine) → lines_of (all_relayed ls) ≡ lines_of ls
-all_lines ls = from_lines (places ls) ls
+pub first_lines : (first : List ℕ) (ls : List SwitchLine) → lines_of (relayed_first first ls) ≡ lines_of ls
+first_lines first ls = from_lines (places_first first ls) ls
 
 -- ---- places for packets that are left at the links
 
@@ -161,19 +161,6 @@ in_turn (l ∷ ls) = shifted (length ls) 0 (with_end all_offered l) ls ∙ ap₂
 
 -- ---- rounds
 
-none_left : (ls : List SwitchLine) → Small (lines_of ls) → total (lines_of ls) ≤ 0 → any_may ls ≡ false
-none_left ls s le = by_any (any_may ls) refl
-  where
-    by_any : (b : Bool) → any_may ls ≡ b → any_may ls ≡ false
-    by_any false e = e
-    by_any true e = let less = fewer ls s e in absurd (omega arith)
-
-rounds_by : (b : Bool) (most : ℕ) (ls : List SwitchLine) → any_may (all_relayed ls) ≡ b
-    → (b ≡ true → any_may (rounds most (offered_from (length ls) 0 (all_relayed ls))) ≡ false)
-    → any_may (if b then rounds most (offered_from (length ls) 0 (all_relayed ls)) else all_relayed ls) ≡ false
-rounds_by true most ls e more = more refl
-rounds_by false most ls e more = e
-
 same_length : (ls ms : List SwitchLine) → lines_of ls ≡ lines_of ms → length ls ≡ length ms
 same_length ls ms e = sym (counted ls) ∙ (ap (λ (es : List End). length es) e ∙ counted ms)
   where
@@ -181,22 +168,38 @@ same_length ls ms e = sym (counted ls) ∙ (ap (λ (es : List End). length es) e
     counted [] = refl
     counted (k ∷ ks) = ap (λ (n : ℕ). suc n) (counted ks)
 
-pub rounds_offer : (most : ℕ) (ls : List SwitchLine) → Small (lines_of ls) → total (lines_of ls) ≤ most → any_may (rounds most ls) ≡ false
-rounds_offer zero ls s le =
-    none_left (all_relayed ls) (subst (λ (es : List End). Small es) (sym (all_lines ls)) s) (subst (λ (es : List End). total es ≤ 0) (sym (all_lines ls)) le)
-rounds_offer (suc most) ls s le = rounds_by (any_may (all_relayed ls)) most ls refl (λ e. onward e (λ ks t u. rounds_offer most ks t u))
+-- so many lines as there were before the relay are all
+pub offers_all : (ls ms : List SwitchLine) → lines_of ms ≡ lines_of ls → offered_from (length ls) 0 ms ≡ map offers_line ms
+offers_all ls ms e = ap (λ (k : ℕ). offered_from k 0 ms) (sym (same_length ms ls e)) ∙ in_turn ms
+
+none_left : (ls : List SwitchLine) → Small (lines_of ls) → total (lines_of ls) ≤ 0 → any_may ls ≡ false
+none_left ls s le = by_any (any_may ls) refl
+  where
+    by_any : (b : Bool) → any_may ls ≡ b → any_may ls ≡ false
+    by_any false e = e
+    by_any true e = let less = fewer ls s e in absurd (omega arith)
+
+rounds_by : (b : Bool) (most : ℕ) (next : List ℕ) (ms ks : List SwitchLine) → any_may ms ≡ b
+    → (b ≡ true → any_may (rounds most next ks) ≡ false) → any_may (if b then rounds most next ks else ms) ≡ false
+rounds_by true most next ms ks e more = more refl
+rounds_by false most next ms ks e more = e
+
+pub rounds_offer : (most : ℕ) (first : List ℕ) (ls : List SwitchLine) → Small (lines_of ls) → total (lines_of ls) ≤ most → any_may (rounds most first ls) ≡ false
+rounds_offer zero first ls s le =
+    none_left (relayed_first first ls) (subst (λ (es : List End). Small es) (sym (first_lines first ls)) s) (subst (λ (es : List End). total es ≤ 0) (sym (first_lines first ls)) le)
+rounds_offer (suc most) first ls s le =
+    rounds_by (any_may ms) most (offering_from 0 ms) ms (offered_from (length ls) 0 ms) refl (λ e. onward e (λ ks t u. rounds_offer most (offering_from 0 ms) ks t u))
   where
     ms : List SwitchLine
-    ms = all_relayed ls
+    ms = relayed_first first ls
 
     small : Small (lines_of ms)
-    small = subst (λ (es : List End). Small es) (sym (all_lines ls)) s
+    small = subst (λ (es : List End). Small es) (sym (first_lines first ls)) s
 
-    is : offered_from (length ls) 0 ms ≡ map offers_line ms
-    is = ap (λ (k : ℕ). offered_from k 0 ms) (sym (same_length ms ls (all_lines ls))) ∙ in_turn ms
-
-    onward : any_may ms ≡ true → ((ks : List SwitchLine) → Small (lines_of ks) → total (lines_of ks) ≤ most → any_may (rounds most ks) ≡ false) → any_may (rounds most (offered_from (length ls) 0 ms)) ≡ false
+    onward : any_may ms ≡ true → ((ks : List SwitchLine) → Small (lines_of ks) → total (lines_of ks) ≤ most → any_may (rounds most (offering_from 0 ms) ks) ≡ false)
+        → any_may (rounds most (offering_from 0 ms) (offered_from (length ls) 0 ms)) ≡ false
     onward e more =
         let less = fewer ms small e in
-        let same = ap (λ (es : List End). total es) (all_lines ls) in
-        subst (λ (ks : List SwitchLine). any_may (rounds most ks) ≡ false) (sym is) (more (map offers_line ms) (still_small ms small) (omega arith))
+        let same = ap (λ (es : List End). total es) (first_lines first ls) in
+        let is = offers_all ls ms (first_lines first ls) in
+        subst (λ (ks : List SwitchLine). any_may (rounds most (offering_from 0 ms) ks) ≡ false) (sym is) (more (map offers_line ms) (still_small ms small) (omega arith))

@@ -10,11 +10,11 @@ use Rattle.packet_end.specs.PacketEnd as offers
 use Rattle.std.specs.List.{list_all}
 use Rattle.std.specs.Prelude.{slice_get}
 use Rattle.std.proofs.lemmas.Bool.{ltb-true}
-use Rattle.x25_switch.specs.declared.config.LineConfig.{LineConfig}
-use Rattle.x25_switch.specs.declared.place.Place.{Place}
-use Rattle.x25_switch.specs.Making.{IsConfig, IsLineConfig}
-use Rattle.x25_switch.specs.declared.place.Joined.{Joined}
-use Rattle.x25_switch.specs.Lines.{joined_at}
+use Rattle.switch_lines.specs.declared.config.LineConfig.{LineConfig}
+use Rattle.switch_lines.specs.declared.place.Place.{Place}
+use Rattle.switch_lines.specs.Making.{IsConfig, IsLineConfig}
+use Rattle.switch_lines.specs.declared.place.Joined.{Joined}
+use Rattle.switch_lines.specs.Lines.{joined_at}
 use Rattle.switch_laws.specs.Join.{IsJoin, turned, hears, gives}
 use Rattle.switch_laws.specs.World.{Shown, Agrees, shown_at, shown_of, layers_of}
 use Rattle.switch_laws.specs.Joined.{IsSwitch, has_place}

@@ -15,12 +15,12 @@ use Rattle.packet_layer.specs.Layer.{Layer, Phase, channel_of, channel_given}
 use Rattle.packet_laws.proofs.Call.Saying.{and_parts}
 use Rattle.packet_laws.proofs.Line.Outcomes.{free_is, given_ready}
 use Rattle.address_routes.specs.Routes.{RouteMap, line_for}
-use Rattle.x25_switch.specs.Direction.{new_direction}
-use Rattle.x25_switch.specs.declared.place.Place.{Place}
-use Rattle.x25_switch.specs.declared.place.Joined.{Joined}
-use Rattle.x25_switch.specs.Lines.{SwitchLine, same_place, joined_at, with_joined, ask}
-use Rattle.x25_switch.specs.Switch.{Answer, answer, answer_by, answer_on, answer_free, answered, forwarded, place_call, with_join, heed, has_any}
-use Rattle.x25_switch.specs.Switch.Answer.{Clears, Joins}
+use Rattle.switch_lines.specs.Direction.{new_direction}
+use Rattle.switch_lines.specs.declared.place.Place.{Place}
+use Rattle.switch_lines.specs.declared.place.Joined.{Joined}
+use Rattle.switch_lines.specs.Lines.{SwitchLine, same_place, joined_at, with_joined, ask}
+use Rattle.switch_lines.specs.Switch.{Answer, answer, answer_by, answer_on, answer_free, answered, forwarded, place_call, with_join, heed, has_any}
+use Rattle.switch_lines.specs.Switch.Answer.{Clears, Joins}
 use Rattle.switch_laws.specs.Leg.{Leg, stepped}
 use Rattle.switch_laws.specs.World.{World, Shown, shown_as, shown_on, shown_at, layers_of, world_after, leg_after, placed_if, is_channel}
 use Rattle.switch_laws.specs.World.Act.{Asks, Calls}

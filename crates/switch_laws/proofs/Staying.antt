@@ -14,14 +14,14 @@ use Rattle.packet_laws.proofs.Line.Lines.{nth_other}
 use Rattle.packet_laws.proofs.Line.Outcomes.{free_is, given_ready}
 use Rattle.packet_end.specs.PacketEnd.{PacketEnd, all_offered}
 use Rattle.address_routes.specs.Routes.{RouteMap, line_for}
-use Rattle.x25_switch.specs.Direction.{Direction, new_direction, releasable, released, carried_by, request_for}
-use Rattle.x25_switch.specs.Causes.{clear_cause, reset_cause, far_diagnostic}
-use Rattle.x25_switch.specs.declared.place.Place.{Place}
-use Rattle.x25_switch.specs.declared.place.Joined.{Joined}
-use Rattle.x25_switch.specs.Lines.{SwitchLine, same_place, changed, joined_at, with_joined, ask, front_at, refusal_at, places}
-use Rattle.x25_switch.specs.Relay.{freed, kept_anew, covered_on, told_joined, told_of, moved, moved_unless, moved_front, moved_joined, relayed, relayed_from, all_relayed}
-use Rattle.x25_switch.specs.Switch.{Answer, answer, answered, forwarded, place_call, has_any, heed, heed_all, with_end, notes_of, without_notes, quieted, acted, may_offer, offered_from, rounds}
-use Rattle.x25_switch.specs.Switch.Answer.{Clears, Joins}
+use Rattle.switch_lines.specs.Direction.{Direction, new_direction, releasable, released, carried_by, request_for}
+use Rattle.switch_lines.specs.Causes.{clear_cause, reset_cause, far_diagnostic}
+use Rattle.switch_lines.specs.declared.place.Place.{Place}
+use Rattle.switch_lines.specs.declared.place.Joined.{Joined}
+use Rattle.switch_lines.specs.Lines.{SwitchLine, same_place, changed, joined_at, with_joined, ask, front_at, refusal_at}
+use Rattle.switch_lines.specs.Relay.{freed, kept_anew, covered_on, told_joined, told_of, moved, moved_unless, moved_front, moved_joined, relayed, relayed_from, places_first, relayed_first}
+use Rattle.switch_lines.specs.Switch.{Answer, answer, answered, forwarded, place_call, has_any, heed, heed_all, with_end, notes_of, without_notes, quieted, acted, may_offer, offering_from, offered_from, rounds}
+use Rattle.switch_lines.specs.Switch.Answer.{Clears, Joins}
 use Rattle.switch_laws.specs.World.{World, Shown, shown_as, shown_on, shown_at, layers_of}
 use Rattle.switch_laws.specs.Joined.{IsSwitch, has_place}
 use Rattle.switch_laws.specs.Stays.{Stay}
@@ -367,13 +367,16 @@ stay_offered (suc count) n ls =
     stay_then ls (changed n (with_end all_offered) ls) (offered_from count (suc n) (changed n (with_end all_offered) ls))
     (stay_same ls (changed n (with_end all_offered) ls) (λ p. joined_kept n p.line p.channel (with_end all_offered) ls (λ l. refl))) (stay_offered count (suc n) (changed n (with_end all_offered) ls))
 
-stay_by : (b : Bool) (most : ℕ) (ls : List SwitchLine) → ((ms : List SwitchLine) → AllStay ms (rounds most ms)) → AllStay ls (if b then rounds most (offered_from (length ls) 0 (all_relayed ls)) else all_relayed ls)
-stay_by true most ls more =
-    let ms = all_relayed ls in
+stay_by : (b : Bool) (most : ℕ) (first next : List ℕ) (ls : List SwitchLine) → ((ms : List SwitchLine) → AllStay ms (rounds most next ms))
+    → AllStay ls (if b then rounds most next (offered_from (length ls) 0 (relayed_first first ls)) else relayed_first first ls)
+stay_by true most first next ls more =
+    let ms = relayed_first first ls in
     let xs = offered_from (length ls) 0 ms in
-    stay_then ls ms (rounds most xs) (stay_from (places ls) ls) (stay_then ms xs (rounds most xs) (stay_offered (length ls) 0 ms) (more xs))
-stay_by false most ls more = stay_from (places ls) ls
+    stay_then ls ms (rounds most next xs) (stay_from (places_first first ls) ls) (stay_then ms xs (rounds most next xs) (stay_offered (length ls) 0 ms) (more xs))
+stay_by false most first next ls more = stay_from (places_first first ls) ls
 
-pub stay_rounds : (most : ℕ) (ls : List SwitchLine) → AllStay ls (rounds most ls)
-stay_rounds zero ls = stay_from (places ls) ls
-stay_rounds (suc most) ls = stay_by (list_any may_offer (all_relayed ls)) most ls (λ ms. stay_rounds most ms)
+pub stay_rounds : (most : ℕ) (first : List ℕ) (ls : List SwitchLine) → AllStay ls (rounds most first ls)
+stay_rounds zero first ls = stay_from (places_first first ls) ls
+stay_rounds (suc most) first ls =
+    let next = offering_from 0 (relayed_first first ls) in
+    stay_by (list_any may_offer (relayed_first first ls)) most first next ls (λ ms. stay_rounds most next ms)

@@ -5,12 +5,12 @@ use Rattle.packet_layer.specs.Packets.{Note, Reason}
 use Rattle.packet_layer.specs.Packets.Note.{Incoming, Connected, Closed, WasReset, InterruptConfirmed, Covered}
 use Rattle.packet_layer.specs.Channel.{Request}
 use Rattle.packet_layer.specs.Channel.Request.{Clearing, Resetting, Releasing, Confirming}
-use Rattle.x25_switch.specs.Direction.{Direction, new_direction, releasable, released, covered_by}
-use Rattle.x25_switch.specs.Causes.{reset_cause, clear_cause, far_diagnostic}
-use Rattle.x25_switch.specs.declared.place.Place.{Place}
-use Rattle.x25_switch.specs.declared.place.Joined.{Joined}
-use Rattle.x25_switch.specs.Lines.{SwitchLine, same_place, joined_at, with_joined, ask}
-use Rattle.x25_switch.specs.Relay.{told, told_of, told_joined, covered_on, kept_anew}
+use Rattle.switch_lines.specs.Direction.{Direction, new_direction, releasable, released, covered_by}
+use Rattle.switch_lines.specs.Causes.{reset_cause, clear_cause, far_diagnostic}
+use Rattle.switch_lines.specs.declared.place.Place.{Place}
+use Rattle.switch_lines.specs.declared.place.Joined.{Joined}
+use Rattle.switch_lines.specs.Lines.{SwitchLine, same_place, joined_at, with_joined, ask}
+use Rattle.switch_lines.specs.Relay.{told, told_of, told_joined, covered_on, kept_anew}
 use Rattle.switch_laws.specs.Leg.{Leg, asked}
 use Rattle.switch_laws.specs.Join.{Join, IsJoin}
 use Rattle.switch_laws.specs.Join as join

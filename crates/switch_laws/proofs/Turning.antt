@@ -26,9 +26,9 @@ use Rattle.switch_laws.specs.EventSteps.{heed_all_steps, acted_steps}
 use Rattle.switch_laws.proofs.Lists.{decided, get_map}
 use Rattle.packet_end.specs.PacketEnd.{PacketEnd, heeded, after_packet, expired, runs_at}
 use Rattle.address_routes.specs.Routes.{RouteMap}
-use Rattle.x25_switch.specs.declared.place.Place.{Place}
-use Rattle.x25_switch.specs.Lines.{SwitchLine, changed, joined_at}
-use Rattle.x25_switch.specs.Switch.{heed_all, with_end, notes_of, without_notes, notes_heeded, quieted, acted}
+use Rattle.switch_lines.specs.declared.place.Place.{Place}
+use Rattle.switch_lines.specs.Lines.{SwitchLine, changed, joined_at}
+use Rattle.switch_lines.specs.Switch.{heed_all, with_end, notes_of, without_notes, notes_heeded, quieted, acted}
 use Rattle.switch_laws.specs.Leg.{Leg}
 use Rattle.switch_laws.specs.World.{World, layers_of, Act, MayHappen, IsReadAs, after_act, after_acts, world_after, world_after_all, layer_after, leg_after, line_of, came_in}
 use Rattle.switch_laws.specs.World.Act.{Comes, Expires, GoesUp, GoesDown, Reads}

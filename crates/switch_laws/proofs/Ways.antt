@@ -10,7 +10,7 @@ use Rattle.packet_layer.specs.Channel.{CallState, Refusal, refusal, refused_if, 
 use Rattle.packet_layer.specs.Channel.CallState.{Transfer}
 use Rattle.packet_layer.specs.Channel.Request.{Sending, Interrupting, Taking, Releasing}
 use Rattle.packet_laws.specs.History.{Epoch}
-use Rattle.x25_switch.specs.Direction.{Direction, releasable, released, carried_by, request_for}
+use Rattle.switch_lines.specs.Direction.{Direction, releasable, released, carried_by, request_for}
 use Rattle.switch_laws.specs.Leg.{Leg, IsLeg, asked, asked_unless}
 use Rattle.switch_laws.specs.Clause.{TakenPart, SentPart, taken_part, sent_part, Passed, IsDirection}
 use Rattle.switch_laws.specs.Way.{Way, Holds, IsRight, IsStuck, freed, moved, moved_front, moved_unless, relayed}

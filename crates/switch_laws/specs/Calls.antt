@@ -1,8 +1,8 @@
 -- A channel that has a call is joined.
 use Rattle.std.specs.Prelude.{◌≡◌, true, List, Some, is_some}
 use Rattle.packet_layer.specs.Channel.{had_call}
-use Rattle.x25_switch.specs.declared.place.Place.{Place}
-use Rattle.x25_switch.specs.Lines.{SwitchLine, joined_at}
+use Rattle.switch_lines.specs.declared.place.Place.{Place}
+use Rattle.switch_lines.specs.Lines.{SwitchLine, joined_at}
 use Rattle.switch_laws.specs.World.{Shown, shown_at, layers_of}
 
 -- a call is set up, goes on or is in a collision there

@@ -3,7 +3,7 @@
 use Rattle.std.specs.Prelude.{◌≡◌, ℕ, suc, ◌+◌, ◌-◌, ◌<◌, true, if◌then◌else◌, List, [], ◌∷◌, ◌++◌, length}
 use Rattle.packet_layer.specs.Packets.{Datum}
 use Rattle.packet_laws.specs.History.{Epoch}
-use Rattle.x25_switch.specs.Direction.{Direction}
+use Rattle.switch_lines.specs.Direction.{Direction}
 
 -- what was taken in an epoch, and how many of the packets were released
 pub record TakenPart : Type 0 where

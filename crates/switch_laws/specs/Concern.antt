@@ -1,17 +1,19 @@
 -- Which joins an event has to relay: those with a leg on the line of the event, or on one whose link is set up anew.
-use Rattle.std.specs.Prelude.{◌≡◌, ℕ, suc, Bool, true, false, ◌||◌, ◌==◌, if◌then◌else◌, List, [], ◌∷◌, length}
+use Rattle.std.specs.Prelude.{◌≡◌, ℕ, Bool, true, false, ◌||◌, ◌==◌, if◌then◌else◌, List, [], ◌∷◌, length}
 use Rattle.std.specs.Prelude.{Option, Some, None, is_some}
 use Rattle.std.specs.List.{list_any}
 use Rattle.link_timers.specs.declared.timers.TimerId.{TimerId}
 use Rattle.packet_layer.specs.Traffic.{Taken}
 use Rattle.packet_end.specs.PacketEnd as end
 use Rattle.packet_end.specs.PacketEnd.{PacketEnd}
-use Rattle.x25_switch.specs.Direction.{request_for}
-use Rattle.x25_switch.specs.declared.place.Place.{Place}
-use Rattle.x25_switch.specs.declared.place.Joined.{Joined}
-use Rattle.x25_switch.specs.Lines.{SwitchLine, joined_at, front_at, refusal_at, places}
-use Rattle.x25_switch.specs.Relay.{relayed_from, all_relayed}
-use Rattle.x25_switch.specs.Switch.{Switch, acted, all_begun, all_relinked, may_offer, offered_from}
+use Rattle.switch_lines.specs.Direction.{request_for}
+use Rattle.switch_lines.specs.declared.place.Place.{Place}
+use Rattle.switch_lines.specs.declared.place.Joined.{Joined}
+use Rattle.switch_lines.specs.Lines.{SwitchLine, joined_at, front_at, refusal_at, places}
+use Rattle.switch_lines.specs.Relay.{relayed_from, all_relayed}
+use Rattle.switch_lines.specs.Switch.{Switch, acted, all_begun, all_relinked, offered_from, offering_from, on_frame}
+use Rattle.switch_lines.specs.Switch.{on_timer}
+use Rattle.switch_lines.specs.Alone.{on_frame_alone, on_timer_alone}
 use Rattle.switch_laws.specs.Turn.{AreOctets}
 use Rattle.switch_laws.specs.World.{World}
 use Rattle.switch_laws.specs.Joined.{IsSwitch, HasRelayedAll}
@@ -54,14 +56,9 @@ before_relay n f s =
 abbrev pub RelaysItsOwn : (line : ℕ) → (PacketEnd → PacketEnd) → Switch → Type 0
 RelaysItsOwn n f s = all_relayed (before_relay n f s) ≡ relayed_on (lines_of_event n f s) (before_relay n f s)
 
--- the lines whose links take a packet, from this one on
-abbrev pub offering_from : (line : ℕ) → List SwitchLine → List ℕ
-offering_from n [] = []
-offering_from n (l ∷ ls) = if may_offer l then n ∷ offering_from (suc n) ls else offering_from (suc n) ls
-
 -- whatever joins are passed over, if nothing waits on them that is taken, the relay of the others is that of all; and
 -- so it is in each event of a switch on which all was relayed before. Once packets were offered in turn, what has to be
--- relayed are the joins with a leg on a line whose link took one
+-- relayed are the joins with a leg on a line whose link took one. So the event is that in which these are relayed alone
 pub record ConcernLaw : Type 0 where
   pub relays : (lines : List ℕ) (ls : List SwitchLine) (w : World) → IsSwitch ls w → HasRelayedBut lines ls
       → all_relayed ls ≡ relayed_on lines ls
@@ -71,3 +68,7 @@ pub record ConcernLaw : Type 0 where
       → RelaysItsOwn n (λ e. end.after_timer e id) s
   pub offers : (ls : List SwitchLine) (w : World) → IsSwitch ls w → HasRelayedAll ls
       → all_relayed (offered_from (length ls) 0 ls) ≡ relayed_on (offering_from 0 ls) (offered_from (length ls) 0 ls)
+  pub frame_alone : (n : ℕ) (octets : List ℕ) (s : Switch) (w : World) → AreOctets octets → IsSwitch s.lines w
+      → HasRelayedAll s.lines → on_frame_alone n octets s ≡ on_frame n octets s
+  pub timer_alone : (n : ℕ) (id : TimerId) (s : Switch) (w : World) → IsSwitch s.lines w → HasRelayedAll s.lines
+      → on_timer_alone n id s ≡ on_timer n id s

@@ -10,16 +10,17 @@ use Rattle.packet_layer.specs.Traffic.{Taken}
 use Rattle.packet_layer.specs.Channel.{Refusal}
 use Rattle.packet_layer.specs.Channel.Request.{Accept, Clearing, Resetting, Taking, Releasing, Confirming}
 use Rattle.address_routes.specs.Routes.{RouteMap}
-use Rattle.x25_switch.specs.Direction.{Direction, new_direction, releasable, released, covered_by, carried_by}
-use Rattle.x25_switch.specs.Direction.{request_for}
-use Rattle.x25_switch.specs.Causes.{reset_cause, clear_cause, far_diagnostic}
-use Rattle.x25_switch.specs.declared.place.Place.{Place}
-use Rattle.x25_switch.specs.declared.place.Joined.{Joined}
-use Rattle.x25_switch.specs.Lines.{SwitchLine, changed, joined_at, places, front_at, refusal_at}
-use Rattle.x25_switch.specs.Relay.{moved, relayed, all_relayed}
-use Rattle.x25_switch.specs.Switch.{Answer, answer, forwarded, heed, notes_of, with_end, quieted, acted, to_relink}
-use Rattle.x25_switch.specs.Switch.{relinked_at, all_relinked, may_offer, offered_from, all_begun}
-use Rattle.x25_switch.specs.Switch.Answer.{Clears, Joins}
+use Rattle.switch_lines.specs.Direction.{Direction, new_direction, releasable, released, covered_by, carried_by}
+use Rattle.switch_lines.specs.Direction.{request_for}
+use Rattle.switch_lines.specs.Causes.{reset_cause, clear_cause, far_diagnostic}
+use Rattle.switch_lines.specs.declared.place.Place.{Place}
+use Rattle.switch_lines.specs.declared.place.Joined.{Joined}
+use Rattle.switch_lines.specs.Lines.{SwitchLine, changed, joined_at, places, front_at, refusal_at}
+use Rattle.switch_lines.specs.Relay.{moved, relayed, places_first, relayed_first}
+use Rattle.switch_lines.specs.Switch.{Answer, answer, forwarded, heed, notes_of, with_end, quieted, acted, to_relink}
+use Rattle.switch_lines.specs.Switch.{relinked_at, all_relinked, may_offer, offering_from, offered_from}
+use Rattle.switch_lines.specs.Switch.{lines_first, all_begun}
+use Rattle.switch_lines.specs.Switch.Answer.{Clears, Joins}
 use Rattle.switch_laws.specs.World.{Act}
 use Rattle.switch_laws.specs.Steps.{Happening, does, Step, lines_after, acts_of_all}
 use Rattle.switch_laws.specs.Steps.Happening.{Relinks}
@@ -52,6 +53,9 @@ relayed_from_steps (p ∷ ps) ls = relayed_steps 8 p ls ++ relayed_from_steps ps
 
 abbrev pub all_relayed_steps : List SwitchLine → List Step
 all_relayed_steps ls = relayed_from_steps (places ls) ls
+
+abbrev pub relayed_first_steps : (first : List ℕ) → List SwitchLine → List Step
+relayed_first_steps first ls = relayed_from_steps (places_first first ls) ls
 
 -- ---- notes
 
@@ -127,19 +131,20 @@ abbrev pub offered_steps : (count line : ℕ) → List Step
 offered_steps zero n = []
 offered_steps (suc count) n = Offers n ∷ offered_steps count (suc n)
 
-abbrev pub rounds_steps : (most : ℕ) → List SwitchLine → List Step
-rounds_steps zero ls = all_relayed_steps ls
-rounds_steps (suc most) ls =
-    all_relayed_steps ls
-    ++ (if list_any may_offer (all_relayed ls)
-    then offered_steps (length ls) 0 ++ rounds_steps most (offered_from (length ls) 0 (all_relayed ls))
+abbrev pub rounds_steps : (most : ℕ) → (first : List ℕ) → List SwitchLine → List Step
+rounds_steps zero first ls = relayed_first_steps first ls
+rounds_steps (suc most) first ls =
+    let ms = relayed_first first ls in
+    relayed_first_steps first ls
+    ++ (if list_any may_offer ms
+    then offered_steps (length ls) 0 ++ rounds_steps most (offering_from 0 ms) (offered_from (length ls) 0 ms)
     else [])
 
-abbrev pub finished_steps : RouteMap → List SwitchLine → List Step
-finished_steps routes ls =
+abbrev pub finished_steps : RouteMap → (line : ℕ) → List SwitchLine → List Step
+finished_steps routes n ls =
+    let rs = all_relinked (length ls) routes ls in
     all_relinked_steps (length ls) routes ls
-    ++ (rounds_steps (7 * length (all_relinked (length ls) routes ls)) (all_relinked (length ls) routes ls)
-    ++ Settles ∷ [])
+    ++ (rounds_steps (7 * length rs) (lines_first n routes ls) rs ++ Settles ∷ [])
 
 -- ---- events
 
@@ -147,7 +152,7 @@ abbrev pub event_steps : RouteMap → (line : ℕ) → Happening → List Switch
 event_steps routes n what ls =
     Begins
     ∷ (acted_steps routes n what (all_begun ls)
-    ++ finished_steps routes (acted routes n (does what) (all_begun ls)))
+    ++ finished_steps routes n (acted routes n (does what) (all_begun ls)))
 
 -- the acts of the packet layers that they are
 abbrev pub event_acts : RouteMap → (line : ℕ) → Happening → List SwitchLine → List Act

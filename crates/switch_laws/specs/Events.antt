@@ -7,10 +7,10 @@ use Rattle.packet_layer.specs.Channel.{closed_channel}
 use Rattle.packet_laws.specs.History.{empty_epoch}
 use Rattle.packet_laws.specs.Readable.{Every}
 use Rattle.address_routes.specs.Routes.{RouteMap}
-use Rattle.x25_switch.specs.declared.config.LineConfig.{LineConfig}
-use Rattle.x25_switch.specs.Lines.{SwitchLine}
-use Rattle.x25_switch.specs.Making.{IsConfig, made}
-use Rattle.x25_switch.specs.Switch.{Switch, on_frame, on_timer, restart, elapse, without_frame, to_relink, may_offer}
+use Rattle.switch_lines.specs.declared.config.LineConfig.{LineConfig}
+use Rattle.switch_lines.specs.Lines.{SwitchLine}
+use Rattle.switch_lines.specs.Making.{IsConfig, made}
+use Rattle.switch_lines.specs.Switch.{Switch, on_frame, on_timer, restart, elapse, without_frame, to_relink, may_offer}
 use Rattle.switch_laws.specs.Turn.{AreOctets}
 use Rattle.switch_laws.specs.Calls.{CallsAreJoined}
 use Rattle.switch_laws.specs.Offers.{HaveSmallLinks, EndsKeepNothingBack}

@@ -8,12 +8,12 @@ use Rattle.packet_layer.specs.Channel.CallState.{Transfer}
 use Rattle.packet_layer.specs.Layer.{Layer}
 use Rattle.packet_laws.specs.Counts.{IsNumbered}
 use Rattle.address_routes.specs.Routes.{RouteMap, line_for}
-use Rattle.x25_switch.specs.Direction.{new_direction}
-use Rattle.x25_switch.specs.declared.place.Place.{Place}
-use Rattle.x25_switch.specs.Lines.{SwitchLine, joined_at}
-use Rattle.x25_switch.specs.Relay.{all_relayed}
-use Rattle.x25_switch.specs.Switch.{Switch, answer, heed_all, on_frame, on_timer, restart, elapse}
-use Rattle.x25_switch.specs.Switch.Answer.{Joins}
+use Rattle.switch_lines.specs.Direction.{new_direction}
+use Rattle.switch_lines.specs.declared.place.Place.{Place}
+use Rattle.switch_lines.specs.Lines.{SwitchLine, joined_at}
+use Rattle.switch_lines.specs.Relay.{all_relayed}
+use Rattle.switch_lines.specs.Switch.{Switch, answer, heed_all, on_frame, on_timer, restart, elapse}
+use Rattle.switch_lines.specs.Switch.Answer.{Joins}
 use Rattle.switch_laws.specs.Leg.{connected}
 use Rattle.switch_laws.specs.Way.{Way, Holds, IsRight, IsStuck, freed, moved, relayed}
 use Rattle.switch_laws.specs.Join.{Join, IsJoin, IsAtRest, relayed_both, hears, mishears, gives}
@@ -72,9 +72,9 @@ pub record SwitchLaw : Type 0 where
   pub routes : (routes : RouteMap) (ls : List SwitchLine) (parts : CallParts) (q : Place)
       → answer routes ls parts ≡ Joins q → line_for routes parts.called ≡ Some q.line
 
--- whole events: after each of them, by the acts that it is, all joins hold, and nothing is kept back, on legs, in packet
--- layers and at links with a k of at most 7; each channel that has a call is joined; a join of two other lines stays,
--- but for the joins of a line whose link is set up anew in the event; a restart leaves no call
+-- whole events: after each of them, by the acts that it is, all joins hold, and nothing is kept back, on legs, in
+-- packet layers and at links with a k of at most 7; each channel that has a call is joined; a join of two other lines
+-- stays, but for the joins of a line whose link is set up anew in the event; a restart leaves no call
 pub record TurnLaw : Type 0 where
   pub frame : (n : ℕ) (octets : List ℕ) (s : Switch) (w : World) → AreOctets octets → IsSwitch s.lines w
       → Becomes (event_acts s.routes n (Brings octets) s.lines) s.lines w (on_frame n octets s).lines

@@ -1,7 +1,7 @@
 -- What the end of an event leaves at the links: no link takes a packet that its layer has, and none has one to send.
 use Rattle.std.specs.Prelude.{◌≡◌, ℕ, ◌≤◌, List, slice_get, Some}
 use Rattle.packet_end.specs.PacketEnd.{KeepsNothingBack}
-use Rattle.x25_switch.specs.Lines.{SwitchLine}
+use Rattle.switch_lines.specs.Lines.{SwitchLine}
 
 -- links with a k of at most 7
 abbrev pub HaveSmallLinks : List SwitchLine → Type 0

@@ -9,11 +9,12 @@ use Rattle.packet_layer.specs.Layer.Phase.{PacketReady}
 use Rattle.packet_end.specs.PacketEnd as end
 use Rattle.packet_end.specs.PacketEnd.{PacketEnd}
 use Rattle.address_routes.specs.Routes.{RouteMap, line_for}
-use Rattle.x25_switch.specs.declared.place.Place.{Place}
-use Rattle.x25_switch.specs.declared.place.Joined.{Joined}
-use Rattle.x25_switch.specs.Lines.{SwitchLine, changed, joined_at}
-use Rattle.x25_switch.specs.Switch.{Switch, answer, has_any, on_frame, on_timer, all_begun, with_end, quieted, notes_of}
-use Rattle.x25_switch.specs.Switch.Answer.{Clears, Joins}
+use Rattle.switch_lines.specs.declared.place.Place.{Place}
+use Rattle.switch_lines.specs.declared.place.Joined.{Joined}
+use Rattle.switch_lines.specs.Lines.{SwitchLine, changed, joined_at}
+use Rattle.switch_lines.specs.Switch.{Switch, answer, has_any, on_frame, on_timer, all_begun, with_end, quieted}
+use Rattle.switch_lines.specs.Switch.{notes_of}
+use Rattle.switch_lines.specs.Switch.Answer.{Clears, Joins}
 use Rattle.switch_laws.specs.World.{World}
 use Rattle.switch_laws.specs.Joined.{IsSwitch}
 use Rattle.switch_laws.specs.Calls.{CallsAreJoined, HasCall}

@@ -9,11 +9,11 @@ use Rattle.packet_laws.specs.Readable.{Every}
 use Rattle.std.specs.FinMap.{empty}
 use Rattle.packet_end.specs.PacketEnd.{made}
 use Rattle.packet_end.specs.declared.params.EndParams.{EndParams}
-use Rattle.x25_switch.specs.Direction.{new_direction}
-use Rattle.x25_switch.specs.declared.config.LineConfig.{LineConfig}
-use Rattle.x25_switch.specs.Lines.{SwitchLine}
-use Rattle.x25_switch.specs.Making.{IsConfig, made as made_switch}
-use Rattle.x25_switch.specs.Switch.{Switch, frames_on}
+use Rattle.switch_lines.specs.Direction.{new_direction}
+use Rattle.switch_lines.specs.declared.config.LineConfig.{LineConfig}
+use Rattle.switch_lines.specs.Lines.{SwitchLine}
+use Rattle.switch_lines.specs.Making.{IsConfig, made as made_switch}
+use Rattle.switch_lines.specs.Switch.{Switch, frames_on}
 use Rattle.switch_laws.specs.Leg.{connected}
 use Rattle.switch_laws.specs.Join.{Join, IsJoin, turned, relayed_both, hears, gives}
 use Rattle.switch_laws.specs.World.{World}

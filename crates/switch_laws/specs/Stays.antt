@@ -1,11 +1,11 @@
 -- The joins of other lines than those on which something happened.
 use Rattle.std.specs.Prelude.{◌≡◌, ℕ, List, [], ◌∷◌, length, Some}
 use Rattle.packet_end.specs.PacketEnd.{PacketEnd}
-use Rattle.x25_switch.specs.Direction.{Direction}
-use Rattle.x25_switch.specs.declared.place.Place.{Place}
-use Rattle.x25_switch.specs.declared.place.Joined.{Joined}
-use Rattle.x25_switch.specs.Lines.{SwitchLine, joined_at}
-use Rattle.x25_switch.specs.Switch.{Switch, acted, all_begun, relinks_of, to_relink}
+use Rattle.switch_lines.specs.Direction.{Direction}
+use Rattle.switch_lines.specs.declared.place.Place.{Place}
+use Rattle.switch_lines.specs.declared.place.Joined.{Joined}
+use Rattle.switch_lines.specs.Lines.{SwitchLine, joined_at}
+use Rattle.switch_lines.specs.Switch.{Switch, acted, all_begun, relinks_of, to_relink}
 
 abbrev pub IsNone : ℕ → List ℕ → Type 0
 IsNone m [] = Unit {0}

@@ -14,10 +14,10 @@ use Rattle.packet_layer.specs.Layer.{Timer, next_packet}
 use Rattle.packet_layer.specs.Events.{timer_named}
 use Rattle.packet_end.specs.PacketEnd as end
 use Rattle.packet_end.specs.PacketEnd.{PacketEnd, runs_at, with_next, all_offered, begun, settled, elapsed}
-use Rattle.x25_switch.specs.declared.place.Place.{Place}
-use Rattle.x25_switch.specs.declared.place.Joined.{Joined}
-use Rattle.x25_switch.specs.Lines.{SwitchLine, changed, with_joined, ask}
-use Rattle.x25_switch.specs.Switch.{with_end, quieted, without_notes, place_call}
+use Rattle.switch_lines.specs.declared.place.Place.{Place}
+use Rattle.switch_lines.specs.declared.place.Joined.{Joined}
+use Rattle.switch_lines.specs.Lines.{SwitchLine, changed, with_joined, ask}
+use Rattle.switch_lines.specs.Switch.{with_end, quieted, without_notes, place_call}
 use Rattle.switch_laws.specs.World.{Act}
 
 -- ---- what happens at the end of one line: a frame comes, a timer runs out, the link is set up anew

@@ -15,8 +15,8 @@ use Rattle.packet_layer.specs.Layer.Phase.{PacketReady}
 use Rattle.packet_layer.specs.Layer.Timer.{RestartTimer, CallTimer, ResetTimer, ClearTimer}
 use Rattle.packet_laws.specs.History.{empty_epoch}
 use Rattle.packet_laws.specs.Counts.{IsNumbered}
-use Rattle.x25_switch.specs.declared.place.Place.{Place}
-use Rattle.x25_switch.specs.Lines.{SwitchLine, changed}
+use Rattle.switch_lines.specs.declared.place.Place.{Place}
+use Rattle.switch_lines.specs.Lines.{SwitchLine, changed}
 use Rattle.switch_laws.specs.Leg.{Leg, IsLeg, asked, stepped, heard, misheard, gave}
 
 abbrev pub World : Type 0

@@ -5,7 +5,7 @@ use Rattle.std.proofs.lemmas.Option.{none-some, same_Some}
 use Rattle.std.proofs.lemmas.Bool.{eqb-true}
 use Rattle.link_timers.specs.declared.role.Role.TheVariants.{Dce}
 use Rattle.packet_layer.specs.Layer.{Layer}
-use Rattle.x25_switch.specs.declared.place.Place.{Place}
+use Rattle.switch_lines.specs.declared.place.Place.{Place}
 use Rattle.switch_laws.specs.Leg.{Leg}
 use Rattle.switch_laws.specs.World.{World, IsWorld, shown_on, Act, MayHappen, line_of, after_act, world_after, layer_after, leg_after}
 use Rattle.switch_laws.proofs.Lists.{get_changed, get_unchanged, decided, not_equal}

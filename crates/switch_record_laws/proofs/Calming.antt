@@ -12,20 +12,20 @@ use Rattle.packet_layer.specs.Channel.{Refusal}
 use Rattle.packet_laws.specs.Readable.{CanBePlaced}
 use Rattle.address_routes.specs.Routes.{RouteMap}
 use Rattle.packet_end.specs.PacketEnd.{PacketEnd}
-use Rattle.x25_switch.specs.Direction.{request_for}
-use Rattle.x25_switch.specs.declared.place.Place.{Place}
-use Rattle.x25_switch.specs.declared.place.Joined.{Joined}
-use Rattle.x25_switch.specs.Lines.{SwitchLine, changed, joined_at, places, front_at, refusal_at}
-use Rattle.x25_switch.specs.Relay.{moved, relayed, all_relayed}
-use Rattle.x25_switch.specs.Switch.{Answer, answer, address_of, heed, notes_of, with_end, quieted, acted, to_relink, relinked_at, all_relinked, may_offer, offered_from}
-use Rattle.x25_switch.specs.Switch.Answer.{Clears, Joins}
+use Rattle.switch_lines.specs.Direction.{request_for}
+use Rattle.switch_lines.specs.declared.place.Place.{Place}
+use Rattle.switch_lines.specs.declared.place.Joined.{Joined}
+use Rattle.switch_lines.specs.Lines.{SwitchLine, changed, joined_at, front_at, refusal_at}
+use Rattle.switch_lines.specs.Relay.{moved, relayed, places_first, relayed_first}
+use Rattle.switch_lines.specs.Switch.{Answer, answer, address_of, heed, notes_of, with_end, quieted, acted, to_relink, relinked_at, all_relinked, may_offer, offering_from, offered_from, lines_first}
+use Rattle.switch_lines.specs.Switch.Answer.{Clears, Joins}
 use Rattle.switch_laws.specs.World.{MayAsk}
 use Rattle.switch_laws.proofs.Relaying.{may_ask}
 use Rattle.switch_laws.proofs.Lists.{map_unchanged, get_map, get_changed}
 use Rattle.switch_laws.specs.Steps.{Happening, does, Step, lines_after, lines_after_all}
 use Rattle.switch_laws.specs.Steps.Happening.{Brings, RunsOut, Relinks}
 use Rattle.switch_laws.specs.Steps.Step.{Asks, Places, Keeps, Happens, Offers, Begins, Settles, Elapses}
-use Rattle.switch_laws.specs.EventSteps.{moved_unless_steps, moved_front_steps, moved_joined_steps, relayed_steps, relayed_from_steps, all_relayed_steps, anew_steps, covered_steps, told_joined_steps, told_steps, answered_steps, on_channel, heed_steps, heed_all_steps, acted_steps, relinked_steps, all_relinked_steps, offered_steps, rounds_steps, finished_steps}
+use Rattle.switch_laws.specs.EventSteps.{moved_unless_steps, moved_front_steps, moved_joined_steps, relayed_steps, relayed_from_steps, relayed_first_steps, anew_steps, covered_steps, told_joined_steps, told_steps, answered_steps, on_channel, heed_steps, heed_all_steps, acted_steps, relinked_steps, all_relinked_steps, offered_steps, rounds_steps, finished_steps}
 use Rattle.switch_record_laws.specs.Kept.{ReadsOctets, Partners, partners_after, partners_after_all, IsFit, AreFit, HaveAddresses}
 use Rattle.switch_laws.proofs.Leading.{Leads, heed_leads, acted_leads, relinked_leads}
 use Rattle.switch_record_laws.proofs.Fitting.{NotesCarry, happening_carries}
@@ -222,23 +222,29 @@ offered_calm : (count n : ℕ) → AreCalm (offered_steps count n)
 offered_calm zero n = tt
 offered_calm (suc count) n = (tt, offered_calm count (suc n))
 
-rounds_calm : (most : ℕ) (ls : List SwitchLine) → AreCalm (rounds_steps most ls)
-rounds_calm zero ls = from_calm (places ls) ls
-rounds_calm (suc most) ls = calm_then (all_relayed_steps ls) _ (from_calm (places ls) ls) (by (list_any may_offer (all_relayed ls)) (rounds_calm most (offered_from (length ls) 0 (all_relayed ls))))
+rounds_calm : (most : ℕ) (first : List ℕ) (ls : List SwitchLine) → AreCalm (rounds_steps most first ls)
+rounds_calm zero first ls = from_calm (places_first first ls) ls
+rounds_calm (suc most) first ls =
+    let ms = relayed_first first ls in
+    calm_then (relayed_first_steps first ls) _ (from_calm (places_first first ls) ls) (by (list_any may_offer ms) (rounds_calm most (offering_from 0 ms) (offered_from (length ls) 0 ms)))
   where
-    by : (v : Bool) → AreCalm (rounds_steps most (offered_from (length ls) 0 (all_relayed ls))) → AreCalm (if v then offered_steps (length ls) 0 ++ rounds_steps most (offered_from (length ls) 0 (all_relayed ls)) else [])
+    onward : List Step
+    onward = rounds_steps most (offering_from 0 (relayed_first first ls)) (offered_from (length ls) 0 (relayed_first first ls))
+
+    by : (v : Bool) → AreCalm onward → AreCalm (if v then offered_steps (length ls) 0 ++ onward else [])
     by true h = calm_then (offered_steps (length ls) 0) _ (offered_calm (length ls) 0) h
     by false h = tt
 
-pub finished_calm : (routes : RouteMap) (ls : List SwitchLine) → Addressed ls → AreCalm (finished_steps routes ls)
-finished_calm routes ls h =
+pub finished_calm : (routes : RouteMap) (n : ℕ) (ls : List SwitchLine) → Addressed ls → AreCalm (finished_steps routes n ls)
+finished_calm routes n ls h =
     let ks = all_relinked (length ls) routes ls in
-    calm_then (all_relinked_steps (length ls) routes ls) (rounds_steps (7 * length ks) ks ++ Settles ∷ []) (all_relinked_calm (length ls) routes ls h)
-    (calm_then (rounds_steps (7 * length ks) ks) (Settles ∷ []) (rounds_calm (7 * length ks) ks) (tt, tt))
+    let first = lines_first n routes ls in
+    calm_then (all_relinked_steps (length ls) routes ls) (rounds_steps (7 * length ks) first ks ++ Settles ∷ []) (all_relinked_calm (length ls) routes ls h)
+    (calm_then (rounds_steps (7 * length ks) first ks) (Settles ∷ []) (rounds_calm (7 * length ks) first ks) (tt, tt))
 
 -- all but the first two steps of an event
 pub later_calm : (routes : RouteMap) (n : ℕ) (what : Happening) (ls : List SwitchLine) → ReadsOctets what → Addressed ls
-    → AreCalm (heed_all_steps routes n (notes_of (slice_get (changed n (with_end (λ e. does what (quieted e))) ls) n)) (lines_after (Happens n what) ls) ++ finished_steps routes (acted routes n (does what) ls))
+    → AreCalm (heed_all_steps routes n (notes_of (slice_get (changed n (with_end (λ e. does what (quieted e))) ls) n)) (lines_after (Happens n what) ls) ++ finished_steps routes n (acted routes n (does what) ls))
 later_calm routes n what ls reads h =
-    calm_then _ (finished_steps routes (acted routes n (does what) ls)) (heeded_calm routes n what ls reads h)
-    (finished_calm routes (acted routes n (does what) ls) (addressed_then (acted_steps routes n what ls) ls (acted routes n (does what) ls) (acted_leads routes n what ls) h))
+    calm_then _ (finished_steps routes n (acted routes n (does what) ls)) (heeded_calm routes n what ls reads h)
+    (finished_calm routes n (acted routes n (does what) ls) (addressed_then (acted_steps routes n what ls) ls (acted routes n (does what) ls) (acted_leads routes n what ls) h))

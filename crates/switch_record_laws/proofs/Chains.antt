@@ -6,7 +6,7 @@ use Rattle.std.proofs.lemmas.Bool.{eqb-true, eq-eqb}
 use Rattle.link_timers.specs.declared.role.Role.TheVariants.{Dce}
 use Rattle.packet_layer.specs.Layer.{Layer}
 use Rattle.call_records.specs.Book.{Book}
-use Rattle.x25_switch.specs.Lines.{changed}
+use Rattle.switch_lines.specs.Lines.{changed}
 use Rattle.switch_laws.specs.World.{Act, line_of, layer_after, after_act, after_acts}
 use Rattle.switch_laws.proofs.Lists.{get_unchanged, decided, not_equal}
 use Rattle.switch_laws.proofs.Turning.{changed_at, changed_none, changed_twice, changed_same, got_changed}

@@ -19,8 +19,8 @@ use Rattle.packet_end.specs.PacketEnd.{PacketEnd, restarted, runs_at, with_next}
 use Rattle.line_laws.specs.Line as acts
 use Rattle.line_record_laws.specs.Kept.{Kept}
 use Rattle.line_record_laws.proofs.Keeping.{silent_kept, restart_kept}
-use Rattle.x25_switch.specs.Lines.{SwitchLine, changed}
-use Rattle.x25_switch.specs.Switch.{Switch, with_end, quieted, notes_of, finished, acted, all_begun, without_joins}
+use Rattle.switch_lines.specs.Lines.{SwitchLine, changed}
+use Rattle.switch_lines.specs.Switch.{Switch, with_end, quieted, notes_of, finished, acted, all_begun, without_joins}
 use Rattle.switch_laws.specs.World.{Act, MayHappen, IsReadAs, layers_of, after_acts}
 use Rattle.switch_laws.specs.Turn.{AreOctets}
 use Rattle.switch_laws.proofs.Lists.{get_map, decided}
@@ -46,14 +46,14 @@ use Rattle.switch_record_laws.proofs.Calming.{IsCalm, AreCalm, calm_stay, calm_f
 later : (n : ℕ) (what : Happening) (s : Switch) → List Step
 later n what s =
     heed_all_steps s.routes n (notes_of (slice_get (changed n (with_end (λ e. does what (quieted e))) (all_begun s.lines)) n)) (lines_after (Happens n what) (all_begun s.lines))
-    ++ finished_steps s.routes (acted s.routes n (does what) (all_begun s.lines))
+    ++ finished_steps s.routes n (acted s.routes n (does what) (all_begun s.lines))
 
 begun_later : (n : ℕ) (what : Happening) (s : Switch) → ReadsOctets what → HaveAddresses s.lines → AreCalm (later n what s)
 unfolding later
 begun_later n what s reads h = later_calm s.routes n what (all_begun s.lines) reads (addressed_then (Begins ∷ []) s.lines (all_begun s.lines) refl (addressed s.lines h))
 
 event_kept : (n : ℕ) (what : Happening) (s : Switch) (ps : Partners) (bs : Books) → ReadsOctets what → HaveAddresses s.lines → IsFit (Happens n what) ps → AreKept ps bs s.lines
-    → EventIsKept n what s ps bs (finished s.routes (acted s.routes n (does what) (all_begun s.lines)))
+    → EventIsKept n what s ps bs (finished s.routes n (acted s.routes n (does what) (all_begun s.lines)))
 unfolding later
 event_kept n what s ps bs reads h fits k =
     let calm = begun_later n what s reads h in

@@ -29,7 +29,7 @@ use Rattle.packet_layer.specs.Layer.Phase.{NoSession, OwnRestart, PacketReady}
 use Rattle.packet_layer.specs.Layer.Timer.{RestartTimer, CallTimer, ResetTimer, ClearTimer}
 use Rattle.packet_layer.specs.Events.{after_hearing, on_named, timer_named}
 use Rattle.packet_end.specs.PacketEnd.{PacketEnd, heeded, after_packet, expired, runs_at}
-use Rattle.x25_switch.specs.Switch.{quieted}
+use Rattle.switch_lines.specs.Switch.{quieted}
 use Rattle.switch_laws.proofs.Octets.{accepts_octets}
 use Rattle.switch_record_laws.specs.Kept.{ReadsOctets}
 use Rattle.switch_laws.specs.Steps.{Happening, does}

@@ -15,7 +15,7 @@ use Rattle.packet_layer.specs.Layer.{Layer, Timer, unread, link_up, link_down, o
 use Rattle.packet_layer.specs.Events.{timer_named, on_named, after_hearing}
 use Rattle.packet_end.specs.PacketEnd.{PacketEnd, heeded, after_packet, expired, runs_at, offered, all_offered, with_next}
 use Rattle.call_records.specs.Book.{Book, told, all_told}
-use Rattle.x25_switch.specs.Switch.{quieted}
+use Rattle.switch_lines.specs.Switch.{quieted}
 use Rattle.switch_laws.specs.World.{Act}
 use Rattle.switch_laws.specs.Steps.{Happening, does, note_acts, heard_acts, packet_acts, timer_acts, expiry_acts, happening_acts, offer_acts}
 use Rattle.switch_laws.specs.Steps.Happening.{Brings, RunsOut, Relinks}

@@ -12,9 +12,9 @@ use Rattle.packet_layer.specs.Channel.CallState.{Ready, OwnWaiting, FarWaiting, 
 use Rattle.packet_layer.specs.Layer.{Layer, channel_of}
 use Rattle.packet_laws.specs.History.{Epoch, empty_epoch}
 use Rattle.call_records.specs.Records.{RecordValue}
-use Rattle.x25_switch.specs.declared.place.Place.{Place}
-use Rattle.x25_switch.specs.declared.place.Joined.{Joined}
-use Rattle.x25_switch.specs.Lines.{SwitchLine}
+use Rattle.switch_lines.specs.declared.place.Place.{Place}
+use Rattle.switch_lines.specs.declared.place.Joined.{Joined}
+use Rattle.switch_lines.specs.Lines.{SwitchLine}
 use Rattle.switch_laws.specs.Leg.{Leg}
 use Rattle.switch_laws.specs.Clause.{Carries, Passed, AreCovered, taken_part, sent_part}
 use Rattle.switch_laws.specs.Way.{Way, Holds}

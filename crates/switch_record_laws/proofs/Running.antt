@@ -6,7 +6,7 @@ use Rattle.link_timers.specs.declared.role.Role.TheVariants.{Dte, Dce}
 use Rattle.epochs.specs.Epoch.{nothing_sent, nothing_taken}
 use Rattle.packet_layer.specs.Layer.{Layer}
 use Rattle.call_records.specs.Book.{made_book}
-use Rattle.x25_switch.specs.Lines.{SwitchLine}
+use Rattle.switch_lines.specs.Lines.{SwitchLine}
 use Rattle.switch_laws.specs.World.{layers_of}
 use Rattle.switch_laws.specs.Run.{letter, parameters, two_lines, no_calls, configs, new_switch, sabm}
 use Rattle.switch_record_laws.specs.Records.{AreRecords}

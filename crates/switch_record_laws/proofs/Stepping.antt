@@ -19,8 +19,8 @@ use Rattle.line_record_laws.specs.Kept.{Setting, Kept}
 use Rattle.line_record_laws.specs.Clauses.{requested_at, Tells}
 use Rattle.line_record_laws.proofs.Keeping.{tells_kept, silent_kept, call_kept, request_kept, like_kept}
 use Rattle.line_record_laws.proofs.Opening.{read_kept}
-use Rattle.x25_switch.specs.Lines.{SwitchLine, changed}
-use Rattle.x25_switch.specs.Switch.{with_end, quieted, without_notes}
+use Rattle.switch_lines.specs.Lines.{SwitchLine, changed}
+use Rattle.switch_lines.specs.Switch.{with_end, quieted, without_notes}
 use Rattle.switch_laws.specs.World.{Act, layers_of, after_acts}
 use Rattle.switch_laws.proofs.Lists.{decided, get_map}
 use Rattle.switch_laws.proofs.Turning.{changed_none, changed_twice, layer_got, layers_changed}

@@ -4,7 +4,7 @@ use Rattle.std.proofs.Common.{refl, sym, ap, subst, ◌∙◌, option_map}
 use Rattle.std.proofs.lemmas.Option.{none-some, same_Some}
 use Rattle.link_timers.specs.declared.role.Role.TheVariants.{Dce}
 use Rattle.packet_layer.specs.Layer.{Layer, link_down, unread}
-use Rattle.x25_switch.specs.Lines.{SwitchLine}
+use Rattle.switch_lines.specs.Lines.{SwitchLine}
 use Rattle.switch_laws.specs.World.{World, Act, layers_of, after_acts, closed}
 use Rattle.switch_laws.specs.Joined.{IsSwitch, Becomes}
 use Rattle.switch_laws.proofs.Finishing.{turns}

@@ -5,8 +5,8 @@ use Rattle.packet_layer.specs.Layer.{Layer}
 use Rattle.packet_end.specs.PacketEnd.{PacketEnd}
 use Rattle.line_end.specs.End.{without_frames}
 use Rattle.packet_codec.specs.Address.{MayBeDigits}
-use Rattle.x25_switch.specs.Lines.{SwitchLine, changed}
-use Rattle.x25_switch.specs.Switch.{Switch, with_end, on_frame, on_timer, elapse, restart, without_joins, finished, acted, all_begun}
+use Rattle.switch_lines.specs.Lines.{SwitchLine, changed}
+use Rattle.switch_lines.specs.Switch.{Switch, with_end, on_frame, on_timer, elapse, restart, without_joins, finished, acted, all_begun}
 use Rattle.switch_laws.specs.World.{World, layers_of, world_after_all}
 use Rattle.switch_laws.specs.Events.{SwitchHolds}
 use Rattle.switch_laws.specs.Events.Event.{Arrives, Expires, Elapses, Restarts}
@@ -36,7 +36,7 @@ same_addresses ls ms e h = have_addresses ms (subst (λ (as_ : List (List ℕ)).
 -- ---- events on a line
 
 event_tied : (n : ℕ) (what : Happening) (s t : Switch) (h : Histories) (world : World) → ReadsOctets what → IsTied s h
-    → t.lines ≡ finished s.routes (acted s.routes n (does what) (all_begun s.lines)) → Reached (event_acts s.routes n what s.lines) s.lines h.legs t.lines world → SwitchHolds t world
+    → t.lines ≡ finished s.routes n (acted s.routes n (does what) (all_begun s.lines)) → Reached (event_acts s.routes n what s.lines) s.lines h.legs t.lines world → SwitchHolds t world
     → EventIsKept n what s h.partners h.books t.lines → IsTied t (happened n what s h)
 event_tied n what s t h world reads i is moved holds kept =
     let as_ = event_acts s.routes n what s.lines in

@@ -9,8 +9,8 @@ use Rattle.packet_laws.specs.Readable.{CanBePlaced, Every}
 use Rattle.packet_end.specs.PacketEnd.{PacketEnd}
 use Rattle.line_laws.specs.Line.{Line, Restarts, other_after}
 use Rattle.line_record_laws.specs.Kept.{Setting, Kept}
-use Rattle.x25_switch.specs.Lines.{SwitchLine, changed}
-use Rattle.x25_switch.specs.Switch.{Switch, on_frame, on_timer, elapse, restart, finished, acted, all_begun}
+use Rattle.switch_lines.specs.Lines.{SwitchLine, changed}
+use Rattle.switch_lines.specs.Switch.{Switch, on_frame, on_timer, elapse, restart, finished, acted, all_begun}
 use Rattle.switch_laws.specs.Turn.{AreOctets}
 use Rattle.switch_laws.specs.World.{World, IsWorld, MayHappen, layers_of, after_acts, world_after_all}
 use Rattle.switch_record_laws.specs.Written.{Books, books_after_all, restarted_books, HaveRecords}
@@ -123,7 +123,7 @@ OutLaw = (n : ℕ) (l : SwitchLine) (kept : List Bool) (ps : Partners) (bs : Boo
 abbrev pub LeadsLaw : Type 0
 LeadsLaw = (n : ℕ) (what : Happening) (s : Switch)
     → (lines_after_all (event_steps s.routes n what s.lines) s.lines
-    ≡ finished s.routes (acted s.routes n (does what) (all_begun s.lines)))
+    ≡ finished s.routes n (acted s.routes n (does what) (all_begun s.lines)))
     × (layers_of (lines_after_all (event_steps s.routes n what s.lines) s.lines)
     ≡ after_acts (event_acts s.routes n what s.lines) (layers_of s.lines))
 

@@ -11,10 +11,10 @@ use Rattle.packet_laws.specs.Readable.{Every}
 use Rattle.call_records.specs.Records.{RecordValue}
 use Rattle.call_records.specs.Book.{Book, made_book}
 use Rattle.call_records.specs.Writes.{Write, all_written}
-use Rattle.x25_switch.specs.declared.place.Place.{Place}
-use Rattle.x25_switch.specs.declared.place.Joined.{Joined}
-use Rattle.x25_switch.specs.Lines.{SwitchLine, joined_at}
-use Rattle.x25_switch.specs.Switch.{Switch, on_frame, on_timer, restart, elapse}
+use Rattle.switch_lines.specs.declared.place.Place.{Place}
+use Rattle.switch_lines.specs.declared.place.Joined.{Joined}
+use Rattle.switch_lines.specs.Lines.{SwitchLine, joined_at}
+use Rattle.switch_lines.specs.Switch.{Switch, on_frame, on_timer, restart, elapse}
 use Rattle.switch_laws.specs.Turn.{AreOctets}
 use Rattle.switch_laws.specs.Leg.{Leg}
 use Rattle.switch_laws.specs.World.{World, IsWorld, Act, MayHappen, layers_of, after_acts, world_after_all, closed}

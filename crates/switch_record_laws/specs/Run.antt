@@ -12,14 +12,14 @@ use Rattle.lapb.specs.Machine.{Octets}
 use Rattle.link_timers.specs.declared.role.Role.TheVariants.{Dte}
 use Rattle.call_records.specs.Records.{RecordValue}
 use Rattle.call_records.specs.Book.{made_book}
-use Rattle.x25_switch.specs.declared.place.Place.{Place}
+use Rattle.switch_lines.specs.declared.place.Place.{Place}
 use Rattle.switch_laws.specs.World.{Act, MayHappen, layers_of}
 use Rattle.switch_laws.specs.World.Act.{Asks, Comes, GoesUp, Calls, Gives}
 use Rattle.switch_laws.specs.Turn.{AreOctets}
 use Rattle.switch_laws.specs.Run.{letter, parameters, two_lines, no_calls, configs, new_switch, sabm}
 use Rattle.switch_laws.specs.Events.{new_legs}
 use Rattle.switch_laws.specs.Steps.Happening.{Brings}
-use Rattle.x25_switch.specs.Switch.{on_frame}
+use Rattle.switch_lines.specs.Switch.{on_frame}
 use Rattle.switch_record_laws.specs.Tied.{Histories, IsTied, happened}
 use Rattle.switch_record_laws.specs.Kept.{Partner, Partners, AreKept, BeginWith, HaveAddresses}
 use Rattle.switch_record_laws.specs.Written.{Books, books_after_all, HaveRecords}

@@ -4,12 +4,12 @@ use Rattle.std.specs.Prelude.{◌≡◌, ℕ, Bool, List, slice_get, Some}
 use Rattle.link_timers.specs.declared.timers.TimerId.{TimerId}
 use Rattle.lapb.specs.Machine.{Octets}
 use Rattle.address_routes.specs.Routes.{RouteMap}
-use Rattle.x25_switch.specs.declared.config.LineConfig.{LineConfig}
-use Rattle.x25_switch.specs.declared.place.Place.{Place}
-use Rattle.x25_switch.specs.declared.place.Joined.{Joined}
-use Rattle.x25_switch.specs.Lines.{SwitchLine, joined_at, changed}
-use Rattle.x25_switch.specs.Making.{IsConfig, made}
-use Rattle.x25_switch.specs.Switch.{Switch, on_frame, on_timer, elapse, restart}
+use Rattle.switch_lines.specs.declared.config.LineConfig.{LineConfig}
+use Rattle.switch_lines.specs.declared.place.Place.{Place}
+use Rattle.switch_lines.specs.declared.place.Joined.{Joined}
+use Rattle.switch_lines.specs.Lines.{SwitchLine, joined_at, changed}
+use Rattle.switch_lines.specs.Making.{IsConfig, made}
+use Rattle.switch_lines.specs.Switch.{Switch, on_frame, on_timer, elapse, restart}
 use Rattle.switch_laws.specs.Turn.{AreOctets}
 use Rattle.switch_laws.specs.World.{World, layers_of, world_after_all, closed}
 use Rattle.switch_laws.specs.Events.{SwitchHolds, new_legs}

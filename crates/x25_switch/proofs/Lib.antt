@@ -1,11 +1,1 @@
-pub mod Directions
-pub mod Unread
-pub mod Slots
-pub mod Changing
-pub mod Places
-pub mod Relaying
-pub mod Rounds
-pub mod Telling
-pub mod Heeding
-pub mod Ending
-pub mod Making
+pub mod Holding

@@ -1,10 +1,1 @@
-pub mod Direction
-pub mod Causes
-pub mod Lines
-pub mod Relay
-pub mod Switch
-pub mod OfLine
-pub mod LineView
-pub mod Calling
-pub mod Making
 pub mod SwitchView

@@ -2,20 +2,18 @@
 ghost use Rattle.std.specs.Prelude.{◌≡◌, ◌≤◌, ◌<◌, ◌∷◌, [], length, MatchResult, slice_get};
 ghost use Rattle.std.specs.Bool.{OnTrue, OnFalse};
 ghost use Rattle.std.specs.Option.{option_map};
-ghost use Rattle.x25_switch.specs.Lines.{joined_at};
-ghost use Rattle.x25_switch.specs.Making.{made, IsConfig, MadeNot};
-ghost use Rattle.x25_switch.specs.Switch.{on_frame, on_timer, timer_runs, restart, elapse};
-ghost use Rattle.x25_switch.specs.Switch.{without_frame, frames_on, due_on};
+ghost use Rattle.switch_lines.specs.Lines.{joined_at};
+ghost use Rattle.switch_lines.specs.Making.{made, IsConfig, MadeNot};
+ghost use Rattle.switch_lines.specs.Switch.{on_frame, on_timer, timer_runs, restart, elapse};
+ghost use Rattle.switch_lines.specs.Switch.{without_frame, frames_on, due_on};
 
-use crate::config::{SwitchConfig, check_lines};
-use crate::lines::Lines;
-use crate::place::Place;
 use address_routes::Routes;
 use frame_codec::FrameBuf;
 use link_timers::TimerId;
 use packet_end::EndFault;
 use std::alloc::Global;
 use std::marker::Model;
+use switch_lines::{Lines, Place, SwitchConfig, check_lines};
 
 /// A switch: the DCE on up to 64 lines, of which it joins calls (X.25 3 to 5). A call that comes in on one line goes on
 /// to the line of its route, and all that happens on the one is relayed to the other.
@@ -29,7 +27,7 @@ pub struct Switch {
 }
 
 impl Model for Switch {
-    ghost use Rattle.x25_switch.specs.Switch.{Switch as SwitchValue};
+    ghost use Rattle.switch_lines.specs.Switch.{Switch as SwitchValue};
     ghost use Rattle.std.specs.FinMap as map;
     ghost use Rattle.address_routes.specs.Routes.{by_digits};
     ghost use Rattle.std.specs.Coded.{codes, coded_list, coded_ℕ};
@@ -38,9 +36,11 @@ impl Model for Switch {
 
     ghost coded = { Prim.hlevel (codes, map.code {R = by_digits} (coded_list coded_ℕ) coded_ℕ) };
 
-    ghost use Rattle.x25_switch.specs.SwitchView.{switch_of};
+    ghost use Rattle.x25_switch.specs.SwitchView.{switch_of, HoldsWithLegs};
 
     ghost view = { switch_of };
+
+    ghost invariant = { HoldsWithLegs };
 }
 
 impl Switch {
@@ -75,7 +75,7 @@ impl Switch {
     {
         self.lines.begin();
         self.lines.receive(&self.routes, line, octets);
-        self.lines.finish(&self.routes);
+        self.lines.finish(&self.routes, line);
     }
 
     /// Takes an expiry of a timer of a line, and answers whether the timer ran.
@@ -87,7 +87,7 @@ impl Switch {
         let ran = self.lines.is_running(line, id);
         self.lines.begin();
         self.lines.expire(&self.routes, line, id);
-        self.lines.finish(&self.routes);
+        self.lines.finish(&self.routes, line);
         ran
     }
 

@@ -1,4 +1,4 @@
-use Rattle.switch_laws.proofs.Concerning.{concerns_hold}
+use Rattle.switch_laws.proofs.Alone.{concerns_hold}
 use Rattle.switch_laws.proofs.relay.concern_law.Goals as goal
 
 pub returns : goal.returns

@@ -1,0 +1,12 @@
+pub mod Directions
+pub mod Unread
+pub mod Slots
+pub mod Changing
+pub mod Places
+pub mod Relaying
+pub mod Rounds
+pub mod Legs
+pub mod Telling
+pub mod Heeding
+pub mod Ending
+pub mod Making

@@ -1,0 +1,14 @@
+use Rattle.std.proofs.Common.{arith}
+use Rattle.switch_lines.specs.Lines.{with_nth_joined}
+use Rattle.switch_lines.proofs.Changing.{changed_lines, unchanged_lines}
+use Rattle.switch_lines.proofs.lines.Lines.set_joined.Goals as goal
+
+pub returns-then-place-len : goal.returns-then-place-len
+returns-then-place-len c =
+    changed_lines (λ l. record l { joined = with_nth_joined l.joined c.args.place.channel c.args.joined }) c.self.inside.lines.items c.args.self.now c.args.place.line
+    c.index_mut.result.now c.set_joined.new.self c.self.view_is (omega arith) c.index_mut.ensures.value c.set_joined.ensures
+
+pub returns-else-place-len : goal.returns-else-place-len
+returns-else-place-len c =
+    unchanged_lines (λ l. record l { joined = with_nth_joined l.joined c.args.place.channel c.args.joined }) c.self.inside.lines.items c.args.self.now c.args.place.line
+    c.self.view_is (omega arith)

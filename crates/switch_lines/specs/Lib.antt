@@ -1,0 +1,10 @@
+pub mod Direction
+pub mod Causes
+pub mod Lines
+pub mod Relay
+pub mod Switch
+pub mod Alone
+pub mod OfLine
+pub mod LineView
+pub mod Calling
+pub mod Making

@@ -1,0 +1,85 @@
+-- The lines of a switch, and the channels of them whose calls are joined.
+use Rattle.std.specs.Prelude.{ℕ, zero, suc, Bool, ◌&&◌, ◌==◌, List, [], ◌∷◌, ◌++◌, set, slice_get, Option, Some, None}
+use Rattle.packet_layer.specs.Traffic.{Taken}
+use Rattle.packet_layer.specs.Channel.{Request, Refusal}
+use Rattle.packet_layer.specs.Layer.{front_on, request_refusal}
+use Rattle.packet_end.specs.PacketEnd.{PacketEnd, asked}
+-- a logical channel of a line; lines are numbered from 0, channels from 1
+pub use Rattle.switch_lines.specs.declared.place.Place.{Place}
+-- what a channel has whose call is joined to another one: that one, whether the call came in here, and the direction
+-- from here to there
+pub use Rattle.switch_lines.specs.declared.place.Joined.{Joined}
+
+abbrev pub same_place : Place → Place → Bool
+same_place p q = (p.line == q.line) && (p.channel == q.channel)
+
+-- a line: its end, the address that calls from it get as their calling address, and of its channels 1, 2 and so on
+-- those that are joined
+pub record SwitchLine : Type 0 where
+  pub end : PacketEnd
+  pub address : List ℕ
+  pub joined : List (Option Joined)
+
+-- the n-th one is changed, if there is one
+abbrev pub changed : {X : Type 0} → ℕ → (X → X) → List X → List X
+changed n f [] = []
+changed zero f (x ∷ xs) = f x ∷ xs
+changed (suc n) f (x ∷ xs) = x ∷ changed n f xs
+
+-- ---- joined channels
+
+abbrev pub flat : {X : Type 0} → Option (Option X) → Option X
+flat None = None
+flat (Some o) = o
+
+abbrev pub nth_joined : List (Option Joined) → (channel : ℕ) → Option Joined
+nth_joined js zero = None
+nth_joined js (suc i) = flat (slice_get js i)
+
+abbrev pub joined_on : Option SwitchLine → (channel : ℕ) → Option Joined
+joined_on None c = None
+joined_on (Some l) c = nth_joined l.joined c
+
+abbrev pub joined_at : List SwitchLine → Place → Option Joined
+joined_at ls p = joined_on (slice_get ls p.line) p.channel
+
+abbrev pub with_nth_joined : List (Option Joined) → (channel : ℕ) → Option Joined → List (Option Joined)
+with_nth_joined js zero o = js
+with_nth_joined js (suc i) o = set js i o
+
+abbrev pub with_joined : Place → Option Joined → List SwitchLine → List SwitchLine
+with_joined p o ls = changed p.line (λ l. record l { joined = with_nth_joined l.joined p.channel o }) ls
+
+-- all channels of the lines, in order
+abbrev pub places_on : (line channel : ℕ) → List (Option Joined) → List Place
+places_on n c [] = []
+places_on n c (o ∷ os) = record { line = n; channel = c } ∷ places_on n (suc c) os
+
+abbrev pub places_from : (line : ℕ) → List SwitchLine → List Place
+places_from n [] = []
+places_from n (l ∷ ls) = places_on n 1 l.joined ++ places_from (suc n) ls
+
+abbrev pub places : List SwitchLine → List Place
+places ls = places_from 0 ls
+
+-- ---- packet layers
+
+-- a request on a channel; a refused one changes nothing
+abbrev pub ask : Place → Request → List SwitchLine → List SwitchLine
+ask p q ls = changed p.line (λ l. record l { end = asked l.end p.channel q }) ls
+
+-- what `take` gives there, if anything
+abbrev pub front_of_line : Option SwitchLine → (channel : ℕ) → Option Taken
+front_of_line None c = None
+front_of_line (Some l) c = front_on l.end.layer c
+
+abbrev pub front_at : List SwitchLine → Place → Option Taken
+front_at ls p = front_of_line (slice_get ls p.line) p.channel
+
+-- why a request is refused there, if it is
+abbrev pub refusal_of_line : Option SwitchLine → (channel : ℕ) → Request → Option Refusal
+refusal_of_line None c q = Some Refusal.NoCall
+refusal_of_line (Some l) c q = request_refusal l.end.layer c q
+
+abbrev pub refusal_at : List SwitchLine → Place → Request → Option Refusal
+refusal_at ls p q = refusal_of_line (slice_get ls p.line) p.channel q

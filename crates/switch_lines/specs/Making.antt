@@ -1,0 +1,33 @@
+-- How a switch is made.
+use Rattle.std.specs.Prelude.{◌≡◌, ℕ, ◌≤◌, false, List, length, map, replicate, slice_get, Some, None}
+use Rattle.link_timers.specs.declared.role.Role.TheVariants.{Dce}
+use Rattle.packet_end.specs.Params.{AreParams}
+use Rattle.packet_end.specs.PacketEnd as end
+use Rattle.packet_end.specs.declared.fault.EndFault.{EndFault}
+use Rattle.packet_end.specs.declared.fault.EndFault.TheVariants.{BadConfig, OutOfMemory}
+use Rattle.address_routes.specs.Routes.{RouteMap}
+use Rattle.switch_lines.specs.declared.config.LineConfig.{LineConfig}
+use Rattle.switch_lines.specs.Lines.{SwitchLine}
+use Rattle.switch_lines.specs.Switch.{Switch}
+
+-- the parameters are in their ranges, and the line does not stand
+pub record IsLineConfig (c : LineConfig) : Type 0 where
+  pub params : AreParams c.params
+  pub not_standing : c.params.standing ≡ false
+
+-- 1 to 64 lines
+pub record IsConfig (lines : List LineConfig) : Type 0 where
+  pub least : 1 ≤ length lines
+  pub most : length lines ≤ 64
+  pub each : (n : ℕ) → (c : LineConfig) → slice_get lines n ≡ Some c → IsLineConfig c
+
+abbrev pub MadeNot : List LineConfig → EndFault → Type 0
+MadeNot lines BadConfig = IsConfig lines → ⊥
+MadeNot lines OutOfMemory = IsConfig lines
+
+-- a line without joins, of which the switch is the DCE
+abbrev pub made_line : LineConfig → SwitchLine
+made_line c = record { end = end.made Dce c.params; address = c.address; joined = replicate c.params.channels None }
+
+abbrev pub made : RouteMap → List LineConfig → Switch
+made routes lines = record { routes = routes; lines = map made_line lines }

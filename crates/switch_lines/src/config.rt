@@ -1,0 +1,59 @@
+//! How a switch is to be made.
+ghost use Rattle.std.specs.Prelude.{◌≡◌, MatchResult};
+ghost use Rattle.packet_end.specs.declared.fault.EndFault.TheVariants as fault_is;
+ghost use Rattle.switch_lines.specs.Making.{IsLineConfig, IsConfig};
+
+use address_routes::Routes;
+use packet_codec::Address;
+use packet_end::{EndFault, EndParams};
+
+/// The most lines of a switch.
+pub const MOST_LINES: usize = 64;
+
+/// How a line of a switch is to be made.
+#[derive(Clone, Copy, Debug, PartialEq, Eq)]
+pub struct LineConfig {
+    /// The parameters of the line, which does not stand.
+    pub params: EndParams,
+    /// The address that calls from the line get as their calling address.
+    pub address: Address,
+}
+
+/// How a switch is to be made.
+#[derive(Drop)]
+pub struct SwitchConfig<'a> {
+    /// The lines, 1 to 64: they are numbered from 0.
+    pub lines: &'a [LineConfig],
+    /// Which line the calls to an address go to.
+    pub routes: Routes,
+}
+
+impl LineConfig {
+    // `BadConfig` comes where a parameter is out of its range, or the line stands.
+    fn check(&self) -> Result<(), EndFault>
+        ensures { MatchResult result
+            (λ _. IsLineConfig self.now)
+            (λ fault. (fault ≡ fault_is.BadConfig) × (IsLineConfig self.now → ⊥)) }
+    {
+        self.params.check()?;
+        if self.params.standing {
+            return Err(EndFault::BadConfig);
+        }
+        Ok(())
+    }
+}
+
+/// `BadConfig` comes where there is no line or more than 64, or one stands or has a parameter out of its range.
+pub fn check_lines(lines: &[LineConfig]) -> Result<(), EndFault>
+    ensures { MatchResult result
+        (λ _. IsConfig lines.now)
+        (λ fault. (fault ≡ fault_is.BadConfig) × (IsConfig lines.now → ⊥)) }
+{
+    if lines.is_empty() || lines.len() > MOST_LINES {
+        return Err(EndFault::BadConfig);
+    }
+    for line in lines {
+        line.check()?;
+    }
+    Ok(())
+}

@@ -1,0 +1,90 @@
+//! The joins of the channels of a line.
+ghost use Rattle.std.specs.Prelude.{◌≡◌, ◌+◌, ◌<◌, None, Option, MatchOption, length};
+ghost use Rattle.std.specs.Option.{option_map};
+ghost use Rattle.switch_lines.specs.Direction.{new_direction, carried, covered_by, releasable, released};
+ghost use Rattle.switch_lines.specs.Lines.{Joined as JoinedValue, nth_joined, with_nth_joined};
+ghost use Rattle.switch_lines.specs.OfLine.{kept_on, freed_on};
+
+use crate::line::SwitchLine;
+use crate::place::{Joined, Place};
+use packet_layer::Request;
+
+impl SwitchLine {
+    /// The channel that a channel is joined to, if it is.
+    pub(crate) fn other(&self, channel: u8) -> Option<Place>
+        ensures { result ≡ option_map (λ j. j.other) (nth_joined self.now.joined channel) }
+    {
+        let place = self.place(channel)?;
+        self.joined[place].other()
+    }
+
+    /// Joins a channel, or ends its join.
+    pub(crate) fn set_joined(&mut self, channel: u8, joined: Option<Joined>)
+        ensures { self.new ≡ record self.old { joined = with_nth_joined self.old.joined channel joined } }
+    {
+        if let Some(place) = self.place(channel) {
+            self.joined[place].set(joined);
+        }
+    }
+
+    /// A packet that was taken on a joined channel is sent on.
+    pub(crate) fn carry(&mut self, channel: u8, delivery: bool)
+        ensures { self.new ≡ kept_on channel (carried delivery) self.old }
+    {
+        if let Some(place) = self.place(channel) {
+            self.joined[place].carry(delivery);
+        }
+    }
+
+    /// So many packets are covered of those that were sent on from a joined channel.
+    pub(crate) fn cover(&mut self, channel: u8, count: u8)
+        ensures { self.new ≡ kept_on channel (covered_by count) self.old }
+    {
+        if let Some(place) = self.place(channel) {
+            self.joined[place].cover(count);
+        }
+    }
+
+    /// The direction from a channel begins anew, as after a reset.
+    pub(crate) fn renew(&mut self, channel: u8)
+        ensures { self.new ≡ kept_on channel (λ _. new_direction) self.old }
+    {
+        if let Some(place) = self.place(channel) {
+            self.joined[place].renew();
+        }
+    }
+
+    /// Releases what may be released of the packets taken on a joined channel.
+    pub(crate) fn release(&mut self, channel: u8)
+        ensures { self.new ≡ freed_on channel self.old }
+    {
+        if let Some(count) = self.release_kept(channel) {
+            let _ = self.end.ask(channel, &Request::Release(count));
+        }
+    }
+
+    // How many packets may be released on a joined channel, which are then kept no longer.
+    fn release_kept(&mut self, channel: u8) -> Option<u8>
+        ensures count { result
+            ≡ option_map (λ j. releasable j.kept.held) (nth_joined self.old.joined channel) }
+        ensures line { self.new ≡ kept_on channel released self.old }
+    {
+        let place = self.place(channel)?;
+        self.joined[place].release()
+    }
+
+    // The place of a channel among those of the line.
+    fn place(&self, channel: u8) -> Option<usize>
+        ensures { MatchOption result
+            ((nth_joined self.now.joined channel ≡ None)
+            × ((o : Option JoinedValue) → with_nth_joined self.now.joined channel o ≡ self.now.joined))
+            (λ place. (place + 1 ≡ channel) × (place < length self.now.joined)) }
+    {
+        let place = usize::from(channel).checked_sub(1)?;
+        if place < self.joined.len() {
+            Some(place)
+        } else {
+            None
+        }
+    }
+}

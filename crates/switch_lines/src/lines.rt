@@ -1,0 +1,198 @@
+//! The lines of a switch, and what is asked of their channels.
+ghost use Rattle.std.specs.Prelude.{◌≡◌, ◌≤◌, ◌<◌, ◌∷◌, [], length, map, slice_get, MatchResult};
+ghost use Rattle.std.specs.Option.{option_map};
+ghost use Rattle.std.specs.Bool.{OnTrue, OnFalse};
+ghost use Rattle.packet_layer.specs.Channel.{Request as ask_for};
+ghost use Rattle.packet_layer.specs.RequestView.{request_of};
+ghost use Rattle.packet_layer.specs.TakenView.{maybe_taken, maybe_front};
+ghost use Rattle.packet_end.specs.PacketEnd.{without_first_frame};
+ghost use Rattle.packet_end.specs.declared.fault.EndFault.TheVariants as fault_is;
+ghost use Rattle.switch_lines.specs.Direction.{new_direction, carried, covered_by};
+ghost use Rattle.switch_lines.specs.Making.{IsConfig, made_line};
+ghost use Rattle.switch_lines.specs.Lines.{joined_at, with_joined, ask, front_at, changed};
+ghost use Rattle.switch_lines.specs.Switch.{timer_runs, due_on, frames_on, with_end};
+ghost use Rattle.switch_lines.specs.OfLine.{kept_at, freed_at, is_taken};
+
+mod calling;
+mod finishing;
+mod heeding;
+mod relaying;
+mod telling;
+
+use crate::config::LineConfig;
+use crate::line::SwitchLine;
+use crate::place::{Joined, Place};
+use arrayvec::ArrayVec;
+use frame_codec::FrameBuf;
+use link_timers::TimerId;
+use packet_end::EndFault;
+use packet_layer::{Front, Request, Taken};
+use std::alloc::{AllocError, Global};
+use std::marker::Model;
+
+// Lines by number: all of them, and one of them once more.
+type LineList = ArrayVec<usize, 65>;
+
+/// The lines of a switch, at most 64.
+#[derive(Drop)]
+pub struct Lines {
+    lines: Vec<SwitchLine>,
+}
+
+impl Model for Lines {
+    ghost use Rattle.std.specs.Prelude.{◌≤◌, List, length};
+    ghost use Rattle.switch_lines.specs.Lines.{SwitchLine as Line};
+
+    ghost Value = { List Line };
+
+    ghost view = { λ l. l.lines.items };
+
+    ghost invariant = { λ l. length l.lines.items ≤ 64 };
+}
+
+impl Lines {
+    /// The lines, each as `SwitchLine::new` makes it. `OutOfMemory` comes for want of memory.
+    pub fn new(alloc: Global, lines: &[LineConfig]) -> Result<Lines, EndFault>
+        requires { IsConfig lines.now }
+        ensures { MatchResult result (λ made. made ≡ map made_line lines.now) (λ fault. fault ≡ fault_is.OutOfMemory) }
+    {
+        let mut made = Vec::new(alloc);
+        for line in lines {
+            let line = SwitchLine::new(alloc, *line)?;
+            match made.push(line) {
+                Ok(()) => {}
+                Err(failed) => return Err(AllocError::from(failed).into()),
+            }
+        }
+        Ok(Lines { lines: made })
+    }
+
+    /// How many lines there are, at most 64.
+    pub fn len(&self) -> usize
+        ensures count { result ≡ length self.now }
+        ensures most { result ≤ 64 }
+    {
+        self.lines.len()
+    }
+
+    /// Whether a timer of a line runs, also with no tick left.
+    pub fn is_running(&self, line: usize, id: TimerId) -> bool
+        requires { line < length self.now }
+        ensures { result ≡ timer_runs (slice_get self.now line) id }
+    {
+        self.lines[line].is_running(id)
+    }
+
+    /// The first timer of a line that runs with no tick left.
+    pub fn due(&self, line: usize) -> Option<TimerId>
+        requires { line < length self.now }
+        ensures { result ≡ due_on (slice_get self.now line) }
+    {
+        self.lines[line].due()
+    }
+
+    /// Takes the next frame that goes out on a line, if there is one.
+    pub fn out(&mut self, line: usize, frame: &mut FrameBuf) -> bool
+        requires { line < length self.old }
+        ensures frame { OnTrue result (frames_on (slice_get self.old line)
+            ≡ frame.new ∷ frames_on (slice_get self.new line)) }
+        ensures nothing { OnFalse result (frames_on (slice_get self.old line) ≡ []) }
+        ensures same { OnFalse result (frame.new ≡ frame.old) }
+        ensures lines { self.new ≡ changed line (with_end without_first_frame) self.old }
+    {
+        self.lines[line].out(frame)
+    }
+
+    /// The channel that a channel is joined to, if it is.
+    pub fn other(&self, place: Place) -> Option<Place>
+        ensures { result ≡ option_map (λ j. j.other) (joined_at self.now place) }
+    {
+        self.lines.get(place.line)?.other(place.channel)
+    }
+
+    // Joins a channel, or ends its join.
+    fn set_joined(&mut self, place: Place, joined: Option<Joined>)
+        ensures { self.new ≡ with_joined place joined self.old }
+    {
+        if place.line < self.lines.len() {
+            self.lines[place.line].set_joined(place.channel, joined);
+        }
+    }
+
+    // Asks something of a call. What is refused changes nothing.
+    fn ask(&mut self, place: Place, request: &Request<'_>)
+        ensures { self.new ≡ ask place (request_of request.now) self.old }
+    {
+        if place.line < self.lines.len() {
+            self.lines[place.line].ask(place.channel, request);
+        }
+    }
+
+    // What `take` would give.
+    fn front(&self, place: Place) -> Option<Front>
+        ensures { result ≡ maybe_front (front_at self.now place) }
+    {
+        self.lines.get(place.line)?.front(place.channel)
+    }
+
+    // Takes what comes next on a channel, if anything.
+    fn take(&mut self, place: Place) -> Option<Taken>
+        ensures taken { maybe_taken result ≡ front_at self.old place }
+        ensures lines { self.new ≡ ask place ask_for.Taking self.old }
+    {
+        if place.line < self.lines.len() {
+            self.lines[place.line].take(place.channel)
+        } else {
+            None
+        }
+    }
+
+    // Whether what waits first on another channel would be taken to be sent on this one.
+    fn may_take(&self, place: Place, front: Front) -> bool
+        ensures { result ≡ is_taken self.now place front }
+    {
+        let Some(line) = self.lines.get(place.line) else {
+            return false;
+        };
+        match front {
+            Front::Interrupt => line.may_interrupt(place.channel),
+            Front::Data { .. } => line.room(place.channel) > 0,
+        }
+    }
+
+    // A packet that was taken on a joined channel is sent on.
+    fn carry(&mut self, place: Place, delivery: bool)
+        ensures { self.new ≡ kept_at place (carried delivery) self.old }
+    {
+        if place.line < self.lines.len() {
+            self.lines[place.line].carry(place.channel, delivery);
+        }
+    }
+
+    // So many packets are covered of those that were sent on from a joined channel.
+    fn cover(&mut self, place: Place, count: u8)
+        ensures { self.new ≡ kept_at place (covered_by count) self.old }
+    {
+        if place.line < self.lines.len() {
+            self.lines[place.line].cover(place.channel, count);
+        }
+    }
+
+    // A join begins anew in the direction from a channel, as after a reset.
+    fn renew(&mut self, place: Place)
+        ensures { self.new ≡ kept_at place (λ _. new_direction) self.old }
+    {
+        if place.line < self.lines.len() {
+            self.lines[place.line].renew(place.channel);
+        }
+    }
+
+    // Releases what may be released of the packets taken on a joined channel.
+    fn release(&mut self, place: Place)
+        ensures { self.new ≡ freed_at place self.old }
+    {
+        if place.line < self.lines.len() {
+            self.lines[place.line].release(place.channel);
+        }
+    }
+}

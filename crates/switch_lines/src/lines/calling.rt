@@ -1,0 +1,108 @@
+//! Calls that come in (X.25 4.1).
+ghost use Rattle.std.specs.Prelude.{◌≡◌, IfOk, OnErr, slice_get};
+ghost use Rattle.packet_codec.specs.Packet.{IsCallValue};
+ghost use Rattle.packet_codec.specs.View.{call_view};
+ghost use Rattle.packet_layer.specs.Octets.{parts_of};
+ghost use Rattle.switch_lines.specs.Calling.{answer_of};
+ghost use Rattle.switch_lines.specs.Switch.{answer, answer_on, answered, forwarded, place_call, with_join};
+
+use crate::direction::Direction;
+use crate::lines::Lines;
+use crate::place::{Joined, Place};
+use address_routes::Routes;
+use packet_codec::{CallData, clear_cause, diagnostic};
+use packet_layer::{CallFault, Request};
+
+impl Lines {
+    // A call came in on a channel: it goes on and is joined, or is cleared.
+    pub(super) fn answer(&mut self, routes: &Routes, place: Place, call: &CallData<'_>)
+        requires { IsCallValue (call_view call.now) }
+        ensures { let parts = parts_of (call_view call.now) in
+            self.new ≡ answered (answer routes.now self.old parts) place parts self.old }
+    {
+        match self.forward(routes, place.line, call) {
+            Ok(other) => self.join(place, other),
+            Err(cause) => {
+                let request = Request::Clear {
+                    cause,
+                    diagnostic: diagnostic::NO_INFORMATION,
+                };
+                self.ask(place, &request);
+            }
+        }
+    }
+
+    // Lets a call that came on a line go on to the line of its route, and answers the channel there or the cause for
+    // which it cannot.
+    fn forward(&mut self, routes: &Routes, line: usize, call: &CallData<'_>) -> Result<Place, u8>
+        requires { IsCallValue (call_view call.now) }
+        ensures answer { answer routes.now self.old (parts_of (call_view call.now)) ≡ answer_of result }
+        ensures ok { IfOk result (λ q. self.new
+            ≡ place_call q.line (forwarded self.old line (parts_of (call_view call.now))) self.old) }
+        ensures err { OnErr result (self.new ≡ self.old) }
+    {
+        if !call.facilities.is_empty() {
+            return Err(clear_cause::INVALID_FACILITY);
+        }
+        let Some(to) = routes.find(&call.called) else {
+            return Err(clear_cause::NOT_OBTAINABLE);
+        };
+        let call = self.forwarded(line, call);
+        self.call(usize::from(to.0), &call)
+    }
+
+    // A call as it goes on: the calling address is that of the line that it came on.
+    fn forwarded<'a>(&self, line: usize, call: &CallData<'a>) -> CallData<'a>
+        requires { IsCallValue (call_view call.now) }
+        ensures parts { parts_of (call_view result) ≡ forwarded self.now line (parts_of (call_view call.now)) }
+        ensures fits { IsCallValue (call_view result) }
+    {
+        let calling = if line < self.lines.len() {
+            Some(self.lines[line].address())
+        } else {
+            None
+        };
+        CallData {
+            called: call.called,
+            calling,
+            facilities: &[],
+            user_data: call.user_data,
+        }
+    }
+
+    // Places a call on a line, and answers its channel there or the cause for which there is none.
+    fn call(&mut self, line: usize, call: &CallData<'_>) -> Result<Place, u8>
+        requires { IsCallValue (call_view call.now) }
+        ensures answer { answer_on line (slice_get self.old line) ≡ answer_of result }
+        ensures line { IfOk result (λ q. q.line ≡ line) }
+        ensures lines { self.new ≡ place_call line (parts_of (call_view call.now)) self.old }
+        ensures err { OnErr result (self.new ≡ self.old) }
+    {
+        if line >= self.lines.len() {
+            return Err(clear_cause::NOT_OBTAINABLE);
+        }
+        match self.lines[line].call(call) {
+            Ok(channel) => Ok(Place { line, channel }),
+            Err(CallFault::NotReady) => Err(clear_cause::OUT_OF_ORDER),
+            Err(CallFault::NoChannel) => Err(clear_cause::NUMBER_BUSY),
+        }
+    }
+
+    // The calls on two channels are joined. On the first one it came in.
+    fn join(&mut self, caller: Place, callee: Place)
+        ensures { self.new ≡ with_join caller callee self.old }
+    {
+        let there = Joined {
+            other: callee,
+            came_in: true,
+            kept: Direction::new(),
+        };
+        let back = Joined {
+            other: caller,
+            came_in: false,
+            kept: Direction::new(),
+        };
+        self.set_joined(caller, Some(there));
+        self.set_joined(callee, Some(back));
+    }
+}

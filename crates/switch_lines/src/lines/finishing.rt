@@ -1,0 +1,145 @@
+//! What happens on a line, and the end of an event.
+ghost use Rattle.std.specs.Prelude.{◌≡◌, ◌<◌, ◌++◌, length, map};
+ghost use Rattle.std.specs.List.{position};
+ghost use Rattle.arrayvec.specs.ArrayVec.{array_vec_len};
+ghost use Rattle.packet_end.specs.PacketEnd as end;
+ghost use Rattle.switch_lines.specs.OfLine.{AreRead};
+ghost use Rattle.switch_lines.specs.Alone.{finished_alone, offered_alone};
+ghost use Rattle.switch_lines.specs.Switch.{acted, all_begun, all_relinked, relinks_of, to_relink, offering_from};
+ghost use Rattle.switch_lines.specs.Switch.{with_end, without_joins};
+
+use crate::lines::{LineList, Lines};
+use address_routes::Routes;
+use arrayvec::ArrayVec;
+use link_timers::TimerId;
+
+/// The most packets that a link has unacknowledged.
+const MOST_PACKETS: usize = 7;
+
+impl Lines {
+    /// Begins an event: the frames of the last one that were not taken are dropped.
+    pub fn begin(&mut self)
+        ensures { self.new ≡ all_begun self.old }
+    {
+        for line in self.lines.iter_mut() {
+            line.begin();
+        }
+    }
+
+    /// Takes the octets of a frame on a line, and heeds what it tells.
+    pub fn receive(&mut self, routes: &Routes, line: usize, octets: &[u8])
+        requires there { line < length self.old }
+        requires read { AreRead self.old }
+        ensures { self.new ≡ acted routes.now line (λ e. end.received e octets.now) self.old }
+    {
+        self.lines[line].receive(octets);
+        self.heed_line(routes, line);
+    }
+
+    /// Takes an expiry of a timer of a line, and heeds what it tells.
+    pub fn expire(&mut self, routes: &Routes, line: usize, id: TimerId)
+        requires there { line < length self.old }
+        requires read { AreRead self.old }
+        ensures { self.new ≡ acted routes.now line (λ e. end.after_timer e id) self.old }
+    {
+        self.lines[line].expire(id);
+        self.heed_line(routes, line);
+    }
+
+    // Sets the link of a line up anew, and heeds what that tells.
+    fn relink(&mut self, routes: &Routes, line: usize)
+        requires there { line < length self.old }
+        requires read { AreRead self.old }
+        ensures { self.new ≡ acted routes.now line end.relinked self.old }
+    {
+        self.lines[line].relink();
+        self.heed_line(routes, line);
+    }
+
+    /// Ends an event of a line: links that have to be set up anew are, what may go on is relayed on the joins of this
+    /// line and of those, and offered to the links, and each line settles.
+    pub fn finish(&mut self, routes: &Routes, line: usize)
+        requires { AreRead self.old }
+        ensures { self.new ≡ finished_alone routes.now line self.old }
+    {
+        let mut touched = ArrayVec::new();
+        touched.push(line);
+        self.relink_all(routes, &mut touched);
+        self.relay_and_offer(&touched);
+        for line in self.lines.iter_mut() {
+            line.settle();
+        }
+    }
+
+    // Sets up anew each link of which its packet layer asks for it, and adds its line to the list. That may close calls
+    // of other lines, and ask for it there.
+    fn relink_all(&mut self, routes: &Routes, touched: &mut LineList)
+        requires read { AreRead self.old }
+        requires room { array_vec_len touched.old ≡ 1 }
+        ensures lines { self.new ≡ all_relinked (length self.old) routes.now self.old }
+        ensures touched { touched.new.items
+            ≡ touched.old.items ++ relinks_of (length self.old) (to_relink self.old) routes.now self.old }
+    {
+        for _ in 0..self.lines.len() {
+            let Some(line) = self.to_relink() else {
+                return;
+            };
+            self.relink(routes, line);
+            touched.push(line);
+        }
+    }
+
+    // The first line whose packet layer asks for it.
+    fn to_relink(&self) -> Option<usize>
+        ensures { result ≡ position (λ l. l.end.layer.relink) self.now }
+    {
+        self.lines.iter().position(|line| line.must_relink())
+    }
+
+    // What waits on the joins of these lines is relayed and packets are offered to the links, and then the same for the
+    // lines whose links took one, until the links take no more.
+    fn relay_and_offer(&mut self, touched: &LineList)
+        ensures { self.new ≡ offered_alone touched.now.items self.old }
+    {
+        self.relay_lines(touched);
+        for _ in 0..MOST_PACKETS * self.lines.len() {
+            let offering = self.offer();
+            if offering.is_empty() {
+                return;
+            }
+            self.relay_lines(&offering);
+        }
+    }
+
+    // Offers packets to each link, in the order of the lines, and answers which took one.
+    fn offer(&mut self) -> LineList
+        ensures offering { result.items ≡ offering_from 0 self.old }
+        ensures lines { self.new ≡ map (with_end end.all_offered) self.old }
+    {
+        let mut offering = ArrayVec::new();
+        for (number, line) in self.lines.iter_mut().enumerate() {
+            if line.offer() {
+                offering.push(number);
+            }
+        }
+        offering
+    }
+
+    /// Begins anew on all lines.
+    pub fn restart(&mut self)
+        ensures { self.new ≡ map without_joins self.old }
+    {
+        for line in self.lines.iter_mut() {
+            line.restart();
+        }
+    }
+
+    /// Lets ticks pass on all lines.
+    pub fn elapse(&mut self, ticks: u16)
+        ensures { self.new ≡ map (with_end (λ e. end.elapsed e ticks)) self.old }
+    {
+        for line in self.lines.iter_mut() {
+            line.elapse(ticks);
+        }
+    }
+}

@@ -1,0 +1,76 @@
+//! All that a line tells.
+ghost use Rattle.std.specs.Prelude.{◌≡◌, length, slice_get};
+ghost use Rattle.packet_end.specs.PacketEnd.{without_first_note};
+ghost use Rattle.packet_layer.specs.NoteView.{note_of, maybe_note};
+ghost use Rattle.switch_lines.specs.Lines.{changed};
+ghost use Rattle.switch_lines.specs.OfLine.{notes_on};
+ghost use Rattle.switch_lines.specs.Switch.{heed, notes_heeded, with_end};
+
+use crate::lines::Lines;
+use crate::place::Place;
+use address_routes::Routes;
+use packet_layer::LayerNote;
+
+impl Lines {
+    // Heeds all that the end of a line tells.
+    pub(super) fn heed_line(&mut self, routes: &Routes, line: usize)
+        ensures { self.new ≡ notes_heeded routes.now line self.old }
+    {
+        for _ in 0..self.waiting_notes(line) {
+            if let Some(note) = self.next_note(line) {
+                self.heed(routes, line, note);
+            }
+        }
+    }
+
+    // What a note of a line makes of the joins.
+    fn heed(&mut self, routes: &Routes, line: usize, note: LayerNote)
+        ensures { self.new ≡ heed routes.now line (note_of note) self.old }
+    {
+        match note {
+            LayerNote::Incoming(channel, call) => {
+                self.answer(routes, Place { line, channel }, &call.data());
+            }
+            LayerNote::Connected(channel) => self.tell_connected(Place { line, channel }),
+            LayerNote::Closed {
+                channel,
+                cause,
+                diagnostic,
+                reason,
+            } => self.tell_closed(Place { line, channel }, cause, diagnostic, reason),
+            LayerNote::Reset {
+                channel,
+                cause,
+                diagnostic,
+                reason,
+            } => self.tell_reset(Place { line, channel }, cause, diagnostic, reason),
+            LayerNote::InterruptConfirmed(channel) => self.tell_confirmed(Place { line, channel }),
+            LayerNote::Covered { channel, count } => {
+                self.tell_covered(Place { line, channel }, count);
+            }
+        }
+    }
+
+    // How many notes of a line wait.
+    fn waiting_notes(&self, line: usize) -> usize
+        ensures { result ≡ length (notes_on self.now line) }
+    {
+        if line < self.lines.len() {
+            self.lines[line].waiting_notes()
+        } else {
+            0
+        }
+    }
+
+    // Takes the next note of a line, if there is one.
+    fn next_note(&mut self, line: usize) -> Option<LayerNote>
+        ensures note { maybe_note result ≡ slice_get (notes_on self.old line) 0 }
+        ensures lines { self.new ≡ changed line (with_end without_first_note) self.old }
+    {
+        if line < self.lines.len() {
+            self.lines[line].next_note()
+        } else {
+            None
+        }
+    }
+}

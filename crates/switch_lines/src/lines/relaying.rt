@@ -1,0 +1,97 @@
+//! The relay between the two legs of a join (X.25 4.3).
+ghost use Rattle.std.specs.Prelude.{◌≡◌, slice_get};
+ghost use Rattle.packet_layer.specs.TakenView.{taken_of};
+ghost use Rattle.switch_lines.specs.OfLine.{sent_on, Fits};
+ghost use Rattle.switch_lines.specs.Alone.{relayed_alone};
+ghost use Rattle.switch_lines.specs.Lines.{joined_at};
+ghost use Rattle.switch_lines.specs.Relay.{moved, relayed, relayed_from, both_legs, legs_at, places_of};
+
+use crate::lines::Lines;
+use crate::place::Place;
+use packet_layer::{Request, Taken};
+
+/// The most that waits on a leg: seven packets and an interrupt.
+const MOST_WAITING: usize = 8;
+
+impl Lines {
+    // What waits first on a joined channel is taken there and sent on the other leg, unless that one would refuse it.
+    fn relay_one(&mut self, place: Place)
+        ensures { self.new ≡ moved place self.old }
+    {
+        let Some(other) = self.other(place) else {
+            return;
+        };
+        let Some(front) = self.front(place) else {
+            return;
+        };
+        if !self.may_take(other, front) {
+            return;
+        }
+        if let Some(taken) = self.take(place) {
+            self.send_on(place, other, taken);
+        }
+    }
+
+    // What was taken on a joined channel goes to the other leg, and what may be released is.
+    fn send_on(&mut self, place: Place, other: Place, taken: Taken)
+        ensures lines { self.new ≡ sent_on (taken_of taken) place other self.old }
+        ensures fits { Fits (taken_of taken) }
+    {
+        match taken {
+            Taken::Interrupt(interrupt) => {
+                self.ask(other, &Request::Interrupt(interrupt.octets()));
+            }
+            Taken::Data(data) => {
+                let request = Request::Send {
+                    octets: data.octets(),
+                    more: data.more(),
+                    qualified: data.qualified(),
+                    delivery: data.delivery(),
+                };
+                self.ask(other, &request);
+                self.carry(place, data.delivery());
+            }
+        }
+        self.release(place);
+    }
+
+    // All that waits on a channel goes to the other leg of its join, as far as that one takes it.
+    fn relay_channel(&mut self, place: Place)
+        ensures { self.new ≡ relayed 8 place self.old }
+    {
+        for _ in 0..MOST_WAITING {
+            self.relay_one(place);
+        }
+    }
+
+    // All that waits on a joined channel and on the other leg of its join goes on.
+    fn relay_join(&mut self, place: Place)
+        ensures { self.new ≡ relayed_from (both_legs (joined_at self.old place) place) self.old }
+    {
+        if let Some(other) = self.other(place) {
+            self.relay_channel(place);
+            self.relay_channel(other);
+        }
+    }
+
+    // The same of all joined channels of a line.
+    fn relay_line(&mut self, line: usize)
+        ensures { self.new ≡ relayed_from (legs_at (places_of line (slice_get self.old line)) self.old) self.old }
+    {
+        if line < self.lines.len() {
+            for place in 0..self.lines[line].channels() {
+                let channel = place + 1;
+                self.relay_join(Place { line, channel });
+            }
+        }
+    }
+
+    /// All that waits on the joins of these lines goes to the other leg, as far as that one takes it.
+    pub(super) fn relay_lines(&mut self, lines: &[usize])
+        ensures { self.new ≡ relayed_alone lines.now self.old }
+    {
+        for line in lines {
+            self.relay_line(*line);
+        }
+    }
+}

@@ -1,0 +1,103 @@
+//! Channels by place, and joins.
+ghost use Rattle.std.specs.Prelude.{◌≡◌, None};
+ghost use Rattle.std.specs.Option.{option_map};
+ghost use Rattle.switch_lines.specs.Direction.{new_direction, carried, covered_by, releasable, released};
+ghost use Rattle.switch_lines.specs.OfLine.{joined_with};
+
+use crate::direction::Direction;
+use std::marker::Model;
+
+/// A logical channel of a line of a switch. Lines are numbered from 0, channels from 1.
+#[derive(Clone, Copy, Debug, PartialEq, Eq)]
+pub struct Place {
+    pub line: usize,
+    pub channel: u8,
+}
+
+/// What a channel has whose call is joined to another one: that one, whether the call came in here, and the direction
+/// from here to there.
+#[derive(Drop)]
+pub struct Joined {
+    pub(crate) other: Place,
+    pub(crate) came_in: bool,
+    pub(crate) kept: Direction,
+}
+
+/// The place for a join that each channel has.
+#[derive(Drop)]
+pub struct JoinPlace {
+    joined: Option<Joined>,
+}
+
+impl Model for JoinPlace {
+    ghost use Rattle.std.specs.Prelude.{Option};
+    ghost use Rattle.switch_lines.specs.Lines.{Joined as JoinedValue};
+
+    ghost Value = { Option JoinedValue };
+
+    ghost view = { λ p. p.joined };
+}
+
+impl JoinPlace {
+    /// Without a join.
+    pub(crate) fn new() -> Self
+        ensures { result ≡ None }
+    {
+        JoinPlace { joined: None }
+    }
+
+    /// The channel that is joined to this one, if one is.
+    pub(crate) fn other(&self) -> Option<Place>
+        ensures { result ≡ option_map (λ j. j.other) self.now }
+    {
+        match &self.joined {
+            Some(joined) => Some(joined.other),
+            None => None,
+        }
+    }
+
+    /// Joins the channel, or ends its join.
+    pub(crate) fn set(&mut self, joined: Option<Joined>)
+        ensures { self.new ≡ joined }
+    {
+        self.joined = joined;
+    }
+
+    /// A packet that was taken is sent on.
+    pub(crate) fn carry(&mut self, delivery: bool)
+        ensures { self.new ≡ joined_with (carried delivery) self.old }
+    {
+        if let Some(joined) = &mut self.joined {
+            joined.kept.carry(delivery);
+        }
+    }
+
+    /// So many packets are covered of those that were sent on.
+    pub(crate) fn cover(&mut self, count: u8)
+        ensures { self.new ≡ joined_with (covered_by count) self.old }
+    {
+        if let Some(joined) = &mut self.joined {
+            joined.kept.cover(count);
+        }
+    }
+
+    /// The direction from here begins anew, as after a reset.
+    pub(crate) fn renew(&mut self)
+        ensures { self.new ≡ joined_with (λ _. new_direction) self.old }
+    {
+        if let Some(joined) = &mut self.joined {
+            joined.kept = Direction::new();
+        }
+    }
+
+    /// Answers how many packets may be released, in order, and keeps them no longer.
+    pub(crate) fn release(&mut self) -> Option<u8>
+        ensures count { result ≡ option_map (λ j. releasable j.kept.held) self.old }
+        ensures joined { self.new ≡ joined_with released self.old }
+    {
+        match &mut self.joined {
+            Some(joined) => Some(joined.kept.release()),
+            None => None,
+        }
+    }
+}

@@ -1,9 +1,0 @@
--- The lines so far may be made.
-use Rattle.std.proofs.Common.{◌≡◌, ◌<◌, ℕ, Some}
-use Rattle.std.specs.Prelude.{slice_get}
-use Rattle.x25_switch.specs.declared.config.LineConfig.{LineConfig}
-use Rattle.x25_switch.specs.Making.{IsLineConfig}
-use Rattle.x25_switch.proofs.config.check_lines.Given as goal
-
-abbrev pub invariant-loop-line : goal.invariant-loop-line
-invariant-loop-line l = (n : ℕ) → (c : LineConfig) → n < l.line-index → slice_get l.lines n ≡ Some c → IsLineConfig c
