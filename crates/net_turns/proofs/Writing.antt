@@ -79,9 +79,9 @@ called_relinks role n s q many = record {
   kind = kind_relinked n;
 }
 
-pub called_restarts : (role : Role) (n : NodeState) (b : Book) (room : ℕ)
-    → IsCalled Restarts role n b (restarted n) (record { book = all_closed role b; room = room })
-called_restarts role n b room = record {
+pub called_restarts : (role : Role) (n : NodeState) (b : Book) (room pairs : ℕ)
+    → IsCalled Restarts role n b (restarted n) (record { book = all_closed role b; room = room; pairs = pairs })
+called_restarts role n b room pairs = record {
   reads_so = restarts_reads role n b;
   room_for = restarts_room n room;
   kind = kind_restarted n;
@@ -100,11 +100,11 @@ called_keys role p octet s q many = record {
 room_for_none : (e : PacketEnd) (room : ℕ) → opening_notes e.notes ≡ 0 → IsRoomFor (Host e) room
 room_for_none e room none = (omega (arith, none), omega (arith, none))
 
-pub called_calls : (role : Role) (e : PacketEnd) (address user_data : List ℕ) (channel : ℕ) (b : Book) (room : ℕ) → IsQuiet (Host e)
+pub called_calls : (role : Role) (e : PacketEnd) (address user_data : List ℕ) (channel : ℕ) (b : Book) (room pairs : ℕ) → IsQuiet (Host e)
     → channel_given e.layer e.layer.phase ≡ Some channel
     → IsCalled (Calls address user_data) role (Host e) b (Host (after_call e (call_parts address user_data)))
-    (record { book = places role channel address b; room = room })
-called_calls role e address user_data channel b room q given =
+    (record { book = places role channel address b; room = room; pairs = pairs })
+called_calls role e address user_data channel b room pairs q given =
     let parts = call_parts address user_data in
     let e' = after_call e parts in
     record {
@@ -153,10 +153,10 @@ asked_none role e channel Clear b q = opens-asks role e channel (ask.Clearing 0 
 asked_none role e channel Stop b q = opens-asks role e channel (ask.Stopping true) b q
 asked_none role e channel Go b q = opens-asks role e channel (ask.Stopping false) b q
 
-pub called_asks : (role : Role) (e : PacketEnd) (channel : ℕ) (r : HostRequest) (b : Book) (room : ℕ) → IsQuiet (Host e)
+pub called_asks : (role : Role) (e : PacketEnd) (channel : ℕ) (r : HostRequest) (b : Book) (room pairs : ℕ) → IsQuiet (Host e)
     → ask_refusal e channel r ≡ None
-    → IsCalled (request_event channel r) role (Host e) b (Host (after_ask e channel r)) (record { book = request_written role channel r b; room = room })
-called_asks role e channel r b room q none = record {
+    → IsCalled (request_event channel r) role (Host e) b (Host (after_ask e channel r)) (record { book = request_written role channel r b; room = room; pairs = pairs })
+called_asks role e channel r b room pairs q none = record {
   reads_so = asked_turn role e channel r b none;
   room_for = room_for_none (after_ask e channel r) room (asked_none role e channel r b q);
   kind = refl;
@@ -186,10 +186,10 @@ taken_reads role e channel b q = by (front_on e.layer channel) refl
         })
     by (Some x) is = refl
 
-pub called_takes : (role : Role) (e : PacketEnd) (channel : ℕ) (b : Book) (room : ℕ) → IsQuiet (Host e)
+pub called_takes : (role : Role) (e : PacketEnd) (channel : ℕ) (b : Book) (room pairs : ℕ) → IsQuiet (Host e)
     → IsCalled (Takes channel) role (Host e) b (Host (after_take e channel))
-    (record { book = taken_written (front_on e.layer channel) role channel b; room = room })
-called_takes role e channel b room q = record {
+    (record { book = taken_written (front_on e.layer channel) role channel b; room = room; pairs = pairs })
+called_takes role e channel b room pairs q = record {
   reads_so = taken_reads role e channel b q;
   room_for = room_for_none (after_take e channel) room (taken_none role e channel b q);
   kind = refl;

@@ -23,19 +23,19 @@ pub returns-in_ok-channel-in-Host-clause-ok : goal.returns-in_ok-channel-in-Host
 returns-in_ok-channel-in-Host-clause-ok c =
     let q : IsQuiet _ = subst IsQuiet (ap node_of c.in-Host.is) c.requires.quiet in
     rw (c.in-Calls.is, c.in-Host.is, c.call.ensures.host, c.place.ensures)
-    (called_calls c.args.role c.in-Host.host c.in-Calls.address c.in-Calls.user_data.now c.in_ok-channel-in-Host.channel c.args.book.now.book 0 q c.in_ok-channel-in-Host.ensures.answer)
+    (called_calls c.args.role c.in-Host.host c.in-Calls.address c.in-Calls.user_data.now c.in_ok-channel-in-Host.channel c.args.book.now.book 0 c.args.book.now.pairs q c.in_ok-channel-in-Host.ensures.answer)
 
 pub returns-in_ok-ask-in-Host-node-clause-ok : goal.returns-in_ok-ask-in-Host-node-clause-ok
 returns-in_ok-ask-in-Host-node-clause-ok c =
     let q : IsQuiet _ = subst IsQuiet (ap node_of c.in-Host-node.is) c.requires.quiet in
     rw (c.in-Asks.is, c.in-Host-node.is, c.ask.ensures.host, c.write_request.ensures)
-    (called_asks c.args.role c.in-Host-node.host c.in-Asks.channel c.in-Asks.request.now c.args.book.now.book c.write_request.new.book.room q c.in_ok-ask-in-Host-node.ensures.answer)
+    (called_asks c.args.role c.in-Host-node.host c.in-Asks.channel c.in-Asks.request.now c.args.book.now.book c.write_request.new.book.room c.write_request.new.book.pairs q c.in_ok-ask-in-Host-node.ensures.answer)
 
 pub returns-in-Host-node-2-clause-ok : goal.returns-in-Host-node-2-clause-ok
 returns-in-Host-node-2-clause-ok c =
     let q : IsQuiet _ = subst IsQuiet (ap node_of c.in-Host-node-2.is) c.requires.quiet in
     rw (c.in-Takes.is, c.in-Host-node-2.is, c.take.ensures.host, c.take.ensures.book)
-    (called_takes c.args.role c.in-Host-node-2.host c.in-Takes.channel c.args.book.now.book c.take.new.book.room q)
+    (called_takes c.args.role c.in-Host-node-2.host c.in-Takes.channel c.args.book.now.book c.take.new.book.room c.take.new.book.pairs q)
 
 pub returns-in-Pad-node-3-clause-ok : goal.returns-in-Pad-node-3-clause-ok
 returns-in-Pad-node-3-clause-ok c =
