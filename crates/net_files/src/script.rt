@@ -111,7 +111,8 @@ fn read_keys(alloc: Global, words: Words<'_>, names: &[String]) -> Result<Comman
 
 /// `flow`.
 fn read_flow(words: Words<'_>) -> Result<Command, LineFault>
-    ensures alone { MatchOption words.entry.rest (result ≡ Ok Command.Flow) (λ left. result ≡ Err LineFault.NotACommand) }
+    ensures alone { MatchOption words.entry.rest (result ≡ Ok Command.Flow)
+        (λ left. result ≡ Err LineFault.NotACommand) }
 {
     words.end()?;
     Ok(Command::Flow)
