@@ -1,5 +1,5 @@
 //! Scripts: a text of one command a line, read for a network.
-ghost use Rattle.std.specs.Prelude.{◌≡◌, IfOk, IfErr, vec_len};
+ghost use Rattle.std.specs.Prelude.{◌≡◌, IfOk, IfErr, MatchOption, vec_len};
 ghost use Rattle.net_files.specs.Scripts.{AreNamesOf, IsScriptFault};
 
 use crate::fault::ProgFault;
@@ -110,7 +110,10 @@ fn read_keys(alloc: Global, words: Words<'_>, names: &[String]) -> Result<Comman
 }
 
 /// `flow`.
-fn read_flow(words: Words<'_>) -> Result<Command, LineFault> {
+fn read_flow(words: Words<'_>) -> Result<Command, LineFault>
+    ensures alone { MatchOption words.entry.rest (result ≡ Ok Command.Flow)
+        (λ left. result ≡ Err LineFault.NotACommand) }
+{
     words.end()?;
     Ok(Command::Flow)
 }

@@ -1,5 +1,5 @@
 //! The words of a line of a script.
-ghost use Rattle.std.specs.Prelude.{◌≡◌, ◌<◌, ◌≤◌, ◌==◌, [], ◌∷◌, IfOk, IfErr, MatchOption, length, position};
+ghost use Rattle.std.specs.Prelude.{◌≡◌, ◌<◌, ◌≤◌, ◌==◌, [], ◌∷◌, IfOk, IfErr, IsOk, MatchOption, length, position};
 ghost use Rattle.net_files.specs.Digits.{hex_value};
 ghost use Rattle.net_files.specs.Texts.{TextForm, OctetForm};
 ghost use Rattle.std.specs.Option.{option_map};
@@ -103,7 +103,9 @@ impl<'a> Words<'a> {
     }
 
     /// That nothing is left.
-    pub(crate) fn end(self) -> Result<(), LineFault> {
+    pub(crate) fn end(self) -> Result<(), LineFault>
+        ensures { MatchOption self.entry.rest (IsOk result) (λ left. result ≡ Err LineFault.NotACommand) }
+    {
         match self.rest {
             None => Ok(()),
             Some(_) => Err(LineFault::NotACommand),

@@ -1,5 +1,5 @@
 //! The line.
-ghost use Rattle.std.specs.Prelude.{◌≡◌, ◌≤◌, ◌<◌, false, length, IfSome};
+ghost use Rattle.std.specs.Prelude.{◌≡◌, ◌≤◌, ◌<◌, false, length, IfSome, IfOk, IfErr};
 ghost use Rattle.memory_line.specs.Lines.{no_flights};
 ghost use Rattle.udp_line.specs.Sockets.{socket_service};
 
@@ -42,7 +42,11 @@ impl<D: Datagrams> UdpLine<D> {
     /// A line over two partners: the one at the DTE's end and the one at the DCE's.
     ///
     /// `OutOfMemory` comes for want of memory.
-    pub fn over(alloc: Global, dte: D, dce: D) -> Result<Self, SocketFault> {
+    pub fn over(alloc: Global, dte: D, dce: D) -> Result<Self, SocketFault>
+        ensures partners { IfOk result (λ line. (line.dte ≡ dte) × (line.dce ≡ dce)) }
+        ensures room { IfOk result (λ line. length line.received.items ≡ 148) }
+        ensures fault { IfErr result (λ fault. fault ≡ SocketFault.OutOfMemory) }
+    {
         let received = vec![in alloc; 0; MAX_FRAME + 1]?;
         Ok(UdpLine { dte, dce, received })
     }
