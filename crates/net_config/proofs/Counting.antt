@@ -1,8 +1,8 @@
 -- Elements of a list that pass a test.
-use Rattle.std.proofs.Common.{◌≡◌, ℕ, zero, suc, ◌<◌, ◌⊎◌, inl, inr, Bool, true, false, cond, ◌&&◌, ◌||◌, ◌==◌, not}
+use Rattle.std.proofs.Common.{◌≡◌, ℕ, zero, suc, ◌<◌, inl, inr, Bool, true, cond, ◌||◌, not}
 use Rattle.std.proofs.Common.{List, [], ◌∷◌, length, Some, None, refl, sym, ap, subst, ◌∙◌, ◌+◌, arith, true≢false, ltb}
 use Rattle.std.specs.Prelude.{slice_get, unwrap_or}
-use Rattle.std.specs.List.{filter, list_all, list_any, position, position_or_len, prefix_len}
+use Rattle.std.specs.List.{filter, list_all, list_any, position_or_len, prefix_len}
 use Rattle.std.proofs.lemmas.Option.{none-some, same_Some, slice_get_within}
 use Rattle.std.proofs.lemmas.Bool.{cases_Bool, cond_both, and_parts, eqb-true, lt-ltb}
 use Rattle.net_config.specs.Served.{exactly_one}

@@ -1,18 +1,17 @@
 -- Names of nodes, and the places that they stand for.
-use Rattle.std.proofs.Common.{◌≡◌, ◌≢◌, ℕ, ◌≤◌, leb, Bool, true, false, ◌&&◌, ◌||◌, not, List, Some, refl, sym, ap, subst, ◌∙◌, true≢false}
+use Rattle.std.proofs.Common.{◌≡◌, ℕ, ◌≤◌, leb, true, false, ◌&&◌, ◌||◌, not, List, Some, subst}
 use Rattle.std.specs.Prelude.{slice_get, string_bytes}
 use Rattle.std.specs.List.{list_all, list_any}
 use Rattle.std.specs.Cmp.Lexicographic.{bytes_decides}
 use Rattle.std.proofs.lemmas.Bool.{and_parts, leb-true, not-true}
 use Rattle.packet_end.specs.Params.{AreParams}
-use Rattle.net_config.specs.Served.{is_from, same_text, is_named, has_dte, has_end, exactly_one, is_kind_served, is_within}
-use Rattle.net_config.specs.Served.{is_host, is_host_named, joins_nodes, may_stand, is_node_served, is_line_served, is_served}
+use Rattle.net_config.specs.Served.{is_from, same_text, is_named, has_end, exactly_one, is_kind_served, is_within}
+use Rattle.net_config.specs.Served.{is_host_named, joins_nodes, may_stand, is_node_served, is_line_served, is_served}
 use Rattle.net_config.specs.Plan.{place_of, end_params}
 use Rattle.net_config.specs.declared.config.Config.{Config}
 use Rattle.net_config.specs.declared.config.NodeConfig.{NodeConfig}
 use Rattle.net_config.specs.declared.config.LineConfig.{LineConfig}
-use Rattle.net_config.specs.declared.config.RouteConfig.{RouteConfig}
-use Rattle.net_config.proofs.Counting.{Passes, all_at, place_is}
+use Rattle.net_config.proofs.Counting.{all_at, place_is}
 
 pub same_so : (a b : List ℕ) → same_text a b ≡ true → a ≡ b
 same_so a b = (bytes_decides a b).0
@@ -24,7 +23,7 @@ pub record IsBetween (a b n : ℕ) : Type 0 where
   pub least : a ≤ n
   pub most : n ≤ b
 
-from_so : (a b n : ℕ) → is_from a b n ≡ true → IsBetween a b n
+pub from_so : (a b n : ℕ) → is_from a b n ≡ true → IsBetween a b n
 from_so a b n h =
     let parts = and_parts (leb a n) (leb n b) h in
     record { least = leb-true a n parts.0; most = leb-true n b parts.1 }

@@ -1,22 +1,24 @@
 -- A network that is served can be made as it is planned.
-use Rattle.std.proofs.Common.{◌≡◌, ◌≢◌, ℕ, zero, suc, ◌⊎◌, inl, inr, Bool, true, false, cond, not, ◌==◌, ◌||◌, List, length, [], ◌∷◌, map, Some, refl, sym, ap, subst, ◌∙◌, true≢false}
+use Rattle.std.proofs.Common.{◌≡◌, ◌≢◌, ℕ, zero, suc, inl, inr, Bool, true, false, cond, not, ◌==◌, ◌&&◌, ◌||◌, List, length, [], ◌∷◌, map, Some, refl, sym, ap, subst, ◌∙◌, true≢false}
 use Rattle.std.proofs.lemmas.List.{length-map}
-use Rattle.std.specs.Prelude.{slice_get, option_map, string_bytes}
+use Rattle.std.specs.Prelude.{slice_get, option_map, string_bytes, nat_le}
 use Rattle.std.specs.List.{list_any}
 use Rattle.std.proofs.lemmas.Option.{none-some, same_Some, slice_get-map}
 use Rattle.std.proofs.lemmas.Bool.{eqb-true, and_parts, or_cases, or_left, or_right, false_from_ne_true}
 use Rattle.std.proofs.lemmas.Map.Keys.{any_passes_from_place}
-use Rattle.link_timers.specs.declared.role.Role.{Role}
 use Rattle.link_timers.specs.declared.role.Role.TheVariants.{Dte, Dce}
-use Rattle.net_events.specs.Opening.{NewNode, NewLine, NetPlan, IsLinePlan, IsNodePlan, IsPlan}
+use Rattle.net_events.specs.Opening.{NewLine, IsNewDte, IsLinePlan, IsNodePlan}
 use Rattle.net_config.specs.Served.{same_text, is_named, has_dte, has_end, is_host, is_host_named, is_pad_named, may_stand, is_served}
-use Rattle.net_config.specs.Plan.{place_of, role_of, planned_node, new_line, plan_of, StandsAlone, PlanLaw}
+use Rattle.net_config.specs.Served.{is_from, is_kind_served}
+use Rattle.net_config.specs.Plan.{place_of, role_of, new_kind, planned_node, new_line, plan_of, StandsAlone, PlanLaw}
 use Rattle.net_config.specs.declared.config.Config.{Config}
 use Rattle.net_config.specs.declared.config.NodeConfig.{NodeConfig}
+use Rattle.net_config.specs.declared.config.NodeKind.{NodeKind}
+use Rattle.net_config.specs.declared.config.NodeKind.TheVariants as node_kind
 use Rattle.net_config.specs.declared.config.LineConfig.{LineConfig}
-use Rattle.net_config.proofs.Counting.{Passes, any_there, one_there, place_is}
-use Rattle.net_config.proofs.Naming.{same_so, so_same, NodeIsServed, LineIsServed, within_params, served_node, served_line}
-use Rattle.net_config.proofs.Naming.{node_place, line_place}
+use Rattle.net_config.proofs.Counting.{any_there, one_there, place_is}
+use Rattle.net_config.proofs.Naming.{same_so, so_same, LineIsServed, within_params, served_node, served_line}
+use Rattle.net_config.proofs.Naming.{from_so, node_place, line_place}
 
 -- ---- elements of a list that was mapped
 
@@ -128,6 +130,15 @@ ends_apart c served l h dte dce e =
     = sym dte.name_is ∙ ap (λ n. string_bytes n.name) node ∙ dce.name_is in
     true≢false (sym (so_same (string_bytes l.dte) (string_bytes l.dce) name) ∙ h.apart)
 
+-- a PAD that is served has 1 to 16 terminals
+dte_made : (k : NodeKind) → is_kind_served k ≡ true → IsNewDte (new_kind k)
+dte_made (node_kind.Pad p) served =
+    let parts = and_parts (is_from 1 16 p.terminals && nat_le p.speed 255) _ served in
+    let terminals = from_so 1 16 p.terminals (and_parts (is_from 1 16 p.terminals) (nat_le p.speed 255) parts.0).0 in
+    (terminals.least, terminals.most)
+dte_made node_kind.Host served = tt
+dte_made node_kind.Switch served = tt
+
 line_planned : (c : Config) → is_served c ≡ true → (j : ℕ) (l : LineConfig) → slice_get c.lines.items j ≡ Some l
     → IsLinePlan (plan_of c).nodes j (new_line c.nodes.items l)
 line_planned c served j l there =
@@ -145,6 +156,7 @@ line_planned c served j l there =
           (dce_ends l (string_bytes dce.node.name) dce.name_is);
       dte_role = dte_role c j l there (string_bytes dte.node.name) dte.name_is;
       dce_role = dce_role c served j l there h dce;
+      dte_made = dte_made dte.node.kind (served_node c served dte.place dte.node dte.there).kind;
       apart = ends_apart c served l h dte dce;
       params = within_params l h.within;
     }

@@ -1,5 +1,5 @@
 -- What a network is made with.
-use Rattle.std.specs.Prelude.{true, false, ◌≡◌, ℕ, Bool, List, map, length, slice_get, Option, Some, unwrap_or}
+use Rattle.std.specs.Prelude.{true, ◌≡◌, ℕ, Bool, List, map, length, slice_get, Some, unwrap_or}
 use Rattle.std.specs.Prelude.{if◌then◌else◌, string_bytes}
 use Rattle.std.specs.List.{list_any, position, fold}
 use Rattle.x3_params.specs.Table.{profile_values}
@@ -32,14 +32,9 @@ set_one values s = if is_accepted s then with_value values s.number s.value else
 abbrev pub initial_params : PadConfig → List ℕ
 initial_params p = fold set_one (profile_values p.profile p.speed) p.settings.items
 
-abbrev pub terminals_of : NodeKind → ℕ
-terminals_of (node_kind.Pad p) = p.terminals
-terminals_of node_kind.Host = 0
-terminals_of node_kind.Switch = 0
-
 -- what the node is made as where it is a DTE
 abbrev pub new_kind : NodeKind → NewDte
-new_kind (node_kind.Pad p) = NewPad (initial_params p)
+new_kind (node_kind.Pad p) = NewPad (initial_params p) p.terminals
 new_kind node_kind.Host = NewHost
 new_kind node_kind.Switch = NewHost
 
@@ -51,7 +46,6 @@ abbrev pub planned_node : List LineConfig → NodeConfig → NewNode
 planned_node lines n = record {
   line = place_of (has_end (string_bytes n.name)) lines;
   role = role_of lines (string_bytes n.name);
-  terminals = terminals_of n.kind;
   as_dte = new_kind n.kind;
 }
 

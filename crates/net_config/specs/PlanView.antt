@@ -1,9 +1,8 @@
 -- What the code's plan is in the rules.
-use Rattle.std.specs.Prelude.{List}
 use Rattle.net_events.specs.Opening.{NewDte, NewPad, NewHost}
 use Rattle.net_config.specs.declared.plan.NewKind.{NewKind}
 use Rattle.net_config.specs.declared.plan.NewKind.TheVariants as kind_is
 
 abbrev pub kind_value : NewKind → NewDte
-kind_value (kind_is.Pad params) = NewPad params
+kind_value (kind_is.Pad params terminals) = NewPad params terminals
 kind_value kind_is.Host = NewHost

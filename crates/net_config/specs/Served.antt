@@ -1,6 +1,6 @@
 -- Which networks are served: PADs and hosts, each at one end of one line. A host is the DCE of its line or the DTE, a
 -- PAD the DTE. Networks may fall into parts.
-use Rattle.std.specs.Prelude.{true, false, ℕ, ◌==◌, ◌&&◌, ◌||◌, not, Bool, List, length, String, string_bytes}
+use Rattle.std.specs.Prelude.{true, false, ℕ, ◌==◌, ◌&&◌, ◌||◌, not, Bool, List, length, string_bytes}
 use Rattle.std.specs.Prelude.{nat_le, nat_eq, is_none}
 use Rattle.std.specs.List.{list_all, list_any, filter}
 use Rattle.std.specs.Cmp.Lexicographic.{pointwise}

@@ -3,7 +3,7 @@ ghost use Rattle.std.specs.Prelude.{◌≡◌, ◌≤◌, true, false, List, map
 ghost use Rattle.net_config.specs.Served.{is_named, has_dte, has_end, is_served};
 ghost use Rattle.net_config.specs.Served.{is_kind_served, is_pad_served, is_within};
 ghost use Rattle.std.specs.List.{list_any, position};
-ghost use Rattle.net_config.specs.Plan.{set_one, initial_params, terminals_of, new_kind, role_of};
+ghost use Rattle.net_config.specs.Plan.{set_one, initial_params, new_kind, role_of};
 ghost use Rattle.net_config.specs.Plan.{planned_node, new_line};
 ghost use Rattle.net_config.specs.Plan.{end_params, plan_of, StandsAlone};
 ghost use Rattle.net_config.specs.PlanView.{kind_value};
@@ -19,19 +19,18 @@ use std::alloc::Global;
 use std::marker::Model;
 use x3_params::Params;
 
-/// What a node is made as: a PAD with these initial parameters, or a host.
+/// What a node is made as: a PAD of so many terminals, each with these initial parameters, or a host.
 #[derive(Drop)]
 pub enum NewKind {
-    Pad(Params),
+    Pad { params: Params, terminals: u8 },
     Host,
 }
 
-/// What a node is made with: its line and which end of it the node is, how many terminals it has, and its kind.
+/// What a node is made with: its line and which end of it the node is, and its kind.
 #[derive(Drop)]
 pub struct NewNode {
     pub line: usize,
     pub role: Role,
-    pub terminals: u16,
     pub kind: NewKind,
 }
 
@@ -56,7 +55,7 @@ impl Model for NewNode {
 
     ghost Value = { opening.NewNode };
 
-    ghost view = { λ n. record { line = n.line; role = n.role; terminals = n.terminals; as_dte = kind_value n.kind } };
+    ghost view = { λ n. record { line = n.line; role = n.role; as_dte = kind_value n.kind } };
 }
 
 impl Model for NewLine {
@@ -94,23 +93,16 @@ fn initial_params(pad: &PadConfig) -> Params
     params
 }
 
-fn terminals_of(kind: &NodeKind) -> u16
-    ensures { result ≡ terminals_of kind.now }
-{
-    match kind {
-        NodeKind::Pad(pad) => pad.terminals,
-        NodeKind::Host => 0,
-        NodeKind::Switch => 0,
-    }
-}
-
 /// What a node of this kind is made as.
 fn new_kind(kind: &NodeKind) -> NewKind
     requires { is_kind_served kind.now ≡ true }
     ensures { kind_value result ≡ new_kind kind.now }
 {
     match kind {
-        NodeKind::Pad(pad) => NewKind::Pad(initial_params(pad)),
+        NodeKind::Pad(pad) => NewKind::Pad {
+            params: initial_params(pad),
+            terminals: pad.terminals as u8,
+        },
         NodeKind::Host => NewKind::Host,
         NodeKind::Switch => NewKind::Host,
     }
@@ -155,7 +147,6 @@ fn planned_node(lines: &[LineConfig], node: &NodeConfig) -> NewNode
     NewNode {
         line: find_line(lines, &node.name).unwrap_or(0),
         role: role_of(lines, &node.name),
-        terminals: terminals_of(&node.kind),
         kind: new_kind(&node.kind),
     }
 }
