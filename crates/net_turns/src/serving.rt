@@ -86,9 +86,9 @@ fn show(pad: &mut Pad, terminal: u8, text: &mut Vec<u8>)
 {
     let mut shown: ArrayVec<u8, MOST_TEXT> = ArrayVec::new();
     let _ = pad.print(terminal, &mut shown);
-    for octet in shown.as_slice() {
-        text.push_reserved(*octet);
-    }
+    let Ok(()) = text.extend_from_slice(shown.as_slice()) else {
+        unreachable!()
+    };
 }
 
 /// Calls the node, and writes what was asked of it. What a terminal shows is added to the text.

@@ -15,7 +15,7 @@ use Rattle.call_records.specs.Book.{Book, Side, Slot, side_of, slot_at, with_nth
 use Rattle.call_records.specs.Closing.{closes_if, closes_present, closed_from}
 use Rattle.call_records.specs.Carried.{carried, unless_refused, placed_on}
 use Rattle.call_records.specs.Writes.{Write, all_sent, let_go, written_by, all_written}
-use Rattle.call_records.specs.Writes.Write as write
+use Rattle.call_records.specs.Writes.{Write as write}
 
 -- both ends of the line are the nodes that they were, with as many channels
 abbrev pub shape_of : Side → ℕ × ℕ

@@ -1,5 +1,5 @@
 -- What stays of a PAD's end of the line whatever is asked of it stays whatever happens at a terminal.
-use Rattle.std.specs.Prelude.{◌≡◌, ℕ, Bool, true, false, List, Option, Some, None, slice_get}
+use Rattle.std.specs.Prelude.{◌≡◌, ℕ, Bool, true, false, List, [], ◌∷◌, Option, Some, None, slice_get}
 use Rattle.std.specs.Option.{option_map_or}
 use Rattle.pad_editing.specs.Edited.{Step, key, idle}
 use Rattle.packet_layer.specs.Packets.{CallParts, Datum}
@@ -48,7 +48,7 @@ module _ (P : PacketEnd → Type 0) (asks : (e : PacketEnd) (channel : ℕ) (r :
   does_at (request.Call s) a h = places a.line.end (line.call_parts s.address s.user_data.items) h
   does_at request.Clear a h = clear_at a h
   does_at request.Interrupt a h =
-      on_call_at port.interrupts a.port.call a (λ call. asks a.line.end call.channel (ask.Interrupting _) h) h
+      on_call_at port.interrupts a.port.call a (λ call. asks a.line.end call.channel (ask.Interrupting (line.interrupt_octet ∷ [])) h) h
   does_at request.Reset a h = on_call_at port.resets a.port.call a (λ call. asks a.line.end call.channel (ask.Resetting 0 0) h) h
 
   asked_at : (o : Option Request) (a : AtLine) → At a → At (port.does_asked o a)

@@ -1,5 +1,5 @@
 -- How many notes of a turn of a quiet node open something.
-use Rattle.std.specs.Prelude.{◌≡◌, ℕ, Bool, true, false, cond}
+use Rattle.std.specs.Prelude.{◌≡◌, ℕ, Bool, true, false, cond, List}
 use Rattle.std.proofs.Common.{refl, ap, arith}
 use Rattle.link_timers.specs.declared.role.Role.{Role}
 use Rattle.link_timers.specs.declared.timers.TimerId.{TimerId}
