@@ -5,6 +5,7 @@ ghost use Rattle.net_files.specs.Scripts.{AreNamesOf, IsScriptFault};
 use crate::fault::ProgFault;
 use crate::words::{LineFault, Words, cut, read_text};
 use arrayvec::ArrayVec;
+use line_nodes::TerminalEvent;
 use link_timers::TimerId;
 use memory_line::Direction;
 use net_config::Config;
@@ -100,10 +101,10 @@ fn read_keys(alloc: Global, words: Words<'_>, names: &[String]) -> Result<Comman
     let text = read_text(alloc, words.text())?;
     let mut events = Vec::new(alloc);
     for octet in &text {
-        events.push(Event::Key {
+        events.push(Event::AtTerminal {
             node,
             terminal,
-            octet: *octet,
+            event: TerminalEvent::Key(*octet),
         })?;
     }
     Ok(Command::Events(events))
@@ -146,6 +147,9 @@ fn read_event(
     names: &[String],
 ) -> Result<Event, LineFault> {
     match word {
+        b"break" => read_at_terminal(words, names, TerminalEvent::Break),
+        b"idle" => read_at_terminal(words, names, TerminalEvent::Idle),
+        b"print" => read_at_terminal(words, names, TerminalEvent::Print),
         b"call" => read_call(alloc, words, names),
         b"take" => read_take(words, names),
         b"deliver" => {
@@ -161,6 +165,23 @@ fn read_event(
         b"restart" => read_restart(words, names),
         word => read_ask(alloc, word, words, names),
     }
+}
+
+/// `NODE TERM`, and what happens there.
+fn read_at_terminal(
+    words: Words<'_>,
+    names: &[String],
+    event: TerminalEvent,
+) -> Result<Event, LineFault> {
+    let mut words = words;
+    let node = words.node(names)?;
+    let terminal = words.number()?;
+    words.end()?;
+    Ok(Event::AtTerminal {
+        node,
+        terminal,
+        event,
+    })
 }
 
 /// `call NODE ADDRESS TEXT`, where the text is the user data.
@@ -211,19 +232,20 @@ fn read_expiry(words: Words<'_>, names: &[String]) -> Result<Event, LineFault> {
     Ok(Event::Expire { node, line, timer })
 }
 
-/// `T1`, `T10` or `T20`, or another timer of the packet layer and its channel, at the end.
+/// `T1`, `T10` or `T20`, another timer of the packet layer and its channel, or `Idle` and a terminal, at the end.
 fn read_timer(words: Words<'_>) -> Result<TimerId, LineFault> {
     let mut words = words;
     let timer = match words.next_word()? {
         b"T1" => TimerId::T1,
         b"T10" => TimerId::T10,
         b"T20" => TimerId::T20,
-        b"T11" => TimerId::T11(words.channel()?),
-        b"T12" => TimerId::T12(words.channel()?),
-        b"T13" => TimerId::T13(words.channel()?),
-        b"T21" => TimerId::T21(words.channel()?),
-        b"T22" => TimerId::T22(words.channel()?),
-        b"T23" => TimerId::T23(words.channel()?),
+        b"T11" => TimerId::T11(words.timer_number()?),
+        b"T12" => TimerId::T12(words.timer_number()?),
+        b"T13" => TimerId::T13(words.timer_number()?),
+        b"T21" => TimerId::T21(words.timer_number()?),
+        b"T22" => TimerId::T22(words.timer_number()?),
+        b"T23" => TimerId::T23(words.timer_number()?),
+        b"Idle" => TimerId::Idle(words.timer_number()?),
         _ => return Err(LineFault::NotACommand),
     };
     words.end()?;

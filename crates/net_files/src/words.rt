@@ -78,9 +78,9 @@ impl<'a> Words<'a> {
         read_number(word).ok_or(LineFault::NotACommand)
     }
 
-    /// The next word, as the number of a logical channel of a timer. Beyond 255, as beyond the channels that a line may
-    /// have, it names a timer that never runs.
-    pub(crate) fn channel(&mut self) -> Result<u8, LineFault> {
+    /// The next word, as the number of a timer's logical channel or terminal. Beyond 255, as beyond the channels that a
+    /// line and the terminals that a PAD may have, it names a timer that never runs.
+    pub(crate) fn timer_number(&mut self) -> Result<u8, LineFault> {
         let number = self.number()?;
         Ok(u8::try_from(number).unwrap_or(u8::MAX))
     }
