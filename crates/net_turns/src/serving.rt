@@ -100,11 +100,9 @@ fn call_node(
     text: &mut Vec<u8>,
 ) -> Result<Outcome, NodeFault>
     requires is_for { IsFor (event_of event.now) (node_of node.old) }
-    requires writes { MOST_WRITES ≤ book.old.room }
-    requires pairs { 1 ≤ book.old.pairs }
+    requires room { (MOST_WRITES ≤ book.old.room) × (1 ≤ book.old.pairs) }
     requires quiet { IsQuiet (node_of node.old) }
-    requires empty { text.old.items ≡ [] }
-    requires places { EventHasPlaces (event_of event.now) (vec_capacity text.old) }
+    requires text { (text.old.items ≡ []) × EventHasPlaces (event_of event.now) (vec_capacity text.old) }
     ensures answer { IsAnswered (event_of event.now) (node_of node.old) result }
     ensures text { OnOk result (text.new.items ≡ text_of (event_of event.now) (node_of node.old)) }
     ensures ok { OnOk result (IsCalled (event_of event.now) role (node_of node.old) book.old.book (node_of node.new)

@@ -1,15 +1,22 @@
--- A network of two lines of hosts as it is made, and an event at each line: they meet what the law asks.
-use Rattle.std.proofs.Common.{◌≡◌, ◌≤◌, ℕ, zero, suc, false, List, [], ◌∷◌, arith, Some, refl, sym, ap, ◌∙◌, subst, inl, inr}
+-- A network of two lines as it is made, one of a PAD and a host and one of two hosts, and an event at each line: they meet
+-- what the law asks.
+use Rattle.std.proofs.Common.{◌≡◌, ◌≤◌, ◌<◌, ℕ, zero, suc, false, List, [], ◌∷◌, arith, Some, refl, sym, ap, ◌∙◌, subst, inl, inr}
 use Rattle.std.specs.Prelude.{slice_get}
 use Rattle.std.proofs.lemmas.Option.{same_Some, none-some}
 use Rattle.link_timers.specs.declared.role.Role.{Role}
 use Rattle.link_timers.specs.declared.role.Role.TheVariants.{Dte, Dce}
 use Rattle.packet_end.specs.declared.params.EndParams.{EndParams}
 use Rattle.packet_end.specs.Params.{AreParams}
+use Rattle.packet_end.specs.PacketEnd.{finished, all_offered}
+use Rattle.x3_params.specs.Table.{profile_values}
+use Rattle.x3_params.specs.declared.profile.Profile.TheVariants.{Simple}
 use Rattle.line_nodes.specs.Node.{frames_of}
-use Rattle.memory_line.specs.Lines.{Flights, no_flights, LineService}
-use Rattle.net_events.specs.Opening.{NewDte, NewHost, new_dte, new_dce, AreSent}
-use Rattle.net_events.specs.NodeEvents.NodeEvent.{Restarts}
+use Rattle.memory_line.specs.declared.line.Direction.TheVariants.{FromDte}
+use Rattle.memory_line.specs.Lines.{Flights, no_flights, LineService, ArePut}
+use Rattle.net_events.specs.Opening.{NewDte, NewPad, NewHost, new_dte, new_dce, AreSent}
+use Rattle.net_events.specs.NodeEvents.{NodeEvent}
+use Rattle.net_events.specs.NodeEvents.NodeEvent.{Restarts, AtTerminal}
+use Rattle.line_nodes.specs.declared.terminal.TerminalEvent.TheVariants.{Key}
 use Rattle.net_events.specs.Network.{NetLine, Network, net_turn, with_turn_at, HappenedAt}
 use Rattle.network_laws.specs.IsNetwork.{IsNetwork}
 use Rattle.net_events.specs.Opening.{NewNode, NewLine, NetPlan, IsLinePlan, IsNodePlan, IsPlan, placed_new, line_plan, LineIsMade, IsMade}
@@ -35,16 +42,23 @@ are_params =
 abbrev node : (line : ℕ) → Role → NewNode
 node line role = record { line = line; role = role; as_dte = NewHost }
 
--- two lines, each between two hosts
+-- two terminals, which start from the values of a simple terminal
+abbrev new_pad : NewDte
+new_pad = NewPad (profile_values Simple 14) 2
+
+abbrev pad_node : NewNode
+pad_node = record { line = 0; role = Dte; as_dte = new_pad }
+
+-- two lines, the first of a PAD
 abbrev plan : NetPlan
 plan = record {
-  nodes = node 0 Dte ∷ node 0 Dce ∷ node 1 Dte ∷ node 1 Dce ∷ [];
+  nodes = pad_node ∷ node 0 Dce ∷ node 1 Dte ∷ node 1 Dce ∷ [];
   lines = record { dte = 0; dce = 1; params = params } ∷ record { dte = 2; dce = 3; params = params } ∷ [];
 }
 
 line_planned : (line : ℕ) (l : NewLine) → slice_get plan.lines line ≡ Some l → IsLinePlan plan.nodes line l
 line_planned zero l at = let P : NewLine → Type 0 = λ x. IsLinePlan plan.nodes 0 x in subst P (same_Some (record { dte = 0; dce = 1; params = params }) l at) (record {
-  dte = node 0 Dte;
+  dte = pad_node;
   dce = node 0 Dce;
   dte_there = refl;
   dce_there = refl;
@@ -52,7 +66,7 @@ line_planned zero l at = let P : NewLine → Type 0 = λ x. IsLinePlan plan.node
   dce_line = refl;
   dte_role = refl;
   dce_role = refl;
-  dte_made = tt;
+  dte_made = (let least : 1 ≤ 2 = omega arith in let most : 2 ≤ 16 = omega arith in (least, most));
   apart = λ e. omega (arith, e);
   params = are_params;
 })
@@ -75,7 +89,7 @@ node_planned : (place : ℕ) (n : NewNode) → slice_get plan.nodes place ≡ So
 node_planned place n at = by place n at
   where
     by : (place : ℕ) (n : NewNode) → slice_get plan.nodes place ≡ Some n → IsNodePlan plan.lines place n
-    by zero n at = subst (λ (x : NewNode). IsNodePlan plan.lines 0 x) (same_Some (node 0 Dte) n at) (record { line = record { dte = 0; dce = 1; params = params }; there = refl; at_end = inl refl })
+    by zero n at = subst (λ (x : NewNode). IsNodePlan plan.lines 0 x) (same_Some pad_node n at) (record { line = record { dte = 0; dce = 1; params = params }; there = refl; at_end = inl refl })
     by (suc zero) n at = subst (λ (x : NewNode). IsNodePlan plan.lines 1 x) (same_Some (node 0 Dce) n at) (record { line = record { dte = 0; dce = 1; params = params }; there = refl; at_end = inr refl })
     by (suc (suc zero)) n at = subst (λ (x : NewNode). IsNodePlan plan.lines 2 x) (same_Some (node 1 Dte) n at) (record { line = record { dte = 2; dce = 3; params = params }; there = refl; at_end = inl refl })
     by (suc (suc (suc zero))) n at = subst (λ (x : NewNode). IsNodePlan plan.lines 3 x) (same_Some (node 1 Dce) n at) (record { line = record { dte = 2; dce = 3; params = params }; there = refl; at_end = inr refl })
@@ -86,45 +100,49 @@ planned = record { lines = line_planned; nodes = node_planned }
 
 -- ---- the network, on any kind of line: all first frames are in flight
 
-abbrev up : List (List ℕ)
-up = frames_of (new_dte NewHost params)
+abbrev up : NewDte → List (List ℕ)
+up dte = frames_of (new_dte dte params)
 
 abbrev down : List (List ℕ)
 down = frames_of (new_dce params)
 
-abbrev flights : Flights
-flights = record { from_dte = up; from_dce = down }
+abbrev flights : NewDte → Flights
+flights dte = record { from_dte = up dte; from_dce = down }
 
-abbrev net_line : (dte dce : ℕ) → NetLine
-net_line dte dce = record { dte = dte; dce = dce; channels = 4; flights = flights }
+abbrev net_line : (dte dce : ℕ) → NewDte → NetLine
+net_line dte dce kind = record { dte = dte; dce = dce; channels = 4; flights = flights kind }
 
 abbrev network : Network
 network = record {
-  nodes = placed_new (node 0 Dte) params ∷ placed_new (node 0 Dce) params ∷ placed_new (node 1 Dte) params ∷ placed_new (node 1 Dce) params ∷ [];
-  lines = net_line 0 1 ∷ net_line 2 3 ∷ [];
+  nodes = placed_new pad_node params ∷ placed_new (node 0 Dce) params ∷ placed_new (node 1 Dte) params ∷ placed_new (node 1 Dce) params ∷ [];
+  lines = net_line 0 1 new_pad ∷ net_line 2 3 NewHost ∷ [];
   register = Rattle.call_records.specs.Register.made_register (line_plan (record { dte = 0; dce = 1; params = params }) ∷ line_plan (record { dte = 2; dce = 3; params = params }) ∷ []);
 }
 
-sent : (L : LineService) → AreSent L (new_dte NewHost params) (new_dce params) flights
+sent : (L : LineService) → AreSent L (new_dte NewHost params) (new_dce params) (flights NewHost)
 sent L = record {
-  between = record { from_dte = up; from_dce = [] };
-  from_dte = (record { from_dte = up; from_dce = [] }, inl refl, refl);
-  from_dce = (flights, inl refl, refl);
+  between = record { from_dte = up NewHost; from_dce = [] };
+  from_dte = (record { from_dte = up NewHost; from_dce = [] }, inl refl, refl);
+  from_dce = (flights NewHost, inl refl, refl);
 }
 
-sent_by : (L : LineService) (dte : NewNode) (kind : NewDte) → dte.as_dte ≡ kind → kind ≡ NewHost → AreSent L (new_dte dte.as_dte params) (new_dce params) flights
-sent_by L dte kind is host = subst (λ (k : NewDte). AreSent L (new_dte k params) (new_dce params) flights) (sym (is ∙ host)) (sent L)
+pad_sent : (L : LineService) → AreSent L (new_dte new_pad params) (new_dce params) (flights new_pad)
+pad_sent L = record {
+  between = record { from_dte = up new_pad; from_dce = [] };
+  from_dte = (record { from_dte = up new_pad; from_dce = [] }, inl refl, refl);
+  from_dce = (flights new_pad, inl refl, refl);
+}
 
 line_made : (L : LineService) (line : ℕ) (l : NewLine) → slice_get plan.lines line ≡ Some l → LineIsMade L plan network line l
 line_made L zero l at = subst (λ (x : NewLine). LineIsMade L plan network 0 x) (same_Some (record { dte = 0; dce = 1; params = params }) l at) (record {
-  flights = flights;
+  flights = flights new_pad;
   there = refl;
-  sent = λ f dte there. sent_by L dte NewHost (ap (λ (x : NewNode). x.as_dte) (sym (same_Some (node 0 Dte) dte there))) refl;
+  sent = λ f dte there. subst (λ (x : NewNode). AreSent L (new_dte x.as_dte params) (new_dce params) (flights new_pad)) (same_Some pad_node dte there) (pad_sent L);
 })
 line_made L (suc zero) l at = subst (λ (x : NewLine). LineIsMade L plan network 1 x) (same_Some (record { dte = 2; dce = 3; params = params }) l at) (record {
-  flights = flights;
+  flights = flights NewHost;
   there = refl;
-  sent = λ f dte there. sent_by L dte NewHost (ap (λ (x : NewNode). x.as_dte) (sym (same_Some (node 1 Dte) dte there))) refl;
+  sent = λ f dte there. subst (λ (x : NewNode). AreSent L (new_dte x.as_dte params) (new_dce params) (flights NewHost)) (same_Some (node 1 Dte) dte there) (sent L);
 })
 line_made L (suc (suc line)) l at = absurd (none-some l at)
 
@@ -139,7 +157,7 @@ node_made place n at l there =
     by_line (suc (suc line)) l e = absurd (none-some l e)
 
     by : (place : ℕ) (n : NewNode) → slice_get plan.nodes place ≡ Some n → slice_get network.nodes place ≡ Some (placed_new n params)
-    by zero n e = ap (λ (x : NewNode). Some (placed_new x params)) (same_Some (node 0 Dte) n e)
+    by zero n e = ap (λ (x : NewNode). Some (placed_new x params)) (same_Some pad_node n e)
     by (suc zero) n e = ap (λ (x : NewNode). Some (placed_new x params)) (same_Some (node 0 Dce) n e)
     by (suc (suc zero)) n e = ap (λ (x : NewNode). Some (placed_new x params)) (same_Some (node 1 Dte) n e)
     by (suc (suc (suc zero))) n e = ap (λ (x : NewNode). Some (placed_new x params)) (same_Some (node 1 Dce) n e)
@@ -154,12 +172,12 @@ holds L = made_network L plan network planned (made L)
 -- ---- the host at the DCE of the second line begins anew: its line loses all frames, and it sends its first one
 
 abbrev anew : Network
-anew = with_turn_at 1 (net_line 2 3) 3 (placed_new (node 1 Dce) params) (net_turn Restarts 1 Dce (placed_new (node 1 Dce) params) network)
+anew = with_turn_at 1 (net_line 2 3 NewHost) 3 (placed_new (node 1 Dce) params) (net_turn Restarts 1 Dce (placed_new (node 1 Dce) params) network)
     (record { from_dte = []; from_dce = down }) network
 
 restarted : (L : LineService) → HappenedAt L Restarts 1 Dce network anew
 restarted L = record {
-  line_is = net_line 2 3;
+  line_is = net_line 2 3 NewHost;
   line_there = refl;
   node = placed_new (node 1 Dce) params;
   node_there = refl;
@@ -173,3 +191,33 @@ restarted L = record {
 
 pub holds_anew : (L : LineService) → IsNetwork L anew
 holds_anew L = happened_network L Restarts 1 Dce network anew (holds L) (restarted L)
+
+-- ---- a 2 is typed at the second terminal of the PAD, which shows it and sends nothing
+
+abbrev typing : NodeEvent
+typing = AtTerminal 1 (Key 0x32)
+
+abbrev typed : Network
+typed = with_turn_at 0 (net_line 0 1 new_pad) 0 (placed_new pad_node params) (net_turn typing 0 Dte (placed_new pad_node params) network)
+    (flights new_pad) network
+
+sends_nothing : frames_of (net_turn typing 0 Dte (placed_new pad_node params) network).node ≡ []
+unfolding finished all_offered
+sends_nothing = refl
+
+types : (L : LineService) → HappenedAt L typing 0 Dte network typed
+types L = record {
+  line_is = net_line 0 1 new_pad;
+  line_there = refl;
+  node = placed_new pad_node params;
+  node_there = refl;
+  is_for = (let less : 1 < 2 = omega arith in less);
+  between = flights new_pad;
+  left = λ f. refl;
+  flights = flights new_pad;
+  put = λ f. subst (λ (fs : List (List ℕ)). ArePut L FromDte fs (flights new_pad) (flights new_pad)) (sym sends_nothing) refl;
+  others = refl;
+}
+
+pub holds_typed : (L : LineService) → IsNetwork L typed
+holds_typed L = happened_network L typing 0 Dte network typed (holds L) (types L)

@@ -7,17 +7,17 @@ use Rattle.net_turns.proofs.serving.call_node.Goals as goal
 pub returns-in-Hears-clause-ok : goal.returns-in-Hears-clause-ok
 returns-in-Hears-clause-ok c =
     rw (c.in-Hears.is, c.hear.ensures)
-    (called_hears c.args.role (node_of c.args.node.now) c.in-Hears.octets.now c.args.book.now c.requires.quiet c.requires.writes c.requires.pairs)
+    (called_hears c.args.role (node_of c.args.node.now) c.in-Hears.octets.now c.args.book.now c.requires.quiet c.requires.room.0 c.requires.room.1)
 
 pub returns-in-Expires-clause-ok : goal.returns-in-Expires-clause-ok
 returns-in-Expires-clause-ok c =
     rw (c.in-Expires.is, c.expire.ensures.node)
-    (called_expires c.args.role (node_of c.args.node.now) c.in-Expires.timer c.args.book.now c.requires.quiet c.requires.writes c.requires.pairs)
+    (called_expires c.args.role (node_of c.args.node.now) c.in-Expires.timer c.args.book.now c.requires.quiet c.requires.room.0 c.requires.room.1)
 
 pub returns-in-Relinks-clause-ok : goal.returns-in-Relinks-clause-ok
 returns-in-Relinks-clause-ok c =
     rw (c.in-Relinks.is, c.relink.ensures)
-    (called_relinks c.args.role (node_of c.args.node.now) c.args.book.now c.requires.quiet c.requires.writes c.requires.pairs)
+    (called_relinks c.args.role (node_of c.args.node.now) c.args.book.now c.requires.quiet c.requires.room.0 c.requires.room.1)
 
 pub returns-in_ok-channel-in-Host-clause-ok : goal.returns-in_ok-channel-in-Host-clause-ok
 returns-in_ok-channel-in-Host-clause-ok c =
@@ -41,4 +41,4 @@ pub returns-in-Pad-node-3-clause-ok : goal.returns-in-Pad-node-3-clause-ok
 returns-in-Pad-node-3-clause-ok c =
     let q : IsQuiet _ = subst IsQuiet (ap node_of c.in-Pad-node-3.is) c.requires.quiet in
     rw (c.in-AtTerminal.is, c.in-Pad-node-3.is, c.at_terminal.ensures.pad)
-    (called_terminal c.args.role c.in-Pad-node-3.pad c.in-AtTerminal.terminal c.in-AtTerminal.event c.args.book.now q c.requires.writes c.requires.pairs)
+    (called_terminal c.args.role c.in-Pad-node-3.pad c.in-AtTerminal.terminal c.in-AtTerminal.event c.args.book.now q c.requires.room.0 c.requires.room.1)
