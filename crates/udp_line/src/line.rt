@@ -24,10 +24,13 @@ pub struct UdpLine<D: Datagrams> {
 }
 
 impl UdpLine<UdpSocket> {
-    /// A line over two sockets on 127.0.0.1 that know each other alone and do not wait.
+    /// A line over two sockets on 127.0.0.1 that know each other alone and do not wait, which receives into 148 octets,
+    /// one more than a frame has.
     ///
     /// `OutOfMemory` comes for want of memory and `Socket` where the system gives no such sockets.
-    pub fn pair<N: Net>(net: &N, alloc: Global) -> Result<Self, SocketFault> {
+    pub fn pair<N: Net>(net: &N, alloc: Global) -> Result<Self, SocketFault>
+        ensures { IfOk result (λ line. length line.received.items ≡ 148) }
+    {
         let dte = UdpSocket::bind(net, (Ipv4Addr::LOCALHOST, 0))?;
         let dce = UdpSocket::bind(net, (Ipv4Addr::LOCALHOST, 0))?;
         dte.connect(dce.local_addr()?)?;
