@@ -1,10 +1,9 @@
 -- The text of an answer.
 use Rattle.std.specs.Prelude.{ℕ, ◌+◌, ◌/◌, ◌%◌, ◌==◌, ◌&&◌, Bool, true, false, List, [], ◌∷◌, ◌++◌, Option, Some, None}
-use Rattle.std.specs.Prelude.{Result, Ok, Err, String, string_bytes, codes, decimal, slice_get, unwrap_or, nat_lt}
+use Rattle.std.specs.Prelude.{Result, Ok, Err, string_bytes, codes, decimal, slice_get, unwrap_or, nat_lt}
 use Rattle.std.specs.Prelude.{nat_le, if◌then◌else◌}
 use Rattle.std.specs.Option.{option_map}
 use Rattle.std.specs.List.{flat_map}
-use Rattle.std.specs.declared.alloc.Global.{Global}
 use Rattle.packet_layer.specs.Packets.{Datum}
 use Rattle.packet_layer.specs.declared.fault.CallFault.TheVariants.{NotReady, NoChannel}
 use Rattle.packet_channel.specs.declared.fault.ChannelFault.TheVariants.{NoCall, Resetting, QueueFull, TooLong}
@@ -13,17 +12,17 @@ use Rattle.packet_channel.specs.declared.taken.Taken.{Taken}
 use Rattle.packet_channel.specs.declared.taken.Taken.TheVariants as taken
 use Rattle.line_nodes.specs.declared.fault.NodeFault.{NodeFault}
 use Rattle.line_nodes.specs.declared.fault.NodeFault.TheVariants.{Call, Channel}
-use Rattle.packet_pad.specs.declared.key.KeyAnswer.TheVariants.{Dropped}
 use Rattle.line_nodes.specs.declared.note.HostNote.{HostNote}
 use Rattle.line_nodes.specs.declared.note.NoteKind.{NoteKind}
 use Rattle.line_nodes.specs.declared.note.NoteKind.TheVariants.{Incoming, Connected, Cleared, Reset}
+use Rattle.x25_pad.specs.declared.answer.PadAnswer.TheVariants.{Dropped}
 use Rattle.memory_line.specs.declared.line.Direction.{Direction}
 use Rattle.memory_line.specs.declared.line.Direction.TheVariants.{FromDte, FromDce}
 use Rattle.net_events.specs.declared.answer.Put.{Put}
 use Rattle.net_events.specs.declared.event.Event.{Event}
 use Rattle.net_events.specs.declared.event.Event.TheVariants as event
 use Rattle.net_events.specs.declared.answer.Outcome.{Outcome}
-use Rattle.net_events.specs.declared.answer.Outcome.TheVariants.{Keyed, Called, Took}
+use Rattle.net_events.specs.declared.answer.Outcome.TheVariants.{Typed, Printed, Called, Took}
 use Rattle.net_events.specs.declared.answer.Answer.{Answer}
 use Rattle.net_events.specs.declared.event.StepFault.{StepFault}
 use Rattle.net_events.specs.declared.event.StepFault.TheVariants as fault
@@ -67,14 +66,17 @@ taken_text (Some (taken.«Data» p)) = codes "data " ++ (flags_of p ++ (32 ∷ q
 abbrev pub name_of : Names → ℕ → List ℕ
 name_of names node = unwrap_or (option_map string_bytes (slice_get names node)) []
 
--- the line of an outcome: of a call that was placed, of what was taken, of a key that was dropped
-abbrev pub outcome_text : Names → Event → Outcome → List ℕ
-outcome_text names (event.Call node address user_data) (Called channel) =
+-- the line of an outcome: of a call that was placed, of what was taken, of this text that a terminal shows, of what was
+-- dropped there
+abbrev pub outcome_text : Names → Event → Outcome → (text : List ℕ) → List ℕ
+outcome_text names (event.Call node address user_data) (Called channel) text =
     name_of names node ++ (47 ∷ decimal channel ++ (codes " called" ++ 10 ∷ []))
-outcome_text names (event.Take node channel) (Took taken) =
+outcome_text names (event.Take node channel) (Took taken) text =
     name_of names node ++ (47 ∷ decimal channel ++ (32 ∷ taken_text taken ++ 10 ∷ []))
-outcome_text names e (Keyed Dropped) = codes "dropped" ++ 10 ∷ []
-outcome_text names e o = []
+outcome_text names (event.AtTerminal node terminal what) Printed text =
+    name_of names node ++ (46 ∷ decimal terminal ++ (32 ∷ quoted text ++ 10 ∷ []))
+outcome_text names (event.AtTerminal node terminal what) (Typed Dropped) text = codes "dropped" ++ 10 ∷ []
+outcome_text names e o text = []
 
 -- the sign of a direction
 abbrev pub way_of : Direction → List ℕ
@@ -130,5 +132,5 @@ refusal_text fault.OutOfMemory = codes "refused 5 OutOfMemory" ++ 10 ∷ []
 abbrev pub answer_text : Names → (traces : Bool) → Event → Result Answer StepFault → List ℕ
 answer_text names traces e (Ok answer) =
     frames_text traces answer.frames.items
-    ++ (flat_map (note_text names) answer.notes.items ++ outcome_text names e answer.outcome)
+    ++ (flat_map (note_text names) answer.notes.items ++ outcome_text names e answer.outcome answer.text.items)
 answer_text names traces e (Err refusal) = refusal_text refusal

@@ -6,8 +6,8 @@ ghost use Rattle.net_player.specs.Answers.{quoted, shown, hex_digit, flags_of, t
 ghost use Rattle.net_player.specs.Answers.{name_of, outcome_text, refusal_text, node_refusal_text, way_of, spaced};
 ghost use Rattle.net_player.specs.Answers.{frame_text, note_text, happening};
 
-use line_nodes::{HostNote, KeyAnswer, NodeFault, NoteKind};
-use line_sim::{Direction, Event, Outcome, Put, StepFault};
+use line_nodes::{HostNote, NodeFault, NoteKind};
+use line_sim::{Answer, Direction, Event, Outcome, PadAnswer, Put, StepFault};
 use packet_layer::{CallFault, ChannelFault, Taken, UserData};
 use std::alloc::{AllocError, Global};
 use std::fmt;
@@ -17,11 +17,12 @@ pub(crate) fn outcome_text(
     alloc: Global,
     names: &[String],
     event: &Event,
-    outcome: &Outcome,
+    answer: &Answer,
 ) -> Result<String, AllocError>
-    ensures { IfOk result (λ text. string_bytes text ≡ outcome_text names.now event.now outcome.now) }
+    ensures { IfOk result (λ text. string_bytes text ≡ outcome_text names.now event.now answer.now.outcome
+        answer.now.text.items) }
 {
-    match (event, outcome) {
+    match (event, &answer.outcome) {
         (Event::Call { node, .. }, Outcome::Called { channel }) => {
             let name = node_name(names, *node);
             format!(in alloc; "{name}/{channel} called\n")
@@ -31,7 +32,14 @@ pub(crate) fn outcome_text(
             let taken = Shown(taken);
             format!(in alloc; "{name}/{channel} {taken}\n")
         }
-        (_, Outcome::Keyed(KeyAnswer::Dropped)) => String::from_str(alloc, "dropped\n"),
+        (Event::AtTerminal { node, terminal, .. }, Outcome::Printed) => {
+            let name = node_name(names, *node);
+            let text = Quoted(answer.text.as_slice());
+            format!(in alloc; "{name}.{terminal} {text}\n")
+        }
+        (Event::AtTerminal { .. }, Outcome::Typed(PadAnswer::Dropped)) => {
+            String::from_str(alloc, "dropped\n")
+        }
         _ => Ok(String::new(alloc)),
     }
 }

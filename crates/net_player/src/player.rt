@@ -241,7 +241,7 @@ impl Player<'_> {
     {
         self.write_traced(answer.frames.as_slice(), out)?;
         self.write_notes(answer.notes.as_slice(), out)?;
-        let text = outcome_text(self.alloc, self.names, event, &answer.outcome)?;
+        let text = outcome_text(self.alloc, self.names, event, answer)?;
         write(out, text.as_str())?;
         Ok(())
     }

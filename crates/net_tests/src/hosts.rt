@@ -73,31 +73,6 @@ fn hosts_call_each_other(rt: HostRuntime) -> Result<(), Fail> {
     Ok(())
 }
 
-/// A PAD and a host on a line that does not stand.
-const PAD_AND_HOST: &str = r#"
-[[node]]
-name = "pad"
-kind = "pad"
-
-[[node]]
-name = "host"
-kind = "host"
-
-[[line]]
-dte = "pad"
-dce = "host"
-"#;
-
-#[test]
-fn a_pad_refuses_a_call(rt: HostRuntime) -> Result<(), Fail> {
-    let out = played(rt.alloc(), PAD_AND_HOST, b"flow\ncall host 1\nflow\n")?;
-    assert_eq!(rt;
-        from_utf8(out.as_slice())?,
-        "host/1 called\nhost/1 cleared 0 0\nend rest\n"
-    );
-    Ok(())
-}
-
 /// A call from a to b on channel 4.
 const CALL: &str = "flow\ncall a 2001\nflow\nanswer b 4\nflow\n";
 

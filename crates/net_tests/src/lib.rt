@@ -7,3 +7,5 @@ mod hosts;
 mod networks;
 #[cfg(test)]
 mod programs;
+#[cfg(test)]
+mod terminals;

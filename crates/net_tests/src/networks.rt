@@ -3,7 +3,7 @@ use crate::programs::played_on;
 use frame_codec::FrameBuf;
 use line_sim::{
     Config, Direction, Event, Line, MakeFault, MemLine, Net, Pair, Record, RunFault, SentEpoch,
-    StepFault, TakenEpoch, run,
+    StepFault, TakenEpoch, TerminalEvent, run,
 };
 use net_files::{FIRST, read_net};
 use packet_codec::Address;
@@ -39,6 +39,22 @@ kind = "host"
 dte = "a"
 dce = "b"
 channels = 1
+"#;
+
+/// A PAD and a host on a line of four channels.
+const DIRECT: &str = r#"
+[[node]]
+name = "pad"
+kind = "pad"
+set = "3:2"
+
+[[node]]
+name = "host"
+kind = "host"
+
+[[line]]
+dte = "pad"
+dce = "host"
 "#;
 
 /// Two lines of two hosts each, of which the second has its DTE behind its DCE and one channel.
@@ -133,7 +149,7 @@ const FIRST_PAIR: Pair = Pair {
     callee: 1,
 };
 
-const CASES: [Case; 9] = [
+const CASES: [Case; 10] = [
     // A network begins fresh.
     Case {
         network: FIRST,
@@ -265,6 +281,44 @@ const CASES: [Case; 9] = [
             Kept {
                 node: 1,
                 own: &[1],
+                ..FRESH
+            },
+        ],
+    },
+    // A terminal calls, types a line and answers a message, and the PAD clears the call that comes in beside it.
+    Case {
+        network: DIRECT,
+        script: b"flow\nkey pad 0 2001\\0D\nflow\nanswer host 4\nflow\nkey pad 0 HI\\0D\nsay host 4 q \\04\\03\\00\nflow\nprint pad 0\ncall host 7\nflow\ntake host 4\ntake host 4\nflow\n",
+        printed: "host/4 incoming\npad.0 \"2001\\0D\\0D\\0ACOM\\0D\\0AHI\\0D\"\nhost/1 called\nhost/1 cleared 0 0\nhost/4 data - \"HI\\0D\"\nhost/4 data q \"\\00\\03\\02\"\nend rest\n",
+        pairs: &[FIRST_PAIR],
+        records: &[
+            Kept {
+                far: &[2, 0, 0, 1],
+                sent: &[b"HI\r", &[0, 3, 2]],
+                covered: 2,
+                taken: &[&[4, 3, 0]],
+                released: 1,
+                steps: 3,
+                ..FRESH
+            },
+            Kept {
+                node: 1,
+                own: &[2, 0, 0, 1],
+                sent: &[&[4, 3, 0]],
+                covered: 1,
+                taken: &[b"HI\r", &[0, 3, 2]],
+                released: 2,
+                ..FRESH
+            },
+            Kept {
+                node: 1,
+                far: &[7],
+                closed: true,
+                ..FRESH
+            },
+            Kept {
+                own: &[7],
+                closed: true,
                 ..FRESH
             },
         ],
@@ -409,10 +463,10 @@ fn delivery_is_confirmed(rt: HostRuntime) -> Result<(), Fail> {
 
 /// CR at terminal 0 of a node.
 fn key(node: usize) -> Event {
-    Event::Key {
+    Event::AtTerminal {
         node,
         terminal: 0,
-        octet: 0x0d,
+        event: TerminalEvent::Key(0x0d),
     }
 }
 

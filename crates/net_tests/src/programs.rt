@@ -86,7 +86,7 @@ const PLAYED: [Run; 25] = [
     ),
     (b"flow\n   \nflow\n", b"", b"fault 2 line 2\n"),
     (b"flow\n\r\n", b"", b"fault 2 line 2\n"),
-    (b"break pad 0\n", b"", b"fault 2 line 1\n"),
+    (b"break pad\n", b"", b"fault 2 line 1\n"),
     (
         b"key pad 0 A\\0D\nlose 0 >\nexpire pad 0 T1\nflow\ntake host 1\nflow\n",
         b"host/1 data - \"A\\0D\"\nend rest\n",
@@ -242,7 +242,7 @@ const NO_COMMANDS: [&[u8]; 35] = [
 ];
 
 /// Lines with the words of hosts that are no commands.
-const NO_HOST_COMMANDS: [&[u8]; 44] = [
+const NO_HOST_COMMANDS: [&[u8]; 42] = [
     b"call",
     b"call host",
     b"call host ",
@@ -284,9 +284,27 @@ const NO_HOST_COMMANDS: [&[u8]; 44] = [
     b"expire host 0 T22 x",
     b"expire host 0 t11 1",
     b"expire host 0 T14 1",
-    b"expire pad 0 Idle 0",
-    b"print pad 0",
     b"check",
+];
+
+/// Lines with the words of terminals that are no commands.
+const NO_TERMINAL_COMMANDS: [&[u8]; 16] = [
+    b"break",
+    b"break pad",
+    b"break pod 0",
+    b"break pad -1",
+    b"break pad 0 0",
+    b"idle pad x",
+    b"idle pad 65536",
+    b"idle 0",
+    b"print pad",
+    b"print pad 0 ",
+    b"print pad 0 A",
+    b"print  pad 0",
+    b"expire pad 0 Idle",
+    b"expire pad 0 Idle x",
+    b"expire pad 0 Idle 0 0",
+    b"expire pad 0 idle 0",
 ];
 
 #[test]
@@ -300,14 +318,38 @@ fn lines_that_are_no_commands_are_refused(rt: HostRuntime) -> Result<(), Fail> {
         let fault = read_script(rt.alloc(), line, &config).err();
         assert_eq!(rt; fault, Some(ProgFault::Script(1)), "{line:?}");
     }
+    for line in NO_TERMINAL_COMMANDS {
+        let fault = read_script(rt.alloc(), line, &config).err();
+        assert_eq!(rt; fault, Some(ProgFault::Script(1)), "{line:?}");
+    }
     Ok(())
 }
 
 /// Lines, and the commands that they are.
-const COMMANDS: [(&[u8], &str); 30] = [
+const COMMANDS: [(&[u8], &str); 35] = [
     (
         b"key host 65535 \\\\\\0d",
-        "Events([Key { node: 1, terminal: 65535, octet: 92 }, Key { node: 1, terminal: 65535, octet: 13 }])",
+        "Events([AtTerminal { node: 1, terminal: 65535, event: Key(92) }, AtTerminal { node: 1, terminal: 65535, event: Key(13) }])",
+    ),
+    (
+        b"break pad 0",
+        "Events([AtTerminal { node: 0, terminal: 0, event: Break }])",
+    ),
+    (
+        b"idle host 65535",
+        "Events([AtTerminal { node: 1, terminal: 65535, event: Idle }])",
+    ),
+    (
+        b"print pad 0007",
+        "Events([AtTerminal { node: 0, terminal: 7, event: Print }])",
+    ),
+    (
+        b"expire pad 0 Idle 15",
+        "Events([Expire { node: 0, line: 0, timer: Idle(15) }])",
+    ),
+    (
+        b"expire host 1 Idle 65535",
+        "Events([Expire { node: 1, line: 1, timer: Idle(255) }])",
     ),
     (b"take pad 00007", "Events([Take { node: 0, channel: 7 }])"),
     (

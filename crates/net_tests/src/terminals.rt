@@ -1,0 +1,1204 @@
+//! PADs at their hosts: what their terminals show, and what goes over the line.
+use crate::programs::played;
+use std::alloc::Global;
+use std::str::from_utf8;
+use std::test::Fail;
+
+/// A PAD of two terminals and a host on a line.
+const PAD: &str = r#"
+[[node]]
+name = "pad"
+kind = "pad"
+terminals = 2
+"#;
+
+const HOST: &str = r#"
+[[node]]
+name = "host"
+kind = "host"
+
+[[line]]
+dte = "pad"
+dce = "host"
+"#;
+
+/// What is set at the PAD, what the line has besides, a script, and what is printed for it.
+type Session = (&'static str, &'static str, &'static str, &'static str);
+
+const SESSIONS: [Session; 23] = [
+    // A call is set up, and a line typed on it.
+    (
+        "3:2",
+        "",
+        r"flow
+trace on
+key pad 0 2001\0D
+flow
+answer host 4
+flow
+print pad 0
+key pad 0 HELLO\0D
+flow
+take host 4
+flow
+print pad 0
+",
+        r#"0 > 01 22 10 04 0B 04 20 01 00 01 00 00 00
+0 < 01 41
+host/4 incoming
+0 < 03 42 10 04 0F
+0 > 03 41
+pad.0 "2001\0D\0D\0ACOM\0D\0A"
+0 > 01 44 10 04 00 48 45 4C 4C 4F 0D
+0 < 01 61
+0 < 03 64 10 04 21
+host/4 data - "HELLO\0D"
+0 > 03 61
+pad.0 "HELLO\0D"
+end rest
+"#,
+    ),
+    // What follows D is user data, what follows P is not echoed; a call is refused, and one not answered in time.
+    (
+        "",
+        "",
+        r"flow
+trace on
+key pad 0 2001DLOGIN\0D
+deliver 0 >
+refuse host 4
+flow
+trace off
+print pad 0
+key pad 0 2001Psecret\0D
+print pad 0
+flow
+tick 3600
+flow
+print pad 0
+",
+        r#"0 > 01 22 10 04 0B 04 20 01 00 01 00 00 00 4C 4F 47 49 4E
+0 < 01 41
+host/4 incoming
+0 < 03 42 10 04 13 00 00
+0 > 01 44 10 04 17
+0 < 01 61
+pad.0 "2001DLOGIN\0D\0D\0ACLR DTE\0D\0A"
+pad.0 "2001P"
+host/4 incoming
+host/4 cleared 0 0
+pad.0 "\0D\0ACLR ERR\0D\0A"
+end rest
+"#,
+    ),
+    // The restart is not done, and then the link is lost.
+    (
+        "2:0",
+        "",
+        r"key pad 0 2001\0D
+print pad 0
+flow
+key pad 0 2001\0D
+relink 0
+print pad 0
+",
+        r#"pad.0 "\0D\0ACLR DER\0D\0A"
+pad.0 "\0D\0ACLR DER\0D\0A"
+end busy
+"#,
+    ),
+    // The second call finds no channel.
+    (
+        "2:0",
+        "channels = 1\n",
+        r"flow
+key pad 0 1\0D
+key pad 1 2\0D
+print pad 1
+flow
+clear host 1
+flow
+print pad 0
+key pad 1 2\0D
+flow
+call host 7
+",
+        r#"pad.1 "\0D\0ACLR NC\0D\0A"
+host/1 incoming
+pad.0 "\0D\0ACLR DTE\0D\0A"
+host/1 incoming
+refused 4 NoChannel
+end rest
+"#,
+    ),
+    // Each command without a call.
+    (
+        "2:0",
+        "",
+        r"flow
+key pad 0 STAT\0D
+print pad 0
+key pad 0 CLR\0D
+key pad 0 INT\0D
+key pad 0 RESET+
+print pad 0
+key pad 0 PAR?\0D
+print pad 0
+key pad 0 SET 2:1,25:0,11:3,3:200\0D
+print pad 0
+key pad 0 set? 4:1,4:2,11:3,2:0\0D
+print pad 0
+key pad 0 prof 91\0D
+key pad 0 PAR? 1,2,3,16\0D
+print pad 0
+key pad 0 SET 6:1\0D
+key pad 0 PAR? 1,2,3,16\0D
+print pad 0
+key pad 0 PROF90\0D
+key pad 0 \0D
+print pad 0
+",
+        r#"pad.0 "\0D\0AFREE\0D\0A"
+pad.0 "\0D\0AERR\0D\0A\0D\0AERR\0D\0A\0D\0AERR\0D\0A"
+pad.0 "\0D\0APAR 1:1,2:0,3:126,4:0,5:1,6:1,7:2,8:0,9:0,10:0,11:14,12:1,13:0,14:0,15:0,16:127,17:24,18:18\0D\0A"
+pad.0 "\0D\0APAR 25:INV,11:INV,3:INV\0D\0A"
+pad.0 "set? 4:1,4:2,11:3,2:0\0D\0D\0APAR 4:1,4:2,11:INV,2:0\0D\0A"
+pad.0 ""
+pad.0 "\0D\0A\0D\0APAR 1:0,2:0,3:0,16:127\0D\0A"
+pad.0 "\0D\0A\0D"
+end rest
+"#,
+    ),
+    // Lines that are no commands.
+    (
+        "2:0",
+        "",
+        r"key pad 0 SETT\0D
+key pad 0 SET 300:1\0D
+key pad 0 SET 2\0D
+key pad 0 20X1\0D
+key pad 0 2001d\0D
+key pad 0 2001 D\0D
+key pad 0 2001Dabcdefghijklm\0D
+key pad 0 PROF 92\0D
+key pad 0 STAT                                                             xx\0D
+print pad 0
+key pad 0 STAT                                                             xx\7F\0D
+print pad 0
+",
+        r#"pad.0 "\0D\0AERR\0D\0A\0D\0AERR\0D\0A\0D\0AERR\0D\0A\0D\0AERR\0D\0A\0D\0AERR\0D\0A\0D\0AERR\0D\0A\0D\0AERR\0D\0A\0D\0AERR\0D\0A\0D\0AERR\0D\0A"
+pad.0 "\0D\0AFREE\0D\0A"
+end busy
+"#,
+    ),
+    // A command line is corrected.
+    (
+        "",
+        "",
+        r"key pad 0 STOT\7F\7FAT\12\0D
+print pad 0
+key pad 0 XXXX\18stat+
+print pad 0
+",
+        r#"pad.0 "STOT\08 \08\08 \08AT\0D\0ASTAT\0D\0D\0AFREE\0D\0A"
+pad.0 "XXXXXXX\0D\0Astat+\0D\0AFREE\0D\0A"
+end busy
+"#,
+    ),
+    // Calls that come in are those of the lowest terminals without a call; a third one is refused.
+    (
+        "2:0",
+        "",
+        r"flow
+call host 8 HI
+call host 8
+flow
+call host 8
+flow
+print pad 0
+print pad 1
+say host 2 - FOR ONE
+say host 1 - FOR NONE
+flow
+print pad 1
+print pad 0
+key pad 1 ONE\0D
+flow
+take host 2
+take host 1
+clear host 1
+flow
+call host 9
+flow
+print pad 0
+print pad 1
+",
+        r#"host/1 called
+host/2 called
+host/1 connected
+host/2 connected
+host/3 called
+host/3 cleared 0 0
+pad.0 "\0D\0ACOM\0D\0A"
+pad.1 "\0D\0ACOM\0D\0A"
+pad.1 "FOR ONE"
+pad.0 "FOR NONE"
+host/2 data - "ONE\0D"
+host/1 none
+host/1 called
+host/1 connected
+pad.0 "\0D\0ACLR DTE\0D\0A\0D\0ACOM\0D\0A"
+pad.1 ""
+end rest
+"#,
+    ),
+    // A call that comes in drops what was typed of a command.
+    (
+        "2:0,3:2",
+        "",
+        r"flow
+key pad 0 STA
+call host 1
+flow
+print pad 0
+key pad 0 \10T\0D
+print pad 0
+",
+        r#"host/1 called
+host/1 connected
+pad.0 "\0D\0ACOM\0D\0A"
+pad.0 "\0D\0AERR\0D\0A"
+end rest
+"#,
+    ),
+    // Events where they cannot be.
+    (
+        "",
+        "",
+        r"break host 0
+idle host 0
+print host 0
+key pad 2 A
+break pad 65535
+idle pad 2
+print pad 2
+take pad 0
+call pad 1
+expire pad 1 Idle 0
+expire pad 0 Idle 0
+expire pad 0 Idle 99
+expire host 0 Idle 0
+",
+        r"refused 1 NoSuchNode
+refused 1 NoSuchNode
+refused 1 NoSuchNode
+refused 2 NoSuchTerminal
+refused 2 NoSuchTerminal
+refused 2 NoSuchTerminal
+refused 2 NoSuchTerminal
+refused 1 NoSuchNode
+refused 1 NoSuchNode
+refused 1 NoSuchNode
+end busy
+",
+    ),
+    // The PAD begins anew.
+    (
+        "",
+        "",
+        r"flow
+key pad 0 SET 2:0\0D
+key pad 0 XYZ
+restart pad
+flow
+print pad 0
+key pad 0 PAR? 2\0D
+print pad 0
+",
+        r#"pad.0 ""
+pad.0 "PAR? 2\0D\0D\0APAR 2:1\0D\0A"
+end rest
+"#,
+    ),
+    // The prompt.
+    (
+        "6:5",
+        "",
+        r"flow
+key pad 0 STAT\0D
+print pad 0
+key pad 0 2001\0D
+flow
+clear host 4
+flow
+print pad 0
+key pad 0 2001\0D
+flow
+answer host 4
+flow
+print pad 0
+key pad 0 \10XX\0D
+print pad 0
+key pad 0 STAT\0D
+print pad 0
+clear host 4
+flow
+print pad 0
+",
+        r#"pad.0 "STAT\0D\0D\0AFREE\0D\0A"
+host/4 incoming
+pad.0 "2001\0D\0D\0ACLR DTE\0D\0A"
+host/4 incoming
+pad.0 "2001\0D\0D\0ACOM\0D\0A"
+pad.0 "\0D\0A*XX\0D\0D\0AERR\0D\0A"
+pad.0 "STAT\0D\0D\0AENGAGED\0D\0A"
+pad.0 "\0D\0ACLR DTE\0D\0A\0D\0A*"
+end rest
+"#,
+    ),
+    // In the manual: dialling.
+    (
+        "3:2",
+        "",
+        r"flow
+key pad 0 2001\0D
+flow
+answer host 4
+flow
+print pad 0
+key pad 0 HELLO\0D
+flow
+take host 4
+say host 4 - WELCOME
+flow
+print pad 0
+print pad 0
+",
+        r#"host/4 incoming
+pad.0 "2001\0D\0D\0ACOM\0D\0A"
+host/4 data - "HELLO\0D"
+pad.0 "HELLO\0DWELCOME"
+pad.0 ""
+end busy
+"#,
+    ),
+    // In the manual: user data, a call that is refused, one that nobody answers, and one that is given up.
+    (
+        "3:2",
+        "",
+        r"flow
+key pad 0 2001DLOGIN\0D
+flow
+refuse host 4
+flow
+print pad 0
+key pad 0 2001Psecret\0D
+flow
+tick 3600
+flow
+print pad 0
+key pad 0 2001\0D
+key pad 0 CLR\0D
+flow
+print pad 0
+",
+        r#"host/4 incoming
+pad.0 "2001DLOGIN\0D\0D\0ACLR DTE\0D\0A"
+host/4 incoming
+host/4 cleared 0 0
+pad.0 "2001P\0D\0ACLR ERR\0D\0A"
+host/4 incoming
+host/4 cleared 0 0
+pad.0 "2001\0DCLR\0D\0D\0ACLR CONF\0D\0A"
+end rest
+"#,
+    ),
+    // In the manual: calls that come in.
+    (
+        "3:2",
+        "",
+        r"flow
+call host 1
+call host 2
+flow
+call host 3
+flow
+print pad 0
+print pad 1
+",
+        r#"host/1 called
+host/2 called
+host/1 connected
+host/2 connected
+host/3 called
+host/3 cleared 0 0
+pad.0 "\0D\0ACOM\0D\0A"
+pad.1 "\0D\0ACOM\0D\0A"
+end rest
+"#,
+    ),
+    // In the manual: leaving a call.
+    (
+        "3:2",
+        "",
+        r"flow
+key pad 0 2001\0D
+flow
+answer host 4
+flow
+print pad 0
+key pad 0 \10STAT\0D
+key pad 0 \10INT\0D
+flow
+take host 4
+flow
+key pad 0 \10HELP\0D
+key pad 0 CLR\0D
+print pad 0
+flow
+",
+        r#"host/4 incoming
+pad.0 "2001\0D\0D\0ACOM\0D\0A"
+host/4 int "\01"
+pad.0 "STAT\0D\0D\0AENGAGED\0D\0AINT\0D\0D\0AHELP\0D\0D\0AERR\0D\0ACLR\0D\0D\0ACLR CONF\0D\0A"
+host/4 cleared 0 0
+end rest
+"#,
+    ),
+    // In the manual: the far end has the PAD clear.
+    (
+        "3:2",
+        "",
+        r"flow
+key pad 0 2001\0D
+flow
+answer host 4
+flow
+say host 4 - BYE
+say host 4 q \01
+flow
+print pad 0
+print pad 0
+print pad 0
+flow
+",
+        r#"host/4 incoming
+pad.0 "2001\0D\0D\0ACOM\0D\0ABYE"
+pad.0 ""
+pad.0 "\0D\0ACLR PAD\0D\0A"
+host/4 cleared 0 0
+end rest
+"#,
+    ),
+    // In the manual: parameters.
+    (
+        "3:2",
+        "",
+        r"flow
+key pad 0 PAR? 2,3\0D
+key pad 0 SET 2:0\0D
+key pad 0 SET? 3:126,9:8\0D
+key pad 0 SET 11:3\0D
+print pad 0
+key pad 1 PAR? 2,3\0D
+print pad 1
+",
+        r#"pad.0 "PAR? 2,3\0D\0D\0APAR 2:1,3:2\0D\0ASET 2:0\0D\0D\0A\0D\0APAR 3:126,9:INV\0D\0A\0D\0APAR 11:INV\0D\0A"
+pad.1 "PAR? 2,3\0D\0D\0APAR 2:1,3:2\0D\0A"
+end rest
+"#,
+    ),
+    // In the manual: editing.
+    (
+        "3:2",
+        "",
+        r"flow
+key pad 0 SET 15:1\0D
+key pad 0 2001\0D
+flow
+answer host 4
+flow
+print pad 0
+key pad 0 HEX\7FLLO\0D
+key pad 0 OOPS\18OK\12\0D
+print pad 0
+flow
+take host 4
+take host 4
+",
+        r#"host/4 incoming
+pad.0 "SET 15:1\0D\0D\0A2001\0D\0D\0ACOM\0D\0A"
+pad.0 "HEX\08 \08LLO\0DOOPSXXX\0D\0AOK\0D\0AOK\0D"
+host/4 data - "HELLO\0D"
+host/4 data - "OK\0D"
+end busy
+"#,
+    ),
+    // In the manual: the idle time.
+    (
+        "3:2",
+        "",
+        r"flow
+key pad 0 SET 3:0,4:10\0D
+key pad 0 2001\0D
+flow
+answer host 4
+flow
+key pad 0 YE
+tick 9
+key pad 0 S
+tick 9
+flow
+take host 4
+tick 1
+flow
+take host 4
+",
+        r#"host/4 incoming
+host/4 none
+host/4 data - "YES"
+end busy
+"#,
+    ),
+    // In the manual: a break.
+    (
+        "3:2",
+        "",
+        r"flow
+key pad 0 SET 7:21\0D
+key pad 0 2001\0D
+flow
+answer host 4
+flow
+print pad 0
+say host 4 - A LONG LIST
+break pad 0
+flow
+take host 4
+take host 4
+print pad 0
+say host 4 q \02\08\00
+say host 4 - READY
+flow
+print pad 0
+print pad 0
+",
+        r#"host/4 incoming
+pad.0 "SET 7:21\0D\0D\0A2001\0D\0D\0ACOM\0D\0A"
+host/4 int "\01"
+host/4 data q "\03\08\01"
+pad.0 ""
+pad.0 ""
+pad.0 "READY"
+end busy
+"#,
+    ),
+    // In the manual: a full queue.
+    (
+        "3:2",
+        "",
+        r"flow
+key pad 0 SET 2:0\0D
+key pad 0 2001\0D
+flow
+answer host 4
+flow
+print pad 0
+stop host 4
+flow
+key pad 0 1\0D2\0D3\0D4\0D5\0D6\0D7\0D8\0D9\0D
+print pad 0
+go host 4
+flow
+print pad 0
+",
+        r#"host/4 incoming
+pad.0 "SET 2:0\0D\0D\0A\0D\0ACOM\0D\0A"
+dropped
+pad.0 "\13"
+pad.0 "\11"
+end busy
+"#,
+    ),
+    // In the manual: messages to a PAD.
+    (
+        "3:2",
+        "",
+        r"flow
+key pad 0 2001\0D
+flow
+answer host 4
+flow
+print pad 0
+say host 4 q \02\02\00
+say host 4 q \04\03\00
+flow
+print pad 0
+print pad 0
+key pad 0 SECRET\0D
+print pad 0
+flow
+take host 4
+take host 4
+",
+        r#"host/4 incoming
+pad.0 "2001\0D\0D\0ACOM\0D\0A"
+pad.0 ""
+pad.0 ""
+pad.0 ""
+host/4 data q "\00\03\02"
+host/4 data - "SECRET\0D"
+end busy
+"#,
+    ),
+];
+
+/// A call from terminal 0 on channel 4.
+const CALL: &str = r"flow
+key pad 0 2001\0D
+flow
+answer host 4
+flow
+print pad 0
+";
+
+/// What is set at the PAD, what a script does with the call, and what is printed for all of it.
+const IN_A_CALL: [(&str, &str, &str); 18] = [
+    // Resets of both ends meet.
+    (
+        "",
+        r"trace on
+key pad 0 \10RESET\0D
+reset host 4
+flow
+print pad 0
+",
+        r#"host/4 incoming
+pad.0 "2001\0D\0D\0ACOM\0D\0A"
+0 > 01 44 10 04 1B 00 00
+0 < 03 44 10 04 1B 00 00
+0 < 01 61
+0 > 03 61
+pad.0 "RESET\0D\0D\0A"
+end rest
+"#,
+    ),
+    // A reset in the middle, another before it is confirmed, and one by the host.
+    (
+        "2:0",
+        r"key pad 0 \10RESET\0D
+deliver 0 >
+deliver 0 <
+key pad 0 ONE\0D
+key pad 0 \10RESET\0D
+flow
+key pad 0 TWO\0D
+flow
+take host 4
+take host 4
+reset host 4
+flow
+print pad 0
+",
+        r#"host/4 incoming
+pad.0 "\0D\0ACOM\0D\0A"
+host/4 reset 0 0
+host/4 reset 0 0
+host/4 data - "TWO\0D"
+host/4 none
+pad.0 "\0D\0A\0D\0A\0D\0ARESET DTE\0D\0A"
+end rest
+"#,
+    ),
+    // A packet with D = 1 is confirmed when the terminal shows it, one without at once.
+    (
+        "",
+        r"trace on
+say host 4 d HI
+flow
+print pad 0
+flow
+say host 4 - THERE
+say host 4 -
+flow
+print pad 0
+print pad 0
+flow
+",
+        r#"host/4 incoming
+pad.0 "2001\0D\0D\0ACOM\0D\0A"
+0 < 03 44 50 04 00 48 49
+0 > 03 61
+0 > 01 64 10 04 21
+pad.0 "HI"
+0 < 01 61
+0 < 03 66 10 04 02 54 48 45 52 45
+0 < 03 68 10 04 04
+0 > 03 81
+0 > 03 A1
+0 > 01 A6 10 04 41
+pad.0 "THERE"
+0 > 01 A8 10 04 61
+pad.0 ""
+0 < 01 81
+0 < 01 A1
+end rest
+"#,
+    ),
+    // An interrupt of the host shows nothing, and is confirmed when it is taken.
+    (
+        "",
+        r"trace on
+say host 4 - HI
+int host 4 X
+flow
+print pad 0
+print pad 0
+flow
+",
+        r#"host/4 incoming
+pad.0 "2001\0D\0D\0ACOM\0D\0A"
+0 < 03 44 10 04 00 48 49
+0 < 03 46 10 04 23 58
+0 > 03 61
+0 > 03 81
+0 > 01 84 10 04 27
+pad.0 ""
+0 > 01 86 10 04 21
+pad.0 "HI"
+0 < 01 61
+0 < 01 81
+end rest
+"#,
+    ),
+    // A message in two packets.
+    (
+        "",
+        r"say host 4 - XXXXXXXXXXXXXXXXXXXXXXXXXXXXXXXXXXXXXXXXXXXXXXXXXXXXXXXXXXXXXXXXXXXXXXXXXXXXXXXXXXXXXXXXXXXXXXXXXXXXXXXXXXXXXXXXXXXXXXXXXXXXXXXZY
+flow
+print pad 0
+print pad 0
+",
+        r#"host/4 incoming
+pad.0 "2001\0D\0D\0ACOM\0D\0A"
+pad.0 "XXXXXXXXXXXXXXXXXXXXXXXXXXXXXXXXXXXXXXXXXXXXXXXXXXXXXXXXXXXXXXXXXXXXXXXXXXXXXXXXXXXXXXXXXXXXXXXXXXXXXXXXXXXXXXXXXXXXXXXXXXXXXXXZ"
+pad.0 "Y"
+end busy
+"#,
+    ),
+    // The host sets, reads, and sets and reads.
+    (
+        "",
+        r"say host 4 q \02\02\00\0B\01
+flow
+print pad 0
+flow
+take host 4
+key pad 0 A
+print pad 0
+say host 4 q \04\02\00\0B\00\63\00
+say host 4 q \06\04\01\04\02\84\03\0B\01
+flow
+print pad 0
+print pad 0
+flow
+take host 4
+take host 4
+say host 4 q \04
+say host 4 q \02
+flow
+print pad 0
+print pad 0
+flow
+take host 4
+take host 4
+",
+        r#"host/4 incoming
+pad.0 "2001\0D\0D\0ACOM\0D\0A"
+pad.0 ""
+host/4 data q "\00\8B\03"
+pad.0 ""
+pad.0 ""
+pad.0 ""
+host/4 data q "\00\02\00\0B\0E\E3\01"
+host/4 data q "\00\04\01\04\02\04\03\8B\03"
+pad.0 ""
+pad.0 ""
+host/4 data q "\00\01\01\02\00\03~\04\03\05\01\06\01\07\02\08\00\09\00\0A\00\0B\0E\0C\01\0D\00\0E\00\0F\00\10\7F\11\18\12\12"
+host/4 none
+end busy
+"#,
+    ),
+    // What is no message is answered by an error, and what asks nothing by nothing.
+    (
+        "",
+        r"say host 4 q \07
+say host 4 q \02\02
+say host 4 q
+say host 4 q \05\01\07
+say host 4 q \03
+flow
+print pad 0
+print pad 0
+print pad 0
+print pad 0
+print pad 0
+flow
+take host 4
+take host 4
+take host 4
+take host 4
+",
+        r#"host/4 incoming
+pad.0 "2001\0D\0D\0ACOM\0D\0A"
+pad.0 ""
+pad.0 ""
+pad.0 ""
+pad.0 ""
+pad.0 ""
+host/4 data q "\05\01\07"
+host/4 data q "\05\02\02"
+host/4 none
+host/4 none
+end busy
+"#,
+    ),
+    // The host invites to clear.
+    (
+        "",
+        r"say host 4 - BYE
+say host 4 q \01
+flow
+print pad 0
+print pad 0
+flow
+print pad 0
+",
+        r#"host/4 incoming
+pad.0 "2001\0D\0D\0ACOM\0D\0A"
+pad.0 "BYE"
+pad.0 ""
+host/4 cleared 0 0
+pad.0 "\0D\0ACLR PAD\0D\0A"
+end rest
+"#,
+    ),
+    // A break interrupts, is indicated, and has the host's text thrown away until 8 is put to 0.
+    (
+        "7:21",
+        r"trace on
+break pad 0
+flow
+trace off
+take host 4
+take host 4
+say host 4 - LOST
+flow
+print pad 0
+say host 4 q \02\08\00
+say host 4 - SEEN
+flow
+print pad 0
+print pad 0
+",
+        r#"host/4 incoming
+pad.0 "2001\0D\0D\0ACOM\0D\0A"
+0 > 01 44 10 04 23 01
+0 > 01 46 90 04 00 03 08 01
+0 < 01 61
+0 < 01 81
+host/4 int "\01"
+host/4 data q "\03\08\01"
+pad.0 ""
+pad.0 ""
+pad.0 "SEEN"
+end busy
+"#,
+    ),
+    // Other breaks: a reset alone, an indication, an interrupt and the command state.
+    (
+        "7:2",
+        r"trace on
+break pad 0
+break pad 0
+flow
+trace off
+key pad 0 \10SET 7:4\0D
+break pad 0
+flow
+take host 4
+key pad 0 \10SET 7:9\0D
+break pad 0
+break pad 0
+flow
+take host 4
+take host 4
+key pad 0 STAT\0D
+print pad 0
+",
+        r#"host/4 incoming
+pad.0 "2001\0D\0D\0ACOM\0D\0A"
+0 > 01 44 10 04 1B 00 00
+0 < 03 64 10 04 1F
+host/4 reset 0 0
+0 > 03 61
+host/4 data q "\03"
+host/4 int "\01"
+host/4 none
+pad.0 "SET 7:4\0D\0D\0ASET 7:9\0D\0D\0ASTAT\0D\0D\0AENGAGED\0D\0A"
+end busy
+"#,
+    ),
+    // The host's queue is full.
+    (
+        "",
+        r"say host 4 - X
+say host 4 - X
+say host 4 - X
+say host 4 - X
+say host 4 - X
+say host 4 - X
+say host 4 - X
+say host 4 - X
+say host 4 - X
+say host 4 - X
+say host 4 - X
+say host 3 - X
+say host 5 - X
+",
+        r#"host/4 incoming
+pad.0 "2001\0D\0D\0ACOM\0D\0A"
+refused 4 QueueFull
+refused 4 NoCall
+refused 3 NoSuchCall
+end busy
+"#,
+    ),
+    // The PAD's queue is full: DC3 asks the terminal to stop, DC1 to go on.
+    (
+        "2:0,3:2,5:1,7:4",
+        r"stop host 4
+flow
+key pad 0 \0D\0D\0D\0D\0D\0D\0D\0D\0D
+break pad 0
+print pad 0
+go host 4
+flow
+print pad 0
+take host 4
+key pad 0 \10RESET\0D
+key pad 0 \0D
+clear host 4
+flow
+print pad 0
+",
+        r#"host/4 incoming
+pad.0 "\0D\0ACOM\0D\0A"
+dropped
+dropped
+pad.0 "\13"
+pad.0 "\11"
+host/4 data - "\0D"
+dropped
+pad.0 "\0D\0A\13\0D\0ACLR DTE\0D\0A\11"
+end rest
+"#,
+    ),
+    // DC3 of the terminal stops what it shows, and DC1 lets it go on.
+    (
+        "3:2",
+        r"say host 4 - ONE
+say host 4 - TWO
+flow
+key pad 0 \13
+print pad 0
+key pad 0 \11
+print pad 0
+key pad 0 \13
+print pad 0
+key pad 0 \10PROF 91\0D
+print pad 0
+",
+        r#"host/4 incoming
+pad.0 "2001\0D\0D\0ACOM\0D\0A"
+pad.0 ""
+pad.0 "ONE"
+pad.0 ""
+pad.0 "PROF 91\0DTWO"
+end busy
+"#,
+    ),
+    // The idle timer ends a block; where that is dropped only `idle` tells of it.
+    (
+        "3:0,4:10",
+        r"idle pad 0
+key pad 0 HI
+tick 9
+key pad 0 !
+tick 9
+flow
+take host 4
+tick 1
+flow
+take host 4
+key pad 0 A
+expire pad 0 Idle 0
+key pad 0 B
+idle pad 0
+idle pad 0
+flow
+take host 4
+take host 4
+stop host 4
+flow
+key pad 0 1
+idle pad 0
+key pad 0 2
+idle pad 0
+key pad 0 3
+idle pad 0
+key pad 0 4
+idle pad 0
+key pad 0 5
+idle pad 0
+key pad 0 6
+idle pad 0
+key pad 0 7
+idle pad 0
+key pad 0 8
+idle pad 0
+key pad 0 9
+expire pad 0 Idle 0
+idle pad 0
+",
+        r#"host/4 incoming
+pad.0 "2001\0D\0D\0ACOM\0D\0A"
+host/4 none
+host/4 data - "HI!"
+host/4 data - "A"
+host/4 data - "B"
+dropped
+end busy
+"#,
+    ),
+    // Editing and its echo, folding, padding and LF insertion.
+    (
+        "3:2,9:2,10:4,13:7,14:1,15:1",
+        r"key pad 0 HEX\7FLLO\12\0D
+print pad 0
+key pad 0 OOPS\18\7FOK\0D
+print pad 0
+flow
+take host 4
+take host 4
+say host 4 - ABCDE\08\08FGH\0D\0A
+flow
+print pad 0
+",
+        r#"host/4 incoming
+pad.0 "2001\0D\00\00\0A\00\0D\0ACOM\0D\0A"
+pad.0 "HEX\08 \08LL\0D\00\00\0A\00O\0D\00\00\0A\00\0A\00HELL\0D\00\00\0A\00O\0D\00\00\0A\00"
+pad.0 "OOPS\0D\00\00\0A\00XXX\0D\00\00\0A\00\0A\00OK\0D\00\00\0A\00"
+host/4 data - "HELLO\0D\0A"
+host/4 data - "OK\0D\0A"
+pad.0 "ABCD\0D\00\00\0A\00E\08\08FGH\0D\00\00\0A\00\0A\00"
+end busy
+"#,
+    ),
+    // The commands of a call.
+    (
+        "",
+        r"key pad 0 \10STAT\0D
+key pad 0 \10INT\0D
+key pad 0 \10INT\0D
+key pad 0 \0D
+print pad 0
+flow
+take host 4
+flow
+key pad 0 \10CALL\0D
+key pad 0 2001\0D
+key pad 0 CLR\0D
+print pad 0
+flow
+key pad 0 CLR\0D
+print pad 0
+",
+        r#"host/4 incoming
+pad.0 "2001\0D\0D\0ACOM\0D\0A"
+pad.0 "STAT\0D\0D\0AENGAGED\0D\0AINT\0D\0D\0AINT\0D\0D\0AERR\0D\0A\0D"
+host/4 int "\01"
+pad.0 "CALL\0D\0D\0AERR\0D\0A2001\0D\0D\0AERR\0D\0ACLR\0D\0D\0ACLR CONF\0D\0A"
+host/4 cleared 0 0
+pad.0 "CLR\0D\0D\0AERR\0D\0A"
+end rest
+"#,
+    ),
+    // A host that gets no confirmation clears, and one begins anew.
+    (
+        "2:0",
+        r"reset host 4
+lose 0 <
+expire host 0 T12 4
+expire host 0 T1
+flow
+print pad 0
+key pad 0 2001\0D
+flow
+answer host 4
+flow
+restart host
+flow
+print pad 0
+",
+        r#"host/4 incoming
+pad.0 "\0D\0ACOM\0D\0A"
+host/4 cleared 19 0
+pad.0 "\0D\0ARESET DTE\0D\0A\0D\0ACLR ERR\0D\0A"
+host/4 incoming
+pad.0 "\0D\0ACOM\0D\0A\0D\0ACLR DER\0D\0A"
+end rest
+"#,
+    ),
+    // The end of the call drops the text that is held.
+    (
+        "3:2",
+        r"key pad 0 HALF
+relink 0
+flow
+key pad 0 STAT\0D
+print pad 0
+",
+        r#"host/4 incoming
+pad.0 "2001\0D\0D\0ACOM\0D\0A"
+host/4 cleared 9 0
+pad.0 "HALF\0D\0ACLR DER\0D\0ASTAT\0D\0D\0AFREE\0D\0A"
+end rest
+"#,
+    ),
+];
+
+/// What is printed for a script at a PAD of these settings, on a line that has this besides.
+fn played_at(alloc: Global, settings: &str, line: &str, script: &str) -> Result<Vec<u8>, Fail> {
+    let network = format!(in alloc; "{PAD}set = \"{settings}\"\n{HOST}{line}")?;
+    played(alloc, network.as_str(), script.as_bytes())
+}
+
+#[test]
+fn terminals_are_served(rt: HostRuntime) -> Result<(), Fail> {
+    for (settings, line, script, printed) in SESSIONS {
+        let out = played_at(rt.alloc(), settings, line, script)?;
+        assert_eq!(rt; from_utf8(out.as_slice())?, printed);
+    }
+    Ok(())
+}
+
+#[test]
+fn a_terminal_uses_its_call(rt: HostRuntime) -> Result<(), Fail> {
+    for (settings, script, printed) in IN_A_CALL {
+        let whole = format!(in rt.alloc(); "{CALL}{script}")?;
+        let out = played_at(rt.alloc(), settings, "", whole.as_str())?;
+        assert_eq!(rt; from_utf8(out.as_slice())?, printed);
+    }
+    Ok(())
+}
