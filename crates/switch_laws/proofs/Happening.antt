@@ -1,5 +1,7 @@
 -- What is made is a switch of which the laws speak, and each event leaves it one.
-use Rattle.std.proofs.Common.{◌≡◌, ℕ, zero, suc, ◌*◌, ◌≤◌, Bool, true, false, if◌then◌else◌, ◌&&◌, ◌||◌, inl, inr, List, [], ◌∷◌, map, length, replicate, Option, Some, None, is_some, refl, sym, ap, ap₂, subst, ◌∙◌, true≢false}
+use Rattle.std.proofs.Common.{◌≡◌, ℕ, zero, suc, ◌*◌, ◌≤◌, Bool, true, false, if◌then◌else◌, ◌&&◌, ◌||◌, inl, inr, List}
+use Rattle.std.proofs.Common.{[], ◌∷◌, map, length, replicate, Option, Some, None, is_some, refl, sym, ap, ap₂, subst}
+use Rattle.std.proofs.Common.{◌∙◌, true≢false}
 use Rattle.std.specs.Prelude.{slice_get}
 use Rattle.std.specs.List.{list_any}
 use Rattle.std.proofs.lemmas.Option.{none-some, same_Some}
@@ -12,10 +14,12 @@ use Rattle.line_end.specs.End as line
 use Rattle.line_end.specs.End.{End}
 use Rattle.packet_layer.specs.Packets.{Packet}
 use Rattle.packet_layer.specs.Channel.{Refusal, Channel, closed_channel, had_call}
-use Rattle.packet_layer.specs.Layer.{Layer, channel_of, nth_channel, standing_channels, start_phase, next_in, next_packet}
+use Rattle.packet_layer.specs.Layer.{Layer, channel_of, nth_channel, standing_channels, start_phase, next_in}
+use Rattle.packet_layer.specs.Layer.{next_packet}
 use Rattle.packet_laws.specs.History.{empty_epoch}
 use Rattle.packet_laws.specs.Readable.{Every}
-use Rattle.packet_end.specs.PacketEnd.{PacketEnd, HasOfferedAll, received, after_timer, all_offered, settled, elapsed, without_first_frame}
+use Rattle.packet_end.specs.PacketEnd.{PacketEnd, HasOfferedAll, received, after_timer, all_offered, settled, elapsed}
+use Rattle.packet_end.specs.PacketEnd.{without_first_frame}
 use Rattle.address_routes.specs.Routes.{RouteMap}
 use Rattle.switch_lines.specs.Direction.{request_for}
 use Rattle.switch_lines.specs.declared.place.Place.{Place}
@@ -24,13 +28,16 @@ use Rattle.switch_lines.specs.declared.config.LineConfig.{LineConfig}
 use Rattle.switch_lines.specs.Lines.{SwitchLine, changed, flat, nth_joined, joined_on, joined_at}
 use Rattle.switch_lines.specs.Relay.{relayed_first}
 use Rattle.switch_lines.specs.Making.{IsConfig, IsLineConfig, made, made_line}
-use Rattle.switch_lines.specs.Switch.{Switch, with_end, acted, all_begun, all_relinked, all_offered_on, finished, may_offer, offering_from, offered_from, lines_first, rounds, on_frame, on_timer, restart, elapse, without_joins, to_relink, raised}
+use Rattle.switch_lines.specs.Switch.{Switch, with_end, acted, all_begun, all_relinked, all_offered_on, finished}
+use Rattle.switch_lines.specs.Switch.{may_offer, offering_from, offered_from, lines_first, rounds, on_frame, on_timer}
+use Rattle.switch_lines.specs.Switch.{restart, elapse, without_joins, to_relink, raised}
 use Rattle.switch_laws.specs.Offers.{HaveSmallLinks, EndsKeepNothingBack}
 use Rattle.switch_laws.specs.Leg.{Leg}
 use Rattle.switch_laws.specs.Calls.{CallsAreJoined}
 use Rattle.switch_laws.specs.World.{World, Shown, Agrees, shown_as, shown_on, shown_at, layers_of, closed}
 use Rattle.switch_laws.specs.Joined.{IsSwitch, Becomes, Reached, has_nth, has_place_on, HasRelayedAll}
-use Rattle.switch_laws.specs.Events.{Event, after_event, MayCome, SwitchHolds, AfterEvent, HoldsOn, window_of, new_legs, EventLaw}
+use Rattle.switch_laws.specs.Events.{Event, after_event, MayCome, SwitchHolds, AfterEvent, HoldsOn, window_of, new_legs}
+use Rattle.switch_laws.specs.Events.{EventLaw}
 use Rattle.switch_laws.specs.Events.Event.{Arrives, Expires, Restarts, Elapses, Departs}
 use Rattle.switch_laws.specs.Events.HoldsOn.{ended, goes_on}
 use Rattle.switch_laws.proofs.Standing.{start_good}
@@ -39,9 +46,11 @@ use Rattle.switch_laws.proofs.Lists.{map_unchanged}
 use Rattle.switch_laws.proofs.Places.{joined_kept, place_after}
 use Rattle.switch_laws.proofs.Effects.{steady}
 use Rattle.switch_laws.proofs.Rounds.{lines_of, first_lines, grows}
-use Rattle.switch_laws.proofs.Offered.{ks, AreSmall, acted_ks, act_ks, all_relinked_ks, begun_ks, small_links, received_k, timer_k}
+use Rattle.switch_laws.proofs.Offered.{ks, AreSmall, acted_ks, act_ks, all_relinked_ks, begun_ks, small_links}
+use Rattle.switch_laws.proofs.Offered.{received_k, timer_k}
 use Rattle.switch_laws.proofs.Keeping.{ends_keep, layers_on_ends, joined_on_ends}
-use Rattle.switch_laws.proofs.Relinking.{finished_end, ends_ask, same_asking}
+use Rattle.switch_lines.proofs.Relinking.{ends_ask, same_asking}
+use Rattle.switch_laws.proofs.Relinking.{finished_end}
 use Rattle.switch_laws.proofs.Concerning.{same_front, same_refusal}
 use Rattle.switch_laws.proofs.Coming.{begins_right}
 use Rattle.switch_laws.proofs.Finishing.{turns, restarted_joined}
@@ -56,7 +65,8 @@ links_small (l ∷ ls) s (suc n) x e = links_small ls s.1 n x e
 same_links : (ls ms : List SwitchLine) → ks (lines_of ms) ≡ ks (lines_of ls) → HaveSmallLinks ls → HaveSmallLinks ms
 same_links ls ms e h = links_small ms (subst (λ (xs : List ℕ). AreSmall xs) (sym e) (small_links ls h))
 
-all_ks : (f : PacketEnd → PacketEnd) (ls : List SwitchLine) → ((e : PacketEnd) → (f e).line.link.k ≡ e.line.link.k) → ks (lines_of (map (with_end f) ls)) ≡ ks (lines_of ls)
+all_ks : (f : PacketEnd → PacketEnd) (ls : List SwitchLine) → ((e : PacketEnd) → (f e).line.link.k ≡ e.line.link.k) →
+    ks (lines_of (map (with_end f) ls)) ≡ ks (lines_of ls)
 all_ks f [] same = refl
 all_ks f (l ∷ ls) same = ap₂ (λ (k : ℕ) (more : List ℕ). k ∷ more) (same l.end) (all_ks f ls same)
 
@@ -76,9 +86,11 @@ offers_k e = (grows 7 e).k
 
 offered_ks : (count n : ℕ) (ls : List SwitchLine) → ks (lines_of (offered_from count n ls)) ≡ ks (lines_of ls)
 offered_ks zero n ls = refl
-offered_ks (suc count) n ls = offered_ks count (suc n) (changed n (with_end all_offered) ls) ∙ acted_ks n all_offered ls offers_k
+offered_ks (suc count) n ls = offered_ks count (suc n) (changed n (with_end all_offered) ls)
+    ∙ acted_ks n all_offered ls offers_k
 
-either_ks : (b : Bool) (x y : List SwitchLine) (k : List ℕ) → ks (lines_of x) ≡ k → ks (lines_of y) ≡ k → ks (lines_of (if b then x else y)) ≡ k
+either_ks : (b : Bool) (x y : List SwitchLine) (k : List ℕ) → ks (lines_of x) ≡ k → ks (lines_of y) ≡ k →
+    ks (lines_of (if b then x else y)) ≡ k
 either_ks true x y k f g = f
 either_ks false x y k f g = g
 
@@ -87,10 +99,13 @@ rounds_ks zero first ls = ap (λ (es : List End). ks es) (first_lines first ls)
 rounds_ks (suc most) first ls =
     let ms = relayed_first first ls in
     let relayed_ = ap (λ (es : List End). ks es) (first_lines first ls) in
-    either_ks (list_any may_offer ms) (rounds most (offering_from 0 ms) (offered_from (length ls) 0 ms)) ms (ks (lines_of ls))
-    (rounds_ks most (offering_from 0 ms) (offered_from (length ls) 0 ms) ∙ (offered_ks (length ls) 0 ms ∙ relayed_)) relayed_
+    either_ks (list_any may_offer ms) (rounds most (offering_from 0 ms) (offered_from (length ls) 0 ms)) ms
+    (ks (lines_of ls))
+    (rounds_ks most (offering_from 0 ms) (offered_from (length ls) 0 ms)
+    ∙ (offered_ks (length ls) 0 ms ∙ relayed_)) relayed_
 
-finished_ks : (routes : RouteMap) (n : ℕ) (ls : List SwitchLine) → ks (lines_of (finished routes n ls)) ≡ ks (lines_of ls)
+finished_ks : (routes : RouteMap) (n : ℕ) (ls : List SwitchLine) → ks (lines_of (finished routes n ls)) ≡ ks
+    (lines_of ls)
 finished_ks routes n ls =
     let rs = all_relinked (length ls) routes ls in
     let first = lines_first n routes ls in
@@ -100,7 +115,8 @@ finished_ks routes n ls =
 restarted_ks : (ls : List SwitchLine) → ks (lines_of (map without_joins ls)) ≡ ks (lines_of ls)
 restarted_ks [] = refl
 restarted_ks (l ∷ ls) =
-    ap₂ (λ (k : ℕ) (more : List ℕ). k ∷ more) (relink_keeps_k (link.new l.end.line.link.role l.end.line.link.k l.end.line.link.n2 false)) (restarted_ks ls)
+    ap₂ (λ (k : ℕ) (more : List ℕ). k ∷ more) (relink_keeps_k (link.new l.end.line.link.role l.end.line.link.k
+    l.end.line.link.n2 false)) (restarted_ks ls)
 
 -- ---- an end of which the layer and the link stay
 
@@ -108,10 +124,12 @@ pub record IsSteady (f : PacketEnd → PacketEnd) : Type 0 where
   pub layer : (e : PacketEnd) → (f e).layer ≡ e.layer
   pub link : (e : PacketEnd) → (f e).line.link ≡ e.line.link
 
-steady_layers : (n : ℕ) (f : PacketEnd → PacketEnd) (ls : List SwitchLine) → IsSteady f → layers_of (changed n (with_end f) ls) ≡ layers_of ls
+steady_layers : (n : ℕ) (f : PacketEnd → PacketEnd) (ls : List SwitchLine) → IsSteady f →
+    layers_of (changed n (with_end f) ls) ≡ layers_of ls
 steady_layers n f ls same = map_unchanged (λ l. l.end.layer) (with_end f) n ls (λ l. same.layer l.end)
 
-steady_right : (n : ℕ) (f : PacketEnd → PacketEnd) (s : Switch) (w : World) → IsSteady f → IsSwitch s.lines w → Becomes [] s.lines w (changed n (with_end f) s.lines)
+steady_right : (n : ℕ) (f : PacketEnd → PacketEnd) (s : Switch) (w : World) → IsSteady f → IsSwitch s.lines w →
+    Becomes [] s.lines w (changed n (with_end f) s.lines)
 steady_right n f s w same i =
     let ls = s.lines in
     let ms = changed n (with_end f) ls in
@@ -119,18 +137,27 @@ steady_right n f s w same i =
     record {
       world = w;
       reached = r;
-      right = steady ls ms w w i r (λ x. joined_kept n x.line x.channel (with_end f) ls (λ l. refl)) (λ x. place_after n (with_end f) ls x (λ l. refl)) (λ x. refl);
+      right = steady ls ms w w i r (λ x. joined_kept n x.line x.channel (with_end f) ls (λ l. refl))
+          (λ x. place_after n (with_end f) ls x (λ l. refl)) (λ x. refl);
     }
 
-steady_calls : (n : ℕ) (f : PacketEnd → PacketEnd) (ls : List SwitchLine) → IsSteady f → CallsAreJoined ls → CallsAreJoined (changed n (with_end f) ls)
+steady_calls : (n : ℕ) (f : PacketEnd → PacketEnd) (ls : List SwitchLine) → IsSteady f → CallsAreJoined ls →
+    CallsAreJoined (changed n (with_end f) ls)
 steady_calls n f ls same all x h =
     ap (λ (o : Option Joined). is_some o) (joined_kept n x.line x.channel (with_end f) ls (λ l. refl))
-    ∙ all x (record { channel = h.channel; there = sym (ap (λ (ys : List Layer). shown_at ys x) (steady_layers n f ls same)) ∙ h.there; call = h.call })
+    ∙ all x (record {
+      channel = h.channel;
+      there = sym (ap (λ (ys : List Layer). shown_at ys x)
+          (steady_layers n f ls same)) ∙ h.there;
+      call = h.call;
+    })
 
 -- what waits and is taken is as before where the layers and the joins are
-still_relayed : (ls ms : List SwitchLine) → layers_of ms ≡ layers_of ls → ((x : Place) → joined_at ms x ≡ joined_at ls x) → HasRelayedAll ls → HasRelayedAll ms
+still_relayed : (ls ms : List SwitchLine) → layers_of ms ≡ layers_of ls →
+    ((x : Place) → joined_at ms x ≡ joined_at ls x) → HasRelayedAll ls → HasRelayedAll ms
 still_relayed ls ms same joined_ all p j t e f =
-    ap (λ (o : Option Refusal). is_some o) (same_refusal ls ms j.other (request_for t) (ap (λ (ys : List Layer). shown_at ys j.other) same))
+    ap (λ (o : Option Refusal). is_some o) (same_refusal ls ms j.other (request_for t)
+    (ap (λ (ys : List Layer). shown_at ys j.other) same))
     ∙ all p j t (sym (joined_ p) ∙ e) (sym (same_front ls ms p (ap (λ (ys : List Layer). shown_at ys p) same)) ∙ f)
 
 -- ---- no link takes a packet
@@ -141,32 +168,39 @@ and_false false = refl
 
 keeps_none : (l : SwitchLine) → HasOfferedAll l.end → may_offer l ≡ false
 keeps_none l (inl room) = ap (λ (b : Bool). b && is_some (next_packet l.end.layer).packet) room
-keeps_none l (inr silent) = ap (λ (o : Option Packet). can_offer l.end.line.link && is_some o) silent ∙ and_false (can_offer l.end.line.link)
+keeps_none l (inr silent) = ap (λ (o : Option Packet). can_offer l.end.line.link && is_some o) silent
+    ∙ and_false (can_offer l.end.line.link)
 
 none_offer : (ls : List SwitchLine) → EndsKeepNothingBack ls → list_any may_offer ls ≡ false
 none_offer [] h = refl
 none_offer (l ∷ ls) h =
-    ap (λ (b : Bool). b || list_any may_offer ls) (keeps_none l (h 0 l refl).offered) ∙ none_offer ls (λ n x e. h (suc n) x e)
+    ap (λ (b : Bool). b || list_any may_offer ls) (keeps_none l (h 0 l refl).offered)
+    ∙ none_offer ls (λ n x e. h (suc n) x e)
 
 restarted_offer : (ls : List SwitchLine) → list_any may_offer (map without_joins ls) ≡ false
 restarted_offer [] = refl
 restarted_offer (l ∷ ls) =
-    ap (λ (b : Bool). b || list_any may_offer (map without_joins ls)) (and_false (can_offer (without_joins l).end.line.link)) ∙ restarted_offer ls
+    ap (λ (b : Bool). b || list_any may_offer (map without_joins ls)) (and_false
+    (can_offer (without_joins l).end.line.link)) ∙ restarted_offer ls
 
-elapsed_offer : (ticks : ℕ) (ls : List SwitchLine) → list_any may_offer (map (with_end (λ e. elapsed e ticks)) ls) ≡ list_any may_offer ls
+elapsed_offer : (ticks : ℕ) (ls : List SwitchLine) → list_any may_offer (map (with_end (λ e. elapsed e ticks)) ls) ≡
+    list_any may_offer ls
 elapsed_offer ticks [] = refl
 elapsed_offer ticks (l ∷ ls) = ap (λ (b : Bool). may_offer l || b) (elapsed_offer ticks ls)
 
-steady_offer : (n : ℕ) (f : PacketEnd → PacketEnd) (ls : List SwitchLine) → IsSteady f → list_any may_offer (changed n (with_end f) ls) ≡ list_any may_offer ls
+steady_offer : (n : ℕ) (f : PacketEnd → PacketEnd) (ls : List SwitchLine) → IsSteady f →
+    list_any may_offer (changed n (with_end f) ls) ≡ list_any may_offer ls
 steady_offer n f [] same = refl
-steady_offer zero f (l ∷ ls) same = ap (λ (b : Bool). b || list_any may_offer ls) (ap₂ (λ (k : Link) (y : Layer). can_offer k && is_some (next_packet y).packet) (same.link l.end) (same.layer l.end))
+steady_offer zero f (l ∷ ls) same = ap (λ (b : Bool). b || list_any may_offer ls)
+    (ap₂ (λ (k : Link) (y : Layer). can_offer k && is_some (next_packet y).packet) (same.link l.end) (same.layer l.end))
 steady_offer (suc n) f (l ∷ ls) same = ap (λ (b : Bool). may_offer l || b) (steady_offer n f ls same)
 
 restarted_end : (ls : List SwitchLine) → to_relink (map without_joins ls) ≡ None
 restarted_end [] = refl
 restarted_end (l ∷ ls) = ap (λ (o : Option ℕ). raised o) (restarted_end ls)
 
-pub steady_holds : (n : ℕ) (f : PacketEnd → PacketEnd) (s : Switch) (w : World) → IsSteady f → SwitchHolds s w → SwitchHolds (record s { lines = changed n (with_end f) s.lines }) w
+pub steady_holds : (n : ℕ) (f : PacketEnd → PacketEnd) (s : Switch) (w : World) → IsSteady f → SwitchHolds s w →
+    SwitchHolds (record s { lines = changed n (with_end f) s.lines }) w
 unfolding steady_right
 steady_holds n f s w same h =
     let ms = changed n (with_end f) s.lines in
@@ -174,9 +208,11 @@ steady_holds n f s w same h =
     record {
       joins = b.right;
       calls = steady_calls n f s.lines same h.calls;
-      relayed = still_relayed s.lines ms (steady_layers n f s.lines same) (λ x. joined_kept n x.line x.channel (with_end f) s.lines (λ l. refl)) h.relayed;
+      relayed = still_relayed s.lines ms (steady_layers n f s.lines same)
+          (λ x. joined_kept n x.line x.channel (with_end f) s.lines (λ l. refl)) h.relayed;
       offered = steady_offer n f s.lines same ∙ h.offered;
-      no_relink = same_asking s.lines ms (map_unchanged (λ l. l.end.layer.relink) (with_end f) n s.lines (λ l. ap (λ (y : Layer). y.relink) (same.layer l.end))) ∙ h.no_relink;
+      no_relink = same_asking s.lines ms (map_unchanged (λ l. l.end.layer.relink) (with_end f) n s.lines
+          (λ l. ap (λ (y : Layer). y.relink) (same.layer l.end))) ∙ h.no_relink;
       links = same_links s.lines ms (acted_ks n f s.lines (λ e. ap (λ (k : Link). k.k) (same.link e))) h.links;
     }
 
@@ -198,7 +234,8 @@ stays (Arrives n octets) s w are h =
         offered = none_offer (on_frame n octets s).lines (turns.frame_offers n octets s h.links);
         no_relink = finished_end s.routes n (acted s.routes n (λ e. received e octets) (all_begun s.lines));
         links = same_links s.lines (on_frame n octets s).lines
-            (finished_ks s.routes n _ ∙ (act_ks s.routes n (λ e. received e octets) (all_begun s.lines) (λ e. received_k octets e) ∙ begun_ks s.lines)) h.links;
+            (finished_ks s.routes n _ ∙ (act_ks s.routes n (λ e. received e octets) (all_begun s.lines)
+            (λ e. received_k octets e) ∙ begun_ks s.lines)) h.links;
       };
       nothing_kept_back = turns.frame_offers n octets s h.links;
     }
@@ -214,7 +251,8 @@ stays (Expires n id) s w are h =
         offered = none_offer (on_timer n id s).lines (turns.timer_offers n id s h.links);
         no_relink = finished_end s.routes n (acted s.routes n (λ e. after_timer e id) (all_begun s.lines));
         links = same_links s.lines (on_timer n id s).lines
-            (finished_ks s.routes n _ ∙ (act_ks s.routes n (λ e. after_timer e id) (all_begun s.lines) (λ e. timer_k id e) ∙ begun_ks s.lines)) h.links;
+            (finished_ks s.routes n _ ∙ (act_ks s.routes n (λ e. after_timer e id) (all_begun s.lines)
+            (λ e. timer_k id e) ∙ begun_ks s.lines)) h.links;
       };
       nothing_kept_back = turns.timer_offers n id s h.links;
     }
@@ -239,7 +277,8 @@ stays (Elapses ticks) s w are h =
       holds = record {
         joins = b.right;
         calls = ends_keep (λ e. elapsed e ticks) s.lines (λ e. refl) h.calls;
-        relayed = still_relayed s.lines (elapse ticks s).lines (layers_on_ends (λ e. elapsed e ticks) s.lines (λ e. refl)) (λ x. joined_on_ends (λ e. elapsed e ticks) s.lines x.line x.channel) h.relayed;
+        relayed = still_relayed s.lines (elapse ticks s).lines (layers_on_ends (λ e. elapsed e ticks) s.lines
+            (λ e. refl)) (λ x. joined_on_ends (λ e. elapsed e ticks) s.lines x.line x.channel) h.relayed;
         offered = elapsed_offer ticks s.lines ∙ h.offered;
         no_relink = ends_ask (λ e. elapsed e ticks) s.lines (λ e. refl) ∙ h.no_relink;
         links = same_links s.lines (elapse ticks s).lines (all_ks (λ e. elapsed e ticks) s.lines (λ e. refl)) h.links;
@@ -270,25 +309,35 @@ closed_nth (suc n) (suc (suc i)) ch e = closed_nth n (suc i) ch e
 abbrev new_leg : (window : ℕ) → Leg
 new_leg window = record { role = Dce; window = window; channel = closed_channel; before = []; epoch = empty_epoch }
 
-new_channel : (standing : Bool) (n c : ℕ) (ch : Channel) → standing ≡ false → nth_channel (standing_channels standing (replicate n closed_channel)) c ≡ Some ch → ch ≡ closed_channel
+new_channel : (standing : Bool) (n c : ℕ) (ch : Channel) → standing ≡ false →
+    nth_channel (standing_channels standing (replicate n closed_channel)) c ≡ Some ch → ch ≡ closed_channel
 new_channel true n c ch h e = absurd (true≢false h)
 new_channel false n c ch h e = closed_nth n c ch e
 
-new_shown : (l : Layer) (o : Option Channel) (s : Shown) → ((ch : Channel) → o ≡ Some ch → ch ≡ closed_channel) → shown_as l o ≡ Some s
+new_shown : (l : Layer) (o : Option Channel) (s : Shown) → ((ch : Channel) → o ≡ Some ch → ch ≡ closed_channel) →
+    shown_as l o ≡ Some s
     → s ≡ record { role = l.role; window = l.window; channel = closed_channel }
 new_shown l None s is e = absurd (none-some s e)
-new_shown l (Some ch) s is e = sym (same_Some _ s e) ∙ ap (λ (x : Channel). record { role = l.role; window = l.window; channel = x }) (is ch refl)
+new_shown l (Some ch) s is e = sym (same_Some _ s e) ∙ ap (λ (x : Channel). record {
+  role = l.role;
+  window = l.window;
+  channel = x;
+}) (is ch refl)
 
 abbrev AreConfigs : List LineConfig → Type 0
 AreConfigs lines = (n : ℕ) (c : LineConfig) → slice_get lines n ≡ Some c → IsLineConfig c
 
-new_agrees : (lines : List LineConfig) (n c : ℕ) (s : Shown) → AreConfigs lines → shown_on (slice_get (layers_of (map made_line lines)) n) c ≡ Some s → Agrees s (new_leg (window_of (slice_get lines n)))
+new_agrees : (lines : List LineConfig) (n c : ℕ) (s : Shown) → AreConfigs lines →
+    shown_on (slice_get (layers_of (map made_line lines)) n) c ≡ Some s →
+    Agrees s (new_leg (window_of (slice_get lines n)))
 new_agrees [] n c s are e = absurd (none-some s e)
 new_agrees (x ∷ xs) zero c s are e =
     let is = are 0 x refl in
     record {
-      shown = new_shown (made_line x).end.layer (channel_of (made_line x).end.layer c) s (λ ch f. new_channel x.params.standing x.params.channels c ch is.not_standing f) e;
-      leg = start_good (new_leg x.params.window) is.params.layer.window_most (record { not_resetting = refl; traffic = refl; before = refl; epoch = refl });
+      shown = new_shown (made_line x).end.layer (channel_of (made_line x).end.layer c) s
+          (λ ch f. new_channel x.params.standing x.params.channels c ch is.not_standing f) e;
+      leg = start_good (new_leg x.params.window) is.params.layer.window_most
+          (record { not_resetting = refl; traffic = refl; before = refl; epoch = refl });
     }
 new_agrees (x ∷ xs) (suc n) c s are e = new_agrees xs n c s (λ m y f. are (suc m) y f) e
 
@@ -301,7 +350,8 @@ counted_nth zero (suc i) e = e
 counted_nth (suc n) (suc zero) e = refl
 counted_nth (suc n) (suc (suc i)) e = counted_nth n (suc i) e
 
-new_nth : (standing : Bool) (n c : ℕ) → standing ≡ false → is_some (nth_channel (standing_channels standing (replicate n closed_channel)) c) ≡ true → has_nth (new_places n) c ≡ true
+new_nth : (standing : Bool) (n c : ℕ) → standing ≡ false → is_some (nth_channel
+    (standing_channels standing (replicate n closed_channel)) c) ≡ true → has_nth (new_places n) c ≡ true
 new_nth true n c h e = absurd (true≢false h)
 new_nth false n c h e = counted_nth n c e
 
@@ -309,11 +359,14 @@ shown_is_some : (l : Layer) (o : Option Channel) → is_some (shown_as l o) ≡ 
 shown_is_some l None e = e
 shown_is_some l (Some ch) e = refl
 
-new_place : (lines : List LineConfig) (n c : ℕ) → AreConfigs lines → is_some (shown_on (slice_get (layers_of (map made_line lines)) n) c) ≡ true → has_place_on (slice_get (map made_line lines) n) c ≡ true
+new_place : (lines : List LineConfig) (n c : ℕ) → AreConfigs lines → is_some
+    (shown_on (slice_get (layers_of (map made_line lines)) n) c) ≡ true →
+    has_place_on (slice_get (map made_line lines) n) c ≡ true
 new_place [] n c are e = e
 new_place (x ∷ xs) zero c are e =
     let is = are 0 x refl in
-    new_nth x.params.standing x.params.channels c is.not_standing (shown_is_some (made_line x).end.layer (channel_of (made_line x).end.layer c) e)
+    new_nth x.params.standing x.params.channels c is.not_standing (shown_is_some (made_line x).end.layer
+    (channel_of (made_line x).end.layer c) e)
 new_place (x ∷ xs) (suc n) c are e = new_place xs n c (λ m y f. are (suc m) y f) e
 
 none_flat : (n i : ℕ) → flat (slice_get (new_places n) i) ≡ None
@@ -349,18 +402,22 @@ new_offer : (lines : List LineConfig) → AreConfigs lines → list_any may_offe
 new_offer [] are = refl
 new_offer (x ∷ xs) are =
     ap (λ (b : Bool). b || list_any may_offer (map made_line xs))
-    (keeps_none (made_line x) (inr (unready x.params.standing (made_line x).end.layer (are 0 x refl).not_standing))) ∙ new_offer xs (λ m y f. are (suc m) y f)
+    (keeps_none (made_line x) (inr (unready x.params.standing (made_line x).end.layer (are 0 x refl).not_standing)))
+    ∙ new_offer xs (λ m y f. are (suc m) y f)
 
 new_end : (lines : List LineConfig) → to_relink (map made_line lines) ≡ None
 new_end [] = refl
 new_end (x ∷ xs) = ap (λ (o : Option ℕ). raised o) (new_end xs)
 
-begins : (routes : RouteMap) (lines : List LineConfig) → IsConfig lines → SwitchHolds (made routes lines) (new_legs lines)
+begins : (routes : RouteMap) (lines : List LineConfig) → IsConfig lines →
+    SwitchHolds (made routes lines) (new_legs lines)
 begins routes lines is = record {
-  joins = begins_right (map made_line lines) (new_legs lines) (λ x s e. new_agrees lines x.line x.channel s is.each e) (λ x e. new_place lines x.line x.channel is.each e)
+  joins = begins_right (map made_line lines) (new_legs lines) (λ x s e. new_agrees lines x.line x.channel s is.each e)
+      (λ x e. new_place lines x.line x.channel is.each e)
       (λ x. new_joined lines x.line x.channel);
   calls = λ x h.
-      absurd (true≢false (sym h.call ∙ ap (λ (s : Shown). had_call s.channel.state) (new_agrees lines x.line x.channel h.channel is.each h.there).shown));
+      absurd (true≢false (sym h.call ∙ ap (λ (s : Shown). had_call s.channel.state)
+      (new_agrees lines x.line x.channel h.channel is.each h.there).shown));
   relayed = λ p j t e f. absurd (none-some j (sym (new_joined lines p.line p.channel) ∙ e));
   offered = new_offer lines is.each;
   no_relink = new_end lines;

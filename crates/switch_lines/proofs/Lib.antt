@@ -10,3 +10,7 @@ pub mod Telling
 pub mod Heeding
 pub mod Ending
 pub mod Making
+pub mod Settling
+pub mod Touched
+pub mod Relinking
+pub mod Left

@@ -5,6 +5,8 @@ pub mod Relay
 pub mod Switch
 pub mod Alone
 pub mod OfLine
+pub mod Touched
 pub mod LineView
+pub mod LinesView
 pub mod Calling
 pub mod Making

@@ -12,6 +12,7 @@ ghost use Rattle.packet_layer.specs.RequestView.{request_of, call_refusal_of};
 ghost use Rattle.packet_layer.specs.TakenView.{maybe_taken, maybe_front};
 ghost use Rattle.packet_end.specs.Params.{AreParams};
 ghost use Rattle.packet_end.specs.PacketEnd as end;
+ghost use Rattle.packet_end.specs.Timing.{TimersAgree};
 ghost use Rattle.packet_end.specs.declared.fault.EndFault.TheVariants as fault_is;
 ghost use Rattle.switch_lines.specs.Making.{made_line};
 ghost use Rattle.switch_lines.specs.Switch.{with_end, quieted, may_offer, without_joins};
@@ -212,7 +213,8 @@ impl SwitchLine {
 
     /// Ends an event.
     pub(crate) fn settle(&mut self)
-        ensures { self.new ≡ with_end end.settled self.old }
+        ensures line { self.new ≡ with_end end.settled self.old }
+        ensures timers { TimersAgree self.new.end.layer self.new.end.timers }
     {
         self.end.settle();
     }

@@ -18,12 +18,14 @@ mod finishing;
 mod heeding;
 mod relaying;
 mod telling;
+mod touched;
 
 use crate::config::LineConfig;
 use crate::line::SwitchLine;
 use crate::place::{Joined, Place};
 use arrayvec::ArrayVec;
 use frame_codec::FrameBuf;
+use line_set::LineSet;
 use link_timers::TimerId;
 use packet_end::EndFault;
 use packet_layer::{Front, Request, Taken};
@@ -37,17 +39,23 @@ type LineList = ArrayVec<usize, 65>;
 #[derive(Drop)]
 pub struct Lines {
     lines: Vec<SwitchLine>,
+    /// Those on which something happened since they were settled. On the others nothing is left to do.
+    touched: LineSet,
+    /// Those on which frames of the last event may be left, beside these.
+    untaken: LineSet,
 }
 
 impl Model for Lines {
-    ghost use Rattle.std.specs.Prelude.{◌≤◌, List, length};
+    ghost use Rattle.std.specs.Prelude.{List};
     ghost use Rattle.switch_lines.specs.Lines.{SwitchLine as Line};
 
     ghost Value = { List Line };
 
-    ghost view = { λ l. l.lines.items };
+    ghost use Rattle.switch_lines.specs.LinesView.{lines_of, AreLines};
 
-    ghost invariant = { λ l. length l.lines.items ≤ 64 };
+    ghost view = { lines_of };
+
+    ghost invariant = { AreLines };
 }
 
 impl Lines {
@@ -64,7 +72,12 @@ impl Lines {
                 Err(failed) => return Err(AllocError::from(failed).into()),
             }
         }
-        Ok(Lines { lines: made })
+        let touched = LineSet::first(made.len());
+        Ok(Lines {
+            lines: made,
+            touched,
+            untaken: LineSet::new(),
+        })
     }
 
     /// How many lines there are, at most 64.
@@ -124,6 +137,7 @@ impl Lines {
         ensures { self.new ≡ ask place (request_of request.now) self.old }
     {
         if place.line < self.lines.len() {
+            self.touched.insert(place.line);
             self.lines[place.line].ask(place.channel, request);
         }
     }
@@ -141,6 +155,7 @@ impl Lines {
         ensures lines { self.new ≡ ask place ask_for.Taking self.old }
     {
         if place.line < self.lines.len() {
+            self.touched.insert(place.line);
             self.lines[place.line].take(place.channel)
         } else {
             None
@@ -192,6 +207,7 @@ impl Lines {
         ensures { self.new ≡ freed_at place self.old }
     {
         if place.line < self.lines.len() {
+            self.touched.insert(place.line);
             self.lines[place.line].release(place.channel);
         }
     }

@@ -81,6 +81,7 @@ impl Lines {
         if line >= self.lines.len() {
             return Err(clear_cause::NOT_OBTAINABLE);
         }
+        self.touched.insert(line);
         match self.lines[line].call(call) {
             Ok(channel) => Ok(Place { line, channel }),
             Err(CallFault::NotReady) => Err(clear_cause::OUT_OF_ORDER),

@@ -1,16 +1,18 @@
 //! What happens on a line, and the end of an event.
-ghost use Rattle.std.specs.Prelude.{◌≡◌, ◌<◌, ◌++◌, length, map};
-ghost use Rattle.std.specs.List.{position};
+ghost use Rattle.std.specs.Prelude.{◌≡◌, ◌<◌, ◌++◌, true, false, None, length, map};
+ghost use Rattle.std.specs.List.{list_any};
 ghost use Rattle.arrayvec.specs.ArrayVec.{array_vec_len};
 ghost use Rattle.packet_end.specs.PacketEnd as end;
 ghost use Rattle.switch_lines.specs.OfLine.{AreRead};
 ghost use Rattle.switch_lines.specs.Alone.{finished_alone, offered_alone};
 ghost use Rattle.switch_lines.specs.Switch.{acted, all_begun, all_relinked, relinks_of, to_relink, offering_from};
-ghost use Rattle.switch_lines.specs.Switch.{with_end, without_joins};
+ghost use Rattle.switch_lines.specs.Switch.{may_offer, with_end, without_joins};
 
+use crate::lines::touched::{begin_lines, first_to_relink, offer_lines, settle_lines};
 use crate::lines::{LineList, Lines};
 use address_routes::Routes;
 use arrayvec::ArrayVec;
+use line_set::LineSet;
 use link_timers::TimerId;
 
 /// The most packets that a link has unacknowledged.
@@ -21,9 +23,8 @@ impl Lines {
     pub fn begin(&mut self)
         ensures { self.new ≡ all_begun self.old }
     {
-        for line in self.lines.iter_mut() {
-            line.begin();
-        }
+        begin_lines(&mut self.lines, self.touched.with(self.untaken));
+        self.untaken = LineSet::new();
     }
 
     /// Takes the octets of a frame on a line, and heeds what it tells.
@@ -32,6 +33,7 @@ impl Lines {
         requires read { AreRead self.old }
         ensures { self.new ≡ acted routes.now line (λ e. end.received e octets.now) self.old }
     {
+        self.touched.insert(line);
         self.lines[line].receive(octets);
         self.heed_line(routes, line);
     }
@@ -42,6 +44,7 @@ impl Lines {
         requires read { AreRead self.old }
         ensures { self.new ≡ acted routes.now line (λ e. end.after_timer e id) self.old }
     {
+        self.touched.insert(line);
         self.lines[line].expire(id);
         self.heed_line(routes, line);
     }
@@ -52,6 +55,7 @@ impl Lines {
         requires read { AreRead self.old }
         ensures { self.new ≡ acted routes.now line end.relinked self.old }
     {
+        self.touched.insert(line);
         self.lines[line].relink();
         self.heed_line(routes, line);
     }
@@ -62,67 +66,76 @@ impl Lines {
         requires { AreRead self.old }
         ensures { self.new ≡ finished_alone routes.now line self.old }
     {
-        let mut touched = ArrayVec::new();
-        touched.push(line);
-        self.relink_all(routes, &mut touched);
-        self.relay_and_offer(&touched);
-        for line in self.lines.iter_mut() {
-            line.settle();
+        let mut concerned = ArrayVec::new();
+        concerned.push(line);
+        self.relink_all(routes, &mut concerned);
+        let all_offered = self.relay_and_offer(&concerned);
+        self.settle(all_offered);
+    }
+
+    // Settles the lines on which something happened, which is all of them that need it. Then nothing is left to do there,
+    // if all was offered.
+    fn settle(&mut self, all_offered: bool)
+        requires offered { all_offered ≡ true → list_any may_offer self.old ≡ false }
+        requires relinked { to_relink self.old ≡ None }
+        ensures { self.new ≡ map (with_end end.settled) self.old }
+    {
+        settle_lines(&mut self.lines, self.touched);
+        self.untaken = self.untaken.with(self.touched);
+        if all_offered {
+            self.touched = LineSet::new();
         }
     }
 
     // Sets up anew each link of which its packet layer asks for it, and adds its line to the list. That may close calls
     // of other lines, and ask for it there.
-    fn relink_all(&mut self, routes: &Routes, touched: &mut LineList)
+    fn relink_all(&mut self, routes: &Routes, concerned: &mut LineList)
         requires read { AreRead self.old }
-        requires room { array_vec_len touched.old ≡ 1 }
+        requires room { array_vec_len concerned.old ≡ 1 }
         ensures lines { self.new ≡ all_relinked (length self.old) routes.now self.old }
-        ensures touched { touched.new.items
-            ≡ touched.old.items ++ relinks_of (length self.old) (to_relink self.old) routes.now self.old }
+        ensures concerned { concerned.new.items
+            ≡ concerned.old.items ++ relinks_of (length self.old) (to_relink self.old) routes.now self.old }
     {
         for _ in 0..self.lines.len() {
             let Some(line) = self.to_relink() else {
                 return;
             };
             self.relink(routes, line);
-            touched.push(line);
+            concerned.push(line);
         }
     }
 
     // The first line whose packet layer asks for it.
     fn to_relink(&self) -> Option<usize>
-        ensures { result ≡ position (λ l. l.end.layer.relink) self.now }
+        ensures { result ≡ to_relink self.now }
     {
-        self.lines.iter().position(|line| line.must_relink())
+        first_to_relink(&self.lines, self.touched)
     }
 
     // What waits on the joins of these lines is relayed and packets are offered to the links, and then the same for the
-    // lines whose links took one, until the links take no more.
-    fn relay_and_offer(&mut self, touched: &LineList)
-        ensures { self.new ≡ offered_alone touched.now.items self.old }
+    // lines whose links took one, until the links take no more. Answers whether that was seen, in as many rounds as
+    // links of at most seven packets need.
+    fn relay_and_offer(&mut self, concerned: &LineList) -> bool
+        ensures lines { self.new ≡ offered_alone concerned.now.items self.old }
+        ensures all { result ≡ true → list_any may_offer self.new ≡ false }
     {
-        self.relay_lines(touched);
+        self.relay_lines(concerned);
         for _ in 0..MOST_PACKETS * self.lines.len() {
             let offering = self.offer();
             if offering.is_empty() {
-                return;
+                return true;
             }
             self.relay_lines(&offering);
         }
+        false
     }
 
-    // Offers packets to each link, in the order of the lines, and answers which took one.
+    // Offers packets to the links, in the order of the lines, and answers which took one.
     fn offer(&mut self) -> LineList
         ensures offering { result.items ≡ offering_from 0 self.old }
         ensures lines { self.new ≡ map (with_end end.all_offered) self.old }
     {
-        let mut offering = ArrayVec::new();
-        for (number, line) in self.lines.iter_mut().enumerate() {
-            if line.offer() {
-                offering.push(number);
-            }
-        }
-        offering
+        offer_lines(&mut self.lines, self.touched)
     }
 
     /// Begins anew on all lines.
@@ -132,6 +145,7 @@ impl Lines {
         for line in self.lines.iter_mut() {
             line.restart();
         }
+        self.touched = LineSet::first(self.lines.len());
     }
 
     /// Lets ticks pass on all lines.

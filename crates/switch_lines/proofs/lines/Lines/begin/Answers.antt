@@ -1,12 +1,44 @@
--- One line more.
-use Rattle.std.proofs.Common.{arith}
-use Rattle.std.proofs.lemmas.List.Edits.{map_over_more}
+use Rattle.std.proofs.Common.{◌≤◌, ◌∙◌, ap, map, length, arith}
 use Rattle.packet_end.specs.PacketEnd.{begun}
 use Rattle.switch_lines.specs.Switch.{with_end}
+use Rattle.switch_lines.specs.Touched.{NothingElseIsLeft, changed_in}
+use Rattle.switch_lines.proofs.Ending.{written}
+use Rattle.switch_lines.proofs.Left.{Lines, begun_all, both_are_there, same_size, written_back}
 use Rattle.switch_lines.proofs.lines.Lines.begin.Goals as goal
 
-pub loop-line-preserved : goal.loop-line-preserved
-loop-line-preserved c =
-    rw (c.begin.ensures, ← c.line-item.is)
-    (map_over_more (with_end begun) c.deref_mut-line-items.result.now c.loop-line.line-items c.loop-line.line-index
-    c.line-item.result (omega arith) c.loop-line.invariant c.line-item.is)
+pub begin_lines-requires : goal.begin_lines-requires
+begin_lines-requires c =
+    let i = c.self.invariant.rest in
+    both_are_there c.self.inside.touched c.self.inside.untaken c.with.result c.self.inside.lines.items
+    c.deref_mut.result.now c.deref_mut.ensures.value c.with.ensures i.touched_there i.untaken_there
+
+pub invariant_of-self : goal.invariant_of-self
+invariant_of-self c =
+    let xs = c.self.inside.lines.items in
+    let ys = c.begin_lines.new.lines in
+    let s = c.self.inside.touched in
+    let v = c.new-self-inside.result in
+    let w = c.with.result in
+    let is = c.begin_lines.ensures ∙ ap (λ (zs : Lines). changed_in w (with_end begun) 0 zs) c.deref_mut.ensures.value
+    in
+    let same = same_size w (with_end begun) xs ys is in
+    let after = begun_all s c.self.inside.untaken v w xs ys c.with.ensures c.new-self-inside.ensures is
+    c.self.invariant.rest in
+    record {
+      most = written_back (λ (zs : Lines). length zs ≤ 64) c.self.inside.lines.len xs ys same (omega arith)
+          (omega (arith, same, c.self.invariant.most));
+      rest = written_back (λ (zs : Lines). NothingElseIsLeft s v zs) c.self.inside.lines.len xs ys same (omega arith)
+          after.1;
+    }
+
+pub returns : goal.returns
+returns c =
+    let xs = c.self.inside.lines.items in
+    let ys = c.begin_lines.new.lines in
+    let w = c.with.result in
+    let is = c.begin_lines.ensures ∙ ap (λ (zs : Lines). changed_in w (with_end begun) 0 zs) c.deref_mut.ensures.value
+    in
+    let after = begun_all c.self.inside.touched c.self.inside.untaken c.new-self-inside.result w xs ys c.with.ensures
+    c.new-self-inside.ensures is c.self.invariant.rest in
+    written c.self.inside.lines.len xs ys (same_size w (with_end begun) xs ys is) (omega arith)
+    ∙ (after.0 ∙ ap (λ (zs : Lines). map (with_end begun) zs) c.self.view_is)

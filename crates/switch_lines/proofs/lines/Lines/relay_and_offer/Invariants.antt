@@ -5,4 +5,4 @@ use Rattle.switch_lines.proofs.Ending.{rounds_after}
 use Rattle.switch_lines.proofs.lines.Lines.relay_and_offer.Given as goal
 
 abbrev pub invariant-loop : goal.invariant-loop
-invariant-loop l = rounds_after (l.end - l.counter) l.self ≡ offered_alone l.touched.items l.fn.self
+invariant-loop l = rounds_after (l.end - l.counter) l.self ≡ offered_alone l.concerned.items l.fn.self

@@ -1,6 +1,8 @@
 use Rattle.std.proofs.Common.{arith}
 use Rattle.switch_lines.specs.OfLine.{freed_on}
 use Rattle.switch_lines.proofs.Changing.{changed_lines, unchanged_lines}
+use Rattle.switch_lines.proofs.Touched.{count_kept}
+use Rattle.switch_lines.proofs.Left.{line_touched}
 use Rattle.switch_lines.proofs.lines.Lines.release.Goals as goal
 
 pub returns-then-place-len : goal.returns-then-place-len
@@ -12,3 +14,12 @@ pub returns-else-place-len : goal.returns-else-place-len
 returns-else-place-len c =
     unchanged_lines (freed_on c.args.place.channel) c.self.inside.lines.items c.args.self.now c.args.place.line
     c.self.view_is (omega arith)
+
+pub invariant_of-self : goal.invariant_of-self
+invariant_of-self c =
+    let xs = c.self.inside.lines.items in
+    record {
+      most = count_kept xs c.args.place.line 64 c.release.new.self c.self.invariant.most;
+      rest = line_touched c.self.inside.touched c.insert.new.self c.self.inside.untaken xs c.args.place.line
+          c.release.new.self (omega arith) c.insert.ensures c.self.invariant.rest;
+    }

@@ -12,7 +12,7 @@ invariant-loop l = record {
   most : l.end ≤ 64;
   left : all_relinked (l.end - l.counter) l.routes l.self ≡ all_relinked l.end l.routes l.fn.self;
   read : AreRead l.self;
-  room : array_vec_len l.touched ≡ 1 + l.counter;
-  list : l.touched.items ++ relinks_of (l.end - l.counter) (to_relink l.self) l.routes l.self
-      ≡ l.fn.touched.items ++ relinks_of l.end (to_relink l.fn.self) l.routes l.fn.self;
+  room : array_vec_len l.concerned ≡ 1 + l.counter;
+  list : l.concerned.items ++ relinks_of (l.end - l.counter) (to_relink l.self) l.routes l.self
+      ≡ l.fn.concerned.items ++ relinks_of l.end (to_relink l.fn.self) l.routes l.fn.self;
 }

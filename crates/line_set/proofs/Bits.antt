@@ -1,0 +1,101 @@
+-- The bits of a number as a set.
+use Rattle.std.proofs.Common.{◌≡◌, ℕ, zero, suc, ◌+◌, ◌*◌, ◌^◌, ◌%◌, ◌<◌, ◌≤◌, Bool, false, not, ◌&&◌, ◌||◌, ◌==◌, ◌⊎◌}
+use Rattle.std.proofs.Common.{inl, inr, refl, sym, ap, ap₂, ◌∙◌, arith, max}
+use Rattle.std.specs.Prelude.{bit_and, bit_or, bit_xor, nat_lt}
+use Rattle.std.specs.Int.{bit_at, w64, trailing_zeros}
+use Rattle.std.proofs.lemmas.Bool.{eq-eqb, ne_eqb, cases_eq, cases_lt, lt-ltb, le-ltb}
+use Rattle.std.proofs.lemmas.Nat.{one_shl, pow_pos}
+use Rattle.std.proofs.lemmas.Nat.Bits.{bit_at-lt, bit_at-zero, bit_at-pow_same, bit_at-pow_other, bit_at_or, bit_at_xor}
+use Rattle.std.proofs.lemmas.Nat.Bits.{bit_at-trailing_zeros, and_pow}
+use lib.Bits.{xor_add_and}
+use Rattle.line_set.specs.declared.LineSet.{LineSet}
+use Rattle.line_set.specs.LineSet.{IsFirstOf}
+
+by_bits : (P : ℕ → ℕ → Type 0) → P 0 0 → P 0 1 → P 1 0 → P 1 1 → (a b : ℕ) → a < 2 → b < 2 → P a b
+by_bits P oo oi io ii zero zero f g = oo
+by_bits P oo oi io ii zero (suc zero) f g = oi
+by_bits P oo oi io ii (suc zero) zero f g = io
+by_bits P oo oi io ii (suc zero) (suc zero) f g = ii
+by_bits P oo oi io ii zero (suc (suc b)) f g = absurd (omega arith)
+by_bits P oo oi io ii (suc zero) (suc (suc b)) f g = absurd (omega arith)
+by_bits P oo oi io ii (suc (suc a)) b f g = absurd (omega arith)
+
+abbrev bit : ℕ → ℕ → Bool
+bit a n = bit_at a n == 1
+
+-- the number with one bit alone
+one_bit : (k n : ℕ) → bit (2 ^ k) n ≡ (n == k)
+one_bit k n = go (cases_eq n k)
+  where
+    go : (n ≡ k) ⊎ (n ≡ k → ⊥) → bit (2 ^ k) n ≡ (n == k)
+    go (inl e) = ap (λ (x : ℕ). x == 1) (ap (λ (m : ℕ). bit_at (2 ^ k) m) e ∙ bit_at-pow_same k) ∙ sym (eq-eqb n k e)
+    go (inr apart) = ap (λ (x : ℕ). x == 1) (bit_at-pow_other k n apart) ∙ sym (ne_eqb n k apart)
+
+pub bits_of_both : (a b n : ℕ) → bit (bit_or a b) n ≡ (bit a n || bit b n)
+bits_of_both a b n =
+    ap (λ (x : ℕ). x == 1) (bit_at_or a b n)
+    ∙ by_bits (λ x y. (max x y == 1) ≡ ((x == 1) || (y == 1))) refl refl refl refl (bit_at a n) (bit_at b n)
+    (bit_at-lt a n) (bit_at-lt b n)
+
+pub bits_with : (a k n : ℕ) → k < 64 → bit (bit_or a (1 * 2 ^ k % 18446744073709551616)) n ≡ (bit a n || n == k)
+bits_with a k n h =
+    ap (λ (m : ℕ). bit (bit_or a m) n) (one_shl k 64 h) ∙ bits_of_both a (2 ^ k) n
+    ∙ ap (λ (b : Bool). bit a n || b) (one_bit k n)
+
+bits_but : (a k n : ℕ) → bit_at a k ≡ 1 → bit (bit_xor a (2 ^ k)) n ≡ (bit a n && not (n == k))
+bits_but a k n there =
+    ap (λ (x : ℕ). x == 1) (bit_at_xor a (2 ^ k) n) ∙ go (cases_eq n k)
+  where
+    go : (n ≡ k) ⊎ (n ≡ k → ⊥) → ((bit_at a n + bit_at (2 ^ k) n) % 2 == 1) ≡ (bit a n && not (n == k))
+    go (inl e) =
+        ap₂ (λ (x y : ℕ). (x + y) % 2 == 1) (ap (λ (m : ℕ). bit_at a m) e ∙ there) (ap (λ (m : ℕ). bit_at (2 ^ k) m) e
+        ∙ bit_at-pow_same k)
+        ∙ sym (ap₂ (λ (x : ℕ) (b : Bool). (x == 1) && not b) (ap (λ (m : ℕ). bit_at a m) e ∙ there) (eq-eqb n k e))
+    go (inr apart) =
+        ap (λ (y : ℕ). (bit_at a n + y) % 2 == 1) (bit_at-pow_other k n apart)
+        ∙ by_bits (λ x y. ((x + 0) % 2 == 1) ≡ ((x == 1) && not false)) refl refl refl refl (bit_at a n) 0
+        (bit_at-lt a n) (omega arith)
+        ∙ sym (ap (λ (b : Bool). bit a n && not b) (ne_eqb n k apart))
+
+-- the lowest bit is taken out
+abbrev lowest : ℕ → ℕ
+lowest a = trailing_zeros w64 a
+
+shifted : (a : ℕ) → 0 < a → a < 2 ^ 64 → 1 * 2 ^ lowest a % 18446744073709551616 ≡ 2 ^ lowest a
+shifted a some fits = one_shl (lowest a) 64 (bit_at-trailing_zeros w64 a some fits).0
+
+pub first_of : (s : LineSet) → 0 < s.bits → s.bits < 2 ^ 64 →
+    IsFirstOf s (lowest s.bits) (record { bits = bit_xor s.bits (1 * 2 ^ lowest s.bits % 18446744073709551616) })
+first_of s some fits =
+    let low = bit_at-trailing_zeros w64 s.bits some fits in
+    record {
+      there = ap (λ (x : ℕ). x == 1) low.1;
+      first = λ n less. ap (λ (x : ℕ). x == 1) (low.2 n less);
+      others = λ n. ap (λ (m : ℕ). bit (bit_xor s.bits m) n) (shifted s.bits some fits)
+          ∙ bits_but s.bits (lowest s.bits) n low.1;
+    }
+
+pub fewer : (a : ℕ) → 0 < a → a < 2 ^ 64 → bit_xor a (1 * 2 ^ lowest a % 18446744073709551616) < a
+fewer a some fits =
+    let k = lowest a in
+    let low = bit_at-trailing_zeros w64 a some fits in
+    let both : bit_and a (2 ^ k) ≡ 2 ^ k = and_pow a k ∙ ap (λ (x : ℕ). x * 2 ^ k) low.1 ∙ omega arith in
+    let sum = xor_add_and a (2 ^ k) in
+    let pos = pow_pos k in
+    let is = ap (λ (m : ℕ). bit_xor a m) (shifted a some fits) in
+    omega (arith, both, sum, pos, is)
+
+pub none_at_all : (n : ℕ) → bit 0 n ≡ false
+none_at_all n = ap (λ (x : ℕ). x == 1) (bit_at-zero n)
+
+-- those so far and one more
+pub one_more : (a k n : ℕ) → (bit a n ≡ nat_lt n k) → (bit a n || n == k) ≡ nat_lt n (k + 1)
+one_more a k n is = ap (λ (b : Bool). b || n == k) is ∙ go (cases_lt n k) (cases_eq n k)
+  where
+    go : (n < k) ⊎ (k ≤ n) → (n ≡ k) ⊎ (n ≡ k → ⊥) → (nat_lt n k || n == k) ≡ nat_lt n (k + 1)
+    go (inl less) other = ap (λ (b : Bool). b || n == k) (lt-ltb n k less) ∙ sym (lt-ltb n (k + 1) (omega arith))
+    go (inr least) (inl e) = ap₂ (λ (a b : Bool). a || b) (le-ltb n k least) (eq-eqb n k e)
+        ∙ sym (lt-ltb n (k + 1) (omega arith))
+    go (inr least) (inr apart) =
+        ap₂ (λ (a b : Bool). a || b) (le-ltb n k least) (ne_eqb n k apart)
+        ∙ sym (le-ltb n (k + 1) (omega (arith, apart)))

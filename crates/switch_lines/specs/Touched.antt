@@ -1,0 +1,60 @@
+-- Which lines of a switch an event has to look at: those on which something happened. On the others nothing is left to
+-- do.
+use Rattle.std.specs.Prelude.{◌≡◌, ℕ, suc, ◌<◌, true, false, ◌&&◌, if◌then◌else◌, List, [], ◌∷◌, length, slice_get}
+use Rattle.std.specs.Prelude.{Option, Some, None}
+use Rattle.link_timers.specs.declared.timers.TimerId.TheVariants.{T1}
+use Rattle.link_timers.specs.Timers.{left_of}
+use Rattle.lapb.specs.Machine.{settle, runs}
+use Rattle.line_end.specs.End.{End}
+use Rattle.packet_end.specs.Timing.{TimersAgree}
+use Rattle.line_set.specs.LineSet.{has}
+use Rattle.line_set.specs.declared.LineSet.{LineSet}
+use Rattle.switch_lines.specs.Lines.{SwitchLine}
+use Rattle.switch_lines.specs.Switch.{may_offer}
+
+-- the link has nothing to send, and T1 does not run where the link does not want it to
+pub record HasNothingToSend (e : End) : Type 0 where
+  pub link : (settle e.link).link ≡ e.link
+  pub frames : (settle e.link).frames ≡ []
+  pub timer : runs e.link ≡ false → left_of e.timers T1 ≡ None
+
+-- a line is settled: the timers of its packet layer run as that wants, its link has nothing to send and takes no packet
+-- that the layer has, and need not be set up anew
+pub record IsSettled (l : SwitchLine) : Type 0 where
+  pub timers : TimersAgree l.end.layer l.end.timers
+  pub sent : HasNothingToSend l.end.line
+  pub offered : may_offer l ≡ false
+  pub no_relink : l.end.layer.relink ≡ false
+
+-- its frames and notes of the last event were taken
+pub record IsTaken (l : SwitchLine) : Type 0 where
+  pub frames : l.end.line.frames ≡ []
+  pub notes : l.end.notes ≡ []
+
+abbrev pub AreThere : LineSet → List SwitchLine → Type 0
+AreThere s ls = (n : ℕ) → has s n ≡ true → n < length ls
+
+-- the lines that are not touched are settled, and the frames of those that are not untaken either were taken
+pub record NothingElseIsLeft (touched untaken : LineSet) (ls : List SwitchLine) : Type 0 where
+  pub touched_there : AreThere touched ls
+  pub untaken_there : AreThere untaken ls
+  pub settled : (n : ℕ) (l : SwitchLine) → has touched n ≡ false → slice_get ls n ≡ Some l → IsSettled l
+  pub taken : (n : ℕ) (l : SwitchLine) → has touched n ≡ false → has untaken n ≡ false → slice_get ls n ≡ Some l
+      → IsTaken l
+
+-- ---- the same of some lines alone, from line n on
+
+-- they are changed
+abbrev pub changed_in : {X : Type 0} → LineSet → (X → X) → (line : ℕ) → List X → List X
+changed_in s f n [] = []
+changed_in s f n (x ∷ xs) = (if has s n then f x else x) ∷ changed_in s f (suc n) xs
+
+-- those of them whose links take a packet
+abbrev pub offering_in : LineSet → (line : ℕ) → List SwitchLine → List ℕ
+offering_in s n [] = []
+offering_in s n (l ∷ ls) = if has s n && may_offer l then n ∷ offering_in s (suc n) ls else offering_in s (suc n) ls
+
+-- the first of them whose packet layer asks for a link that is set up anew
+abbrev pub first_to_relink : LineSet → (line : ℕ) → List SwitchLine → Option ℕ
+first_to_relink s n [] = None
+first_to_relink s n (l ∷ ls) = if has s n && l.end.layer.relink then Some n else first_to_relink s (suc n) ls

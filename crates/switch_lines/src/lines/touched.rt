@@ -1,0 +1,64 @@
+//! What is done to some lines alone.
+ghost use Rattle.std.specs.Prelude.{◌≡◌, ℕ, ◌<◌, ◌≤◌, true, Some, length, slice_get};
+ghost use Rattle.packet_end.specs.PacketEnd as end;
+ghost use Rattle.packet_end.specs.Timing.{TimersAgree};
+ghost use Rattle.line_set.specs.LineSet.{has};
+ghost use Rattle.switch_lines.specs.Lines.{SwitchLine as Line};
+ghost use Rattle.switch_lines.specs.Switch.{with_end};
+ghost use Rattle.switch_lines.specs.Touched.{AreThere, changed_in, offering_in, first_to_relink};
+
+use crate::line::SwitchLine;
+use crate::lines::LineList;
+use arrayvec::ArrayVec;
+use line_set::LineSet;
+
+// Begins an event on these lines.
+pub(super) fn begin_lines(lines: &mut [SwitchLine], mut which: LineSet)
+    requires { AreThere which lines.old }
+    ensures { lines.new ≡ changed_in which (with_end end.begun) 0 lines.old }
+{
+    while let Some(line) = which.take_first() {
+        lines[line].begin();
+    }
+}
+
+// Ends an event on these lines.
+pub(super) fn settle_lines(lines: &mut [SwitchLine], mut which: LineSet)
+    requires { AreThere which lines.old }
+    ensures lines { lines.new ≡ changed_in which (with_end end.settled) 0 lines.old }
+    ensures timers { (n : ℕ) → (l : Line) → has which n ≡ true → slice_get lines.new n ≡ Some l →
+        TimersAgree l.end.layer l.end.timers }
+{
+    while let Some(line) = which.take_first() {
+        lines[line].settle();
+    }
+}
+
+// Offers packets to the links of these lines, in order, and answers which of them took one.
+pub(super) fn offer_lines(lines: &mut [SwitchLine], mut which: LineSet) -> LineList
+    requires there { AreThere which lines.old }
+    requires most { length lines.old ≤ 64 }
+    ensures offering { result.items ≡ offering_in which 0 lines.old }
+    ensures lines { lines.new ≡ changed_in which (with_end end.all_offered) 0 lines.old }
+{
+    let mut offering = ArrayVec::new();
+    while let Some(line) = which.take_first() {
+        if lines[line].offer() {
+            offering.push(line);
+        }
+    }
+    offering
+}
+
+// The first of these lines whose packet layer asks for a link that is set up anew.
+pub(super) fn first_to_relink(lines: &[SwitchLine], mut which: LineSet) -> Option<usize>
+    requires { AreThere which lines.now }
+    ensures { result ≡ first_to_relink which 0 lines.now }
+{
+    while let Some(line) = which.take_first() {
+        if lines[line].must_relink() {
+            return Some(line);
+        }
+    }
+    None
+}
