@@ -1,0 +1,7 @@
+pub mod Steady
+pub mod Walking
+pub mod Closing
+pub mod Telling
+pub mod Answering
+pub mod Acting
+pub mod Eventing
