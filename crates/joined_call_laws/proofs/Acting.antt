@@ -7,7 +7,7 @@ use Rattle.link_timers.specs.declared.role.Role.{Role}
 use Rattle.link_timers.specs.declared.role.Role.TheVariants.{Dce}
 use Rattle.packet_codec.specs.ClearCause as clear_cause
 use Rattle.packet_codec.specs.Diagnostic.{no_information}
-use Rattle.packet_layer.specs.Packets.{Note, Reason}
+use Rattle.packet_layer.specs.Packets.{CallParts, Note, Reason}
 use Rattle.packet_layer.specs.Packets.Note.{Incoming, Connected, Closed, WasReset, InterruptConfirmed, Covered}
 use Rattle.packet_layer.specs.Channel.{CallState, Channel, Step, may_accept, had_call}
 use Rattle.packet_layer.specs.Layer.{Layer, channel_of, closing_notes}
@@ -55,6 +55,10 @@ use Rattle.switch_record_laws.proofs.Stepping.{step_layers}
 use Rattle.joined_call_laws.specs.Calls.{JoinedCall, present_at, books_by, books_by_all, calls_of_all, Stands, HasEnded, StandsOrEnded, AreCalls}
 use Rattle.joined_call_laws.proofs.Steady.{HavePlaces, shape, Same, Mutual, switch_mutual, books_rest, every_map, ended_same, calls_same, steadies_same, steadies_none, IsPlain, plains_steady}
 use Rattle.joined_call_laws.proofs.Walking.{Beside, beside_step, there_step, there_steps, Leads, leads_then, Walked, walked_then, walked_quiet}
+use Rattle.joined_call_laws.proofs.Following.{CameIn, KeptQuietly, KeptJoining, And, WrittenIn, step_quiet, steps_keep, steadies_place_none, last_written, noted_accepts, lines_answered}
+use Rattle.switch_laws.specs.Pairs.{IsNoted}
+use Rattle.switch_record_laws.specs.Opened.{HasSlot}
+use Rattle.switch_record_laws.specs.Kept.{Partners, AreKept}
 use Rattle.joined_call_laws.proofs.Closing.{Side, IsAbsent, TouchesAt, touched_slot, SameEpochs, epochs_itself, epochs_then, relayed_same, closed_there, closed_absent}
 use Rattle.joined_call_laws.proofs.Telling.{InHand, Marks, Told as ToldOne, closed_told, IsClosing, closings_told, marks_calls}
 use Rattle.joined_call_laws.proofs.Answering.{alone_walk, call_present}
@@ -195,7 +199,8 @@ heed_all_lines routes n (x ∷ xs) ls bs =
     (leads_then first rest ls ms (heed_all routes n xs ms) bs (books_by_all first ls bs) _ _ _ one more).lines
 
 module _ (routes : RouteMap) (n : ℕ) (what : Happening) (ls : List SwitchLine) (w : World) (bs : Books) (cs : List JoinedCall) (i : IsSwitch ls w) (h : HaveRecords (layers_of ls) w bs) (a : AreCalls ls bs cs)
-    (line : SwitchLine) (got : slice_get ls n ≡ Some line) (eff : EndEffect n what line.end) where
+    (line : SwitchLine) (got : slice_get ls n ≡ Some line) (eff : EndEffect n what line.end)
+    (R : Books → List JoinedCall → Type 0) (keeps : KeptQuietly R) (joins : KeptJoining routes R) (kept : R bs cs) (ps : Partners) (lines_kept : AreKept ps (books_by (Happens n what) ls bs) (lines_after (Happens n what) ls)) where
   abbrev l : Layer
   l = line.end.layer
 
@@ -264,15 +269,18 @@ module _ (routes : RouteMap) (n : ℕ) (what : Happening) (ls : List SwitchLine)
   apart_ls : AreApart (bs n)
   apart_ls = (h n l got_layer).apart
 
+  kept1 : R bs1 cs
+  kept1 = keeps (acts_of (Happens n what) ls) (layers_of ls) bs cs (step_quiet (Happens n what) ls tt) kept
+
   -- where nothing is said of a call that is over or comes in
-  plainly : Every IsPlain notes → Walked AreCalls (heed_all_steps routes n notes ms) ms bs1 cs (heed_all routes n notes ms)
+  plainly : Every IsPlain notes → Walked (And AreCalls R) (heed_all_steps routes n notes ms) ms bs1 cs (heed_all routes n notes ms)
   plainly plain =
       let ss = heed_all_steps routes n notes ms in
       let lines = heed_all_lines routes n notes ms bs1 in
       let steady = plains_steady routes n notes ms plain in
-      walked_quiet AreCalls ss ms bs1 cs (heed_all routes n notes ms) lines (steadies_none ss ms bs1 steady)
+      walked_quiet (And AreCalls R) ss ms bs1 cs (heed_all routes n notes ms) lines (steadies_none ss ms bs1 steady)
       (subst (λ (ks : List SwitchLine). AreCalls ks (books_by_all ss ms bs1) cs) lines
-      (calls_same ms (steps.lines_after_all ss ms) bs1 (books_by_all ss ms bs1) cs mutual_ms (steadies_same ss ms bs1 steady) (calls_same ls ms bs bs1 cs mutual_ls (same_ms slots) a)))
+      (calls_same ms (steps.lines_after_all ss ms) bs1 (books_by_all ss ms bs1) cs mutual_ms (steadies_same ss ms bs1 steady) (calls_same ls ms bs bs1 cs mutual_ls (same_ms slots) a)), steps_keep R keeps ss ms bs1 cs (steadies_place_none ss ms steady) kept1)
     where
       slots : (y : Place) (j : Joined) → joined_at ls y ≡ Some j → present_at y bs1 ≡ present_at y bs
       slots y j e =
@@ -356,10 +364,10 @@ module _ (routes : RouteMap) (n : ℕ) (what : Happening) (ls : List SwitchLine)
             epochs = e.epochs;
           }
 
-  all_over : Every IsClosing notes → Walked AreCalls (heed_all_steps routes n notes ms) ms bs1 cs (heed_all routes n notes ms)
+  all_over : Every IsClosing notes → Walked (And AreCalls R) (heed_all_steps routes n notes ms) ms bs1 cs (heed_all routes n notes ms)
   all_over closing =
-      let t = closings_told routes n notes ms bs1 cs closing (marks_from notes (closed_side closing)) in
-      record { after = t.after; new = t.new; leads = t.leads; holds = marks_calls n (heed_all routes n notes ms) t.after (cs ++ t.new) t.holds }
+      let t = closings_told R keeps routes n notes ms bs1 cs closing (marks_from notes (closed_side closing)) kept1 in
+      record { after = t.after; new = t.new; leads = t.leads; holds = (marks_calls n (heed_all routes n notes ms) t.after (cs ++ t.new) t.holds.0, t.holds.1) }
 
   -- ---- notes of one channel
 
@@ -414,37 +422,39 @@ module _ (routes : RouteMap) (n : ℕ) (what : Happening) (ls : List SwitchLine)
 
     -- what is known of the channel where a call may come in
     abbrev Comes : Type 0
-    Comes = may_accept role s ≡ true → (number : ℕ) × (present_at p bs1 ≡ Some number)
+    Comes = (parts : CallParts) → IsNoted notes d parts → CameIn p parts bs1
 
     one_over : (cause diagnostic : ℕ) (reason : Reason) (rest : List Note) → notes ≡ Closed d cause diagnostic reason ∷ rest → is_some (shown_at (layers_of ms) p) ≡ true → Comes
-        → Walked AreCalls (heed_all_steps routes n notes ms) ms bs1 cs (heed_all routes n notes ms)
+        → Walked (And AreCalls R) (heed_all_steps routes n notes ms) ms bs1 cs (heed_all routes n notes ms)
     one_over cause diagnostic reason rest is there comes =
-        subst (λ (ns : List Note). Walked AreCalls (heed_all_steps routes n ns ms) ms bs1 cs (heed_all routes n ns ms)) (sym is)
-        (walked_then (ToldOne n d [] (present_at p bs1)) AreCalls (heed_steps routes n first ms) (heed_all_steps routes n rest (heed routes n first ms)) ms (heed routes n first ms) _ bs1 cs
-        (closed_told routes n d cause diagnostic reason [] ms bs1 cs (marks_from (first ∷ []) (one_side cause diagnostic reason rest is)))
-        (λ after all t. alone_walk routes n d role s rest (heed routes n first ms) after all (subst (λ (ns : List Note). AreOf d role s ns) is of).1 (record {
-          pairs = t.marks.pairs;
-          beside = t.marks.beside;
-          places = t.marks.places;
-          calls = marks_calls n (heed routes n first ms) after all t.marks;
-          none = t.alone;
+        subst (λ (ns : List Note). Walked (And AreCalls R) (heed_all_steps routes n ns ms) ms bs1 cs (heed_all routes n ns ms)) (sym is)
+        (walked_then (And (ToldOne n d [] bs1) R) (And AreCalls R) (heed_steps routes n first ms) (heed_all_steps routes n rest (heed routes n first ms)) ms (heed routes n first ms) _ bs1 cs
+        (closed_told R keeps routes n d cause diagnostic reason [] ms bs1 cs (marks_from (first ∷ []) (one_side cause diagnostic reason rest is)) kept1)
+        (λ after all t. alone_walk routes R keeps joins n d role s rest (heed routes n first ms) after all (subst (λ (ns : List Note). AreOf d role s ns) is of).1 (record {
+          pairs = t.0.marks.pairs;
+          beside = t.0.marks.beside;
+          places = t.0.marks.places;
+          calls = marks_calls n (heed routes n first ms) after all t.0.marks;
+          none = t.0.alone;
           there = ap (λ (ks : List SwitchLine). is_some (shown_at (layers_of ks) p)) (sym (heed_leads routes n first ms)) ∙ (there_steps (heed_steps routes n first ms) ms p ∙ there);
-          present = λ e. let k = comes e in (k.0, t.same ∙ k.1);
+          came = λ parts noted. t.0.came parts (comes parts (subst (λ (ns : List Note). IsNoted ns d parts) (sym is) (inr noted)));
+          kept = t.1;
         })))
       where
         first : Note
         first = Closed d cause diagnostic reason
 
-    one_alone : joined_at ls p ≡ None → is_some (shown_at (layers_of ms) p) ≡ true → Comes → Walked AreCalls (heed_all_steps routes n notes ms) ms bs1 cs (heed_all routes n notes ms)
+    one_alone : joined_at ls p ≡ None → is_some (shown_at (layers_of ms) p) ≡ true → Comes → Walked (And AreCalls R) (heed_all_steps routes n notes ms) ms bs1 cs (heed_all routes n notes ms)
     one_alone none there comes =
-        alone_walk routes n d role s notes ms bs1 cs of (record {
+        alone_walk routes R keeps joins n d role s notes ms bs1 cs of (record {
           pairs = mutual_ms;
           beside = beside_ms;
           places = places_ms;
           calls = calls_same ls ms bs bs1 cs mutual_ls (same_ms (λ y j e. touched_slot p y bs bs1 (not_here y j e) touches)) a;
           none = joined_ms p ∙ none;
           there = there;
-          present = comes;
+          came = comes;
+          kept = kept1;
         })
       where
         not_here : (y : Place) (j : Joined) → joined_at ls y ≡ Some j → same_place y p ≡ false
@@ -457,7 +467,7 @@ module _ (routes : RouteMap) (n : ℕ) (what : Happening) (ls : List SwitchLine)
   -- ---- any effect
 
   one_step : (d : ℕ) (st : Shown → Step) (e : Leg → Epoch) → IsStep d st e → ((g : Leg) → x.moves d g ≡ stepped (st (shown_of g)) (e g) g) → (ch : Channel) → channel_of l d ≡ Some ch → notes ≡ (st (seen l ch)).notes
-      → Walked AreCalls (heed_all_steps routes n notes ms) ms bs1 cs (heed_all routes n notes ms)
+      → Walked (And AreCalls R) (heed_all_steps routes n notes ms) ms bs1 cs (heed_all routes n notes ms)
   one_step d st e is leg ch found notes_seen = by_joined (joined_at ls p) refl
     where
       p : Place
@@ -484,33 +494,51 @@ module _ (routes : RouteMap) (n : ℕ) (what : Happening) (ls : List SwitchLine)
       state_is : (v (at n d)).channel.state ≡ (st (shown_of (w (at n d)))).channel.state
       state_is = ap (λ (y : Shown). y.channel.state) (ap (λ (g : Leg). shown_of g) leg_is ∙ opened_shown (st (shown_of (w (at n d)))).owes _)
 
-      comes : may_accept (w (at n d)).role (st (shown_of (w (at n d)))).channel.state ≡ true → (number : ℕ) × (present_at (at n d) bs1 ≡ Some number)
-      comes may =
-          let y = some_there (shown_at (layers_of ms) (at n d)) there in
-          call_present ms bs1 (at n d) y.0 beside_ms y.1
-          (ap (λ (z : Shown). had_call z.channel.state) (world_ms (at n d) y.0 y.1).shown ∙ (ap (λ (z : CallState). had_call z) state_is ∙ accepts_call (w (at n d)).role _ may))
+      role_is : (v (at n d)).role ≡ (w (at n d)).role
+      role_is = ap (λ (y : Shown). y.role) (ap (λ (g : Leg). shown_of g) leg_is ∙ opened_shown (st (shown_of (w (at n d)))).owes _)
 
-      by_outcome : Outcome d (w (at n d)).role (w (at n d)).channel (st (shown_of (w (at n d)))) → Walked AreCalls (heed_all_steps routes n notes ms) ms bs1 cs (heed_all routes n notes ms)
+      comes : (parts : CallParts) → IsNoted notes d parts → CameIn (at n d) parts bs1
+      comes parts noted =
+          let y = some_there (shown_at (layers_of ms) (at n d)) there in
+          let has : HasSlot d (bs n) = (h n l got_layer).slots d (ap (λ (o : Option Channel). is_some o) found) in
+          let k : WrittenIn d parts (bs1 n) = subst (λ (b : Book). WrittenIn d parts b) (sym here_book) (last_written d (w (at n d)).role _ parts notes (bs n) of noted has) in
+          let may : may_accept y.0.role y.0.channel.state ≡ true =
+          ap₂ (λ (r : Role) (c : CallState). may_accept r c) (ap (λ (z : Shown). z.role) (world_ms (at n d) y.0 y.1).shown ∙ role_is) (ap (λ (z : Shown). z.channel.state) (world_ms (at n d) y.0 y.1).shown ∙ state_is)
+          ∙ noted_accepts d (w (at n d)).role _ parts notes of noted in
+          let c = some_there (slot_at Dce d (bs1 n)).caller (lines_answered ps bs1 ms (at n d) y.0 lines_kept y.1 may) in
+          record {
+            number = k.number;
+            caller = c.0;
+            present = k.present;
+            came = c.1;
+            last = sym k.caller ∙ c.1;
+            it = k.it;
+            there = k.there;
+            own = k.own;
+            far = k.far;
+          }
+
+      by_outcome : Outcome d (w (at n d)).role (w (at n d)).channel (st (shown_of (w (at n d)))) → Walked (And AreCalls R) (heed_all_steps routes n notes ms) ms bs1 cs (heed_all routes n notes ms)
       by_outcome (ends cause diagnostic reason rest f) = one_over d (w (at n d)).role _ of cause diagnostic reason rest (notes_are ∙ f) there comes
       by_outcome (connects f g) = plainly (subst (λ (ns : List Note). Every IsPlain ns) (sym (notes_are ∙ ap (λ (y : Step). y.notes) g)) (tt, tt))
       by_outcome (waits f g k) = plainly (subst (λ (ns : List Note). Every IsPlain ns) (sym (notes_are ∙ ap (λ (y : Step). y.notes) g)) tt)
       by_outcome (goes_on f g k) = plainly (subst (λ (ns : List Note). Every IsPlain ns) (sym notes_are) (goes_plain d _ k))
 
-      by_joined : (o : Option Joined) → joined_at ls (at n d) ≡ o → Walked AreCalls (heed_all_steps routes n notes ms) ms bs1 cs (heed_all routes n notes ms)
+      by_joined : (o : Option Joined) → joined_at ls (at n d) ≡ o → Walked (And AreCalls R) (heed_all_steps routes n notes ms) ms bs1 cs (heed_all routes n notes ms)
       by_joined None f = one_alone d (w (at n d)).role _ of f there comes
       by_joined (Some j) f = by_outcome (is.outcome (shown_of (w (at n d))) call)
         where
           call : had_call (w (at n d)).channel.state ≡ true
           call = let k = i.joined (at n d) j f in elim k.pair [ inl y ↦ pair_call (w (at n d)) (w j.other) j k.other y | inr y ↦ elim y [ inl z ↦ absurd z | inr z ↦ absurd z ] ]
 
-  by_effect : Effect x.moves l notes → Walked AreCalls (heed_all_steps routes n notes ms) ms bs1 cs (heed_all routes n notes ms)
+  by_effect : Effect x.moves l notes → Walked (And AreCalls R) (heed_all_steps routes n notes ms) ms bs1 cs (heed_all routes n notes ms)
   by_effect (nothing none legs) = plainly (subst (λ (ns : List Note). Every IsPlain ns) (sym none) tt)
   by_effect (closes_all reason is legs) = all_over (subst (λ (ns : List Note). Every IsClosing ns) (sym is) (closing_only 1 reason l.channels))
   by_effect (on_one d st e is apart leg empty some) = by_channel (channel_of l d) refl
     where
-      by_channel : (o : Option Channel) → channel_of l d ≡ o → Walked AreCalls (heed_all_steps routes n notes ms) ms bs1 cs (heed_all routes n notes ms)
+      by_channel : (o : Option Channel) → channel_of l d ≡ o → Walked (And AreCalls R) (heed_all_steps routes n notes ms) ms bs1 cs (heed_all routes n notes ms)
       by_channel None f = plainly (subst (λ (ns : List Note). Every IsPlain ns) (sym (empty f)) tt)
       by_channel (Some ch) f = one_step d st e is leg ch f (some ch f)
 
-  pub heeded_walk : Walked AreCalls (heed_all_steps routes n notes ms) ms bs1 cs (heed_all routes n notes ms)
+  pub heeded_walk : Walked (And AreCalls R) (heed_all_steps routes n notes ms) ms bs1 cs (heed_all routes n notes ms)
   heeded_walk = by_effect x.effect

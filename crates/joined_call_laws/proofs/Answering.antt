@@ -36,14 +36,16 @@ use Rattle.switch_laws.proofs.Lists.{decided, place_is}
 use Rattle.switch_laws.proofs.Outcomes.{AreOf}
 use Rattle.switch_laws.proofs.Places.{joined_kept, joined_asked, joined_here, joined_apart, place_after, place_joined}
 use Rattle.switch_laws.proofs.Frame.{apart_turned}
-use Rattle.switch_laws.proofs.SettingUp.{IsFreePlace, IsAnswer, layer_there, answer_by_is, answer_if, ready_no_call}
+use Rattle.switch_laws.proofs.SettingUp.{IsFreePlace, IsAnswer, layer_there, answer_by_is, answer_if, joins_by_route, ready_no_call}
 use Rattle.switch_record_laws.specs.Records.{call_on, leg_if, Has}
 use Rattle.switch_record_laws.specs.Written.{Books, writes_at}
 use Rattle.switch_record_laws.proofs.Cells.{Touches, touches_none, touches_new}
 use Rattle.switch_record_laws.proofs.Heads.{places_opens}
 use Rattle.joined_call_laws.specs.Calls.{JoinedCall, present_at, numbered, made_call, books_by, Stands, StandsOrEnded, AreCalls}
 use Rattle.joined_call_laws.proofs.Steady.{shape, Stay, Paired, Mutual, HavePlaces, books_rest, every_map, calls_same, one_stays, stands_stay}
-use Rattle.joined_call_laws.proofs.Walking.{Beside, Walked, walked_quiet}
+use Rattle.joined_call_laws.proofs.Walking.{Leads, Beside, Walked, walked_quiet}
+use Rattle.joined_call_laws.proofs.Following.{CameIn, KeptQuietly, KeptJoining, And, steps_keep}
+use Rattle.switch_laws.specs.Pairs.{IsNoted}
 use Rattle.joined_call_laws.proofs.Closing.{if_apart, TouchesAt, clear_touches, touched_slot}
 
 -- ---- a joined channel has a present record, and so has one with a call
@@ -151,15 +153,14 @@ every_last P [] x e p = (p, tt)
 every_last P (y ∷ xs) x e p = (e.0, every_last P xs x e.1 p)
 
 cleared : (cause : ℕ) (p : Place) (ls : List SwitchLine) (bs : Books) (cs : List JoinedCall) → Mutual ls → joined_at ls p ≡ None → AreCalls ls bs cs
-    → Walked AreCalls (Asks p (Clearing cause no_information) ∷ []) ls bs cs (ask p (Clearing cause no_information) ls)
+    → AreCalls (ask p (Clearing cause no_information) ls) (books_by (Asks p (Clearing cause no_information)) ls bs) cs
 cleared cause p ls bs cs m none a =
     let r = Clearing cause no_information in
-    walked_quiet AreCalls (Asks p r ∷ []) ls bs cs (ask p r ls) refl refl
-    (calls_same ls (ask p r ls) bs (books_by (Asks p r) ls bs) cs m (record {
+    calls_same ls (ask p r ls) bs (books_by (Asks p r) ls bs) cs m (record {
       joins = λ x. ap shape (joined_asked p r x ls);
       slots = λ x j e. touched_slot p x bs (books_by (Asks p r) ls bs) (not_here x j e) (clear_touches cause no_information p ls bs);
       rests = λ k n rec s. books_rest (Act.Asks p r ∷ []) (layers_of ls) bs k n rec s;
-    }) a)
+    }) a
   where
     not_here : (x : Place) (j : Joined) → joined_at ls x ≡ Some j → same_place x p ≡ false
     not_here x j e = by_test (decided (same_place x p))
@@ -267,56 +268,79 @@ module _ (p q : Place) (parts : CallParts) (ls : List SwitchLine) (bs : Books) (
   none_made : made_call (joined_at l2 q) q jq bs' ≡ []
   none_made = ap (λ (o : Option Joined). made_call o q jq bs') (joined_apart p (Some jp) q l1 (apart_turned p q apart) ∙ (kept1 q ∙ q_none))
 
-  pub joins_walk : Walked AreCalls (Places q.line parts ∷ Keeps p (Some jp) ∷ Keeps q (Some jq) ∷ []) ls bs cs ms
-  joins_walk = record {
-    after = bs';
-    new = made ∷ [];
-    leads = record { lines = refl; books = refl; calls = ap₂ (λ (xs ys : List JoinedCall). xs ++ (ys ++ [])) made_is none_made };
-    holds = calls_then;
-  }
+  joins_lead : Leads (Places q.line parts ∷ Keeps p (Some jp) ∷ Keeps q (Some jq) ∷ []) ls bs ms bs' (made ∷ [])
+  joins_lead = record { lines = refl; books = refl; calls = ap₂ (λ (xs ys : List JoinedCall). xs ++ (ys ++ [])) made_is none_made }
 
 -- ---- answered
 
-answers_walk : (v : Answer) (p : Place) (parts : CallParts) (ls : List SwitchLine) (bs : Books) (cs : List JoinedCall) (number : ℕ) → IsAnswer ls v → Mutual ls → Beside ls bs → HavePlaces ls → AreCalls ls bs cs → joined_at ls p ≡ None
-    → is_some (shown_at (layers_of ls) p) ≡ true → present_at p bs ≡ Some number → Walked AreCalls (answered_steps v p parts ls) ls bs cs (answered v p parts ls)
-answers_walk (Clears cause) p parts ls bs cs number f m b places a none was present = cleared cause p ls bs cs m none a
-answers_walk (Joins q) p parts ls bs cs number f m b places a none was present = joins_walk p q (forwarded ls p.line parts) ls bs cs m b a none was number present f places
+module _ (routes : RouteMap) (R : Books → List JoinedCall → Type 0) (keeps : KeptQuietly R) (joins : KeptJoining routes R) where
+  clears_walk : (cause : ℕ) (p : Place) (ls : List SwitchLine) (bs : Books) (cs : List JoinedCall) → Mutual ls → joined_at ls p ≡ None → AreCalls ls bs cs → R bs cs
+      → Walked (And AreCalls R) (Asks p (Clearing cause no_information) ∷ []) ls bs cs (ask p (Clearing cause no_information) ls)
+  clears_walk cause p ls bs cs m none a r =
+      let ss : List Step = Asks p (Clearing cause no_information) ∷ [] in
+      walked_quiet (And AreCalls R) ss ls bs cs (ask p (Clearing cause no_information) ls) refl refl (cleared cause p ls bs cs m none a, steps_keep R keeps ss ls bs cs (tt, tt) r)
 
-pub incoming_walk : (routes : RouteMap) (n c : ℕ) (parts : CallParts) (ls : List SwitchLine) (bs : Books) (cs : List JoinedCall) (number : ℕ) → Mutual ls → Beside ls bs → HavePlaces ls → AreCalls ls bs cs → joined_at ls (at n c) ≡ None
-    → is_some (shown_at (layers_of ls) (at n c)) ≡ true → present_at (at n c) bs ≡ Some number → Walked AreCalls (heed_steps routes n (Incoming c parts) ls) ls bs cs (heed routes n (Incoming c parts) ls)
-incoming_walk routes n c parts ls bs cs number m b places a none there present =
-    answers_walk (answer routes ls parts) (at n c) parts ls bs cs number (answer_if (has_any parts.facilities) ls _ _ (answer_by_is ls (line_for routes parts.called))) m b places a none there present
+  answers_walk : (v : Answer) (p : Place) (parts : CallParts) (ls : List SwitchLine) (bs : Books) (cs : List JoinedCall) → answer routes ls parts ≡ v → IsAnswer ls v → Mutual ls → Beside ls bs → HavePlaces ls → AreCalls ls bs cs → joined_at ls p ≡ None
+      → is_some (shown_at (layers_of ls) p) ≡ true → CameIn p parts bs → R bs cs → Walked (And AreCalls R) (answered_steps v p parts ls) ls bs cs (answered v p parts ls)
+  answers_walk (Clears cause) p parts ls bs cs is f m b places a none was came r = clears_walk cause p ls bs cs m none a r
+  answers_walk (Joins q) p parts ls bs cs is f m b places a none was came r =
+      let to = forwarded ls p.line parts in
+      record {
+        after = books_by (Places q.line to) ls bs;
+        new = record { near = p; far = q; came_in = came.number; placed = length (bs q.line).records } ∷ [];
+        leads = joins_lead p q to ls bs cs m b a none was came.number came.present f places;
+        holds = (calls_then p q to ls bs cs m b a none was came.number came.present f places, joins p q parts ls bs cs (record {
+          calls = a;
+          beside = b;
+          came_in = came;
+          not_joined = none;
+          free = f;
+          routed = joins_by_route routes ls parts q is;
+          apart = apart p q to ls bs cs m b a none was came.number came.present f places;
+        }) r);
+      }
 
--- ---- all notes of a channel that is not joined
+  pub incoming_walk : (n c : ℕ) (parts : CallParts) (ls : List SwitchLine) (bs : Books) (cs : List JoinedCall) → Mutual ls → Beside ls bs → HavePlaces ls → AreCalls ls bs cs → joined_at ls (at n c) ≡ None
+      → is_some (shown_at (layers_of ls) (at n c)) ≡ true → CameIn (at n c) parts bs → R bs cs → Walked (And AreCalls R) (heed_steps routes n (Incoming c parts) ls) ls bs cs (heed routes n (Incoming c parts) ls)
+  incoming_walk n c parts ls bs cs m b places a none there came r =
+      answers_walk (answer routes ls parts) (at n c) parts ls bs cs refl (answer_if (has_any parts.facilities) ls _ _ (answer_by_is ls (line_for routes parts.called))) m b places a none there came r
 
--- lines and books as they are while such notes are heeded
-pub record Alone (n c : ℕ) (accepts : Bool) (ls : List SwitchLine) (bs : Books) (cs : List JoinedCall) : Type 0 where
-  pub pairs : Mutual ls
-  pub beside : Beside ls bs
-  pub places : HavePlaces ls
-  pub calls : AreCalls ls bs cs
-  pub none : joined_at ls (at n c) ≡ None
-  pub there : is_some (shown_at (layers_of ls) (at n c)) ≡ true
-  pub present : accepts ≡ true → (number : ℕ) × (present_at (at n c) bs ≡ Some number)
+  -- ---- all notes of a channel that is not joined
 
-untold : (routes : RouteMap) (note : Note) (n c d : ℕ) (ns : List Note) (ls : List SwitchLine) (bs : Books) (cs : List JoinedCall) → d ≡ c → joined_at ls (at n c) ≡ None
-    → Walked AreCalls (heed_all_steps routes n ns ls) ls bs cs (heed_all routes n ns ls)
-    → Walked AreCalls (told_steps (joined_at ls (at n d)) note (at n d) ls ++ heed_all_steps routes n ns (told note (at n d) ls)) ls bs cs (heed_all routes n ns (told note (at n d) ls))
-untold routes note n c d ns ls bs cs e none h =
-    subst (λ (o : Option Joined). Walked AreCalls (told_steps o note (at n d) ls ++ heed_all_steps routes n ns (told_of o note (at n d) ls)) ls bs cs (heed_all routes n ns (told_of o note (at n d) ls)))
-    (sym (ap (λ (k : ℕ). joined_at ls (at n k)) e ∙ none)) h
+  -- lines and books as they are while such notes are heeded
+  pub record Alone (n c : ℕ) (ns : List Note) (ls : List SwitchLine) (bs : Books) (cs : List JoinedCall) : Type 0 where
+    pub pairs : Mutual ls
+    pub beside : Beside ls bs
+    pub places : HavePlaces ls
+    pub calls : AreCalls ls bs cs
+    pub none : joined_at ls (at n c) ≡ None
+    pub there : is_some (shown_at (layers_of ls) (at n c)) ≡ true
+    pub came : (parts : CallParts) → IsNoted ns c parts → CameIn (at n c) parts bs
+    pub kept : R bs cs
 
-pub alone_walk : (routes : RouteMap) (n c : ℕ) (role : Role) (s : CallState) (ns : List Note) (ls : List SwitchLine) (bs : Books) (cs : List JoinedCall) → AreOf c role s ns → Alone n c (may_accept role s) ls bs cs
-    → Walked AreCalls (heed_all_steps routes n ns ls) ls bs cs (heed_all routes n ns ls)
-alone_walk routes n c role s [] ls bs cs of i = walked_quiet AreCalls [] ls bs cs ls refl refl i.calls
-alone_walk routes n c role s (Incoming d parts ∷ ns) ls bs cs of i =
-    let number = i.present of.1.0 in
-    subst (λ (more : List Note). Walked AreCalls (heed_steps routes n (Incoming d parts) ls ++ heed_all_steps routes n more (heed routes n (Incoming d parts) ls)) ls bs cs (heed_all routes n more (heed routes n (Incoming d parts) ls))) (sym of.1.1)
-    (subst (λ (ss : List Step). Walked AreCalls ss ls bs cs (heed routes n (Incoming d parts) ls)) (sym (append-nil (heed_steps routes n (Incoming d parts) ls)))
-    (subst (λ (k : ℕ). Walked AreCalls (heed_steps routes n (Incoming k parts) ls) ls bs cs (heed routes n (Incoming k parts) ls)) (sym of.0)
-    (incoming_walk routes n c parts ls bs cs number.0 i.pairs i.beside i.places i.calls i.none i.there number.1)))
-alone_walk routes n c role s (Connected d ∷ ns) ls bs cs of i = untold routes (Connected d) n c d ns ls bs cs of.0 i.none (alone_walk routes n c role s ns ls bs cs of.1 i)
-alone_walk routes n c role s (Closed d cause diagnostic reason ∷ ns) ls bs cs of i = untold routes (Closed d cause diagnostic reason) n c d ns ls bs cs of.0 i.none (alone_walk routes n c role s ns ls bs cs of.1 i)
-alone_walk routes n c role s (WasReset d cause diagnostic reason ∷ ns) ls bs cs of i = untold routes (WasReset d cause diagnostic reason) n c d ns ls bs cs of.0 i.none (alone_walk routes n c role s ns ls bs cs of.1 i)
-alone_walk routes n c role s (InterruptConfirmed d ∷ ns) ls bs cs of i = untold routes (InterruptConfirmed d) n c d ns ls bs cs of.0 i.none (alone_walk routes n c role s ns ls bs cs of.1 i)
-alone_walk routes n c role s (Covered d k ∷ ns) ls bs cs of i = untold routes (Covered d k) n c d ns ls bs cs of.0 i.none (alone_walk routes n c role s ns ls bs cs of.1 i)
+  later : (n c : ℕ) (x : Note) (ns : List Note) (ls : List SwitchLine) (bs : Books) (cs : List JoinedCall) → Alone n c (x ∷ ns) ls bs cs → Alone n c ns ls bs cs
+  later n c x ns ls bs cs i = record { pairs = i.pairs; beside = i.beside; places = i.places; calls = i.calls; none = i.none; there = i.there; came = λ parts h. i.came parts (inr h); kept = i.kept }
+
+  untold : (note : Note) (n c d : ℕ) (ns : List Note) (ls : List SwitchLine) (bs : Books) (cs : List JoinedCall) → d ≡ c → joined_at ls (at n c) ≡ None
+      → Walked (And AreCalls R) (heed_all_steps routes n ns ls) ls bs cs (heed_all routes n ns ls)
+      → Walked (And AreCalls R) (told_steps (joined_at ls (at n d)) note (at n d) ls ++ heed_all_steps routes n ns (told note (at n d) ls)) ls bs cs (heed_all routes n ns (told note (at n d) ls))
+  untold note n c d ns ls bs cs e none h =
+      subst (λ (o : Option Joined). Walked (And AreCalls R) (told_steps o note (at n d) ls ++ heed_all_steps routes n ns (told_of o note (at n d) ls)) ls bs cs (heed_all routes n ns (told_of o note (at n d) ls)))
+      (sym (ap (λ (k : ℕ). joined_at ls (at n k)) e ∙ none)) h
+
+  pub alone_walk : (n c : ℕ) (role : Role) (s : CallState) (ns : List Note) (ls : List SwitchLine) (bs : Books) (cs : List JoinedCall) → AreOf c role s ns → Alone n c ns ls bs cs
+      → Walked (And AreCalls R) (heed_all_steps routes n ns ls) ls bs cs (heed_all routes n ns ls)
+  alone_walk n c role s [] ls bs cs of i = walked_quiet (And AreCalls R) [] ls bs cs ls refl refl (i.calls, i.kept)
+  alone_walk n c role s (Incoming d parts ∷ ns) ls bs cs of i =
+      subst (λ (more : List Note). Walked (And AreCalls R) (heed_steps routes n (Incoming d parts) ls ++ heed_all_steps routes n more (heed routes n (Incoming d parts) ls)) ls bs cs (heed_all routes n more (heed routes n (Incoming d parts) ls))) (sym of.1.1)
+      (subst (λ (ss : List Step). Walked (And AreCalls R) ss ls bs cs (heed routes n (Incoming d parts) ls)) (sym (append-nil (heed_steps routes n (Incoming d parts) ls)))
+      (subst (λ (k : ℕ). Walked (And AreCalls R) (heed_steps routes n (Incoming k parts) ls) ls bs cs (heed routes n (Incoming k parts) ls)) (sym of.0)
+      (incoming_walk n c parts ls bs cs i.pairs i.beside i.places i.calls i.none i.there (i.came parts (inl (ap (λ (k : ℕ). Incoming k parts) of.0))) i.kept)))
+  alone_walk n c role s (Connected d ∷ ns) ls bs cs of i = untold (Connected d) n c d ns ls bs cs of.0 i.none (alone_walk n c role s ns ls bs cs of.1 (later n c (Connected d) ns ls bs cs i))
+  alone_walk n c role s (Closed d cause diagnostic reason ∷ ns) ls bs cs of i =
+      untold (Closed d cause diagnostic reason) n c d ns ls bs cs of.0 i.none (alone_walk n c role s ns ls bs cs of.1 (later n c (Closed d cause diagnostic reason) ns ls bs cs i))
+  alone_walk n c role s (WasReset d cause diagnostic reason ∷ ns) ls bs cs of i =
+      untold (WasReset d cause diagnostic reason) n c d ns ls bs cs of.0 i.none (alone_walk n c role s ns ls bs cs of.1 (later n c (WasReset d cause diagnostic reason) ns ls bs cs i))
+  alone_walk n c role s (InterruptConfirmed d ∷ ns) ls bs cs of i =
+      untold (InterruptConfirmed d) n c d ns ls bs cs of.0 i.none (alone_walk n c role s ns ls bs cs of.1 (later n c (InterruptConfirmed d) ns ls bs cs i))
+  alone_walk n c role s (Covered d k ∷ ns) ls bs cs of i = untold (Covered d k) n c d ns ls bs cs of.0 i.none (alone_walk n c role s ns ls bs cs of.1 (later n c (Covered d k) ns ls bs cs i))

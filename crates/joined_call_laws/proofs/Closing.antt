@@ -4,9 +4,11 @@ use Rattle.std.proofs.Common.{inl, inr, refl, sym, ap, ap₂, subst, ◌∙◌, 
 use Rattle.std.proofs.lemmas.Option.{none-some}
 use Rattle.std.proofs.lemmas.Bool.{eqb-true, eq-eqb}
 use Rattle.link_timers.specs.declared.role.Role.{Role}
-use Rattle.link_timers.specs.declared.role.Role.TheVariants.{Dce}
+use Rattle.link_timers.specs.declared.role.Role.TheVariants.{Dte, Dce}
 use Rattle.epochs.specs.Epoch.{SentEpoch, TakenEpoch}
 use Rattle.packet_layer.specs.Packets.{Note}
+use Rattle.packet_layer.specs.Packets.{CallParts}
+use Rattle.book_laws.proofs.Writing.{closed_else, slot_changed}
 use Rattle.packet_layer.specs.Channel.{CallState, Channel, Refusal, refused_if, may_clear, had_call}
 use Rattle.packet_layer.specs.Channel.CallState.{Ready, OwnWaiting, FarWaiting, Transfer, Collision, OwnClear}
 use Rattle.packet_layer.specs.Channel.Request.{Clearing}
@@ -29,6 +31,7 @@ use Rattle.switch_record_laws.proofs.Cells.{Touches, touches_none, touches_close
 use Rattle.book_laws.proofs.Basics.{number_is}
 use Rattle.joined_call_laws.specs.Calls.{present_at, books_by}
 use Rattle.joined_call_laws.proofs.Steady.{books_rest}
+use Rattle.joined_call_laws.proofs.Following.{CameIn}
 use Rattle.joined_call_laws.proofs.Walking.{Beside}
 
 -- ---- a record that closes keeps its epochs
@@ -245,3 +248,39 @@ side_clears n ns cause diagnostic q m it ls bs b there s = by_held s.held
 -- a side whose channel is said to be over rests
 pub side_rests : (n : ℕ) (ns : List Note) (acts : List Act) (x : Place) (m : ℕ) (it : RecordValue) (ls : List SwitchLine) (bs : Books) → IsOver n ns x → Side n ns bs x m it → Rests m it (books_after_all acts (layers_of ls) bs x.line)
 side_rests n ns acts x m it ls bs o s = books_rest acts (layers_of ls) bs x.line m it (record { there = s.there; not_present = elim s.held [ inl h ↦ h.1 | inr h ↦ absurd (h.0 o) ] })
+
+-- ---- a call that came in elsewhere
+
+clear_slot : (y : Role) (c d : ℕ) (b : Book) → (y ≡ Dce → c ≢ d) → slot_at y c (closes Dce d b) ≡ slot_at y c b
+clear_slot Dce c d b h = closed_else Dce d b c (h refl)
+clear_slot Dte c d b h = slot_changed Dte c (slot_at Dce d b).present with_closed b
+
+refused_slot : (y : Role) (c d : ℕ) (o : Option Refusal) (b : Book) → (y ≡ Dce → c ≢ d) → slot_at y c (unless_refused o (closes Dce d b) b) ≡ slot_at y c b
+refused_slot y c d None b h = clear_slot y c d b h
+refused_slot y c d (Some r) b h = refl
+
+line_slot : (cause diagnostic : ℕ) (y : Role) (c : ℕ) (q : Place) (o : Option Layer) (b : Book) → (y ≡ Dce → c ≢ q.channel) → slot_at y c (writes_at (Clears cause diagnostic q) o b) ≡ slot_at y c b
+line_slot cause diagnostic y c q None b h = refl
+line_slot cause diagnostic y c q (Some l) b h = refused_slot y c q.channel (request_refusal l q.channel (Clearing cause diagnostic)) b h
+
+cleared_slot : (cause diagnostic : ℕ) (y : Role) (q x : Place) (ls : List SwitchLine) (bs : Books) → same_place x q ≡ false → slot_at y x.channel (books_by (Asks q (Clearing cause diagnostic)) ls bs x.line) ≡ slot_at y x.channel (bs x.line)
+cleared_slot cause diagnostic y q x ls bs f =
+    elim (apart_by x q f) [
+      | inl ne ↦ ap (λ (b : Book). slot_at y x.channel b) ((clear_touches cause diagnostic q ls bs).others x.line ne)
+      | inr h ↦
+          ap (λ (v : Bool). slot_at y x.channel (if v then writes_at (Clears cause diagnostic q) (slice_get (layers_of ls) x.line) (bs x.line) else bs x.line)) (eq-eqb x.line q.line h.0)
+          ∙ line_slot cause diagnostic y x.channel q (slice_get (layers_of ls) x.line) (bs x.line) (λ e. h.1)
+    ]
+
+pub came_stays : (cause diagnostic : ℕ) (q x : Place) (parts : CallParts) (ls : List SwitchLine) (bs : Books) → same_place x q ≡ false → AreApart (bs q.line) → CameIn x parts bs → CameIn x parts (books_by (Asks q (Clearing cause diagnostic)) ls bs)
+came_stays cause diagnostic q x parts ls bs f a i = record {
+  number = i.number;
+  caller = i.caller;
+  present = ap (λ (s : Slot). s.present) (cleared_slot cause diagnostic Dce q x ls bs f) ∙ i.present;
+  came = ap (λ (s : Slot). s.caller) (cleared_slot cause diagnostic Dce q x ls bs f) ∙ i.came;
+  last = ap (λ (s : Slot). s.placed) (cleared_slot cause diagnostic Dte q x ls bs f) ∙ i.last;
+  it = i.it;
+  there = elsewhere q x i.number i.it bs (books_by (Asks q (Clearing cause diagnostic)) ls bs) f (clear_touches cause diagnostic q ls bs) a i.there (inr i.present);
+  own = i.own;
+  far = i.far;
+}

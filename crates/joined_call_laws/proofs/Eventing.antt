@@ -64,6 +64,13 @@ use Rattle.joined_call_laws.proofs.Steady.{shape, ended_same}
 use Rattle.joined_call_laws.proofs.Closing.{SameEpochs, epochs_itself, relayed_same, closed_none, RestsWith, records_at}
 use Rattle.joined_call_laws.proofs.Telling.{IsClosing}
 use Rattle.joined_call_laws.proofs.Answering.{record_call}
+use Rattle.joined_call_laws.proofs.Following.{KeptQuietly, KeptJoining, And, step_quiet, steps_keep, steadies_place_none}
+use Rattle.switch_laws.specs.Turn.{AreOctets}
+use Rattle.lapb.specs.Machine.{Octets}
+use Rattle.std.proofs.Common.{append-nil}
+use Rattle.switch_record_laws.specs.Kept.{Partners, AreKept, partners_after, partners_after_all, IsFit, AreFit, ReadsOctets}
+use Rattle.switch_record_laws.proofs.Stepping.{steps_kept}
+use Rattle.switch_record_laws.proofs.Calming.{Addressed, addressed, addressed_then, calm_fit, heeded_calm}
 use Rattle.joined_call_laws.proofs.Acting.{closed_epochs, closing_only}
 use Rattle.joined_call_laws.specs.Calls.{JoinedCall, books_by, books_by_all, AreCalls}
 use Rattle.joined_call_laws.proofs.Steady.{Mutual, switch_mutual, IsMildAct, acts_slots, books_rest, every_map, calls_same, AreSteady, steady_same, steady_then, steadies_same, steadies_none, rounds_steady}
@@ -72,147 +79,178 @@ use Rattle.joined_call_laws.proofs.Acting.{heeded_walk}
 
 -- ---- a switch at which all is right
 
--- its joins hold, its present records are its legs, and these are the joined calls
+-- its joins hold, its lines are kept, its present records are its legs, and these are the joined calls
 pub record Good (ls : List SwitchLine) (bs : Books) (cs : List JoinedCall) : Type 0 where
   pub legs : World
   pub switch : IsSwitch ls legs
   pub records : HaveRecords (layers_of ls) legs bs
   pub calls : AreCalls ls bs cs
-
--- steps after which the joins hold, and the calls are as they lead to
-good_after : (steps : List Step) (ls ms : List SwitchLine) (bs : Books) (cs : List JoinedCall) (w : World) → IsSwitch ls w → HaveRecords (layers_of ls) w bs → Becomes (acts_of_all steps ls) ls w ms → Walked AreCalls steps ls bs cs ms
-    → Walked Good steps ls bs cs ms
-good_after steps ls ms bs cs w i h b a = record {
-  after = a.after;
-  new = a.new;
-  leads = a.leads;
-  holds = record {
-    legs = b.world;
-    switch = b.right;
-    records = subst (λ (x : Books). HaveRecords (layers_of ms) b.world x) (sym (books_are steps ls bs) ∙ a.leads.books)
-        (subst (λ (ys : List Layer). HaveRecords ys b.world (books_after_all (acts_of_all steps ls) (layers_of ls) bs)) (sym b.reached.layers)
-        (subst (λ (v : World). HaveRecords (after_acts (acts_of_all steps ls) (layers_of ls)) v (books_after_all (acts_of_all steps ls) (layers_of ls) bs)) (sym b.reached.legs)
-        (acts_write (acts_of_all steps ls) (layers_of ls) w bs b.reached.may i.world h)));
-    calls = a.holds;
-  };
-}
-
--- ---- what happens on a line
-
-acted_walk : (routes : RouteMap) (n : ℕ) (what : Happening) (ls : List SwitchLine) (w : World) (bs : Books) (cs : List JoinedCall) → IsSwitch ls w → HaveRecords (layers_of ls) w bs → AreCalls ls bs cs
-    → ((line : SwitchLine) → slice_get ls n ≡ Some line → EndEffect n what line.end) → Walked AreCalls (acted_steps routes n what ls) ls bs cs (acted routes n (does what) ls)
-acted_walk routes n what ls w bs cs i h a eff = by_line (slice_get ls n) refl
-  where
-    g : SwitchLine → SwitchLine
-    g = with_end (λ e. does what (quieted e))
-
-    l1 : List SwitchLine
-    l1 = changed n g ls
-
-    ms : List SwitchLine
-    ms = lines_after (Happens n what) ls
-
-    first : Walked AreCalls (heed_all_steps routes n (notes_of (slice_get l1 n)) ms) ms (books_by (Happens n what) ls bs) cs (acted routes n (does what) ls) → Walked AreCalls (acted_steps routes n what ls) ls bs cs (acted routes n (does what) ls)
-    first x = record { after = x.after; new = x.new; leads = leads_first (Happens n what) (heed_all_steps routes n (notes_of (slice_get l1 n)) ms) ls bs (acted routes n (does what) ls) x.after x.new x.leads; holds = x.holds }
-
-    by_line : (o : Option SwitchLine) → slice_get ls n ≡ o → Walked AreCalls (acted_steps routes n what ls) ls bs cs (acted routes n (does what) ls)
-    by_line (Some line) e =
-        first (subst (λ (o : Option SwitchLine). Walked AreCalls (heed_all_steps routes n (notes_of o) ms) ms (books_by (Happens n what) ls bs) cs (heed_all routes n (notes_of o) ms)) (sym (got_changed n g ls line e))
-        (heeded_walk routes n what ls w bs cs i h a line e (eff line e)))
-    by_line None e =
-        let gone : slice_get l1 n ≡ None = ap (λ (ks : List SwitchLine). slice_get ks n) (changed_none n g ls e) ∙ e in
-        let same : ms ≡ ls = changed_none n (with_end without_notes) l1 gone ∙ changed_none n g ls e in
-        first (subst (λ (o : Option SwitchLine). Walked AreCalls (heed_all_steps routes n (notes_of o) ms) ms (books_by (Happens n what) ls bs) cs (heed_all routes n (notes_of o) ms)) (sym gone)
-        (walked_quiet AreCalls [] ms (books_by (Happens n what) ls bs) cs ms refl refl
-        (subst (λ (ks : List SwitchLine). AreCalls ks (books_by (Happens n what) ls bs) cs) (sym same) (calls_same ls ls bs (books_by (Happens n what) ls bs) cs (switch_mutual ls w i) (record {
-          joins = λ x. refl;
-          slots = λ x j f. acts_slots (acts_of (Happens n what) ls) (layers_of ls) bs x (subst (λ (o : Option SwitchLine). Every IsMildAct (Act.Reads n ∷ on_line (λ y. happening_acts n what y) o)) (sym e) (tt, tt));
-          rests = λ k m r s. books_rest (acts_of (Happens n what) ls) (layers_of ls) bs k m r s;
-        }) a))))
-
-acted_good : (routes : RouteMap) (n : ℕ) (what : Happening) (ls : List SwitchLine) (bs : Books) (cs : List JoinedCall) → ((line : SwitchLine) → slice_get ls n ≡ Some line → EndEffect n what line.end) → Good ls bs cs
-    → Walked Good (acted_steps routes n what ls) ls bs cs (acted routes n (does what) ls)
-acted_good routes n what ls bs cs eff x =
-    good_after (acted_steps routes n what ls) ls (acted routes n (does what) ls) bs cs x.legs x.switch x.records (acted_right routes n what ls x.legs x.switch eff) (acted_walk routes n what ls x.legs bs cs x.switch x.records x.calls eff)
-
--- ---- the end of an event
-
-relinked_good : (o : Option ℕ) (routes : RouteMap) (ls : List SwitchLine) (bs : Books) (cs : List JoinedCall) → Good ls bs cs → Walked Good (relinked_steps o routes ls) ls bs cs (relinked_at o routes ls)
-relinked_good None routes ls bs cs x = walked_quiet Good [] ls bs cs ls refl refl x
-relinked_good (Some n) routes ls bs cs x = acted_good routes n Relinks ls bs cs (λ line e. relinked_effect n line.end) x
-
-all_relinked_good : (most : ℕ) (routes : RouteMap) (ls : List SwitchLine) (bs : Books) (cs : List JoinedCall) → Good ls bs cs → Walked Good (all_relinked_steps most routes ls) ls bs cs (all_relinked most routes ls)
-all_relinked_good zero routes ls bs cs x = walked_quiet Good [] ls bs cs ls refl refl x
-all_relinked_good (suc most) routes ls bs cs x =
-    let ms = relinked_at (to_relink ls) routes ls in
-    walked_then Good Good (relinked_steps (to_relink ls) routes ls) (all_relinked_steps most routes ms) ls ms (all_relinked most routes ms) bs cs (relinked_good (to_relink ls) routes ls bs cs x) (λ after all y. all_relinked_good most routes ms after all y)
-
--- steps that end no call and begin none
-steady_walk : (steps : List Step) (ls ms : List SwitchLine) (bs : Books) (cs : List JoinedCall) → lines_after_all steps ls ≡ ms → AreSteady steps ls → Mutual ls → AreCalls ls bs cs → Walked AreCalls steps ls bs cs ms
-steady_walk steps ls ms bs cs e s m a =
-    walked_quiet AreCalls steps ls bs cs ms e (steadies_none steps ls bs s)
-    (subst (λ (ks : List SwitchLine). AreCalls ks (books_by_all steps ls bs) cs) e (calls_same ls (lines_after_all steps ls) bs (books_by_all steps ls bs) cs m (steadies_same steps ls bs s) a))
-
-finished_walk : (routes : RouteMap) (n : ℕ) (ls : List SwitchLine) (bs : Books) (cs : List JoinedCall) → Good ls bs cs → Walked AreCalls (finished_steps routes n ls) ls bs cs (finished routes n ls)
-finished_walk routes n ls bs cs x =
-    let ks = all_relinked (length ls) routes ls in
-    let first = lines_first n routes ls in
-    let last = rounds_steps (7 * length ks) first ks in
-    walked_then Good AreCalls (all_relinked_steps (length ls) routes ls) (last ++ Settles ∷ []) ls ks (finished routes n ls) bs cs (all_relinked_good (length ls) routes ls bs cs x)
-    (λ after all y.
-    let m = switch_mutual ks y.legs y.switch in
-    let lines : lines_after_all (last ++ Settles ∷ []) ks ≡ finished routes n ls = (leads_then last (Settles ∷ []) ks (rounds (7 * length ks) first ks) (finished routes n ls) after (books_by_all last ks after) _ _ _
-    (record { lines = rounds_leads (7 * length ks) first ks; books = refl; calls = refl }) (record { lines = refl; books = refl; calls = refl })).lines in
-    steady_walk (last ++ Settles ∷ []) ks (finished routes n ls) after all lines (steady_then last (Settles ∷ []) ks (rounds (7 * length ks) first ks) (rounds_leads (7 * length ks) first ks) (rounds_steady (7 * length ks) first ks) (tt, tt)) m y.calls)
-
--- ---- events
-
-begun_calls : (ls : List SwitchLine) (w : World) (bs : Books) (cs : List JoinedCall) → IsSwitch ls w → AreCalls ls bs cs → AreCalls (all_begun ls) bs cs
-begun_calls ls w bs cs i a = calls_same ls (all_begun ls) bs bs cs (switch_mutual ls w i) (steady_same Begins ls bs tt) a
+  pub partners : Partners
+  pub kept : AreKept partners bs ls
+  pub addresses : Addressed ls
 
 begun_records : (ls : List SwitchLine) (w : World) (bs : Books) → HaveRecords (layers_of ls) w bs → HaveRecords (layers_of (all_begun ls)) w bs
 begun_records ls w bs h = subst (λ (ys : List Layer). HaveRecords ys w bs) (sym (layers_on_ends begun ls (λ e. refl))) h
 
-event_walk : (n : ℕ) (what : Happening) (s : Switch) (w : World) (bs : Books) (cs : List JoinedCall) → ((line : SwitchLine) → slice_get (all_begun s.lines) n ≡ Some line → EndEffect n what line.end)
-    → IsSwitch s.lines w → IsSwitch (all_begun s.lines) w → HaveRecords (layers_of s.lines) w bs → AreCalls s.lines bs cs
-    → Walked AreCalls (event_steps s.routes n what s.lines) s.lines bs cs (finished s.routes n (acted s.routes n (does what) (all_begun s.lines)))
-event_walk n what s w bs cs eff i j h a =
-    let ls = all_begun s.lines in
-    let ms = acted s.routes n (does what) ls in
-    let x : Walked AreCalls (acted_steps s.routes n what ls ++ finished_steps s.routes n ms) ls bs cs (finished s.routes n ms) =
-    walked_then Good AreCalls (acted_steps s.routes n what ls) (finished_steps s.routes n ms) ls ms (finished s.routes n ms) bs cs
-    (acted_good s.routes n what ls bs cs eff (record { legs = w; switch = j; records = begun_records s.lines w bs h; calls = begun_calls s.lines w bs cs i a }))
-    (λ after all y. finished_walk s.routes n ms after all y) in
-    record { after = x.after; new = x.new; leads = leads_first Begins (acted_steps s.routes n what ls ++ finished_steps s.routes n ms) s.lines bs (finished s.routes n ms) x.after x.new x.leads; holds = x.holds }
+module _ (routes : RouteMap) (R : Books → List JoinedCall → Type 0) (keeps : KeptQuietly R) (joins : KeptJoining routes R) where
+  -- steps after which the joins hold, and the calls are as they lead to
+  good_after : (steps : List Step) (ls ms : List SwitchLine) (bs : Books) (cs : List JoinedCall) (x : Good ls bs cs) → AreFit steps x.partners → Becomes (acts_of_all steps ls) ls x.legs ms → Walked (And AreCalls R) steps ls bs cs ms
+      → Walked (And Good R) steps ls bs cs ms
+  good_after steps ls ms bs cs x fits b a = record {
+    after = a.after;
+    new = a.new;
+    leads = a.leads;
+    holds = (record {
+      legs = b.world;
+      switch = b.right;
+      records = subst (λ (y : Books). HaveRecords (layers_of ms) b.world y) same
+          (subst (λ (ys : List Layer). HaveRecords ys b.world (books_after_all (acts_of_all steps ls) (layers_of ls) bs)) (sym b.reached.layers)
+          (subst (λ (v : World). HaveRecords (after_acts (acts_of_all steps ls) (layers_of ls)) v (books_after_all (acts_of_all steps ls) (layers_of ls) bs)) (sym b.reached.legs)
+          (acts_write (acts_of_all steps ls) (layers_of ls) x.legs bs b.reached.may x.switch.world x.records)));
+      calls = a.holds.0;
+      partners = partners_after_all steps x.partners;
+      kept = subst (λ (y : Books). AreKept (partners_after_all steps x.partners) y ms) same
+          (subst (λ (ks : List SwitchLine). AreKept (partners_after_all steps x.partners) (books_after_all (acts_of_all steps ls) (layers_of ls) bs) ks) a.leads.lines (steps_kept steps x.partners bs ls fits x.kept));
+      addresses = addressed_then steps ls ms a.leads.lines x.addresses;
+    }, a.holds.1);
+  }
+    where
+      same : books_after_all (acts_of_all steps ls) (layers_of ls) bs ≡ a.after
+      same = sym (books_are steps ls bs) ∙ a.leads.books
+
+  -- ---- what happens on a line
+
+  acted_walk : (n : ℕ) (what : Happening) (ls : List SwitchLine) (bs : Books) (cs : List JoinedCall) (x : Good ls bs cs) → IsFit (Happens n what) x.partners → R bs cs
+      → ((line : SwitchLine) → slice_get ls n ≡ Some line → EndEffect n what line.end) → Walked (And AreCalls R) (acted_steps routes n what ls) ls bs cs (acted routes n (does what) ls)
+  acted_walk n what ls bs cs x fits r eff = by_line (slice_get ls n) refl
+    where
+      g : SwitchLine → SwitchLine
+      g = with_end (λ e. does what (quieted e))
+
+      l1 : List SwitchLine
+      l1 = changed n g ls
+
+      ms : List SwitchLine
+      ms = lines_after (Happens n what) ls
+
+      first : Walked (And AreCalls R) (heed_all_steps routes n (notes_of (slice_get l1 n)) ms) ms (books_by (Happens n what) ls bs) cs (acted routes n (does what) ls) → Walked (And AreCalls R) (acted_steps routes n what ls) ls bs cs (acted routes n (does what) ls)
+      first y = record { after = y.after; new = y.new; leads = leads_first (Happens n what) (heed_all_steps routes n (notes_of (slice_get l1 n)) ms) ls bs (acted routes n (does what) ls) y.after y.new y.leads; holds = y.holds }
+
+      then_kept : AreKept (partners_after (Happens n what) x.partners) (books_by (Happens n what) ls bs) ms
+      then_kept = subst (λ (as_ : List Act). AreKept (partners_after (Happens n what) x.partners) (books_after_all as_ (layers_of ls) bs) ms) (append-nil (acts_of (Happens n what) ls)) (steps_kept (Happens n what ∷ []) x.partners bs ls (fits, tt) x.kept)
+
+      by_line : (o : Option SwitchLine) → slice_get ls n ≡ o → Walked (And AreCalls R) (acted_steps routes n what ls) ls bs cs (acted routes n (does what) ls)
+      by_line (Some line) e =
+          first (subst (λ (o : Option SwitchLine). Walked (And AreCalls R) (heed_all_steps routes n (notes_of o) ms) ms (books_by (Happens n what) ls bs) cs (heed_all routes n (notes_of o) ms)) (sym (got_changed n g ls line e))
+          (heeded_walk routes n what ls x.legs bs cs x.switch x.records x.calls line e (eff line e) R keeps joins r (partners_after (Happens n what) x.partners) then_kept))
+      by_line None e =
+          let gone : slice_get l1 n ≡ None = ap (λ (ks : List SwitchLine). slice_get ks n) (changed_none n g ls e) ∙ e in
+          let same : ms ≡ ls = changed_none n (with_end without_notes) l1 gone ∙ changed_none n g ls e in
+          first (subst (λ (o : Option SwitchLine). Walked (And AreCalls R) (heed_all_steps routes n (notes_of o) ms) ms (books_by (Happens n what) ls bs) cs (heed_all routes n (notes_of o) ms)) (sym gone)
+          (walked_quiet (And AreCalls R) [] ms (books_by (Happens n what) ls bs) cs ms refl refl
+          (subst (λ (ks : List SwitchLine). AreCalls ks (books_by (Happens n what) ls bs) cs) (sym same) (calls_same ls ls bs (books_by (Happens n what) ls bs) cs (switch_mutual ls x.legs x.switch) (record {
+            joins = λ y. refl;
+            slots = λ y j f. acts_slots (acts_of (Happens n what) ls) (layers_of ls) bs y (subst (λ (o : Option SwitchLine). Every IsMildAct (Act.Reads n ∷ on_line (λ z. happening_acts n what z) o)) (sym e) (tt, tt));
+            rests = λ k m rec s. books_rest (acts_of (Happens n what) ls) (layers_of ls) bs k m rec s;
+          }) x.calls), keeps (acts_of (Happens n what) ls) (layers_of ls) bs cs (step_quiet (Happens n what) ls tt) r)))
+
+  acted_good : (n : ℕ) (what : Happening) (ls : List SwitchLine) (bs : Books) (cs : List JoinedCall) → ((line : SwitchLine) → slice_get ls n ≡ Some line → EndEffect n what line.end) → ReadsOctets what → (x : Good ls bs cs) → IsFit (Happens n what) x.partners → R bs cs
+      → Walked (And Good R) (acted_steps routes n what ls) ls bs cs (acted routes n (does what) ls)
+  acted_good n what ls bs cs eff reads x fits r =
+      good_after (acted_steps routes n what ls) ls (acted routes n (does what) ls) bs cs x (fits, calm_fit _ (partners_after (Happens n what) x.partners) (heeded_calm routes n what ls reads x.addresses))
+      (acted_right routes n what ls x.legs x.switch eff) (acted_walk n what ls bs cs x fits r eff)
+
+  -- ---- the end of an event
+
+  relinked_good : (o : Option ℕ) (ls : List SwitchLine) (bs : Books) (cs : List JoinedCall) → And Good R ls bs cs → Walked (And Good R) (relinked_steps o routes ls) ls bs cs (relinked_at o routes ls)
+  relinked_good None ls bs cs x = walked_quiet (And Good R) [] ls bs cs ls refl refl x
+  relinked_good (Some n) ls bs cs x = acted_good n Relinks ls bs cs (λ line e. relinked_effect n line.end) tt x.0 tt x.1
+
+  all_relinked_good : (most : ℕ) (ls : List SwitchLine) (bs : Books) (cs : List JoinedCall) → And Good R ls bs cs → Walked (And Good R) (all_relinked_steps most routes ls) ls bs cs (all_relinked most routes ls)
+  all_relinked_good zero ls bs cs x = walked_quiet (And Good R) [] ls bs cs ls refl refl x
+  all_relinked_good (suc most) ls bs cs x =
+      let ms = relinked_at (to_relink ls) routes ls in
+      walked_then (And Good R) (And Good R) (relinked_steps (to_relink ls) routes ls) (all_relinked_steps most routes ms) ls ms (all_relinked most routes ms) bs cs (relinked_good (to_relink ls) ls bs cs x) (λ after all y. all_relinked_good most ms after all y)
+
+  -- steps that end no call and begin none
+  steady_walk : (steps : List Step) (ls ms : List SwitchLine) (bs : Books) (cs : List JoinedCall) → lines_after_all steps ls ≡ ms → AreSteady steps ls → Mutual ls → AreCalls ls bs cs → R bs cs → Walked (And AreCalls R) steps ls bs cs ms
+  steady_walk steps ls ms bs cs e s m a r =
+      walked_quiet (And AreCalls R) steps ls bs cs ms e (steadies_none steps ls bs s)
+      (subst (λ (ks : List SwitchLine). AreCalls ks (books_by_all steps ls bs) cs) e (calls_same ls (lines_after_all steps ls) bs (books_by_all steps ls bs) cs m (steadies_same steps ls bs s) a), steps_keep R keeps steps ls bs cs (steadies_place_none steps ls s) r)
+
+  finished_walk : (n : ℕ) (ls : List SwitchLine) (bs : Books) (cs : List JoinedCall) → And Good R ls bs cs → Walked (And AreCalls R) (finished_steps routes n ls) ls bs cs (finished routes n ls)
+  finished_walk n ls bs cs x =
+      let ks = all_relinked (length ls) routes ls in
+      let first = lines_first n routes ls in
+      let last = rounds_steps (7 * length ks) first ks in
+      walked_then (And Good R) (And AreCalls R) (all_relinked_steps (length ls) routes ls) (last ++ Settles ∷ []) ls ks (finished routes n ls) bs cs (all_relinked_good (length ls) ls bs cs x)
+      (λ after all y.
+      let m = switch_mutual ks y.0.legs y.0.switch in
+      let lines : lines_after_all (last ++ Settles ∷ []) ks ≡ finished routes n ls = (leads_then last (Settles ∷ []) ks (rounds (7 * length ks) first ks) (finished routes n ls) after (books_by_all last ks after) _ _ _
+      (record { lines = rounds_leads (7 * length ks) first ks; books = refl; calls = refl }) (record { lines = refl; books = refl; calls = refl })).lines in
+      steady_walk (last ++ Settles ∷ []) ks (finished routes n ls) after all lines (steady_then last (Settles ∷ []) ks (rounds (7 * length ks) first ks) (rounds_leads (7 * length ks) first ks) (rounds_steady (7 * length ks) first ks) (tt, tt)) m y.0.calls y.1)
+
+  -- ---- events
+
+  event_walk : (n : ℕ) (what : Happening) (s : Switch) (bs : Books) (cs : List JoinedCall) → s.routes ≡ routes → ((line : SwitchLine) → slice_get (all_begun s.lines) n ≡ Some line → EndEffect n what line.end) → ReadsOctets what
+      → (x : Good (all_begun s.lines) bs cs) → IsFit (Happens n what) x.partners → R bs cs
+      → Walked (And AreCalls R) (event_steps s.routes n what s.lines) s.lines bs cs (finished s.routes n (acted s.routes n (does what) (all_begun s.lines)))
+  event_walk n what s bs cs same eff reads x fits r =
+      let ls = all_begun s.lines in
+      let ms = acted routes n (does what) ls in
+      let y : Walked (And AreCalls R) (acted_steps routes n what ls ++ finished_steps routes n ms) ls bs cs (finished routes n ms) =
+      walked_then (And Good R) (And AreCalls R) (acted_steps routes n what ls) (finished_steps routes n ms) ls ms (finished routes n ms) bs cs
+      (acted_good n what ls bs cs eff reads x fits r) (λ after all z. finished_walk n ms after all z) in
+      subst (λ (rs : RouteMap). Walked (And AreCalls R) (event_steps rs n what s.lines) s.lines bs cs (finished rs n (acted rs n (does what) ls))) (sym same)
+      (record { after = y.after; new = y.new; leads = leads_first Begins (acted_steps routes n what ls ++ finished_steps routes n ms) s.lines bs (finished routes n ms) y.after y.new y.leads; holds = y.holds })
 
 -- ---- of a switch that is kept
 
-calls_after : (n : ℕ) (what : Happening) (s t : Switch) (h : Histories) (cs : List JoinedCall) → t.lines ≡ finished s.routes n (acted s.routes n (does what) (all_begun s.lines))
-    → ((line : SwitchLine) → slice_get (all_begun s.lines) n ≡ Some line → EndEffect n what line.end) → IsTied s h → AreCalls s.lines h.books cs → AreCalls t.lines (happened n what s h).books (cs ++ calls_in n what s h)
-calls_after n what s t h cs is eff i a =
-    let b = begun_right s.lines h.legs i.holds.joins in
-    let begun_switch : IsSwitch (all_begun s.lines) h.legs = subst (λ (v : World). IsSwitch (all_begun s.lines) v) b.reached.legs b.right in
-    let x = event_walk n what s h.legs h.books cs eff i.holds.joins begun_switch i.records a in
-    let ss = event_steps s.routes n what s.lines in
-    subst (λ (ms : List SwitchLine). AreCalls ms (happened n what s h).books (cs ++ calls_in n what s h)) (sym is)
-    (subst (λ (new : List JoinedCall). AreCalls (finished s.routes n (acted s.routes n (does what) (all_begun s.lines))) (happened n what s h).books (cs ++ new)) (sym x.leads.calls)
-    (subst (λ (y : Books). AreCalls (finished s.routes n (acted s.routes n (does what) (all_begun s.lines))) y (cs ++ x.new)) (sym x.leads.books ∙ books_are ss s.lines h.books) x.holds))
+module _ (R : Books → List JoinedCall → Type 0) (keeps : KeptQuietly R) where
+  -- the calls after an event, and what is kept beside them
+  pub calls_after : (n : ℕ) (what : Happening) (s t : Switch) (h : Histories) (cs : List JoinedCall) → KeptJoining s.routes R → t.lines ≡ finished s.routes n (acted s.routes n (does what) (all_begun s.lines))
+      → ((line : SwitchLine) → slice_get (all_begun s.lines) n ≡ Some line → EndEffect n what line.end) → ReadsOctets what → IsFit (Happens n what) h.partners → IsTied s h → AreCalls s.lines h.books cs → R h.books cs
+      → And AreCalls R t.lines (happened n what s h).books (cs ++ calls_in n what s h)
+  calls_after n what s t h cs joins is eff reads fits i a r =
+      let b = begun_right s.lines h.legs i.holds.joins in
+      let ls = all_begun s.lines in
+      let begun_good : Good ls h.books cs = record {
+        legs = h.legs;
+        switch = subst (λ (v : World). IsSwitch ls v) b.reached.legs b.right;
+        records = begun_records s.lines h.legs h.books i.records;
+        calls = calls_same s.lines ls h.books h.books cs (switch_mutual s.lines h.legs i.holds.joins) (steady_same Begins s.lines h.books tt) a;
+        partners = h.partners;
+        kept = steps_kept (Begins ∷ []) h.partners h.books s.lines (tt, tt) i.kept;
+        addresses = addressed_then (Begins ∷ []) s.lines ls refl (addressed s.lines i.addresses);
+      } in
+      let x = event_walk s.routes R keeps joins n what s h.books cs refl eff reads begun_good fits r in
+      let ss = event_steps s.routes n what s.lines in
+      subst (λ (ms : List SwitchLine). And AreCalls R ms (happened n what s h).books (cs ++ calls_in n what s h)) (sym is)
+      (subst (λ (new : List JoinedCall). And AreCalls R (finished s.routes n (acted s.routes n (does what) ls)) (happened n what s h).books (cs ++ new)) (sym x.leads.calls)
+      (subst (λ (y : Books). And AreCalls R (finished s.routes n (acted s.routes n (does what) ls)) y (cs ++ x.new)) (sym x.leads.books ∙ books_are ss s.lines h.books) x.holds))
 
 begun_line : (n : ℕ) (ls : List SwitchLine) (line : SwitchLine) → slice_get (all_begun ls) n ≡ Some line → (old : SwitchLine) × ((slice_get ls n ≡ Some old) × (with_end begun old ≡ line))
 begun_line n [] line e = absurd (none-some line e)
 begun_line zero (l ∷ ls) line e = (l, (refl, same_Some _ line e))
 begun_line (suc n) (l ∷ ls) line e = begun_line n ls line e
 
+pub frame_effect : (n : ℕ) (octets : Octets) (ls : List SwitchLine) → AreOctets octets → (line : SwitchLine) → slice_get (all_begun ls) n ≡ Some line → EndEffect n (Brings octets) line.end
+frame_effect n octets ls are line e =
+    let old = begun_line n ls line e in
+    received_effect n octets line.end (subst (λ (l : SwitchLine). ReadsNumbers (link_octets.on_octets l.end.line.link octets).accepted) old.1.1 (readable n octets ls are old.0 old.1.0))
+
+nothing_beside : Books → List JoinedCall → Type 0
+nothing_beside bs cs = Unit {0}
+
 frame_calls : FrameCalls
-frame_calls n octets s h cs are first i a = calls_after n (Brings octets) s (on_frame n octets s) h cs refl eff i a
-  where
-    eff : (line : SwitchLine) → slice_get (all_begun s.lines) n ≡ Some line → EndEffect n (Brings octets) line.end
-    eff line e =
-        let old = begun_line n s.lines line e in
-        received_effect n octets line.end (subst (λ (l : SwitchLine). ReadsNumbers (link_octets.on_octets l.end.line.link octets).accepted) old.1.1 (readable n octets s.lines are old.0 old.1.0))
+unfolding nothing_beside
+frame_calls n octets s h cs are first i a =
+    (calls_after nothing_beside (λ acts ys bs ds q r. tt) n (Brings octets) s (on_frame n octets s) h cs (λ p q parts ls bs ds j r. tt) refl (frame_effect n octets s.lines are) are first i a tt).0
 
 timer_calls : TimerCalls
-timer_calls n id s h cs i a = calls_after n (RunsOut id) s (on_timer n id s) h cs refl (λ line e. timer_effect n id line.end) i a
+unfolding nothing_beside
+timer_calls n id s h cs i a =
+    (calls_after nothing_beside (λ acts ys bs ds q r. tt) n (RunsOut id) s (on_timer n id s) h cs (λ p q parts ls bs ds j r. tt) refl (λ line e. timer_effect n id line.end) tt tt i a tt).0
 
 -- ---- the others
 

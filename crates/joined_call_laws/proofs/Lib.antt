@@ -1,5 +1,6 @@
 pub mod Steady
 pub mod Walking
+pub mod Following
 pub mod Closing
 pub mod Telling
 pub mod Answering

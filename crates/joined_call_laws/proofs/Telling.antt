@@ -2,7 +2,7 @@
 use Rattle.std.specs.Prelude.{◌≡◌, ℕ, ◌⊎◌, true, false, List, [], ◌∷◌, slice_get, Option, Some, None, is_some}
 use Rattle.std.proofs.Common.{inl, inr, refl, sym, ap, subst, ◌∙◌, true≢false}
 use Rattle.std.proofs.lemmas.Option.{none-some, same_Some}
-use Rattle.packet_layer.specs.Packets.{Note, Reason}
+use Rattle.packet_layer.specs.Packets.{CallParts, Note, Reason}
 use Rattle.packet_layer.specs.Packets.Note.{Incoming, Connected, Closed, WasReset, InterruptConfirmed, Covered}
 use Rattle.packet_layer.specs.Channel.{Request}
 use Rattle.packet_layer.specs.Channel.Request.{Clearing}
@@ -27,7 +27,8 @@ use Rattle.switch_record_laws.specs.Relayed.{AreRelayed}
 use Rattle.joined_call_laws.specs.Calls.{JoinedCall, present_at, books_by, Stands, HasEnded, AreCalls}
 use Rattle.joined_call_laws.proofs.Steady.{Paired, Mutual, HavePlaces, books_rest, every_map, ended_same}
 use Rattle.joined_call_laws.proofs.Walking.{Beside, beside_step, there_step, Walked, walked_then, walked_quiet}
-use Rattle.joined_call_laws.proofs.Closing.{epochs_itself, relayed_same, Side, Held, RestsWith, clear_touches, touched_slot, side_stays, side_clears, side_rests, records_at}
+use Rattle.joined_call_laws.proofs.Following.{CameIn, KeptQuietly, And, steps_keep}
+use Rattle.joined_call_laws.proofs.Closing.{epochs_itself, relayed_same, Side, Held, RestsWith, side_stays, came_stays, side_clears, side_rests, records_at}
 
 -- ---- the joined calls while notes of line n are still to be told
 
@@ -231,9 +232,9 @@ module _ (n c cause diagnostic : ℕ) (reason : Reason) (ns : List Note) (ls : L
         (k.0, k.1, k.2, stays_in_hand k.1 (subst (λ (y : Place). same_place y p ≡ false) (sym k.4) o.not_p) (subst (λ (y : Place). same_place y q ≡ false) (sym k.4) o.not_q) k.3, k.4);
   }
 
-  -- the present record of the channel itself
-  slot_then : present_at p bs' ≡ present_at p bs
-  slot_then = touched_slot q p bs bs' pair.apart (clear_touches (clear_cause reason cause) (far_diagnostic reason diagnostic) q l2 bs)
+  -- a call that came in on the channel itself
+  came_then : (parts : CallParts) → CameIn p parts bs → CameIn p parts bs'
+  came_then parts i = came_stays (clear_cause reason cause) (far_diagnostic reason diagnostic) q p parts l2 bs pair.apart (records_at l2 bs q beside2 q_there).1.1.1.apart i
 
 -- ---- one note
 
@@ -271,42 +272,44 @@ closed_alone n c cause diagnostic reason ns ls bs cs none m = record {
         }
 
 -- what is kept where a note was heeded: the marks, and the present record of its own channel
-pub record Told (n c : ℕ) (ns : List Note) (slot : Option ℕ) (ls : List SwitchLine) (bs : Books) (cs : List JoinedCall) : Type 0 where
+pub record Told (n c : ℕ) (ns : List Note) (before : Books) (ls : List SwitchLine) (bs : Books) (cs : List JoinedCall) : Type 0 where
   pub marks : Marks n ns ls bs cs
   pub alone : joined_at ls (at n c) ≡ None
-  pub same : present_at (at n c) bs ≡ slot
-
-closed_by : (o : Option Joined) (routes : RouteMap) (n c cause diagnostic : ℕ) (reason : Reason) (ns : List Note) (ls : List SwitchLine) (bs : Books) (cs : List JoinedCall) → joined_at ls (at n c) ≡ o
-    → Marks n (Closed c cause diagnostic reason ∷ ns) ls bs cs
-    → Walked (Told n c ns (present_at (at n c) bs)) (told_steps o (Closed c cause diagnostic reason) (at n c) ls) ls bs cs (told_of o (Closed c cause diagnostic reason) (at n c) ls)
-closed_by None routes n c cause diagnostic reason ns ls bs cs e m =
-    walked_quiet (Told n c ns (present_at (at n c) bs)) [] ls bs cs ls refl refl (record { marks = closed_alone n c cause diagnostic reason ns ls bs cs e m; alone = e; same = refl })
-closed_by (Some j) routes n c cause diagnostic reason ns ls bs cs e m =
-    walked_quiet (Told n c ns (present_at (at n c) bs)) (told_steps (Some j) (Closed c cause diagnostic reason) (at n c) ls) ls bs cs _ refl refl
-    (record { marks = marks_then n c cause diagnostic reason ns ls bs cs m j e; alone = p_none n c cause diagnostic reason ns ls bs cs m j e; same = slot_then n c cause diagnostic reason ns ls bs cs m j e })
-
-pub closed_told : (routes : RouteMap) (n c cause diagnostic : ℕ) (reason : Reason) (ns : List Note) (ls : List SwitchLine) (bs : Books) (cs : List JoinedCall) → Marks n (Closed c cause diagnostic reason ∷ ns) ls bs cs
-    → Walked (Told n c ns (present_at (at n c) bs)) (heed_steps routes n (Closed c cause diagnostic reason) ls) ls bs cs (heed routes n (Closed c cause diagnostic reason) ls)
-closed_told routes n c cause diagnostic reason ns ls bs cs m = closed_by (joined_at ls (at n c)) routes n c cause diagnostic reason ns ls bs cs refl m
-
--- ---- all of them
+  pub came : (parts : CallParts) → CameIn (at n c) parts before → CameIn (at n c) parts bs
 
 abbrev pub IsClosing : Note → Type 0
 IsClosing (Closed c cause diagnostic reason) = Unit {0}
 IsClosing note = ⊥
 
-pub closings_told : (routes : RouteMap) (n : ℕ) (ns : List Note) (ls : List SwitchLine) (bs : Books) (cs : List JoinedCall) → Every IsClosing ns → Marks n ns ls bs cs
-    → Walked (Marks n []) (heed_all_steps routes n ns ls) ls bs cs (heed_all routes n ns ls)
-closings_told routes n [] ls bs cs i m = walked_quiet (Marks n []) [] ls bs cs ls refl refl m
-closings_told routes n (Closed c cause diagnostic reason ∷ ns) ls bs cs i m =
-    let first = Closed c cause diagnostic reason in
-    walked_then (Told n c ns (present_at (at n c) bs)) (Marks n []) (heed_steps routes n first ls) (heed_all_steps routes n ns (heed routes n first ls)) ls (heed routes n first ls) _ bs cs
-    (closed_told routes n c cause diagnostic reason ns ls bs cs m) (λ after all t. closings_told routes n ns (heed routes n first ls) after all i.1 t.marks)
-closings_told routes n (Incoming c parts ∷ ns) ls bs cs i m = absurd i.0
-closings_told routes n (Connected c ∷ ns) ls bs cs i m = absurd i.0
-closings_told routes n (WasReset c cause diagnostic reason ∷ ns) ls bs cs i m = absurd i.0
-closings_told routes n (InterruptConfirmed c ∷ ns) ls bs cs i m = absurd i.0
-closings_told routes n (Covered c k ∷ ns) ls bs cs i m = absurd i.0
+module _ (R : Books → List JoinedCall → Type 0) (keeps : KeptQuietly R) where
+  closed_by : (o : Option Joined) (routes : RouteMap) (n c cause diagnostic : ℕ) (reason : Reason) (ns : List Note) (ls : List SwitchLine) (bs : Books) (cs : List JoinedCall) → joined_at ls (at n c) ≡ o
+      → Marks n (Closed c cause diagnostic reason ∷ ns) ls bs cs → R bs cs
+      → Walked (And (Told n c ns bs) R) (told_steps o (Closed c cause diagnostic reason) (at n c) ls) ls bs cs (told_of o (Closed c cause diagnostic reason) (at n c) ls)
+  closed_by None routes n c cause diagnostic reason ns ls bs cs e m r =
+      walked_quiet (And (Told n c ns bs) R) [] ls bs cs ls refl refl (record { marks = closed_alone n c cause diagnostic reason ns ls bs cs e m; alone = e; came = λ parts i. i }, r)
+  closed_by (Some j) routes n c cause diagnostic reason ns ls bs cs e m r =
+      let ss = told_steps (Some j) (Closed c cause diagnostic reason) (at n c) ls in
+      walked_quiet (And (Told n c ns bs) R) ss ls bs cs (told_of (Some j) (Closed c cause diagnostic reason) (at n c) ls) refl refl
+      (record { marks = marks_then n c cause diagnostic reason ns ls bs cs m j e; alone = p_none n c cause diagnostic reason ns ls bs cs m j e; came = came_then n c cause diagnostic reason ns ls bs cs m j e }, steps_keep R keeps ss ls bs cs (tt, (tt, (tt, tt))) r)
+
+  pub closed_told : (routes : RouteMap) (n c cause diagnostic : ℕ) (reason : Reason) (ns : List Note) (ls : List SwitchLine) (bs : Books) (cs : List JoinedCall) → Marks n (Closed c cause diagnostic reason ∷ ns) ls bs cs → R bs cs
+      → Walked (And (Told n c ns bs) R) (heed_steps routes n (Closed c cause diagnostic reason) ls) ls bs cs (heed routes n (Closed c cause diagnostic reason) ls)
+  closed_told routes n c cause diagnostic reason ns ls bs cs m r = closed_by (joined_at ls (at n c)) routes n c cause diagnostic reason ns ls bs cs refl m r
+
+  -- ---- all of them
+
+  pub closings_told : (routes : RouteMap) (n : ℕ) (ns : List Note) (ls : List SwitchLine) (bs : Books) (cs : List JoinedCall) → Every IsClosing ns → Marks n ns ls bs cs → R bs cs
+      → Walked (And (Marks n []) R) (heed_all_steps routes n ns ls) ls bs cs (heed_all routes n ns ls)
+  closings_told routes n [] ls bs cs i m r = walked_quiet (And (Marks n []) R) [] ls bs cs ls refl refl (m, r)
+  closings_told routes n (Closed c cause diagnostic reason ∷ ns) ls bs cs i m r =
+      let first = Closed c cause diagnostic reason in
+      walked_then (And (Told n c ns bs) R) (And (Marks n []) R) (heed_steps routes n first ls) (heed_all_steps routes n ns (heed routes n first ls)) ls (heed routes n first ls) _ bs cs
+      (closed_told routes n c cause diagnostic reason ns ls bs cs m r) (λ after all t. closings_told routes n ns (heed routes n first ls) after all i.1 t.0.marks t.1)
+  closings_told routes n (Incoming c parts ∷ ns) ls bs cs i m r = absurd i.0
+  closings_told routes n (Connected c ∷ ns) ls bs cs i m r = absurd i.0
+  closings_told routes n (WasReset c cause diagnostic reason ∷ ns) ls bs cs i m r = absurd i.0
+  closings_told routes n (InterruptConfirmed c ∷ ns) ls bs cs i m r = absurd i.0
+  closings_told routes n (Covered c k ∷ ns) ls bs cs i m r = absurd i.0
 
 -- ---- none is left to be told
 
