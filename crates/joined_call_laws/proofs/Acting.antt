@@ -55,7 +55,8 @@ use Rattle.switch_record_laws.proofs.Stepping.{step_layers}
 use Rattle.joined_call_laws.specs.Calls.{JoinedCall, present_at, books_by, books_by_all, calls_of_all, Stands, HasEnded, StandsOrEnded, AreCalls}
 use Rattle.joined_call_laws.proofs.Steady.{HavePlaces, shape, Same, Mutual, switch_mutual, books_rest, every_map, ended_same, calls_same, steadies_same, steadies_none, IsPlain, plains_steady}
 use Rattle.joined_call_laws.proofs.Walking.{Beside, beside_step, there_step, there_steps, Leads, leads_then, Walked, walked_then, walked_quiet}
-use Rattle.joined_call_laws.proofs.Following.{CameIn, KeptQuietly, KeptJoining, And, WrittenIn, step_quiet, steps_keep, steadies_place_none, last_written, noted_accepts, lines_answered}
+use Rattle.switch_record_laws.proofs.Calming.{addresses}
+use Rattle.joined_call_laws.proofs.Following.{addresses_led, CameIn, KeptQuietly, KeptJoining, And, WrittenIn, step_quiet, steps_keep, steadies_place_none, last_written, noted_accepts, lines_answered}
 use Rattle.switch_laws.specs.Pairs.{IsNoted}
 use Rattle.switch_record_laws.specs.Opened.{HasSlot}
 use Rattle.switch_record_laws.specs.Kept.{Partners, AreKept}
@@ -200,7 +201,7 @@ heed_all_lines routes n (x ∷ xs) ls bs =
 
 module _ (routes : RouteMap) (n : ℕ) (what : Happening) (ls : List SwitchLine) (w : World) (bs : Books) (cs : List JoinedCall) (i : IsSwitch ls w) (h : HaveRecords (layers_of ls) w bs) (a : AreCalls ls bs cs)
     (line : SwitchLine) (got : slice_get ls n ≡ Some line) (eff : EndEffect n what line.end)
-    (R : Books → List JoinedCall → Type 0) (keeps : KeptQuietly R) (joins : KeptJoining routes R) (kept : R bs cs) (ps : Partners) (lines_kept : AreKept ps (books_by (Happens n what) ls bs) (lines_after (Happens n what) ls)) where
+    (given : List (List ℕ)) (same_lines : addresses ls ≡ given) (R : Books → List JoinedCall → Type 0) (keeps : KeptQuietly R) (joins : KeptJoining routes given R) (kept : R bs cs) (ps : Partners) (lines_kept : AreKept ps (books_by (Happens n what) ls bs) (lines_after (Happens n what) ls)) where
   abbrev l : Layer
   l = line.end.layer
 
@@ -268,6 +269,9 @@ module _ (routes : RouteMap) (n : ℕ) (what : Happening) (ls : List SwitchLine)
 
   apart_ls : AreApart (bs n)
   apart_ls = (h n l got_layer).apart
+
+  lines_ms : addresses ms ≡ given
+  lines_ms = addresses_led (Happens n what ∷ []) ls ms given refl same_lines
 
   kept1 : R bs1 cs
   kept1 = keeps (acts_of (Happens n what) ls) (layers_of ls) bs cs (step_quiet (Happens n what) ls tt) kept
@@ -430,7 +434,7 @@ module _ (routes : RouteMap) (n : ℕ) (what : Happening) (ls : List SwitchLine)
         subst (λ (ns : List Note). Walked (And AreCalls R) (heed_all_steps routes n ns ms) ms bs1 cs (heed_all routes n ns ms)) (sym is)
         (walked_then (And (ToldOne n d [] bs1) R) (And AreCalls R) (heed_steps routes n first ms) (heed_all_steps routes n rest (heed routes n first ms)) ms (heed routes n first ms) _ bs1 cs
         (closed_told R keeps routes n d cause diagnostic reason [] ms bs1 cs (marks_from (first ∷ []) (one_side cause diagnostic reason rest is)) kept1)
-        (λ after all t. alone_walk routes R keeps joins n d role s rest (heed routes n first ms) after all (subst (λ (ns : List Note). AreOf d role s ns) is of).1 (record {
+        (λ after all t. alone_walk routes given R keeps joins n d role s rest (heed routes n first ms) after all (subst (λ (ns : List Note). AreOf d role s ns) is of).1 (record {
           pairs = t.0.marks.pairs;
           beside = t.0.marks.beside;
           places = t.0.marks.places;
@@ -438,6 +442,7 @@ module _ (routes : RouteMap) (n : ℕ) (what : Happening) (ls : List SwitchLine)
           none = t.0.alone;
           there = ap (λ (ks : List SwitchLine). is_some (shown_at (layers_of ks) p)) (sym (heed_leads routes n first ms)) ∙ (there_steps (heed_steps routes n first ms) ms p ∙ there);
           came = λ parts noted. t.0.came parts (comes parts (subst (λ (ns : List Note). IsNoted ns d parts) (sym is) (inr noted)));
+          lines = addresses_led (heed_steps routes n first ms) ms (heed routes n first ms) given (heed_leads routes n first ms) lines_ms;
           kept = t.1;
         })))
       where
@@ -446,7 +451,7 @@ module _ (routes : RouteMap) (n : ℕ) (what : Happening) (ls : List SwitchLine)
 
     one_alone : joined_at ls p ≡ None → is_some (shown_at (layers_of ms) p) ≡ true → Comes → Walked (And AreCalls R) (heed_all_steps routes n notes ms) ms bs1 cs (heed_all routes n notes ms)
     one_alone none there comes =
-        alone_walk routes R keeps joins n d role s notes ms bs1 cs of (record {
+        alone_walk routes given R keeps joins n d role s notes ms bs1 cs of (record {
           pairs = mutual_ms;
           beside = beside_ms;
           places = places_ms;
@@ -454,6 +459,7 @@ module _ (routes : RouteMap) (n : ℕ) (what : Happening) (ls : List SwitchLine)
           none = joined_ms p ∙ none;
           there = there;
           came = comes;
+          lines = lines_ms;
           kept = kept1;
         })
       where

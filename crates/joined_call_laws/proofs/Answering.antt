@@ -44,6 +44,7 @@ use Rattle.switch_record_laws.proofs.Heads.{places_opens}
 use Rattle.joined_call_laws.specs.Calls.{JoinedCall, present_at, numbered, made_call, books_by, Stands, StandsOrEnded, AreCalls}
 use Rattle.joined_call_laws.proofs.Steady.{shape, Stay, Paired, Mutual, HavePlaces, books_rest, every_map, calls_same, one_stays, stands_stay}
 use Rattle.joined_call_laws.proofs.Walking.{Leads, Beside, Walked, walked_quiet}
+use Rattle.switch_record_laws.proofs.Calming.{addresses}
 use Rattle.joined_call_laws.proofs.Following.{CameIn, KeptQuietly, KeptJoining, And, steps_keep}
 use Rattle.switch_laws.specs.Pairs.{IsNoted}
 use Rattle.joined_call_laws.proofs.Closing.{if_apart, TouchesAt, clear_touches, touched_slot}
@@ -273,7 +274,7 @@ module _ (p q : Place) (parts : CallParts) (ls : List SwitchLine) (bs : Books) (
 
 -- ---- answered
 
-module _ (routes : RouteMap) (R : Books → List JoinedCall → Type 0) (keeps : KeptQuietly R) (joins : KeptJoining routes R) where
+module _ (routes : RouteMap) (given : List (List ℕ)) (R : Books → List JoinedCall → Type 0) (keeps : KeptQuietly R) (joins : KeptJoining routes given R) where
   clears_walk : (cause : ℕ) (p : Place) (ls : List SwitchLine) (bs : Books) (cs : List JoinedCall) → Mutual ls → joined_at ls p ≡ None → AreCalls ls bs cs → R bs cs
       → Walked (And AreCalls R) (Asks p (Clearing cause no_information) ∷ []) ls bs cs (ask p (Clearing cause no_information) ls)
   clears_walk cause p ls bs cs m none a r =
@@ -281,9 +282,9 @@ module _ (routes : RouteMap) (R : Books → List JoinedCall → Type 0) (keeps :
       walked_quiet (And AreCalls R) ss ls bs cs (ask p (Clearing cause no_information) ls) refl refl (cleared cause p ls bs cs m none a, steps_keep R keeps ss ls bs cs (tt, tt) r)
 
   answers_walk : (v : Answer) (p : Place) (parts : CallParts) (ls : List SwitchLine) (bs : Books) (cs : List JoinedCall) → answer routes ls parts ≡ v → IsAnswer ls v → Mutual ls → Beside ls bs → HavePlaces ls → AreCalls ls bs cs → joined_at ls p ≡ None
-      → is_some (shown_at (layers_of ls) p) ≡ true → CameIn p parts bs → R bs cs → Walked (And AreCalls R) (answered_steps v p parts ls) ls bs cs (answered v p parts ls)
-  answers_walk (Clears cause) p parts ls bs cs is f m b places a none was came r = clears_walk cause p ls bs cs m none a r
-  answers_walk (Joins q) p parts ls bs cs is f m b places a none was came r =
+      → is_some (shown_at (layers_of ls) p) ≡ true → CameIn p parts bs → addresses ls ≡ given → R bs cs → Walked (And AreCalls R) (answered_steps v p parts ls) ls bs cs (answered v p parts ls)
+  answers_walk (Clears cause) p parts ls bs cs is f m b places a none was came same r = clears_walk cause p ls bs cs m none a r
+  answers_walk (Joins q) p parts ls bs cs is f m b places a none was came same r =
       let to = forwarded ls p.line parts in
       record {
         after = books_by (Places q.line to) ls bs;
@@ -297,13 +298,14 @@ module _ (routes : RouteMap) (R : Books → List JoinedCall → Type 0) (keeps :
           free = f;
           routed = joins_by_route routes ls parts q is;
           apart = apart p q to ls bs cs m b a none was came.number came.present f places;
+          lines = same;
         }) r);
       }
 
   pub incoming_walk : (n c : ℕ) (parts : CallParts) (ls : List SwitchLine) (bs : Books) (cs : List JoinedCall) → Mutual ls → Beside ls bs → HavePlaces ls → AreCalls ls bs cs → joined_at ls (at n c) ≡ None
-      → is_some (shown_at (layers_of ls) (at n c)) ≡ true → CameIn (at n c) parts bs → R bs cs → Walked (And AreCalls R) (heed_steps routes n (Incoming c parts) ls) ls bs cs (heed routes n (Incoming c parts) ls)
-  incoming_walk n c parts ls bs cs m b places a none there came r =
-      answers_walk (answer routes ls parts) (at n c) parts ls bs cs refl (answer_if (has_any parts.facilities) ls _ _ (answer_by_is ls (line_for routes parts.called))) m b places a none there came r
+      → is_some (shown_at (layers_of ls) (at n c)) ≡ true → CameIn (at n c) parts bs → addresses ls ≡ given → R bs cs → Walked (And AreCalls R) (heed_steps routes n (Incoming c parts) ls) ls bs cs (heed routes n (Incoming c parts) ls)
+  incoming_walk n c parts ls bs cs m b places a none there came same r =
+      answers_walk (answer routes ls parts) (at n c) parts ls bs cs refl (answer_if (has_any parts.facilities) ls _ _ (answer_by_is ls (line_for routes parts.called))) m b places a none there came same r
 
   -- ---- all notes of a channel that is not joined
 
@@ -316,10 +318,11 @@ module _ (routes : RouteMap) (R : Books → List JoinedCall → Type 0) (keeps :
     pub none : joined_at ls (at n c) ≡ None
     pub there : is_some (shown_at (layers_of ls) (at n c)) ≡ true
     pub came : (parts : CallParts) → IsNoted ns c parts → CameIn (at n c) parts bs
+    pub lines : addresses ls ≡ given
     pub kept : R bs cs
 
   later : (n c : ℕ) (x : Note) (ns : List Note) (ls : List SwitchLine) (bs : Books) (cs : List JoinedCall) → Alone n c (x ∷ ns) ls bs cs → Alone n c ns ls bs cs
-  later n c x ns ls bs cs i = record { pairs = i.pairs; beside = i.beside; places = i.places; calls = i.calls; none = i.none; there = i.there; came = λ parts h. i.came parts (inr h); kept = i.kept }
+  later n c x ns ls bs cs i = record { pairs = i.pairs; beside = i.beside; places = i.places; calls = i.calls; none = i.none; there = i.there; came = λ parts h. i.came parts (inr h); lines = i.lines; kept = i.kept }
 
   untold : (note : Note) (n c d : ℕ) (ns : List Note) (ls : List SwitchLine) (bs : Books) (cs : List JoinedCall) → d ≡ c → joined_at ls (at n c) ≡ None
       → Walked (And AreCalls R) (heed_all_steps routes n ns ls) ls bs cs (heed_all routes n ns ls)
@@ -335,7 +338,7 @@ module _ (routes : RouteMap) (R : Books → List JoinedCall → Type 0) (keeps :
       subst (λ (more : List Note). Walked (And AreCalls R) (heed_steps routes n (Incoming d parts) ls ++ heed_all_steps routes n more (heed routes n (Incoming d parts) ls)) ls bs cs (heed_all routes n more (heed routes n (Incoming d parts) ls))) (sym of.1.1)
       (subst (λ (ss : List Step). Walked (And AreCalls R) ss ls bs cs (heed routes n (Incoming d parts) ls)) (sym (append-nil (heed_steps routes n (Incoming d parts) ls)))
       (subst (λ (k : ℕ). Walked (And AreCalls R) (heed_steps routes n (Incoming k parts) ls) ls bs cs (heed routes n (Incoming k parts) ls)) (sym of.0)
-      (incoming_walk n c parts ls bs cs i.pairs i.beside i.places i.calls i.none i.there (i.came parts (inl (ap (λ (k : ℕ). Incoming k parts) of.0))) i.kept)))
+      (incoming_walk n c parts ls bs cs i.pairs i.beside i.places i.calls i.none i.there (i.came parts (inl (ap (λ (k : ℕ). Incoming k parts) of.0))) i.lines i.kept)))
   alone_walk n c role s (Connected d ∷ ns) ls bs cs of i = untold (Connected d) n c d ns ls bs cs of.0 i.none (alone_walk n c role s ns ls bs cs of.1 (later n c (Connected d) ns ls bs cs i))
   alone_walk n c role s (Closed d cause diagnostic reason ∷ ns) ls bs cs of i =
       untold (Closed d cause diagnostic reason) n c d ns ls bs cs of.0 i.none (alone_walk n c role s ns ls bs cs of.1 (later n c (Closed d cause diagnostic reason) ns ls bs cs i))

@@ -64,13 +64,13 @@ use Rattle.joined_call_laws.proofs.Steady.{shape, ended_same}
 use Rattle.joined_call_laws.proofs.Closing.{SameEpochs, epochs_itself, relayed_same, closed_none, RestsWith, records_at}
 use Rattle.joined_call_laws.proofs.Telling.{IsClosing}
 use Rattle.joined_call_laws.proofs.Answering.{record_call}
-use Rattle.joined_call_laws.proofs.Following.{KeptQuietly, KeptJoining, And, step_quiet, steps_keep, steadies_place_none}
+use Rattle.joined_call_laws.proofs.Following.{addresses_led, KeptQuietly, KeptJoining, And, step_quiet, steps_keep, steadies_place_none}
 use Rattle.switch_laws.specs.Turn.{AreOctets}
 use Rattle.lapb.specs.Machine.{Octets}
 use Rattle.std.proofs.Common.{append-nil}
 use Rattle.switch_record_laws.specs.Kept.{Partners, AreKept, partners_after, partners_after_all, IsFit, AreFit, ReadsOctets}
 use Rattle.switch_record_laws.proofs.Stepping.{steps_kept}
-use Rattle.switch_record_laws.proofs.Calming.{Addressed, addressed, addressed_then, calm_fit, heeded_calm}
+use Rattle.switch_record_laws.proofs.Calming.{addresses, Addressed, addressed, addressed_then, calm_fit, heeded_calm}
 use Rattle.joined_call_laws.proofs.Acting.{closed_epochs, closing_only}
 use Rattle.joined_call_laws.specs.Calls.{JoinedCall, books_by, books_by_all, AreCalls}
 use Rattle.joined_call_laws.proofs.Steady.{Mutual, switch_mutual, IsMildAct, acts_slots, books_rest, every_map, calls_same, AreSteady, steady_same, steady_then, steadies_same, steadies_none, rounds_steady}
@@ -80,22 +80,23 @@ use Rattle.joined_call_laws.proofs.Acting.{heeded_walk}
 -- ---- a switch at which all is right
 
 -- its joins hold, its lines are kept, its present records are its legs, and these are the joined calls
-pub record Good (ls : List SwitchLine) (bs : Books) (cs : List JoinedCall) : Type 0 where
+pub record Good (given : List (List ℕ)) (ls : List SwitchLine) (bs : Books) (cs : List JoinedCall) : Type 0 where
   pub legs : World
   pub switch : IsSwitch ls legs
   pub records : HaveRecords (layers_of ls) legs bs
   pub calls : AreCalls ls bs cs
   pub partners : Partners
   pub kept : AreKept partners bs ls
-  pub addresses : Addressed ls
+  pub addressed : Addressed ls
+  pub lines : addresses ls ≡ given
 
 begun_records : (ls : List SwitchLine) (w : World) (bs : Books) → HaveRecords (layers_of ls) w bs → HaveRecords (layers_of (all_begun ls)) w bs
 begun_records ls w bs h = subst (λ (ys : List Layer). HaveRecords ys w bs) (sym (layers_on_ends begun ls (λ e. refl))) h
 
-module _ (routes : RouteMap) (R : Books → List JoinedCall → Type 0) (keeps : KeptQuietly R) (joins : KeptJoining routes R) where
+module _ (routes : RouteMap) (given : List (List ℕ)) (R : Books → List JoinedCall → Type 0) (keeps : KeptQuietly R) (joins : KeptJoining routes given R) where
   -- steps after which the joins hold, and the calls are as they lead to
-  good_after : (steps : List Step) (ls ms : List SwitchLine) (bs : Books) (cs : List JoinedCall) (x : Good ls bs cs) → AreFit steps x.partners → Becomes (acts_of_all steps ls) ls x.legs ms → Walked (And AreCalls R) steps ls bs cs ms
-      → Walked (And Good R) steps ls bs cs ms
+  good_after : (steps : List Step) (ls ms : List SwitchLine) (bs : Books) (cs : List JoinedCall) (x : Good given ls bs cs) → AreFit steps x.partners → Becomes (acts_of_all steps ls) ls x.legs ms → Walked (And AreCalls R) steps ls bs cs ms
+      → Walked (And (Good given) R) steps ls bs cs ms
   good_after steps ls ms bs cs x fits b a = record {
     after = a.after;
     new = a.new;
@@ -111,7 +112,8 @@ module _ (routes : RouteMap) (R : Books → List JoinedCall → Type 0) (keeps :
       partners = partners_after_all steps x.partners;
       kept = subst (λ (y : Books). AreKept (partners_after_all steps x.partners) y ms) same
           (subst (λ (ks : List SwitchLine). AreKept (partners_after_all steps x.partners) (books_after_all (acts_of_all steps ls) (layers_of ls) bs) ks) a.leads.lines (steps_kept steps x.partners bs ls fits x.kept));
-      addresses = addressed_then steps ls ms a.leads.lines x.addresses;
+      addressed = addressed_then steps ls ms a.leads.lines x.addressed;
+      lines = addresses_led steps ls ms given a.leads.lines x.lines;
     }, a.holds.1);
   }
     where
@@ -120,7 +122,7 @@ module _ (routes : RouteMap) (R : Books → List JoinedCall → Type 0) (keeps :
 
   -- ---- what happens on a line
 
-  acted_walk : (n : ℕ) (what : Happening) (ls : List SwitchLine) (bs : Books) (cs : List JoinedCall) (x : Good ls bs cs) → IsFit (Happens n what) x.partners → R bs cs
+  acted_walk : (n : ℕ) (what : Happening) (ls : List SwitchLine) (bs : Books) (cs : List JoinedCall) (x : Good given ls bs cs) → IsFit (Happens n what) x.partners → R bs cs
       → ((line : SwitchLine) → slice_get ls n ≡ Some line → EndEffect n what line.end) → Walked (And AreCalls R) (acted_steps routes n what ls) ls bs cs (acted routes n (does what) ls)
   acted_walk n what ls bs cs x fits r eff = by_line (slice_get ls n) refl
     where
@@ -142,7 +144,7 @@ module _ (routes : RouteMap) (R : Books → List JoinedCall → Type 0) (keeps :
       by_line : (o : Option SwitchLine) → slice_get ls n ≡ o → Walked (And AreCalls R) (acted_steps routes n what ls) ls bs cs (acted routes n (does what) ls)
       by_line (Some line) e =
           first (subst (λ (o : Option SwitchLine). Walked (And AreCalls R) (heed_all_steps routes n (notes_of o) ms) ms (books_by (Happens n what) ls bs) cs (heed_all routes n (notes_of o) ms)) (sym (got_changed n g ls line e))
-          (heeded_walk routes n what ls x.legs bs cs x.switch x.records x.calls line e (eff line e) R keeps joins r (partners_after (Happens n what) x.partners) then_kept))
+          (heeded_walk routes n what ls x.legs bs cs x.switch x.records x.calls line e (eff line e) given x.lines R keeps joins r (partners_after (Happens n what) x.partners) then_kept))
       by_line None e =
           let gone : slice_get l1 n ≡ None = ap (λ (ks : List SwitchLine). slice_get ks n) (changed_none n g ls e) ∙ e in
           let same : ms ≡ ls = changed_none n (with_end without_notes) l1 gone ∙ changed_none n g ls e in
@@ -154,23 +156,23 @@ module _ (routes : RouteMap) (R : Books → List JoinedCall → Type 0) (keeps :
             rests = λ k m rec s. books_rest (acts_of (Happens n what) ls) (layers_of ls) bs k m rec s;
           }) x.calls), keeps (acts_of (Happens n what) ls) (layers_of ls) bs cs (step_quiet (Happens n what) ls tt) r)))
 
-  acted_good : (n : ℕ) (what : Happening) (ls : List SwitchLine) (bs : Books) (cs : List JoinedCall) → ((line : SwitchLine) → slice_get ls n ≡ Some line → EndEffect n what line.end) → ReadsOctets what → (x : Good ls bs cs) → IsFit (Happens n what) x.partners → R bs cs
-      → Walked (And Good R) (acted_steps routes n what ls) ls bs cs (acted routes n (does what) ls)
+  acted_good : (n : ℕ) (what : Happening) (ls : List SwitchLine) (bs : Books) (cs : List JoinedCall) → ((line : SwitchLine) → slice_get ls n ≡ Some line → EndEffect n what line.end) → ReadsOctets what → (x : Good given ls bs cs) → IsFit (Happens n what) x.partners → R bs cs
+      → Walked (And (Good given) R) (acted_steps routes n what ls) ls bs cs (acted routes n (does what) ls)
   acted_good n what ls bs cs eff reads x fits r =
-      good_after (acted_steps routes n what ls) ls (acted routes n (does what) ls) bs cs x (fits, calm_fit _ (partners_after (Happens n what) x.partners) (heeded_calm routes n what ls reads x.addresses))
+      good_after (acted_steps routes n what ls) ls (acted routes n (does what) ls) bs cs x (fits, calm_fit _ (partners_after (Happens n what) x.partners) (heeded_calm routes n what ls reads x.addressed))
       (acted_right routes n what ls x.legs x.switch eff) (acted_walk n what ls bs cs x fits r eff)
 
   -- ---- the end of an event
 
-  relinked_good : (o : Option ℕ) (ls : List SwitchLine) (bs : Books) (cs : List JoinedCall) → And Good R ls bs cs → Walked (And Good R) (relinked_steps o routes ls) ls bs cs (relinked_at o routes ls)
-  relinked_good None ls bs cs x = walked_quiet (And Good R) [] ls bs cs ls refl refl x
+  relinked_good : (o : Option ℕ) (ls : List SwitchLine) (bs : Books) (cs : List JoinedCall) → And (Good given) R ls bs cs → Walked (And (Good given) R) (relinked_steps o routes ls) ls bs cs (relinked_at o routes ls)
+  relinked_good None ls bs cs x = walked_quiet (And (Good given) R) [] ls bs cs ls refl refl x
   relinked_good (Some n) ls bs cs x = acted_good n Relinks ls bs cs (λ line e. relinked_effect n line.end) tt x.0 tt x.1
 
-  all_relinked_good : (most : ℕ) (ls : List SwitchLine) (bs : Books) (cs : List JoinedCall) → And Good R ls bs cs → Walked (And Good R) (all_relinked_steps most routes ls) ls bs cs (all_relinked most routes ls)
-  all_relinked_good zero ls bs cs x = walked_quiet (And Good R) [] ls bs cs ls refl refl x
+  all_relinked_good : (most : ℕ) (ls : List SwitchLine) (bs : Books) (cs : List JoinedCall) → And (Good given) R ls bs cs → Walked (And (Good given) R) (all_relinked_steps most routes ls) ls bs cs (all_relinked most routes ls)
+  all_relinked_good zero ls bs cs x = walked_quiet (And (Good given) R) [] ls bs cs ls refl refl x
   all_relinked_good (suc most) ls bs cs x =
       let ms = relinked_at (to_relink ls) routes ls in
-      walked_then (And Good R) (And Good R) (relinked_steps (to_relink ls) routes ls) (all_relinked_steps most routes ms) ls ms (all_relinked most routes ms) bs cs (relinked_good (to_relink ls) ls bs cs x) (λ after all y. all_relinked_good most ms after all y)
+      walked_then (And (Good given) R) (And (Good given) R) (relinked_steps (to_relink ls) routes ls) (all_relinked_steps most routes ms) ls ms (all_relinked most routes ms) bs cs (relinked_good (to_relink ls) ls bs cs x) (λ after all y. all_relinked_good most ms after all y)
 
   -- steps that end no call and begin none
   steady_walk : (steps : List Step) (ls ms : List SwitchLine) (bs : Books) (cs : List JoinedCall) → lines_after_all steps ls ≡ ms → AreSteady steps ls → Mutual ls → AreCalls ls bs cs → R bs cs → Walked (And AreCalls R) steps ls bs cs ms
@@ -178,12 +180,12 @@ module _ (routes : RouteMap) (R : Books → List JoinedCall → Type 0) (keeps :
       walked_quiet (And AreCalls R) steps ls bs cs ms e (steadies_none steps ls bs s)
       (subst (λ (ks : List SwitchLine). AreCalls ks (books_by_all steps ls bs) cs) e (calls_same ls (lines_after_all steps ls) bs (books_by_all steps ls bs) cs m (steadies_same steps ls bs s) a), steps_keep R keeps steps ls bs cs (steadies_place_none steps ls s) r)
 
-  finished_walk : (n : ℕ) (ls : List SwitchLine) (bs : Books) (cs : List JoinedCall) → And Good R ls bs cs → Walked (And AreCalls R) (finished_steps routes n ls) ls bs cs (finished routes n ls)
+  finished_walk : (n : ℕ) (ls : List SwitchLine) (bs : Books) (cs : List JoinedCall) → And (Good given) R ls bs cs → Walked (And AreCalls R) (finished_steps routes n ls) ls bs cs (finished routes n ls)
   finished_walk n ls bs cs x =
       let ks = all_relinked (length ls) routes ls in
       let first = lines_first n routes ls in
       let last = rounds_steps (7 * length ks) first ks in
-      walked_then (And Good R) (And AreCalls R) (all_relinked_steps (length ls) routes ls) (last ++ Settles ∷ []) ls ks (finished routes n ls) bs cs (all_relinked_good (length ls) ls bs cs x)
+      walked_then (And (Good given) R) (And AreCalls R) (all_relinked_steps (length ls) routes ls) (last ++ Settles ∷ []) ls ks (finished routes n ls) bs cs (all_relinked_good (length ls) ls bs cs x)
       (λ after all y.
       let m = switch_mutual ks y.0.legs y.0.switch in
       let lines : lines_after_all (last ++ Settles ∷ []) ks ≡ finished routes n ls = (leads_then last (Settles ∷ []) ks (rounds (7 * length ks) first ks) (finished routes n ls) after (books_by_all last ks after) _ _ _
@@ -193,13 +195,13 @@ module _ (routes : RouteMap) (R : Books → List JoinedCall → Type 0) (keeps :
   -- ---- events
 
   event_walk : (n : ℕ) (what : Happening) (s : Switch) (bs : Books) (cs : List JoinedCall) → s.routes ≡ routes → ((line : SwitchLine) → slice_get (all_begun s.lines) n ≡ Some line → EndEffect n what line.end) → ReadsOctets what
-      → (x : Good (all_begun s.lines) bs cs) → IsFit (Happens n what) x.partners → R bs cs
+      → (x : Good given (all_begun s.lines) bs cs) → IsFit (Happens n what) x.partners → R bs cs
       → Walked (And AreCalls R) (event_steps s.routes n what s.lines) s.lines bs cs (finished s.routes n (acted s.routes n (does what) (all_begun s.lines)))
   event_walk n what s bs cs same eff reads x fits r =
       let ls = all_begun s.lines in
       let ms = acted routes n (does what) ls in
       let y : Walked (And AreCalls R) (acted_steps routes n what ls ++ finished_steps routes n ms) ls bs cs (finished routes n ms) =
-      walked_then (And Good R) (And AreCalls R) (acted_steps routes n what ls) (finished_steps routes n ms) ls ms (finished routes n ms) bs cs
+      walked_then (And (Good given) R) (And AreCalls R) (acted_steps routes n what ls) (finished_steps routes n ms) ls ms (finished routes n ms) bs cs
       (acted_good n what ls bs cs eff reads x fits r) (λ after all z. finished_walk n ms after all z) in
       subst (λ (rs : RouteMap). Walked (And AreCalls R) (event_steps rs n what s.lines) s.lines bs cs (finished rs n (acted rs n (does what) ls))) (sym same)
       (record { after = y.after; new = y.new; leads = leads_first Begins (acted_steps routes n what ls ++ finished_steps routes n ms) s.lines bs (finished routes n ms) y.after y.new y.leads; holds = y.holds })
@@ -208,22 +210,23 @@ module _ (routes : RouteMap) (R : Books → List JoinedCall → Type 0) (keeps :
 
 module _ (R : Books → List JoinedCall → Type 0) (keeps : KeptQuietly R) where
   -- the calls after an event, and what is kept beside them
-  pub calls_after : (n : ℕ) (what : Happening) (s t : Switch) (h : Histories) (cs : List JoinedCall) → KeptJoining s.routes R → t.lines ≡ finished s.routes n (acted s.routes n (does what) (all_begun s.lines))
+  pub calls_after : (n : ℕ) (what : Happening) (s t : Switch) (h : Histories) (cs : List JoinedCall) → KeptJoining s.routes (addresses s.lines) R → t.lines ≡ finished s.routes n (acted s.routes n (does what) (all_begun s.lines))
       → ((line : SwitchLine) → slice_get (all_begun s.lines) n ≡ Some line → EndEffect n what line.end) → ReadsOctets what → IsFit (Happens n what) h.partners → IsTied s h → AreCalls s.lines h.books cs → R h.books cs
       → And AreCalls R t.lines (happened n what s h).books (cs ++ calls_in n what s h)
   calls_after n what s t h cs joins is eff reads fits i a r =
       let b = begun_right s.lines h.legs i.holds.joins in
       let ls = all_begun s.lines in
-      let begun_good : Good ls h.books cs = record {
+      let begun_good : Good (addresses s.lines) ls h.books cs = record {
         legs = h.legs;
         switch = subst (λ (v : World). IsSwitch ls v) b.reached.legs b.right;
         records = begun_records s.lines h.legs h.books i.records;
         calls = calls_same s.lines ls h.books h.books cs (switch_mutual s.lines h.legs i.holds.joins) (steady_same Begins s.lines h.books tt) a;
         partners = h.partners;
         kept = steps_kept (Begins ∷ []) h.partners h.books s.lines (tt, tt) i.kept;
-        addresses = addressed_then (Begins ∷ []) s.lines ls refl (addressed s.lines i.addresses);
+        addressed = addressed_then (Begins ∷ []) s.lines ls refl (addressed s.lines i.addresses);
+        lines = addresses_led (Begins ∷ []) s.lines ls (addresses s.lines) refl refl;
       } in
-      let x = event_walk s.routes R keeps joins n what s h.books cs refl eff reads begun_good fits r in
+      let x = event_walk s.routes (addresses s.lines) R keeps joins n what s h.books cs refl eff reads begun_good fits r in
       let ss = event_steps s.routes n what s.lines in
       subst (λ (ms : List SwitchLine). And AreCalls R ms (happened n what s h).books (cs ++ calls_in n what s h)) (sym is)
       (subst (λ (new : List JoinedCall). And AreCalls R (finished s.routes n (acted s.routes n (does what) ls)) (happened n what s h).books (cs ++ new)) (sym x.leads.calls)

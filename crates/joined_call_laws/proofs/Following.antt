@@ -1,5 +1,5 @@
 -- What else may be kept beside the joined calls: it stays over acts that place no call, and where a call is joined.
-use Rattle.std.specs.Prelude.{◌≡◌, ◌≤◌, ℕ, zero, suc, ◌⊎◌, Bool, true, false, if◌then◌else◌, List, [], ◌∷◌, ◌++◌, length, slice_get, Option, Some, None, is_some}
+use Rattle.std.specs.Prelude.{◌≡◌, ◌≤◌, ℕ, zero, suc, ◌⊎◌, Bool, true, false, if◌then◌else◌, List, [], ◌∷◌, ◌++◌, length, map, slice_get, Option, Some, None, is_some}
 use Rattle.std.proofs.Common.{inl, inr, refl, sym, ap, ap₂, subst, ◌∙◌, true≢false, option_map}
 use Rattle.std.proofs.lemmas.Option.{none-some, same_Some}
 use Rattle.link_timers.specs.declared.role.Role.{Role}
@@ -36,13 +36,14 @@ use Rattle.line_laws.specs.Line.{Line}
 use Rattle.line_record_laws.specs.Kept.{Setting, Kept, beginning}
 use Rattle.switch_lines.specs.declared.place.Place.{Place}
 use Rattle.switch_lines.specs.declared.place.Joined.{Joined}
-use Rattle.switch_lines.specs.Lines.{SwitchLine, same_place, joined_at}
-use Rattle.switch_lines.specs.Switch.{forwarded}
+use Rattle.switch_lines.specs.Lines.{SwitchLine, changed, same_place, joined_at}
+use Rattle.switch_lines.specs.Switch.{forwarded, with_end, quieted}
 use Rattle.switch_laws.specs.World.{Act, Shown, shown_as, shown_on, shown_at, layers_of}
-use Rattle.switch_laws.proofs.Lists.{get_map}
+use Rattle.switch_laws.proofs.Lists.{get_map, map_unchanged}
+use Rattle.switch_record_laws.proofs.Calming.{addresses}
 use Rattle.switch_record_laws.specs.Kept.{Partners, AreKept, line_with}
 use Rattle.switch_laws.specs.Pairs.{IsNoted}
-use Rattle.switch_laws.specs.Steps.{Step, Happening, lines_after, acts_of, happening_acts, note_acts, heard_acts, packet_acts, timer_acts, expiry_acts, offer_acts, on_line}
+use Rattle.switch_laws.specs.Steps.{Step, Happening, does, lines_after, lines_after_all, acts_of, happening_acts, note_acts, heard_acts, packet_acts, timer_acts, expiry_acts, offer_acts, on_line}
 use Rattle.switch_laws.specs.Steps.Happening.{Brings, RunsOut, Relinks}
 use Rattle.switch_laws.specs.Steps.Step.{Asks, Places, Keeps, Offers, Begins, Settles, Elapses}
 use Rattle.switch_laws.specs.Steps.{Step as step}
@@ -73,7 +74,7 @@ pub record CameIn (p : Place) (parts : CallParts) (bs : Books) : Type 0 where
   pub far : it.far ≡ address_of parts.calling
 
 -- the calls before it, and the two channels
-pub record Joining (routes : RouteMap) (p q : Place) (parts : CallParts) (ls : List SwitchLine) (bs : Books) (cs : List JoinedCall) : Type 0 where
+pub record Joining (routes : RouteMap) (given : List (List ℕ)) (p q : Place) (parts : CallParts) (ls : List SwitchLine) (bs : Books) (cs : List JoinedCall) : Type 0 where
   pub calls : AreCalls ls bs cs
   pub beside : Beside ls bs
   pub came_in : CameIn p parts bs
@@ -81,6 +82,30 @@ pub record Joining (routes : RouteMap) (p q : Place) (parts : CallParts) (ls : L
   pub free : IsFreePlace ls q
   pub routed : line_for routes parts.called ≡ Some q.line
   pub apart : same_place p q ≡ false
+  pub lines : addresses ls ≡ given
+
+-- ---- the addresses of the lines
+
+on_ends : (f : PacketEnd → PacketEnd) (ls : List SwitchLine) → addresses (map (with_end f) ls) ≡ addresses ls
+on_ends f [] = refl
+on_ends f (l ∷ ls) = ap (λ (as_ : List (List ℕ)). l.address ∷ as_) (on_ends f ls)
+
+step_addresses : (s : Step) (ls : List SwitchLine) → addresses (lines_after s ls) ≡ addresses ls
+step_addresses (Asks p q) ls = map_unchanged (λ l. l.address) _ p.line ls (λ l. refl)
+step_addresses (Places n parts) ls = map_unchanged (λ l. l.address) _ n ls (λ l. refl)
+step_addresses (Keeps p o) ls = map_unchanged (λ l. l.address) _ p.line ls (λ l. refl)
+step_addresses (step.Happens n what) ls = map_unchanged (λ l. l.address) _ n (changed n (with_end (λ e. does what (quieted e))) ls) (λ l. refl) ∙ map_unchanged (λ l. l.address) _ n ls (λ l. refl)
+step_addresses (Offers n) ls = map_unchanged (λ l. l.address) _ n ls (λ l. refl)
+step_addresses Begins ls = on_ends _ ls
+step_addresses Settles ls = on_ends _ ls
+step_addresses (Elapses ticks) ls = on_ends _ ls
+
+pub steps_addresses : (steps : List Step) (ls : List SwitchLine) → addresses (lines_after_all steps ls) ≡ addresses ls
+steps_addresses [] ls = refl
+steps_addresses (s ∷ more) ls = steps_addresses more (lines_after s ls) ∙ step_addresses s ls
+
+pub addresses_led : (steps : List Step) (ls ms : List SwitchLine) (given : List (List ℕ)) → lines_after_all steps ls ≡ ms → addresses ls ≡ given → addresses ms ≡ given
+addresses_led steps ls ms given e f = ap (λ (ks : List SwitchLine). addresses ks) (sym e) ∙ (steps_addresses steps ls ∙ f)
 
 -- ---- what is kept beside
 
@@ -91,8 +116,8 @@ IsQuietAct a = Unit {0}
 abbrev pub KeptQuietly : (Books → List JoinedCall → Type 0) → Type 0
 KeptQuietly R = (acts : List Act) (ys : List Layer) (bs : Books) (cs : List JoinedCall) → Every IsQuietAct acts → R bs cs → R (books_after_all acts ys bs) cs
 
-abbrev pub KeptJoining : RouteMap → (Books → List JoinedCall → Type 0) → Type 0
-KeptJoining routes R = (p q : Place) (parts : CallParts) (ls : List SwitchLine) (bs : Books) (cs : List JoinedCall) → (j : Joining routes p q parts ls bs cs) → R bs cs
+abbrev pub KeptJoining : RouteMap → List (List ℕ) → (Books → List JoinedCall → Type 0) → Type 0
+KeptJoining routes given R = (p q : Place) (parts : CallParts) (ls : List SwitchLine) (bs : Books) (cs : List JoinedCall) → (j : Joining routes given p q parts ls bs cs) → R bs cs
     → R (books_by (Places q.line (forwarded ls p.line parts)) ls bs) (cs ++ record { near = p; far = q; came_in = j.came_in.number; placed = length (bs q.line).records } ∷ [])
 
 -- one thing and what is kept beside
