@@ -299,6 +299,7 @@ module _ (routes : RouteMap) (given : List (List ℕ)) (R : Books → List Joine
           routed = joins_by_route routes ls parts q is;
           apart = apart p q to ls bs cs m b a none was came.number came.present f places;
           lines = same;
+          there = was;
         }) r);
       }
 

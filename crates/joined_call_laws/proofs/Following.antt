@@ -83,6 +83,7 @@ pub record Joining (routes : RouteMap) (given : List (List ℕ)) (p q : Place) (
   pub routed : line_for routes parts.called ≡ Some q.line
   pub apart : same_place p q ≡ false
   pub lines : addresses ls ≡ given
+  pub there : is_some (shown_at (layers_of ls) p) ≡ true
 
 -- ---- the addresses of the lines
 

@@ -1,0 +1,2 @@
+//! What the register of a network with one switch has of its calls.
+#![tactic(auto)]
