@@ -53,14 +53,14 @@ use Rattle.switch_path_laws.proofs.Listing.{get_listed, length_listed, same_list
 line_count : (plan : Plan) (count : ℕ) (bs : Books) (cs : List JoinedCall) (w : World) (traces : List (List Origin)) → IsSeen plan count bs cs w traces → length w.whole.lines ≡ count
 line_count plan count bs cs w traces i = i.lines.seen.lines ∙ length_listed count bs
 
-own_trace : (plan : Plan) (count n : ℕ) (bs : Books) (cs : List JoinedCall) (w : World) (traces : List (List Origin)) → n < count → IsSeen plan count bs cs w traces → (own : List Origin) × (slice_get traces n ≡ Some own)
+pub own_trace : (plan : Plan) (count n : ℕ) (bs : Books) (cs : List JoinedCall) (w : World) (traces : List (List Origin)) → n < count → IsSeen plan count bs cs w traces → (own : List Origin) × (slice_get traces n ≡ Some own)
 own_trace plan count n bs cs w traces h i = get_there traces n (subst (λ (k : ℕ). n < k) (sym (i.lines.count ∙ length_listed count bs)) h)
 
 -- the whole register has what the book of a line has
 pub record OnLine (n : ℕ) (b : Book) (w : World) : Type 0 where
   pub seen : LineIsSeen (positions n (lines_of w.origins)) (positions n (lines_of w.origins)) b (book_at n w.whole)
 
-line_seen : (plan : Plan) (count n : ℕ) (bs : Books) (cs : List JoinedCall) (w : World) (traces : List (List Origin)) → n < count → (i : IsSeen plan count bs cs w traces)
+pub line_seen : (plan : Plan) (count n : ℕ) (bs : Books) (cs : List JoinedCall) (w : World) (traces : List (List Origin)) → n < count → (i : IsSeen plan count bs cs w traces)
     → LineIsSeen (positions n (lines_of w.origins)) (positions n i.lines.seen.pair_owners) (bs n) (book_at n w.whole)
 line_seen plan count n bs cs w traces h i =
     let own = own_trace plan count n bs cs w traces h i in
@@ -126,7 +126,7 @@ module _ (plan : Plan) (count : ℕ) (switch_end : (n : ℕ) → n < count → p
 
   -- ---- acts that place no call
 
-  same_books : (bs bs' : Books) (cs : List JoinedCall) (w : World) (traces : List (List Origin)) → ((k : ℕ) → k < count → bs' k ≡ bs k) → IsSeen plan count bs cs w traces → Moved plan count bs' cs w.register
+  pub same_books : (bs bs' : Books) (cs : List JoinedCall) (w : World) (traces : List (List Origin)) → ((k : ℕ) → k < count → bs' k ≡ bs k) → IsSeen plan count bs cs w traces → Moved plan count bs' cs w.register
   same_books bs bs' cs w traces h i = record {
     world = w;
     traces = traces;

@@ -1,5 +1,5 @@
 -- What the register of a network with one switch has, whatever happens.
-use Rattle.std.specs.Prelude.{◌≡◌, ℕ, ◌⊎◌, Bool, ◌==◌, if◌then◌else◌, false, List, ◌++◌, slice_get, Some}
+use Rattle.std.specs.Prelude.{◌≡◌, ℕ, ◌⊎◌, Bool, ◌==◌, if◌then◌else◌, false, List, [], ◌++◌, length, map, slice_get, Some}
 use Rattle.link_timers.specs.declared.role.Role.TheVariants.{Dte}
 use Rattle.link_timers.specs.declared.timers.TimerId.{TimerId}
 use Rattle.lapb.specs.Machine.{Octets}
@@ -7,23 +7,35 @@ use Rattle.epochs.specs.ConfirmedLaws.{AreEmpty}
 use Rattle.call_records.specs.Records.{RecordValue}
 use Rattle.call_records.specs.Book.{Book}
 use Rattle.call_records.specs.Writes.{Write, all_written}
-use Rattle.call_records.specs.Register.{all_written_at}
+use Rattle.call_records.specs.Register.{LinePlan, all_written_at}
+use Rattle.address_routes.specs.Routes.{RouteMap}
 use Rattle.book_laws.specs.Headline.{sent_by}
 use Rattle.line_record_laws.specs.Kept.{Kept}
+use Rattle.switch_lines.specs.declared.config.LineConfig.{LineConfig}
 use Rattle.switch_lines.specs.Lines.{SwitchLine}
+use Rattle.switch_lines.specs.Making.{IsConfig, made}
 use Rattle.switch_lines.specs.Switch.{Switch, on_frame, on_timer, elapse, restart}
 use Rattle.switch_laws.specs.Turn.{AreOctets}
 use Rattle.switch_laws.specs.Steps.{Happening}
 use Rattle.switch_laws.specs.Steps.Happening.{Brings, RunsOut}
 use Rattle.switch_record_laws.specs.Kept.{Partner, Partners, BeginWith, line_with}
-use Rattle.switch_record_laws.specs.Tied.{Histories, happened, restarted, gone_out, sent_out}
+use Rattle.switch_record_laws.specs.Tied.{Histories, IsTied, happened, restarted, gone_out, sent_out}
 use Rattle.joined_call_laws.specs.Calls.{JoinedCall}
 use Rattle.joined_call_laws.specs.Law.{calls_in, written_there}
-use Rattle.call_path_laws.specs.World.{Origin, World, Plan}
+use Rattle.call_path_laws.specs.World.{Origin, World, Plan, AreBetween, made_world}
 use Rattle.call_path_laws.specs.Seen.{IsJoined}
-use Rattle.call_path_laws.specs.Lines.{BookCallsHold}
+use Rattle.call_path_laws.specs.Lines.{BookCallsHold, free_book}
 use Rattle.call_path_laws.specs.Promise.{PathsHold}
-use Rattle.switch_path_laws.specs.Network.{IsNetwork, all_handed}
+use Rattle.switch_path_laws.specs.Network.{IsPlanned, IsNetwork, listed, all_handed}
+
+-- ---- the making
+
+-- of a switch as it is made on free lines the register has nothing yet
+abbrev pub BeginLaw : Type 0
+BeginLaw = (plan : Plan) (routes : RouteMap) (configs : List LineConfig) (plans : List LinePlan) (h : Histories)
+    → IsConfig configs → IsPlanned plan (made routes configs) → AreBetween plan 0 plans
+    → listed (length (made routes configs).lines) h.books ≡ map free_book plans → IsTied (made routes configs) h
+    → IsNetwork plan (made routes configs) h [] (made_world plans) (map (λ line. []) plans)
 
 -- ---- events of the switch
 
@@ -108,6 +120,7 @@ PromiseLaw = (plan : Plan) (s : Switch) (h : Histories) (cs : List JoinedCall) (
     → SendsOnJoined plan w → PathsHold plan w.register
 
 pub record SwitchPathLaw : Type 0 where
+  pub begins : BeginLaw
   pub frames : FrameLaw
   pub timers : TimerLaw
   pub elapses : ElapseLaw

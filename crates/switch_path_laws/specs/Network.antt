@@ -11,7 +11,7 @@ use Rattle.switch_lines.specs.Switch.{Switch}
 use Rattle.switch_record_laws.specs.Written.{Books}
 use Rattle.switch_record_laws.specs.Tied.{Histories, IsTied}
 use Rattle.joined_call_laws.specs.Calls.{JoinedCall, AreCalls}
-use Rattle.call_path_laws.specs.World.{Origin, Join, World, Plan, holds, holder_of}
+use Rattle.call_path_laws.specs.World.{Origin, Join, World, Plan, AreAddressed, holds, holder_of}
 use Rattle.call_path_laws.specs.World as path
 use Rattle.call_path_laws.specs.Seen.{Seen}
 use Rattle.call_path_laws.specs.Lines.{LinesSeen}
@@ -20,13 +20,14 @@ use Rattle.call_path_laws.specs.Forwards.{AreHandedOn}
 -- ---- the plan of the network
 
 -- users are at the DTE's end of each line and the switch is at the DCE's; the lines have the addresses of the plan, and
--- each has one; the routes are those of the switch
+-- each has one, which a line between two ends of one kind has not; the routes are those of the switch
 pub record IsPlanned (plan : Plan) (s : Switch) : Type 0 where
   pub user_end : (n : ℕ) → n < length s.lines → plan.has_user n Dte ≡ true
   pub switch_end : (n : ℕ) → n < length s.lines → plan.has_user n Dce ≡ false
   pub one_switch : (m n : ℕ) → m < length s.lines → n < length s.lines → plan.node m Dce ≡ plan.node n Dce
   pub address : (n : ℕ) (l : SwitchLine) → slice_get s.lines n ≡ Some l → l.address ≡ plan.address n
   pub addressed : (n : ℕ) → n < length s.lines → plan.address n ≡ [] → ⊥
+  pub alike : AreAddressed plan
   pub route : (called : List ℕ) (n : ℕ) → n < length s.lines → line_for s.routes called ≡ Some n
       → n ≡ plan.route (plan.node n Dce) (address_of called)
 
