@@ -56,7 +56,7 @@ use Rattle.joined_call_laws.specs.Calls.{JoinedCall, present_at, books_by, books
 use Rattle.joined_call_laws.proofs.Steady.{HavePlaces, shape, Same, Mutual, switch_mutual, books_rest, every_map, ended_same, calls_same, steadies_same, steadies_none, IsPlain, plains_steady}
 use Rattle.joined_call_laws.proofs.Walking.{Beside, beside_step, there_step, there_steps, Leads, leads_then, Walked, walked_then, walked_quiet}
 use Rattle.switch_record_laws.proofs.Calming.{addresses}
-use Rattle.joined_call_laws.proofs.Following.{addresses_led, CameIn, KeptQuietly, KeptJoining, And, WrittenIn, step_quiet, steps_keep, steadies_place_none, last_written, noted_accepts, lines_answered}
+use Rattle.joined_call_laws.proofs.Following.{addresses_led, CameIn, KeptQuietly, KeptSending, KeptJoining, And, WrittenIn, step_quiet, steady_keep, last_written, noted_accepts, lines_answered}
 use Rattle.switch_laws.specs.Pairs.{IsNoted}
 use Rattle.switch_record_laws.specs.Opened.{HasSlot}
 use Rattle.switch_record_laws.specs.Kept.{Partners, AreKept}
@@ -201,7 +201,7 @@ heed_all_lines routes n (x ∷ xs) ls bs =
 
 module _ (routes : RouteMap) (n : ℕ) (what : Happening) (ls : List SwitchLine) (w : World) (bs : Books) (cs : List JoinedCall) (i : IsSwitch ls w) (h : HaveRecords (layers_of ls) w bs) (a : AreCalls ls bs cs)
     (line : SwitchLine) (got : slice_get ls n ≡ Some line) (eff : EndEffect n what line.end)
-    (given : List (List ℕ)) (same_lines : addresses ls ≡ given) (R : Books → List JoinedCall → Type 0) (keeps : KeptQuietly R) (joins : KeptJoining routes given R) (kept : R bs cs) (ps : Partners) (lines_kept : AreKept ps (books_by (Happens n what) ls bs) (lines_after (Happens n what) ls)) where
+    (given : List (List ℕ)) (same_lines : addresses ls ≡ given) (R : Books → List JoinedCall → Type 0) (keeps : KeptQuietly R) (sends : KeptSending R) (joins : KeptJoining routes given R) (kept : R bs cs) (ps : Partners) (lines_kept : AreKept ps (books_by (Happens n what) ls bs) (lines_after (Happens n what) ls)) where
   abbrev l : Layer
   l = line.end.layer
 
@@ -284,7 +284,7 @@ module _ (routes : RouteMap) (n : ℕ) (what : Happening) (ls : List SwitchLine)
       let steady = plains_steady routes n notes ms plain in
       walked_quiet (And AreCalls R) ss ms bs1 cs (heed_all routes n notes ms) lines (steadies_none ss ms bs1 steady)
       (subst (λ (ks : List SwitchLine). AreCalls ks (books_by_all ss ms bs1) cs) lines
-      (calls_same ms (steps.lines_after_all ss ms) bs1 (books_by_all ss ms bs1) cs mutual_ms (steadies_same ss ms bs1 steady) (calls_same ls ms bs bs1 cs mutual_ls (same_ms slots) a)), steps_keep R keeps ss ms bs1 cs (steadies_place_none ss ms steady) kept1)
+      (calls_same ms (steps.lines_after_all ss ms) bs1 (books_by_all ss ms bs1) cs mutual_ms (steadies_same ss ms bs1 steady) (calls_same ls ms bs bs1 cs mutual_ls (same_ms slots) a)), steady_keep R keeps sends ss ms bs1 cs steady mutual_ms (calls_same ls ms bs bs1 cs mutual_ls (same_ms slots) a) kept1)
     where
       slots : (y : Place) (j : Joined) → joined_at ls y ≡ Some j → present_at y bs1 ≡ present_at y bs
       slots y j e =

@@ -64,7 +64,7 @@ use Rattle.joined_call_laws.proofs.Steady.{shape, ended_same}
 use Rattle.joined_call_laws.proofs.Closing.{SameEpochs, epochs_itself, relayed_same, closed_none, RestsWith, records_at}
 use Rattle.joined_call_laws.proofs.Telling.{IsClosing}
 use Rattle.joined_call_laws.proofs.Answering.{record_call}
-use Rattle.joined_call_laws.proofs.Following.{addresses_led, KeptQuietly, KeptJoining, And, step_quiet, steps_keep, steadies_place_none}
+use Rattle.joined_call_laws.proofs.Following.{addresses_led, KeptQuietly, KeptSending, KeptJoining, And, step_quiet, steady_keep}
 use Rattle.switch_laws.specs.Turn.{AreOctets}
 use Rattle.lapb.specs.Machine.{Octets}
 use Rattle.std.proofs.Common.{append-nil}
@@ -73,7 +73,7 @@ use Rattle.switch_record_laws.proofs.Stepping.{steps_kept}
 use Rattle.switch_record_laws.proofs.Calming.{addresses, Addressed, addressed, addressed_then, calm_fit, heeded_calm}
 use Rattle.joined_call_laws.proofs.Acting.{closed_epochs, closing_only}
 use Rattle.joined_call_laws.specs.Calls.{JoinedCall, books_by, books_by_all, AreCalls}
-use Rattle.joined_call_laws.proofs.Steady.{Mutual, switch_mutual, IsMildAct, acts_slots, books_rest, every_map, calls_same, AreSteady, steady_same, steady_then, steadies_same, steadies_none, rounds_steady}
+use Rattle.joined_call_laws.proofs.Steady.{Mutual, switch_mutual, IsMildAct, acts_slots, books_rest, every_map, calls_same, AreSteady, steady_same, steady_then, steadies_same, steadies_none, rounds_steady, mutual_both}
 use Rattle.joined_call_laws.proofs.Walking.{books_are, leads_first, leads_then, Walked, walked_then, walked_quiet, Beside}
 use Rattle.joined_call_laws.proofs.Acting.{heeded_walk}
 
@@ -93,7 +93,7 @@ pub record Good (given : List (List ℕ)) (ls : List SwitchLine) (bs : Books) (c
 begun_records : (ls : List SwitchLine) (w : World) (bs : Books) → HaveRecords (layers_of ls) w bs → HaveRecords (layers_of (all_begun ls)) w bs
 begun_records ls w bs h = subst (λ (ys : List Layer). HaveRecords ys w bs) (sym (layers_on_ends begun ls (λ e. refl))) h
 
-module _ (routes : RouteMap) (given : List (List ℕ)) (R : Books → List JoinedCall → Type 0) (keeps : KeptQuietly R) (joins : KeptJoining routes given R) where
+module _ (routes : RouteMap) (given : List (List ℕ)) (R : Books → List JoinedCall → Type 0) (keeps : KeptQuietly R) (sends : KeptSending R) (joins : KeptJoining routes given R) where
   -- steps after which the joins hold, and the calls are as they lead to
   good_after : (steps : List Step) (ls ms : List SwitchLine) (bs : Books) (cs : List JoinedCall) (x : Good given ls bs cs) → AreFit steps x.partners → Becomes (acts_of_all steps ls) ls x.legs ms → Walked (And AreCalls R) steps ls bs cs ms
       → Walked (And (Good given) R) steps ls bs cs ms
@@ -144,7 +144,7 @@ module _ (routes : RouteMap) (given : List (List ℕ)) (R : Books → List Joine
       by_line : (o : Option SwitchLine) → slice_get ls n ≡ o → Walked (And AreCalls R) (acted_steps routes n what ls) ls bs cs (acted routes n (does what) ls)
       by_line (Some line) e =
           first (subst (λ (o : Option SwitchLine). Walked (And AreCalls R) (heed_all_steps routes n (notes_of o) ms) ms (books_by (Happens n what) ls bs) cs (heed_all routes n (notes_of o) ms)) (sym (got_changed n g ls line e))
-          (heeded_walk routes n what ls x.legs bs cs x.switch x.records x.calls line e (eff line e) given x.lines R keeps joins r (partners_after (Happens n what) x.partners) then_kept))
+          (heeded_walk routes n what ls x.legs bs cs x.switch x.records x.calls line e (eff line e) given x.lines R keeps sends joins r (partners_after (Happens n what) x.partners) then_kept))
       by_line None e =
           let gone : slice_get l1 n ≡ None = ap (λ (ks : List SwitchLine). slice_get ks n) (changed_none n g ls e) ∙ e in
           let same : ms ≡ ls = changed_none n (with_end without_notes) l1 gone ∙ changed_none n g ls e in
@@ -178,7 +178,7 @@ module _ (routes : RouteMap) (given : List (List ℕ)) (R : Books → List Joine
   steady_walk : (steps : List Step) (ls ms : List SwitchLine) (bs : Books) (cs : List JoinedCall) → lines_after_all steps ls ≡ ms → AreSteady steps ls → Mutual ls → AreCalls ls bs cs → R bs cs → Walked (And AreCalls R) steps ls bs cs ms
   steady_walk steps ls ms bs cs e s m a r =
       walked_quiet (And AreCalls R) steps ls bs cs ms e (steadies_none steps ls bs s)
-      (subst (λ (ks : List SwitchLine). AreCalls ks (books_by_all steps ls bs) cs) e (calls_same ls (lines_after_all steps ls) bs (books_by_all steps ls bs) cs m (steadies_same steps ls bs s) a), steps_keep R keeps steps ls bs cs (steadies_place_none steps ls s) r)
+      (subst (λ (ks : List SwitchLine). AreCalls ks (books_by_all steps ls bs) cs) e (calls_same ls (lines_after_all steps ls) bs (books_by_all steps ls bs) cs m (steadies_same steps ls bs s) a), steady_keep R keeps sends steps ls bs cs s m a r)
 
   finished_walk : (n : ℕ) (ls : List SwitchLine) (bs : Books) (cs : List JoinedCall) → And (Good given) R ls bs cs → Walked (And AreCalls R) (finished_steps routes n ls) ls bs cs (finished routes n ls)
   finished_walk n ls bs cs x =
@@ -190,7 +190,7 @@ module _ (routes : RouteMap) (given : List (List ℕ)) (R : Books → List Joine
       let m = switch_mutual ks y.0.legs y.0.switch in
       let lines : lines_after_all (last ++ Settles ∷ []) ks ≡ finished routes n ls = (leads_then last (Settles ∷ []) ks (rounds (7 * length ks) first ks) (finished routes n ls) after (books_by_all last ks after) _ _ _
       (record { lines = rounds_leads (7 * length ks) first ks; books = refl; calls = refl }) (record { lines = refl; books = refl; calls = refl })).lines in
-      steady_walk (last ++ Settles ∷ []) ks (finished routes n ls) after all lines (steady_then last (Settles ∷ []) ks (rounds (7 * length ks) first ks) (rounds_leads (7 * length ks) first ks) (rounds_steady (7 * length ks) first ks) (tt, tt)) m y.0.calls y.1)
+      steady_walk (last ++ Settles ∷ []) ks (finished routes n ls) after all lines (steady_then last (Settles ∷ []) ks (rounds (7 * length ks) first ks) (rounds_leads (7 * length ks) first ks) (rounds_steady (7 * length ks) first ks (mutual_both ks m)) (tt, tt)) m y.0.calls y.1)
 
   -- ---- events
 
@@ -208,7 +208,7 @@ module _ (routes : RouteMap) (given : List (List ℕ)) (R : Books → List Joine
 
 -- ---- of a switch that is kept
 
-module _ (R : Books → List JoinedCall → Type 0) (keeps : KeptQuietly R) where
+module _ (R : Books → List JoinedCall → Type 0) (keeps : KeptQuietly R) (sends : KeptSending R) where
   -- the calls after an event, and what is kept beside them
   pub calls_after : (n : ℕ) (what : Happening) (s t : Switch) (h : Histories) (cs : List JoinedCall) → KeptJoining s.routes (addresses s.lines) R → t.lines ≡ finished s.routes n (acted s.routes n (does what) (all_begun s.lines))
       → ((line : SwitchLine) → slice_get (all_begun s.lines) n ≡ Some line → EndEffect n what line.end) → ReadsOctets what → IsFit (Happens n what) h.partners → IsTied s h → AreCalls s.lines h.books cs → R h.books cs
@@ -226,7 +226,7 @@ module _ (R : Books → List JoinedCall → Type 0) (keeps : KeptQuietly R) wher
         addressed = addressed_then (Begins ∷ []) s.lines ls refl (addressed s.lines i.addresses);
         lines = addresses_led (Begins ∷ []) s.lines ls (addresses s.lines) refl refl;
       } in
-      let x = event_walk s.routes (addresses s.lines) R keeps joins n what s h.books cs refl eff reads begun_good fits r in
+      let x = event_walk s.routes (addresses s.lines) R keeps sends joins n what s h.books cs refl eff reads begun_good fits r in
       let ss = event_steps s.routes n what s.lines in
       subst (λ (ms : List SwitchLine). And AreCalls R ms (happened n what s h).books (cs ++ calls_in n what s h)) (sym is)
       (subst (λ (new : List JoinedCall). And AreCalls R (finished s.routes n (acted s.routes n (does what) ls)) (happened n what s h).books (cs ++ new)) (sym x.leads.calls)
@@ -248,12 +248,12 @@ nothing_beside bs cs = Unit {0}
 frame_calls : FrameCalls
 unfolding nothing_beside
 frame_calls n octets s h cs are first i a =
-    (calls_after nothing_beside (λ acts ys bs ds q r. tt) n (Brings octets) s (on_frame n octets s) h cs (λ p q parts ls bs ds j r. tt) refl (frame_effect n octets s.lines are) are first i a tt).0
+    (calls_after nothing_beside (λ acts ys bs ds q r. tt) (λ p q j ls bs ds m a e r. tt) n (Brings octets) s (on_frame n octets s) h cs (λ p q parts ls bs ds j r. tt) refl (frame_effect n octets s.lines are) are first i a tt).0
 
 timer_calls : TimerCalls
 unfolding nothing_beside
 timer_calls n id s h cs i a =
-    (calls_after nothing_beside (λ acts ys bs ds q r. tt) n (RunsOut id) s (on_timer n id s) h cs (λ p q parts ls bs ds j r. tt) refl (λ line e. timer_effect n id line.end) tt tt i a tt).0
+    (calls_after nothing_beside (λ acts ys bs ds q r. tt) (λ p q j ls bs ds m a e r. tt) n (RunsOut id) s (on_timer n id s) h cs (λ p q parts ls bs ds j r. tt) refl (λ line e. timer_effect n id line.end) tt tt i a tt).0
 
 -- ---- the others
 

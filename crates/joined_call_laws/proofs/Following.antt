@@ -13,7 +13,8 @@ use Rattle.lapb.specs.Octets.{on_octets}
 use Rattle.packet_layer.specs.Packets.{CallParts, Note, Packet, Received}
 use Rattle.packet_layer.specs.Packets.Note.{Incoming, Connected, Closed, WasReset, InterruptConfirmed, Covered}
 use Rattle.packet_layer.specs.Octets.{heard}
-use Rattle.packet_layer.specs.Channel.{CallState, Channel, may_accept, requested}
+use Rattle.packet_layer.specs.Channel.{CallState, Channel, Request, may_accept, requested}
+use Rattle.packet_layer.specs.Channel.Request.{Accept, Clearing, Resetting, Sending, Interrupting, Stopping, Taking, Releasing, Confirming}
 use Rattle.packet_layer.specs.Layer.{Layer, Timer, channel_of, channel_given, next_packet}
 use Rattle.packet_layer.specs.Events.{timer_named}
 use Rattle.packet_laws.specs.Readable.{Every}
@@ -55,8 +56,8 @@ use Rattle.switch_record_laws.proofs.Cells.{Touches, touches_closed, changes}
 use Rattle.switch_record_laws.proofs.Heads.{comes_opens}
 use Rattle.switch_record_laws.proofs.Notes.{told_touches}
 use Rattle.joined_call_laws.specs.Calls.{JoinedCall, present_at, books_by, books_by_all, AreCalls}
-use Rattle.joined_call_laws.proofs.Steady.{IsSteady, AreSteady}
-use Rattle.joined_call_laws.proofs.Walking.{Beside}
+use Rattle.joined_call_laws.proofs.Steady.{OnJoined, IsSteady, AreSteady, Mutual, mutual_stays, steady_same, calls_same}
+use Rattle.joined_call_laws.proofs.Walking.{Beside, there_step}
 
 -- ---- a call that came in, as it is joined
 
@@ -110,12 +111,23 @@ addresses_led steps ls ms given e f = ap (λ (ks : List SwitchLine). addresses k
 
 -- ---- what is kept beside
 
+-- a request that sends nothing, and an act that sends nothing and places no call
+abbrev pub SendsNone : Request → Type 0
+SendsNone (Sending d) = ⊥
+SendsNone (Interrupting octets) = ⊥
+SendsNone q = Unit {0}
+
 abbrev pub IsQuietAct : Act → Type 0
+IsQuietAct (Act.Asks p q) = SendsNone q
 IsQuietAct (Act.Calls n parts) = ⊥
 IsQuietAct a = Unit {0}
 
 abbrev pub KeptQuietly : (Books → List JoinedCall → Type 0) → Type 0
 KeptQuietly R = (acts : List Act) (ys : List Layer) (bs : Books) (cs : List JoinedCall) → Every IsQuietAct acts → R bs cs → R (books_after_all acts ys bs) cs
+
+-- what is sent is sent on joined channels
+abbrev pub KeptSending : (Books → List JoinedCall → Type 0) → Type 0
+KeptSending R = (p : Place) (q : Request) (j : Joined) (ls : List SwitchLine) (bs : Books) (cs : List JoinedCall) → Mutual ls → AreCalls ls bs cs → joined_at ls p ≡ Some j → R bs cs → R (books_by (Asks p q) ls bs) cs
 
 abbrev pub KeptJoining : RouteMap → List (List ℕ) → (Books → List JoinedCall → Type 0) → Type 0
 KeptJoining routes given R = (p q : Place) (parts : CallParts) (ls : List SwitchLine) (bs : Books) (cs : List JoinedCall) → (j : Joining routes given p q parts ls bs cs) → R bs cs
@@ -170,12 +182,13 @@ line_quiet : (f : PacketEnd → List Act) (o : Option SwitchLine) → ((e : Pack
 line_quiet f None h = tt
 line_quiet f (Some l) h = h l.end
 
-abbrev pub PlacesNone : Step → Type 0
-PlacesNone (Places n parts) = ⊥
-PlacesNone s = Unit {0}
+abbrev pub IsQuiet : Step → Type 0
+IsQuiet (Asks p q) = SendsNone q
+IsQuiet (Places n parts) = ⊥
+IsQuiet s = Unit {0}
 
-pub step_quiet : (s : Step) (ls : List SwitchLine) → PlacesNone s → Every IsQuietAct (acts_of s ls)
-step_quiet (Asks p q) ls i = (tt, tt)
+pub step_quiet : (s : Step) (ls : List SwitchLine) → IsQuiet s → Every IsQuietAct (acts_of s ls)
+step_quiet (Asks p q) ls i = (i, tt)
 step_quiet (Places n parts) ls i = absurd i
 step_quiet (Keeps p o) ls i = tt
 step_quiet (step.Happens n what) ls i = (tt, line_quiet (λ e. happening_acts n what e) (slice_get ls n) (λ e. happening_quiet n what e))
@@ -184,24 +197,38 @@ step_quiet Begins ls i = tt
 step_quiet Settles ls i = tt
 step_quiet (Elapses ticks) ls i = tt
 
-pub steps_keep : (R : Books → List JoinedCall → Type 0) → KeptQuietly R → (steps : List Step) (ls : List SwitchLine) (bs : Books) (cs : List JoinedCall) → Every PlacesNone steps → R bs cs → R (books_by_all steps ls bs) cs
+pub steps_keep : (R : Books → List JoinedCall → Type 0) → KeptQuietly R → (steps : List Step) (ls : List SwitchLine) (bs : Books) (cs : List JoinedCall) → Every IsQuiet steps → R bs cs → R (books_by_all steps ls bs) cs
 steps_keep R k [] ls bs cs i r = r
 steps_keep R k (s ∷ more) ls bs cs i r = steps_keep R k more (lines_after s ls) (books_by s ls bs) cs i.1 (k (acts_of s ls) (layers_of ls) bs cs (step_quiet s ls i.0) r)
 
-steady_none : (s : Step) (ls : List SwitchLine) → IsSteady s ls → PlacesNone s
-steady_none (Asks p q) ls i = tt
-steady_none (Places n parts) ls i = absurd i
-steady_none (Keeps p (Some j)) ls i = tt
-steady_none (Keeps p None) ls i = tt
-steady_none (step.Happens n what) ls i = tt
-steady_none (Offers n) ls i = tt
-steady_none Begins ls i = tt
-steady_none Settles ls i = tt
-steady_none (Elapses ticks) ls i = tt
+-- steps that end no call and begin none
+module _ (R : Books → List JoinedCall → Type 0) (keeps : KeptQuietly R) (sends : KeptSending R) where
+  asked_keeps : (p : Place) (q : Request) (ls : List SwitchLine) (bs : Books) (cs : List JoinedCall) → OnJoined q p ls → Mutual ls → AreCalls ls bs cs → R bs cs → R (books_by (Asks p q) ls bs) cs
+  asked_keeps p (Sending d) ls bs cs o m a r = sends p (Sending d) o.0 ls bs cs m a o.1 r
+  asked_keeps p (Interrupting octets) ls bs cs o m a r = sends p (Interrupting octets) o.0 ls bs cs m a o.1 r
+  asked_keeps p Accept ls bs cs o m a r = keeps (Act.Asks p Accept ∷ []) (layers_of ls) bs cs (tt, tt) r
+  asked_keeps p (Clearing cause diagnostic) ls bs cs o m a r = keeps (Act.Asks p (Clearing cause diagnostic) ∷ []) (layers_of ls) bs cs (tt, tt) r
+  asked_keeps p (Resetting cause diagnostic) ls bs cs o m a r = keeps (Act.Asks p (Resetting cause diagnostic) ∷ []) (layers_of ls) bs cs (tt, tt) r
+  asked_keeps p (Stopping v) ls bs cs o m a r = keeps (Act.Asks p (Stopping v) ∷ []) (layers_of ls) bs cs (tt, tt) r
+  asked_keeps p Taking ls bs cs o m a r = keeps (Act.Asks p Taking ∷ []) (layers_of ls) bs cs (tt, tt) r
+  asked_keeps p (Releasing n) ls bs cs o m a r = keeps (Act.Asks p (Releasing n) ∷ []) (layers_of ls) bs cs (tt, tt) r
+  asked_keeps p Confirming ls bs cs o m a r = keeps (Act.Asks p Confirming ∷ []) (layers_of ls) bs cs (tt, tt) r
 
-pub steadies_place_none : (steps : List Step) (ls : List SwitchLine) → AreSteady steps ls → Every PlacesNone steps
-steadies_place_none [] ls i = tt
-steadies_place_none (s ∷ more) ls i = (steady_none s ls i.0, steadies_place_none more (lines_after s ls) i.1)
+  one_keeps : (s : Step) (ls : List SwitchLine) (bs : Books) (cs : List JoinedCall) → IsSteady s ls → Mutual ls → AreCalls ls bs cs → R bs cs → R (books_by s ls bs) cs
+  one_keeps (Asks p q) ls bs cs i m a r = asked_keeps p q ls bs cs i.1 m a r
+  one_keeps (Places n parts) ls bs cs i m a r = absurd i
+  one_keeps (Keeps p o) ls bs cs i m a r = r
+  one_keeps (step.Happens n what) ls bs cs i m a r = absurd i
+  one_keeps (Offers n) ls bs cs i m a r = keeps (acts_of (Offers n) ls) (layers_of ls) bs cs (step_quiet (Offers n) ls tt) r
+  one_keeps Begins ls bs cs i m a r = r
+  one_keeps Settles ls bs cs i m a r = r
+  one_keeps (Elapses ticks) ls bs cs i m a r = r
+
+  pub steady_keep : (steps : List Step) (ls : List SwitchLine) (bs : Books) (cs : List JoinedCall) → AreSteady steps ls → Mutual ls → AreCalls ls bs cs → R bs cs → R (books_by_all steps ls bs) cs
+  steady_keep [] ls bs cs i m a r = r
+  steady_keep (s ∷ more) ls bs cs i m a r =
+      let same = steady_same s ls bs i.0 in
+      steady_keep more (lines_after s ls) (books_by s ls bs) cs i.1 (mutual_stays ls (lines_after s ls) same.joins (λ x. there_step s ls x) m) (calls_same ls (lines_after s ls) bs (books_by s ls bs) cs m same a) (one_keeps s ls bs cs i.0 m a r)
 
 -- ---- a call that comes in is written
 

@@ -233,8 +233,14 @@ acts_slots (a ∷ more) ys bs x m =
 
 -- ---- steps that end no call and begin none
 
+-- what is sent is sent on joined channels
+abbrev pub OnJoined : Request → Place → List SwitchLine → Type 0
+OnJoined (Sending d) p ls = (j : Joined) × (joined_at ls p ≡ Some j)
+OnJoined (Interrupting octets) p ls = (j : Joined) × (joined_at ls p ≡ Some j)
+OnJoined q p ls = Unit {0}
+
 abbrev pub IsSteady : Step → List SwitchLine → Type 0
-IsSteady (Asks p q) ls = IsMild q
+IsSteady (Asks p q) ls = IsMild q × OnJoined q p ls
 IsSteady (Keeps p (Some j)) ls = (k : Joined) × ((joined_at ls p ≡ Some k) × (anew j ≡ anew k))
 IsSteady (Keeps p None) ls = ⊥
 IsSteady (Places n parts) ls = ⊥
@@ -259,7 +265,7 @@ line_mild n None = tt
 line_mild n (Some l) = offers_mild 7 n l.end
 
 step_mild : (s : Step) (ls : List SwitchLine) → IsSteady s ls → Every IsMildAct (acts_of s ls)
-step_mild (Asks p q) ls i = (i, tt)
+step_mild (Asks p q) ls i = (i.0, tt)
 step_mild (Keeps p o) ls i = tt
 step_mild (Places n parts) ls i = absurd i
 step_mild (Happens n what) ls i = absurd i
@@ -290,6 +296,22 @@ step_shape (Elapses ticks) ls x i = ap shape (joined_on_ends _ ls x.line x.chann
 
 pub books_rest : (acts : List Act) (ys : List Layer) (bs : Books) (k n : ℕ) (r : RecordValue) → Rests n r (bs k) → Rests n r (books_after_all acts ys bs k)
 books_rest acts ys bs k n r i = acts_rest acts ys bs k n r i
+
+-- joins stay in pairs
+pub mutual_stays : (ls ms : List SwitchLine) → ((x : Place) → shape (joined_at ms x) ≡ shape (joined_at ls x)) → ((x : Place) → is_some (shown_at (layers_of ms) x) ≡ is_some (shown_at (layers_of ls) x)) → Mutual ls → Mutual ms
+mutual_stays ls ms same there m p j e =
+    let old = shape_some (joined_at ms p) (joined_at ls p) j (sym (same p)) e in
+    let k = m p old.0 old.1.0 in
+    let other : old.0.other ≡ j.other = ap (λ (i : Joined). i.other) old.1.1 in
+    let now = shape_some (joined_at ls old.0.other) (joined_at ms old.0.other) k.far (same old.0.other) k.joined in
+    record {
+      far = now.0;
+      joined = ap (λ (x : Place). joined_at ms x) (sym other) ∙ now.1.0;
+      back = ap (λ (i : Joined). i.other) now.1.1 ∙ k.back;
+      apart = ap (λ (x : Place). same_place p x) (sym other) ∙ k.apart;
+      one_came_in = ap (λ (i : Joined). i.came_in) now.1.1 ∙ (k.one_came_in ∙ ap (λ (i : Joined). not i.came_in) old.1.1);
+      there = there p ∙ k.there;
+    }
 
 pub steady_same : (s : Step) (ls : List SwitchLine) (bs : Books) → IsSteady s ls → Same ls (lines_after s ls) bs (books_by s ls bs)
 steady_same s ls bs i = record {
@@ -326,35 +348,61 @@ pub steady_then : (as_ bs : List Step) (ls ms : List SwitchLine) → Leads as_ l
 steady_then [] bs ls ms e i j = subst (λ (ks : List SwitchLine). AreSteady bs ks) (sym e) j
 steady_then (a ∷ as_) bs ls ms e i j = (i.0, steady_then as_ bs (lines_after a ls) ms e i.1 j)
 
-taking_mild : (t : Taken) → IsMild (request_for t)
-taking_mild (TakenInterrupt octets) = tt
-taking_mild (TakenPacket d) = tt
-
 -- ---- relay
 
-unless_steady : (o : Option Refusal) (t : Taken) (p : Place) (j : Joined) (ls : List SwitchLine) → joined_at ls p ≡ Some j → AreSteady (moved_unless_steps o t p j) ls
-unless_steady (Some r) t p j ls e = tt
-unless_steady None t p j ls e =
+-- the other channel of a joined one is joined
+abbrev pub BothJoined : List SwitchLine → Type 0
+BothJoined ls = (p : Place) (j : Joined) → joined_at ls p ≡ Some j → (k : Joined) × (joined_at ls j.other ≡ Some k)
+
+pub mutual_both : (ls : List SwitchLine) → Mutual ls → BothJoined ls
+mutual_both ls m p j e = let k = m p j e in (k.far, k.joined)
+
+both_stay : (ls ms : List SwitchLine) → ((x : Place) → shape (joined_at ms x) ≡ shape (joined_at ls x)) → BothJoined ls → BothJoined ms
+both_stay ls ms same b p j e =
+    let old = shape_some (joined_at ms p) (joined_at ls p) j (sym (same p)) e in
+    let far = b p old.0 old.1.0 in
+    let now = shape_some (joined_at ls old.0.other) (joined_at ms old.0.other) far.0 (same old.0.other) far.1 in
+    (now.0, ap (λ (x : Place). joined_at ms x) (sym (ap (λ (i : Joined). i.other) old.1.1)) ∙ now.1.0)
+
+steadies_shape : (steps : List Step) (ls : List SwitchLine) (x : Place) → AreSteady steps ls → shape (joined_at (lines_after_all steps ls) x) ≡ shape (joined_at ls x)
+steadies_shape [] ls x i = refl
+steadies_shape (s ∷ more) ls x i = steadies_shape more (lines_after s ls) x i.1 ∙ step_shape s ls x i.0
+
+both_after : (steps : List Step) (ls ms : List SwitchLine) → lines_after_all steps ls ≡ ms → AreSteady steps ls → BothJoined ls → BothJoined ms
+both_after steps ls ms e i b = subst (λ (ks : List SwitchLine). BothJoined ks) e (both_stay ls (lines_after_all steps ls) (λ x. steadies_shape steps ls x i) b)
+
+sent_steady : (t : Taken) (p : Place) (k : Joined) (ls : List SwitchLine) → joined_at ls p ≡ Some k → IsSteady (Asks p (request_for t)) ls
+sent_steady (TakenInterrupt octets) p k ls e = (tt, (k, e))
+sent_steady (TakenPacket d) p k ls e = (tt, (k, e))
+
+unless_steady : (o : Option Refusal) (t : Taken) (p : Place) (j : Joined) (ls : List SwitchLine) → BothJoined ls → joined_at ls p ≡ Some j → AreSteady (moved_unless_steps o t p j) ls
+unless_steady (Some r) t p j ls b e = tt
+unless_steady None t p j ls b e =
+    let k = b p j e in
     let l1 = ask p Taking ls in
     let l2 = ask j.other (request_for t) l1 in
-    (tt, (taking_mild t, (tt, ((j, (joined_asked p (Releasing (releasable (carried_by t j.kept).held)) p l2 ∙ (joined_asked j.other (request_for t) p l1 ∙ (joined_asked p Taking p ls ∙ e)), refl)), tt))))
+    ((tt, tt), (sent_steady t j.other k.0 l1 (joined_asked p Taking j.other ls ∙ k.1), ((tt, tt), ((j, (joined_asked p (Releasing (releasable (carried_by t j.kept).held)) p l2 ∙ (joined_asked j.other (request_for t) p l1 ∙ (joined_asked p Taking p ls ∙ e)), refl)), tt))))
 
-front_steady : (o : Option Taken) (p : Place) (j : Joined) (ls : List SwitchLine) → joined_at ls p ≡ Some j → AreSteady (moved_front_steps o p j ls) ls
-front_steady None p j ls e = tt
-front_steady (Some t) p j ls e = unless_steady (refusal_at ls j.other (request_for t)) t p j ls e
+front_steady : (o : Option Taken) (p : Place) (j : Joined) (ls : List SwitchLine) → BothJoined ls → joined_at ls p ≡ Some j → AreSteady (moved_front_steps o p j ls) ls
+front_steady None p j ls b e = tt
+front_steady (Some t) p j ls b e = unless_steady (refusal_at ls j.other (request_for t)) t p j ls b e
 
-moved_steady : (o : Option Joined) (p : Place) (ls : List SwitchLine) → joined_at ls p ≡ o → AreSteady (moved_joined_steps o p ls) ls
-moved_steady None p ls e = tt
-moved_steady (Some j) p ls e = front_steady (lines.front_at ls p) p j ls e
+moved_steady : (o : Option Joined) (p : Place) (ls : List SwitchLine) → BothJoined ls → joined_at ls p ≡ o → AreSteady (moved_joined_steps o p ls) ls
+moved_steady None p ls b e = tt
+moved_steady (Some j) p ls b e = front_steady (lines.front_at ls p) p j ls b e
 
-relayed_steady : (most : ℕ) (p : Place) (ls : List SwitchLine) → AreSteady (relayed_steps most p ls) ls
-relayed_steady zero p ls = tt
-relayed_steady (suc most) p ls =
-    steady_then (moved_joined_steps (joined_at ls p) p ls) (relayed_steps most p (moved p ls)) ls (moved p ls) (moved_leads (joined_at ls p) p ls) (moved_steady (joined_at ls p) p ls refl) (relayed_steady most p (moved p ls))
+relayed_steady : (most : ℕ) (p : Place) (ls : List SwitchLine) → BothJoined ls → AreSteady (relayed_steps most p ls) ls
+relayed_steady zero p ls b = tt
+relayed_steady (suc most) p ls b =
+    let one = moved_steady (joined_at ls p) p ls b refl in
+    steady_then (moved_joined_steps (joined_at ls p) p ls) (relayed_steps most p (moved p ls)) ls (moved p ls) (moved_leads (joined_at ls p) p ls) one
+    (relayed_steady most p (moved p ls) (both_after (moved_joined_steps (joined_at ls p) p ls) ls (moved p ls) (moved_leads (joined_at ls p) p ls) one b))
 
-from_steady : (ps : List Place) (ls : List SwitchLine) → AreSteady (relayed_from_steps ps ls) ls
-from_steady [] ls = tt
-from_steady (p ∷ ps) ls = steady_then (relayed_steps 8 p ls) (relayed_from_steps ps (relayed 8 p ls)) ls (relayed 8 p ls) (relayed_leads 8 p ls) (relayed_steady 8 p ls) (from_steady ps (relayed 8 p ls))
+from_steady : (ps : List Place) (ls : List SwitchLine) → BothJoined ls → AreSteady (relayed_from_steps ps ls) ls
+from_steady [] ls b = tt
+from_steady (p ∷ ps) ls b =
+    let one = relayed_steady 8 p ls b in
+    steady_then (relayed_steps 8 p ls) (relayed_from_steps ps (relayed 8 p ls)) ls (relayed 8 p ls) (relayed_leads 8 p ls) one (from_steady ps (relayed 8 p ls) (both_after (relayed_steps 8 p ls) ls (relayed 8 p ls) (relayed_leads 8 p ls) one b))
 
 -- ---- rounds
 
@@ -362,11 +410,14 @@ offered_steady : (count n : ℕ) (ls : List SwitchLine) → AreSteady (offered_s
 offered_steady zero n ls = tt
 offered_steady (suc count) n ls = (tt, offered_steady count (suc n) (lines_after (Offers n) ls))
 
-pub rounds_steady : (most : ℕ) (first : List ℕ) (ls : List SwitchLine) → AreSteady (rounds_steps most first ls) ls
-rounds_steady zero first ls = from_steady (places_first first ls) ls
-rounds_steady (suc most) first ls =
+pub rounds_steady : (most : ℕ) (first : List ℕ) (ls : List SwitchLine) → BothJoined ls → AreSteady (rounds_steps most first ls) ls
+rounds_steady zero first ls b = from_steady (places_first first ls) ls b
+rounds_steady (suc most) first ls b =
     let ms = relayed_first first ls in
-    steady_then (relayed_first_steps first ls) _ ls ms (relayed_first_leads first ls) (from_steady (places_first first ls) ls) (by (list_any may_offer ms) (rounds_steady most (offering_from 0 ms) (offered_from (length ls) 0 ms)))
+    let one = from_steady (places_first first ls) ls b in
+    let xs = offered_from (length ls) 0 ms in
+    let after = both_after (offered_steps (length ls) 0) ms xs (offered_leads (length ls) 0 ms) (offered_steady (length ls) 0 ms) (both_after (relayed_first_steps first ls) ls ms (relayed_first_leads first ls) one b) in
+    steady_then (relayed_first_steps first ls) _ ls ms (relayed_first_leads first ls) one (by (list_any may_offer ms) (rounds_steady most (offering_from 0 ms) xs after))
   where
     onward : List Step
     onward = rounds_steps most (offering_from 0 (relayed_first first ls)) (offered_from (length ls) 0 (relayed_first first ls))
@@ -392,19 +443,19 @@ IsPlain note = Unit {0}
 told_joined_steady : (note : Note) (p : Place) (j : Joined) (ls : List SwitchLine) → IsPlain note → joined_at ls p ≡ Some j → AreSteady (told_joined_steps note p j ls) ls
 told_joined_steady (Incoming c parts) p j ls i e = absurd i
 told_joined_steady (Closed c cause diagnostic reason) p j ls i e = absurd i
-told_joined_steady (Connected c) p j ls i e = (tt, tt)
-told_joined_steady (InterruptConfirmed c) p j ls i e = (tt, tt)
+told_joined_steady (Connected c) p j ls i e = ((tt, tt), tt)
+told_joined_steady (InterruptConfirmed c) p j ls i e = ((tt, tt), tt)
 told_joined_steady (Covered c n) p j ls i e = covered_steady (joined_at ls j.other) refl
   where
     covered_steady : (o : Option Joined) → joined_at ls j.other ≡ o → AreSteady (covered_steps n o j.other) ls
     covered_steady None f = tt
-    covered_steady (Some k) f = (tt, ((k, (joined_asked j.other (Releasing (releasable (covered_by n k.kept).held)) j.other ls ∙ f, refl)), tt))
+    covered_steady (Some k) f = ((tt, tt), ((k, (joined_asked j.other (Releasing (releasable (covered_by n k.kept).held)) j.other ls ∙ f, refl)), tt))
 told_joined_steady (WasReset c cause diagnostic reason) p j ls i e =
     let r = Resetting (reset_cause reason cause) (far_diagnostic reason diagnostic) in
     let l1 = ask j.other r ls in
     let here : joined_at l1 p ≡ Some j = joined_asked j.other r p ls ∙ e in
     let l2 = with_joined p (Some (record j { kept = new_direction })) l1 in
-    (tt, ((j, (here, refl)), anew_steady (joined_at ls j.other) j.other l2 (kept_shape p (record j { kept = new_direction }) j l1 j.other here refl ∙ ap shape (joined_asked j.other r j.other ls))))
+    ((tt, tt), ((j, (here, refl)), anew_steady (joined_at ls j.other) j.other l2 (kept_shape p (record j { kept = new_direction }) j l1 j.other here refl ∙ ap shape (joined_asked j.other r j.other ls))))
 
 told_steady : (o : Option Joined) (note : Note) (p : Place) (ls : List SwitchLine) → IsPlain note → joined_at ls p ≡ o → AreSteady (told_steps o note p ls) ls
 told_steady None note p ls i e = tt
