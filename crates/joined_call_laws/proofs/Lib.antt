@@ -1,0 +1,8 @@
+pub mod Steady
+pub mod Walking
+pub mod Following
+pub mod Closing
+pub mod Telling
+pub mod Answering
+pub mod Acting
+pub mod Eventing

@@ -1,0 +1,86 @@
+-- What becomes of the calls that a switch joined, whatever its partners send.
+use Rattle.std.specs.Prelude.{◌≡◌, ℕ, ◌==◌, if◌then◌else◌, List, [], ◌++◌, slice_get, Some}
+use Rattle.link_timers.specs.declared.role.Role.TheVariants.{Dte}
+use Rattle.link_timers.specs.declared.timers.TimerId.{TimerId}
+use Rattle.lapb.specs.Machine.{Octets}
+use Rattle.packet_laws.specs.Readable.{Every}
+use Rattle.call_records.specs.Records.{RecordValue}
+use Rattle.call_records.specs.Writes.{Write, all_written}
+use Rattle.address_routes.specs.Routes.{RouteMap}
+use Rattle.switch_lines.specs.declared.config.LineConfig.{LineConfig}
+use Rattle.switch_lines.specs.Making.{IsConfig, made}
+use Rattle.switch_lines.specs.Switch.{Switch, on_frame, on_timer, elapse, restart}
+use Rattle.switch_laws.specs.Turn.{AreOctets}
+use Rattle.switch_laws.specs.Steps.{Happening}
+use Rattle.switch_laws.specs.Steps.Happening.{Brings, RunsOut}
+use Rattle.switch_laws.specs.EventSteps.{event_steps}
+use Rattle.switch_record_laws.specs.Written.{Books}
+use Rattle.switch_record_laws.specs.Kept.{BeginWith}
+use Rattle.switch_record_laws.specs.Relayed.{AreRelayed}
+use Rattle.switch_record_laws.specs.Tied.{Histories, IsTied, happened, restarted, gone_out}
+use Rattle.joined_call_laws.specs.Calls.{JoinedCall, AreCalls, calls_of_all}
+
+-- those that an event on line n joins
+abbrev pub calls_in : (line : ℕ) → Happening → Switch → Histories → List JoinedCall
+calls_in n what s h = calls_of_all (event_steps s.routes n what s.lines) s.lines h.books
+
+-- a switch as it is made has none
+abbrev pub BeginCalls : Type 0
+BeginCalls = (routes : RouteMap) (lines : List LineConfig) (books : Books) → IsConfig lines
+    → AreCalls (made routes lines).lines books []
+
+-- over each event the calls that were joined stand or are over, and those that it joins come behind them
+abbrev pub FrameCalls : Type 0
+FrameCalls = (n : ℕ) (octets : Octets) (s : Switch) (h : Histories) (cs : List JoinedCall) → AreOctets octets
+    → BeginWith octets (h.partners n).up → IsTied s h → AreCalls s.lines h.books cs
+    → AreCalls (on_frame n octets s).lines (happened n (Brings octets) s h).books (cs ++ calls_in n (Brings octets) s h)
+
+abbrev pub TimerCalls : Type 0
+TimerCalls = (n : ℕ) (id : TimerId) (s : Switch) (h : Histories) (cs : List JoinedCall) → IsTied s h
+    → AreCalls s.lines h.books cs
+    → AreCalls (on_timer n id s).lines (happened n (RunsOut id) s h).books (cs ++ calls_in n (RunsOut id) s h)
+
+abbrev pub ElapseCalls : Type 0
+ElapseCalls = (ticks : ℕ) (s : Switch) (h : Histories) (cs : List JoinedCall) → IsTied s h
+    → AreCalls s.lines h.books cs → AreCalls (elapse ticks s).lines h.books cs
+
+-- a restart ends all calls
+abbrev pub RestartCalls : Type 0
+RestartCalls = (s : Switch) (h : Histories) (cs : List JoinedCall) → IsTied s h → AreCalls s.lines h.books cs
+    → AreCalls (restart s).lines (restarted s h).books cs
+
+-- the frames of a line go out
+abbrev pub OutCalls : Type 0
+OutCalls = (n : ℕ) (s : Switch) (h : Histories) (cs : List JoinedCall) → IsTied s h → AreCalls s.lines h.books cs
+    → AreCalls (gone_out n s).lines h.books cs
+
+-- whatever is written at the other end of a line
+abbrev pub written_there : (line : ℕ) → List Write → Books → Books
+written_there n ws bs = λ k. if k == n then all_written Dte ws (bs k) else bs k
+
+abbrev pub PartnerCalls : Type 0
+PartnerCalls = (n : ℕ) (ws : List Write) (s : Switch) (h : Histories) (cs : List JoinedCall) → IsTied s h
+    → AreCalls s.lines h.books cs → AreCalls s.lines (written_there n ws h.books) cs
+
+-- so of each call that was joined, whether it stands or is over, what the switch sent on each leg is what it took on the
+-- other one
+pub record HasRelayed (bs : Books) (c : JoinedCall) : Type 0 where
+  pub near_record : RecordValue
+  pub far_record : RecordValue
+  pub near_there : slice_get (bs c.near.line).records c.came_in ≡ Some near_record
+  pub far_there : slice_get (bs c.far.line).records c.placed ≡ Some far_record
+  pub relayed : AreRelayed near_record far_record
+
+abbrev pub RelayedCalls : Type 0
+RelayedCalls = (s : Switch) (h : Histories) (cs : List JoinedCall) → IsTied s h → AreCalls s.lines h.books cs
+    → Every (HasRelayed h.books) cs
+
+pub record CallsLaw : Type 0 where
+  pub begins : BeginCalls
+  pub frames : FrameCalls
+  pub timers : TimerCalls
+  pub elapses : ElapseCalls
+  pub restarts : RestartCalls
+  pub out : OutCalls
+  pub partner : PartnerCalls
+  pub relayed : RelayedCalls
