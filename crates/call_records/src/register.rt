@@ -73,7 +73,7 @@ impl Register {
         Ok(())
     }
 
-    /// Opens the book at a line, and makes room there for so many writes. Without the memory there is no room, and the
+    /// Opens the book at a line, and makes room there for so many writes and pairs. Without the memory there is no room, and the
     /// register is as before.
     pub fn open(&mut self, line: usize, count: usize) -> Result<(), AllocError>
         ensures same { register_of self.new ≡ register_of self.old }
@@ -81,6 +81,7 @@ impl Register {
         ensures at { line < length self.old.lines.items → IsOpen line self.new }
         ensures book { line < length self.old.lines.items → self.new.book.book ≡ book_at line (register_of self.old) }
         ensures room { OnOk result (self.new.book.room ≡ count) }
+        ensures pairs { OnOk result (self.new.book.pairs ≡ count) }
     {
         if let Some(last) = self.open {
             exchange(&mut self.book, &mut self.lines, last);

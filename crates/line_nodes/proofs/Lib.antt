@@ -1,4 +1,4 @@
 pub mod Reading
 pub mod Sending
 pub mod Noted
-pub mod Rooms
+pub mod Short

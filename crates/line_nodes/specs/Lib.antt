@@ -5,5 +5,5 @@ pub mod Notes
 pub mod Turn
 pub mod Writing
 pub mod HostTurns
-pub mod PadTurns
+pub mod Terminals
 pub mod LineTurns

@@ -4,9 +4,12 @@ use Rattle.link_timers.specs.declared.timers.TimerId.{TimerId}
 use Rattle.lapb.specs.Machine.{Octets}
 use Rattle.line_end.specs.End.{without_frames}
 use Rattle.packet_layer.specs.Layer.{confirmed}
-use Rattle.packet_end.specs.PacketEnd.{PacketEnd, at_rest, due, elapsed}
-use Rattle.packet_pad.specs.Notes.{PadNote}
-use Rattle.packet_pad.specs.Pad.{PadState}
+use Rattle.packet_end.specs.PacketEnd as end
+use Rattle.packet_end.specs.PacketEnd.{PacketEnd, at_rest}
+use Rattle.x25_pad.specs.Notes.{PadNote}
+use Rattle.x25_pad.specs.Pad as pad
+use Rattle.x25_pad.specs.Pad.{PadState}
+use Rattle.pad_records.specs.Writing as records
 
 pub data NodeState : Type 0 where
   Pad : PadState → NodeState
@@ -14,11 +17,11 @@ pub data NodeState : Type 0 where
 
 -- its end of the line
 abbrev pub end_of : NodeState → PacketEnd
-end_of (Pad p) = p.end
+end_of (Pad p) = p.line.end
 end_of (Host e) = e
 
 abbrev pub with_end : PacketEnd → NodeState → NodeState
-with_end e (Pad p) = Pad (record p { end = e })
+with_end e (Pad p) = Pad (pad.with_end e p)
 with_end e (Host old) = Host e
 
 abbrev pub is_pad : NodeState → Bool
@@ -35,26 +38,30 @@ sent_out e = record e { line = without_frames e.line }
 abbrev pub drained : NodeState → NodeState
 drained n = with_end (sent_out (end_of n)) n
 
+-- the notes of a PAD that are not read
+abbrev pub pad_notes : NodeState → List PadNote
+pad_notes (Pad p) = p.line.notes
+pad_notes (Host e) = []
+
 -- the node when all notes were read
 abbrev pub all_read : PacketEnd → PacketEnd
 all_read e = record e { notes = [] }
 
--- the notes of a PAD that are not read
-abbrev pub pad_notes : NodeState → List PadNote
-pad_notes (Pad p) = p.notes
-pad_notes (Host e) = []
-
 abbrev pub without_notes : NodeState → NodeState
-without_notes n = with_end (all_read (end_of n)) n
+without_notes (Pad p) = Pad (records.without_notes p)
+without_notes (Host e) = Host (all_read e)
 
 abbrev pub node_rests : NodeState → Bool
 node_rests n = at_rest (end_of n)
 
+-- the first timer with no tick left, at a PAD also of its terminals
 abbrev pub node_due : NodeState → Option TimerId
-node_due n = due (end_of n)
+node_due (Pad p) = pad.due p
+node_due (Host e) = end.due e
 
 abbrev pub node_elapsed : (ticks : ℕ) → NodeState → NodeState
-node_elapsed ticks n = with_end (elapsed (end_of n) ticks) n
+node_elapsed ticks (Pad p) = Pad (pad.elapsed ticks p)
+node_elapsed ticks (Host e) = Host (end.elapsed e ticks)
 
 -- a host asks whether delivery is confirmed, a PAD never
 abbrev pub node_confirmed : NodeState → (channel : ℕ) → Bool

@@ -2,7 +2,6 @@
 use Rattle.std.specs.Prelude.{ℕ, List, [], ◌∷◌, ◌++◌}
 use Rattle.packet_layer.specs.Packets.{Note}
 use Rattle.packet_layer.specs.Packets.Note.{Incoming, Connected, Closed, WasReset, InterruptConfirmed, Covered}
-use Rattle.line_nodes.specs.Node.{NodeState, Pad, Host}
 use Rattle.line_nodes.specs.declared.note.HostNote.{HostNote}
 use Rattle.line_nodes.specs.declared.note.NoteKind.TheVariants as kind
 
@@ -21,8 +20,3 @@ host_note node (Covered channel count) = []
 abbrev pub host_notes : (node : ℕ) → List Note → List HostNote
 host_notes node [] = []
 host_notes node (note ∷ notes) = host_note node note ++ host_notes node notes
-
--- a PAD has no user that is told
-abbrev pub user_notes : NodeState → (node : ℕ) → List Note → List HostNote
-user_notes (Pad p) node notes = []
-user_notes (Host e) node notes = host_notes node notes

@@ -6,11 +6,12 @@ mod fault;
 mod node;
 mod note;
 mod place;
+mod terminal;
 mod writing;
 
 pub use fault::NodeFault;
 pub use node::Node;
 pub use note::{HostNote, NoteKind};
-pub use packet_pad::KeyAnswer;
 pub use place::Place;
+pub use terminal::TerminalEvent;
 pub use writing::{write_notes, write_request, write_taken};

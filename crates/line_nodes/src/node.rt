@@ -1,17 +1,17 @@
 //! A node at an end of a line.
 ghost use Rattle.std.specs.Prelude.{◌≡◌, ◌≤◌, ◌∷◌, [], length};
 ghost use Rattle.std.specs.Bool.{OnTrue, OnFalse};
-ghost use Rattle.packet_end.specs.PacketEnd.{runs_at, without_first_frame};
+ghost use Rattle.packet_end.specs.PacketEnd.{without_first_frame};
 ghost use Rattle.line_nodes.specs.Node.{end_of, with_end, is_pad, frames_of, node_rests, node_due};
 ghost use Rattle.line_nodes.specs.Node.{node_elapsed, node_confirmed};
 ghost use Rattle.line_nodes.specs.NodeView.{node_of};
-ghost use Rattle.line_nodes.specs.NodeEvents.{heard, expired, relinked, restarted};
+ghost use Rattle.line_nodes.specs.NodeEvents.{heard, node_runs, expired, relinked, restarted};
 
 use frame_codec::FrameBuf;
 use line_end::MOST_FRAMES;
 use link_timers::TimerId;
 use packet_host::Host;
-use packet_pad::Pad;
+use x25_pad::Pad;
 
 /// A node at an end of a line. Frames that were not taken by `out`, and notes that were not read, are gone when the next
 /// event begins.
@@ -32,9 +32,10 @@ impl Node {
         }
     }
 
-    /// Takes an expiry of a timer, and answers whether it ran. Where it did not nothing happens.
+    /// Takes an expiry of a timer of the line, or at a PAD of a terminal's idle timer, and answers whether it ran. Where
+    /// it did not nothing happens.
     pub fn expire(&mut self, id: TimerId) -> bool
-        ensures ran { result ≡ runs_at (end_of (node_of self.old)) id }
+        ensures ran { result ≡ node_runs (node_of self.old) id }
         ensures node { node_of self.new ≡ expired (node_of self.old) id }
     {
         match self {

@@ -2,26 +2,24 @@
 ghost use Rattle.std.specs.Prelude.{◌≡◌, ◌≤◌, [], Some, length, vec_capacity};
 ghost use Rattle.packet_layer.specs.TakenView.{taken_of};
 ghost use Rattle.packet_host.specs.Saying.{cut};
-ghost use Rattle.packet_pad.specs.Events.{without_notes};
 ghost use Rattle.call_records.specs.Book.{takes, all_told};
 ghost use Rattle.call_records.specs.Room.{opening_notes};
 ghost use Rattle.line_nodes.specs.Node.{all_read};
 ghost use Rattle.line_nodes.specs.NodeView.{node_of};
-ghost use Rattle.line_nodes.specs.Notes.{host_notes, user_notes};
-ghost use Rattle.line_nodes.specs.Turn.{all_sent};
+ghost use Rattle.line_nodes.specs.Notes.{host_notes};
+ghost use Rattle.line_nodes.specs.Turn.{all_sent, told};
 ghost use Rattle.line_nodes.specs.HostTurns.{let_go};
-ghost use Rattle.line_nodes.specs.Writing.{request_written, IsShort, all_noted, HaveRoom, reads, IsRoomFor};
+ghost use Rattle.line_nodes.specs.Writing.{request_written, IsShort, IsRoomFor};
 
 use crate::node::Node;
 use crate::note::HostNote;
 use crate::place::Place;
-use call_records::{Book, EditStep};
+use call_records::Book;
 use link_timers::Role;
 use packet_codec::MAX_USER_DATA;
 use packet_end::MOST_NOTES;
 use packet_host::{Host, HostRequest, full_packets};
 use packet_layer::Taken;
-use packet_pad::{Pad, PadNote};
 
 /// Writes what a host was asked on a channel and did not refuse. The book has room for it: a message has eight packets
 /// at most.
@@ -66,16 +64,15 @@ pub fn write_taken(book: &mut Book, role: Role, channel: u8, taken: &Taken)
 /// Reads the notes of an event at a node, and writes them. `notes` lists those that the user of a host is told, in
 /// order; it is empty before, with [`MOST_NOTES`] places.
 pub fn write_notes(node: &mut Node, at: Place, book: &mut Book, notes: &mut Vec<HostNote>)
-    requires room { IsRoomFor (node_of node.old) book.old.room }
+    requires room { IsRoomFor (node_of node.old) book.old.room book.old.pairs }
     requires empty { notes.old.items ≡ [] }
     requires capacity { MOST_NOTES ≤ vec_capacity notes.old }
-    ensures node { node_of node.new ≡ (reads at.role (node_of node.old) book.old.book).node }
-    ensures book { book.new.book ≡ (reads at.role (node_of node.old) book.old.book).book }
-    ensures notes { notes.new.items ≡ user_notes (node_of node.old) at.node
-        (reads at.role (node_of node.old) book.old.book).notes }
+    ensures node { node_of node.new ≡ (told at.role (node_of node.old) book.old.book).node }
+    ensures book { book.new.book ≡ (told at.role (node_of node.old) book.old.book).book }
+    ensures notes { notes.new.items ≡ host_notes at.node (told at.role (node_of node.old) book.old.book).notes }
 {
     match node {
-        Node::Pad(pad) => write_pad_notes(pad, at.role, book),
+        Node::Pad(pad) => pad_records::write_notes(pad, at.role, book),
         Node::Host(host) => write_host_notes(host, at, book, notes),
     }
 }
@@ -100,28 +97,6 @@ fn write_message(
         rest = others;
     }
     book.send(role, channel, rest, false, qualified, delivery);
-}
-
-// Reads the notes of a PAD, and writes them.
-fn write_pad_notes(pad: &mut Pad, role: Role, book: &mut Book)
-    requires { HaveRoom pad.old.notes book.old.room }
-    ensures pad { pad.new ≡ without_notes pad.old }
-    ensures book { book.new.book ≡ all_noted role pad.old.notes book.old.book }
-{
-    while let Some(note) = pad.notes() {
-        match note {
-            PadNote::Told(note) => book.tell(role, &note),
-            PadNote::Cleared(channel) => book.close(role, channel),
-            PadNote::Edited {
-                channel,
-                octet,
-                params,
-            } => book.edit(role, channel, EditStep::Key { octet, params }),
-            PadNote::Sent { channel, block } => {
-                book.send(role, channel, block.as_slice(), false, false, false);
-            }
-        }
-    }
 }
 
 // Reads the notes of a host, writes them, and lists those that its user is told.

@@ -1,32 +1,26 @@
 -- What holds of a network holds after each event.
-use Rattle.std.proofs.Common.{◌≡◌, ℕ, Bool, true, false, Result, Ok, Err, sym, subst, inl, inr}
-use Rattle.std.specs.Prelude.{◌⊎◌, ◌==◌, MatchBool}
+use Rattle.std.proofs.Common.{◌≡◌, ℕ, Result, Ok, Err, sym, subst, inl, inr}
+use Rattle.std.specs.Prelude.{◌⊎◌}
 use Rattle.link_timers.specs.declared.role.Role.TheVariants.{Dte}
-use Rattle.packet_pad.specs.declared.key.KeyAnswer.TheVariants as key_is
 use Rattle.memory_line.specs.declared.line.Direction.{Direction}
 use Rattle.memory_line.specs.Lines.{LineService}
 use Rattle.net_events.specs.Network.{Network}
-use Rattle.net_events.specs.NodeEvents.{NodeEvent, Hears, Expires, Relinks, Restarts, Calls, Takes, Keys}
+use Rattle.net_events.specs.NodeEvents.{NodeEvent, Hears, Expires, Relinks, Restarts, Calls, Takes}
+use Rattle.net_events.specs.NodeEvents as node_event
 use Rattle.network_laws.specs.IsNetwork.{IsNetwork}
 use Rattle.network_laws.proofs.Networks.{happened_network, lost_network}
 use Rattle.net_events.specs.declared.answer.Answer.{Answer}
-use Rattle.net_events.specs.declared.answer.Outcome.TheVariants.{Keyed}
 use Rattle.net_events.specs.EventView.{request_event}
 use Rattle.net_events.specs.declared.event.Event.{Event}
-use Rattle.net_events.specs.declared.event.Event.TheVariants.{Key, Call, Ask, Take, Deliver, Lose, Expire, Relink}
+use Rattle.net_events.specs.declared.event.Event.TheVariants.{AtTerminal, Call, Ask, Take, Deliver, Lose, Expire, Relink}
 use Rattle.net_events.specs.declared.event.Event.TheVariants.{Restart}
 use Rattle.net_events.specs.declared.event.StepFault.{StepFault}
-use Rattle.net_nodes.specs.Steps.{AtNode, IdleStep, EmptyDelivery, DeliverStep, StepOf, hearer}
+use Rattle.net_nodes.specs.Steps.{AtNode, EmptyDelivery, DeliverStep, StepOf, hearer}
 use Rattle.net_nodes.specs.Happening.{Happens}
 
 at_node : (L : LineService) (place : ℕ) (event : NodeEvent) (s : Network) (a : Answer) (t : Network)
     → IsNetwork L s → AtNode L place event s a t → IsNetwork L t
 at_node L place event s a t n d = happened_network L event d.end.line d.end.role s t n d.does.happened
-
-at_terminal : (L : LineService) (place octet : ℕ) (has_call : Bool) (s : Network) (a : Answer) (t : Network) → IsNetwork L s
-    → MatchBool has_call (AtNode L place (Keys octet) s a t) (IdleStep (Keyed key_is.Taken) s a t) → IsNetwork L t
-at_terminal L place octet true s a t n d = at_node L place (Keys octet) s a t n d
-at_terminal L place octet false s a t n d = subst (IsNetwork L) (sym d.same) n
 
 delivered : (L : LineService) (line : ℕ) (direction : Direction) (s : Network) (a : Answer) (t : Network)
     → IsNetwork L s → DeliverStep L line direction s a t → IsNetwork L t
@@ -36,7 +30,7 @@ delivered L line direction s a t n (inr e) =
 
 stepped : (L : LineService) (e : Event) (s : Network) (a : Answer) (t : Network) → IsNetwork L s → StepOf L e s a t
     → IsNetwork L t
-stepped L (Key node terminal octet) s a t n d = at_terminal L node octet (terminal == 0) s a t n d
+stepped L (AtTerminal node terminal event) s a t n d = at_node L node (node_event.AtTerminal terminal event) s a t n d
 stepped L (Call node address user_data) s a t n d = at_node L node (Calls address user_data.items) s a t n d
 stepped L (Ask node channel request) s a t n d = at_node L node (request_event channel request) s a t n d
 stepped L (Take node channel) s a t n d = at_node L node (Takes channel) s a t n d

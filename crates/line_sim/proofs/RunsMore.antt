@@ -11,7 +11,7 @@ use Rattle.net_events.specs.declared.answer.Answer.{Answer}
 use Rattle.net_events.specs.EventView.{request_event}
 use Rattle.net_nodes.specs.Outcomes.{event_fault}
 use Rattle.net_events.specs.declared.event.Event.{Event}
-use Rattle.net_events.specs.declared.event.Event.TheVariants.{Key, Call, Ask, Take, Deliver, Lose, Expire, Relink, Restart}
+use Rattle.net_events.specs.declared.event.Event.TheVariants.{AtTerminal, Call, Ask, Take, Deliver, Lose, Expire, Relink, Restart}
 use Rattle.net_events.specs.declared.event.StepFault.{StepFault}
 use Rattle.net_events.specs.declared.event.StepFault.TheVariants.{OutOfMemory, NoSuchNode, NoSuchTerminal, NoSuchCall}
 use Rattle.net_nodes.specs.Places.{is_host_at, pad_terminals}
@@ -88,7 +88,7 @@ none : ◌≡◌ {A = Option StepFault} None (Some OutOfMemory) → ⊥
 none e = absurd (cc)
 
 not-memory : (e : Event) (s : Network) → step_fault e s ≡ Some OutOfMemory → ⊥
-not-memory (Key node terminal octet) s e = on_terminal terminal (pad_terminals node s) e
+not-memory (AtTerminal node terminal event) s e = on_terminal terminal (pad_terminals node s) e
 not-memory (Call node address user_data) s e =
     on_host node s (λ n. refused (event_fault (Calls address user_data.items) n.node))
     (λ n. refused_so (event_fault (Calls address user_data.items) n.node)) e

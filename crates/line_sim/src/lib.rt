@@ -5,7 +5,7 @@ mod net;
 mod running;
 
 pub use call_records::{EditStep, Pair, Record, SentEpoch, TakenEpoch};
-pub use line_nodes::{HostNote, KeyAnswer, NodeFault, NoteKind};
+pub use line_nodes::{HostNote, NodeFault, NoteKind, TerminalEvent};
 pub use memory_line::{Direction, FRAMES_IN_FLIGHT, Line, MemLine, mem_lines};
 pub use net::Net;
 pub use net_config::{
@@ -15,3 +15,4 @@ pub use net_events::{Answer, Event, Outcome, Put, StepFault};
 pub use packet_host::HostRequest;
 pub use packet_layer::Taken;
 pub use running::{RunFault, run};
+pub use x25_pad::PadAnswer;

@@ -103,8 +103,7 @@ impl<L: Line> Net<L> {
     /// Handles an event. Refusals come in the order of [`StepFault`]: where no node or line has the number, the line is
     /// not the node's or the node is of another kind, then where the PAD has no such terminal, then where the channel
     /// is 0 or beyond those of the line. Want of memory comes after these and before the node is called, which may
-    /// refuse what it is asked; the loss of a frame takes no memory, nor does a key at another terminal than 0. A refused
-    /// event changes nothing.
+    /// refuse what it is asked; the loss of a frame takes no memory. A refused event changes nothing.
     pub fn step(&mut self, event: &Event) -> Result<Answer, StepFault>
         ensures faults { IsRefusedSo (step_fault event.now self.old) result }
         ensures happens { Happens L.service event.now self.old result self.new }

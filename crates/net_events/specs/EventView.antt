@@ -30,4 +30,4 @@ event_of event_is.Restarts = law.Restarts
 event_of (event_is.Calls address user_data) = law.Calls address user_data.now
 event_of (event_is.Asks channel request) = request_event channel request.now
 event_of (event_is.Takes channel) = law.Takes channel
-event_of (event_is.Keys octet) = law.Keys octet
+event_of (event_is.AtTerminal terminal event) = law.AtTerminal terminal event

@@ -11,10 +11,9 @@ use Rattle.memory_line.specs.Lines.{Flights, without_first, LineService, ArePut}
 use Rattle.net_events.specs.OneLine.{direction_of}
 use Rattle.net_events.specs.NodeEvents.{NodeEvent, IsFor, turn_of, LeftBy}
 
--- a node: the line at which it stands, how many terminals it has, and its state
+-- a node: the line at which it stands, and its state
 pub record PlacedNode : Type 0 where
   pub line : ℕ
-  pub terminals : ℕ
   pub node : NodeState
 
 -- a line: the places of the nodes at its ends, how many logical channels it has, and the frames in flight

@@ -1,5 +1,5 @@
 -- What may happen at a node of a line, and what it makes of the line.
-use Rattle.std.specs.Prelude.{◌≡◌, ℕ, ◌≤◌, Bool, true, false, List, length, slice_get, Some}
+use Rattle.std.specs.Prelude.{◌≡◌, ℕ, ◌≤◌, Bool, false, List, length, slice_get, Some}
 use Rattle.link_timers.specs.declared.role.Role.{Role}
 use Rattle.link_timers.specs.declared.timers.TimerId.{TimerId}
 use Rattle.packet_codec.specs.Address.{AreDigits}
@@ -7,15 +7,17 @@ use Rattle.packet_layer.specs.Channel.{Request}
 use Rattle.packet_host.specs.Host.{call_parts}
 use Rattle.memory_line.specs.Lines.{Flights, no_flights, flying, without_first, LineService, ArePut}
 use Rattle.call_records.specs.Book.{Book}
-use Rattle.line_nodes.specs.Node.{NodeState, Pad, Host, end_of, is_pad, frames_of}
-use Rattle.line_nodes.specs.Turn.{Turn, unchanged}
+use Rattle.line_nodes.specs.Node.{NodeState, end_of, is_pad, frames_of}
+use Rattle.line_nodes.specs.Turn.{Turn}
 use Rattle.line_nodes.specs.HostTurns.{host_calls, host_asks, host_refuses, host_says, host_takes}
-use Rattle.line_nodes.specs.PadTurns.{pad_keys}
+use Rattle.line_nodes.specs.Terminals.{HasTerminal, at_terminal}
 use Rattle.line_nodes.specs.LineTurns.{hears, expires, relinks, restarts}
+use Rattle.line_nodes.specs.declared.terminal.TerminalEvent.{TerminalEvent}
 use Rattle.net_events.specs.OneLine.{LineState, node_at, with_turn, direction_of, direction_to}
 
 -- a frame arrives, a timer expires, the link is given up, or the node begins anew; the user of a host calls an address,
--- asks something of a call, refuses a call that came in, says or takes something; a key is typed at a PAD
+-- asks something of a call, refuses a call that came in, says or takes something; something happens at a terminal of a
+-- PAD
 pub data NodeEvent : Type 0 where
   Hears : (octets : List ℕ) → NodeEvent
   Expires : TimerId → NodeEvent
@@ -26,13 +28,9 @@ pub data NodeEvent : Type 0 where
   Refuses : (channel : ℕ) → NodeEvent
   Says : (channel : ℕ) → (octets : List ℕ) → (qualified delivery : Bool) → NodeEvent
   Takes : (channel : ℕ) → NodeEvent
-  Keys : (octet : ℕ) → NodeEvent
+  AtTerminal : (terminal : ℕ) → TerminalEvent → NodeEvent
 
 -- what it makes of the node and of the book
-abbrev pub key_turn : Role → NodeState → (octet : ℕ) → Book → Turn
-key_turn role (Pad p) octet b = pad_keys role p octet b
-key_turn role (Host e) octet b = unchanged (Host e) b
-
 abbrev pub turn_of : NodeEvent → Role → NodeState → Book → Turn
 turn_of (Hears octets) role n b = hears role n octets b
 turn_of (Expires id) role n b = expires role n id b
@@ -44,16 +42,16 @@ turn_of (Refuses channel) role n b = host_refuses role (end_of n) channel b
 turn_of (Says channel octets qualified delivery) role n b =
     host_says role (end_of n) channel octets qualified delivery b
 turn_of (Takes channel) role n b = host_takes role (end_of n) channel b
-turn_of (Keys octet) role n b = key_turn role n octet b
+turn_of (AtTerminal terminal event) role n b = at_terminal role n terminal event b
 
--- a host is asked and a PAD is typed at; an address has 1 to 15 digits, and a call at most 16 octets of user data
+-- a host is asked, and a PAD has the terminal; an address has 1 to 15 digits, and a call at most 16 octets of user data
 abbrev pub IsFor : NodeEvent → NodeState → Type 0
 IsFor (Calls address user_data) n = (is_pad n ≡ false) × AreDigits address × (length user_data ≤ 16)
 IsFor (Asks channel r) n = is_pad n ≡ false
 IsFor (Refuses channel) n = is_pad n ≡ false
 IsFor (Says channel octets qualified delivery) n = is_pad n ≡ false
 IsFor (Takes channel) n = is_pad n ≡ false
-IsFor (Keys octet) n = is_pad n ≡ true
+IsFor (AtTerminal terminal event) n = HasTerminal n terminal
 IsFor _ n = Unit {0}
 
 -- what the event takes from the line before the node has its turn: the frame that arrives, which was the first one in

@@ -1,34 +1,34 @@
 -- How a network is made: of nodes, each at one line, and of lines, each between two nodes.
-use Rattle.std.specs.Prelude.{◌≡◌, ◌≢◌, ℕ, ◌⊎◌, List, map, length, slice_get, Some}
+use Rattle.std.specs.Prelude.{◌≡◌, ◌≢◌, ℕ, ◌≤◌, ◌⊎◌, List, map, length, slice_get, Some}
 use Rattle.link_timers.specs.declared.role.Role.{Role}
 use Rattle.link_timers.specs.declared.role.Role.TheVariants.{Dte, Dce}
 use Rattle.packet_end.specs.Params.{AreParams}
 use Rattle.packet_end.specs.declared.params.EndParams.{EndParams}
 use Rattle.call_records.specs.Register.{LinePlan, made_register}
 use Rattle.packet_host.specs.Making as host
-use Rattle.packet_pad.specs.Making as pad
+use Rattle.x25_pad.specs.Making as pad
 use Rattle.line_nodes.specs.Node.{NodeState, Pad, Host, frames_of, drained}
 use Rattle.memory_line.specs.declared.line.Direction.TheVariants.{FromDte, FromDce}
 use Rattle.memory_line.specs.Lines.{Flights, no_flights, LineService, ArePut}
 use Rattle.net_events.specs.Network.{PlacedNode, Network}
 
--- the DTE is a PAD with these parameters, or a host, on a line of these parameters
+-- the DTE is a PAD with so many terminals, each with these parameters, or a host, on a line of these parameters
 pub data NewDte : Type 0 where
-  NewPad : (params : List ℕ) → NewDte
+  NewPad : (params : List ℕ) → (terminals : ℕ) → NewDte
   NewHost : NewDte
 
 abbrev pub new_dte : NewDte → EndParams → NodeState
-new_dte (NewPad params) line = Pad (pad.made (record { line = line; params = params }))
+new_dte (NewPad params terminals) line =
+    Pad (pad.made (record { line = line; params = params; terminals = terminals }))
 new_dte NewHost line = Host (host.made (record { role = Dte; line = line }))
 
 abbrev pub new_dce : EndParams → NodeState
 new_dce line = Host (host.made (record { role = Dce; line = line }))
 
--- a node: its line and the end of it that it is, how many terminals it has, and what a DTE is made as
+-- a node: its line and the end of it that it is, and what a DTE is made as
 pub record NewNode : Type 0 where
   pub line : ℕ
   pub role : Role
-  pub terminals : ℕ
   pub as_dte : NewDte
 
 -- a line: the places of its nodes, and the parameters of both ends
@@ -43,6 +43,11 @@ pub record NetPlan : Type 0 where
 
 -- ---- plans of networks that there can be
 
+-- a PAD has 1 to 16 terminals
+abbrev pub IsNewDte : NewDte → Type 0
+IsNewDte (NewPad params terminals) = (1 ≤ terminals) × (terminals ≤ 16)
+IsNewDte NewHost = Unit {0}
+
 -- the two nodes of a line are there, one at each end of it
 pub record IsLinePlan (nodes : List NewNode) (line : ℕ) (l : NewLine) : Type 0 where
   pub dte : NewNode
@@ -53,6 +58,7 @@ pub record IsLinePlan (nodes : List NewNode) (line : ℕ) (l : NewLine) : Type 0
   pub dce_line : dce.line ≡ line
   pub dte_role : dte.role ≡ Dte
   pub dce_role : dce.role ≡ Dce
+  pub dte_made : IsNewDte dte.as_dte
   pub apart : l.dte ≢ l.dce
   pub params : AreParams l.params
 
@@ -77,7 +83,7 @@ new_node n params = new_end n.role n.as_dte params
 
 -- a node that was made, whose first frames went
 abbrev pub placed_new : NewNode → EndParams → PlacedNode
-placed_new n params = record { line = n.line; terminals = n.terminals; node = drained (new_node n params) }
+placed_new n params = record { line = n.line; node = drained (new_node n params) }
 
 abbrev pub line_plan : NewLine → LinePlan
 line_plan l = record {

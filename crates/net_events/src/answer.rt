@@ -1,16 +1,19 @@
 //! What answers an event of a network.
 use frame_codec::FrameBuf;
-use line_nodes::{HostNote, KeyAnswer};
+use line_nodes::HostNote;
 use memory_line::Direction;
 use packet_layer::Taken;
+use x25_pad::PadAnswer;
 
 /// What an event gave, besides frames.
 #[derive(Drop)]
 pub enum Outcome {
     /// Whether a frame arrived.
     Delivered(bool),
-    /// What a PAD did with a key.
-    Keyed(KeyAnswer),
+    /// What a PAD did with a key, a break or the end of an idle time.
+    Typed(PadAnswer),
+    /// What waited at a terminal is shown.
+    Printed,
     /// A host's call was placed on this logical channel.
     Called { channel: u8 },
     /// What a host took, if anything waited.
@@ -27,10 +30,11 @@ pub struct Put {
     pub octets: FrameBuf,
 }
 
-/// The answer to an event: each frame that was put, in order, what a host noted, and the outcome.
+/// The answer to an event: each frame that was put, in order, what a host noted, what a terminal shows, and the outcome.
 #[derive(Drop)]
 pub struct Answer {
     pub frames: Vec<Put>,
     pub notes: Vec<HostNote>,
+    pub text: Vec<u8>,
     pub outcome: Outcome,
 }

@@ -1,6 +1,6 @@
 //! The events of a network, and why they are refused.
 use arrayvec::ArrayVec;
-use line_nodes::NodeFault;
+use line_nodes::{NodeFault, TerminalEvent};
 use link_timers::TimerId;
 use memory_line::Direction;
 use packet_codec::Address;
@@ -12,11 +12,11 @@ use thiserror::Error;
 /// configuration, counted from 0.
 #[derive(Debug, Drop)]
 pub enum Event {
-    /// A key at a terminal of a PAD.
-    Key {
+    /// Something happens at a terminal of a PAD.
+    AtTerminal {
         node: usize,
         terminal: u16,
-        octet: u8,
+        event: TerminalEvent,
     },
     /// A host calls an address, with at most 16 octets of user data (X.25 4.1.2).
     Call {
@@ -45,7 +45,8 @@ pub enum Event {
         line: usize,
         direction: Direction,
     },
-    /// A timer of a node's end of a line expires. Where it does not run nothing happens.
+    /// A timer of a node's end of a line, or the idle timer of a terminal of a PAD, expires. Where it does not run nothing
+    /// happens.
     Expire {
         node: usize,
         line: usize,

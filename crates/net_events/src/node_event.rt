@@ -1,4 +1,5 @@
 //! What may happen at a node.
+use line_nodes::TerminalEvent;
 use link_timers::TimerId;
 use packet_codec::Address;
 use packet_host::HostRequest;
@@ -20,6 +21,6 @@ pub enum NodeEvent<'a> {
     Asks(u8, &'a HostRequest),
     /// A host takes what waits on a channel.
     Takes(u8),
-    /// A key at the terminal of a PAD that has the call.
-    Keys(u8),
+    /// Something happens at a terminal of a PAD.
+    AtTerminal(u8, TerminalEvent),
 }

@@ -1,6 +1,6 @@
 -- What an event at an end of a line does to the network.
 use Rattle.std.proofs.Common.{◌≡◌, ℕ, ◌<◌, ◌≤◌, zero, suc, List, [], ◌∷◌, length, set, Option, Some, None, Result, Ok, Err, refl, sym, ap, ◌∙◌, subst, arith, inl}
-use Rattle.std.specs.Prelude.{slice_get, MatchResult}
+use Rattle.std.specs.Prelude.{slice_get, vec_capacity, MatchResult}
 use Rattle.std.proofs.lemmas.List.{length-map, length-set}
 use Rattle.std.proofs.lemmas.Option.{same_Some}
 use Rattle.link_timers.specs.declared.role.Role.{Role}
@@ -12,18 +12,19 @@ use Rattle.call_records.specs.RegisterView.{ends_of, lines_of, ends_in, register
 use Rattle.call_records.specs.declared.register.Register.{Register}
 use Rattle.line_nodes.specs.Node.{frames_of}
 use Rattle.net_turns.specs.Quiet.{IsQuiet}
-use Rattle.line_nodes.specs.Notes.{user_notes}
+use Rattle.line_nodes.specs.Notes.{host_notes}
 use Rattle.line_nodes.specs.declared.fault.NodeFault.{NodeFault}
 use Rattle.memory_line.specs.declared.line.Direction.{Direction}
 use Rattle.memory_line.specs.declared.line.Direction.TheVariants.{FromDte, FromDce}
 use Rattle.memory_line.specs.Lines.{Flights, LineService, flying, without_first}
 use Rattle.net_nodes.specs.Steps.{hearer}
-use Rattle.net_events.specs.NodeEvents.{NodeEvent, IsFor, LeftBy, Hears, Restarts}
+use Rattle.line_nodes.specs.declared.terminal.TerminalEvent.TheVariants.{Key, Break, Idle, Print}
+use Rattle.net_events.specs.NodeEvents.{NodeEvent, IsFor, LeftBy, Hears, Expires, Relinks, Restarts, Calls, Asks, Refuses, Says, Takes, AtTerminal}
 use Rattle.net_events.specs.Network.{PlacedNode, NetLine, Network, place_at}
 use Rattle.net_events.specs.declared.answer.Answer.{Answer}
 use Rattle.net_turns.specs.declared.room.Room.{Room}
 use Rattle.net_turns.specs.Outcomes.{event_fault}
-use Rattle.net_turns.specs.Served.{IsEmpty}
+use Rattle.net_turns.specs.Served.{IsEmpty, EventHasPlaces}
 use Rattle.net_events.specs.declared.event.StepFault.{StepFault}
 use Rattle.net_events.specs.declared.event.StepFault.TheVariants.{OutOfMemory, Refused}
 use Rattle.net_nodes.specs.declared.nodes.LineEnd.{LineEnd}
@@ -43,13 +44,29 @@ pub same_place : (role : Role) (l : NetLine) (flights : Flights) → place_at ro
 same_place Dte l flights = refl
 same_place Dce l flights = refl
 
+-- more places are enough
+pub places_more : (event : NodeEvent) (few many : ℕ) → few ≤ many → EventHasPlaces event few → EventHasPlaces event many
+places_more (AtTerminal terminal Print) few many more h = omega (arith, more, h)
+places_more (AtTerminal terminal (Key octet)) few many more h = tt
+places_more (AtTerminal terminal Break) few many more h = tt
+places_more (AtTerminal terminal Idle) few many more h = tt
+places_more (Hears octets) few many more h = tt
+places_more Restarts few many more h = tt
+places_more (Expires id) few many more h = tt
+places_more Relinks few many more h = tt
+places_more (Calls address user_data) few many more h = tt
+places_more (Asks channel r) few many more h = tt
+places_more (Refuses channel) few many more h = tt
+places_more (Says channel octets qualified delivery) few many more h = tt
+places_more (Takes channel) few many more h = tt
+
 -- the register is opened at the line with room, and the frames in flight may have changed
 pub can_serve : (end : LineEnd) (event : NodeEvent) (nodes : List PlacedNode) (l : NetLine) (n : PlacedNode) → slice_get nodes (place_at end.role l) ≡ Some n → IsFor event n.node → IsQuiet n.node
     → (g : Register) → end.line < length (register_of g).lines → (v : NetLine) (flights : Flights) (h : Register) (room : Room)
     → v ≡ record l { flights = flights } → register_of h ≡ register_of g
     → (end.line < length g.lines.items → IsOpen end.line h) → (end.line < length g.lines.items → h.book.book ≡ book_at end.line (register_of g))
-    → h.book.room ≡ 8 → IsEmpty room → CanServe end event nodes v h room
-can_serve end event nodes l n node_there is_for quiet g registered v flights h room is_line same opens has_book has_room empty =
+    → h.book.room ≡ 8 → h.book.pairs ≡ 8 → IsEmpty room → EventHasPlaces event (vec_capacity room.text) → CanServe end event nodes v h room
+can_serve end event nodes l n node_there is_for quiet g registered v flights h room is_line same opens has_book has_room has_pairs empty places =
     let here : end.line < length g.lines.items = (let count = count_is g in omega (arith, count, registered)) in
     let place : place_at end.role v ≡ place_at end.role l = ap (place_at end.role) is_line ∙ same_place end.role l flights in
     record {
@@ -60,7 +77,9 @@ can_serve end event nodes l n node_there is_for quiet g registered v flights h r
       opened = opens here;
       book = has_book here ∙ ap (book_at end.line) (sym same);
       writes = (let many = has_room in omega (arith, many));
+      pairs = (let many = has_pairs in omega (arith, many));
       empty = empty;
+      places = places;
     }
 
 -- ---- after it
@@ -93,7 +112,8 @@ at_end L end event s l n between nodes line g a line_there node_there is_for lef
         };
       };
       puts = w.sends.puts_are;
-      told = w.told ∙ ap (λ k. user_notes n.node k turn.notes) place;
+      told = w.told ∙ ap (λ k. host_notes k turn.notes) place;
+      text = w.text;
       outcome = w.outcome;
     }
 
@@ -116,14 +136,14 @@ wanting (Some x) fault e = Rattle.std.proofs.Common.inr e
 pub leaves : (event : NodeEvent) (role : Role) (flights : Flights) → LeavesLine event → LeftBy event role flights flights
 leaves (Hears octets) role flights h = absurd h
 leaves Restarts role flights h = absurd h
-leaves (Rattle.net_events.specs.NodeEvents.Expires id) role flights h = refl
-leaves Rattle.net_events.specs.NodeEvents.Relinks role flights h = refl
-leaves (Rattle.net_events.specs.NodeEvents.Calls address user_data) role flights h = refl
-leaves (Rattle.net_events.specs.NodeEvents.Asks channel r) role flights h = refl
-leaves (Rattle.net_events.specs.NodeEvents.Refuses channel) role flights h = refl
-leaves (Rattle.net_events.specs.NodeEvents.Says channel octets qualified delivery) role flights h = refl
-leaves (Rattle.net_events.specs.NodeEvents.Takes channel) role flights h = refl
-leaves (Rattle.net_events.specs.NodeEvents.Keys octet) role flights h = refl
+leaves (Expires id) role flights h = refl
+leaves Relinks role flights h = refl
+leaves (Calls address user_data) role flights h = refl
+leaves (Asks channel r) role flights h = refl
+leaves (Refuses channel) role flights h = refl
+leaves (Says channel octets qualified delivery) role flights h = refl
+leaves (Takes channel) role flights h = refl
+leaves (AtTerminal terminal event) role flights h = refl
 
 -- what the node answered, where the event left the frames in flight
 pub acts : (L : LineService) (end : LineEnd) (event : NodeEvent) (s : Network) (l : NetLine) (n : PlacedNode) (r : Result Answer StepFault)

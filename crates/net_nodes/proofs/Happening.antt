@@ -6,7 +6,8 @@ use Rattle.std.proofs.lemmas.Bool.{lt-ltb}
 use Rattle.link_timers.specs.declared.role.Role.TheVariants.{Dte}
 use Rattle.memory_line.specs.declared.line.Direction.{Direction}
 use Rattle.net_turns.specs.Quiet.{IsQuiet}
-use Rattle.line_nodes.specs.Node.{NodeState, is_pad}
+use Rattle.line_nodes.specs.Node.{NodeState, Pad, Host, is_pad}
+use Rattle.line_nodes.specs.Terminals.{HasTerminal}
 use Rattle.line_nodes.specs.declared.fault.NodeFault.{NodeFault}
 use Rattle.memory_line.specs.Lines.{LineService}
 use Rattle.net_events.specs.NodeEvents.{NodeEvent, IsFor, Hears, Relinks, Restarts}
@@ -21,7 +22,7 @@ use Rattle.net_events.specs.declared.event.Event.TheVariants.{Deliver, Relink, R
 use Rattle.net_events.specs.declared.event.StepFault.{StepFault}
 use Rattle.net_events.specs.declared.event.StepFault.TheVariants.{OutOfMemory, NoSuchNode, NoSuchTerminal, NoSuchCall}
 use Rattle.net_nodes.specs.declared.nodes.LineEnd.{LineEnd}
-use Rattle.net_nodes.specs.Places.{IsStanding, IsPlaceOf, is_host, is_host_at, terminals_of, pad_terminals}
+use Rattle.net_nodes.specs.Places.{IsStanding, IsPlaceOf, is_host, is_host_at, terminals_of, terminals_there, pad_terminals}
 use Rattle.net_nodes.specs.Faults.{refused, step_fault, takes_memory, IsLeftToNode, MayWant, at_node, at_host, at_terminal, where_there_is, on_channel, is_channel_at}
 use Rattle.net_nodes.specs.Turns.{CanAct, AtEnd, IsRefusal, ActsSo, Acts}
 use Rattle.net_nodes.specs.Steps.{AtNode, StepOf, hearer}
@@ -123,16 +124,13 @@ asks_for channel Go n h = h
 
 -- ---- PADs
 
-pads : (o : Option PlacedNode) (n : PlacedNode) (terminals : ℕ) → o ≡ Some n → terminals_of o ≡ Some terminals → is_pad n.node ≡ true
-pads None n terminals e h = absurd (cc)
-pads (Some m) n terminals e h = by (is_pad m.node) refl h
-  where
-    by : (v : Bool) → is_pad m.node ≡ v → (if v then Some m.terminals else None) ≡ Some terminals → is_pad n.node ≡ true
-    by true is h = ap (λ (x : PlacedNode). is_pad x.node) (sym (same_Some m n e)) ∙ is
-    by false is h = absurd (cc)
+terminal_of : (n : NodeState) (terminals terminal : ℕ) → terminals_of n ≡ Some terminals → terminal < terminals → HasTerminal n terminal
+terminal_of (Pad p) terminals terminal h less = subst (λ (k : ℕ). terminal < k) (sym (same_Some (length p.ports) terminals h)) less
+terminal_of (Host e) terminals terminal h less = absurd (cc)
 
-pub pad_at : (place : ℕ) (end : LineEnd) (s : Network) (p : IsPlaceOf place end s) (terminals : ℕ) → pad_terminals place s ≡ Some terminals → is_pad p.node.node ≡ true
-pad_at place end s p terminals h = pads (slice_get s.nodes place) p.node terminals p.node_there h
+pub pad_at : (place : ℕ) (end : LineEnd) (s : Network) (p : IsPlaceOf place end s) (terminals terminal : ℕ) → pad_terminals place s ≡ Some terminals → terminal < terminals
+    → HasTerminal p.node.node terminal
+pad_at place end s p terminals terminal h less = terminal_of p.node.node terminals terminal (ap terminals_there (sym p.node_there) ∙ h) less
 
 pub terminal_there : (place terminal terminals : ℕ) (s : Network) → pad_terminals place s ≡ Some terminals → terminal < terminals
     → at_terminal terminal (pad_terminals place s) ≡ None

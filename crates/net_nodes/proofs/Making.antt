@@ -11,9 +11,30 @@ use Rattle.line_nodes.specs.Node.{NodeState}
 use Rattle.memory_line.specs.Lines.{Flights, LineService}
 use Rattle.net_events.specs.Opening.{AreSent, new_dte, new_dce}
 use Rattle.net_events.specs.Network.{PlacedNode, NetLine, Network}
-use Rattle.net_events.specs.Opening.{NewNode, NewLine, NetPlan, IsLinePlan, IsPlan, LineIsMade, IsMade, new_node, new_end, placed_new, line_plan}
+use Rattle.link_timers.specs.declared.role.Role.TheVariants.{Dte, Dce}
+use Rattle.net_events.specs.Opening.{NewNode, NewLine, NetPlan, IsNewDte, IsLinePlan, IsNodePlan, IsPlan, LineIsMade, IsMade, new_node, new_end, placed_new, line_plan}
 use Rattle.net_nodes.specs.Making.{waiting, begun_to, begun, of_lines, AreNew, HaveBegun, HasEnds, Begins, AreFree, stands}
 use Rattle.net_nodes.proofs.Places.{within}
+
+-- ---- nodes of a plan
+
+-- a node that is the DTE of its line may be made
+pub dte_made : (plan : NetPlan) (place : ℕ) (n : NewNode) → IsPlan plan → slice_get plan.nodes place ≡ Some n → n.role ≡ Dte → IsNewDte n.as_dte
+dte_made plan place n h at is = by stands_at.at_end
+  where
+    stands_at : IsNodePlan plan.lines place n
+    stands_at = h.nodes place n at
+
+    p : IsLinePlan plan.nodes n.line stands_at.line
+    p = h.lines n.line stands_at.line stands_at.there
+
+    by : (stands_at.line.dte ≡ place) ⊎ (stands_at.line.dce ≡ place) → IsNewDte n.as_dte
+    by (inl e) =
+        subst (λ (x : NewNode). IsNewDte x.as_dte) (same_Some p.dte n (sym p.dte_there ∙ ap (λ i. slice_get plan.nodes i) e ∙ at)) p.dte_made
+    by (inr e) =
+        let same : p.dce ≡ n = same_Some p.dce n (sym p.dce_there ∙ ap (λ i. slice_get plan.nodes i) e ∙ at) in
+        let never : Dte ≡ Dce = sym is ∙ ap (λ (x : NewNode). x.role) (sym same) ∙ p.dce_role in
+        absurd (cc)
 
 -- ---- which nodes have begun
 

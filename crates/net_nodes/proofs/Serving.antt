@@ -9,7 +9,7 @@ use Rattle.call_records.specs.RegisterView.{register_with, register_of, lines_of
 use Rattle.call_records.specs.declared.register.Register.{Register}
 use Rattle.line_nodes.specs.Node.{NodeState, drained, frames_of}
 use Rattle.line_nodes.specs.Turn.{Turn}
-use Rattle.line_nodes.specs.Notes.{user_notes}
+use Rattle.line_nodes.specs.Notes.{host_notes}
 use Rattle.line_nodes.specs.declared.fault.NodeFault.{NodeFault}
 use Rattle.memory_line.specs.Lines.{Flights, LineService}
 use Rattle.net_events.specs.OneLine.{direction_of}
@@ -21,7 +21,7 @@ use Rattle.net_events.specs.declared.answer.Put.{Put}
 use Rattle.net_events.specs.declared.event.StepFault.{StepFault}
 use Rattle.net_events.specs.declared.event.StepFault.TheVariants.{Refused}
 use Rattle.net_turns.specs.declared.room.Room.{Room}
-use Rattle.net_turns.specs.Outcomes.{event_fault, IsOutcome, IsAnswered}
+use Rattle.net_turns.specs.Outcomes.{event_fault, IsOutcome, IsAnswered, text_of}
 use Rattle.net_turns.specs.Sends.{Sends}
 use Rattle.net_turns.specs.Served.{Served}
 use Rattle.net_nodes.specs.declared.nodes.LineEnd.{LineEnd}
@@ -55,12 +55,12 @@ module _ (L : LineService) (end : LineEnd) (event : NodeEvent) (p n : PlacedNode
 
   turned : (o : Outcome) (room : Room) (a : Answer) (node : NodeState) (flights : Flights) (b : Book)
       → (event_fault event p.node ≡ None) × IsOutcome event p.node o
-      → Served L (record { line = end.line; place = record { role = end.role; node = place } }) p.node
+      → Served L (record { line = end.line; place = record { role = end.role; node = place } })
       (turn_of event end.role p.node g.book.book) v.flights room.frames.items room.notes.items node flights b
-      → a.frames.items ≡ room.frames.items → a.notes.items ≡ room.notes.items → a.outcome ≡ o
+      → room.text.items ≡ text_of event p.node → a.frames.items ≡ room.frames.items → a.notes.items ≡ room.notes.items → a.text.items ≡ room.text.items → a.outcome ≡ o
       → HadTurn L end event n nodes l (register_of g) a (set nodes place (record p { node = node }))
       (record v { flights = flights }) (register_with g.open b (lines_of g.lines.items))
-  turned o room a node flights b answered w frames notes outcome =
+  turned o room a node flights b answered w shows frames notes text outcome =
       let P : Turn → Flights → List Put → Type 0 = λ t f puts. Sends L (direction_of end.role) end.line (frames_of t.node) f puts flights in
       let Q : Turn → Type 0 = λ t. P t l.flights a.frames.items in
       let R : Flights → Type 0 = λ f. P (turn_of event end.role p.node g.book.book) f a.frames.items in
@@ -73,7 +73,8 @@ module _ (L : LineService) (end : LineEnd) (event : NodeEvent) (p n : PlacedNode
         no_fault = subst N node_is answered.0;
         outcome = subst (O n.node) (sym outcome) (subst (λ m. O m o) node_is answered.1);
         sends = subst Q same_turn (subst R (ap (λ (x : NetLine). x.flights) is_line) (subst S (sym frames) w.sends));
-        told = notes ∙ w.told ∙ (λ i. user_notes (node_is i) (is_place i) (same_turn i).notes);
+        told = notes ∙ w.told_of ∙ (λ i. host_notes (is_place i) (same_turn i).notes);
+        text = text ∙ shows ∙ ap (text_of event) node_is;
         nodes_are = λ i. set nodes (is_place i) (record (is_node i) { node = drained_is i });
         line_is = λ i. record (is_line i) { flights = flights };
         register_is = register_turned g end.line b turn.book at_line (w.book_is ∙ ap (λ (t : Turn). t.book) same_turn);
@@ -108,16 +109,17 @@ module _ (L : LineService) (end : LineEnd) (event : NodeEvent) (p n : PlacedNode
 
   pub answered : (r : Result Outcome NodeFault) (x : Result Answer StepFault) (o : Outcome) (room : Room) (a : Answer) (node : NodeState) (flights : Flights) (b : Book)
       → r ≡ Ok o → x ≡ Ok a → IsAnswered event p.node r
-      → OnOk r (Served L (record { line = end.line; place = record { role = end.role; node = place } }) p.node
+      → OnOk r (Served L (record { line = end.line; place = record { role = end.role; node = place } })
       (turn_of event end.role p.node g.book.book) v.flights room.frames.items room.notes.items node flights b)
-      → a.frames.items ≡ room.frames.items → a.notes.items ≡ room.notes.items → a.outcome ≡ o
+      → OnOk r (room.text.items ≡ text_of event p.node) → a.frames.items ≡ room.frames.items → a.notes.items ≡ room.notes.items → a.text.items ≡ room.text.items → a.outcome ≡ o
       → IsTurn x node flights b
-  answered r x o room a node flights b is_ok is_answer of_node w frames notes outcome =
+  answered r x o room a node flights b is_ok is_answer of_node w shows frames notes text outcome =
       let A : Result Outcome NodeFault → Type 0 = λ y. IsAnswered event p.node y in
-      let S : Result Outcome NodeFault → Type 0 = λ y. OnOk y (Served L (record { line = end.line; place = record { role = end.role; node = place } }) p.node
+      let S : Result Outcome NodeFault → Type 0 = λ y. OnOk y (Served L (record { line = end.line; place = record { role = end.role; node = place } })
       (turn_of event end.role p.node g.book.book) v.flights room.frames.items room.notes.items node flights b) in
+      let T : Result Outcome NodeFault → Type 0 = λ y. OnOk y (room.text.items ≡ text_of event p.node) in
       let X : Result Answer StepFault → Type 0 = λ y. IsTurn y node flights b in
-      subst X (sym is_answer) (turned o room a node flights b (subst A is_ok of_node) (subst S is_ok w) frames notes outcome)
+      subst X (sym is_answer) (turned o room a node flights b (subst A is_ok of_node) (subst S is_ok w) (subst T is_ok shows) frames notes text outcome)
 
   pub answered_not : (r : Result Outcome NodeFault) (x : Result Answer StepFault) (refusal : NodeFault) (node : NodeState) (flights : Flights) (b : Book)
       → slice_get nodes (place_at end.role l) ≡ Some n → r ≡ Err refusal → x ≡ Err (Refused refusal) → IsAnswered event p.node r

@@ -7,7 +7,7 @@ use Rattle.net_events.specs.Network.{PlacedNode, NetLine, Network}
 use Rattle.net_events.specs.EventView.{request_event}
 use Rattle.net_turns.specs.Outcomes.{event_fault}
 use Rattle.net_events.specs.declared.event.Event.{Event}
-use Rattle.net_events.specs.declared.event.Event.TheVariants.{Key, Call, Ask, Take, Deliver, Lose, Expire, Relink}
+use Rattle.net_events.specs.declared.event.Event.TheVariants.{AtTerminal, Call, Ask, Take, Deliver, Lose, Expire, Relink}
 use Rattle.net_events.specs.declared.event.Event.TheVariants.{Restart}
 use Rattle.net_events.specs.declared.event.StepFault.{StepFault}
 use Rattle.net_events.specs.declared.event.StepFault.TheVariants.{NoSuchNode, NoSuchTerminal, NoSuchCall, Refused}
@@ -58,7 +58,7 @@ at_terminal terminal (Some terminals) = if nat_lt terminal terminals then None e
 at_terminal terminal None = Some NoSuchNode
 
 abbrev pub step_fault : Event → Network → Option StepFault
-step_fault (Key node terminal octet) s = at_terminal terminal (pad_terminals node s)
+step_fault (AtTerminal node terminal event) s = at_terminal terminal (pad_terminals node s)
 step_fault (Call node address user_data) s =
     at_host node s (λ n. refused (event_fault (Calls address user_data.items) n.node))
 step_fault (Ask node channel request) s =
@@ -72,10 +72,8 @@ step_fault (Restart node) s = where_there_is (is_some (slice_get s.nodes node))
 
 -- ---- want of memory
 
--- whether an event takes memory where the network itself does not refuse it: all do but a key at a terminal other than
--- 0, which never has the call, and the loss of a frame
+-- whether an event takes memory where the network itself does not refuse it: all do but the loss of a frame
 abbrev pub takes_memory : Event → Bool
-takes_memory (Key node terminal octet) = terminal == 0
 takes_memory (Lose line direction) = false
 takes_memory _ = true
 

@@ -11,7 +11,7 @@ use Rattle.net_events.specs.Opening.{NewNode, NewLine, NetPlan, LineIsMade, new_
 
 -- a node that was made, whose first frames wait
 abbrev pub waiting : NewNode → EndParams → PlacedNode
-waiting n params = record { line = n.line; terminals = n.terminals; node = new_node n params }
+waiting n params = record { line = n.line; node = new_node n params }
 
 -- its frames went where its line is one of the first so many
 abbrev pub begun_to : (lines : ℕ) → NewNode → EndParams → PlacedNode

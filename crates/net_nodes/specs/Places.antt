@@ -1,8 +1,8 @@
 -- Where the nodes of a network stand.
-use Rattle.std.specs.Prelude.{◌≡◌, ℕ, Bool, false, not, length, slice_get, Option, Some, None, if◌then◌else◌}
+use Rattle.std.specs.Prelude.{◌≡◌, ℕ, Bool, false, not, length, slice_get, Option, Some, None}
 use Rattle.link_timers.specs.declared.role.Role.{Role}
 use Rattle.net_turns.specs.Quiet.{IsQuiet}
-use Rattle.line_nodes.specs.Node.{is_pad}
+use Rattle.line_nodes.specs.Node.{NodeState, Pad, Host, is_pad}
 use Rattle.net_events.specs.Network.{PlacedNode, NetLine, Network, place_at}
 use Rattle.net_events.specs.Network.{StandsAtLine}
 use Rattle.net_nodes.specs.declared.nodes.LineEnd.{LineEnd}
@@ -38,9 +38,13 @@ abbrev pub is_host_at : ℕ → Network → Bool
 is_host_at place s = is_host (slice_get s.nodes place)
 
 -- how many terminals the PAD at this place has, if there is one
-abbrev pub terminals_of : Option PlacedNode → Option ℕ
-terminals_of (Some n) = if is_pad n.node then Some n.terminals else None
-terminals_of None = None
+abbrev pub terminals_of : NodeState → Option ℕ
+terminals_of (Pad p) = Some (length p.ports)
+terminals_of (Host e) = None
+
+abbrev pub terminals_there : Option PlacedNode → Option ℕ
+terminals_there (Some n) = terminals_of n.node
+terminals_there None = None
 
 abbrev pub pad_terminals : ℕ → Network → Option ℕ
-pad_terminals place s = terminals_of (slice_get s.nodes place)
+pad_terminals place s = terminals_there (slice_get s.nodes place)

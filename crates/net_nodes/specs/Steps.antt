@@ -1,19 +1,19 @@
 -- What an event without a fault does to nodes, lines and register.
-use Rattle.std.specs.Prelude.{◌≡◌, ℕ, ◌==◌, ◌⊎◌, false, List, [], slice_get, None, MatchBool}
+use Rattle.std.specs.Prelude.{◌≡◌, ℕ, ◌⊎◌, false, List, [], slice_get, None}
 use Rattle.link_timers.specs.declared.role.Role.{Role}
 use Rattle.link_timers.specs.declared.role.Role.TheVariants.{Dte, Dce}
-use Rattle.packet_pad.specs.declared.key.KeyAnswer.TheVariants as key_is
 use Rattle.memory_line.specs.declared.line.Direction.{Direction}
 use Rattle.memory_line.specs.declared.line.Direction.TheVariants.{FromDte, FromDce}
 use Rattle.memory_line.specs.Lines.{flying, LineService}
-use Rattle.net_events.specs.NodeEvents.{NodeEvent, Hears, Expires, Relinks, Restarts, Calls, Takes, Keys}
+use Rattle.net_events.specs.NodeEvents.{NodeEvent, Hears, Expires, Relinks, Restarts, Calls, Takes}
+use Rattle.net_events.specs.NodeEvents as node_event
 use Rattle.net_events.specs.Network.{Network, place_at, LostAt}
 use Rattle.net_events.specs.declared.answer.Answer.{Answer}
 use Rattle.net_events.specs.declared.answer.Outcome.{Outcome}
-use Rattle.net_events.specs.declared.answer.Outcome.TheVariants.{Delivered, Keyed, Done}
+use Rattle.net_events.specs.declared.answer.Outcome.TheVariants.{Delivered, Done}
 use Rattle.net_events.specs.EventView.{request_event}
 use Rattle.net_events.specs.declared.event.Event.{Event}
-use Rattle.net_events.specs.declared.event.Event.TheVariants.{Key, Call, Ask, Take, Deliver, Lose, Expire, Relink}
+use Rattle.net_events.specs.declared.event.Event.TheVariants.{AtTerminal, Call, Ask, Take, Deliver, Lose, Expire, Relink}
 use Rattle.net_events.specs.declared.event.Event.TheVariants.{Restart}
 use Rattle.net_nodes.specs.declared.nodes.LineEnd.{LineEnd}
 use Rattle.net_nodes.specs.Turns.{AtEnd}
@@ -31,23 +31,12 @@ pub record AtNode (L : LineService) (place : ℕ) (event : NodeEvent) (s : Netwo
   pub own_line : does.happened.node.line ≡ end.line
   pub own_place : place_at end.role does.happened.line_is ≡ place
 
--- nothing happens, and this is answered
-pub record IdleStep (outcome : Outcome) (s : Network) (a : Answer) (t : Network) : Type 0 where
-  pub frames : a.frames.items ≡ []
-  pub notes : a.notes.items ≡ []
-  pub answered : a.outcome ≡ outcome
-  pub same : t ≡ s
-
--- the call is that of terminal 0: at another one a key is taken and does nothing
-abbrev pub KeyStep : LineService → (node terminal octet : ℕ) → Network → Answer → Network → Type 0
-KeyStep L node terminal octet s a t =
-    MatchBool (terminal == 0) (AtNode L node (Keys octet) s a t) (IdleStep (Keyed key_is.Taken) s a t)
-
 -- the first frame in flight is lost, if there is one, and this is answered
 pub record LoseStep (L : LineService) (line : ℕ) (d : Direction) (outcome : Outcome) (s : Network) (a : Answer)
     (t : Network) : Type 0 where
   pub frames : a.frames.items ≡ []
   pub notes : a.notes.items ≡ []
+  pub text : a.text.items ≡ []
   pub answered : a.outcome ≡ outcome
   pub lost : LostAt L line d s t
 
@@ -66,7 +55,7 @@ DeliverStep L line d s a t =
 -- ---- each event
 
 abbrev pub StepOf : (L : LineService) → Event → Network → Answer → Network → Type 0
-StepOf L (Key node terminal octet) s a t = KeyStep L node terminal octet s a t
+StepOf L (AtTerminal node terminal event) s a t = AtNode L node (node_event.AtTerminal terminal event) s a t
 StepOf L (Call node address user_data) s a t = AtNode L node (Calls address user_data.items) s a t
 StepOf L (Ask node channel request) s a t = AtNode L node (request_event channel request) s a t
 StepOf L (Take node channel) s a t = AtNode L node (Takes channel) s a t

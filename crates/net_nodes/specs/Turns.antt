@@ -1,5 +1,5 @@
 -- What an event does at the node at an end of a line.
-use Rattle.std.specs.Prelude.{◌≡◌, ◌≤◌, ◌<◌, ◌⊎◌, List, length, set, slice_get, Option, Some, None, Result, Ok, Err}
+use Rattle.std.specs.Prelude.{◌≡◌, ◌≤◌, ◌<◌, ◌⊎◌, List, length, set, slice_get, vec_capacity, Option, Some, None, Result, Ok, Err}
 use Rattle.call_records.specs.Register as spec
 use Rattle.call_records.specs.Register.{book_at, with_book}
 use Rattle.call_records.specs.RegisterView.{IsOpen}
@@ -7,7 +7,7 @@ use Rattle.call_records.specs.declared.register.Register.{Register}
 use Rattle.net_turns.specs.Quiet.{IsQuiet}
 use Rattle.line_nodes.specs.Node.{drained, frames_of}
 use Rattle.line_nodes.specs.Turn.{Turn}
-use Rattle.line_nodes.specs.Notes.{user_notes}
+use Rattle.line_nodes.specs.Notes.{host_notes}
 use Rattle.line_nodes.specs.declared.fault.NodeFault.{NodeFault}
 use Rattle.memory_line.specs.Lines.{LineService}
 use Rattle.net_events.specs.OneLine.{direction_of}
@@ -15,9 +15,9 @@ use Rattle.net_events.specs.NodeEvents.{NodeEvent, Hears, Restarts, IsFor, turn_
 use Rattle.net_events.specs.Network.{PlacedNode, NetLine, Network, place_at, net_turn, HappenedAt}
 use Rattle.net_events.specs.declared.answer.Answer.{Answer}
 use Rattle.net_turns.specs.declared.room.Room.{Room}
-use Rattle.net_turns.specs.Outcomes.{event_fault, IsOutcome}
+use Rattle.net_turns.specs.Outcomes.{event_fault, IsOutcome, text_of}
 use Rattle.net_turns.specs.Sends.{ArePutsOf, Sends}
-use Rattle.net_turns.specs.Served.{IsEmpty}
+use Rattle.net_turns.specs.Served.{IsEmpty, EventHasPlaces}
 use Rattle.net_events.specs.declared.event.StepFault.{StepFault}
 use Rattle.net_events.specs.declared.event.StepFault.TheVariants.{OutOfMemory, Refused}
 use Rattle.net_nodes.specs.declared.nodes.LineEnd.{LineEnd}
@@ -35,7 +35,9 @@ pub record CanServe (end : LineEnd) (event : NodeEvent) (nodes : List PlacedNode
   pub opened : IsOpen end.line g
   pub book : g.book.book ≡ book_at end.line (Rattle.call_records.specs.RegisterView.register_of g)
   pub writes : 8 ≤ g.book.room
+  pub pairs : 1 ≤ g.book.pairs
   pub empty : IsEmpty room
+  pub places : EventHasPlaces event (vec_capacity room.text)
 
 abbrev pub its_turn : LineEnd → NodeEvent → PlacedNode → spec.Register → Turn
 its_turn end event n g = turn_of event end.role n.node (book_at end.line g)
@@ -48,7 +50,8 @@ pub record HadTurn (L : LineService) (end : LineEnd) (event : NodeEvent) (n : Pl
   pub outcome : IsOutcome event n.node a.outcome
   pub sends : Sends L (direction_of end.role) end.line (frames_of (its_turn end event n g).node) l.flights
       a.frames.items l'.flights
-  pub told : a.notes.items ≡ user_notes n.node (place_at end.role l) (its_turn end event n g).notes
+  pub told : a.notes.items ≡ host_notes (place_at end.role l) (its_turn end event n g).notes
+  pub text : a.text.items ≡ text_of event n.node
   pub nodes_are : nodes' ≡ set nodes (place_at end.role l) (record n { node = drained (its_turn end event n g).node })
   pub line_is : l' ≡ record l { flights = l'.flights }
   pub register_is : g' ≡ with_book end.line (its_turn end event n g).book g
@@ -65,15 +68,16 @@ pub record HadNone (event : NodeEvent) (n : PlacedNode) (fault : StepFault) (nod
 
 -- ---- in the network
 
--- the event happened at an end of a line, and this is the answer: the frames that were put, what a host is told, and
--- what the event gives
+-- the event happened at an end of a line, and this is the answer: the frames that were put, what a host is told, what a
+-- terminal shows, and what the event gives
 pub record AtEnd (L : LineService) (end : LineEnd) (event : NodeEvent) (s : Network) (a : Answer)
     (t : Network) : Type 0 where
   pub happened : HappenedAt L event end.line end.role s t
   pub puts : ArePutsOf (direction_of end.role) end.line
       (frames_of (net_turn event end.line end.role happened.node s).node) a.frames.items
-  pub told : a.notes.items ≡ user_notes happened.node.node (place_at end.role happened.line_is)
+  pub told : a.notes.items ≡ host_notes (place_at end.role happened.line_is)
       (net_turn event end.line end.role happened.node s).notes
+  pub text : a.text.items ≡ text_of event happened.node.node
   pub outcome : IsOutcome event happened.node.node a.outcome
 
 -- an event can be at this end

@@ -19,11 +19,10 @@ use net_events::{Answer, Event, StepFault};
 use std::alloc::Global;
 use std::marker::Model;
 
-/// A node: its line, how many terminals it has, and the node itself.
+/// A node: its line, and the node itself.
 #[derive(Drop)]
 pub(crate) struct PlacedNode {
     line: usize,
-    terminals: u16,
     node: Node,
 }
 
@@ -33,7 +32,7 @@ impl Model for PlacedNode {
 
     ghost Value = { network.PlacedNode };
 
-    ghost view = { λ n. record { line = n.line; terminals = n.terminals; node = node_of n.node } };
+    ghost view = { λ n. record { line = n.line; node = node_of n.node } };
 }
 
 /// A line between two nodes, which go by their places.
@@ -117,13 +116,16 @@ impl<L: Line> Nodes<L> {
     }
 
     /// How many terminals the PAD at this place has, if there is one.
-    fn terminals_at(&self, place: usize) -> Option<u16>
+    fn terminals_at(&self, place: usize) -> Option<u8>
         ensures { result ≡ pad_terminals place self.now }
     {
-        if place < self.nodes.len() && self.nodes[place].node.is_pad() {
-            return Some(self.nodes[place].terminals);
+        if place >= self.nodes.len() {
+            return None;
         }
-        None
+        match &self.nodes[place].node {
+            Node::Pad(pad) => Some(pad.terminals()),
+            Node::Host(_) => None,
+        }
     }
 
     /// The channel of this number, which the line has.
@@ -146,11 +148,11 @@ impl<L: Line> Nodes<L> {
         ensures { Happens L.service event.now self.old result self.new }
     {
         match event {
-            Event::Key {
+            Event::AtTerminal {
                 node,
                 terminal,
-                octet,
-            } => self.key(*node, *terminal, *octet),
+                event,
+            } => self.at_terminal(*node, *terminal, *event),
             Event::Call {
                 node,
                 address,

@@ -12,22 +12,23 @@ use Rattle.packet_host.specs.Saying.{cut, say_refusal}
 use Rattle.packet_host.specs.Asking.{ask_refusal, after_ask}
 use Rattle.packet_host.specs.declared.request.HostRequest.{HostRequest}
 use Rattle.packet_host.specs.declared.request.HostRequest.TheVariants.{Answer, Refuse, Say, Interrupt, Reset, Clear, Stop, Go}
-use Rattle.packet_pad.specs.Pad.{PadState}
-use Rattle.packet_pad.specs.Events.{keys}
+use Rattle.x25_pad.specs.Pad.{PadState}
 use Rattle.call_records.specs.Book.{Book, places, closes}
 use Rattle.call_records.specs.Carried.{carried, unless_refused, placed_on}
 use Rattle.call_records.specs.Closing.{all_closed}
 use Rattle.call_records.specs.Room.{BookState, opening_notes}
 use Rattle.line_nodes.specs.Node.{NodeState, Pad, Host, is_pad}
 use Rattle.line_nodes.specs.NodeEvents.{heard, expired, relinked, restarted}
-use Rattle.line_nodes.specs.Turn.{told, all_sent}
+use Rattle.line_nodes.specs.Turn.{told, unchanged, all_sent}
+use Rattle.line_nodes.specs.Terminals.{after_terminal}
+use Rattle.line_nodes.specs.declared.terminal.TerminalEvent.{TerminalEvent}
 use Rattle.line_nodes.specs.HostTurns.{taken_turn}
 use Rattle.line_nodes.specs.Writing.{IsRoomFor, request_written}
-use Rattle.line_nodes.proofs.Noted.{hears_reads, expires_reads, relinks_reads, restarts_reads, key_reads}
-use Rattle.line_nodes.proofs.Rooms.{hears_room, expires_room, relinks_room, restarts_room, key_room}
+use Rattle.line_nodes.proofs.Noted.{expires_told}
 use Rattle.node_laws.specs.Quiet.{IsQuiet}
-use Rattle.node_laws.proofs.QuietOpens.{opens-hears, opens-expires, opens-relinks, opens-calls, opens-asks, opens-refuses, opens-says, opens-takes, opens-keys}
-use Rattle.net_events.specs.NodeEvents.{turn_of, Hears, Expires, Relinks, Restarts, Calls, Takes, Keys}
+use Rattle.node_laws.proofs.QuietOpens.{opens-calls, opens-asks, opens-refuses, opens-says, opens-takes}
+use Rattle.node_laws.proofs.Rooms.{hearing_room, expiry_room, relink_room, terminal_room}
+use Rattle.net_events.specs.NodeEvents.{turn_of, Hears, Expires, Relinks, Restarts, Calls, Takes, AtTerminal}
 use Rattle.line_nodes.specs.declared.fault.NodeFault.TheVariants as node_fault
 use Rattle.packet_channel.specs.declared.fault.ChannelFault.{ChannelFault}
 use Rattle.packet_channel.specs.declared.fault.ChannelFault.TheVariants as channel_fault
@@ -55,50 +56,58 @@ kind_restarted : (n : NodeState) → is_pad (restarted n) ≡ is_pad n
 kind_restarted (Pad p) = refl
 kind_restarted (Host e) = refl
 
-pub called_hears : (role : Role) (n : NodeState) (octets : List ℕ) (s : BookState) → IsQuiet n → 8 ≤ s.room
+pub called_hears : (role : Role) (n : NodeState) (octets : List ℕ) (s : BookState) → IsQuiet n → 8 ≤ s.room → 1 ≤ s.pairs
     → IsCalled (Hears octets) role n s.book (heard n octets) s
-called_hears role n octets s q many = record {
-  reads_so = hears_reads role n octets s.book q.noted;
-  room_for = hears_room role n octets s.book s.room (opens-hears role n octets s.book) (omega (arith, many));
+called_hears role n octets s q many some = record {
+  reads_so = refl;
+  room_for = hearing_room n octets q s.room s.pairs (omega (arith, many)) some;
   kind = kind_heard n octets;
 }
 
-pub called_expires : (role : Role) (n : NodeState) (id : TimerId) (s : BookState) → IsQuiet n → 8 ≤ s.room
+pub called_expires : (role : Role) (n : NodeState) (id : TimerId) (s : BookState) → IsQuiet n → 8 ≤ s.room → 1 ≤ s.pairs
     → IsCalled (Expires id) role n s.book (expired n id) s
-called_expires role n id s q many = record {
-  reads_so = expires_reads role n id s.book q.noted q.node.read;
-  room_for = expires_room role n id s.book s.room q.noted q.node.read (opens-expires role n id s.book q) (omega (arith, many));
+called_expires role n id s q many some = record {
+  reads_so = expires_told role n id s.book q.node.noted q.node.read;
+  room_for = expiry_room n id q s.room s.pairs (omega (arith, many)) some;
   kind = kind_expired n id;
 }
 
-pub called_relinks : (role : Role) (n : NodeState) (s : BookState) → IsQuiet n → 8 ≤ s.room
+pub called_relinks : (role : Role) (n : NodeState) (s : BookState) → IsQuiet n → 8 ≤ s.room → 1 ≤ s.pairs
     → IsCalled Relinks role n s.book (relinked n) s
-called_relinks role n s q many = record {
-  reads_so = relinks_reads role n s.book q.noted;
-  room_for = relinks_room role n s.book s.room (opens-relinks role n s.book) (omega (arith, many));
+called_relinks role n s q many some = record {
+  reads_so = refl;
+  room_for = relink_room n q s.room s.pairs (omega (arith, many)) some;
   kind = kind_relinked n;
 }
+
+restarted_told : (role : Role) (n : NodeState) (b : Book) → told role (restarted n) b ≡ unchanged (restarted n) b
+restarted_told role (Pad p) b = refl
+restarted_told role (Host e) b = refl
+
+restarted_fits : (n : NodeState) (room pairs : ℕ) → IsRoomFor (restarted n) room pairs
+restarted_fits (Pad p) room pairs = tt
+restarted_fits (Host e) room pairs = (omega arith, omega arith)
 
 pub called_restarts : (role : Role) (n : NodeState) (b : Book) (room pairs : ℕ)
     → IsCalled Restarts role n b (restarted n) (record { book = all_closed role b; room = room; pairs = pairs })
 called_restarts role n b room pairs = record {
-  reads_so = restarts_reads role n b;
-  room_for = restarts_room n room;
+  reads_so = restarted_told role n (all_closed role b);
+  room_for = restarted_fits n room pairs;
   kind = kind_restarted n;
 }
 
-pub called_keys : (role : Role) (p : PadState) (octet : ℕ) (s : BookState) → IsQuiet (Pad p) → 8 ≤ s.room
-    → IsCalled (Keys octet) role (Pad p) s.book (Pad (keys p octet)) s
-called_keys role p octet s q many = record {
-  reads_so = key_reads role p octet s.book q.noted q.node.read;
-  room_for = key_room role p octet s.book s.room q.noted (omega (arith, many)) (opens-keys role p octet s.book q);
+pub called_terminal : (role : Role) (p : PadState) (terminal : ℕ) (event : TerminalEvent) (s : BookState) → IsQuiet (Pad p) → 8 ≤ s.room → 1 ≤ s.pairs
+    → IsCalled (AtTerminal terminal event) role (Pad p) s.book (Pad (after_terminal terminal event p)) s
+called_terminal role p terminal event s q many some = record {
+  reads_so = refl;
+  room_for = terminal_room p terminal event q s.room s.pairs (omega (arith, many)) some;
   kind = refl;
 }
 
 -- ---- what the user of a host asks
 
-room_for_none : (e : PacketEnd) (room : ℕ) → opening_notes e.notes ≡ 0 → IsRoomFor (Host e) room
-room_for_none e room none = (omega (arith, none), omega (arith, none))
+room_for_none : (e : PacketEnd) (room pairs : ℕ) → opening_notes e.notes ≡ 0 → IsRoomFor (Host e) room pairs
+room_for_none e room pairs none = (omega (arith, none), omega (arith, none))
 
 pub called_calls : (role : Role) (e : PacketEnd) (address user_data : List ℕ) (channel : ℕ) (b : Book) (room pairs : ℕ) → IsQuiet (Host e)
     → channel_given e.layer e.layer.phase ≡ Some channel
@@ -109,7 +118,7 @@ called_calls role e address user_data channel b room pairs q given =
     let e' = after_call e parts in
     record {
       reads_so = ap (λ (o : Option ℕ). told role (Host e') (placed_on role o parts b)) (sym given);
-      room_for = room_for_none e' room (opens-calls role e parts b q);
+      room_for = room_for_none e' room pairs (opens-calls role e parts b q);
       kind = refl;
     }
 
@@ -158,7 +167,7 @@ pub called_asks : (role : Role) (e : PacketEnd) (channel : ℕ) (r : HostRequest
     → IsCalled (request_event channel r) role (Host e) b (Host (after_ask e channel r)) (record { book = request_written role channel r b; room = room; pairs = pairs })
 called_asks role e channel r b room pairs q none = record {
   reads_so = asked_turn role e channel r b none;
-  room_for = room_for_none (after_ask e channel r) room (asked_none role e channel r b q);
+  room_for = room_for_none (after_ask e channel r) room pairs (asked_none role e channel r b q);
   kind = refl;
 }
 
@@ -191,7 +200,7 @@ pub called_takes : (role : Role) (e : PacketEnd) (channel : ℕ) (b : Book) (roo
     (record { book = taken_written (front_on e.layer channel) role channel b; room = room; pairs = pairs })
 called_takes role e channel b room pairs q = record {
   reads_so = taken_reads role e channel b q;
-  room_for = room_for_none (after_take e channel) room (taken_none role e channel b q);
+  room_for = room_for_none (after_take e channel) room pairs (taken_none role e channel b q);
   kind = refl;
 }
 

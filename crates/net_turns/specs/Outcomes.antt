@@ -1,5 +1,5 @@
 -- What a node answers to an event, or with which fault it refuses it.
-use Rattle.std.specs.Prelude.{◌≡◌, ℕ, true, Option, Some, None, Result, MatchResult}
+use Rattle.std.specs.Prelude.{◌≡◌, ℕ, true, List, [], Option, Some, None, Result, MatchResult}
 use Rattle.packet_channel.specs.declared.taken.Taken as taken
 use Rattle.packet_channel.specs.declared.fault.ChannelFault.TheVariants as channel_fault
 use Rattle.packet_layer.specs.Channel.{Refusal}
@@ -8,14 +8,17 @@ use Rattle.packet_layer.specs.TakenView.{maybe_taken}
 use Rattle.packet_layer.specs.declared.fault.CallFault.TheVariants as call_fault
 use Rattle.packet_host.specs.Host.{refuse_refusal}
 use Rattle.packet_host.specs.Saying.{say_refusal}
-use Rattle.packet_pad.specs.Keys.{after_octet, key_answer}
+use Rattle.x25_pad.specs.Pad.{PadState, answer_of}
 use Rattle.line_nodes.specs.Node.{NodeState, Pad, Host, end_of}
+use Rattle.line_nodes.specs.Terminals.{is_taken, text_shown}
+use Rattle.line_nodes.specs.declared.terminal.TerminalEvent.{TerminalEvent}
+use Rattle.line_nodes.specs.declared.terminal.TerminalEvent.TheVariants.{Print}
 use Rattle.line_nodes.specs.declared.fault.NodeFault.{NodeFault}
 use Rattle.line_nodes.specs.declared.fault.NodeFault.TheVariants.{Call, Channel}
 use Rattle.net_events.specs.NodeEvents.{NodeEvent, Hears, Calls, Asks, Refuses, Says}
-use Rattle.net_events.specs.NodeEvents.{Takes, Keys}
+use Rattle.net_events.specs.NodeEvents.{Takes, AtTerminal}
 use Rattle.net_events.specs.declared.answer.Outcome.{Outcome}
-use Rattle.net_events.specs.declared.answer.Outcome.TheVariants.{Delivered, Keyed, Called, Took, Done}
+use Rattle.net_events.specs.declared.answer.Outcome.TheVariants.{Delivered, Typed, Printed, Called, Took, Done}
 
 -- ---- what is refused
 
@@ -55,16 +58,29 @@ pub record TookFrom (channel : ℕ) (n : NodeState) (o : Outcome) : Type 0 where
   pub front : maybe_taken shown ≡ front_on (end_of n).layer channel
   pub answered : o ≡ Took shown
 
--- what a PAD answers to a key
-abbrev pub KeyedSo : (octet : ℕ) → NodeState → Outcome → Type 0
-KeyedSo octet (Pad p) o = o ≡ Keyed (key_answer (after_octet p octet).dropped)
-KeyedSo octet (Host e) o = ⊥
+-- what a PAD answers to what happens at a terminal
+abbrev pub pad_outcome : (terminal : ℕ) → TerminalEvent → PadState → Outcome
+pad_outcome terminal Print p = Printed
+pad_outcome terminal event p = Typed (answer_of (is_taken terminal event p))
+
+abbrev pub AnsweredAt : (terminal : ℕ) → TerminalEvent → NodeState → Outcome → Type 0
+AnsweredAt terminal event (Pad p) o = o ≡ pad_outcome terminal event p
+AnsweredAt terminal event (Host e) o = ⊥
+
+-- what a terminal shows
+abbrev pub text_at : (terminal : ℕ) → TerminalEvent → NodeState → List ℕ
+text_at terminal event (Pad p) = text_shown terminal event p
+text_at terminal event (Host e) = []
+
+abbrev pub text_of : NodeEvent → NodeState → List ℕ
+text_of (AtTerminal terminal event) n = text_at terminal event n
+text_of event n = []
 
 abbrev pub IsOutcome : NodeEvent → NodeState → Outcome → Type 0
 IsOutcome (Hears octets) n o = o ≡ Delivered true
 IsOutcome (Calls address user_data) n o = CalledOn n o
 IsOutcome (Takes channel) n o = TookFrom channel n o
-IsOutcome (Keys octet) n o = KeyedSo octet n o
+IsOutcome (AtTerminal terminal event) n o = AnsweredAt terminal event n o
 IsOutcome _ n o = o ≡ Done
 
 -- it is answered with such an outcome where nothing is refused, else refused with the fault

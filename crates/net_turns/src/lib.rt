@@ -10,4 +10,4 @@ mod serving;
 pub use place::NetPlace;
 pub use room::{Room, bare_answer};
 pub use send::put_frames;
-pub use serving::{MOST_WRITES, serve};
+pub use serving::{MOST_TEXT, MOST_WRITES, serve};

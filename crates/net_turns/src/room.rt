@@ -1,5 +1,5 @@
 //! The lists of an answer, grown before a node is called.
-ghost use Rattle.std.specs.Prelude.{◌≡◌, [], IfOk};
+ghost use Rattle.std.specs.Prelude.{◌≡◌, ◌≤◌, [], IfOk, vec_capacity};
 ghost use Rattle.net_turns.specs.Served.{IsEmpty};
 
 use line_end::MOST_FRAMES;
@@ -13,16 +13,19 @@ use std::alloc::{AllocError, Global};
 pub struct Room {
     pub frames: Vec<Put>,
     pub notes: Vec<HostNote>,
+    pub text: Vec<u8>,
 }
 
 impl Room {
-    /// Room for the frames and notes of one event of a node.
-    pub fn new(alloc: Global) -> Result<Self, AllocError>
-        ensures { IfOk result IsEmpty }
+    /// Room for the frames and notes of one event of a node, and for so many octets of text.
+    pub fn new(alloc: Global, octets: usize) -> Result<Self, AllocError>
+        ensures empty { IfOk result IsEmpty }
+        ensures text { IfOk result (λ room. octets ≤ vec_capacity room.text) }
     {
         Ok(Room {
             frames: Vec::with_capacity(alloc, MOST_FRAMES)?,
             notes: Vec::with_capacity(alloc, MOST_NOTES)?,
+            text: Vec::with_capacity(alloc, octets)?,
         })
     }
 
@@ -30,26 +33,34 @@ impl Room {
     pub fn answer(self, outcome: Outcome) -> Answer
         ensures frames { result.frames.items ≡ self.frames.items }
         ensures notes { result.notes.items ≡ self.notes.items }
+        ensures text { result.text.items ≡ self.text.items }
         ensures outcome { result.outcome ≡ outcome }
     {
-        let Room { frames, notes } = self;
+        let Room {
+            frames,
+            notes,
+            text,
+        } = self;
         Answer {
             frames,
             notes,
+            text,
             outcome,
         }
     }
 }
 
-/// An answer without frames and notes, which takes no memory.
+/// An answer without frames, notes and text, which takes no memory.
 pub fn bare_answer(alloc: Global, outcome: Outcome) -> Answer
     ensures frames { result.frames.items ≡ [] }
     ensures notes { result.notes.items ≡ [] }
+    ensures text { result.text.items ≡ [] }
     ensures outcome { result.outcome ≡ outcome }
 {
     Answer {
         frames: Vec::new(alloc),
         notes: Vec::new(alloc),
+        text: Vec::new(alloc),
         outcome,
     }
 }

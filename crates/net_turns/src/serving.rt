@@ -1,30 +1,38 @@
 //! What an event does at one node, on its line and in the book: the node is called, the network writes what was asked
 //! and what the node noted, and the frames go onto the line.
-ghost use Rattle.std.specs.Prelude.{◌≡◌, ◌≤◌, OnOk, OnErr};
+ghost use Rattle.std.specs.Prelude.{◌≡◌, ◌≤◌, ◌<◌, [], OnOk, OnErr, length, vec_capacity};
 ghost use Rattle.packet_layer.specs.Layer.{front_on};
 ghost use Rattle.packet_layer.specs.TakenView.{maybe_taken};
 ghost use Rattle.packet_host.specs.Host.{after_take};
+ghost use Rattle.x25_pad.specs.Pad.{print_text};
 ghost use Rattle.line_nodes.specs.NodeView.{node_of};
+ghost use Rattle.line_nodes.specs.Terminals.{after_terminal, text_shown};
+ghost use Rattle.line_nodes.specs.declared.terminal.TerminalEvent.TheVariants as terminal_event;
 ghost use Rattle.node_laws.specs.Quiet.{IsQuiet};
 ghost use Rattle.net_events.specs.NodeEvents.{IsFor, turn_of};
 ghost use Rattle.net_events.specs.OneLine.{direction_of};
 ghost use Rattle.net_events.specs.EventView.{event_of};
-ghost use Rattle.net_turns.specs.Outcomes.{IsAnswered};
-ghost use Rattle.net_turns.specs.Served.{IsCalled, Served, IsEmpty, taken_written};
+ghost use Rattle.net_turns.specs.Outcomes.{IsAnswered, pad_outcome, text_of};
+ghost use Rattle.net_turns.specs.Served.{IsCalled, Served, IsEmpty, HasPlaces, EventHasPlaces, taken_written};
 
 use crate::place::NetPlace;
 use crate::room::Room;
 use crate::send::put_frames;
+use arrayvec::ArrayVec;
 use call_records::Book;
-use line_nodes::{Node, NodeFault, write_notes, write_request, write_taken};
+use line_nodes::{Node, NodeFault, TerminalEvent, write_notes, write_request, write_taken};
 use link_timers::Role;
 use memory_line::{Direction, Line};
 use net_events::{NodeEvent, Outcome};
 use packet_host::Host;
 use packet_layer::Taken;
+use x25_pad::Pad;
 
 /// An event needs room in the book for no more writes than this: those of a message of eight packets.
 pub const MOST_WRITES: usize = 8;
+
+/// A terminal shows no more octets at once than this.
+pub const MOST_TEXT: usize = 3200;
 
 /// The direction in which the end of a role sends.
 fn direction_of(role: Role) -> Direction
@@ -48,17 +56,57 @@ fn take(host: &mut Host, role: Role, channel: u8, book: &mut Book) -> Option<Tak
     Some(taken)
 }
 
-/// Calls the node, and writes what was asked of it.
+/// Something happens at a terminal of a PAD, and what it shows is added to the text.
+fn at_terminal(pad: &mut Pad, terminal: u8, event: TerminalEvent, text: &mut Vec<u8>) -> Outcome
+    requires there { terminal < length pad.old.ports }
+    requires empty { text.old.items ≡ [] }
+    requires places { HasPlaces event (vec_capacity text.old) }
+    ensures pad { pad.new ≡ after_terminal terminal event pad.old }
+    ensures outcome { result ≡ pad_outcome terminal event pad.old }
+    ensures text { text.new.items ≡ text_shown terminal event pad.old }
+{
+    match event {
+        TerminalEvent::Key(octet) => Outcome::Typed(pad.on_key(terminal, octet)),
+        TerminalEvent::Break => Outcome::Typed(pad.on_break(terminal)),
+        TerminalEvent::Idle => Outcome::Typed(pad.on_idle(terminal)),
+        TerminalEvent::Print => {
+            show(pad, terminal, text);
+            Outcome::Printed
+        }
+    }
+}
+
+/// Shows what waits at a terminal.
+fn show(pad: &mut Pad, terminal: u8, text: &mut Vec<u8>)
+    requires there { terminal < length pad.old.ports }
+    requires empty { text.old.items ≡ [] }
+    requires places { MOST_TEXT ≤ vec_capacity text.old }
+    ensures pad { pad.new ≡ after_terminal terminal terminal_event.Print pad.old }
+    ensures text { text.new.items ≡ print_text terminal pad.old }
+{
+    let mut shown: ArrayVec<u8, MOST_TEXT> = ArrayVec::new();
+    let _ = pad.print(terminal, &mut shown);
+    let Ok(()) = text.extend_from_slice(shown.as_slice()) else {
+        unreachable!()
+    };
+}
+
+/// Calls the node, and writes what was asked of it. What a terminal shows is added to the text.
 fn call_node(
     node: &mut Node,
     role: Role,
     event: &NodeEvent<'_>,
     book: &mut Book,
+    text: &mut Vec<u8>,
 ) -> Result<Outcome, NodeFault>
     requires is_for { IsFor (event_of event.now) (node_of node.old) }
     requires writes { MOST_WRITES ≤ book.old.room }
+    requires pairs { 1 ≤ book.old.pairs }
     requires quiet { IsQuiet (node_of node.old) }
+    requires empty { text.old.items ≡ [] }
+    requires places { EventHasPlaces (event_of event.now) (vec_capacity text.old) }
     ensures answer { IsAnswered (event_of event.now) (node_of node.old) result }
+    ensures text { OnOk result (text.new.items ≡ text_of (event_of event.now) (node_of node.old)) }
     ensures ok { OnOk result (IsCalled (event_of event.now) role (node_of node.old) book.old.book (node_of node.new)
         book.new) }
     ensures node { OnErr result (node_of node.new ≡ node_of node.old) }
@@ -102,14 +150,14 @@ fn call_node(
             Node::Host(host) => Ok(Outcome::Took(take(host, role, *channel, book))),
             Node::Pad(_) => unreachable!(),
         },
-        NodeEvent::Keys(octet) => match node {
-            Node::Pad(pad) => Ok(Outcome::Keyed(pad.on_key(*octet))),
+        NodeEvent::AtTerminal(terminal, event) => match node {
+            Node::Pad(pad) => Ok(at_terminal(pad, *terminal, *event, text)),
             Node::Host(_) => unreachable!(),
         },
     }
 }
 
-/// Serves an event at a node, where a host is asked and a PAD is typed at. What the node refuses changes nothing.
+/// Serves an event at a node, where a host is asked and a PAD has the terminal. What the node refuses changes nothing.
 pub fn serve<L: Line>(
     node: &mut Node,
     at: NetPlace,
@@ -121,16 +169,19 @@ pub fn serve<L: Line>(
     requires is_for { IsFor (event_of event.now) (node_of node.old) }
     requires quiet { IsQuiet (node_of node.old) }
     requires writes { MOST_WRITES ≤ book.old.room }
+    requires pairs { 1 ≤ book.old.pairs }
     requires empty { IsEmpty room.old }
+    requires places { EventHasPlaces (event_of event.now) (vec_capacity room.old.text) }
     ensures answer { IsAnswered (event_of event.now) (node_of node.old) result }
-    ensures served { OnOk result (Served L.service at (node_of node.old)
+    ensures text { OnOk result (room.new.text.items ≡ text_of (event_of event.now) (node_of node.old)) }
+    ensures served { OnOk result (Served L.service at
         (turn_of (event_of event.now) at.place.role (node_of node.old) book.old.book) (L.flights line.old)
         room.new.frames.items room.new.notes.items (node_of node.new) (L.flights line.new) book.new.book) }
     ensures node { OnErr result (node_of node.new ≡ node_of node.old) }
     ensures line { OnErr result (line.new ≡ line.old) }
     ensures book { OnErr result (book.new ≡ book.old) }
 {
-    let outcome = call_node(node, at.place.role, event, book)?;
+    let outcome = call_node(node, at.place.role, event, book, &mut room.text)?;
     write_notes(node, at.place, book, &mut room.notes);
     put_frames(
         node,

@@ -6,7 +6,7 @@ use Rattle.link_timers.specs.declared.role.Role.{Role}
 use Rattle.link_timers.specs.declared.role.Role.TheVariants.{Dte, Dce}
 use Rattle.link_timers.specs.declared.timers.TimerId.{TimerId}
 use Rattle.call_records.specs.Register.{book_at}
-use Rattle.line_nodes.specs.Node.{end_of, drained, node_due}
+use Rattle.line_nodes.specs.Node.{drained, node_due}
 use Rattle.node_laws.specs.Due.{due_count}
 use Rattle.node_laws.specs.Quiet.{IsQuiet}
 use Rattle.node_laws.proofs.Expiring as expiry_law
@@ -17,11 +17,11 @@ use Rattle.network_laws.specs.IsNetwork.{LineHolds, IsNetwork}
 use Rattle.network_laws.specs.DueCount.{all_due}
 use Rattle.network_laws.proofs.Networks.{placed, node_is, book_there}
 
-fewer_of : (nodes : List PlacedNode) (place : ℕ) (p q : PlacedNode) → slice_get nodes place ≡ Some p → due_count (end_of q.node) < due_count (end_of p.node)
+fewer_of : (nodes : List PlacedNode) (place : ℕ) (p q : PlacedNode) → slice_get nodes place ≡ Some p → due_count q.node < due_count p.node
     → all_due (set nodes place q) < all_due nodes
 fewer_of [] place p q e h = absurd (none-some p e)
 fewer_of (n ∷ nodes) zero p q e h =
-    let less : due_count (end_of q.node) < due_count (end_of n.node) = subst (λ (x : PlacedNode). due_count (end_of q.node) < due_count (end_of x.node)) (sym (same_Some n p e)) h in
+    let less : due_count q.node < due_count n.node = subst (λ (x : PlacedNode). due_count q.node < due_count x.node) (sym (same_Some n p e)) h in
     omega (arith, less)
 fewer_of (n ∷ nodes) (suc place) p q e h = let less = fewer_of nodes place p q e h in omega (arith, less)
 

@@ -9,12 +9,11 @@ use Rattle.line_record_laws.specs.Kept.{Setting, Kept, coming_to}
 use Rattle.line_record_laws.specs.Happens.{sent, with_event}
 use Rattle.node_laws.specs.Nodes.{StandsAt}
 use Rattle.node_laws.specs.Quiet.{IsQuiet}
-use Rattle.pad_laws.specs.PadHolds.{NodeHolds}
 use Rattle.line_nodes.specs.Node.{NodeState, Pad, Host, end_of, is_pad, drained, frames_of}
 use Rattle.line_nodes.specs.Turn.{Turn}
 use Rattle.memory_line.specs.Lines.{Flights, flying, LineService, ArePut}
 use Rattle.net_events.specs.OneLine.{LineState, node_at, with_turn, direction_of, direction_to}
-use Rattle.network_laws.specs.IsLine.{line_of, IsKept, AreQuiet, IsLine}
+use Rattle.network_laws.specs.IsLine.{NodeHolds, line_of, IsKept, AreQuiet, IsLine}
 use Rattle.network_laws.proofs.Flying.{Landed, landed}
 use Rattle.network_laws.proofs.NodeKinds.{SameNodes}
 

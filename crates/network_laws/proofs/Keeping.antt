@@ -18,16 +18,15 @@ use Rattle.line_nodes.specs.NodeEvents.{restarted}
 use Rattle.memory_line.specs.declared.line.Direction.TheVariants.{FromDte, FromDce}
 use Rattle.memory_line.specs.Lines.{Flights, no_flights, flying, LineService, ArePut}
 use Rattle.net_events.specs.OneLine.{LineState, node_at, with_turn, direction_of, direction_to}
-use Rattle.net_events.specs.NodeEvents.{NodeEvent, IsFor, turn_of, key_turn, LeftBy}
+use Rattle.net_events.specs.NodeEvents.{NodeEvent, IsFor, turn_of, LeftBy}
 use Rattle.net_events.specs.NodeEvents.NodeEvent.{Hears, Expires, Relinks, Restarts, Calls, Asks, Refuses, Says}
-use Rattle.net_events.specs.NodeEvents.NodeEvent.{Takes, Keys}
+use Rattle.net_events.specs.NodeEvents.NodeEvent.{Takes, AtTerminal}
 use Rattle.network_laws.specs.IsLine.{line_of, IsKept, AreQuiet, IsLine}
 use Rattle.network_laws.proofs.Flying.{Landed, landed}
 use Rattle.network_laws.proofs.Fitting.{Comes, comes-same, kept-after, stands}
 use Rattle.network_laws.proofs.Leaving.{host-stands}
 use Rattle.node_laws.proofs.Hearing as hearing_law
 use Rattle.node_laws.proofs.Asking as asking_law
-use Rattle.node_laws.proofs.Typing as typing_law
 
 -- ---- a frame arrives
 
@@ -112,14 +111,6 @@ stays L role s turn mid l same put k keeps =
     let P : Flights → Type 0 = λ f. ArePut L (direction_of role) (frames_of turn.node) f l in
     kept-after L role s turn s.flights l (coming_to role (line_of s)) (comes-same role s) (subst P same put) k.setting keeps
 
--- ---- a key
-
-key-kept : (s : LineState) (n : NodeState) (octet : _) (kept : List Bool) (k : IsKept s) → is_pad n ≡ true → StandsAt Dte (line_of s) n
-    → Kept k.setting (key_turn Dte n octet s.book).book
-    (with_event Dte (end_of (key_turn Dte n octet s.book).node) kept (coming_to Dte (line_of s)) (line_of s))
-key-kept s (Pad p) octet kept k pad at = (typing_law.keys_keeps k.setting s.book (line_of s) Dte p octet kept at k.kept).kept
-key-kept s (Host e) octet kept k pad at = absurd (cc)
-
 -- ---- each event
 
 pub keeps : (L : LineService) (event : NodeEvent) (role : Role) (s : LineState) (mid l : Flights) → IsLine L s
@@ -157,7 +148,6 @@ keeps L (Takes channel) role s mid l n is left put k =
     stays L role s (turn_of (Takes channel) role (node_at role s) s.book) mid l left put k
     (λ kept. (asking_law.takes_keeps k.setting s.book (line_of s) role (end_of (node_at role s)) channel kept
     (host-stands role s n.quiet is) k.kept).kept)
-keeps L (Keys octet) Dte s mid l n is left put k =
-    stays L Dte s (turn_of (Keys octet) Dte s.dte s.book) mid l left put k
-    (λ kept. key-kept s s.dte octet kept k is (stands Dte s n.quiet))
-keeps L (Keys octet) Dce s mid l n is left put k = absurd (let host = n.host in cc)
+keeps L (AtTerminal terminal event) role s mid l n is left put k =
+    stays L role s (turn_of (AtTerminal terminal event) role (node_at role s) s.book) mid l left put k
+    (λ kept. (hearing_law.terminals_keep k.setting s.book (line_of s) role (node_at role s) terminal event kept (stands role s n.quiet) k.kept).kept)

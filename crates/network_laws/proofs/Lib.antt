@@ -1,4 +1,5 @@
 mod Flying
+mod Shapes
 mod Uniform
 mod Channels
 pub mod NodeKinds

@@ -3,6 +3,7 @@ use Rattle.std.proofs.Common.{◌≡◌, ℕ, refl, sym, ◌∙◌, subst}
 use Rattle.link_timers.specs.declared.role.Role.{Role}
 use Rattle.link_timers.specs.declared.role.Role.TheVariants.{Dte, Dce}
 use Rattle.packet_end.specs.PacketEnd as end
+use Rattle.call_records.specs.Book.{Book}
 use Rattle.line_record_laws.specs.Kept.{Kept}
 use Rattle.node_laws.specs.Clauses.{elapsed_line}
 use Rattle.line_nodes.specs.Node.{NodeState, Pad, Host, end_of, is_pad, node_elapsed}
@@ -11,7 +12,7 @@ use Rattle.memory_line.specs.declared.line.Direction.TheVariants.{FromDte, FromD
 use Rattle.memory_line.specs.Lines.{Flights, without_first, LineService}
 use Rattle.net_events.specs.OneLine.{LineState, node_at}
 use Rattle.net_events.specs.NodeEvents.{NodeEvent, turn_of, Happened}
-use Rattle.network_laws.specs.IsLine.{line_of, IsKept, IsLine}
+use Rattle.network_laws.specs.IsLine.{NodeHolds, line_of, IsKept, IsLine}
 use Rattle.network_laws.specs.LineLaw.{elapsed}
 use Rattle.network_laws.proofs.Fitting.{after-turn}
 use Rattle.network_laws.proofs.Leaving.{leaves}
@@ -19,7 +20,7 @@ use Rattle.network_laws.proofs.Keeping.{keeps}
 use Rattle.line_record_laws.proofs.Keeping as keeping_law
 use Rattle.node_laws.proofs.Making as making_law
 use Rattle.node_laws.proofs.QuietTurns as quiet_law
-use Rattle.pad_laws.proofs.Turns as typed_law
+use Rattle.x25_pad_laws.proofs.Holding as pad_law
 
 pub happened_line : (L : LineService) (event : NodeEvent) (role : Role) (s t : LineState) → IsLine L s
     → Happened L event role s t → IsLine L t
@@ -69,6 +70,10 @@ elapsed-line ticks s = λ i. record {
   down = s.flights.from_dce;
 }
 
+elapsed-typed : (ticks : ℕ) (n : NodeState) (b : Book) → NodeHolds Dte n b → NodeHolds Dte (node_elapsed ticks n) b
+elapsed-typed ticks (Pad p) b h = pad_law.time_kept Dte p ticks b h
+elapsed-typed ticks (Host e) b h = tt
+
 pub elapsed_lines : (L : LineService) (s : LineState) (ticks : ℕ) → IsLine L s → IsLine L (elapsed ticks s)
 elapsed_lines L s ticks n = record {
   apart = n.apart;
@@ -79,7 +84,7 @@ elapsed_lines L s ticks n = record {
     dte = quiet_law.quiet-elapses s.dte ticks n.quiet.dte;
     dce = quiet_law.quiet-elapses s.dce ticks n.quiet.dce;
   };
-  typed = typed_law.elapses_kept Dte s.dte ticks s.book n.typed;
+  typed = elapsed-typed ticks s.dte s.book n.typed;
   kept = λ f. let k = n.kept f in record {
     setting = k.setting;
     kept = subst (Kept k.setting s.book) (sym (elapsed-line ticks s))

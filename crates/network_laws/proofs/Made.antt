@@ -6,39 +6,39 @@ use Rattle.lapb.specs.Line.{chosen}
 use Rattle.packet_end.specs.PacketEnd as end
 use Rattle.packet_end.specs.Params.{AreParams}
 use Rattle.packet_end.specs.declared.params.EndParams.{EndParams}
-use Rattle.packet_pad.specs.Making as pad
+use Rattle.x25_pad.specs.Making as pad
+use Rattle.x25_pad.specs.declared.config.PadConfig.{PadConfig}
 use Rattle.call_records.specs.Records.{RecordValue}
 use Rattle.call_records.specs.Book.{Book, made_book}
 use Rattle.book_laws.specs.Headline.{BookHolds}
 use Rattle.line_record_laws.specs.Kept.{Setting, Kept}
 use Rattle.node_laws.specs.Quiet.{IsQuiet}
 use Rattle.node_laws.specs.Clauses.{first_line}
-use Rattle.pad_laws.specs.Typed.{IsTyped}
-use Rattle.pad_laws.specs.PadHolds.{NodeHolds}
+use Rattle.x25_pad_laws.specs.Sending.{HasSent}
 use Rattle.line_nodes.specs.Node.{NodeState, Pad, Host, end_of, is_pad, drained, frames_of}
 use Rattle.memory_line.specs.declared.line.Direction.TheVariants.{FromDte, FromDce}
 use Rattle.memory_line.specs.Lines.{Flights, no_flights, LineService}
 use Rattle.net_events.specs.OneLine.{LineState}
-use Rattle.network_laws.specs.IsLine.{line_of, IsLine}
-use Rattle.net_events.specs.Opening.{NewDte, NewPad, NewHost, new_dte, new_dce, AreSent}
+use Rattle.network_laws.specs.IsLine.{NodeHolds, line_of, IsLine}
+use Rattle.net_events.specs.Opening.{NewDte, NewPad, NewHost, IsNewDte, new_dte, new_dce, AreSent}
 use Rattle.network_laws.specs.LineLaw.{made_line}
 use Rattle.network_laws.proofs.Flying.{landed}
 use Rattle.network_laws.proofs.Fitting.{end-drained}
 use Rattle.line_record_laws.proofs.Keeping as keeping_law
 use Rattle.node_laws.proofs.Making as making_law
 use Rattle.node_laws.proofs.QuietTurns as quiet_law
-use Rattle.pad_laws.proofs.Turns as typed_law
-use Rattle.pad_laws.proofs.Making as typed_making_law
+use Rattle.x25_pad_laws.proofs.Holding as pad_law
+use Rattle.x25_pad_laws.proofs.Begins as pad_making_law
 
 -- ---- the promise
 
 typed-so : (n : NodeState) (b : Book) → NodeHolds Dte n b → is_pad n ≡ true → (i : ℕ) (r : RecordValue)
-    → slice_get b.records i ≡ Some r → r.node ≡ b.dte.node → IsTyped r
-typed-so (Pad p) b h e i r at node = h.typed i r at node
+    → slice_get b.records i ≡ Some r → r.node ≡ b.dte.node → HasSent r
+typed-so (Pad p) b h e i r at node = h.book.sent i r at node
 typed-so (Host x) b h e i r at node = absurd (cc)
 
 pub typed_line : (L : LineService) (s : LineState) → IsLine L s → is_pad s.dte ≡ true → (i : ℕ) (r : RecordValue)
-    → slice_get s.book.records i ≡ Some r → r.node ≡ s.dte_place → IsTyped r
+    → slice_get s.book.records i ≡ Some r → r.node ≡ s.dte_place → HasSent r
 typed_line L s n pad i r at node = typed-so s.dte s.book n.typed pad i r at (node ∙ sym n.dte_node)
 
 pub book_line : (L : LineService) (s : LineState) → IsLine L s → L.faithful → BookHolds s.book
@@ -47,20 +47,19 @@ book_line L s n f = let k = n.kept f in keeping_law.holds_kept k.setting s.book 
 -- ---- the making
 
 made-quiet : (d : NewDte) (l : EndParams) → IsQuiet (drained (new_dte d l))
-made-quiet (NewPad params) l = quiet_law.quiet-made-pad (record { line = l; params = params })
+made-quiet (NewPad params terminals) l = quiet_law.quiet-made-pad (record { line = l; params = params; terminals = terminals })
 made-quiet NewHost l = quiet_law.quiet-made-host (record { role = Dte; line = l })
 
-made-typed : (d : NewDte) (l : EndParams) (dte_node dce_node channels : ℕ) (standing : Bool)
-    → (dte_node ≡ dce_node → ⊥)
-    → NodeHolds Dte (drained (new_dte d l)) (made_book dte_node dce_node channels standing)
-made-typed (NewPad params) l dte_node dce_node channels standing apart =
-    typed_law.drained_kept Dte (Pad (pad.made (record { line = l; params = params })))
-    (made_book dte_node dce_node channels standing)
-    (typed_making_law.made_holds Dte (record { line = l; params = params }) dte_node dce_node channels standing apart)
-made-typed NewHost l dte_node dce_node channels standing apart = tt
+made-typed : (d : NewDte) (l : EndParams) (dte_node dce_node : ℕ) → (dte_node ≡ dce_node → ⊥) → AreParams l → IsNewDte d
+    → NodeHolds Dte (drained (new_dte d l)) (made_book dte_node dce_node l.channels l.standing)
+made-typed (NewPad params terminals) l dte_node dce_node apart are is =
+    let c : PadConfig = record { line = l; params = params; terminals = terminals } in
+    let h = pad_making_law.made_kept Dte c dte_node dce_node l.channels apart (record { line = are; least = is.0; most = is.1 }) in
+    record { book = h.book; read = h.read; unread = h.unread; ports = h.ports; alone = h.alone; calls = h.calls }
+made-typed NewHost l dte_node dce_node apart are is = tt
 
 made-end : (d : NewDte) (l : EndParams) → end_of (new_dte d l) ≡ end.made Dte l
-made-end (NewPad params) l = refl
+made-end (NewPad params terminals) l = refl
 made-end NewHost l = refl
 
 book-nodes : (dte_node dce_node channels : ℕ) (standing : Bool)
@@ -90,9 +89,9 @@ first-line L dte_place dce_place d line l b =
     λ i. record { dte = end-drained (new_dte d line) i; dce = end-drained (new_dce line) i; up = going i; down = coming i }
 
 pub made_lines : (L : LineService) (dte_place dce_place : ℕ) (d : NewDte) (line : EndParams) (l : Flights)
-    → dte_place ≢ dce_place → AreParams line → (L.faithful → AreSent L (new_dte d line) (new_dce line) l)
+    → dte_place ≢ dce_place → AreParams line → IsNewDte d → (L.faithful → AreSent L (new_dte d line) (new_dce line) l)
     → IsLine L (made_line dte_place dce_place d line l)
-made_lines L dte_place dce_place d line l apart params sent =
+made_lines L dte_place dce_place d line l apart params is sent =
     let book : Book = made_book dte_place dce_place line.channels line.standing in
     let nodes = book-nodes dte_place dce_place line.channels line.standing in
     record {
@@ -101,7 +100,7 @@ made_lines L dte_place dce_place d line l apart params sent =
       dce_node = nodes.1;
       host = refl;
       quiet = record { dte = made-quiet d line; dce = quiet_law.quiet-made-host (record { role = Dce; line = line }) };
-      typed = made-typed d line dte_place dce_place line.channels line.standing apart;
+      typed = made-typed d line dte_place dce_place apart params is;
       kept = λ f.
           let b = sent f in
           let up = landed L FromDte (frames_of (new_dte d line)) no_flights b.between b.from_dte in

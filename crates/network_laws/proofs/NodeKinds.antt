@@ -1,24 +1,22 @@
 -- What each turn of a node leaves as it was: the nodes of the book, and the kind of the node.
-use Rattle.std.proofs.Common.{◌≡◌, ℕ, Bool, true, false, List, [], ◌∷◌, Option, Some, None, refl, ap}
+use Rattle.std.proofs.Common.{◌≡◌, ℕ, Bool, true, false, Option, Some, None, refl, sym, ap, ◌∙◌}
 use Rattle.std.specs.Prelude.{cond}
 use Rattle.link_timers.specs.declared.role.Role.{Role}
 use Rattle.link_timers.specs.declared.role.Role.TheVariants.{Dte, Dce}
 use Rattle.link_timers.specs.declared.timers.TimerId.{TimerId}
-use Rattle.pad_editing.specs.Edited.{Step}
 use Rattle.packet_layer.specs.Traffic.{Taken}
 use Rattle.packet_layer.specs.Layer.{front_on}
-use Rattle.packet_end.specs.PacketEnd.{PacketEnd, runs_at}
-use Rattle.packet_host.specs.Host as host
-use Rattle.packet_pad.specs.Pad as pad
-use Rattle.packet_pad.specs.Pad.{PadState}
-use Rattle.packet_pad.specs.Keys.{KeyEffect, after_octet}
+use Rattle.packet_end.specs.PacketEnd.{PacketEnd}
 use Rattle.call_records.specs.Book.{Book}
-use Rattle.pad_laws.specs.Nodes.{EndsStay}
-use Rattle.line_nodes.specs.Node.{NodeState, Pad, Host, is_pad}
+use Rattle.line_nodes.specs.Node.{NodeState, Pad, Host, end_of, is_pad}
+use Rattle.line_nodes.specs.NodeEvents.{node_runs, expired}
 use Rattle.line_nodes.specs.Turn.{told, unchanged}
 use Rattle.line_nodes.specs.HostTurns.{host_takes, taken_turn}
-use Rattle.line_nodes.specs.PadTurns.{pad_keys, keyed, pad_event}
-use Rattle.line_nodes.specs.LineTurns.{hears, expires, relinks, restarts}
+use Rattle.line_nodes.specs.LineTurns.{expires}
+use Rattle.net_events.specs.NodeEvents.{NodeEvent, IsFor, turn_of}
+use Rattle.net_events.specs.NodeEvents.NodeEvent.{Hears, Expires, Relinks, Restarts, Calls, Asks, Refuses, Says}
+use Rattle.net_events.specs.NodeEvents.NodeEvent.{Takes, AtTerminal}
+use Rattle.network_laws.proofs.Shapes.{EndsStay}
 
 -- the two books have the same nodes
 pub record SameNodes (b c : Book) : Type 0 where
@@ -30,40 +28,35 @@ same b c h = record { dte = ap (λ (p : ℕ × ℕ). p.0) (h Dte); dce = ap (λ 
 
 -- ---- the kind of a node
 
-pub kind-hears : (role : Role) (n : NodeState) (octets : List ℕ) (b : Book) → is_pad (hears role n octets b).node ≡ is_pad n
-kind-hears role (Pad p) octets b = refl
-kind-hears role (Host e) octets b = refl
-
-pub kind-expires : (role : Role) (n : NodeState) (id : TimerId) (b : Book) → is_pad (expires role n id b).node ≡ is_pad n
-kind-expires role (Pad p) id b = by (runs_at p.end id)
+expires-kind : (role : Role) (n : NodeState) (id : TimerId) (b : Book) → is_pad (told role (expired n id) b).node ≡ is_pad n
+    → is_pad (expires role n id b).node ≡ is_pad n
+expires-kind role n id b h = by (node_runs n id)
   where
-    by : (x : Bool) → is_pad (cond x (pad_event role (pad.after_expiry p id) b) (unchanged (Pad p) b)).node ≡ true
-    by true = refl
-    by false = refl
-kind-expires role (Host e) id b = by (runs_at e id)
-  where
-    by : (x : Bool) → is_pad (cond x (told role (Host (host.after_expiry e id)) b) (unchanged (Host e) b)).node ≡ false
-    by true = refl
+    by : (x : Bool) → is_pad (cond x (told role (expired n id) b) (unchanged n b)).node ≡ is_pad n
+    by true = h
     by false = refl
 
-pub kind-relinks : (role : Role) (n : NodeState) (b : Book) → is_pad (relinks role n b).node ≡ is_pad n
-kind-relinks role (Pad p) b = refl
-kind-relinks role (Host e) b = refl
-
-pub kind-restarts : (role : Role) (n : NodeState) (b : Book) → is_pad (restarts role n b).node ≡ is_pad n
-kind-restarts role (Pad p) b = refl
-kind-restarts role (Host e) b = refl
-
-pub kind-takes : (role : Role) (e : PacketEnd) (channel : ℕ) (b : Book) → is_pad (host_takes role e channel b).node ≡ false
-kind-takes role e channel b = by (front_on e.layer channel)
+takes-kind : (role : Role) (e : PacketEnd) (channel : ℕ) (b : Book) → is_pad (host_takes role e channel b).node ≡ false
+takes-kind role e channel b = by (front_on e.layer channel)
   where
     by : (o : Option Taken) → is_pad (taken_turn o role e channel b).node ≡ false
     by None = refl
     by (Some x) = refl
 
-pub kind-keys : (role : Role) (p : PadState) (octet : ℕ) (b : Book) → is_pad (pad_keys role p octet b).node ≡ true
-kind-keys role p octet b = by (after_octet p octet).steps (after_octet p octet)
-  where
-    by : (steps : List Step) (k : KeyEffect) → is_pad (keyed steps k role b).node ≡ true
-    by [] k = refl
-    by (step ∷ steps) k = refl
+pub kind-after : (event : NodeEvent) (role : Role) (n : NodeState) (b : Book) → IsFor event n
+    → is_pad (turn_of event role n b).node ≡ is_pad n
+kind-after (Hears octets) role (Pad p) b is = refl
+kind-after (Hears octets) role (Host e) b is = refl
+kind-after (Expires id) role (Pad p) b is = expires-kind role (Pad p) id b refl
+kind-after (Expires id) role (Host e) b is = expires-kind role (Host e) id b refl
+kind-after Relinks role (Pad p) b is = refl
+kind-after Relinks role (Host e) b is = refl
+kind-after Restarts role (Pad p) b is = refl
+kind-after Restarts role (Host e) b is = refl
+kind-after (Calls address user_data) role n b is = sym is.0
+kind-after (Asks channel r) role n b is = sym is
+kind-after (Refuses channel) role n b is = sym is
+kind-after (Says channel octets q d) role n b is = sym is
+kind-after (Takes channel) role n b is = takes-kind role (end_of n) channel b ∙ sym is
+kind-after (AtTerminal terminal event) role (Pad p) b is = refl
+kind-after (AtTerminal terminal event) role (Host e) b is = refl

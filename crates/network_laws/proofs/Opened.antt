@@ -77,20 +77,20 @@ have_channels (l ∷ ls) h = (λ standing. h 0 l refl, have_channels ls (λ line
 abbrev plans_of : NetPlan → List LinePlan
 plans_of plan = map line_plan plan.lines
 
-as_role : (r : Role) (n : NewNode) (params : EndParams) → n.role ≡ r → placed_new n params ≡ record { line = n.line; terminals = n.terminals; node = Rattle.line_nodes.specs.Node.drained (new_end r n.as_dte params) }
-as_role r n params is = ap (λ (x : Role). record { line = n.line; terminals = n.terminals; node = Rattle.line_nodes.specs.Node.drained (new_end x n.as_dte params) }) is
+as_role : (r : Role) (n : NewNode) (params : EndParams) → n.role ≡ r → placed_new n params ≡ record { line = n.line; node = Rattle.line_nodes.specs.Node.drained (new_end r n.as_dte params) }
+as_role r n params is = ap (λ (x : Role). record { line = n.line; node = Rattle.line_nodes.specs.Node.drained (new_end x n.as_dte params) }) is
 
 line_of_plan : (L : LineService) (plan : NetPlan) (s : Network) (line : ℕ) (l : NewLine) → IsLinePlan plan.nodes line l → slice_get plan.lines line ≡ Some l → IsMade L plan s → (made : LineIsMade L plan s line l)
     → LineHolds L s.nodes line (record { dte = l.dte; dce = l.dce; channels = l.params.channels; flights = made.flights }) (planned_book (line_plan l))
 line_of_plan L plan s line l p at m made = record {
-  dte = record { line = p.dte.line; terminals = p.dte.terminals; node = Rattle.line_nodes.specs.Node.drained (new_end Dte p.dte.as_dte l.params) };
-  dce = record { line = p.dce.line; terminals = p.dce.terminals; node = Rattle.line_nodes.specs.Node.drained (new_end Dce p.dce.as_dte l.params) };
+  dte = record { line = p.dte.line; node = Rattle.line_nodes.specs.Node.drained (new_end Dte p.dte.as_dte l.params) };
+  dce = record { line = p.dce.line; node = Rattle.line_nodes.specs.Node.drained (new_end Dce p.dce.as_dte l.params) };
   dte_there = m.nodes l.dte p.dte p.dte_there l (ap (λ k. slice_get plan.lines k) p.dte_line ∙ at) ∙ ap Some (as_role Dte p.dte l.params p.dte_role);
   dce_there = m.nodes l.dce p.dce p.dce_there l (ap (λ k. slice_get plan.lines k) p.dce_line ∙ at) ∙ ap Some (as_role Dce p.dce l.params p.dce_role);
   dte_line = p.dte_line;
   dce_line = p.dce_line;
   channels = channels_made l.dte l.dce l.params.channels l.params.standing;
-  holds = made_lines L l.dte l.dce p.dte.as_dte l.params made.flights p.apart p.params (λ f. made.sent f p.dte p.dte_there);
+  holds = made_lines L l.dte l.dce p.dte.as_dte l.params made.flights p.apart p.params p.dte_made (λ f. made.sent f p.dte p.dte_there);
 }
 
 -- a line, by what it was planned as

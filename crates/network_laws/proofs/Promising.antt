@@ -10,7 +10,7 @@ use Rattle.call_records.specs.Records.{RecordValue}
 use Rattle.call_records.specs.Book.{Book, side_of}
 use Rattle.book_laws.specs.Headline.{BookHolds, HaveRecords, has_call}
 use Rattle.node_laws.specs.Quiet.{IsQuiet}
-use Rattle.pad_laws.specs.Typed.{IsTyped}
+use Rattle.x25_pad_laws.specs.Sending.{HasSent}
 use Rattle.register_laws.specs.Law.{IsOfBook, IsAtNoOther}
 use Rattle.register_laws.proofs.Seeing.{present_seen, came_seen}
 use Rattle.register_laws.proofs.Having.{records_seen, callee_seen}
@@ -114,11 +114,11 @@ pad_place L nodes line l b place p h at pad (inr e) =
     let no : is_pad p.node ≡ false = ap (λ (x : PlacedNode). is_pad x.node) same ∙ h.holds.host in
     absurd (let bad : true ≡ false = sym pad ∙ no in cc)
 
-typed_record : (b : Book) (n : ℕ) (r : RecordValue) (w : IsOfBook b n r) → IsTyped w.own → IsTyped r
-typed_record b n r w h = subst IsTyped (sym w.same) (record { items = h.items; plain = h.plain })
+typed_record : (b : Book) (n : ℕ) (r : RecordValue) (w : IsOfBook b n r) → HasSent w.own → HasSent r
+typed_record b n r w h = subst HasSent (sym w.same) (record { typed = h.typed; told = h.told; of_pad = h.of_pad; qualified = h.qualified; interrupts = h.interrupts })
 
 typed_holds : (L : LineService) (s : Network) (n : IsNetwork L s) → L.faithful → (place : ℕ) (p : PlacedNode) (i : ℕ) (r : RecordValue) → slice_get s.nodes place ≡ Some p
-    → is_pad p.node ≡ true → slice_get s.register.records i ≡ Some r → r.node ≡ place → IsTyped r
+    → is_pad p.node ≡ true → slice_get s.register.records i ≡ Some r → r.node ≡ place → HasSent r
 typed_holds L s n f place p i r at pad there node =
     let st = n.nodes place p at in
     let b = book_there L s n p.line st.line st.there in

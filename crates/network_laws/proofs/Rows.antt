@@ -33,7 +33,7 @@ are_params =
     }
 
 abbrev node : (line : ℕ) → Role → NewNode
-node line role = record { line = line; role = role; terminals = 0; as_dte = NewHost }
+node line role = record { line = line; role = role; as_dte = NewHost }
 
 -- two lines, each between two hosts
 abbrev plan : NetPlan
@@ -52,6 +52,7 @@ line_planned zero l at = let P : NewLine → Type 0 = λ x. IsLinePlan plan.node
   dce_line = refl;
   dte_role = refl;
   dce_role = refl;
+  dte_made = tt;
   apart = λ e. omega (arith, e);
   params = are_params;
 })
@@ -64,6 +65,7 @@ line_planned (suc zero) l at = let P : NewLine → Type 0 = λ x. IsLinePlan pla
   dce_line = refl;
   dte_role = refl;
   dce_role = refl;
+  dte_made = tt;
   apart = λ e. omega (arith, e);
   params = are_params;
 })

@@ -3,27 +3,24 @@
 use Rattle.std.proofs.Common.{◌≡◌, ℕ, Bool, true, false, List, [], ◌∷◌, Option, Some, None, refl}
 use Rattle.std.specs.Prelude.{cond}
 use Rattle.link_timers.specs.declared.role.Role.{Role}
-use Rattle.pad_editing.specs.Edited.{Step}
 use Rattle.packet_layer.specs.Traffic.{Taken}
 use Rattle.packet_layer.specs.Layer.{request_refusal, front_on, channel_given}
-use Rattle.packet_end.specs.PacketEnd.{PacketEnd, runs_at}
-use Rattle.packet_host.specs.Host as host
+use Rattle.packet_end.specs.PacketEnd.{PacketEnd}
 use Rattle.packet_host.specs.Host.{call_parts, refuse_refusal, after_call, after_request, after_refuse, after_say}
 use Rattle.packet_host.specs.Host.{after_take}
 use Rattle.packet_host.specs.Saying.{cut, say_refusal}
-use Rattle.packet_pad.specs.Pad as pad
-use Rattle.packet_pad.specs.Pad.{PadState, refusing, after_finish}
-use Rattle.packet_pad.specs.Keys.{KeyEffect, after_octet}
-use Rattle.call_records.specs.Book.{Book, all_told}
+use Rattle.call_records.specs.Book.{Book}
 use Rattle.call_records.specs.Writes.{Write, all_written}
-use Rattle.call_records.specs.Writes.Write.{Told, Placed, Asked, Said, Took, Cleared, Edited, AllClosed}
+use Rattle.call_records.specs.Writes.Write.{Told, Placed, Asked, Said, Took, Cleared, AllClosed}
+use Rattle.pad_records.specs.Writing.{writes_of}
 use Rattle.line_nodes.specs.Node.{NodeState, Pad, Host, end_of}
+use Rattle.line_nodes.specs.NodeEvents.{heard, node_runs, expired, relinked}
 use Rattle.line_nodes.specs.Turn.{Turn, told, unchanged}
 use Rattle.line_nodes.specs.HostTurns.{taken_turn}
-use Rattle.line_nodes.specs.PadTurns.{keyed, pad_event, pad_ends, pad_read, last_incoming, without_call, closed_call}
+use Rattle.line_nodes.specs.Terminals.{after_terminal}
 use Rattle.net_events.specs.NodeEvents.{NodeEvent, turn_of}
 use Rattle.net_events.specs.NodeEvents.NodeEvent.{Hears, Expires, Relinks, Restarts, Calls, Asks, Refuses, Says}
-use Rattle.net_events.specs.NodeEvents.NodeEvent.{Takes, Keys}
+use Rattle.net_events.specs.NodeEvents.NodeEvent.{Takes, AtTerminal}
 
 pub record IsUniform (role : Role) (turn : Book → Turn) : Type 0 where
   pub node : (b c : Book) → (turn b).node ≡ (turn c).node
@@ -34,35 +31,8 @@ nothing : (role : Role) (n : NodeState) → IsUniform role (unchanged n)
 nothing role n = record { node = λ b c. refl; writes = []; written = λ b. refl }
 
 only_told : (role : Role) (n : NodeState) → IsUniform role (λ b. told role n b)
-only_told role n = record { node = λ b c. refl; writes = Told (end_of n).notes ∷ []; written = λ b. refl }
-
--- ---- a PAD
-
-incoming-told : (role : Role) (p : PadState) (incoming : Option ℕ)
-    → IsUniform role (λ b. pad_ends p.end.notes role (without_call incoming (pad_read p))
-    (closed_call incoming role (pad_read p) (all_told role p.end.notes b)))
-incoming-told role p None = record {
-  node = λ b c. refl;
-  writes = Told p.end.notes ∷ Told (after_finish (pad_read p)).end.notes ∷ [];
-  written = λ b. refl;
-}
-incoming-told role p (Some channel) = record {
-  node = λ b c. refl;
-  writes = Told p.end.notes ∷ Cleared (request_refusal (pad_read p).end.layer channel refusing) channel
-      ∷ Told (after_finish (without_call (Some channel) (pad_read p))).end.notes ∷ [];
-  written = λ b. refl;
-}
-
-pad-event : (role : Role) (p : PadState) → IsUniform role (λ b. pad_event role p b)
-pad-event role p = incoming-told role p (last_incoming None p.end.notes)
-
-key-made : (role : Role) (k : KeyEffect) (steps : List Step) → IsUniform role (λ b. keyed steps k role b)
-key-made role k [] = nothing role (Pad k.pad)
-key-made role k (step ∷ steps) = record {
-  node = λ b c. refl;
-  writes = Edited 1 step ∷ Said None 1 k.sent ∷ Told k.pad.end.notes ∷ [];
-  written = λ b. refl;
-}
+only_told role (Pad p) = record { node = λ b c. refl; writes = writes_of p.line.notes; written = λ b. refl }
+only_told role (Host e) = record { node = λ b c. refl; writes = Told e.notes ∷ []; written = λ b. refl }
 
 -- ---- a timer that may not run
 
@@ -85,14 +55,9 @@ taken role e channel (Some x) = record {
 -- ---- each event
 
 pub uniform : (event : NodeEvent) (role : Role) (n : NodeState) → IsUniform role (λ b. turn_of event role n b)
-uniform (Hears octets) role (Pad p) = pad-event role (pad.after_frame p octets)
-uniform (Hears octets) role (Host e) = only_told role (Host (host.after_frame e octets))
-uniform (Expires id) role (Pad p) =
-    if-runs role (runs_at p.end id) (λ b. pad_event role (pad.after_expiry p id) b) (Pad p) (pad-event role (pad.after_expiry p id))
-uniform (Expires id) role (Host e) =
-    if-runs role (runs_at e id) (λ b. told role (Host (host.after_expiry e id)) b) (Host e) (only_told role (Host (host.after_expiry e id)))
-uniform Relinks role (Pad p) = pad-event role (pad.after_relink p)
-uniform Relinks role (Host e) = only_told role (Host (host.after_relink e))
+uniform (Hears octets) role n = only_told role (heard n octets)
+uniform (Expires id) role n = if-runs role (node_runs n id) (λ b. told role (expired n id) b) n (only_told role (expired n id))
+uniform Relinks role n = only_told role (relinked n)
 uniform Restarts role n = record { node = λ b c. refl; writes = AllClosed ∷ []; written = λ b. refl }
 uniform (Calls address user_data) role n =
     let e = end_of n in
@@ -126,5 +91,5 @@ uniform (Says channel octets q d) role n =
       written = λ b. refl;
     }
 uniform (Takes channel) role n = taken role (end_of n) channel (front_on (end_of n).layer channel)
-uniform (Keys octet) role (Pad p) = key-made role (after_octet p octet) (after_octet p octet).steps
-uniform (Keys octet) role (Host e) = nothing role (Host e)
+uniform (AtTerminal terminal event) role (Pad p) = only_told role (Pad (after_terminal terminal event p))
+uniform (AtTerminal terminal event) role (Host e) = nothing role (Host e)

@@ -1,13 +1,20 @@
 -- What holds of a line of a network between events.
 use Rattle.std.specs.Prelude.{◌≡◌, ◌≢◌, false}
+use Rattle.link_timers.specs.declared.role.Role.{Role}
 use Rattle.link_timers.specs.declared.role.Role.TheVariants.{Dte}
 use Rattle.line_laws.specs.Line.{Line}
 use Rattle.line_record_laws.specs.Kept.{Setting, Kept}
 use Rattle.node_laws.specs.Quiet.{IsQuiet}
-use Rattle.pad_laws.specs.PadHolds.{NodeHolds}
-use Rattle.line_nodes.specs.Node.{end_of, is_pad}
+use Rattle.x25_pad_laws.specs.Holds.{PadHolds}
+use Rattle.call_records.specs.Book.{Book}
+use Rattle.line_nodes.specs.Node.{NodeState, Pad, Host, end_of, is_pad}
 use Rattle.memory_line.specs.Lines.{LineService}
 use Rattle.net_events.specs.OneLine.{LineState}
+
+-- on each of its calls a PAD has sent what its terminals typed, and messages of its own
+abbrev pub NodeHolds : Role → NodeState → Book → Type 0
+NodeHolds role (Pad p) b = PadHolds role p b
+NodeHolds role (Host e) b = Unit {0}
 
 -- the line with its two ends
 abbrev pub line_of : LineState → Line

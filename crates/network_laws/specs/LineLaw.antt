@@ -6,13 +6,13 @@ use Rattle.packet_end.specs.declared.params.EndParams.{EndParams}
 use Rattle.call_records.specs.Records.{RecordValue}
 use Rattle.call_records.specs.Book.{made_book}
 use Rattle.book_laws.specs.Headline.{BookHolds}
-use Rattle.pad_laws.specs.Typed.{IsTyped}
+use Rattle.x25_pad_laws.specs.Sending.{HasSent}
 use Rattle.line_nodes.specs.Node.{is_pad, drained, node_elapsed}
 use Rattle.memory_line.specs.declared.line.Direction.{Direction}
 use Rattle.memory_line.specs.Lines.{Flights, without_first, LineService}
 use Rattle.net_events.specs.OneLine.{LineState}
 use Rattle.net_events.specs.NodeEvents.{NodeEvent, Happened}
-use Rattle.net_events.specs.Opening.{NewDte, new_dte, new_dce, AreSent}
+use Rattle.net_events.specs.Opening.{NewDte, IsNewDte, new_dte, new_dce, AreSent}
 use Rattle.network_laws.specs.IsLine.{IsLine}
 
 -- ---- the making
@@ -30,7 +30,7 @@ made_line dte_place dce_place dte line flights = record {
 
 abbrev pub MadeLaw : LineService → Type 0
 MadeLaw L = (dte_place dce_place : ℕ) (dte : NewDte) (line : EndParams) (flights : Flights)
-    → dte_place ≢ dce_place → AreParams line
+    → dte_place ≢ dce_place → AreParams line → IsNewDte dte
     → (L.faithful → AreSent L (new_dte dte line) (new_dce line) flights)
     → IsLine L (made_line dte_place dce_place dte line flights)
 
@@ -58,7 +58,7 @@ TimeLaw L = (s : LineState) (ticks : ℕ) → IsLine L s → IsLine L (elapsed t
 abbrev pub BookLaw : LineService → Type 0
 BookLaw L = (s : LineState) → IsLine L s → L.faithful → BookHolds s.book
 
--- and on any line what a PAD sent on each call is what its terminal typed
+-- and on any line what a PAD sent on each call is what its terminals typed, and messages of its own
 abbrev pub TypedLaw : LineService → Type 0
 TypedLaw L = (s : LineState) → IsLine L s → is_pad s.dte ≡ true
-    → (n : ℕ) (r : RecordValue) → slice_get s.book.records n ≡ Some r → r.node ≡ s.dte_place → IsTyped r
+    → (n : ℕ) (r : RecordValue) → slice_get s.book.records n ≡ Some r → r.node ≡ s.dte_place → HasSent r

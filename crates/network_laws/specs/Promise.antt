@@ -8,7 +8,7 @@ use Rattle.call_records.specs.Book.{Slot, side_of, slot_at}
 use Rattle.call_records.specs.Register.{Register, book_at}
 use Rattle.book_laws.specs.Headline.{has_call, IsPaired, HasCallee}
 use Rattle.node_laws.specs.Quiet.{IsQuiet}
-use Rattle.pad_laws.specs.Typed.{IsTyped}
+use Rattle.x25_pad_laws.specs.Sending.{HasSent}
 use Rattle.register_laws.specs.Promise.{RegisterHolds, HasRecords}
 use Rattle.line_nodes.specs.Node.{end_of, is_pad}
 use Rattle.net_events.specs.Network.{PlacedNode, NetLine, Network, place_at}
@@ -48,7 +48,7 @@ pub record NetworkHolds (s : Network) : Type 0 where
   pub records : HasRecords s.register
   -- the ends of each line
   pub ends : (line : ℕ) (l : NetLine) (role : Role) → slice_get s.lines line ≡ Some l → EndHolds s line l role
-  -- what a PAD sent on a call is, block for block with its end, what its editing rules make of the keys; it sent
-  -- nothing else
+  -- what a PAD's terminal sent on a call is, block for block with its end, what its editing rules make of the keys and
+  -- idle times; else the PAD sent only what it told the far end by its messages, and the interrupts of breaks
   pub typed : (place : ℕ) (n : PlacedNode) (i : ℕ) (r : RecordValue) → slice_get s.nodes place ≡ Some n
-      → is_pad n.node ≡ true → slice_get s.register.records i ≡ Some r → r.node ≡ place → IsTyped r
+      → is_pad n.node ≡ true → slice_get s.register.records i ≡ Some r → r.node ≡ place → HasSent r

@@ -44,21 +44,21 @@ calls_keeps s b l role e address user_data kept digits short h k =
     let parts : CallParts = call_parts address user_data in
     at_end role l e (λ (x : PacketEnd). KeepsBy s role l kept (host_calls role x parts b)) h
     (λ g. let me : PacketEnd = end_at role l in
-    told_keeps s (placed_on role (channel_given me.layer me.layer.phase) parts b) role (Host (after_call me parts)) l kept (coming_to role l) tt
+    told_keeps s (placed_on role (channel_given me.layer me.layer.phase) parts b) role (after_call me parts) l kept (coming_to role l)
     (call_kept s b l role parts kept (can_be_placed address user_data digits short) g.node.read k))
 
 pub asks_keeps : AsksLaw
 asks_keeps s b l role e channel r kept h k =
     at_end role l e (λ (x : PacketEnd). KeepsBy s role l kept (host_asks role x channel r b)) h
     (λ g. let me : PacketEnd = end_at role l in
-    told_keeps s (requested_at role channel r me b) role (Host (after_request me channel r)) l kept (coming_to role l) tt
+    told_keeps s (requested_at role channel r me b) role (after_request me channel r) l kept (coming_to role l)
     (request_kept s b l role channel r kept g.node.read k))
 
 pub refuses_keeps : RefusesLaw
 refuses_keeps s b l role e channel kept h k =
     at_end role l e (λ (x : PacketEnd). KeepsBy s role l kept (host_refuses role x channel b)) h
     (λ g. let me : PacketEnd = end_at role l in
-    told_keeps s (refuses role channel me b) role (Host (after_refuse me channel)) l kept (coming_to role l) tt
+    told_keeps s (refuses role channel me b) role (after_refuse me channel) l kept (coming_to role l)
     (refuse_kept s b l role channel kept g.node.read k))
 
 -- ---- packets are said
@@ -73,7 +73,7 @@ says_keeps s b l role e channel octets qualified delivery kept h k =
     (λ g. let me : PacketEnd = end_at role l in
     let said : PacketEnd = after_say me channel octets qualified delivery in
     let ds : List Datum = cut octets qualified delivery in
-    told_keeps s (unless_refused (say_refusal me.layer channel octets qualified) (all_sent role channel ds b) b) role (Host said) l kept (coming_to role l) tt
+    told_keeps s (unless_refused (say_refusal me.layer channel octets qualified) (all_sent role channel ds b) b) role said l kept (coming_to role l)
     (subst (λ (x : Book). IsKeptAfter s role said (unless_refused (say_refusal me.layer channel octets qualified) x b) kept l) (same_sent role channel ds b)
     (say_kept s b l role channel octets qualified delivery kept g.node.read k)))
 
@@ -91,8 +91,8 @@ takes_keeps s b l role e channel kept h k =
     by : (o : Option Taken) → front_on (end_at role l).layer channel ≡ o → StandsAt role l (Host (end_at role l)) → KeepsBy s role l kept (taken_turn o role (end_at role l) channel b)
     by None is g = unchanged_keeps s b role (Host (end_at role l)) l kept g k
     by (Some (TakenInterrupt octets)) is g =
-        told_keeps s (takes role channel (Some (TakenInterrupt octets)) b) role (Host (after_take (end_at role l) channel)) l kept (coming_to role l) tt
+        told_keeps s (takes role channel (Some (TakenInterrupt octets)) b) role (after_take (end_at role l) channel) l kept (coming_to role l)
         (kept_as (Some (TakenInterrupt octets)) is g)
     by (Some (TakenPacket d)) is g =
-        told_keeps s (releases role channel 1 (takes role channel (Some (TakenPacket d)) b)) role (Host (after_take (end_at role l) channel)) l kept (coming_to role l) tt
+        told_keeps s (releases role channel 1 (takes role channel (Some (TakenPacket d)) b)) role (after_take (end_at role l) channel) l kept (coming_to role l)
         (kept_as (Some (TakenPacket d)) is g)

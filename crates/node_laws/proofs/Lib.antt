@@ -1,11 +1,12 @@
 mod Turning
 pub mod Asking
 pub mod Hearing
-pub mod Typing
 pub mod Making
 pub mod Opening
 mod Rows
+mod PadEnds
 pub mod QuietEnds
 pub mod QuietTurns
 pub mod QuietOpens
 pub mod Expiring
+pub mod Rooms

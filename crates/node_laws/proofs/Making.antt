@@ -1,6 +1,6 @@
 -- The making of the nodes, and time.
 use Rattle.std.specs.Prelude.{◌≡◌, ℕ}
-use Rattle.std.proofs.Common.{refl, sym, ap, subst, arith}
+use Rattle.std.proofs.Common.{refl, sym, ap, subst}
 use Rattle.link_timers.specs.declared.role.Role.{Role}
 use Rattle.link_timers.specs.declared.role.Role.TheVariants.{Dte, Dce}
 use Rattle.packet_end.specs.PacketEnd as end
@@ -17,8 +17,8 @@ use Rattle.node_laws.specs.Clauses.{elapsed_line, ElapsesLaw, first_line, Making
 -- ---- time
 
 elapsed_node : (role : Role) (n : NodeState) (e : PacketEnd) (ticks : ℕ) → end_of n ≡ e → IsNode n → (end_of (node_elapsed ticks n) ≡ end.elapsed e ticks) × IsNode (node_elapsed ticks n)
-elapsed_node role (Pad p) e ticks is h = (ap (λ (x : PacketEnd). end.elapsed x ticks) is, record { read = h.read; sent = h.sent; held = h.held })
-elapsed_node role (Host x) e ticks is h = (ap (λ (y : PacketEnd). end.elapsed y ticks) is, record { read = h.read; sent = h.sent; held = tt })
+elapsed_node role (Pad p) e ticks is h = (ap (λ (x : PacketEnd). end.elapsed x ticks) is, record { read = h.read; noted = h.noted; sent = h.sent })
+elapsed_node role (Host x) e ticks is h = (ap (λ (y : PacketEnd). end.elapsed y ticks) is, record { read = h.read; noted = refl; sent = h.sent })
 
 pub elapses_keeps : ElapsesLaw
 elapses_keeps s b l ticks k = record {
@@ -52,6 +52,6 @@ making_keeps s dte dce kept_up kept_down setting made_ = record {
 
 pub made_nodes : NodesLaw
 made_nodes = (
-  λ c. record { read = refl; sent = refl; held = omega arith },
-  λ c. record { read = refl; sent = refl; held = tt },
+  λ c. record { read = refl; noted = refl; sent = refl },
+  λ c. record { read = refl; noted = refl; sent = refl },
 )

@@ -93,6 +93,9 @@ finished_unread e h = offered_unread 7 (relinked_if_due e) (either_unread e.laye
 pub asked_unread : (e : PacketEnd) (channel : ℕ) (r : Request) → IsUnread e → IsUnread (asked e channel r)
 asked_unread e channel r h = request_notes e.layer channel r h
 
+pub called_unread : (e : PacketEnd) (parts : CallParts) → IsUnread e → IsUnread (called e parts)
+called_unread e parts h = call_notes e.layer parts h
+
 queued_unread : (channel : ℕ) (ds : List Datum) (e : PacketEnd) → IsUnread e → IsUnread (queued channel ds e)
 queued_unread channel [] e h = h
 queued_unread channel (d ∷ ds) e h = queued_unread channel ds (asked e channel (Request.Sending d)) (asked_unread e channel (Request.Sending d) h)

@@ -1,6 +1,6 @@
 -- How many notes of a turn of a quiet node open something.
-use Rattle.std.specs.Prelude.{◌≡◌, ℕ, Bool, true, false, cond, List, Option, Some, None}
-use Rattle.std.proofs.Common.{refl, ap, ◌∙◌, arith}
+use Rattle.std.specs.Prelude.{◌≡◌, ℕ, Bool, true, false, cond, List}
+use Rattle.std.proofs.Common.{refl, ap, arith}
 use Rattle.link_timers.specs.declared.role.Role.{Role}
 use Rattle.link_timers.specs.declared.timers.TimerId.{TimerId}
 use Rattle.lapb.specs.Machine.{Octets}
@@ -8,36 +8,21 @@ use Rattle.packet_layer.specs.Packets.{CallParts}
 use Rattle.packet_layer.specs.Channel.{Request}
 use Rattle.packet_end.specs.PacketEnd.{PacketEnd, begun, runs_at, after_timer, finished}
 use Rattle.packet_host.specs.Host as host
-use Rattle.packet_pad.specs.Pad as pad
-use Rattle.packet_pad.specs.Pad.{PadState}
+use Rattle.x25_pad.specs.Pad as pad
 use Rattle.call_records.specs.Book.{Book}
 use Rattle.call_records.specs.Room.{opening_notes}
-use Rattle.line_record_laws.proofs.Opening.{more_none, finished_same, expiry_opens}
+use Rattle.line_record_laws.proofs.Opening.{expiry_opens}
 use Rattle.line_nodes.specs.Node.{NodeState, Pad, Host}
 use Rattle.line_nodes.specs.Turn.{Turn, unchanged, told}
+use Rattle.line_nodes.specs.Terminals.{at_terminal}
 use Rattle.line_nodes.specs.LineTurns.{hears, expires, relinks, restarts}
 use Rattle.line_nodes.specs.HostTurns.{host_calls, host_asks, host_refuses, host_says, host_takes}
-use Rattle.line_nodes.specs.PadTurns.{pad_keys, last_incoming, without_call, pad_read, pad_event}
+use Rattle.line_nodes.specs.declared.terminal.TerminalEvent.{TerminalEvent}
 use Rattle.node_laws.specs.Opening.{OpensNothing}
 use Rattle.node_laws.specs.Quiet.{IsQuiet, OpensOneAtMost}
-use Rattle.node_laws.proofs.Opening.{hearing_opens, relink_opens_none, call_opens, asking_opens, refusal_opens, saying_opens, taking_opens, key_opens}
+use Rattle.node_laws.proofs.Opening.{hearing_opens, relink_opens_none, call_opens, asking_opens, refusal_opens, saying_opens, taking_opens}
 
 -- ---- an expiry
-
-read_without : (o : Option ℕ) (p : PadState) → opening_notes (without_call o (pad_read p)).end.notes ≡ 0
-read_without None p = refl
-read_without (Some channel) p = refl
-
--- a PAD opens nothing where nothing was noted before it read
-pad_none : (role : Role) (p : PadState) (b : Book) → opening_notes p.end.notes ≡ 0 → OpensNothing (pad_event role p b)
-pad_none role p b none =
-    let o : Option ℕ = last_incoming None p.end.notes in
-    let e : PacketEnd = (without_call o (pad_read p)).end in
-    more_none p.end.notes (finished e).notes (finished_same e ∙ read_without o p) ∙ none
-
-pad_expiry : (v : Bool) (p : PadState) (id : TimerId) → IsQuiet (Pad p) → opening_notes (cond v (record p { end = after_timer (begun p.end) id }) p).end.notes ≡ 0
-pad_expiry true p id q = (expiry_opens p.end id q.unread).0
-pad_expiry false p id q = ap opening_notes q.node.read
 
 host_expiry : (v : Bool) (e : PacketEnd) (id : TimerId) → IsQuiet (Host e) → opening_notes (cond v (finished (after_timer (begun e) id)) e).notes ≡ 0
 host_expiry true e id q = (expiry_opens e id q.unread).1
@@ -49,8 +34,7 @@ either_none false s t g h = h
 
 pub nothing-expires : (role : Role) (n : NodeState) (id : TimerId) (b : Book) → IsQuiet n → OpensNothing (expires role n id b)
 nothing-expires role (Pad p) id b q =
-    either_none (runs_at p.end id) (pad_event role (pad.after_expiry p id) b) (unchanged (Pad p) b)
-    (pad_none role (pad.after_expiry p id) b (pad_expiry (runs_at p.end id) p id q)) refl
+    either_none (pad.runs_at p id) (told role (Pad (pad.after_timer p id)) b) (unchanged (Pad p) b) refl refl
 nothing-expires role (Host e) id b q =
     either_none (runs_at e id) (told role (Host (host.after_expiry e id)) b) (unchanged (Host e) b) (host_expiry (runs_at e id) e id q) refl
 
@@ -93,5 +77,6 @@ opens-says role e channel octets qualified delivery b q = saying_opens role e ch
 pub opens-takes : (role : Role) (e : PacketEnd) (channel : ℕ) (b : Book) → IsQuiet (Host e) → OpensNothing (host_takes role e channel b)
 opens-takes role e channel b q = taking_opens role e channel b q.node
 
-pub opens-keys : (role : Role) (p : PadState) (octet : ℕ) (b : Book) → IsQuiet (Pad p) → OpensNothing (pad_keys role p octet b)
-opens-keys role p octet b q = key_opens role p octet b q.node
+pub opens-terminals : (role : Role) (n : NodeState) (terminal : ℕ) (event : TerminalEvent) (b : Book) → OpensNothing (at_terminal role n terminal event b)
+opens-terminals role (Pad p) terminal event b = refl
+opens-terminals role (Host e) terminal event b = refl

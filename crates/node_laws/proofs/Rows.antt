@@ -79,7 +79,7 @@ host_there role l n h = record {
   node = record {
     read = subst (λ (e : PacketEnd). e.notes ≡ []) h.end h.node.read;
     sent = subst (λ (e : PacketEnd). e.line.frames ≡ []) h.end h.node.sent;
-    held = tt;
+    noted = refl;
   };
 }
 
@@ -192,8 +192,8 @@ begins =
     record { kept = made.kept; hosts = λ role. hosts role }
   where
     hosts : (role : Role) → StandsAt role before.line (host_at role before.line)
-    hosts Dte = record { end = refl; node = record { read = refl; sent = refl; held = tt } }
-    hosts Dce = record { end = refl; node = record { read = refl; sent = refl; held = tt } }
+    hosts Dte = record { end = refl; node = record { read = refl; noted = refl; sent = refl } }
+    hosts Dce = record { end = refl; node = record { read = refl; noted = refl; sent = refl } }
 
 keeps : Keeps setting (after run before)
 keeps = all_keep setting run before begins

@@ -1,11 +1,10 @@
 -- The nodes after a turn, and a turn in which nothing happens.
 use Rattle.std.specs.Prelude.{Bool, List}
-use Rattle.std.proofs.Common.{refl, sym, subst}
+use Rattle.std.proofs.Common.{refl, sym, subst, ◌∙◌}
 use Rattle.link_timers.specs.declared.role.Role.{Role}
 use Rattle.link_timers.specs.declared.role.Role.TheVariants.{Dte, Dce}
 use Rattle.link_timers.specs.Role.{other_of}
 use Rattle.lapb.specs.Machine.{Octets}
-use Rattle.packet_layer.specs.Packets.{Note}
 use Rattle.packet_end.specs.PacketEnd.{PacketEnd}
 use Rattle.line_laws.specs.Line.{Line, Sends}
 use Rattle.call_records.specs.Book.{Book, all_told}
@@ -14,7 +13,9 @@ use Rattle.line_record_laws.specs.Happens.{with_event}
 use Rattle.line_record_laws.proofs.Keeping.{silent_kept, like_kept}
 use Rattle.line_nodes.specs.Node.{NodeState, Pad, Host, end_of, drained, all_read, without_notes}
 use Rattle.line_nodes.specs.Turn.{unchanged, told}
-use Rattle.node_laws.specs.Nodes.{HoldsNoBlock, IsNode, StandsAt, KeepsWith, KeepsBy}
+use Rattle.x25_pad.specs.Pad.{PadState}
+use Rattle.x25_pad_laws.specs.Standing as pad
+use Rattle.node_laws.specs.Nodes.{IsNode, StandsAt, KeepsWith, KeepsBy}
 
 -- ---- nodes
 
@@ -29,12 +30,8 @@ stays Dte e l kept coming n h = record { end = h.end; node = h.node }
 stays Dce e l kept coming n h = record { end = h.end; node = h.node }
 
 same_node : (n : NodeState) → IsNode n → IsNode (drained n)
-same_node (Pad p) h = record { read = h.read; sent = refl; held = h.held }
-same_node (Host e) h = record { read = h.read; sent = refl; held = tt }
-
-read_node : (n : NodeState) → HoldsNoBlock n → IsNode (drained (without_notes n))
-read_node (Pad p) h = record { read = refl; sent = refl; held = h }
-read_node (Host e) h = record { read = refl; sent = refl; held = tt }
+same_node (Pad p) h = record { read = h.read; noted = h.noted; sent = refl }
+same_node (Host e) h = record { read = h.read; noted = refl; sent = refl }
 
 -- ---- what is read of an end makes no difference
 
@@ -52,17 +49,12 @@ same_kept s b Dce l kept k = silent_kept s b l Dce (Sends kept) tt k
 
 -- ---- turns
 
--- of a node the notes are written
-pub told_keeps : (s : Setting) (b : Book) (role : Role) (n : NodeState) (l : Line) (kept : List Bool) (coming : List Octets) → HoldsNoBlock n →
-    Kept s (all_told role (end_of n).notes b) (with_event role (end_of n) kept coming l) → KeepsWith s role l kept coming (told role n b)
-told_keeps s b role (Pad p) l kept coming h k = record {
-  kept = read_kept s (all_told role p.end.notes b) role p.end l kept coming k;
-  here = stands role (without_notes (Pad p)) l kept coming (read_node (Pad p) h);
-  there = λ n g. stays role (all_read p.end) l kept coming n g;
-}
-told_keeps s b role (Host e) l kept coming h k = record {
+-- of a host the notes are written
+pub told_keeps : (s : Setting) (b : Book) (role : Role) (e : PacketEnd) (l : Line) (kept : List Bool) (coming : List Octets) →
+    Kept s (all_told role e.notes b) (with_event role e kept coming l) → KeepsWith s role l kept coming (told role (Host e) b)
+told_keeps s b role e l kept coming k = record {
   kept = read_kept s (all_told role e.notes b) role e l kept coming k;
-  here = stands role (without_notes (Host e)) l kept coming (read_node (Host e) h);
+  here = stands role (without_notes (Host e)) l kept coming (record { read = refl; noted = refl; sent = refl });
   there = λ n g. stays role (all_read e) l kept coming n g;
 }
 
@@ -74,9 +66,16 @@ unchanged_keeps s b role n l kept h k = record {
   there = λ m g. stays role (end_of n) l kept (coming_to role l) m g;
 }
 
--- nothing happens to a node that has read its notes
-pub nothing_told : (s : Setting) (b : Book) (role : Role) (n : NodeState) (l : Line) (kept : List Bool) → StandsAt role l n → Kept s b l → KeepsBy s role l kept (told role n b)
-nothing_told s b role n l kept h k =
-    told_keeps s b role n l kept (coming_to role l) h.node.held
-    (subst (λ (notes : List Note). Kept s (all_told role notes b) (with_event role (end_of n) kept (coming_to role l) l)) (sym h.node.read)
-    (unchanged_keeps s b role n l kept h k).kept)
+-- ---- a PAD
+
+pub pad_stands : (role : Role) (l : Line) (p : PadState) → StandsAt role l (Pad p) → pad.StandsAt role l p
+pad_stands role l p h = record { end = h.end; read = h.node.read; noted = h.node.noted; sent = h.node.sent }
+
+-- what it noted is written
+pub noted_keeps : (s : Setting) (b : Book) (role : Role) (l : Line) (kept : List Bool) (coming : List Octets) (p : PadState)
+    → pad.KeepsWith s b role l kept coming p → KeepsWith s role l kept coming (told role (Pad p) b)
+noted_keeps s b role l kept coming p h = record {
+  kept = h.kept;
+  here = record { end = h.here.end; node = record { read = h.here.read; noted = h.here.noted; sent = h.here.sent } };
+  there = λ n g. record { end = g.end ∙ sym h.there; node = g.node };
+}

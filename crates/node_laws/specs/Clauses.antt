@@ -13,16 +13,16 @@ use Rattle.line_laws.specs.Line.{Line}
 use Rattle.packet_host.specs.Host.{call_parts}
 use Rattle.packet_host.specs.Making as host
 use Rattle.packet_host.specs.declared.config.HostConfig.{HostConfig}
-use Rattle.packet_pad.specs.Pad.{PadState}
-use Rattle.packet_pad.specs.Making as pad
-use Rattle.packet_pad.specs.declared.config.PadConfig.{PadConfig}
+use Rattle.x25_pad.specs.Making as pad
+use Rattle.x25_pad.specs.declared.config.PadConfig.{PadConfig}
 use Rattle.call_records.specs.Book.{Book, made_book}
 use Rattle.line_record_laws.specs.Kept.{Setting, IsSetting, Kept, coming_to}
 use Rattle.line_record_laws.specs.Happens.{sent, with_restart}
 use Rattle.line_nodes.specs.Node.{NodeState, Pad, Host, end_of, drained, node_elapsed}
 use Rattle.line_nodes.specs.LineTurns.{hears, expires, relinks, restarts}
 use Rattle.line_nodes.specs.HostTurns.{host_calls, host_asks, host_refuses, host_says, host_takes}
-use Rattle.line_nodes.specs.PadTurns.{pad_keys}
+use Rattle.line_nodes.specs.Terminals.{at_terminal}
+use Rattle.line_nodes.specs.declared.terminal.TerminalEvent.{TerminalEvent}
 use Rattle.node_laws.specs.Nodes.{IsNode, StandsAt, Keeps, KeepsWith, KeepsBy}
 
 -- ---- what comes from the line, to a PAD or to a host
@@ -76,11 +76,13 @@ abbrev pub TakesLaw : Type 0
 TakesLaw = (s : Setting) (b : Book) (l : Line) (role : Role) (e : PacketEnd) (channel : ℕ) (kept : List Bool)
     → StandsAt role l (Host e) → Kept s b l → KeepsBy s role l kept (host_takes role e channel b)
 
--- ---- a key at a PAD
+-- ---- what happens at a terminal of a PAD
 
-abbrev pub KeysLaw : Type 0
-KeysLaw = (s : Setting) (b : Book) (l : Line) (role : Role) (p : PadState) (octet : ℕ) (kept : List Bool)
-    → StandsAt role l (Pad p) → Kept s b l → KeepsBy s role l kept (pad_keys role p octet b)
+abbrev pub TerminalsLaw : Type 0
+TerminalsLaw =
+    (s : Setting) (b : Book) (l : Line) (role : Role) (n : NodeState) (terminal : ℕ) (event : TerminalEvent)
+    (kept : List Bool)
+    → StandsAt role l n → Kept s b l → KeepsBy s role l kept (at_terminal role n terminal event b)
 
 -- ---- time passes at both nodes
 

@@ -1,7 +1,15 @@
--- The timers of a node: which of them may run.
-use Rattle.line_nodes.specs.Node.{NodeState, end_of}
-pub use Rattle.line_record_laws.specs.Due.{RunsOnly, TimersApart, due_count}
+-- The timers of a node: which of them may run, and how many are due.
+use Rattle.std.specs.Prelude.{ℕ}
+pub use Rattle.line_record_laws.specs.Due.{RunsOnly, TimersApart}
+use Rattle.line_record_laws.specs.Due as end
+use Rattle.x25_pad_laws.specs.Expiry as pad
+use Rattle.line_nodes.specs.Node.{NodeState, Pad, Host, end_of}
 
--- so it is at a node
+-- at the link T1 runs and no other timer, and at the packet layer none but its own
 unfoldable pub AreApart : NodeState → Type 0
 AreApart n = TimersApart (end_of n)
+
+-- how many timers run with no tick left, at a PAD those of its terminals among them
+abbrev pub due_count : NodeState → ℕ
+due_count (Pad p) = pad.due_count p
+due_count (Host e) = end.due_count e

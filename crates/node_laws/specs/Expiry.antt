@@ -3,7 +3,7 @@ use Rattle.std.specs.Prelude.{◌≡◌, ◌<◌, Some}
 use Rattle.link_timers.specs.declared.role.Role.{Role}
 use Rattle.link_timers.specs.declared.timers.TimerId.{TimerId}
 use Rattle.call_records.specs.Book.{Book}
-use Rattle.line_nodes.specs.Node.{NodeState, end_of, drained, node_due}
+use Rattle.line_nodes.specs.Node.{NodeState, drained, node_due}
 use Rattle.line_nodes.specs.LineTurns.{expires}
 use Rattle.node_laws.specs.Due.{due_count}
 use Rattle.node_laws.specs.Quiet.{IsQuiet}
@@ -11,4 +11,4 @@ use Rattle.node_laws.specs.Quiet.{IsQuiet}
 -- where the timer that is due expires, fewer are due than before: it is stopped, and what is started has ticks left
 abbrev pub ExpiryLaw : Type 0
 ExpiryLaw = (role : Role) (n : NodeState) (id : TimerId) (b : Book) → IsQuiet n → node_due n ≡ Some id
-    → due_count (end_of (drained (expires role n id b).node)) < due_count (end_of n)
+    → due_count (drained (expires role n id b).node) < due_count n

@@ -4,3 +4,4 @@ pub mod Opening
 pub mod Due
 pub mod Quiet
 pub mod Expiry
+pub mod Rooms

@@ -1,27 +1,21 @@
 -- A node at an end of a line between two events, and what its turn keeps.
-use Rattle.std.specs.Prelude.{◌≡◌, ◌<◌, Bool, List, [], length}
+use Rattle.std.specs.Prelude.{◌≡◌, Bool, List, []}
 use Rattle.link_timers.specs.declared.role.Role.{Role}
 use Rattle.link_timers.specs.Role.{other_of}
 use Rattle.lapb.specs.Machine.{Octets}
 use Rattle.line_laws.specs.Line.{Line}
-use Rattle.pad_editing.specs.Edited.{limit}
 use Rattle.line_record_laws.specs.Kept.{Setting, Kept, end_at, coming_to}
 use Rattle.line_record_laws.specs.Happens.{with_event}
-use Rattle.line_nodes.specs.Node.{NodeState, Pad, Host, end_of, drained}
+use Rattle.line_nodes.specs.Node.{NodeState, end_of, pad_notes, drained}
 use Rattle.line_nodes.specs.Turn.{Turn}
 
 -- ---- between events
 
--- a PAD holds less than a block
-abbrev pub HoldsNoBlock : NodeState → Type 0
-HoldsNoBlock (Pad p) = length p.held < limit
-HoldsNoBlock (Host e) = Unit {0}
-
--- all its notes were read, and all its frames went onto the line
+-- all its notes were read, those of a PAD too, and all its frames went onto the line
 pub record IsNode (n : NodeState) : Type 0 where
   pub read : (end_of n).notes ≡ []
+  pub noted : pad_notes n ≡ []
   pub sent : (end_of n).line.frames ≡ []
-  pub held : HoldsNoBlock n
 
 -- it is the node at the end of this role
 pub record StandsAt (role : Role) (l : Line) (n : NodeState) : Type 0 where

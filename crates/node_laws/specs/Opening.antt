@@ -8,15 +8,13 @@ use Rattle.packet_layer.specs.Packets.{CallParts}
 use Rattle.packet_layer.specs.Channel.{Request}
 use Rattle.packet_end.specs.PacketEnd.{PacketEnd}
 use Rattle.line_laws.specs.Line.{Line}
-use Rattle.packet_pad.specs.Pad.{PadState}
 use Rattle.call_records.specs.Book.{Book}
 use Rattle.call_records.specs.Room.{opening_notes}
 use Rattle.line_record_laws.specs.Kept.{Setting, Kept}
-use Rattle.line_nodes.specs.Node.{NodeState, Pad, Host}
+use Rattle.line_nodes.specs.Node.{NodeState, Host}
 use Rattle.line_nodes.specs.Turn.{Turn}
 use Rattle.line_nodes.specs.LineTurns.{hears, expires, relinks}
 use Rattle.line_nodes.specs.HostTurns.{host_calls, host_asks, host_refuses, host_says, host_takes}
-use Rattle.line_nodes.specs.PadTurns.{pad_keys}
 use Rattle.node_laws.specs.Nodes.{IsNode, StandsAt}
 
 abbrev pub OpensNothing : Turn → Type 0
@@ -57,6 +55,3 @@ SayingOpens = (role : Role) (e : PacketEnd) (channel : ℕ) (octets : List ℕ) 
 abbrev pub TakingOpens : Type 0
 TakingOpens = (role : Role) (e : PacketEnd) (channel : ℕ) (b : Book) → IsNode (Host e)
     → OpensNothing (host_takes role e channel b)
-
-abbrev pub KeyOpens : Type 0
-KeyOpens = (role : Role) (p : PadState) (octet : ℕ) (b : Book) → IsNode (Pad p) → OpensNothing (pad_keys role p octet b)

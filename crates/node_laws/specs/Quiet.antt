@@ -9,25 +9,23 @@ use Rattle.packet_layer.specs.Channel.{Request}
 use Rattle.packet_end.specs.PacketEnd.{PacketEnd}
 use Rattle.packet_host.specs.Making as host
 use Rattle.packet_host.specs.declared.config.HostConfig.{HostConfig}
-use Rattle.packet_pad.specs.Pad.{PadState}
-use Rattle.packet_pad.specs.Making as pad
-use Rattle.packet_pad.specs.declared.config.PadConfig.{PadConfig}
+use Rattle.x25_pad.specs.Making as pad
+use Rattle.x25_pad.specs.declared.config.PadConfig.{PadConfig}
 use Rattle.call_records.specs.Book.{Book}
 use Rattle.call_records.specs.Room.{opening_notes}
-use Rattle.line_nodes.specs.Node.{NodeState, Pad, Host, end_of, pad_notes, drained, node_elapsed}
+use Rattle.line_nodes.specs.Node.{NodeState, Pad, Host, end_of, drained, node_elapsed}
 use Rattle.line_nodes.specs.Turn.{Turn}
 use Rattle.line_nodes.specs.LineTurns.{hears, expires, relinks, restarts}
 use Rattle.line_nodes.specs.HostTurns.{host_calls, host_asks, host_refuses, host_says, host_takes}
-use Rattle.line_nodes.specs.PadTurns.{pad_keys}
+use Rattle.line_nodes.specs.Terminals.{at_terminal}
+use Rattle.line_nodes.specs.declared.terminal.TerminalEvent.{TerminalEvent}
 use Rattle.node_laws.specs.Due.{AreApart}
 use Rattle.node_laws.specs.Nodes.{IsNode}
 use Rattle.node_laws.specs.Opening.{OpensNothing}
 
--- nothing is left of its last event: no note, also none of a PAD or in its layer, no frame, and no block; and no timer
--- runs where it must not
+-- nothing is left of its last event: no note, also none in its layer, and no frame; and no timer runs where it must not
 pub record IsQuiet (n : NodeState) : Type 0 where
   pub node : IsNode n
-  pub noted : pad_notes n ≡ []
   pub unread : (end_of n).layer.notes ≡ []
   pub timers : AreApart n
 
@@ -81,11 +79,11 @@ abbrev pub QuietTakingLaw : Type 0
 QuietTakingLaw = (role : Role) (e : PacketEnd) (channel : ℕ) (b : Book) → IsQuiet (Host e)
     → IsQuietTurn (host_takes role e channel b)
 
--- ---- a key at a PAD, time, and the making
+-- ---- what happens at a terminal of a PAD, time, and the making
 
-abbrev pub QuietKeyLaw : Type 0
-QuietKeyLaw = (role : Role) (p : PadState) (octet : ℕ) (b : Book) → IsQuiet (Pad p)
-    → IsQuietTurn (pad_keys role p octet b)
+abbrev pub QuietTerminalLaw : Type 0
+QuietTerminalLaw = (role : Role) (n : NodeState) (terminal : ℕ) (event : TerminalEvent) (b : Book) → IsQuiet n
+    → IsQuietTurn (at_terminal role n terminal event b)
 
 abbrev pub QuietTimeLaw : Type 0
 QuietTimeLaw = (n : NodeState) (ticks : ℕ) → IsQuiet n → IsQuiet (node_elapsed ticks n)

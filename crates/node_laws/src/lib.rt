@@ -5,9 +5,10 @@ mod expiry;
 mod quiet;
 
 ghost use Rattle.node_laws.specs.Clauses.{HearsLaw, ExpiresLaw, RelinksLaw, RestartsLaw, CallsLaw, AsksLaw, RefusesLaw};
-ghost use Rattle.node_laws.specs.Clauses.{SaysLaw, TakesLaw, KeysLaw, ElapsesLaw, MakingLaw, NodesLaw};
+ghost use Rattle.node_laws.specs.Clauses.{SaysLaw, TakesLaw, TerminalsLaw, ElapsesLaw, MakingLaw, NodesLaw};
 ghost use Rattle.node_laws.specs.Opening.{HearingOpens, ExpiryOpens, RelinkOpens, CallOpens, AskingOpens, RefusalOpens};
-ghost use Rattle.node_laws.specs.Opening.{SayingOpens, TakingOpens, KeyOpens};
+ghost use Rattle.node_laws.specs.Opening.{SayingOpens, TakingOpens};
+ghost use Rattle.node_laws.specs.Rooms.{HearingRoom, ExpiryRoom, RelinkRoom, RestartRoom, TerminalRoom};
 
 pub use expiry::expiry_law;
 pub use quiet::quiet_law;
@@ -29,8 +30,8 @@ pub fn node_law()
     ensures says { SaysLaw }
     ensures takes { TakesLaw }
 
-    // A key at a PAD, and time.
-    ensures keys { KeysLaw }
+    // What happens at a terminal of a PAD, and time.
+    ensures terminals { TerminalsLaw }
     ensures elapses { ElapsesLaw }
 
     // The making.
@@ -48,5 +49,14 @@ pub fn turn_opening_law()
     ensures refusal { RefusalOpens }
     ensures saying { SayingOpens }
     ensures taking { TakingOpens }
-    ensures key { KeyOpens }
+{}
+
+/// The notes of a turn need room for two writes and for a pair at most in the book of its line, so that it can be made
+/// before.
+pub fn room_law()
+    ensures hearing { HearingRoom }
+    ensures expiry { ExpiryRoom }
+    ensures relink { RelinkRoom }
+    ensures restart { RestartRoom }
+    ensures terminal { TerminalRoom }
 {}

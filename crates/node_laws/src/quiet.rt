@@ -1,7 +1,7 @@
 //! That a node is quiet between two events, whatever line it is on.
 
 ghost use Rattle.node_laws.specs.Quiet.{QuietHearingLaw, QuietExpiryLaw, QuietRelinkLaw, QuietRestartLaw, QuietCallLaw};
-ghost use Rattle.node_laws.specs.Quiet.{QuietAskingLaw, QuietRefusalLaw, QuietSayingLaw, QuietTakingLaw, QuietKeyLaw};
+ghost use Rattle.node_laws.specs.Quiet.{QuietAskingLaw, QuietRefusalLaw, QuietSayingLaw, QuietTakingLaw, QuietTerminalLaw};
 ghost use Rattle.node_laws.specs.Quiet.{QuietTimeLaw, QuietMakingLaw};
 
 /// The law of a node between two events, over definitions alone. From the making on, and whatever arrives, also what no
@@ -21,8 +21,8 @@ pub fn quiet_law()
     ensures says { QuietSayingLaw }
     ensures takes { QuietTakingLaw }
 
-    // A key at a PAD, time, and the making.
-    ensures keys { QuietKeyLaw }
+    // What happens at a terminal of a PAD, time, and the making.
+    ensures terminals { QuietTerminalLaw }
     ensures elapses { QuietTimeLaw }
     ensures made { QuietMakingLaw }
 {}

@@ -1,4 +1,4 @@
-//! Worked examples of hosts, PADs, the book of their line, and what their events write into it.
+//! Worked examples of hosts, the book of their line, and what their events write into it.
 #![tactic(auto)]
 
 #[cfg(test)]
@@ -7,5 +7,3 @@ mod books;
 mod hosts;
 #[cfg(test)]
 mod nodes;
-#[cfg(test)]
-mod pads;

@@ -1,26 +1,19 @@
 //! Worked examples: the nodes of a line on which a call stands, with its book.
-ghost use Rattle.std.specs.Prelude.{◌≡◌, []};
-ghost use Rattle.line_nodes.specs.Node.{end_of, pad_notes};
-ghost use Rattle.line_nodes.specs.NodeView.{node_of};
-
 use call_records::Book;
 use frame_codec::FrameBuf;
-use line_nodes::{KeyAnswer, Node, NodeFault, Place, write_notes, write_request, write_taken};
+use line_nodes::{Node, NodeFault, write_request, write_taken};
 use link_timers::Role;
 use packet_end::EndParams;
 use packet_host::{Host, HostConfig, HostRequest};
 use packet_layer::{CallFault, ChannelFault, Taken, UserData};
-use packet_pad::{Pad, PadConfig};
 use std::alloc::{AllocError, Global};
 use std::process::Abort;
 use std::test::Fail;
 use x3_params::{Params, Profile};
+use x25_pad::{Pad, PadConfig};
 
-// The PAD is the DTE, the host the DCE.
-const AT_DTE: Place = Place {
-    role: Role::Dte,
-    node: 3,
-};
+// The nodes at the DTE and at the DCE.
+const DTE_NODE: usize = 3;
 
 const DCE_NODE: usize = 5;
 
@@ -34,7 +27,7 @@ const LINE: EndParams = EndParams {
 };
 
 fn new_book(alloc: Global) -> Result<Book, AllocError> {
-    Book::new(alloc, AT_DTE.node, DCE_NODE, LINE.channels, LINE.standing)
+    Book::new(alloc, DTE_NODE, DCE_NODE, LINE.channels, LINE.standing)
 }
 
 fn new_host(rt: &impl Abort, alloc: Global) -> Host {
@@ -50,14 +43,13 @@ fn new_host(rt: &impl Abort, alloc: Global) -> Host {
     }
 }
 
-// A carriage return forwards.
-fn new_pad(rt: &impl Abort, alloc: Global) -> Pad
-    ensures noted { result.notes ≡ [] }
-    ensures read { result.end.notes ≡ [] }
-{
-    let mut params = Params::profile(Profile::Simple, 14);
-    assert_eq!(rt; params.set(3, 2), Ok(()));
-    match Pad::new(alloc, PadConfig { line: LINE, params }) {
+fn new_pad(rt: &impl Abort, alloc: Global) -> Pad {
+    let config = PadConfig {
+        line: LINE,
+        params: Params::profile(Profile::Simple, 14),
+        terminals: 1,
+    };
+    match Pad::new(alloc, config) {
         Ok(pad) => pad,
         Err(_) => panic!(rt; "a PAD is made"),
     }
@@ -79,28 +71,6 @@ fn asks(
     }
 }
 
-// A key at the PAD, with what is written of it.
-fn types(
-    alloc: Global,
-    node: &mut Node,
-    octet: u8,
-    book: &mut Book,
-) -> Result<KeyAnswer, AllocError>
-    requires noted { pad_notes (node_of node.old) ≡ [] }
-    requires read { (end_of (node_of node.old)).notes ≡ [] }
-    ensures noted { pad_notes (node_of node.new) ≡ [] }
-    ensures read { (end_of (node_of node.new)).notes ≡ [] }
-{
-    let mut notes = Vec::with_capacity(alloc, 96)?;
-    book.reserve(2)?;
-    let Node::Pad(pad) = node else {
-        return Ok(KeyAnswer::Dropped);
-    };
-    let answer = pad.on_key(octet);
-    write_notes(node, AT_DTE, book, &mut notes);
-    Ok(answer)
-}
-
 fn is_packet(packet: Option<&UserData>, octets: &[u8], more: bool, delivery: bool) -> bool {
     match packet {
         Some(packet) => {
@@ -118,31 +88,6 @@ fn is_closed(book: &Book, number: usize) -> bool {
         Some(record) => record.closed,
         None => false,
     }
-}
-
-// H, I and CR are typed.
-fn types_keys(alloc: Global, node: &mut Node, book: &mut Book) -> Result<(), AllocError>
-    requires noted { pad_notes (node_of node.old) ≡ [] }
-    requires read { (end_of (node_of node.old)).notes ≡ [] }
-{
-    let _ = types(alloc, node, b'H', book)?;
-    let _ = types(alloc, node, b'I', book)?;
-    let _ = types(alloc, node, b'\r', book)?;
-    Ok(())
-}
-
-#[test]
-fn keys_are_written(rt: HostRuntime) -> Result<(), Fail> {
-    let mut book = new_book(rt.alloc())?;
-    let mut node = Node::Pad(new_pad(&rt, rt.alloc()));
-    types_keys(rt.alloc(), &mut node, &mut book)?;
-    let Some(record) = book.records().get(0) else {
-        panic!(rt; "a record");
-    };
-    assert_eq!(rt; record.steps.len(), 3);
-    assert_eq!(rt; record.sent.packets.len(), 1);
-    assert!(rt; is_packet(record.sent.packets.get(0), b"HI\r", false, false));
-    Ok(())
 }
 
 fn writes_what_is_said(

@@ -17,4 +17,4 @@ pub mod Owning
 pub mod Expiring
 mod Rows
 pub mod Events
-mod Rooms
+pub mod Rooms

@@ -6,30 +6,31 @@ ghost use Rattle.net_nodes.specs.Happening.{Happens};
 
 use crate::nodes::Nodes;
 use arrayvec::ArrayVec;
-use line_nodes::KeyAnswer;
+use line_nodes::TerminalEvent;
 use memory_line::Line;
-use net_events::{Answer, NodeEvent, Outcome, StepFault};
-use net_turns::bare_answer;
+use net_events::{Answer, NodeEvent, StepFault};
 use packet_codec::Address;
 use packet_host::HostRequest;
 
 impl<L: Line> Nodes<L> {
-    /// A key at a terminal of a PAD. The call is that of terminal 0.
-    pub(super) fn key(&mut self, node: usize, terminal: u16, octet: u8) -> Result<Answer, StepFault>
+    /// Something happens at a terminal of a PAD.
+    pub(super) fn at_terminal(
+        &mut self,
+        node: usize,
+        terminal: u16,
+        event: TerminalEvent,
+    ) -> Result<Answer, StepFault>
         requires { IsStanding self.old }
-        ensures { Happens L.service (event_is.Key node terminal octet) self.old result self.new }
+        ensures { Happens L.service (event_is.AtTerminal node terminal event) self.old result self.new }
     {
         let Some(terminals) = self.terminals_at(node) else {
             return Err(StepFault::NoSuchNode);
         };
-        if terminal >= terminals {
+        if terminal >= u16::from(terminals) {
             return Err(StepFault::NoSuchTerminal);
         }
-        if terminal != 0 {
-            return Ok(bare_answer(self.alloc, Outcome::Keyed(KeyAnswer::Taken)));
-        }
         let end = self.end_of(node)?;
-        self.act(end, &NodeEvent::Keys(octet))
+        self.act(end, &NodeEvent::AtTerminal(terminal as u8, event))
     }
 
     /// A host places a call.

@@ -1,14 +1,15 @@
 //! How the nodes are made, and how their lines begin.
-ghost use Rattle.std.specs.Prelude.{◌≡◌, Some, IfOk, IfErr, OnOk, length, map, slice_get, vec_len};
+ghost use Rattle.std.specs.Prelude.{◌≡◌, ◌≤◌, Some, IfOk, IfErr, OnOk, length, map, slice_get, vec_len};
 ghost use Rattle.packet_end.specs.Params.{AreParams};
 ghost use Rattle.packet_host.specs.Making as host_made;
-ghost use Rattle.packet_pad.specs.Making as pad_made;
+ghost use Rattle.x25_pad.specs.Making as pad_made;
 ghost use Rattle.call_records.specs.Register.{made_register};
 ghost use Rattle.call_records.specs.RegisterView.{register_of};
 ghost use Rattle.line_nodes.specs.Node.{Host as host_node, Pad as pad_node};
 ghost use Rattle.line_nodes.specs.NodeView.{node_of};
 ghost use Rattle.net_events.specs.Network as network;
-ghost use Rattle.net_events.specs.Opening.{IsPlan, IsMade, line_plan, new_node};
+ghost use Rattle.net_events.specs.Opening.{IsPlan, IsMade, IsNewDte, line_plan, new_node};
+ghost use Rattle.link_timers.specs.declared.role.Role.TheVariants as role_is;
 ghost use Rattle.net_config.specs.declared.fault.MakeFault.TheVariants as make_fault_is;
 ghost use Rattle.net_config.specs.Plan.{StandsAlone};
 ghost use Rattle.net_nodes.specs.Making.{AreNew, HaveBegun, HasEnds, Begins, AreFree, stands};
@@ -22,9 +23,9 @@ use net_config::{MakeFault, NetPlan, NewKind, NewLine, NewNode};
 use net_turns::{Room, put_frames};
 use packet_end::{EndFault, EndParams};
 use packet_host::{Host, HostConfig};
-use packet_pad::{Pad, PadConfig};
 use std::alloc::{AllocError, Global};
 use x3_params::Params;
+use x25_pad::{Pad, PadConfig};
 
 fn new_host(alloc: Global, role: Role, line: EndParams) -> Result<Node, MakeFault>
     requires { AreParams line }
@@ -38,13 +39,25 @@ fn new_host(alloc: Global, role: Role, line: EndParams) -> Result<Node, MakeFaul
     }
 }
 
-fn new_pad(alloc: Global, params: Params, line: EndParams) -> Result<Node, MakeFault>
-    requires { AreParams line }
-    ensures ok { IfOk result
-        (λ node. node_of node ≡ pad_node (pad_made.made (record { line = line; params = params }))) }
+fn new_pad(
+    alloc: Global,
+    params: Params,
+    terminals: u8,
+    line: EndParams,
+) -> Result<Node, MakeFault>
+    requires line { AreParams line }
+    requires least { 1 ≤ terminals }
+    requires most { terminals ≤ 16 }
+    ensures ok { IfOk result (λ node. node_of node ≡ pad_node (pad_made.made
+        (record { line = line; params = params; terminals = terminals }))) }
     ensures err { IfErr result (λ fault. fault ≡ make_fault_is.OutOfMemory) }
 {
-    match Pad::new(alloc, PadConfig { line, params }) {
+    let config = PadConfig {
+        line,
+        params,
+        terminals,
+    };
+    match Pad::new(alloc, config) {
         Ok(pad) => Ok(Node::Pad(pad)),
         Err(EndFault::OutOfMemory) => Err(MakeFault::OutOfMemory),
         Err(EndFault::BadConfig) => unreachable!(),
@@ -53,14 +66,15 @@ fn new_pad(alloc: Global, params: Params, line: EndParams) -> Result<Node, MakeF
 
 /// A node in the state in which it is made.
 fn new_node(alloc: Global, node: &NewNode, line: EndParams) -> Result<Node, MakeFault>
-    requires { AreParams line }
+    requires line { AreParams line }
+    requires dte { node.now.role ≡ role_is.Dte → IsNewDte node.now.as_dte }
     ensures ok { IfOk result (λ made. node_of made ≡ new_node node.now line) }
     ensures err { IfErr result (λ fault. fault ≡ make_fault_is.OutOfMemory) }
 {
     match node.role {
         Role::Dce => new_host(alloc, Role::Dce, line),
         Role::Dte => match &node.kind {
-            NewKind::Pad(params) => new_pad(alloc, *params, line),
+            NewKind::Pad { params, terminals } => new_pad(alloc, *params, *terminals, line),
             NewKind::Host => new_host(alloc, Role::Dte, line),
         },
     }
@@ -76,7 +90,6 @@ fn new_nodes(alloc: Global, plan: &NetPlan) -> Result<Vec<PlacedNode>, MakeFault
         let line = &plan.lines[node.line];
         nodes.push(PlacedNode {
             line: node.line,
-            terminals: node.terminals,
             node: new_node(alloc, node, line.params)?,
         })?;
     }
@@ -135,8 +148,8 @@ fn begin<L: Line>(
         → slice_get nodes.old.items plan.now.dce ≡ Some dce
         → OnOk result (Begins L.service plan.now dte dce nodes.old.items nodes.new.items (L.flights line.new)) }
 {
-    let mut first = Room::new(alloc)?;
-    let mut second = Room::new(alloc)?;
+    let mut first = Room::new(alloc, 0)?;
+    let mut second = Room::new(alloc, 0)?;
     line.empty();
     let dte = &mut nodes[plan.dte];
     put_frames(

@@ -31,7 +31,7 @@ impl<L: Line> Nodes<L> {
         if line >= self.lines.len() {
             return Err(StepFault::NoSuchNode);
         }
-        let room = Room::new(self.alloc)?;
+        let room = Room::new(self.alloc, 0)?;
         self.register.open(line, MOST_WRITES)?;
         let net_line = &mut self.lines[line];
         let Some(frame) = net_line.line.take(direction) else {
@@ -95,7 +95,7 @@ impl<L: Line> Nodes<L> {
         ensures { Happens L.service (event_is.Restart node) self.old result self.new }
     {
         let end = self.end_of(node)?;
-        let room = Room::new(self.alloc)?;
+        let room = Room::new(self.alloc, 0)?;
         self.register.open(end.line, MOST_WRITES)?;
         let net_line = &mut self.lines[end.line];
         net_line.line.empty();

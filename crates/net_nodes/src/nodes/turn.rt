@@ -3,15 +3,16 @@ ghost use Rattle.std.specs.Prelude.{◌≡◌, Some, MatchResult, slice_get};
 ghost use Rattle.call_records.specs.RegisterView.{register_of};
 ghost use Rattle.net_events.specs.EventView.{event_of};
 ghost use Rattle.net_events.specs.Network as network;
+ghost use Rattle.net_turns.specs.Served.{HasPlaces, EventHasPlaces};
 ghost use Rattle.net_nodes.specs.Turns.{CanServe, HadTurn, HadNone, CanAct, LeavesLine, Acts};
 
 use crate::nodes::{LineEnd, NetLine, Nodes, PlacedNode};
 use call_records::Register;
-use line_nodes::Place;
+use line_nodes::{Place, TerminalEvent};
 use link_timers::Role;
 use memory_line::Line;
 use net_events::{Answer, NodeEvent, StepFault};
-use net_turns::{MOST_WRITES, NetPlace, Room, serve};
+use net_turns::{MOST_TEXT, MOST_WRITES, NetPlace, Room, serve};
 
 /// Serves an event at the node at an end of a line, at which the register is open, and answers it.
 pub(super) fn serve_at<L: Line>(
@@ -57,6 +58,32 @@ pub(super) fn serve_at<L: Line>(
     }
 }
 
+/// How many octets of text an event may show.
+fn text_places(event: &NodeEvent<'_>) -> usize
+    ensures { EventHasPlaces (event_of event.now) result }
+{
+    match event {
+        NodeEvent::AtTerminal(_, event) => terminal_places(*event),
+        NodeEvent::Hears(_)
+        | NodeEvent::Expires(_)
+        | NodeEvent::Relinks
+        | NodeEvent::Restarts
+        | NodeEvent::Calls(_, _)
+        | NodeEvent::Asks(_, _)
+        | NodeEvent::Takes(_) => 0,
+    }
+}
+
+/// How many octets of text what happens at a terminal may show.
+fn terminal_places(event: TerminalEvent) -> usize
+    ensures { HasPlaces event result }
+{
+    match event {
+        TerminalEvent::Print => MOST_TEXT,
+        TerminalEvent::Key(_) | TerminalEvent::Break | TerminalEvent::Idle => 0,
+    }
+}
+
 impl<L: Line> Nodes<L> {
     /// Something happens at the node at an end of a line; it is not that a frame arrives or that the node begins anew.
     pub(super) fn act(&mut self, end: LineEnd, event: &NodeEvent<'_>) -> Result<Answer, StepFault>
@@ -64,7 +91,7 @@ impl<L: Line> Nodes<L> {
         requires leaves { LeavesLine (event_of event.now) }
         ensures { Acts L.service end (event_of event.now) self.old result self.new }
     {
-        let room = Room::new(self.alloc)?;
+        let room = Room::new(self.alloc, text_places(event))?;
         self.register.open(end.line, MOST_WRITES)?;
         let (nodes, register) = (&mut self.nodes, &mut self.register);
         serve_at(nodes, &mut self.lines[end.line], register, end, event, room)

@@ -1,6 +1,5 @@
-use Rattle.node_laws.proofs.Hearing.{hears_keeps, expires_keeps, relinks_keeps, restarts_keeps}
+use Rattle.node_laws.proofs.Hearing.{hears_keeps, expires_keeps, relinks_keeps, restarts_keeps, terminals_keep}
 use Rattle.node_laws.proofs.Asking.{calls_keeps, asks_keeps, refuses_keeps, says_keeps, takes_keeps}
-use Rattle.node_laws.proofs.Typing.{keys_keeps}
 use Rattle.node_laws.proofs.Making.{elapses_keeps, making_keeps, made_nodes}
 use Rattle.node_laws.proofs.node_law.Goals as goal
 
@@ -15,7 +14,7 @@ returns c = record {
   refuses = refuses_keeps;
   says = says_keeps;
   takes = takes_keeps;
-  keys = keys_keeps;
+  terminals = terminals_keep;
   elapses = elapses_keeps;
   made = making_keeps;
   nodes = made_nodes;

@@ -1,4 +1,4 @@
-use Rattle.node_laws.proofs.Opening.{hearing_opens, expiry_opens_none, relink_opens_none, call_opens, asking_opens, refusal_opens, saying_opens, taking_opens, key_opens}
+use Rattle.node_laws.proofs.Opening.{hearing_opens, expiry_opens_none, relink_opens_none, call_opens, asking_opens, refusal_opens, saying_opens, taking_opens}
 use Rattle.node_laws.proofs.turn_opening_law.Goals as goal
 
 pub returns : goal.returns
@@ -11,5 +11,4 @@ returns c = record {
   refusal = refusal_opens;
   saying = saying_opens;
   taking = taking_opens;
-  key = key_opens;
 }

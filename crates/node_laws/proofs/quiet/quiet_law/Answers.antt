@@ -1,6 +1,6 @@
 use Rattle.node_laws.proofs.quiet.quiet_law.Goals as goal
-use Rattle.node_laws.proofs.QuietTurns.{quiet-hears, quiet-expires, quiet-relinks, quiet-restarts, quiet-calls, quiet-asks, quiet-refuses, quiet-says, quiet-takes, quiet-keys, quiet-elapses, quiet-made-pad, quiet-made-host}
-use Rattle.node_laws.proofs.QuietOpens.{opens-hears, nothing-expires, nothing-relinks, opens-restarts, opens-calls, opens-asks, opens-refuses, opens-says, opens-takes, opens-keys}
+use Rattle.node_laws.proofs.QuietTurns.{quiet-hears, quiet-expires, quiet-relinks, quiet-restarts, quiet-calls, quiet-asks, quiet-refuses, quiet-says, quiet-takes, quiet-terminals, quiet-elapses, quiet-made-pad, quiet-made-host}
+use Rattle.node_laws.proofs.QuietOpens.{opens-hears, nothing-expires, nothing-relinks, opens-restarts, opens-calls, opens-asks, opens-refuses, opens-says, opens-takes, opens-terminals}
 
 pub returns : goal.returns
 returns c = record {
@@ -16,7 +16,7 @@ returns c = record {
     opens = opens-says role e channel octets qualified delivery b q;
   };
   takes = λ role e channel b q. record { leaves = quiet-takes role e channel b q; opens = opens-takes role e channel b q };
-  keys = λ role p octet b q. record { leaves = quiet-keys role p octet b q; opens = opens-keys role p octet b q };
+  terminals = λ role n terminal event b q. record { leaves = quiet-terminals role n terminal event b q; opens = opens-terminals role n terminal event b };
   elapses = quiet-elapses;
   made = (quiet-made-pad, quiet-made-host);
 }

@@ -1,4 +1,4 @@
-use Rattle.line_nodes.proofs.Rooms.{accepted_short}
+use Rattle.line_nodes.proofs.Short.{accepted_short}
 use Rattle.node_tests.proofs.nodes.asks.Goals as goal
 
 pub write_request-requires-clause-short : goal.write_request-requires-clause-short

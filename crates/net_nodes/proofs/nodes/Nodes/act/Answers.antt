@@ -4,7 +4,7 @@ use Rattle.net_events.specs.EventView.{event_of}
 use Rattle.net_events.specs.Network.{NetLine, place_at}
 use Rattle.net_nodes.specs.Turns.{CanAct}
 use Rattle.net_nodes.proofs.Places.{found, within}
-use Rattle.net_nodes.proofs.Acting.{can_serve, acts, can_is_for, turned_from}
+use Rattle.net_nodes.proofs.Acting.{places_more, can_serve, acts, can_is_for, turned_from}
 use Rattle.net_nodes.proofs.nodes.Nodes.act.Goals as goal
 
 pub serve_at-requires : goal.serve_at-requires
@@ -14,7 +14,7 @@ serve_at-requires g c =
     let can = subst (CanAct end (event_of c.args.event.now)) (sym c.self.view_is) c.requires.can in
     can_serve end (event_of c.args.event.now) c.self.inside.nodes.items can.line can.node can.node_there can.is_for can.quiet c.self.inside.register can.registered c.index_mut.result.now can.line.flights c.open.new.self c.in_ok-room.room
     (found lines end.line _ _ can.line (within lines end.line can.line can.line_there) c.index_mut.ensures.value can.line_there)
-    c.open.ensures.same c.open.ensures.at c.open.ensures.book c.in_ok-open.ensures.room c.in_ok-room.ensures
+    c.open.ensures.same c.open.ensures.at c.open.ensures.book c.in_ok-open.ensures.room c.in_ok-open.ensures.pairs c.in_ok-room.ensures.empty (places_more (event_of c.args.event.now) c.text_places.result _ c.in_ok-room.ensures.text c.text_places.ensures)
 
 pub returns : goal.returns
 returns g c =

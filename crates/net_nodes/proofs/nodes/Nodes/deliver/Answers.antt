@@ -21,8 +21,9 @@ returns-in_default g c =
       ap (λ o. where_there_is (is_some o)) here,
       inl (record {
         nothing = record {
-          frames = c.answer.ensures.frames ∙ c.in_ok-room.ensures.frames;
-          notes = c.answer.ensures.notes ∙ c.in_ok-room.ensures.notes;
+          frames = c.answer.ensures.frames ∙ c.in_ok-room.ensures.empty.frames;
+          notes = c.answer.ensures.notes ∙ c.in_ok-room.ensures.empty.notes;
+          text = c.answer.ensures.text ∙ c.in_ok-room.ensures.empty.text;
           answered = c.answer.ensures.outcome;
           lost = record {
             line_is = _;
@@ -46,7 +47,7 @@ serve_at-requires g c =
     let e = st.ends c.args.line _ c.hearer.result here in
     can_serve end (Hears c.as_slice.result.now) c.self.inside.nodes.items _ e.node e.node_there tt e.quiet c.self.inside.register (registered_at c.args.line _ _ st here) _
     (g.L.Line.flights c.take.new.self) c.open.new.self c.in_ok-room.room
-    refl c.open.ensures.same c.open.ensures.at c.open.ensures.book c.in_ok-open.ensures.room c.in_ok-room.ensures
+    refl c.open.ensures.same c.open.ensures.at c.open.ensures.book c.in_ok-open.ensures.room c.in_ok-open.ensures.pairs c.in_ok-room.ensures.empty tt
 
 pub returns : goal.returns
 returns g c =

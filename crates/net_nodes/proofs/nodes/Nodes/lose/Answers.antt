@@ -14,6 +14,7 @@ returns g c =
       record {
         frames = c.bare_answer.ensures.frames;
         notes = c.bare_answer.ensures.notes;
+        text = c.bare_answer.ensures.text;
         answered = c.bare_answer.ensures.outcome;
         lost = record {
           line_is = _;

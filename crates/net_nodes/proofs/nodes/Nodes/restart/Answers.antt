@@ -17,7 +17,7 @@ serve_at-requires g c =
     let same = c.net_line.view_is ∙ found lines end.line _ c.index_mut-net_line.result.now p.line (within lines end.line p.line p.line_there) c.index_mut-net_line.ensures.value p.line_there in
     can_serve end Restarts c.self.inside.nodes.items p.line p.node (at_end_of c.args.node end _ p) tt (quiet_at c.args.node end _ st p) c.self.inside.register (registered_at end.line p.line _ st p.line_there) _ (g.L.Line.flights c.empty.new.self) c.open.new.self c.in_ok-room.room
     (ap (λ (x : NetLine). record x { flights = g.L.Line.flights c.empty.new.self }) same)
-    c.open.ensures.same c.open.ensures.at c.open.ensures.book c.in_ok-open.ensures.room c.in_ok-room.ensures
+    c.open.ensures.same c.open.ensures.at c.open.ensures.book c.in_ok-open.ensures.room c.in_ok-open.ensures.pairs c.in_ok-room.ensures.empty tt
 
 pub returns : goal.returns
 returns g c =

@@ -4,7 +4,7 @@ use Rattle.packet_end.specs.Params.{AreParams}
 use Rattle.net_events.specs.Network.{PlacedNode}
 use Rattle.net_events.specs.Opening.{NewNode, NewLine, NetPlan}
 use Rattle.net_nodes.proofs.Places.{within, found}
-use Rattle.net_nodes.proofs.Making.{MadeTo, none_made, made_more, all_made}
+use Rattle.net_nodes.proofs.Making.{MadeTo, dte_made, none_made, made_more, all_made}
 use Rattle.net_nodes.proofs.nodes.making.new_nodes.Goals as goal
 
 pub loop-node-init : goal.loop-node-init
@@ -32,7 +32,10 @@ new_node-requires c =
     let same = ap (λ (n : NewNode). n.line) c.node.view_is in
     let line_there = ap (λ (p : NetPlan). slice_get p.lines c.node.inside.line) c.plan.view_is ∙ ap (slice_get c.args.plan.now.lines) same ∙ stands.there in
     let line = c.line.view_is ∙ found c.plan.inside.lines.items c.node.inside.line _ c.index-line.result.now stands.line (within c.plan.inside.lines.items c.node.inside.line stands.line line_there) c.index-line.ensures line_there in
-    subst AreParams (ap (λ (l : NewLine). l.params) (sym line)) (c.requires.lines item.line stands.line stands.there).params
+    record {
+      line = subst AreParams (ap (λ (l : NewLine). l.params) (sym line)) (c.requires.lines item.line stands.line stands.there).params;
+      dte = dte_made c.args.plan.now at item c.requires there;
+    }
 
 pub loop-node-preserved : goal.loop-node-preserved
 loop-node-preserved c =
@@ -50,7 +53,7 @@ loop-node-preserved c =
     let M : ℕ → Type 0 = λ k. MadeTo k c.args.plan.now c.push.new.self.items in
     let next : suc at ≡ at + 1 = omega arith in
     subst M next (subst P (sym c.in_ok-push.ensures.items)
-    (subst placed (λ i. record { line = sym same i; terminals = (ap (λ (n : NewNode). n.terminals) (sym c.node.view_is)) i; node = sym node i })
+    (subst placed (λ i. record { line = sym same i; node = sym node i })
     (made_more at c.args.plan.now c.loop-node.nodes.items item stands.line c.loop-node.invariant there stands.there)))
 
 pub returns-clause-ok : goal.returns-clause-ok

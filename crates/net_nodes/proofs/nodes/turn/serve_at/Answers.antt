@@ -22,7 +22,7 @@ returns g c = λ n there.
           answered g.L.Line.service c.args.end (event_of c.args.event.now) _ n c.args.nodes.now.items _ l c.args.register.now c.match-end.node
           (c.placed.view_is ∙ node) c.net_line.view_is place c.requires.opened c.requires.book c.serve-served.result c.match-served.result w.in-Ok.outcome c.serve-served.new.room w.answer.result
           (node_of c.serve-served.new.node) (g.L.Line.flights c.serve-served.new.line) c.serve-served.new.book.book w.in-Ok.is w.result-is
-          c.serve-served.ensures.answer c.serve-served.ensures.served w.answer.ensures.frames w.answer.ensures.notes w.answer.ensures.outcome
+          c.serve-served.ensures.answer c.serve-served.ensures.served c.serve-served.ensures.text w.answer.ensures.frames w.answer.ensures.notes w.answer.ensures.text w.answer.ensures.outcome
       | in-Err w ↦
           answered_not g.L.Line.service c.args.end (event_of c.args.event.now) _ n c.args.nodes.now.items _ l c.args.register.now c.match-end.node
           (c.placed.view_is ∙ node) c.net_line.view_is place c.requires.opened c.requires.book c.serve-served.result c.match-served.result w.in-Err.fault

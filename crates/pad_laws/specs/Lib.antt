@@ -1,4 +1,0 @@
-pub mod Typed
-pub mod PadHolds
-pub mod Law
-pub mod Nodes
