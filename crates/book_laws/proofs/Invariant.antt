@@ -74,11 +74,12 @@ passed_sent e = record { packets = e.packets; interrupts = e.interrupts; count =
 abbrev pub passed_taken : TakenEpoch → Passed
 passed_taken e = record { packets = e.packets; interrupts = e.interrupts; count = e.released }
 
--- what a record has of a sent epoch is what passed in it, and no more of it covered
+-- what a record has of a sent epoch is what passed in it, and no more of it covered; nor fewer of the packets sent
 pub record HasSent (own passed : Passed) : Type 0 where
   pub packets : own.packets ≡ passed.packets
   pub interrupts : own.interrupts ≡ passed.interrupts
   pub count : own.count ≤ passed.count
+  pub least : min (length passed.packets) passed.count ≤ own.count
 
 -- what it has of a taken one is what passed in it, and no less of it released, but no more than was taken
 pub record HasTaken (own passed : Passed) : Type 0 where
@@ -100,7 +101,7 @@ pub own_taken : (own mine passed : Passed) → mine ≡ own → HasTaken own pas
 own_taken own mine passed e h = subst (λ (p : Passed). HasTaken p passed) (sym e) h
 
 pub nothing_sent_yet : HasSent nothing_passed nothing_passed
-nothing_sent_yet = record { packets = refl; interrupts = refl; count = omega arith }
+nothing_sent_yet = record { packets = refl; interrupts = refl; count = omega arith; least = omega arith }
 
 pub nothing_taken_yet : HasTaken nothing_passed nothing_passed
 nothing_taken_yet = record { packets = refl; interrupts = refl; count = omega arith; within = omega arith }
@@ -173,9 +174,9 @@ pub record Stands (f : EndView) (slots : ℕ → Slot) (n : ℕ) (t : Tag) : Typ
   pub past : f.session ≡ Some t.channel_use.session → IsPast t.channel_use (f.histories t.channel_use.session t.channel_use.channel)
   pub present : f.session ≡ Some t.channel_use.session → t.channel_use ≡ now f t.channel_use.session t.channel_use.channel → IsLive t.kind → (slots t.channel_use.channel).present ≡ Some n
 
--- in each epoch no more was released than taken
+-- in each epoch no more was released than taken, and no more covered than sent
 abbrev pub IsWithin : History → Type 0
-IsWithin st = (r u g : ℕ) → (st.epochs r u g).released ≤ length (st.epochs r u g).taken
+IsWithin st = (r u g : ℕ) → ((st.epochs r u g).released ≤ length (st.epochs r u g).taken) × ((st.epochs r u g).covered ≤ length (st.epochs r u g).sent)
 
 abbrev pub IsPaired : (PairValue → ℕ) → List PairValue → ℕ → Type 0
 IsPaired side pairs n = (i : ℕ) × (p : PairValue) × (slice_get pairs i ≡ Some p) × (side p ≡ n)

@@ -27,4 +27,6 @@ pub mod Having
 pub mod Beside
 pub mod Placed
 pub mod Answered
+pub mod OpenPairs
+mod Delivery
 pub mod Rows

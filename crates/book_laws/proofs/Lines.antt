@@ -1,13 +1,14 @@
 -- Whatever happens at the two ends of a line keeps its book right.
 use Rattle.std.specs.Prelude.{◌≡◌, ℕ, zero, suc, ◌≤◌, Bool, true, false, cond, ◌&&◌, ◌||◌, List, [], ◌∷◌, length, slice_get, Option, Some, None}
-use Rattle.std.proofs.Common.{inl, inr, refl, sym, ap, subst, ◌∙◌, arith, true≢false}
+use Rattle.std.proofs.Common.{inl, inr, refl, sym, ap, subst, ◌∙◌, length-append, arith, true≢false}
 use Rattle.std.proofs.lemmas.Bool.{ltb-true}
 use Rattle.link_timers.specs.declared.role.Role.{Role}
 use Rattle.link_timers.specs.declared.role.Role.TheVariants.{Dte, Dce}
 use Rattle.link_timers.specs.Role.{other_of}
 use Rattle.pad_editing.specs.Edited.{Step}
-use Rattle.packet_layer.specs.Packets.{Packet}
+use Rattle.packet_layer.specs.Packets.{Packet, Datum}
 use Rattle.packet_layer.specs.Layer.{link_up, runs, channel_given}
+use Rattle.packet_laws.specs.History.{Epoch}
 use Rattle.packet_laws.specs.Law.{Holds, HasNoLogs, Aligned}
 use Rattle.packet_laws.specs.Line.{End, Line, Event, Happening, turned, happens, after, may_begin, begun, offers, accepts, arrives_in, next_of_session}
 use Rattle.packet_laws.specs.Line.Event.{Up, Down, Calls, Requests, Expires, Offers, Arrives}
@@ -176,12 +177,20 @@ edit_kept n e y te ty b cs role channel step k =
 abbrev pub Laws : ℕ → Line → Type 0
 Laws n w = (hs : List Happening) (s c : ℕ) → 1 ≤ c → c ≤ n → Holds (after hs w) s c
 
+pub covered_within : (e f : Epoch) → Aligned e f → e.covered ≤ length e.sent
+covered_within e f a =
+    let released = a.covered_is_released in
+    let taken = a.released_is_taken in
+    let long = length-append f.taken a.packets.0 in
+    let whole = ap (λ (l : List Datum). length l) a.packets.1 in
+    omega arith
+
 facts_here : (n : ℕ) (w : Line) → Laws n w → Facts n w.me w.you
 facts_here n w law = record {
   here = λ s c lo hi. (law [] s c lo hi).here;
   there = λ s c lo hi. (law [] s c lo hi).there;
   answers_there = λ s c lo hi. (law [] s c lo hi).answers_there;
-  within = λ s c lo hi r u g. ((law [] s c lo hi).back r u g).released_is_taken;
+  within = λ s c lo hi r u g. (((law [] s c lo hi).back r u g).released_is_taken, covered_within _ _ ((law [] s c lo hi).forth r u g));
   call = λ s c parts lo hi a. (law [] s c lo hi).call_here parts a;
 }
 
@@ -190,7 +199,7 @@ facts_there n w law = record {
   here = λ s c lo hi. (law [] s c lo hi).there;
   there = λ s c lo hi. (law [] s c lo hi).here;
   answers_there = λ s c lo hi. (law [] s c lo hi).answers_here;
-  within = λ s c lo hi r u g. ((law [] s c lo hi).forth r u g).released_is_taken;
+  within = λ s c lo hi r u g. (((law [] s c lo hi).forth r u g).released_is_taken, covered_within _ _ ((law [] s c lo hi).back r u g));
   call = λ s c parts lo hi a. (law [] s c lo hi).call_there parts a;
 }
 

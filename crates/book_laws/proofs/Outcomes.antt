@@ -2,6 +2,7 @@
 use Rattle.std.specs.Prelude.{◌≡◌, ◌≢◌, ℕ, zero, suc, ◌+◌, Bool, true, false, cond, not, ◌==◌, List, [], ◌∷◌, ◌++◌, length, map, min, ◌≤◌, Option, Some, None}
 use Rattle.std.proofs.Common.{inl, inr, refl, sym, ap, subst, ◌∙◌, arith}
 use Rattle.std.proofs.lemmas.Option.{none-some}
+use Rattle.std.proofs.lemmas.Bool.{eqb-true}
 use Rattle.link_timers.specs.declared.role.Role.{Role}
 use Rattle.link_timers.specs.declared.role.Role.TheVariants.{Dte, Dce}
 use Rattle.epochs.specs.Item.{DataPacket}
@@ -78,11 +79,11 @@ nth_more_taken [] (suc g) = refl
 nth_more_taken (e ∷ es) zero = refl
 nth_more_taken (e ∷ es) (suc g) = nth_more_taken es g
 
-nth_at : (es : List SentEpoch) (e : SentEpoch) → nth_sent (es ++ e ∷ []) (length es) ≡ passed_sent e
+pub nth_at : (es : List SentEpoch) (e : SentEpoch) → nth_sent (es ++ e ∷ []) (length es) ≡ passed_sent e
 nth_at [] e = refl
 nth_at (f ∷ es) e = nth_at es e
 
-nth_at_taken : (es : List TakenEpoch) (e : TakenEpoch) → nth_taken (es ++ e ∷ []) (length es) ≡ passed_taken e
+pub nth_at_taken : (es : List TakenEpoch) (e : TakenEpoch) → nth_taken (es ++ e ∷ []) (length es) ≡ passed_taken e
 nth_at_taken [] e = refl
 nth_at_taken (f ∷ es) e = nth_at_taken es e
 
@@ -143,7 +144,7 @@ pub record GrowsBy (f : Epoch → Epoch) (change : RecordValue → RecordValue) 
   pub closed : (r : RecordValue) → (change r).closed ≡ r.closed
   pub sent_before : (r : RecordValue) → (change r).sent_before ≡ r.sent_before
   pub taken_before : (r : RecordValue) → (change r).taken_before ≡ r.taken_before
-  pub sent : (r : RecordValue) (e : Epoch) → HasSent (passed_sent r.sent) (sent_of e) → HasSent (passed_sent (change r).sent) (sent_of (f e))
+  pub sent : (r : RecordValue) (e : Epoch) → e.covered ≤ length e.sent → HasSent (passed_sent r.sent) (sent_of e) → HasSent (passed_sent (change r).sent) (sent_of (f e))
   pub taken : (r : RecordValue) (e : Epoch) → e.released ≤ length e.taken → HasTaken (passed_taken r.taken) (taken_of e) → HasTaken (passed_taken (change r).taken) (taken_of (f e))
 
 grown_grows : (f : Epoch → Epoch) (change : RecordValue → RecordValue) → GrowsBy f change → (st : History) → HistoryGrows st (grown f st)
@@ -157,14 +158,14 @@ grown_grows f change q st = record {
   ];
 }
 
-grown_sent : (f : Epoch → Epoch) (change : RecordValue → RecordValue) → GrowsBy f change → (st : History) (r : RecordValue) → TellsIn st st r → HasEpochs r st.epoch → (g : ℕ) → HasSent (nth_sent (all_sent (change r)) g) (sent_of ((grown f st).epochs st.restart st.use_ g))
-grown_sent f change q st r t h g =
+grown_sent : (f : Epoch → Epoch) (change : RecordValue → RecordValue) → GrowsBy f change → (st : History) (r : RecordValue) → TellsIn st st r → HasEpochs r st.epoch → IsWithin st → (g : ℕ) → HasSent (nth_sent (all_sent (change r)) g) (sent_of ((grown f st).epochs st.restart st.use_ g))
+grown_sent f change q st r t h w g =
     elim (grown_cases f st st.restart st.use_ g) [
       | inl a ↦
           let at : g ≡ length r.sent_before = a.0.2 ∙ sym h.sent in
           let now : HasSent (passed_sent r.sent) (sent_of (st.epochs st.restart st.use_ g)) = own_sent _ _ _ (sym (nth_at r.sent_before r.sent) ∙ ap (λ (n : ℕ). nth_sent (all_sent r) n) (sym at)) (t.sent g) in
           own_sent (passed_sent (change r).sent) _ _ (ap (λ (l : List SentEpoch). nth_sent (l ++ (change r).sent ∷ []) g) (q.sent_before r) ∙ ap (λ (n : ℕ). nth_sent (r.sent_before ++ (change r).sent ∷ []) n) at ∙ nth_at r.sent_before (change r).sent)
-          (sent_as _ _ _ (ap sent_of a.1) (q.sent r (st.epochs st.restart st.use_ g) now))
+          (sent_as _ _ _ (ap sent_of a.1) (q.sent r (st.epochs st.restart st.use_ g) (w st.restart st.use_ g).1 now))
       | inr a ↦
           let other : g ≢ length r.sent_before = λ k. a.0 (refl, refl, k ∙ h.sent) in
           own_sent _ _ _ (ap (λ (l : List SentEpoch). nth_sent (l ++ (change r).sent ∷ []) g) (q.sent_before r) ∙ nth_else r.sent_before (change r).sent r.sent g other)
@@ -178,7 +179,7 @@ grown_taken f change q st r t h w g =
           let at : g ≡ length r.taken_before = a.0.2 ∙ sym h.taken in
           let now : HasTaken (passed_taken r.taken) (taken_of (st.epochs st.restart st.use_ g)) = own_taken _ _ _ (sym (nth_at_taken r.taken_before r.taken) ∙ ap (λ (n : ℕ). nth_taken (all_taken r) n) (sym at)) (t.taken g) in
           own_taken (passed_taken (change r).taken) _ _ (ap (λ (l : List TakenEpoch). nth_taken (l ++ (change r).taken ∷ []) g) (q.taken_before r) ∙ ap (λ (n : ℕ). nth_taken (r.taken_before ++ (change r).taken ∷ []) n) at ∙ nth_at_taken r.taken_before (change r).taken)
-          (taken_as _ _ _ (ap taken_of a.1) (q.taken r (st.epochs st.restart st.use_ g) (w st.restart st.use_ g) now))
+          (taken_as _ _ _ (ap taken_of a.1) (q.taken r (st.epochs st.restart st.use_ g) (w st.restart st.use_ g).0 now))
       | inr a ↦
           let other : g ≢ length r.taken_before = λ k. a.0 (refl, refl, k ∙ h.taken) in
           own_taken _ _ _ (ap (λ (l : List TakenEpoch). nth_taken (l ++ (change r).taken ∷ []) g) (q.taken_before r) ∙ nth_else_taken r.taken_before (change r).taken r.taken g other)
@@ -189,7 +190,7 @@ grown_record : (f : Epoch → Epoch) (change : RecordValue → RecordValue) → 
 grown_record f change q st r = record {
   head = q.head r;
   closed = q.closed r;
-  tells = λ t h w. record { sent = grown_sent f change q st r t h; taken = grown_taken f change q st r t h w };
+  tells = λ t h w. record { sent = grown_sent f change q st r t h w; taken = grown_taken f change q st r t h w };
   epochs = λ h. record { sent = ap length (q.sent_before r) ∙ h.sent; taken = ap length (q.taken_before r) ∙ h.taken };
 }
 
@@ -227,7 +228,13 @@ by_sending d = record {
   closed = λ r. refl;
   sent_before = λ r. refl;
   taken_before = λ r. refl;
-  sent = λ r e h. record { packets = ap (λ (l : List DataPacket). l ++ packet_of d ∷ []) h.packets ∙ sym (map_pushed e.sent d); interrupts = h.interrupts; count = h.count };
+  sent = λ r e w h. record {
+    packets = ap (λ (l : List DataPacket). l ++ packet_of d ∷ []) h.packets ∙ sym (map_pushed e.sent d);
+    interrupts = h.interrupts;
+    count = h.count;
+    least = none_more (length (map packet_of e.sent)) (length (map packet_of (e.sent ++ d ∷ []))) e.covered r.sent.covered
+        (subst (λ (n : ℕ). e.covered ≤ n) (sym (length-map e.sent packet_of)) w) h.least;
+  };
   taken = λ r e w h. h;
 }
 
@@ -239,7 +246,7 @@ by_interrupting octets = record {
   closed = λ r. refl;
   sent_before = λ r. refl;
   taken_before = λ r. refl;
-  sent = λ r e h. record { packets = h.packets; interrupts = ap (λ (l : List (List ℕ)). l ++ octets ∷ []) h.interrupts; count = h.count };
+  sent = λ r e w h. record { packets = h.packets; interrupts = ap (λ (l : List (List ℕ)). l ++ octets ∷ []) h.interrupts; count = h.count; least = h.least };
   taken = λ r e w h. h;
 }
 
@@ -251,7 +258,7 @@ by_taking d = record {
   closed = λ r. refl;
   sent_before = λ r. refl;
   taken_before = λ r. refl;
-  sent = λ r e h. h;
+  sent = λ r e w h. h;
   taken = λ r e w h. record {
     packets = ap (λ (l : List DataPacket). l ++ packet_of d ∷ []) h.packets ∙ sym (map_pushed e.taken d);
     interrupts = h.interrupts;
@@ -269,7 +276,7 @@ by_interrupt_taken octets = record {
   closed = λ r. refl;
   sent_before = λ r. refl;
   taken_before = λ r. refl;
-  sent = λ r e h. h;
+  sent = λ r e w h. h;
   taken = λ r e w h. record { packets = h.packets; interrupts = ap (λ (l : List (List ℕ)). l ++ octets ∷ []) h.interrupts; count = h.count; within = h.within };
 }
 
@@ -281,23 +288,30 @@ by_covering n = record {
   closed = λ r. refl;
   sent_before = λ r. refl;
   taken_before = λ r. refl;
-  sent = λ r e h. record {
+  sent = λ r e w h. record {
     packets = h.packets;
     interrupts = h.interrupts;
     count = let all = min-le_right (length r.sent.packets) (r.sent.covered + n) in let old = h.count in omega arith;
+    least = subst (λ (t : ℕ). min (length (map packet_of e.sent)) (e.covered + n) ≤ min t (r.sent.covered + n)) (ap (λ (l : List DataPacket). length l) (sym h.packets))
+        (both_more (length (map packet_of e.sent)) e.covered r.sent.covered n (subst (λ (t : ℕ). e.covered ≤ t) (sym (length-map e.sent packet_of)) w) h.least);
   };
   taken = λ r e w h. h;
 }
 
-by_covering_none : (n : ℕ) → GrowsBy (λ e. record e { covered = e.covered + n }) (λ r. r)
-by_covering_none n = record {
+by_covering_none : (n : ℕ) → n ≡ 0 → GrowsBy (λ e. record e { covered = e.covered + n }) (λ r. r)
+by_covering_none n none = record {
   called = λ e. refl;
   answered = λ e. refl;
   head = λ r. record { number = refl; node = refl; own = refl; far = refl };
   closed = λ r. refl;
   sent_before = λ r. refl;
   taken_before = λ r. refl;
-  sent = λ r e h. record { packets = h.packets; interrupts = h.interrupts; count = let old = h.count in omega arith };
+  sent = λ r e w h. record {
+    packets = h.packets;
+    interrupts = h.interrupts;
+    count = let old = h.count in omega arith;
+    least = let same : e.covered ≡ e.covered + n = omega arith in subst (λ (c : ℕ). min (length (map packet_of e.sent)) c ≤ r.sent.covered) same h.least;
+  };
   taken = λ r e w h. h;
 }
 
@@ -309,7 +323,7 @@ by_releasing true n = record {
   closed = λ r. refl;
   sent_before = λ r. refl;
   taken_before = λ r. refl;
-  sent = λ r e h. h;
+  sent = λ r e w h. h;
   taken = λ r e w h. record {
     packets = h.packets;
     interrupts = h.interrupts;
@@ -325,7 +339,7 @@ by_releasing false n = record {
   closed = λ r. refl;
   sent_before = λ r. refl;
   taken_before = λ r. refl;
-  sent = λ r e h. h;
+  sent = λ r e w h. h;
   taken = λ r e w h. record {
     packets = h.packets;
     interrupts = h.interrupts;
@@ -405,16 +419,16 @@ resets : (x : Role) (d : ℕ) (ch ch' : Channel) (write : Book → Book) (trace 
     → ((b : Book) (l : List (Option ℕ)) → trace b l ≡ l) → Outcome x d ch ch' (λ st. next_epoch_of st) write trace came
 resets x d ch ch' write trace came e f h j = goes with_epoch e f (λ st. opens_grows st (next_epoch_of st) (opens st)) (λ st r. opens_record st (next_epoch_of st) r (opens st)) h j
 
-got_keeps : (v : Bool) (x : Role) (d n : ℕ) (ch : Channel) (t : Traffic) (came : CallParts → Type 0) → status_of x ch.state ≡ Open
+got_keeps : (v : Bool) (x : Role) (d n : ℕ) (ch : Channel) (t : Traffic) (came : CallParts → Type 0) → status_of x ch.state ≡ Open → (v ≡ true → n ≡ 0)
     → Outcome x d ch (record ch { traffic = t }) (λ st. grown (λ e. logged_heard (Keeps n t) e) st) (λ b. all_told x (cond v [] (Covered d n ∷ [])) b) (λ b l. all_came_by x (cond v [] (Covered d n ∷ [])) b l) came
-got_keeps true x d n ch t came e = goes (λ r. r) e e (grown_grows (λ z. record z { covered = z.covered + n }) (λ r. r) (by_covering_none n)) (grown_record (λ z. record z { covered = z.covered + n }) (λ r. r) (by_covering_none n))
+got_keeps true x d n ch t came e z = goes (λ r. r) e e (grown_grows (λ z. record z { covered = z.covered + n }) (λ r. r) (by_covering_none n (z refl))) (grown_record (λ z. record z { covered = z.covered + n }) (λ r. r) (by_covering_none n (z refl)))
     (λ b. unchanged (slot_at x d b).present b) (λ b l. refl)
-got_keeps false x d n ch t came e = goes (λ r. with_covered n r) e e (grown_grows (λ z. record z { covered = z.covered + n }) (λ r. with_covered n r) (by_covering n)) (grown_record (λ z. record z { covered = z.covered + n }) (λ r. with_covered n r) (by_covering n))
+got_keeps false x d n ch t came e z = goes (λ r. with_covered n r) e e (grown_grows (λ z. record z { covered = z.covered + n }) (λ r. with_covered n r) (by_covering n)) (grown_record (λ z. record z { covered = z.covered + n }) (λ r. with_covered n r) (by_covering n))
     (λ b. refl) (λ b l. refl)
 
 got_heard : (x : Role) (d : ℕ) (ch : Channel) (came : CallParts → Type 0) → status_of x ch.state ≡ Open → (h : Heard)
     → Outcome x d ch (after_heard x d ch h).channel (λ st. opened (after_heard x d ch h).owes (heard_history Transfer false h st)) (λ b. all_told x (after_heard x d ch h).notes b) (λ b l. all_came_by x (after_heard x d ch h).notes b l) came
-got_heard x d ch came e (Keeps n t) = got_keeps (n == 0) x d n ch t came e
+got_heard x d ch came e (Keeps n t) = got_keeps (n == 0) x d n ch t came e (λ h. eqb-true n 0 h)
 got_heard x d ch came e (Confirms t) = stays refl (grown_same (λ z. z) (λ z. refl)) (λ b. refl) (λ b l. refl)
 got_heard x d ch came e (Wrong diagnostic) = resets x d ch (record ch { resetting = true; traffic = Rattle.packet_layer.specs.Traffic.fresh }) (λ b. all_told x (after_heard x d ch (Wrong diagnostic)).notes b) (λ b l. all_came_by x (after_heard x d ch (Wrong diagnostic)).notes b l) came e e (λ b. refl) (λ b l. refl)
 

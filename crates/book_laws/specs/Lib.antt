@@ -1,2 +1,5 @@
 pub mod Told
 pub mod Headline
+pub mod Open
+pub mod Rest
+pub mod Delivery

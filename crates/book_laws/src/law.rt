@@ -1,4 +1,6 @@
 ghost use Rattle.book_laws.specs.Headline.{BookLaw, RecordsLaw, PresentLaw, AnsweredLaw, CallsLaw};
+ghost use Rattle.book_laws.specs.Delivery.{DeliveryLaw};
+ghost use Rattle.book_laws.specs.Open.{OpenLaw};
 
 /// The law of the book of a line, over the definitions alone: whatever is called at the two ends of a line whose
 /// sessions come in rising order, the epochs that one end of a pair took match those that the other end sent, both
@@ -18,4 +20,14 @@ pub fn book_law()
 
     // Each call that came in holds as a pair does, accepted or not, and a call that was placed comes in once at most.
     ensures calls { CallsLaw }
+
+    // The last epochs of a present record are the present one of its channel. Two open records of a pair are present on
+    // one channel, one at each end.
+    ensures epochs { OpenLaw }
+{}
+
+/// Where each packet of an epoch that was sent with D = 1 is covered, what is confirmed of the epoch is all of it up to
+/// the last such packet.
+pub fn delivery_law()
+    ensures { DeliveryLaw }
 {}

@@ -10,3 +10,6 @@ mod Rows
 pub mod DueCounts
 pub mod DueEnds
 pub mod Hosting
+pub mod Missing
+pub mod Confirming
+pub mod Relinking

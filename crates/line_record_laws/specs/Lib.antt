@@ -4,3 +4,5 @@ pub mod Happens
 pub mod Hosts
 pub mod Opening
 pub mod Due
+pub mod Rest
+pub mod Confirmed

@@ -4,6 +4,8 @@
 ghost use Rattle.line_record_laws.specs.Clauses.{MadeLaw, TellsLaw, SilentLaw, RestartLaw, CallLaw, RequestLaw};
 ghost use Rattle.line_record_laws.specs.Clauses.{LossLaw, EditLaw, LikeLaw, HoldsLaw, PresentLaw, TransferLaw};
 ghost use Rattle.line_record_laws.specs.Clauses.{AskedLaw, FrontLaw, ChannelsLaw, ClosingLaw};
+ghost use Rattle.line_record_laws.specs.Rest.{RestLaw, SettledLaw};
+ghost use Rattle.line_record_laws.specs.Confirmed.{ConfirmedLaw};
 ghost use Rattle.line_record_laws.specs.Happens.{FrameLaw, ExpiryLaw, RelinkLaw, RestartedLaw, CalledLaw, RequestedLaw};
 ghost use Rattle.line_record_laws.specs.Hosts.{HostExpiryLaw, HostCallLaw, HostRequestLaw, HostSayLaw, HostRefuseLaw};
 ghost use Rattle.line_record_laws.specs.Hosts.{HostTakeLaw};
@@ -37,6 +39,13 @@ pub fn line_record_law()
     ensures front { FrontLaw }
     ensures channels { ChannelsLaw }
     ensures closing { ClosingLaw }
+
+    // Where both ends are at rest, nothing is missing in it; and an end asks for no relink after an event.
+    ensures rest { RestLaw }
+    ensures settled { SettledLaw }
+
+    // Where an end says that delivery is confirmed, each packet with D = 1 of the last epoch is covered.
+    ensures confirmed { ConfirmedLaw }
 {}
 
 /// The same of whole events of a node: what comes to it or is asked at it, its end, and its frames, which go onto the

@@ -6,4 +6,5 @@ pub mod Pipes
 pub mod Asking
 pub mod Saying
 pub mod Hearing
+pub mod Delivery
 pub mod Levels

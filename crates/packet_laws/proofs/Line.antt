@@ -15,3 +15,4 @@ pub mod Using
 pub mod Answering
 pub mod Consequences
 pub mod LineHolds
+pub mod Counted

@@ -1,4 +1,5 @@
 ghost use Rattle.packet_laws.specs.Counts.{CountsLaw};
+ghost use Rattle.packet_laws.specs.Counted.{LineCountsLaw};
 ghost use Rattle.packet_laws.specs.Law.{LineLaw};
 ghost use Rattle.packet_laws.specs.Owed.{OwedLaw};
 
@@ -23,4 +24,11 @@ pub fn counts_law()
 /// fifth owed packet is for strangers.
 pub fn owed_law()
     ensures { OwedLaw }
+{}
+
+/// On a line the numbers of each channel in data transfer name the counts of the present epochs of which `line_law`
+/// speaks, at both its ends: so nothing is still to be covered exactly where all packets of the present epoch that have
+/// D = 1 are covered (X.25 4.3.3, 4.4.1).
+pub fn line_counts_law()
+    ensures { LineCountsLaw }
 {}

@@ -3,4 +3,4 @@
 
 mod law;
 
-pub use law::{counts_law, line_law, owed_law};
+pub use law::{counts_law, line_counts_law, line_law, owed_law};

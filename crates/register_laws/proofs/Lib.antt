@@ -5,4 +5,5 @@ pub mod Seeing
 pub mod Making
 pub mod Promising
 pub mod Having
+pub mod Missing
 mod Rows

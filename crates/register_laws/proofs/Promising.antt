@@ -18,7 +18,7 @@ use Rattle.register_laws.proofs.Steps.{same_place}
 use Rattle.register_laws.proofs.Seeing.{OfLine, of_line, line_within}
 
 -- a pair of the register is the one of this line's book at a place there
-record PairOf (owners pair_owners : List ℕ) (j : ℕ) (b : Book) (m : ℕ) (q : PairValue) : Type 0 where
+pub record PairOf (owners pair_owners : List ℕ) (j : ℕ) (b : Book) (m : ℕ) (q : PairValue) : Type 0 where
   pub place : ℕ
   pub numbered : slice_get (positions j pair_owners) place ≡ Some m
   pub own : PairValue
@@ -26,7 +26,7 @@ record PairOf (owners pair_owners : List ℕ) (j : ℕ) (b : Book) (m : ℕ) (q 
   pub caller : slice_get (positions j owners) own.caller ≡ Some q.caller
   pub callee : slice_get (positions j owners) own.callee ≡ Some q.callee
 
-record PairOfLine (books : List Book) (owners pair_owners : List ℕ) (m : ℕ) (q : PairValue) : Type 0 where
+pub record PairOfLine (books : List Book) (owners pair_owners : List ℕ) (m : ℕ) (q : PairValue) : Type 0 where
   pub j : ℕ
   pub book : Book
   pub there : slice_get books j ≡ Some book
@@ -38,8 +38,8 @@ record OwnNumber (numbers : List ℕ) (p : PairValue) (number : ℕ) : Type 0 wh
   pub numbered : slice_get numbers own ≡ Some number
   pub in_pair : IsIn p own
 
-module _ (g : Register) (books : List Book) (w : Seen g books) (holds : (j : ℕ) (b : Book) → slice_get books j ≡ Some b → BookHolds b) where
-  pair_of : (m : ℕ) (q : PairValue) → slice_get g.pairs m ≡ Some q → PairOfLine books w.owners w.pair_owners m q
+module _ (g : Register) (books : List Book) (w : Seen g books) where
+  pub pair_of : (m : ℕ) (q : PairValue) → slice_get g.pairs m ≡ Some q → PairOfLine books w.owners w.pair_owners m q
   pair_of m q at =
       let less : m < length w.pair_owners = subst (λ (k : ℕ). m < k) (sym w.pairs_owned) (slice_get_within g.pairs m q at) in
       let owner = get_there w.pair_owners m less in
@@ -72,9 +72,10 @@ module _ (g : Register) (books : List Book) (w : Seen g books) (holds : (j : ℕ
   ends_there j b at m n (inl h) = inl (h.0 ∙ sym ((w.line j b at).sides Dte).node, h.1 ∙ sym ((w.line j b at).sides Dce).node)
   ends_there j b at m n (inr h) = inr (h.0 ∙ sym ((w.line j b at).sides Dce).node, h.1 ∙ sym ((w.line j b at).sides Dte).node)
 
+module _ (g : Register) (books : List Book) (w : Seen g books) (holds : (j : ℕ) (b : Book) → slice_get books j ≡ Some b → BookHolds b) where
   pair_holds : (m : ℕ) (q : PairValue) → slice_get g.pairs m ≡ Some q → PairHolds g q
   pair_holds m q at =
-      let o : PairOfLine books w.owners w.pair_owners m q = pair_of m q at in
+      let o : PairOfLine books w.owners w.pair_owners m q = pair_of g books w m q at in
       let all : BookHolds o.book = holds o.j o.book o.there in
       let h : line.PairHolds o.book o.pair.own = all.pairs_hold o.pair.place o.pair.own o.pair.own_there in
       let caller_number : h.caller.number ≡ o.pair.own.caller = all.numbers o.pair.own.caller h.caller h.caller_there in
@@ -85,8 +86,8 @@ module _ (g : Register) (books : List Book) (w : Seen g books) (holds : (j : ℕ
       record {
         caller = renumbered q.caller h.caller;
         callee = renumbered q.callee h.callee;
-        caller_there = record_there o.j o.book o.there o.pair.own.caller q.caller h.caller o.pair.caller h.caller_there;
-        callee_there = record_there o.j o.book o.there o.pair.own.callee q.callee h.callee o.pair.callee h.callee_there;
+        caller_there = record_there g books w o.j o.book o.there o.pair.own.caller q.caller h.caller o.pair.caller h.caller_there;
+        callee_there = record_there g books w o.j o.book o.there o.pair.own.callee q.callee h.callee o.pair.callee h.callee_there;
         matches = record {
           onward_aligned = h.matches.onward_aligned;
           backward_aligned = h.matches.backward_aligned;
@@ -100,7 +101,7 @@ module _ (g : Register) (books : List Book) (w : Seen g books) (holds : (j : ℕ
           line = o.j;
           line_ends = ends.0;
           line_there = ends.1;
-          ends = ends_there o.j o.book o.there h.caller.node h.callee.node h.is_right.ends;
+          ends = ends_there g books w o.j o.book o.there h.caller.node h.callee.node h.is_right.ends;
           own = h.is_right.address;
           far = h.is_right.calling;
         };
@@ -156,8 +157,8 @@ module _ (g : Register) (books : List Book) (w : Seen g books) (holds : (j : ℕ
 
   in_one : (m n : ℕ) (p q : PairValue) (number : ℕ) → slice_get g.pairs m ≡ Some p → slice_get g.pairs n ≡ Some q → IsIn p number → IsIn q number → m ≡ n
   in_one m n p q number at there x y =
-      let a : PairOfLine books w.owners w.pair_owners m p = pair_of m p at in
-      let c : PairOfLine books w.owners w.pair_owners n q = pair_of n q there in
+      let a : PairOfLine books w.owners w.pair_owners m p = pair_of g books w m p at in
+      let c : PairOfLine books w.owners w.pair_owners n q = pair_of g books w n q there in
       let u : OwnNumber (positions a.j w.owners) a.pair.own number = own_number a.j a.book m p number a.pair x in
       let v : OwnNumber (positions c.j w.owners) c.pair.own number = own_number c.j c.book n q number c.pair y in
       let line_same : c.j ≡ a.j = same_Some c.j a.j (sym (is_place c.j w.owners v.own number v.numbered) ∙ is_place a.j w.owners u.own number u.numbered) in

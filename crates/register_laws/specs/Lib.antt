@@ -1,3 +1,4 @@
 pub mod Seen
 pub mod Promise
 pub mod Law
+pub mod Rest

@@ -3,6 +3,7 @@
 
 ghost use Rattle.register_laws.specs.Law.{MadeLaw, WriteLaw, InTurnLaw, PromiseLaw, PresentLaw, OwnedLaw, NodeLaw};
 ghost use Rattle.register_laws.specs.Law.{CameLaw, PairedLaw, CalleeLaw, RecordsLaw};
+ghost use Rattle.register_laws.specs.Rest.{RestLaw};
 
 /// The law of the register of a network of many lines, over definitions alone: from the making on, and whatever is
 /// written at its lines, it has the records, pairs and channels of each line's book, numbered over the whole network.
@@ -28,4 +29,7 @@ pub fn register_law()
     ensures came { CameLaw }
     ensures paired { PairedLaw }
     ensures callee { CalleeLaw }
+
+    // Where nothing is missing in the books of the lines, nothing is missing in the register.
+    ensures rest { RestLaw }
 {}

@@ -1,4 +1,7 @@
 use Rattle.line_record_laws.proofs.Keeping.{made_kept, tells_kept, silent_kept, restart_kept, call_kept, request_kept, loss_kept, edit_kept, like_kept, holds_kept, present_kept, transfer_kept, asked_kept, front_kept, channels_kept, closing_kept}
+use Rattle.line_record_laws.proofs.Missing.{rest_kept}
+use Rattle.line_record_laws.proofs.Relinking.{finished_asks}
+use Rattle.line_record_laws.proofs.Confirming.{confirmed_kept}
 use Rattle.line_record_laws.proofs.line_record_law.Goals as goal
 
 pub returns : goal.returns
@@ -19,4 +22,7 @@ returns c = record {
   front = front_kept;
   channels = channels_kept;
   closing = closing_kept;
+  rest = rest_kept;
+  settled = finished_asks;
+  confirmed = confirmed_kept;
 }

@@ -15,10 +15,9 @@ use Rattle.packet_laws.proofs.Call.SetUp.{Stage, Use, Sort, sort, unused, places
 use Rattle.packet_laws.proofs.Call.SetUp.Stage.{Free, Placed, Collided, Open}
 use Rattle.packet_laws.proofs.Call.SetUp.Sort.{Calling, Accepting, Flowing}
 use Rattle.packet_laws.proofs.Call.SettingUp.{Acceptable, setup_places, setup_accepts, setup_acts, setup_hears, setup_turned}
-use Rattle.packet_laws.proofs.Call.OneEpoch.{Inner, begun_epoch, inner_hears, inner_ok, inner_says, inner_after, Askable, Epochs_agree}
-use Rattle.packet_laws.proofs.Call.Asking.{asking}
-use Rattle.packet_laws.proofs.Call.Saying.{by_cond, saying}
-use Rattle.packet_laws.proofs.Call.Hearing.{hearing}
+use Rattle.packet_laws.proofs.Call.OneEpoch.{Inner, begun_epoch, inner_hears, inner_ok, inner_says, inner_after, Askable}
+use Rattle.packet_laws.proofs.Call.Saying.{by_cond}
+use Rattle.packet_laws.proofs.Call.Delivery.{Agree, asks, says_on, hears_on, agree_turned}
 
 abbrev pub restart_kind : Body → Kind
 restart_kind (Restart c d) = Request
@@ -88,7 +87,7 @@ whole_ok window role n b = side_ok (λ s t. uses_ok window role s t) (restart_ki
 -- ---- what holds
 
 abbrev pub GoodEpochs : ℕ → Two Epochs → Type 0
-GoodEpochs window v = Inv reset_kind Inner begun_epoch (λ u. Epochs_agree window u) v
+GoodEpochs window v = Inv reset_kind Inner begun_epoch (λ u. Agree window u) v
 
 abbrev pub GoodCall : ℕ → Role → Two CallUse → Type 0
 GoodCall window role v = UseInv Epochs first_epoch (λ u. GoodEpochs window u) role v
@@ -131,7 +130,7 @@ uses_say P none one two window role s b = side_says P ClearConfirmation first_ca
 -- ---- a packet is heard
 
 epochs_heard : (window : ℕ) (v : Two Epochs) (t : Body) (ts : List Body) → GoodEpochs window (record v { back = t ∷ ts }) → epochs_ok window v.me t × GoodEpochs window (does (record v { back = ts }) (epochs_hear window v.me t))
-epochs_heard window v t ts i = keeps_hears reset_kind Inner begun_epoch (λ u. Epochs_agree window u) ResetConfirmation refl (λ i t. inner_hears window i t) (λ i t. inner_ok window i t) (λ e b. tt) (λ u b bs g. hearing window u b bs g) v t ts i
+epochs_heard window v t ts i = keeps_hears reset_kind Inner begun_epoch (λ u. Agree window u) ResetConfirmation refl (λ i t. inner_hears window i t) (λ i t. inner_ok window i t) (λ e b. tt) (λ u b bs g. hears_on window u b bs g) v t ts i
 
 call_heard : (window : ℕ) (role : Role) (v : Two CallUse) (t : Body) (ts : List Body) → GoodCall window role (record v { back = t ∷ ts }) → call_ok window role v.me t × GoodCall window role (does (record v { back = ts }) (call_hears window role v.me t))
 call_heard window role v t ts i = setup_hears Epochs first_epoch (λ u. GoodEpochs window u) role (λ e t. epochs_hear window e t) (λ e t. epochs_ok window e t) (λ e b. epochs_say (λ o. SaysFlow o) tt refl window e b) (λ u b bs g. epochs_heard window u b bs g) v t ts i
@@ -184,8 +183,8 @@ asked_inner r i = record { end_ = inner_after r i; says = None }
 pub whole_asked : (window : ℕ) (role : Role) (m : Bool) (r : channel.Request) (w : Two Whole) → w.me.now.now.stage ≡ Open m → Askable r w.me.now.now.call.now → GoodWhole window role w → GoodWhole window role (does w (in_the_epoch (asked_inner r w.me.now.now.call.now) w.me))
 whole_asked window role m r w stage a i =
     whole_in_call window role m w (acted (asked_inner r w.me.now.now.call.now) w.me.now.now.call) stage tt tt tt
-    (λ z o l g. keeps_acts reset_kind Inner begun_epoch (λ u. Epochs_agree window u) (record { me = w.me.now.now.call; you = z; out = o; back = l }) (asked_inner r w.me.now.now.call.now) tt
-    (λ y p q h. asking window r w.me.now.now.call.now y p q a h) g) i
+    (λ z o l g. keeps_acts reset_kind Inner begun_epoch (λ u. Agree window u) (record { me = w.me.now.now.call; you = z; out = o; back = l }) (asked_inner r w.me.now.now.call.now) tt
+    (λ y p q h. asks window r w.me.now.now.call.now y p q a h) g) i
 
 -- what traffic says
 abbrev pub IsTraffic : Option Body → Type 0
@@ -244,8 +243,8 @@ whole_says window role m w stage i =
     let e : Inner = w.me.now.now.call.now in
     let is : IsTraffic (inner_says window e).says = traffic_is window e.traffic in
     whole_in_call window role m w (acted (inner_says window e) w.me.now.now.call) stage (traffic_flow (inner_says window e).says is) (traffic_clear (inner_says window e).says is) (traffic_restart (inner_says window e).says is)
-    (λ z o l g. keeps_acts reset_kind Inner begun_epoch (λ u. Epochs_agree window u) (record { me = w.me.now.now.call; you = z; out = o; back = l }) (inner_says window e) (traffic_reset (inner_says window e).says is)
-    (λ y p q h. saying window e y p q h) g) i
+    (λ z o l g. keeps_acts reset_kind Inner begun_epoch (λ u. Agree window u) (record { me = w.me.now.now.call; you = z; out = o; back = l }) (inner_says window e) (traffic_reset (inner_says window e).says is)
+    (λ y p q h. says_on window e y p q h) g) i
 
 -- a reset, a clear
 abbrev pub begins_reset : ℕ → ℕ → Epochs → Did Epochs
@@ -257,8 +256,8 @@ open_end kind I start Good x y o l i = subst (λ (p : List Body). Inv kind I sta
 pub whole_resets : (window : ℕ) (role : Role) (m : Bool) (cause diagnostic : ℕ) (w : Two Whole) → w.me.now.now.stage ≡ Open m → w.me.now.now.call.own ≡ false → GoodWhole window role w → GoodWhole window role (does w (in_the_call (begins_reset cause diagnostic w.me.now.now.call) w.me))
 whole_resets window role m cause diagnostic w stage ready i =
     whole_in_call window role m w (begins_reset cause diagnostic w.me.now.now.call) stage refl refl refl
-    (λ z o l g. keeps_begins reset_kind Inner begun_epoch (λ u. Epochs_agree window u) (Reset cause diagnostic) refl w.me.now.now.call z o [] l tt ready
-    (open_end reset_kind Inner begun_epoch (λ u. Epochs_agree window u) w.me.now.now.call z o l g)) i
+    (λ z o l g. keeps_begins reset_kind Inner begun_epoch (λ u. Agree window u) (Reset cause diagnostic) refl w.me.now.now.call z o [] l tt ready
+    (open_end reset_kind Inner begun_epoch (λ u. Agree window u) w.me.now.now.call z o l g)) i
 
 abbrev pub begins_clear : ℕ → ℕ → Uses → Did Uses
 begins_clear cause diagnostic s = record { end_ = advanced first_call true s; says = Some (Clear cause diagnostic) }
@@ -286,7 +285,7 @@ whole_learns window role cause diagnostic x y keep cut ts pay ready i = keeps_le
 -- ---- both ends look at it alike
 
 epochs_turned : (window : ℕ) (v : Two Epochs) → GoodEpochs window v → GoodEpochs window (turned_two v)
-epochs_turned window v i = keeps_turned reset_kind Inner begun_epoch (λ u. Epochs_agree window u) (λ u. Epochs_agree window u) (λ u a. record { small = a.small; forth = a.back; back = a.forth }) v i
+epochs_turned window v i = keeps_turned reset_kind Inner begun_epoch (λ u. Agree window u) (λ u. Agree window u) (λ u a. agree_turned window u.me u.you u.out u.back a) v i
 
 call_turned : (window : ℕ) (role : Role) (v : Two CallUse) → GoodCall window role v → GoodCall window (other_of role) (turned_two v)
 call_turned window role v i = setup_turned Epochs first_epoch (λ u. GoodEpochs window u) (λ u. GoodEpochs window u) (λ u g. epochs_turned window u g) role v i

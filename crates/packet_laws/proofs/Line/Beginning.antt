@@ -11,6 +11,7 @@ use Rattle.packet_laws.specs.Line.{start_end, start_line, start_history, no_part
 use Rattle.packet_laws.proofs.Handshakes.Handshake.{Two, at, started}
 use Rattle.packet_laws.proofs.Call.SetUp.Stage.{Open}
 use Rattle.packet_laws.proofs.Call.OneEpoch.{Inner, begun_epoch, Epochs_agree}
+use Rattle.packet_laws.proofs.Call.Delivery.{Agree}
 use Rattle.packet_laws.proofs.Call.Levels.{Epochs, CallUse, Uses, Whole, first_epoch, first_call, first_use, begun_whole, GoodEpochs, GoodCall, GoodUses, GoodWhole}
 use Rattle.packet_laws.proofs.Line.Stored.{stored, shown, epoch_in, HistoryTie, mark, look, marked}
 use Rattle.packet_laws.proofs.Line.Lines.{There, EndTie, Tied}
@@ -32,6 +33,9 @@ epochs_begin window small = record {
   };
 }
 
+agree_begin : (window : ℕ) → window ≤ 7 → Agree window (record { me = begun_epoch; you = begun_epoch; out = []; back = [] })
+agree_begin window small = record { ways = epochs_begin window small; mine = refl; yours = refl }
+
 -- the ends of one number, picked by a test
 picked : (I : Type 0) (Good : Two I → Type 0) (b : Bool) (x y x' y' : I) → Good (record { me = x; you = y; out = []; back = [] }) → Good (record { me = x'; you = y'; out = []; back = [] })
     → Good (record { me = cond b x x'; you = cond b y y'; out = []; back = [] })
@@ -45,7 +49,7 @@ call_first : (window : ℕ) → window ≤ 7 → GoodEpochs window (record { me 
 call_first window small = record {
   fore = record { walk = (refl, refl); within = λ k. zero_le_zero; later = λ k lt. (refl, refl, refl) };
   aft = record { walk = (refl, refl); within = λ k. zero_le_zero; later = λ k lt. (refl, refl, refl) };
-  inners = λ k. picked Inner (λ u. Epochs_agree window u) (k == 0) begun_epoch begun_epoch begun_epoch begun_epoch (epochs_begin window small) (epochs_begin window small);
+  inners = λ k. picked Inner (λ u. Agree window u) (k == 0) begun_epoch begun_epoch begun_epoch begun_epoch (agree_begin window small) (agree_begin window small);
 }
 
 free_first : (window : ℕ) (role : Role) → window ≤ 7 → GoodCall window role (record { me = first_call; you = first_call; out = []; back = [] })

@@ -38,7 +38,7 @@ epoch_agrees : (window : ℕ) (role : Role) (x y : Whole) (o b : List Body) (r u
     → Aligned (epoch_in x r u g) (epoch_in y r u g) × Aligned (epoch_in y r u g) (epoch_in x r u g)
 epoch_agrees window role x y o b r u g i =
     let e = (((i.inners r).inners u).call).inners g in
-    (way_aligned window _ _ _ _ _ _ e.forth, way_aligned window _ _ _ _ _ _ e.back)
+    (way_aligned window _ _ _ _ _ _ e.ways.forth, way_aligned window _ _ _ _ _ _ e.ways.back)
 
 retold : (x y : Whole) (st zt : History) → HistoryTie x st → HistoryTie y zt → (r u g : ℕ) → Aligned (epoch_in x r u g) (epoch_in y r u g) → Aligned (st.epochs r u g) (zt.epochs r u g)
 retold x y st zt p q r u g a =

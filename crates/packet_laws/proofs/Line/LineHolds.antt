@@ -41,7 +41,7 @@ one_tied window role (There e) w s c t =
     subst (λ (r : Role). Tied window r (turned (happens e (turned w))) s c) (twice role)
     (turned_tied window (other_of role) (happens e (turned w)) s c (happens_tied window (other_of role) e (turned w) s c (turned_tied window role w s c t)))
 
-all_tied : (window : ℕ) (role : Role) (hs : List Happening) (w : Line) (s c : ℕ) → Tied window role w s c → Tied window role (after hs w) s c
+pub all_tied : (window : ℕ) (role : Role) (hs : List Happening) (w : Line) (s c : ℕ) → Tied window role w s c → Tied window role (after hs w) s c
 all_tied window role [] w s c t = t
 all_tied window role (h ∷ hs) w s c t = all_tied window role hs (after_one h w) s c (one_tied window role h w s c t)
 

@@ -12,7 +12,8 @@ use Rattle.packet_laws.specs.Law.{Quiet, Together, AtRest, NothingMissing, epoch
 use Rattle.packet_laws.proofs.Handshakes.Handshake.{Kind, Side, Two, at, Meets, Inv}
 use Rattle.packet_laws.proofs.Call.SetUp.{Stage, Pair, Idle}
 use Rattle.packet_laws.proofs.Call.SetUp.Stage.{Free, Placed, Waiting, Collided, Open}
-use Rattle.packet_laws.proofs.Call.OneEpoch.{Inner, begun_epoch, Way, Epochs_agree}
+use Rattle.packet_laws.proofs.Call.OneEpoch.{Inner, begun_epoch, Way}
+use Rattle.packet_laws.proofs.Call.Delivery.{Agree}
 use Rattle.packet_laws.proofs.Call.Levels.{restart_kind, clear_kind, reset_kind, Epochs, CallUse, Uses, Whole, first_epoch, first_call, first_use, GoodCall, GoodUses, GoodWhole}
 use Rattle.packet_laws.proofs.Line.Stored.{Stored, stored, stored_call, stored_uses, stored_whole, phase_of, shown, HistoryTie, Mark, mark, look, marked}
 use Rattle.packet_laws.proofs.Line.Lines.{on_c, Tied}
@@ -95,7 +96,7 @@ call_resetting (Open m) e h = h
 stored_is : (x : Whole) → x.own ≡ false → x.now.own ≡ false → stored x ≡ stored_call x.now.now.stage x.now.now.call
 stored_is x e f = ap (λ (b : Bool). stored_whole b x.now) e ∙ ap (λ (b : Bool). stored_uses b x.now.now) f
 
-epoch_is : (x : Whole) (st : History) → HistoryTie x st → epoch_now st ≡ marked (mark x.now.now) x.now.now.call.now.epoch
+pub epoch_is : (x : Whole) (st : History) → HistoryTie x st → epoch_now st ≡ marked (mark x.now.now) x.now.now.call.now.epoch
 epoch_is x st t =
     t.epochs_are st.restart st.use_ st.epoch
     ∙ ap (λ (s : Uses). look (at s st.use_) st.epoch) (at_number x st.restart t.restart_is)
@@ -131,7 +132,7 @@ tied_rests window role w s c t a b q =
     let top = side_rest restart_kind Uses first_use (λ u. GoodUses window role u) x y g in
     let uses = side_rest clear_kind CallUse first_call (λ u. GoodCall window role u) x.now y.now top.inside in
     let call = uses.inside in
-    let ep = side_rest reset_kind Inner begun_epoch (λ u. Epochs_agree window u) x.now.now.call y.now.now.call call.call in
+    let ep = side_rest reset_kind Inner begun_epoch (λ u. Agree window u) x.now.now.call y.now.now.call call.call in
     let fx = stored_is x top.mine uses.mine in
     let fy = stored_is y top.yours uses.yours in
     let ax : a.traffic ≡ x.now.now.call.now.traffic = ap (λ (ch : Channel). ch.traffic) a_is ∙ ap (λ (f : Stored). f.traffic) fx ∙ call_traffic x.now.now.stage x.now.now.call call.idle_me in
@@ -149,6 +150,6 @@ tied_rests window role w s c t a b q =
       same_restart = t.mine.history.restart_is ∙ top.numbers ∙ sym t.yours.history.restart_is;
       same_use = t.mine.history.use_is ∙ uses.numbers ∙ sym t.yours.history.use_is;
       same_epoch = t.mine.history.epoch_is ∙ ep.numbers ∙ sym t.yours.history.epoch_is;
-      forth = nothing_missing window x.now.now.call.now y.now.now.call.now (mark x.now.now) (mark y.now.now) a b _ _ ep.inside.forth ax by ex ey;
-      back = nothing_missing window y.now.now.call.now x.now.now.call.now (mark y.now.now) (mark x.now.now) b a _ _ ep.inside.back by ax ey ex;
+      forth = nothing_missing window x.now.now.call.now y.now.now.call.now (mark x.now.now) (mark y.now.now) a b _ _ ep.inside.ways.forth ax by ex ey;
+      back = nothing_missing window y.now.now.call.now x.now.now.call.now (mark y.now.now) (mark x.now.now) b a _ _ ep.inside.ways.back by ax ey ex;
     }

@@ -12,7 +12,8 @@ use Rattle.packet_laws.proofs.Handshakes.Handshake.Kind.{Payload, Request, Confi
 use Rattle.packet_laws.proofs.Call.SetUp.{Stage, Sort, sort, Pair, Passes, Path, Idle, flows}
 use Rattle.packet_laws.proofs.Call.SetUp.Stage.{Free, Placed, Waiting, Collided, Open}
 use Rattle.packet_laws.proofs.Call.SetUp.Sort.{Calling, Accepting, Flowing}
-use Rattle.packet_laws.proofs.Call.OneEpoch.{one, Inner, begun_epoch, Epochs_agree}
+use Rattle.packet_laws.proofs.Call.OneEpoch.{one, Inner, begun_epoch}
+use Rattle.packet_laws.proofs.Call.Delivery.{Agree}
 use Rattle.packet_laws.proofs.Call.Levels.{restart_kind, clear_kind, reset_kind, Epochs, CallUse, Uses, Whole, first_epoch, first_call, first_use, GoodCall, GoodUses, GoodWhole, whole_ok, whole_heard}
 use Rattle.packet_laws.proofs.Line.Stored.{stored, Settled, SettledUses, settled_uses}
 use Rattle.packet_laws.proofs.Line.Agreement.{in_state}
@@ -120,7 +121,7 @@ NoReset rs o = (has_accepted o ≡ false) × (resets o ≤ one rs)
 call_resets : (window : ℕ) (role : Role) (u v : CallUse) (m : Bool) (keep owed : List Body) (b : Body) → GoodCall window role (record { me = u; you = v; out = keep ++ owed; back = b ∷ [] }) → sort b ≡ Flowing
     → handshake_count reset_kind (keep ++ owed) + counted (reset_kind b) ≡ one u.call.own + one v.call.own
 call_resets window role u v m keep owed b g flow =
-    let count = on_the_way reset_kind Inner begun_epoch (λ w. Epochs_agree window w) (record { me = u.call; you = v.call; out = flows (keep ++ owed); back = flows (b ∷ []) }) g.call in
+    let count = on_the_way reset_kind Inner begun_epoch (λ w. Agree window w) (record { me = u.call; you = v.call; out = flows (keep ++ owed); back = flows (b ∷ []) }) g.call in
     let out = flow_resets (keep ++ owed) in
     let back = flow_resets (b ∷ []) in
     omega arith

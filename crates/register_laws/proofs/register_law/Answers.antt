@@ -2,6 +2,7 @@ use Rattle.register_laws.proofs.Making.{made_seen}
 use Rattle.register_laws.proofs.Seeing.{writes_seen, in_turn, present_seen, came_seen, owned}
 use Rattle.register_laws.proofs.Promising.{promised, of_one_line, paired_seen}
 use Rattle.register_laws.proofs.Having.{records_seen, callee_seen}
+use Rattle.register_laws.proofs.Missing.{rest_seen}
 use Rattle.register_laws.proofs.register_law.Goals as goal
 
 pub returns : goal.returns
@@ -17,4 +18,5 @@ returns c = record {
   came = came_seen;
   paired = paired_seen;
   callee = callee_seen;
+  rest = rest_seen;
 }

@@ -1,0 +1,11 @@
+-- Where nothing is missing in the books of a network's lines, nothing is missing in its register.
+use Rattle.std.specs.Prelude.{◌≡◌, ℕ, List, slice_get, Some}
+use Rattle.call_records.specs.Book.{Book}
+use Rattle.call_records.specs.Register.{Register}
+use Rattle.book_laws.specs.Rest.{NothingMissing}
+use Rattle.register_laws.specs.Seen.{Seen}
+
+abbrev pub RestLaw : Type 0
+RestLaw = (g : Register) (books : List Book) → Seen g books
+    → ((line : ℕ) (b : Book) → slice_get books line ≡ Some b → NothingMissing b.records b.pairs)
+    → NothingMissing g.records g.pairs
