@@ -3,6 +3,7 @@ ghost use Rattle.std.specs.Prelude.{◌≡◌, ◌≢◌, true, false, map, Err,
 ghost use Rattle.call_records.specs.RecordView.{shown, pair_of};
 ghost use Rattle.net_events.specs.Network.{all_elapsed};
 ghost use Rattle.network_laws.specs.Promise.{NetworkHolds};
+ghost use Rattle.network_laws.specs.Rest.{IsNothingMissing, IsDelivered};
 ghost use Rattle.net_config.specs.declared.fault.MakeFault.TheVariants as make_fault_is;
 ghost use Rattle.net_config.specs.Served.{is_served};
 ghost use Rattle.net_events.specs.declared.event.StepFault.TheVariants as step_fault_is;
@@ -70,17 +71,21 @@ impl<L: Line> Net<L> {
         self.nodes.pairs()
     }
 
-    /// Whether nothing is in flight, unacknowledged, owed, or waits to be sent or taken.
+    /// Whether nothing is in flight, unacknowledged, owed, or waits to be sent or taken. Then, on faithful lines, nothing
+    /// is missing: of each call that is open at both ends each end took all that the other one sent since the last reset.
     pub fn at_rest(&self) -> bool
-        ensures { L.service.faithful → result ≡ net_rests self.now }
+        ensures exact { L.service.faithful → result ≡ net_rests self.now }
+        ensures nothing_missing { L.service.faithful → result ≡ true → IsNothingMissing self.now }
     {
         self.nodes.is_at_rest()
     }
 
     /// Whether the host of this place has a call on the channel in which each packet with D = 1 since the last reset
-    /// was covered (X.25 4.3.3). At another node it is not so.
+    /// was covered (X.25 4.3.3). At another node it is not so. On faithful lines the record of that call has them all as
+    /// covered.
     pub fn confirmed(&self, node: usize, channel: u16) -> bool
-        ensures { result ≡ net_confirmed node channel self.now }
+        ensures exact { result ≡ net_confirmed node channel self.now }
+        ensures delivered { L.service.faithful → result ≡ true → IsDelivered node channel self.now }
     {
         self.nodes.confirmed(node, channel)
     }

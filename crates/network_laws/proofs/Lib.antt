@@ -11,6 +11,8 @@ pub mod Lines
 pub mod Made
 pub mod Networks
 pub mod Opened
+mod Confirming
 pub mod Promising
+pub mod Resting
 pub mod Due
 mod Rows

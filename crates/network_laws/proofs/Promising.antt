@@ -27,6 +27,8 @@ use Rattle.network_laws.specs.Promise.{EndHolds, NetworkHolds}
 use Rattle.network_laws.proofs.Answering.{came_kept, paired_kept, placed_kept, records_kept}
 use Rattle.network_laws.proofs.Made.{book_line, typed_line}
 use Rattle.network_laws.proofs.Networks.{book_there, placed, there_is, line_there}
+use Rattle.network_laws.proofs.Confirming.{says_confirmed}
+use Rattle.line_record_laws.specs.Confirmed.{SaysConfirmed}
 
 -- ---- each line's book holds
 
@@ -57,7 +59,7 @@ end_is : (role : Role) (l : NetLine) (dte dce : PlacedNode) (b : Book) → end_a
 end_is Dte l dte dce b = refl
 end_is Dce l dte dce b = refl
 
-end_holds : (L : LineService) (s : Network) (n : IsNetwork L s) → L.faithful → (line : ℕ) (l : NetLine) (role : Role) → slice_get s.lines line ≡ Some l → EndHolds s line l role
+pub end_holds : (L : LineService) (s : Network) (n : IsNetwork L s) → L.faithful → (line : ℕ) (l : NetLine) (role : Role) → slice_get s.lines line ≡ Some l → EndHolds s line l role
 end_holds L s n f line l role at =
     let b = book_there L s n line l at in
     let h : LineHolds L s.nodes line l b.0 = n.lines line l b.0 at b.1 in
@@ -84,6 +86,9 @@ end_holds L s n f line l role at =
       placed = λ channel ch there up none. callee_seen s.register n.books line b.0 role channel b.1 n.seen
           (placed_kept k.setting b.0 (line_of own) role channel ch k.kept (ap (λ e. channel_of e.layer channel) (end_is role l h.dte h.dce b.0) ∙ there) up
           (sym (came_seen s.register n.books line b.0 role channel b.1 n.seen) ∙ none));
+      confirmed = λ channel number r present there.
+          subst (λ (e : PacketEnd). SaysConfirmed e.layer channel r) (end_is role l h.dte h.dce b.0)
+          (says_confirmed s.register n.books line b.0 role channel k.setting (line_of own) number r b.1 n.seen k.kept present there);
     }
 
 -- ---- what a PAD typed

@@ -4,3 +4,4 @@ pub mod IsNetwork
 pub mod Promise
 pub mod DueCount
 pub mod NetworkLaw
+pub mod Rest

@@ -9,6 +9,7 @@ use Rattle.call_records.specs.Register.{Register, book_at}
 use Rattle.book_laws.specs.Headline.{has_call, IsPaired, HasCallee}
 use Rattle.node_laws.specs.Quiet.{IsQuiet}
 use Rattle.x25_pad_laws.specs.Sending.{HasSent}
+use Rattle.line_record_laws.specs.Confirmed.{SaysConfirmed}
 use Rattle.register_laws.specs.Promise.{RegisterHolds, HasRecords}
 use Rattle.line_nodes.specs.Node.{end_of, is_pad}
 use Rattle.net_events.specs.Network.{PlacedNode, NetLine, Network, place_at}
@@ -20,7 +21,9 @@ its_slot line role channel g = slot_at role channel (book_at line g)
 -- at the end of a role of a line: no frame or note waits at the node to be taken; the register has the end as this
 -- node's, register and packet layer have the line's channels, and a channel has a present record exactly where the
 -- packet layer has a call there; a call that may be accepted is one that came in; and in data transfer each that came
--- in is in a pair, and each that was placed is the last one placed there and is in a pair
+-- in is in a pair, and each that was placed is the last one placed there and is in a pair; and where the packet layer
+-- says of a channel that delivery is confirmed, and in data transfer there alone, each packet with D = 1 of the last
+-- epoch that its present record sent is covered
 pub record EndHolds (s : Network) (line : ℕ) (l : NetLine) (role : Role) : Type 0 where
   pub node : PlacedNode
   pub node_there : slice_get s.nodes (place_at role l) ≡ Some node
@@ -39,6 +42,9 @@ pub record EndHolds (s : Network) (line : ℕ) (l : NetLine) (role : Role) : Typ
   pub placed : (channel : ℕ) (ch : Channel) → channel_of (end_of node.node).layer channel ≡ Some ch
       → in_transfer ch.state ≡ true → is_some (its_slot line role channel s.register).caller ≡ false
       → HasCallee (book_at line s.register) role channel
+  pub confirmed : (channel number : ℕ) (r : RecordValue)
+      → (its_slot line role channel s.register).present ≡ Some number → slice_get s.register.records number ≡ Some r
+      → SaysConfirmed (end_of node.node).layer channel r
 
 pub record NetworkHolds (s : Network) : Type 0 where
   -- for each pair what one end took matches what the other one sent, both ways, and the pair is right; no record is in

@@ -1,6 +1,7 @@
 //! A network of many nodes and lines.
 ghost use Rattle.network_laws.specs.NetworkLaw.{MadeLaw, EventLaw, LossLaw, TimeLaw, PromiseLaw};
 ghost use Rattle.network_laws.specs.DueCount.{FewerLaw};
+ghost use Rattle.network_laws.specs.Rest.{RestLaw, DeliveredLaw};
 
 use memory_line::Line;
 
@@ -18,4 +19,8 @@ pub fn network_law<L: Line>()
     ensures time { TimeLaw L.service }
     ensures promise { PromiseLaw L.service }
     ensures fewer_due { FewerLaw L.service }
+
+    // Where all nodes are at rest nothing is missing, and confirmed delivery is that all is covered.
+    ensures rest { RestLaw L.service }
+    ensures delivered { DeliveredLaw L.service }
 {}

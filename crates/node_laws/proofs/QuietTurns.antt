@@ -35,6 +35,7 @@ use Rattle.node_laws.specs.Due.{TimersApart, AreApart}
 use Rattle.node_laws.specs.Quiet.{IsQuiet, LeavesQuiet}
 use Rattle.line_record_laws.proofs.DueEnds.{NoMoreDue, stays-apart, same-due, then-due, begun-due, received-due, timer-due, relinked-due, finished-due, calls-due, asks-due, refuses-due, says-due, takes-due, elapsed-apart, made-apart, restarted-apart}
 use Rattle.node_laws.proofs.QuietEnds.{IsUnread, received_unread, timer_unread, finished_unread, asked_unread, called_unread, calls_unread, asks_unread, refuses_unread, says_unread, takes_unread}
+use Rattle.line_record_laws.proofs.Relinking.{AsksNone, finished_asks, calls_ask, requests_ask, refuses_ask, says_ask, takes_ask, expiry_asks}
 use Rattle.node_laws.proofs.PadEnds.{key_at, idle_at, breaks_at, print_at, port_at, answered_at}
 
 -- ---- the timers of a node
@@ -50,13 +51,13 @@ timers-apart n a = a
 -- ---- turns of any node
 
 -- nothing is unread, and no timer runs where it must not
-told_quiet : (role : Role) (e : PacketEnd) (b : Book) → IsUnread e → TimersApart e → LeavesQuiet (told role (Host e) b)
-told_quiet role e b h a =
-    record { node = record { read = refl; noted = refl; sent = refl }; unread = h; timers = set-apart _ (record { link = a.link; layer = a.layer }) }
+told_quiet : (role : Role) (e : PacketEnd) (b : Book) → IsUnread e → AsksNone e → TimersApart e → LeavesQuiet (told role (Host e) b)
+told_quiet role e b h settled a =
+    record { node = record { read = refl; noted = refl; sent = refl }; unread = h; settled = settled; timers = set-apart _ (record { link = a.link; layer = a.layer }) }
 
-noted_quiet : (role : Role) (p : PadState) (b : Book) → p.line.end.notes ≡ [] → IsUnread p.line.end → TimersApart p.line.end → LeavesQuiet (told role (Pad p) b)
-noted_quiet role p b read h a =
-    record { node = record { read = read; noted = refl; sent = refl }; unread = h; timers = set-apart _ (record { link = a.link; layer = a.layer }) }
+noted_quiet : (role : Role) (p : PadState) (b : Book) → p.line.end.notes ≡ [] → IsUnread p.line.end → AsksNone p.line.end → TimersApart p.line.end → LeavesQuiet (told role (Pad p) b)
+noted_quiet role p b read h settled a =
+    record { node = record { read = read; noted = refl; sent = refl }; unread = h; settled = settled; timers = set-apart _ (record { link = a.link; layer = a.layer }) }
 
 pub unchanged_quiet : (n : NodeState) (b : Book) → IsQuiet n → LeavesQuiet (unchanged n b)
 unchanged_quiet (Pad p) b q =
@@ -64,6 +65,7 @@ unchanged_quiet (Pad p) b q =
     record {
       node = record { read = q.node.read; noted = q.node.noted; sent = refl };
       unread = q.unread;
+      settled = q.settled;
       timers = set-apart _ (record { link = a.link; layer = a.layer });
     }
 unchanged_quiet (Host e) b q =
@@ -71,6 +73,7 @@ unchanged_quiet (Host e) b q =
     record {
       node = record { read = q.node.read; noted = refl; sent = refl };
       unread = q.unread;
+      settled = q.settled;
       timers = set-apart _ (record { link = a.link; layer = a.layer });
     }
 
@@ -94,6 +97,13 @@ terminal_unread : (number : ℕ) (act : AtLine → AtLine) (p : PadState) → ((
 terminal_unread number act p f h =
     ended_unread (pad.at_port number act (pad.begun p)) (port_at IsUnread asked_unread called_unread number act (pad.begun p) f h)
 
+-- and asks for no relink
+line_settled : (p : PadState) → AsksNone (pad.line_event p).line.end
+line_settled p = finished_asks (pad.answered (last_incoming None p.line.end.notes) (pad.told p)).line.end
+
+terminal_settled : (number : ℕ) (act : AtLine → AtLine) (p : PadState) → AsksNone (pad.terminal_event number act p).line.end
+terminal_settled number act p = finished_asks (pad.at_port number act (pad.begun p)).line.end
+
 key_unread : (octet : ℕ) (a : AtLine) → IsUnread a.line.end → IsUnread (port.after_key octet a).line.end
 key_unread octet a h = key_at IsUnread asked_unread called_unread octet a h
 
@@ -101,6 +111,7 @@ key_unread octet a h = key_at IsUnread asked_unread called_unread octet a h
 record IsBare (p : PadState) : Type 0 where
   read : p.line.end.notes ≡ []
   unread : IsUnread p.line.end
+  settled : AsksNone p.line.end
 
 either_bare : (v : Bool) (x p : PadState) → IsBare x → IsBare p → IsBare (if v then x else p)
 either_bare true x p g h = g
@@ -109,12 +120,16 @@ either_bare false x p g h = h
 expiry_bare : (p : PadState) (id : TimerId) → IsBare p → IsBare (pad.after_expiry p id)
 expiry_bare p id h =
     let q : PadState = pad.with_end (after_timer (pad.begun p).line.end id) (pad.begun p) in
-    either_bare (runs_at p.line.end id) (pad.line_event q) p (record { read = refl; unread = line_unread q (timer_unread p.line.end id h.unread) }) h
+    either_bare (runs_at p.line.end id) (pad.line_event q) p (record { read = refl; unread = line_unread q (timer_unread p.line.end id h.unread); settled = line_settled q }) h
 
 timer_bare : (p : PadState) (id : TimerId) → IsBare p → IsBare (pad.after_timer p id)
 timer_bare p (Idle number) h =
     either_bare (pad.runs_idle_timer number p) (pad.terminal_event number port.after_idle p) p
-    (record { read = refl; unread = terminal_unread number port.after_idle p (idle_at IsUnread asked_unread called_unread) h.unread }) h
+    (record {
+      read = refl;
+      unread = terminal_unread number port.after_idle p (idle_at IsUnread asked_unread called_unread) h.unread;
+      settled = terminal_settled number port.after_idle p;
+    }) h
 timer_bare p id h = expiry_bare p id h
 
 -- ---- what comes from the line
@@ -123,10 +138,11 @@ pub quiet-hears : (role : Role) (n : NodeState) (octets : Octets) (b : Book) →
 quiet-hears role (Pad p) octets b q =
     noted_quiet role (pad.after_frame p octets) b refl
     (line_unread (pad.with_end (received (pad.begun p).line.end octets) (pad.begun p)) (received_unread p.line.end octets q.unread))
+    (line_settled (pad.with_end (received (pad.begun p).line.end octets) (pad.begun p)))
     (pad_apart.frames p octets (timers-apart (Pad p) q.timers))
 quiet-hears role (Host e) octets b q =
     let x : PacketEnd = received (begun e) octets in
-    told_quiet role (host.after_frame e octets) b (finished_unread x (received_unread e octets q.unread))
+    told_quiet role (host.after_frame e octets) b (finished_unread x (received_unread e octets q.unread)) (finished_asks x)
     (stays-apart e (finished x) (then-due (received-due e octets) (finished-due x)) (timers-apart (Host e) q.timers))
 
 host_expiry : (v : Bool) (e : PacketEnd) (id : TimerId) → IsUnread e → IsUnread (cond v (finished (after_timer (begun e) id)) e)
@@ -139,50 +155,51 @@ host_expiry_due false e id = same-due e
 
 pub quiet-expires : (role : Role) (n : NodeState) (id : TimerId) (b : Book) → IsQuiet n → LeavesQuiet (expires role n id b)
 quiet-expires role (Pad p) id b q =
-    let h : IsBare (pad.after_timer p id) = timer_bare p id (record { read = q.node.read; unread = q.unread }) in
+    let h : IsBare (pad.after_timer p id) = timer_bare p id (record { read = q.node.read; unread = q.unread; settled = q.settled }) in
     either_quiet (pad.runs_at p id) (told role (Pad (pad.after_timer p id)) b) (unchanged (Pad p) b)
-    (noted_quiet role (pad.after_timer p id) b h.read h.unread (pad_apart.timers p id (timers-apart (Pad p) q.timers)))
+    (noted_quiet role (pad.after_timer p id) b h.read h.unread h.settled (pad_apart.timers p id (timers-apart (Pad p) q.timers)))
     (unchanged_quiet (Pad p) b q)
 quiet-expires role (Host e) id b q =
     either_quiet (runs_at e id) (told role (Host (host.after_expiry e id)) b) (unchanged (Host e) b)
-    (told_quiet role (host.after_expiry e id) b (host_expiry (runs_at e id) e id q.unread)
+    (told_quiet role (host.after_expiry e id) b (host_expiry (runs_at e id) e id q.unread) (expiry_asks e id q.settled)
     (stays-apart e (host.after_expiry e id) (host_expiry_due (runs_at e id) e id) (timers-apart (Host e) q.timers))) (unchanged_quiet (Host e) b q)
 
 pub quiet-relinks : (role : Role) (n : NodeState) (b : Book) → IsQuiet n → LeavesQuiet (relinks role n b)
 quiet-relinks role (Pad p) b q =
     noted_quiet role (pad.after_relink p) b refl (line_unread (pad.with_end (relinked (pad.begun p).line.end) (pad.begun p)) refl)
+    (line_settled (pad.with_end (relinked (pad.begun p).line.end) (pad.begun p)))
     (pad_apart.relinks p (timers-apart (Pad p) q.timers))
 quiet-relinks role (Host e) b q =
     let x : PacketEnd = relinked (begun e) in
-    told_quiet role (host.after_relink e) b (finished_unread x refl)
+    told_quiet role (host.after_relink e) b (finished_unread x refl) (finished_asks x)
     (stays-apart e (finished x) (then-due (begun-due e) (then-due (relinked-due (begun e)) (finished-due x))) (timers-apart (Host e) q.timers))
 
 pub quiet-restarts : (role : Role) (n : NodeState) (b : Book) → IsQuiet n → LeavesQuiet (restarts role n b)
 quiet-restarts role (Pad p) b q =
     let a : TimersApart (restarted p.line.end) = restarted-apart p.line.end in
-    record { node = record { read = refl; noted = refl; sent = refl }; unread = refl; timers = set-apart _ (record { link = a.link; layer = a.layer }) }
+    record { node = record { read = refl; noted = refl; sent = refl }; unread = refl; settled = refl; timers = set-apart _ (record { link = a.link; layer = a.layer }) }
 quiet-restarts role (Host e) b q =
     let a : TimersApart (restarted e) = restarted-apart e in
-    record { node = record { read = refl; noted = refl; sent = refl }; unread = refl; timers = set-apart _ (record { link = a.link; layer = a.layer }) }
+    record { node = record { read = refl; noted = refl; sent = refl }; unread = refl; settled = refl; timers = set-apart _ (record { link = a.link; layer = a.layer }) }
 
 -- ---- what the user of a host asks
 
 pub quiet-calls : (role : Role) (e : PacketEnd) (parts : CallParts) (b : Book) → IsQuiet (Host e) → LeavesQuiet (host_calls role e parts b)
-quiet-calls role e parts b q = told_quiet role (host.after_call e parts) b (calls_unread e parts q.unread)
+quiet-calls role e parts b q = told_quiet role (host.after_call e parts) b (calls_unread e parts q.unread) (calls_ask e parts q.settled)
     (stays-apart e (host.after_call e parts) (calls-due e parts) (timers-apart (Host e) q.timers))
 
 pub quiet-asks : (role : Role) (e : PacketEnd) (channel : ℕ) (r : Request) (b : Book) → IsQuiet (Host e) → LeavesQuiet (host_asks role e channel r b)
-quiet-asks role e channel r b q = told_quiet role (host.after_request e channel r) b (asks_unread e channel r q.unread)
+quiet-asks role e channel r b q = told_quiet role (host.after_request e channel r) b (asks_unread e channel r q.unread) (requests_ask e channel r q.settled)
     (stays-apart e (host.after_request e channel r) (asks-due e channel r) (timers-apart (Host e) q.timers))
 
 pub quiet-refuses : (role : Role) (e : PacketEnd) (channel : ℕ) (b : Book) → IsQuiet (Host e) → LeavesQuiet (host_refuses role e channel b)
-quiet-refuses role e channel b q = told_quiet role (host.after_refuse e channel) b (refuses_unread e channel q.unread)
+quiet-refuses role e channel b q = told_quiet role (host.after_refuse e channel) b (refuses_unread e channel q.unread) (refuses_ask e channel q.settled)
     (stays-apart e (host.after_refuse e channel) (refuses-due e channel) (timers-apart (Host e) q.timers))
 
 pub quiet-says : (role : Role) (e : PacketEnd) (channel : ℕ) (octets : List ℕ) (qualified delivery : Bool) (b : Book)
     → IsQuiet (Host e) → LeavesQuiet (host_says role e channel octets qualified delivery b)
 quiet-says role e channel octets qualified delivery b q =
-    told_quiet role (host.after_say e channel octets qualified delivery) b (says_unread e channel octets qualified delivery q.unread)
+    told_quiet role (host.after_say e channel octets qualified delivery) b (says_unread e channel octets qualified delivery q.unread) (says_ask e channel octets qualified delivery q.settled)
     (stays-apart e (host.after_say e channel octets qualified delivery) (says-due e channel octets qualified delivery) (timers-apart (Host e) q.timers))
 
 pub quiet-takes : (role : Role) (e : PacketEnd) (channel : ℕ) (b : Book) → IsQuiet (Host e) → LeavesQuiet (host_takes role e channel b)
@@ -191,7 +208,7 @@ quiet-takes role e channel b q = by (front_on e.layer channel)
     by : (o : Option Taken) → LeavesQuiet (taken_turn o role e channel b)
     by None = unchanged_quiet (Host e) b q
     by (Some x) =
-        told_quiet role (host.after_take e channel) b (takes_unread e channel q.unread)
+        told_quiet role (host.after_take e channel) b (takes_unread e channel q.unread) (takes_ask e channel q.settled)
         (stays-apart e (host.after_take e channel) (takes-due e channel) (timers-apart (Host e) q.timers))
 
 -- ---- what happens at a terminal of a PAD
@@ -199,16 +216,17 @@ quiet-takes role e channel b q = by (front_on e.layer channel)
 after_quiet : (role : Role) (p : PadState) (terminal : ℕ) (event : TerminalEvent) (b : Book) → IsQuiet (Pad p) → LeavesQuiet (told role (Pad (after_terminal terminal event p)) b)
 after_quiet role p terminal (Key octet) b q =
     noted_quiet role (pad.terminal_event terminal (port.after_key octet) p) b refl (terminal_unread terminal (port.after_key octet) p (key_unread octet) q.unread)
+    (terminal_settled terminal (port.after_key octet) p)
     (pad_apart.keys p terminal octet (timers-apart (Pad p) q.timers))
 after_quiet role p terminal Break b q =
     noted_quiet role (pad.terminal_event terminal port.after_break p) b refl
-    (terminal_unread terminal port.after_break p (breaks_at IsUnread asked_unread called_unread) q.unread) (pad_apart.breaks p terminal (timers-apart (Pad p) q.timers))
+    (terminal_unread terminal port.after_break p (breaks_at IsUnread asked_unread called_unread) q.unread) (terminal_settled terminal port.after_break p) (pad_apart.breaks p terminal (timers-apart (Pad p) q.timers))
 after_quiet role p terminal event.Idle b q =
-    let h : IsBare (pad.after_timer p (Idle terminal)) = timer_bare p (Idle terminal) (record { read = q.node.read; unread = q.unread }) in
-    noted_quiet role (pad.after_idle terminal p) b h.read h.unread (pad_apart.timers p (Idle terminal) (timers-apart (Pad p) q.timers))
+    let h : IsBare (pad.after_timer p (Idle terminal)) = timer_bare p (Idle terminal) (record { read = q.node.read; unread = q.unread; settled = q.settled }) in
+    noted_quiet role (pad.after_idle terminal p) b h.read h.unread h.settled (pad_apart.timers p (Idle terminal) (timers-apart (Pad p) q.timers))
 after_quiet role p terminal Print b q =
     noted_quiet role (pad.terminal_event terminal port.after_print p) b refl
-    (terminal_unread terminal port.after_print p (print_at IsUnread asked_unread called_unread) q.unread) (pad_apart.prints p terminal (timers-apart (Pad p) q.timers))
+    (terminal_unread terminal port.after_print p (print_at IsUnread asked_unread called_unread) q.unread) (terminal_settled terminal port.after_print p) (pad_apart.prints p terminal (timers-apart (Pad p) q.timers))
 
 pub quiet-terminals : (role : Role) (n : NodeState) (terminal : ℕ) (event : TerminalEvent) (b : Book) → IsQuiet n → LeavesQuiet (at_terminal role n terminal event b)
 quiet-terminals role (Pad p) terminal event b q = after_quiet role p terminal event b q
@@ -218,16 +236,16 @@ quiet-terminals role (Host e) terminal event b q = unchanged_quiet (Host e) b q
 
 pub quiet-elapses : (n : NodeState) (ticks : ℕ) → IsQuiet n → IsQuiet (node_elapsed ticks n)
 quiet-elapses (Pad p) ticks q =
-    record { node = record { read = q.node.read; noted = q.node.noted; sent = q.node.sent }; unread = q.unread; timers = set-apart _ (pad_apart.times p ticks (timers-apart (Pad p) q.timers)) }
+    record { node = record { read = q.node.read; noted = q.node.noted; sent = q.node.sent }; unread = q.unread; settled = q.settled; timers = set-apart _ (pad_apart.times p ticks (timers-apart (Pad p) q.timers)) }
 quiet-elapses (Host e) ticks q =
-    record { node = record { read = q.node.read; noted = refl; sent = q.node.sent }; unread = q.unread; timers = set-apart _ (elapsed-apart e ticks (timers-apart (Host e) q.timers)) }
+    record { node = record { read = q.node.read; noted = refl; sent = q.node.sent }; unread = q.unread; settled = q.settled; timers = set-apart _ (elapsed-apart e ticks (timers-apart (Host e) q.timers)) }
 
 pub quiet-made-pad : (c : PadConfig) → IsQuiet (drained (Pad (pad_making.made c)))
 quiet-made-pad c =
     let a : TimersApart (made Dte c.line) = made-apart Dte c.line in
-    record { node = record { read = refl; noted = refl; sent = refl }; unread = refl; timers = set-apart _ (record { link = a.link; layer = a.layer }) }
+    record { node = record { read = refl; noted = refl; sent = refl }; unread = refl; settled = refl; timers = set-apart _ (record { link = a.link; layer = a.layer }) }
 
 pub quiet-made-host : (c : HostConfig) → IsQuiet (drained (Host (host_making.made c)))
 quiet-made-host c =
     let a : TimersApart (made c.role c.line) = made-apart c.role c.line in
-    record { node = record { read = refl; noted = refl; sent = refl }; unread = refl; timers = set-apart _ (record { link = a.link; layer = a.layer }) }
+    record { node = record { read = refl; noted = refl; sent = refl }; unread = refl; settled = refl; timers = set-apart _ (record { link = a.link; layer = a.layer }) }

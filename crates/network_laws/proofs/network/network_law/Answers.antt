@@ -3,6 +3,7 @@ use Rattle.network_laws.proofs.Networks.{happened_network, lost_network}
 use Rattle.network_laws.proofs.Opened.{made_network, elapsed_network}
 use Rattle.network_laws.proofs.Promising.{holds_network}
 use Rattle.network_laws.proofs.Due.{fewer_due}
+use Rattle.network_laws.proofs.Resting.{rest_network, delivered_network}
 
 pub returns : goal.returns
 returns g c = record {
@@ -12,4 +13,6 @@ returns g c = record {
   time = elapsed_network g.L.Line.service;
   promise = holds_network g.L.Line.service;
   fewer_due = fewer_due g.L.Line.service;
+  rest = rest_network g.L.Line.service;
+  delivered = delivered_network g.L.Line.service;
 }

@@ -1,0 +1,33 @@
+-- A packet layer says of the register's records that delivery is confirmed as it says of those of the line's book.
+use Rattle.std.proofs.Common.{◌≡◌, ℕ, List, Option, Some, None, refl, sym, subst, ◌∙◌}
+use Rattle.std.specs.Prelude.{slice_get}
+use Rattle.std.proofs.lemmas.Option.{same_Some}
+use Rattle.link_timers.specs.declared.role.Role.{Role}
+use Rattle.line_laws.specs.Line.{Line}
+use Rattle.call_records.specs.Records.{RecordValue}
+use Rattle.call_records.specs.Book.{Book, slot_at}
+use Rattle.call_records.specs.Register.{Register}
+use Rattle.register_laws.specs.Seen.{IsNumbered, renumbered, RecordIsSeen, Seen, positions}
+use Rattle.line_record_laws.specs.Kept.{Setting, Kept, end_at}
+use Rattle.line_record_laws.specs.Confirmed.{SaysConfirmed}
+use Rattle.line_record_laws.proofs.Confirming.{confirmed_kept}
+use Rattle.network_laws.specs.Promise.{its_slot}
+
+-- the number of the line's book for a number of the register
+own_number : (numbers : List ℕ) (own seen : Option ℕ) (n : ℕ) → IsNumbered numbers own seen → seen ≡ Some n
+    → (i : ℕ) × (own ≡ Some i) × (slice_get numbers i ≡ Some n)
+own_number numbers None None n h e = absurd (cc)
+own_number numbers None (Some m) n h e = absurd h
+own_number numbers (Some i) None n h e = absurd h
+own_number numbers (Some i) (Some m) n h e = (i, refl, h ∙ e)
+
+pub says_confirmed : (g : Register) (books : List Book) (line : ℕ) (b : Book) (role : Role) (channel : ℕ) (setting : Setting) (l : Line) (number : ℕ) (r : RecordValue)
+    → slice_get books line ≡ Some b → Seen g books → Kept setting b l → (its_slot line role channel g).present ≡ Some number → slice_get g.records number ≡ Some r
+    → SaysConfirmed (end_at role l).layer channel r
+says_confirmed g books line b role channel setting l number r at w k present there =
+    let seen = w.line line b at in
+    let i = own_number (positions line w.owners) (slot_at role channel b).present (its_slot line role channel g).present number (((seen.sides role).slot channel).present) present in
+    let x : RecordIsSeen b.records g.records i.0 number = seen.records i.0 number i.2 in
+    let same : r ≡ renumbered number x.value = same_Some r (renumbered number x.value) (sym there ∙ x.seen_there) in
+    let h = confirmed_kept setting b l role channel i.0 x.value k i.1 x.own_there in
+    subst (λ (y : RecordValue). SaysConfirmed (end_at role l).layer channel y) (sym same) (record { covered = h.covered; said = h.said })

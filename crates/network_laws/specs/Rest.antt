@@ -1,0 +1,34 @@
+-- Where a network is at rest nothing is missing, and where a host says that delivery is confirmed it is.
+use Rattle.std.specs.Prelude.{◌≡◌, ℕ, true, List, slice_get, Some}
+use Rattle.link_timers.specs.declared.role.Role.{Role}
+use Rattle.packet_layer.specs.Layer.{confirmed}
+use Rattle.call_records.specs.Records.{RecordValue}
+use Rattle.book_laws.specs.Rest.{NothingMissing}
+use Rattle.book_laws.specs.Delivery.{IsAllCovered}
+use Rattle.line_nodes.specs.Node.{end_of, node_rests}
+use Rattle.memory_line.specs.Lines.{LineService}
+use Rattle.net_events.specs.Network.{PlacedNode, NetLine, Network, place_at}
+use Rattle.network_laws.specs.IsNetwork.{IsNetwork}
+use Rattle.network_laws.specs.Promise.{its_slot}
+
+-- of each call that is open at both ends, each end took all that the other one sent since the last reset
+abbrev pub IsNothingMissing : Network → Type 0
+IsNothingMissing s = NothingMissing s.register.records s.register.pairs
+
+abbrev pub AreAtRest : List PlacedNode → Type 0
+AreAtRest nodes = (place : ℕ) (n : PlacedNode) → slice_get nodes place ≡ Some n → node_rests n.node ≡ true
+
+abbrev pub RestLaw : LineService → Type 0
+RestLaw L = (s : Network) → IsNetwork L s → L.faithful → AreAtRest s.nodes → IsNothingMissing s
+
+-- each packet with D = 1 that the present call of a channel sent since its last reset is covered, at the node of this
+-- place
+abbrev pub IsDelivered : (place channel : ℕ) → Network → Type 0
+IsDelivered place channel s =
+    (line : ℕ) (l : NetLine) (role : Role) (number : ℕ) (r : RecordValue) → slice_get s.lines line ≡ Some l
+    → place_at role l ≡ place → (its_slot line role channel s.register).present ≡ Some number
+    → slice_get s.register.records number ≡ Some r → IsAllCovered r.sent
+
+abbrev pub DeliveredLaw : LineService → Type 0
+DeliveredLaw L = (s : Network) → IsNetwork L s → L.faithful → (place channel : ℕ) (n : PlacedNode)
+    → slice_get s.nodes place ≡ Some n → confirmed (end_of n.node).layer channel ≡ true → IsDelivered place channel s
