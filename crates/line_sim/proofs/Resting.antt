@@ -10,7 +10,7 @@ use Rattle.net_events.specs.Network.{PlacedNode, Network}
 use Rattle.net_nodes.specs.Faults.{is_channel_at}
 use Rattle.net_nodes.specs.Questions.{confirmed_at, net_confirmed, is_empty, rests, net_rests}
 use Rattle.network_laws.specs.IsNetwork.{IsNetwork}
-use Rattle.network_laws.specs.Rest.{AreAtRest, IsNothingMissing, IsDelivered}
+use Rattle.network_laws.specs.Rest.{AreAtRest, MissesNothing, IsDelivered}
 use Rattle.network_laws.proofs.Resting.{rest_network, delivered_network}
 
 both : (a b : Bool) → (a && b) ≡ true → (a ≡ true) × (b ≡ true)
@@ -24,7 +24,7 @@ all_rest [] h place n at = absurd (none-some n at)
 all_rest (m ∷ nodes) h zero n at = ap (λ (x : PlacedNode). rests x) (sym (same_Some m n at)) ∙ (both (rests m) (list_all rests nodes) h).0
 all_rest (m ∷ nodes) h (suc place) n at = all_rest nodes (both (rests m) (list_all rests nodes) h).1 place n at
 
-pub nothing_missing : (L : LineService) (s : Network) → IsNetwork L s → L.faithful → (result : Bool) → result ≡ net_rests s → result ≡ true → IsNothingMissing s
+pub nothing_missing : (L : LineService) (s : Network) → IsNetwork L s → L.faithful → (result : Bool) → result ≡ net_rests s → result ≡ true → MissesNothing s
 nothing_missing L s n f result is rests_so =
     rest_network L s n f (all_rest s.nodes (both (list_all is_empty s.lines) (list_all rests s.nodes) (sym is ∙ rests_so)).1)
 

@@ -3,7 +3,7 @@ ghost use Rattle.std.specs.Prelude.{◌≡◌, ◌≢◌, true, false, map, Err,
 ghost use Rattle.call_records.specs.RecordView.{shown, pair_of};
 ghost use Rattle.net_events.specs.Network.{all_elapsed};
 ghost use Rattle.network_laws.specs.Promise.{NetworkHolds};
-ghost use Rattle.network_laws.specs.Rest.{IsNothingMissing, IsDelivered};
+ghost use Rattle.network_laws.specs.Rest.{MissesNothing, IsDelivered};
 ghost use Rattle.net_config.specs.declared.fault.MakeFault.TheVariants as make_fault_is;
 ghost use Rattle.net_config.specs.Served.{is_served};
 ghost use Rattle.net_events.specs.declared.event.StepFault.TheVariants as step_fault_is;
@@ -75,7 +75,7 @@ impl<L: Line> Net<L> {
     /// is missing: of each call that is open at both ends each end took all that the other one sent since the last reset.
     pub fn at_rest(&self) -> bool
         ensures exact { L.service.faithful → result ≡ net_rests self.now }
-        ensures nothing_missing { L.service.faithful → result ≡ true → IsNothingMissing self.now }
+        ensures nothing_missing { L.service.faithful → result ≡ true → MissesNothing self.now }
     {
         self.nodes.is_at_rest()
     }

@@ -12,14 +12,14 @@ use Rattle.network_laws.specs.IsNetwork.{IsNetwork}
 use Rattle.network_laws.specs.Promise.{its_slot}
 
 -- of each call that is open at both ends, each end took all that the other one sent since the last reset
-abbrev pub IsNothingMissing : Network → Type 0
-IsNothingMissing s = NothingMissing s.register.records s.register.pairs
+abbrev pub MissesNothing : Network → Type 0
+MissesNothing s = NothingMissing s.register.records s.register.pairs
 
 abbrev pub AreAtRest : List PlacedNode → Type 0
 AreAtRest nodes = (place : ℕ) (n : PlacedNode) → slice_get nodes place ≡ Some n → node_rests n.node ≡ true
 
 abbrev pub RestLaw : LineService → Type 0
-RestLaw L = (s : Network) → IsNetwork L s → L.faithful → AreAtRest s.nodes → IsNothingMissing s
+RestLaw L = (s : Network) → IsNetwork L s → L.faithful → AreAtRest s.nodes → MissesNothing s
 
 -- each packet with D = 1 that the present call of a channel sent since its last reset is covered, at the node of this
 -- place
