@@ -1,3 +1,4 @@
 pub mod Listing
+pub mod Silence
 pub mod Seeing
 pub mod Events
