@@ -2,3 +2,4 @@ pub mod Listing
 pub mod Silence
 pub mod Seeing
 pub mod Events
+pub mod Running
