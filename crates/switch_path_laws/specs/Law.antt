@@ -99,8 +99,8 @@ PartnerLaw = (plan : Plan) (n : ℕ) (l : SwitchLine) (p : Partner) (ws : List W
 
 -- ---- the promise
 
--- where the calls of each line's book hold, the register promises of each pair what a register of paths does: the caller
--- and the callee match both ways, over the two lines and the switch, and what is confirmed was taken
+-- where the calls of each line's book hold, the register promises of each pair what one of paths does: caller and
+-- callee match both ways, over the two lines and the switch, and what is confirmed was taken
 abbrev pub PromiseLaw : Type 0
 PromiseLaw = (plan : Plan) (s : Switch) (h : Histories) (cs : List JoinedCall) (w : World)
     (traces : List (List Origin)) → IsNetwork plan s h cs w traces

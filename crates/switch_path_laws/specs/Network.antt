@@ -82,8 +82,8 @@ SendsOnJoins w = (a : ℕ) (o : Origin) (r : RecordValue) → slice_get w.origin
 
 -- the register has of the ends with users what the whole one has; the whole one has what the books of the lines have,
 -- and its joins are the joined calls, with the addresses of these calls
-pub record IsSeen (plan : Plan) (count : ℕ) (bs : Books) (cs : List JoinedCall) (w : World) (traces : List (List Origin))
-    : Type 0 where
+pub record IsSeen (plan : Plan) (count : ℕ) (bs : Books) (cs : List JoinedCall) (w : World)
+    (traces : List (List Origin)) : Type 0 where
   pub seen : Seen plan w
   pub lines : LinesSeen w.whole w.origins (listed count bs) traces
   pub joins : AreJoins w.origins cs w.joins
