@@ -1,6 +1,6 @@
 -- Events of a network with one switch.
 use Rattle.std.specs.Prelude.{◌≡◌, ◌≢◌, ◌≤◌, ℕ, zero, suc, ◌<◌, ◌⊎◌, Bool, true, false, ◌==◌, nat_lt, if◌then◌else◌, List, [], ◌∷◌, ◌++◌, length, map, slice_get, Option, Some, None}
-use Rattle.std.proofs.Common.{inl, inr, refl, sym, ap, subst, ◌∙◌, true≢false, arith, option_map, append-nil}
+use Rattle.std.proofs.Common.{inl, inr, refl, sym, ap, ap₂, subst, ◌∙◌, true≢false, arith, option_map, append-nil}
 use Rattle.std.proofs.lemmas.Option.{none-some, same_Some, slice_get_within}
 use Rattle.std.proofs.lemmas.Bool.{eqb-true, eq-eqb, ltb-true, lt-ltb}
 use Rattle.link_timers.specs.declared.role.Role.{Role}
@@ -41,7 +41,7 @@ use Rattle.joined_call_laws.specs.Law.{calls_in, written_there, HasRelayed}
 use Rattle.joined_call_laws.proofs.Following.{addresses_led}
 use Rattle.joined_call_laws.proofs.Closing.{if_apart}
 use Rattle.joined_call_laws.proofs.Eventing.{calls_after, frame_effect, calls_hold}
-use Rattle.call_path_laws.specs.World.{Origin, World, Plan, made_world}
+use Rattle.call_path_laws.specs.World.{Origin, World, Plan, made_world, calling_on}
 use Rattle.call_path_laws.specs.Seen.{IsJoined}
 use Rattle.call_path_laws.specs.Forwards.{IsRelayed}
 use Rattle.call_path_laws.specs.Lines.{LinesSeen, BookCallsHold}
@@ -51,8 +51,8 @@ use Rattle.call_path_laws.proofs.Lining.{lines_hold}
 use Rattle.call_path_laws.proofs.Forwarding.{made_handed_on, relayed_joins}
 use Rattle.call_path_laws.proofs.Promising.{promised}
 use Rattle.switch_path_laws.specs.Network.{IsPlanned, listed, all_handed, lines_of, IsInJoin, IsSeen, IsNetwork}
-use Rattle.switch_path_laws.specs.Law.{BeginLaw, AfterEvent, FrameLaw, TimerLaw, ElapseLaw, OutLaw, RestartLaw, partner_acted, PartnerLaw, PromiseLaw, SwitchPathLaw}
-use Rattle.switch_path_laws.proofs.Listing.{get_listed, lines_length, length_listed, join_found}
+use Rattle.switch_path_laws.specs.Law.{BeginLaw, AfterEvent, FrameLaw, TimerLaw, ElapseLaw, OutLaw, RestartLaw, partner_acted, PartnerLaw, AddressLaw, PromiseLaw, SwitchPathLaw}
+use Rattle.switch_path_laws.proofs.Listing.{get_listed, lines_length, length_listed, join_found, join_at}
 use Rattle.switch_path_laws.proofs.Seeing.{line_seen, own_trace, Moved, Beyond, silently, stays_quietly, stays_sending, stays_joining, switch_writes, user_writes, same_books}
 
 -- ---- the plan stays
@@ -350,6 +350,54 @@ relays plan s h cs w traces i a b j =
         let z : RecordIsSeen (h.books n).records (book_at n w.whole).records k m = y.records k m e in
         z.seen_there ∙ ap (λ (x : RecordValue). Some (renumbered m x)) (same_Some z.value r (sym z.own_there ∙ there))
 
+-- a record of the whole register is of the line of its origin
+line_of_origin : (os : List Origin) (k n : ℕ) (o : Origin) → slice_get os k ≡ Some o → slice_get (lines_of os) k ≡ Some n → o.line ≡ n
+line_of_origin [] k n o e f = absurd (none-some o e)
+line_of_origin (y ∷ os) zero n o e f = ap (λ (z : Origin). z.line) (sym (same_Some y o e)) ∙ same_Some y.line n f
+line_of_origin (y ∷ os) (suc k) n o e f = line_of_origin os k n o e f
+
+with_address : (a : List ℕ) (given : Option (List ℕ)) → (a ≡ [] → ⊥) → calling_on a given ≡ Some a
+with_address [] given h = absurd (h refl)
+with_address (d ∷ ds) given h = refl
+
+-- the record of this number in the book of a line, and the same in the whole register
+record InBoth (n k m : ℕ) (h : Histories) (w : World) : Type 0 where
+  pub value : RecordValue
+  pub own : slice_get (h.books n).records k ≡ Some value
+  pub whole : slice_get w.whole.records m ≡ Some (renumbered m value)
+  pub less : slice_get (lines_of w.origins) m ≡ Some n
+
+in_both : (plan : Plan) (s : Switch) (h : Histories) (cs : List JoinedCall) (w : World) (traces : List (List Origin)) → IsNetwork plan s h cs w traces → (n k m : ℕ) → slice_get (positions n (lines_of w.origins)) k ≡ Some m → InBoth n k m h w
+in_both plan s h cs w traces i n k m e =
+    let owner = is_place n (lines_of w.origins) k m e in
+    let y = line_seen plan (length s.lines) n h.books cs w traces (line_less plan s h cs w traces i n m owner) i.seen in
+    let z : RecordIsSeen (h.books n).records (book_at n w.whole).records k m = y.records k m e in
+    record { value = z.value; own = z.own_there; whole = z.seen_there; less = owner }
+
+addresses_are : AddressLaw
+addresses_are plan s h cs w traces i k c at =
+    let j = join_at w.origins cs w.joins k c i.seen.joins at in
+    let near = in_both plan s h cs w traces i c.near.line c.came_in j.0.came_in j.1.1.near in
+    let far = in_both plan s h cs w traces i c.far.line c.placed j.0.placed j.1.1.far in
+    let y = i.seen.handed j.0.came_in j.0.placed (record { place = k; there = j.1.0 }) in
+    let from : y.from ≡ renumbered j.0.came_in near.value = same_Some y.from _ (sym y.from_there ∙ near.whole) in
+    let to : y.to ≡ renumbered j.0.placed far.value = same_Some y.to _ (sym y.to_there ∙ far.whole) in
+    let line : y.from_origin.line ≡ c.near.line = line_of_origin w.origins j.0.came_in c.near.line y.from_origin y.from_came near.less in
+    let onto : y.to_origin.line ≡ c.far.line = line_of_origin w.origins j.0.placed c.far.line y.to_origin y.to_placed far.less in
+    let far_is : far.value.far ≡ y.to.far = ap (λ (r : RecordValue). r.far) (sym to) in
+    let own_is : y.from.own ≡ near.value.own = ap (λ (r : RecordValue). r.own) from in
+    record {
+      near_record = near.value;
+      far_record = far.value;
+      near_there = near.own;
+      far_there = far.own;
+      called = far_is ∙ (y.called ∙ own_is);
+      calling =
+          ap (λ (r : RecordValue). r.own) (sym to)
+          ∙ (y.calling ∙ (ap (λ (n : ℕ). calling_on (plan.address n) y.from.far) line ∙ with_address (plan.address c.near.line) y.from.far (i.planned.addressed c.near.line (line_less plan s h cs w traces i c.near.line j.0.came_in near.less))));
+      routed = sym onto ∙ (y.routed ∙ ap₂ (λ (n : ℕ) (d : Option (List ℕ)). plan.route n d) (ap (λ (r : RecordValue). r.node) to) (y.called ∙ own_is));
+    }
+
 promise : PromiseLaw
 promise plan s h cs w traces i holds =
     promised plan w i.planned.alike i.seen.seen (lines_hold w (listed (length s.lines) h.books) traces i.seen.lines each) (relayed_joins plan w i.seen.handed (relays plan s h cs w traces i) (sends_so plan s h cs w traces i))
@@ -361,4 +409,4 @@ promise plan s h cs w traces i holds =
         subst (λ (x : Book). BookCallsHold x own) (same_Some (h.books n) b (sym (get_listed (length s.lines) n h.books less) ∙ at)) (holds n l.0 own l.1 trace)
 
 pub network_holds : SwitchPathLaw
-network_holds = record { begins = begins; frames = frame_after; timers = timer_after; elapses = elapse_after; out = out_after; restarts = restart_after; partner = partner_after; promise = promise }
+network_holds = record { begins = begins; frames = frame_after; timers = timer_after; elapses = elapse_after; out = out_after; restarts = restart_after; partner = partner_after; addresses = addresses_are; promise = promise }

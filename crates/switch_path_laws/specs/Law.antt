@@ -3,6 +3,7 @@ use Rattle.std.specs.Prelude.{◌≡◌, ℕ, Bool, ◌==◌, if◌then◌else�
 use Rattle.link_timers.specs.declared.role.Role.TheVariants.{Dte}
 use Rattle.link_timers.specs.declared.timers.TimerId.{TimerId}
 use Rattle.lapb.specs.Machine.{Octets}
+use Rattle.call_records.specs.Records.{RecordValue}
 use Rattle.call_records.specs.Writes.{Write, all_written}
 use Rattle.call_records.specs.Register.{LinePlan, all_written_at}
 use Rattle.address_routes.specs.Routes.{RouteMap}
@@ -14,6 +15,7 @@ use Rattle.switch_lines.specs.Switch.{Switch, on_frame, on_timer, elapse, restar
 use Rattle.switch_laws.specs.Turn.{AreOctets}
 use Rattle.switch_laws.specs.Steps.{Happening}
 use Rattle.switch_laws.specs.Steps.Happening.{Brings, RunsOut}
+use Rattle.switch_record_laws.specs.Written.{Books}
 use Rattle.switch_record_laws.specs.Kept.{Partner, Partners, BeginWith, line_with}
 use Rattle.switch_record_laws.specs.Tied.{Histories, IsTied, happened, restarted, gone_out, sent_out}
 use Rattle.joined_call_laws.specs.Calls.{JoinedCall}
@@ -97,6 +99,25 @@ PartnerLaw = (plan : Plan) (n : ℕ) (l : SwitchLine) (p : Partner) (ws : List W
     → Kept p.setting (all_written Dte ws (h.books n)) (line_with p l.end) → IsNetwork plan s h cs w traces
     → AfterPartner plan n p ws s h cs w
 
+-- ---- the addresses of joined calls
+
+-- the call goes on with the address that was called, as calling one with that of the line that it came on, and on the
+-- line of its route
+pub record HasAddresses (plan : Plan) (bs : Books) (c : JoinedCall) : Type 0 where
+  pub near_record : RecordValue
+  pub far_record : RecordValue
+  pub near_there : slice_get (bs c.near.line).records c.came_in ≡ Some near_record
+  pub far_there : slice_get (bs c.far.line).records c.placed ≡ Some far_record
+  pub called : far_record.far ≡ near_record.own
+  pub calling : far_record.own ≡ Some (plan.address c.near.line)
+  pub routed : c.far.line ≡ plan.route far_record.node near_record.own
+
+-- so it is of each joined call, whether it stands or is over
+abbrev pub AddressLaw : Type 0
+AddressLaw = (plan : Plan) (s : Switch) (h : Histories) (cs : List JoinedCall) (w : World)
+    (traces : List (List Origin)) → IsNetwork plan s h cs w traces → (i : ℕ) (c : JoinedCall) → slice_get cs i ≡ Some c
+    → HasAddresses plan h.books c
+
 -- ---- the promise
 
 -- where the calls of each line's book hold, the register promises of each pair what one of paths does: caller and
@@ -116,4 +137,5 @@ pub record SwitchPathLaw : Type 0 where
   pub out : OutLaw
   pub restarts : RestartLaw
   pub partner : PartnerLaw
+  pub addresses : AddressLaw
   pub promise : PromiseLaw
