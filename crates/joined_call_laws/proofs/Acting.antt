@@ -40,7 +40,7 @@ use Rattle.switch_laws.proofs.Telling.{GoesOn}
 use Rattle.switch_laws.proofs.Places.{joined_kept, place_after, some_there}
 use Rattle.switch_laws.proofs.Effects.{Effect, IsStep}
 use Rattle.switch_laws.proofs.Effects.Effect.{nothing, closes_all, on_one}
-use Rattle.switch_laws.proofs.SettingUp.{pair_call, accepts_call}
+use Rattle.switch_laws.proofs.SettingUp.{pair_call}
 use Rattle.switch_laws.proofs.Turning.{LineEffect, EndEffect, reads_first, layer_got}
 use Rattle.switch_record_laws.specs.Records.{AreApart}
 use Rattle.switch_record_laws.specs.Written.{Books, HaveRecords, books_after_all}
@@ -62,7 +62,7 @@ use Rattle.switch_record_laws.specs.Opened.{HasSlot}
 use Rattle.switch_record_laws.specs.Kept.{Partners, AreKept}
 use Rattle.joined_call_laws.proofs.Closing.{Side, IsAbsent, TouchesAt, touched_slot, SameEpochs, epochs_itself, epochs_then, relayed_same, closed_there, closed_absent}
 use Rattle.joined_call_laws.proofs.Telling.{InHand, Marks, Told as ToldOne, closed_told, IsClosing, closings_told, marks_calls}
-use Rattle.joined_call_laws.proofs.Answering.{alone_walk, call_present}
+use Rattle.joined_call_laws.proofs.Answering.{alone_walk}
 
 -- ---- what notes write
 
@@ -282,9 +282,11 @@ module _ (routes : RouteMap) (n : ℕ) (what : Happening) (ls : List SwitchLine)
       let ss = heed_all_steps routes n notes ms in
       let lines = heed_all_lines routes n notes ms bs1 in
       let steady = plains_steady routes n notes ms plain in
-      walked_quiet (And AreCalls R) ss ms bs1 cs (heed_all routes n notes ms) lines (steadies_none ss ms bs1 steady)
-      (subst (λ (ks : List SwitchLine). AreCalls ks (books_by_all ss ms bs1) cs) lines
-      (calls_same ms (steps.lines_after_all ss ms) bs1 (books_by_all ss ms bs1) cs mutual_ms (steadies_same ss ms bs1 steady) (calls_same ls ms bs bs1 cs mutual_ls (same_ms slots) a)), steady_keep R keeps sends ss ms bs1 cs steady mutual_ms (calls_same ls ms bs bs1 cs mutual_ls (same_ms slots) a) kept1)
+      walked_quiet (And AreCalls R) ss ms bs1 cs (heed_all routes n notes ms) lines (steadies_none ss ms bs1 steady) (
+        subst (λ (ks : List SwitchLine). AreCalls ks (books_by_all ss ms bs1) cs) lines
+            (calls_same ms (steps.lines_after_all ss ms) bs1 (books_by_all ss ms bs1) cs mutual_ms (steadies_same ss ms bs1 steady) (calls_same ls ms bs bs1 cs mutual_ls (same_ms slots) a)),
+        steady_keep R keeps sends ss ms bs1 cs steady mutual_ms (calls_same ls ms bs bs1 cs mutual_ls (same_ms slots) a) kept1,
+      )
     where
       slots : (y : Place) (j : Joined) → joined_at ls y ≡ Some j → present_at y bs1 ≡ present_at y bs
       slots y j e =

@@ -8,7 +8,7 @@ use Rattle.link_timers.specs.declared.role.Role.TheVariants.{Dce}
 use Rattle.packet_codec.specs.Diagnostic.{no_information}
 use Rattle.packet_layer.specs.Packets.{CallParts, Note}
 use Rattle.packet_layer.specs.Packets.Note.{Incoming, Connected, Closed, WasReset, InterruptConfirmed, Covered}
-use Rattle.packet_layer.specs.Channel.{CallState, Channel, may_accept, had_call, is_ready, is_free}
+use Rattle.packet_layer.specs.Channel.{CallState, Channel, had_call, is_ready, is_free}
 use Rattle.packet_layer.specs.Channel.Request.{Clearing}
 use Rattle.packet_layer.specs.Layer.{Layer, channel_of, channel_given}
 use Rattle.packet_laws.specs.Readable.{Every}
@@ -290,17 +290,20 @@ module _ (routes : RouteMap) (given : List (List ℕ)) (R : Books → List Joine
         after = books_by (Places q.line to) ls bs;
         new = record { near = p; far = q; came_in = came.number; placed = length (bs q.line).records } ∷ [];
         leads = joins_lead p q to ls bs cs m b a none was came.number came.present f places;
-        holds = (calls_then p q to ls bs cs m b a none was came.number came.present f places, joins p q parts ls bs cs (record {
-          calls = a;
-          beside = b;
-          came_in = came;
-          not_joined = none;
-          free = f;
-          routed = joins_by_route routes ls parts q is;
-          apart = apart p q to ls bs cs m b a none was came.number came.present f places;
-          lines = same;
-          there = was;
-        }) r);
+        holds = (
+          calls_then p q to ls bs cs m b a none was came.number came.present f places,
+          joins p q parts ls bs cs (record {
+            calls = a;
+            beside = b;
+            came_in = came;
+            not_joined = none;
+            free = f;
+            routed = joins_by_route routes ls parts q is;
+            apart = apart p q to ls bs cs m b a none was came.number came.present f places;
+            lines = same;
+            there = was;
+          }) r,
+        );
       }
 
   pub incoming_walk : (n c : ℕ) (parts : CallParts) (ls : List SwitchLine) (bs : Books) (cs : List JoinedCall) → Mutual ls → Beside ls bs → HavePlaces ls → AreCalls ls bs cs → joined_at ls (at n c) ≡ None

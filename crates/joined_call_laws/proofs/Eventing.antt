@@ -101,20 +101,23 @@ module _ (routes : RouteMap) (given : List (List ℕ)) (R : Books → List Joine
     after = a.after;
     new = a.new;
     leads = a.leads;
-    holds = (record {
-      legs = b.world;
-      switch = b.right;
-      records = subst (λ (y : Books). HaveRecords (layers_of ms) b.world y) same
-          (subst (λ (ys : List Layer). HaveRecords ys b.world (books_after_all (acts_of_all steps ls) (layers_of ls) bs)) (sym b.reached.layers)
-          (subst (λ (v : World). HaveRecords (after_acts (acts_of_all steps ls) (layers_of ls)) v (books_after_all (acts_of_all steps ls) (layers_of ls) bs)) (sym b.reached.legs)
-          (acts_write (acts_of_all steps ls) (layers_of ls) x.legs bs b.reached.may x.switch.world x.records)));
-      calls = a.holds.0;
-      partners = partners_after_all steps x.partners;
-      kept = subst (λ (y : Books). AreKept (partners_after_all steps x.partners) y ms) same
-          (subst (λ (ks : List SwitchLine). AreKept (partners_after_all steps x.partners) (books_after_all (acts_of_all steps ls) (layers_of ls) bs) ks) a.leads.lines (steps_kept steps x.partners bs ls fits x.kept));
-      addressed = addressed_then steps ls ms a.leads.lines x.addressed;
-      lines = addresses_led steps ls ms given a.leads.lines x.lines;
-    }, a.holds.1);
+    holds = (
+      record {
+        legs = b.world;
+        switch = b.right;
+        records = subst (λ (y : Books). HaveRecords (layers_of ms) b.world y) same
+            (subst (λ (ys : List Layer). HaveRecords ys b.world (books_after_all (acts_of_all steps ls) (layers_of ls) bs)) (sym b.reached.layers)
+            (subst (λ (v : World). HaveRecords (after_acts (acts_of_all steps ls) (layers_of ls)) v (books_after_all (acts_of_all steps ls) (layers_of ls) bs)) (sym b.reached.legs)
+            (acts_write (acts_of_all steps ls) (layers_of ls) x.legs bs b.reached.may x.switch.world x.records)));
+        calls = a.holds.0;
+        partners = partners_after_all steps x.partners;
+        kept = subst (λ (y : Books). AreKept (partners_after_all steps x.partners) y ms) same
+            (subst (λ (ks : List SwitchLine). AreKept (partners_after_all steps x.partners) (books_after_all (acts_of_all steps ls) (layers_of ls) bs) ks) a.leads.lines (steps_kept steps x.partners bs ls fits x.kept));
+        addressed = addressed_then steps ls ms a.leads.lines x.addressed;
+        lines = addresses_led steps ls ms given a.leads.lines x.lines;
+      },
+      a.holds.1,
+    );
   }
     where
       same : books_after_all (acts_of_all steps ls) (layers_of ls) bs ≡ a.after
@@ -149,12 +152,14 @@ module _ (routes : RouteMap) (given : List (List ℕ)) (R : Books → List Joine
           let gone : slice_get l1 n ≡ None = ap (λ (ks : List SwitchLine). slice_get ks n) (changed_none n g ls e) ∙ e in
           let same : ms ≡ ls = changed_none n (with_end without_notes) l1 gone ∙ changed_none n g ls e in
           first (subst (λ (o : Option SwitchLine). Walked (And AreCalls R) (heed_all_steps routes n (notes_of o) ms) ms (books_by (Happens n what) ls bs) cs (heed_all routes n (notes_of o) ms)) (sym gone)
-          (walked_quiet (And AreCalls R) [] ms (books_by (Happens n what) ls bs) cs ms refl refl
-          (subst (λ (ks : List SwitchLine). AreCalls ks (books_by (Happens n what) ls bs) cs) (sym same) (calls_same ls ls bs (books_by (Happens n what) ls bs) cs (switch_mutual ls x.legs x.switch) (record {
-            joins = λ y. refl;
-            slots = λ y j f. acts_slots (acts_of (Happens n what) ls) (layers_of ls) bs y (subst (λ (o : Option SwitchLine). Every IsMildAct (Act.Reads n ∷ on_line (λ z. happening_acts n what z) o)) (sym e) (tt, tt));
-            rests = λ k m rec s. books_rest (acts_of (Happens n what) ls) (layers_of ls) bs k m rec s;
-          }) x.calls), keeps (acts_of (Happens n what) ls) (layers_of ls) bs cs (step_quiet (Happens n what) ls tt) r)))
+          (walked_quiet (And AreCalls R) [] ms (books_by (Happens n what) ls bs) cs ms refl refl (
+            subst (λ (ks : List SwitchLine). AreCalls ks (books_by (Happens n what) ls bs) cs) (sym same) (calls_same ls ls bs (books_by (Happens n what) ls bs) cs (switch_mutual ls x.legs x.switch) (record {
+              joins = λ y. refl;
+              slots = λ y j f. acts_slots (acts_of (Happens n what) ls) (layers_of ls) bs y (subst (λ (o : Option SwitchLine). Every IsMildAct (Act.Reads n ∷ on_line (λ z. happening_acts n what z) o)) (sym e) (tt, tt));
+              rests = λ k m rec s. books_rest (acts_of (Happens n what) ls) (layers_of ls) bs k m rec s;
+            }) x.calls),
+            keeps (acts_of (Happens n what) ls) (layers_of ls) bs cs (step_quiet (Happens n what) ls tt) r,
+          )))
 
   acted_good : (n : ℕ) (what : Happening) (ls : List SwitchLine) (bs : Books) (cs : List JoinedCall) → ((line : SwitchLine) → slice_get ls n ≡ Some line → EndEffect n what line.end) → ReadsOctets what → (x : Good given ls bs cs) → IsFit (Happens n what) x.partners → R bs cs
       → Walked (And (Good given) R) (acted_steps routes n what ls) ls bs cs (acted routes n (does what) ls)

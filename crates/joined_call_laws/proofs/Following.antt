@@ -1,6 +1,6 @@
 -- What else may be kept beside the joined calls: it stays over acts that place no call, and where a call is joined.
-use Rattle.std.specs.Prelude.{◌≡◌, ◌≤◌, ℕ, zero, suc, ◌⊎◌, Bool, true, false, if◌then◌else◌, List, [], ◌∷◌, ◌++◌, length, map, slice_get, Option, Some, None, is_some}
-use Rattle.std.proofs.Common.{inl, inr, refl, sym, ap, ap₂, subst, ◌∙◌, true≢false, option_map}
+use Rattle.std.specs.Prelude.{◌≡◌, ◌≤◌, ℕ, zero, suc, Bool, true, false, if◌then◌else◌, List, [], ◌∷◌, ◌++◌, length, map, slice_get, Option, Some, None, is_some}
+use Rattle.std.proofs.Common.{inl, inr, refl, sym, ap, ap₂, subst, ◌∙◌, option_map}
 use Rattle.std.proofs.lemmas.Option.{none-some, same_Some}
 use Rattle.link_timers.specs.declared.role.Role.{Role}
 use Rattle.link_timers.specs.declared.role.Role.TheVariants.{Dte, Dce}
@@ -50,11 +50,10 @@ use Rattle.switch_laws.specs.Steps.Step.{Asks, Places, Keeps, Offers, Begins, Se
 use Rattle.switch_laws.specs.Steps.{Step as step}
 use Rattle.switch_laws.proofs.Outcomes.{AreOf}
 use Rattle.switch_laws.proofs.SettingUp.{IsFreePlace}
-use Rattle.switch_record_laws.specs.Opened.{HasSlot, Opens}
+use Rattle.switch_record_laws.specs.Opened.{HasSlot}
 use Rattle.switch_record_laws.specs.Written.{Books, books_after_all}
 use Rattle.switch_record_laws.proofs.Cells.{Touches, touches_closed, changes}
 use Rattle.switch_record_laws.proofs.Heads.{comes_opens}
-use Rattle.switch_record_laws.proofs.Notes.{told_touches}
 use Rattle.joined_call_laws.specs.Calls.{JoinedCall, present_at, books_by, books_by_all, AreCalls}
 use Rattle.joined_call_laws.proofs.Steady.{OnJoined, IsSteady, AreSteady, Mutual, mutual_stays, steady_same, calls_same}
 use Rattle.joined_call_laws.proofs.Walking.{Beside, there_step}

@@ -62,8 +62,8 @@ abbrev pub PartnerCalls : Type 0
 PartnerCalls = (n : ℕ) (ws : List Write) (s : Switch) (h : Histories) (cs : List JoinedCall) → IsTied s h
     → AreCalls s.lines h.books cs → AreCalls s.lines (written_there n ws h.books) cs
 
--- so of each call that was joined, whether it stands or is over, what the switch sent on each leg is what it took on the
--- other one
+-- so of each call that was joined, whether it stands or is over, what the switch sent on each leg is what it took on
+-- the other one
 pub record HasRelayed (bs : Books) (c : JoinedCall) : Type 0 where
   pub near_record : RecordValue
   pub far_record : RecordValue

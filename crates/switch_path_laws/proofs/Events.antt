@@ -3,25 +3,25 @@ use Rattle.std.specs.Prelude.{◌≡◌, ◌≢◌, ◌≤◌, ℕ, zero, suc, �
 use Rattle.std.proofs.Common.{inl, inr, refl, sym, ap, ap₂, subst, ◌∙◌, true≢false, arith, option_map, append-nil}
 use Rattle.std.proofs.lemmas.Option.{none-some, same_Some, slice_get_within}
 use Rattle.std.proofs.lemmas.Bool.{eqb-true, eq-eqb, ltb-true, lt-ltb}
+use Rattle.link_timers.specs.declared.role.Role.{Role}
 use Rattle.link_timers.specs.declared.role.Role.TheVariants.{Dte, Dce}
+use Rattle.book_laws.specs.Headline.{sent_by}
 use Rattle.epochs.specs.ConfirmedLaws.{AreEmpty}
 use Rattle.packet_layer.specs.Layer.{Layer, link_down}
-use Rattle.packet_laws.specs.Readable.{Every}
-use Rattle.packet_end.specs.PacketEnd.{PacketEnd}
 use Rattle.address_routes.specs.Routes.{RouteMap, line_for}
 use Rattle.call_records.specs.Records.{RecordValue}
-use Rattle.call_records.specs.Book.{Book, address_of}
+use Rattle.call_records.specs.Book.{Book}
 use Rattle.call_records.specs.Writes.{Write, all_written}
 use Rattle.call_records.specs.Writes.Write.{Told}
-use Rattle.call_records.specs.Register.{Register, book_at, LinePlan}
+use Rattle.call_records.specs.Register.{book_at}
 use Rattle.book_laws.proofs.Basics.{number_is, get_there}
 use Rattle.register_laws.proofs.Positions.{is_place}
-use Rattle.register_laws.specs.Seen.{positions, LineIsSeen, RecordIsSeen, renumbered}
+use Rattle.register_laws.specs.Seen.{positions, RecordIsSeen, renumbered}
 use Rattle.line_record_laws.specs.Kept.{Kept}
 use Rattle.switch_lines.specs.Lines.{SwitchLine}
-use Rattle.switch_lines.specs.Switch.{Switch, with_end, on_frame, on_timer, elapse, restart, without_joins, finished, acted, all_begun}
+use Rattle.switch_lines.specs.Switch.{Switch, on_frame, on_timer, elapse, restart, without_joins, finished, acted, all_begun}
 use Rattle.switch_laws.specs.World.{layers_of}
-use Rattle.switch_laws.specs.Steps.{Happening, does, lines_after_all}
+use Rattle.switch_laws.specs.Steps.{Happening, does}
 use Rattle.switch_laws.specs.Steps.Happening.{Brings, RunsOut}
 use Rattle.switch_laws.specs.Steps.Step.{Happens, Elapses}
 use Rattle.switch_laws.specs.EventSteps.{event_steps}
@@ -29,32 +29,31 @@ use Rattle.switch_laws.proofs.Leading.{event_leads}
 use Rattle.switch_laws.proofs.Lists.{get_map, map_unchanged, decided}
 use Rattle.switch_laws.proofs.Turning.{timer_effect, EndEffect}
 use Rattle.switch_record_laws.specs.Records.{AreRecords}
-use Rattle.switch_record_laws.specs.Written.{Books, restart_writes, restarted_books, HaveRecords}
-use Rattle.switch_record_laws.specs.Kept.{Partner, Partners, AreKept, IsFit, ReadsOctets, line_with, all_frames_out}
-use Rattle.switch_record_laws.specs.Tied.{Histories, IsTied, happened, restarted, gone_out, sent_out}
+use Rattle.switch_record_laws.specs.Written.{Books, restart_writes}
+use Rattle.switch_record_laws.specs.Kept.{Partner, IsFit, ReadsOctets, line_with, all_frames_out}
+use Rattle.switch_record_laws.specs.Tied.{Histories, IsTied, happened, restarted, gone_out}
 use Rattle.switch_record_laws.proofs.Calming.{addresses}
 use Rattle.switch_record_laws.proofs.Confirming.{relayed_confirm}
 use Rattle.switch_record_laws.proofs.Partner.{partner_leaves}
 use Rattle.switch_record_laws.proofs.Tying.{tied_holds}
-use Rattle.joined_call_laws.specs.Calls.{JoinedCall, AreCalls}
+use Rattle.joined_call_laws.specs.Calls.{JoinedCall}
 use Rattle.joined_call_laws.specs.Law.{calls_in, written_there, HasRelayed}
-use Rattle.joined_call_laws.proofs.Following.{And, addresses_led}
+use Rattle.joined_call_laws.proofs.Following.{addresses_led}
 use Rattle.joined_call_laws.proofs.Closing.{if_apart}
 use Rattle.joined_call_laws.proofs.Eventing.{calls_after, frame_effect, calls_hold}
-use Rattle.call_path_laws.specs.World.{Origin, World, Plan, AreAddressed, AreBetween, made_world}
+use Rattle.call_path_laws.specs.World.{Origin, World, Plan, made_world, calling_on}
 use Rattle.call_path_laws.specs.Seen.{IsJoined}
 use Rattle.call_path_laws.specs.Forwards.{IsRelayed}
-use Rattle.call_path_laws.specs.Lines.{LinesSeen, BookCallsHold, free_book}
-use Rattle.call_path_laws.specs.Promise.{PathsHold}
+use Rattle.call_path_laws.specs.Lines.{LinesSeen, BookCallsHold}
 use Rattle.call_path_laws.proofs.Making.{made_seen}
 use Rattle.call_path_laws.proofs.Freeing.{made_lines}
 use Rattle.call_path_laws.proofs.Lining.{lines_hold}
 use Rattle.call_path_laws.proofs.Forwarding.{made_handed_on, relayed_joins}
 use Rattle.call_path_laws.proofs.Promising.{promised}
-use Rattle.switch_path_laws.specs.Network.{IsPlanned, listed, all_handed, lines_of, JoinIs, IsSeen, IsNetwork}
-use Rattle.switch_path_laws.specs.Law.{BeginLaw, AfterEvent, FrameLaw, TimerLaw, ElapseLaw, OutLaw, AfterRestart, RestartLaw, with_partner, partner_acted, AfterPartner, PartnerLaw, SendsOnJoined, PromiseLaw, SwitchPathLaw}
-use Rattle.switch_path_laws.proofs.Listing.{get_listed, lines_length, length_listed, same_listed, Found, join_found}
-use Rattle.switch_path_laws.proofs.Seeing.{line_seen, own_trace, Moved, Beyond, stays_quietly, stays_joining, switch_writes, user_writes, same_books}
+use Rattle.switch_path_laws.specs.Network.{IsPlanned, listed, all_handed, lines_of, IsInJoin, IsSeen, IsNetwork}
+use Rattle.switch_path_laws.specs.Law.{BeginLaw, AfterEvent, FrameLaw, TimerLaw, ElapseLaw, OutLaw, RestartLaw, partner_acted, PartnerLaw, AddressLaw, PromiseLaw, SwitchPathLaw}
+use Rattle.switch_path_laws.proofs.Listing.{get_listed, lines_length, length_listed, join_found, join_at}
+use Rattle.switch_path_laws.proofs.Seeing.{line_seen, own_trace, Moved, Beyond, silently, stays_quietly, stays_sending, stays_joining, switch_writes, user_writes, same_books}
 
 -- ---- the plan stays
 
@@ -112,10 +111,11 @@ event_after plan n what s t h cs w traces is routes eff reads fits tied i =
     let count = length s.lines in
     let given = addresses s.lines in
     let keeps = stays_quietly plan count p.switch_end p.user_end cs w.register in
+    let sends = stays_sending plan count p.switch_end p.user_end cs w.register in
     let joins = stays_joining plan count p.switch_end p.user_end s.routes given (sym (length_addresses s.lines)) p.one_switch
     (λ m a e. let l = address_got s.lines m a e in sym l.1.1 ∙ p.address m l.0 l.1.0) p.addressed p.route cs w.register in
     let start : Beyond plan count p.switch_end p.user_end cs w.register h.books cs = record { new = []; is = sym (append-nil cs); moved = record { world = w; traces = traces; is = i.seen; same = refl } } in
-    let a = calls_after (Beyond plan count p.switch_end p.user_end cs w.register) keeps n what s t h cs joins is eff reads fits i.tied i.calls start in
+    let a = calls_after (Beyond plan count p.switch_end p.user_end cs w.register) keeps sends n what s t h cs joins is eff reads fits i.tied i.calls start in
     let same : addresses t.lines ≡ addresses s.lines = addresses_led (event_steps s.routes n what s.lines) s.lines t.lines (addresses s.lines) (event_leads s.routes n what s.lines ∙ sym is) refl in
     let new : a.1.new ≡ calls_in n what s h = same_rest cs a.1.new (calls_in n what s h) (sym a.1.is) in
     record {
@@ -217,7 +217,7 @@ restarts_partly plan count (suc k) switch_end user_end ys bs cs w traces h i =
               | inr ne ↦ apart n ne
             ]) m.is
         by_layer (Some l) e =
-            switch_writes plan count switch_end user_end k (Told (link_down l).notes ∷ []) (partly k ys bs) (partly (suc k) ys bs) cs m.world m.traces f (tt, tt)
+            switch_writes plan count switch_end user_end k (Told (link_down l).notes ∷ []) (partly k ys bs) (partly (suc k) ys bs) cs m.world m.traces f (tt, tt) (silently plan count switch_end user_end k (Told (link_down l).notes ∷ []) m.world m.is.lines.owned (tt, tt))
             (here ∙ (ap (λ (o : Option Layer). restart_writes o (bs k)) e ∙ ap (λ (b : Book). all_written Dce (Told (link_down l).notes ∷ []) b) (sym before))) apart m.is
 
 restart_after : RestartLaw
@@ -289,10 +289,46 @@ begins plan routes configs plans h is planned between books tied = record {
     lines = subst (λ (bs : List Book). LinesSeen (made_world plans).whole [] bs (map (λ line. []) plans)) (sym books) (made_lines plans);
     joins = tt;
     handed = made_handed_on plan plans;
+    sends = λ a o r at dce there. absurd (none-some o at);
   };
 }
 
 -- ---- the promise
+
+-- a numbered record is of a line that is there
+line_less : (plan : Plan) (s : Switch) (h : Histories) (cs : List JoinedCall) (w : World) (traces : List (List Origin)) → IsNetwork plan s h cs w traces → (n m : ℕ) → slice_get (lines_of w.origins) m ≡ Some n → n < length s.lines
+line_less plan s h cs w traces i n m owner =
+    let there : m < length i.seen.lines.seen.owners = subst (λ (x : ℕ). m < x) (lines_length w.origins ∙ (i.seen.lines.owned ∙ sym i.seen.lines.seen.records_owned)) (slice_get_within (lines_of w.origins) m n owner) in
+    let some = get_there i.seen.lines.seen.owners m there in
+    let within : some.0 < length s.lines = subst (λ (c : ℕ). some.0 < c) (length_listed (length s.lines) h.books) (i.seen.lines.seen.of_lines m some.0 some.1) in
+    let own = own_trace plan (length s.lines) some.0 h.books cs w traces within i.seen in
+    let same : i.seen.lines.seen.owners ≡ lines_of w.origins = (i.seen.lines.lines some.0 own.0 own.1).owners_are in
+    let is : some.0 ≡ n = same_Some some.0 n (sym some.1 ∙ (ap (λ (owners : List ℕ). slice_get owners m) same ∙ owner)) in
+    subst (λ (x : ℕ). x < length s.lines) is within
+
+-- a call that came in at the switch is joined, or the switch sent nothing on it
+sends_so : (plan : Plan) (s : Switch) (h : Histories) (cs : List JoinedCall) (w : World) (traces : List (List Origin)) → IsNetwork plan s h cs w traces → (a x : ℕ) (o : Origin) (r : RecordValue) → slice_get w.origins a ≡ Some o → o.caller ≡ Some x
+    → plan.has_user o.line o.role ≡ false → slice_get w.whole.records a ≡ Some r → AreEmpty (sent_by r) ⊎ ((b : ℕ) × IsJoined w.joins a b)
+sends_so plan s h cs w traces i a x o r at came switch there = by_role o.role refl
+  where
+    owner : (os : List Origin) (k : ℕ) → slice_get os k ≡ Some o → slice_get (lines_of os) k ≡ Some o.line
+    owner [] k e = absurd (none-some o e)
+    owner (y ∷ os) zero e = ap (λ (z : Origin). Some z.line) (same_Some y o e)
+    owner (y ∷ os) (suc k) e = owner os k e
+
+    by_join : AreEmpty (sent_by r) ⊎ IsInJoin w.joins a → AreEmpty (sent_by r) ⊎ ((b : ℕ) × IsJoined w.joins a b)
+    by_join (inl e) = inl e
+    by_join (inr (inl j)) = inr j
+    by_join (inr (inr j)) =
+        let k = i.seen.seen.records.joined j.0 a j.1 in
+        let same : k.to ≡ o = same_Some k.to o (sym k.to_there ∙ at) in
+        absurd (none-some x (sym k.placed ∙ (ap (λ (y : Origin). y.caller) same ∙ came)))
+
+    by_role : (y : Role) → o.role ≡ y → AreEmpty (sent_by r) ⊎ ((b : ℕ) × IsJoined w.joins a b)
+    by_role Dce e = by_join (i.seen.sends a o r at e there)
+    by_role Dte e =
+        let less = line_less plan s h cs w traces i o.line a (owner w.origins a at) in
+        absurd (true≢false (sym (i.planned.user_end o.line less) ∙ (ap (λ (y : Role). plan.has_user o.line y) (sym e) ∙ switch)))
 
 relays : (plan : Plan) (s : Switch) (h : Histories) (cs : List JoinedCall) (w : World) (traces : List (List Origin)) → IsNetwork plan s h cs w traces → (a b : ℕ) → IsJoined w.joins a b → IsRelayed w a b
 relays plan s h cs w traces i a b j =
@@ -308,27 +344,63 @@ relays plan s h cs w traces i a b j =
       backward = relayed_confirm _ _ f.holds.relayed.back;
     }
   where
-    -- a numbered record is of a line that is there
-    less : (n k m : ℕ) → slice_get (positions n (lines_of w.origins)) k ≡ Some m → n < length s.lines
-    less n k m e =
-        let owner = is_place n (lines_of w.origins) k m e in
-        let there : m < length i.seen.lines.seen.owners = subst (λ (x : ℕ). m < x) (lines_length w.origins ∙ (i.seen.lines.owned ∙ sym i.seen.lines.seen.records_owned)) (slice_get_within (lines_of w.origins) m n owner) in
-        let some = get_there i.seen.lines.seen.owners m there in
-        let within : some.0 < length s.lines = subst (λ (c : ℕ). some.0 < c) (length_listed (length s.lines) h.books) (i.seen.lines.seen.of_lines m some.0 some.1) in
-        let own = own_trace plan (length s.lines) some.0 h.books cs w traces within i.seen in
-        let same : i.seen.lines.seen.owners ≡ lines_of w.origins = (i.seen.lines.lines some.0 own.0 own.1).owners_are in
-        let is : some.0 ≡ n = same_Some some.0 n (sym some.1 ∙ (ap (λ (owners : List ℕ). slice_get owners m) same ∙ owner)) in
-        subst (λ (x : ℕ). x < length s.lines) is within
-
     whole_record : (n k m : ℕ) (r : RecordValue) → slice_get (positions n (lines_of w.origins)) k ≡ Some m → slice_get (h.books n).records k ≡ Some r → slice_get w.whole.records m ≡ Some (renumbered m r)
     whole_record n k m r e there =
-        let y = line_seen plan (length s.lines) n h.books cs w traces (less n k m e) i.seen in
+        let y = line_seen plan (length s.lines) n h.books cs w traces (line_less plan s h cs w traces i n m (is_place n (lines_of w.origins) k m e)) i.seen in
         let z : RecordIsSeen (h.books n).records (book_at n w.whole).records k m = y.records k m e in
         z.seen_there ∙ ap (λ (x : RecordValue). Some (renumbered m x)) (same_Some z.value r (sym z.own_there ∙ there))
 
+-- a record of the whole register is of the line of its origin
+line_of_origin : (os : List Origin) (k n : ℕ) (o : Origin) → slice_get os k ≡ Some o → slice_get (lines_of os) k ≡ Some n → o.line ≡ n
+line_of_origin [] k n o e f = absurd (none-some o e)
+line_of_origin (y ∷ os) zero n o e f = ap (λ (z : Origin). z.line) (sym (same_Some y o e)) ∙ same_Some y.line n f
+line_of_origin (y ∷ os) (suc k) n o e f = line_of_origin os k n o e f
+
+with_address : (a : List ℕ) (given : Option (List ℕ)) → (a ≡ [] → ⊥) → calling_on a given ≡ Some a
+with_address [] given h = absurd (h refl)
+with_address (d ∷ ds) given h = refl
+
+-- the record of this number in the book of a line, and the same in the whole register
+record InBoth (n k m : ℕ) (h : Histories) (w : World) : Type 0 where
+  pub value : RecordValue
+  pub own : slice_get (h.books n).records k ≡ Some value
+  pub whole : slice_get w.whole.records m ≡ Some (renumbered m value)
+  pub less : slice_get (lines_of w.origins) m ≡ Some n
+
+in_both : (plan : Plan) (s : Switch) (h : Histories) (cs : List JoinedCall) (w : World) (traces : List (List Origin)) → IsNetwork plan s h cs w traces → (n k m : ℕ) → slice_get (positions n (lines_of w.origins)) k ≡ Some m → InBoth n k m h w
+in_both plan s h cs w traces i n k m e =
+    let owner = is_place n (lines_of w.origins) k m e in
+    let y = line_seen plan (length s.lines) n h.books cs w traces (line_less plan s h cs w traces i n m owner) i.seen in
+    let z : RecordIsSeen (h.books n).records (book_at n w.whole).records k m = y.records k m e in
+    record { value = z.value; own = z.own_there; whole = z.seen_there; less = owner }
+
+addresses_are : AddressLaw
+addresses_are plan s h cs w traces i k c at =
+    let j = join_at w.origins cs w.joins k c i.seen.joins at in
+    let near = in_both plan s h cs w traces i c.near.line c.came_in j.0.came_in j.1.1.near in
+    let far = in_both plan s h cs w traces i c.far.line c.placed j.0.placed j.1.1.far in
+    let y = i.seen.handed j.0.came_in j.0.placed (record { place = k; there = j.1.0 }) in
+    let from : y.from ≡ renumbered j.0.came_in near.value = same_Some y.from _ (sym y.from_there ∙ near.whole) in
+    let to : y.to ≡ renumbered j.0.placed far.value = same_Some y.to _ (sym y.to_there ∙ far.whole) in
+    let line : y.from_origin.line ≡ c.near.line = line_of_origin w.origins j.0.came_in c.near.line y.from_origin y.from_came near.less in
+    let onto : y.to_origin.line ≡ c.far.line = line_of_origin w.origins j.0.placed c.far.line y.to_origin y.to_placed far.less in
+    let far_is : far.value.far ≡ y.to.far = ap (λ (r : RecordValue). r.far) (sym to) in
+    let own_is : y.from.own ≡ near.value.own = ap (λ (r : RecordValue). r.own) from in
+    record {
+      near_record = near.value;
+      far_record = far.value;
+      near_there = near.own;
+      far_there = far.own;
+      called = far_is ∙ (y.called ∙ own_is);
+      calling =
+          ap (λ (r : RecordValue). r.own) (sym to)
+          ∙ (y.calling ∙ (ap (λ (n : ℕ). calling_on (plan.address n) y.from.far) line ∙ with_address (plan.address c.near.line) y.from.far (i.planned.addressed c.near.line (line_less plan s h cs w traces i c.near.line j.0.came_in near.less))));
+      routed = sym onto ∙ (y.routed ∙ ap₂ (λ (n : ℕ) (d : Option (List ℕ)). plan.route n d) (ap (λ (r : RecordValue). r.node) to) (y.called ∙ own_is));
+    }
+
 promise : PromiseLaw
-promise plan s h cs w traces i holds sends =
-    promised plan w i.planned.alike i.seen.seen (lines_hold w (listed (length s.lines) h.books) traces i.seen.lines each) (relayed_joins plan w i.seen.handed (relays plan s h cs w traces i) sends)
+promise plan s h cs w traces i holds =
+    promised plan w i.planned.alike i.seen.seen (lines_hold w (listed (length s.lines) h.books) traces i.seen.lines each) (relayed_joins plan w i.seen.handed (relays plan s h cs w traces i) (sends_so plan s h cs w traces i))
   where
     each : (n : ℕ) (b : Book) (own : List Origin) → slice_get (listed (length s.lines) h.books) n ≡ Some b → slice_get traces n ≡ Some own → BookCallsHold b own
     each n b own at trace =
@@ -337,4 +409,4 @@ promise plan s h cs w traces i holds sends =
         subst (λ (x : Book). BookCallsHold x own) (same_Some (h.books n) b (sym (get_listed (length s.lines) n h.books less) ∙ at)) (holds n l.0 own l.1 trace)
 
 pub network_holds : SwitchPathLaw
-network_holds = record { begins = begins; frames = frame_after; timers = timer_after; elapses = elapse_after; out = out_after; restarts = restart_after; partner = partner_after; promise = promise }
+network_holds = record { begins = begins; frames = frame_after; timers = timer_after; elapses = elapse_after; out = out_after; restarts = restart_after; partner = partner_after; addresses = addresses_are; promise = promise }

@@ -1,5 +1,5 @@
 -- Books in order, and numbers that stay as origins are added.
-use Rattle.std.specs.Prelude.{◌≡◌, ◌≢◌, ℕ, zero, suc, ◌+◌, ◌<◌, List, [], ◌∷◌, ◌++◌, length, map, set, slice_get, Option, Some, None}
+use Rattle.std.specs.Prelude.{◌≡◌, ◌≢◌, ◌⊎◌, ℕ, zero, suc, ◌+◌, ◌<◌, List, [], ◌∷◌, ◌++◌, length, set, slice_get, Option, Some, None}
 use Rattle.std.proofs.Common.{inl, inr, refl, sym, ap, ap₂, subst, ◌∙◌, append_assoc, append-nil, arith}
 use Rattle.std.proofs.lemmas.Option.{none-some, same_Some}
 use Rattle.link_timers.specs.declared.role.Role.{Role}
@@ -9,7 +9,7 @@ use Rattle.packet_laws.specs.Readable.{Every}
 use Rattle.call_records.specs.Book.{Book, told}
 use Rattle.call_records.specs.Writes.{Write, written_by}
 use Rattle.call_records.specs.Writes.Write.{Told, Placed, Asked, Said, Took, Cleared, Edited, AllClosed}
-use Rattle.book_laws.proofs.Basics.{get_before, number_is}
+use Rattle.book_laws.proofs.Basics.{get_before, get_there, number_is}
 use Rattle.register_laws.specs.Seen.{positions}
 use Rattle.register_laws.proofs.Positions.{one_here, one_elsewhere}
 use Rattle.switch_record_laws.specs.Written.{Books}
@@ -66,49 +66,74 @@ listed_set count n bs bs' h others =
 
 -- ---- origins are added behind those that are there
 
-pub record Grows (os ps : List Origin) : Type 0 where
+pub record Grows (role : Role) (os ps : List Origin) : Type 0 where
   pub more : List Origin
   pub is : ps ≡ os ++ more
+  pub roles : Every (λ o. o.role ≡ role) more
 
-grows_not : (os : List Origin) → Grows os os
-grows_not os = record { more = []; is = sym (append-nil os) }
+grows_not : (role : Role) (os : List Origin) → Grows role os os
+grows_not role os = record { more = []; is = sym (append-nil os); roles = tt }
 
-pub grows_by : (os more : List Origin) → Grows os (os ++ more)
-grows_by os more = record { more = more; is = refl }
+pub grows_one : (role : Role) (os : List Origin) (o : Origin) → o.role ≡ role → Grows role os (os ++ o ∷ [])
+grows_one role os o e = record { more = o ∷ []; is = refl; roles = (e, tt) }
 
-grows_then : (os ps qs : List Origin) → Grows os ps → Grows ps qs → Grows os qs
-grows_then os ps qs a b = record { more = a.more ++ b.more; is = b.is ∙ (ap (λ (xs : List Origin). xs ++ b.more) a.is ∙ append_assoc os a.more b.more) }
+every_both : (P : Origin → Type 0) (xs ys : List Origin) → Every P xs → Every P ys → Every P (xs ++ ys)
+every_both P [] ys p q = q
+every_both P (x ∷ xs) ys p q = (p.0, every_both P xs ys p.1 q)
 
-note_grows : (line : ℕ) (role : Role) (note : Note) (b : Book) (os : List Origin) → Grows os (noted line role note b os)
-note_grows line role (Incoming c parts) b os = grows_by os _
-note_grows line role (Connected c) b os = grows_not os
-note_grows line role (Closed c cause diagnostic reason) b os = grows_not os
-note_grows line role (WasReset c cause diagnostic reason) b os = grows_not os
-note_grows line role (InterruptConfirmed c) b os = grows_not os
-note_grows line role (Covered c k) b os = grows_not os
+grows_then : (role : Role) (os ps qs : List Origin) → Grows role os ps → Grows role ps qs → Grows role os qs
+grows_then role os ps qs a b = record {
+  more = a.more ++ b.more;
+  is = b.is ∙ (ap (λ (xs : List Origin). xs ++ b.more) a.is ∙ append_assoc os a.more b.more);
+  roles = every_both (λ o. o.role ≡ role) a.more b.more a.roles b.roles;
+}
 
-notes_grow : (line : ℕ) (role : Role) (notes : List Note) (b : Book) (os : List Origin) → Grows os (all_noted line role notes b os)
-notes_grow line role [] b os = grows_not os
+note_grows : (line : ℕ) (role : Role) (note : Note) (b : Book) (os : List Origin) → Grows role os (noted line role note b os)
+note_grows line role (Incoming c parts) b os = grows_one role os _ refl
+note_grows line role (Connected c) b os = grows_not role os
+note_grows line role (Closed c cause diagnostic reason) b os = grows_not role os
+note_grows line role (WasReset c cause diagnostic reason) b os = grows_not role os
+note_grows line role (InterruptConfirmed c) b os = grows_not role os
+note_grows line role (Covered c k) b os = grows_not role os
+
+notes_grow : (line : ℕ) (role : Role) (notes : List Note) (b : Book) (os : List Origin) → Grows role os (all_noted line role notes b os)
+notes_grow line role [] b os = grows_not role os
 notes_grow line role (note ∷ notes) b os =
-    grows_then os (noted line role note b os) _ (note_grows line role note b os) (notes_grow line role notes (told role note b) (noted line role note b os))
+    grows_then role os (noted line role note b os) _ (note_grows line role note b os) (notes_grow line role notes (told role note b) (noted line role note b os))
 
-placed_grows : (line : ℕ) (role : Role) (o : Option ℕ) (os : List Origin) → Grows os (with_placed line role o os)
-placed_grows line role None os = grows_not os
-placed_grows line role (Some c) os = grows_by os _
+placed_grows : (line : ℕ) (role : Role) (o : Option ℕ) (os : List Origin) → Grows role os (with_placed line role o os)
+placed_grows line role None os = grows_not role os
+placed_grows line role (Some c) os = grows_one role os _ refl
 
-write_grows : (line : ℕ) (role : Role) (w : Write) (b : Book) (os : List Origin) → Grows os (traced line role w b os)
+write_grows : (line : ℕ) (role : Role) (w : Write) (b : Book) (os : List Origin) → Grows role os (traced line role w b os)
 write_grows line role (Told notes) b os = notes_grow line role notes b os
 write_grows line role (Placed o parts) b os = placed_grows line role o os
-write_grows line role (Asked o c q f) b os = grows_not os
-write_grows line role (Said o c ds) b os = grows_not os
-write_grows line role (Took c t) b os = grows_not os
-write_grows line role (Cleared o c) b os = grows_not os
-write_grows line role (Edited c step) b os = grows_not os
-write_grows line role AllClosed b os = grows_not os
+write_grows line role (Asked o c q f) b os = grows_not role os
+write_grows line role (Said o c ds) b os = grows_not role os
+write_grows line role (Took c t) b os = grows_not role os
+write_grows line role (Cleared o c) b os = grows_not role os
+write_grows line role (Edited c step) b os = grows_not role os
+write_grows line role AllClosed b os = grows_not role os
 
-pub writes_grow : (line : ℕ) (role : Role) (ws : List Write) (b : Book) (os : List Origin) → Grows os (all_traced line role ws b os)
-writes_grow line role [] b os = grows_not os
-writes_grow line role (w ∷ ws) b os = grows_then os (traced line role w b os) _ (write_grows line role w b os) (writes_grow line role ws (written_by role w b) (traced line role w b os))
+pub writes_grow : (line : ℕ) (role : Role) (ws : List Write) (b : Book) (os : List Origin) → Grows role os (all_traced line role ws b os)
+writes_grow line role [] b os = grows_not role os
+writes_grow line role (w ∷ ws) b os = grows_then role os (traced line role w b os) _ (write_grows line role w b os) (writes_grow line role ws (written_by role w b) (traced line role w b os))
+
+-- an origin of these was there, or is one of those that were added
+before_or_more : (P : Origin → Type 0) (os more : List Origin) (a : ℕ) (o : Origin) → Every P more → slice_get (os ++ more) a ≡ Some o → (slice_get os a ≡ Some o) ⊎ P o
+before_or_more P [] [] a o h e = absurd (none-some o e)
+before_or_more P [] (x ∷ more) zero o h e = inr (subst (λ (y : Origin). P y) (same_Some x o e) h.0)
+before_or_more P [] (x ∷ more) (suc a) o h e = elim (before_or_more P [] more a o h.1 e) [ inl f ↦ absurd (none-some o f) | inr p ↦ inr p ]
+before_or_more P (x ∷ os) more zero o h e = inl e
+before_or_more P (x ∷ os) more (suc a) o h e = before_or_more P os more a o h e
+
+pub old_or_new : (role : Role) (os ps : List Origin) (a : ℕ) (o : Origin) → Grows role os ps → slice_get ps a ≡ Some o → (slice_get os a ≡ Some o) ⊎ (o.role ≡ role)
+old_or_new role os ps a o g e = before_or_more (λ x. x.role ≡ role) os g.more a o g.roles (ap (λ (xs : List Origin). slice_get xs a) (sym g.is) ∙ e)
+
+pub old_origin : (role : Role) (os ps : List Origin) (a : ℕ) (o : Origin) → Grows role os ps → a < length os → slice_get ps a ≡ Some o → slice_get os a ≡ Some o
+old_origin role os ps a o g h e =
+    let x = get_there os a h in
+    x.1 ∙ (sym (get_before os g.more a x.0 x.1) ∙ (ap (λ (xs : List Origin). slice_get xs a) (sym g.is) ∙ e))
 
 -- ---- numbers stay
 
@@ -128,8 +153,8 @@ lines_then : (os ps : List Origin) → lines_of (os ++ ps) ≡ lines_of os ++ li
 lines_then [] ps = refl
 lines_then (o ∷ os) ps = ap (λ (xs : List ℕ). o.line ∷ xs) (lines_then os ps)
 
-pub numbers_stay : (os ps : List Origin) (line i n : ℕ) → Grows os ps → slice_get (positions line (lines_of os)) i ≡ Some n → slice_get (positions line (lines_of ps)) i ≡ Some n
-numbers_stay os ps line i n g e =
+pub numbers_stay : (role : Role) (os ps : List Origin) (line i n : ℕ) → Grows role os ps → slice_get (positions line (lines_of os)) i ≡ Some n → slice_get (positions line (lines_of ps)) i ≡ Some n
+numbers_stay role os ps line i n g e =
     ap (λ (xs : List ℕ). slice_get (positions line xs) i) (ap lines_of g.is ∙ lines_then os g.more) ∙ positions_more line (lines_of os) (lines_of g.more) i n e
 
 pub lines_last : (os : List Origin) (o : Origin) → lines_of (os ++ o ∷ []) ≡ lines_of os ++ o.line ∷ []
@@ -141,11 +166,11 @@ lines_length (o ∷ os) = ap suc (lines_length os)
 
 -- ---- joins
 
-pub joins_stay : (os ps : List Origin) (cs : List JoinedCall) (js : List Join) → Grows os ps → AreJoins os cs js → AreJoins ps cs js
-joins_stay os ps [] [] g a = tt
-joins_stay os ps (c ∷ cs) (j ∷ js) g a = (record { near = numbers_stay os ps c.near.line c.came_in j.came_in g a.0.near; far = numbers_stay os ps c.far.line c.placed j.placed g a.0.far }, joins_stay os ps cs js g a.1)
-joins_stay os ps [] (j ∷ js) g a = absurd a
-joins_stay os ps (c ∷ cs) [] g a = absurd a
+pub joins_stay : (role : Role) (os ps : List Origin) (cs : List JoinedCall) (js : List Join) → Grows role os ps → AreJoins os cs js → AreJoins ps cs js
+joins_stay role os ps [] [] g a = tt
+joins_stay role os ps (c ∷ cs) (j ∷ js) g a = (record { near = numbers_stay role os ps c.near.line c.came_in j.came_in g a.0.near; far = numbers_stay role os ps c.far.line c.placed j.placed g a.0.far }, joins_stay role os ps cs js g a.1)
+joins_stay role os ps [] (j ∷ js) g a = absurd a
+joins_stay role os ps (c ∷ cs) [] g a = absurd a
 
 pub joins_last : (os : List Origin) (cs : List JoinedCall) (js : List Join) (c : JoinedCall) (j : Join) → AreJoins os cs js → JoinIs os c j → AreJoins os (cs ++ c ∷ []) (js ++ j ∷ [])
 joins_last os [] [] c j a i = (i, tt)
@@ -165,3 +190,9 @@ join_found P os (c ∷ cs) (i ∷ js) zero j a h e = record { call = c; is = sub
 join_found P os (c ∷ cs) (i ∷ js) (suc k) j a h e = join_found P os cs js k j a.1 h.1 e
 join_found P os [] (i ∷ js) k j a h e = absurd a
 join_found P os (c ∷ cs) [] k j a h e = absurd a
+
+pub join_at : (os : List Origin) (cs : List JoinedCall) (js : List Join) (k : ℕ) (c : JoinedCall) → AreJoins os cs js → slice_get cs k ≡ Some c → (j : Join) × ((slice_get js k ≡ Some j) × JoinIs os c j)
+join_at os [] js k c a e = absurd (none-some c e)
+join_at os (d ∷ cs) (j ∷ js) zero c a e = (j, (refl, subst (λ (x : JoinedCall). JoinIs os x j) (same_Some d c e) a.0))
+join_at os (d ∷ cs) (j ∷ js) (suc k) c a e = join_at os cs js k c a.1 e
+join_at os (d ∷ cs) [] k c a e = absurd a

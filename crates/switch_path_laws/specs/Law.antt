@@ -1,15 +1,12 @@
 -- What the register of a network with one switch has, whatever happens.
-use Rattle.std.specs.Prelude.{◌≡◌, ℕ, ◌⊎◌, Bool, ◌==◌, if◌then◌else◌, false, List, [], ◌++◌, length, map, slice_get, Some}
+use Rattle.std.specs.Prelude.{◌≡◌, ℕ, Bool, ◌==◌, if◌then◌else◌, List, [], ◌++◌, length, map, slice_get, Some}
 use Rattle.link_timers.specs.declared.role.Role.TheVariants.{Dte}
 use Rattle.link_timers.specs.declared.timers.TimerId.{TimerId}
 use Rattle.lapb.specs.Machine.{Octets}
-use Rattle.epochs.specs.ConfirmedLaws.{AreEmpty}
 use Rattle.call_records.specs.Records.{RecordValue}
-use Rattle.call_records.specs.Book.{Book}
 use Rattle.call_records.specs.Writes.{Write, all_written}
 use Rattle.call_records.specs.Register.{LinePlan, all_written_at}
 use Rattle.address_routes.specs.Routes.{RouteMap}
-use Rattle.book_laws.specs.Headline.{sent_by}
 use Rattle.line_record_laws.specs.Kept.{Kept}
 use Rattle.switch_lines.specs.declared.config.LineConfig.{LineConfig}
 use Rattle.switch_lines.specs.Lines.{SwitchLine}
@@ -18,12 +15,12 @@ use Rattle.switch_lines.specs.Switch.{Switch, on_frame, on_timer, elapse, restar
 use Rattle.switch_laws.specs.Turn.{AreOctets}
 use Rattle.switch_laws.specs.Steps.{Happening}
 use Rattle.switch_laws.specs.Steps.Happening.{Brings, RunsOut}
+use Rattle.switch_record_laws.specs.Written.{Books}
 use Rattle.switch_record_laws.specs.Kept.{Partner, Partners, BeginWith, line_with}
 use Rattle.switch_record_laws.specs.Tied.{Histories, IsTied, happened, restarted, gone_out, sent_out}
 use Rattle.joined_call_laws.specs.Calls.{JoinedCall}
 use Rattle.joined_call_laws.specs.Law.{calls_in, written_there}
 use Rattle.call_path_laws.specs.World.{Origin, World, Plan, AreBetween, made_world}
-use Rattle.call_path_laws.specs.Seen.{IsJoined}
 use Rattle.call_path_laws.specs.Lines.{BookCallsHold, free_book}
 use Rattle.call_path_laws.specs.Promise.{PathsHold}
 use Rattle.switch_path_laws.specs.Network.{IsPlanned, IsNetwork, listed, all_handed}
@@ -102,22 +99,35 @@ PartnerLaw = (plan : Plan) (n : ℕ) (l : SwitchLine) (p : Partner) (ws : List W
     → Kept p.setting (all_written Dte ws (h.books n)) (line_with p l.end) → IsNetwork plan s h cs w traces
     → AfterPartner plan n p ws s h cs w
 
+-- ---- the addresses of joined calls
+
+-- the call goes on with the address that was called, as calling one with that of the line that it came on, and on the
+-- line of its route
+pub record HasAddresses (plan : Plan) (bs : Books) (c : JoinedCall) : Type 0 where
+  pub near_record : RecordValue
+  pub far_record : RecordValue
+  pub near_there : slice_get (bs c.near.line).records c.came_in ≡ Some near_record
+  pub far_there : slice_get (bs c.far.line).records c.placed ≡ Some far_record
+  pub called : far_record.far ≡ near_record.own
+  pub calling : far_record.own ≡ Some (plan.address c.near.line)
+  pub routed : c.far.line ≡ plan.route far_record.node near_record.own
+
+-- so it is of each joined call, whether it stands or is over
+abbrev pub AddressLaw : Type 0
+AddressLaw = (plan : Plan) (s : Switch) (h : Histories) (cs : List JoinedCall) (w : World)
+    (traces : List (List Origin)) → IsNetwork plan s h cs w traces → (i : ℕ) (c : JoinedCall) → slice_get cs i ≡ Some c
+    → HasAddresses plan h.books c
+
 -- ---- the promise
 
--- a call that came in at the switch is joined, or the switch sent nothing on it
-abbrev pub SendsOnJoined : Plan → World → Type 0
-SendsOnJoined plan w = (a x : ℕ) (o : Origin) (r : RecordValue) → slice_get w.origins a ≡ Some o → o.caller ≡ Some x
-    → plan.has_user o.line o.role ≡ false → slice_get w.whole.records a ≡ Some r
-    → AreEmpty (sent_by r) ⊎ ((b : ℕ) × IsJoined w.joins a b)
-
--- where the calls of each line's book hold, the register promises of each pair what a register of paths does: the caller
--- and the callee match both ways, over the two lines and the switch, and what is confirmed was taken
+-- where the calls of each line's book hold, the register promises of each pair what one of paths does: caller and
+-- callee match both ways, over the two lines and the switch, and what is confirmed was taken
 abbrev pub PromiseLaw : Type 0
 PromiseLaw = (plan : Plan) (s : Switch) (h : Histories) (cs : List JoinedCall) (w : World)
     (traces : List (List Origin)) → IsNetwork plan s h cs w traces
     → ((n : ℕ) (l : SwitchLine) (own : List Origin) → slice_get s.lines n ≡ Some l → slice_get traces n ≡ Some own
     → BookCallsHold (h.books n) own)
-    → SendsOnJoined plan w → PathsHold plan w.register
+    → PathsHold plan w.register
 
 pub record SwitchPathLaw : Type 0 where
   pub begins : BeginLaw
@@ -127,4 +137,5 @@ pub record SwitchPathLaw : Type 0 where
   pub out : OutLaw
   pub restarts : RestartLaw
   pub partner : PartnerLaw
+  pub addresses : AddressLaw
   pub promise : PromiseLaw

@@ -1,9 +1,12 @@
 -- A network with one switch: the switch with the books of its lines, and the register of the calls through it.
-use Rattle.std.specs.Prelude.{◌≡◌, ℕ, zero, suc, ◌<◌, true, false, List, [], ◌∷◌, length, map, slice_get, Some}
+use Rattle.std.specs.Prelude.{◌≡◌, ℕ, zero, suc, ◌<◌, ◌⊎◌, true, false, List, [], ◌∷◌, length, map, slice_get, Some}
 use Rattle.link_timers.specs.declared.role.Role.TheVariants.{Dte, Dce}
-use Rattle.address_routes.specs.Routes.{RouteMap, line_for}
+use Rattle.address_routes.specs.Routes.{line_for}
+use Rattle.epochs.specs.ConfirmedLaws.{AreEmpty}
+use Rattle.call_records.specs.Records.{RecordValue}
 use Rattle.call_records.specs.Book.{Book, address_of}
 use Rattle.call_records.specs.Register.{Register, written_at}
+use Rattle.book_laws.specs.Headline.{sent_by}
 use Rattle.register_laws.specs.Seen.{positions}
 use Rattle.switch_lines.specs.declared.place.Place.{Place}
 use Rattle.switch_lines.specs.Lines.{SwitchLine}
@@ -13,7 +16,7 @@ use Rattle.switch_record_laws.specs.Tied.{Histories, IsTied}
 use Rattle.joined_call_laws.specs.Calls.{JoinedCall, AreCalls}
 use Rattle.call_path_laws.specs.World.{Origin, Join, World, Plan, AreAddressed, holds, holder_of}
 use Rattle.call_path_laws.specs.World as path
-use Rattle.call_path_laws.specs.Seen.{Seen}
+use Rattle.call_path_laws.specs.Seen.{Seen, IsJoined}
 use Rattle.call_path_laws.specs.Lines.{LinesSeen}
 use Rattle.call_path_laws.specs.Forwards.{AreHandedOn}
 
@@ -66,16 +69,26 @@ AreJoins origins [] [] = Unit {0}
 AreJoins origins (c ∷ cs) (j ∷ js) = JoinIs origins c j × AreJoins origins cs js
 AreJoins origins _ _ = ⊥
 
+-- the record of a leg of a join
+abbrev pub IsInJoin : List Join → ℕ → Type 0
+IsInJoin joins a = ((b : ℕ) × IsJoined joins a b) ⊎ ((b : ℕ) × IsJoined joins b a)
+
+-- a switch sends on the legs of joins alone
+abbrev pub SendsOnJoins : World → Type 0
+SendsOnJoins w = (a : ℕ) (o : Origin) (r : RecordValue) → slice_get w.origins a ≡ Some o → o.role ≡ Dce
+    → slice_get w.whole.records a ≡ Some r → AreEmpty (sent_by r) ⊎ IsInJoin w.joins a
+
 -- ---- the register beside the switch
 
 -- the register has of the ends with users what the whole one has; the whole one has what the books of the lines have,
 -- and its joins are the joined calls, with the addresses of these calls
-pub record IsSeen (plan : Plan) (count : ℕ) (bs : Books) (cs : List JoinedCall) (w : World) (traces : List (List Origin))
-    : Type 0 where
+pub record IsSeen (plan : Plan) (count : ℕ) (bs : Books) (cs : List JoinedCall) (w : World)
+    (traces : List (List Origin)) : Type 0 where
   pub seen : Seen plan w
   pub lines : LinesSeen w.whole w.origins (listed count bs) traces
   pub joins : AreJoins w.origins cs w.joins
   pub handed : AreHandedOn plan w
+  pub sends : SendsOnJoins w
 
 pub record IsNetwork (plan : Plan) (s : Switch) (h : Histories) (cs : List JoinedCall) (w : World)
     (traces : List (List Origin)) : Type 0 where
