@@ -8,4 +8,6 @@ mod networks;
 #[cfg(test)]
 mod programs;
 #[cfg(test)]
+mod terminal_calls;
+#[cfg(test)]
 mod terminals;
