@@ -13,4 +13,6 @@ pub mod Networks
 pub mod Opened
 pub mod Promising
 pub mod Due
+pub mod Resting
+pub mod Confirming
 mod Rows

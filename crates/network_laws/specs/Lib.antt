@@ -4,3 +4,5 @@ pub mod IsNetwork
 pub mod Promise
 pub mod DueCount
 pub mod NetworkLaw
+pub mod Rest
+pub mod Confirmed

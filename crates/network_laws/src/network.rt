@@ -1,6 +1,8 @@
 //! A network of many nodes and lines.
 ghost use Rattle.network_laws.specs.NetworkLaw.{MadeLaw, EventLaw, LossLaw, TimeLaw, PromiseLaw};
 ghost use Rattle.network_laws.specs.DueCount.{FewerLaw};
+ghost use Rattle.network_laws.specs.Rest.{RestLaw};
+ghost use Rattle.network_laws.specs.Confirmed.{ConfirmedLaw};
 
 use memory_line::Line;
 
@@ -18,4 +20,10 @@ pub fn network_law<L: Line>()
     ensures time { TimeLaw L.service }
     ensures promise { PromiseLaw L.service }
     ensures fewer_due { FewerLaw L.service }
+
+    // Where all nodes are at rest, nothing is missing in the register.
+    ensures rest { RestLaw L.service }
+
+    // Where a node says that delivery is confirmed, each packet with D = 1 of the last epoch is covered.
+    ensures confirmed { ConfirmedLaw L.service }
 {}

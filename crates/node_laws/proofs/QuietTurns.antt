@@ -34,6 +34,7 @@ use Rattle.line_nodes.specs.declared.terminal.TerminalEvent.TheVariants.{Key, Br
 use Rattle.node_laws.specs.Due.{TimersApart, AreApart}
 use Rattle.node_laws.specs.Quiet.{IsQuiet, LeavesQuiet}
 use Rattle.line_record_laws.proofs.DueEnds.{NoMoreDue, stays-apart, same-due, then-due, begun-due, received-due, timer-due, relinked-due, finished-due, calls-due, asks-due, refuses-due, says-due, takes-due, elapsed-apart, made-apart, restarted-apart}
+use Rattle.line_record_laws.proofs.Relinking.{AsksNone, finished_asks, calls_ask, requests_ask, refuses_ask, says_ask, takes_ask, expiry_asks}
 use Rattle.node_laws.proofs.QuietEnds.{IsUnread, received_unread, timer_unread, finished_unread, asked_unread, called_unread, calls_unread, asks_unread, refuses_unread, says_unread, takes_unread}
 use Rattle.node_laws.proofs.PadEnds.{key_at, idle_at, breaks_at, print_at, port_at, answered_at}
 
@@ -50,13 +51,13 @@ timers-apart n a = a
 -- ---- turns of any node
 
 -- nothing is unread, and no timer runs where it must not
-told_quiet : (role : Role) (e : PacketEnd) (b : Book) → IsUnread e → TimersApart e → LeavesQuiet (told role (Host e) b)
-told_quiet role e b h a =
-    record { node = record { read = refl; noted = refl; sent = refl }; unread = h; timers = set-apart _ (record { link = a.link; layer = a.layer }) }
+told_quiet : (role : Role) (e : PacketEnd) (b : Book) → IsUnread e → TimersApart e → AsksNone e → LeavesQuiet (told role (Host e) b)
+told_quiet role e b h a s =
+    record { node = record { read = refl; noted = refl; sent = refl }; unread = h; timers = set-apart _ (record { link = a.link; layer = a.layer }); settled = s }
 
-noted_quiet : (role : Role) (p : PadState) (b : Book) → p.line.end.notes ≡ [] → IsUnread p.line.end → TimersApart p.line.end → LeavesQuiet (told role (Pad p) b)
-noted_quiet role p b read h a =
-    record { node = record { read = read; noted = refl; sent = refl }; unread = h; timers = set-apart _ (record { link = a.link; layer = a.layer }) }
+noted_quiet : (role : Role) (p : PadState) (b : Book) → p.line.end.notes ≡ [] → IsUnread p.line.end → TimersApart p.line.end → AsksNone p.line.end → LeavesQuiet (told role (Pad p) b)
+noted_quiet role p b read h a s =
+    record { node = record { read = read; noted = refl; sent = refl }; unread = h; timers = set-apart _ (record { link = a.link; layer = a.layer }); settled = s }
 
 pub unchanged_quiet : (n : NodeState) (b : Book) → IsQuiet n → LeavesQuiet (unchanged n b)
 unchanged_quiet (Pad p) b q =
@@ -65,6 +66,7 @@ unchanged_quiet (Pad p) b q =
       node = record { read = q.node.read; noted = q.node.noted; sent = refl };
       unread = q.unread;
       timers = set-apart _ (record { link = a.link; layer = a.layer });
+      settled = q.settled;
     }
 unchanged_quiet (Host e) b q =
     let a : TimersApart e = timers-apart (Host e) q.timers in
@@ -72,6 +74,7 @@ unchanged_quiet (Host e) b q =
       node = record { read = q.node.read; noted = refl; sent = refl };
       unread = q.unread;
       timers = set-apart _ (record { link = a.link; layer = a.layer });
+      settled = q.settled;
     }
 
 either_quiet : (v : Bool) (s t : Turn) → LeavesQuiet s → LeavesQuiet t → LeavesQuiet (cond v s t)
@@ -94,6 +97,13 @@ terminal_unread : (number : ℕ) (act : AtLine → AtLine) (p : PadState) → ((
 terminal_unread number act p f h =
     ended_unread (pad.at_port number act (pad.begun p)) (port_at IsUnread asked_unread called_unread number act (pad.begun p) f h)
 
+-- nor does it ask for a relink
+line_asks : (p : PadState) → AsksNone (pad.line_event p).line.end
+line_asks p = finished_asks (pad.answered (last_incoming None p.line.end.notes) (pad.told p)).line.end
+
+terminal_asks : (number : ℕ) (act : AtLine → AtLine) (p : PadState) → AsksNone (pad.terminal_event number act p).line.end
+terminal_asks number act p = finished_asks (pad.at_port number act (pad.begun p)).line.end
+
 key_unread : (octet : ℕ) (a : AtLine) → IsUnread a.line.end → IsUnread (port.after_key octet a).line.end
 key_unread octet a h = key_at IsUnread asked_unread called_unread octet a h
 
@@ -101,6 +111,7 @@ key_unread octet a h = key_at IsUnread asked_unread called_unread octet a h
 record IsBare (p : PadState) : Type 0 where
   read : p.line.end.notes ≡ []
   unread : IsUnread p.line.end
+  settled : AsksNone p.line.end
 
 either_bare : (v : Bool) (x p : PadState) → IsBare x → IsBare p → IsBare (if v then x else p)
 either_bare true x p g h = g
@@ -109,12 +120,12 @@ either_bare false x p g h = h
 expiry_bare : (p : PadState) (id : TimerId) → IsBare p → IsBare (pad.after_expiry p id)
 expiry_bare p id h =
     let q : PadState = pad.with_end (after_timer (pad.begun p).line.end id) (pad.begun p) in
-    either_bare (runs_at p.line.end id) (pad.line_event q) p (record { read = refl; unread = line_unread q (timer_unread p.line.end id h.unread) }) h
+    either_bare (runs_at p.line.end id) (pad.line_event q) p (record { read = refl; unread = line_unread q (timer_unread p.line.end id h.unread); settled = line_asks q }) h
 
 timer_bare : (p : PadState) (id : TimerId) → IsBare p → IsBare (pad.after_timer p id)
 timer_bare p (Idle number) h =
     either_bare (pad.runs_idle_timer number p) (pad.terminal_event number port.after_idle p) p
-    (record { read = refl; unread = terminal_unread number port.after_idle p (idle_at IsUnread asked_unread called_unread) h.unread }) h
+    (record { read = refl; unread = terminal_unread number port.after_idle p (idle_at IsUnread asked_unread called_unread) h.unread; settled = terminal_asks number port.after_idle p }) h
 timer_bare p id h = expiry_bare p id h
 
 -- ---- what comes from the line
@@ -123,11 +134,11 @@ pub quiet-hears : (role : Role) (n : NodeState) (octets : Octets) (b : Book) →
 quiet-hears role (Pad p) octets b q =
     noted_quiet role (pad.after_frame p octets) b refl
     (line_unread (pad.with_end (received (pad.begun p).line.end octets) (pad.begun p)) (received_unread p.line.end octets q.unread))
-    (pad_apart.frames p octets (timers-apart (Pad p) q.timers))
+    (pad_apart.frames p octets (timers-apart (Pad p) q.timers)) (line_asks (pad.with_end (received (pad.begun p).line.end octets) (pad.begun p)))
 quiet-hears role (Host e) octets b q =
     let x : PacketEnd = received (begun e) octets in
     told_quiet role (host.after_frame e octets) b (finished_unread x (received_unread e octets q.unread))
-    (stays-apart e (finished x) (then-due (received-due e octets) (finished-due x)) (timers-apart (Host e) q.timers))
+    (stays-apart e (finished x) (then-due (received-due e octets) (finished-due x)) (timers-apart (Host e) q.timers)) (finished_asks x)
 
 host_expiry : (v : Bool) (e : PacketEnd) (id : TimerId) → IsUnread e → IsUnread (cond v (finished (after_timer (begun e) id)) e)
 host_expiry true e id h = finished_unread (after_timer (begun e) id) (timer_unread e id h)
@@ -139,51 +150,51 @@ host_expiry_due false e id = same-due e
 
 pub quiet-expires : (role : Role) (n : NodeState) (id : TimerId) (b : Book) → IsQuiet n → LeavesQuiet (expires role n id b)
 quiet-expires role (Pad p) id b q =
-    let h : IsBare (pad.after_timer p id) = timer_bare p id (record { read = q.node.read; unread = q.unread }) in
+    let h : IsBare (pad.after_timer p id) = timer_bare p id (record { read = q.node.read; unread = q.unread; settled = q.settled }) in
     either_quiet (pad.runs_at p id) (told role (Pad (pad.after_timer p id)) b) (unchanged (Pad p) b)
-    (noted_quiet role (pad.after_timer p id) b h.read h.unread (pad_apart.timers p id (timers-apart (Pad p) q.timers)))
+    (noted_quiet role (pad.after_timer p id) b h.read h.unread (pad_apart.timers p id (timers-apart (Pad p) q.timers)) h.settled)
     (unchanged_quiet (Pad p) b q)
 quiet-expires role (Host e) id b q =
     either_quiet (runs_at e id) (told role (Host (host.after_expiry e id)) b) (unchanged (Host e) b)
     (told_quiet role (host.after_expiry e id) b (host_expiry (runs_at e id) e id q.unread)
-    (stays-apart e (host.after_expiry e id) (host_expiry_due (runs_at e id) e id) (timers-apart (Host e) q.timers))) (unchanged_quiet (Host e) b q)
+    (stays-apart e (host.after_expiry e id) (host_expiry_due (runs_at e id) e id) (timers-apart (Host e) q.timers)) (expiry_asks e id q.settled)) (unchanged_quiet (Host e) b q)
 
 pub quiet-relinks : (role : Role) (n : NodeState) (b : Book) → IsQuiet n → LeavesQuiet (relinks role n b)
 quiet-relinks role (Pad p) b q =
     noted_quiet role (pad.after_relink p) b refl (line_unread (pad.with_end (relinked (pad.begun p).line.end) (pad.begun p)) refl)
-    (pad_apart.relinks p (timers-apart (Pad p) q.timers))
+    (pad_apart.relinks p (timers-apart (Pad p) q.timers)) (line_asks (pad.with_end (relinked (pad.begun p).line.end) (pad.begun p)))
 quiet-relinks role (Host e) b q =
     let x : PacketEnd = relinked (begun e) in
     told_quiet role (host.after_relink e) b (finished_unread x refl)
-    (stays-apart e (finished x) (then-due (begun-due e) (then-due (relinked-due (begun e)) (finished-due x))) (timers-apart (Host e) q.timers))
+    (stays-apart e (finished x) (then-due (begun-due e) (then-due (relinked-due (begun e)) (finished-due x))) (timers-apart (Host e) q.timers)) (finished_asks x)
 
 pub quiet-restarts : (role : Role) (n : NodeState) (b : Book) → IsQuiet n → LeavesQuiet (restarts role n b)
 quiet-restarts role (Pad p) b q =
     let a : TimersApart (restarted p.line.end) = restarted-apart p.line.end in
-    record { node = record { read = refl; noted = refl; sent = refl }; unread = refl; timers = set-apart _ (record { link = a.link; layer = a.layer }) }
+    record { node = record { read = refl; noted = refl; sent = refl }; unread = refl; timers = set-apart _ (record { link = a.link; layer = a.layer }); settled = refl }
 quiet-restarts role (Host e) b q =
     let a : TimersApart (restarted e) = restarted-apart e in
-    record { node = record { read = refl; noted = refl; sent = refl }; unread = refl; timers = set-apart _ (record { link = a.link; layer = a.layer }) }
+    record { node = record { read = refl; noted = refl; sent = refl }; unread = refl; timers = set-apart _ (record { link = a.link; layer = a.layer }); settled = refl }
 
 -- ---- what the user of a host asks
 
 pub quiet-calls : (role : Role) (e : PacketEnd) (parts : CallParts) (b : Book) → IsQuiet (Host e) → LeavesQuiet (host_calls role e parts b)
 quiet-calls role e parts b q = told_quiet role (host.after_call e parts) b (calls_unread e parts q.unread)
-    (stays-apart e (host.after_call e parts) (calls-due e parts) (timers-apart (Host e) q.timers))
+    (stays-apart e (host.after_call e parts) (calls-due e parts) (timers-apart (Host e) q.timers)) (calls_ask e parts q.settled)
 
 pub quiet-asks : (role : Role) (e : PacketEnd) (channel : ℕ) (r : Request) (b : Book) → IsQuiet (Host e) → LeavesQuiet (host_asks role e channel r b)
 quiet-asks role e channel r b q = told_quiet role (host.after_request e channel r) b (asks_unread e channel r q.unread)
-    (stays-apart e (host.after_request e channel r) (asks-due e channel r) (timers-apart (Host e) q.timers))
+    (stays-apart e (host.after_request e channel r) (asks-due e channel r) (timers-apart (Host e) q.timers)) (requests_ask e channel r q.settled)
 
 pub quiet-refuses : (role : Role) (e : PacketEnd) (channel : ℕ) (b : Book) → IsQuiet (Host e) → LeavesQuiet (host_refuses role e channel b)
 quiet-refuses role e channel b q = told_quiet role (host.after_refuse e channel) b (refuses_unread e channel q.unread)
-    (stays-apart e (host.after_refuse e channel) (refuses-due e channel) (timers-apart (Host e) q.timers))
+    (stays-apart e (host.after_refuse e channel) (refuses-due e channel) (timers-apart (Host e) q.timers)) (refuses_ask e channel q.settled)
 
 pub quiet-says : (role : Role) (e : PacketEnd) (channel : ℕ) (octets : List ℕ) (qualified delivery : Bool) (b : Book)
     → IsQuiet (Host e) → LeavesQuiet (host_says role e channel octets qualified delivery b)
 quiet-says role e channel octets qualified delivery b q =
     told_quiet role (host.after_say e channel octets qualified delivery) b (says_unread e channel octets qualified delivery q.unread)
-    (stays-apart e (host.after_say e channel octets qualified delivery) (says-due e channel octets qualified delivery) (timers-apart (Host e) q.timers))
+    (stays-apart e (host.after_say e channel octets qualified delivery) (says-due e channel octets qualified delivery) (timers-apart (Host e) q.timers)) (says_ask e channel octets qualified delivery q.settled)
 
 pub quiet-takes : (role : Role) (e : PacketEnd) (channel : ℕ) (b : Book) → IsQuiet (Host e) → LeavesQuiet (host_takes role e channel b)
 quiet-takes role e channel b q = by (front_on e.layer channel)
@@ -192,23 +203,23 @@ quiet-takes role e channel b q = by (front_on e.layer channel)
     by None = unchanged_quiet (Host e) b q
     by (Some x) =
         told_quiet role (host.after_take e channel) b (takes_unread e channel q.unread)
-        (stays-apart e (host.after_take e channel) (takes-due e channel) (timers-apart (Host e) q.timers))
+        (stays-apart e (host.after_take e channel) (takes-due e channel) (timers-apart (Host e) q.timers)) (takes_ask e channel q.settled)
 
 -- ---- what happens at a terminal of a PAD
 
 after_quiet : (role : Role) (p : PadState) (terminal : ℕ) (event : TerminalEvent) (b : Book) → IsQuiet (Pad p) → LeavesQuiet (told role (Pad (after_terminal terminal event p)) b)
 after_quiet role p terminal (Key octet) b q =
     noted_quiet role (pad.terminal_event terminal (port.after_key octet) p) b refl (terminal_unread terminal (port.after_key octet) p (key_unread octet) q.unread)
-    (pad_apart.keys p terminal octet (timers-apart (Pad p) q.timers))
+    (pad_apart.keys p terminal octet (timers-apart (Pad p) q.timers)) (terminal_asks terminal (port.after_key octet) p)
 after_quiet role p terminal Break b q =
     noted_quiet role (pad.terminal_event terminal port.after_break p) b refl
-    (terminal_unread terminal port.after_break p (breaks_at IsUnread asked_unread called_unread) q.unread) (pad_apart.breaks p terminal (timers-apart (Pad p) q.timers))
+    (terminal_unread terminal port.after_break p (breaks_at IsUnread asked_unread called_unread) q.unread) (pad_apart.breaks p terminal (timers-apart (Pad p) q.timers)) (terminal_asks terminal port.after_break p)
 after_quiet role p terminal event.Idle b q =
-    let h : IsBare (pad.after_timer p (Idle terminal)) = timer_bare p (Idle terminal) (record { read = q.node.read; unread = q.unread }) in
-    noted_quiet role (pad.after_idle terminal p) b h.read h.unread (pad_apart.timers p (Idle terminal) (timers-apart (Pad p) q.timers))
+    let h : IsBare (pad.after_timer p (Idle terminal)) = timer_bare p (Idle terminal) (record { read = q.node.read; unread = q.unread; settled = q.settled }) in
+    noted_quiet role (pad.after_idle terminal p) b h.read h.unread (pad_apart.timers p (Idle terminal) (timers-apart (Pad p) q.timers)) h.settled
 after_quiet role p terminal Print b q =
     noted_quiet role (pad.terminal_event terminal port.after_print p) b refl
-    (terminal_unread terminal port.after_print p (print_at IsUnread asked_unread called_unread) q.unread) (pad_apart.prints p terminal (timers-apart (Pad p) q.timers))
+    (terminal_unread terminal port.after_print p (print_at IsUnread asked_unread called_unread) q.unread) (pad_apart.prints p terminal (timers-apart (Pad p) q.timers)) (terminal_asks terminal port.after_print p)
 
 pub quiet-terminals : (role : Role) (n : NodeState) (terminal : ℕ) (event : TerminalEvent) (b : Book) → IsQuiet n → LeavesQuiet (at_terminal role n terminal event b)
 quiet-terminals role (Pad p) terminal event b q = after_quiet role p terminal event b q
@@ -218,16 +229,16 @@ quiet-terminals role (Host e) terminal event b q = unchanged_quiet (Host e) b q
 
 pub quiet-elapses : (n : NodeState) (ticks : ℕ) → IsQuiet n → IsQuiet (node_elapsed ticks n)
 quiet-elapses (Pad p) ticks q =
-    record { node = record { read = q.node.read; noted = q.node.noted; sent = q.node.sent }; unread = q.unread; timers = set-apart _ (pad_apart.times p ticks (timers-apart (Pad p) q.timers)) }
+    record { node = record { read = q.node.read; noted = q.node.noted; sent = q.node.sent }; unread = q.unread; timers = set-apart _ (pad_apart.times p ticks (timers-apart (Pad p) q.timers)); settled = q.settled }
 quiet-elapses (Host e) ticks q =
-    record { node = record { read = q.node.read; noted = refl; sent = q.node.sent }; unread = q.unread; timers = set-apart _ (elapsed-apart e ticks (timers-apart (Host e) q.timers)) }
+    record { node = record { read = q.node.read; noted = refl; sent = q.node.sent }; unread = q.unread; timers = set-apart _ (elapsed-apart e ticks (timers-apart (Host e) q.timers)); settled = q.settled }
 
 pub quiet-made-pad : (c : PadConfig) → IsQuiet (drained (Pad (pad_making.made c)))
 quiet-made-pad c =
     let a : TimersApart (made Dte c.line) = made-apart Dte c.line in
-    record { node = record { read = refl; noted = refl; sent = refl }; unread = refl; timers = set-apart _ (record { link = a.link; layer = a.layer }) }
+    record { node = record { read = refl; noted = refl; sent = refl }; unread = refl; timers = set-apart _ (record { link = a.link; layer = a.layer }); settled = refl }
 
 pub quiet-made-host : (c : HostConfig) → IsQuiet (drained (Host (host_making.made c)))
 quiet-made-host c =
     let a : TimersApart (made c.role c.line) = made-apart c.role c.line in
-    record { node = record { read = refl; noted = refl; sent = refl }; unread = refl; timers = set-apart _ (record { link = a.link; layer = a.layer }) }
+    record { node = record { read = refl; noted = refl; sent = refl }; unread = refl; timers = set-apart _ (record { link = a.link; layer = a.layer }); settled = refl }

@@ -1,6 +1,6 @@
 -- A node between two events on any line, whatever arrives there: each turn leaves it quiet, and opens one thing in the
 -- book at most.
-use Rattle.std.specs.Prelude.{◌≡◌, ℕ, ◌≤◌, Bool, List, []}
+use Rattle.std.specs.Prelude.{◌≡◌, ℕ, ◌≤◌, Bool, false, List, []}
 use Rattle.link_timers.specs.declared.role.Role.{Role}
 use Rattle.link_timers.specs.declared.timers.TimerId.{TimerId}
 use Rattle.lapb.specs.Machine.{Octets}
@@ -23,11 +23,13 @@ use Rattle.node_laws.specs.Due.{AreApart}
 use Rattle.node_laws.specs.Nodes.{IsNode}
 use Rattle.node_laws.specs.Opening.{OpensNothing}
 
--- nothing is left of its last event: no note, also none in its layer, and no frame; and no timer runs where it must not
+-- nothing is left of its last event: no note, also none in its layer, no frame, and no relink that its layer asks for;
+-- and no timer runs where it must not
 pub record IsQuiet (n : NodeState) : Type 0 where
   pub node : IsNode n
   pub unread : (end_of n).layer.notes ≡ []
   pub timers : AreApart n
+  pub settled : (end_of n).layer.relink ≡ false
 
 -- the node is quiet once the frames of the turn went
 abbrev pub LeavesQuiet : Turn → Type 0

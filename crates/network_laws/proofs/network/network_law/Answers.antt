@@ -3,6 +3,8 @@ use Rattle.network_laws.proofs.Networks.{happened_network, lost_network}
 use Rattle.network_laws.proofs.Opened.{made_network, elapsed_network}
 use Rattle.network_laws.proofs.Promising.{holds_network}
 use Rattle.network_laws.proofs.Due.{fewer_due}
+use Rattle.network_laws.proofs.Resting.{rest_network}
+use Rattle.network_laws.proofs.Confirming.{confirmed_network}
 
 pub returns : goal.returns
 returns g c = record {
@@ -12,4 +14,6 @@ returns g c = record {
   time = elapsed_network g.L.Line.service;
   promise = holds_network g.L.Line.service;
   fewer_due = fewer_due g.L.Line.service;
+  rest = rest_network g.L.Line.service;
+  confirmed = confirmed_network g.L.Line.service;
 }
