@@ -3,3 +3,4 @@ mod Events
 mod FewerDue
 mod Refusals
 mod RunsMore
+mod Resting

@@ -3,6 +3,7 @@ ghost use Rattle.std.specs.Prelude.{◌≡◌, ◌≢◌, true, false, map, Err,
 ghost use Rattle.call_records.specs.RecordView.{shown, pair_of};
 ghost use Rattle.net_events.specs.Network.{all_elapsed};
 ghost use Rattle.network_laws.specs.Promise.{NetworkHolds};
+ghost use Rattle.network_laws.specs.Rest.{MissesNothing};
 ghost use Rattle.net_config.specs.declared.fault.MakeFault.TheVariants as make_fault_is;
 ghost use Rattle.net_config.specs.Served.{is_served};
 ghost use Rattle.net_events.specs.declared.event.StepFault.TheVariants as step_fault_is;
@@ -70,9 +71,11 @@ impl<L: Line> Net<L> {
         self.nodes.pairs()
     }
 
-    /// Whether nothing is in flight, unacknowledged, owed, or waits to be sent or taken.
+    /// Whether nothing is in flight, unacknowledged, owed, or waits to be sent or taken. Then each end of a call that is
+    /// open at both ends took all that the other one sent since the last reset.
     pub fn at_rest(&self) -> bool
-        ensures { L.service.faithful → result ≡ net_rests self.now }
+        ensures exact { L.service.faithful → result ≡ net_rests self.now }
+        ensures nothing_missing { L.service.faithful → result ≡ true → MissesNothing self.now }
     {
         self.nodes.is_at_rest()
     }

@@ -11,8 +11,10 @@ use Rattle.network_laws.specs.IsNetwork.{IsNetwork}
 abbrev pub NodesRest : Network → Type 0
 NodesRest s = list_all (λ (n : PlacedNode). node_rests n.node) s.nodes ≡ true
 
--- where all nodes are at rest, on faithful lines, nothing is missing in the register: in each pair of which both
--- records are open, each end took in its last epoch all that the other one sent in its own
+-- in each pair of which both records are open, each end took in its last epoch all that the other one sent in its own
+abbrev pub MissesNothing : Network → Type 0
+MissesNothing s = NothingMissing s.register.records s.register.pairs
+
+-- so it is where all nodes are at rest, on faithful lines
 abbrev pub RestLaw : LineService → Type 0
-RestLaw L = (s : Network) → IsNetwork L s → L.faithful → NodesRest s
-    → NothingMissing s.register.records s.register.pairs
+RestLaw L = (s : Network) → IsNetwork L s → L.faithful → NodesRest s → MissesNothing s

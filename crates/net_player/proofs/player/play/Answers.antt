@@ -29,7 +29,7 @@ returns-clause-writes g c =
     writes_then c.end_line.result.now (λ told done. record {
       told = told;
       at_rest = c.at_rest.result;
-      rest = c.at_rest.ensures;
+      rest = c.at_rest.ensures.exact;
       traces = _;
       commands = in_turn_all commands _ ended done;
       whole = ap (λ w. told ++ w) c.end_line.ensures;
