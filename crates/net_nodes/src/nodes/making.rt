@@ -39,12 +39,7 @@ fn new_host(alloc: Global, role: Role, line: EndParams) -> Result<Node, MakeFaul
     }
 }
 
-fn new_pad(
-    alloc: Global,
-    params: Params,
-    terminals: u8,
-    line: EndParams,
-) -> Result<Node, MakeFault>
+fn new_pad(alloc: Global, params: Params, terminals: u8, line: EndParams) -> Result<Node, MakeFault>
     requires line { AreParams line }
     requires least { 1 ≤ terminals }
     requires most { terminals ≤ 16 }
