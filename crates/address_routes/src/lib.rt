@@ -9,6 +9,3 @@ mod tree;
 pub use fault::RouteFault;
 pub use line_no::LineNo;
 pub use routes::{MAX_ROUTES, Routes};
-
-#[cfg(test)]
-mod tests;

@@ -159,6 +159,7 @@ module _ (x : Role) (c : ℕ) (views views' : Role → EndView) (b : BookParts) 
         node_is = o.node_is;
         own = o.own;
         far = o.far;
+        caller = o.caller;
         tells = λ live. record {
           sent = λ g. sent_as _ _ _ (k.0 t.channel_use g) ((o.tells live).sent g);
           taken = λ g. taken_as _ _ _ (k.1 t.channel_use g) ((o.tells live).taken g);

@@ -49,8 +49,8 @@ kept_beside : (n : ℕ) (w : World) (cs : List (Option ℕ)) → KeptIn n w cs �
 kept_beside n w cs k = record { channels = λ role. channels role; present = λ role c. present role c }
   where
     channels : (role : Role) → length (side_of role w.book).slots ≡ length (layer_at role w).channels
-    channels Dte = k.sizes Dte ∙ sym k.here.count
-    channels Dce = k.sizes Dce ∙ sym k.there.count
+    channels Dte = k.sizes.size Dte ∙ sym k.here.count
+    channels Dce = k.sizes.size Dce ∙ sym k.there.count
 
     present : (role : Role) (c : ℕ) → is_some (slot_at role c w.book).present ≡ has_call (channel_of (layer_at role w) c)
     present Dte c = slot_call (status_at Dte (channel_of w.line.me.layer c)) _ k.tags Dte c (slot_at Dte c w.book) (k.right.slot Dte c) ∙ status_call Dte (channel_of w.line.me.layer c)

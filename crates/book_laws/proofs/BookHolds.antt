@@ -1,8 +1,8 @@
 -- The law of the book of a line.
 use Rattle.book_laws.specs.Told.{after_all, start, made_callers}
-use Rattle.book_laws.specs.Headline.{BookLaw, CallsLaw}
+use Rattle.book_laws.specs.Headline.{BookLaw, CallsLaw, CallersLaw}
 use Rattle.packet_laws.proofs.Line.LineHolds.{line_holds}
-use Rattle.book_laws.proofs.Lines.{all_kept, kept_holds, kept_calls}
+use Rattle.book_laws.proofs.Lines.{all_kept, kept_holds, kept_calls, kept_callers}
 use Rattle.book_laws.proofs.Starting.{start_kept}
 
 pub book_holds : BookLaw
@@ -16,3 +16,9 @@ calls_hold dte_node dce_node channels window standing some small ms allowed =
     let v = all_kept channels ms (start dte_node dce_node channels window standing) (made_callers standing) (start_kept dte_node dce_node channels window standing some)
     (λ hs. (line_holds channels window standing some small hs).0) allowed in
     kept_calls channels (after_all ms (start dte_node dce_node channels window standing)) _ v.0 v.1
+
+pub callers_recorded : CallersLaw
+callers_recorded dte_node dce_node channels window standing some small ms allowed =
+    let v = all_kept channels ms (start dte_node dce_node channels window standing) (made_callers standing) (start_kept dte_node dce_node channels window standing some)
+    (λ hs. (line_holds channels window standing some small hs).0) allowed in
+    kept_callers channels (after_all ms (start dte_node dce_node channels window standing)) _ v.0

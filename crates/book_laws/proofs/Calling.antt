@@ -53,18 +53,19 @@ module _ (f f' : EndView) (s c node n : ℕ) (slots : ℕ → Slot) (own far : O
     present = λ up is live. ap (λ (k : ChannelUse). (slots k.channel).present) e ∙ here;
   }
 
-  pub new_fits : (t : Tag) → t.channel_use ≡ now f s c → t.own ≡ own → t.far ≡ far → (t.kind ≡ Cancelled → ⊥) → Fits f' node n t (new_record n node own far)
-  new_fits t e o a live = record {
+  pub new_fits : (t : Tag) → t.channel_use ≡ now f s c → t.own ≡ own → t.far ≡ far → (t.kind ≡ Cancelled → ⊥) → (caller : Option ℕ) → caller ≡ came_from t → Fits f' node n t (new_record n node own far caller)
+  new_fits t e o a live caller i = record {
     number = refl;
     node_is = refl;
     own = sym o;
     far = sym a;
-    tells = λ l. subst (λ (k : ChannelUse). Tells f' k (new_record n node own far)) (sym e) (record {
+    caller = i;
+    tells = λ l. subst (λ (k : ChannelUse). Tells f' k (new_record n node own far caller)) (sym e) (record {
       sent = λ g. own_sent nothing_passed _ _ (none_sent g) (sent_as nothing_passed nothing_passed _ (q.sent (now f s c) g ∙ new.sent g) nothing_sent_yet);
       taken = λ g. own_taken nothing_passed _ _ (none_taken g) (taken_as nothing_passed nothing_passed _ (q.taken (now f s c) g ∙ new.taken g) nothing_taken_yet);
     });
     none = λ k. absurd (live k);
-    epochs = λ up is l. subst (λ (k : ChannelUse). HasEpochs (new_record n node own far) (f'.histories k.session k.channel).epoch) (sym e)
+    epochs = λ up is l. subst (λ (k : ChannelUse). HasEpochs (new_record n node own far caller) (f'.histories k.session k.channel).epoch) (sym e)
         (record { sent = sym (q.epoch s c ∙ new.first); taken = sym (q.epoch s c ∙ new.first) });
   }
 
@@ -153,7 +154,7 @@ module _ (x : Role) (s c : ℕ) (parts : CallParts) (views views' : Role → End
     live = caller_not_cancelled;
   }
 
-  begins : Begins x s c views views' b slots tags placed_tag (new_record (length b.records) (b.nodes x) (address_of parts.calling) (address_of parts.called))
+  begins : Begins x s c views views' b slots tags placed_tag (new_record (length b.records) (b.nodes x) (address_of parts.calling) (address_of parts.called) None)
   begins = record {
     there = q.there;
     here = q.here;
@@ -166,13 +167,13 @@ module _ (x : Role) (s c : ℕ) (parts : CallParts) (views views' : Role → End
     present = ap (λ (z : Slot). z.present) q.slot;
     is_open = refl;
     means = means;
-    fits = new_fits (views x) (views' x) s c (b.nodes x) (length b.records) (slots x) (address_of parts.calling) (address_of parts.called) Caller q.here q.new placed_tag refl refl refl caller_not_cancelled;
+    fits = new_fits (views x) (views' x) s c (b.nodes x) (length b.records) (slots x) (address_of parts.calling) (address_of parts.called) Caller q.here q.new placed_tag refl refl refl caller_not_cancelled None refl;
     slot = subst (λ (m : CallStatus). SlotIs m (views' x) (tags ++ placed_tag ∷ []) x c (slots x c)) (sym q.status) (present, refl, ap (λ (z : Slot). z.caller) q.slot);
     placed = subst (λ (o : Option ℕ). PlacedIs o (views' x) (tags ++ placed_tag ∷ []) x c) (sym (ap (λ (z : Slot). z.placed) q.slot)) is_placed;
   }
 
-  pub placing_right : (tags' : List Tag) × (map came_from tags' ≡ map came_from tags ++ None ∷ []) × IsRight views' (record b { slots = slots; records = b.records ++ new_record (length b.records) (b.nodes x) (address_of parts.calling) (address_of parts.called) ∷ [] }) tags'
-  placing_right = (tags ++ placed_tag ∷ [], map_pushed came_from tags placed_tag, added_right x s c views views' b slots tags placed_tag (new_record (length b.records) (b.nodes x) (address_of parts.calling) (address_of parts.called)) w begins)
+  pub placing_right : (tags' : List Tag) × (map came_from tags' ≡ map came_from tags ++ None ∷ []) × IsRight views' (record b { slots = slots; records = b.records ++ new_record (length b.records) (b.nodes x) (address_of parts.calling) (address_of parts.called) None ∷ [] }) tags'
+  placing_right = (tags ++ placed_tag ∷ [], map_pushed came_from tags placed_tag, added_right x s c views views' b slots tags placed_tag (new_record (length b.records) (b.nodes x) (address_of parts.calling) (address_of parts.called) None) w begins)
 
 -- ---- a call comes in
 
@@ -305,7 +306,7 @@ module _ (x : Role) (s c : ℕ) (parts : CallParts) (views views' : Role → End
     live = callee_not_cancelled mate.number;
   }
 
-  come_begins : Begins x s c views views' b slots tags come_tag (new_record (length b.records) (b.nodes x) (address_of parts.called) (address_of parts.calling))
+  come_begins : Begins x s c views views' b slots tags come_tag (new_record (length b.records) (b.nodes x) (address_of parts.called) (address_of parts.calling) (b.slots (other_of x) c).placed)
   come_begins = record {
     there = q.there;
     here = q.here;
@@ -318,11 +319,11 @@ module _ (x : Role) (s c : ℕ) (parts : CallParts) (views views' : Role → End
     present = ap (λ (z : Slot). z.present) q.slot;
     is_open = refl;
     means = come_means;
-    fits = new_fits (views x) (views' x) s c (b.nodes x) (length b.records) (slots x) (address_of parts.called) (address_of parts.calling) Caller q.here q.new come_tag refl refl refl (callee_not_cancelled mate.number);
+    fits = new_fits (views x) (views' x) s c (b.nodes x) (length b.records) (slots x) (address_of parts.called) (address_of parts.calling) Caller q.here q.new come_tag refl refl refl (callee_not_cancelled mate.number) (b.slots (other_of x) c).placed mate.is_placed;
     slot = subst (λ (m : CallStatus). SlotIs m (views' x) (tags ++ come_tag ∷ []) x c (slots x c)) (sym q.status) (come_present, mate.number, refl, ap (λ (z : Slot). z.caller) q.slot ∙ mate.is_placed);
     placed = subst (λ (o : Option ℕ). PlacedIs o (views' x) (tags ++ come_tag ∷ []) x c) (sym (ap (λ (z : Slot). z.placed) q.slot))
         (placed_same (b.slots x c).placed (views x) (views' x) (tags ++ come_tag ∷ []) x c (let h = q.here.top in omega arith) (λ k e. q.called k) (placed_more (b.slots x c).placed (views x) tags (come_tag ∷ []) x c (w.placed x c)));
   }
 
-  pub coming_right : (tags' : List Tag) × (map came_from tags' ≡ map came_from tags ++ (b.slots (other_of x) c).placed ∷ []) × IsRight views' (record b { slots = slots; records = b.records ++ new_record (length b.records) (b.nodes x) (address_of parts.called) (address_of parts.calling) ∷ [] }) tags'
-  coming_right = (tags ++ come_tag ∷ [], map_pushed came_from tags come_tag ∙ ap (λ (o : Option ℕ). map came_from tags ++ o ∷ []) (sym mate.is_placed), added_right x s c views views' b slots tags come_tag (new_record (length b.records) (b.nodes x) (address_of parts.called) (address_of parts.calling)) w come_begins)
+  pub coming_right : (tags' : List Tag) × (map came_from tags' ≡ map came_from tags ++ (b.slots (other_of x) c).placed ∷ []) × IsRight views' (record b { slots = slots; records = b.records ++ new_record (length b.records) (b.nodes x) (address_of parts.called) (address_of parts.calling) (b.slots (other_of x) c).placed ∷ [] }) tags'
+  coming_right = (tags ++ come_tag ∷ [], map_pushed came_from tags come_tag ∙ ap (λ (o : Option ℕ). map came_from tags ++ o ∷ []) (sym mate.is_placed), added_right x s c views views' b slots tags come_tag (new_record (length b.records) (b.nodes x) (address_of parts.called) (address_of parts.calling) (b.slots (other_of x) c).placed) w come_begins)

@@ -10,7 +10,7 @@ use Rattle.std.specs.Option.{IsSome}
 use Rattle.call_records.specs.Records.{RecordValue, PairValue}
 use Rattle.call_records.specs.Book.{Slot}
 use Rattle.book_laws.proofs.Basics.{is_role, number_is, twice, get_set, set_here, set_elsewhere, length_set}
-use Rattle.book_laws.proofs.Invariant.{EndView, CallStatus, ChannelUse, Kind, Tag, BookParts, AreOpen, IsLive, Stands, Means, Fits, Present, SlotIs, PlacedIs, UpTo, IsPair, IsRight, epoch_at, called_at, now, taken_of, nothing_passed, taken_as}
+use Rattle.book_laws.proofs.Invariant.{EndView, CallStatus, ChannelUse, Kind, Tag, BookParts, AreOpen, IsLive, Stands, Means, Fits, Present, SlotIs, PlacedIs, UpTo, IsPair, IsRight, epoch_at, called_at, now, taken_of, nothing_passed, taken_as, came_from}
 use Rattle.book_laws.proofs.Invariant.CallStatus.{Idle, OwnCall, FarCall, Open}
 use Rattle.book_laws.proofs.Invariant.Kind.{Caller, Callee, Cancelled}
 use Rattle.book_laws.proofs.Carrying.{is_present, same_tag}
@@ -189,6 +189,7 @@ module _ (x : Role) (c : ℕ) (views : Role → EndView) (status : Role → ℕ 
     node_is = a.head.node ∙ o.node_is;
     own = a.head.own ∙ o.own;
     far = a.head.far ∙ o.far;
+    caller = a.head.caller ∙ o.caller;
     tells = λ live. record {
       sent = λ g. rw (a.sent_before, a.sent) ((o.tells live).sent g);
       taken = λ g. rw (a.taken_before, a.taken) ((o.tells live).taken g);
@@ -206,6 +207,7 @@ module _ (x : Role) (c : ℕ) (views : Role → EndView) (status : Role → ℕ 
     node_is = a.head.node ∙ o.node_is;
     own = a.head.own ∙ o.own;
     far = a.head.far ∙ o.far;
+    caller = a.head.caller ∙ o.caller ∙ ap (λ (k : Kind). came_from (record q.own.tag { kind = k })) q.kind;
     tells = λ live. absurd (live refl);
     none = λ e g. taken_as _ _ _ (sym (ap (λ (k : ChannelUse). taken_of (epoch_at (views x) k g)) q.own.channel_use ∙ q.nothing g)) (rw (a.taken_before, a.taken) ((o.tells own_live).taken g));
     epochs = λ up is live. absurd (live refl);

@@ -138,6 +138,7 @@ pub record SameHead (r r' : RecordValue) : Type 0 where
   pub node : r'.node ≡ r.node
   pub own : r'.own ≡ r.own
   pub far : r'.far ≡ r.far
+  pub caller : r'.caller ≡ r.caller
 
 -- the record of the present call grows as its end's history does
 pub record Grows (f f' : EndView) (s c : ℕ) (r r' : RecordValue) : Type 0 where
@@ -198,6 +199,7 @@ module _ (x : Role) (c : ℕ) (views views' : Role → EndView) (b : BookParts) 
         node_is = g.head.node ∙ old.node_is;
         own = g.head.own ∙ old.own;
         far = g.head.far ∙ old.far;
+        caller = g.head.caller ∙ old.caller;
         tells = λ l. subst (λ (k : ChannelUse). Tells (views' t.role) k r') (sym channel_use) (subst (λ (y : Role). Tells (views' y) (now (views x) p.session c) r') (sym role) (g.tells tells epochs));
         none = λ k. absurd (live k);
         epochs = λ u a l. subst (λ (k : ChannelUse). HasEpochs r' ((views' t.role).histories k.session k.channel).epoch) (sym channel_use) (subst (λ (y : Role). HasEpochs r' ((views' y).histories p.session c).epoch) (sym role) (g.epochs epochs));
@@ -215,6 +217,7 @@ module _ (x : Role) (c : ℕ) (views views' : Role → EndView) (b : BookParts) 
         node_is = old.node_is;
         own = old.own;
         far = old.far;
+        caller = old.caller;
         tells = λ live. record {
           sent = λ g. sent_as _ _ _ (ap sent_of (q.logs t.role t.channel_use g (elsewhere live))) ((old.tells live).sent g);
           taken = λ g. taken_as _ _ _ (ap taken_of (q.logs t.role t.channel_use g (elsewhere live))) ((old.tells live).taken g);

@@ -1,5 +1,5 @@
 -- What is right of the book of a line, with the law of the line, gives what the book promises.
-use Rattle.std.specs.Prelude.{◌≡◌, ℕ, suc, ◌≤◌, length, ◌⊎◌, Bool, true, false, ◌||◌, List, [], ◌∷◌, ◌++◌, map, slice_get, Some}
+use Rattle.std.specs.Prelude.{◌≡◌, ℕ, suc, ◌≤◌, length, ◌⊎◌, Bool, true, false, ◌||◌, List, [], ◌∷◌, ◌++◌, map, slice_get, Option, Some}
 use Rattle.std.proofs.Common.{inl, inr, refl, sym, ap, subst, ◌∙◌, arith, true≢false}
 use Rattle.std.proofs.lemmas.Option.{none-some, same_Some, slice_get_within}
 use Rattle.link_timers.specs.declared.role.Role.{Role}
@@ -123,6 +123,20 @@ ends_are b Dce = inl (refl, refl)
 node_at : (b : Book) (x : Role) (n : ℕ) → n ≡ (side_of x b).node → (n ≡ b.dte.node) ⊎ (n ≡ b.dce.node)
 node_at b Dte n e = inl e
 node_at b Dce n e = inr e
+
+same_callers : (tags : List Tag) (rs : List RecordValue) → length tags ≡ length rs
+    → ((n : ℕ) (t : Tag) (r : RecordValue) → slice_get tags n ≡ Some t → slice_get rs n ≡ Some r → r.caller ≡ came_from t)
+    → map (λ r. r.caller) rs ≡ map came_from tags
+same_callers [] [] count h = refl
+same_callers [] (r ∷ rs) count h = absurd (omega arith)
+same_callers (t ∷ tags) [] count h = absurd (omega arith)
+same_callers (t ∷ tags) (r ∷ rs) count h =
+    ap (λ (o : Option ℕ). o ∷ map (λ x. x.caller) rs) (h 0 t r refl refl)
+    ∙ ap (λ (os : List (Option ℕ)). came_from t ∷ os) (same_callers tags rs (omega arith) (λ n u x e g. h (suc n) u x e g))
+
+-- each record has what its tag says of where its call came from
+pub callers_are : (views : Role → EndView) (b : Book) (tags : List Tag) → IsRight views (book_parts b) tags → map (λ r. r.caller) b.records ≡ map came_from tags
+callers_are views b tags w = same_callers tags b.records w.count (λ n t r e g. (w.fits n t r e g).caller)
 
 module _ (views : Role → EndView) (b : Book) (tags : List Tag) (w : IsRight views (book_parts b) tags) (says : LineSays views) where
   record_of : (n : ℕ) (t : Tag) → slice_get tags n ≡ Some t → (r : RecordValue) × (slice_get b.records n ≡ Some r)

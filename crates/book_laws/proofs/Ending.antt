@@ -24,7 +24,7 @@ pub record Alike (r r' : RecordValue) : Type 0 where
   pub taken : r'.taken ≡ r.taken
 
 pub alike : (r : RecordValue) → Alike r r
-alike r = record { head = record { number = refl; node = refl; own = refl; far = refl }; sent_before = refl; sent = refl; taken_before = refl; taken = refl }
+alike r = record { head = record { number = refl; node = refl; own = refl; far = refl; caller = refl }; sent_before = refl; sent = refl; taken_before = refl; taken = refl }
 
 pub record StandsStill (f f' : EndView) (c : ℕ) (slot slot' : Slot) : Type 0 where
   pub status : f'.status c ≡ f.status c
@@ -126,6 +126,7 @@ fits_alike f f' node n t r r' same count a w = record {
   node_is = a.head.node ∙ w.node_is;
   own = a.head.own ∙ w.own;
   far = a.head.far ∙ w.far;
+  caller = a.head.caller ∙ w.caller;
   tells = λ live. tells_same f f' t.channel_use r r' same a (w.tells live);
   none = λ k g. rw (a.taken_before, a.taken) (w.none k g);
   epochs = λ up is live. let h = count up is in epochs_same r r' (f.histories t.channel_use.session t.channel_use.channel).epoch (f'.histories t.channel_use.session t.channel_use.channel).epoch a h.2 (w.epochs h.0 h.1 live);

@@ -231,6 +231,7 @@ pub record Fits (f : EndView) (node n : ℕ) (t : Tag) (r : RecordValue) : Type 
   pub node_is : r.node ≡ node
   pub own : r.own ≡ t.own
   pub far : r.far ≡ t.far
+  pub caller : r.caller ≡ came_from t
   pub tells : IsLive t.kind → Tells f t.channel_use r
   pub none : t.kind ≡ Cancelled → TookNone r
   pub epochs : f.session ≡ Some t.channel_use.session → t.channel_use ≡ now f t.channel_use.session t.channel_use.channel → IsLive t.kind

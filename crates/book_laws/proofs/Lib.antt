@@ -28,5 +28,6 @@ pub mod Beside
 pub mod Placed
 pub mod Answered
 pub mod OpenPairs
+pub mod Accepted
 mod Delivery
 pub mod Rows

@@ -1,5 +1,5 @@
 -- Whatever happens at the two ends of a line keeps its book right.
-use Rattle.std.specs.Prelude.{◌≡◌, ℕ, zero, suc, ◌≤◌, Bool, true, false, cond, ◌&&◌, ◌||◌, List, [], ◌∷◌, length, slice_get, Option, Some, None}
+use Rattle.std.specs.Prelude.{◌≡◌, ℕ, zero, suc, ◌≤◌, Bool, true, false, cond, ◌&&◌, ◌||◌, List, [], ◌∷◌, length, map, slice_get, Option, Some, None}
 use Rattle.std.proofs.Common.{inl, inr, refl, sym, ap, subst, ◌∙◌, length-append, arith, true≢false}
 use Rattle.std.proofs.lemmas.Bool.{ltb-true}
 use Rattle.link_timers.specs.declared.role.Role.{Role}
@@ -30,7 +30,7 @@ use Rattle.book_laws.proofs.Ends.{quiet_step}
 use Rattle.book_laws.proofs.Events.{requests_kept, begun_rises, same_rises, same_end_is}
 use Rattle.book_laws.proofs.Placing.{calls_given, timer_runs, down_kept, up_kept}
 use Rattle.book_laws.proofs.Coming.{accepts_kept}
-use Rattle.book_laws.proofs.Concluding.{LineSays, concluded, calls_concluded}
+use Rattle.book_laws.proofs.Concluding.{LineSays, concluded, calls_concluded, callers_are}
 
 -- ---- an event at `me`
 
@@ -150,7 +150,7 @@ edit_kept n e y te ty b cs role channel step k =
       opened = λ w. moved_open (book_parts b).slots (book_parts b').slots b'.records (λ y c. slot_changed y c o (with_step step) b)
           (kept_open (book_parts b).slots b.records b'.records (λ n r' e. step_kept o step b n r' e) w);
       count = count_changed o (with_step step) b;
-      kept = kept_changed o (with_step step) b (λ r. record { head = record { number = refl; node = refl; own = refl; far = refl }; sent_before = refl; sent = refl; taken_before = refl; taken = refl });
+      kept = kept_changed o (with_step step) b (λ r. record { head = record { number = refl; node = refl; own = refl; far = refl; caller = refl }; sent_before = refl; sent = refl; taken_before = refl; taken = refl });
     } in
     record {
       tags = k.tags;
@@ -273,3 +273,7 @@ kept_calls n v cs k law =
     subst (λ (l : List (Option ℕ)). CallsHold v.book l) k.callers
     (calls_concluded (views_of Dte v.line.me v.line.you v.top_me v.top_you) v.book k.tags k.right
     (says_of n v.line.me v.line.you v.top_me v.top_you k.here.count k.there.count (λ s c lo hi. law [] s c lo hi)))
+
+-- and each record says where its call came from
+pub kept_callers : (n : ℕ) (v : World) (cs : List (Option ℕ)) → KeptIn n v cs → map (λ r. r.caller) v.book.records ≡ cs
+kept_callers n v cs k = callers_are (views_of Dte v.line.me v.line.you v.top_me v.top_you) v.book k.tags k.right ∙ k.callers

@@ -89,7 +89,7 @@ module _ (e e' y : End) (s d te ty : ℕ) (parts : CallParts) (b : Book) (tags :
       let m = meets in
       let b1 : Book = closes Dce d b in
       let b' : Book = comes Dce d parts b1 in
-      let r0 : RecordValue = new_record (length b1.records) b1.dce.node (address_of parts.called) (address_of parts.calling) in
+      let r0 : RecordValue = new_record (length b1.records) b1.dce.node (address_of parts.called) (address_of parts.calling) (slot_at Dte d b1).placed in
       let v : Book = with_record r0 b1 in
       let z : Slot = record { present = Some (length b1.records); placed = (slot_at Dce d b1).placed; caller = (slot_at Dte d b1).placed } in
       let r = coming_right Dce s d parts (with_statuses (between e y d) (views_of Dce e y te ty)) (views_of Dce e' y te ty) (book_parts b1) (book_parts b').slots m.0 m.2 (record {

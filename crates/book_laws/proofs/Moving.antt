@@ -37,11 +37,16 @@ pub record IsEnd (n : ℕ) (x : Role) (e : End) : Type 0 where
   pub count : length e.layer.channels ≡ n
   pub up : e.layer.phase ≡ PacketReady → (s : ℕ) × (e.session ≡ Some s) × (has_come e s ≡ true)
 
+-- the book of a line with so many channels and no address
+pub record HasSize (n : ℕ) (b : Book) : Type 0 where
+  pub size : (z : Role) → length (side_of z b).slots ≡ n
+  pub address : (z : Role) → (side_of z b).address ≡ []
+
 pub record KeptAt (n : ℕ) (x : Role) (e y : End) (te ty : ℕ) (b : Book) (cs : List (Option ℕ)) : Type 0 where
   pub tags : List Tag
   pub callers : map came_from tags ≡ cs
   pub right : IsRight (views_of x e y te ty) (book_parts b) tags
-  pub sizes : (z : Role) → length (side_of z b).slots ≡ n
+  pub sizes : HasSize n b
   pub here : IsEnd n x e
   pub there : IsEnd n (other_of x) y
 
@@ -106,7 +111,7 @@ unanswered x Transfer st e u = absurd (not_far_open e)
 pair_size : (o p : Option ℕ) (b : Book) → SameSize b (with_pair o p b)
 pair_size None p b = size_refl b
 pair_size (Some a) None b = size_refl b
-pair_size (Some a) (Some c) b = record { size = λ y. size y; node = λ y. node y }
+pair_size (Some a) (Some c) b = record { size = λ y. size y; node = λ y. node y; address = λ y. address y }
   where
     size : (y : Role) → length (side_of y (with_pair (Some a) (Some c) b)).slots ≡ length (side_of y b).slots
     size Dte = refl
@@ -115,6 +120,10 @@ pair_size (Some a) (Some c) b = record { size = λ y. size y; node = λ y. node 
     node : (y : Role) → (side_of y (with_pair (Some a) (Some c) b)).node ≡ (side_of y b).node
     node Dte = refl
     node Dce = refl
+
+    address : (y : Role) → (side_of y (with_pair (Some a) (Some c) b)).address ≡ (side_of y b).address
+    address Dte = refl
+    address Dce = refl
 
 comes_size : (x : Role) (d : ℕ) (parts : CallParts) (b : Book) → SameSize b (comes x d parts b)
 comes_size x d parts b = size_trans b (with_record _ b) (comes x d parts b) (size_record _ b) (size_slot x d _ (with_record _ b))
@@ -130,8 +139,8 @@ and_both false b e h = absurd (true≢false (sym e))
 pub begun_now : (x : Role) (e : End) (te n s d : ℕ) → length e.layer.channels ≡ n → has_come e s ≡ true → 1 ≤ d → d ≤ n → (view_of x e te).begun (now (view_of x e te) s d) ≡ true
 begun_now x e te n s d count come lo hi = and_both (has_come e s) (within (length e.layer.channels) d) come (ap (λ (m : ℕ). within m d) count ∙ within_is n d lo hi)
 
-pub sized : (n : ℕ) (b b' : Book) → SameSize b b' → ((z : Role) → length (side_of z b).slots ≡ n) → (z : Role) → length (side_of z b').slots ≡ n
-sized n b b' s h z = s.size z ∙ h z
+pub sized : (n : ℕ) (b b' : Book) → SameSize b b' → HasSize n b → HasSize n b'
+sized n b b' s h = record { size = λ z. s.size z ∙ h.size z; address = λ z. s.address z ∙ h.address z }
 
 -- the view of an end at its own role
 view_here : (x : Role) (e y : End) (te ty : ℕ) (P : EndView → Type 0) → P (views_of x e y te ty x) → P (view_of x e te)
@@ -265,7 +274,7 @@ module _ (n : ℕ) (x : Role) (e e' y : End) (te ty : ℕ) (b : Book) (cs : List
 
   same_record : (st st' : History) (r : RecordValue) → SameHistory st st' → RecordGrows st st' r r
   same_record st st' r h = record {
-    head = record { number = refl; node = refl; own = refl; far = refl };
+    head = record { number = refl; node = refl; own = refl; far = refl; caller = refl };
     closed = refl;
     tells = λ t a w. record {
       sent = λ g. sent_as _ _ _ (ap sent_of (h.epochs st.restart st.use_ g)) (t.sent g);
@@ -351,7 +360,7 @@ module _ (n : ℕ) (x : Role) (e e' y : End) (te ty : ℕ) (b : Book) (cs : List
         last = past_known parts known;
         order = arrival.order;
         least = q.least;
-        most = let h = k.sizes x in let l = q.most in omega arith;
+        most = let h = k.sizes.size x in let l = q.most in omega arith;
       }
 
   comes_after : (parts : CallParts) → came parts → ch.state ≡ Ready → status_of x ch'.state ≡ FarCall → ((st : History) → SameHistory st (told st)) → KeptAt n x e' y te ty (comes x d parts b) (cs ++ (slot_at (other_of x) d b).placed ∷ [])

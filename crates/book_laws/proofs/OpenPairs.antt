@@ -130,7 +130,7 @@ module _ (v : World) (tags : List Tag) (w : IsRight (views_of Dte v.line.me v.li
 -- ---- the law
 
 -- a channel that has a present record is one of the line
-in_slots : (slots : List Slot) (c n : ℕ) → (nth_slot slots c).present ≡ Some n → (1 ≤ c) × (c ≤ length slots)
+pub in_slots : (slots : List Slot) (c n : ℕ) → (nth_slot slots c).present ≡ Some n → (1 ≤ c) × (c ≤ length slots)
 in_slots slots zero n e = absurd (none-some n e)
 in_slots slots (suc i) n e = let h = found (slice_get slots i) refl e in (omega arith, omega arith)
   where
@@ -162,14 +162,14 @@ module _ (dte_node dce_node channels window : ℕ) (standing : Bool) (some : 1 �
   pub holds_there : (role : Role) (c n : ℕ) → (slot_at role c world.book).present ≡ Some n → (s : ℕ) → Holds world.line s c
   holds_there role c n e s =
       let h = in_slots (side_of role world.book).slots c n e in
-      let size = all.0.sizes role in
+      let size = all.0.sizes.size role in
       all.1 [] s c h.0 (omega arith)
 
   -- and the numbers of such a channel name the counts of its epoch
   pub counted_there : (role : Role) (c n : ℕ) → (slot_at role c world.book).present ≡ Some n → (s : ℕ) → IsCounted window (layers_at role world.line) s c
   counted_there role c n e s =
       let h = in_slots (side_of role world.book).slots c n e in
-      let size = all.0.sizes role in
+      let size = all.0.sizes.size role in
       let ran = happened ms (start dte_node dce_node channels window standing) in
       let both = line_counts channels window standing some small ran.0 s c h.0 (omega arith) in
       subst (λ (l : Line). IsCounted window (layers_at role l) s c) (sym ran.1) (both_ends window (after ran.0 (start_line channels window standing)) s c role both)

@@ -102,7 +102,7 @@ nth_else_taken (a ∷ es) e f (suc g) h = nth_else_taken es e f g (λ k. h (ap s
 -- ---- records that grow
 
 same_head : (r : RecordValue) → SameHead r r
-same_head r = record { number = refl; node = refl; own = refl; far = refl }
+same_head r = record { number = refl; node = refl; own = refl; far = refl; caller = refl }
 
 -- a reset opens an epoch
 pub record OpensEpoch (st st' : History) : Type 0 where
@@ -121,7 +121,7 @@ opens_grows st st' o = record {
 
 opens_record : (st st' : History) (r : RecordValue) → OpensEpoch st st' → RecordGrows st st' r (with_epoch r)
 opens_record st st' r o = record {
-  head = record { number = refl; node = refl; own = refl; far = refl };
+  head = record { number = refl; node = refl; own = refl; far = refl; caller = refl };
   closed = refl;
   tells = λ t h w. record {
     sent = λ g. own_sent _ _ _ (nth_more (all_sent r) g) (sent_as _ _ _ (ap sent_of (o.epochs st.restart st.use_ g)) (t.sent g));
@@ -224,7 +224,7 @@ by_sending : (d : Datum) → GrowsBy (λ e. record e { sent = e.sent ++ d ∷ []
 by_sending d = record {
   called = λ e. refl;
   answered = λ e. refl;
-  head = λ r. record { number = refl; node = refl; own = refl; far = refl };
+  head = λ r. record { number = refl; node = refl; own = refl; far = refl; caller = refl };
   closed = λ r. refl;
   sent_before = λ r. refl;
   taken_before = λ r. refl;
@@ -242,7 +242,7 @@ by_interrupting : (octets : List ℕ) → GrowsBy (λ e. record e { interrupts_s
 by_interrupting octets = record {
   called = λ e. refl;
   answered = λ e. refl;
-  head = λ r. record { number = refl; node = refl; own = refl; far = refl };
+  head = λ r. record { number = refl; node = refl; own = refl; far = refl; caller = refl };
   closed = λ r. refl;
   sent_before = λ r. refl;
   taken_before = λ r. refl;
@@ -254,7 +254,7 @@ by_taking : (d : Datum) → GrowsBy (λ e. record e { taken = e.taken ++ d ∷ [
 by_taking d = record {
   called = λ e. refl;
   answered = λ e. refl;
-  head = λ r. record { number = refl; node = refl; own = refl; far = refl };
+  head = λ r. record { number = refl; node = refl; own = refl; far = refl; caller = refl };
   closed = λ r. refl;
   sent_before = λ r. refl;
   taken_before = λ r. refl;
@@ -272,7 +272,7 @@ by_interrupt_taken : (octets : List ℕ) → GrowsBy (λ e. record e { interrupt
 by_interrupt_taken octets = record {
   called = λ e. refl;
   answered = λ e. refl;
-  head = λ r. record { number = refl; node = refl; own = refl; far = refl };
+  head = λ r. record { number = refl; node = refl; own = refl; far = refl; caller = refl };
   closed = λ r. refl;
   sent_before = λ r. refl;
   taken_before = λ r. refl;
@@ -284,7 +284,7 @@ by_covering : (n : ℕ) → GrowsBy (λ e. record e { covered = e.covered + n })
 by_covering n = record {
   called = λ e. refl;
   answered = λ e. refl;
-  head = λ r. record { number = refl; node = refl; own = refl; far = refl };
+  head = λ r. record { number = refl; node = refl; own = refl; far = refl; caller = refl };
   closed = λ r. refl;
   sent_before = λ r. refl;
   taken_before = λ r. refl;
@@ -302,7 +302,7 @@ by_covering_none : (n : ℕ) → n ≡ 0 → GrowsBy (λ e. record e { covered =
 by_covering_none n none = record {
   called = λ e. refl;
   answered = λ e. refl;
-  head = λ r. record { number = refl; node = refl; own = refl; far = refl };
+  head = λ r. record { number = refl; node = refl; own = refl; far = refl; caller = refl };
   closed = λ r. refl;
   sent_before = λ r. refl;
   taken_before = λ r. refl;
@@ -319,7 +319,7 @@ by_releasing : (v : Bool) (n : ℕ) → GrowsBy (λ e. cond v (record e { releas
 by_releasing true n = record {
   called = λ e. refl;
   answered = λ e. refl;
-  head = λ r. record { number = refl; node = refl; own = refl; far = refl };
+  head = λ r. record { number = refl; node = refl; own = refl; far = refl; caller = refl };
   closed = λ r. refl;
   sent_before = λ r. refl;
   taken_before = λ r. refl;
@@ -335,7 +335,7 @@ by_releasing true n = record {
 by_releasing false n = record {
   called = λ e. refl;
   answered = λ e. refl;
-  head = λ r. record { number = refl; node = refl; own = refl; far = refl };
+  head = λ r. record { number = refl; node = refl; own = refl; far = refl; caller = refl };
   closed = λ r. refl;
   sent_before = λ r. refl;
   taken_before = λ r. refl;

@@ -81,8 +81,9 @@ call_on n e y te ty b cs parts d ch0 (Some ch) k facts phase found is0 ready0 =
       begun_history = at.begun;
       begun = begun_now x e te n s d k.here.count up.2 range.0 hi;
       not_answered = not_answered_there n e y s d facts range.0 hi unused ((y.histories s d).epochs (e.histories s d).restart (e.histories s d).use_ 0).answered refl;
+      no_address = k.sizes.address x;
       least = range.0;
-      most = let h = k.sizes x in omega arith;
+      most = let h = k.sizes.size x in omega arith;
     }) k.right in
     record {
       tags = r.0;

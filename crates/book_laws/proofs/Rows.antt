@@ -57,6 +57,7 @@ caller = record {
   node = 3;
   own = None;
   far = Some (5 ∷ 7 ∷ []);
+  caller = None;
   sent_before = record { packets = packet_of (said 72) ∷ []; interrupts = []; covered = 1 } ∷ [];
   sent = record { packets = packet_of (said 73) ∷ []; interrupts = []; covered = 0 };
   taken_before = nothing_taken ∷ [];
@@ -71,6 +72,7 @@ callee = record {
   node = 4;
   own = Some (5 ∷ 7 ∷ []);
   far = None;
+  caller = Some 0;
   sent_before = nothing_sent ∷ [];
   sent = nothing_sent;
   taken_before = record { packets = packet_of (said 72) ∷ []; interrupts = []; released = 1 } ∷ [];
@@ -143,7 +145,7 @@ named_allowed : AreAllowed named made
 named_allowed = (zero_one, (zero_one, (tt, (tt, (one_one, (one_one, (tt, (tt, (one_one, (tt, tt))))))))))
 
 named_records : (after_all named made).book.records
-    ≡ new_record 0 3 (Some (9 ∷ [])) (Some (5 ∷ 7 ∷ [])) ∷ new_record 1 4 (Some (5 ∷ 7 ∷ [])) (Some (9 ∷ [])) ∷ []
+    ≡ new_record 0 3 (Some (9 ∷ [])) (Some (5 ∷ 7 ∷ [])) None ∷ new_record 1 4 (Some (5 ∷ 7 ∷ [])) (Some (9 ∷ [])) (Some 0) ∷ []
 named_records = refl
 
 named_holds : BookHolds (after_all named made).book

@@ -22,7 +22,7 @@ use Rattle.book_laws.proofs.Cancelling.{caller_not_callee, caller_not_cancelled,
 use Rattle.book_laws.proofs.Calling.{none_sent, none_taken, callee_number}
 use Rattle.book_laws.proofs.EndSteps.{status_at, view_of, views_of}
 use Rattle.book_laws.proofs.Histories.{in_use_cases, in_use_keeps}
-use Rattle.book_laws.proofs.Moving.{KeptAt}
+use Rattle.book_laws.proofs.Moving.{KeptAt, HasSize}
 use Rattle.book_laws.proofs.Placing.{no_session_not_ready}
 use Rattle.book_laws.proofs.Lines.{KeptIn}
 
@@ -95,9 +95,16 @@ module _ (a b n window : ℕ) where
     };
   }
 
-  down_sizes : (z : Role) → length (side_of z (new_book a b n)).slots ≡ n
-  down_sizes Dte = slots_length n
-  down_sizes Dce = slots_length n
+  down_sizes : HasSize n (new_book a b n)
+  down_sizes = record { size = size; address = address }
+    where
+      size : (z : Role) → length (side_of z (new_book a b n)).slots ≡ n
+      size Dte = slots_length n
+      size Dce = slots_length n
+
+      address : (z : Role) → (side_of z (new_book a b n)).address ≡ []
+      address Dte = refl
+      address Dce = refl
 
   pub down_kept : KeptAt n Dte me you 0 0 (new_book a b n) []
   down_kept = record {
@@ -210,23 +217,25 @@ module _ (a b m window : ℕ) where
         | inr h ↦ subst (λ (u : Tag). Means (up_views u.role) (up_views (other_of u.role)) book_up.pairs both n u) (sym h.1) (subst (λ (i : ℕ). Means (up_views Dce) (up_views Dte) book_up.pairs both i callee_tag) (sym h.0) callee_means)
       ]
 
-  caller_fits : Fits (up_views Dte) a 0 caller_tag (new_record 0 a None None)
+  caller_fits : Fits (up_views Dte) a 0 caller_tag (new_record 0 a None None None)
   caller_fits = record {
     number = refl;
     node_is = refl;
     own = refl;
     far = refl;
+    caller = refl;
     tells = λ live. record { sent = λ g. own_sent nothing_passed _ _ (none_sent g) nothing_sent_yet; taken = λ g. own_taken nothing_passed _ _ (none_taken g) nothing_taken_yet };
     none = λ k. absurd (caller_not_cancelled k);
     epochs = λ up is live. record { sent = refl; taken = refl };
   }
 
-  callee_fits : Fits (up_views Dce) b 1 callee_tag (new_record 1 b None None)
+  callee_fits : Fits (up_views Dce) b 1 callee_tag (new_record 1 b None None (Some 0))
   callee_fits = record {
     number = refl;
     node_is = refl;
     own = refl;
     far = refl;
+    caller = refl;
     tells = λ live. record { sent = λ g. own_sent nothing_passed _ _ (none_sent g) nothing_sent_yet; taken = λ g. own_taken nothing_passed _ _ (none_taken g) nothing_taken_yet };
     none = λ k. absurd (callee_not_cancelled 0 k);
     epochs = λ up is live. record { sent = refl; taken = refl };
@@ -239,13 +248,13 @@ module _ (a b m window : ℕ) where
   up_fits n t r e g =
       elim (two_cases caller_tag callee_tag n t e) [
         | inl h ↦
-            let is : r ≡ new_record 0 a None None = sym (same_Some (new_record 0 a None None) r (ap (λ (i : ℕ). slice_get book_up.records i) (sym h.0) ∙ g)) in
+            let is : r ≡ new_record 0 a None None None = sym (same_Some (new_record 0 a None None None) r (ap (λ (i : ℕ). slice_get book_up.records i) (sym h.0) ∙ g)) in
             subst (λ (z : RecordValue). Fits (up_views t.role) (node_of t.role) n t z) (sym is)
-            (subst (λ (u : Tag). Fits (up_views u.role) (node_of u.role) n u (new_record 0 a None None)) (sym h.1) (subst (λ (i : ℕ). Fits (up_views Dte) a i caller_tag (new_record 0 a None None)) (sym h.0) caller_fits))
+            (subst (λ (u : Tag). Fits (up_views u.role) (node_of u.role) n u (new_record 0 a None None None)) (sym h.1) (subst (λ (i : ℕ). Fits (up_views Dte) a i caller_tag (new_record 0 a None None None)) (sym h.0) caller_fits))
         | inr h ↦
-            let is : r ≡ new_record 1 b None None = sym (same_Some (new_record 1 b None None) r (ap (λ (i : ℕ). slice_get book_up.records i) (sym h.0) ∙ g)) in
+            let is : r ≡ new_record 1 b None None (Some 0) = sym (same_Some (new_record 1 b None None (Some 0)) r (ap (λ (i : ℕ). slice_get book_up.records i) (sym h.0) ∙ g)) in
             subst (λ (z : RecordValue). Fits (up_views t.role) (node_of t.role) n t z) (sym is)
-            (subst (λ (u : Tag). Fits (up_views u.role) (node_of u.role) n u (new_record 1 b None None)) (sym h.1) (subst (λ (i : ℕ). Fits (up_views Dce) b i callee_tag (new_record 1 b None None)) (sym h.0) callee_fits))
+            (subst (λ (u : Tag). Fits (up_views u.role) (node_of u.role) n u (new_record 1 b None None (Some 0))) (sym h.1) (subst (λ (i : ℕ). Fits (up_views Dce) b i callee_tag (new_record 1 b None None (Some 0))) (sym h.0) callee_fits))
       ]
 
   up_slot : (x : Role) (c : ℕ) → SlotIs ((up_views x).status c) (up_views x) both x c (slot_at x c book_up)
@@ -322,11 +331,11 @@ module _ (a b m window : ℕ) where
 
   up_opened : AreOpen (book_parts book_up).slots book_up.records
   up_opened = record {
-    somewhere = λ i r e closed. elim (two_cases (new_record 0 a None None) (new_record 1 b None None) i r e) [
+    somewhere = λ i r e closed. elim (two_cases (new_record 0 a None None None) (new_record 1 b None None (Some 0)) i r e) [
       | inl h ↦ (Dte, 1, ap (λ (k : ℕ). Some k) (sym h.0))
       | inr h ↦ (Dce, 1, ap (λ (k : ℕ). Some k) (sym h.0))
     ];
-    is_open = λ x c i r e g. elim (two_cases (new_record 0 a None None) (new_record 1 b None None) i r g) [
+    is_open = λ x c i r e g. elim (two_cases (new_record 0 a None None None) (new_record 1 b None None (Some 0)) i r g) [
       | inl h ↦ ap (λ (z : RecordValue). z.closed) h.1
       | inr h ↦ ap (λ (z : RecordValue). z.closed) h.1
     ];
@@ -357,9 +366,16 @@ module _ (a b m window : ℕ) where
     opened = up_opened;
   }
 
-  up_sizes : (z : Role) → length (side_of z book_up).slots ≡ suc m
-  up_sizes Dte = ap suc (slots_length m)
-  up_sizes Dce = ap suc (slots_length m)
+  up_sizes : HasSize (suc m) book_up
+  up_sizes = record { size = size; address = address }
+    where
+      size : (z : Role) → length (side_of z book_up).slots ≡ suc m
+      size Dte = ap suc (slots_length m)
+      size Dce = ap suc (slots_length m)
+
+      address : (z : Role) → (side_of z book_up).address ≡ []
+      address Dte = refl
+      address Dce = refl
 
   pub up_kept : KeptAt (suc m) Dte me_up you_up 0 0 book_up (None ∷ Some 0 ∷ [])
   up_kept = record {

@@ -11,7 +11,7 @@ use Rattle.packet_laws.specs.History.{Epoch, History, placed, with_call}
 use Rattle.packet_laws.specs.Law.{IsBegun, IsUnused}
 use Rattle.packet_laws.specs.Line.{End}
 use Rattle.call_records.specs.Records.{RecordValue, new_record}
-use Rattle.call_records.specs.Book.{Book, Slot, slot_at, side_of, with_record, places_from, comes, address_of}
+use Rattle.call_records.specs.Book.{Book, Slot, slot_at, side_of, with_slot, with_record, places_from, comes, address_of, calling_from}
 use Rattle.book_laws.proofs.Basics.{number_is, order}
 use Rattle.book_laws.proofs.Invariant.{CallStatus, ChannelUse, Tag, came_from, BookParts, book_parts, IsPast, IsRight, epoch_at, called_at, answered_at, now, sent_of, taken_of}
 use Rattle.book_laws.proofs.Invariant.CallStatus.{Idle, OwnCall, FarCall}
@@ -55,6 +55,7 @@ pub record PlaceStep (x : Role) (e e' y : End) (s d te ty : ℕ) (parts : CallPa
   pub unused : IsUnused (e.histories s d)
   pub begun_history : IsBegun (e.histories s d)
   pub begun : (view_of x e te).begun (now (view_of x e te) s d) ≡ true
+  pub no_address : (side_of x b).address ≡ []
   pub not_answered : answered_at (view_of (other_of x) y ty) (now (view_of x e te) s d) ≡ false
   pub least : 1 ≤ d
   pub most : d ≤ length (side_of x b).slots
@@ -114,12 +115,22 @@ module _ (x : Role) (e e' y : End) (s d te ty : ℕ) (parts : CallParts) (b : Bo
       (ap (λ (n : ℕ). is_some ((e.histories s n).epochs k.restart k.use_ 0).called) (sym c) ∙ ap (λ (m : ℕ). is_some ((e.histories m k.channel).epochs k.restart k.use_ 0).called) (sym a) ∙ some) in
       record { restarts = h.0; uses = h.1 }
 
+-- on a line without an address the end gives its own one, if any
+placed_book : (x : Role) (d : ℕ) (parts : CallParts) (b : Book) → (side_of x b).address ≡ []
+    → with_slot x d (record { present = Some (length b.records); placed = Some (length b.records); caller = None })
+    (with_record (new_record (length b.records) (side_of x b).node (address_of parts.calling) (address_of parts.called) None) b)
+    ≡ places_from x d parts.calling parts.called b
+placed_book x d parts b none =
+    ap (λ (a : List ℕ). with_slot x d (record { present = Some (length b.records); placed = Some (length b.records); caller = None })
+    (with_record (new_record (length b.records) (side_of x b).node (address_of (calling_from a parts.calling)) (address_of parts.called) None) b)) (sym none)
+
 pub place_step : (x : Role) (e e' y : End) (s d te ty : ℕ) (parts : CallParts) (b : Book) (tags : List Tag) → PlaceStep x e e' y s d te ty parts b → IsRight (views_of x e y te ty) (book_parts b) tags
     → (tags' : List Tag) × (map came_from tags' ≡ map came_from tags ++ None ∷ []) × IsRight (views_of x e' y te ty) (book_parts (places_from x d parts.calling parts.called b)) tags'
 place_step Dte e e' y s d te ty parts b tags q w =
-    let b' : Book = places_from Dte d parts.calling parts.called b in
-    let v : Book = with_record (new_record (length b.records) b.dte.node (address_of parts.calling) (address_of parts.called)) b in
+    let r0 : RecordValue = new_record (length b.records) b.dte.node (address_of parts.calling) (address_of parts.called) None in
+    let v : Book = with_record r0 b in
     let z : Slot = record { present = Some (length b.records); placed = Some (length b.records); caller = None } in
+    let b' : Book = with_slot Dte d z v in
     let r = placing_right Dte s d parts (views_of Dte e y te ty) (views_of Dte e' y te ty) (book_parts b) (book_parts b').slots tags w (record {
       there = refl;
       here = place_adds Dte e e' y s d te ty parts b q;
@@ -131,12 +142,17 @@ place_step Dte e e' y s d te ty parts b tags q w =
       slot = slot_here Dte d z v q.least q.most;
       slots_else = λ c h. slot_else Dte d c z v h;
       slots_there = λ c. refl;
-    }) in
-    (r.0, r.1, subst (λ (sh : BookParts). IsRight (views_of Dte e' y te ty) sh r.0) (book_parts_same b b' refl (λ k. (size_slot Dte d z v).node k ∙ (size_record (new_record (length b.records) b.dte.node (address_of parts.calling) (address_of parts.called)) b).node k)) r.2)
+    }) in (
+      r.0,
+      r.1,
+      subst (λ (u : Book). IsRight (views_of Dte e' y te ty) (book_parts u) r.0) (placed_book Dte d parts b q.no_address)
+          (subst (λ (sh : BookParts). IsRight (views_of Dte e' y te ty) sh r.0) (book_parts_same b b' refl (λ k. (size_slot Dte d z v).node k ∙ (size_record r0 b).node k)) r.2),
+    )
 place_step Dce e e' y s d te ty parts b tags q w =
-    let b' : Book = places_from Dce d parts.calling parts.called b in
-    let v : Book = with_record (new_record (length b.records) b.dce.node (address_of parts.calling) (address_of parts.called)) b in
+    let r0 : RecordValue = new_record (length b.records) b.dce.node (address_of parts.calling) (address_of parts.called) None in
+    let v : Book = with_record r0 b in
     let z : Slot = record { present = Some (length b.records); placed = Some (length b.records); caller = None } in
+    let b' : Book = with_slot Dce d z v in
     let r = placing_right Dce s d parts (views_of Dce e y te ty) (views_of Dce e' y te ty) (book_parts b) (book_parts b').slots tags w (record {
       there = refl;
       here = place_adds Dce e e' y s d te ty parts b q;
@@ -148,8 +164,12 @@ place_step Dce e e' y s d te ty parts b tags q w =
       slot = slot_here Dce d z v q.least q.most;
       slots_else = λ c h. slot_else Dce d c z v h;
       slots_there = λ c. refl;
-    }) in
-    (r.0, r.1, subst (λ (sh : BookParts). IsRight (views_of Dce e' y te ty) sh r.0) (book_parts_same b b' refl (λ k. (size_slot Dce d z v).node k ∙ (size_record (new_record (length b.records) b.dce.node (address_of parts.calling) (address_of parts.called)) b).node k)) r.2)
+    }) in (
+      r.0,
+      r.1,
+      subst (λ (u : Book). IsRight (views_of Dce e' y te ty) (book_parts u) r.0) (placed_book Dce d parts b q.no_address)
+          (subst (λ (sh : BookParts). IsRight (views_of Dce e' y te ty) sh r.0) (book_parts_same b b' refl (λ k. (size_slot Dce d z v).node k ∙ (size_record r0 b).node k)) r.2),
+    )
 
 -- ---- a call comes in at an end
 
@@ -199,7 +219,7 @@ pub come_step : (x : Role) (e e' y : End) (s d te ty : ℕ) (parts : CallParts) 
     → IsRight (views_of x e y te ty) (book_parts b) tags → (tags' : List Tag) × (map came_from tags' ≡ map came_from tags ++ (slot_at (other_of x) d b).placed ∷ []) × IsRight (views_of x e' y te ty) (book_parts (comes x d parts b)) tags'
 come_step Dte e e' y s d te ty parts b tags q idle unused w =
     let b' : Book = comes Dte d parts b in
-    let r0 : RecordValue = new_record (length b.records) b.dte.node (address_of parts.called) (address_of parts.calling) in
+    let r0 : RecordValue = new_record (length b.records) b.dte.node (address_of parts.called) (address_of parts.calling) (slot_at Dce d b).placed in
     let v : Book = with_record r0 b in
     let z : Slot = record { present = Some (length b.records); placed = (slot_at Dte d b).placed; caller = (slot_at Dce d b).placed } in
     let r = coming_right Dte s d parts (views_of Dte e y te ty) (views_of Dte e' y te ty) (book_parts b) (book_parts b').slots tags w (record {
@@ -219,7 +239,7 @@ come_step Dte e e' y s d te ty parts b tags q idle unused w =
     (r.0, r.1, subst (λ (sh : BookParts). IsRight (views_of Dte e' y te ty) sh r.0) (book_parts_same b b' refl (λ k. (size_slot Dte d z v).node k ∙ (size_record r0 b).node k)) r.2)
 come_step Dce e e' y s d te ty parts b tags q idle unused w =
     let b' : Book = comes Dce d parts b in
-    let r0 : RecordValue = new_record (length b.records) b.dce.node (address_of parts.called) (address_of parts.calling) in
+    let r0 : RecordValue = new_record (length b.records) b.dce.node (address_of parts.called) (address_of parts.calling) (slot_at Dte d b).placed in
     let v : Book = with_record r0 b in
     let z : Slot = record { present = Some (length b.records); placed = (slot_at Dce d b).placed; caller = (slot_at Dte d b).placed } in
     let r = coming_right Dce s d parts (views_of Dce e y te ty) (views_of Dce e' y te ty) (book_parts b) (book_parts b').slots tags w (record {

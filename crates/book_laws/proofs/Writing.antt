@@ -56,15 +56,16 @@ length_nth slots (suc i) z = length_set slots i z
 pub record SameSize (b b' : Book) : Type 0 where
   pub size : (y : Role) → length (side_of y b').slots ≡ length (side_of y b).slots
   pub node : (y : Role) → (side_of y b').node ≡ (side_of y b).node
+  pub address : (y : Role) → (side_of y b').address ≡ (side_of y b).address
 
 pub size_refl : (b : Book) → SameSize b b
-size_refl b = record { size = λ y. refl; node = λ y. refl }
+size_refl b = record { size = λ y. refl; node = λ y. refl; address = λ y. refl }
 
 pub size_trans : (a b c : Book) → SameSize a b → SameSize b c → SameSize a c
-size_trans a b c p q = record { size = λ y. q.size y ∙ p.size y; node = λ y. q.node y ∙ p.node y }
+size_trans a b c p q = record { size = λ y. q.size y ∙ p.size y; node = λ y. q.node y ∙ p.node y; address = λ y. q.address y ∙ p.address y }
 
 pub size_slot : (x : Role) (d : ℕ) (z : Slot) (b : Book) → SameSize b (with_slot x d z b)
-size_slot x d z b = record { size = λ y. size x y; node = λ y. node x y }
+size_slot x d z b = record { size = λ y. size x y; node = λ y. node x y; address = λ y. address x y }
   where
     size : (x y : Role) → length (side_of y (with_slot x d z b)).slots ≡ length (side_of y b).slots
     size Dte Dte = length_nth b.dte.slots d z
@@ -78,8 +79,14 @@ size_slot x d z b = record { size = λ y. size x y; node = λ y. node x y }
     node Dce Dte = refl
     node Dce Dce = refl
 
+    address : (x y : Role) → (side_of y (with_slot x d z b)).address ≡ (side_of y b).address
+    address Dte Dte = refl
+    address Dte Dce = refl
+    address Dce Dte = refl
+    address Dce Dce = refl
+
 pub size_changed : (o : Option ℕ) (f : RecordValue → RecordValue) (b : Book) → SameSize b (with_change o f b)
-size_changed o f b = record { size = λ y. size o y; node = λ y. node o y }
+size_changed o f b = record { size = λ y. size o y; node = λ y. node o y; address = λ y. address o y }
   where
     size : (o : Option ℕ) (y : Role) → length (side_of y (with_change o f b)).slots ≡ length (side_of y b).slots
     size None y = refl
@@ -91,8 +98,13 @@ size_changed o f b = record { size = λ y. size o y; node = λ y. node o y }
     node (Some n) Dte = refl
     node (Some n) Dce = refl
 
+    address : (o : Option ℕ) (y : Role) → (side_of y (with_change o f b)).address ≡ (side_of y b).address
+    address None y = refl
+    address (Some n) Dte = refl
+    address (Some n) Dce = refl
+
 pub size_record : (r : RecordValue) (b : Book) → SameSize b (with_record r b)
-size_record r b = record { size = λ y. size y; node = λ y. node y }
+size_record r b = record { size = λ y. size y; node = λ y. node y; address = λ y. address y }
   where
     size : (y : Role) → length (side_of y (with_record r b)).slots ≡ length (side_of y b).slots
     size Dte = refl
@@ -101,6 +113,10 @@ size_record r b = record { size = λ y. size y; node = λ y. node y }
     node : (y : Role) → (side_of y (with_record r b)).node ≡ (side_of y b).node
     node Dte = refl
     node Dce = refl
+
+    address : (y : Role) → (side_of y (with_record r b)).address ≡ (side_of y b).address
+    address Dte = refl
+    address Dce = refl
 
 -- pairs stay, and the book has its old parts with other slots and records
 pub book_parts_same : (b b' : Book) → b'.pairs ≡ b.pairs → ((y : Role) → (side_of y b').node ≡ (side_of y b).node)
@@ -145,7 +161,7 @@ pairs_slot Dce d z b = refl
 
 alike_trans : (a b c : RecordValue) → Alike a b → Alike b c → Alike a c
 alike_trans a b c p q = record {
-  head = record { number = q.head.number ∙ p.head.number; node = q.head.node ∙ p.head.node; own = q.head.own ∙ p.head.own; far = q.head.far ∙ p.head.far };
+  head = record { number = q.head.number ∙ p.head.number; node = q.head.node ∙ p.head.node; own = q.head.own ∙ p.head.own; far = q.head.far ∙ p.head.far; caller = q.head.caller ∙ p.head.caller };
   sent_before = q.sent_before ∙ p.sent_before;
   sent = q.sent ∙ p.sent;
   taken_before = q.taken_before ∙ p.taken_before;
@@ -205,7 +221,7 @@ nth_closed (z ∷ slots) (suc zero) p e = (refl, refl)
 nth_closed (z ∷ slots) (suc (suc i)) p e = nth_closed slots (suc i) p e
 
 closed_alike : (r : RecordValue) → Alike r (with_closed r)
-closed_alike r = record { head = record { number = refl; node = refl; own = refl; far = refl }; sent_before = refl; sent = refl; taken_before = refl; taken = refl }
+closed_alike r = record { head = record { number = refl; node = refl; own = refl; far = refl; caller = refl }; sent_before = refl; sent = refl; taken_before = refl; taken = refl }
 
 closed_slot : (x : Role) (d : ℕ) (b : Book) → ((slot_at x d (closes x d b)).present ≡ None) × ((slot_at x d (closes x d b)).placed ≡ (slot_at x d b).placed)
 closed_slot Dte d b = nth_closed (side_of Dte (changed Dte d with_closed b)).slots d (slot_at Dte d b).placed (ap (λ (z : Slot). z.placed) (slot_changed Dte d (slot_at Dte d b).present with_closed b))

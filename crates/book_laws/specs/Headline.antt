@@ -196,3 +196,10 @@ CallsLaw = (dte_node dce_node channels window : ℕ) (standing : Bool) → 1 ≤
     → (ms : List Move) → AreAllowed ms (start dte_node dce_node channels window standing)
     → CallsHold (after_all ms (start dte_node dce_node channels window standing)).book
     (all_callers ms (start dte_node dce_node channels window standing) (made_callers standing))
+
+-- and each record says so itself
+abbrev pub CallersLaw : Type 0
+CallersLaw = (dte_node dce_node channels window : ℕ) (standing : Bool) → 1 ≤ channels → window ≤ 7
+    → (ms : List Move) → AreAllowed ms (start dte_node dce_node channels window standing)
+    → map (λ r. r.caller) (after_all ms (start dte_node dce_node channels window standing)).book.records
+    ≡ all_callers ms (start dte_node dce_node channels window standing) (made_callers standing)

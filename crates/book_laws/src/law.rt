@@ -1,4 +1,4 @@
-ghost use Rattle.book_laws.specs.Headline.{BookLaw, RecordsLaw, PresentLaw, AnsweredLaw, CallsLaw};
+ghost use Rattle.book_laws.specs.Headline.{BookLaw, RecordsLaw, PresentLaw, AnsweredLaw, CallsLaw, CallersLaw};
 ghost use Rattle.book_laws.specs.Delivery.{DeliveryLaw};
 ghost use Rattle.book_laws.specs.Open.{OpenLaw};
 
@@ -20,6 +20,9 @@ pub fn book_law()
 
     // Each call that came in holds as a pair does, accepted or not, and a call that was placed comes in once at most.
     ensures calls { CallsLaw }
+
+    // The record of a call that came in has the number of the record of the end that placed it.
+    ensures callers { CallersLaw }
 
     // The last epochs of a present record are the present one of its channel. Two open records of a pair are present on
     // one channel, one at each end.

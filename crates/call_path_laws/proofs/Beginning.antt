@@ -1,10 +1,12 @@
 -- From the making on, and a network without a switch.
-use Rattle.std.proofs.Common.{List, [], ◌∷◌, sym, ap, ◌∙◌, true≢false}
-use Rattle.call_records.specs.Register.{Register, all_written_at}
-use Rattle.call_path_laws.specs.World.{World, Plan, Event, after_event, after_all, MayAll, made_world}
+use Rattle.std.proofs.Common.{◌≡◌, ℕ, suc, inr, true, List, [], ◌∷◌, map, refl, sym, ap, ap₂, ◌∙◌, true≢false}
+use Rattle.link_timers.specs.declared.role.Role.{Role}
+use Rattle.link_timers.specs.declared.role.Role.TheVariants.{Dce}
+use Rattle.call_records.specs.Register.{Register, LinePlan, LineEnds, free_ends, all_written_at}
+use Rattle.call_path_laws.specs.World.{World, Plan, AreAddressed, AreBetween, Event, after_event, after_all, MayAll, without_address, made_world}
 use Rattle.call_path_laws.specs.World.Event.{Writes, SwitchWrites, Joins}
 use Rattle.call_path_laws.specs.Seen.{Seen}
-use Rattle.call_path_laws.specs.Law.{PathLaw, WithoutSwitchLaw}
+use Rattle.call_path_laws.specs.Law.{PathLaw, MadeAlikeLaw, WithoutSwitchLaw}
 use Rattle.call_path_laws.proofs.Happening.{happens}
 use Rattle.call_path_laws.proofs.Making.{made_seen}
 use Rattle.call_path_laws.proofs.Promising.{promised}
@@ -16,6 +18,18 @@ all_happen plan (event ∷ events) w may s = all_happen plan events (after_event
 pub paths_hold : PathLaw
 paths_hold plan lines events addressed between may calls joins =
     promised plan (after_all events (made_world lines)) addressed (all_happen plan events (made_world lines) may (made_seen plan lines between)) calls joins
+
+-- where all ends have users, no line has an address
+bare : (plan : Plan) (lines : List LinePlan) (first : ℕ) → ((line : ℕ) (role : Role) → plan.has_user line role ≡ true) → AreAddressed plan
+    → AreBetween plan first lines → map free_ends lines ≡ map free_ends (map without_address lines)
+bare plan [] first users addressed between = refl
+bare plan (l ∷ ls) first users addressed between =
+    let none : l.address ≡ [] = between.1.1.0 ∙ addressed first (inr (users first Dce)) in
+    ap₂ (λ (e : LineEnds) (es : List LineEnds). e ∷ es) (ap (λ (a : List ℕ). free_ends (record l { address = a })) none) (bare plan ls (suc first) users addressed between.1.1.1)
+
+pub made_alike : MadeAlikeLaw
+made_alike plan lines users addressed between =
+    ap (λ (es : List LineEnds). record { records = []; pairs = []; lines = es }) (bare plan lines 0 users addressed between)
 
 pub without_switch : WithoutSwitchLaw
 without_switch plan [] w users same may = same

@@ -5,11 +5,11 @@ use Rattle.std.proofs.lemmas.Option.{none-some, same_Some, slice_get_within}
 use Rattle.link_timers.specs.declared.role.Role.{Role}
 use Rattle.packet_layer.specs.Packets.{CallParts}
 use Rattle.call_records.specs.Records.{RecordValue, new_record}
-use Rattle.call_records.specs.Book.{side_of, slot_at, with_record, address_of, places_from}
-use Rattle.call_records.specs.Register.{Register, book_at, written_at, all_written_at}
+use Rattle.call_records.specs.Book.{side_of, slot_at, with_record, address_of, calling_from, places_from}
+use Rattle.call_records.specs.Register.{Register, book_at, written_at, all_written_at, holds}
 use Rattle.call_records.specs.Writes.{Write, all_written}
 use Rattle.book_laws.proofs.Basics.{get_last, get_before, get_there}
-use Rattle.call_path_laws.specs.World.{Origin, Join, World, Plan, Place, after_event, MayJoin, holds, holder_of, with_join, calling_on}
+use Rattle.call_path_laws.specs.World.{Origin, placing, Join, World, Plan, Place, after_event, MayJoin, holder_of, with_join, calling_on}
 use Rattle.call_path_laws.specs.World.Event.{Writes, SwitchWrites, Joins}
 use Rattle.call_path_laws.specs.Seen.{Seen}
 use Rattle.call_path_laws.specs.Forwards.{IsForwarded, IsHandedOn, AreHandedOn, MadeForwardLaw, ForwardLaw, RelayedLaw}
@@ -59,18 +59,20 @@ module _ (plan : Plan) (from to : Place) (parts : CallParts) (w : World) (m : Ma
   whole = written_at to.line (places_from to.role to.channel parts.calling parts.called) w.whole
 
   abbrev origins : List Origin
-  origins = w.origins ++ record { line = to.line; role = to.role; caller = None } ∷ []
+  origins = w.origins ++ placing to.line to.role ∷ []
 
   abbrev after : List Join → World
   after js = record { register = written_at to.line (holds to.role to.channel (holder_of from w.register)) w.register; whole = whole; origins = origins; joins = js }
 
   abbrev new : RecordValue
-  new = new_record (length w.whole.records) (side_of to.role (book_at to.line w.whole)).node (address_of parts.calling) (address_of parts.called)
+  new =
+      new_record (length w.whole.records) (side_of to.role (book_at to.line w.whole)).node
+      (address_of (calling_from (side_of to.role (book_at to.line w.whole)).address parts.calling)) (address_of parts.called) None
 
   records_are : whole.records ≡ w.whole.records ++ new ∷ []
   records_are =
       (book_written to.line w.whole (places_from to.role to.channel parts.calling parts.called (book_at to.line w.whole)) m.to_end.there).records
-      ∙ slot_records to.role to.channel _ (with_record (new_record (length w.whole.records) (side_of to.role (book_at to.line w.whole)).node (address_of parts.calling) (address_of parts.called)) (book_at to.line w.whole))
+      ∙ slot_records to.role to.channel _ (with_record new (book_at to.line w.whole))
 
   old_headed : (n : ℕ) (r : RecordValue) → slice_get w.whole.records n ≡ Some r → IsHeaded r n whole.records
   old_headed n r e = same_headed n r (w.whole.records ++ new ∷ []) whole.records records_are (more_headed n r new w.whole.records (heads r n w.whole.records e))
@@ -81,8 +83,8 @@ module _ (plan : Plan) (from to : Place) (parts : CallParts) (w : World) (m : Ma
   new_handed : (js : List Join) → ((came : RecordValue) → slice_get w.whole.records m.came_in ≡ Some came → IsForwarded plan from to parts came) → IsHandedOn plan (after js) m.came_in (length w.whole.records)
   new_handed js forwards =
       let side = s.sides from.line from.role m.from_end.there in
-      let origin = (side.slot from.channel).present_origin m.came_in m.present in
-      let came = get_there w.whole.records m.came_in (subst (λ (k : ℕ). m.came_in < k) s.records.count (slice_get_within w.origins m.came_in _ origin)) in
+      let made = (side.slot from.channel).present_origin m.came_in m.present in
+      let came = get_there w.whole.records m.came_in (subst (λ (k : ℕ). m.came_in < k) s.records.count (slice_get_within w.origins m.came_in _ made.there)) in
       let f : IsForwarded plan from to parts came.0 = forwards came.0 came.1 in
       let p : IsHeaded came.0 m.came_in whole.records = old_headed m.came_in came.0 came.1 in
       let node : (side_of to.role (book_at to.line w.whole)).node ≡ plan.node to.line to.role = (s.sides to.line to.role m.to_end.there).whole_node in
@@ -91,12 +93,14 @@ module _ (plan : Plan) (from to : Place) (parts : CallParts) (w : World) (m : Ma
         to = new;
         from_there = p.there;
         to_there = ap (λ (rs : List RecordValue). slice_get rs (length w.whole.records)) records_are ∙ get_last w.whole.records new;
-        from_origin = record { line = from.line; role = from.role; caller = (slot_at from.role from.channel (book_at from.line w.whole)).caller };
-        to_origin = record { line = to.line; role = to.role; caller = None };
-        from_came = get_before w.origins _ m.came_in _ origin;
-        to_placed = ap (λ (k : ℕ). slice_get (w.origins ++ record { line = to.line; role = to.role; caller = None } ∷ []) k) (sym s.records.count) ∙ get_last w.origins _;
+        from_origin = record { line = from.line; role = from.role; placed_here = made.placed_here; caller = (slot_at from.role from.channel (book_at from.line w.whole)).caller };
+        to_origin = placing to.line to.role;
+        from_came = get_before w.origins _ m.came_in _ made.there;
+        to_placed = ap (λ (k : ℕ). slice_get (w.origins ++ placing to.line to.role ∷ []) k) (sym s.records.count) ∙ get_last w.origins _;
         called = f.called ∙ sym p.own;
-        calling = f.calling ∙ ap (λ (d : Option (List ℕ)). calling_on (plan.address from.line) d) (sym p.far);
+        calling =
+            ap (λ (a : List ℕ). address_of (calling_from a parts.calling)) (s.sides to.line to.role m.to_end.there).whole_address
+            ∙ f.calling ∙ ap (λ (d : Option (List ℕ)). calling_on (plan.address from.line) d) (sym p.far);
         routed = f.routed ∙ ap (λ (k : ℕ). plan.route k (address_of parts.called)) (sym node);
       }
 
@@ -120,7 +124,7 @@ stays_handed_on plan (Joins from to parts) w may forwards s h =
     subst (λ (o : Option ℕ). AreHandedOn plan (record {
       register = written_at to.line (holds to.role to.channel (holder_of from w.register)) w.register;
       whole = written_at to.line (places_from to.role to.channel parts.calling parts.called) w.whole;
-      origins = w.origins ++ record { line = to.line; role = to.role; caller = None } ∷ [];
+      origins = w.origins ++ placing to.line to.role ∷ [];
       joins = with_join o (length w.whole.records) w.joins;
     })) (sym may.present) (joined_handed plan from to parts w may s (λ came e. forwards may.came_in came may.present e) h)
 

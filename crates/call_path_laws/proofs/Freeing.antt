@@ -7,19 +7,19 @@ use Rattle.call_records.specs.Book.{Book}
 use Rattle.call_records.specs.Register.{Register, LinePlan, LineEnds, free_ends, planned_book, with_lines, with_line, empty_register}
 use Rattle.register_laws.specs.Seen.{positions}
 use Rattle.register_laws.specs.Seen as line
-use Rattle.register_laws.specs.Law.{HaveChannels}
+use Rattle.register_laws.specs.Law.{HaveChannels, HaveNoAddress}
 use Rattle.register_laws.proofs.Making.{made_seen}
-use Rattle.call_path_laws.specs.World.{Origin, free_register}
-use Rattle.call_path_laws.specs.Lines.{OriginsSeen, free_book, MadeLinesLaw}
+use Rattle.call_path_laws.specs.World.{Origin, free_register, without_address}
+use Rattle.call_path_laws.specs.Lines.{OriginsSeen, AreRecorded, free_book, MadeLinesLaw}
 
 abbrev unstood : LinePlan → LinePlan
-unstood plan = record plan { standing = false }
+unstood plan = record plan { address = []; standing = false }
 
-all_free : (plans : List LinePlan) (g : Register) → with_lines (map unstood plans) g ≡ record g { lines = g.lines ++ map free_ends plans }
+all_free : (plans : List LinePlan) (g : Register) → with_lines (map unstood plans) g ≡ record g { lines = g.lines ++ map free_ends (map without_address plans) }
 all_free [] g = ap (λ (ls : List LineEnds). (record { records = g.records; pairs = g.pairs; lines = ls })) (sym (append-nil g.lines))
 all_free (plan ∷ plans) g =
     all_free plans (with_line (unstood plan) g)
-    ∙ ap (λ (ls : List LineEnds). (record { records = g.records; pairs = g.pairs; lines = ls })) (append_assoc g.lines (free_ends plan ∷ []) (map free_ends plans))
+    ∙ ap (λ (ls : List LineEnds). (record { records = g.records; pairs = g.pairs; lines = ls })) (append_assoc g.lines (free_ends (without_address plan) ∷ []) (map free_ends (map without_address plans)))
 
 books_free : (plans : List LinePlan) → map planned_book (map unstood plans) ≡ map free_book plans
 books_free [] = refl
@@ -29,10 +29,14 @@ no_channels : (plans : List LinePlan) → HaveChannels (map unstood plans)
 no_channels [] = tt
 no_channels (plan ∷ plans) = ((λ e. absurd (true≢false (sym e))), no_channels plans)
 
-free_seen : (plans : List LinePlan) → line.Seen (free_register plans) (map free_book plans)
+no_addresses : (plans : List LinePlan) → HaveNoAddress (map unstood plans)
+no_addresses [] = tt
+no_addresses (plan ∷ plans) = (refl, no_addresses plans)
+
+free_seen : (plans : List LinePlan) → line.Seen (free_register (map without_address plans)) (map free_book plans)
 free_seen plans =
-    subst (λ (bs : List Book). line.Seen (free_register plans) bs) (books_free plans)
-    (subst (λ (g : Register). line.Seen g (map planned_book (map unstood plans))) (all_free plans empty_register) (made_seen (map unstood plans) (no_channels plans)))
+    subst (λ (bs : List Book). line.Seen (free_register (map without_address plans)) bs) (books_free plans)
+    (subst (λ (g : Register). line.Seen g (map planned_book (map unstood plans))) (all_free plans empty_register) (made_seen (map unstood plans) (no_channels plans) (no_addresses plans)))
 
 none_of : (xs : List ℕ) → length xs ≡ 0 → xs ≡ []
 none_of [] e = refl
@@ -51,13 +55,20 @@ no_origins : (j : ℕ) (owners : List ℕ) → [] ≡ owners → OriginsSeen j o
 no_origins j owners e =
     subst (λ (ns : List ℕ). OriginsSeen j ns [] []) e (record { owners_are = refl; count = refl; origins = λ i n at. absurd (none-some n at) })
 
+book_empty : (plans : List LinePlan) (j : ℕ) (b : Book) → slice_get (map free_book plans) j ≡ Some b → AreRecorded [] b.records
+book_empty [] j b at = absurd (none-some b at)
+book_empty (plan ∷ plans) zero b at = subst (λ (c : Book). AreRecorded [] c.records) (same_Some (free_book plan) b at) refl
+book_empty (plan ∷ plans) (suc j) b at = book_empty plans j b at
+
 pub made_lines : MadeLinesLaw
 made_lines plans =
-    let seen : line.Seen (free_register plans) (map free_book plans) = free_seen plans in
+    let seen : line.Seen (free_register (map without_address plans)) (map free_book plans) = free_seen plans in
     record {
       seen = seen;
       owned = refl;
       count = length_map (λ (plan : LinePlan). []) plans ∙ sym (length_map free_book plans);
       lines = λ j own at.
           subst (λ (t : List Origin). OriginsSeen j seen.owners t []) (empty_there plans j own at) (no_origins j seen.owners (sym (none_of seen.owners seen.records_owned)));
+      recorded = λ j b own at trace.
+          subst (λ (t : List Origin). AreRecorded t b.records) (empty_there plans j own trace) (book_empty plans j b at);
     }

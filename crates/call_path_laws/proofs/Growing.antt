@@ -2,13 +2,13 @@
 use Rattle.std.proofs.Common.{◌≡◌, ℕ, suc, Bool, true, false, List, [], ◌∷◌, ◌++◌, length, Option, Some, None, refl, ap, ◌∙◌, arith}
 use Rattle.std.specs.Prelude.{slice_get, map, if◌then◌else◌}
 use Rattle.link_timers.specs.declared.role.Role.{Role}
-use Rattle.call_records.specs.Records.{PairValue}
+use Rattle.call_records.specs.Records.{RecordValue, PairValue}
 use Rattle.call_records.specs.Book.{Slot, Side, nth_slot}
 use Rattle.book_laws.proofs.Basics.{get_before}
 use Rattle.register_laws.specs.Seen.{positions, IsNumbered}
 use Rattle.register_laws.proofs.Positions.{one_here, one_elsewhere}
-use Rattle.call_path_laws.specs.World.{Origin, Join, Plan}
-use Rattle.call_path_laws.specs.Seen.{kind, numbers, CameFrom, IsJoined, Way, Begins, BeginsIf, PresentIsSeen, CallerIsSeen, SlotIsSeen, SideIsSeen, JoinIsSeen, PairIsSeen, PairCame}
+use Rattle.call_path_laws.specs.World.{Origin, placing, Join, Plan}
+use Rattle.call_path_laws.specs.Seen.{kind, numbers, CameFrom, IsJoined, Way, Begins, BeginsIf, RecordIsShown, PresentIsSeen, CallerIsSeen, IsMadeAt, SlotIsSeen, SideIsSeen, JoinIsSeen, PairIsSeen, PairCame}
 use Rattle.call_path_laws.specs.Seen.Way.{here, onward}
 use Rattle.call_path_laws.proofs.Ways.{along, kind_user}
 
@@ -60,21 +60,38 @@ module _ (plan : Plan) (os : List Origin) (js : List Join) (ps : List Origin) (k
   more_caller true o p h = more_begins_if o p h
   more_caller false o p h = h
 
+  pub more_made : (line : ℕ) (role : Role) (caller : Option ℕ) (m : ℕ) → IsMadeAt os line role caller m → IsMadeAt ps line role caller m
+  more_made line role caller m h =
+      record { placed_here = h.placed_here; there = x.origins m (record { line = line; role = role; placed_here = h.placed_here; caller = caller }) h.there }
+
   pub more_slot : (line : ℕ) (role : Role) (s t : Slot) → SlotIsSeen plan os js line role s t → SlotIsSeen plan ps ks line role s t
   more_slot line role s t h = record {
     present = more_present (plan.has_user line role) s.present t.present h.present;
     caller = more_caller (plan.has_user line role) s.caller t.caller h.caller;
     placed = more_begins_if s.placed t.placed h.placed;
-    present_origin = λ m e. x.origins m (record { line = line; role = role; caller = t.caller }) (h.present_origin m e);
-    placed_origin = λ m e. x.origins m (record { line = line; role = role; caller = None }) (h.placed_origin m e);
+    present_origin = λ m e. more_made line role t.caller m (h.present_origin m e);
+    placed_origin = λ m e. x.origins m (placing line role) (h.placed_origin m e);
   }
 
   pub more_side : (line : ℕ) (role : Role) (s t : Side) → SideIsSeen plan os js line role s t → SideIsSeen plan ps ks line role s t
   more_side line role s t h = record {
     seen_node = h.seen_node;
     whole_node = h.whole_node;
+    seen_address = h.seen_address;
+    whole_address = h.whole_address;
     channels = h.channels;
     slot = λ c. more_slot line role (nth_slot s.slots c) (nth_slot t.slots c) (h.slot c);
+  }
+
+  pub more_record : (seen whole : List RecordValue) (n m : ℕ) → RecordIsShown plan os js seen whole n m → RecordIsShown plan ps ks seen whole n m
+  more_record seen whole n m h = record {
+    origin = h.origin;
+    origin_there = x.origins m h.origin h.origin_there;
+    value = h.value;
+    whole_there = h.whole_there;
+    caller = h.caller;
+    begins = more_begins_if h.caller h.value.caller h.begins;
+    seen_there = h.seen_there;
   }
 
   pub more_join : (a b : ℕ) → JoinIsSeen plan os a b → JoinIsSeen plan ps a b

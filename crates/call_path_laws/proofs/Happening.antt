@@ -1,17 +1,17 @@
 -- Whatever happens, the register has what the whole one has.
-use Rattle.std.proofs.Common.{◌≡◌, ◌≢◌, ℕ, ◌<◌, inl, inr, List, [], ◌∷◌, ◌++◌, length, Option, None, refl, sym, ap, subst, ◌∙◌}
+use Rattle.std.proofs.Common.{◌≡◌, ◌≢◌, ℕ, ◌<◌, inl, inr, List, [], ◌∷◌, ◌++◌, length, Option, refl, sym, ap, subst, ◌∙◌}
 use Rattle.link_timers.specs.declared.role.Role.{Role}
 use Rattle.link_timers.specs.declared.role.Role.TheVariants.{Dte, Dce}
 use Rattle.link_timers.specs.Role.{other_of}
 use Rattle.call_records.specs.Records.{RecordValue, PairValue}
 use Rattle.call_records.specs.Book.{Book, side_of, slot_at, places_from}
 use Rattle.call_records.specs.Writes.{all_written}
-use Rattle.call_records.specs.Register.{Register, LineEnds, book_at, found_ends, with_book, written_at}
+use Rattle.call_records.specs.Register.{Register, LineEnds, book_at, found_ends, with_book, written_at, holds}
 use Rattle.book_laws.proofs.Basics.{set_elsewhere, length_set, number_is}
 use Rattle.register_laws.proofs.Seeing.{book_there}
-use Rattle.call_path_laws.specs.World.{Origin, Join, World, Plan, Place, MayJoin, holder_of, holds, with_join}
+use Rattle.call_path_laws.specs.World.{Origin, placing, Join, World, Plan, Place, MayJoin, holder_of, with_join}
 use Rattle.call_path_laws.specs.World.Event.{Writes, SwitchWrites, Joins}
-use Rattle.call_path_laws.specs.Seen.{BeginsIf, SideIsSeen, RecordsAreSeen, PairsAreSeen, Seen}
+use Rattle.call_path_laws.specs.Seen.{BeginsIf, IsMadeAt, SideIsSeen, RecordsAreSeen, PairsAreSeen, Seen}
 use Rattle.call_path_laws.specs.Law.{EventLaw}
 use Rattle.call_path_laws.proofs.Growing.{Extends, more_side}
 use Rattle.call_path_laws.proofs.Steps.{Beside, IsRight}
@@ -93,10 +93,11 @@ module _ (plan : Plan) (w : World) (s : Seen plan w) where
       s.sides from.line from.role m.from_end.there in
       let far : SideIsSeen plan w.origins w.joins from.line (other_of from.role) (side_of (other_of from.role) (book_at from.line w.register)) (side_of (other_of from.role) (book_at from.line w.whole)) =
       s.sides from.line (other_of from.role) m.from_end.there in
+      let made : IsMadeAt w.origins from.line from.role (slot_at from.role from.channel (book_at from.line w.whole)).caller m.came_in = (side.slot from.channel).present_origin m.came_in m.present in
       record {
         caller = m.caller;
-        origin = record { line = from.line; role = from.role; caller = (slot_at from.role from.channel (book_at from.line w.whole)).caller };
-        there = (side.slot from.channel).present_origin m.came_in m.present;
+        origin = record { line = from.line; role = from.role; placed_here = made.placed_here; caller = (slot_at from.role from.channel (book_at from.line w.whole)).caller };
+        there = made.there;
         came = m.came;
         switch = m.from_end.switch;
         node = m.one_switch;
@@ -122,7 +123,7 @@ happens plan (Joins from to parts) w may s =
     (is_beside plan w s to.line may.to_end.there) (incoming plan w s from to may) in
     let register : Register = written_at to.line (holds to.role to.channel (holder_of from w.register)) w.register in
     let whole : Register = written_at to.line (places_from to.role to.channel parts.calling parts.called) w.whole in
-    let os : List Origin = w.origins ++ record { line = to.line; role = to.role; caller = None } ∷ [] in
+    let os : List Origin = w.origins ++ placing to.line to.role ∷ [] in
     subst (λ (o : Option ℕ). Seen plan (record { register = register; whole = whole; origins = os; joins = with_join o (length w.whole.records) w.joins })) (sym may.present)
     (written plan w s to.line _ _ os h.kinds _ register whole
     (book_written to.line w.register _ (register_less plan w s to.line may.to_end.there))

@@ -8,24 +8,24 @@ use Rattle.call_records.specs.Records.{RecordValue}
 use Rattle.call_records.specs.Book.{slot_at}
 use Rattle.call_records.specs.Register.{Register, LineEnds, book_at, found_ends}
 use Rattle.book_laws.specs.Headline.{IsOpenHere}
-use Rattle.register_laws.specs.Seen.{IsNumbered, RecordIsSeen, renumbered}
+use Rattle.register_laws.specs.Seen.{IsNumbered}
 use Rattle.register_laws.specs.Promise.{IsPresent, HasRecords}
 use Rattle.register_laws.proofs.Promising.{Numbered, numbered}
 use Rattle.register_laws.proofs.Steps.{same_place}
 use Rattle.call_path_laws.specs.World.{World, Plan}
-use Rattle.call_path_laws.specs.Seen.{kind, numbers, PresentIsSeen, SlotIsSeen, Seen}
+use Rattle.call_path_laws.specs.Seen.{kind, numbers, shown, RecordIsShown, PresentIsSeen, SlotIsSeen, Seen}
 use Rattle.call_path_laws.specs.Law.{RecordsLaw}
 use Rattle.call_path_laws.proofs.Ways.{numbered_user}
 use Rattle.call_path_laws.proofs.Showing.{owned}
 
 -- ---- numbers and lines
 
-record StandsFor (numbers : List ℕ) (o : Option ℕ) (m : ℕ) : Type 0 where
+pub record StandsFor (numbers : List ℕ) (o : Option ℕ) (m : ℕ) : Type 0 where
   pub number : ℕ
   pub is : o ≡ Some number
   pub there : slice_get numbers number ≡ Some m
 
-stands_for : (numbers : List ℕ) (o p : Option ℕ) (m : ℕ) → p ≡ Some m → IsNumbered numbers o p → StandsFor numbers o m
+pub stands_for : (numbers : List ℕ) (o p : Option ℕ) (m : ℕ) → p ≡ Some m → IsNumbered numbers o p → StandsFor numbers o m
 stands_for numbers (Some i) (Some k) m e h = record { number = i; is = refl; there = h ∙ e }
 stands_for numbers None (Some k) m e h = absurd h
 stands_for numbers o None m e h = absurd (none-some m e)
@@ -72,12 +72,12 @@ module _ (plan : Plan) (w : World) (s : Seen plan w) (have : HasRecords w.whole)
   open_here line role channel n e =
       let o : InWhole line role channel n = in_whole line role channel n e in
       let h : IsOpenHere (book_at line w.whole) role o.number = have.present line role channel o.number o.present in
-      let r : RecordIsSeen w.register.records w.whole.records n o.number = s.records.records n o.number o.numbered in
-      let same : renumbered o.number r.value ≡ h.value = same_Some (renumbered o.number r.value) h.value (sym r.seen_there ∙ h.there) in
+      let r : RecordIsShown plan w.origins w.joins w.register.records w.whole.records n o.number = s.records.records n o.number o.numbered in
+      let same : r.value ≡ h.value = same_Some r.value h.value (sym r.whole_there ∙ h.there) in
       let side = s.sides line role o.there in
       record {
-        value = r.value;
-        there = r.own_there;
+        value = shown plan r.origin n r.caller r.value;
+        there = r.seen_there;
         node = ap (λ (x : RecordValue). x.node) same ∙ h.node ∙ side.whole_node ∙ sym side.seen_node;
         is_open = ap (λ (x : RecordValue). x.closed) same ∙ h.is_open;
       }
@@ -92,11 +92,14 @@ module _ (plan : Plan) (w : World) (s : Seen plan w) (have : HasRecords w.whole)
   are_present : (n : ℕ) (r : RecordValue) → slice_get w.register.records n ≡ Some r → r.closed ≡ false → IsPresent w.register n
   are_present n r at op =
       let m = owned plan w n r s at in
-      let p : IsPresent w.whole m.0 = have.are_present m.0 (renumbered m.0 r) m.2 op in
+      let k : RecordIsShown plan w.origins w.joins w.register.records w.whole.records n m.0 = m.2 in
+      let is_open : k.value.closed ≡ false = ap (λ (x : RecordValue). x.closed) (same_Some (shown plan k.origin n k.caller k.value) r (sym k.seen_there ∙ at)) ∙ op in
+      let p : IsPresent w.whole m.0 = have.are_present m.0 k.value k.whole_there is_open in
       let less : p.line < length w.whole.lines = line_found w.whole p.role p.channel m.0 p.line (slice_get w.whole.lines p.line) refl p.present in
       let here = slot p.line p.role p.channel less in
+      let made = here.present_origin m.0 p.present in
       let user : plan.has_user p.line p.role ≡ true =
-      numbered_user plan w.origins n m.0 (record { line = p.line; role = p.role; caller = (slot_at p.role p.channel (book_at p.line w.whole)).caller }) m.1 (here.present_origin m.0 p.present) in
+      numbered_user plan w.origins n m.0 (record { line = p.line; role = p.role; placed_here = made.placed_here; caller = (slot_at p.role p.channel (book_at p.line w.whole)).caller }) m.1 made.there in
       let seen : IsNumbered (numbers plan w.origins) (slot_at p.role p.channel (book_at p.line w.register)).present (slot_at p.role p.channel (book_at p.line w.whole)).present =
       subst (λ (u : Bool). PresentIsSeen u (numbers plan w.origins) (slot_at p.role p.channel (book_at p.line w.register)).present (slot_at p.role p.channel (book_at p.line w.whole)).present) user here.present in
       let own = stands_for (numbers plan w.origins) (slot_at p.role p.channel (book_at p.line w.register)).present (slot_at p.role p.channel (book_at p.line w.whole)).present m.0 p.present seen in

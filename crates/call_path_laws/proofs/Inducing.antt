@@ -14,7 +14,8 @@ use Rattle.call_records.specs.Closing.{all_closed}
 use Rattle.call_records.specs.Carried.{carried, unless_refused, placed_on}
 use Rattle.call_records.specs.Writes.{Write, all_sent, let_go, written_by, all_written}
 use Rattle.call_records.specs.Writes.Write.{Told, Placed, Asked, Said, Took, Cleared, Edited, AllClosed}
-use Rattle.call_path_laws.specs.World.{Origin, noted, all_noted, with_placed, traced, all_traced}
+use Rattle.register_laws.proofs.Steps.{IsBlind}
+use Rattle.call_path_laws.specs.World.{Origin, coming, noted, all_noted, with_placed, traced, all_traced}
 use Rattle.call_path_laws.proofs.Records.{IsMild}
 
 -- what a write makes of a book, and of the origins beside it
@@ -25,7 +26,7 @@ abbrev pub keeps : Book → List Origin → List Origin
 keeps b os = os
 
 abbrev pub comes_at : (line : ℕ) → Role → (channel : ℕ) → Book → List Origin → List Origin
-comes_at line role channel b os = os ++ record { line = line; role = role; caller = (slot_at (other_of role) channel b).placed } ∷ []
+comes_at line role channel b os = os ++ coming line role (slot_at (other_of role) channel b).placed ∷ []
 
 pub record Holds (line : ℕ) (role : Role) (May : Write → Type 0) (R : Property) : Type 0 where
   pub same : R (λ b. b) keeps
@@ -42,37 +43,37 @@ Each May [] = Unit {0}
 Each May (write ∷ writes) = May write × Each May writes
 
 mild : (f : RecordValue → RecordValue) → ((r : RecordValue) → (f r).number ≡ r.number) → ((r : RecordValue) → (f r).node ≡ r.node)
-    → ((r : RecordValue) → (f r).own ≡ r.own) → ((r : RecordValue) → (f r).far ≡ r.far)
-    → ((n : ℕ) (r : RecordValue) → f (record r { number = n }) ≡ record (f r) { number = n }) → IsMild f
-mild f number node own far blind = record { blind = blind; number = number; node = node; own = own; far = far }
+    → ((r : RecordValue) → (f r).own ≡ r.own) → ((r : RecordValue) → (f r).far ≡ r.far) → ((r : RecordValue) → (f r).caller ≡ r.caller) → IsBlind f
+    → ((n : ℕ) (own : Option (List ℕ)) (caller : Option ℕ) (r : RecordValue) → f (record r { number = n; own = own; caller = caller }) ≡ record (f r) { number = n; own = own; caller = caller }) → IsMild f
+mild f number node own far caller blind beside = record { blind = blind; beside = beside; number = number; node = node; own = own; far = far; caller = caller }
 
 module _ (line : ℕ) (role : Role) (May : Write → Type 0) (R : Property) (h : Holds line role May R) where
   changes_by : (c : ℕ) (f : RecordValue → RecordValue) → ((r : RecordValue) → (f r).number ≡ r.number) → ((r : RecordValue) → (f r).node ≡ r.node)
-      → ((r : RecordValue) → (f r).own ≡ r.own) → ((r : RecordValue) → (f r).far ≡ r.far)
-      → ((n : ℕ) (r : RecordValue) → f (record r { number = n }) ≡ record (f r) { number = n }) → R (changed role c f) keeps
-  changes_by c f number node own far blind = h.changes c f (mild f number node own far blind)
+      → ((r : RecordValue) → (f r).own ≡ r.own) → ((r : RecordValue) → (f r).far ≡ r.far) → ((r : RecordValue) → (f r).caller ≡ r.caller) → IsBlind f
+      → ((n : ℕ) (own : Option (List ℕ)) (caller : Option ℕ) (r : RecordValue) → f (record r { number = n; own = own; caller = caller }) ≡ record (f r) { number = n; own = own; caller = caller }) → R (changed role c f) keeps
+  changes_by c f number node own far caller blind beside = h.changes c f (mild f number node own far caller blind beside)
 
   takes_hold : (c : ℕ) (o : Option Taken) → R (takes role c o) keeps
   takes_hold c None = h.same
-  takes_hold c (Some (TakenInterrupt octets)) = changes_by c (with_interrupt_taken octets) (λ r. refl) (λ r. refl) (λ r. refl) (λ r. refl) (λ n r. refl)
-  takes_hold c (Some (TakenPacket d)) = changes_by c (with_taken (packet_of d)) (λ r. refl) (λ r. refl) (λ r. refl) (λ r. refl) (λ n r. refl)
+  takes_hold c (Some (TakenInterrupt octets)) = changes_by c (with_interrupt_taken octets) (λ r. refl) (λ r. refl) (λ r. refl) (λ r. refl) (λ r. refl) (λ n k r. (refl, refl)) (λ n a k r. refl)
+  takes_hold c (Some (TakenPacket d)) = changes_by c (with_taken (packet_of d)) (λ r. refl) (λ r. refl) (λ r. refl) (λ r. refl) (λ r. refl) (λ n k r. (refl, refl)) (λ n a k r. refl)
 
   sent_hold : (c : ℕ) (ds : List Datum) → R (all_sent role c ds) keeps
   sent_hold c [] = h.same
   sent_hold c (d ∷ ds) =
-      h.in_turn (sends role c d) (all_sent role c ds) keeps keeps (changes_by c (with_sent (packet_of d)) (λ r. refl) (λ r. refl) (λ r. refl) (λ r. refl) (λ n r. refl)) (sent_hold c ds)
+      h.in_turn (sends role c d) (all_sent role c ds) keeps keeps (changes_by c (with_sent (packet_of d)) (λ r. refl) (λ r. refl) (λ r. refl) (λ r. refl) (λ r. refl) (λ n k r. (refl, refl)) (λ n a k r. refl)) (sent_hold c ds)
 
   let_go_hold : (t : Taken) (c : ℕ) → R (let_go t role c) keeps
   let_go_hold (TakenInterrupt octets) c = h.same
-  let_go_hold (TakenPacket d) c = changes_by c (with_released 1) (λ r. refl) (λ r. refl) (λ r. refl) (λ r. refl) (λ n r. refl)
+  let_go_hold (TakenPacket d) c = changes_by c (with_released 1) (λ r. refl) (λ r. refl) (λ r. refl) (λ r. refl) (λ r. refl) (λ n k r. (refl, refl)) (λ n a k r. refl)
 
   told_hold : (note : Note) → R (told role note) (noted line role note)
   told_hold (Incoming c parts) = h.comes_in c parts
   told_hold (Connected c) = h.same
   told_hold (Closed c cause diagnostic reason) = h.ends c
-  told_hold (WasReset c cause diagnostic reason) = changes_by c with_epoch (λ r. refl) (λ r. refl) (λ r. refl) (λ r. refl) (λ n r. refl)
+  told_hold (WasReset c cause diagnostic reason) = changes_by c with_epoch (λ r. refl) (λ r. refl) (λ r. refl) (λ r. refl) (λ r. refl) (λ n k r. (refl, refl)) (λ n a k r. refl)
   told_hold (InterruptConfirmed c) = h.same
-  told_hold (Covered c count) = changes_by c (with_covered count) (λ r. refl) (λ r. refl) (λ r. refl) (λ r. refl) (λ n r. refl)
+  told_hold (Covered c count) = changes_by c (with_covered count) (λ r. refl) (λ r. refl) (λ r. refl) (λ r. refl) (λ r. refl) (λ n k r. (refl, refl)) (λ n a k r. refl)
 
   all_told_hold : (notes : List Note) → R (all_told role notes) (all_noted line role notes)
   all_told_hold [] = h.same
@@ -82,11 +83,11 @@ module _ (line : ℕ) (role : Role) (May : Write → Type 0) (R : Property) (h :
   carried_hold : (c : ℕ) (r : Request) (front : Option Taken) → R (carried role c r front) keeps
   carried_hold c Accept front = h.accepts c
   carried_hold c (Clearing cause diagnostic) front = h.ends c
-  carried_hold c (Resetting cause diagnostic) front = changes_by c with_epoch (λ r. refl) (λ r. refl) (λ r. refl) (λ r. refl) (λ n r. refl)
-  carried_hold c (Sending d) front = changes_by c (with_sent (packet_of d)) (λ r. refl) (λ r. refl) (λ r. refl) (λ r. refl) (λ n r. refl)
-  carried_hold c (Interrupting octets) front = changes_by c (with_interrupt_sent octets) (λ r. refl) (λ r. refl) (λ r. refl) (λ r. refl) (λ n r. refl)
+  carried_hold c (Resetting cause diagnostic) front = changes_by c with_epoch (λ r. refl) (λ r. refl) (λ r. refl) (λ r. refl) (λ r. refl) (λ n k r. (refl, refl)) (λ n a k r. refl)
+  carried_hold c (Sending d) front = changes_by c (with_sent (packet_of d)) (λ r. refl) (λ r. refl) (λ r. refl) (λ r. refl) (λ r. refl) (λ n k r. (refl, refl)) (λ n a k r. refl)
+  carried_hold c (Interrupting octets) front = changes_by c (with_interrupt_sent octets) (λ r. refl) (λ r. refl) (λ r. refl) (λ r. refl) (λ r. refl) (λ n k r. (refl, refl)) (λ n a k r. refl)
   carried_hold c Taking front = takes_hold c front
-  carried_hold c (Releasing count) front = changes_by c (with_released count) (λ r. refl) (λ r. refl) (λ r. refl) (λ r. refl) (λ n r. refl)
+  carried_hold c (Releasing count) front = changes_by c (with_released count) (λ r. refl) (λ r. refl) (λ r. refl) (λ r. refl) (λ r. refl) (λ n k r. (refl, refl)) (λ n a k r. refl)
   carried_hold c _ front = h.same
 
   unless_hold : (refusal : Option Refusal) (f : Book → Book) → R f keeps → R (λ b. unless_refused refusal (f b) b) keeps
@@ -100,7 +101,7 @@ module _ (line : ℕ) (role : Role) (May : Write → Type 0) (R : Property) (h :
   write_holds (Said refusal c ds) may = unless_hold refusal (all_sent role c ds) (sent_hold c ds)
   write_holds (Took c t) may = h.in_turn (takes role c (Some t)) (let_go t role c) keeps keeps (takes_hold c (Some t)) (let_go_hold t c)
   write_holds (Cleared refusal c) may = unless_hold refusal (closes role c) (h.ends c)
-  write_holds (Edited c step) may = changes_by c (with_step step) (λ r. refl) (λ r. refl) (λ r. refl) (λ r. refl) (λ n r. refl)
+  write_holds (Edited c step) may = changes_by c (with_step step) (λ r. refl) (λ r. refl) (λ r. refl) (λ r. refl) (λ r. refl) (λ n k r. (refl, refl)) (λ n a k r. refl)
   write_holds AllClosed may = h.ends_all
 
   pub writes_hold : (writes : List Write) → Each May writes → R (all_written role writes) (all_traced line role writes)

@@ -1,17 +1,18 @@
 -- A switch joins a call that came in with one that it places: what the two registers then have of the line onward.
-use Rattle.std.proofs.Common.{◌≡◌, ℕ, ◌<◌, ◌⊎◌, inl, inr, Bool, false, List, [], ◌∷◌, ◌++◌, length, Option, Some, None, refl, sym, ap, subst, ◌∙◌, arith}
+use Rattle.std.proofs.Common.{◌≡◌, ℕ, ◌<◌, ◌⊎◌, inl, inr, Bool, true, false, List, [], ◌∷◌, ◌++◌, length, Option, Some, None, refl, sym, ap, subst, ◌∙◌, arith}
 use Rattle.std.specs.Prelude.{slice_get}
 use Rattle.std.proofs.lemmas.Option.{none-some, slice_get_within}
 use Rattle.link_timers.specs.declared.role.Role.{Role}
 use Rattle.call_records.specs.Records.{RecordValue, new_record}
-use Rattle.call_records.specs.Book.{Book, Slot, side_of, slot_at, with_record, address_of, places_from}
+use Rattle.call_records.specs.Book.{Book, Slot, side_of, slot_at, with_record, address_of, calling_from, places_from}
+use Rattle.call_records.specs.Register.{holds}
 use Rattle.book_laws.proofs.Basics.{get_before, get_last, get_pushed}
-use Rattle.call_path_laws.specs.World.{Origin, Join, Plan, holds}
+use Rattle.call_path_laws.specs.World.{Origin, placing, Join, Plan}
 use Rattle.call_path_laws.specs.Seen.{numbers, IsJoined, Begins, BeginsIf, PresentIsSeen, CallerIsSeen, SlotIsSeen, JoinIsSeen, RecordsAreSeen}
 use Rattle.call_path_laws.specs.Seen.Way.{onward}
-use Rattle.call_path_laws.proofs.Growing.{Extends, extends_twice, more_came, more_begins, more_side, switch_extends}
+use Rattle.call_path_laws.proofs.Growing.{Extends, extends_twice, more_came, more_begins, more_record, more_side, switch_extends}
 use Rattle.call_path_laws.proofs.Records.{more_pairs_seen}
-use Rattle.call_path_laws.proofs.Steps.{Beside, IsRight, Leads, after, puts_both, adds_whole, last_origin}
+use Rattle.call_path_laws.proofs.Steps.{Beside, IsRight, Leads, after, puts_both, adds_whole, last_origin, last_made}
 
 -- a join more, of a call that was in none
 record IsNewJoin (plan : Plan) (os : List Origin) (js : List Join) (a b : ℕ) : Type 0 where
@@ -42,7 +43,7 @@ records_joined : (plan : Plan) (os : List Origin) (js : List Join) (a b : ℕ) (
 records_joined plan os js a b seen whole n h = record {
   count = h.count;
   seen_count = h.seen_count;
-  records = h.records;
+  records = λ i k at. more_record plan os js os (with_new js a b) (join_extends plan os js a b) seen whole i k (h.records i k at);
   numbered = h.numbered;
   nodes = h.nodes;
   callers = h.callers;
@@ -112,14 +113,14 @@ module _ (plan : Plan) (js : List Join) (line : ℕ) (role : Role) (switch : pla
         }
 
   pub joins : (x : Beside) (c a : ℕ) (calling called : List ℕ) (holder : Option ℕ) → IsRight plan js line x → Incoming plan js x.origins a holder (plan.node line role)
-      → Joins plan js line x (with_new js a (length x.whole.records)) (x.origins ++ record { line = line; role = role; caller = None } ∷ [])
+      → Joins plan js line x (with_new js a (length x.whole.records)) (x.origins ++ placing line role ∷ [])
       (holds role c holder x.seen) (places_from role c calling called x.whole)
   joins x c a calling called holder h i =
       let b : ℕ = length x.whole.records in
-      let o : Origin = record { line = line; role = role; caller = None } in
+      let o : Origin = placing line role in
       let os : List Origin = x.origins ++ o ∷ [] in
       let ks : List Join = with_new js a b in
-      let t : RecordValue = new_record b (side_of role x.whole).node (address_of calling) (address_of called) in
+      let t : RecordValue = new_record b (side_of role x.whole).node (address_of (calling_from (side_of role x.whole).address calling)) (address_of called) None in
       let grown : Extends plan x.origins js os js = switch_extends plan x.origins js o switch in
       let first : Leads plan js line x os x.seen (with_record t x.whole) = adds_whole plan js line x o t switch (λ k e. absurd (none-some k e)) (h.sides role).whole_node h in
       let y : Beside = after plan js line x os x.seen (with_record t x.whole) first in
@@ -154,7 +155,7 @@ module _ (plan : Plan) (js : List Join) (line : ℕ) (role : Role) (switch : pla
         caller = subst (λ (z : Bool). CallerIsSeen z plan os ks s.caller None) (sym switch)
             (subst (λ (z : Bool). CallerIsSeen z plan x.origins js s.caller (slot_at role c x.whole).caller) switch old.caller);
         placed = onward_begins x.origins os a b holder i more;
-        present_origin = last_origin plan js line x o h;
+        present_origin = last_made plan js line x role true None h;
         placed_origin = last_origin plan js line x o h;
       }) in
       record { kinds = last.kinds; is_right = last.is_right; extends = more }

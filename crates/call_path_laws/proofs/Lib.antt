@@ -15,11 +15,14 @@ pub mod Showing
 mod Each
 mod Opened
 pub mod Running
+mod Recording
 pub mod Owning
 pub mod Tracing
 pub mod Lining
 pub mod Freeing
-mod Having
-mod Moves
+pub mod Having
+pub mod Ending
+pub mod Resting
+pub mod Moves
 pub mod Heading
 pub mod Forwarding

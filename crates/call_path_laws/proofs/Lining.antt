@@ -59,8 +59,8 @@ module _ (w : World) (books : List Book) (traces : List (List Origin)) (s : Line
       let t = line_trace owner.0 b.0 b.1 in
       let place : IsNth (positions owner.0 s.seen.owners) a = place_of owner.0 s.seen.owners a owner.1 in
       let o : OriginIsSeen (positions owner.0 s.seen.owners) t.0 w.origins place.place a = (s.lines owner.0 t.0 t.1).origins place.place a place.there in
-      let same : record { line = o.line; role = o.role; caller = o.whole_caller } ≡ c.origin =
-      same_Some (record { line = o.line; role = o.role; caller = o.whole_caller }) c.origin (sym o.whole_there ∙ c.there) in
+      let same : record { line = o.line; role = o.role; placed_here = o.placed_here; caller = o.whole_caller } ≡ c.origin =
+      same_Some (record { line = o.line; role = o.role; placed_here = o.placed_here; caller = o.whole_caller }) c.origin (sym o.whole_there ∙ c.there) in
       let caller : Numbered (positions owner.0 s.seen.owners) o.own_caller x =
       numbered (positions owner.0 s.seen.owners) o.own_caller o.whole_caller x o.caller (ap (λ (p : Origin). p.caller) same ∙ c.came) in
       record {
@@ -73,16 +73,16 @@ module _ (w : World) (books : List Book) (traces : List (List Origin)) (s : Line
         callee_numbered = place.there;
         caller = caller.number;
         caller_numbered = caller.there;
-        came = record { origin = record { line = o.line; role = o.role; caller = o.own_caller }; there = o.own_there; came = caller.is };
+        came = record { origin = record { line = o.line; role = o.role; placed_here = o.placed_here; caller = o.own_caller }; there = o.own_there; came = caller.is };
       }
 
   -- ---- its pair holds
 
   record_there : (j : ℕ) (b : Book) → slice_get books j ≡ Some b → (i n : ℕ) (r : RecordValue) → slice_get (positions j s.seen.owners) i ≡ Some n → slice_get b.records i ≡ Some r
-      → slice_get w.whole.records n ≡ Some (renumbered n r)
+      → (k : Option ℕ) × (slice_get w.whole.records n ≡ Some (renumbered n k r))
   record_there j b at i n r place there =
-      let seen : RecordIsSeen b.records w.whole.records i n = (s.seen.line j b at).records i n place in
-      seen.seen_there ∙ ap (λ (x : RecordValue). Some (renumbered n x)) (same_Some seen.value r (sym seen.own_there ∙ there))
+      let seen : RecordIsSeen (positions j s.seen.owners) b.records w.whole.records i n = (s.seen.line j b at).records i n place in
+      (seen.caller, seen.seen_there ∙ ap (λ (x : RecordValue). Some (renumbered n seen.caller x)) (same_Some seen.value r (sym seen.own_there ∙ there)))
 
   ends_there : (j : ℕ) (b : Book) → slice_get books j ≡ Some b → (m n : ℕ) → AreEnds b m n → AreEnds (book_at j w.whole) m n
   ends_there j b at m n (inl e) = inl (e.0 ∙ sym ((s.seen.line j b at).sides Dte).node, e.1 ∙ sym ((s.seen.line j b at).sides Dce).node)
@@ -96,11 +96,13 @@ module _ (w : World) (books : List Book) (traces : List (List Origin)) (s : Line
       let callee_number : p.callee.number ≡ c.callee = all.holds.numbers c.callee p.callee p.callee_there in
       let less : c.caller < c.callee = subst (λ (k : ℕ). k < c.callee) caller_number (subst (λ (k : ℕ). p.caller.number < k) callee_number p.is_right.order) in
       let ends = get_there w.whole.lines c.j (line_within w.whole books c.j c.line_book c.there s.seen) in
+      let caller = record_there c.j c.line_book c.there c.caller x p.caller c.caller_numbered p.caller_there in
+      let callee = record_there c.j c.line_book c.there c.callee a p.callee c.callee_numbered p.callee_there in
       record {
-        caller = renumbered x p.caller;
-        callee = renumbered a p.callee;
-        caller_there = record_there c.j c.line_book c.there c.caller x p.caller c.caller_numbered p.caller_there;
-        callee_there = record_there c.j c.line_book c.there c.callee a p.callee c.callee_numbered p.callee_there;
+        caller = renumbered x caller.0 p.caller;
+        callee = renumbered a callee.0 p.callee;
+        caller_there = caller.1;
+        callee_there = callee.1;
         matches = record {
           onward_aligned = p.matches.onward_aligned;
           backward_aligned = p.matches.backward_aligned;

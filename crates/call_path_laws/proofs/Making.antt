@@ -6,8 +6,8 @@ use Rattle.link_timers.specs.declared.role.Role.{Role}
 use Rattle.link_timers.specs.declared.role.Role.TheVariants.{Dte, Dce}
 use Rattle.call_records.specs.Book.{Side, Slot, free_slot, found_slot, nth_slot, side_of}
 use Rattle.call_records.specs.Register.{LinePlan, LineEnds, free_ends, found_ends, book_at}
-use Rattle.call_path_laws.specs.World.{Plan, AreBetween, free_register}
-use Rattle.call_path_laws.specs.Seen.{PresentIsSeen, CallerIsSeen, SlotIsSeen, SideIsSeen}
+use Rattle.call_path_laws.specs.World.{Plan, AreBetween, without_address, made_world}
+use Rattle.call_path_laws.specs.Seen.{address_at, PresentIsSeen, CallerIsSeen, SlotIsSeen, SideIsSeen}
 use Rattle.call_path_laws.specs.Law.{MadeLaw}
 
 nth_free : (n i : ℕ) → found_slot (slice_get (replicate n free_slot) i) ≡ free_slot
@@ -37,11 +37,13 @@ module _ (plan : Plan) where
     placed_origin = λ m e. absurd (none-some m e);
   }
 
-  side_free : (line : ℕ) (role : Role) (node n : ℕ) → node ≡ plan.node line role
-      → SideIsSeen plan [] [] line role (record { node = node; slots = replicate n free_slot }) (record { node = node; slots = replicate n free_slot })
-  side_free line role node n e = record {
+  side_free : (line : ℕ) (role : Role) (node n : ℕ) (address : List ℕ) → node ≡ plan.node line role → address ≡ address_at plan line role
+      → SideIsSeen plan [] [] line role (record { node = node; address = address; slots = replicate n free_slot }) (record { node = node; address = []; slots = replicate n free_slot })
+  side_free line role node n address e at = record {
     seen_node = e;
     whole_node = e;
+    seen_address = at;
+    whole_address = refl;
     channels = refl;
     slot = λ c. subst (λ (s : Slot). SlotIsSeen plan [] [] line role s s) (sym (slot_free n c)) (free_seen line role);
   }
@@ -50,28 +52,38 @@ module _ (plan : Plan) where
   end_of Dte e = e.dte
   end_of Dce e = e.dce
 
-  ends_free : (lines : List LinePlan) (first i : ℕ) (role : Role) → AreBetween plan first lines → i < length (map free_ends lines)
-      → SideIsSeen plan [] [] (first + i) role (end_of role (found_ends (slice_get (map free_ends lines) i))) (end_of role (found_ends (slice_get (map free_ends lines) i)))
+  abbrev frees : List LinePlan → List LineEnds
+  frees lines = map free_ends lines
+
+  abbrev bares : List LinePlan → List LineEnds
+  bares lines = map free_ends (map without_address lines)
+
+  ends_free : (lines : List LinePlan) (first i : ℕ) (role : Role) → AreBetween plan first lines → i < length (bares lines)
+      → SideIsSeen plan [] [] (first + i) role (end_of role (found_ends (slice_get (frees lines) i))) (end_of role (found_ends (slice_get (bares lines) i)))
   ends_free [] first i role h less = absurd (omega arith)
   ends_free (l ∷ ls) first zero Dte h less =
       let same : first ≡ first + 0 = omega arith in
-      side_free (first + 0) Dte l.dte_node l.channels (h.0 ∙ ap (λ (n : ℕ). plan.node n Dte) same)
+      side_free (first + 0) Dte l.dte_node l.channels l.address (h.0 ∙ ap (λ (n : ℕ). plan.node n Dte) same) (h.1.1.0 ∙ ap (λ (n : ℕ). plan.address n) same)
   ends_free (l ∷ ls) first zero Dce h less =
       let same : first ≡ first + 0 = omega arith in
-      side_free (first + 0) Dce l.dce_node l.channels (h.1.0 ∙ ap (λ (n : ℕ). plan.node n Dce) same)
+      side_free (first + 0) Dce l.dce_node l.channels [] (h.1.0 ∙ ap (λ (n : ℕ). plan.node n Dce) same) refl
   ends_free (l ∷ ls) first (suc i) role h less =
       let same : suc first + i ≡ first + suc i = omega arith in
-      subst (λ (n : ℕ). SideIsSeen plan [] [] n role (end_of role (found_ends (slice_get (map free_ends ls) i))) (end_of role (found_ends (slice_get (map free_ends ls) i)))) same
-      (ends_free ls (suc first) i role h.1.1 (omega arith))
+      subst (λ (n : ℕ). SideIsSeen plan [] [] n role (end_of role (found_ends (slice_get (frees ls) i))) (end_of role (found_ends (slice_get (bares ls) i)))) same
+      (ends_free ls (suc first) i role h.1.1.1 (omega arith))
 
-  free_sides : (lines : List LinePlan) → AreBetween plan 0 lines → (i : ℕ) (role : Role) → i < length (map free_ends lines)
-      → SideIsSeen plan [] [] i role (side_of role (book_at i (free_register lines))) (side_of role (book_at i (free_register lines)))
+  free_sides : (lines : List LinePlan) → AreBetween plan 0 lines → (i : ℕ) (role : Role) → i < length (bares lines)
+      → SideIsSeen plan [] [] i role (side_of role (book_at i (made_world lines).register)) (side_of role (book_at i (made_world lines).whole))
   free_sides lines h i Dte less =
       let same : 0 + i ≡ i = omega arith in
-      subst (λ (n : ℕ). SideIsSeen plan [] [] n Dte (found_ends (slice_get (map free_ends lines) i)).dte (found_ends (slice_get (map free_ends lines) i)).dte) same (ends_free lines 0 i Dte h less)
+      subst (λ (n : ℕ). SideIsSeen plan [] [] n Dte (found_ends (slice_get (frees lines) i)).dte (found_ends (slice_get (bares lines) i)).dte) same (ends_free lines 0 i Dte h less)
   free_sides lines h i Dce less =
       let same : 0 + i ≡ i = omega arith in
-      subst (λ (n : ℕ). SideIsSeen plan [] [] n Dce (found_ends (slice_get (map free_ends lines) i)).dce (found_ends (slice_get (map free_ends lines) i)).dce) same (ends_free lines 0 i Dce h less)
+      subst (λ (n : ℕ). SideIsSeen plan [] [] n Dce (found_ends (slice_get (frees lines) i)).dce (found_ends (slice_get (bares lines) i)).dce) same (ends_free lines 0 i Dce h less)
+
+count_same : (lines : List LinePlan) → length (map free_ends lines) ≡ length (map free_ends (map without_address lines))
+count_same [] = refl
+count_same (l ∷ ls) = ap suc (count_same ls)
 
 pub made_seen : MadeLaw
 made_seen plan lines h = record {
@@ -93,6 +105,6 @@ made_seen plan lines h = record {
     pairs = λ q p at. absurd (none-some p at);
     came = λ p pair at. absurd (none-some pair at);
   };
-  lines = refl;
+  lines = count_same lines;
   sides = free_sides plan lines h;
 }

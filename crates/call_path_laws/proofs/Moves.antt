@@ -16,11 +16,11 @@ use Rattle.book_laws.specs.Told.{World, Move, came_by, all_came_by, placed_by, c
 use Rattle.book_laws.specs.Told.Move.{Happens, Edits}
 use Rattle.book_laws.specs.Headline.{BookHolds, CallsHold}
 use Rattle.book_laws.proofs.Basics.{map_pushed}
-use Rattle.book_laws.proofs.BookHolds.{book_holds, calls_hold}
+use Rattle.book_laws.proofs.BookHolds.{book_holds, calls_hold, callers_recorded}
 use Rattle.book_laws.proofs.Rows.{made, incoming, incoming_allowed, one_one, small}
-use Rattle.call_path_laws.specs.World.{Origin, noted, all_noted, with_placed, all_traced}
+use Rattle.call_path_laws.specs.World.{Origin, placing, coming, noted, all_noted, with_placed, all_traced}
 use Rattle.call_path_laws.specs.Seen.{CameFrom}
-use Rattle.call_path_laws.specs.Lines.{BookCallsHold, BookCallsLaw, WrittenLaw, writes_of, traced_by, traced_by_all, made_origins}
+use Rattle.call_path_laws.specs.Lines.{BookCallsHold, BookCallsLaw, RecordedLaw, WrittenLaw, writes_of, traced_by, traced_by_all, made_origins}
 
 pub written_so : WrittenLaw
 written_so role (Up s) w b = refl
@@ -37,7 +37,7 @@ abbrev callers : List Origin → List (Option ℕ)
 callers os = map (λ (o : Origin). o.caller) os
 
 one_noted : (line : ℕ) (role : Role) (note : Note) (b : Book) (os : List Origin) → callers (noted line role note b os) ≡ came_by role note b (callers os)
-one_noted line role (Incoming c parts) b os = map_pushed (λ (o : Origin). o.caller) os (record { line = line; role = role; caller = (slot_at (other_of role) c b).placed })
+one_noted line role (Incoming c parts) b os = map_pushed (λ (o : Origin). o.caller) os (coming line role (slot_at (other_of role) c b).placed)
 one_noted line role (Connected c) b os = refl
 one_noted line role (Closed c cause diagnostic reason) b os = refl
 one_noted line role (WasReset c cause diagnostic reason) b os = refl
@@ -51,7 +51,7 @@ notes_noted line role (note ∷ notes) b os =
 
 one_placed : (line : ℕ) (role : Role) (channel : Option ℕ) (os : List Origin) → callers (with_placed line role channel os) ≡ placed_by channel (callers os)
 one_placed line role None os = refl
-one_placed line role (Some channel) os = map_pushed (λ (o : Origin). o.caller) os (record { line = line; role = role; caller = None })
+one_placed line role (Some channel) os = map_pushed (λ (o : Origin). o.caller) os (placing line role)
 
 by_event : (line : ℕ) (role : Role) (event : Event) (w : Line) (b : Book) (os : List Origin) → callers (all_traced line role (writes_of event w) b os) ≡ callers_by role event w b (callers os)
 by_event line role (Up s) w b os = notes_noted line role (notes_of (Up s) w) b os
@@ -101,10 +101,20 @@ book_calls line dte_node dce_node channels window standing some small ms allowed
     (sym (by_moves line ms v (made_origins line standing) ∙ ap (λ (l : List (Option ℕ)). all_callers ms v l) (at_making line standing)))
     (calls_hold dte_node dce_node channels window standing some small ms allowed))
 
+-- ---- the callers are those of the records
+
+pub recorded_calls : RecordedLaw
+recorded_calls dte_node dce_node channels window standing some small ms allowed own own_recorded =
+    let v : World = start dte_node dce_node channels window standing in
+    calls_of (after_all ms v).book own (book_holds dte_node dce_node channels window standing some small ms allowed)
+    (subst (λ (l : List (Option ℕ)). CallsHold (after_all ms v).book l)
+    (sym (callers_recorded dte_node dce_node channels window standing some small ms allowed) ∙ sym own_recorded)
+    (calls_hold dte_node dce_node channels window standing some small ms allowed))
+
 -- ---- a call that came in and is not accepted yet
 
-origins_are : traced_by_all 0 incoming made [] ≡ record { line = 0; role = Dte; caller = None } ∷ record { line = 0; role = Dce; caller = Some 0 } ∷ []
+origins_are : traced_by_all 0 incoming made [] ≡ placing 0 Dte ∷ coming 0 Dce (Some 0) ∷ []
 origins_are = refl
 
-incoming_holds : BookCallsHold (after_all incoming made).book (record { line = 0; role = Dte; caller = None } ∷ record { line = 0; role = Dce; caller = Some 0 } ∷ [])
+incoming_holds : BookCallsHold (after_all incoming made).book (placing 0 Dte ∷ coming 0 Dce (Some 0) ∷ [])
 incoming_holds = book_calls 0 3 4 1 2 false one_one small incoming incoming_allowed

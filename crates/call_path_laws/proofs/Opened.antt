@@ -1,9 +1,9 @@
 -- In the whole register of the worked run the open records are those that are present, each on one channel.
-use Rattle.std.proofs.Common.{◌≡◌, ℕ, zero, suc, false, Some, refl, sym, ap, ◌∙◌, subst, true≢false}
+use Rattle.std.proofs.Common.{◌≡◌, ℕ, zero, suc, false, [], ◌∷◌, Some, None, refl, sym, ap, ◌∙◌, subst, true≢false}
 use Rattle.std.proofs.lemmas.Option.{none-some, same_Some}
 use Rattle.link_timers.specs.declared.role.Role.{Role}
 use Rattle.link_timers.specs.declared.role.Role.TheVariants.{Dte, Dce}
-use Rattle.call_records.specs.Records.{RecordValue}
+use Rattle.call_records.specs.Records.{RecordValue, new_record}
 use Rattle.call_records.specs.Book.{slot_at}
 use Rattle.call_records.specs.Register.{book_at}
 use Rattle.book_laws.specs.Headline.{IsOpenHere}
@@ -27,10 +27,10 @@ found : (line : ℕ) (role : Role) (channel k n : ℕ) → Lies line role channe
 found line role channel k n h e = subst (λ (i : ℕ). Lies line role channel i) (same_Some k n e) h
 
 lies : (line : ℕ) (role : Role) (channel n : ℕ) → (slot_at role channel (book_at line world.whole)).present ≡ Some n → Lies line role channel n
-lies zero Dte (suc (suc (suc (suc zero)))) n e = found 0 Dte 4 4 n (record { at = refl; is_open = record { value = _; there = refl; node = refl; is_open = refl } }) e
-lies zero Dce (suc (suc (suc (suc zero)))) n e = found 0 Dce 4 5 n (record { at = refl; is_open = record { value = _; there = refl; node = refl; is_open = refl } }) e
-lies (suc zero) Dce (suc zero) n e = found 1 Dce 1 6 n (record { at = refl; is_open = record { value = _; there = refl; node = refl; is_open = refl } }) e
-lies (suc zero) Dte (suc zero) n e = found 1 Dte 1 7 n (record { at = refl; is_open = record { value = _; there = refl; node = refl; is_open = refl } }) e
+lies zero Dte (suc (suc (suc (suc zero)))) n e = found 0 Dte 4 4 n (record { at = refl; is_open = record { value = new_record 4 1 None (Some (2 ∷ 0 ∷ [])) None; there = refl; node = refl; is_open = refl } }) e
+lies zero Dce (suc (suc (suc (suc zero)))) n e = found 0 Dce 4 5 n (record { at = refl; is_open = record { value = new_record 5 9 (Some (2 ∷ 0 ∷ [])) None (Some 4); there = refl; node = refl; is_open = refl } }) e
+lies (suc zero) Dce (suc zero) n e = found 1 Dce 1 6 n (record { at = refl; is_open = record { value = new_record 6 9 (Some (1 ∷ 0 ∷ [])) (Some (2 ∷ 0 ∷ [])) None; there = refl; node = refl; is_open = refl } }) e
+lies (suc zero) Dte (suc zero) n e = found 1 Dte 1 7 n (record { at = refl; is_open = record { value = new_record 7 2 (Some (2 ∷ 0 ∷ [])) (Some (1 ∷ 0 ∷ [])) (Some 6); there = refl; node = refl; is_open = refl } }) e
 lies zero Dte zero n e = absurd (none-some n e)
 lies zero Dte (suc zero) n e = absurd (none-some n e)
 lies zero Dte (suc (suc zero)) n e = absurd (none-some n e)

@@ -1,5 +1,5 @@
 -- Which line each record is of, after a write at one of them.
-use Rattle.std.proofs.Common.{◌≡◌, ◌≢◌, ℕ, suc, inl, inr, List, [], ◌∷◌, ◌++◌, length, Option, Some, refl, sym, ap, subst, ◌∙◌, arith}
+use Rattle.std.proofs.Common.{◌≡◌, ◌≢◌, ℕ, suc, inl, inr, Bool, List, [], ◌∷◌, ◌++◌, length, Option, Some, refl, sym, ap, subst, ◌∙◌, arith}
 use Rattle.std.specs.Prelude.{slice_get, map}
 use Rattle.std.proofs.lemmas.Option.{same_Some}
 use Rattle.link_timers.specs.declared.role.Role.{Role}
@@ -58,10 +58,10 @@ module _ (lines line : ℕ) where
       subst (λ (ns : List ℕ). OriginsSeen line ns t os) (sym same) o
 
   -- one is added
-  pub grown : (x : Beside) (own seen : Book) (l : Leads lines line x own seen) (t os : List Origin) (role : Role) (a b : Option ℕ) → IsRight lines line x
+  pub grown : (x : Beside) (own seen : Book) (l : Leads lines line x own seen) (t os : List Origin) (role : Role) (here : Bool) (a b : Option ℕ) → IsRight lines line x
       → length seen.records ≡ suc (length x.seen.records) → IsNumbered (positions line x.owners) a b → OriginsSeen line x.owners t os
-      → OriginsSeen line l.owners (t ++ record { line = line; role = role; caller = a } ∷ []) (os ++ record { line = line; role = role; caller = b } ∷ [])
-  grown x own seen l t os role a b h count caller o =
+      → OriginsSeen line l.owners (t ++ record { line = line; role = role; placed_here = here; caller = a } ∷ []) (os ++ record { line = line; role = role; placed_here = here; caller = b } ∷ [])
+  grown x own seen l t os role here a b h count caller o =
       let same : l.owners ≡ x.owners ++ line ∷ [] = owners_more line x.owners l.owners l.leaves.owners (l.is_right.records_owned ∙ count ∙ ap suc (sym h.records_owned)) in
       subst (λ (ns : List ℕ). OriginsSeen line ns (t ++ mine ∷ []) (os ++ yours ∷ [])) (sym same) (record {
         owners_are = ap (λ (ns : List ℕ). ns ++ line ∷ []) o.owners_are ∙ sym (map_pushed (λ (p : Origin). p.line) os yours);
@@ -71,6 +71,7 @@ module _ (lines line : ℕ) where
           | inr last ↦ record {
             line = line;
             role = role;
+            placed_here = here;
             own_caller = a;
             whole_caller = b;
             own_there = ap (λ (k : ℕ). slice_get (t ++ mine ∷ []) k) (last.0 ∙ sym o.count) ∙ get_last t mine;
@@ -81,19 +82,20 @@ module _ (lines line : ℕ) where
       })
     where
       mine : Origin
-      mine = record { line = line; role = role; caller = a }
+      mine = record { line = line; role = role; placed_here = here; caller = a }
 
       yours : Origin
-      yours = record { line = line; role = role; caller = b }
+      yours = record { line = line; role = role; placed_here = here; caller = b }
 
       older : (i n : ℕ) → OriginIsSeen (positions line x.owners) t os i n
           → OriginIsSeen (positions line (x.owners ++ line ∷ [])) (t ++ mine ∷ []) (os ++ yours ∷ []) i n
       older i n s = record {
         line = s.line;
         role = s.role;
+        placed_here = s.placed_here;
         own_caller = s.own_caller;
         whole_caller = s.whole_caller;
-        own_there = get_before t (mine ∷ []) i (record { line = s.line; role = s.role; caller = s.own_caller }) s.own_there;
-        whole_there = get_before os (yours ∷ []) n (record { line = s.line; role = s.role; caller = s.whole_caller }) s.whole_there;
+        own_there = get_before t (mine ∷ []) i (record { line = s.line; role = s.role; placed_here = s.placed_here; caller = s.own_caller }) s.own_there;
+        whole_there = get_before os (yours ∷ []) n (record { line = s.line; role = s.role; placed_here = s.placed_here; caller = s.whole_caller }) s.whole_there;
         caller = more_numbered line x.owners s.own_caller s.whole_caller s.caller;
       }

@@ -1,5 +1,5 @@
 -- What the register promises where the lines and the joins hold.
-use Rattle.std.proofs.Common.{◌≡◌, ℕ, zero, suc, ◌+◌, ◌<◌, ◌≤◌, ◌⊎◌, inl, inr, true, false, List, length, Option, Some, None, refl, sym, ap, subst, ◌∙◌, arith}
+use Rattle.std.proofs.Common.{◌≡◌, ℕ, zero, suc, ◌+◌, ◌<◌, ◌≤◌, ◌⊎◌, inl, inr, Bool, true, false, List, length, Option, Some, None, refl, sym, ap, ap₂, subst, ◌∙◌, arith}
 use Rattle.std.specs.Prelude.{slice_get, map, [], ◌∷◌, ◌++◌}
 use Rattle.std.proofs.lemmas.Bool.{cases_Bool}
 use Rattle.std.proofs.lemmas.Option.{none-some, same_Some, slice_get_within}
@@ -13,12 +13,12 @@ use Rattle.call_records.specs.Records.{RecordValue, PairValue, taken_epochs}
 use Rattle.call_records.specs.Register.{LineEnds, found_ends}
 use Rattle.book_laws.specs.Headline.{IsIn, TookNothing, sent_by, taken_by}
 use Rattle.book_laws.proofs.Basics.{get_there, order}
-use Rattle.register_laws.specs.Seen.{positions, RecordIsSeen, renumbered}
+use Rattle.register_laws.specs.Seen.{positions}
 use Rattle.register_laws.specs.Promise.{IsOfEnd}
 use Rattle.register_laws.proofs.Positions.{IsNth, place_of, rises_from}
 use Rattle.register_laws.proofs.Steps.{same_place}
-use Rattle.call_path_laws.specs.World.{Origin, World, Plan, AreAddressed, calling_on}
-use Rattle.call_path_laws.specs.Seen.{kind, numbers, CameFrom, Way, Begins, JoinIsSeen, PairIsSeen, PairCame, Seen}
+use Rattle.call_path_laws.specs.World.{Origin, placing, World, Plan, AreAddressed, calling_on}
+use Rattle.call_path_laws.specs.Seen.{kind, numbers, CameFrom, Way, Begins, address_at, own_on, own_of, shown, RecordIsShown, JoinIsSeen, PairIsSeen, PairCame, Seen}
 use Rattle.call_path_laws.specs.Seen.Way.{here, onward}
 use Rattle.call_path_laws.specs.Promise.{IsPlacedAt, PathHolds, PathsHold, CallsHold, JoinsHold, JoinHolds}
 use Rattle.call_path_laws.specs.Promise.IsPlacedAt.{by_caller, by_switch}
@@ -32,6 +32,17 @@ placed_like : {plan : Plan} {c : RecordValue} {first line : ℕ} {role : Role} �
 placed_like (by_caller e u) r node far = by_caller (node ∙ e) u
 placed_like {plan} {line = line} {role = role} (by_switch from end p same switch routed) r node far =
     by_switch from end (placed_like p r node far) same switch (routed ∙ ap (λ (d : Option (List ℕ)). plan.route (plan.node line role) d) (sym far))
+
+-- of a call that came in, the register has the own address of the whole one
+own_came : (plan : Plan) (o : Origin) (x : ℕ) (given : Option (List ℕ)) → o.caller ≡ Some x → own_of plan o given ≡ given
+own_came plan o x given e = ap (λ (k : Option ℕ). own_on o.placed_here k (address_at plan o.line o.role) given) e ∙ at_end o.placed_here where
+  at_end : (z : Bool) → own_on z (Some x) (address_at plan o.line o.role) given ≡ given
+  at_end true = refl
+  at_end false = refl
+
+calling_again : (address : List ℕ) (given : Option (List ℕ)) → calling_on address (calling_on address given) ≡ calling_on address given
+calling_again [] given = refl
+calling_again (digit ∷ digits) given = refl
 
 module _ (plan : Plan) (w : World) (s : Seen plan w) where
   -- the pair of the whole register whose callee is a user's, in the register
@@ -130,14 +141,14 @@ module _ (plan : Plan) (w : World) (addressed : AreAddressed plan) (s : Seen pla
     at_switch : b.own ≡ calling_on (plan.address first.line) x.own → plan.has_user o.line o.role ≡ false → CallingAt first x b o
 
   no_users : (line : ℕ) (role : Role) → plan.has_user line role ≡ false → plan.has_user line (other_of role) ≡ false → plan.address line ≡ []
-  no_users line Dte e f = addressed line (e ∙ sym f)
-  no_users line Dce e f = addressed line (f ∙ sym e)
+  no_users line Dte e f = addressed line (inl e)
+  no_users line Dce e f = addressed line (inl f)
 
   only_users : (line : ℕ) (role : Role) → plan.has_user line role ≡ true → plan.has_user line (other_of role) ≡ true → plan.address line ≡ []
-  only_users line Dte e f = addressed line (e ∙ sym f)
-  only_users line Dce e f = addressed line (f ∙ sym e)
+  only_users line Dte e f = addressed line (inr f)
+  only_users line Dce e f = addressed line (inr e)
 
-  calling_handed : (first : Origin) (x y b : RecordValue) (line : ℕ) (role : Role) (o : Origin) → CallingAt first x y (record { line = line; role = other_of role; caller = None })
+  calling_handed : (first : Origin) (x y b : RecordValue) (line : ℕ) (role : Role) (o : Origin) → CallingAt first x y (placing line (other_of role))
       → plan.has_user line role ≡ false → plan.has_user o.line o.role ≡ false → b.own ≡ calling_on (plan.address line) y.own → CallingAt first x b o
   calling_handed first x y b line role o (at_caller e same) from to own =
       at_switch (own ∙ ap (λ (a : Option (List ℕ)). calling_on (plan.address line) a) e ∙ ap (λ (p : Origin). calling_on (plan.address p.line) x.own) same) to
@@ -154,19 +165,19 @@ module _ (plan : Plan) (w : World) (addressed : AreAddressed plan) (s : Seen pla
       let j : JoinIsSeen plan w.origins a b = s.records.joined a b joined in
       let k : JoinHolds plan w a b = joins.joins a b joined in
       let from : came.origin ≡ j.from = same_Some came.origin j.from (sym came.there ∙ j.from_there) in
-      let origin : slice_get w.origins y ≡ Some (record { line = j.from.line; role = other_of j.from.role; caller = None }) =
+      let origin : slice_get w.origins y ≡ Some (placing j.from.line (other_of j.from.role)) =
       s.records.callers a y j.from j.from_there (ap (λ (p : Origin). p.caller) (sym from) ∙ came.came) in
       let h = calls.came a y came in
       let callee : h.callee ≡ k.from = same_Some h.callee k.from (sym h.callee_there ∙ k.from_there) in
       let to : k.to ≡ q = same_Some k.to q (sym k.to_there ∙ is) in
-      calling_handed first r h.caller q j.from.line j.from.role o (before first begins r there (record { line = j.from.line; role = other_of j.from.role; caller = None }) origin h.caller h.caller_there)
+      calling_handed first r h.caller q j.from.line j.from.role o (before first begins r there (placing j.from.line (other_of j.from.role)) origin h.caller h.caller_there)
       j.from_switch (ap (λ (p : Origin). plan.has_user p.line p.role) (sym (same_Some j.to o (sym j.to_there ∙ at))) ∙ j.to_switch)
       (ap (λ (p : RecordValue). p.own) (sym to) ∙ k.own j.from j.from_there
       ∙ ap (λ (p : RecordValue). calling_on (plan.address j.from.line) p.far) (sym callee)
       ∙ ap (λ (d : Option (List ℕ)). calling_on (plan.address j.from.line) d) h.is_right.far))
 
   -- to a user's end the call comes with that of the caller's line
-  calling_to_user : (first : Origin) (x b : RecordValue) (line : ℕ) (role : Role) → CallingAt first x b (record { line = line; role = other_of role; caller = None })
+  calling_to_user : (first : Origin) (x b : RecordValue) (line : ℕ) (role : Role) → CallingAt first x b (placing line (other_of role))
       → plan.has_user line role ≡ true → plan.has_user first.line first.role ≡ true → b.own ≡ calling_on (plan.address first.line) x.own
   calling_to_user first x b line role (at_switch e switch) user caller = e
   calling_to_user first x b line role (at_caller e same) user caller =
@@ -187,47 +198,79 @@ module _ (plan : Plan) (w : World) (addressed : AreAddressed plan) (s : Seen pla
       let r : JoinHolds plan w a b = joins.joins a b joined in
       let to : j.to ≡ o = same_Some j.to o (sym j.to_there ∙ at) in
       let from : came.origin ≡ j.from = same_Some came.origin j.from (sym came.there ∙ j.from_there) in
-      let origin : slice_get w.origins y ≡ Some (record { line = j.from.line; role = other_of j.from.role; caller = None }) =
+      let origin : slice_get w.origins y ≡ Some (placing j.from.line (other_of j.from.role)) =
       s.records.callers a y j.from j.from_there (ap (λ (p : Origin). p.caller) (sym from) ∙ came.came) in
       let c : CarriedTo w first b = carried_along plan w calls joins x b (onward a b way came joined) first there in
       let same : r.to ≡ c.record_ = same_Some r.to c.record_ (sym r.to_there ∙ c.there) in
       let node : r.to.node ≡ plan.node o.line o.role = s.records.nodes b o r.to at r.to_there in
-      by_switch j.from.line j.from.role (before begin_ begins user first there (record { line = j.from.line; role = other_of j.from.role; caller = None }) origin)
+      by_switch j.from.line j.from.role (before begin_ begins user first there (placing j.from.line (other_of j.from.role)) origin)
       (j.one_switch ∙ ap (λ (p : Origin). plan.node p.line p.role) to)
       (ap (λ (p : Origin). plan.has_user p.line p.role) (sym to) ∙ j.to_switch)
       (r.routed o at ∙ ap (λ (n : ℕ). plan.route n r.to.far) node
       ∙ ap (λ (d : Option (List ℕ)). plan.route (plan.node o.line o.role) d) (ap (λ (q : RecordValue). q.far) same ∙ c.carried.far)))
+
+  -- where a call was placed by a user, the register has the address of the line
+  user_address : (o : Origin) → plan.has_user o.line o.role ≡ true → address_at plan o.line o.role ≡ plan.address o.line
+  user_address o user = at_role o.role user where
+    at_role : (role : Role) → plan.has_user o.line role ≡ true → address_at plan o.line role ≡ plan.address o.line
+    at_role Dte at = refl
+    at_role Dce at = sym (addressed o.line (inr at))
+
+  own_placed : (o : Origin) (given : Option (List ℕ)) → plan.has_user o.line o.role ≡ true → (o.caller ≡ None) × (o.placed_here ≡ true)
+      → own_of plan o given ≡ calling_on (plan.address o.line) given
+  own_placed o given user placed =
+      ap₂ (λ (z : Bool) (k : Option ℕ). own_on z k (address_at plan o.line o.role) given) placed.1 placed.0 ∙ ap (λ (a : List ℕ). calling_on a given) (user_address o user)
+
+  -- the first record of a way is that of a call that was placed
+  first_placed : (x b y : ℕ) → Way w.origins w.joins x b → CameFrom w.origins y b → (o : Origin) → slice_get w.origins x ≡ Some o → (o.caller ≡ None) × (o.placed_here ≡ true)
+  first_placed x b y way came o at =
+      elim (from_first w.origins w.joins x b way) [
+        | inl e ↦
+            let before = s.records.callers y b came.origin came.there came.came in
+            of_placing came.origin.line (other_of came.origin.role) (sym (same_Some o (placing came.origin.line (other_of came.origin.role))
+            (sym at ∙ ap (λ (k : ℕ). slice_get w.origins k) e ∙ before)))
+        | inr f ↦
+            let before = s.records.callers f.callee x f.came.origin f.came.there f.came.came in
+            of_placing f.came.origin.line (other_of f.came.origin.role) (sym (same_Some o (placing f.came.origin.line (other_of f.came.origin.role)) (sym at ∙ before)))
+      ]
+    where
+      of_placing : (line : ℕ) (role : Role) → placing line role ≡ o → (o.caller ≡ None) × (o.placed_here ≡ true)
+      of_placing line role e = (ap (λ (z : Origin). z.caller) (sym e), ap (λ (z : Origin). z.placed_here) (sym e))
 
   pair_holds : (q : ℕ) (pair : PairValue) → slice_get w.register.pairs q ≡ Some pair → PathHolds plan w.register pair
   pair_holds q pair at =
       let p : PairOf q pair = pair_of q pair at in
       let x : ℕ = p.caller.first in
       let y : ℕ = p.whole.callee in
-      let from : RecordIsSeen w.register.records w.whole.records pair.caller x = s.records.records pair.caller x p.caller.numbered in
-      let to : RecordIsSeen w.register.records w.whole.records pair.callee y = s.records.records pair.callee y p.callee in
+      let from : RecordIsShown plan w.origins w.joins w.register.records w.whole.records pair.caller x = s.records.records pair.caller x p.caller.numbered in
+      let to : RecordIsShown plan w.origins w.joins w.register.records w.whole.records pair.callee y = s.records.records pair.callee y p.callee in
+      let caller_shown : RecordValue = shown plan from.origin pair.caller from.caller from.value in
+      let callee_shown : RecordValue = shown plan to.origin pair.callee to.caller to.value in
       let h = calls.came y p.whole.caller (came_from q pair p) in
-      let c : CarriedTo w (renumbered x from.value) p.whole.caller = carried_along plan w calls joins x p.whole.caller p.caller.way (renumbered x from.value) from.seen_there in
+      let c : CarriedTo w from.value p.whole.caller = carried_along plan w calls joins x p.whole.caller p.caller.way from.value from.whole_there in
       let caller : h.caller ≡ c.record_ = same_Some h.caller c.record_ (sym h.caller_there ∙ c.there) in
-      let callee : h.callee ≡ renumbered y to.value = same_Some h.callee (renumbered y to.value) (sym h.callee_there ∙ to.seen_there) in
-      let carried : Carried (renumbered x from.value) h.caller = subst (λ (r : RecordValue). Carried (renumbered x from.value) r) (sym caller) c.carried in
+      let callee : h.callee ≡ to.value = same_Some h.callee to.value (sym h.callee_there ∙ to.whole_there) in
+      let carried : Carried from.value h.caller = subst (λ (r : RecordValue). Carried from.value r) (sym caller) c.carried in
       let on : Confirms (taken_by to.value) (sent_by from.value) =
       subst (λ (r : RecordValue). Confirms (taken_by r) (sent_by from.value)) callee
       (confirms_trans carried.onward (taken_by h.callee) (line_confirms h.caller h.callee h.matches.onward_aligned)) in
       let back : Confirms (taken_by from.value) (sent_by to.value) =
       subst (λ (r : RecordValue). Confirms (taken_by from.value) (sent_by r)) callee
       (confirms_trans (line_confirms h.callee h.caller h.matches.backward_aligned) (taken_by from.value) carried.backward) in
-      let begin_ = get_there w.origins x (subst (λ (k : ℕ). x < k) (sym s.records.count) (slice_get_within w.whole.records x (renumbered x from.value) from.seen_there)) in
-      let user : plan.has_user begin_.0.line begin_.0.role ≡ true = numbered_user plan w.origins pair.caller x begin_.0 p.caller.numbered begin_.1 in
-      let placer : slice_get w.origins p.whole.caller ≡ Some (record { line = p.came.origin.line; role = other_of p.came.origin.role; caller = None }) =
+      let user : plan.has_user from.origin.line from.origin.role ≡ true = numbered_user plan w.origins pair.caller x from.origin p.caller.numbered from.origin_there in
+      let placer : slice_get w.origins p.whole.caller ≡ Some (placing p.came.origin.line (other_of p.came.origin.role)) =
       s.records.callers y p.whole.caller p.came.origin p.came.there p.came.came in
+      let own : caller_shown.own ≡ calling_on (plan.address from.origin.line) from.value.own =
+      own_placed from.origin from.value.own user (first_placed x p.whole.caller y p.caller.way (came_from q pair p) from.origin from.origin_there) in
+      let origin : to.origin ≡ p.came.origin = same_Some to.origin p.came.origin (sym to.origin_there ∙ p.came.there) in
       let less : x < y =
       let first = no_later x p.whole.caller p.caller.way in
       let last = caller_first y p.whole.caller (came_from q pair p) in omega arith in
       record {
-        caller = from.value;
-        callee = to.value;
-        caller_there = from.own_there;
-        callee_there = to.own_there;
+        caller = caller_shown;
+        callee = callee_shown;
+        caller_there = from.seen_there;
+        callee_there = to.seen_there;
         matches = record {
           onward = all_match to.value from.value on;
           backward = all_match from.value to.value back;
@@ -235,25 +278,26 @@ module _ (plan : Plan) (w : World) (addressed : AreAddressed plan) (s : Seen pla
           backward_confirmed = all_confirmed from.value to.value back;
         };
         is_right = record {
-          order =
-              let numbers_rise = ordered x y pair.caller pair.callee p.caller.numbered p.callee less in
-              let caller_number = s.records.numbered pair.caller from.value from.own_there in
-              let callee_number = s.records.numbered pair.callee to.value to.own_there in omega arith;
-          own = ap (λ (r : RecordValue). r.own) (sym callee) ∙ h.is_right.own ∙ carried.far;
-          first = begin_.0.line;
+          order = ordered x y pair.caller pair.callee p.caller.numbered p.callee less;
+          own =
+              own_came plan to.origin p.whole.caller to.value.own (ap (λ (o : Origin). o.caller) origin ∙ p.came.came)
+              ∙ ap (λ (r : RecordValue). r.own) (sym callee) ∙ h.is_right.own ∙ carried.far;
+          first = from.origin.line;
           far =
               ap (λ (r : RecordValue). r.far) (sym callee)
               ∙ h.is_right.far
-              ∙ calling_to_user begin_.0 (renumbered x from.value) h.caller p.came.origin.line p.came.origin.role
-              (calling_at x p.whole.caller p.caller.way begin_.0 begin_.1 (renumbered x from.value) from.seen_there (record { line = p.came.origin.line; role = other_of p.came.origin.role; caller = None })
+              ∙ calling_to_user from.origin from.value h.caller p.came.origin.line p.came.origin.role
+              (calling_at x p.whole.caller p.caller.way from.origin from.origin_there from.value from.whole_there (placing p.came.origin.line (other_of p.came.origin.role))
               placer h.caller h.caller_there)
-              (numbered_user plan w.origins pair.callee y p.came.origin p.callee p.came.there) user;
+              (numbered_user plan w.origins pair.callee y p.came.origin p.callee p.came.there) user
+              ∙ sym own;
+          calling = own ∙ sym (calling_again (plan.address from.origin.line) from.value.own) ∙ ap (λ (d : Option (List ℕ)). calling_on (plan.address from.origin.line) d) (sym own);
           line = p.came.origin.line;
           role = p.came.origin.role;
-          node = s.records.nodes y p.came.origin (renumbered y to.value) p.came.there to.seen_there;
+          node = s.records.nodes y p.came.origin to.value p.came.there to.whole_there;
           placed = placed_like
-              (placed_at x p.whole.caller p.caller.way begin_.0 begin_.1 user (renumbered x from.value) from.seen_there (record { line = p.came.origin.line; role = other_of p.came.origin.role; caller = None }) placer)
-              from.value refl refl;
+              (placed_at x p.whole.caller p.caller.way from.origin from.origin_there user from.value from.whole_there (placing p.came.origin.line (other_of p.came.origin.role)) placer)
+              caller_shown refl refl;
         };
       }
 
@@ -275,9 +319,9 @@ module _ (plan : Plan) (w : World) (addressed : AreAddressed plan) (s : Seen pla
   nodes n r at =
       let less : n < length (numbers plan w.origins) = subst (λ (k : ℕ). n < k) s.records.seen_count (slice_get_within w.register.records n r at) in
       let m = get_there (numbers plan w.origins) n less in
-      let seen : RecordIsSeen w.register.records w.whole.records n m.0 = s.records.records n m.0 m.1 in
-      let same : seen.value ≡ r = same_Some seen.value r (sym seen.own_there ∙ at) in
-      let h : IsOfEnd w.whole seen.value.node = calls.register.nodes m.0 (renumbered m.0 seen.value) seen.seen_there in
+      let seen : RecordIsShown plan w.origins w.joins w.register.records w.whole.records n m.0 = s.records.records n m.0 m.1 in
+      let same : shown plan seen.origin n seen.caller seen.value ≡ r = same_Some (shown plan seen.origin n seen.caller seen.value) r (sym seen.seen_there ∙ at) in
+      let h : IsOfEnd w.whole seen.value.node = calls.register.nodes m.0 seen.value seen.whole_there in
       let within : h.line < length w.whole.lines = slice_get_within w.whole.lines h.line h.line_ends h.line_there in
       subst (λ (v : RecordValue). IsOfEnd w.register v.node) same (end_there seen.value.node h within)
 
@@ -303,25 +347,12 @@ module _ (plan : Plan) (w : World) (addressed : AreAddressed plan) (s : Seen pla
   none_here : (o : Option ℕ) (b : ℕ) → o ≡ None → o ≡ Some b → ⊥
   none_here o b e f = none-some b (sym e ∙ f)
 
-  -- the first record of a way is that of a call that was placed
-  first_placed : (x b y : ℕ) → Way w.origins w.joins x b → CameFrom w.origins y b → (o : Origin) → slice_get w.origins x ≡ Some o → o.caller ≡ None
-  first_placed x b y way came o at =
-      elim (from_first w.origins w.joins x b way) [
-        | inl e ↦
-            let before = s.records.callers y b came.origin came.there came.came in
-            ap (λ (z : Origin). z.caller) (same_Some o (record { line = came.origin.line; role = other_of came.origin.role; caller = None })
-            (sym at ∙ ap (λ (k : ℕ). slice_get w.origins k) e ∙ before))
-        | inr f ↦
-            let before = s.records.callers f.callee x f.came.origin f.came.there f.came.came in
-            ap (λ (z : Origin). z.caller) (same_Some o (record { line = f.came.origin.line; role = other_of f.came.origin.role; caller = None }) (sym at ∙ before))
-      ]
-
   not_both : (i j : ℕ) (p q : PairValue) (a : PairOf i p) (c : PairOf j q) → p.caller ≡ q.callee → ⊥
   not_both i j p q a c e =
       let same : a.caller.first ≡ c.whole.callee =
       same_Some a.caller.first c.whole.callee (sym a.caller.numbered ∙ ap (λ (k : ℕ). slice_get (numbers plan w.origins) k) e ∙ c.callee) in
       let none : c.came.origin.caller ≡ None =
-      first_placed a.caller.first a.whole.caller a.whole.callee a.caller.way (came_from i p a) c.came.origin (ap (λ (k : ℕ). slice_get w.origins k) same ∙ c.came.there) in
+      (first_placed a.caller.first a.whole.caller a.whole.callee a.caller.way (came_from i p a) c.came.origin (ap (λ (k : ℕ). slice_get w.origins k) same ∙ c.came.there)).0 in
       none_here c.came.origin.caller c.whole.caller none c.came.came
 
   in_one : (i j : ℕ) (p q : PairValue) (number : ℕ) → slice_get w.register.pairs i ≡ Some p → slice_get w.register.pairs j ≡ Some q → IsIn p number → IsIn q number → i ≡ j
@@ -402,14 +433,14 @@ module _ (plan : Plan) (w : World) (addressed : AreAddressed plan) (s : Seen pla
   took n r at =
       let less : n < length (numbers plan w.origins) = subst (λ (k : ℕ). n < k) s.records.seen_count (slice_get_within w.register.records n r at) in
       let m = get_there (numbers plan w.origins) n less in
-      let seen : RecordIsSeen w.register.records w.whole.records n m.0 = s.records.records n m.0 m.1 in
-      let same : seen.value ≡ r = same_Some seen.value r (sym seen.own_there ∙ at) in
+      let seen : RecordIsShown plan w.origins w.joins w.register.records w.whole.records n m.0 = s.records.records n m.0 m.1 in
+      let same : shown plan seen.origin n seen.caller seen.value ≡ r = same_Some (shown plan seen.origin n seen.caller seen.value) r (sym seen.seen_there ∙ at) in
       subst (λ (v : RecordValue). TookNothing (taken_epochs v) ⊎ InPair n) same
-      (elim (calls.register.took m.0 (renumbered m.0 seen.value) seen.seen_there) [
+      (elim (calls.register.took m.0 seen.value seen.whole_there) [
         | inl none ↦ inl none
         | inr pair ↦ elim pair.3 [
           | inl e ↦ elim (reach (length w.whole.records) pair.0 pair.1 pair.2 n m.0 m.1
-              (subst (λ (k : ℕ). Way w.origins w.joins m.0 k) (sym e) here) (omega arith) (renumbered m.0 seen.value) (ap (λ (k : ℕ). slice_get w.whole.records k) e ∙ seen.seen_there)) [
+              (subst (λ (k : ℕ). Way w.origins w.joins m.0 k) (sym e) here) (omega arith) seen.value (ap (λ (k : ℕ). slice_get w.whole.records k) e ∙ seen.whole_there)) [
                 | inl none ↦ inl (took_nothing (seen.value.taken_before ++ seen.value.taken ∷ []) none)
                 | inr found ↦ inr found
               ]

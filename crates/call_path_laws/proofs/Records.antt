@@ -1,25 +1,29 @@
 -- Records and pairs, changed or added in both registers or in the whole one alone.
-use Rattle.std.proofs.Common.{◌≡◌, ℕ, suc, inl, inr, true, false, List, [], ◌∷◌, ◌++◌, length, Some, None, sym, ap, subst, ◌∙◌, arith, true≢false}
+use Rattle.std.proofs.Common.{◌≡◌, ◌≢◌, ℕ, suc, ◌⊎◌, inl, inr, true, false, List, [], ◌∷◌, ◌++◌, length, Option, Some, sym, ap, subst, ◌∙◌, arith, true≢false}
 use Rattle.std.specs.Prelude.{slice_get, map}
-use Rattle.std.proofs.lemmas.Option.{slice_get_within}
+use Rattle.std.proofs.lemmas.Option.{same_Some, slice_get_within}
 use Rattle.link_timers.specs.Role.{other_of}
 use Rattle.call_records.specs.Records.{RecordValue, PairValue, changed_at}
 use Rattle.book_laws.proofs.Basics.{get_before, get_last, get_pushed, get_changed, length_changed, length_pushed, number_is}
-use Rattle.register_laws.specs.Seen.{positions, renumbered, RecordIsSeen}
+use Rattle.register_laws.specs.Seen.{positions}
 use Rattle.register_laws.proofs.Positions.{one_here, one_elsewhere}
-use Rattle.register_laws.proofs.Steps.{IsBlind, changed_record, changed_elsewhere, more_records, same_place}
-use Rattle.call_path_laws.specs.World.{Origin, Join, Plan}
-use Rattle.call_path_laws.specs.Seen.{kind, numbers, Begins, RecordsAreSeen, PairIsSeen, PairCame, PairsAreSeen}
+use Rattle.register_laws.proofs.Steps.{IsBlind, changed_here, changed_elsewhere, same_place}
+use Rattle.call_path_laws.specs.World.{Origin, placing, Join, Plan}
+use Rattle.call_path_laws.specs.Seen.{kind, numbers, Begins, BeginsIf, own_of, shown, RecordIsShown, RecordsAreSeen, PairIsSeen, PairCame, PairsAreSeen}
 use Rattle.call_path_laws.proofs.Ways.{numbered_user}
-use Rattle.call_path_laws.proofs.Growing.{Extends, more_join, more_pair, more_pair_came, numbers_user, numbers_switch, user_extends, switch_extends}
+use Rattle.call_path_laws.proofs.Growing.{Extends, more_begins_if, more_join, more_pair, more_pair_came, numbers_user, numbers_switch, user_extends, switch_extends}
 
--- a change that leaves the number, the node and the addresses of a record as they are
+-- a change that leaves the number, the node, the addresses and the caller of a record as they are, and looks at none
+-- of them but the node and the far address
 pub record IsMild (f : RecordValue → RecordValue) : Type 0 where
   pub blind : IsBlind f
+  pub beside : (n : ℕ) (own : Option (List ℕ)) (caller : Option ℕ) (r : RecordValue)
+      → f (record r { number = n; own = own; caller = caller }) ≡ record (f r) { number = n; own = own; caller = caller }
   pub number : (r : RecordValue) → (f r).number ≡ r.number
   pub node : (r : RecordValue) → (f r).node ≡ r.node
   pub own : (r : RecordValue) → (f r).own ≡ r.own
   pub far : (r : RecordValue) → (f r).far ≡ r.far
+  pub caller : (r : RecordValue) → (f r).caller ≡ r.caller
 
 module _ (plan : Plan) (os : List Origin) (js : List Join) where
   -- ---- a record changes
@@ -43,13 +47,38 @@ module _ (plan : Plan) (os : List Origin) (js : List Join) where
         | inr e ↦ ap (λ (x : RecordValue). x.number) e.1 ∙ h n old.0 old.1
       ]
 
+  changed_shown : (seen whole : List RecordValue) (f : RecordValue → RecordValue) (n m i k : ℕ) → IsMild f → slice_get (numbers plan os) n ≡ Some m → slice_get (numbers plan os) i ≡ Some k
+      → (i ≡ n) ⊎ (i ≢ n) → RecordIsShown plan os js seen whole i k → RecordIsShown plan os js (changed_at n f seen) (changed_at m f whole) i k
+  changed_shown seen whole f n m i k mild at there (inl e) h =
+      let same : m ≡ k = same_Some m k (sym at ∙ ap (λ (x : ℕ). slice_get (numbers plan os) x) (sym e) ∙ there) in
+      record {
+        origin = h.origin;
+        origin_there = h.origin_there;
+        value = f h.value;
+        whole_there = subst (λ (x : ℕ). slice_get (changed_at x f whole) k ≡ Some (f h.value)) (sym same) (changed_here whole k f h.value h.whole_there);
+        caller = h.caller;
+        begins = subst (λ (o : Option ℕ). BeginsIf plan os js h.caller o) (sym (mild.caller h.value)) h.begins;
+        seen_there =
+            subst (λ (x : ℕ). slice_get (changed_at x f seen) i ≡ Some (f (shown plan h.origin i h.caller h.value))) e (changed_here seen i f (shown plan h.origin i h.caller h.value) h.seen_there)
+            ∙ ap (λ (r : RecordValue). Some r) (mild.beside i (own_of plan h.origin h.value.own) h.caller h.value
+            ∙ ap (λ (d : Option (List ℕ)). record (f h.value) { number = i; own = own_of plan h.origin d; caller = h.caller }) (sym (mild.own h.value)));
+      }
+  changed_shown seen whole f n m i k mild at there (inr e) h = record {
+    origin = h.origin;
+    origin_there = h.origin_there;
+    value = h.value;
+    whole_there = changed_elsewhere whole m k f (λ same. e (same_place 1 (map (kind plan) os) i n k there (at ∙ ap (λ (x : ℕ). Some x) (sym same)))) ∙ h.whole_there;
+    caller = h.caller;
+    begins = h.begins;
+    seen_there = changed_elsewhere seen n i f e ∙ h.seen_there;
+  }
+
   pub changed_both : (seen whole : List RecordValue) (f : RecordValue → RecordValue) (n m : ℕ) → IsMild f → slice_get (numbers plan os) n ≡ Some m
       → RecordsAreSeen plan os js seen whole → RecordsAreSeen plan os js (changed_at n f seen) (changed_at m f whole)
   changed_both seen whole f n m mild at h = record {
     count = h.count ∙ sym (length_changed whole m f);
     seen_count = length_changed seen n f ∙ h.seen_count;
-    records = λ i k there. changed_record seen whole (numbers plan os) f mild.blind n m i k at there (number_is i n)
-        (λ same. same_place 1 (map (kind plan) os) i n k there (at ∙ ap (λ (x : ℕ). Some x) same)) (h.records i k there);
+    records = λ i k there. changed_shown seen whole f n m i k mild at there (number_is i n) (h.records i k there);
     numbered = changed_numbers seen n f mild h.numbered;
     nodes = changed_nodes whole m f mild h.nodes;
     callers = h.callers;
@@ -64,11 +93,15 @@ module _ (plan : Plan) (os : List Origin) (js : List Join) where
     count = h.count ∙ sym (length_changed whole m f);
     seen_count = h.seen_count;
     records = λ i k there.
-        let r : RecordIsSeen seen whole i k = h.records i k there in
+        let r : RecordIsShown plan os js seen whole i k = h.records i k there in
         record {
+          origin = r.origin;
+          origin_there = r.origin_there;
           value = r.value;
-          own_there = r.own_there;
-          seen_there = changed_elsewhere whole m k f (λ e. true≢false (sym (numbered_user plan os i k o there (ap (λ (x : ℕ). slice_get os x) e ∙ origin)) ∙ switch)) ∙ r.seen_there;
+          whole_there = changed_elsewhere whole m k f (λ e. true≢false (sym (numbered_user plan os i k o there (ap (λ (x : ℕ). slice_get os x) e ∙ origin)) ∙ switch)) ∙ r.whole_there;
+          caller = r.caller;
+          begins = r.begins;
+          seen_there = r.seen_there;
         };
     numbered = h.numbered;
     nodes = changed_nodes whole m f mild h.nodes;
@@ -82,17 +115,17 @@ module _ (plan : Plan) (os : List Origin) (js : List Join) where
 
   -- where the call came in, it is one that the other end of the line placed
   abbrev pub CallerIsThere : Origin → Type 0
-  CallerIsThere o = (x : ℕ) → o.caller ≡ Some x → slice_get os x ≡ Some (record { line = o.line; role = other_of o.role; caller = None })
+  CallerIsThere o = (x : ℕ) → o.caller ≡ Some x → slice_get os x ≡ Some (placing o.line (other_of o.role))
 
   added_callers : (o : Origin) → CallerIsThere o
-      → ((m x : ℕ) (p : Origin) → slice_get os m ≡ Some p → p.caller ≡ Some x → slice_get os x ≡ Some (record { line = p.line; role = other_of p.role; caller = None }))
+      → ((m x : ℕ) (p : Origin) → slice_get os m ≡ Some p → p.caller ≡ Some x → slice_get os x ≡ Some (placing p.line (other_of p.role)))
       → (m x : ℕ) (p : Origin) → slice_get (os ++ o ∷ []) m ≡ Some p → p.caller ≡ Some x
-      → slice_get (os ++ o ∷ []) x ≡ Some (record { line = p.line; role = other_of p.role; caller = None })
+      → slice_get (os ++ o ∷ []) x ≡ Some (placing p.line (other_of p.role))
   added_callers o there h m x p at came =
       elim (get_pushed os o m p at) [
-        | inl before ↦ get_before os (o ∷ []) x (record { line = p.line; role = other_of p.role; caller = None }) (h m x p before came)
-        | inr last ↦ get_before os (o ∷ []) x (record { line = p.line; role = other_of p.role; caller = None })
-            (subst (λ (q : Origin). slice_get os x ≡ Some (record { line = q.line; role = other_of q.role; caller = None })) (sym last.1)
+        | inl before ↦ get_before os (o ∷ []) x (placing p.line (other_of p.role)) (h m x p before came)
+        | inr last ↦ get_before os (o ∷ []) x (placing p.line (other_of p.role))
+            (subst (λ (q : Origin). slice_get os x ≡ Some (placing q.line (other_of q.role))) (sym last.1)
             (there x (ap (λ (q : Origin). q.caller) (sym last.1) ∙ came)))
       ]
 
@@ -113,17 +146,44 @@ module _ (plan : Plan) (os : List Origin) (js : List Join) where
         ]
       ]
 
-  pub added_both : (seen whole : List RecordValue) (o : Origin) (r t : RecordValue) → plan.has_user o.line o.role ≡ true → CallerIsThere o
-      → t ≡ renumbered (length whole) r → r.number ≡ length seen → t.node ≡ plan.node o.line o.role
+  added_shown : (seen whole : List RecordValue) (o : Origin) (r t : RecordValue) (c : Option ℕ) → plan.has_user o.line o.role ≡ true
+      → r ≡ shown plan o (length seen) c t → BeginsIf plan os js c t.caller → RecordsAreSeen plan os js seen whole → (i k : ℕ)
+      → (slice_get (numbers plan os) i ≡ Some k) ⊎ ((i ≡ length (numbers plan os)) × (k ≡ length os))
+      → RecordIsShown plan (os ++ o ∷ []) js (seen ++ r ∷ []) (whole ++ t ∷ []) i k
+  added_shown seen whole o r t c user is begins h i k (inl before) =
+      let w : RecordIsShown plan os js seen whole i k = h.records i k before in
+      record {
+        origin = w.origin;
+        origin_there = get_before os (o ∷ []) k w.origin w.origin_there;
+        value = w.value;
+        whole_there = get_before whole (t ∷ []) k w.value w.whole_there;
+        caller = w.caller;
+        begins = more_begins_if plan os js (os ++ o ∷ []) js (user_extends plan os js o user) w.caller w.value.caller w.begins;
+        seen_there = get_before seen (r ∷ []) i (shown plan w.origin i w.caller w.value) w.seen_there;
+      }
+  added_shown seen whole o r t c user is begins h i k (inr last) = record {
+    origin = o;
+    origin_there = ap (λ (x : ℕ). slice_get (os ++ o ∷ []) x) last.1 ∙ get_last os o;
+    value = t;
+    whole_there = ap (λ (x : ℕ). slice_get (whole ++ t ∷ []) x) (last.1 ∙ h.count) ∙ get_last whole t;
+    caller = c;
+    begins = more_begins_if plan os js (os ++ o ∷ []) js (user_extends plan os js o user) c t.caller begins;
+    seen_there =
+        ap (λ (x : ℕ). slice_get (seen ++ r ∷ []) x) (last.0 ∙ sym h.seen_count) ∙ get_last seen r
+        ∙ ap (λ (x : RecordValue). Some x) (is ∙ ap (λ (n : ℕ). shown plan o n c t) (h.seen_count ∙ sym last.0));
+  }
+
+  pub added_both : (seen whole : List RecordValue) (o : Origin) (r t : RecordValue) (c : Option ℕ) → plan.has_user o.line o.role ≡ true → CallerIsThere o
+      → r ≡ shown plan o (length seen) c t → BeginsIf plan os js c t.caller → t.node ≡ plan.node o.line o.role
       → RecordsAreSeen plan os js seen whole → RecordsAreSeen plan (os ++ o ∷ []) js (seen ++ r ∷ []) (whole ++ t ∷ [])
-  added_both seen whole o r t user caller is number node h = record {
+  added_both seen whole o r t c user caller is begins node h = record {
     count = length_pushed os o ∙ ap suc h.count ∙ sym (length_pushed whole t);
     seen_count = length_pushed seen r ∙ ap suc h.seen_count ∙ sym (length_pushed (numbers plan os) (length os)) ∙ ap (λ (ns : List ℕ). length ns) (sym (numbers_user plan os o user));
-    records = λ i k there. more_records seen whole (numbers plan os) r t h.seen_count is h.records i k
-        (ap (λ (x : ℕ). slice_get (numbers plan os ++ x ∷ []) i) (sym h.count) ∙ ap (λ (ns : List ℕ). slice_get ns i) (sym (numbers_user plan os o user)) ∙ there);
+    records = λ i k there. added_shown seen whole o r t c user is begins h i k
+        (get_pushed (numbers plan os) (length os) i k (ap (λ (ns : List ℕ). slice_get ns i) (sym (numbers_user plan os o user)) ∙ there));
     numbered = λ n x at. elim (get_pushed seen r n x at) [
       | inl before ↦ h.numbered n x before
-      | inr last ↦ ap (λ (y : RecordValue). y.number) last.1 ∙ number ∙ sym last.0
+      | inr last ↦ ap (λ (y : RecordValue). y.number) (last.1 ∙ is) ∙ sym last.0
     ];
     nodes = added_nodes whole o t h.count node h.nodes;
     callers = added_callers o caller h.callers;
@@ -139,8 +199,16 @@ module _ (plan : Plan) (os : List Origin) (js : List Join) where
     count = length_pushed os o ∙ ap suc h.count ∙ sym (length_pushed whole t);
     seen_count = h.seen_count ∙ ap (λ (ns : List ℕ). length ns) (sym (numbers_switch plan os o switch));
     records = λ i k there.
-        let r : RecordIsSeen seen whole i k = h.records i k (ap (λ (ns : List ℕ). slice_get ns i) (sym (numbers_switch plan os o switch)) ∙ there) in
-        record { value = r.value; own_there = r.own_there; seen_there = get_before whole (t ∷ []) k (renumbered k r.value) r.seen_there };
+        let r : RecordIsShown plan os js seen whole i k = h.records i k (ap (λ (ns : List ℕ). slice_get ns i) (sym (numbers_switch plan os o switch)) ∙ there) in
+        record {
+          origin = r.origin;
+          origin_there = get_before os (o ∷ []) k r.origin r.origin_there;
+          value = r.value;
+          whole_there = get_before whole (t ∷ []) k r.value r.whole_there;
+          caller = r.caller;
+          begins = more_begins_if plan os js (os ++ o ∷ []) js (switch_extends plan os js o switch) r.caller r.value.caller r.begins;
+          seen_there = r.seen_there;
+        };
     numbered = h.numbered;
     nodes = added_nodes whole o t h.count node h.nodes;
     callers = added_callers o caller h.callers;

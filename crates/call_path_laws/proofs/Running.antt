@@ -1,22 +1,24 @@
 -- The worked run: each premise by computation.
-use Rattle.std.proofs.Common.{◌≡◌, ℕ, zero, suc, ◌+◌, ◌<◌, ◌⊎◌, inl, inr, false, List, [], ◌∷◌, Some, None, refl, sym, ap, subst, ◌∙◌, arith, true≢false}
-use Rattle.std.specs.Prelude.{slice_get, take}
+use Rattle.std.proofs.Common.{◌≡◌, ℕ, zero, suc, ◌<◌, ◌⊎◌, inl, inr, false, List, [], ◌∷◌, Some, None, refl, sym, ap, subst, ◌∙◌, arith, true≢false}
+use Rattle.std.specs.Prelude.{slice_get, take, drop}
 use Rattle.std.proofs.lemmas.Option.{none-some, same_Some}
 use Rattle.link_timers.specs.declared.role.Role.TheVariants.{Dce}
+use Rattle.packet_layer.specs.Packets.{Datum}
 use Rattle.epochs.specs.Epoch.{IsAligned}
 use Rattle.epochs.specs.ConfirmedLaws.{AreEmpty}
 use Rattle.epochs.proofs.Matching.{aligned-match}
 use Rattle.epochs.proofs.Confirms.{confirms_itself}
 use Rattle.call_records.specs.Records.{RecordValue, PairValue, taken_epochs, new_record}
+use Rattle.call_records.specs.Book.{packet_of}
 use Rattle.call_records.specs.Register.{LineEnds}
 use Rattle.book_laws.specs.Headline.{IsTakenFrom, IsIn, TookNothing, sent_by}
 use Rattle.book_laws.proofs.Basics.{confirmed_of}
 use Rattle.register_laws.specs.Promise.{PairIsRight, PairHolds, IsOfEnd, RegisterHolds}
 use Rattle.call_path_laws.specs.Forwards.{IsForwarded, AllForward}
-use Rattle.call_path_laws.specs.World.{Origin, Join, made_world, after_all, MayAll, calling_on}
+use Rattle.call_path_laws.specs.World.{Origin, placing, coming, Join, made_world, after_all, MayAll, calling_on}
 use Rattle.call_path_laws.specs.Seen.{IsJoined}
 use Rattle.call_path_laws.specs.Promise.{CallsHold, JoinHolds, JoinsHold}
-use Rattle.call_path_laws.specs.Run.{parts, plan, lines, events, world, RunLaw}
+use Rattle.call_path_laws.specs.Run.{parts, plan, lines, message, reply, events, world, one_sent, one_taken, RunLaw}
 use Rattle.call_path_laws.proofs.Each.{each}
 use Rattle.call_path_laws.proofs.Opened.{whole_has}
 
@@ -35,162 +37,37 @@ not_again zero j at e =
     absurd (omega arith)
 not_again (suc k) j at e = absurd (none-some j at)
 
+-- piece by piece, the last first: the clear and the second call, the epoch after the reset, the reset, the epoch
+-- before it, and the call
+
+may_again : MayAll plan (drop 37 events) (after_all (take 37 events) (made_world lines))
+may_again = ((zero_two, refl), ((record { there = zero_two; switch = refl }, (tt, tt)), ((record { there = one_two; switch = refl }, (tt, tt)), ((one_two, refl), ((zero_two, refl), ((record { there = zero_two; switch = refl }, (tt, tt)), (record { from_end = record { there = zero_two; switch = refl }; to_end = record { there = one_two; switch = refl }; one_switch = refl; came_in = 5; caller = 4; present = refl; came = refl; last = refl; first = not_again }, ((one_two, refl), tt))))))))
+
+may_second : MayAll plan (drop 24 events) (after_all (take 24 events) (made_world lines))
+may_second = ((one_two, refl), ((record { there = one_two; switch = refl }, (tt, (tt, tt))), ((one_two, refl), ((record { there = zero_two; switch = refl }, (tt, tt)), ((zero_two, refl), ((record { there = zero_two; switch = refl }, (tt, tt)), ((zero_two, refl), ((record { there = zero_two; switch = refl }, (tt, tt)), ((record { there = one_two; switch = refl }, (tt, tt)), ((one_two, refl), ((record { there = one_two; switch = refl }, (tt, tt)), ((record { there = zero_two; switch = refl }, (tt, tt)), ((zero_two, refl), may_again)))))))))))))
+
+may_reset : MayAll plan (drop 20 events) (after_all (take 20 events) (made_world lines))
+may_reset = ((zero_two, refl), ((one_two, refl), ((record { there = zero_two; switch = refl }, (tt, tt)), ((record { there = one_two; switch = refl }, (tt, tt)), may_second))))
+
+may_first : MayAll plan (drop 7 events) (after_all (take 7 events) (made_world lines))
+may_first = ((zero_two, refl), ((record { there = zero_two; switch = refl }, (tt, tt)), ((record { there = one_two; switch = refl }, (tt, tt)), ((one_two, refl), ((record { there = one_two; switch = refl }, (tt, tt)), ((record { there = zero_two; switch = refl }, (tt, tt)), ((zero_two, refl), ((one_two, refl), ((record { there = one_two; switch = refl }, (tt, (tt, tt))), ((one_two, refl), ((record { there = zero_two; switch = refl }, (tt, tt)), ((zero_two, refl), ((record { there = zero_two; switch = refl }, (tt, tt)), may_reset)))))))))))))
+
 may_all : MayAll plan events (made_world lines)
-may_all = (
-  (zero_two, refl),
-  (
-    (record { there = zero_two; switch = refl }, (tt, tt)),
-    (
-      record {
-        from_end = record { there = zero_two; switch = refl };
-        to_end = record { there = one_two; switch = refl };
-        one_switch = refl;
-        came_in = 1;
-        caller = 0;
-        present = refl;
-        came = refl;
-        last = refl;
-        first = λ k j at e. none-some j at;
-      },
-      (
-        (one_two, refl),
-        (
-          (record { there = one_two; switch = refl }, (tt, tt)),
-          (
-            (record { there = zero_two; switch = refl }, (tt, tt)),
-            (
-              (zero_two, refl),
-              (
-                (zero_two, refl),
-                (
-                  (record { there = zero_two; switch = refl }, (tt, tt)),
-                  (
-                    (record { there = one_two; switch = refl }, (tt, tt)),
-                    (
-                      (one_two, refl),
-                      (
-                        (record { there = one_two; switch = refl }, (tt, tt)),
-                        (
-                          (record { there = zero_two; switch = refl }, (tt, tt)),
-                          (
-                            (zero_two, refl),
-                            (
-                              (zero_two, refl),
-                              (
-                                (record { there = zero_two; switch = refl }, (tt, tt)),
-                                (
-                                  (record { there = one_two; switch = refl }, (tt, tt)),
-                                  (
-                                    (one_two, refl),
-                                    (
-                                      (zero_two, refl),
-                                      (
-                                        (record { there = zero_two; switch = refl }, (tt, tt)),
-                                        (
-                                          record {
-                                            from_end = record { there = zero_two; switch = refl };
-                                            to_end = record { there = one_two; switch = refl };
-                                            one_switch = refl;
-                                            came_in = 5;
-                                            caller = 4;
-                                            present = refl;
-                                            came = refl;
-                                            last = refl;
-                                            first = not_again;
-                                          },
-                                          ((one_two, refl), tt),
-                                        ),
-                                      ),
-                                    ),
-                                  ),
-                                ),
-                              ),
-                            ),
-                          ),
-                        ),
-                      ),
-                    ),
-                  ),
-                ),
-              ),
-            ),
-          ),
-        ),
-      ),
-    ),
-  ),
-)
+may_all = ((zero_two, refl), ((record { there = zero_two; switch = refl }, (tt, tt)), (record { from_end = record { there = zero_two; switch = refl }; to_end = record { there = one_two; switch = refl }; one_switch = refl; came_in = 1; caller = 0; present = refl; came = refl; last = refl; first = λ k j at e. none-some j at }, ((one_two, refl), ((record { there = one_two; switch = refl }, (tt, tt)), ((record { there = zero_two; switch = refl }, (tt, tt)), ((zero_two, refl), may_first)))))))
 
 -- ---- the switch forwards each call as it came
 
 known : (P : RecordValue → Type 0) (rs : List RecordValue) (k n : ℕ) (r came : RecordValue) → Some k ≡ Some n → slice_get rs k ≡ Some r → slice_get rs n ≡ Some came → P r → P came
 known P rs k n r came e there at p = subst (λ (x : RecordValue). P x) (same_Some r came (sym there ∙ (ap (λ (i : ℕ). slice_get rs i) (same_Some k n e) ∙ at))) p
 
+forward_again : AllForward plan (drop 37 events) (after_all (take 37 events) (made_world lines))
+forward_again = (tt, (tt, (tt, (tt, (tt, (tt, (λ n came at there. known (λ (r : RecordValue). IsForwarded plan (record { line = 0; role = Dce; channel = 4 }) (record { line = 1; role = Dce; channel = 1 }) parts r) (after_all (take 43 events) (made_world lines)).whole.records 5 n (new_record 5 9 (Some (2 ∷ 0 ∷ [])) None (Some 4)) came at refl there (record { called = refl; calling = refl; routed = refl }), (tt, tt))))))))
+
+forward_later : AllForward plan (drop 20 events) (after_all (take 20 events) (made_world lines))
+forward_later = (tt, (tt, (tt, (tt, (tt, (tt, (tt, (tt, (tt, (tt, (tt, (tt, (tt, (tt, (tt, (tt, (tt, forward_again)))))))))))))))))
+
 forward_all : AllForward plan events (made_world lines)
-forward_all = (
-  tt,
-  (
-    tt,
-    (
-      λ n came at there. known (λ (r : RecordValue). IsForwarded plan (record { line = 0; role = Dce; channel = 4 }) (record { line = 1; role = Dce; channel = 1 }) parts r) (after_all (take 2 events) (made_world lines)).whole.records 1 n (new_record 1 9 (Some (2 ∷ 0 ∷ [])) None) came at refl there (record { called = refl; calling = refl; routed = refl }),
-      (
-        tt,
-        (
-          tt,
-          (
-            tt,
-            (
-              tt,
-              (
-                tt,
-                (
-                  tt,
-                  (
-                    tt,
-                    (
-                      tt,
-                      (
-                        tt,
-                        (
-                          tt,
-                          (
-                            tt,
-                            (
-                              tt,
-                              (
-                                tt,
-                                (
-                                  tt,
-                                  (
-                                    tt,
-                                    (
-                                      tt,
-                                      (
-                                        tt,
-                                        (
-                                          λ n came at there. known (λ (r : RecordValue). IsForwarded plan (record { line = 0; role = Dce; channel = 4 }) (record { line = 1; role = Dce; channel = 1 }) parts r) (after_all (take 20 events) (made_world lines)).whole.records 5 n (new_record 5 9 (Some (2 ∷ 0 ∷ [])) None) came at refl there (record { called = refl; calling = refl; routed = refl }),
-                                          (tt, tt),
-                                        ),
-                                      ),
-                                    ),
-                                  ),
-                                ),
-                              ),
-                            ),
-                          ),
-                        ),
-                      ),
-                    ),
-                  ),
-                ),
-              ),
-            ),
-          ),
-        ),
-      ),
-    ),
-  ),
-)
+forward_all = (tt, (tt, (λ n came at there. known (λ (r : RecordValue). IsForwarded plan (record { line = 0; role = Dce; channel = 4 }) (record { line = 1; role = Dce; channel = 1 }) parts r) (after_all (take 2 events) (made_world lines)).whole.records 1 n (new_record 1 9 (Some (2 ∷ 0 ∷ [])) None (Some 0)) came at refl there (record { called = refl; calling = refl; routed = refl }), (tt, (tt, (tt, (tt, (tt, (tt, (tt, (tt, (tt, (tt, (tt, (tt, (tt, (tt, (tt, (tt, (tt, forward_later))))))))))))))))))))
 
 -- ---- each call on a line holds
 
@@ -220,24 +97,41 @@ nothing_passed = record {
   released = omega arith;
 }
 
+one_passed : (said : Datum) → IsAligned (one_sent said) (one_taken said)
+one_passed said = record {
+  packets = record { rest = []; whole = refl };
+  interrupts = record { rest = []; whole = refl };
+  covered = omega arith;
+  released = omega arith;
+}
+
+-- the second message of the epoch was lost
+first_passed : IsAligned (record { packets = packet_of (message 72) ∷ packet_of (message 74) ∷ []; interrupts = []; covered = 1 }) (one_taken (message 72))
+first_passed = record {
+  packets = record { rest = packet_of (message 74) ∷ []; whole = refl };
+  interrupts = record { rest = []; whole = refl };
+  covered = omega arith;
+  released = omega arith;
+}
+
 first_host : PairHolds world.whole (record { caller = 0; callee = 1 })
 first_host = pair_with 0 1 _ _ refl refl
-    (record { packets = record { rest = []; whole = refl }; interrupts = record { rest = []; whole = refl }; covered = omega arith; released = omega arith }, tt)
-    (nothing_passed, tt)
+    (first_passed, (one_passed (message 76), tt))
+    (one_passed (reply 73), (one_passed (reply 75), tt))
     (record { order = omega arith; line = 0; line_ends = _; line_there = refl; ends = inl (refl, refl); own = refl; far = refl })
 
 second_host : PairHolds world.whole (record { caller = 2; callee = 3 })
 second_host = pair_with 2 3 _ _ refl refl
-    (record { packets = record { rest = []; whole = refl }; interrupts = record { rest = []; whole = refl }; covered = omega arith; released = omega arith }, tt)
-    (nothing_passed, tt)
+    (one_passed (message 72), (one_passed (message 76), tt))
+    (one_passed (reply 73), (one_passed (reply 75), tt))
     (record { order = omega arith; line = 1; line_ends = _; line_there = refl; ends = inr (refl, refl); own = refl; far = refl })
 
 first_again : PairHolds world.whole (record { caller = 4; callee = 5 })
-first_again = pair_with 4 5 _ _ refl refl (nothing_passed, tt) (nothing_passed, tt)
+first_again = pair_with 4 5 (new_record 4 1 None (Some (2 ∷ 0 ∷ [])) None) (new_record 5 9 (Some (2 ∷ 0 ∷ [])) None (Some 4)) refl refl (nothing_passed, tt) (nothing_passed, tt)
     (record { order = omega arith; line = 0; line_ends = _; line_there = refl; ends = inl (refl, refl); own = refl; far = refl })
 
 second_again : PairHolds world.whole (record { caller = 6; callee = 7 })
-second_again = pair_with 6 7 _ _ refl refl (nothing_passed, tt) (nothing_passed, tt)
+second_again = pair_with 6 7 (new_record 6 9 (Some (1 ∷ 0 ∷ [])) (Some (2 ∷ 0 ∷ [])) None) (new_record 7 2 (Some (2 ∷ 0 ∷ [])) (Some (1 ∷ 0 ∷ [])) (Some 6)) refl refl (nothing_passed, tt) (nothing_passed, tt)
     (record { order = omega arith; line = 1; line_ends = _; line_there = refl; ends = inr (refl, refl); own = refl; far = refl })
 
 -- ---- the whole register holds
@@ -269,7 +163,7 @@ whole_holds = record {
   numbers = each (λ i (r : RecordValue). r.number ≡ i) world.whole.records (refl, (refl, (refl, (refl, (refl, (refl, (refl, (refl, tt))))))));
   nodes = each (λ i (r : RecordValue). IsOfEnd world.whole r.node) world.whole.records (of_line 0 _ 1 refl (inl refl), (of_line 0 _ 9 refl (inr refl), (of_line 1 _ 9 refl (inr refl), (of_line 1 _ 2 refl (inl refl), (of_line 0 _ 1 refl (inl refl), (of_line 0 _ 9 refl (inr refl), (of_line 1 _ 9 refl (inr refl), (of_line 1 _ 2 refl (inl refl), tt))))))));
   in_one = λ i j p q number at there x y. sym (place_of i p number at x) ∙ place_of j q number there y;
-  took = each Took world.whole.records (inl (record { items = refl; interrupts = refl }, tt), (inr (1, record { caller = 0; callee = 1 }, refl, inr refl), (inl (record { items = refl; interrupts = refl }, tt), (inr (0, record { caller = 2; callee = 3 }, refl, inr refl), (inl (record { items = refl; interrupts = refl }, tt), (inl (record { items = refl; interrupts = refl }, tt), (inl (record { items = refl; interrupts = refl }, tt), (inl (record { items = refl; interrupts = refl }, tt), tt))))))));
+  took = each Took world.whole.records (inr (1, record { caller = 0; callee = 1 }, refl, inl refl), (inr (1, record { caller = 0; callee = 1 }, refl, inr refl), (inr (0, record { caller = 2; callee = 3 }, refl, inl refl), (inr (0, record { caller = 2; callee = 3 }, refl, inr refl), (inl (record { items = refl; interrupts = refl }, tt), (inl (record { items = refl; interrupts = refl }, tt), (inl (record { items = refl; interrupts = refl }, tt), (inl (record { items = refl; interrupts = refl }, tt), tt))))))));
 }
 
 came_to : (a y x : ℕ) → PairHolds world.whole (record { caller = y; callee = a }) → Some y ≡ Some x → PairHolds world.whole (record { caller = x; callee = a })
@@ -295,9 +189,9 @@ first_join = record {
   to_there = refl;
   onward = confirms_itself _;
   backward = confirms_itself _;
-  own = λ o at. ap (λ (p : Origin). calling_on (plan.address p.line) None) (same_Some (record { line = 0; role = Dce; caller = Some 0 }) o at);
+  own = λ o at. ap (λ (p : Origin). calling_on (plan.address p.line) None) (same_Some (coming 0 Dce (Some 0)) o at);
   far = refl;
-  routed = λ o at. ap (λ (p : Origin). p.line) (sym (same_Some (record { line = 1; role = Dce; caller = None }) o at));
+  routed = λ o at. ap (λ (p : Origin). p.line) (sym (same_Some (placing 1 Dce) o at));
 }
 
 second_join : JoinHolds plan world 5 6
@@ -308,9 +202,9 @@ second_join = record {
   to_there = refl;
   onward = confirms_itself _;
   backward = confirms_itself _;
-  own = λ o at. ap (λ (p : Origin). calling_on (plan.address p.line) None) (same_Some (record { line = 0; role = Dce; caller = Some 4 }) o at);
+  own = λ o at. ap (λ (p : Origin). calling_on (plan.address p.line) None) (same_Some (coming 0 Dce (Some 4)) o at);
   far = refl;
-  routed = λ o at. ap (λ (p : Origin). p.line) (sym (same_Some (record { line = 1; role = Dce; caller = None }) o at));
+  routed = λ o at. ap (λ (p : Origin). p.line) (sym (same_Some (placing 1 Dce) o at));
 }
 
 abbrev Sent : ℕ → Origin → Type 0
@@ -324,4 +218,4 @@ joins_hold = record {
 }
 
 pub run_is_right : RunLaw
-run_is_right = record { addressed = λ line e. absurd (true≢false e); may = may_all; forwards = forward_all; calls = calls_hold; joins = joins_hold; open_records = whole_has; pairs = refl; records = refl }
+run_is_right = record { addressed = λ line none. elim none [ inl e ↦ absurd (true≢false e) | inr e ↦ absurd (true≢false (sym e)) ]; may = may_all; forwards = forward_all; calls = calls_hold; joins = joins_hold; open_records = whole_has; pairs = refl; records = refl }

@@ -1,15 +1,15 @@
 -- What the register has of a record and of a channel at a user's end.
-use Rattle.std.proofs.Common.{◌≡◌, ℕ, ◌<◌, Bool, true, length, Option, Some, None, refl, sym, ap, subst, ◌∙◌}
+use Rattle.std.proofs.Common.{◌≡◌, ℕ, ◌<◌, Bool, true, length, Option, Some, None, refl, ap, subst, ◌∙◌}
 use Rattle.std.specs.Prelude.{slice_get, is_some, map}
 use Rattle.std.proofs.lemmas.Option.{none-some, same_Some, slice_get_within}
 use Rattle.link_timers.specs.declared.role.Role.{Role}
-use Rattle.call_records.specs.Records.{RecordValue, PairValue}
+use Rattle.call_records.specs.Records.{PairValue}
 use Rattle.call_records.specs.Book.{Slot, slot_at}
 use Rattle.call_records.specs.Register.{book_at}
 use Rattle.book_laws.specs.Headline.{IsPaired}
 use Rattle.book_laws.proofs.Basics.{get_there}
 use Rattle.book_laws.proofs.Placed.{pair_is}
-use Rattle.register_laws.specs.Seen.{IsNumbered, RecordIsSeen, renumbered}
+use Rattle.register_laws.specs.Seen.{IsNumbered}
 use Rattle.register_laws.proofs.Steps.{same_place}
 use Rattle.call_path_laws.specs.World.{World, Plan}
 use Rattle.call_path_laws.specs.Seen.{kind, numbers, Begins, BeginsIf, PresentIsSeen, CallerIsSeen, SlotIsSeen, PairCame, Seen}
@@ -21,8 +21,7 @@ pub owned : OwnedLaw
 owned plan w n r s at =
     let less : n < length (numbers plan w.origins) = subst (λ (k : ℕ). n < k) s.records.seen_count (slice_get_within w.register.records n r at) in
     let m = get_there (numbers plan w.origins) n less in
-    let seen : RecordIsSeen w.register.records w.whole.records n m.0 = s.records.records n m.0 m.1 in
-    (m.0, m.1, seen.seen_there ∙ ap (λ (x : RecordValue). Some (renumbered m.0 x)) (same_Some seen.value r (sym seen.own_there ∙ at)))
+    (m.0, m.1, s.records.records n m.0 m.1)
 
 module _ (plan : Plan) (w : World) (line : ℕ) (role : Role) (c : ℕ) (s : Seen plan w) (less : line < length w.whole.lines) (user : plan.has_user line role ≡ true) where
   abbrev seen : Slot

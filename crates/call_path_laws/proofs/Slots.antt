@@ -55,6 +55,8 @@ module _ (plan : Plan) (os : List Origin) (js : List Join) (line : ℕ) where
   side_both role own whole c s t h w = record {
     seen_node = h.seen_node;
     whole_node = h.whole_node;
+    seen_address = h.seen_address;
+    whole_address = h.whole_address;
     channels = nth_length own.slots c s ∙ h.channels ∙ sym (nth_length whole.slots c t);
     slot = nth_both (λ a b. SlotIsSeen plan os js line role a b) own.slots whole.slots c s t h.channels h.slot w;
   }
@@ -64,6 +66,8 @@ module _ (plan : Plan) (os : List Origin) (js : List Join) (line : ℕ) where
   side_whole role own whole c t h w = record {
     seen_node = h.seen_node;
     whole_node = h.whole_node;
+    seen_address = h.seen_address;
+    whole_address = h.whole_address;
     channels = h.channels ∙ sym (nth_length whole.slots c t);
     slot = nth_whole (λ a b. SlotIsSeen plan os js line role a b) own.slots whole.slots c t h.channels h.slot w;
   }

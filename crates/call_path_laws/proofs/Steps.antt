@@ -1,5 +1,5 @@
 -- Steps of a write, made in the register and in the whole one, or in the whole one alone.
-use Rattle.std.proofs.Common.{◌≡◌, ℕ, true, false, List, [], ◌∷◌, ◌++◌, length, Option, Some, None, refl, sym, ap, subst, ◌∙◌}
+use Rattle.std.proofs.Common.{◌≡◌, ℕ, Bool, true, false, List, [], ◌∷◌, ◌++◌, length, Option, Some, None, refl, sym, ap, subst, ◌∙◌}
 use Rattle.std.specs.Prelude.{slice_get}
 use Rattle.std.proofs.lemmas.Option.{same_Some}
 use Rattle.link_timers.specs.declared.role.Role.{Role}
@@ -7,10 +7,10 @@ use Rattle.link_timers.specs.declared.role.Role.TheVariants.{Dte, Dce}
 use Rattle.call_records.specs.Records.{RecordValue, PairValue, changed_at}
 use Rattle.call_records.specs.Book.{Book, Slot, slot_at, with_slot, with_change, with_record, with_pair}
 use Rattle.book_laws.proofs.Basics.{get_last}
-use Rattle.register_laws.specs.Seen.{IsNumbered, renumbered}
+use Rattle.register_laws.specs.Seen.{IsNumbered}
 use Rattle.register_laws.proofs.Steps.{records_put, pairs_put}
 use Rattle.call_path_laws.specs.World.{Origin, Join, Plan}
-use Rattle.call_path_laws.specs.Seen.{kind, numbers, BeginsIf, SlotIsSeen, RecordsAreSeen, PairsAreSeen}
+use Rattle.call_path_laws.specs.Seen.{kind, numbers, BeginsIf, shown, IsMadeAt, SlotIsSeen, RecordsAreSeen, PairsAreSeen}
 use Rattle.call_path_laws.proofs.Ways.{kind_user}
 use Rattle.call_path_laws.proofs.Growing.{Extends, extends_itself, extends_twice, more_side, user_extends, switch_extends, switch_kind, numbers_user}
 use Rattle.call_path_laws.proofs.Slots.{Sides, sides_both, sides_whole}
@@ -120,7 +120,7 @@ module _ (plan : Plan) (js : List Join) (line : ℕ) where
   -- ---- the record of the present call changes
 
   abbrev OriginHere : (role : Role) → List Origin → (present caller : Option ℕ) → Type 0
-  OriginHere role os present caller = (m : ℕ) → present ≡ Some m → slice_get os m ≡ Some (record { line = line; role = role; caller = caller })
+  OriginHere role os present caller = (m : ℕ) → present ≡ Some m → IsMadeAt os line role caller m
 
   pub changes_both : (x : Beside) (f : RecordValue → RecordValue) (o p : Option ℕ) → IsMild f → IsRight plan js line x → IsNumbered (numbers plan x.origins) o p
       → Leads plan js line x x.origins (with_change o f x.seen) (with_change p f x.whole)
@@ -135,17 +135,18 @@ module _ (plan : Plan) (js : List Join) (line : ℕ) where
       → Leads plan js line x x.origins x.seen (with_change p f x.whole)
   changes_whole x role f None caller mild h switch here = no_step x h
   changes_whole x role f (Some m) caller mild h switch here =
+      let made : IsMadeAt x.origins line role caller m = here m refl in
       records_step x x.seen.records (changed_at m f x.whole.records) h
-      (changed_whole plan x.origins js x.seen.records x.whole.records f m (record { line = line; role = role; caller = caller }) mild (here m refl) switch h.records)
+      (changed_whole plan x.origins js x.seen.records x.whole.records f m (record { line = line; role = role; placed_here = made.placed_here; caller = caller }) mild made.there switch h.records)
 
   -- ---- a record more
 
-  pub adds_both : (x : Beside) (o : Origin) (r t : RecordValue) → plan.has_user o.line o.role ≡ true → CallerIsThere plan x.origins js o
-      → t ≡ renumbered (length x.whole.records) r → r.number ≡ length x.seen.records → t.node ≡ plan.node o.line o.role → IsRight plan js line x
+  pub adds_both : (x : Beside) (o : Origin) (r t : RecordValue) (c : Option ℕ) → plan.has_user o.line o.role ≡ true → CallerIsThere plan x.origins js o
+      → r ≡ shown plan o (length x.seen.records) c t → BeginsIf plan x.origins js c t.caller → t.node ≡ plan.node o.line o.role → IsRight plan js line x
       → Leads plan js line x (x.origins ++ o ∷ []) (with_record r x.seen) (with_record t x.whole)
-  adds_both x o r t user caller is number node h =
+  adds_both x o r t c user caller is begins node h =
       adds x (x.origins ++ o ∷ []) (x.seen.records ++ r ∷ []) (x.whole.records ++ t ∷ []) (user_extends plan x.origins js o user) h
-      (added_both plan x.origins js x.seen.records x.whole.records o r t user caller is number node h.records)
+      (added_both plan x.origins js x.seen.records x.whole.records o r t c user caller is begins node h.records)
 
   pub adds_whole : (x : Beside) (o : Origin) (t : RecordValue) → plan.has_user o.line o.role ≡ false → CallerIsThere plan x.origins js o
       → t.node ≡ plan.node o.line o.role → IsRight plan js line x
@@ -165,6 +166,11 @@ module _ (plan : Plan) (js : List Join) (line : ℕ) where
   last_origin x o h m e =
       ap (λ (n : ℕ). slice_get (x.origins ++ o ∷ []) n) (sym (same_Some (length x.whole.records) m e) ∙ sym h.records.count) ∙ get_last x.origins o
 
+  pub last_made : (x : Beside) (role : Role) (placed_here : Bool) (caller : Option ℕ) → IsRight plan js line x → (m : ℕ) → Some (length x.whole.records) ≡ Some m
+      → IsMadeAt (x.origins ++ record { line = line; role = role; placed_here = placed_here; caller = caller } ∷ []) line role caller m
+  last_made x role placed_here caller h m e =
+      record { placed_here = placed_here; there = last_origin x (record { line = line; role = role; placed_here = placed_here; caller = caller }) h m e }
+
   -- ---- a pair more
 
   pub pairs_both : (x : Beside) (role : Role) (a b c d : Option ℕ) → plan.has_user line role ≡ true → IsRight plan js line x → BeginsIf plan x.origins js a b
@@ -173,9 +179,10 @@ module _ (plan : Plan) (js : List Join) (line : ℕ) where
   pairs_both x role None None c d user h v w here = no_step x h
   pairs_both x role (Some a) (Some b) None None user h v w here = no_step x h
   pairs_both x role (Some a) (Some b) (Some c) (Some d) user h v w here =
-      let o : Origin = record { line = line; role = role; caller = Some b } in
+      let made : IsMadeAt x.origins line role (Some b) d = here d refl in
+      let o : Origin = record { line = line; role = role; placed_here = made.placed_here; caller = Some b } in
       pairs_step x (x.kinds ++ kind plan o ∷ []) (x.seen.pairs ++ record { caller = a; callee = c } ∷ []) (x.whole.pairs ++ record { caller = b; callee = d } ∷ []) h
-      (paired_both plan x.origins js x.kinds x.seen.pairs x.whole.pairs o (record { caller = b; callee = d }) (record { caller = a; callee = c }) (here d refl) refl
+      (paired_both plan x.origins js x.kinds x.seen.pairs x.whole.pairs o (record { caller = b; callee = d }) (record { caller = a; callee = c }) made.there refl
       (kind_user plan o user) w v h.pairs)
   pairs_both x role (Some a) (Some b) None (Some d) user h v w here = absurd w
   pairs_both x role (Some a) (Some b) (Some c) None user h v w here = absurd w
@@ -187,6 +194,7 @@ module _ (plan : Plan) (js : List Join) (line : ℕ) where
   pairs_whole x role None d switch h here = no_step x h
   pairs_whole x role (Some b) None switch h here = no_step x h
   pairs_whole x role (Some b) (Some d) switch h here =
-      let o : Origin = record { line = line; role = role; caller = Some b } in
+      let made : IsMadeAt x.origins line role (Some b) d = here d refl in
+      let o : Origin = record { line = line; role = role; placed_here = made.placed_here; caller = Some b } in
       pairs_step x (x.kinds ++ kind plan o ∷ []) x.seen.pairs (x.whole.pairs ++ record { caller = b; callee = d } ∷ []) h
-      (paired_whole plan x.origins js x.kinds x.seen.pairs x.whole.pairs o (record { caller = b; callee = d }) (here d refl) refl (switch_kind plan o switch) h.pairs)
+      (paired_whole plan x.origins js x.kinds x.seen.pairs x.whole.pairs o (record { caller = b; callee = d }) made.there refl (switch_kind plan o switch) h.pairs)

@@ -1,5 +1,5 @@
 -- Writes at a line, with where the records come from.
-use Rattle.std.proofs.Common.{◌≡◌, ℕ, zero, suc, inl, inr, List, [], ◌∷◌, ◌++◌, length, Option, Some, None, refl, sym, ap, subst, ◌∙◌}
+use Rattle.std.proofs.Common.{◌≡◌, ℕ, zero, suc, inl, inr, Bool, true, false, List, [], ◌∷◌, ◌++◌, length, Option, Some, None, refl, sym, ap, subst, ◌∙◌}
 use Rattle.std.specs.Prelude.{slice_get, map}
 use Rattle.link_timers.specs.declared.role.Role.{Role}
 use Rattle.link_timers.specs.Role.{other_of}
@@ -16,9 +16,10 @@ use Rattle.register_laws.proofs.Steps.{Beside, IsRight, Leads, Leaves, after, no
 use Rattle.register_laws.proofs.Writing.{changed_goes, comes_goes, places_goes, answers_goes, closes_goes, all_closed_goes, slot_seen}
 use Rattle.register_laws.proofs.Seeing.{beside, is_beside, led_seen}
 use Rattle.call_path_laws.specs.World.{Origin, with_placed, all_traced}
-use Rattle.call_path_laws.specs.Lines.{OriginIsSeen, OriginsSeen, TraceLaw}
+use Rattle.call_path_laws.specs.Lines.{OriginIsSeen, OriginsSeen, AreRecorded, TraceLaw}
 use Rattle.call_path_laws.proofs.Inducing.{Property, Holds, Each, writes_hold}
 use Rattle.call_path_laws.proofs.Owning.{kept, grown}
+use Rattle.call_path_laws.proofs.Recording.{writes_recorded}
 
 -- ---- how many records a book has after a step
 
@@ -63,13 +64,13 @@ module _ (lines line : ℕ) (role : Role) where
       → OriginsSeen line x.owners t os → Traces x own seen t os os
   as_many x own seen t os l h count o = record { leads = l; origins = kept lines line x own seen l t os h count o; extends = λ n p e. e }
 
-  one_more : (x : Beside) (own seen : Book) (t os : List Origin) (a b : Option ℕ) → Leads lines line x own seen → IsRight lines line x → length seen.records ≡ suc (length x.seen.records)
+  one_more : (x : Beside) (own seen : Book) (t os : List Origin) (here : Bool) (a b : Option ℕ) → Leads lines line x own seen → IsRight lines line x → length seen.records ≡ suc (length x.seen.records)
       → IsNumbered (positions line x.owners) a b → OriginsSeen line x.owners t os
-      → Traces x own seen (t ++ record { line = line; role = role; caller = a } ∷ []) (os ++ record { line = line; role = role; caller = b } ∷ []) os
-  one_more x own seen t os a b l h count caller o = record {
+      → Traces x own seen (t ++ record { line = line; role = role; placed_here = here; caller = a } ∷ []) (os ++ record { line = line; role = role; placed_here = here; caller = b } ∷ []) os
+  one_more x own seen t os here a b l h count caller o = record {
     leads = l;
-    origins = grown lines line x own seen l t os role a b h count caller o;
-    extends = λ n p e. get_before os (record { line = line; role = role; caller = b } ∷ []) n p e;
+    origins = grown lines line x own seen l t os role here a b h count caller o;
+    extends = λ n p e. get_before os (record { line = line; role = role; placed_here = here; caller = b } ∷ []) n p e;
   }
 
   both_leave : (x : Beside) (own seen own2 seen2 : Book) (h : Leads lines line x own seen) (g : Leads lines line (after lines line x own seen h) own2 seen2)
@@ -102,7 +103,7 @@ module _ (lines line : ℕ) (role : Role) where
   places_runs : (o : Option ℕ) (parts : CallParts) → Unit {0} → Runs (placed_on role o parts) (λ b os. with_placed line role o os)
   places_runs None parts may x h t os o = as_many x x.own x.seen t os (no_step lines line x h) h refl o
   places_runs (Some c) parts may x h t os o =
-      one_more x (places_from role c parts.calling parts.called x.own) (places_from role c parts.calling parts.called x.seen) t os None None
+      one_more x (places_from role c parts.calling parts.called x.own) (places_from role c parts.calling parts.called x.seen) t os true None None
       (places_goes lines line role c parts.calling parts.called x h) h (slot_length role c _ (with_record _ x.seen) ∙ length_pushed x.seen.records _) tt o
 
   runs_hold : Holds line role (λ write. Unit {0}) Runs
@@ -111,7 +112,7 @@ module _ (lines line : ℕ) (role : Role) where
     in_turn = in_turn;
     changes = λ c f mild x h t os o. as_many x (changed role c f x.own) (changed role c f x.seen) t os (changed_goes lines line role c f mild.blind x h) h
         (change_length (slot_at role c x.seen).present f x.seen) o;
-    comes_in = λ c parts x h t os o. one_more x (comes role c parts x.own) (comes role c parts x.seen) t os (slot_at (other_of role) c x.own).placed (slot_at (other_of role) c x.seen).placed
+    comes_in = λ c parts x h t os o. one_more x (comes role c parts x.own) (comes role c parts x.seen) t os false (slot_at (other_of role) c x.own).placed (slot_at (other_of role) c x.seen).placed
         (comes_goes lines line role c parts x h) h (slot_length role c _ (with_record _ x.seen) ∙ length_pushed x.seen.records _) (slot_seen lines line x h (other_of role) c).placed o;
     accepts = λ c x h t os o. as_many x (answers role c x.own) (answers role c x.seen) t os (answers_goes lines line role c x h) h
         (pair_length (slot_at role c x.seen).caller (slot_at role c x.seen).present x.seen) o;
@@ -144,10 +145,11 @@ other_traced k owners after t os more same are extends h = record {
       record {
         line = o.line;
         role = o.role;
+        placed_here = o.placed_here;
         own_caller = o.own_caller;
         whole_caller = o.whole_caller;
         own_there = o.own_there;
-        whole_there = extends n (record { line = o.line; role = o.role; caller = o.whole_caller }) o.whole_there;
+        whole_there = extends n (record { line = o.line; role = o.role; placed_here = o.placed_here; caller = o.whole_caller }) o.whole_there;
         caller = subst (λ (ns : List ℕ). IsNumbered ns o.own_caller o.whole_caller) (sym same) o.caller;
       };
 }
@@ -169,5 +171,18 @@ traced g os books traces line b own role writes at trace w =
             (subst (λ (n : ℕ). OriginsSeen n r.leads.owners (all_traced line role writes b own) (all_traced line role writes (book_at line g) os)) (sym here.0) r.origins)
         | inr other ↦
             other_traced k w.seen.owners r.leads.owners t os (all_traced line role writes (book_at line g) os) (r.leads.leaves.owners k other.0) r.origins.owners_are r.extends (w.lines k t other.1)
+      ];
+      recorded = λ k c t is there. elim (get_set traces line (all_traced line role writes b own) k t there) [
+        | inl here ↦ elim (get_set books line (all_written role writes b) k c is) [
+          | inl book ↦
+              subst (λ (z : List Origin). AreRecorded z c.records) (sym here.1)
+              (subst (λ (z : Book). AreRecorded (all_traced line role writes b own) z.records) (sym book.1)
+              (writes_recorded line role writes b own (w.recorded line b own at trace)))
+          | inr other ↦ absurd (other.0 here.0)
+        ]
+        | inr other ↦ elim (get_set books line (all_written role writes b) k c is) [
+          | inl book ↦ absurd (other.0 book.0)
+          | inr older ↦ w.recorded k c t older.1 other.1
+        ]
       ];
     }

@@ -1,33 +1,35 @@
 -- Writes at an end with a user, in both registers, and at one of a switch, in the whole register alone.
-use Rattle.std.proofs.Common.{◌≡◌, ℕ, zero, suc, Bool, true, false, List, [], ◌∷◌, ◌++◌, length, Option, Some, None, refl, sym, ap, subst, ◌∙◌}
+use Rattle.std.proofs.Common.{◌≡◌, ℕ, zero, suc, Bool, true, false, List, [], ◌∷◌, ◌++◌, length, Option, Some, None, refl, sym, ap, ap₂, subst, ◌∙◌}
 use Rattle.std.proofs.lemmas.Option.{none-some}
 use Rattle.link_timers.specs.declared.role.Role.{Role}
 use Rattle.link_timers.specs.Role.{other_of}
 use Rattle.packet_layer.specs.Packets.{CallParts}
 use Rattle.call_records.specs.Records.{RecordValue, new_record, with_closed}
-use Rattle.call_records.specs.Book.{Book, Slot, side_of, slot_at, with_slot, with_record, changed, address_of, places_from, comes, answers, closes}
+use Rattle.call_records.specs.Book.{Book, Slot, side_of, slot_at, with_slot, with_record, changed, address_of, calling_from, places_from, comes, answers, closes}
 use Rattle.call_records.specs.Closing.{closes_if, closes_present, closed_from, all_closed}
 use Rattle.call_records.specs.Carried.{placed_on}
 use Rattle.call_records.specs.Writes.{Write, all_written}
 use Rattle.call_records.specs.Writes.Write.{Placed}
-use Rattle.register_laws.specs.Seen.{IsNumbered, renumbered}
-use Rattle.call_path_laws.specs.World.{Origin, Join, Plan, PlacesNone, AllPlaceNone, all_traced, with_placed}
-use Rattle.call_path_laws.specs.Seen.{numbers, BeginsIf, PresentIsSeen, CallerIsSeen, SlotIsSeen}
+use Rattle.register_laws.specs.Seen.{IsNumbered}
+use Rattle.call_path_laws.specs.World.{Origin, placing, coming, Join, Plan, PlacesNone, AllPlaceNone, all_traced, with_placed, calling_on}
+use Rattle.call_path_laws.specs.Seen.{numbers, BeginsIf, address_at, shown, PresentIsSeen, CallerIsSeen, SlotIsSeen}
 use Rattle.call_path_laws.specs.Seen.Way.{here}
 use Rattle.call_path_laws.proofs.Growing.{Extends, more_begins_if, user_extends, switch_extends}
 use Rattle.call_path_laws.proofs.Records.{IsMild, CallerIsThere}
-use Rattle.call_path_laws.proofs.Steps.{Beside, IsRight, Leads, after, no_step, then, puts_both, puts_whole, changes_both, changes_whole, adds_both, adds_whole, newest, last_origin, pairs_both, pairs_whole}
+use Rattle.call_path_laws.proofs.Steps.{Beside, IsRight, Leads, after, no_step, then, puts_both, puts_whole, changes_both, changes_whole, adds_both, adds_whole, newest, last_origin, last_made, pairs_both, pairs_whole}
 use Rattle.call_path_laws.proofs.Inducing.{Property, Holds, Each, keeps, comes_at, writes_hold}
 
 pub closing_mild : IsMild with_closed
-closing_mild = record { blind = λ n r. refl; number = λ r. refl; node = λ r. refl; own = λ r. refl; far = λ r. refl }
+closing_mild = record { blind = λ n k r. (refl, refl); beside = λ n a k r. refl; number = λ r. refl; node = λ r. refl; own = λ r. refl; far = λ r. refl; caller = λ r. refl }
+
+-- on an address the caller's own is that one
+calling_at : (address given : List ℕ) → address_of (calling_from address given) ≡ calling_on address (address_of given)
+calling_at [] given = refl
+calling_at (digit ∷ digits) given = refl
 
 module _ (plan : Plan) (js : List Join) (line : ℕ) (role : Role) where
   slot_seen : (x : Beside) → IsRight plan js line x → (end : Role) (c : ℕ) → SlotIsSeen plan x.origins js line end (slot_at end c x.seen) (slot_at end c x.whole)
   slot_seen x h end c = (h.sides end).slot c
-
-  abbrev here_origin : Option ℕ → Origin
-  here_origin caller = record { line = line; role = role; caller = caller }
 
   no_caller : (os : List Origin) (u : Bool) → CallerIsSeen u plan os js None None
   no_caller os true = tt
@@ -47,7 +49,7 @@ module _ (plan : Plan) (js : List Join) (line : ℕ) (role : Role) where
     placed_origin = h.placed_origin;
   }
 
-  caller_there : (x : Beside) → IsRight plan js line x → (c : ℕ) → CallerIsThere plan x.origins js (here_origin (slot_at (other_of role) c x.whole).placed)
+  caller_there : (x : Beside) → IsRight plan js line x → (c : ℕ) → CallerIsThere plan x.origins js (coming line role (slot_at (other_of role) c x.whole).placed)
   caller_there x h c n e = (slot_seen x h (other_of role) c).placed_origin n e
 
   -- ---- at an end with a user
@@ -88,52 +90,64 @@ module _ (plan : Plan) (js : List Join) (line : ℕ) (role : Role) where
         (puts_both plan js line (after plan js line x x.origins seen whole first) role c (record (slot_at role c x.seen) { present = None; caller = None })
         (record (slot_at role c x.whole) { present = None; caller = None }) first.is_right (closed_slot x.origins (slot_at role c x.seen) (slot_at role c x.whole) (slot_seen x h role c)))
 
-    adds_and_puts : (x : Beside) (o : Origin) (r t : RecordValue) (c : ℕ) (s u : Slot) → IsRight plan js line x → plan.has_user o.line o.role ≡ true
-        → CallerIsThere plan x.origins js o → t ≡ renumbered (length x.whole.records) r → r.number ≡ length x.seen.records → t.node ≡ plan.node o.line o.role
+    adds_and_puts : (x : Beside) (o : Origin) (r t : RecordValue) (k : Option ℕ) (c : ℕ) (s u : Slot) → IsRight plan js line x → plan.has_user o.line o.role ≡ true
+        → CallerIsThere plan x.origins js o → r ≡ shown plan o (length x.seen.records) k t → BeginsIf plan x.origins js k t.caller → t.node ≡ plan.node o.line o.role
         → SlotIsSeen plan (x.origins ++ o ∷ []) js line role s u
         → Leads plan js line x (x.origins ++ o ∷ []) (with_slot role c s (with_record r x.seen)) (with_slot role c u (with_record t x.whole))
-    adds_and_puts x o r t c s u h user_there caller is number node w =
-        let first : Leads plan js line x (x.origins ++ o ∷ []) (with_record r x.seen) (with_record t x.whole) = adds_both plan js line x o r t user_there caller is number node h in
+    adds_and_puts x o r t k c s u h user_there caller is begins node w =
+        let first : Leads plan js line x (x.origins ++ o ∷ []) (with_record r x.seen) (with_record t x.whole) = adds_both plan js line x o r t k user_there caller is begins node h in
         then plan js line x (x.origins ++ o ∷ []) (with_record r x.seen) (with_record t x.whole) (x.origins ++ o ∷ []) (with_slot role c s (with_record r x.seen)) (with_slot role c u (with_record t x.whole)) first
         (puts_both plan js line (after plan js line x (x.origins ++ o ∷ []) (with_record r x.seen) (with_record t x.whole) first) role c s u first.is_right w)
 
-    new_same : (x : Beside) (own far : Option (List ℕ)) → IsRight plan js line x
-        → new_record (length x.whole.records) (side_of role x.whole).node own far ≡ renumbered (length x.whole.records) (new_record (length x.seen.records) (side_of role x.seen).node own far)
-    new_same x own far h = ap (λ (node : ℕ). new_record (length x.whole.records) node own far) ((h.sides role).whole_node ∙ sym (h.sides role).seen_node)
+    same_node : (x : Beside) → IsRight plan js line x → (side_of role x.seen).node ≡ (side_of role x.whole).node
+    same_node x h = (h.sides role).seen_node ∙ sym (h.sides role).whole_node
 
-    places_goes : (c : ℕ) (calling called : List ℕ) → Goes (places_from role c calling called) (λ b os. os ++ here_origin None ∷ [])
+    -- of what the caller gives, the register has the address of the line
+    own_placed : (x : Beside) (calling : List ℕ) → IsRight plan js line x
+        → address_of (calling_from (side_of role x.seen).address calling)
+        ≡ calling_on (address_at plan line role) (address_of (calling_from (side_of role x.whole).address calling))
+    own_placed x calling h =
+        ap (λ (a : List ℕ). address_of (calling_from a calling)) (h.sides role).seen_address ∙ calling_at (address_at plan line role) calling
+        ∙ ap (λ (a : List ℕ). calling_on (address_at plan line role) (address_of (calling_from a calling))) (sym (h.sides role).whole_address)
+
+    places_goes : (c : ℕ) (calling called : List ℕ) → Goes (places_from role c calling called) (λ b os. os ++ placing line role ∷ [])
     places_goes c calling called x h =
-        let o : Origin = here_origin None in
+        let o : Origin = placing line role in
         let n : ℕ = length x.seen.records in
         let m : ℕ = length x.whole.records in
-        adds_and_puts x o (new_record n (side_of role x.seen).node (address_of calling) (address_of called)) (new_record m (side_of role x.whole).node (address_of calling) (address_of called)) c
+        adds_and_puts x o (new_record n (side_of role x.seen).node (address_of (calling_from (side_of role x.seen).address calling)) (address_of called) None)
+        (new_record m (side_of role x.whole).node (address_of (calling_from (side_of role x.whole).address calling)) (address_of called) None) None c
         (record { present = Some n; placed = Some n; caller = None }) (record { present = Some m; placed = Some m; caller = None }) h user
-        (λ k e. absurd (none-some k e)) (new_same x (address_of calling) (address_of called) h) refl (h.sides role).whole_node
+        (λ k e. absurd (none-some k e))
+        (ap₂ (λ (node : ℕ) (own : Option (List ℕ)). new_record n node own (address_of called) None) (same_node x h) (own_placed x calling h)) tt (h.sides role).whole_node
         (record {
           present = as_present (x.origins ++ o ∷ []) (Some n) (Some m) (newest plan js line x o user h);
           caller = no_caller (x.origins ++ o ∷ []) (plan.has_user line role);
           placed = record { first = m; numbered = newest plan js line x o user h; way = here };
-          present_origin = last_origin plan js line x o h;
+          present_origin = last_made plan js line x role true None h;
           placed_origin = last_origin plan js line x o h;
         })
 
     comes_goes : (c : ℕ) (parts : CallParts) → Goes (comes role c parts) (comes_at line role c)
     comes_goes c parts x h =
-        let o : Origin = here_origin (slot_at (other_of role) c x.whole).placed in
+        let seen_caller : Option ℕ = (slot_at (other_of role) c x.seen).placed in
+        let whole_caller : Option ℕ = (slot_at (other_of role) c x.whole).placed in
+        let o : Origin = coming line role whole_caller in
         let n : ℕ = length x.seen.records in
         let m : ℕ = length x.whole.records in
         let more : Extends plan x.origins js (x.origins ++ o ∷ []) js = user_extends plan x.origins js o user in
-        adds_and_puts x o (new_record n (side_of role x.seen).node (address_of parts.called) (address_of parts.calling)) (new_record m (side_of role x.whole).node (address_of parts.called) (address_of parts.calling)) c
-        (record { present = Some n; placed = (slot_at role c x.seen).placed; caller = (slot_at (other_of role) c x.seen).placed })
-        (record { present = Some m; placed = (slot_at role c x.whole).placed; caller = (slot_at (other_of role) c x.whole).placed }) h user
-        (caller_there x h c) (new_same x (address_of parts.called) (address_of parts.calling) h) refl (h.sides role).whole_node
+        adds_and_puts x o (new_record n (side_of role x.seen).node (address_of parts.called) (address_of parts.calling) seen_caller)
+        (new_record m (side_of role x.whole).node (address_of parts.called) (address_of parts.calling) whole_caller) seen_caller c
+        (record { present = Some n; placed = (slot_at role c x.seen).placed; caller = seen_caller })
+        (record { present = Some m; placed = (slot_at role c x.whole).placed; caller = whole_caller }) h user
+        (caller_there x h c) (ap (λ (node : ℕ). new_record n node (address_of parts.called) (address_of parts.calling) seen_caller) (same_node x h)) (slot_seen x h (other_of role) c).placed (h.sides role).whole_node
         (record {
           present = as_present (x.origins ++ o ∷ []) (Some n) (Some m) (newest plan js line x o user h);
-          caller = as_caller (x.origins ++ o ∷ []) (slot_at (other_of role) c x.seen).placed (slot_at (other_of role) c x.whole).placed
-              (more_begins_if plan x.origins js (x.origins ++ o ∷ []) js more (slot_at (other_of role) c x.seen).placed (slot_at (other_of role) c x.whole).placed (slot_seen x h (other_of role) c).placed);
+          caller = as_caller (x.origins ++ o ∷ []) seen_caller whole_caller
+              (more_begins_if plan x.origins js (x.origins ++ o ∷ []) js more seen_caller whole_caller (slot_seen x h (other_of role) c).placed);
           placed = more_begins_if plan x.origins js (x.origins ++ o ∷ []) js more (slot_at role c x.seen).placed (slot_at role c x.whole).placed (slot_seen x h role c).placed;
-          present_origin = last_origin plan js line x o h;
-          placed_origin = λ k e. more.origins k (here_origin None) ((slot_seen x h role c).placed_origin k e);
+          present_origin = last_made plan js line x role false whole_caller h;
+          placed_origin = λ k e. more.origins k (placing line role) ((slot_seen x h role c).placed_origin k e);
         })
 
     answers_goes : (c : ℕ) → Goes (answers role c) keeps
@@ -222,10 +236,10 @@ module _ (plan : Plan) (js : List Join) (line : ℕ) (role : Role) where
 
     comes_alone : (c : ℕ) (parts : CallParts) → GoesAlone (comes role c parts) (comes_at line role c)
     comes_alone c parts x h =
-        let o : Origin = here_origin (slot_at (other_of role) c x.whole).placed in
+        let o : Origin = coming line role (slot_at (other_of role) c x.whole).placed in
         let m : ℕ = length x.whole.records in
         let more : Extends plan x.origins js (x.origins ++ o ∷ []) js = switch_extends plan x.origins js o switch in
-        let t : RecordValue = new_record m (side_of role x.whole).node (address_of parts.called) (address_of parts.calling) in
+        let t : RecordValue = new_record m (side_of role x.whole).node (address_of parts.called) (address_of parts.calling) (slot_at (other_of role) c x.whole).placed in
         let first : Leads plan js line x (x.origins ++ o ∷ []) x.seen (with_record t x.whole) = adds_whole plan js line x o t switch (caller_there x h c) (h.sides role).whole_node h in
         let s : Slot = slot_at role c x.seen in
         let u : Slot = record { present = Some m; placed = (slot_at role c x.whole).placed; caller = (slot_at (other_of role) c x.whole).placed } in
@@ -237,8 +251,8 @@ module _ (plan : Plan) (js : List Join) (line : ℕ) (role : Role) where
           caller = subst (λ (z : Bool). CallerIsSeen z plan (x.origins ++ o ∷ []) js s.caller u.caller) (sym switch)
               (subst (λ (z : Bool). CallerIsSeen z plan x.origins js s.caller (slot_at role c x.whole).caller) switch (slot_seen x h role c).caller);
           placed = more_begins_if plan x.origins js (x.origins ++ o ∷ []) js more s.placed (slot_at role c x.whole).placed (slot_seen x h role c).placed;
-          present_origin = last_origin plan js line x o h;
-          placed_origin = λ k e. more.origins k (here_origin None) ((slot_seen x h role c).placed_origin k e);
+          present_origin = last_made plan js line x role false (slot_at (other_of role) c x.whole).placed h;
+          placed_origin = λ k e. more.origins k (placing line role) ((slot_seen x h role c).placed_origin k e);
         }))
 
     answers_alone : (c : ℕ) → GoesAlone (answers role c) keeps

@@ -5,11 +5,10 @@ use Rattle.call_records.specs.Records.{RecordValue}
 use Rattle.call_records.specs.Book.{slot_at}
 use Rattle.call_records.specs.Register.{LinePlan, book_at}
 use Rattle.book_laws.specs.Headline.{IsPaired}
-use Rattle.register_laws.specs.Seen.{renumbered}
 use Rattle.register_laws.specs.Promise.{HasRecords}
 use Rattle.call_path_laws.specs.World.{World, Plan, Event, after_event, after_all, MayHappen, MayAll, made_world}
 use Rattle.call_path_laws.specs.World.{AreBetween, AreAddressed}
-use Rattle.call_path_laws.specs.Seen.{numbers, Seen}
+use Rattle.call_path_laws.specs.Seen.{numbers, RecordIsShown, Seen}
 use Rattle.call_path_laws.specs.Promise.{CallsHold, JoinsHold, PathsHold}
 
 -- ---- the making, and whatever happens
@@ -35,7 +34,12 @@ PathLaw = (plan : Plan) (lines : List LinePlan) (events : List Event) → AreAdd
     → CallsHold (after_all events (made_world lines)) → JoinsHold plan (after_all events (made_world lines))
     → PathsHold plan (after_all events (made_world lines)).register
 
--- without a switch the register is the whole one
+-- without a switch the register is the whole one as it is made
+abbrev pub MadeAlikeLaw : Type 0
+MadeAlikeLaw = (plan : Plan) (lines : List LinePlan) → ((line : ℕ) (role : Role) → plan.has_user line role ≡ true)
+    → AreAddressed plan → AreBetween plan 0 lines → (made_world lines).register ≡ (made_world lines).whole
+
+-- and stays so
 abbrev pub WithoutSwitchLaw : Type 0
 WithoutSwitchLaw =
     (plan : Plan) (events : List Event) (w : World) → ((line : ℕ) (role : Role) → plan.has_user line role ≡ true)
@@ -43,11 +47,12 @@ WithoutSwitchLaw =
 
 -- ---- records and channels
 
--- each record of the register is one of the whole register, but for its number
+-- each record of the register is one of the whole register, but for its number, its caller's and its own address
 abbrev pub OwnedLaw : Type 0
 OwnedLaw = (plan : Plan) (w : World) (n : ℕ) (r : RecordValue) → Seen plan w
     → slice_get w.register.records n ≡ Some r
-    → (m : ℕ) × (slice_get (numbers plan w.origins) n ≡ Some m) × (slice_get w.whole.records m ≡ Some (renumbered m r))
+    → (m : ℕ) × (slice_get (numbers plan w.origins) n ≡ Some m)
+    × RecordIsShown plan w.origins w.joins w.register.records w.whole.records n m
 
 -- where the whole register has open records where one is present and there alone, so has the register
 abbrev pub RecordsLaw : Type 0

@@ -5,3 +5,5 @@ pub mod Forwards
 pub mod Law
 pub mod Run
 pub mod Lines
+pub mod Ends
+pub mod Rest

@@ -1,13 +1,14 @@
 -- The whole register and the books of the lines: where each record of a line's book comes from, in its numbers, and in
 -- those of the whole register.
 use Rattle.std.specs.Prelude.{◌≡◌, ℕ, ◌≤◌, Bool, if◌then◌else◌, List, [], ◌∷◌, length, map, slice_get, set}
-use Rattle.std.specs.Prelude.{Option, Some, None}
+use Rattle.std.specs.Prelude.{Option, Some}
 use Rattle.link_timers.specs.declared.role.Role.{Role}
 use Rattle.link_timers.specs.declared.role.Role.TheVariants.{Dte, Dce}
 use Rattle.packet_layer.specs.Layer.{channel_given, request_refusal, front_on}
 use Rattle.packet_laws.specs.Line.{Line, Event, turned}
 use Rattle.packet_laws.specs.Line.Event.{Calls, Requests}
 use Rattle.packet_laws.specs.Line.Happening.{Here, There}
+use Rattle.call_records.specs.Records.{RecordValue}
 use Rattle.call_records.specs.Book.{Book, new_book}
 use Rattle.call_records.specs.Writes.{Write, all_written}
 use Rattle.call_records.specs.Writes.Write.{Told, Placed, Asked, Edited}
@@ -19,7 +20,7 @@ use Rattle.book_laws.specs.Headline.{BookHolds}
 use Rattle.book_laws.specs.Headline as book
 use Rattle.register_laws.specs.Seen.{positions, IsNumbered}
 use Rattle.register_laws.specs.Seen as line
-use Rattle.call_path_laws.specs.World.{Origin, World, all_traced, free_register}
+use Rattle.call_path_laws.specs.World.{Origin, placing, coming, World, all_traced, free_register, without_address}
 use Rattle.call_path_laws.specs.Seen.{CameFrom}
 use Rattle.call_path_laws.specs.Promise.{CallsHold}
 
@@ -27,10 +28,13 @@ use Rattle.call_path_laws.specs.Promise.{CallsHold}
 pub record OriginIsSeen (numbers : List ℕ) (own whole : List Origin) (i n : ℕ) : Type 0 where
   pub line : ℕ
   pub role : Role
+  pub placed_here : Bool
   pub own_caller : Option ℕ
   pub whole_caller : Option ℕ
-  pub own_there : slice_get own i ≡ Some (record { line = line; role = role; caller = own_caller })
-  pub whole_there : slice_get whole n ≡ Some (record { line = line; role = role; caller = whole_caller })
+  pub own_there : slice_get own i
+      ≡ Some (record { line = line; role = role; placed_here = placed_here; caller = own_caller })
+  pub whole_there : slice_get whole n
+      ≡ Some (record { line = line; role = role; placed_here = placed_here; caller = whole_caller })
   pub caller : IsNumbered numbers own_caller whole_caller
 
 -- `owners` are the lines of the whole register's records
@@ -40,12 +44,18 @@ pub record OriginsSeen (line : ℕ) (owners : List ℕ) (own whole : List Origin
   pub origins : (i n : ℕ) → slice_get (positions line owners) i ≡ Some n
       → OriginIsSeen (positions line owners) own whole i n
 
+-- each origin has the caller that the record of this place has
+abbrev pub AreRecorded : List Origin → List RecordValue → Type 0
+AreRecorded origins records = map (λ o. o.caller) origins ≡ map (λ r. r.caller) records
+
 pub record LinesSeen (g : Register) (origins : List Origin) (books : List Book) (traces : List (List Origin))
     : Type 0 where
   pub seen : line.Seen g books
   pub owned : length origins ≡ length g.records
   pub count : length traces ≡ length books
   pub lines : (j : ℕ) (own : List Origin) → slice_get traces j ≡ Some own → OriginsSeen j seen.owners own origins
+  pub recorded : (j : ℕ) (b : Book) (own : List Origin) → slice_get books j ≡ Some b → slice_get traces j ≡ Some own
+      → AreRecorded own b.records
 
 -- of a line's book: each call that came in holds as a pair does, accepted or not, and it came in once
 pub record BookCallsHold (line_book : Book) (origins : List Origin) : Type 0 where
@@ -76,7 +86,7 @@ free_book plan = new_book plan.dte_node plan.dce_node plan.channels
 
 abbrev pub MadeLinesLaw : Type 0
 MadeLinesLaw = (plans : List LinePlan)
-    → LinesSeen (free_register plans) [] (map free_book plans) (map (λ plan. []) plans)
+    → LinesSeen (free_register (map without_address plans)) [] (map free_book plans) (map (λ plan. []) plans)
 
 -- ---- the calls of a line's book
 
@@ -104,9 +114,7 @@ traced_by_all line (m ∷ ms) v origins = traced_by_all line ms (after_move m v)
 -- at the making: of a call that stands, the DTE counts as the end that placed it
 abbrev pub made_origins : (line : ℕ) → (standing : Bool) → List Origin
 made_origins line standing =
-    if standing then
-    record { line = line; role = Dte; caller = None } ∷ record { line = line; role = Dce; caller = Some 0 } ∷ []
-    else []
+    if standing then placing line Dte ∷ coming line Dce (Some 0) ∷ [] else []
 
 -- whatever happens on a line whose sessions come in rising order, its calls hold
 abbrev pub BookCallsLaw : Type 0
@@ -114,3 +122,11 @@ BookCallsLaw = (line dte_node dce_node channels window : ℕ) (standing : Bool) 
     → (ms : List Move) → AreAllowed ms (start dte_node dce_node channels window standing)
     → BookCallsHold (after_all ms (start dte_node dce_node channels window standing)).book
     (traced_by_all line ms (start dte_node dce_node channels window standing) (made_origins line standing))
+
+-- and so they hold of any origins with the callers that its records have
+abbrev pub RecordedLaw : Type 0
+RecordedLaw = (dte_node dce_node channels window : ℕ) (standing : Bool) → 1 ≤ channels → window ≤ 7
+    → (ms : List Move) → AreAllowed ms (start dte_node dce_node channels window standing)
+    → (own : List Origin)
+    → AreRecorded own (after_all ms (start dte_node dce_node channels window standing)).book.records
+    → BookCallsHold (after_all ms (start dte_node dce_node channels window standing)).book own

@@ -1,5 +1,5 @@
 -- What the register of a network with switches promises of its calls.
-use Rattle.std.specs.Prelude.{◌≡◌, ℕ, ◌<◌, ◌⊎◌, true, false, List, slice_get, Some}
+use Rattle.std.specs.Prelude.{◌≡◌, ℕ, ◌<◌, ◌⊎◌, true, false, slice_get, Some}
 use Rattle.link_timers.specs.declared.role.Role.{Role}
 use Rattle.link_timers.specs.Role.{other_of}
 use Rattle.epochs.specs.Match.{Match}
@@ -30,14 +30,15 @@ pub data IsPlacedAt : Plan → (caller : RecordValue) → (first line : ℕ) →
       → plan.has_user line role ≡ false → line ≡ plan.route (plan.node line role) caller.far
       → IsPlacedAt plan caller first line role
 
--- the caller's record was made first; the callee's own address is the one that was called, and the far one is that of
--- the caller's line, or on a line without an address the one that the caller gave; the callee is at an end of a line at
--- whose other end the call was placed
+-- the caller's record was made first; the callee's own address is the one that was called, and the far one is the
+-- caller's own, which is that of its line, or on a line without an address the one that the caller gave; the callee is
+-- at an end of a line at whose other end the call was placed
 pub record PathIsRight (plan : Plan) (caller callee : RecordValue) : Type 0 where
   pub order : caller.number < callee.number
   pub own : callee.own ≡ caller.far
+  pub far : callee.far ≡ caller.own
   pub first : ℕ
-  pub far : callee.far ≡ calling_on (plan.address first) caller.own
+  pub calling : caller.own ≡ calling_on (plan.address first) caller.own
   pub line : ℕ
   pub role : Role
   pub node : callee.node ≡ plan.node line role

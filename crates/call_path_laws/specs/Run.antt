@@ -1,13 +1,15 @@
 -- A worked run: two hosts and a switch between them. The first host calls the second one, a message goes over with
--- D = 1 and is confirmed, the call is cleared, and the same channels are used again.
+-- D = 1 and is confirmed, a reply comes back, both hosts reset the call at once, a reply and a message go over again,
+-- the call is cleared, and the same channels are used again.
 use Rattle.std.specs.Prelude.{◌≡◌, ℕ, zero, suc, Bool, true, false, List, [], ◌∷◌, Option, Some, None}
 use Rattle.link_timers.specs.declared.role.Role.{Role}
 use Rattle.link_timers.specs.declared.role.Role.TheVariants.{Dte, Dce}
+use Rattle.epochs.specs.Epoch.{SentEpoch, TakenEpoch}
 use Rattle.packet_layer.specs.Packets.{CallParts, Datum}
-use Rattle.packet_layer.specs.Packets.Note.{Incoming, Connected, Closed, Covered}
+use Rattle.packet_layer.specs.Packets.Note.{Incoming, Connected, Closed, WasReset, Covered}
 use Rattle.packet_layer.specs.Packets.Reason.{FarEnd}
 use Rattle.packet_layer.specs.Traffic.Taken.{TakenPacket}
-use Rattle.packet_layer.specs.Channel.Request.{Accept, Sending, Taking, Releasing}
+use Rattle.packet_layer.specs.Channel.Request.{Accept, Resetting, Sending, Taking, Releasing}
 use Rattle.call_records.specs.Records.{RecordValue, new_record}
 use Rattle.call_records.specs.Book.{packet_of}
 use Rattle.call_records.specs.Writes.Write.{Told, Placed, Asked, Cleared}
@@ -43,15 +45,15 @@ plan = record {
 
 abbrev pub lines : List LinePlan
 lines =
-    record { dte_node = 1; dce_node = 9; channels = 4; standing = false }
-    ∷ record { dte_node = 2; dce_node = 9; channels = 1; standing = false } ∷ []
+    record { dte_node = 1; dce_node = 9; address = 1 ∷ 0 ∷ []; channels = 4; standing = false }
+    ∷ record { dte_node = 2; dce_node = 9; address = 2 ∷ 0 ∷ []; channels = 1; standing = false } ∷ []
 
 -- ---- what happens
 
 abbrev pub parts : CallParts
 parts = record { called = 2 ∷ 0 ∷ []; calling = 1 ∷ 0 ∷ []; facilities = []; user_part = [] }
 
--- what the first host gives has no calling address; the switch puts in that of its line
+-- what the first host gives has no calling address; its own one is that of its line, which the switch puts in
 abbrev pub given : CallParts
 given = record parts { calling = [] }
 
@@ -71,12 +73,16 @@ connected events =
     ∷ Writes 0 Dte (Told (Connected 4 ∷ []) ∷ [])
     ∷ events
 
-abbrev pub said : Datum
-said = record { octets = 72 ∷ []; more = false; qualified = false; delivery = true }
+-- a message has D = 1, a reply D = 0
+abbrev pub message : (octet : ℕ) → Datum
+message octet = record { octets = octet ∷ []; more = false; qualified = false; delivery = true }
+
+abbrev pub reply : (octet : ℕ) → Datum
+reply octet = record { octets = octet ∷ []; more = false; qualified = false; delivery = false }
 
 -- a packet with D = 1: the switch takes it and sends it on; it releases it once it is covered on the other leg
-abbrev pub confirmed : List Event → List Event
-confirmed events =
+abbrev pub confirmed : Datum → List Event → List Event
+confirmed said events =
     Writes 0 Dte (Asked None 4 (Sending said) None ∷ [])
     ∷ SwitchWrites 0 Dce (Asked None 4 Taking (Some (TakenPacket said)) ∷ [])
     ∷ SwitchWrites 1 Dce (Asked None 1 (Sending said) None ∷ [])
@@ -84,6 +90,27 @@ confirmed events =
     ∷ SwitchWrites 1 Dce (Told (Covered 1 1 ∷ []) ∷ [])
     ∷ SwitchWrites 0 Dce (Asked None 4 (Releasing 1) None ∷ [])
     ∷ Writes 0 Dte (Told (Covered 4 1 ∷ []) ∷ [])
+    ∷ events
+
+-- a packet with D = 0, the other way: the switch releases it as it takes it
+abbrev pub replied : Datum → List Event → List Event
+replied said events =
+    Writes 1 Dte (Asked None 1 (Sending said) None ∷ [])
+    ∷ SwitchWrites 1 Dce (Asked None 1 Taking (Some (TakenPacket said)) ∷ Asked None 1 (Releasing 1) None ∷ [])
+    ∷ Writes 1 Dte (Told (Covered 1 1 ∷ []) ∷ [])
+    ∷ SwitchWrites 0 Dce (Asked None 4 (Sending said) None ∷ [])
+    ∷ Writes 0 Dte (Asked None 4 Taking (Some (TakenPacket said)) ∷ Asked None 4 (Releasing 1) None ∷ [])
+    ∷ SwitchWrites 0 Dce (Told (Covered 4 1 ∷ []) ∷ [])
+    ∷ events
+
+-- both hosts reset the call at once, the first one while a packet of its own is on its way, which is lost. The switch
+-- hears the reset on line 0 and resets line 1, where its request and that of the second host cross
+abbrev pub reset : (lost : Datum) → List Event → List Event
+reset lost events =
+    Writes 0 Dte (Asked None 4 (Sending lost) None ∷ Asked None 4 (Resetting 0 0) None ∷ [])
+    ∷ Writes 1 Dte (Asked None 1 (Resetting 0 0) None ∷ [])
+    ∷ SwitchWrites 0 Dce (Told (WasReset 4 0 0 FarEnd ∷ []) ∷ [])
+    ∷ SwitchWrites 1 Dce (Asked None 1 (Resetting 0 0) None ∷ [])
     ∷ events
 
 abbrev pub cleared : List Event → List Event
@@ -95,18 +122,26 @@ cleared events =
     ∷ events
 
 abbrev pub events : List Event
-events = called (connected (confirmed (cleared (called []))))
+events = called (connected (confirmed (message 72) (replied (reply 73) (reset (message 74)
+    (replied (reply 75) (confirmed (message 76) (cleared (called []))))))))
 
 abbrev pub world : World
 world = after_all events (made_world lines)
 
 -- ---- what the register has then
 
-abbrev pub ended : (number node : ℕ) → (own far : Option (List ℕ)) → RecordValue
-ended number node own far = record (new_record number node own far) { closed = true }
+abbrev pub ended : (number node : ℕ) → (own far : Option (List ℕ)) → (caller : Option ℕ) → RecordValue
+ended number node own far caller = record (new_record number node own far caller) { closed = true }
+
+abbrev pub one_sent : Datum → SentEpoch
+one_sent said = record { packets = packet_of said ∷ []; interrupts = []; covered = 1 }
+
+abbrev pub one_taken : Datum → TakenEpoch
+one_taken said = record { packets = packet_of said ∷ []; interrupts = []; released = 1 }
 
 -- the run is allowed, its lines and its joins hold, open records are those that are present, and the register has two
--- calls, in the first of which the message was sent, taken and covered
+-- calls; in the first one each end has an epoch before the reset and one after it, in each of which a message and a
+-- reply were sent, taken and covered; the message that was lost in the reset was sent, and not taken
 pub record RunLaw : Type 0 where
   pub addressed : AreAddressed plan
   pub may : MayAll plan events (made_world lines)
@@ -116,11 +151,21 @@ pub record RunLaw : Type 0 where
   pub open_records : HasRecords world.whole
   pub pairs : world.register.pairs ≡ record { caller = 0; callee = 1 } ∷ record { caller = 2; callee = 3 } ∷ []
   pub records : world.register.records
-      ≡ record (ended 0 1 None (Some (2 ∷ 0 ∷ []))) {
-        sent = record { packets = packet_of said ∷ []; interrupts = []; covered = 1 };
+      ≡ record (ended 0 1 (Some (1 ∷ 0 ∷ [])) (Some (2 ∷ 0 ∷ [])) None) {
+        sent_before = record {
+          packets = packet_of (message 72) ∷ packet_of (message 74) ∷ [];
+          interrupts = [];
+          covered = 1;
+        } ∷ [];
+        sent = one_sent (message 76);
+        taken_before = one_taken (reply 73) ∷ [];
+        taken = one_taken (reply 75);
       }
-      ∷ record (ended 1 2 (Some (2 ∷ 0 ∷ [])) (Some (1 ∷ 0 ∷ []))) {
-        taken = record { packets = packet_of said ∷ []; interrupts = []; released = 1 };
+      ∷ record (ended 1 2 (Some (2 ∷ 0 ∷ [])) (Some (1 ∷ 0 ∷ [])) (Some 0)) {
+        sent_before = one_sent (reply 73) ∷ [];
+        sent = one_sent (reply 75);
+        taken_before = one_taken (message 72) ∷ [];
+        taken = one_taken (message 76);
       }
-      ∷ new_record 2 1 None (Some (2 ∷ 0 ∷ []))
-      ∷ new_record 3 2 (Some (2 ∷ 0 ∷ [])) (Some (1 ∷ 0 ∷ [])) ∷ []
+      ∷ new_record 2 1 (Some (1 ∷ 0 ∷ [])) (Some (2 ∷ 0 ∷ [])) None
+      ∷ new_record 3 2 (Some (2 ∷ 0 ∷ [])) (Some (1 ∷ 0 ∷ [])) (Some 2) ∷ []

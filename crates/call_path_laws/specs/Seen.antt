@@ -1,13 +1,14 @@
 -- When the register of a network with switches has what the whole register has of the ends with users.
-use Rattle.std.specs.Prelude.{◌≡◌, ℕ, ◌<◌, Bool, true, false, if◌then◌else◌, List, length, map, slice_get}
+use Rattle.std.specs.Prelude.{◌≡◌, ℕ, ◌<◌, Bool, true, false, if◌then◌else◌, List, [], length, map, slice_get}
 use Rattle.std.specs.Prelude.{Option, Some, None}
 use Rattle.link_timers.specs.declared.role.Role.{Role}
+use Rattle.link_timers.specs.declared.role.Role.TheVariants.{Dte, Dce}
 use Rattle.link_timers.specs.Role.{other_of}
 use Rattle.call_records.specs.Records.{RecordValue, PairValue}
 use Rattle.call_records.specs.Book.{Slot, Side, nth_slot, side_of}
 use Rattle.call_records.specs.Register.{book_at}
-use Rattle.register_laws.specs.Seen.{positions, IsNumbered, RecordIsSeen}
-use Rattle.call_path_laws.specs.World.{Origin, Join, World, Plan}
+use Rattle.register_laws.specs.Seen.{positions, IsNumbered}
+use Rattle.call_path_laws.specs.World.{Origin, placing, Join, World, Plan, calling_on}
 
 -- ---- records
 
@@ -48,6 +49,40 @@ BeginsIf plan origins joins None None = Unit {0}
 BeginsIf plan origins joins (Some n) (Some last) = Begins plan origins joins n last
 BeginsIf plan origins joins _ _ = ⊥
 
+-- ---- a record: with its own number in the register, and that of the beginning of the way to its caller
+
+-- the address that an end of a line has in the register
+abbrev pub address_at : Plan → (line : ℕ) → Role → List ℕ
+address_at plan line Dte = plan.address line
+address_at plan line Dce = []
+
+-- where the call was placed at an end with an address, that is the own address
+abbrev pub own_on : (placed_here : Bool) → (caller : Option ℕ) → (address : List ℕ) → (given : Option (List ℕ))
+    → Option (List ℕ)
+own_on true None address given = calling_on address given
+own_on _ _ address given = given
+
+abbrev pub own_of : Plan → Origin → (given : Option (List ℕ)) → Option (List ℕ)
+own_of plan o given = own_on o.placed_here o.caller (address_at plan o.line o.role) given
+
+-- a record of the whole register, as the register has it
+abbrev pub shown : Plan → Origin → (number : ℕ) → (caller : Option ℕ) → RecordValue → RecordValue
+shown plan o number caller r = record r {
+  number = number;
+  own = own_of plan o r.own;
+  caller = caller;
+}
+
+pub record RecordIsShown (plan : Plan) (origins : List Origin) (joins : List Join) (seen whole : List RecordValue)
+    (n m : ℕ) : Type 0 where
+  pub origin : Origin
+  pub origin_there : slice_get origins m ≡ Some origin
+  pub value : RecordValue
+  pub whole_there : slice_get whole m ≡ Some value
+  pub caller : Option ℕ
+  pub begins : BeginsIf plan origins joins caller value.caller
+  pub seen_there : slice_get seen n ≡ Some (shown plan origin n caller value)
+
 -- ---- a channel: at a switch's end the register has the holder alone
 
 abbrev pub PresentIsSeen : Bool → (numbers : List ℕ) → (seen whole : Option ℕ) → Type 0
@@ -58,20 +93,26 @@ abbrev pub CallerIsSeen : Bool → Plan → List Origin → List Join → (seen 
 CallerIsSeen true plan origins joins seen whole = BeginsIf plan origins joins seen whole
 CallerIsSeen false plan origins joins seen whole = seen ≡ None
 
+-- the record of this number was made at this end, with this caller
+pub record IsMadeAt (origins : List Origin) (line : ℕ) (role : Role) (caller : Option ℕ) (m : ℕ) : Type 0 where
+  pub placed_here : Bool
+  pub there : slice_get origins m
+      ≡ Some (record { line = line; role = role; placed_here = placed_here; caller = caller })
+
 pub record SlotIsSeen (plan : Plan) (origins : List Origin) (joins : List Join) (line : ℕ) (role : Role)
     (seen whole : Slot) : Type 0 where
   pub present : PresentIsSeen (plan.has_user line role) (numbers plan origins) seen.present whole.present
   pub caller : CallerIsSeen (plan.has_user line role) plan origins joins seen.caller whole.caller
   pub placed : BeginsIf plan origins joins seen.placed whole.placed
-  pub present_origin : (m : ℕ) → whole.present ≡ Some m
-      → slice_get origins m ≡ Some (record { line = line; role = role; caller = whole.caller })
-  pub placed_origin : (m : ℕ) → whole.placed ≡ Some m
-      → slice_get origins m ≡ Some (record { line = line; role = role; caller = None })
+  pub present_origin : (m : ℕ) → whole.present ≡ Some m → IsMadeAt origins line role whole.caller m
+  pub placed_origin : (m : ℕ) → whole.placed ≡ Some m → slice_get origins m ≡ Some (placing line role)
 
 pub record SideIsSeen (plan : Plan) (origins : List Origin) (joins : List Join) (line : ℕ) (role : Role)
     (seen whole : Side) : Type 0 where
   pub seen_node : seen.node ≡ plan.node line role
   pub whole_node : whole.node ≡ plan.node line role
+  pub seen_address : seen.address ≡ address_at plan line role
+  pub whole_address : whole.address ≡ []
   pub channels : length seen.slots ≡ length whole.slots
   pub slot : (channel : ℕ)
       → SlotIsSeen plan origins joins line role (nth_slot seen.slots channel) (nth_slot whole.slots channel)
@@ -94,12 +135,13 @@ pub record RecordsAreSeen (plan : Plan) (origins : List Origin) (joins : List Jo
     : Type 0 where
   pub count : length origins ≡ length whole
   pub seen_count : length seen ≡ length (numbers plan origins)
-  pub records : (n m : ℕ) → slice_get (numbers plan origins) n ≡ Some m → RecordIsSeen seen whole n m
+  pub records : (n m : ℕ) → slice_get (numbers plan origins) n ≡ Some m
+      → RecordIsShown plan origins joins seen whole n m
   pub numbered : (n : ℕ) (r : RecordValue) → slice_get seen n ≡ Some r → r.number ≡ n
   pub nodes : (m : ℕ) (o : Origin) (r : RecordValue) → slice_get origins m ≡ Some o → slice_get whole m ≡ Some r
       → r.node ≡ plan.node o.line o.role
   pub callers : (m x : ℕ) (o : Origin) → slice_get origins m ≡ Some o → o.caller ≡ Some x
-      → slice_get origins x ≡ Some (record { line = o.line; role = other_of o.role; caller = None })
+      → slice_get origins x ≡ Some (placing o.line (other_of o.role))
   pub joined : (a b : ℕ) → IsJoined joins a b → JoinIsSeen plan origins a b
   pub joined_once : (a b c : ℕ) → IsJoined joins a b → IsJoined joins a c → b ≡ c
   pub placed_once : (a b c : ℕ) → IsJoined joins a c → IsJoined joins b c → a ≡ b

@@ -1,29 +1,38 @@
 -- The register of a network with switches, beside one that nobody stores. The whole register has the records of all
--- ends of lines, a switch's among them; the register has those of the ends with users, PADs and hosts.
-use Rattle.std.specs.Prelude.{◌≡◌, ℕ, suc, ◌<◌, Bool, true, false, List, [], ◌∷◌, ◌++◌, length, slice_get}
+-- ends of lines, a switch's among them; the register has those of the ends with users, PADs and hosts. The own address
+-- of a caller is that of its line in the register, and in the whole one the address that it gave.
+use Rattle.std.specs.Prelude.{◌≡◌, ℕ, suc, ◌<◌, ◌⊎◌, Bool, true, false, List, [], ◌∷◌, ◌++◌, length, slice_get}
 use Rattle.std.specs.Prelude.{Option, Some, None, map}
 use Rattle.link_timers.specs.declared.role.Role.{Role}
 use Rattle.link_timers.specs.declared.role.Role.TheVariants.{Dte, Dce}
 use Rattle.link_timers.specs.Role.{other_of}
 use Rattle.packet_layer.specs.Packets.{CallParts, Note}
 use Rattle.packet_layer.specs.Packets.Note.{Incoming}
-use Rattle.call_records.specs.Book.{Book, slot_at, with_slot, places_from, told}
+use Rattle.call_records.specs.Book.{Book, slot_at, places_from, told}
 use Rattle.call_records.specs.Writes.{Write, written_by}
 use Rattle.call_records.specs.Writes.Write.{Placed, Told}
-use Rattle.call_records.specs.Register.{Register, LinePlan, free_ends, book_at, written_at, all_written_at}
+use Rattle.call_records.specs.Register.{Register, LinePlan, free_ends, book_at, written_at, all_written_at, holds}
 
 -- ---- where a record comes from
 
--- the end at which it was made, and, where the call came in there, the record of the end that placed it
+-- the end at which it was made, whether the call was placed there, and, where it came in there, the record of the end
+-- that placed it
 pub record Origin : Type 0 where
   pub line : ℕ
   pub role : Role
+  pub placed_here : Bool
   pub caller : Option ℕ
+
+abbrev pub placing : (line : ℕ) → Role → Origin
+placing line role = record { line = line; role = role; placed_here = true; caller = None }
+
+abbrev pub coming : (line : ℕ) → Role → (caller : Option ℕ) → Origin
+coming line role caller = record { line = line; role = role; placed_here = false; caller = caller }
 
 -- of the records that a note adds to a book
 abbrev pub noted : (line : ℕ) → Role → Note → Book → List Origin → List Origin
 noted line role (Incoming channel parts) b origins =
-    origins ++ record { line = line; role = role; caller = (slot_at (other_of role) channel b).placed } ∷ []
+    origins ++ coming line role (slot_at (other_of role) channel b).placed ∷ []
 noted line role note b origins = origins
 
 abbrev pub all_noted : (line : ℕ) → Role → List Note → Book → List Origin → List Origin
@@ -33,7 +42,7 @@ all_noted line role (note ∷ notes) b origins =
 
 abbrev pub with_placed : (line : ℕ) → Role → Option ℕ → List Origin → List Origin
 with_placed line role None origins = origins
-with_placed line role (Some channel) origins = origins ++ record { line = line; role = role; caller = None } ∷ []
+with_placed line role (Some channel) origins = origins ++ placing line role ∷ []
 
 -- of those that a write adds, and a list of writes
 abbrev pub traced : (line : ℕ) → Role → Write → Book → List Origin → List Origin
@@ -65,17 +74,18 @@ pub record World : Type 0 where
   pub origins : List Origin
   pub joins : List Join
 
--- the node at each end of each line, and whether it is one with users; the address of each line, which lines between an
--- end with users and a switch have, and others not; and, for each switch, the line to which it sends calls to an address
+-- the node at each end of each line, and whether it is one with users; the address of each line, of no digits where it
+-- has none; and, for each switch, the line to which it sends calls to an address
 pub record Plan : Type 0 where
   pub node : (line : ℕ) → Role → ℕ
   pub has_user : (line : ℕ) → Role → Bool
   pub address : (line : ℕ) → List ℕ
   pub route : (switch : ℕ) → Option (List ℕ) → ℕ
 
--- a line between two ends of one kind has no address
+-- a line has an address only where a user is at the DTE's end and a switch at the DCE's
 abbrev pub AreAddressed : Plan → Type 0
-AreAddressed plan = (line : ℕ) → plan.has_user line Dte ≡ plan.has_user line Dce → plan.address line ≡ []
+AreAddressed plan =
+    (line : ℕ) → (plan.has_user line Dte ≡ false) ⊎ (plan.has_user line Dce ≡ true) → plan.address line ≡ []
 
 -- the calling address of a call that was placed on a line with this address: it is the line's, or on a line without an
 -- address the one that the call has
@@ -90,10 +100,6 @@ pub data Event : Type 0 where
   Writes : (line : ℕ) → Role → List Write → Event
   SwitchWrites : (line : ℕ) → Role → List Write → Event
   Joins : (from to : Place) → CallParts → Event
-
--- a channel holds the record of the end that placed the call, as if the channel's end had placed it
-abbrev pub holds : Role → (channel : ℕ) → Option ℕ → Book → Book
-holds role channel holder b = with_slot role channel (record (slot_at role channel b) { placed = holder }) b
 
 -- the holder for the channel to which a call goes on: that of the far end of the channel on which it came
 abbrev pub holder_of : Place → Register → Option ℕ
@@ -116,7 +122,7 @@ after_event (SwitchWrites line role writes) w = record w {
 after_event (Joins from to parts) w = record {
   register = written_at to.line (holds to.role to.channel (holder_of from w.register)) w.register;
   whole = written_at to.line (places_from to.role to.channel parts.calling parts.called) w.whole;
-  origins = w.origins ++ record { line = to.line; role = to.role; caller = None } ∷ [];
+  origins = w.origins ++ placing to.line to.role ∷ [];
   joins =
       with_join (slot_at from.role from.channel (book_at from.line w.whole)).present (length w.whole.records) w.joins;
 }
@@ -167,16 +173,21 @@ MayAll plan (event ∷ events) w = MayHappen plan event w × MayAll plan events 
 abbrev pub free_register : List LinePlan → Register
 free_register plans = record { records = []; pairs = []; lines = map free_ends plans }
 
+-- the lines' own books have no addresses, and so has the whole register none
+abbrev pub without_address : LinePlan → LinePlan
+without_address plan = record plan { address = [] }
+
 abbrev pub made_world : List LinePlan → World
 made_world plans = record {
   register = free_register plans;
-  whole = free_register plans;
+  whole = free_register (map without_address plans);
   origins = [];
   joins = [];
 }
 
--- the lines are between the nodes of the plan
+-- the lines are between the nodes of the plan, with its addresses
 abbrev pub AreBetween : Plan → (first : ℕ) → List LinePlan → Type 0
 AreBetween plan first [] = Unit {0}
 AreBetween plan first (line ∷ lines) =
-    (line.dte_node ≡ plan.node first Dte) × ((line.dce_node ≡ plan.node first Dce) × AreBetween plan (suc first) lines)
+    (line.dte_node ≡ plan.node first Dte) × ((line.dce_node ≡ plan.node first Dce)
+    × ((line.address ≡ plan.address first) × AreBetween plan (suc first) lines))

@@ -2,9 +2,11 @@
 #![tactic(auto)]
 
 ghost use Rattle.call_path_laws.specs.Forwards.{MadeForwardLaw, ForwardLaw, RelayedLaw};
-ghost use Rattle.call_path_laws.specs.Law.{MadeLaw, EventLaw, PromiseLaw, PathLaw, WithoutSwitchLaw};
+ghost use Rattle.call_path_laws.specs.Law.{MadeLaw, EventLaw, PromiseLaw, PathLaw, MadeAlikeLaw, WithoutSwitchLaw};
 ghost use Rattle.call_path_laws.specs.Law.{OwnedLaw, RecordsLaw, PresentLaw, CameLaw, PairedLaw};
-ghost use Rattle.call_path_laws.specs.Lines.{MadeLinesLaw, TraceLaw, LinesLaw, WrittenLaw, BookCallsLaw};
+ghost use Rattle.call_path_laws.specs.Ends.{EndLaw, UserLaw, OpenLaw};
+ghost use Rattle.call_path_laws.specs.Lines.{MadeLinesLaw, TraceLaw, LinesLaw, WrittenLaw, BookCallsLaw, RecordedLaw};
+ghost use Rattle.call_path_laws.specs.Rest.{RestLaw};
 ghost use Rattle.call_path_laws.specs.Run.{RunLaw};
 
 /// The law of calls through switches, over definitions alone: beside the register stands a whole one, which has a
@@ -15,6 +17,7 @@ pub fn path_law()
     ensures events { EventLaw }
     ensures promise { PromiseLaw }
     ensures path { PathLaw }
+    ensures alike { MadeAlikeLaw }
     ensures without { WithoutSwitchLaw }
 
     // The register's records are among those of the whole one, and open where they are present; a channel at a user's
@@ -24,6 +27,19 @@ pub fn path_law()
     ensures present { PresentLaw }
     ensures came { CameLaw }
     ensures paired { PairedLaw }
+
+    // Where nothing is missing in the whole register, and each join of an open call handed on all that it took, nothing
+    // is missing in the register.
+    ensures rest { RestLaw }
+{}
+
+/// At the ends with users the register has what the books of the lines have, but for numbers and for the own addresses
+/// of callers: channels, present and open records, and pairs of calls that came in; and each of its records is one of
+/// such an end.
+pub fn end_law()
+    ensures ends { EndLaw }
+    ensures users { UserLaw }
+    ensures open_records { OpenLaw }
 {}
 
 /// The addresses of the two records of each join: a switch that places a call onward with the called address that the
@@ -48,6 +64,9 @@ pub fn lines_law()
     // that came in by them holds as a pair does, accepted or not, and came in once.
     ensures written { WrittenLaw }
     ensures calls { BookCallsLaw }
+
+    // So they do with any origins that have the callers of the book's records.
+    ensures recorded { RecordedLaw }
 {}
 
 /// A run of two hosts and a switch between them, by computation: it meets what the law asks for, with a message sent

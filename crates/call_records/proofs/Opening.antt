@@ -3,9 +3,10 @@ use Rattle.std.proofs.Common.{◌≡◌, ℕ, zero, suc, ◌<◌, ◌≤◌, tru
 use Rattle.std.specs.Prelude.{slice_get}
 use Rattle.std.specs.Option.{option_map}
 use Rattle.std.proofs.lemmas.Option.{none-some, same_Some, slice_get-map}
-use Rattle.std.proofs.lemmas.List.{set-set}
-use Rattle.call_records.specs.Book.{Book, made_book}
-use Rattle.call_records.specs.Register.{Register, LineEnds, book_at, with_book, made_register}
+use Rattle.std.proofs.lemmas.List.{set-set, map-set}
+use Rattle.link_timers.specs.declared.role.Role.TheVariants.{Dte}
+use Rattle.call_records.specs.Book.{Book, nth_slot, with_nth, slot_at, made_book}
+use Rattle.call_records.specs.Register.{Register, LineEnds, found_ends, book_at, with_book, holder_at, handed_on, made_register}
 use Rattle.call_records.specs.RegisterView.{ends_of, lines_of, ends_in, with_ends, register_with}
 use Rattle.call_records.specs.declared.ends.Ends.{Ends}
 
@@ -26,7 +27,7 @@ within [] n h = absurd (let no : ⊥ = omega (arith, h) in no)
 within (x ∷ xs) zero h = (x, refl)
 within (x ∷ xs) (suc n) h = within xs n (omega (arith, h))
 
-none_beyond : {X : Type 0} (xs : List X) (n : ℕ) → (n < length xs → ⊥) → slice_get xs n ≡ None
+pub none_beyond : {X : Type 0} (xs : List X) (n : ℕ) → (n < length xs → ⊥) → slice_get xs n ≡ None
 none_beyond [] n h = refl
 none_beyond (x ∷ xs) zero h = absurd (h (omega arith))
 none_beyond (x ∷ xs) (suc n) h = none_beyond xs n (λ k. h (omega (arith, k)))
@@ -88,6 +89,35 @@ alone b = record { records = b.records; pairs = b.pairs; lines = ends_in b ∷ [
 
 pub stands_alone : (dte_node dce_node channels : ℕ) → 1 ≤ channels
     → alone (made_book dte_node dce_node channels true)
-    ≡ made_register (record { dte_node = dte_node; dce_node = dce_node; channels = channels; standing = true } ∷ [])
+    ≡ made_register (record { dte_node = dte_node; dce_node = dce_node; address = []; channels = channels; standing = true } ∷ [])
 stands_alone dte_node dce_node zero h = absurd (let no : ⊥ = omega (arith, h) in no)
 stands_alone dte_node dce_node (suc channels) h = refl
+
+-- ---- a call goes on to another line
+
+-- the ends of a line of which the DCE holds a record on a channel
+abbrev pub holding : (channel : ℕ) → Option ℕ → LineEnds → LineEnds
+holding channel holder e = record e {
+  dce = record e.dce { slots = with_nth e.dce.slots channel (record (nth_slot e.dce.slots channel) { placed = holder }) };
+}
+
+pub handed : (line channel to_line to_channel : ℕ) (b : Book) (lines : List Ends) (holder : Option ℕ) (old new : Ends)
+    → slice_get lines to_line ≡ Some old → holder ≡ holder_at line channel (register_with None b (lines_of lines)) → ends_of new ≡ holding to_channel holder (ends_of old)
+    → register_with None b (lines_of (set lines to_line new)) ≡ handed_on line channel to_line to_channel (register_with None b (lines_of lines))
+handed line channel to_line to_channel b lines holder old new at h e =
+    let there : Some (ends_of old) ≡ slice_get (lines_of lines) to_line = sym (slice_get-map ends_of lines to_line ∙ ap (λ o. option_map ends_of o) at) in
+    ap (λ (ls : List LineEnds). register_with None b ls) (map-set ends_of lines to_line new)
+    ∙ ap (λ (x : LineEnds). register_with None b (set (lines_of lines) to_line x))
+    (e ∙ ap (λ (o : Option ℕ). holding to_channel o (ends_of old)) h
+    ∙ ap (λ (o : Option LineEnds). holding to_channel (holder_at line channel (register_with None b (lines_of lines))) (found_ends o)) there)
+
+pub none_held : (channel : ℕ) → None ≡ (nth_slot [] channel).placed
+none_held zero = refl
+none_held (suc i) = refl
+
+-- the record that a line holds, as its ends have it
+pub held : (line channel : ℕ) (b : Book) (lines : List Ends) (o : Option Ends) → slice_get lines line ≡ o
+    → (slot_at Dte channel (record b { dte = (found_ends (option_map ends_of o)).dte; dce = (found_ends (option_map ends_of o)).dce })).placed
+    ≡ holder_at line channel (register_with None b (lines_of lines))
+held line channel b lines o at =
+    ap (λ (p : Option LineEnds). (nth_slot (found_ends p).dte.slots channel).placed) (sym (slice_get-map ends_of lines line ∙ ap (λ p. option_map ends_of p) at))

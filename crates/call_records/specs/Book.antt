@@ -27,9 +27,11 @@ pub record Slot : Type 0 where
 abbrev pub free_slot : Slot
 free_slot = record { present = None; placed = None; caller = None }
 
--- an end of the line: its node, and its channels 1, 2 and so on
+-- an end of the line: its node, the line's address at the end that has it, of no digits at any other, and its channels
+-- 1, 2 and so on
 pub record Side : Type 0 where
   pub node : ℕ
+  pub address : List ℕ
   pub slots : List Slot
 
 pub record Book : Type 0 where
@@ -86,7 +88,13 @@ abbrev pub address_of : List ℕ → Option (List ℕ)
 address_of [] = None
 address_of (digit ∷ digits) = Some (digit ∷ digits)
 
--- the end places a call to an address, and gives a calling one if it has any
+-- the calling address of a call that was placed on a line with this address: it is the line's, or on a line without an
+-- address the one that the call has
+abbrev pub calling_from : (address given : List ℕ) → List ℕ
+calling_from [] given = given
+calling_from (digit ∷ digits) given = digit ∷ digits
+
+-- the end places a call to an address; its own address is the line's, or the one that it gives if it gives any
 abbrev pub places_from : Role → (channel : ℕ) → (calling called : List ℕ) → Book → Book
 places_from role channel calling called b =
     with_slot role channel (record {
@@ -94,9 +102,10 @@ places_from role channel calling called b =
       placed = Some (length b.records);
       caller = None;
     })
-    (with_record (new_record (length b.records) (side_of role b).node (address_of calling) (address_of called)) b)
+    (with_record (new_record (length b.records) (side_of role b).node
+    (address_of (calling_from (side_of role b).address calling)) (address_of called) None) b)
 
--- a line without a switch has no address of its own
+-- it gives no address
 abbrev pub places : Role → (channel : ℕ) → (called : List ℕ) → Book → Book
 places role channel called b = places_from role channel [] called b
 
@@ -109,7 +118,7 @@ comes role channel parts b =
       caller = (slot_at (other_of role) channel b).placed;
     })
     (with_record (new_record (length b.records) (side_of role b).node (address_of parts.called)
-    (address_of parts.calling)) b)
+    (address_of parts.calling) (slot_at (other_of role) channel b).placed) b)
 
 abbrev pub with_pair : Option ℕ → Option ℕ → Book → Book
 with_pair (Some caller) (Some callee) b = record b
@@ -171,18 +180,19 @@ all_told role (note ∷ notes) b = all_told role notes (told role note b)
 
 -- ---- making
 
+-- the line has no address
 abbrev pub new_book : (dte_node dce_node channels : ℕ) → Book
 new_book dte_node dce_node channels = record {
   records = [];
   pairs = [];
-  dte = record { node = dte_node; slots = replicate channels free_slot };
-  dce = record { node = dce_node; slots = replicate channels free_slot };
+  dte = record { node = dte_node; address = []; slots = replicate channels free_slot };
+  dce = record { node = dce_node; address = []; slots = replicate channels free_slot };
 }
 
 -- a call stands on the first channel: the DTE counts as the end that placed it, and neither end has an address
 abbrev pub standing_book : Book → Book
 standing_book b = record {
-  records = new_record 0 b.dte.node None None ∷ new_record 1 b.dce.node None None ∷ [];
+  records = new_record 0 b.dte.node None None None ∷ new_record 1 b.dce.node None None (Some 0) ∷ [];
   pairs = record { caller = 0; callee = 1 } ∷ [];
   dte = record b.dte { slots = with_nth b.dte.slots 1 (record { present = Some 0; placed = Some 0; caller = None }) };
   dce = record b.dce { slots = with_nth b.dce.slots 1 (record { present = Some 1; placed = None; caller = Some 0 }) };

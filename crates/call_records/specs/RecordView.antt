@@ -29,6 +29,7 @@ shown r = record {
   node = r.node;
   own = r.own;
   far = r.far;
+  caller = r.caller;
   sent_before = map sent_of r.sent_before.items;
   sent = sent_of r.sent;
   taken_before = map taken_of r.taken_before.items;

@@ -4,15 +4,15 @@ use Rattle.epochs.specs.Item.{DataPacket}
 use Rattle.epochs.specs.Epoch.{nothing_sent, nothing_taken, Epoch, SentEpoch, TakenEpoch, sent_epoch, taken_epoch}
 use Rattle.pad_editing.specs.Edited.{Step}
 
--- one end's part in one call: its number in the order of making, its node, its own address and the far one, the
--- epochs that it
--- sent and took, of which the last of each stands apart, whether the call is closed for it, and at a PAD the steps of
--- editing
+-- one end's part in one call: its number in the order of making, its node, its own address and the far one, where the
+-- call came in the record of the end that placed it, the epochs that it sent and took, of which the last of each stands
+-- apart, whether the call is closed for it, and at a PAD the steps of editing
 pub record RecordValue : Type 0 where
   pub number : ℕ
   pub node : ℕ
   pub own : Option (List ℕ)
   pub far : Option (List ℕ)
+  pub caller : Option ℕ
   pub sent_before : List SentEpoch
   pub sent : SentEpoch
   pub taken_before : List TakenEpoch
@@ -33,12 +33,13 @@ pub record PairValue : Type 0 where
   pub callee : ℕ
 
 -- the record of an end's part in a new call: one empty epoch sent, and one taken
-abbrev pub new_record : (number node : ℕ) → (own far : Option (List ℕ)) → RecordValue
-new_record number node own far = record {
+abbrev pub new_record : (number node : ℕ) → (own far : Option (List ℕ)) → (caller : Option ℕ) → RecordValue
+new_record number node own far caller = record {
   number = number;
   node = node;
   own = own;
   far = far;
+  caller = caller;
   sent_before = [];
   sent = nothing_sent;
   taken_before = [];

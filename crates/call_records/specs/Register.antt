@@ -9,7 +9,7 @@ use Rattle.packet_layer.specs.Packets.{CallParts}
 use Rattle.packet_layer.specs.Packets.Note.{Incoming}
 use Rattle.packet_layer.specs.Channel.Request.{Accept}
 use Rattle.call_records.specs.Records.{RecordValue, PairValue}
-use Rattle.call_records.specs.Book.{Book, Side, free_slot, made_book}
+use Rattle.call_records.specs.Book.{Book, Side, slot_at, with_slot, free_slot, made_book}
 use Rattle.call_records.specs.Writes.{Write, all_written}
 use Rattle.call_records.specs.Writes.Write.{Placed, Told, Asked}
 
@@ -25,7 +25,7 @@ pub record Register : Type 0 where
 
 -- a line that is not there has no channels
 abbrev pub no_side : Side
-no_side = record { node = 0; slots = [] }
+no_side = record { node = 0; address = []; slots = [] }
 
 abbrev pub found_ends : Option LineEnds → LineEnds
 found_ends (Some ends) = ends
@@ -54,23 +54,41 @@ written_at line write g = with_book line (write (book_at line g)) g
 abbrev pub all_written_at : (line : ℕ) → Role → List Write → Register → Register
 all_written_at line role writes g = written_at line (all_written role writes) g
 
+-- ---- a call goes on to another line
+
+-- a channel holds the record of the end that placed the call, as if the channel's end had placed it
+abbrev pub holds : Role → (channel : ℕ) → Option ℕ → Book → Book
+holds role channel holder b = with_slot role channel (record (slot_at role channel b) { placed = holder }) b
+
+-- the record of the call that the DTE of a line placed last on a channel
+abbrev pub holder_at : (line channel : ℕ) → Register → Option ℕ
+holder_at line channel g = (slot_at Dte channel (book_at line g)).placed
+
+-- that record is held at the DCE of another line, on the channel on which the call goes on
+abbrev pub handed_on : (line channel to_line to_channel : ℕ) → Register → Register
+handed_on line channel to_line to_channel g =
+    written_at to_line (holds Dce to_channel (holder_at line channel g)) g
+
 -- ---- making
 
--- a line between two nodes with channels from 1 on, and whether a call stands on the first of them
+-- a line between two nodes, with an address if it has any digits, with channels from 1 on, and whether a call stands on
+-- the first of them
 pub record LinePlan : Type 0 where
   pub dte_node : ℕ
   pub dce_node : ℕ
+  pub address : List ℕ
   pub channels : ℕ
   pub standing : Bool
 
--- the book of the line alone
+-- the book of the line alone, where it has no address
 abbrev pub planned_book : LinePlan → Book
 planned_book plan = made_book plan.dte_node plan.dce_node plan.channels plan.standing
 
+-- the line's address is the DTE's
 abbrev pub free_ends : LinePlan → LineEnds
 free_ends plan = record {
-  dte = record { node = plan.dte_node; slots = replicate plan.channels free_slot };
-  dce = record { node = plan.dce_node; slots = replicate plan.channels free_slot };
+  dte = record { node = plan.dte_node; address = plan.address; slots = replicate plan.channels free_slot };
+  dce = record { node = plan.dce_node; address = []; slots = replicate plan.channels free_slot };
 }
 
 -- a call between two ends without an address

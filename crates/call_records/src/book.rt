@@ -48,8 +48,8 @@ impl Model for Book {
 }
 
 impl Book {
-    /// The book of a line between two nodes with channels from 1 on. On a standing line a call stands on channel 1,
-    /// which counts as placed by the DTE. It is refused for want of memory. There is no room yet.
+    /// The book of a line without an address between two nodes, with channels from 1 on. On a standing line a call
+    /// stands on channel 1, which counts as placed by the DTE. It is refused for want of memory. There is no room yet.
     pub fn new(
         alloc: Global,
         dte_node: usize,
@@ -64,14 +64,14 @@ impl Book {
         }) }
     {
         let mut ends = Ends {
-            dte: Side::new(alloc, dte_node, channels)?,
-            dce: Side::new(alloc, dce_node, channels)?,
+            dte: Side::new(alloc, dte_node, None, channels)?,
+            dce: Side::new(alloc, dce_node, None, channels)?,
         };
         let mut records = Vec::with_capacity(alloc, 2)?;
         let mut pairs = Vec::with_capacity(alloc, 1)?;
         if standing {
-            records.push_reserved(Record::new(alloc, 0, dte_node, None, None));
-            records.push_reserved(Record::new(alloc, 1, dce_node, None, None));
+            records.push_reserved(Record::new(alloc, 0, dte_node, None, None, None));
+            records.push_reserved(Record::new(alloc, 1, dce_node, None, None, Some(0)));
             pairs.push_reserved(Pair {
                 caller: 0,
                 callee: 1,
@@ -161,20 +161,24 @@ impl Book {
         self.room
     }
 
-    /// An end places a call to an address (X.25 4.1.2). No room is left, since the new record has none.
+    /// An end places a call to an address (X.25 4.1.2); its own one is the line's, if it has it. No room is left, since
+    /// the new record has none.
     pub fn place(&mut self, role: Role, channel: u8, called: &Address)
         requires { 1 ≤ self.old.room }
         ensures { self.new ≡ record self.old { book = places role channel called.now self.old.book; room = 0 } }
     {
         let number = self.records.len();
-        let node = self.ends.of(role).node();
+        let here = self.ends.of(role);
+        let node = here.node();
+        let own = here.address();
+        let far = recorded(called);
         let slot = Slot {
             present: Some(number),
             placed: Some(number),
             caller: None,
         };
         self.records
-            .push_reserved(Record::new(self.alloc, number, node, None, Some(*called)));
+            .push_reserved(Record::new(self.alloc, number, node, own, far, None));
         self.ends.put(role, channel, slot);
         self.room = 0;
     }
@@ -201,6 +205,7 @@ impl Book {
             node,
             Some(data.called),
             calling_of(&data),
+            caller,
         ));
         self.ends.put(role, channel, slot);
         self.room = 0;
@@ -389,9 +394,16 @@ fn calling_of(call: &CallData<'_>) -> Option<Address>
     ensures { result ≡ address_of (digits_or_none call.now.calling) }
 {
     match &call.calling {
-        Some(address) => Some(Address::new(address.digits())),
+        Some(address) => recorded(address),
         None => None,
     }
+}
+
+// An address, as a record has it.
+fn recorded(address: &Address) -> Option<Address>
+    ensures { result ≡ address_of address.now }
+{
+    Some(Address::new(address.digits()))
 }
 
 // The record of this number grows by a write, if there is one.

@@ -1,11 +1,13 @@
 //! The two ends of a line, channel by channel.
-ghost use Rattle.std.specs.Prelude.{◌≡◌, ◌≤◌, List, IfOk, Some, None, length, replicate};
+ghost use Rattle.std.specs.Prelude.{◌≡◌, ◌≤◌, List, [], IfOk, Some, None, length, replicate};
 ghost use Rattle.call_records.specs.Records.{RecordValue, PairValue};
-ghost use Rattle.call_records.specs.Book.{free_slot, nth_slot, with_nth, side_of, with_slot};
+ghost use Rattle.packet_codec.specs.Digits.{digits_or_none};
+ghost use Rattle.call_records.specs.Book.{address_of, free_slot, nth_slot, with_nth, side_of, with_slot};
 ghost use Rattle.call_records.specs.BookView.{book_with};
 
 use crate::record::Pair;
 use link_timers::Role;
+use packet_codec::Address;
 use std::alloc::{AllocError, Global};
 use std::marker::Model;
 
@@ -41,34 +43,49 @@ impl Slot {
     }
 }
 
-/// An end of the line: its node, and its channels from 1 on.
+/// An end of the line: its node, the line's address at the end that has it, and its channels from 1 on.
 #[derive(Drop)]
 pub(crate) struct Side {
     node: usize,
+    address: Option<Address>,
     slots: Vec<Slot>,
 }
 
 impl Model for Side {
     ghost use Rattle.std.specs.Prelude.{◌≤◌, length};
+    ghost use Rattle.packet_codec.specs.Digits.{digits_or_none};
     ghost use Rattle.call_records.specs.Book.{Side as SideValue};
 
     ghost Value = { SideValue };
 
-    ghost view = { λ s. record { node = s.node; slots = s.slots.items } };
+    ghost view = { λ s. record { node = s.node; address = digits_or_none s.address; slots = s.slots.items } };
 
     ghost invariant = { λ s. length s.slots.items ≤ 255 };
 }
 
 impl Side {
-    /// An end with this node, and so many channels, all free.
-    pub(crate) fn new(alloc: Global, node: usize, channels: u8) -> Result<Side, AllocError>
-        ensures { IfOk result (λ side. side ≡ record { node = node; slots = replicate channels free_slot }) }
+    /// An end with this node, with this address if any, and so many channels, all free.
+    pub(crate) fn new(
+        alloc: Global,
+        node: usize,
+        address: Option<Address>,
+        channels: u8,
+    ) -> Result<Side, AllocError>
+        ensures { IfOk result (λ side. side ≡ record {
+          node = node;
+          address = digits_or_none address;
+          slots = replicate channels free_slot;
+        }) }
     {
         let mut slots = Vec::new(alloc);
         for _ in 0..channels {
             slots.push(Slot::free())?;
         }
-        Ok(Side { node, slots })
+        Ok(Side {
+            node,
+            address,
+            slots,
+        })
     }
 
     /// The number of its node.
@@ -76,6 +93,16 @@ impl Side {
         ensures { result ≡ self.now.node }
     {
         self.node
+    }
+
+    /// The line's address, if this end has it.
+    pub(crate) fn address(&self) -> Option<Address>
+        ensures { result ≡ address_of self.now.address }
+    {
+        match &self.address {
+            Some(address) => Some(Address::new(address.digits())),
+            None => None,
+        }
     }
 
     /// How many channels it has.
@@ -109,6 +136,19 @@ impl Side {
             self.slots[place] = slot;
         }
     }
+
+    /// Holds a record on a channel as that of the call placed there last, if the line has the channel.
+    pub(crate) fn hold(&mut self, channel: u8, holder: Option<usize>)
+        ensures { self.new ≡ record self.old {
+          slots = with_nth self.old.slots channel (record (nth_slot self.old.slots channel) { placed = holder });
+        } }
+    {
+        let slot = Slot {
+            placed: holder,
+            ..self.slot(channel)
+        };
+        self.put(channel, slot);
+    }
 }
 
 /// The two ends of a line.
@@ -119,21 +159,23 @@ pub(crate) struct Ends {
 }
 
 impl Ends {
-    /// The ends of a line between two nodes with so many channels, all free.
+    /// The ends of a line between two nodes with so many channels, all free. The line's address, if it has one, is the
+    /// DTE's.
     pub(crate) fn new(
         alloc: Global,
         dte_node: usize,
         dce_node: usize,
+        address: Option<Address>,
         channels: u8,
     ) -> Result<Ends, AllocError>
         ensures { IfOk result (λ ends. ends ≡ record {
-          dte = record { node = dte_node; slots = replicate channels free_slot };
-          dce = record { node = dce_node; slots = replicate channels free_slot };
+          dte = record { node = dte_node; address = digits_or_none address; slots = replicate channels free_slot };
+          dce = record { node = dce_node; address = []; slots = replicate channels free_slot };
         }) }
     {
         Ok(Ends {
-            dte: Side::new(alloc, dte_node, channels)?,
-            dce: Side::new(alloc, dce_node, channels)?,
+            dte: Side::new(alloc, dte_node, address, channels)?,
+            dce: Side::new(alloc, dce_node, None, channels)?,
         })
     }
 

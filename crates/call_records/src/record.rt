@@ -44,11 +44,13 @@ pub struct Record {
     pub number: usize,
     /// The number of its node.
     pub node: usize,
-    /// Its own address: of a callee the called one. Without a switch a caller has none, and neither has a standing
-    /// call.
+    /// Its own address: of a callee the called one, of a caller that of its line, if the line has any. A standing call
+    /// has none.
     pub own: Option<Address>,
     /// The address of the far end.
     pub far: Option<Address>,
+    /// Where the call came in, the number of the record with which the other end placed it.
+    pub(crate) caller: Option<usize>,
     /// The epochs sent before the last one.
     pub sent_before: Vec<SentEpoch>,
     /// The last epoch sent.
@@ -145,14 +147,16 @@ impl Record {
         node: usize,
         own: Option<Address>,
         far: Option<Address>,
+        caller: Option<usize>,
     ) -> Self
-        ensures { shown result ≡ new_record number node own far }
+        ensures { shown result ≡ new_record number node own far caller }
     {
         Record {
             number,
             node,
             own,
             far,
+            caller,
             sent_before: Vec::new(alloc),
             sent: SentEpoch::new(alloc),
             taken_before: Vec::new(alloc),

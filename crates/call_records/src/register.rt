@@ -1,10 +1,12 @@
 //! The register of a network of lines.
 ghost use Rattle.std.specs.Prelude.{◌≡◌, ◌≤◌, ◌<◌, false, true, [], ◌∷◌, set, length, slice_get, IfOk, OnOk};
-ghost use Rattle.call_records.specs.Register.{empty_register, made_register, with_free_line, book_at};
+ghost use Rattle.packet_codec.specs.Digits.{digits_or_none};
+ghost use Rattle.call_records.specs.Register.{empty_register, made_register, with_free_line, book_at, handed_on};
 ghost use Rattle.call_records.specs.RegisterView.{register_of, lines_of, ends_in, with_ends, IsOpen, IsClosed};
 
 use crate::book::Book;
 use crate::ends::Ends;
+use packet_codec::Address;
 use std::alloc::{AllocError, Global};
 
 /// The register of a network: the records and pairs of all calls, in the order of making, and for each line its two
@@ -31,8 +33,8 @@ impl Register {
         })
     }
 
-    /// The register of one line, on whose first channel a call stands, which counts as placed by the DTE. It is refused
-    /// for want of memory.
+    /// The register of one line without an address, on whose first channel a call stands, which counts as placed by the
+    /// DTE. It is refused for want of memory.
     pub fn standing(
         alloc: Global,
         dte_node: usize,
@@ -41,11 +43,17 @@ impl Register {
     ) -> Result<Register, AllocError>
         requires { 1 ≤ channels }
         ensures { IfOk result (λ r. register_of r ≡ made_register
-            (record { dte_node = dte_node; dce_node = dce_node; channels = channels; standing = true } ∷ [])) }
+            (record {
+              dte_node = dte_node;
+              dce_node = dce_node;
+              address = [];
+              channels = channels;
+              standing = true;
+            } ∷ [])) }
     {
         let book = Book::new(alloc, dte_node, dce_node, channels, true)?;
         let mut lines = Vec::new(alloc);
-        lines.push(Ends::new(alloc, 0, 0, 0)?)?;
+        lines.push(Ends::new(alloc, 0, 0, None, 0)?)?;
         Ok(Register {
             book,
             open: Some(0),
@@ -53,28 +61,33 @@ impl Register {
         })
     }
 
-    /// Adds a line between two nodes with channels from 1 on, all of them free. Without the memory there is no line
-    /// more.
+    /// Adds a line between two nodes, with an address if it has any, and with channels from 1 on, all of them free.
+    /// Without the memory there is no line more.
     pub fn add_line(
         &mut self,
         alloc: Global,
         dte_node: usize,
         dce_node: usize,
+        address: Option<Address>,
         channels: u8,
     ) -> Result<(), AllocError>
         requires { IsClosed self.old }
-        ensures ok { OnOk result (register_of self.new ≡ with_free_line
-            (record { dte_node = dte_node; dce_node = dce_node; channels = channels; standing = false })
-            (register_of self.old)) }
+        ensures ok { OnOk result (register_of self.new ≡ with_free_line (record {
+          dte_node = dte_node;
+          dce_node = dce_node;
+          address = digits_or_none address;
+          channels = channels;
+          standing = false;
+        }) (register_of self.old)) }
         ensures closed { IsClosed self.new }
     {
-        let ends = Ends::new(alloc, dte_node, dce_node, channels)?;
+        let ends = Ends::new(alloc, dte_node, dce_node, address, channels)?;
         self.lines.push(ends)?;
         Ok(())
     }
 
-    /// Opens the book at a line, and makes room there for so many writes and pairs. Without the memory there is no room, and the
-    /// register is as before.
+    /// Opens the book at a line, and makes room there for so many writes and pairs. Without the memory there is no
+    /// room, and the register is as before.
     pub fn open(&mut self, line: usize, count: usize) -> Result<(), AllocError>
         ensures same { register_of self.new ≡ register_of self.old }
         ensures lines { length self.new.lines.items ≡ length self.old.lines.items }
@@ -83,12 +96,40 @@ impl Register {
         ensures room { OnOk result (self.new.book.room ≡ count) }
         ensures pairs { OnOk result (self.new.book.pairs ≡ count) }
     {
-        if let Some(last) = self.open {
-            exchange(&mut self.book, &mut self.lines, last);
-        }
+        self.close();
         exchange(&mut self.book, &mut self.lines, line);
         self.open = Some(line);
         self.book.reserve(count)
+    }
+
+    /// The record of the call that the DTE of a line placed last on a channel is held at the DCE of another line, on
+    /// the channel on which the call goes on. The book is open at no line then.
+    pub fn hand_on(&mut self, line: usize, channel: u8, to_line: usize, to_channel: u8)
+        ensures same { register_of self.new ≡ handed_on line channel to_line to_channel (register_of self.old) }
+        ensures lines { length self.new.lines.items ≡ length self.old.lines.items }
+        ensures closed { IsClosed self.new }
+    {
+        self.close();
+        let holder = if line < self.lines.len() {
+            self.lines[line].dte.slot(channel).placed
+        } else {
+            None
+        };
+        if to_line < self.lines.len() {
+            self.lines[to_line].dce.hold(to_channel, holder);
+        }
+    }
+
+    // Closes the book: the ends in it go to their own line.
+    fn close(&mut self)
+        ensures same { register_of self.new ≡ register_of self.old }
+        ensures lines { length self.new.lines.items ≡ length self.old.lines.items }
+        ensures closed { IsClosed self.new }
+    {
+        if let Some(last) = self.open {
+            exchange(&mut self.book, &mut self.lines, last);
+        }
+        self.open = None;
     }
 }
 

@@ -3,8 +3,6 @@
 
 mod state;
 mod table;
-#[cfg(test)]
-mod tests;
 
 pub use state::CallState;
 pub use table::{CallEvent, CallNote, CallStep, UserAct};

@@ -6,6 +6,3 @@ mod reading;
 
 pub use invocation::{Invocation, Mode, WordsFault};
 pub use reading::read_words;
-
-#[cfg(test)]
-mod tests;

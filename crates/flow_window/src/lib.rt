@@ -11,6 +11,3 @@ pub use modulus::{Mod8, Mod128, Modulus};
 pub use receive::{Offer, RecvWindow};
 pub use send::{OutOfWindow, SendWindow};
 pub use seq::Seq;
-
-#[cfg(test)]
-mod tests;

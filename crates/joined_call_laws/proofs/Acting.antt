@@ -144,7 +144,7 @@ plain_slots (Covered d k ∷ ns) b c i = plain_slots ns (told Dce (Covered d k) 
 plain_slots (Incoming d parts ∷ ns) b c i = absurd i.0
 plain_slots (Closed d cause diagnostic reason ∷ ns) b c i = absurd i.0
 
-goes_plain : (c : ℕ) (ns : List Note) → Every (GoesOn c) ns → Every IsPlain ns
+pub goes_plain : (c : ℕ) (ns : List Note) → Every (GoesOn c) ns → Every IsPlain ns
 goes_plain c [] i = tt
 goes_plain c (WasReset d cause diagnostic reason ∷ ns) i = (tt, goes_plain c ns i.1)
 goes_plain c (InterruptConfirmed d ∷ ns) i = (tt, goes_plain c ns i.1)
@@ -199,40 +199,39 @@ heed_all_lines routes n (x ∷ xs) ls bs =
     let more : Leads rest ms (books_by_all first ls bs) (heed_all routes n xs ms) (books_by_all rest ms (books_by_all first ls bs)) (calls_of_all rest ms (books_by_all first ls bs)) = record { lines = heed_all_lines routes n xs ms (books_by_all first ls bs); books = refl; calls = refl } in
     (leads_then first rest ls ms (heed_all routes n xs ms) bs (books_by_all first ls bs) _ _ _ one more).lines
 
-module _ (routes : RouteMap) (n : ℕ) (what : Happening) (ls : List SwitchLine) (w : World) (bs : Books) (cs : List JoinedCall) (i : IsSwitch ls w) (h : HaveRecords (layers_of ls) w bs) (a : AreCalls ls bs cs)
-    (line : SwitchLine) (got : slice_get ls n ≡ Some line) (eff : EndEffect n what line.end)
-    (given : List (List ℕ)) (same_lines : addresses ls ≡ given) (R : Books → List JoinedCall → Type 0) (keeps : KeptQuietly R) (sends : KeptSending R) (joins : KeptJoining routes given R) (kept : R bs cs) (ps : Partners) (lines_kept : AreKept ps (books_by (Happens n what) ls bs) (lines_after (Happens n what) ls)) where
-  abbrev l : Layer
+module _ (routes : RouteMap) (n : ℕ) (what : Happening) (ls : List SwitchLine) (w : World) (bs : Books) (i : IsSwitch ls w) (h : HaveRecords (layers_of ls) w bs)
+    (line : SwitchLine) (got : slice_get ls n ≡ Some line) (eff : EndEffect n what line.end) where
+  abbrev pub l : Layer
   l = line.end.layer
 
-  abbrev notes : List Note
+  abbrev pub notes : List Note
   notes = (does what (quieted line.end)).notes
 
-  abbrev l1 : List SwitchLine
+  abbrev pub l1 : List SwitchLine
   l1 = changed n (with_end (λ e. does what (quieted e))) ls
 
-  abbrev ms : List SwitchLine
+  abbrev pub ms : List SwitchLine
   ms = lines_after (Happens n what) ls
 
-  abbrev acts : List Act
+  abbrev pub acts : List Act
   acts = Act.Reads n ∷ happening_acts n what line.end
 
-  abbrev bs1 : Books
+  abbrev pub bs1 : Books
   bs1 = books_by (Happens n what) ls bs
 
   abbrev v : World
   v = world_after_all acts (layers_of ls) w
 
-  x : LineEffect acts n l (does what (quieted line.end)).layer notes
+  pub x : LineEffect acts n l (does what (quieted line.end)).layer notes
   x = reads_first n l (does what (quieted line.end)).layer notes eff
 
-  got_layer : slice_get (layers_of ls) n ≡ Some l
+  pub got_layer : slice_get (layers_of ls) n ≡ Some l
   got_layer = layer_got n ls line got
 
-  acts_are : acts_of (Happens n what) ls ≡ acts
+  pub acts_are : acts_of (Happens n what) ls ≡ acts
   acts_are = ap (λ (o : Option SwitchLine). Act.Reads n ∷ on_line (λ e. happening_acts n what e) o) got
 
-  here_book : bs1 n ≡ all_told Dce notes (bs n)
+  pub here_book : bs1 n ≡ all_told Dce notes (bs n)
   here_book =
       ap (λ (as_ : List Act). books_after_all as_ (layers_of ls) bs n) acts_are
       ∙ (books_chain acts n (layers_of ls) bs l (refl, happening_on n what line.end) got_layer ∙ (happening_explains n what line.end).writes_ (bs n))
@@ -240,10 +239,10 @@ module _ (routes : RouteMap) (n : ℕ) (what : Happening) (ls : List SwitchLine)
   other_book : (k : ℕ) → k ≢ n → bs1 k ≡ bs k
   other_book k ne = ap (λ (as_ : List Act). books_after_all as_ (layers_of ls) bs k) acts_are ∙ books_apart acts n k (layers_of ls) bs (refl, happening_on n what line.end) ne
 
-  joined_ms : (y : Place) → joined_at ms y ≡ joined_at ls y
+  pub joined_ms : (y : Place) → joined_at ms y ≡ joined_at ls y
   joined_ms y = joined_kept n y.line y.channel (with_end without_notes) l1 (λ z. refl) ∙ joined_kept n y.line y.channel (with_end (λ e. does what (quieted e))) ls (λ z. refl)
 
-  beside_ms : Beside ms bs1
+  pub beside_ms : Beside ms bs1
   beside_ms = beside_step (Happens n what) ls bs (subst (λ (as_ : List Act). Every MayHappen as_) (sym acts_are) x.may) (record { legs = w; world = i.world; records = h })
 
   world_ms : IsWorld (layers_of ms) v
@@ -252,7 +251,7 @@ module _ (routes : RouteMap) (n : ℕ) (what : Happening) (ls : List SwitchLine)
   mutual_ls : Mutual ls
   mutual_ls = switch_mutual ls w i
 
-  mutual_ms : Mutual ms
+  pub mutual_ms : Mutual ms
   mutual_ms p j e =
       let k = mutual_ls p j (sym (joined_ms p) ∙ e) in
       record { far = k.far; joined = joined_ms j.other ∙ k.joined; back = k.back; apart = k.apart; one_came_in = k.one_came_in; there = there_step (Happens n what) ls p ∙ k.there }
@@ -270,283 +269,287 @@ module _ (routes : RouteMap) (n : ℕ) (what : Happening) (ls : List SwitchLine)
   apart_ls : AreApart (bs n)
   apart_ls = (h n l got_layer).apart
 
-  lines_ms : addresses ms ≡ given
-  lines_ms = addresses_led (Happens n what ∷ []) ls ms given refl same_lines
+  -- ---- with the joined calls
 
-  kept1 : R bs1 cs
-  kept1 = keeps (acts_of (Happens n what) ls) (layers_of ls) bs cs (step_quiet (Happens n what) ls tt) kept
+  module _ (cs : List JoinedCall) (a : AreCalls ls bs cs) (given : List (List ℕ)) (same_lines : addresses ls ≡ given) (R : Books → List JoinedCall → Type 0) (keeps : KeptQuietly R) (sends : KeptSending R) (joins : KeptJoining routes given R) (kept : R bs cs)
+      (ps : Partners) (lines_kept : AreKept ps (books_by (Happens n what) ls bs) (lines_after (Happens n what) ls)) where
+    lines_ms : addresses ms ≡ given
+    lines_ms = addresses_led (Happens n what ∷ []) ls ms given refl same_lines
 
-  -- where nothing is said of a call that is over or comes in
-  plainly : Every IsPlain notes → Walked (And AreCalls R) (heed_all_steps routes n notes ms) ms bs1 cs (heed_all routes n notes ms)
-  plainly plain =
-      let ss = heed_all_steps routes n notes ms in
-      let lines = heed_all_lines routes n notes ms bs1 in
-      let steady = plains_steady routes n notes ms plain in
-      walked_quiet (And AreCalls R) ss ms bs1 cs (heed_all routes n notes ms) lines (steadies_none ss ms bs1 steady) (
-        subst (λ (ks : List SwitchLine). AreCalls ks (books_by_all ss ms bs1) cs) lines
-            (calls_same ms (steps.lines_after_all ss ms) bs1 (books_by_all ss ms bs1) cs mutual_ms (steadies_same ss ms bs1 steady) (calls_same ls ms bs bs1 cs mutual_ls (same_ms slots) a)),
-        steady_keep R keeps sends ss ms bs1 cs steady mutual_ms (calls_same ls ms bs bs1 cs mutual_ls (same_ms slots) a) kept1,
-      )
-    where
-      slots : (y : Place) (j : Joined) → joined_at ls y ≡ Some j → present_at y bs1 ≡ present_at y bs
-      slots y j e =
-          elim (number_is y.line n) [
-            | inl is ↦
-                subst (λ (k : ℕ). (slot_at Dce y.channel (bs1 k)).present ≡ (slot_at Dce y.channel (bs k)).present) (sym is)
-                (ap (λ (b : Book). (slot_at Dce y.channel b).present) here_book ∙ ap (λ (s : Slot). s.present) (plain_slots notes (bs n) y.channel plain))
-            | inr ne ↦ ap (λ (b : Book). (slot_at Dce y.channel b).present) (other_book y.line ne)
-          ]
+    kept1 : R bs1 cs
+    kept1 = keeps (acts_of (Happens n what) ls) (layers_of ls) bs cs (step_quiet (Happens n what) ls tt) kept
 
-  -- ---- some calls are over
-
-  -- a side of a call that stood, after it
-  record Sided (ns : List Note) (y : Place) (m : ℕ) (r : RecordValue) : Type 0 where
-    pub it : RecordValue
-    pub side : Side n ns bs1 y m it
-    pub epochs : SameEpochs r it
-
-  abbrev AllSided : List Note → Type 0
-  AllSided ns = (y : Place) (m : ℕ) (r : RecordValue) → slice_get (bs y.line).records m ≡ Some r → present_at y bs ≡ Some m → Sided ns y m r
-
-  in_hand : (ns : List Note) → AllSided ns → (c : JoinedCall) → Stands ls bs c → InHand n ns ms bs1 c
-  in_hand ns sides c s =
-      let r : JoinsRecords bs c.near s.join.other = joins_relay ls w bs i h c.near s.join s.joined in
-      let near_is : r.near_there.number ≡ c.came_in = same_Some r.near_there.number c.came_in (sym r.near_there.present ∙ s.near_present) in
-      let far_is : r.far_there.number ≡ c.placed = same_Some r.far_there.number c.placed (sym r.far_there.present ∙ (ap (λ (y : Place). present_at y bs) s.other ∙ s.far_present)) in
-      let x = sides c.near c.came_in r.near (ap (λ (k : ℕ). slice_get (bs c.near.line).records k) (sym near_is) ∙ r.near_there.there) s.near_present in
-      let y = sides c.far c.placed r.far (ap₂ (λ (q : Place) (k : ℕ). slice_get (bs q.line).records k) (sym s.other) (sym far_is) ∙ r.far_there.there) s.far_present in
-      record {
-        near_record = x.it;
-        far_record = y.it;
-        relayed = relayed_same r.near r.far x.it y.it x.epochs y.epochs r.relayed;
-        join = s.join;
-        joined = joined_ms c.near ∙ s.joined;
-        other = s.other;
-        came_in_here = s.came_in_here;
-        near_side = x.side;
-        far_side = y.side;
-      }
-
-  marks_from : (ns : List Note) → AllSided ns → Marks n ns ms bs1 cs
-  marks_from ns sides = record {
-    pairs = mutual_ms;
-    places = places_ms;
-    beside = beside_ms;
-    each = every_map (StandsOrEnded ls bs) (λ c. InHand n ns ms bs1 c ⊎ HasEnded bs1 c) cs (λ c s. elim s [ inl y ↦ inl (in_hand ns sides c y) | inr y ↦ inr (ended_same bs bs1 c rests_ms y) ]) a.each;
-    all = λ p j e came. let k = a.all p j (sym (joined_ms p) ∙ e) came in (k.0, k.1, k.2, in_hand ns sides k.1 k.3, k.4);
-  }
-
-  -- one elsewhere
-  side_apart : (ns : List Note) (y : Place) (m : ℕ) (r : RecordValue) → y.line ≢ n → slice_get (bs y.line).records m ≡ Some r → present_at y bs ≡ Some m → Sided ns y m r
-  side_apart ns y m r ne there present = record {
-    it = r;
-    side = record {
-      there = ap (λ (b : Book). slice_get b.records m) (other_book y.line ne) ∙ there;
-      held = inr ((λ o. ne (over_line n ns y o)), ap (λ (b : Book). (slot_at Dce y.channel b).present) (other_book y.line ne) ∙ present);
-    };
-    epochs = epochs_itself r;
-  }
-
-  -- ---- all notes say that calls are over
-
-  closed_side : Every IsClosing notes → AllSided notes
-  closed_side closing y m r there present = elim (number_is y.line n) [ inl is ↦ on_line_n is | inr ne ↦ side_apart notes y m r ne there present ]
-    where
-      on_line_n : y.line ≡ n → Sided notes y m r
-      on_line_n is =
-          let there_n : slice_get (bs n).records m ≡ Some r = ap (λ (k : ℕ). slice_get (bs k).records m) (sym is) ∙ there in
-          let present_n : (slot_at Dce y.channel (bs n)).present ≡ Some m = ap (λ (k : ℕ). (slot_at Dce y.channel (bs k)).present) (sym is) ∙ present in
-          let book : bs1 y.line ≡ all_told Dce notes (bs n) = ap (λ (k : ℕ). bs1 k) is ∙ here_book in
-          let e : HasEpochs r m (all_told Dce notes (bs n)) = closed_epochs notes r m (bs n) closing (record { it = r; there = there_n; epochs = epochs_itself r }) in
-          record {
-            it = e.it;
-            side = record {
-              there = ap (λ (b : Book). slice_get b.records m) book ∙ e.there;
-              held = elim (over_or_not n notes y) [
-                | inl o ↦ inl (o, subst (λ (b : Book). IsAbsent m b) (sym book) (closed_gone notes r m n y.channel (bs n) closing apart_ls there_n present_n (subst (λ (k : ℕ). IsOver n notes (record { line = k; channel = y.channel })) is o)))
-                | inr no_ ↦ inr (no_, ap (λ (b : Book). (slot_at Dce y.channel b).present) book ∙ (closed_slots notes (bs n) y.channel n closing (λ o. no_ (subst (λ (k : ℕ). IsOver n notes (record { line = k; channel = y.channel })) (sym is) o)) ∙ present_n))
-              ];
-            };
-            epochs = e.epochs;
-          }
-
-  all_over : Every IsClosing notes → Walked (And AreCalls R) (heed_all_steps routes n notes ms) ms bs1 cs (heed_all routes n notes ms)
-  all_over closing =
-      let t = closings_told R keeps routes n notes ms bs1 cs closing (marks_from notes (closed_side closing)) kept1 in
-      record { after = t.after; new = t.new; leads = t.leads; holds = (marks_calls n (heed_all routes n notes ms) t.after (cs ++ t.new) t.holds.0, t.holds.1) }
-
-  -- ---- notes of one channel
-
-  module _ (d : ℕ) (role : Role) (s : CallState) (of : AreOf d role s notes) where
-    abbrev p : Place
-    p = at n d
-
-    touches : TouchesAt p bs bs1
-    touches = record { line = subst (λ (b : Book). Touches Dce d (bs n) b) (sym here_book) (of_touches d role s notes (bs n) of); others = other_book }
-
-    one_side : (cause diagnostic : ℕ) (reason : Reason) (rest : List Note) → notes ≡ Closed d cause diagnostic reason ∷ rest → AllSided (Closed d cause diagnostic reason ∷ [])
-    one_side cause diagnostic reason rest is y m r there present = by_place (decided (same_place y p))
+    -- where nothing is said of a call that is over or comes in
+    plainly : Every IsPlain notes → Walked (And AreCalls R) (heed_all_steps routes n notes ms) ms bs1 cs (heed_all routes n notes ms)
+    plainly plain =
+        let ss = heed_all_steps routes n notes ms in
+        let lines = heed_all_lines routes n notes ms bs1 in
+        let steady = plains_steady routes n notes ms plain in
+        walked_quiet (And AreCalls R) ss ms bs1 cs (heed_all routes n notes ms) lines (steadies_none ss ms bs1 steady) (
+          subst (λ (ks : List SwitchLine). AreCalls ks (books_by_all ss ms bs1) cs) lines
+              (calls_same ms (steps.lines_after_all ss ms) bs1 (books_by_all ss ms bs1) cs mutual_ms (steadies_same ss ms bs1 steady) (calls_same ls ms bs bs1 cs mutual_ls (same_ms slots) a)),
+          steady_keep R keeps sends ss ms bs1 cs steady mutual_ms (calls_same ls ms bs bs1 cs mutual_ls (same_ms slots) a) kept1,
+        )
       where
-        first : List Note
-        first = Closed d cause diagnostic reason ∷ []
+        slots : (y : Place) (j : Joined) → joined_at ls y ≡ Some j → present_at y bs1 ≡ present_at y bs
+        slots y j e =
+            elim (number_is y.line n) [
+              | inl is ↦
+                  subst (λ (k : ℕ). (slot_at Dce y.channel (bs1 k)).present ≡ (slot_at Dce y.channel (bs k)).present) (sym is)
+                  (ap (λ (b : Book). (slot_at Dce y.channel b).present) here_book ∙ ap (λ (s : Slot). s.present) (plain_slots notes (bs n) y.channel plain))
+              | inr ne ↦ ap (λ (b : Book). (slot_at Dce y.channel b).present) (other_book y.line ne)
+            ]
 
-        here_ : y ≡ p → Sided (Closed d cause diagnostic reason ∷ []) y m r
-        here_ e =
-            let there_n : slice_get (bs n).records m ≡ Some r = ap (λ (z : Place). slice_get (bs z.line).records m) (sym e) ∙ there in
-            let present_n : (slot_at Dce d (bs n)).present ≡ Some m = ap (λ (z : Place). present_at z bs) (sym e) ∙ present in
-            let k = closed_there d m r (bs n) there_n in
-            let rests : Rests m k.it (all_told Dce rest (closes Dce d (bs n))) = event_rests Dce (Told rest ∷ []) m k.it (closes Dce d (bs n)) (record { there = k.there; not_present = closed_absent d m (bs n) apart_ls present_n }) in
-            let book : bs1 y.line ≡ all_told Dce rest (closes Dce d (bs n)) = ap (λ (z : Place). bs1 z.line) e ∙ (here_book ∙ ap (λ (ns : List Note). all_told Dce ns (bs n)) is) in
+    -- ---- some calls are over
+
+    -- a side of a call that stood, after it
+    record Sided (ns : List Note) (y : Place) (m : ℕ) (r : RecordValue) : Type 0 where
+      pub it : RecordValue
+      pub side : Side n ns bs1 y m it
+      pub epochs : SameEpochs r it
+
+    abbrev AllSided : List Note → Type 0
+    AllSided ns = (y : Place) (m : ℕ) (r : RecordValue) → slice_get (bs y.line).records m ≡ Some r → present_at y bs ≡ Some m → Sided ns y m r
+
+    in_hand : (ns : List Note) → AllSided ns → (c : JoinedCall) → Stands ls bs c → InHand n ns ms bs1 c
+    in_hand ns sides c s =
+        let r : JoinsRecords bs c.near s.join.other = joins_relay ls w bs i h c.near s.join s.joined in
+        let near_is : r.near_there.number ≡ c.came_in = same_Some r.near_there.number c.came_in (sym r.near_there.present ∙ s.near_present) in
+        let far_is : r.far_there.number ≡ c.placed = same_Some r.far_there.number c.placed (sym r.far_there.present ∙ (ap (λ (y : Place). present_at y bs) s.other ∙ s.far_present)) in
+        let x = sides c.near c.came_in r.near (ap (λ (k : ℕ). slice_get (bs c.near.line).records k) (sym near_is) ∙ r.near_there.there) s.near_present in
+        let y = sides c.far c.placed r.far (ap₂ (λ (q : Place) (k : ℕ). slice_get (bs q.line).records k) (sym s.other) (sym far_is) ∙ r.far_there.there) s.far_present in
+        record {
+          near_record = x.it;
+          far_record = y.it;
+          relayed = relayed_same r.near r.far x.it y.it x.epochs y.epochs r.relayed;
+          join = s.join;
+          joined = joined_ms c.near ∙ s.joined;
+          other = s.other;
+          came_in_here = s.came_in_here;
+          near_side = x.side;
+          far_side = y.side;
+        }
+
+    marks_from : (ns : List Note) → AllSided ns → Marks n ns ms bs1 cs
+    marks_from ns sides = record {
+      pairs = mutual_ms;
+      places = places_ms;
+      beside = beside_ms;
+      each = every_map (StandsOrEnded ls bs) (λ c. InHand n ns ms bs1 c ⊎ HasEnded bs1 c) cs (λ c s. elim s [ inl y ↦ inl (in_hand ns sides c y) | inr y ↦ inr (ended_same bs bs1 c rests_ms y) ]) a.each;
+      all = λ p j e came. let k = a.all p j (sym (joined_ms p) ∙ e) came in (k.0, k.1, k.2, in_hand ns sides k.1 k.3, k.4);
+    }
+
+    -- one elsewhere
+    side_apart : (ns : List Note) (y : Place) (m : ℕ) (r : RecordValue) → y.line ≢ n → slice_get (bs y.line).records m ≡ Some r → present_at y bs ≡ Some m → Sided ns y m r
+    side_apart ns y m r ne there present = record {
+      it = r;
+      side = record {
+        there = ap (λ (b : Book). slice_get b.records m) (other_book y.line ne) ∙ there;
+        held = inr ((λ o. ne (over_line n ns y o)), ap (λ (b : Book). (slot_at Dce y.channel b).present) (other_book y.line ne) ∙ present);
+      };
+      epochs = epochs_itself r;
+    }
+
+    -- ---- all notes say that calls are over
+
+    closed_side : Every IsClosing notes → AllSided notes
+    closed_side closing y m r there present = elim (number_is y.line n) [ inl is ↦ on_line_n is | inr ne ↦ side_apart notes y m r ne there present ]
+      where
+        on_line_n : y.line ≡ n → Sided notes y m r
+        on_line_n is =
+            let there_n : slice_get (bs n).records m ≡ Some r = ap (λ (k : ℕ). slice_get (bs k).records m) (sym is) ∙ there in
+            let present_n : (slot_at Dce y.channel (bs n)).present ≡ Some m = ap (λ (k : ℕ). (slot_at Dce y.channel (bs k)).present) (sym is) ∙ present in
+            let book : bs1 y.line ≡ all_told Dce notes (bs n) = ap (λ (k : ℕ). bs1 k) is ∙ here_book in
+            let e : HasEpochs r m (all_told Dce notes (bs n)) = closed_epochs notes r m (bs n) closing (record { it = r; there = there_n; epochs = epochs_itself r }) in
             record {
-              it = k.it;
-              side = record { there = ap (λ (b : Book). slice_get b.records m) book ∙ rests.there; held = inl (inl e, subst (λ (b : Book). IsAbsent m b) (sym book) rests.not_present) };
-              epochs = k.epochs;
-            }
-
-        not_over : same_place y p ≡ false → (y ≡ at n d) ⊎ ⊥ → ⊥
-        not_over f (inl e) = true≢false (sym (same_as y (at n d) e) ∙ f)
-        not_over f (inr z) = z
-
-        by_line : same_place y p ≡ false → (y.line ≡ n) ⊎ (y.line ≢ n) → Sided (Closed d cause diagnostic reason ∷ []) y m r
-        by_line f (inr ne) = side_apart (Closed d cause diagnostic reason ∷ []) y m r ne there present
-        by_line f (inl e) =
-            let there_n : slice_get (bs n).records m ≡ Some r = ap (λ (k : ℕ). slice_get (bs k).records m) (sym e) ∙ there in
-            let present_n : (slot_at Dce y.channel (bs n)).present ≡ Some m = ap (λ (k : ℕ). (slot_at Dce y.channel (bs k)).present) (sym e) ∙ present in
-            let other : y.channel ≡ d → ⊥ = λ c. not_over f (inl (ap₂ (λ (k c : ℕ). record { line = k; channel = c }) e c)) in
-            record {
-              it = r;
+              it = e.it;
               side = record {
-                there = ap (λ (k : ℕ). slice_get (bs1 k).records m) e ∙ touches.line.kept m r there_n (λ c. other (apart_ls.apart Dce Dce y.channel d m present_n c).1);
-                held = inr (not_over f, touched_slot p y bs bs1 f touches ∙ present);
+                there = ap (λ (b : Book). slice_get b.records m) book ∙ e.there;
+                held = elim (over_or_not n notes y) [
+                  | inl o ↦ inl (o, subst (λ (b : Book). IsAbsent m b) (sym book) (closed_gone notes r m n y.channel (bs n) closing apart_ls there_n present_n (subst (λ (k : ℕ). IsOver n notes (record { line = k; channel = y.channel })) is o)))
+                  | inr no_ ↦ inr (no_, ap (λ (b : Book). (slot_at Dce y.channel b).present) book ∙ (closed_slots notes (bs n) y.channel n closing (λ o. no_ (subst (λ (k : ℕ). IsOver n notes (record { line = k; channel = y.channel })) (sym is) o)) ∙ present_n))
+                ];
               };
-              epochs = epochs_itself r;
+              epochs = e.epochs;
             }
 
-        by_place : (same_place y p ≡ true) ⊎ (same_place y p ≡ false) → Sided (Closed d cause diagnostic reason ∷ []) y m r
-        by_place (inl t) = here_ (place_is y p t)
-        by_place (inr f) = by_line f (number_is y.line n)
+    all_over : Every IsClosing notes → Walked (And AreCalls R) (heed_all_steps routes n notes ms) ms bs1 cs (heed_all routes n notes ms)
+    all_over closing =
+        let t = closings_told R keeps routes n notes ms bs1 cs closing (marks_from notes (closed_side closing)) kept1 in
+        record { after = t.after; new = t.new; leads = t.leads; holds = (marks_calls n (heed_all routes n notes ms) t.after (cs ++ t.new) t.holds.0, t.holds.1) }
 
-    -- what is known of the channel where a call may come in
-    abbrev Comes : Type 0
-    Comes = (parts : CallParts) → IsNoted notes d parts → CameIn p parts bs1
+    -- ---- notes of one channel
 
-    one_over : (cause diagnostic : ℕ) (reason : Reason) (rest : List Note) → notes ≡ Closed d cause diagnostic reason ∷ rest → is_some (shown_at (layers_of ms) p) ≡ true → Comes
-        → Walked (And AreCalls R) (heed_all_steps routes n notes ms) ms bs1 cs (heed_all routes n notes ms)
-    one_over cause diagnostic reason rest is there comes =
-        subst (λ (ns : List Note). Walked (And AreCalls R) (heed_all_steps routes n ns ms) ms bs1 cs (heed_all routes n ns ms)) (sym is)
-        (walked_then (And (ToldOne n d [] bs1) R) (And AreCalls R) (heed_steps routes n first ms) (heed_all_steps routes n rest (heed routes n first ms)) ms (heed routes n first ms) _ bs1 cs
-        (closed_told R keeps routes n d cause diagnostic reason [] ms bs1 cs (marks_from (first ∷ []) (one_side cause diagnostic reason rest is)) kept1)
-        (λ after all t. alone_walk routes given R keeps joins n d role s rest (heed routes n first ms) after all (subst (λ (ns : List Note). AreOf d role s ns) is of).1 (record {
-          pairs = t.0.marks.pairs;
-          beside = t.0.marks.beside;
-          places = t.0.marks.places;
-          calls = marks_calls n (heed routes n first ms) after all t.0.marks;
-          none = t.0.alone;
-          there = ap (λ (ks : List SwitchLine). is_some (shown_at (layers_of ks) p)) (sym (heed_leads routes n first ms)) ∙ (there_steps (heed_steps routes n first ms) ms p ∙ there);
-          came = λ parts noted. t.0.came parts (comes parts (subst (λ (ns : List Note). IsNoted ns d parts) (sym is) (inr noted)));
-          lines = addresses_led (heed_steps routes n first ms) ms (heed routes n first ms) given (heed_leads routes n first ms) lines_ms;
-          kept = t.1;
-        })))
-      where
-        first : Note
-        first = Closed d cause diagnostic reason
-
-    one_alone : joined_at ls p ≡ None → is_some (shown_at (layers_of ms) p) ≡ true → Comes → Walked (And AreCalls R) (heed_all_steps routes n notes ms) ms bs1 cs (heed_all routes n notes ms)
-    one_alone none there comes =
-        alone_walk routes given R keeps joins n d role s notes ms bs1 cs of (record {
-          pairs = mutual_ms;
-          beside = beside_ms;
-          places = places_ms;
-          calls = calls_same ls ms bs bs1 cs mutual_ls (same_ms (λ y j e. touched_slot p y bs bs1 (not_here y j e) touches)) a;
-          none = joined_ms p ∙ none;
-          there = there;
-          came = comes;
-          lines = lines_ms;
-          kept = kept1;
-        })
-      where
-        not_here : (y : Place) (j : Joined) → joined_at ls y ≡ Some j → same_place y p ≡ false
-        not_here y j e = by_test (decided (same_place y p))
-          where
-            by_test : (same_place y p ≡ true) ⊎ (same_place y p ≡ false) → same_place y p ≡ false
-            by_test (inl t) = absurd (none-some j (sym none ∙ (ap (λ (z : Place). joined_at ls z) (sym (place_is y p t)) ∙ e)))
-            by_test (inr f) = f
-
-  -- ---- any effect
-
-  one_step : (d : ℕ) (st : Shown → Step) (e : Leg → Epoch) → IsStep d st e → ((g : Leg) → x.moves d g ≡ stepped (st (shown_of g)) (e g) g) → (ch : Channel) → channel_of l d ≡ Some ch → notes ≡ (st (seen l ch)).notes
-      → Walked (And AreCalls R) (heed_all_steps routes n notes ms) ms bs1 cs (heed_all routes n notes ms)
-  one_step d st e is leg ch found notes_seen = by_joined (joined_at ls p) refl
-    where
-      p : Place
+    module _ (d : ℕ) (role : Role) (s : CallState) (of : AreOf d role s notes) where
+      abbrev p : Place
       p = at n d
 
-      shown_p : shown_at (layers_of ls) (at n d) ≡ Some (seen l ch)
-      shown_p = ap (λ (o : Option Layer). shown_on o d) got_layer ∙ ap (λ (o : Option Channel). shown_as l o) found
+      touches : TouchesAt p bs bs1
+      touches = record { line = subst (λ (b : Book). Touches Dce d (bs n) b) (sym here_book) (of_touches d role s notes (bs n) of); others = other_book }
 
-      agree : seen l ch ≡ shown_of (w (at n d))
-      agree = (i.world (at n d) (seen l ch) shown_p).shown
-
-      notes_are : notes ≡ (st (shown_of (w (at n d)))).notes
-      notes_are = notes_seen ∙ ap (λ (y : Shown). (st y).notes) agree
-
-      of : AreOf d (w (at n d)).role (st (shown_of (w (at n d)))).channel.state notes
-      of = subst (λ (ns : List Note). AreOf d (w (at n d)).role (st (shown_of (w (at n d)))).channel.state ns) (sym notes_are) (is.notes_of_it (shown_of (w (at n d))))
-
-      there : is_some (shown_at (layers_of ms) (at n d)) ≡ true
-      there = there_step (Happens n what) ls (at n d) ∙ ap (λ (o : Option Shown). is_some o) shown_p
-
-      leg_is : v (at n d) ≡ stepped (st (shown_of (w (at n d)))) (e (w (at n d))) (w (at n d))
-      leg_is = x.here (layers_of ls) w (at n d) got_layer (eq-eqb n n refl) ∙ leg (w (at n d))
-
-      state_is : (v (at n d)).channel.state ≡ (st (shown_of (w (at n d)))).channel.state
-      state_is = ap (λ (y : Shown). y.channel.state) (ap (λ (g : Leg). shown_of g) leg_is ∙ opened_shown (st (shown_of (w (at n d)))).owes _)
-
-      role_is : (v (at n d)).role ≡ (w (at n d)).role
-      role_is = ap (λ (y : Shown). y.role) (ap (λ (g : Leg). shown_of g) leg_is ∙ opened_shown (st (shown_of (w (at n d)))).owes _)
-
-      comes : (parts : CallParts) → IsNoted notes d parts → CameIn (at n d) parts bs1
-      comes parts noted =
-          let y = some_there (shown_at (layers_of ms) (at n d)) there in
-          let has : HasSlot d (bs n) = (h n l got_layer).slots d (ap (λ (o : Option Channel). is_some o) found) in
-          let k : WrittenIn d parts (bs1 n) = subst (λ (b : Book). WrittenIn d parts b) (sym here_book) (last_written d (w (at n d)).role _ parts notes (bs n) of noted has) in
-          let may : may_accept y.0.role y.0.channel.state ≡ true =
-          ap₂ (λ (r : Role) (c : CallState). may_accept r c) (ap (λ (z : Shown). z.role) (world_ms (at n d) y.0 y.1).shown ∙ role_is) (ap (λ (z : Shown). z.channel.state) (world_ms (at n d) y.0 y.1).shown ∙ state_is)
-          ∙ noted_accepts d (w (at n d)).role _ parts notes of noted in
-          let c = some_there (slot_at Dce d (bs1 n)).caller (lines_answered ps bs1 ms (at n d) y.0 lines_kept y.1 may) in
-          record {
-            number = k.number;
-            caller = c.0;
-            present = k.present;
-            came = c.1;
-            last = sym k.caller ∙ c.1;
-            it = k.it;
-            there = k.there;
-            own = k.own;
-            far = k.far;
-          }
-
-      by_outcome : Outcome d (w (at n d)).role (w (at n d)).channel (st (shown_of (w (at n d)))) → Walked (And AreCalls R) (heed_all_steps routes n notes ms) ms bs1 cs (heed_all routes n notes ms)
-      by_outcome (ends cause diagnostic reason rest f) = one_over d (w (at n d)).role _ of cause diagnostic reason rest (notes_are ∙ f) there comes
-      by_outcome (connects f g) = plainly (subst (λ (ns : List Note). Every IsPlain ns) (sym (notes_are ∙ ap (λ (y : Step). y.notes) g)) (tt, tt))
-      by_outcome (waits f g k) = plainly (subst (λ (ns : List Note). Every IsPlain ns) (sym (notes_are ∙ ap (λ (y : Step). y.notes) g)) tt)
-      by_outcome (goes_on f g k) = plainly (subst (λ (ns : List Note). Every IsPlain ns) (sym notes_are) (goes_plain d _ k))
-
-      by_joined : (o : Option Joined) → joined_at ls (at n d) ≡ o → Walked (And AreCalls R) (heed_all_steps routes n notes ms) ms bs1 cs (heed_all routes n notes ms)
-      by_joined None f = one_alone d (w (at n d)).role _ of f there comes
-      by_joined (Some j) f = by_outcome (is.outcome (shown_of (w (at n d))) call)
+      one_side : (cause diagnostic : ℕ) (reason : Reason) (rest : List Note) → notes ≡ Closed d cause diagnostic reason ∷ rest → AllSided (Closed d cause diagnostic reason ∷ [])
+      one_side cause diagnostic reason rest is y m r there present = by_place (decided (same_place y p))
         where
-          call : had_call (w (at n d)).channel.state ≡ true
-          call = let k = i.joined (at n d) j f in elim k.pair [ inl y ↦ pair_call (w (at n d)) (w j.other) j k.other y | inr y ↦ elim y [ inl z ↦ absurd z | inr z ↦ absurd z ] ]
+          first : List Note
+          first = Closed d cause diagnostic reason ∷ []
 
-  by_effect : Effect x.moves l notes → Walked (And AreCalls R) (heed_all_steps routes n notes ms) ms bs1 cs (heed_all routes n notes ms)
-  by_effect (nothing none legs) = plainly (subst (λ (ns : List Note). Every IsPlain ns) (sym none) tt)
-  by_effect (closes_all reason is legs) = all_over (subst (λ (ns : List Note). Every IsClosing ns) (sym is) (closing_only 1 reason l.channels))
-  by_effect (on_one d st e is apart leg empty some) = by_channel (channel_of l d) refl
-    where
-      by_channel : (o : Option Channel) → channel_of l d ≡ o → Walked (And AreCalls R) (heed_all_steps routes n notes ms) ms bs1 cs (heed_all routes n notes ms)
-      by_channel None f = plainly (subst (λ (ns : List Note). Every IsPlain ns) (sym (empty f)) tt)
-      by_channel (Some ch) f = one_step d st e is leg ch f (some ch f)
+          here_ : y ≡ p → Sided (Closed d cause diagnostic reason ∷ []) y m r
+          here_ e =
+              let there_n : slice_get (bs n).records m ≡ Some r = ap (λ (z : Place). slice_get (bs z.line).records m) (sym e) ∙ there in
+              let present_n : (slot_at Dce d (bs n)).present ≡ Some m = ap (λ (z : Place). present_at z bs) (sym e) ∙ present in
+              let k = closed_there d m r (bs n) there_n in
+              let rests : Rests m k.it (all_told Dce rest (closes Dce d (bs n))) = event_rests Dce (Told rest ∷ []) m k.it (closes Dce d (bs n)) (record { there = k.there; not_present = closed_absent d m (bs n) apart_ls present_n }) in
+              let book : bs1 y.line ≡ all_told Dce rest (closes Dce d (bs n)) = ap (λ (z : Place). bs1 z.line) e ∙ (here_book ∙ ap (λ (ns : List Note). all_told Dce ns (bs n)) is) in
+              record {
+                it = k.it;
+                side = record { there = ap (λ (b : Book). slice_get b.records m) book ∙ rests.there; held = inl (inl e, subst (λ (b : Book). IsAbsent m b) (sym book) rests.not_present) };
+                epochs = k.epochs;
+              }
 
-  pub heeded_walk : Walked (And AreCalls R) (heed_all_steps routes n notes ms) ms bs1 cs (heed_all routes n notes ms)
-  heeded_walk = by_effect x.effect
+          not_over : same_place y p ≡ false → (y ≡ at n d) ⊎ ⊥ → ⊥
+          not_over f (inl e) = true≢false (sym (same_as y (at n d) e) ∙ f)
+          not_over f (inr z) = z
+
+          by_line : same_place y p ≡ false → (y.line ≡ n) ⊎ (y.line ≢ n) → Sided (Closed d cause diagnostic reason ∷ []) y m r
+          by_line f (inr ne) = side_apart (Closed d cause diagnostic reason ∷ []) y m r ne there present
+          by_line f (inl e) =
+              let there_n : slice_get (bs n).records m ≡ Some r = ap (λ (k : ℕ). slice_get (bs k).records m) (sym e) ∙ there in
+              let present_n : (slot_at Dce y.channel (bs n)).present ≡ Some m = ap (λ (k : ℕ). (slot_at Dce y.channel (bs k)).present) (sym e) ∙ present in
+              let other : y.channel ≡ d → ⊥ = λ c. not_over f (inl (ap₂ (λ (k c : ℕ). record { line = k; channel = c }) e c)) in
+              record {
+                it = r;
+                side = record {
+                  there = ap (λ (k : ℕ). slice_get (bs1 k).records m) e ∙ touches.line.kept m r there_n (λ c. other (apart_ls.apart Dce Dce y.channel d m present_n c).1);
+                  held = inr (not_over f, touched_slot p y bs bs1 f touches ∙ present);
+                };
+                epochs = epochs_itself r;
+              }
+
+          by_place : (same_place y p ≡ true) ⊎ (same_place y p ≡ false) → Sided (Closed d cause diagnostic reason ∷ []) y m r
+          by_place (inl t) = here_ (place_is y p t)
+          by_place (inr f) = by_line f (number_is y.line n)
+
+      -- what is known of the channel where a call may come in
+      abbrev Comes : Type 0
+      Comes = (parts : CallParts) → IsNoted notes d parts → CameIn p parts bs1
+
+      one_over : (cause diagnostic : ℕ) (reason : Reason) (rest : List Note) → notes ≡ Closed d cause diagnostic reason ∷ rest → is_some (shown_at (layers_of ms) p) ≡ true → Comes
+          → Walked (And AreCalls R) (heed_all_steps routes n notes ms) ms bs1 cs (heed_all routes n notes ms)
+      one_over cause diagnostic reason rest is there comes =
+          subst (λ (ns : List Note). Walked (And AreCalls R) (heed_all_steps routes n ns ms) ms bs1 cs (heed_all routes n ns ms)) (sym is)
+          (walked_then (And (ToldOne n d [] bs1) R) (And AreCalls R) (heed_steps routes n first ms) (heed_all_steps routes n rest (heed routes n first ms)) ms (heed routes n first ms) _ bs1 cs
+          (closed_told R keeps routes n d cause diagnostic reason [] ms bs1 cs (marks_from (first ∷ []) (one_side cause diagnostic reason rest is)) kept1)
+          (λ after all t. alone_walk routes given R keeps joins n d role s rest (heed routes n first ms) after all (subst (λ (ns : List Note). AreOf d role s ns) is of).1 (record {
+            pairs = t.0.marks.pairs;
+            beside = t.0.marks.beside;
+            places = t.0.marks.places;
+            calls = marks_calls n (heed routes n first ms) after all t.0.marks;
+            none = t.0.alone;
+            there = ap (λ (ks : List SwitchLine). is_some (shown_at (layers_of ks) p)) (sym (heed_leads routes n first ms)) ∙ (there_steps (heed_steps routes n first ms) ms p ∙ there);
+            came = λ parts noted. t.0.came parts (comes parts (subst (λ (ns : List Note). IsNoted ns d parts) (sym is) (inr noted)));
+            lines = addresses_led (heed_steps routes n first ms) ms (heed routes n first ms) given (heed_leads routes n first ms) lines_ms;
+            kept = t.1;
+          })))
+        where
+          first : Note
+          first = Closed d cause diagnostic reason
+
+      one_alone : joined_at ls p ≡ None → is_some (shown_at (layers_of ms) p) ≡ true → Comes → Walked (And AreCalls R) (heed_all_steps routes n notes ms) ms bs1 cs (heed_all routes n notes ms)
+      one_alone none there comes =
+          alone_walk routes given R keeps joins n d role s notes ms bs1 cs of (record {
+            pairs = mutual_ms;
+            beside = beside_ms;
+            places = places_ms;
+            calls = calls_same ls ms bs bs1 cs mutual_ls (same_ms (λ y j e. touched_slot p y bs bs1 (not_here y j e) touches)) a;
+            none = joined_ms p ∙ none;
+            there = there;
+            came = comes;
+            lines = lines_ms;
+            kept = kept1;
+          })
+        where
+          not_here : (y : Place) (j : Joined) → joined_at ls y ≡ Some j → same_place y p ≡ false
+          not_here y j e = by_test (decided (same_place y p))
+            where
+              by_test : (same_place y p ≡ true) ⊎ (same_place y p ≡ false) → same_place y p ≡ false
+              by_test (inl t) = absurd (none-some j (sym none ∙ (ap (λ (z : Place). joined_at ls z) (sym (place_is y p t)) ∙ e)))
+              by_test (inr f) = f
+
+    -- ---- any effect
+
+    one_step : (d : ℕ) (st : Shown → Step) (e : Leg → Epoch) → IsStep d st e → ((g : Leg) → x.moves d g ≡ stepped (st (shown_of g)) (e g) g) → (ch : Channel) → channel_of l d ≡ Some ch → notes ≡ (st (seen l ch)).notes
+        → Walked (And AreCalls R) (heed_all_steps routes n notes ms) ms bs1 cs (heed_all routes n notes ms)
+    one_step d st e is leg ch found notes_seen = by_joined (joined_at ls p) refl
+      where
+        p : Place
+        p = at n d
+
+        shown_p : shown_at (layers_of ls) (at n d) ≡ Some (seen l ch)
+        shown_p = ap (λ (o : Option Layer). shown_on o d) got_layer ∙ ap (λ (o : Option Channel). shown_as l o) found
+
+        agree : seen l ch ≡ shown_of (w (at n d))
+        agree = (i.world (at n d) (seen l ch) shown_p).shown
+
+        notes_are : notes ≡ (st (shown_of (w (at n d)))).notes
+        notes_are = notes_seen ∙ ap (λ (y : Shown). (st y).notes) agree
+
+        of : AreOf d (w (at n d)).role (st (shown_of (w (at n d)))).channel.state notes
+        of = subst (λ (ns : List Note). AreOf d (w (at n d)).role (st (shown_of (w (at n d)))).channel.state ns) (sym notes_are) (is.notes_of_it (shown_of (w (at n d))))
+
+        there : is_some (shown_at (layers_of ms) (at n d)) ≡ true
+        there = there_step (Happens n what) ls (at n d) ∙ ap (λ (o : Option Shown). is_some o) shown_p
+
+        leg_is : v (at n d) ≡ stepped (st (shown_of (w (at n d)))) (e (w (at n d))) (w (at n d))
+        leg_is = x.here (layers_of ls) w (at n d) got_layer (eq-eqb n n refl) ∙ leg (w (at n d))
+
+        state_is : (v (at n d)).channel.state ≡ (st (shown_of (w (at n d)))).channel.state
+        state_is = ap (λ (y : Shown). y.channel.state) (ap (λ (g : Leg). shown_of g) leg_is ∙ opened_shown (st (shown_of (w (at n d)))).owes _)
+
+        role_is : (v (at n d)).role ≡ (w (at n d)).role
+        role_is = ap (λ (y : Shown). y.role) (ap (λ (g : Leg). shown_of g) leg_is ∙ opened_shown (st (shown_of (w (at n d)))).owes _)
+
+        comes : (parts : CallParts) → IsNoted notes d parts → CameIn (at n d) parts bs1
+        comes parts noted =
+            let y = some_there (shown_at (layers_of ms) (at n d)) there in
+            let has : HasSlot d (bs n) = (h n l got_layer).slots d (ap (λ (o : Option Channel). is_some o) found) in
+            let k : WrittenIn d parts (bs1 n) = subst (λ (b : Book). WrittenIn d parts b) (sym here_book) (last_written d (w (at n d)).role _ parts notes (bs n) of noted has) in
+            let may : may_accept y.0.role y.0.channel.state ≡ true =
+            ap₂ (λ (r : Role) (c : CallState). may_accept r c) (ap (λ (z : Shown). z.role) (world_ms (at n d) y.0 y.1).shown ∙ role_is) (ap (λ (z : Shown). z.channel.state) (world_ms (at n d) y.0 y.1).shown ∙ state_is)
+            ∙ noted_accepts d (w (at n d)).role _ parts notes of noted in
+            let c = some_there (slot_at Dce d (bs1 n)).caller (lines_answered ps bs1 ms (at n d) y.0 lines_kept y.1 may) in
+            record {
+              number = k.number;
+              caller = c.0;
+              present = k.present;
+              came = c.1;
+              last = sym k.caller ∙ c.1;
+              it = k.it;
+              there = k.there;
+              own = k.own;
+              far = k.far;
+            }
+
+        by_outcome : Outcome d (w (at n d)).role (w (at n d)).channel (st (shown_of (w (at n d)))) → Walked (And AreCalls R) (heed_all_steps routes n notes ms) ms bs1 cs (heed_all routes n notes ms)
+        by_outcome (ends cause diagnostic reason rest f) = one_over d (w (at n d)).role _ of cause diagnostic reason rest (notes_are ∙ f) there comes
+        by_outcome (connects f g) = plainly (subst (λ (ns : List Note). Every IsPlain ns) (sym (notes_are ∙ ap (λ (y : Step). y.notes) g)) (tt, tt))
+        by_outcome (waits f g k) = plainly (subst (λ (ns : List Note). Every IsPlain ns) (sym (notes_are ∙ ap (λ (y : Step). y.notes) g)) tt)
+        by_outcome (goes_on f g k) = plainly (subst (λ (ns : List Note). Every IsPlain ns) (sym notes_are) (goes_plain d _ k))
+
+        by_joined : (o : Option Joined) → joined_at ls (at n d) ≡ o → Walked (And AreCalls R) (heed_all_steps routes n notes ms) ms bs1 cs (heed_all routes n notes ms)
+        by_joined None f = one_alone d (w (at n d)).role _ of f there comes
+        by_joined (Some j) f = by_outcome (is.outcome (shown_of (w (at n d))) call)
+          where
+            call : had_call (w (at n d)).channel.state ≡ true
+            call = let k = i.joined (at n d) j f in elim k.pair [ inl y ↦ pair_call (w (at n d)) (w j.other) j k.other y | inr y ↦ elim y [ inl z ↦ absurd z | inr z ↦ absurd z ] ]
+
+    by_effect : Effect x.moves l notes → Walked (And AreCalls R) (heed_all_steps routes n notes ms) ms bs1 cs (heed_all routes n notes ms)
+    by_effect (nothing none legs) = plainly (subst (λ (ns : List Note). Every IsPlain ns) (sym none) tt)
+    by_effect (closes_all reason is legs) = all_over (subst (λ (ns : List Note). Every IsClosing ns) (sym is) (closing_only 1 reason l.channels))
+    by_effect (on_one d st e is apart leg empty some) = by_channel (channel_of l d) refl
+      where
+        by_channel : (o : Option Channel) → channel_of l d ≡ o → Walked (And AreCalls R) (heed_all_steps routes n notes ms) ms bs1 cs (heed_all routes n notes ms)
+        by_channel None f = plainly (subst (λ (ns : List Note). Every IsPlain ns) (sym (empty f)) tt)
+        by_channel (Some ch) f = one_step d st e is leg ch f (some ch f)
+
+    pub heeded_walk : Walked (And AreCalls R) (heed_all_steps routes n notes ms) ms bs1 cs (heed_all routes n notes ms)
+    heeded_walk = by_effect x.effect

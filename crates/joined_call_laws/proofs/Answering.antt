@@ -35,7 +35,6 @@ use Rattle.switch_laws.proofs.Coming.{at}
 use Rattle.switch_laws.proofs.Lists.{decided, place_is}
 use Rattle.switch_laws.proofs.Outcomes.{AreOf}
 use Rattle.switch_laws.proofs.Places.{joined_kept, joined_asked, joined_here, joined_apart, place_after, place_joined}
-use Rattle.switch_laws.proofs.Frame.{apart_turned}
 use Rattle.switch_laws.proofs.SettingUp.{IsFreePlace, IsAnswer, layer_there, answer_by_is, answer_if, joins_by_route, ready_no_call}
 use Rattle.switch_record_laws.specs.Records.{call_on, leg_if, Has}
 use Rattle.switch_record_laws.specs.Written.{Books, writes_at}
@@ -170,8 +169,7 @@ cleared cause p ls bs cs m none a =
         by_test (inl t) = absurd (none-some j (sym none ∙ (ap (λ (y : Place). joined_at ls y) (sym (place_is x p t)) ∙ e)))
         by_test (inr f) = f
 
-module _ (p q : Place) (parts : CallParts) (ls : List SwitchLine) (bs : Books) (cs : List JoinedCall) (m : Mutual ls) (b : Beside ls bs) (a : AreCalls ls bs cs) (none : joined_at ls p ≡ None)
-    (p_there : is_some (shown_at (layers_of ls) p) ≡ true) (number : ℕ) (p_present : present_at p bs ≡ Some number) (f : IsFreePlace ls q) (places : (x : Place) → is_some (shown_at (layers_of ls) x) ≡ true → has_place ls x ≡ true) where
+module _ (p q : Place) (parts : CallParts) (ls : List SwitchLine) (bs : Books) (b : Beside ls bs) (none : joined_at ls p ≡ None) (number : ℕ) (p_present : present_at p bs ≡ Some number) (f : IsFreePlace ls q) where
   abbrev jp : Joined
   jp = record { other = q; came_in = true; kept = new_direction }
 
@@ -203,38 +201,8 @@ module _ (p q : Place) (parts : CallParts) (ls : List SwitchLine) (bs : Books) (
       by_test (inl t) = absurd (free_absent ls bs q number f b (ap (λ (y : Place). present_at y bs) (sym (place_is p q t)) ∙ p_present))
       by_test (inr g) = g
 
-  q_none : joined_at ls q ≡ None
-  q_none = by_joined (joined_at ls q) refl
-    where
-      by_joined : (o : Option Joined) → joined_at ls q ≡ o → joined_at ls q ≡ None
-      by_joined None e = e
-      by_joined (Some i) e = let k = joined_present ls bs cs q i a m e in absurd (free_absent ls bs q k.0 f b k.1)
-
   kept1 : (x : Place) → joined_at l1 x ≡ joined_at ls x
   kept1 x = joined_kept q.line x.line x.channel _ ls (λ l. refl)
-
-  here : joined_at ms p ≡ Some jp
-  here = joined_apart q (Some jq) p l2 apart ∙ joined_here p (Some jp) l1 (place_after q.line _ ls p (λ l. refl) ∙ places p p_there)
-
-  there : joined_at ms q ≡ Some jq
-  there = joined_here q (Some jq) l2 (place_joined p (Some jp) l1 q ∙ (place_after q.line _ ls q (λ l. refl) ∙ places q (free_there ls q f)))
-
-  else_ : (x : Place) → same_place x p ≡ false → same_place x q ≡ false → joined_at ms x ≡ joined_at ls x
-  else_ x g h = joined_apart q (Some jq) x l2 h ∙ (joined_apart p (Some jp) x l1 g ∙ kept1 x)
-
-  not_at : (y x : Place) (j : Joined) → joined_at ls y ≡ None → joined_at ls x ≡ Some j → same_place x y ≡ false
-  not_at y x j gone e = by_test (decided (same_place x y))
-    where
-      by_test : (same_place x y ≡ true) ⊎ (same_place x y ≡ false) → same_place x y ≡ false
-      by_test (inl t) = absurd (none-some j (sym gone ∙ (ap (λ (z : Place). joined_at ls z) (sym (place_is x y t)) ∙ e)))
-      by_test (inr g) = g
-
-  stay : Stay ls ms bs bs'
-  stay = record {
-    joins = λ x j e. (j, (else_ x (not_at p x j none e) (not_at q x j q_none e) ∙ e, refl));
-    slots = λ x j e. touched_slot q x bs bs' (not_at q x j q_none e) touches;
-    rests = λ k n r s. books_rest (Act.Calls q.line parts ∷ []) (layers_of ls) bs k n r s;
-  }
 
   near_now : present_at p bs' ≡ Some number
   near_now = touched_slot q p bs bs' apart touches ∙ p_present
@@ -242,35 +210,72 @@ module _ (p q : Place) (parts : CallParts) (ls : List SwitchLine) (bs : Books) (
   far_now : present_at q bs' ≡ Some (length (bs q.line).records)
   far_now = placed_present q parts ls bs f b
 
-  stands : Stands ms bs' made
-  stands = record { join = jp; joined = here; other = refl; came_in_here = refl; near_present = near_now; far_present = far_now }
-
-  calls_then : AreCalls ms bs' (cs ++ made ∷ [])
-  calls_then = record {
-    each = every_last (StandsOrEnded ms bs') cs made (every_map (StandsOrEnded ls bs) (StandsOrEnded ms bs') cs (λ c s. one_stays ls ms bs bs' c m stay s) a.each) (inl stands);
-    all = λ x j e came. by_place x j e came (decided (same_place x p)) (decided (same_place x q));
-  }
-    where
-      by_place : (x : Place) (j : Joined) → joined_at ms x ≡ Some j → j.came_in ≡ true → (same_place x p ≡ true) ⊎ (same_place x p ≡ false) → (same_place x q ≡ true) ⊎ (same_place x q ≡ false)
-          → (i : ℕ) × (c : JoinedCall) × (slice_get (cs ++ made ∷ []) i ≡ Some c) × Stands ms bs' c × (c.near ≡ x)
-      by_place x j e came (inl t) v = (length cs, made, get_last cs made, stands, sym (place_is x p t))
-      by_place x j e came (inr g) (inl t) =
-          let is : jq ≡ j = same_Some jq j (sym there ∙ (ap (λ (y : Place). joined_at ms y) (sym (place_is x q t)) ∙ e)) in
-          absurd (true≢false (sym came ∙ ap (λ (i : Joined). i.came_in) (sym is)))
-      by_place x j e came (inr g) (inr h) =
-          let c = a.all x j (sym (else_ x g h) ∙ e) came in
-          (c.0, c.1, get_before cs (made ∷ []) c.0 c.1 c.2, stands_stay ls ms bs bs' c.1 m stay c.3, c.4)
-
   made_is : made_call (joined_at l1 p) p jp bs' ≡ made ∷ []
   made_is =
       ap (λ (o : Option Joined). made_call o p jp bs') (kept1 p ∙ none)
       ∙ (ap (λ (o : Option ℕ). numbered p q o (present_at q bs')) near_now ∙ ap (λ (o : Option ℕ). numbered p q (Some number) o) far_now)
 
   none_made : made_call (joined_at l2 q) q jq bs' ≡ []
-  none_made = ap (λ (o : Option Joined). made_call o q jq bs') (joined_apart p (Some jp) q l1 (apart_turned p q apart) ∙ (kept1 q ∙ q_none))
+  none_made = by_joined (joined_at l2 q)
+    where
+      by_joined : (o : Option Joined) → made_call o q jq bs' ≡ []
+      by_joined None = refl
+      by_joined (Some i) = refl
 
-  joins_lead : Leads (Places q.line parts ∷ Keeps p (Some jp) ∷ Keeps q (Some jq) ∷ []) ls bs ms bs' (made ∷ [])
+  pub joins_lead : Leads (Places q.line parts ∷ Keeps p (Some jp) ∷ Keeps q (Some jq) ∷ []) ls bs ms bs' (made ∷ [])
   joins_lead = record { lines = refl; books = refl; calls = ap₂ (λ (xs ys : List JoinedCall). xs ++ (ys ++ [])) made_is none_made }
+
+  -- the calls that were joined before stay, and this one stands
+
+  module _ (cs : List JoinedCall) (m : Mutual ls) (a : AreCalls ls bs cs) (p_there : is_some (shown_at (layers_of ls) p) ≡ true) (places : (x : Place) → is_some (shown_at (layers_of ls) x) ≡ true → has_place ls x ≡ true) where
+    q_none : joined_at ls q ≡ None
+    q_none = by_joined (joined_at ls q) refl
+      where
+        by_joined : (o : Option Joined) → joined_at ls q ≡ o → joined_at ls q ≡ None
+        by_joined None e = e
+        by_joined (Some i) e = let k = joined_present ls bs cs q i a m e in absurd (free_absent ls bs q k.0 f b k.1)
+
+    here : joined_at ms p ≡ Some jp
+    here = joined_apart q (Some jq) p l2 apart ∙ joined_here p (Some jp) l1 (place_after q.line _ ls p (λ l. refl) ∙ places p p_there)
+
+    there : joined_at ms q ≡ Some jq
+    there = joined_here q (Some jq) l2 (place_joined p (Some jp) l1 q ∙ (place_after q.line _ ls q (λ l. refl) ∙ places q (free_there ls q f)))
+
+    else_ : (x : Place) → same_place x p ≡ false → same_place x q ≡ false → joined_at ms x ≡ joined_at ls x
+    else_ x g h = joined_apart q (Some jq) x l2 h ∙ (joined_apart p (Some jp) x l1 g ∙ kept1 x)
+
+    not_at : (y x : Place) (j : Joined) → joined_at ls y ≡ None → joined_at ls x ≡ Some j → same_place x y ≡ false
+    not_at y x j gone e = by_test (decided (same_place x y))
+      where
+        by_test : (same_place x y ≡ true) ⊎ (same_place x y ≡ false) → same_place x y ≡ false
+        by_test (inl t) = absurd (none-some j (sym gone ∙ (ap (λ (z : Place). joined_at ls z) (sym (place_is x y t)) ∙ e)))
+        by_test (inr g) = g
+
+    stay : Stay ls ms bs bs'
+    stay = record {
+      joins = λ x j e. (j, (else_ x (not_at p x j none e) (not_at q x j q_none e) ∙ e, refl));
+      slots = λ x j e. touched_slot q x bs bs' (not_at q x j q_none e) touches;
+      rests = λ k n r s. books_rest (Act.Calls q.line parts ∷ []) (layers_of ls) bs k n r s;
+    }
+
+    stands : Stands ms bs' made
+    stands = record { join = jp; joined = here; other = refl; came_in_here = refl; near_present = near_now; far_present = far_now }
+
+    calls_then : AreCalls ms bs' (cs ++ made ∷ [])
+    calls_then = record {
+      each = every_last (StandsOrEnded ms bs') cs made (every_map (StandsOrEnded ls bs) (StandsOrEnded ms bs') cs (λ c s. one_stays ls ms bs bs' c m stay s) a.each) (inl stands);
+      all = λ x j e came. by_place x j e came (decided (same_place x p)) (decided (same_place x q));
+    }
+      where
+        by_place : (x : Place) (j : Joined) → joined_at ms x ≡ Some j → j.came_in ≡ true → (same_place x p ≡ true) ⊎ (same_place x p ≡ false) → (same_place x q ≡ true) ⊎ (same_place x q ≡ false)
+            → (i : ℕ) × (c : JoinedCall) × (slice_get (cs ++ made ∷ []) i ≡ Some c) × Stands ms bs' c × (c.near ≡ x)
+        by_place x j e came (inl t) v = (length cs, made, get_last cs made, stands, sym (place_is x p t))
+        by_place x j e came (inr g) (inl t) =
+            let is : jq ≡ j = same_Some jq j (sym there ∙ (ap (λ (y : Place). joined_at ms y) (sym (place_is x q t)) ∙ e)) in
+            absurd (true≢false (sym came ∙ ap (λ (i : Joined). i.came_in) (sym is)))
+        by_place x j e came (inr g) (inr h) =
+            let c = a.all x j (sym (else_ x g h) ∙ e) came in
+            (c.0, c.1, get_before cs (made ∷ []) c.0 c.1 c.2, stands_stay ls ms bs bs' c.1 m stay c.3, c.4)
 
 -- ---- answered
 
@@ -289,9 +294,9 @@ module _ (routes : RouteMap) (given : List (List ℕ)) (R : Books → List Joine
       record {
         after = books_by (Places q.line to) ls bs;
         new = record { near = p; far = q; came_in = came.number; placed = length (bs q.line).records } ∷ [];
-        leads = joins_lead p q to ls bs cs m b a none was came.number came.present f places;
+        leads = joins_lead p q to ls bs b none came.number came.present f;
         holds = (
-          calls_then p q to ls bs cs m b a none was came.number came.present f places,
+          calls_then p q to ls bs b none came.number came.present f cs m a was places,
           joins p q parts ls bs cs (record {
             calls = a;
             beside = b;
@@ -299,7 +304,7 @@ module _ (routes : RouteMap) (given : List (List ℕ)) (R : Books → List Joine
             not_joined = none;
             free = f;
             routed = joins_by_route routes ls parts q is;
-            apart = apart p q to ls bs cs m b a none was came.number came.present f places;
+            apart = apart p q to ls bs b none came.number came.present f;
             lines = same;
             there = was;
           }) r,

@@ -1,5 +1,5 @@
 -- Whole events of a switch.
-use Rattle.std.specs.Prelude.{◌≡◌, ℕ, zero, suc, ◌*◌, ◌⊎◌, Bool, true, false, List, [], ◌∷◌, ◌++◌, length, slice_get, Option, Some, None}
+use Rattle.std.specs.Prelude.{◌≡◌, ℕ, zero, suc, ◌*◌, ◌⊎◌, Bool, true, false, List, [], ◌∷◌, ◌++◌, length, map, slice_get, Option, Some, None}
 use Rattle.std.proofs.Common.{inl, inr, refl, sym, ap, subst, ◌∙◌}
 use Rattle.std.proofs.lemmas.Option.{none-some, same_Some}
 use Rattle.link_timers.specs.declared.role.Role.TheVariants.{Dte, Dce}
@@ -17,7 +17,7 @@ use Rattle.switch_laws.specs.Steps.{Step, Happening, does, lines_after, lines_af
 use Rattle.switch_laws.specs.Steps.Happening.{Brings, RunsOut, Relinks}
 use Rattle.switch_laws.specs.Steps.Step.{Begins, Settles, Happens}
 use Rattle.switch_laws.specs.EventSteps.{heed_all_steps, acted_steps, relinked_steps, all_relinked_steps, rounds_steps, finished_steps, event_steps}
-use Rattle.switch_laws.proofs.Leading.{rounds_leads}
+use Rattle.switch_laws.proofs.Leading.{rounds_leads, acted_leads}
 use Rattle.switch_laws.proofs.Finishing.{begun_right}
 use Rattle.switch_laws.proofs.Turning.{EndEffect, acted_right, relinked_effect, got_changed, changed_none}
 use Rattle.switch_laws.proofs.Keeping.{layers_on_ends}
@@ -37,13 +37,14 @@ use Rattle.call_records.specs.Book.{Book, slot_at, all_told, closes}
 use Rattle.call_records.specs.Writes.{Write, all_written}
 use Rattle.call_records.specs.Writes.Write.{Told}
 use Rattle.book_laws.proofs.Writing.{closed_all}
+use Rattle.switch_lines.specs.NewJoins.{joins_acted}
 use Rattle.switch_lines.specs.Switch.{elapse, restart}
 use Rattle.switch_laws.specs.Leg.{Leg}
 use Rattle.switch_laws.specs.World.{shown_at}
 use Rattle.switch_laws.specs.Joined.{IsPair}
 use Rattle.switch_laws.specs.Events.{new_legs}
 use Rattle.switch_laws.specs.Steps.Step.{Elapses}
-use Rattle.switch_laws.proofs.Finishing.{readable, restarted_joined}
+use Rattle.switch_laws.proofs.Finishing.{begun_line, readable, restarted_joined}
 use Rattle.switch_laws.proofs.Happening.{events_hold}
 use Rattle.switch_laws.proofs.Places.{joined_kept}
 use Rattle.switch_laws.proofs.SettingUp.{pair_call}
@@ -59,7 +60,7 @@ use Rattle.switch_record_laws.proofs.Partner.{writes_keep}
 use Rattle.switch_record_laws.proofs.Relaying.{joins_relay}
 use Rattle.switch_record_laws.proofs.Resting.{event_rests}
 use Rattle.joined_call_laws.specs.Calls.{present_at, Stands, HasEnded, StandsOrEnded}
-use Rattle.joined_call_laws.specs.Law.{calls_in, BeginCalls, FrameCalls, TimerCalls, ElapseCalls, RestartCalls, OutCalls, written_there, PartnerCalls, HasRelayed, RelayedCalls, CallsLaw}
+use Rattle.joined_call_laws.specs.Law.{join_of_call, calls_in, BeginCalls, FrameCalls, TimerCalls, ElapseCalls, RestartCalls, OutCalls, written_there, PartnerCalls, HasRelayed, RelayedCalls, NewJoinsLaw, CallsLaw}
 use Rattle.joined_call_laws.proofs.Steady.{shape, ended_same}
 use Rattle.joined_call_laws.proofs.Closing.{SameEpochs, epochs_itself, relayed_same, closed_none, RestsWith, records_at}
 use Rattle.joined_call_laws.proofs.Telling.{IsClosing}
@@ -72,7 +73,8 @@ use Rattle.switch_record_laws.specs.Kept.{Partners, AreKept, partners_after, par
 use Rattle.switch_record_laws.proofs.Stepping.{steps_kept}
 use Rattle.switch_record_laws.proofs.Calming.{addresses, Addressed, addressed, addressed_then, calm_fit, heeded_calm}
 use Rattle.joined_call_laws.proofs.Acting.{closed_epochs, closing_only}
-use Rattle.joined_call_laws.specs.Calls.{JoinedCall, books_by, books_by_all, AreCalls}
+use Rattle.joined_call_laws.proofs.NewCalls.{calls_then, acted_as_said, finished_none, timer_joins_none, no_calls}
+use Rattle.joined_call_laws.specs.Calls.{JoinedCall, books_by, books_by_all, calls_of_all, AreCalls}
 use Rattle.joined_call_laws.proofs.Steady.{Mutual, switch_mutual, IsMildAct, acts_slots, books_rest, every_map, calls_same, AreSteady, steady_same, steady_then, steadies_same, steadies_none, rounds_steady, mutual_both}
 use Rattle.joined_call_laws.proofs.Walking.{books_are, leads_first, leads_then, Walked, walked_then, walked_quiet, Beside}
 use Rattle.joined_call_laws.proofs.Acting.{heeded_walk}
@@ -147,7 +149,7 @@ module _ (routes : RouteMap) (given : List (List ℕ)) (R : Books → List Joine
       by_line : (o : Option SwitchLine) → slice_get ls n ≡ o → Walked (And AreCalls R) (acted_steps routes n what ls) ls bs cs (acted routes n (does what) ls)
       by_line (Some line) e =
           first (subst (λ (o : Option SwitchLine). Walked (And AreCalls R) (heed_all_steps routes n (notes_of o) ms) ms (books_by (Happens n what) ls bs) cs (heed_all routes n (notes_of o) ms)) (sym (got_changed n g ls line e))
-          (heeded_walk routes n what ls x.legs bs cs x.switch x.records x.calls line e (eff line e) given x.lines R keeps sends joins r (partners_after (Happens n what) x.partners) then_kept))
+          (heeded_walk routes n what ls x.legs bs x.switch x.records line e (eff line e) cs x.calls given x.lines R keeps sends joins r (partners_after (Happens n what) x.partners) then_kept))
       by_line None e =
           let gone : slice_get l1 n ≡ None = ap (λ (ks : List SwitchLine). slice_get ks n) (changed_none n g ls e) ∙ e in
           let same : ms ≡ ls = changed_none n (with_end without_notes) l1 gone ∙ changed_none n g ls e in
@@ -213,17 +215,20 @@ module _ (routes : RouteMap) (given : List (List ℕ)) (R : Books → List Joine
 
 -- ---- of a switch that is kept
 
+-- with its legs, as an event begins
+begun_switch : (s : Switch) (h : Histories) → IsTied s h → IsSwitch (all_begun s.lines) h.legs
+begun_switch s h i = let b = begun_right s.lines h.legs i.holds.joins in subst (λ (v : World). IsSwitch (all_begun s.lines) v) b.reached.legs b.right
+
 module _ (R : Books → List JoinedCall → Type 0) (keeps : KeptQuietly R) (sends : KeptSending R) where
   -- the calls after an event, and what is kept beside them
   pub calls_after : (n : ℕ) (what : Happening) (s t : Switch) (h : Histories) (cs : List JoinedCall) → KeptJoining s.routes (addresses s.lines) R → t.lines ≡ finished s.routes n (acted s.routes n (does what) (all_begun s.lines))
       → ((line : SwitchLine) → slice_get (all_begun s.lines) n ≡ Some line → EndEffect n what line.end) → ReadsOctets what → IsFit (Happens n what) h.partners → IsTied s h → AreCalls s.lines h.books cs → R h.books cs
       → And AreCalls R t.lines (happened n what s h).books (cs ++ calls_in n what s h)
   calls_after n what s t h cs joins is eff reads fits i a r =
-      let b = begun_right s.lines h.legs i.holds.joins in
       let ls = all_begun s.lines in
       let begun_good : Good (addresses s.lines) ls h.books cs = record {
         legs = h.legs;
-        switch = subst (λ (v : World). IsSwitch ls v) b.reached.legs b.right;
+        switch = begun_switch s h i;
         records = begun_records s.lines h.legs h.books i.records;
         calls = calls_same s.lines ls h.books h.books cs (switch_mutual s.lines h.legs i.holds.joins) (steady_same Begins s.lines h.books tt) a;
         partners = h.partners;
@@ -236,11 +241,6 @@ module _ (R : Books → List JoinedCall → Type 0) (keeps : KeptQuietly R) (sen
       subst (λ (ms : List SwitchLine). And AreCalls R ms (happened n what s h).books (cs ++ calls_in n what s h)) (sym is)
       (subst (λ (new : List JoinedCall). And AreCalls R (finished s.routes n (acted s.routes n (does what) ls)) (happened n what s h).books (cs ++ new)) (sym x.leads.calls)
       (subst (λ (y : Books). And AreCalls R (finished s.routes n (acted s.routes n (does what) ls)) y (cs ++ x.new)) (sym x.leads.books ∙ books_are ss s.lines h.books) x.holds))
-
-begun_line : (n : ℕ) (ls : List SwitchLine) (line : SwitchLine) → slice_get (all_begun ls) n ≡ Some line → (old : SwitchLine) × ((slice_get ls n ≡ Some old) × (with_end begun old ≡ line))
-begun_line n [] line e = absurd (none-some line e)
-begun_line zero (l ∷ ls) line e = (l, (refl, same_Some _ line e))
-begun_line (suc n) (l ∷ ls) line e = begun_line n ls line e
 
 pub frame_effect : (n : ℕ) (octets : Octets) (ls : List SwitchLine) → AreOctets octets → (line : SwitchLine) → slice_get (all_begun ls) n ≡ Some line → EndEffect n (Brings octets) line.end
 frame_effect n octets ls are line e =
@@ -259,6 +259,27 @@ timer_calls : TimerCalls
 unfolding nothing_beside
 timer_calls n id s h cs i a =
     (calls_after nothing_beside (λ acts ys bs ds q r. tt) (λ p q j ls bs ds m a e r. tt) n (RunsOut id) s (on_timer n id s) h cs (λ p q parts ls bs ds j r. tt) refl (λ line e. timer_effect n id line.end) tt tt i a tt).0
+
+-- ---- the calls that an event joins
+
+event_as_said : (n : ℕ) (what : Happening) (s : Switch) (h : Histories) → IsTied s h → ((line : SwitchLine) → slice_get (all_begun s.lines) n ≡ Some line → EndEffect n what line.end)
+    → map join_of_call (calls_in n what s h) ≡ joins_acted s.routes n (does what) (all_begun s.lines)
+event_as_said n what s h i eff =
+    let ls = all_begun s.lines in
+    let ms = acted s.routes n (does what) ls in
+    let first = acted_steps s.routes n what ls in
+    let switch = begun_switch s h i in
+    let after = acted_right s.routes n what ls h.legs switch eff in
+    ap (λ (cs : List JoinedCall). map join_of_call cs)
+    (calls_then first (finished_steps s.routes n ms) ls ms h.books (acted_leads s.routes n what ls)
+    ∙ (ap (λ (cs : List JoinedCall). calls_of_all first ls h.books ++ cs) (finished_none s.routes n ms after.world (books_by_all first ls h.books) after.right) ∙ append-nil (calls_of_all first ls h.books)))
+    ∙ acted_as_said s.routes n what ls h.legs h.books switch (begun_records s.lines h.legs h.books i.records) eff
+
+new_joins_law : NewJoinsLaw
+new_joins_law = record {
+  frames = λ n octets s h are i. event_as_said n (Brings octets) s h i (frame_effect n octets s.lines are);
+  timers = λ n id s h i. no_calls (calls_in n (RunsOut id) s h) (event_as_said n (RunsOut id) s h i (λ line e. timer_effect n id line.end) ∙ timer_joins_none s.routes n id (all_begun s.lines));
+}
 
 -- ---- the others
 
@@ -408,4 +429,5 @@ calls_hold = record {
   out = out_calls;
   partner = partner_calls;
   relayed = relayed_calls;
+  new = new_joins_law;
 }

@@ -252,7 +252,7 @@ incoming_written d parts b h =
       present = o.present;
       caller =
           ap (λ (s : Slot). s.caller)
-          (slot_here Dce d (record { present = Some (length b.records); placed = (slot_at Dce d b).placed; caller = (slot_at Dte d b).placed }) (with_record (new_record (length b.records) (side_of Dce b).node (address_of parts.called) (address_of parts.calling)) b) h.0 h.1);
+          (slot_here Dce d (record { present = Some (length b.records); placed = (slot_at Dce d b).placed; caller = (slot_at Dte d b).placed }) (with_record (new_record (length b.records) (side_of Dce b).node (address_of parts.called) (address_of parts.calling) (slot_at Dte d b).placed) b) h.0 h.1);
       it = o.it;
       there = o.there;
       own = o.own_is;

@@ -5,4 +5,5 @@ pub mod Closing
 pub mod Telling
 pub mod Answering
 pub mod Acting
+pub mod NewCalls
 pub mod Eventing

@@ -1,5 +1,5 @@
 -- What becomes of the calls that a switch joined, whatever its partners send.
-use Rattle.std.specs.Prelude.{◌≡◌, ℕ, ◌==◌, if◌then◌else◌, List, [], ◌++◌, slice_get, Some}
+use Rattle.std.specs.Prelude.{◌≡◌, ℕ, ◌==◌, if◌then◌else◌, List, [], ◌++◌, map, slice_get, Some}
 use Rattle.link_timers.specs.declared.role.Role.TheVariants.{Dte}
 use Rattle.link_timers.specs.declared.timers.TimerId.{TimerId}
 use Rattle.lapb.specs.Machine.{Octets}
@@ -9,6 +9,8 @@ use Rattle.call_records.specs.Writes.{Write, all_written}
 use Rattle.address_routes.specs.Routes.{RouteMap}
 use Rattle.switch_lines.specs.declared.config.LineConfig.{LineConfig}
 use Rattle.switch_lines.specs.Making.{IsConfig, made}
+use Rattle.switch_lines.specs.declared.place.NewJoin.{NewJoin}
+use Rattle.switch_lines.specs.NewJoins.{new_joins}
 use Rattle.switch_lines.specs.Switch.{Switch, on_frame, on_timer, elapse, restart}
 use Rattle.switch_laws.specs.Turn.{AreOctets}
 use Rattle.switch_laws.specs.Steps.{Happening}
@@ -23,6 +25,15 @@ use Rattle.joined_call_laws.specs.Calls.{JoinedCall, AreCalls, calls_of_all}
 -- those that an event on line n joins
 abbrev pub calls_in : (line : ℕ) → Happening → Switch → Histories → List JoinedCall
 calls_in n what s h = calls_of_all (event_steps s.routes n what s.lines) s.lines h.books
+
+-- they are those of which a switch tells when it has taken a frame, and an expiry joins none
+abbrev pub join_of_call : JoinedCall → NewJoin
+join_of_call c = record { came_in = c.near; placed = c.far }
+
+pub record NewJoinsLaw : Type 0 where
+  pub frames : (n : ℕ) (octets : Octets) (s : Switch) (h : Histories) → AreOctets octets → IsTied s h
+      → map join_of_call (calls_in n (Brings octets) s h) ≡ new_joins n octets s
+  pub timers : (n : ℕ) (id : TimerId) (s : Switch) (h : Histories) → IsTied s h → calls_in n (RunsOut id) s h ≡ []
 
 -- a switch as it is made has none
 abbrev pub BeginCalls : Type 0
@@ -84,3 +95,4 @@ pub record CallsLaw : Type 0 where
   pub out : OutCalls
   pub partner : PartnerCalls
   pub relayed : RelayedCalls
+  pub new : NewJoinsLaw

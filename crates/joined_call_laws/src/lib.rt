@@ -7,6 +7,7 @@ ghost use Rattle.joined_call_laws.specs.Law.{CallsLaw};
 /// making to its end and from then on. While it stands they are the present records of its channels; when it is over
 /// they stay as they are. At all times what the switch sent on one leg is, reset by reset, what it took on the other
 /// (X.25 4.3.3, 4.4.3). So it is over each event of the switch, restarts among them, and whatever its partners write.
+/// The calls that a frame joins are those that the switch answers, and an expiry joins none.
 pub fn joined_call_law()
     ensures { CallsLaw }
 {}

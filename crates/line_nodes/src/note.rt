@@ -1,9 +1,10 @@
 //! What a host is told of its calls.
-ghost use Rattle.std.specs.Prelude.{◌≡◌};
-ghost use Rattle.std.specs.Option.{option_to_list};
+ghost use Rattle.std.specs.Prelude.{◌≡◌, ◌<◌, ◌++◌, vec_len, vec_capacity};
 ghost use Rattle.packet_layer.specs.NoteView.{note_of};
+ghost use Rattle.call_records.specs.Book.{address_of};
 ghost use Rattle.line_nodes.specs.Notes.{host_note};
 
+use packet_codec::{Address, CallBuf};
 use packet_layer::LayerNote;
 
 /// A change of a call that the host's user did not make.
@@ -19,8 +20,8 @@ pub struct HostNote {
 /// What changed.
 #[derive(Clone, Copy, Debug, PartialEq, Eq)]
 pub enum NoteKind {
-    /// A call came in (X.25 4.1.3).
-    Incoming,
+    /// A call came in, with the address that it gives as the calling one, if it gives one (X.25 4.1.3).
+    Incoming { calling: Option<Address> },
     /// The far end accepted the call (X.25 4.1.5).
     Connected,
     /// The call is over, for this cause and diagnostic (X.25 5.2.4).
@@ -29,33 +30,46 @@ pub enum NoteKind {
     Reset { cause: u8, diagnostic: u8 },
 }
 
-impl HostNote {
-    /// What the user of a host is told by a note of its packet layer: neither that an interrupt was confirmed nor that
-    /// packets sent were covered.
-    pub(crate) fn of(node: usize, note: &LayerNote) -> Option<HostNote>
-        ensures { option_to_list result ≡ host_note node (note_of note.now) }
-    {
-        let (channel, kind) = match *note {
-            LayerNote::Incoming(channel, _) => (channel, NoteKind::Incoming),
-            LayerNote::Connected(channel) => (channel, NoteKind::Connected),
-            LayerNote::Closed {
-                channel,
-                cause,
-                diagnostic,
-                ..
-            } => (channel, NoteKind::Cleared { cause, diagnostic }),
-            LayerNote::Reset {
-                channel,
-                cause,
-                diagnostic,
-                ..
-            } => (channel, NoteKind::Reset { cause, diagnostic }),
-            LayerNote::InterruptConfirmed(_) | LayerNote::Covered { .. } => return None,
-        };
-        Some(HostNote {
-            node,
+/// Lists what the user of a host is told by a note of its packet layer, if anything: neither that an interrupt was confirmed
+/// nor that packets sent were covered.
+pub(crate) fn list_note(node: usize, note: &LayerNote, notes: &mut Vec<HostNote>)
+    requires { vec_len notes.old < vec_capacity notes.old }
+    ensures listed { notes.new.items ≡ notes.old.items ++ host_note node (note_of note.now) }
+    ensures capacity { vec_capacity notes.new ≡ vec_capacity notes.old }
+{
+    let (channel, kind) = match *note {
+        LayerNote::Incoming(channel, ref call) => {
+            let calling = calling_of(call);
+            (channel, NoteKind::Incoming { calling })
+        }
+        LayerNote::Connected(channel) => (channel, NoteKind::Connected),
+        LayerNote::Closed {
             channel,
-            kind,
-        })
+            cause,
+            diagnostic,
+            ..
+        } => (channel, NoteKind::Cleared { cause, diagnostic }),
+        LayerNote::Reset {
+            channel,
+            cause,
+            diagnostic,
+            ..
+        } => (channel, NoteKind::Reset { cause, diagnostic }),
+        LayerNote::InterruptConfirmed(_) | LayerNote::Covered { .. } => return,
+    };
+    notes.push_reserved(HostNote {
+        node,
+        channel,
+        kind,
+    });
+}
+
+// The address that a call gives as the calling one, if it gives one.
+fn calling_of(call: &CallBuf) -> Option<Address>
+    ensures { result ≡ address_of call.now.calling }
+{
+    match &call.data().calling {
+        Some(address) => Some(Address::new(address.digits())),
+        None => None,
     }
 }

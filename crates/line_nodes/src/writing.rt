@@ -12,7 +12,7 @@ ghost use Rattle.line_nodes.specs.HostTurns.{let_go};
 ghost use Rattle.line_nodes.specs.Writing.{request_written, IsShort, IsRoomFor};
 
 use crate::node::Node;
-use crate::note::HostNote;
+use crate::note::{HostNote, list_note};
 use crate::place::Place;
 use call_records::Book;
 use link_timers::Role;
@@ -112,9 +112,7 @@ fn write_host_notes(host: &mut Host, at: Place, book: &mut Book, notes: &mut Vec
     for _ in 0..host.waiting_notes() {
         if let Some(note) = host.notes() {
             book.tell(at.role, &note);
-            if let Some(kept) = HostNote::of(at.node, &note) {
-                notes.push_reserved(kept);
-            }
+            list_note(at.node, &note, notes);
         }
     }
 }

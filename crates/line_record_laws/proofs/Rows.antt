@@ -121,6 +121,7 @@ caller = record {
   node = 3;
   own = None;
   far = Some (2 ∷ 0 ∷ 0 ∷ 1 ∷ []);
+  caller = None;
   sent_before = [];
   sent = record { packets = packet_of hi ∷ []; interrupts = []; covered = 1 };
   taken_before = [];
@@ -135,6 +136,7 @@ callee = record {
   node = 5;
   own = Some (2 ∷ 0 ∷ 0 ∷ 1 ∷ []);
   far = None;
+  caller = Some 0;
   sent_before = [];
   sent = nothing_sent;
   taken_before = [];

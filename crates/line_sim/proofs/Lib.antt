@@ -1,3 +1,4 @@
+mod Registered
 mod Standing
 mod Events
 mod FewerDue

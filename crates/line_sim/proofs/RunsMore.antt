@@ -14,7 +14,7 @@ use Rattle.net_events.specs.declared.event.Event.{Event}
 use Rattle.net_events.specs.declared.event.Event.TheVariants.{AtTerminal, Call, Ask, Take, Deliver, Lose, Expire, Relink, Restart}
 use Rattle.net_events.specs.declared.event.StepFault.{StepFault}
 use Rattle.net_events.specs.declared.event.StepFault.TheVariants.{OutOfMemory, NoSuchNode, NoSuchTerminal, NoSuchCall}
-use Rattle.net_nodes.specs.Places.{is_host_at, pad_terminals}
+use Rattle.net_nodes.specs.Places.{is_host_at, pad_terminals, user_at}
 use Rattle.net_nodes.specs.Faults.{step_fault, refused, at_node, at_host, is_channel_at, on_channel, stands_at, at_terminal, where_there_is, takes_memory, MayWant}
 use Rattle.net_nodes.specs.Happening.{Happens}
 use Rattle.line_sim.specs.Runs.{IsHandled, Ran, HasRun, HasStopped}
@@ -72,8 +72,8 @@ on_host : (place : ℕ) (s : Network) (fault : PlacedNode → Option StepFault)
     → ((n : PlacedNode) → fault n ≡ Some OutOfMemory → ⊥) → at_host place s fault ≡ Some OutOfMemory → ⊥
 on_host place s fault none = by (is_host_at place s)
   where
-    by : (is_host : Bool) → (if is_host then at_node (slice_get s.nodes place) fault else Some NoSuchNode) ≡ Some OutOfMemory → ⊥
-    by true e = at_some (slice_get s.nodes place) fault none e
+    by : (is_host : Bool) → (if is_host then at_node (user_at place s) fault else Some NoSuchNode) ≡ Some OutOfMemory → ⊥
+    by true e = at_some (user_at place s) fault none e
     by false e = absurd (cc)
 
 on_terminal : (terminal : ℕ) (o : Option ℕ) → at_terminal terminal o ≡ Some OutOfMemory → ⊥

@@ -4,5 +4,6 @@ pub use Rattle.net_nodes.specs.Happening
 pub use Rattle.net_nodes.specs.Due
 pub use Rattle.net_nodes.specs.Questions
 pub use Rattle.network_laws.specs.DueCount
+pub mod Between
 pub mod Runs
 pub mod Expiries

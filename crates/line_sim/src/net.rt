@@ -2,7 +2,7 @@
 ghost use Rattle.std.specs.Prelude.{◌≡◌, ◌≢◌, true, false, map, Err, IsOkUnless, IfOk, OnErr, vec_len};
 ghost use Rattle.call_records.specs.RecordView.{shown, pair_of};
 ghost use Rattle.net_events.specs.Network.{all_elapsed};
-ghost use Rattle.network_laws.specs.Promise.{NetworkHolds};
+ghost use Rattle.switch_network_laws.specs.Promise.{NetworkPromise};
 ghost use Rattle.network_laws.specs.Rest.{MissesNothing, IsDelivered};
 ghost use Rattle.net_config.specs.declared.fault.MakeFault.TheVariants as make_fault_is;
 ghost use Rattle.net_config.specs.Served.{is_served};
@@ -22,23 +22,29 @@ use net_nodes::Nodes;
 use std::alloc::Global;
 use std::marker::Model;
 
-/// A network of PADs and hosts, each at one end of one line, between a PAD or a host, as DTE, and a host, as DCE. It
-/// may fall into parts. On the line of a PAD a call may stand, where it is the only line.
+/// A network of PADs and hosts, each at one end of one line, with at most one switch. A line is between a PAD or a
+/// host, as DTE, and a host or the switch, as DCE. The network may fall into parts. On the line of a PAD to a host a
+/// call may stand, where it is the only line.
 #[derive(Drop)]
 pub struct Net<L: Line> {
     nodes: Nodes<L>,
 }
 
 impl<L: Line> Model for Net<L> {
+    ghost use Rattle.std.specs.FinMap as map;
+    ghost use Rattle.address_routes.specs.Routes.{by_digits};
+    ghost use Rattle.std.specs.Coded.{codes, coded_list, coded_ℕ};
     ghost use Rattle.net_events.specs.Network.{Network};
 
     ghost Value = { Network };
 
-    ghost use Rattle.network_laws.specs.IsNetwork.{IsNetwork};
+    ghost coded = { Prim.hlevel (codes, map.code {R = by_digits} (coded_list coded_ℕ) coded_ℕ) };
+
+    ghost use Rattle.line_sim.specs.Between.{IsBetweenEvents};
 
     ghost view = { λ n. n.nodes };
 
-    ghost invariant = { λ n. IsNetwork L.service n.nodes };
+    ghost invariant = { λ n. IsBetweenEvents L.service n.nodes };
 }
 
 impl<L: Line> Net<L> {
@@ -50,7 +56,7 @@ impl<L: Line> Net<L> {
         ensures bad { is_served config.now ≡ false → result ≡ Err make_fault_is.BadConfig }
         ensures served { is_served config.now ≡ true → IsOkUnless result make_fault_is.OutOfMemory }
         ensures ok { IfOk result (IsMadeBy L.service config.now) }
-        ensures headline { IfOk result (λ net. L.service.faithful → NetworkHolds net) }
+        ensures headline { IfOk result (λ net. L.service.faithful → NetworkPromise net) }
     {
         let plan = plan_of(alloc, config)?;
         let nodes = Nodes::new(alloc, &plan, lines)?;
@@ -71,8 +77,9 @@ impl<L: Line> Net<L> {
         self.nodes.pairs()
     }
 
-    /// Whether nothing is in flight, unacknowledged, owed, or waits to be sent or taken. Then, on faithful lines, nothing
-    /// is missing: of each call that is open at both ends each end took all that the other one sent since the last reset.
+    /// Whether nothing is in flight, unacknowledged, owed, or waits to be sent, carried on or taken. Then, on faithful
+    /// lines, nothing is missing: of each call that is open at both ends each end took all that the other one sent since
+    /// the last reset.
     pub fn at_rest(&self) -> bool
         ensures exact { L.service.faithful → result ≡ net_rests self.now }
         ensures nothing_missing { L.service.faithful → result ≡ true → MissesNothing self.now }
@@ -80,8 +87,8 @@ impl<L: Line> Net<L> {
         self.nodes.is_at_rest()
     }
 
-    /// Whether the host of this place has a call on the channel in which each packet with D = 1 since the last reset
-    /// was covered (X.25 4.3.3). At another node it is not so. On faithful lines the record of that call has them all as
+    /// Whether the host of this place has a call on the channel in which each packet with D = 1 since the last reset was
+    /// covered (X.25 4.3.3). At another node it is not so. On faithful lines the record of that call has them all as
     /// covered.
     pub fn confirmed(&self, node: usize, channel: u16) -> bool
         ensures exact { result ≡ net_confirmed node channel self.now }
@@ -93,12 +100,13 @@ impl<L: Line> Net<L> {
     /// Lets ticks pass, each a twentieth of a second: each timer that runs has so many less, not below 0.
     pub fn elapse(&mut self, ticks: u16)
         ensures passes { self.new ≡ all_elapsed ticks self.old }
-        ensures headline { L.service.faithful → NetworkHolds self.new }
+        ensures headline { L.service.faithful → NetworkPromise self.new }
     {
         self.nodes.elapse(ticks);
     }
 
-    /// The expiry of the first timer that runs with no tick left, of the first node that has one.
+    /// The expiry of the first timer that runs with no tick left, of the first node that has one; at the switch on the
+    /// first of its lines that has one.
     pub fn next_due(&self) -> Option<Event>
         ensures { result ≡ net_due self.now }
     {
@@ -117,7 +125,7 @@ impl<L: Line> Net<L> {
 
         // What is due comes to an end, on any line.
         ensures fewer_due { FewerDue event.now self.old result self.new }
-        ensures headline { L.service.faithful → NetworkHolds self.new }
+        ensures headline { L.service.faithful → NetworkPromise self.new }
     {
         self.nodes.happen(event)
     }

@@ -2,7 +2,7 @@
 ghost use Rattle.std.specs.Prelude.{◌≡◌, true, false, Err, IfOk, IfErr, IsOkUnless};
 ghost use Rattle.std.specs.Bool.{OnTrue, OnFalse};
 ghost use Rattle.memory_line.specs.Lines.{memory_service};
-ghost use Rattle.network_laws.specs.Promise.{NetworkHolds};
+ghost use Rattle.switch_network_laws.specs.Promise.{NetworkPromise};
 ghost use Rattle.net_config.specs.declared.fault.MakeFault.TheVariants.{BadConfig, OutOfMemory};
 ghost use Rattle.net_config.specs.Served.{is_served};
 ghost use Rattle.net_nodes.specs.Faults.{step_fault, MayWant};
@@ -34,7 +34,7 @@ impl Net<MemLine> {
         ensures bad { is_served config.now ≡ false → result ≡ Err BadConfig }
         ensures served { is_served config.now ≡ true → IsOkUnless result OutOfMemory }
         ensures ok { IfOk result (IsMadeBy memory_service config.now) }
-        ensures headline { IfOk result NetworkHolds }
+        ensures headline { IfOk result NetworkPromise }
     {
         if !is_served(config) {
             return Err(MakeFault::BadConfig);
@@ -49,7 +49,7 @@ impl Net<MemLine> {
 /// network is not made, or with the index of the event at which memory ended.
 pub fn run(alloc: Global, config: &Config, events: &[Event]) -> Result<Net<MemLine>, RunFault>
     ensures ran { IfOk result (HasRun config.now events.now) }
-    ensures headline { IfOk result NetworkHolds }
+    ensures headline { IfOk result NetworkPromise }
     ensures bad { is_served config.now ≡ false → result ≡ Err (Made BadConfig) }
     ensures err { IfErr result (IsRunFault config.now events.now) }
 {
@@ -72,7 +72,7 @@ fn goes_on(net: &mut Net<MemLine>, event: &Event) -> bool
     ensures handled { OnTrue result (IsHandled memory_service event.now net.old (step_fault event.now net.old)
         net.new) }
     ensures wanting { OnFalse result (MayWant event.now net.old) }
-    ensures headline { NetworkHolds net.new }
+    ensures headline { NetworkPromise net.new }
 {
     match net.step(event) {
         Err(StepFault::OutOfMemory) => return false,

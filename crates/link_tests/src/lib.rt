@@ -6,3 +6,7 @@ mod line_ends;
 #[cfg(test)]
 mod links;
 mod station;
+#[cfg(test)]
+mod timers;
+#[cfg(test)]
+mod windows;

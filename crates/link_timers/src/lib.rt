@@ -6,6 +6,3 @@ mod timers;
 
 pub use role::Role;
 pub use timers::{MOST_TIMERS, TimerId, Timers};
-
-#[cfg(test)]
-mod tests;

@@ -1,5 +1,5 @@
 -- Elements of a list that pass a test.
-use Rattle.std.proofs.Common.{◌≡◌, ℕ, zero, suc, ◌<◌, inl, inr, Bool, true, cond, ◌||◌, not}
+use Rattle.std.proofs.Common.{◌≡◌, ℕ, zero, suc, ◌<◌, ◌≤◌, inl, inr, Bool, true, cond, ◌||◌, not}
 use Rattle.std.proofs.Common.{List, [], ◌∷◌, length, Some, None, refl, sym, ap, subst, ◌∙◌, ◌+◌, arith, true≢false, ltb}
 use Rattle.std.specs.Prelude.{slice_get, unwrap_or}
 use Rattle.std.specs.List.{filter, list_all, list_any, position_or_len, prefix_len}
@@ -94,3 +94,30 @@ place_is test xs i x one e h =
     let within = slice_get_within xs i x e in
     ap (λ n. unwrap_or (cond (ltb n (length xs)) (Some n) None) 0) first
     ∙ ap (λ b. unwrap_or (cond b (Some i) None) 0) (lt-ltb i (length xs) within)
+
+-- ---- at most one
+
+rest_most : {A : Type 0} (test : A → Bool) (y : A) (xs : List A) → length (filter test (y ∷ xs)) ≤ 1
+    → length (filter test xs) ≤ 1
+rest_most test y xs =
+    cond_both (test y) (y ∷ filter test xs) (filter test xs) (λ zs. length zs ≤ 1 → length (filter test xs) ≤ 1)
+    (λ _ h. omega (arith, h)) (λ _ h. h)
+
+not_both : {A : Type 0} (test : A → Bool) (y : A) (xs : List A) → length (filter test (y ∷ xs)) ≤ 1
+    → test y ≡ true → 0 < length (filter test xs) → ⊥
+not_both test y xs most q some =
+    let both : length (y ∷ filter test xs) ≤ 1
+    = subst (λ b. length (cond b (y ∷ filter test xs) (filter test xs)) ≤ 1) q most in
+    omega arith
+
+-- where at most one passes, any two that do stand at the same place
+pub same_place : {A : Type 0} (test : A → Bool) (xs : List A) (i j : ℕ) (x y : A) → length (filter test xs) ≤ 1
+    → slice_get xs i ≡ Some x → test x ≡ true → slice_get xs j ≡ Some y → test y ≡ true → i ≡ j
+same_place test [] i j x y most e h f g = absurd (none-some x e)
+same_place test (z ∷ xs) zero zero x y most e h f g = refl
+same_place test (z ∷ xs) zero (suc j) x y most e h f g =
+    absurd (not_both test z xs most (ap test (same_Some z x e) ∙ h) (some_kept test xs j y f g))
+same_place test (z ∷ xs) (suc i) zero x y most e h f g =
+    absurd (not_both test z xs most (ap test (same_Some z y f) ∙ g) (some_kept test xs i x e h))
+same_place test (z ∷ xs) (suc i) (suc j) x y most e h f g =
+    ap suc (same_place test xs i j x y (rest_most test z xs most) e h f g)

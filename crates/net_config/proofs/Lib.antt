@@ -1,4 +1,5 @@
 mod Answering
 mod Counting
 mod Naming
-mod Planned
+mod Planning
+mod Own

@@ -1,15 +1,18 @@
 -- Names of nodes, and the places that they stand for.
-use Rattle.std.proofs.Common.{◌≡◌, ℕ, ◌≤◌, leb, true, false, ◌&&◌, ◌||◌, not, List, Some, subst}
-use Rattle.std.specs.Prelude.{slice_get, string_bytes}
-use Rattle.std.specs.List.{list_all, list_any}
+use Rattle.std.proofs.Common.{◌≡◌, ℕ, ◌≤◌, leb, true, false, ◌&&◌, ◌||◌, not, ◌==◌, List, Some, length, sym, subst, arith, true≢false}
+use Rattle.std.specs.Prelude.{slice_get, string_bytes, nat_le}
+use Rattle.std.specs.List.{list_all, list_any, filter}
 use Rattle.std.specs.Cmp.Lexicographic.{bytes_decides}
-use Rattle.std.proofs.lemmas.Bool.{and_parts, leb-true, not-true}
+use Rattle.std.proofs.lemmas.Bool.{and_parts, leb-true, not-true, eq-eqb}
 use Rattle.packet_end.specs.Params.{AreParams}
-use Rattle.net_config.specs.Served.{is_from, same_text, is_named, has_end, exactly_one, is_kind_served, is_within}
-use Rattle.net_config.specs.Served.{is_host_named, joins_nodes, may_stand, is_node_served, is_line_served, is_served}
+use Rattle.net_config.specs.Served.{is_from, same_text, is_named, has_end, exactly_one, is_kind_served, most_lines}
+use Rattle.net_config.specs.Served.{is_switch, has_users, is_dte_named, is_dce_named, is_within, joins_nodes, has_own_address}
+use Rattle.net_config.specs.Served.{may_stand, is_node_served, is_line_served, is_route_served, is_served}
 use Rattle.net_config.specs.Plan.{place_of, end_params}
 use Rattle.net_config.specs.declared.config.Config.{Config}
 use Rattle.net_config.specs.declared.config.NodeConfig.{NodeConfig}
+use Rattle.net_config.specs.declared.config.NodeKind.{NodeKind}
+use Rattle.net_config.specs.declared.config.NodeKind.TheVariants as node_kind
 use Rattle.net_config.specs.declared.config.LineConfig.{LineConfig}
 use Rattle.net_config.proofs.Counting.{all_at, place_is}
 
@@ -32,33 +35,67 @@ from_so a b n h =
 
 pub record NodeIsServed (c : Config) (n : NodeConfig) : Type 0 where
   pub name : exactly_one (is_named (string_bytes n.name)) c.nodes.items ≡ true
-  pub line : exactly_one (has_end (string_bytes n.name)) c.lines.items ≡ true
+  pub lines : is_from 1 (most_lines n.kind) (length (filter (has_end (string_bytes n.name)) c.lines.items)) ≡ true
   pub kind : is_kind_served n.kind ≡ true
+
+one_is : (count : ℕ) → IsBetween 1 1 count → (count == 1) ≡ true
+one_is count h =
+    let least : 1 ≤ count = h.least in
+    let most : count ≤ 1 = h.most in
+    eq-eqb count 1 (omega arith)
+
+-- a node with users has one line
+one_of : (k : NodeKind) (count : ℕ) → not (is_switch k) ≡ true → is_from 1 (most_lines k) count ≡ true
+    → (count == 1) ≡ true
+one_of (node_kind.Pad p) count users h = one_is count (from_so 1 1 count h)
+one_of node_kind.Host count users h = one_is count (from_so 1 1 count h)
+one_of node_kind.Switch count users h = absurd (true≢false (sym users))
+
+pub one_line : (c : Config) (n : NodeConfig) → NodeIsServed c n → has_users n ≡ true
+    → exactly_one (has_end (string_bytes n.name)) c.lines.items ≡ true
+one_line c n h users = one_of n.kind (length (filter (has_end (string_bytes n.name)) c.lines.items)) users h.lines
+
+up_to_64 : (count : ℕ) → IsBetween 1 1 count → IsBetween 1 64 count
+up_to_64 count h =
+    let least : 1 ≤ count = h.least in
+    let most : count ≤ 1 = h.most in
+    record { least = least; most = omega arith }
+
+-- a node of any kind has 1 to 64
+pub some_lines : (k : NodeKind) (count : ℕ) → is_from 1 (most_lines k) count ≡ true → IsBetween 1 64 count
+some_lines (node_kind.Pad p) count h = up_to_64 count (from_so 1 1 count h)
+some_lines node_kind.Host count h = up_to_64 count (from_so 1 1 count h)
+some_lines node_kind.Switch count h = from_so 1 64 count h
 
 pub node_is_served : (c : Config) (n : NodeConfig) → is_node_served c n ≡ true → NodeIsServed c n
 node_is_served c n h =
     let one = exactly_one (is_named (string_bytes n.name)) c.nodes.items in
-    let end = exactly_one (has_end (string_bytes n.name)) c.lines.items in
-    let parts = and_parts (one && end) (is_kind_served n.kind) h in
-    let ends = and_parts one end parts.0 in
-    record { name = ends.0; line = ends.1; kind = parts.1 }
+    let lines = length (filter (has_end (string_bytes n.name)) c.lines.items) in
+    let has_lines = is_from 1 (most_lines n.kind) lines in
+    let all = and_parts (one && has_lines && is_kind_served n.kind) _ h in
+    let parts = and_parts (one && has_lines) (is_kind_served n.kind) all.0 in
+    let ends = and_parts one has_lines parts.0 in
+    record { name = ends.0; lines = ends.1; kind = parts.1 }
 
 -- ---- what is asked of a line
 
 pub record LineIsServed (c : Config) (l : LineConfig) : Type 0 where
   pub apart : same_text (string_bytes l.dte) (string_bytes l.dce) ≡ false
-  pub dte : list_any (is_named (string_bytes l.dte)) c.nodes.items ≡ true
-  pub dce : list_any (is_host_named (string_bytes l.dce)) c.nodes.items ≡ true
+  pub dte : list_any (is_dte_named (string_bytes l.dte)) c.nodes.items ≡ true
+  pub dce : list_any (is_dce_named (string_bytes l.dce)) c.nodes.items ≡ true
   pub within : is_within l ≡ true
+  pub address : has_own_address c.nodes.items l ≡ true
   pub stands : (not l.standing || may_stand c l) ≡ true
 
 pub line_is_served : (c : Config) (l : LineConfig) → is_line_served c l ≡ true → LineIsServed c l
 line_is_served c l h =
     let apart = not (same_text (string_bytes l.dte) (string_bytes l.dce)) in
-    let dte = list_any (is_named (string_bytes l.dte)) c.nodes.items in
-    let dce = list_any (is_host_named (string_bytes l.dce)) c.nodes.items in
-    let parts = and_parts (joins_nodes c.nodes.items l && is_within l) (not l.standing || may_stand c l) h in
-    let within = and_parts (joins_nodes c.nodes.items l) (is_within l) parts.0 in
+    let dte = list_any (is_dte_named (string_bytes l.dte)) c.nodes.items in
+    let dce = list_any (is_dce_named (string_bytes l.dce)) c.nodes.items in
+    let own = has_own_address c.nodes.items l in
+    let parts = and_parts (joins_nodes c.nodes.items l && is_within l && own) (not l.standing || may_stand c l) h in
+    let address = and_parts (joins_nodes c.nodes.items l && is_within l) own parts.0 in
+    let within = and_parts (joins_nodes c.nodes.items l) (is_within l) address.0 in
     let joins = and_parts (apart && dte) dce within.0 in
     let ends = and_parts apart dte joins.0 in
     record {
@@ -66,6 +103,7 @@ line_is_served c l h =
       dte = ends.1;
       dce = joins.1;
       within = within.1;
+      address = address.1;
       stands = parts.1;
     }
 
@@ -75,8 +113,7 @@ within_params l h =
     let window = is_from 1 7 l.window in
     let k = is_from 1 7 l.k in
     let n2 = is_from 1 20 l.n2 in
-    let all = and_parts (channels && window && k && n2) _ h in
-    let to_n2 = and_parts (channels && window && k) n2 all.0 in
+    let to_n2 = and_parts (channels && window && k) n2 h in
     let to_k = and_parts (channels && window) k to_n2.0 in
     let to_window = and_parts channels window to_k.0 in
     let channels_is = from_so 1 32 l.channels to_window.0 in
@@ -95,25 +132,33 @@ within_params l h =
 
 -- ---- of a network
 
-pub served_nodes : (c : Config) → is_served c ≡ true → list_all (is_node_served c) c.nodes.items ≡ true
-served_nodes c h =
-    let nodes = list_all (is_node_served c) c.nodes.items in
-    let lines = list_all (is_line_served c) c.lines.items in
-    (and_parts nodes lines (and_parts (nodes && lines) _ h).0).0
+-- what is asked of its parts
+record PartsAreServed (c : Config) : Type 0 where
+  pub nodes : list_all (is_node_served c) c.nodes.items ≡ true
+  pub lines : list_all (is_line_served c) c.lines.items ≡ true
+  pub switches : nat_le (length (filter (λ n. is_switch n.kind) c.nodes.items)) 1 ≡ true
 
-pub served_lines : (c : Config) → is_served c ≡ true → list_all (is_line_served c) c.lines.items ≡ true
-served_lines c h =
+parts_are_served : (c : Config) → is_served c ≡ true → PartsAreServed c
+parts_are_served c h =
     let nodes = list_all (is_node_served c) c.nodes.items in
     let lines = list_all (is_line_served c) c.lines.items in
-    (and_parts nodes lines (and_parts (nodes && lines) _ h).0).1
+    let routes = list_all (is_route_served c) c.routes.items in
+    let all = and_parts (nodes && lines && routes) (nat_le (length (filter (λ n. is_switch n.kind) c.nodes.items)) 1) h in
+    let ends = and_parts nodes lines (and_parts (nodes && lines) routes all.0).0 in
+    record { nodes = ends.0; lines = ends.1; switches = all.1 }
 
 pub served_node : (c : Config) → is_served c ≡ true → (i : ℕ) (n : NodeConfig)
     → slice_get c.nodes.items i ≡ Some n → NodeIsServed c n
-served_node c h i n e = node_is_served c n (all_at (is_node_served c) c.nodes.items i n (served_nodes c h) e)
+served_node c h i n e =
+    node_is_served c n (all_at (is_node_served c) c.nodes.items i n (parts_are_served c h).nodes e)
 
 pub served_line : (c : Config) → is_served c ≡ true → (i : ℕ) (l : LineConfig)
     → slice_get c.lines.items i ≡ Some l → LineIsServed c l
-served_line c h i l e = line_is_served c l (all_at (is_line_served c) c.lines.items i l (served_lines c h) e)
+served_line c h i l e =
+    line_is_served c l (all_at (is_line_served c) c.lines.items i l (parts_are_served c h).lines e)
+
+pub one_switch : (c : Config) → is_served c ≡ true → length (filter (λ n. is_switch n.kind) c.nodes.items) ≤ 1
+one_switch c h = leb-true (length (filter (λ n. is_switch n.kind) c.nodes.items)) 1 (parts_are_served c h).switches
 
 -- ---- places
 
@@ -124,9 +169,9 @@ node_place c h name i n there same =
     let one = subst (λ t. exactly_one (is_named t) c.nodes.items ≡ true) same (served_node c h i n there).name in
     place_is (is_named name) c.nodes.items i n one there (so_same (string_bytes n.name) name same)
 
--- and for the line that ends there
+-- and that of one with users for the line that ends there
 pub line_place : (c : Config) → is_served c ≡ true → (i : ℕ) (n : NodeConfig) → slice_get c.nodes.items i ≡ Some n
-    → (j : ℕ) (l : LineConfig) → slice_get c.lines.items j ≡ Some l → has_end (string_bytes n.name) l ≡ true
+    → has_users n ≡ true → (j : ℕ) (l : LineConfig) → slice_get c.lines.items j ≡ Some l → has_end (string_bytes n.name) l ≡ true
     → place_of (has_end (string_bytes n.name)) c.lines.items ≡ j
-line_place c h i n there j l line_there ends =
-    place_is (has_end (string_bytes n.name)) c.lines.items j l (served_node c h i n there).line line_there ends
+line_place c h i n there users j l line_there ends =
+    place_is (has_end (string_bytes n.name)) c.lines.items j l (one_line c n (served_node c h i n there) users) line_there ends

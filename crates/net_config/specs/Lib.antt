@@ -1,3 +1,4 @@
 pub mod Served
 pub mod Plan
 pub mod PlanView
+pub mod PlannedView

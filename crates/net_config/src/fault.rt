@@ -4,7 +4,7 @@ use thiserror::Error;
 /// Why a network is not made.
 #[derive(Clone, Copy, Debug, PartialEq, Eq, Error)]
 pub enum MakeFault {
-    /// A value is outside its limits, or the network is of a kind that is not served.
+    /// A value is outside its limits, or nodes, lines and routes do not fit together.
     #[error("bad configuration")]
     BadConfig,
     /// No memory was left.

@@ -3,13 +3,12 @@
 
 mod config;
 mod fault;
+mod parts;
 mod plan;
 mod served;
 
 pub use config::{Config, LineConfig, NodeConfig, NodeKind, PadConfig, RouteConfig, Setting};
 pub use fault::MakeFault;
-pub use plan::{NetPlan, NewKind, NewLine, NewNode, plan_of};
+pub use parts::{NewKind, NewLine, NewNode, NewRoute, NewSwitch};
+pub use plan::{NetPlan, Planned, PlannedKind, plan_of};
 pub use served::is_served;
-
-#[cfg(test)]
-mod tests;

@@ -1,75 +1,75 @@
 //! What a network is made with.
-ghost use Rattle.std.specs.Prelude.{◌≡◌, ◌≤◌, true, false, List, map, IfOk, OnErr, IfErr, OnOk, ◌↔◌};
+ghost use Rattle.std.specs.Prelude.{◌≡◌, ◌≤◌, true, false, List, length, map, IfOk, OnOk, OnErr, IfErr, ◌↔◌};
+ghost use Rattle.std.specs.Prelude.{string_bytes};
 ghost use Rattle.net_config.specs.Served.{is_named, has_dte, has_end, is_served};
 ghost use Rattle.net_config.specs.Served.{is_kind_served, is_pad_served, is_within};
 ghost use Rattle.std.specs.List.{list_any, position};
-ghost use Rattle.net_config.specs.Plan.{set_one, initial_params, new_kind, role_of};
-ghost use Rattle.net_config.specs.Plan.{planned_node, new_line};
-ghost use Rattle.net_config.specs.Plan.{end_params, plan_of, StandsAlone};
-ghost use Rattle.net_config.specs.PlanView.{kind_value};
+ghost use Rattle.packet_codec.specs.Digits.{digits_or_none};
+ghost use Rattle.packet_codec.specs.Address.{address_of};
+ghost use Rattle.net_config.specs.Plan.{set_one, initial_params, role_of, new_user, lines_from, is_line, own_number};
+ghost use Rattle.net_config.specs.Plan.{with_prefix, new_routes, new_switch, planned_as, planned_node};
+ghost use Rattle.net_config.specs.Plan.{end_params, digits_in, new_line, plan_of, StandsAlone};
+ghost use Rattle.net_config.specs.PlanView.{kind_value, routes_value};
+ghost use Rattle.net_config.specs.PlannedView.{planned_value};
 ghost use Rattle.net_events.specs.Opening.{IsPlan};
 ghost use Rattle.net_config.specs.declared.fault.MakeFault.TheVariants as fault_is;
+ghost use Rattle.net_config.specs.declared.plan.PlannedKind.TheVariants as planned_is;
 
-use crate::config::{Config, LineConfig, NodeConfig, NodeKind, PadConfig, Setting};
+use crate::config::{Config, LineConfig, NodeConfig, NodeKind, PadConfig, RouteConfig, Setting};
 use crate::fault::MakeFault;
-use crate::served::{has_dte, has_end, is_named, is_served};
+use crate::parts::{NewKind, NewLine, NewNode, NewRoute, NewSwitch};
+use crate::served::{has_dte, has_end, is_named, is_route_of, is_served};
+use address_routes::LineNo;
 use link_timers::Role;
+use packet_codec::Address;
 use packet_end::EndParams;
 use std::alloc::Global;
 use std::marker::Model;
 use x3_params::Params;
 
-/// What a node is made as: a PAD of so many terminals, each with these initial parameters, or a host.
+/// What a node is made with: one with users, or a switch.
 #[derive(Drop)]
-pub enum NewKind {
-    Pad { params: Params, terminals: u8 },
-    Host,
+pub enum PlannedKind {
+    User(NewNode),
+    Switch(NewSwitch),
 }
 
-/// What a node is made with: its line and which end of it the node is, and its kind.
+/// A node as it is planned.
 #[derive(Drop)]
-pub struct NewNode {
-    pub line: usize,
-    pub role: Role,
-    pub kind: NewKind,
-}
-
-/// What a line is made with: the places of its nodes, and the parameters that both ends share.
-#[derive(Drop)]
-pub struct NewLine {
-    pub dte: usize,
-    pub dce: usize,
-    pub params: EndParams,
+pub struct Planned {
+    pub kind: PlannedKind,
 }
 
 /// What a network is made with. Nodes and lines count from 0, in the order of the configuration.
 #[derive(Drop)]
 pub struct NetPlan {
-    pub nodes: Vec<NewNode>,
+    pub nodes: Vec<Planned>,
     pub lines: Vec<NewLine>,
 }
 
-impl Model for NewNode {
+impl Model for Planned {
+    ghost use Rattle.std.specs.FinMap as map;
+    ghost use Rattle.address_routes.specs.Routes.{by_digits};
+    ghost use Rattle.std.specs.Coded.{codes, coded_list, coded_ℕ};
     ghost use Rattle.net_events.specs.Opening as opening;
-    ghost use Rattle.net_config.specs.PlanView.{kind_value};
+    ghost use Rattle.net_config.specs.PlannedView.{planned_value};
 
-    ghost Value = { opening.NewNode };
+    ghost Value = { opening.Planned };
 
-    ghost view = { λ n. record { line = n.line; role = n.role; as_dte = kind_value n.kind } };
-}
+    ghost coded = { Prim.hlevel (codes, map.code {R = by_digits} (coded_list coded_ℕ) coded_ℕ) };
 
-impl Model for NewLine {
-    ghost use Rattle.net_events.specs.Opening as opening;
-
-    ghost Value = { opening.NewLine };
-
-    ghost view = { λ l. record { dte = l.dte; dce = l.dce; params = l.params } };
+    ghost view = { λ n. planned_value n.kind };
 }
 
 impl Model for NetPlan {
+    ghost use Rattle.std.specs.FinMap as routes;
+    ghost use Rattle.address_routes.specs.Routes.{by_digits};
+    ghost use Rattle.std.specs.Coded.{codes, coded_list, coded_ℕ};
     ghost use Rattle.net_events.specs.Opening as opening;
 
     ghost Value = { opening.NetPlan };
+
+    ghost coded = { Prim.hlevel (codes, routes.code {R = by_digits} (coded_list coded_ℕ) coded_ℕ) };
 
     ghost view = { λ p. record { nodes = p.nodes.items; lines = p.lines.items } };
 }
@@ -91,21 +91,6 @@ fn initial_params(pad: &PadConfig) -> Params
         set_one(&mut params, setting);
     }
     params
-}
-
-/// What a node of this kind is made as.
-fn new_kind(kind: &NodeKind) -> NewKind
-    requires { is_kind_served kind.now ≡ true }
-    ensures { kind_value result ≡ new_kind kind.now }
-{
-    match kind {
-        NodeKind::Pad(pad) => NewKind::Pad {
-            params: initial_params(pad),
-            terminals: pad.terminals as u8,
-        },
-        NodeKind::Host => NewKind::Host,
-        NodeKind::Switch => NewKind::Host,
-    }
 }
 
 /// The place of the line that ends at the node of this name.
@@ -140,15 +125,120 @@ fn role_of(lines: &[LineConfig], name: &str) -> Role
     }
 }
 
-fn planned_node(lines: &[LineConfig], node: &NodeConfig) -> NewNode
-    requires { is_kind_served node.now.kind ≡ true }
-    ensures { result ≡ planned_node lines.now node.now }
+/// A node with users, which is made so where it is a DTE.
+fn new_user(lines: &[LineConfig], name: &str, kind: NewKind) -> Planned
+    ensures { result ≡ planned_value (planned_is.User (new_user lines.now name.now (kind_value kind))) }
 {
-    NewNode {
-        line: find_line(lines, &node.name).unwrap_or(0),
-        role: role_of(lines, &node.name),
-        kind: new_kind(&node.kind),
+    let node = NewNode {
+        line: find_line(lines, name).unwrap_or(0),
+        role: role_of(lines, name),
+        kind,
+    };
+    Planned {
+        kind: PlannedKind::User(node),
     }
+}
+
+/// The numbers of the lines that end at the node of this name.
+fn lines_at(alloc: Global, lines: &[LineConfig], name: &str) -> Result<Vec<usize>, MakeFault>
+    ensures ok { IfOk result (λ own. own.items ≡ lines_from 0 name.now lines.now) }
+    ensures err { IfErr result (λ fault. fault ≡ fault_is.OutOfMemory) }
+{
+    let mut own = Vec::new(alloc);
+    for number in 0..lines.len() {
+        if has_end(name, &lines[number]) {
+            own.push(number)?;
+        }
+    }
+    Ok(own)
+}
+
+fn is_line(line: usize, number: &usize) -> bool
+    ensures { result ≡ is_line line number.now }
+{
+    *number == line
+}
+
+/// The place of a line among the own lines of a switch.
+fn find_number(own: &[usize], line: usize) -> Option<usize>
+    ensures { result ≡ position (is_line line) own.now }
+{
+    own.iter().position(|number| is_line(line, number))
+}
+
+/// Which own line of a switch a line is.
+fn own_number(own: &[usize], line: u16) -> LineNo
+    requires { length own.now ≤ 64 }
+    ensures { result.0 ≡ own_number own.now line }
+{
+    let number = find_number(own, line as usize).unwrap_or(0);
+    LineNo(number as u16)
+}
+
+/// The routes of the switch of this name to its own lines.
+fn new_routes(
+    alloc: Global,
+    name: &str,
+    own: &[usize],
+    routes: &[RouteConfig],
+) -> Result<Vec<NewRoute>, MakeFault>
+    requires { length own.now ≤ 64 }
+    ensures ok { IfOk result (λ added. routes_value added.items ≡ new_routes name.now own.now routes.now) }
+    ensures err { IfErr result (λ fault. fault ≡ fault_is.OutOfMemory) }
+{
+    let mut added = Vec::new(alloc);
+    for route in routes {
+        if is_route_of(name, route) {
+            let line = own_number(own, route.line);
+            add_prefix(&mut added, &route.prefix, line)?;
+        }
+    }
+    Ok(added)
+}
+
+/// Adds a route for the digits that a text names, if it names some.
+fn add_prefix(routes: &mut Vec<NewRoute>, text: &str, line: LineNo) -> Result<(), MakeFault>
+    ensures ok { OnOk result (routes_value routes.new.items
+        ≡ with_prefix (routes_value routes.old.items) (address_of text.now) line.0) }
+    ensures err { IfErr result (λ fault. fault ≡ fault_is.OutOfMemory) }
+{
+    if let Ok(prefix) = Address::read(text.as_bytes()) {
+        routes.push(NewRoute { prefix, line })?;
+    }
+    Ok(())
+}
+
+/// The switch of this name, with all lines that end there.
+fn new_switch(alloc: Global, config: &Config, name: &str) -> Result<NewSwitch, MakeFault>
+    requires { length (lines_from 0 name.now config.now.lines.items) ≤ 64 }
+    ensures ok { IfOk result (λ switch. switch ≡ new_switch config.now name.now) }
+    ensures err { IfErr result (λ fault. fault ≡ fault_is.OutOfMemory) }
+{
+    let lines = lines_at(alloc, &config.lines, name)?;
+    let routes = new_routes(alloc, name, &lines, &config.routes)?;
+    Ok(NewSwitch { lines, routes })
+}
+
+fn planned_node(alloc: Global, config: &Config, node: &NodeConfig) -> Result<Planned, MakeFault>
+    requires kind { is_kind_served node.now.kind ≡ true }
+    requires lines { length (lines_from 0 (string_bytes node.now.name) config.now.lines.items) ≤ 64 }
+    ensures ok { IfOk result (λ planned. planned ≡ planned_node config.now node.now) }
+    ensures err { IfErr result (λ fault. fault ≡ fault_is.OutOfMemory) }
+{
+    let kind = match &node.kind {
+        NodeKind::Pad(pad) => NewKind::Pad {
+            params: initial_params(pad),
+            terminals: pad.terminals as u8,
+        },
+        NodeKind::Host => NewKind::Host,
+        NodeKind::Switch => {
+            let switch = new_switch(alloc, config, &node.name)?;
+            return Ok(Planned {
+                kind: PlannedKind::Switch(switch),
+            });
+        }
+    };
+    Ok(new_user(&config.lines, &node.name, kind))
 }
 
 fn new_line(nodes: &[NodeConfig], line: &LineConfig) -> NewLine
@@ -158,6 +248,7 @@ fn new_line(nodes: &[NodeConfig], line: &LineConfig) -> NewLine
     NewLine {
         dte: find_node(nodes, &line.dte).unwrap_or(0),
         dce: find_node(nodes, &line.dce).unwrap_or(0),
+        address: address_in(&line.address),
         params: EndParams {
             k: line.k as u8,
             n2: line.n2 as u8,
@@ -168,14 +259,24 @@ fn new_line(nodes: &[NodeConfig], line: &LineConfig) -> NewLine
     }
 }
 
-fn new_nodes(alloc: Global, config: &Config) -> Result<Vec<NewNode>, MakeFault>
+/// The address that a text names, if it names one.
+fn address_in(text: &str) -> Option<Address>
+    ensures { digits_or_none result ≡ digits_in (address_of text.now) }
+{
+    match Address::read(text.as_bytes()) {
+        Ok(address) => Some(address),
+        Err(_) => None,
+    }
+}
+
+fn new_nodes(alloc: Global, config: &Config) -> Result<Vec<Planned>, MakeFault>
     requires { is_served config.now ≡ true }
-    ensures ok { IfOk result (λ v. v.items ≡ (plan_of config.now).nodes) }
+    ensures ok { IfOk result (λ v. v.items ≡ map (planned_node config.now) config.now.nodes.items) }
     ensures err { IfErr result (λ fault. fault ≡ fault_is.OutOfMemory) }
 {
     let mut nodes = Vec::new(alloc);
     for node in &config.nodes {
-        nodes.push(planned_node(&config.lines, node))?;
+        nodes.push(planned_node(alloc, config, node)?)?;
     }
     Ok(nodes)
 }

@@ -1,12 +1,15 @@
 //! Which networks are served.
-ghost use Rattle.std.specs.Prelude.{◌≡◌, length};
+ghost use Rattle.std.specs.Prelude.{◌≡◌, length, slice_get, string_bytes};
 ghost use Rattle.net_config.specs.Served.{is_from, is_named, has_dte, has_end, is_accepted, is_pad_served};
-ghost use Rattle.net_config.specs.Served.{is_kind_served, is_node_served, is_within, is_host, is_pad};
-ghost use Rattle.net_config.specs.Served.{joins_nodes, may_stand, is_line_served, is_served};
-ghost use Rattle.net_config.specs.Served.{is_host_named, is_pad_named};
+ghost use Rattle.net_config.specs.Served.{is_kind_served, most_lines, is_route_of, is_node_served, is_within};
+ghost use Rattle.net_config.specs.Served.{is_pad, is_switch, has_users, is_dte_named, is_dce_named, is_pad_named};
+ghost use Rattle.net_config.specs.Served.{is_switch_named, joins_nodes, is_at_switch, is_address, has_own_address};
+ghost use Rattle.net_config.specs.Served.{may_stand, is_line_served, ends_at, same_route, is_route_served};
+ghost use Rattle.net_config.specs.Served.{is_served};
 ghost use Rattle.std.specs.List.{list_all, list_any, filter};
 
-use crate::config::{Config, LineConfig, NodeConfig, NodeKind, PadConfig, Setting};
+use crate::config::{Config, LineConfig, NodeConfig, NodeKind, PadConfig, RouteConfig, Setting};
+use packet_codec::Address;
 use x3_params::{Params, Profile};
 
 fn is_from(least: u16, most: u16, value: u16) -> bool
@@ -62,7 +65,18 @@ fn is_kind_served(kind: &NodeKind) -> bool
     match kind {
         NodeKind::Pad(pad) => is_pad_served(pad),
         NodeKind::Host => true,
-        NodeKind::Switch => false,
+        NodeKind::Switch => true,
+    }
+}
+
+/// How many lines a node of this kind may have.
+fn most_lines(kind: &NodeKind) -> usize
+    ensures { result ≡ most_lines kind.now }
+{
+    match kind {
+        NodeKind::Pad(_) => 1,
+        NodeKind::Host => 1,
+        NodeKind::Switch => 64,
     }
 }
 
@@ -70,8 +84,9 @@ fn is_node_served(config: &Config, node: &NodeConfig) -> bool
     ensures { result ≡ is_node_served config.now node.now }
 {
     count_nodes(&config.nodes, &node.name) == 1
-        && count_lines(&config.lines, &node.name) == 1
+        && has_lines(&config.lines, node)
         && is_kind_served(&node.kind)
+        && count_routes(&config.routes, &node.name) <= 256
 }
 
 /// How many nodes have the name.
@@ -81,11 +96,37 @@ fn count_nodes(nodes: &[NodeConfig], name: &str) -> usize
     nodes.iter().filter(|node| is_named(name, node)).count()
 }
 
+/// Whether the node has a line, and no more than one of its kind may have.
+fn has_lines(lines: &[LineConfig], node: &NodeConfig) -> bool
+    ensures { result ≡ is_from 1 (most_lines node.now.kind)
+        (length (filter (has_end (string_bytes node.now.name)) lines.now)) }
+{
+    let count = count_lines(lines, &node.name);
+    1 <= count && count <= most_lines(&node.kind)
+}
+
 /// How many lines have an end at the node of this name.
 fn count_lines(lines: &[LineConfig], name: &str) -> usize
     ensures { result ≡ length (filter (has_end name.now) lines.now) }
 {
     lines.iter().filter(|line| has_end(name, line)).count()
+}
+
+/// How many routes the switch of this name has.
+fn count_routes(routes: &[RouteConfig], name: &str) -> usize
+    ensures { result ≡ length (filter (is_route_of name.now) routes.now) }
+{
+    routes
+        .iter()
+        .filter(|route| is_route_of(name, route))
+        .count()
+}
+
+/// Whether the route is one of the switch of this name.
+pub(crate) fn is_route_of(name: &str, route: &RouteConfig) -> bool
+    ensures { result ≡ is_route_of name.now route.now }
+{
+    route.switch.as_str() == name
 }
 
 fn is_within(line: &LineConfig) -> bool
@@ -95,17 +136,6 @@ fn is_within(line: &LineConfig) -> bool
         && is_from(1, 7, line.window)
         && is_from(1, 7, line.k)
         && is_from(1, 20, line.n2)
-        && line.address.is_empty()
-}
-
-fn is_host(kind: &NodeKind) -> bool
-    ensures { result ≡ is_host kind.now }
-{
-    match kind {
-        NodeKind::Host => true,
-        NodeKind::Pad(_) => false,
-        NodeKind::Switch => false,
-    }
 }
 
 fn is_pad(kind: &NodeKind) -> bool
@@ -118,18 +148,39 @@ fn is_pad(kind: &NodeKind) -> bool
     }
 }
 
-fn has_node(nodes: &[NodeConfig], name: &str) -> bool
-    ensures { result ≡ list_any (is_named name.now) nodes.now }
+fn is_switch(kind: &NodeKind) -> bool
+    ensures { result ≡ is_switch kind.now }
 {
-    nodes.iter().any(|node| is_named(name, node))
+    match kind {
+        NodeKind::Pad(_) => false,
+        NodeKind::Host => false,
+        NodeKind::Switch => true,
+    }
 }
 
-fn has_host(nodes: &[NodeConfig], name: &str) -> bool
-    ensures { result ≡ list_any (is_host_named name.now) nodes.now }
+/// Whether the node is a PAD or a host.
+fn has_users(node: &NodeConfig) -> bool
+    ensures { result ≡ has_users node.now }
+{
+    !is_switch(&node.kind)
+}
+
+/// Whether a PAD or a host, which may be a DTE, has the name.
+fn has_dte_node(nodes: &[NodeConfig], name: &str) -> bool
+    ensures { result ≡ list_any (is_dte_named name.now) nodes.now }
 {
     nodes
         .iter()
-        .any(|node| is_named(name, node) && is_host(&node.kind))
+        .any(|node| is_named(name, node) && has_users(node))
+}
+
+/// Whether a host or a switch, which may be a DCE, has the name.
+fn has_dce_node(nodes: &[NodeConfig], name: &str) -> bool
+    ensures { result ≡ list_any (is_dce_named name.now) nodes.now }
+{
+    nodes
+        .iter()
+        .any(|node| is_named(name, node) && !is_pad(&node.kind))
 }
 
 fn has_pad(nodes: &[NodeConfig], name: &str) -> bool
@@ -140,16 +191,51 @@ fn has_pad(nodes: &[NodeConfig], name: &str) -> bool
         .any(|node| is_named(name, node) && is_pad(&node.kind))
 }
 
+fn has_switch(nodes: &[NodeConfig], name: &str) -> bool
+    ensures { result ≡ list_any (is_switch_named name.now) nodes.now }
+{
+    nodes
+        .iter()
+        .any(|node| is_named(name, node) && is_switch(&node.kind))
+}
+
 fn joins_nodes(nodes: &[NodeConfig], line: &LineConfig) -> bool
     ensures { result ≡ joins_nodes nodes.now line.now }
 {
-    !has_dte(&line.dce, line) && has_node(nodes, &line.dte) && has_host(nodes, &line.dce)
+    !has_dte(&line.dce, line) && has_dte_node(nodes, &line.dte) && has_dce_node(nodes, &line.dce)
+}
+
+/// Whether the line's DCE is a switch.
+fn is_at_switch(nodes: &[NodeConfig], line: &LineConfig) -> bool
+    ensures { result ≡ is_at_switch nodes.now line.now }
+{
+    has_switch(nodes, &line.dce)
+}
+
+/// Whether a text is an address: 1 to 15 digits.
+fn is_address(text: &str) -> bool
+    ensures { result ≡ is_address text.now }
+{
+    Address::read(text.as_bytes()).is_ok()
+}
+
+/// Whether the line has an address where it is at a switch, and else none.
+fn has_own_address(nodes: &[NodeConfig], line: &LineConfig) -> bool
+    ensures { result ≡ has_own_address nodes.now line.now }
+{
+    if is_at_switch(nodes, line) {
+        is_address(&line.address)
+    } else {
+        line.address.is_empty()
+    }
 }
 
 fn may_stand(config: &Config, line: &LineConfig) -> bool
     ensures { result ≡ may_stand config.now line.now }
 {
-    config.lines.len() == 1 && has_pad(&config.nodes, &line.dte)
+    config.lines.len() == 1
+        && has_pad(&config.nodes, &line.dte)
+        && !is_at_switch(&config.nodes, line)
 }
 
 fn is_line_served(config: &Config, line: &LineConfig) -> bool
@@ -157,15 +243,63 @@ fn is_line_served(config: &Config, line: &LineConfig) -> bool
 {
     joins_nodes(&config.nodes, line)
         && is_within(line)
+        && has_own_address(&config.nodes, line)
         && (!line.standing || may_stand(config, line))
 }
 
-/// Whether the network is served: PADs and hosts, each at one end of one line, with values in their limits. One that is
-/// not is refused as BadConfig where it is planned.
+/// Whether the line of this number is there and ends at the node of this name.
+fn ends_at(lines: &[LineConfig], number: u16, name: &str) -> bool
+    ensures { result ≡ ends_at name.now (slice_get lines.now number) }
+{
+    match lines.get(number as usize) {
+        Some(line) => has_end(name, line),
+        None => false,
+    }
+}
+
+/// Whether two routes are of the same switch and for the same prefix.
+fn same_route(route: &RouteConfig, other: &RouteConfig) -> bool
+    ensures { result ≡ same_route route.now other.now }
+{
+    is_route_of(&route.switch, other) && other.prefix == route.prefix
+}
+
+/// How many routes are of the switch and for the prefix of this one.
+fn count_same(routes: &[RouteConfig], route: &RouteConfig) -> usize
+    ensures { result ≡ length (filter (same_route route.now) routes.now) }
+{
+    routes
+        .iter()
+        .filter(|other| same_route(route, other))
+        .count()
+}
+
+fn is_route_served(config: &Config, route: &RouteConfig) -> bool
+    ensures { result ≡ is_route_served config.now route.now }
+{
+    has_switch(&config.nodes, &route.switch)
+        && is_address(&route.prefix)
+        && ends_at(&config.lines, route.line, &route.switch)
+        && count_same(&config.routes, route) == 1
+}
+
+/// How many nodes are switches.
+fn count_switches(nodes: &[NodeConfig]) -> usize
+    ensures { result ≡ length (filter (λ node. is_switch node.kind) nodes.now) }
+{
+    nodes.iter().filter(|node| is_switch(&node.kind)).count()
+}
+
+/// Whether the network is served: PADs and hosts, each at one end of one line, and at most one switch, at the other ends
+/// of up to 64, with its routes; all values in their limits. One that is not is refused as BadConfig where it is
+/// planned.
 pub fn is_served(config: &Config) -> bool
     ensures { result ≡ is_served config.now }
 {
-    are_nodes_served(config) && are_lines_served(config) && config.routes.is_empty()
+    are_nodes_served(config)
+        && are_lines_served(config)
+        && are_routes_served(config)
+        && count_switches(&config.nodes) <= 1
 }
 
 fn are_nodes_served(config: &Config) -> bool
@@ -178,4 +312,13 @@ fn are_lines_served(config: &Config) -> bool
     ensures { result ≡ list_all (is_line_served config.now) config.now.lines.items }
 {
     config.lines.iter().all(|line| is_line_served(config, line))
+}
+
+fn are_routes_served(config: &Config) -> bool
+    ensures { result ≡ list_all (is_route_served config.now) config.now.routes.items }
+{
+    config
+        .routes
+        .iter()
+        .all(|route| is_route_served(config, route))
 }

@@ -1,4 +1,4 @@
--- An event of a node, as the code has it, in the terms of the laws of a network.
+-- An event of a node or of a switch, as the code has it, in the terms of the laws of a network.
 use Rattle.std.specs.Prelude.{ℕ, true, false}
 use Rattle.packet_codec.specs.ClearCause as clear_cause
 use Rattle.packet_codec.specs.ResetCause as reset_cause
@@ -8,8 +8,11 @@ use Rattle.packet_host.specs.declared.request.HostRequest.{HostRequest}
 use Rattle.packet_host.specs.declared.request.HostRequest.TheVariants.{Answer, Refuse, Say, Interrupt, Reset, Clear}
 use Rattle.packet_host.specs.declared.request.HostRequest.TheVariants.{Stop, Go}
 use Rattle.net_events.specs.NodeEvents as law
+use Rattle.net_events.specs.AtSwitch as at_switch
 use Rattle.net_events.specs.declared.node_event.NodeEvent.{NodeEvent}
 use Rattle.net_events.specs.declared.node_event.NodeEvent.TheVariants as event_is
+use Rattle.net_events.specs.declared.switch_event.SwitchEvent.{SwitchEvent}
+use Rattle.net_events.specs.declared.switch_event.SwitchEvent.TheVariants as switch_event_is
 
 -- a host is asked something of the call on a channel
 abbrev pub request_event : (channel : ℕ) → HostRequest → law.NodeEvent
@@ -31,3 +34,8 @@ event_of (event_is.Calls address user_data) = law.Calls address user_data.now
 event_of (event_is.Asks channel request) = request_event channel request.now
 event_of (event_is.Takes channel) = law.Takes channel
 event_of (event_is.AtTerminal terminal event) = law.AtTerminal terminal event
+
+abbrev pub switch_event_of : SwitchEvent → at_switch.SwitchEvent
+switch_event_of (switch_event_is.Hears own octets) = at_switch.Hears own octets.now
+switch_event_of (switch_event_is.Expires own timer) = at_switch.Expires own timer
+switch_event_of switch_event_is.Restarts = at_switch.Restarts

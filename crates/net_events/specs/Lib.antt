@@ -1,6 +1,7 @@
 pub mod OneLine
 pub mod NodeEvents
-pub mod EventView
 pub mod Network
+pub mod AtSwitch
+pub mod EventView
 pub mod NextDue
 pub mod Opening

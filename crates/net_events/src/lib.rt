@@ -4,7 +4,9 @@
 mod answer;
 mod event;
 mod node_event;
+mod switch_event;
 
 pub use answer::{Answer, Outcome, Put};
 pub use event::{Event, StepFault};
 pub use node_event::NodeEvent;
+pub use switch_event::SwitchEvent;

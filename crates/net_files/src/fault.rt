@@ -12,7 +12,7 @@ pub enum ProgFault {
     /// The line of this number, counted from 1, is no line of a script.
     #[error("fault 2 line {0}")]
     Script(usize),
-    /// The network is not made: a value is outside its limits, or the network is of a kind that is not served.
+    /// The network is not made: a value is outside its limits, or nodes, lines and routes do not fit together.
     #[error("fault 3")]
     BadConfig,
     /// No memory was left.

@@ -6,6 +6,7 @@ ghost use Rattle.net_files.specs.Marks.{begins_with_mark};
 use crate::fault::ProgFault;
 use crate::settings::read_settings;
 use net_config::{Config, LineConfig, NodeConfig, NodeKind, PadConfig, RouteConfig};
+use packet_codec::Address;
 use std::alloc::Global;
 use toml::{Table, Value};
 use x3_params::Profile;
@@ -30,9 +31,6 @@ standing = true
 
 /// The byte order mark, which some editors write before a text.
 const BYTE_ORDER_MARK: &str = "\u{FEFF}";
-
-/// The most digits of an address.
-const ADDRESS_DIGITS: usize = 15;
 
 /// Reads a network: the tables `node`, `line` and `route`, in order.
 ///
@@ -235,7 +233,5 @@ fn flag(entry: &Table, key: &str) -> Result<bool, ProgFault> {
 
 /// Whether a text is 1 to 15 digits.
 fn is_address(text: &str) -> bool {
-    !text.is_empty()
-        && text.len() <= ADDRESS_DIGITS
-        && text.bytes().all(|octet| octet.is_ascii_digit())
+    Address::read(text.as_bytes()).is_ok()
 }

@@ -20,7 +20,7 @@ use Rattle.memory_line.specs.Lines.{Flights, LineService, flying, without_first}
 use Rattle.net_nodes.specs.Steps.{hearer}
 use Rattle.line_nodes.specs.declared.terminal.TerminalEvent.TheVariants.{Key, Break, Idle, Print}
 use Rattle.net_events.specs.NodeEvents.{NodeEvent, IsFor, LeftBy, Hears, Expires, Relinks, Restarts, Calls, Asks, Refuses, Says, Takes, AtTerminal}
-use Rattle.net_events.specs.Network.{PlacedNode, NetLine, Network, place_at}
+use Rattle.net_events.specs.Network.{PlacedNode, NetNode, User, NetLine, Network, place_at}
 use Rattle.net_events.specs.declared.answer.Answer.{Answer}
 use Rattle.net_turns.specs.declared.room.Room.{Room}
 use Rattle.net_turns.specs.Outcomes.{event_fault}
@@ -29,6 +29,7 @@ use Rattle.net_events.specs.declared.event.StepFault.{StepFault}
 use Rattle.net_events.specs.declared.event.StepFault.TheVariants.{OutOfMemory, Refused}
 use Rattle.net_nodes.specs.declared.nodes.LineEnd.{LineEnd}
 use Rattle.net_nodes.specs.Turns.{CanServe, CanAct, HadTurn, HadNone, AtEnd, IsRefusal, ActsSo, LeavesLine, its_turn}
+use Rattle.net_events.proofs.Users.{same_user}
 use Rattle.net_nodes.proofs.Serving.{set_there}
 
 -- ---- before the turn
@@ -61,7 +62,7 @@ places_more (Says channel octets qualified delivery) few many more h = tt
 places_more (Takes channel) few many more h = tt
 
 -- the register is opened at the line with room, and the frames in flight may have changed
-pub can_serve : (end : LineEnd) (event : NodeEvent) (nodes : List PlacedNode) (l : NetLine) (n : PlacedNode) → slice_get nodes (place_at end.role l) ≡ Some n → IsFor event n.node → IsQuiet n.node
+pub can_serve : (end : LineEnd) (event : NodeEvent) (nodes : List NetNode) (l : NetLine) (n : PlacedNode) → slice_get nodes (place_at end.role l) ≡ Some (User n) → IsFor event n.node → IsQuiet n.node
     → (g : Register) → end.line < length (register_of g).lines → (v : NetLine) (flights : Flights) (h : Register) (room : Room)
     → v ≡ record l { flights = flights } → register_of h ≡ register_of g
     → (end.line < length g.lines.items → IsOpen end.line h) → (end.line < length g.lines.items → h.book.book ≡ book_at end.line (register_of g))
@@ -86,8 +87,8 @@ can_serve end event nodes l n node_there is_for quiet g registered v flights h r
 
 -- what the event did: this was in flight before the node's turn
 pub at_end : (L : LineService) (end : LineEnd) (event : NodeEvent) (s : Network) (l : NetLine) (n : PlacedNode) (between : Flights)
-    (nodes : List PlacedNode) (line : NetLine) (g : spec.Register) (a : Answer)
-    → slice_get s.lines end.line ≡ Some l → slice_get s.nodes (place_at end.role l) ≡ Some n → IsFor event n.node
+    (nodes : List NetNode) (line : NetLine) (g : spec.Register) (a : Answer)
+    → slice_get s.lines end.line ≡ Some l → slice_get s.nodes (place_at end.role l) ≡ Some (User n) → IsFor event n.node
     → (L.faithful → LeftBy event end.role l.flights between)
     → HadTurn L end event n s.nodes (record l { flights = between }) s.register a nodes line g
     → AtEnd L end event s a (record { nodes = nodes; lines = set s.lines end.line line; register = g })
@@ -106,7 +107,7 @@ at_end L end event s l n between nodes line g a line_there node_there is_for lef
         flights = line.flights;
         put = w.sends.put;
         others = λ i. record {
-          nodes = (w.nodes_are ∙ ap (λ k. set s.nodes k (record n { node = Rattle.line_nodes.specs.Node.drained turn.node })) place) i;
+          nodes = (w.nodes_are ∙ ap (λ k. set s.nodes k (User (record n { node = Rattle.line_nodes.specs.Node.drained turn.node }))) place) i;
           lines = set s.lines end.line (w.line_is i);
           register = w.register_is i;
         };
@@ -118,7 +119,7 @@ at_end L end event s l n between nodes line g a line_there node_there is_for lef
     }
 
 -- nothing changed where the node refused the event and the frames in flight were left
-pub none_changed : (event : NodeEvent) (s : Network) (line : ℕ) (l : NetLine) (n : PlacedNode) (fault : StepFault) (nodes : List PlacedNode) (v : NetLine) (g : spec.Register)
+pub none_changed : (event : NodeEvent) (s : Network) (line : ℕ) (l : NetLine) (n : PlacedNode) (fault : StepFault) (nodes : List NetNode) (v : NetLine) (g : spec.Register)
     → slice_get s.lines line ≡ Some l → HadNone event n fault s.nodes l s.register nodes v g
     → record { nodes = nodes; lines = set s.lines line v; register = g } ≡ s
 none_changed event s line l n fault nodes v g there w =
@@ -147,8 +148,8 @@ leaves (AtTerminal terminal event) role flights h = refl
 
 -- what the node answered, where the event left the frames in flight
 pub acts : (L : LineService) (end : LineEnd) (event : NodeEvent) (s : Network) (l : NetLine) (n : PlacedNode) (r : Result Answer StepFault)
-    (nodes : List PlacedNode) (line : NetLine) (g : spec.Register)
-    → slice_get s.lines end.line ≡ Some l → slice_get s.nodes (place_at end.role l) ≡ Some n → IsFor event n.node → LeavesLine event
+    (nodes : List NetNode) (line : NetLine) (g : spec.Register)
+    → slice_get s.lines end.line ≡ Some l → slice_get s.nodes (place_at end.role l) ≡ Some (User n) → IsFor event n.node → LeavesLine event
     → MatchResult r (λ a. HadTurn L end event n s.nodes l s.register a nodes line g) (λ fault. HadNone event n fault s.nodes l s.register nodes line g)
     → ActsSo L end event n s r (record { nodes = nodes; lines = set s.lines end.line line; register = g })
 acts L end event s l n (Ok a) nodes line g line_there node_there is_for left w =
@@ -158,8 +159,8 @@ acts L end event s l n (Err fault) nodes line g line_there node_there is_for lef
 
 -- and where an event that no node refuses changed them
 pub acts_anew : (L : LineService) (end : LineEnd) (event : NodeEvent) (s : Network) (l : NetLine) (n : PlacedNode) (between : Flights) (r : Result Answer StepFault)
-    (nodes : List PlacedNode) (line : NetLine) (g : spec.Register)
-    → slice_get s.lines end.line ≡ Some l → slice_get s.nodes (place_at end.role l) ≡ Some n → IsFor event n.node → (L.faithful → LeftBy event end.role l.flights between)
+    (nodes : List NetNode) (line : NetLine) (g : spec.Register)
+    → slice_get s.lines end.line ≡ Some l → slice_get s.nodes (place_at end.role l) ≡ Some (User n) → IsFor event n.node → (L.faithful → LeftBy event end.role l.flights between)
     → event_fault event n.node ≡ None
     → MatchResult r (λ a. HadTurn L end event n s.nodes (record l { flights = between }) s.register a nodes line g)
     (λ fault. HadNone event n fault s.nodes (record l { flights = between }) s.register nodes line g)
@@ -169,15 +170,15 @@ acts_anew L end event s l n between (Ok a) nodes line g line_there node_there is
 acts_anew L end event s l n between (Err fault) nodes line g line_there node_there is_for left none w = absurd (let f = w.refuses in cc)
 
 pub can_is_for : (end : LineEnd) (event : NodeEvent) (s : Network) (can : CanAct end event s) (l : NetLine) (n : PlacedNode)
-    → slice_get s.lines end.line ≡ Some l → slice_get s.nodes (place_at end.role l) ≡ Some n → IsFor event n.node
+    → slice_get s.lines end.line ≡ Some l → slice_get s.nodes (place_at end.role l) ≡ Some (User n) → IsFor event n.node
 can_is_for end event s can l n line_there node_there =
     let line : can.line ≡ l = same_Some can.line l (sym can.line_there ∙ line_there) in
-    let node : can.node ≡ n = same_Some can.node n (sym can.node_there ∙ ap (λ (x : NetLine). slice_get s.nodes (place_at end.role x)) line ∙ node_there) in
+    let node : can.node ≡ n = same_user can.node n (sym can.node_there ∙ ap (λ (x : NetLine). slice_get s.nodes (place_at end.role x)) line ∙ node_there) in
     subst (λ (x : PlacedNode). IsFor event x.node) node can.is_for
 
 -- a turn is told of the same line and the same register
-pub turned_from : (L : LineService) (end : LineEnd) (event : NodeEvent) (n : PlacedNode) (r : Result Answer StepFault) (nodes : List PlacedNode) (v l : NetLine) (h g : spec.Register)
-    (nodes' : List PlacedNode) (line : NetLine) (g' : spec.Register) → v ≡ l → h ≡ g
+pub turned_from : (L : LineService) (end : LineEnd) (event : NodeEvent) (n : PlacedNode) (r : Result Answer StepFault) (nodes : List NetNode) (v l : NetLine) (h g : spec.Register)
+    (nodes' : List NetNode) (line : NetLine) (g' : spec.Register) → v ≡ l → h ≡ g
     → MatchResult r (λ a. HadTurn L end event n nodes v h a nodes' line g') (λ fault. HadNone event n fault nodes v h nodes' line g')
     → MatchResult r (λ a. HadTurn L end event n nodes l g a nodes' line g') (λ fault. HadNone event n fault nodes l g nodes' line g')
 turned_from L end event n r nodes v l h g nodes' line g' is_line is_register w =

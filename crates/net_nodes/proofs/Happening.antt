@@ -3,7 +3,8 @@ use Rattle.std.proofs.Common.{◌≡◌, ℕ, ◌<◌, Bool, true, false, List, 
 use Rattle.std.specs.Prelude.{slice_get, ◌⊎◌, if◌then◌else◌, is_some, not}
 use Rattle.std.proofs.lemmas.Option.{same_Some}
 use Rattle.std.proofs.lemmas.Bool.{lt-ltb}
-use Rattle.link_timers.specs.declared.role.Role.TheVariants.{Dte}
+use Rattle.link_timers.specs.declared.role.Role.{Role}
+use Rattle.link_timers.specs.declared.role.Role.TheVariants.{Dte, Dce}
 use Rattle.memory_line.specs.declared.line.Direction.{Direction}
 use Rattle.net_turns.specs.Quiet.{IsQuiet}
 use Rattle.line_nodes.specs.Node.{NodeState, Pad, Host, is_pad}
@@ -11,7 +12,7 @@ use Rattle.line_nodes.specs.Terminals.{HasTerminal}
 use Rattle.line_nodes.specs.declared.fault.NodeFault.{NodeFault}
 use Rattle.memory_line.specs.Lines.{LineService}
 use Rattle.net_events.specs.NodeEvents.{NodeEvent, IsFor, Hears, Relinks, Restarts}
-use Rattle.net_events.specs.Network.{PlacedNode, NetLine, Network, place_at}
+use Rattle.net_events.specs.Network.{PlacedNode, User, NetLine, Network, place_at}
 use Rattle.net_events.specs.declared.answer.Answer as answered
 use Rattle.net_turns.specs.Outcomes.{event_fault}
 use Rattle.net_events.specs.EventView.{request_event}
@@ -22,25 +23,35 @@ use Rattle.net_events.specs.declared.event.Event.TheVariants.{Deliver, Relink, R
 use Rattle.net_events.specs.declared.event.StepFault.{StepFault}
 use Rattle.net_events.specs.declared.event.StepFault.TheVariants.{OutOfMemory, NoSuchNode, NoSuchTerminal, NoSuchCall}
 use Rattle.net_nodes.specs.declared.nodes.LineEnd.{LineEnd}
-use Rattle.net_nodes.specs.Places.{IsStanding, IsPlaceOf, is_host, is_host_at, terminals_of, terminals_there, pad_terminals}
+use Rattle.net_nodes.specs.Places.{EndStands, IsStanding, IsPlaceOf, is_host, is_host_at, terminals_of, terminals_there, pad_terminals, user_at}
 use Rattle.net_nodes.specs.Faults.{refused, step_fault, takes_memory, IsLeftToNode, MayWant, at_node, at_host, at_terminal, where_there_is, on_channel, is_channel_at}
 use Rattle.net_nodes.specs.Turns.{CanAct, AtEnd, IsRefusal, ActsSo, Acts}
 use Rattle.net_nodes.specs.Steps.{AtNode, StepOf, hearer}
 use Rattle.net_nodes.specs.Happening.{Happens}
-use Rattle.net_nodes.proofs.Places.{within}
+use Rattle.net_events.proofs.Users.{same_user, not_both}
+use Rattle.net_nodes.proofs.Places.{within, user_there}
 
 -- ---- the node of a place
 
-pub at_end_of : (place : ℕ) (end : LineEnd) (s : Network) (p : IsPlaceOf place end s) → slice_get s.nodes (place_at end.role p.line) ≡ Some p.node
+pub at_end_of : (place : ℕ) (end : LineEnd) (s : Network) (p : IsPlaceOf place end s) → slice_get s.nodes (place_at end.role p.line) ≡ Some (User p.node)
 at_end_of place end s p = ap (λ i. slice_get s.nodes i) p.at_end ∙ p.node_there
 
 pub registered_at : (line : ℕ) (l : NetLine) (s : Network) → IsStanding s → slice_get s.lines line ≡ Some l → line < length s.register.lines
 registered_at line l s st there = let h = within s.lines line l there in let count = st.registered in omega (arith, h, count)
 
+-- the node with users at an end of a line stands there
+pub user_stands : (line : ℕ) (l : NetLine) (role : Role) (n : PlacedNode) (s : Network) → IsStanding s → slice_get s.lines line ≡ Some l
+    → slice_get s.nodes (place_at role l) ≡ Some (User n) → EndStands s line l role
+user_stands line l Dte n s st there node_there = st.dtes line l there
+user_stands line l Dce n s st there node_there = elim (st.dces line l there) [
+  | inl e ↦ e
+  | inr e ↦ absurd (not_both n e.node (sym node_there ∙ e.node_there))
+]
+
 pub quiet_at : (place : ℕ) (end : LineEnd) (s : Network) → IsStanding s → (p : IsPlaceOf place end s) → IsQuiet p.node.node
 quiet_at place end s st p =
-    let e = st.ends end.line p.line end.role p.line_there in
-    subst (λ (x : PlacedNode). IsQuiet x.node) (same_Some e.node p.node (sym e.node_there ∙ at_end_of place end s p)) e.quiet
+    let e = user_stands end.line p.line end.role p.node s st p.line_there (at_end_of place end s p) in
+    subst (λ (x : PlacedNode). IsQuiet x.node) (same_user e.node p.node (sym e.node_there ∙ at_end_of place end s p)) e.quiet
 
 pub can_act : (place : ℕ) (end : LineEnd) (event : NodeEvent) (s : Network) → IsStanding s → (p : IsPlaceOf place end s) → IsFor event p.node.node → CanAct end event s
 can_act place end event s st p is_for = record {
@@ -57,7 +68,7 @@ pub own_node : (L : LineService) (place : ℕ) (end : LineEnd) (event : NodeEven
 own_node L place end event s a t p w =
     let line : w.happened.line_is ≡ p.line = same_Some w.happened.line_is p.line (sym w.happened.line_there ∙ p.line_there) in
     let at : place_at end.role w.happened.line_is ≡ place = ap (place_at end.role) line ∙ p.at_end in
-    let node : w.happened.node ≡ p.node = same_Some w.happened.node p.node (sym w.happened.node_there ∙ ap (λ i. slice_get s.nodes i) at ∙ p.node_there) in
+    let node : w.happened.node ≡ p.node = same_user w.happened.node p.node (sym w.happened.node_there ∙ ap (λ i. slice_get s.nodes i) at ∙ p.node_there) in
     record { end = end; does = w; own_line = ap (λ (x : PlacedNode). x.line) node ∙ p.node_line; own_place = at }
 
 -- ---- what the node refuses, and want of memory
@@ -92,15 +103,15 @@ host_is (Some m) n e h = by (is_pad m.node) refl h
     by false is h = ap (λ (x : PlacedNode). is_pad x.node) (sym same) ∙ is
 
 pub host_at : (place : ℕ) (end : LineEnd) (s : Network) (p : IsPlaceOf place end s) → is_host_at place s ≡ true → is_pad p.node.node ≡ false
-host_at place end s p h = host_is (slice_get s.nodes place) p.node p.node_there h
+host_at place end s p h = host_is (user_at place s) p.node (user_there place s p.node p.node_there) h
 
 pub fault_at : (place : ℕ) (end : LineEnd) (s : Network) (p : IsPlaceOf place end s) (fault : PlacedNode → Option StepFault) → is_host_at place s ≡ true
     → at_host place s fault ≡ fault p.node
 fault_at place end s p fault h =
-    (λ i. if h i then at_node (slice_get s.nodes place) fault else Some NoSuchNode) ∙ ap (λ o. at_node o fault) p.node_there
+    (λ i. if h i then at_node (user_at place s) fault else Some NoSuchNode) ∙ ap (λ o. at_node o fault) (user_there place s p.node p.node_there)
 
 pub no_host : (place : ℕ) (s : Network) (fault : PlacedNode → Option StepFault) → is_host_at place s ≡ false → at_host place s fault ≡ Some NoSuchNode
-no_host place s fault h = λ i. if h i then at_node (slice_get s.nodes place) fault else Some NoSuchNode
+no_host place s fault h = λ i. if h i then at_node (user_at place s) fault else Some NoSuchNode
 
 pub channel_at : (place : ℕ) (end : LineEnd) (s : Network) (p : IsPlaceOf place end s) (channel : ℕ) (fault : Option StepFault) → is_channel_at end.line channel s ≡ true
     → on_channel channel s p.node fault ≡ fault
@@ -130,7 +141,7 @@ terminal_of (Host e) terminals terminal h less = absurd (cc)
 
 pub pad_at : (place : ℕ) (end : LineEnd) (s : Network) (p : IsPlaceOf place end s) (terminals terminal : ℕ) → pad_terminals place s ≡ Some terminals → terminal < terminals
     → HasTerminal p.node.node terminal
-pad_at place end s p terminals terminal h less = terminal_of p.node.node terminals terminal (ap terminals_there (sym p.node_there) ∙ h) less
+pad_at place end s p terminals terminal h less = terminal_of p.node.node terminals terminal (ap terminals_there (sym (user_there place s p.node p.node_there)) ∙ h) less
 
 pub terminal_there : (place terminal terminals : ℕ) (s : Network) → pad_terminals place s ≡ Some terminals → terminal < terminals
     → at_terminal terminal (pad_terminals place s) ≡ None
@@ -138,30 +149,29 @@ terminal_there place terminal terminals s h lt = ap (at_terminal terminal) h ∙
 
 -- ---- lines
 
-pub can_at : (end : LineEnd) (event : NodeEvent) (s : Network) → IsStanding s → (l : NetLine) → slice_get s.lines end.line ≡ Some l
-    → ((n : NodeState) → IsFor event n) → CanAct end event s
-can_at end event s st l there is_for =
-    let e = st.ends end.line l end.role there in
+pub can_relink : (line : ℕ) (s : Network) → IsStanding s → (l : NetLine) → slice_get s.lines line ≡ Some l → CanAct (record { line = line; role = Dte }) Relinks s
+can_relink line s st l there =
+    let e = st.dtes line l there in
     record {
       line = l;
       line_there = there;
       node = e.node;
       node_there = e.node_there;
-      is_for = is_for e.node.node;
+      is_for = tt;
       quiet = e.quiet;
-      registered = registered_at end.line l s st there;
+      registered = registered_at line l s st there;
     }
 
 pub relinked : (L : LineService) (line : ℕ) (s t : Network) (r : Result answered.Answer StepFault) → IsStanding s → (l : NetLine) → slice_get s.lines line ≡ Some l
     → Acts L (record { line = line; role = Dte }) Relinks s r t → Happens L (Relink line) s r t
 relinked L line s t r st l there acts =
-    let e = st.ends line l Dte there in
+    let e = st.dtes line l there in
     by r (acts l e.node there e.node_there)
   where
     none : step_fault (Relink line) s ≡ None
     none = ap (λ o. where_there_is (is_some o)) there
 
-    by : (r : Result answered.Answer StepFault) → ActsSo L (record { line = line; role = Dte }) Relinks (st.ends line l Dte there).node s r t → Happens L (Relink line) s r t
+    by : (r : Result answered.Answer StepFault) → ActsSo L (record { line = line; role = Dte }) Relinks (st.dtes line l there).node s r t → Happens L (Relink line) s r t
     by (Ok a) so = (none, so.1)
     by (Err fault) so = (refused_so (Relink line) s None fault none refl so.0, so.1)
 
@@ -172,10 +182,10 @@ delivered L line d end is_line is_role octets s l there r t w =
     let same : end ≡ record { line = line; role = hearer d } = λ i. record { line = is_line i; role = is_role i } in
     let P : LineEnd → Type 0 = λ e. AtEnd L e (Hears octets) s w.0 t in
     let Q : Result answered.Answer StepFault → Type 0 = λ x. Happens L (Deliver line d) s x t in
-    subst Q (sym w.1) (ap (λ o. where_there_is (is_some o)) there, inr (octets, subst P same w.2))
+    subst Q (sym w.1) (ap (λ o. where_there_is (is_some o)) there, inr (octets, inl (subst P same w.2)))
 
 pub began_anew : (L : LineService) (place : ℕ) (end : LineEnd) (s : Network) (r : Result answered.Answer StepFault) (t : Network) → IsPlaceOf place end s
     → (a : answered.Answer) × (r ≡ Ok a) × AtEnd L end Restarts s a t → Happens L (Restart place) s r t
 began_anew L place end s r t p w =
     let Q : Result answered.Answer StepFault → Type 0 = λ x. Happens L (Restart place) s x t in
-    subst Q (sym w.1) (ap (λ o. where_there_is (is_some o)) p.node_there, own_node L place end Restarts s w.0 t p w.2)
+    subst Q (sym w.1) (ap (λ o. where_there_is (is_some o)) p.node_there, inl (own_node L place end Restarts s w.0 t p w.2))

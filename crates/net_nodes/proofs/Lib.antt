@@ -1,5 +1,10 @@
 mod Places
 mod Serving
+mod Switching
+mod SwitchTurns
+mod Due
 mod Acting
 mod Happening
 mod Making
+pub mod Plans
+pub mod Made

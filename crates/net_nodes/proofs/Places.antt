@@ -1,12 +1,12 @@
 -- Where nodes stand, and what is at a place of a list.
 use Rattle.std.proofs.Common.{◌≡◌, ◌≢◌, ℕ, ◌<◌, zero, suc, List, [], ◌∷◌, length, Some, None, refl, sym, ap, ◌∙◌, subst, arith, get_or}
-use Rattle.std.specs.Prelude.{slice_get, ◌⊎◌, Result, Ok, Err, OnErr}
+use Rattle.std.specs.Prelude.{slice_get, map, option_map, ◌⊎◌, Result, Ok, Err, OnErr}
 use Rattle.std.proofs.Common.{inl, inr}
-use Rattle.std.proofs.lemmas.Option.{same_Some, slice_get-get_or, none-some}
+use Rattle.std.proofs.lemmas.Option.{same_Some, slice_get-get_or, none-some, slice_get-map}
 use Rattle.link_timers.specs.declared.role.Role.{Role}
 use Rattle.link_timers.specs.declared.role.Role.TheVariants.{Dte, Dce}
-use Rattle.net_events.specs.Network.{PlacedNode, NetLine, Network}
-use Rattle.net_nodes.specs.Places.{IsStanding, IsPlaceOf}
+use Rattle.net_events.specs.Network.{PlacedNode, NetNode, User, Switching, NetLine, Network, StandsAtLine}
+use Rattle.net_nodes.specs.Places.{IsStanding, IsPlaceOf, EndStands, HearsAt, user_of, user_in, user_at}
 
 pub found : {X : Type 0} (xs : List X) (i : ℕ) (d x y : X) → i < length xs → x ≡ get_or xs i d → slice_get xs i ≡ Some y → x ≡ y
 found xs i d x y h is there = is ∙ same_Some (get_or xs i d) y (sym (slice_get-get_or xs i d h) ∙ there)
@@ -25,14 +25,14 @@ none_from (x ∷ xs) zero h = absurd (h (omega arith))
 none_from (x ∷ xs) (suc i) h = none_from xs i (λ k. h (omega (arith, k)))
 
 -- a node of a network that stands has a line
-pub has_line : (s : Network) (place : ℕ) (n : PlacedNode) → IsStanding s → slice_get s.nodes place ≡ Some n → n.line < length s.lines
-has_line s place n st e = let at = st.nodes place n e in within s.lines n.line at.line at.there
+pub has_line : (s : Network) (place : ℕ) (n : PlacedNode) → IsStanding s → slice_get s.nodes place ≡ Some (User n) → n.line < length s.lines
+has_line s place n st e = let at : StandsAtLine s.lines place n = st.nodes place (User n) e in within s.lines n.line at.line at.there
 
-pub as_dte : (s : Network) (place : ℕ) (n : PlacedNode) (l : NetLine) → slice_get s.nodes place ≡ Some n → slice_get s.lines n.line ≡ Some l
+pub as_dte : (s : Network) (place : ℕ) (n : PlacedNode) (l : NetLine) → slice_get s.nodes place ≡ Some (User n) → slice_get s.lines n.line ≡ Some l
     → l.dte ≡ place → IsPlaceOf place (record { line = n.line; role = Dte }) s
 as_dte s place n l node line e = record { node = n; node_there = node; node_line = refl; line = l; line_there = line; at_end = e }
 
-pub as_dce : (s : Network) (place : ℕ) (n : PlacedNode) (l : NetLine) → IsStanding s → slice_get s.nodes place ≡ Some n → slice_get s.lines n.line ≡ Some l
+pub as_dce : (s : Network) (place : ℕ) (n : PlacedNode) (l : NetLine) → IsStanding s → slice_get s.nodes place ≡ Some (User n) → slice_get s.lines n.line ≡ Some l
     → l.dte ≢ place → IsPlaceOf place (record { line = n.line; role = Dce }) s
 as_dce s place n l st node line not_dte = record {
   node = n;
@@ -40,7 +40,7 @@ as_dce s place n l st node line not_dte = record {
   node_line = refl;
   line = l;
   line_there = line;
-  at_end = by (let at = st.nodes place n node in subst (λ (x : NetLine). (x.dte ≡ place) ⊎ (x.dce ≡ place)) (same_Some at.line l (sym at.there ∙ line)) at.at_end);
+  at_end = by (let at : StandsAtLine s.lines place n = st.nodes place (User n) node in subst (λ (x : NetLine). (x.dte ≡ place) ⊎ (x.dce ≡ place)) (same_Some at.line l (sym at.there ∙ line)) at.at_end);
 }
   where
     by : (l.dte ≡ place) ⊎ (l.dce ≡ place) → l.dce ≡ place
@@ -59,3 +59,22 @@ pub at_index : {X : Type 0} (xs : List X) (i : ℕ) → i < length xs → (x : X
 at_index [] i h = absurd (omega (arith, h))
 at_index (x ∷ xs) zero h = (x, refl)
 at_index (x ∷ xs) (suc i) h = at_index xs i (omega (arith, h))
+
+pub mapped : {X Y : Type 0} (f : X → Y) (xs : List X) (i : ℕ) (x : X) → slice_get xs i ≡ Some x → slice_get (map f xs) i ≡ Some (f x)
+mapped f xs i x e = slice_get-map f xs i ∙ ap (option_map f) e
+
+-- the node with users of a place
+pub user_there : (place : ℕ) (s : Network) (n : PlacedNode) → slice_get s.nodes place ≡ Some (User n) → user_at place s ≡ Some n
+user_there place s n e = ap user_in e
+
+-- the node with users that hears on a line, whatever the line is called
+pub hears_there : (line : ℕ) (hears role : Role) → role ≡ hears → (s : Network) (l : NetLine) → HearsAt line hears s → slice_get s.lines line ≡ Some l → EndStands s line l role
+hears_there line hears role is s l h there =
+    let P : NetLine → Type 0 = λ x. EndStands s line x hears in
+    let Q : Role → Type 0 = λ r. EndStands s line l r in
+    subst Q (sym is) (subst P (same_Some h.line_is l (sym h.line_there ∙ there)) h.stands)
+
+-- a node that has a line of its own is one with users
+pub of_user : (m : NetNode) (line : ℕ) → option_map (λ (n : PlacedNode). n.line) (user_of m) ≡ Some line → (n : PlacedNode) × ((m ≡ User n) × (n.line ≡ line))
+of_user (User n) line e = (n, (refl, same_Some n.line line e))
+of_user (Switching n) line e = absurd (none-some line e)

@@ -14,18 +14,21 @@ use Rattle.line_nodes.specs.declared.fault.NodeFault.{NodeFault}
 use Rattle.memory_line.specs.Lines.{Flights, LineService}
 use Rattle.net_events.specs.OneLine.{direction_of}
 use Rattle.net_events.specs.NodeEvents.{NodeEvent, turn_of}
-use Rattle.net_events.specs.Network.{PlacedNode, NetLine, place_at}
+use Rattle.net_events.specs.Network.{PlacedNode, NetNode, User, NetLine, place_at}
 use Rattle.net_events.specs.declared.answer.Answer.{Answer}
 use Rattle.net_events.specs.declared.answer.Outcome.{Outcome}
 use Rattle.net_events.specs.declared.answer.Put.{Put}
 use Rattle.net_events.specs.declared.event.StepFault.{StepFault}
 use Rattle.net_events.specs.declared.event.StepFault.TheVariants.{Refused}
+use Rattle.link_timers.specs.declared.role.Role.{Role}
+use Rattle.line_nodes.specs.declared.note.HostNote.{HostNote}
+use Rattle.net_turns.specs.declared.place.NetPlace.{NetPlace}
 use Rattle.net_turns.specs.declared.room.Room.{Room}
 use Rattle.net_turns.specs.Outcomes.{event_fault, IsOutcome, IsAnswered, text_of}
 use Rattle.net_turns.specs.Sends.{Sends}
 use Rattle.net_turns.specs.Served.{Served}
 use Rattle.net_nodes.specs.declared.nodes.LineEnd.{LineEnd}
-use Rattle.net_nodes.specs.Turns.{its_turn, HadTurn, HadNone}
+use Rattle.net_nodes.specs.Turns.{its_turn, UserServed, HadTurn, HadNone}
 
 pub set_there : {X : Type 0} (xs : List X) (n : ℕ) (x : X) → slice_get xs n ≡ Some x → set xs n x ≡ xs
 set_there [] n x e = refl
@@ -44,7 +47,18 @@ pub register_turned : (g : Register) (line : ℕ) (b t : Book) → IsOpen line g
 register_turned g line b t at_line is =
     rewritten g.open line g.book.book b (lines_of g.lines.items) at_line.at ∙ ap (λ x. with_book line x (register_of g)) is
 
-module _ (L : LineService) (end : LineEnd) (event : NodeEvent) (p n : PlacedNode) (nodes : List PlacedNode) (v l : NetLine)
+-- the turn of a node with users, named otherwise
+pub user_served : (L : LineService) (at : NetPlace) (event : NodeEvent) (role : Role) (p n : PlacedNode) (old : Book) (before : Flights) (frames : List Put) (notes : List HostNote) (state : NodeState)
+    (after : Flights) (book : Book) (r : Result Outcome NodeFault) → p ≡ n → OnOk r (Served L at (turn_of event role p.node old) before frames notes state after book)
+    → OnOk r (UserServed L at (turn_of event role n.node old) n before frames notes (User (record p { node = state })) after book)
+user_served L at event role p n old before frames notes state after book (Err fault) same w = tt
+user_served L at event role p n old before frames notes state after book (Ok o) same w = record {
+  state = state;
+  node_is = ap (λ (x : PlacedNode). User (record x { node = state })) same;
+  served = subst (λ (x : PlacedNode). Served L at (turn_of event role x.node old) before frames notes state after book) same w;
+}
+
+module _ (L : LineService) (end : LineEnd) (event : NodeEvent) (p n : PlacedNode) (nodes : List NetNode) (v l : NetLine)
     (g : Register) (place : ℕ) (is_node : p ≡ n) (is_line : v ≡ l) (is_place : place ≡ place_at end.role l)
     (at_line : IsOpen end.line g) (book : g.book.book ≡ book_at end.line (register_of g)) where
   abbrev turn : Turn
@@ -58,7 +72,7 @@ module _ (L : LineService) (end : LineEnd) (event : NodeEvent) (p n : PlacedNode
       → Served L (record { line = end.line; place = record { role = end.role; node = place } })
       (turn_of event end.role p.node g.book.book) v.flights room.frames.items room.notes.items node flights b
       → room.text.items ≡ text_of event p.node → a.frames.items ≡ room.frames.items → a.notes.items ≡ room.notes.items → a.text.items ≡ room.text.items → a.outcome ≡ o
-      → HadTurn L end event n nodes l (register_of g) a (set nodes place (record p { node = node }))
+      → HadTurn L end event n nodes l (register_of g) a (set nodes place (User (record p { node = node })))
       (record v { flights = flights }) (register_with g.open b (lines_of g.lines.items))
   turned o room a node flights b answered w shows frames notes text outcome =
       let P : Turn → Flights → List Put → Type 0 = λ t f puts. Sends L (direction_of end.role) end.line (frames_of t.node) f puts flights in
@@ -75,25 +89,25 @@ module _ (L : LineService) (end : LineEnd) (event : NodeEvent) (p n : PlacedNode
         sends = subst Q same_turn (subst R (ap (λ (x : NetLine). x.flights) is_line) (subst S (sym frames) w.sends));
         told = notes ∙ w.told_of ∙ (λ i. host_notes (is_place i) (same_turn i).notes);
         text = text ∙ shows ∙ ap (text_of event) node_is;
-        nodes_are = λ i. set nodes (is_place i) (record (is_node i) { node = drained_is i });
+        nodes_are = λ i. set nodes (is_place i) (User (record (is_node i) { node = drained_is i }));
         line_is = λ i. record (is_line i) { flights = flights };
         register_is = register_turned g end.line b turn.book at_line (w.book_is ∙ ap (λ (t : Turn). t.book) same_turn);
       }
 
-  refused : (refusal : NodeFault) (fault : StepFault) (node : NodeState) (flights : Flights) (b : Book) → slice_get nodes (place_at end.role l) ≡ Some n
+  refused : (refusal : NodeFault) (fault : StepFault) (node : NodeState) (flights : Flights) (b : Book) → slice_get nodes (place_at end.role l) ≡ Some (User n)
       → event_fault event p.node ≡ Some refusal → fault ≡ Refused refusal → node ≡ p.node → flights ≡ v.flights → b ≡ g.book.book
-      → HadNone event n fault nodes l (register_of g) (set nodes place (record p { node = node }))
+      → HadNone event n fault nodes l (register_of g) (set nodes place (User (record p { node = node })))
       (record v { flights = flights }) (register_with g.open b (lines_of g.lines.items))
   refused refusal fault node flights b there f is same_node same_flights same_book =
       let N : NodeState → Type 0 = λ m. event_fault event m ≡ Some refusal in
       let node_is : p.node ≡ n.node = ap (λ (x : PlacedNode). x.node) is_node in
-      let put : set nodes place (record p { node = node }) ≡ set nodes (place_at end.role l) n
-      = λ i. set nodes (is_place i) (record (is_node i) { node = (same_node ∙ node_is) i }) in
+      let put : set nodes place (User (record p { node = node })) ≡ set nodes (place_at end.role l) (User n)
+      = λ i. set nodes (is_place i) (User (record (is_node i) { node = (same_node ∙ node_is) i })) in
       record {
         refusal = refusal;
         refuses = subst N node_is f;
         fault_is = is;
-        nodes_are = put ∙ set_there nodes (place_at end.role l) n there;
+        nodes_are = put ∙ set_there nodes (place_at end.role l) (User n) there;
         line_is = (λ i. record v { flights = same_flights i }) ∙ is_line;
         register_is = ap (λ x. register_with g.open x (lines_of g.lines.items)) same_book;
       }
@@ -102,9 +116,9 @@ module _ (L : LineService) (end : LineEnd) (event : NodeEvent) (p n : PlacedNode
 
   abbrev IsTurn : Result Answer StepFault → NodeState → Flights → Book → Type 0
   IsTurn x node flights b = MatchResult x
-      (λ a. HadTurn L end event n nodes l (register_of g) a (set nodes place (record p { node = node }))
+      (λ a. HadTurn L end event n nodes l (register_of g) a (set nodes place (User (record p { node = node })))
       (record v { flights = flights }) (register_with g.open b (lines_of g.lines.items)))
-      (λ fault. HadNone event n fault nodes l (register_of g) (set nodes place (record p { node = node }))
+      (λ fault. HadNone event n fault nodes l (register_of g) (set nodes place (User (record p { node = node })))
       (record v { flights = flights }) (register_with g.open b (lines_of g.lines.items)))
 
   pub answered : (r : Result Outcome NodeFault) (x : Result Answer StepFault) (o : Outcome) (room : Room) (a : Answer) (node : NodeState) (flights : Flights) (b : Book)
@@ -122,7 +136,7 @@ module _ (L : LineService) (end : LineEnd) (event : NodeEvent) (p n : PlacedNode
       subst X (sym is_answer) (turned o room a node flights b (subst A is_ok of_node) (subst S is_ok w) (subst T is_ok shows) frames notes text outcome)
 
   pub answered_not : (r : Result Outcome NodeFault) (x : Result Answer StepFault) (refusal : NodeFault) (node : NodeState) (flights : Flights) (b : Book)
-      → slice_get nodes (place_at end.role l) ≡ Some n → r ≡ Err refusal → x ≡ Err (Refused refusal) → IsAnswered event p.node r
+      → slice_get nodes (place_at end.role l) ≡ Some (User n) → r ≡ Err refusal → x ≡ Err (Refused refusal) → IsAnswered event p.node r
       → OnErr r (node ≡ p.node) → OnErr r (flights ≡ v.flights) → OnErr r (b ≡ g.book.book) → IsTurn x node flights b
   answered_not r x refusal node flights b there is_err is_refusal of_node same_node same_flights same_book =
       let A : Result Outcome NodeFault → Type 0 = λ y. IsAnswered event p.node y in
@@ -132,3 +146,40 @@ module _ (L : LineService) (end : LineEnd) (event : NodeEvent) (p n : PlacedNode
       let X : Result Answer StepFault → Type 0 = λ y. IsTurn y node flights b in
       subst X (sym is_refusal)
       (refused refusal (Refused refusal) node flights b there (subst A is_err of_node) refl (subst N is_err same_node) (subst F is_err same_flights) (subst B is_err same_book))
+
+  -- ---- and what serving a node with users does
+
+  abbrev IsTurnOf : Result Answer StepFault → NetNode → Flights → Book → Type 0
+  IsTurnOf x m flights b = MatchResult x
+      (λ a. HadTurn L end event n nodes l (register_of g) a (set nodes place m)
+      (record v { flights = flights }) (register_with g.open b (lines_of g.lines.items)))
+      (λ fault. HadNone event n fault nodes l (register_of g) (set nodes place m)
+      (record v { flights = flights }) (register_with g.open b (lines_of g.lines.items)))
+
+  pub user_answered : (r : Result Outcome NodeFault) (x : Result Answer StepFault) (o : Outcome) (room : Room) (a : Answer) (m : NetNode) (flights : Flights) (b : Book)
+      → r ≡ Ok o → x ≡ Ok a → IsAnswered event p.node r
+      → OnOk r (UserServed L (record { line = end.line; place = record { role = end.role; node = place } })
+      (turn_of event end.role p.node g.book.book) p v.flights room.frames.items room.notes.items m flights b)
+      → OnOk r (room.text.items ≡ text_of event p.node) → a.frames.items ≡ room.frames.items → a.notes.items ≡ room.notes.items → a.text.items ≡ room.text.items → a.outcome ≡ o
+      → IsTurnOf x m flights b
+  user_answered r x o room a m flights b is_ok is_answer of_node w shows frames notes text outcome =
+      let A : Result Outcome NodeFault → Type 0 = λ y. IsAnswered event p.node y in
+      let S : Result Outcome NodeFault → Type 0 = λ y. OnOk y (UserServed L (record { line = end.line; place = record { role = end.role; node = place } })
+      (turn_of event end.role p.node g.book.book) p v.flights room.frames.items room.notes.items m flights b) in
+      let T : Result Outcome NodeFault → Type 0 = λ y. OnOk y (room.text.items ≡ text_of event p.node) in
+      let X : Result Answer StepFault → Type 0 = λ y. IsTurnOf y m flights b in
+      let u : UserServed L (record { line = end.line; place = record { role = end.role; node = place } })
+      (turn_of event end.role p.node g.book.book) p v.flights room.frames.items room.notes.items m flights b = subst S is_ok w in
+      let N : NetNode → Type 0 = λ y. IsTurnOf (Ok a) y flights b in
+      subst X (sym is_answer) (subst N (sym u.node_is)
+      (turned o room a u.state flights b (subst A is_ok of_node) u.served (subst T is_ok shows) frames notes text outcome))
+
+  pub user_refused : (r : Result Outcome NodeFault) (x : Result Answer StepFault) (refusal : NodeFault) (m : NetNode) (flights : Flights) (b : Book)
+      → slice_get nodes (place_at end.role l) ≡ Some (User n) → r ≡ Err refusal → x ≡ Err (Refused refusal) → IsAnswered event p.node r
+      → OnErr r (m ≡ User p) → OnErr r (flights ≡ v.flights) → OnErr r (b ≡ g.book.book) → IsTurnOf x m flights b
+  user_refused r x refusal m flights b there is_err is_refusal of_node same_node same_flights same_book =
+      let M : Result Outcome NodeFault → Type 0 = λ y. OnErr y (m ≡ User p) in
+      let N : NetNode → Type 0 = λ y. IsTurnOf x y flights b in
+      let E : Result Outcome NodeFault → Type 0 = λ y. OnErr y (p.node ≡ p.node) in
+      subst N (sym (subst M is_err same_node))
+      (answered_not r x refusal p.node flights b there is_err is_refusal of_node (subst E (sym is_err) refl) same_flights same_book)

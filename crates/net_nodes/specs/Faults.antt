@@ -3,7 +3,7 @@ use Rattle.std.specs.Prelude.{ℕ, ◌≡◌, ◌==◌, ◌&&◌, not, Bool, tru
 use Rattle.std.specs.Prelude.{if◌then◌else◌, is_some}
 use Rattle.line_nodes.specs.declared.fault.NodeFault.{NodeFault}
 use Rattle.net_events.specs.NodeEvents.{Calls}
-use Rattle.net_events.specs.Network.{PlacedNode, NetLine, Network}
+use Rattle.net_events.specs.Network.{PlacedNode, NetNode, User, Switching, NetLine, Network}
 use Rattle.net_events.specs.EventView.{request_event}
 use Rattle.net_turns.specs.Outcomes.{event_fault}
 use Rattle.net_events.specs.declared.event.Event.{Event}
@@ -11,7 +11,7 @@ use Rattle.net_events.specs.declared.event.Event.TheVariants.{AtTerminal, Call, 
 use Rattle.net_events.specs.declared.event.Event.TheVariants.{Restart}
 use Rattle.net_events.specs.declared.event.StepFault.{StepFault}
 use Rattle.net_events.specs.declared.event.StepFault.TheVariants.{NoSuchNode, NoSuchTerminal, NoSuchCall, Refused}
-use Rattle.net_nodes.specs.Places.{is_host_at, pad_terminals}
+use Rattle.net_nodes.specs.Places.{is_host_at, pad_terminals, user_at, own_line}
 
 -- ---- where an event is
 
@@ -30,14 +30,14 @@ abbrev pub refused : Option NodeFault → Option StepFault
 refused None = None
 refused (Some fault) = Some (Refused fault)
 
--- at a node, if there is one
+-- at a node with users, if there is one
 abbrev pub at_node : Option PlacedNode → (PlacedNode → Option StepFault) → Option StepFault
 at_node (Some n) fault = fault n
 at_node None fault = Some NoSuchNode
 
--- at a host: no such node, or a PAD; else this
+-- at a host: no such node, or one of another kind; else this
 abbrev pub at_host : ℕ → Network → (PlacedNode → Option StepFault) → Option StepFault
-at_host place s fault = if is_host_at place s then at_node (slice_get s.nodes place) fault else Some NoSuchNode
+at_host place s fault = if is_host_at place s then at_node (user_at place s) fault else Some NoSuchNode
 
 -- on a channel of the node's line
 abbrev pub on_channel : ℕ → Network → PlacedNode → Option StepFault → Option StepFault
@@ -48,8 +48,12 @@ abbrev pub where_there_is : Bool → Option StepFault
 where_there_is there = if there then None else Some NoSuchNode
 
 -- the node has this line
-abbrev pub stands_at : (line : ℕ) → Option PlacedNode → Bool
-stands_at line (Some n) = n.line == line
+abbrev pub has_line : (line : ℕ) → NetNode → Bool
+has_line line (User n) = n.line == line
+has_line line (Switching n) = is_some (own_line line (Switching n))
+
+abbrev pub stands_at : (line : ℕ) → Option NetNode → Bool
+stands_at line (Some n) = has_line line n
 stands_at line None = false
 
 -- at a terminal of a PAD that has so many

@@ -1,33 +1,94 @@
 -- Where the nodes of a network stand.
-use Rattle.std.specs.Prelude.{◌≡◌, ℕ, Bool, false, not, length, slice_get, Option, Some, None}
+use Rattle.std.specs.Prelude.{◌≡◌, ℕ, ◌==◌, ◌<◌, ◌⊎◌, Bool, false, not, length, slice_get, Option, Some, None, is_none}
+use Rattle.std.specs.List.{position}
 use Rattle.link_timers.specs.declared.role.Role.{Role}
+use Rattle.link_timers.specs.declared.role.Role.TheVariants.{Dte, Dce}
 use Rattle.net_turns.specs.Quiet.{IsQuiet}
 use Rattle.line_nodes.specs.Node.{NodeState, Pad, Host, is_pad}
-use Rattle.net_events.specs.Network.{PlacedNode, NetLine, Network, place_at}
-use Rattle.net_events.specs.Network.{StandsAtLine}
+use Rattle.net_events.specs.Network.{PlacedNode, PlacedSwitch, NetNode, User, Switching, NetLine, Network, place_at}
+use Rattle.net_events.specs.Network.{Stands}
 use Rattle.net_nodes.specs.declared.nodes.LineEnd.{LineEnd}
 
--- the node at the end of a role of a line stands there, and neither a frame nor a note waits at it
+-- a node with users stands at the end of a role of a line, and neither a frame nor a note waits at it
 pub record EndStands (s : Network) (line : ℕ) (l : NetLine) (role : Role) : Type 0 where
   pub node : PlacedNode
-  pub node_there : slice_get s.nodes (place_at role l) ≡ Some node
+  pub node_there : slice_get s.nodes (place_at role l) ≡ Some (User node)
   pub node_line : node.line ≡ line
   pub quiet : IsQuiet node.node
 
--- each node stands at an end of its line, each line has a node at both ends, and the register has all lines
+-- a switch is the DCE of a line, which is one of its own lines
+pub record SwitchStands (s : Network) (line : ℕ) (l : NetLine) : Type 0 where
+  pub node : PlacedSwitch
+  pub node_there : slice_get s.nodes l.dce ≡ Some (Switching node)
+  pub own : ℕ
+  pub own_line : slice_get node.lines own ≡ Some line
+
+-- each node stands at its line, or its lines, each line has a node with users as its DTE and such a node or a switch as
+-- its DCE, and the register has all lines
 pub record IsStanding (s : Network) : Type 0 where
-  pub nodes : (place : ℕ) (n : PlacedNode) → slice_get s.nodes place ≡ Some n → StandsAtLine s.lines place n
-  pub ends : (line : ℕ) (l : NetLine) (role : Role) → slice_get s.lines line ≡ Some l → EndStands s line l role
+  pub nodes : (place : ℕ) (n : NetNode) → slice_get s.nodes place ≡ Some n → Stands s.lines place n
+  pub dtes : (line : ℕ) (l : NetLine) → slice_get s.lines line ≡ Some l → EndStands s line l Dte
+  pub dces : (line : ℕ) (l : NetLine) → slice_get s.lines line ≡ Some l
+      → EndStands s line l Dce ⊎ SwitchStands s line l
   pub registered : length s.register.lines ≡ length s.lines
 
--- the node of this place is at this end of its line
+-- the node with users of this place is at this end of its line
 pub record IsPlaceOf (place : ℕ) (end : LineEnd) (s : Network) : Type 0 where
   pub node : PlacedNode
-  pub node_there : slice_get s.nodes place ≡ Some node
+  pub node_there : slice_get s.nodes place ≡ Some (User node)
   pub node_line : node.line ≡ end.line
   pub line : NetLine
   pub line_there : slice_get s.lines end.line ≡ Some line
   pub at_end : place_at end.role line ≡ place
+
+-- the node with users at a place, if there is one
+abbrev pub user_of : NetNode → Option PlacedNode
+user_of (User n) = Some n
+user_of (Switching n) = None
+
+abbrev pub user_in : Option NetNode → Option PlacedNode
+user_in (Some n) = user_of n
+user_in None = None
+
+abbrev pub user_at : ℕ → Network → Option PlacedNode
+user_at place s = user_in (slice_get s.nodes place)
+
+abbrev pub is_switch : Option NetNode → Bool
+is_switch (Some n) = is_none (user_of n)
+is_switch None = false
+
+abbrev pub is_switch_at : ℕ → Network → Bool
+is_switch_at place s = is_switch (slice_get s.nodes place)
+
+abbrev pub is_line : (line own : ℕ) → Bool
+is_line line own = own == line
+
+-- which of the own lines of a switch a line of the network is, if it is one
+abbrev pub own_line : (line : ℕ) → NetNode → Option ℕ
+own_line line (User n) = None
+own_line line (Switching n) = position (is_line line) n.lines
+
+abbrev pub own_line_in : (line : ℕ) → Option NetNode → Option ℕ
+own_line_in line (Some n) = own_line line n
+own_line_in line None = None
+
+abbrev pub own_line_at : (line place : ℕ) → Network → Option ℕ
+own_line_at line place s = own_line_in line (slice_get s.nodes place)
+
+-- a frame on this line can be heard by a node with users
+pub record HearsAt (line : ℕ) (role : Role) (s : Network) : Type 0 where
+  pub line_is : NetLine
+  pub line_there : slice_get s.lines line ≡ Some line_is
+  pub stands : EndStands s line line_is role
+  pub registered : line < length s.register.lines
+
+-- the line is there, and the switch of this place has it as this own line
+pub record IsOwnLine (line place own : ℕ) (s : Network) : Type 0 where
+  pub line_is : NetLine
+  pub line_there : slice_get s.lines line ≡ Some line_is
+  pub node : PlacedSwitch
+  pub node_there : slice_get s.nodes place ≡ Some (Switching node)
+  pub own_line : slice_get node.lines own ≡ Some line
 
 -- a host is at this place
 abbrev pub is_host : Option PlacedNode → Bool
@@ -35,7 +96,7 @@ is_host (Some n) = not (is_pad n.node)
 is_host None = false
 
 abbrev pub is_host_at : ℕ → Network → Bool
-is_host_at place s = is_host (slice_get s.nodes place)
+is_host_at place s = is_host (user_at place s)
 
 -- how many terminals the PAD at this place has, if there is one
 abbrev pub terminals_of : NodeState → Option ℕ
@@ -47,4 +108,4 @@ terminals_there (Some n) = terminals_of n.node
 terminals_there None = None
 
 abbrev pub pad_terminals : ℕ → Network → Option ℕ
-pad_terminals place s = terminals_there (slice_get s.nodes place)
+pad_terminals place s = terminals_there (user_at place s)

@@ -1,13 +1,16 @@
 -- What an event without a fault does to nodes, lines and register.
-use Rattle.std.specs.Prelude.{◌≡◌, ℕ, ◌⊎◌, false, List, [], slice_get, None}
+use Rattle.std.specs.Prelude.{◌≡◌, ℕ, ◌⊎◌, true, false, List, [], slice_get, Some, None}
 use Rattle.link_timers.specs.declared.role.Role.{Role}
 use Rattle.link_timers.specs.declared.role.Role.TheVariants.{Dte, Dce}
+use Rattle.link_timers.specs.declared.timers.TimerId.{TimerId}
 use Rattle.memory_line.specs.declared.line.Direction.{Direction}
 use Rattle.memory_line.specs.declared.line.Direction.TheVariants.{FromDte, FromDce}
 use Rattle.memory_line.specs.Lines.{flying, LineService}
 use Rattle.net_events.specs.NodeEvents.{NodeEvent, Hears, Expires, Relinks, Restarts, Calls, Takes}
 use Rattle.net_events.specs.NodeEvents as node_event
 use Rattle.net_events.specs.Network.{Network, place_at, LostAt}
+use Rattle.net_events.specs.AtSwitch.{SwitchEvent, SwitchHappened, switched}
+use Rattle.net_events.specs.AtSwitch as switch_event
 use Rattle.net_events.specs.declared.answer.Answer.{Answer}
 use Rattle.net_events.specs.declared.answer.Outcome.{Outcome}
 use Rattle.net_events.specs.declared.answer.Outcome.TheVariants.{Delivered, Done}
@@ -16,6 +19,7 @@ use Rattle.net_events.specs.declared.event.Event.{Event}
 use Rattle.net_events.specs.declared.event.Event.TheVariants.{AtTerminal, Call, Ask, Take, Deliver, Lose, Expire, Relink}
 use Rattle.net_events.specs.declared.event.Event.TheVariants.{Restart}
 use Rattle.net_nodes.specs.declared.nodes.LineEnd.{LineEnd}
+use Rattle.net_turns.specs.Sends.{all_puts}
 use Rattle.net_nodes.specs.Turns.{AtEnd}
 
 -- the end that hears what is sent in a direction
@@ -23,13 +27,38 @@ abbrev pub hearer : Direction → Role
 hearer FromDte = Dce
 hearer FromDce = Dte
 
--- the event happened at the node of this place, at the end that it is of its own line
+-- the event happened at the node with users of this place, at the end that it is of its own line
 pub record AtNode (L : LineService) (place : ℕ) (event : NodeEvent) (s : Network) (a : Answer)
     (t : Network) : Type 0 where
   pub end : LineEnd
   pub does : AtEnd L end event s a t
   pub own_line : does.happened.node.line ≡ end.line
   pub own_place : place_at end.role does.happened.line_is ≡ place
+
+-- ---- at a switch
+
+-- what an event at a switch gives besides frames
+abbrev pub switch_outcome : SwitchEvent → Outcome
+switch_outcome (switch_event.Hears own octets) = Delivered true
+switch_outcome event = Done
+
+-- the event happened at the switch of this place, and this is the answer: the frames that were put, line by line
+pub record AtSwitch (L : LineService) (place : ℕ) (event : SwitchEvent) (s : Network) (a : Answer)
+    (t : Network) : Type 0 where
+  pub happened : SwitchHappened L event place s t
+  pub puts : a.frames.items ≡ all_puts happened.node.lines (switched event happened.node.switch).lines
+  pub notes : a.notes.items ≡ []
+  pub text : a.text.items ≡ []
+  pub outcome : a.outcome ≡ switch_outcome event
+
+-- it happened on the own line that is this line of the network
+pub record OnOwnLine (L : LineService) (place line : ℕ) (event : (own : ℕ) → SwitchEvent) (s : Network) (a : Answer)
+    (t : Network) : Type 0 where
+  pub own : ℕ
+  pub does : AtSwitch L place (event own) s a t
+  pub own_line : slice_get does.happened.node.lines own ≡ Some line
+
+-- ---- frames in flight
 
 -- the first frame in flight is lost, if there is one, and this is answered
 pub record LoseStep (L : LineService) (line : ℕ) (d : Direction) (outcome : Outcome) (s : Network) (a : Answer)
@@ -46,11 +75,30 @@ pub record EmptyDelivery (L : LineService) (line : ℕ) (d : Direction) (s : Net
   pub nothing : LoseStep L line d (Delivered false) s a t
   pub none : L.faithful → slice_get (flying d nothing.lost.line_is.flights) 0 ≡ None
 
+-- a switch, which is the DCE, hears the frame
+pub record SwitchHears (L : LineService) (line : ℕ) (d : Direction) (octets : List ℕ) (s : Network) (a : Answer)
+    (t : Network) : Type 0 where
+  pub to_dce : d ≡ FromDte
+  pub place : ℕ
+  pub heard : OnOwnLine L place line (λ own. switch_event.Hears own octets) s a t
+
+-- the node at the other end hears the frame
+abbrev pub IsHeard : LineService → (line : ℕ) → Direction → (octets : List ℕ) → Network → Answer → Network → Type 0
+IsHeard L line d octets s a t =
+    AtEnd L (record { line = line; role = hearer d }) (Hears octets) s a t ⊎ SwitchHears L line d octets s a t
+
 -- the first frame in flight, if there is one, is given to the node at the other end
 abbrev pub DeliverStep : LineService → (line : ℕ) → Direction → Network → Answer → Network → Type 0
-DeliverStep L line d s a t =
-    EmptyDelivery L line d s a t
-    ⊎ ((octets : List ℕ) × AtEnd L (record { line = line; role = hearer d }) (Hears octets) s a t)
+DeliverStep L line d s a t = EmptyDelivery L line d s a t ⊎ ((octets : List ℕ) × IsHeard L line d octets s a t)
+
+-- ---- expiry and restart, at any node
+
+abbrev pub ExpireStep : LineService → (place line : ℕ) → TimerId → Network → Answer → Network → Type 0
+ExpireStep L place line timer s a t =
+    AtNode L place (Expires timer) s a t ⊎ OnOwnLine L place line (λ own. switch_event.Expires own timer) s a t
+
+abbrev pub RestartStep : LineService → (place : ℕ) → Network → Answer → Network → Type 0
+RestartStep L place s a t = AtNode L place Restarts s a t ⊎ AtSwitch L place switch_event.Restarts s a t
 
 -- ---- each event
 
@@ -61,6 +109,6 @@ StepOf L (Ask node channel request) s a t = AtNode L node (request_event channel
 StepOf L (Take node channel) s a t = AtNode L node (Takes channel) s a t
 StepOf L (Deliver line direction) s a t = DeliverStep L line direction s a t
 StepOf L (Lose line direction) s a t = LoseStep L line direction Done s a t
-StepOf L (Expire node line timer) s a t = AtNode L node (Expires timer) s a t
+StepOf L (Expire node line timer) s a t = ExpireStep L node line timer s a t
 StepOf L (Relink line) s a t = AtEnd L (record { line = line; role = Dte }) Relinks s a t
-StepOf L (Restart node) s a t = AtNode L node Restarts s a t
+StepOf L (Restart node) s a t = RestartStep L node s a t

@@ -1,35 +1,53 @@
--- What an event does at the node at an end of a line.
+-- What an event does at the node with users at an end of a line.
 use Rattle.std.specs.Prelude.{◌≡◌, ◌≤◌, ◌<◌, ◌⊎◌, List, length, set, slice_get, vec_capacity, Option, Some, None, Result, Ok, Err}
+use Rattle.call_records.specs.Book.{Book}
 use Rattle.call_records.specs.Register as spec
 use Rattle.call_records.specs.Register.{book_at, with_book}
 use Rattle.call_records.specs.RegisterView.{IsOpen}
 use Rattle.call_records.specs.declared.register.Register.{Register}
 use Rattle.net_turns.specs.Quiet.{IsQuiet}
-use Rattle.line_nodes.specs.Node.{drained, frames_of}
+use Rattle.line_nodes.specs.Node.{NodeState, drained, frames_of}
 use Rattle.line_nodes.specs.Turn.{Turn}
 use Rattle.line_nodes.specs.Notes.{host_notes}
 use Rattle.line_nodes.specs.declared.fault.NodeFault.{NodeFault}
-use Rattle.memory_line.specs.Lines.{LineService}
+use Rattle.line_nodes.specs.declared.note.HostNote.{HostNote}
+use Rattle.memory_line.specs.Lines.{Flights, LineService}
 use Rattle.net_events.specs.OneLine.{direction_of}
 use Rattle.net_events.specs.NodeEvents.{NodeEvent, Hears, Restarts, IsFor, turn_of}
-use Rattle.net_events.specs.Network.{PlacedNode, NetLine, Network, place_at, net_turn, HappenedAt}
+use Rattle.net_events.specs.Network.{PlacedNode, NetNode, User, NetLine, Network, place_at, net_turn, HappenedAt}
 use Rattle.net_events.specs.declared.answer.Answer.{Answer}
+use Rattle.net_events.specs.declared.answer.Put.{Put}
 use Rattle.net_turns.specs.declared.room.Room.{Room}
 use Rattle.net_turns.specs.Outcomes.{event_fault, IsOutcome, text_of}
 use Rattle.net_turns.specs.Sends.{ArePutsOf, Sends}
-use Rattle.net_turns.specs.Served.{IsEmpty, EventHasPlaces}
+use Rattle.net_turns.specs.declared.place.NetPlace.{NetPlace}
+use Rattle.net_turns.specs.Served.{Served, IsEmpty, EventHasPlaces}
 use Rattle.net_events.specs.declared.event.StepFault.{StepFault}
 use Rattle.net_events.specs.declared.event.StepFault.TheVariants.{OutOfMemory, Refused}
 use Rattle.net_nodes.specs.declared.nodes.LineEnd.{LineEnd}
 
 -- ---- the turn of the node
 
+-- it is a node with users, has no frame or note that waits, and the event is for its kind
+pub record IsServable (event : NodeEvent) (node : NetNode) : Type 0 where
+  pub user : PlacedNode
+  pub is : node ≡ User user
+  pub is_for : IsFor event user.node
+  pub quiet : IsQuiet user.node
+
+-- its turn is taken
+pub record UserServed (L : LineService) (at : NetPlace) (turn : Turn) (n : PlacedNode) (before : Flights)
+    (frames : List Put) (notes : List HostNote) (node : NetNode) (after : Flights) (book : Book) : Type 0 where
+  pub state : NodeState
+  pub node_is : node ≡ User (record n { node = state })
+  pub served : Served L at turn before frames notes state after book
+
 -- the node is there, it has no frame or note that waits, and the event is for its kind; the register is open at the
 -- line, with room for all that may be written, and so are the lists of the answer
-pub record CanServe (end : LineEnd) (event : NodeEvent) (nodes : List PlacedNode) (l : NetLine) (g : Register)
+pub record CanServe (end : LineEnd) (event : NodeEvent) (nodes : List NetNode) (l : NetLine) (g : Register)
     (room : Room) : Type 0 where
   pub node : PlacedNode
-  pub there : slice_get nodes (place_at end.role l) ≡ Some node
+  pub there : slice_get nodes (place_at end.role l) ≡ Some (User node)
   pub is_for : IsFor event node.node
   pub quiet : IsQuiet node.node
   pub opened : IsOpen end.line g
@@ -43,8 +61,8 @@ abbrev pub its_turn : LineEnd → NodeEvent → PlacedNode → spec.Register →
 its_turn end event n g = turn_of event end.role n.node (book_at end.line g)
 
 -- the node had its turn: its frames were put and listed, its notes told, and all was written; this is the answer
-pub record HadTurn (L : LineService) (end : LineEnd) (event : NodeEvent) (n : PlacedNode) (nodes : List PlacedNode)
-    (l : NetLine) (g : spec.Register) (a : Answer) (nodes' : List PlacedNode) (l' : NetLine)
+pub record HadTurn (L : LineService) (end : LineEnd) (event : NodeEvent) (n : PlacedNode) (nodes : List NetNode)
+    (l : NetLine) (g : spec.Register) (a : Answer) (nodes' : List NetNode) (l' : NetLine)
     (g' : spec.Register) : Type 0 where
   pub no_fault : event_fault event n.node ≡ None
   pub outcome : IsOutcome event n.node a.outcome
@@ -52,13 +70,14 @@ pub record HadTurn (L : LineService) (end : LineEnd) (event : NodeEvent) (n : Pl
       a.frames.items l'.flights
   pub told : a.notes.items ≡ host_notes (place_at end.role l) (its_turn end event n g).notes
   pub text : a.text.items ≡ text_of event n.node
-  pub nodes_are : nodes' ≡ set nodes (place_at end.role l) (record n { node = drained (its_turn end event n g).node })
+  pub nodes_are : nodes'
+      ≡ set nodes (place_at end.role l) (User (record n { node = drained (its_turn end event n g).node }))
   pub line_is : l' ≡ record l { flights = l'.flights }
   pub register_is : g' ≡ with_book end.line (its_turn end event n g).book g
 
 -- the node refused it, which is the fault, and nothing changed
-pub record HadNone (event : NodeEvent) (n : PlacedNode) (fault : StepFault) (nodes : List PlacedNode) (l : NetLine)
-    (g : spec.Register) (nodes' : List PlacedNode) (l' : NetLine) (g' : spec.Register) : Type 0 where
+pub record HadNone (event : NodeEvent) (n : PlacedNode) (fault : StepFault) (nodes : List NetNode) (l : NetLine)
+    (g : spec.Register) (nodes' : List NetNode) (l' : NetLine) (g' : spec.Register) : Type 0 where
   pub refusal : NodeFault
   pub refuses : event_fault event n.node ≡ Some refusal
   pub fault_is : fault ≡ Refused refusal
@@ -85,7 +104,7 @@ pub record CanAct (end : LineEnd) (event : NodeEvent) (s : Network) : Type 0 whe
   pub line : NetLine
   pub line_there : slice_get s.lines end.line ≡ Some line
   pub node : PlacedNode
-  pub node_there : slice_get s.nodes (place_at end.role line) ≡ Some node
+  pub node_there : slice_get s.nodes (place_at end.role line) ≡ Some (User node)
   pub is_for : IsFor event node.node
   pub quiet : IsQuiet node.node
   pub registered : end.line < length s.register.lines
@@ -109,4 +128,4 @@ LeavesLine _ = Unit {0}
 -- the event is answered, or refused and changes nothing
 abbrev pub Acts : LineService → LineEnd → NodeEvent → Network → Result Answer StepFault → Network → Type 0
 Acts L end event s r t = (l : NetLine) (n : PlacedNode) → slice_get s.lines end.line ≡ Some l
-    → slice_get s.nodes (place_at end.role l) ≡ Some n → ActsSo L end event n s r t
+    → slice_get s.nodes (place_at end.role l) ≡ Some (User n) → ActsSo L end event n s r t

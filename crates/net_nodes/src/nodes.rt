@@ -1,39 +1,25 @@
 //! The nodes of a network on their lines, and the register of their calls: each event, exactly.
-ghost use Rattle.std.specs.Prelude.{◌≡◌, MatchResult, None, Some, true, false, slice_get};
+ghost use Rattle.std.specs.Prelude.{◌≡◌, MatchResult, None, true, false};
 ghost use Rattle.net_events.specs.declared.event.StepFault.TheVariants.{NoSuchNode, NoSuchCall};
 ghost use Rattle.net_nodes.specs.Faults.{is_channel_at};
-ghost use Rattle.net_nodes.specs.Places.{IsStanding, IsPlaceOf, is_host_at, pad_terminals};
+ghost use Rattle.net_nodes.specs.Places.{IsStanding, IsPlaceOf, is_host_at, pad_terminals, user_at, own_line_at};
 ghost use Rattle.net_nodes.specs.Happening.{Happens};
 
 mod asking;
 mod making;
+mod node;
 mod questions;
 mod serving;
+mod switching;
 mod turn;
 
+use crate::nodes::node::NetNode;
 use call_records::Register;
-use line_nodes::Node;
 use link_timers::Role;
 use memory_line::Line;
 use net_events::{Answer, Event, StepFault};
 use std::alloc::Global;
 use std::marker::Model;
-
-/// A node: its line, and the node itself.
-#[derive(Drop)]
-pub(crate) struct PlacedNode {
-    line: usize,
-    node: Node,
-}
-
-impl Model for PlacedNode {
-    ghost use Rattle.line_nodes.specs.NodeView.{node_of};
-    ghost use Rattle.net_events.specs.Network as network;
-
-    ghost Value = { network.PlacedNode };
-
-    ghost view = { λ n. record { line = n.line; node = node_of n.node } };
-}
 
 /// A line between two nodes, which go by their places.
 #[derive(Drop)]
@@ -63,16 +49,21 @@ pub(crate) struct LineEnd {
 #[derive(Drop)]
 pub struct Nodes<L: Line> {
     alloc: Global,
-    nodes: Vec<PlacedNode>,
+    nodes: Vec<NetNode>,
     lines: Vec<NetLine<L>>,
     register: Register,
 }
 
 impl<L: Line> Model for Nodes<L> {
+    ghost use Rattle.std.specs.FinMap as map;
+    ghost use Rattle.address_routes.specs.Routes.{by_digits};
+    ghost use Rattle.std.specs.Coded.{codes, coded_list, coded_ℕ};
     ghost use Rattle.call_records.specs.RegisterView.{register_of};
     ghost use Rattle.net_events.specs.Network.{Network};
 
     ghost Value = { Network };
+
+    ghost coded = { Prim.hlevel (codes, map.code {R = by_digits} (coded_list coded_ℕ) coded_ℕ) };
 
     ghost view = { λ n. record {
       nodes = n.nodes.items;
@@ -82,16 +73,18 @@ impl<L: Line> Model for Nodes<L> {
 }
 
 impl<L: Line> Nodes<L> {
-    /// The end of its line that the node of this place is.
+    /// The end of its line that the node with users of this place is.
     fn end_of(&self, place: usize) -> Result<LineEnd, StepFault>
         requires { IsStanding self.now }
         ensures { MatchResult result (λ end. IsPlaceOf place end self.now)
-            (λ fault. (slice_get self.now.nodes place ≡ None) × (fault ≡ NoSuchNode)) }
+            (λ fault. (user_at place self.now ≡ None) × (fault ≡ NoSuchNode)) }
     {
         if place >= self.nodes.len() {
             return Err(StepFault::NoSuchNode);
         }
-        let line = self.nodes[place].line;
+        let Some(line) = self.nodes[place].line() else {
+            return Err(StepFault::NoSuchNode);
+        };
         if line >= self.lines.len() {
             return Err(StepFault::NoSuchNode);
         }
@@ -109,7 +102,7 @@ impl<L: Line> Nodes<L> {
         ensures { MatchResult result (λ end. (is_host_at place self.now ≡ true) × IsPlaceOf place end self.now)
             (λ fault. (is_host_at place self.now ≡ false) × (fault ≡ NoSuchNode)) }
     {
-        if place >= self.nodes.len() || self.nodes[place].node.is_pad() {
+        if place >= self.nodes.len() || !self.nodes[place].is_host() {
             return Err(StepFault::NoSuchNode);
         }
         self.end_of(place)
@@ -122,10 +115,17 @@ impl<L: Line> Nodes<L> {
         if place >= self.nodes.len() {
             return None;
         }
-        match &self.nodes[place].node {
-            Node::Pad(pad) => Some(pad.terminals()),
-            Node::Host(_) => None,
+        self.nodes[place].terminals()
+    }
+
+    /// Which of the own lines of the switch at this place a line is.
+    fn own_line(&self, line: usize, place: usize) -> Option<usize>
+        ensures { result ≡ own_line_at line place self.now }
+    {
+        if place >= self.nodes.len() {
+            return None;
         }
+        self.nodes[place].own_line(line)
     }
 
     /// The channel of this number, which the line has.

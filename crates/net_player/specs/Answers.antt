@@ -91,9 +91,11 @@ spaced octet = 32 ∷ hex_digit (octet / 16) ∷ hex_digit (octet % 16) ∷ []
 abbrev pub frame_text : Put → List ℕ
 frame_text put = decimal put.line ++ (32 ∷ way_of put.direction ++ (flat_map spaced put.octets ++ 10 ∷ []))
 
--- what happened to a call, with the cause and the diagnostic
+-- what happened to a call, with the calling address that it gave, if it came in with one, and with the cause and the
+-- diagnostic
 abbrev pub happening : NoteKind → List ℕ
-happening Incoming = codes "incoming"
+happening (Incoming None) = codes "incoming"
+happening (Incoming (Some digits)) = codes "incoming " ++ flat_map decimal digits
 happening Connected = codes "connected"
 happening (Cleared cause diagnostic) = codes "cleared " ++ (decimal cause ++ (32 ∷ decimal diagnostic))
 happening (Reset cause diagnostic) = codes "reset " ++ (decimal cause ++ (32 ∷ decimal diagnostic))

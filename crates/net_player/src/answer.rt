@@ -1,5 +1,5 @@
 //! The text of an answer: what is printed for an event.
-ghost use Rattle.std.specs.Prelude.{◌≡◌, ◌<◌, Some, IfOk, string_bytes};
+ghost use Rattle.std.specs.Prelude.{◌≡◌, ◌<◌, Some, IfOk, string_bytes, decimal};
 ghost use Rattle.std.specs.List.{flat_map};
 ghost use Rattle.std.specs.Fmt.{WritesOnOk};
 ghost use Rattle.net_player.specs.Answers.{quoted, shown, hex_digit, flags_of, taken_text};
@@ -87,12 +87,28 @@ impl fmt::Display for Happening<'_> {
 
     fn fmt<W: fmt::Write>(&self, f: &mut fmt::Formatter<W>) -> fmt::Result {
         match self.0 {
-            NoteKind::Incoming => f.write_str("incoming"),
+            NoteKind::Incoming { calling: None } => f.write_str("incoming"),
+            NoteKind::Incoming {
+                calling: Some(address),
+            } => {
+                f.write_str("incoming ")?;
+                write_digits(f, address.digits())
+            }
             NoteKind::Connected => f.write_str("connected"),
             NoteKind::Cleared { cause, diagnostic } => write!(f, "cleared {cause} {diagnostic}"),
             NoteKind::Reset { cause, diagnostic } => write!(f, "reset {cause} {diagnostic}"),
         }
     }
+}
+
+/// Writes the digits of an address.
+fn write_digits<W: fmt::Write>(f: &mut fmt::Formatter<W>, digits: &[u8]) -> fmt::Result
+    ensures { WritesOnOk W.write_str_gives f.old result (flat_map decimal digits.now) f.new }
+{
+    for digit in digits {
+        write!(f, "{digit}")?;
+    }
+    Ok(())
 }
 
 /// Octets in hexadecimal, each behind a space.

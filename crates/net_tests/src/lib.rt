@@ -2,11 +2,15 @@
 #![tactic(auto)]
 
 #[cfg(test)]
+mod callers;
+#[cfg(test)]
 mod hosts;
 #[cfg(test)]
 mod networks;
 #[cfg(test)]
 mod programs;
+#[cfg(test)]
+mod switched;
 #[cfg(test)]
 mod terminal_calls;
 #[cfg(test)]

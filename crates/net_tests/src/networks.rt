@@ -106,21 +106,21 @@ standing = true
 /// before the last ones, the messages of these with how many are covered and released, whether it is closed, and how
 /// many steps of editing there were.
 #[derive(Clone, Copy)]
-struct Kept {
-    node: usize,
-    own: &'static [u8],
-    far: &'static [u8],
-    resets: (usize, usize),
-    sent: &'static [&'static [u8]],
-    covered: usize,
-    taken: &'static [&'static [u8]],
-    released: usize,
-    closed: bool,
-    steps: usize,
+pub(crate) struct Kept {
+    pub(crate) node: usize,
+    pub(crate) own: &'static [u8],
+    pub(crate) far: &'static [u8],
+    pub(crate) resets: (usize, usize),
+    pub(crate) sent: &'static [&'static [u8]],
+    pub(crate) covered: usize,
+    pub(crate) taken: &'static [&'static [u8]],
+    pub(crate) released: usize,
+    pub(crate) closed: bool,
+    pub(crate) steps: usize,
 }
 
 /// A record in which nothing happened.
-const FRESH: Kept = Kept {
+pub(crate) const FRESH: Kept = Kept {
     node: 0,
     own: &[],
     far: &[],
@@ -135,16 +135,16 @@ const FRESH: Kept = Kept {
 
 /// What is played on a network, what is printed for it, and what the network's pairs and records then are.
 #[derive(Clone, Copy)]
-struct Case {
-    network: &'static str,
-    script: &'static [u8],
-    printed: &'static str,
-    pairs: &'static [Pair],
-    records: &'static [Kept],
+pub(crate) struct Case {
+    pub(crate) network: &'static str,
+    pub(crate) script: &'static [u8],
+    pub(crate) printed: &'static str,
+    pub(crate) pairs: &'static [Pair],
+    pub(crate) records: &'static [Kept],
 }
 
 /// The pair of the first two records.
-const FIRST_PAIR: Pair = Pair {
+pub(crate) const FIRST_PAIR: Pair = Pair {
     caller: 0,
     callee: 1,
 };
@@ -411,7 +411,7 @@ fn are_kept(records: &[Record], expected: &[Kept]) -> bool {
 }
 
 /// Whether this is printed for the script of a case, and these are the pairs and records then.
-fn goes_so(alloc: Global, case: &Case) -> Result<bool, Fail> {
+pub(crate) fn goes_so(alloc: Global, case: &Case) -> Result<bool, Fail> {
     let config = read_net(alloc, case.network)?;
     let mut net = Net::on_memory_lines(alloc, &config)?;
     let printed = played_on(alloc, &mut net, &config, case.script)?;

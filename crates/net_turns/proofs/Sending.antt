@@ -31,7 +31,7 @@ listed-more d line [] (q ∷ puts) x p l i = absurd l
 listed-more d line (y ∷ done) [] x p l i = absurd l
 listed-more d line (y ∷ done) (q ∷ puts) x p l i = (l.0, listed-more d line done puts x p l.1 i)
 
-put-more : (L : LineService) (d : Direction) (done : List Octets) (x : Octets) (before mid now : Flights) → ArePut L d done before mid → IsPut L d x mid now → ArePut L d (done ++ x ∷ []) before now
+pub put-more : (L : LineService) (d : Direction) (done : List Octets) (x : Octets) (before mid now : Flights) → ArePut L d done before mid → IsPut L d x mid now → ArePut L d (done ++ x ∷ []) before now
 put-more L d [] x before mid now e i = let P : Flights → Type 0 = λ l. IsPut L d x l now in (now, subst P e i, refl)
 put-more L d (y ∷ done) x before mid now e i = (e.0, e.1, put-more L d done x e.0 mid now e.2 i)
 

@@ -1,13 +1,16 @@
 //! What an event does at one node of a network: the node is called, the network writes what was asked and what the
-//! node noted at the node's line, and the node's frames go onto the line.
+//! node noted at the node's line, and the node's frames go onto the line. A switch is called, and its frames go onto its
+//! lines.
 #![tactic(auto)]
 
 mod place;
 mod room;
 mod send;
 mod serving;
+mod switching;
 
 pub use place::NetPlace;
 pub use room::{Room, bare_answer};
 pub use send::put_frames;
 pub use serving::{MOST_TEXT, MOST_WRITES, serve};
+pub use switching::{call_switch, put_switch_frames};

@@ -10,7 +10,7 @@ use line_nodes::Node;
 use memory_line::{Direction, Line};
 use net_events::Put;
 
-fn copy_of(frame: &FrameBuf) -> FrameBuf
+pub(crate) fn copy_of(frame: &FrameBuf) -> FrameBuf
     ensures { result ≡ frame.now }
 {
     let mut copy = FrameBuf::new();

@@ -27,7 +27,7 @@ pub says_confirmed : (g : Register) (books : List Book) (line : ℕ) (b : Book) 
 says_confirmed g books line b role channel setting l number r at w k present there =
     let seen = w.line line b at in
     let i = own_number (positions line w.owners) (slot_at role channel b).present (its_slot line role channel g).present number (((seen.sides role).slot channel).present) present in
-    let x : RecordIsSeen b.records g.records i.0 number = seen.records i.0 number i.2 in
-    let same : r ≡ renumbered number x.value = same_Some r (renumbered number x.value) (sym there ∙ x.seen_there) in
+    let x : RecordIsSeen (positions line w.owners) b.records g.records i.0 number = seen.records i.0 number i.2 in
+    let same : r ≡ renumbered number x.caller x.value = same_Some r (renumbered number x.caller x.value) (sym there ∙ x.seen_there) in
     let h = confirmed_kept setting b l role channel i.0 x.value k i.1 x.own_there in
     subst (λ (y : RecordValue). SaysConfirmed (end_at role l).layer channel y) (sym same) (record { covered = h.covered; said = h.said })

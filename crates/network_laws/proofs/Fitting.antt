@@ -31,7 +31,7 @@ pub record Leaves (role : Role) (s : LineState) (turn : Turn) : Type 0 where
   pub kind : is_pad turn.node ≡ is_pad (node_at role s)
   pub typed : NodeHolds Dte (dte_after role turn s) turn.book
 
-pad-drained : (n : NodeState) → is_pad (drained n) ≡ is_pad n
+pub pad-drained : (n : NodeState) → is_pad (drained n) ≡ is_pad n
 pad-drained (Pad p) = refl
 pad-drained (Host e) = refl
 

@@ -50,7 +50,7 @@ host-stands role s q h = subst (StandsAt role (line_of s)) (host-is (node_at rol
 
 -- ---- the node stays quiet
 
-quiet-after : (event : NodeEvent) (role : Role) (n : NodeState) (b : Book) → IsQuiet n → IsFor event n
+pub quiet-after : (event : NodeEvent) (role : Role) (n : NodeState) (b : Book) → IsQuiet n → IsFor event n
     → IsQuiet (drained (turn_of event role n b).node)
 quiet-after (Hears octets) role n b q is = quiet_law.quiet-hears role n octets b q
 quiet-after (Expires id) role n b q is = quiet_law.quiet-expires role n id b q

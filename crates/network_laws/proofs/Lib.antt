@@ -1,12 +1,12 @@
-mod Flying
-mod Shapes
-mod Uniform
-mod Channels
+pub mod Flying
+pub mod Shapes
+pub mod Uniform
+pub mod Channels
 pub mod NodeKinds
-mod Fitting
-mod Leaving
+pub mod Fitting
+pub mod Leaving
 mod Keeping
-mod Answering
+pub mod Answering
 pub mod Lines
 pub mod Made
 pub mod Networks

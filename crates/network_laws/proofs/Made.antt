@@ -46,7 +46,7 @@ book_line L s n f = let k = n.kept f in keeping_law.holds_kept k.setting s.book 
 
 -- ---- the making
 
-made-quiet : (d : NewDte) (l : EndParams) → IsQuiet (drained (new_dte d l))
+pub made-quiet : (d : NewDte) (l : EndParams) → IsQuiet (drained (new_dte d l))
 made-quiet (NewPad params terminals) l = quiet_law.quiet-made-pad (record { line = l; params = params; terminals = terminals })
 made-quiet NewHost l = quiet_law.quiet-made-host (record { role = Dte; line = l })
 
@@ -58,7 +58,7 @@ made-typed (NewPad params terminals) l dte_node dce_node apart are is =
     record { book = h.book; read = h.read; unread = h.unread; ports = h.ports; alone = h.alone; calls = h.calls }
 made-typed NewHost l dte_node dce_node apart are is = tt
 
-made-end : (d : NewDte) (l : EndParams) → end_of (new_dte d l) ≡ end.made Dte l
+pub made-end : (d : NewDte) (l : EndParams) → end_of (new_dte d l) ≡ end.made Dte l
 made-end (NewPad params terminals) l = refl
 made-end NewHost l = refl
 
@@ -68,7 +68,7 @@ book-nodes : (dte_node dce_node channels : ℕ) (standing : Bool)
 book-nodes dte_node dce_node channels true = (refl, refl)
 book-nodes dte_node dce_node channels false = (refl, refl)
 
-abbrev setting-of : (dte_place dce_place : ℕ) → EndParams → Setting
+abbrev pub setting-of : (dte_place dce_place : ℕ) → EndParams → Setting
 setting-of dte_place dce_place line = record { dte = line; dce = line; dte_node = dte_place; dce_node = dce_place }
 
 -- the first frames of both ends

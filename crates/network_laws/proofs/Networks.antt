@@ -20,9 +20,10 @@ use Rattle.net_events.specs.OneLine.{LineState, node_at, direction_of}
 use Rattle.net_events.specs.OneLine as one
 use Rattle.net_events.specs.NodeEvents.{NodeEvent, IsFor, turn_of, LeftBy}
 use Rattle.network_laws.specs.IsLine.{IsLine}
-use Rattle.net_events.specs.Network.{PlacedNode, NetLine, Network, place_at, net_turn, with_turn_at, HappenedAt, LostAt}
+use Rattle.net_events.specs.Network.{PlacedNode, PlacedSwitch, NetNode, User, Switching, NetLine, Network, place_at, net_turn, with_turn_at, HappenedAt, LostAt}
 use Rattle.net_events.specs.Network.{StandsAtLine}
-use Rattle.network_laws.specs.IsNetwork.{line_state, LineHolds, IsNetwork}
+use Rattle.net_events.proofs.Users.{user_is, same_user, not_switch}
+use Rattle.network_laws.specs.IsNetwork.{line_state, LineHolds, IsUserAt, IsNetwork}
 use Rattle.network_laws.proofs.Lines.{happened_line, lost_line}
 use Rattle.network_laws.proofs.Channels.{channels_after}
 use Rattle.network_laws.proofs.Uniform.{IsUniform, uniform}
@@ -37,11 +38,12 @@ set_there (y ∷ xs) (suc n) x e = ap (λ zs. y ∷ zs) (set_there xs n x e)
 -- ---- one line changes, and with it the nodes at its ends
 
 -- the nodes after it: those that stand at another line are the same, and each stands where it stood
-record ChangesAt (nodes new : List PlacedNode) (line : ℕ) : Type 0 where
-  others : (place : ℕ) (m : PlacedNode) → slice_get nodes place ≡ Some m → m.line ≢ line → slice_get new place ≡ Some m
-  stood : (place : ℕ) (m : PlacedNode) → slice_get new place ≡ Some m → (old : PlacedNode) × (slice_get nodes place ≡ Some old) × (m.line ≡ old.line)
+record ChangesAt (nodes new : List NetNode) (line : ℕ) : Type 0 where
+  others : (place : ℕ) (m : PlacedNode) → slice_get nodes place ≡ Some (User m) → m.line ≢ line → slice_get new place ≡ Some (User m)
+  stood : (place : ℕ) (m : PlacedNode) → slice_get new place ≡ Some (User m) → (old : PlacedNode) × (slice_get nodes place ≡ Some (User old)) × (m.line ≡ old.line)
+  switches : (place : ℕ) (m : PlacedSwitch) → slice_get new place ≡ Some (Switching m) → slice_get nodes place ≡ Some (Switching m)
 
-moved : (L : LineService) (nodes new : List PlacedNode) (line k : ℕ) (m : NetLine) (c : Book) → ChangesAt nodes new line → k ≢ line
+moved : (L : LineService) (nodes new : List NetNode) (line k : ℕ) (m : NetLine) (c : Book) → ChangesAt nodes new line → k ≢ line
     → LineHolds L nodes k m c → LineHolds L new k m c
 moved L nodes new line k m c w apart h = record {
   dte = h.dte;
@@ -54,7 +56,7 @@ moved L nodes new line k m c w apart h = record {
   holds = h.holds;
 }
 
-line_after : (L : LineService) (s : Network) (n : IsNetwork L s) (new : List PlacedNode) (line : ℕ) (l : NetLine) (book : Book)
+line_after : (L : LineService) (s : Network) (n : IsNetwork L s) (new : List NetNode) (line : ℕ) (l : NetLine) (book : Book)
     → ChangesAt s.nodes new line → LineHolds L new line l book
     → (k : ℕ) (m : NetLine) (c : Book) → slice_get (set s.lines line l) k ≡ Some m → slice_get (set n.books line book) k ≡ Some c
     → LineHolds L new k m c
@@ -67,13 +69,14 @@ line_after L s n new line l book w here k m c at book_there = by (get_set s.line
     by (inr x) (inl y) = absurd (x.0 y.0)
     by (inr x) (inr y) = moved L s.nodes new line k m c w x.0 (n.lines k m c x.1 y.1)
 
-node_after : (lines : List NetLine) (nodes new : List PlacedNode) (line : ℕ) (l l' : NetLine) → slice_get lines line ≡ Some l → l'.dte ≡ l.dte → l'.dce ≡ l.dce
-    → ChangesAt nodes new line → ((place : ℕ) (n : PlacedNode) → slice_get nodes place ≡ Some n → StandsAtLine lines place n)
-    → (place : ℕ) (m : PlacedNode) → slice_get new place ≡ Some m → StandsAtLine (set lines line l') place m
-node_after lines nodes new line l l' at dte dce w old place m there =
-    let was = w.stood place m there in by was (old place was.0 was.1) (cases_eq m.line line)
+node_after : (lines : List NetLine) (nodes new : List NetNode) (line : ℕ) (l l' : NetLine) → slice_get lines line ≡ Some l → l'.dte ≡ l.dte → l'.dce ≡ l.dce
+    → ChangesAt nodes new line → ((place : ℕ) (n : NetNode) → slice_get nodes place ≡ Some n → IsUserAt lines place n)
+    → (place : ℕ) (m : NetNode) → slice_get new place ≡ Some m → IsUserAt (set lines line l') place m
+node_after lines nodes new line l l' at dte dce w old place (Switching m) there = old place (Switching m) (w.switches place m there)
+node_after lines nodes new line l l' at dte dce w old place (User m) there =
+    let was = w.stood place m there in by was (old place (User was.0) was.1) (cases_eq m.line line)
   where
-    by : (was : (o : PlacedNode) × (slice_get nodes place ≡ Some o) × (m.line ≡ o.line)) → StandsAtLine lines place was.0 → (m.line ≡ line) ⊎ (m.line ≢ line) → StandsAtLine (set lines line l') place m
+    by : (was : (o : PlacedNode) × (slice_get nodes place ≡ Some (User o)) × (m.line ≡ o.line)) → StandsAtLine lines place was.0 → (m.line ≡ line) ⊎ (m.line ≢ line) → StandsAtLine (set lines line l') place m
     by was st (inl same) =
         let is : st.line ≡ l = same_Some st.line l (sym st.there ∙ ap (λ k. slice_get lines k) (sym was.2 ∙ same) ∙ at) in
         record {
@@ -90,7 +93,7 @@ node_after lines nodes new line l l' at dte dce w old place m there =
       at_end = st.at_end;
     }
 
-changed_network : (L : LineService) (s : Network) (n : IsNetwork L s) (new : List PlacedNode) (g : Register) (line : ℕ) (l : NetLine) (flights : Flights) (book : Book)
+changed_network : (L : LineService) (s : Network) (n : IsNetwork L s) (new : List NetNode) (g : Register) (line : ℕ) (l : NetLine) (flights : Flights) (book : Book)
     → slice_get s.lines line ≡ Some l → ChangesAt s.nodes new line → LineHolds L new line (record l { flights = flights }) book
     → Seen g (set n.books line book)
     → IsNetwork L (record { nodes = new; lines = set s.lines line (record l { flights = flights }); register = g })
@@ -109,27 +112,32 @@ abbrev pub placed : (role : Role) → (dte dce : PlacedNode) → PlacedNode
 placed Dte dte dce = dte
 placed Dce dte dce = dce
 
-one_set : (nodes : List PlacedNode) (place line : ℕ) (q x : PlacedNode) → slice_get nodes place ≡ Some q → q.line ≡ line → x.line ≡ q.line
-    → ChangesAt nodes (set nodes place x) line
+one_set : (nodes : List NetNode) (place line : ℕ) (q x : PlacedNode) → slice_get nodes place ≡ Some (User q) → q.line ≡ line → x.line ≡ q.line
+    → ChangesAt nodes (set nodes place (User x)) line
 one_set nodes place line q x at is same = record {
-  others = λ k m there apart. set_elsewhere nodes place k x (λ e. apart (ap (λ (y : PlacedNode). y.line) (same_Some m q (sym there ∙ ap (λ i. slice_get nodes i) e ∙ at)) ∙ is)) ∙ there;
-  stood = λ k m there. by k m (get_set nodes place x k m there);
+  others = λ k m there apart. set_elsewhere nodes place k (User x) (λ e. apart (ap (λ (y : PlacedNode). y.line) (same_user m q (sym there ∙ ap (λ i. slice_get nodes i) e ∙ at)) ∙ is)) ∙ there;
+  stood = λ k m there. by k m (get_set nodes place (User x) k (User m) there);
+  switches = λ k m there. switch_by k m (get_set nodes place (User x) k (Switching m) there);
 }
   where
-    by : (k : ℕ) (m : PlacedNode) → ((k ≡ place) × (m ≡ x)) ⊎ ((k ≢ place) × (slice_get nodes k ≡ Some m)) → (o : PlacedNode) × (slice_get nodes k ≡ Some o) × (m.line ≡ o.line)
-    by k m (inl e) = (q, ap (λ i. slice_get nodes i) e.0 ∙ at, ap (λ (y : PlacedNode). y.line) e.1 ∙ same)
+    by : (k : ℕ) (m : PlacedNode) → ((k ≡ place) × (User m ≡ User x)) ⊎ ((k ≢ place) × (slice_get nodes k ≡ Some (User m))) → (o : PlacedNode) × (slice_get nodes k ≡ Some (User o)) × (m.line ≡ o.line)
+    by k m (inl e) = (q, ap (λ i. slice_get nodes i) e.0 ∙ at, ap (λ (y : PlacedNode). y.line) (user_is m x e.1) ∙ same)
     by k m (inr e) = (m, e.1, refl)
 
+    switch_by : (k : ℕ) (m : PlacedSwitch) → ((k ≡ place) × (Switching m ≡ User x)) ⊎ ((k ≢ place) × (slice_get nodes k ≡ Some (Switching m))) → slice_get nodes k ≡ Some (Switching m)
+    switch_by k m (inl e) = absurd (not_switch x m (sym e.1))
+    switch_by k m (inr e) = e.1
+
 -- the line with its book after the node at the end of a role had its turn
-here_after : (L : LineService) (nodes : List PlacedNode) (line : ℕ) (l : NetLine) (book : Book) (h : LineHolds L nodes line l book) (role : Role) (turn : Turn) (flights : Flights)
+here_after : (L : LineService) (nodes : List NetNode) (line : ℕ) (l : NetLine) (book : Book) (h : LineHolds L nodes line l book) (role : Role) (turn : Turn) (flights : Flights)
     → ((end : Role) → length (side_of end turn.book).slots ≡ l.channels)
     → IsLine L (one.with_turn role turn flights (line_state l h.dte h.dce book))
-    → LineHolds L (set nodes (place_at role l) (record (placed role h.dte h.dce) { node = drained turn.node })) line (record l { flights = flights }) turn.book
+    → LineHolds L (set nodes (place_at role l) (User (record (placed role h.dte h.dce) { node = drained turn.node }))) line (record l { flights = flights }) turn.book
 here_after L nodes line l book h Dte turn flights channels holds = record {
   dte = record h.dte { node = drained turn.node };
   dce = h.dce;
-  dte_there = set_here nodes l.dte (record h.dte { node = drained turn.node }) h.dte h.dte_there;
-  dce_there = set_elsewhere nodes l.dte l.dce (record h.dte { node = drained turn.node }) (λ e. h.holds.apart (sym e)) ∙ h.dce_there;
+  dte_there = set_here nodes l.dte (User (record h.dte { node = drained turn.node })) (User h.dte) h.dte_there;
+  dce_there = set_elsewhere nodes l.dte l.dce (User (record h.dte { node = drained turn.node })) (λ e. h.holds.apart (sym e)) ∙ h.dce_there;
   dte_line = h.dte_line;
   dce_line = h.dce_line;
   channels = channels;
@@ -138,25 +146,25 @@ here_after L nodes line l book h Dte turn flights channels holds = record {
 here_after L nodes line l book h Dce turn flights channels holds = record {
   dte = h.dte;
   dce = record h.dce { node = drained turn.node };
-  dte_there = set_elsewhere nodes l.dce l.dte (record h.dce { node = drained turn.node }) h.holds.apart ∙ h.dte_there;
-  dce_there = set_here nodes l.dce (record h.dce { node = drained turn.node }) h.dce h.dce_there;
+  dte_there = set_elsewhere nodes l.dce l.dte (User (record h.dce { node = drained turn.node })) h.holds.apart ∙ h.dte_there;
+  dce_there = set_here nodes l.dce (User (record h.dce { node = drained turn.node })) (User h.dce) h.dce_there;
   dte_line = h.dte_line;
   dce_line = h.dce_line;
   channels = channels;
   holds = holds;
 }
 
-pub node_is : (L : LineService) (nodes : List PlacedNode) (line : ℕ) (l : NetLine) (book : Book) (h : LineHolds L nodes line l book) (role : Role) (p : PlacedNode)
-    → slice_get nodes (place_at role l) ≡ Some p → placed role h.dte h.dce ≡ p
-node_is L nodes line l book h Dte p e = same_Some h.dte p (sym h.dte_there ∙ e)
-node_is L nodes line l book h Dce p e = same_Some h.dce p (sym h.dce_there ∙ e)
+pub node_is : (L : LineService) (nodes : List NetNode) (line : ℕ) (l : NetLine) (book : Book) (h : LineHolds L nodes line l book) (role : Role) (p : PlacedNode)
+    → slice_get nodes (place_at role l) ≡ Some (User p) → placed role h.dte h.dce ≡ p
+node_is L nodes line l book h Dte p e = same_user h.dte p (sym h.dte_there ∙ e)
+node_is L nodes line l book h Dce p e = same_user h.dce p (sym h.dce_there ∙ e)
 
 pub at_role : (role : Role) (l : NetLine) (dte dce : PlacedNode) (book : Book) → node_at role (line_state l dte dce book) ≡ (placed role dte dce).node
 at_role Dte l dte dce book = refl
 at_role Dce l dte dce book = refl
 
-pub there_is : (L : LineService) (nodes : List PlacedNode) (line : ℕ) (l : NetLine) (book : Book) (h : LineHolds L nodes line l book) (role : Role)
-    → (slice_get nodes (place_at role l) ≡ Some (placed role h.dte h.dce)) × ((placed role h.dte h.dce).line ≡ line)
+pub there_is : (L : LineService) (nodes : List NetNode) (line : ℕ) (l : NetLine) (book : Book) (h : LineHolds L nodes line l book) (role : Role)
+    → (slice_get nodes (place_at role l) ≡ Some (User (placed role h.dte h.dce))) × ((placed role h.dte h.dce).line ≡ line)
 there_is L nodes line l book h Dte = (h.dte_there, h.dte_line)
 there_is L nodes line l book h Dce = (h.dce_there, h.dce_line)
 
@@ -175,17 +183,17 @@ pub line_there : (L : LineService) (s : Network) (n : IsNetwork L s) (line : ℕ
 line_there L s n line book at = get_there s.lines line (let h = slice_get_within n.books line book at in let c = n.count in omega arith)
 
 -- the line with its book after the event, where the node is named by the role
-turned_here : (L : LineService) (event : NodeEvent) (nodes : List PlacedNode) (line : ℕ) (l : NetLine) (book : Book) (h : LineHolds L nodes line l book) (role : Role) (between flights : Flights) (made : NodeState)
+turned_here : (L : LineService) (event : NodeEvent) (nodes : List NetNode) (line : ℕ) (l : NetLine) (book : Book) (h : LineHolds L nodes line l book) (role : Role) (between flights : Flights) (made : NodeState)
     → IsFor event (placed role h.dte h.dce).node → (L.faithful → LeftBy event role l.flights between)
     → (turn_of event role (placed role h.dte h.dce).node book).node ≡ made
     → (L.faithful → ArePut L (direction_of role) (frames_of made) between flights)
-    → LineHolds L (set nodes (place_at role l) (record (placed role h.dte h.dce) { node = drained made })) line (record l { flights = flights })
+    → LineHolds L (set nodes (place_at role l) (User (record (placed role h.dte h.dce) { node = drained made }))) line (record l { flights = flights })
     (turn_of event role (placed role h.dte h.dce).node book).book
 turned_here L event nodes line l book h role between flights made is_for left same put =
     let own = line_state l h.dte h.dce book in
     let turn : Turn = turn_of event role (placed role h.dte h.dce).node book in
     let turn_is : turn_of event role (node_at role own) own.book ≡ turn = ap (λ (x : NodeState). turn_of event role x book) (at_role role l h.dte h.dce book) in
-    let P : NodeState → Type 0 = λ x. LineHolds L (set nodes (place_at role l) (record (placed role h.dte h.dce) { node = drained x })) line (record l { flights = flights }) turn.book in
+    let P : NodeState → Type 0 = λ x. LineHolds L (set nodes (place_at role l) (User (record (placed role h.dte h.dce) { node = drained x }))) line (record l { flights = flights }) turn.book in
     let F : NodeState → Type 0 = λ x. L.faithful → ArePut L (direction_of role) (frames_of x) between flights in
     let T : Turn → Flights → Type 0 = λ x f. L.faithful → ArePut L (direction_of role) (frames_of x.node) between f in
     let after : LineState = one.with_turn role turn flights own in
@@ -218,7 +226,7 @@ happened_with L event s n line l book at book_at_line h role between flights is_
     writes_seen s.register n.books line book role u.writes book_at_line n.seen in
     let S : Book → Type 0 = λ b. Seen (with_book line b s.register) (set n.books line own.book) in
     let O : Book → Type 0 = λ b. Seen (all_written_at line role u.writes s.register) (set n.books line b) in
-    changed_network L s n (set s.nodes (place_at role l) (record p { node = drained turn.node })) (with_book line turn.book s.register) line l flights own.book at
+    changed_network L s n (set s.nodes (place_at role l) (User (record p { node = drained turn.node }))) (with_book line turn.book s.register) line l flights own.book at
     (one_set s.nodes (place_at role l) line p (record p { node = drained turn.node }) where_is.0 where_is.1 refl)
     (turned_here L event s.nodes line l book h role between flights turn.node is_for left (u.node book (book_at line s.register)) put)
     (subst S (sym (u.written (book_at line s.register))) (subst O (sym (u.written book)) seen))
@@ -236,8 +244,8 @@ happened_network L event line role s t n d =
 
 -- ---- a frame is lost
 
-same_nodes : (nodes : List PlacedNode) (line : ℕ) → ChangesAt nodes nodes line
-same_nodes nodes line = record { others = λ k m there apart. there; stood = λ k m there. (m, there, refl) }
+same_nodes : (nodes : List NetNode) (line : ℕ) → ChangesAt nodes nodes line
+same_nodes nodes line = record { others = λ k m there apart. there; stood = λ k m there. (m, there, refl); switches = λ k m there. there }
 
 pub lost_network : (L : LineService) (line : ℕ) (d : Direction) (s t : Network) → IsNetwork L s → LostAt L line d s t → IsNetwork L t
 lost_network L line d s t n w =

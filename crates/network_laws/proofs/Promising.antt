@@ -1,7 +1,6 @@
 -- What holds of a network of faithful lines has all that the network promises.
 use Rattle.std.proofs.Common.{◌≡◌, ℕ, true, false, List, length, Some, refl, sym, ap, ◌∙◌, subst, inl, inr}
 use Rattle.std.specs.Prelude.{◌⊎◌, slice_get}
-use Rattle.std.proofs.lemmas.Option.{same_Some}
 use Rattle.link_timers.specs.declared.role.Role.{Role}
 use Rattle.link_timers.specs.declared.role.Role.TheVariants.{Dte, Dce}
 use Rattle.packet_layer.specs.Layer.{channel_of}
@@ -21,9 +20,10 @@ use Rattle.line_nodes.specs.Node.{end_of, is_pad}
 use Rattle.memory_line.specs.Lines.{LineService}
 use Rattle.net_events.specs.OneLine.{LineState}
 use Rattle.network_laws.specs.IsLine.{line_of, IsLine, IsKept}
-use Rattle.net_events.specs.Network.{PlacedNode, NetLine, Network, place_at}
+use Rattle.net_events.specs.Network.{PlacedNode, NetNode, User, NetLine, Network, place_at, StandsAtLine}
+use Rattle.net_events.proofs.Users.{same_user}
 use Rattle.network_laws.specs.IsNetwork.{line_state, LineHolds, IsNetwork}
-use Rattle.network_laws.specs.Promise.{EndHolds, NetworkHolds}
+use Rattle.network_laws.specs.Promise.{EndHolds, PlacedHolds, NetworkHolds}
 use Rattle.network_laws.proofs.Answering.{came_kept, paired_kept, placed_kept, records_kept}
 use Rattle.network_laws.proofs.Made.{book_line, typed_line}
 use Rattle.network_laws.proofs.Networks.{book_there, placed, there_is, line_there}
@@ -83,49 +83,62 @@ end_holds L s n f line l role at =
       paired = λ channel ch there up some. paired_seen s.register n.books line b.0 role channel b.1 n.seen
           (paired_kept k.setting b.0 (line_of own) role channel ch k.kept (ap (λ e. channel_of e.layer channel) (end_is role l h.dte h.dce b.0) ∙ there) up
           (sym (came_seen s.register n.books line b.0 role channel b.1 n.seen) ∙ some));
-      placed = λ channel ch there up none. callee_seen s.register n.books line b.0 role channel b.1 n.seen
-          (placed_kept k.setting b.0 (line_of own) role channel ch k.kept (ap (λ e. channel_of e.layer channel) (end_is role l h.dte h.dce b.0) ∙ there) up
-          (sym (came_seen s.register n.books line b.0 role channel b.1 n.seen) ∙ none));
       confirmed = λ channel number r present there.
           subst (λ (e : PacketEnd). SaysConfirmed e.layer channel r) (end_is role l h.dte h.dce b.0)
           (says_confirmed s.register n.books line b.0 role channel k.setting (line_of own) number r b.1 n.seen k.kept present there);
     }
 
+-- ---- calls that were placed
+
+pub placed_holds : (L : LineService) (s : Network) (n : IsNetwork L s) → L.faithful → (line : ℕ) (l : NetLine) (role : Role) → slice_get s.lines line ≡ Some l → PlacedHolds s line l role
+placed_holds L s n f line l role at =
+    let b = book_there L s n line l at in
+    let h : LineHolds L s.nodes line l b.0 = n.lines line l b.0 at b.1 in
+    let own : LineState = line_state l h.dte h.dce b.0 in
+    let k : IsKept own = h.holds.kept f in
+    record {
+      node = placed role h.dte h.dce;
+      node_there = (there_is L s.nodes line l b.0 h role).0;
+      placed = λ channel ch there up none. callee_seen s.register n.books line b.0 role channel b.1 n.seen
+          (placed_kept k.setting b.0 (line_of own) role channel ch k.kept (ap (λ e. channel_of e.layer channel) (end_is role l h.dte h.dce b.0) ∙ there) up
+          (sym (came_seen s.register n.books line b.0 role channel b.1 n.seen) ∙ none));
+    }
+
 -- ---- what a PAD typed
 
 -- the node at an end of a line stands at that line
-at_line : (L : LineService) (nodes : List PlacedNode) (line : ℕ) (l : NetLine) (b : Book) (place : ℕ) (p : PlacedNode) → LineHolds L nodes line l b → slice_get nodes place ≡ Some p
+at_line : (L : LineService) (nodes : List NetNode) (line : ℕ) (l : NetLine) (b : Book) (place : ℕ) (p : PlacedNode) → LineHolds L nodes line l b → slice_get nodes place ≡ Some (User p)
     → (place ≡ b.dte.node) ⊎ (place ≡ b.dce.node) → line ≡ p.line
 at_line L nodes line l b place p h at (inl e) =
-    let same : h.dte ≡ p = same_Some h.dte p (sym h.dte_there ∙ ap (λ k. slice_get nodes k) (sym (e ∙ h.holds.dte_node)) ∙ at) in
+    let same : h.dte ≡ p = same_user h.dte p (sym h.dte_there ∙ ap (λ k. slice_get nodes k) (sym (e ∙ h.holds.dte_node)) ∙ at) in
     sym h.dte_line ∙ ap (λ (x : PlacedNode). x.line) same
 at_line L nodes line l b place p h at (inr e) =
-    let same : h.dce ≡ p = same_Some h.dce p (sym h.dce_there ∙ ap (λ k. slice_get nodes k) (sym (e ∙ h.holds.dce_node)) ∙ at) in
+    let same : h.dce ≡ p = same_user h.dce p (sym h.dce_there ∙ ap (λ k. slice_get nodes k) (sym (e ∙ h.holds.dce_node)) ∙ at) in
     sym h.dce_line ∙ ap (λ (x : PlacedNode). x.line) same
 
-at_no_other : (L : LineService) (s : Network) (n : IsNetwork L s) (place : ℕ) (p : PlacedNode) → slice_get s.nodes place ≡ Some p → IsAtNoOther p.line place n.books
+at_no_other : (L : LineService) (s : Network) (n : IsNetwork L s) (place : ℕ) (p : PlacedNode) → slice_get s.nodes place ≡ Some (User p) → IsAtNoOther p.line place n.books
 at_no_other L s n place p at j b there ends =
     let l = line_there L s n j b there in
     at_line L s.nodes j l.0 b place p (n.lines j l.0 b l.1 there) at ends
 
 -- a PAD is at the DTE
-pad_place : (L : LineService) (nodes : List PlacedNode) (line : ℕ) (l : NetLine) (b : Book) (place : ℕ) (p : PlacedNode) (h : LineHolds L nodes line l b) → slice_get nodes place ≡ Some p
+pad_place : (L : LineService) (nodes : List NetNode) (line : ℕ) (l : NetLine) (b : Book) (place : ℕ) (p : PlacedNode) (h : LineHolds L nodes line l b) → slice_get nodes place ≡ Some (User p)
     → is_pad p.node ≡ true → (l.dte ≡ place) ⊎ (l.dce ≡ place) → (l.dte ≡ place) × (is_pad h.dte.node ≡ true)
 pad_place L nodes line l b place p h at pad (inl e) =
-    let same : p ≡ h.dte = same_Some p h.dte (sym at ∙ ap (λ k. slice_get nodes k) (sym e) ∙ h.dte_there) in
+    let same : p ≡ h.dte = same_user p h.dte (sym at ∙ ap (λ k. slice_get nodes k) (sym e) ∙ h.dte_there) in
     (e, ap (λ (x : PlacedNode). is_pad x.node) (sym same) ∙ pad)
 pad_place L nodes line l b place p h at pad (inr e) =
-    let same : p ≡ h.dce = same_Some p h.dce (sym at ∙ ap (λ k. slice_get nodes k) (sym e) ∙ h.dce_there) in
+    let same : p ≡ h.dce = same_user p h.dce (sym at ∙ ap (λ k. slice_get nodes k) (sym e) ∙ h.dce_there) in
     let no : is_pad p.node ≡ false = ap (λ (x : PlacedNode). is_pad x.node) same ∙ h.holds.host in
     absurd (let bad : true ≡ false = sym pad ∙ no in cc)
 
 typed_record : (b : Book) (n : ℕ) (r : RecordValue) (w : IsOfBook b n r) → HasSent w.own → HasSent r
 typed_record b n r w h = subst HasSent (sym w.same) (record { typed = h.typed; told = h.told; of_pad = h.of_pad; qualified = h.qualified; interrupts = h.interrupts })
 
-typed_holds : (L : LineService) (s : Network) (n : IsNetwork L s) → L.faithful → (place : ℕ) (p : PlacedNode) (i : ℕ) (r : RecordValue) → slice_get s.nodes place ≡ Some p
+typed_holds : (L : LineService) (s : Network) (n : IsNetwork L s) → L.faithful → (place : ℕ) (p : PlacedNode) (i : ℕ) (r : RecordValue) → slice_get s.nodes place ≡ Some (User p)
     → is_pad p.node ≡ true → slice_get s.register.records i ≡ Some r → r.node ≡ place → HasSent r
 typed_holds L s n f place p i r at pad there node =
-    let st = n.nodes place p at in
+    let st : StandsAtLine s.lines place p = n.nodes place (User p) at in
     let b = book_there L s n p.line st.line st.there in
     let h : LineHolds L s.nodes p.line st.line b.0 = n.lines p.line st.line b.0 st.there b.1 in
     let is = pad_place L s.nodes p.line st.line b.0 place p h at pad st.at_end in
@@ -141,5 +154,6 @@ holds_network L s n f = record {
   calls = promised s.register n.books n.seen (books_hold L s n f);
   records = records_seen s.register n.books n.seen (have_their_records L s n f);
   ends = end_holds L s n f;
+  placed = placed_holds L s n f;
   typed = typed_holds L s n f;
 }

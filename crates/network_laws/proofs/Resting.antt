@@ -1,7 +1,6 @@
 -- Where a network is at rest nothing is missing, and confirmed delivery is that all is covered.
 use Rattle.std.proofs.Common.{◌≡◌, ℕ, true, Some, sym, ap, subst, ◌∙◌}
 use Rattle.std.specs.Prelude.{slice_get}
-use Rattle.std.proofs.lemmas.Option.{same_Some}
 use Rattle.packet_layer.specs.Layer.{confirmed}
 use Rattle.call_records.specs.Book.{Book}
 use Rattle.book_laws.specs.Rest.{NothingMissing}
@@ -11,6 +10,7 @@ use Rattle.line_nodes.specs.Node.{end_of}
 use Rattle.memory_line.specs.Lines.{LineService}
 use Rattle.net_events.specs.OneLine.{LineState}
 use Rattle.net_events.specs.Network.{PlacedNode, Network, place_at}
+use Rattle.net_events.proofs.Users.{same_user}
 use Rattle.network_laws.specs.IsLine.{line_of, IsKept}
 use Rattle.network_laws.specs.IsNetwork.{line_state, LineHolds, IsNetwork}
 use Rattle.network_laws.specs.Promise.{EndHolds}
@@ -38,5 +38,5 @@ rest_network L s n f rests = rest_seen s.register n.books n.seen (line_misses_no
 pub delivered_network : (L : LineService) → DeliveredLaw L
 delivered_network L s n f place channel m there says line l role number r line_is place_is present record_is =
     let e : EndHolds s line l role = end_holds L s n f line l role line_is in
-    let same : e.node ≡ m = same_Some e.node m (sym e.node_there ∙ ap (λ i. slice_get s.nodes i) place_is ∙ there) in
+    let same : e.node ≡ m = same_user e.node m (sym e.node_there ∙ ap (λ i. slice_get s.nodes i) place_is ∙ there) in
     (e.confirmed channel number r present record_is).covered (ap (λ (x : PlacedNode). confirmed (end_of x.node).layer channel) same ∙ says)

@@ -17,9 +17,10 @@ use Rattle.net_events.specs.Opening.{NewDte, NewPad, NewHost, new_dte, new_dce, 
 use Rattle.net_events.specs.NodeEvents.{NodeEvent}
 use Rattle.net_events.specs.NodeEvents.NodeEvent.{Restarts, AtTerminal}
 use Rattle.line_nodes.specs.declared.terminal.TerminalEvent.TheVariants.{Key}
-use Rattle.net_events.specs.Network.{NetLine, Network, net_turn, with_turn_at, HappenedAt}
+use Rattle.net_events.specs.Network.{User, NetLine, Network, net_turn, with_turn_at, HappenedAt}
 use Rattle.network_laws.specs.IsNetwork.{IsNetwork}
-use Rattle.net_events.specs.Opening.{NewNode, NewLine, NetPlan, IsLinePlan, IsNodePlan, IsPlan, placed_new, line_plan, LineIsMade, IsMade}
+use Rattle.net_events.specs.Opening.{NewNode, Planned, PlannedUser, PlannedSwitch, NewLine, NetPlan, IsLinePlan, IsNodePlan, IsPlan, AreUsers, placed_new, line_plan, NodeIsMade, LineIsMade, IsMade}
+use Rattle.net_events.proofs.Users.{same_planned}
 use Rattle.network_laws.proofs.Networks.{happened_network}
 use Rattle.network_laws.proofs.Opened.{made_network}
 
@@ -52,51 +53,58 @@ pad_node = record { line = 0; role = Dte; as_dte = new_pad }
 -- two lines, the first of a PAD
 abbrev plan : NetPlan
 plan = record {
-  nodes = pad_node ∷ node 0 Dce ∷ node 1 Dte ∷ node 1 Dce ∷ [];
-  lines = record { dte = 0; dce = 1; params = params } ∷ record { dte = 2; dce = 3; params = params } ∷ [];
+  nodes = PlannedUser pad_node ∷ PlannedUser (node 0 Dce) ∷ PlannedUser (node 1 Dte) ∷ PlannedUser (node 1 Dce) ∷ [];
+  lines = record { dte = 0; dce = 1; address = []; params = params } ∷ record { dte = 2; dce = 3; address = []; params = params } ∷ [];
 }
 
 line_planned : (line : ℕ) (l : NewLine) → slice_get plan.lines line ≡ Some l → IsLinePlan plan.nodes line l
-line_planned zero l at = let P : NewLine → Type 0 = λ x. IsLinePlan plan.nodes 0 x in subst P (same_Some (record { dte = 0; dce = 1; params = params }) l at) (record {
+line_planned zero l at = let P : NewLine → Type 0 = λ x. IsLinePlan plan.nodes 0 x in subst P (same_Some (record { dte = 0; dce = 1; address = []; params = params }) l at) (record {
   dte = pad_node;
-  dce = node 0 Dce;
+  dce = PlannedUser (node 0 Dce);
   dte_there = refl;
   dce_there = refl;
   dte_line = refl;
-  dce_line = refl;
   dte_role = refl;
-  dce_role = refl;
+  dce_stands = (refl, refl, refl);
   dte_made = (let least : 1 ≤ 2 = omega arith in let most : 2 ≤ 16 = omega arith in (least, most));
   apart = λ e. omega (arith, e);
   params = are_params;
 })
-line_planned (suc zero) l at = let P : NewLine → Type 0 = λ x. IsLinePlan plan.nodes 1 x in subst P (same_Some (record { dte = 2; dce = 3; params = params }) l at) (record {
+line_planned (suc zero) l at = let P : NewLine → Type 0 = λ x. IsLinePlan plan.nodes 1 x in subst P (same_Some (record { dte = 2; dce = 3; address = []; params = params }) l at) (record {
   dte = node 1 Dte;
-  dce = node 1 Dce;
+  dce = PlannedUser (node 1 Dce);
   dte_there = refl;
   dce_there = refl;
   dte_line = refl;
-  dce_line = refl;
   dte_role = refl;
-  dce_role = refl;
+  dce_stands = (refl, refl, refl);
   dte_made = tt;
   apart = λ e. omega (arith, e);
   params = are_params;
 })
 line_planned (suc (suc line)) l at = absurd (none-some l at)
 
-node_planned : (place : ℕ) (n : NewNode) → slice_get plan.nodes place ≡ Some n → IsNodePlan plan.lines place n
-node_planned place n at = by place n at
-  where
-    by : (place : ℕ) (n : NewNode) → slice_get plan.nodes place ≡ Some n → IsNodePlan plan.lines place n
-    by zero n at = subst (λ (x : NewNode). IsNodePlan plan.lines 0 x) (same_Some pad_node n at) (record { line = record { dte = 0; dce = 1; params = params }; there = refl; at_end = inl refl })
-    by (suc zero) n at = subst (λ (x : NewNode). IsNodePlan plan.lines 1 x) (same_Some (node 0 Dce) n at) (record { line = record { dte = 0; dce = 1; params = params }; there = refl; at_end = inr refl })
-    by (suc (suc zero)) n at = subst (λ (x : NewNode). IsNodePlan plan.lines 2 x) (same_Some (node 1 Dte) n at) (record { line = record { dte = 2; dce = 3; params = params }; there = refl; at_end = inl refl })
-    by (suc (suc (suc zero))) n at = subst (λ (x : NewNode). IsNodePlan plan.lines 3 x) (same_Some (node 1 Dce) n at) (record { line = record { dte = 2; dce = 3; params = params }; there = refl; at_end = inr refl })
-    by (suc (suc (suc (suc place)))) n at = absurd (none-some n at)
+node_planned : (place : ℕ) (n : Planned) → slice_get plan.nodes place ≡ Some n → IsNodePlan plan.lines place n
+node_planned zero n at = subst (λ (x : Planned). IsNodePlan plan.lines 0 x) (same_Some (PlannedUser pad_node) n at) (record { line = record { dte = 0; dce = 1; address = []; params = params }; there = refl; at_end = inl refl })
+node_planned (suc zero) n at = subst (λ (x : Planned). IsNodePlan plan.lines 1 x) (same_Some (PlannedUser (node 0 Dce)) n at) (record { line = record { dte = 0; dce = 1; address = []; params = params }; there = refl; at_end = inr refl })
+node_planned (suc (suc zero)) n at = subst (λ (x : Planned). IsNodePlan plan.lines 2 x) (same_Some (PlannedUser (node 1 Dte)) n at) (record { line = record { dte = 2; dce = 3; address = []; params = params }; there = refl; at_end = inl refl })
+node_planned (suc (suc (suc zero))) n at = subst (λ (x : Planned). IsNodePlan plan.lines 3 x) (same_Some (PlannedUser (node 1 Dce)) n at) (record { line = record { dte = 2; dce = 3; address = []; params = params }; there = refl; at_end = inr refl })
+node_planned (suc (suc (suc (suc place)))) n at = absurd (none-some n at)
+
+users : AreUsers plan.nodes
+users zero n at = (pad_node, sym (same_Some (PlannedUser pad_node) n at))
+users (suc zero) n at = (node 0 Dce, sym (same_Some (PlannedUser (node 0 Dce)) n at))
+users (suc (suc zero)) n at = (node 1 Dte, sym (same_Some (PlannedUser (node 1 Dte)) n at))
+users (suc (suc (suc zero))) n at = (node 1 Dce, sym (same_Some (PlannedUser (node 1 Dce)) n at))
+users (suc (suc (suc (suc place)))) n at = absurd (none-some n at)
 
 planned : IsPlan plan
-planned = record { lines = line_planned; nodes = node_planned }
+planned = record {
+  lines = line_planned;
+  nodes = node_planned;
+  one_switch = λ i j m n at other. let u = users i (PlannedSwitch m) at in
+      absurd (let bad : PlannedSwitch m ≡ PlannedUser u.0 = u.1 in cc);
+}
 
 -- ---- the network, on any kind of line: all first frames are in flight
 
@@ -114,9 +122,9 @@ net_line dte dce kind = record { dte = dte; dce = dce; channels = 4; flights = f
 
 abbrev network : Network
 network = record {
-  nodes = placed_new pad_node params ∷ placed_new (node 0 Dce) params ∷ placed_new (node 1 Dte) params ∷ placed_new (node 1 Dce) params ∷ [];
+  nodes = User (placed_new pad_node params) ∷ User (placed_new (node 0 Dce) params) ∷ User (placed_new (node 1 Dte) params) ∷ User (placed_new (node 1 Dce) params) ∷ [];
   lines = net_line 0 1 new_pad ∷ net_line 2 3 NewHost ∷ [];
-  register = Rattle.call_records.specs.Register.made_register (line_plan (record { dte = 0; dce = 1; params = params }) ∷ line_plan (record { dte = 2; dce = 3; params = params }) ∷ []);
+  register = Rattle.call_records.specs.Register.made_register (line_plan (record { dte = 0; dce = 1; address = []; params = params }) ∷ line_plan (record { dte = 2; dce = 3; address = []; params = params }) ∷ []);
 }
 
 sent : (L : LineService) → AreSent L (new_dte NewHost params) (new_dce params) (flights NewHost)
@@ -134,40 +142,45 @@ pad_sent L = record {
 }
 
 line_made : (L : LineService) (line : ℕ) (l : NewLine) → slice_get plan.lines line ≡ Some l → LineIsMade L plan network line l
-line_made L zero l at = subst (λ (x : NewLine). LineIsMade L plan network 0 x) (same_Some (record { dte = 0; dce = 1; params = params }) l at) (record {
+line_made L zero l at = subst (λ (x : NewLine). LineIsMade L plan network 0 x) (same_Some (record { dte = 0; dce = 1; address = []; params = params }) l at) (record {
   flights = flights new_pad;
   there = refl;
-  sent = λ f dte there. subst (λ (x : NewNode). AreSent L (new_dte x.as_dte params) (new_dce params) (flights new_pad)) (same_Some pad_node dte there) (pad_sent L);
+  sent = λ f dte there. subst (λ (x : NewNode). AreSent L (new_dte x.as_dte params) (new_dce params) (flights new_pad)) (same_planned pad_node dte there) (pad_sent L);
 })
-line_made L (suc zero) l at = subst (λ (x : NewLine). LineIsMade L plan network 1 x) (same_Some (record { dte = 2; dce = 3; params = params }) l at) (record {
+line_made L (suc zero) l at = subst (λ (x : NewLine). LineIsMade L plan network 1 x) (same_Some (record { dte = 2; dce = 3; address = []; params = params }) l at) (record {
   flights = flights NewHost;
   there = refl;
-  sent = λ f dte there. subst (λ (x : NewNode). AreSent L (new_dte x.as_dte params) (new_dce params) (flights NewHost)) (same_Some (node 1 Dte) dte there) (sent L);
+  sent = λ f dte there. subst (λ (x : NewNode). AreSent L (new_dte x.as_dte params) (new_dce params) (flights NewHost)) (same_planned (node 1 Dte) dte there) (sent L);
 })
 line_made L (suc (suc line)) l at = absurd (none-some l at)
 
-node_made : (place : ℕ) (n : NewNode) → slice_get plan.nodes place ≡ Some n → (l : NewLine) → slice_get plan.lines n.line ≡ Some l → slice_get network.nodes place ≡ Some (placed_new n l.params)
-node_made place n at l there =
+user_made : (place : ℕ) (m n : NewNode) → PlannedUser m ≡ PlannedUser n → (l : NewLine) → slice_get plan.lines n.line ≡ Some l → slice_get network.nodes place ≡ Some (User (placed_new m params))
+    → slice_get network.nodes place ≡ Some (User (placed_new n l.params))
+user_made place m n is l there at =
     let same : l.params ≡ params = by_line n.line l there in
-    by place n at ∙ ap (λ (p : EndParams). Some (placed_new n p)) (sym same)
+    at ∙ ap (λ (x : NewNode). Some (User (placed_new x params))) (same_planned m n (ap Some is)) ∙ ap (λ (p : EndParams). Some (User (placed_new n p))) (sym same)
   where
     by_line : (line : ℕ) (l : NewLine) → slice_get plan.lines line ≡ Some l → l.params ≡ params
-    by_line zero l e = ap (λ (x : NewLine). x.params) (sym (same_Some (record { dte = 0; dce = 1; params = params }) l e))
-    by_line (suc zero) l e = ap (λ (x : NewLine). x.params) (sym (same_Some (record { dte = 2; dce = 3; params = params }) l e))
+    by_line zero l e = ap (λ (x : NewLine). x.params) (sym (same_Some (record { dte = 0; dce = 1; address = []; params = params }) l e))
+    by_line (suc zero) l e = ap (λ (x : NewLine). x.params) (sym (same_Some (record { dte = 2; dce = 3; address = []; params = params }) l e))
     by_line (suc (suc line)) l e = absurd (none-some l e)
 
-    by : (place : ℕ) (n : NewNode) → slice_get plan.nodes place ≡ Some n → slice_get network.nodes place ≡ Some (placed_new n params)
-    by zero n e = ap (λ (x : NewNode). Some (placed_new x params)) (same_Some pad_node n e)
-    by (suc zero) n e = ap (λ (x : NewNode). Some (placed_new x params)) (same_Some (node 0 Dce) n e)
-    by (suc (suc zero)) n e = ap (λ (x : NewNode). Some (placed_new x params)) (same_Some (node 1 Dte) n e)
-    by (suc (suc (suc zero))) n e = ap (λ (x : NewNode). Some (placed_new x params)) (same_Some (node 1 Dce) n e)
-    by (suc (suc (suc (suc place)))) n e = absurd (none-some n e)
+made_so : (place : ℕ) (m : NewNode) (n : Planned) → PlannedUser m ≡ n → slice_get network.nodes place ≡ Some (User (placed_new m params)) → NodeIsMade plan network place n
+made_so place m (PlannedUser n) is at = λ l there. user_made place m n is l there at
+made_so place m (PlannedSwitch n) is at = absurd (cc)
+
+node_made : (place : ℕ) (n : Planned) → slice_get plan.nodes place ≡ Some n → NodeIsMade plan network place n
+node_made zero n at = made_so 0 pad_node n (same_Some (PlannedUser pad_node) n at) refl
+node_made (suc zero) n at = made_so 1 (node 0 Dce) n (same_Some (PlannedUser (node 0 Dce)) n at) refl
+node_made (suc (suc zero)) n at = made_so 2 (node 1 Dte) n (same_Some (PlannedUser (node 1 Dte)) n at) refl
+node_made (suc (suc (suc zero))) n at = made_so 3 (node 1 Dce) n (same_Some (PlannedUser (node 1 Dce)) n at) refl
+node_made (suc (suc (suc (suc place)))) n at = absurd (none-some n at)
 
 made : (L : LineService) → IsMade L plan network
 made L = record { node_count = refl; nodes = node_made; line_count = refl; lines = line_made L; register = refl }
 
 holds : (L : LineService) → IsNetwork L network
-holds L = made_network L plan network planned (made L)
+holds L = made_network L plan network planned users (made L)
 
 -- ---- the host at the DCE of the second line begins anew: its line loses all frames, and it sends its first one
 

@@ -5,14 +5,19 @@ use Rattle.link_timers.specs.declared.timers.TimerId.{TimerId}
 use Rattle.line_nodes.specs.Node.{node_due}
 use Rattle.node_laws.specs.Due.{due_count}
 use Rattle.memory_line.specs.Lines.{LineService}
+use Rattle.switch_quiet_laws.specs.Due.{all_due_on}
 use Rattle.net_events.specs.NodeEvents.NodeEvent.{Expires}
-use Rattle.net_events.specs.Network.{PlacedNode, Network, HappenedAt}
+use Rattle.net_events.specs.Network.{NetNode, User, Switching, Network, HappenedAt}
 use Rattle.network_laws.specs.IsNetwork.{IsNetwork}
 
--- how many timers of all nodes run with no tick left
-abbrev pub all_due : List PlacedNode → ℕ
+-- how many timers of a node run with no tick left, at a switch those of all its lines, and how many of all nodes
+abbrev pub due_at_node : NetNode → ℕ
+due_at_node (User n) = due_count n.node
+due_at_node (Switching n) = all_due_on n.switch
+
+abbrev pub all_due : List NetNode → ℕ
 all_due [] = 0
-all_due (n ∷ nodes) = due_count n.node + all_due nodes
+all_due (n ∷ nodes) = due_at_node n + all_due nodes
 
 -- where a timer that is due at a node expires there, fewer are due then
 abbrev pub FewerLaw : LineService → Type 0

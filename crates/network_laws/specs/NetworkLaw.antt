@@ -1,4 +1,4 @@
--- What holds of a network holds from the making on, whatever happens at its nodes and on its lines.
+-- What holds of a network of nodes with users holds from the making on, whatever happens at its nodes and on its lines.
 use Rattle.std.specs.Prelude.{ℕ}
 use Rattle.link_timers.specs.declared.role.Role.{Role}
 use Rattle.memory_line.specs.declared.line.Direction.{Direction}
@@ -6,11 +6,11 @@ use Rattle.memory_line.specs.Lines.{LineService}
 use Rattle.net_events.specs.NodeEvents.{NodeEvent}
 use Rattle.net_events.specs.Network.{Network, HappenedAt, LostAt, all_elapsed}
 use Rattle.network_laws.specs.IsNetwork.{IsNetwork}
-use Rattle.net_events.specs.Opening.{NetPlan, IsPlan, IsMade}
+use Rattle.net_events.specs.Opening.{NetPlan, IsPlan, AreUsers, IsMade}
 use Rattle.network_laws.specs.Promise.{NetworkHolds}
 
 abbrev pub MadeLaw : LineService → Type 0
-MadeLaw L = (plan : NetPlan) (s : Network) → IsPlan plan → IsMade L plan s → IsNetwork L s
+MadeLaw L = (plan : NetPlan) (s : Network) → IsPlan plan → AreUsers plan.nodes → IsMade L plan s → IsNetwork L s
 
 abbrev pub EventLaw : LineService → Type 0
 EventLaw L = (event : NodeEvent) (line : ℕ) (role : Role) (s t : Network) → IsNetwork L s

@@ -12,7 +12,7 @@ use Rattle.x25_pad_laws.specs.Sending.{HasSent}
 use Rattle.line_record_laws.specs.Confirmed.{SaysConfirmed}
 use Rattle.register_laws.specs.Promise.{RegisterHolds, HasRecords}
 use Rattle.line_nodes.specs.Node.{end_of, is_pad}
-use Rattle.net_events.specs.Network.{PlacedNode, NetLine, Network, place_at}
+use Rattle.net_events.specs.Network.{PlacedNode, User, NetLine, Network, place_at}
 
 -- the register's slot of a channel at the end of a role of a line
 abbrev pub its_slot : (line : ℕ) → Role → (channel : ℕ) → Register → Slot
@@ -20,13 +20,12 @@ its_slot line role channel g = slot_at role channel (book_at line g)
 
 -- at the end of a role of a line: no frame or note waits at the node to be taken; the register has the end as this
 -- node's, register and packet layer have the line's channels, and a channel has a present record exactly where the
--- packet layer has a call there; a call that may be accepted is one that came in; and in data transfer each that came
--- in is in a pair, and each that was placed is the last one placed there and is in a pair; and where the packet layer
--- says of a channel that delivery is confirmed, and in data transfer there alone, each packet with D = 1 of the last
--- epoch that its present record sent is covered
+-- packet layer has a call there; a call that may be accepted is one that came in, and in data transfer each that came in
+-- is in a pair; and where the packet layer says of a channel that delivery is confirmed, and in data transfer there
+-- alone, each packet with D = 1 of the last epoch that its present record sent is covered
 pub record EndHolds (s : Network) (line : ℕ) (l : NetLine) (role : Role) : Type 0 where
   pub node : PlacedNode
-  pub node_there : slice_get s.nodes (place_at role l) ≡ Some node
+  pub node_there : slice_get s.nodes (place_at role l) ≡ Some (User node)
   pub node_line : node.line ≡ line
   pub quiet : IsQuiet node.node
   pub own : (side_of role (book_at line s.register)).node ≡ place_at role l
@@ -39,12 +38,17 @@ pub record EndHolds (s : Network) (line : ℕ) (l : NetLine) (role : Role) : Typ
   pub paired : (channel : ℕ) (ch : Channel) → channel_of (end_of node.node).layer channel ≡ Some ch
       → in_transfer ch.state ≡ true → is_some (its_slot line role channel s.register).caller ≡ true
       → IsPaired (its_slot line role channel s.register) s.register.pairs
-  pub placed : (channel : ℕ) (ch : Channel) → channel_of (end_of node.node).layer channel ≡ Some ch
-      → in_transfer ch.state ≡ true → is_some (its_slot line role channel s.register).caller ≡ false
-      → HasCallee (book_at line s.register) role channel
   pub confirmed : (channel number : ℕ) (r : RecordValue)
       → (its_slot line role channel s.register).present ≡ Some number → slice_get s.register.records number ≡ Some r
       → SaysConfirmed (end_of node.node).layer channel r
+
+-- on the same end, in data transfer each call that was placed is the last one placed there and is in a pair
+pub record PlacedHolds (s : Network) (line : ℕ) (l : NetLine) (role : Role) : Type 0 where
+  pub node : PlacedNode
+  pub node_there : slice_get s.nodes (place_at role l) ≡ Some (User node)
+  pub placed : (channel : ℕ) (ch : Channel) → channel_of (end_of node.node).layer channel ≡ Some ch
+      → in_transfer ch.state ≡ true → is_some (its_slot line role channel s.register).caller ≡ false
+      → HasCallee (book_at line s.register) role channel
 
 pub record NetworkHolds (s : Network) : Type 0 where
   -- for each pair what one end took matches what the other one sent, both ways, and the pair is right; no record is in
@@ -54,7 +58,9 @@ pub record NetworkHolds (s : Network) : Type 0 where
   pub records : HasRecords s.register
   -- the ends of each line
   pub ends : (line : ℕ) (l : NetLine) (role : Role) → slice_get s.lines line ≡ Some l → EndHolds s line l role
+  -- at each end a call in data transfer that was placed there is in a pair
+  pub placed : (line : ℕ) (l : NetLine) (role : Role) → slice_get s.lines line ≡ Some l → PlacedHolds s line l role
   -- what a PAD's terminal sent on a call is, block for block with its end, what its editing rules make of the keys and
   -- idle times; else the PAD sent only what it told the far end by its messages, and the interrupts of breaks
-  pub typed : (place : ℕ) (n : PlacedNode) (i : ℕ) (r : RecordValue) → slice_get s.nodes place ≡ Some n
+  pub typed : (place : ℕ) (n : PlacedNode) (i : ℕ) (r : RecordValue) → slice_get s.nodes place ≡ Some (User n)
       → is_pad n.node ≡ true → slice_get s.register.records i ≡ Some r → r.node ≡ place → HasSent r

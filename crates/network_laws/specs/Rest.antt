@@ -7,7 +7,7 @@ use Rattle.book_laws.specs.Rest.{NothingMissing}
 use Rattle.book_laws.specs.Delivery.{IsAllCovered}
 use Rattle.line_nodes.specs.Node.{end_of, node_rests}
 use Rattle.memory_line.specs.Lines.{LineService}
-use Rattle.net_events.specs.Network.{PlacedNode, NetLine, Network, place_at}
+use Rattle.net_events.specs.Network.{PlacedNode, NetNode, User, NetLine, Network, place_at}
 use Rattle.network_laws.specs.IsNetwork.{IsNetwork}
 use Rattle.network_laws.specs.Promise.{its_slot}
 
@@ -15,8 +15,8 @@ use Rattle.network_laws.specs.Promise.{its_slot}
 abbrev pub MissesNothing : Network → Type 0
 MissesNothing s = NothingMissing s.register.records s.register.pairs
 
-abbrev pub AreAtRest : List PlacedNode → Type 0
-AreAtRest nodes = (place : ℕ) (n : PlacedNode) → slice_get nodes place ≡ Some n → node_rests n.node ≡ true
+abbrev pub AreAtRest : List NetNode → Type 0
+AreAtRest nodes = (place : ℕ) (n : PlacedNode) → slice_get nodes place ≡ Some (User n) → node_rests n.node ≡ true
 
 abbrev pub RestLaw : LineService → Type 0
 RestLaw L = (s : Network) → IsNetwork L s → L.faithful → AreAtRest s.nodes → MissesNothing s
@@ -31,4 +31,4 @@ IsDelivered place channel s =
 
 abbrev pub DeliveredLaw : LineService → Type 0
 DeliveredLaw L = (s : Network) → IsNetwork L s → L.faithful → (place channel : ℕ) (n : PlacedNode)
-    → slice_get s.nodes place ≡ Some n → confirmed (end_of n.node).layer channel ≡ true → IsDelivered place channel s
+    → slice_get s.nodes place ≡ Some (User n) → confirmed (end_of n.node).layer channel ≡ true → IsDelivered place channel s

@@ -145,6 +145,7 @@ caller = record {
   node = 3;
   own = None;
   far = Some digits;
+  caller = None;
   sent_before = [];
   sent = record { packets = packet_of hi ∷ []; interrupts = []; covered = 1 };
   taken_before = [];
@@ -159,6 +160,7 @@ callee = record {
   node = 5;
   own = Some digits;
   far = None;
+  caller = Some 0;
   sent_before = [];
   sent = nothing_sent;
   taken_before = [];

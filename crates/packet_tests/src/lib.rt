@@ -2,8 +2,12 @@
 #![tactic(auto)]
 
 #[cfg(test)]
+mod calls;
+#[cfg(test)]
 mod layers;
 #[cfg(test)]
 mod packets;
+#[cfg(test)]
+mod resets;
 #[cfg(test)]
 mod steps;

@@ -14,6 +14,3 @@ pub use block::{BLOCK_LIMIT, Block};
 pub use display::Display;
 pub use echo::Echo;
 pub use editor::{Editor, KeyOut};
-
-#[cfg(test)]
-mod tests;

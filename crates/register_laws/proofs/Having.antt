@@ -70,11 +70,11 @@ module _ (g : Register) (books : List Book) (w : Seen g books) where
     open_here line role channel n e =
         let o : InLine line role channel n = in_line line role channel n e in
         let h : IsOpenHere o.book role o.number = (have line o.book o.there).present role channel o.number o.present in
-        let seen : RecordIsSeen o.book.records g.records o.number n = (w.line line o.book o.there).records o.number n o.numbered in
+        let seen : RecordIsSeen (positions line w.owners) o.book.records g.records o.number n = (w.line line o.book o.there).records o.number n o.numbered in
         let same : seen.value ≡ h.value = same_Some seen.value h.value (sym seen.own_there ∙ h.there) in
         record {
-          value = renumbered n h.value;
-          there = seen.seen_there ∙ ap (λ (r : RecordValue). Some (renumbered n r)) same;
+          value = renumbered n seen.caller h.value;
+          there = seen.seen_there ∙ ap (λ (r : RecordValue). Some (renumbered n seen.caller r)) same;
           node = h.node ∙ sym ((w.line line o.book o.there).sides role).node;
           is_open = h.is_open;
         }

@@ -14,7 +14,7 @@ use Rattle.call_records.specs.Writes.Write.{Placed, Told, Asked}
 use Rattle.call_records.specs.Register.{Register, LineEnds, LinePlan, book_at, found_ends, all_written_at, planned_book, free_ends, no_parts, with_standing_call, with_free_line, with_line, with_lines, empty_register}
 use Rattle.book_laws.proofs.Basics.{get_there, get_pushed, get_before, get_last, set_here, length_pushed}
 use Rattle.register_laws.specs.Seen.{positions, SlotIsSeen, SideIsSeen, LineIsSeen, AreLines, Seen}
-use Rattle.register_laws.specs.Law.{MadeLaw, HaveChannels}
+use Rattle.register_laws.specs.Law.{MadeLaw, HaveChannels, HaveNoAddress}
 use Rattle.register_laws.proofs.Positions.{is_place}
 use Rattle.register_laws.proofs.Seeing.{writes_seen, other_line}
 
@@ -32,8 +32,9 @@ slot_free n (suc c) = nth_free n c
 free_seen : (numbers : List ℕ) (n c : ℕ) → SlotIsSeen numbers (nth_slot (replicate n free_slot) c) (nth_slot (replicate n free_slot) c)
 free_seen numbers n c = subst (λ (s : Slot). SlotIsSeen numbers s s) (sym (slot_free n c)) (record { present = tt; placed = tt; caller = tt })
 
-side_free : (numbers : List ℕ) (node n : ℕ) → SideIsSeen numbers (record { node = node; slots = replicate n free_slot }) (record { node = node; slots = replicate n free_slot })
-side_free numbers node n = record { node = refl; channels = refl; slot = λ c. free_seen numbers n c }
+side_free : (numbers : List ℕ) (node n : ℕ) (address : List ℕ) → address ≡ []
+    → SideIsSeen numbers (record { node = node; address = []; slots = replicate n free_slot }) (record { node = node; address = address; slots = replicate n free_slot })
+side_free numbers node n address none = record { node = refl; address = none; channels = refl; slot = λ c. free_seen numbers n c }
 
 -- no place is that of a line that is not there
 no_places : (count : ℕ) (owners : List ℕ) → AreLines count owners → positions count owners ≡ []
@@ -47,18 +48,18 @@ no_places count owners h = none_of (positions count owners) (λ i n at.
 abbrev free_book : LinePlan → Book
 free_book plan = new_book plan.dte_node plan.dce_node plan.channels
 
-new_sides : (plan : LinePlan) (o : Option LineEnds) → o ≡ Some (free_ends plan) → (records : List RecordValue) (pairs : List PairValue) (role : Role)
+new_sides : (plan : LinePlan) → plan.address ≡ [] → (o : Option LineEnds) → o ≡ Some (free_ends plan) → (records : List RecordValue) (pairs : List PairValue) (role : Role)
     → SideIsSeen [] (side_of role (free_book plan)) (side_of role (record { records = records; pairs = pairs; dte = (found_ends o).dte; dce = (found_ends o).dce }))
-new_sides plan o e records pairs Dte = subst (λ (p : Option LineEnds). SideIsSeen [] (free_book plan).dte (found_ends p).dte) (sym e) (side_free [] plan.dte_node plan.channels)
-new_sides plan o e records pairs Dce = subst (λ (p : Option LineEnds). SideIsSeen [] (free_book plan).dce (found_ends p).dce) (sym e) (side_free [] plan.dce_node plan.channels)
+new_sides plan none o e records pairs Dte = subst (λ (p : Option LineEnds). SideIsSeen [] (free_book plan).dte (found_ends p).dte) (sym e) (side_free [] plan.dte_node plan.channels plan.address none)
+new_sides plan none o e records pairs Dce = subst (λ (p : Option LineEnds). SideIsSeen [] (free_book plan).dce (found_ends p).dce) (sym e) (side_free [] plan.dce_node plan.channels [] refl)
 
-new_line_seen : (plan : LinePlan) (line : ℕ) (g : Register) → slice_get g.lines line ≡ Some (free_ends plan) → LineIsSeen [] [] (free_book plan) (book_at line g)
-new_line_seen plan line g e = record {
+new_line_seen : (plan : LinePlan) → plan.address ≡ [] → (line : ℕ) (g : Register) → slice_get g.lines line ≡ Some (free_ends plan) → LineIsSeen [] [] (free_book plan) (book_at line g)
+new_line_seen plan none line g e = record {
   count = refl;
   records = λ i n at. absurd (none-some n at);
   pair_count = refl;
   pairs = λ i n at. absurd (none-some n at);
-  sides = new_sides plan (slice_get g.lines line) e g.records g.pairs;
+  sides = new_sides plan none (slice_get g.lines line) e g.records g.pairs;
 }
 
 more_lines : (books : List Book) (b : Book) (owners : List ℕ) → AreLines (length books) owners → AreLines (length (books ++ b ∷ [])) owners
@@ -66,8 +67,8 @@ more_lines books b owners h n line at =
     let less : line < length books = h n line at in
     subst (λ (count : ℕ). line < count) (sym (length_pushed books b)) (omega arith)
 
-free_line_seen : (plan : LinePlan) (g : Register) (books : List Book) → Seen g books → Seen (with_free_line plan g) (books ++ free_book plan ∷ [])
-free_line_seen plan g books w = record {
+free_line_seen : (plan : LinePlan) → plan.address ≡ [] → (g : Register) (books : List Book) → Seen g books → Seen (with_free_line plan g) (books ++ free_book plan ∷ [])
+free_line_seen plan bare g books w = record {
   owners = w.owners;
   pair_owners = w.pair_owners;
   records_owned = w.records_owned;
@@ -87,7 +88,7 @@ free_line_seen plan g books w = record {
         subst (λ (ns : List ℕ). LineIsSeen ns (positions j w.pair_owners) b (book_at j (with_free_line plan g))) (sym none)
         (subst (λ (ns : List ℕ). LineIsSeen [] ns b (book_at j (with_free_line plan g))) (sym no_pairs)
         (subst (λ (x : Book). LineIsSeen [] [] x (book_at j (with_free_line plan g))) (sym last.1)
-        (new_line_seen plan j (with_free_line plan g)
+        (new_line_seen plan bare j (with_free_line plan g)
         (ap (λ (k : ℕ). slice_get (g.lines ++ free_ends plan ∷ []) k) (last.0 ∙ sym w.lines) ∙ get_last g.lines (free_ends plan)))))
   ];
 }
@@ -107,15 +108,15 @@ set_last : {X : Type 0} (xs : List X) (x y : X) → set (xs ++ x ∷ []) (length
 set_last [] x y = refl
 set_last {X} (z ∷ xs) x y = ap (λ (ys : List X). z ∷ ys) (set_last xs x y)
 
-stands_seen : (plan : LinePlan) (g : Register) (books : List Book) → Seen g books
+stands_seen : (plan : LinePlan) → plan.address ≡ [] → (g : Register) (books : List Book) → Seen g books
     → Seen (with_standing_call (length g.lines) (with_free_line plan g)) (books ++ standing_of (free_book plan) ∷ [])
-stands_seen plan g books w =
+stands_seen plan none g books w =
     let line : ℕ = length g.lines in
     let free : Register = with_free_line plan g in
     let all : List Book = books ++ free_book plan ∷ [] in
     let at : slice_get all line ≡ Some (free_book plan) = ap (λ (k : ℕ). slice_get all k) w.lines ∙ get_last books (free_book plan) in
     let placed : Book = all_written Dte placing (free_book plan) in
-    let first : Seen (all_written_at line Dte placing free) (set all line placed) = writes_seen free all line (free_book plan) Dte placing at (free_line_seen plan g books w) in
+    let first : Seen (all_written_at line Dte placing free) (set all line placed) = writes_seen free all line (free_book plan) Dte placing at (free_line_seen plan none g books w) in
     let there : slice_get (set all line placed) line ≡ Some placed = set_here all line placed (free_book plan) at in
     let both = writes_seen (all_written_at line Dte placing free) (set all line placed) line placed Dce answering there first in
     subst (λ (bs : List Book). Seen (with_standing_call line free) bs)
@@ -124,18 +125,18 @@ stands_seen plan g books w =
 
 -- ---- any line, and all of them
 
-line_by : (standing : Bool) (dte_node dce_node channels : ℕ) (g : Register) (books : List Book) → (standing ≡ true → 1 ≤ channels) → Seen g books
-    → Seen (with_line (record { dte_node = dte_node; dce_node = dce_node; channels = channels; standing = standing }) g) (books ++ made_book dte_node dce_node channels standing ∷ [])
-line_by false d e channels g books h w = free_line_seen (record { dte_node = d; dce_node = e; channels = channels; standing = false }) g books w
-line_by true d e zero g books h w =
+line_by : (standing : Bool) (dte_node dce_node channels : ℕ) (address : List ℕ) (g : Register) (books : List Book) → address ≡ [] → (standing ≡ true → 1 ≤ channels) → Seen g books
+    → Seen (with_line (record { dte_node = dte_node; dce_node = dce_node; address = address; channels = channels; standing = standing }) g) (books ++ made_book dte_node dce_node channels standing ∷ [])
+line_by false d e channels address g books none h w = free_line_seen (record { dte_node = d; dce_node = e; address = address; channels = channels; standing = false }) none g books w
+line_by true d e zero address g books none h w =
     let bad : 1 ≤ 0 = h refl in absurd (omega arith)
-line_by true d e (suc c) g books h w = stands_seen (record { dte_node = d; dce_node = e; channels = suc c; standing = true }) g books w
+line_by true d e (suc c) address g books none h w = stands_seen (record { dte_node = d; dce_node = e; address = address; channels = suc c; standing = true }) none g books w
 
-lines_seen : (plans : List LinePlan) (g : Register) (books : List Book) → HaveChannels plans → Seen g books → Seen (with_lines plans g) (books ++ map planned_book plans)
-lines_seen [] g books h w = subst (λ (bs : List Book). Seen g bs) (sym (append-nil books)) w
-lines_seen (plan ∷ plans) g books h w =
+lines_seen : (plans : List LinePlan) (g : Register) (books : List Book) → HaveChannels plans → HaveNoAddress plans → Seen g books → Seen (with_lines plans g) (books ++ map planned_book plans)
+lines_seen [] g books h none w = subst (λ (bs : List Book). Seen g bs) (sym (append-nil books)) w
+lines_seen (plan ∷ plans) g books h none w =
     subst (λ (bs : List Book). Seen (with_lines plans (with_line plan g)) bs) (append_assoc books (planned_book plan ∷ []) (map planned_book plans))
-    (lines_seen plans (with_line plan g) (books ++ planned_book plan ∷ []) h.1 (line_by plan.standing plan.dte_node plan.dce_node plan.channels g books h.0 w))
+    (lines_seen plans (with_line plan g) (books ++ planned_book plan ∷ []) h.1 none.1 (line_by plan.standing plan.dte_node plan.dce_node plan.channels plan.address g books none.0 h.0 w))
 
 none_seen : Seen empty_register []
 none_seen = record {
@@ -150,4 +151,4 @@ none_seen = record {
 }
 
 pub made_seen : MadeLaw
-made_seen plans h = lines_seen plans empty_register [] h none_seen
+made_seen plans h none = lines_seen plans empty_register [] h none none_seen

@@ -63,10 +63,10 @@ module _ (g : Register) (books : List Book) (w : Seen g books) where
 
   -- a record of a line's book in the register
   record_there : (j : ℕ) (b : Book) → slice_get books j ≡ Some b → (i n : ℕ) (r : RecordValue) → slice_get (positions j w.owners) i ≡ Some n → slice_get b.records i ≡ Some r
-      → slice_get g.records n ≡ Some (renumbered n r)
+      → (caller : Option ℕ) × (slice_get g.records n ≡ Some (renumbered n caller r))
   record_there j b at i n r place there =
-      let seen : RecordIsSeen b.records g.records i n = (w.line j b at).records i n place in
-      seen.seen_there ∙ ap (λ (x : RecordValue). Some (renumbered n x)) (same_Some seen.value r (sym seen.own_there ∙ there))
+      let seen : RecordIsSeen (positions j w.owners) b.records g.records i n = (w.line j b at).records i n place in
+      (seen.caller, seen.seen_there ∙ ap (λ (x : RecordValue). Some (renumbered n seen.caller x)) (same_Some seen.value r (sym seen.own_there ∙ there)))
 
   ends_there : (j : ℕ) (b : Book) → slice_get books j ≡ Some b → (m n : ℕ) → AreEnds b m n → AreEnds (book_at j g) m n
   ends_there j b at m n (inl h) = inl (h.0 ∙ sym ((w.line j b at).sides Dte).node, h.1 ∙ sym ((w.line j b at).sides Dce).node)
@@ -83,11 +83,13 @@ module _ (g : Register) (books : List Book) (w : Seen g books) (holds : (j : ℕ
       let less : o.pair.own.caller < o.pair.own.callee =
       subst (λ (k : ℕ). k < o.pair.own.callee) caller_number (subst (λ (k : ℕ). h.caller.number < k) callee_number h.is_right.order) in
       let ends = get_there g.lines o.j (line_within g books o.j o.book o.there w) in
+      let caller = record_there g books w o.j o.book o.there o.pair.own.caller q.caller h.caller o.pair.caller h.caller_there in
+      let callee = record_there g books w o.j o.book o.there o.pair.own.callee q.callee h.callee o.pair.callee h.callee_there in
       record {
-        caller = renumbered q.caller h.caller;
-        callee = renumbered q.callee h.callee;
-        caller_there = record_there g books w o.j o.book o.there o.pair.own.caller q.caller h.caller o.pair.caller h.caller_there;
-        callee_there = record_there g books w o.j o.book o.there o.pair.own.callee q.callee h.callee o.pair.callee h.callee_there;
+        caller = renumbered q.caller caller.0 h.caller;
+        callee = renumbered q.callee callee.0 h.callee;
+        caller_there = caller.1;
+        callee_there = callee.1;
         matches = record {
           onward_aligned = h.matches.onward_aligned;
           backward_aligned = h.matches.backward_aligned;
@@ -137,7 +139,7 @@ module _ (g : Register) (books : List Book) (w : Seen g books) (holds : (j : ℕ
       let is : line ≡ o.line = sym (alone o.line o.book o.line_there
       (subst (λ (x : RecordValue). (x.node ≡ o.book.dte.node) ⊎ (x.node ≡ o.book.dce.node)) (sym o.same) ((holds o.line o.book o.line_there).nodes o.place o.own o.own_there))) in
       let book_same : o.book ≡ b = same_Some o.book b (sym o.line_there ∙ ap (λ (j : ℕ). slice_get books j) (sym is) ∙ there) in
-      subst (λ (c : Book). IsOfBook c n r) book_same (record { place = o.place; own = o.own; own_there = o.own_there; same = o.same })
+      subst (λ (c : Book). IsOfBook c n r) book_same (record { place = o.place; own = o.own; caller = o.caller; own_there = o.own_there; same = o.same })
 
   -- ---- a record is in at most one pair
 

@@ -61,8 +61,8 @@ taken = Asked None 1 Taking (Some (TakenPacket (said 72))) ∷ []
 
 abbrev plans : List LinePlan
 plans =
-    record { dte_node = 3; dce_node = 4; channels = 1; standing = false }
-    ∷ record { dte_node = 5; dce_node = 6; channels = 1; standing = false } ∷ []
+    record { dte_node = 3; dce_node = 4; address = []; channels = 1; standing = false }
+    ∷ record { dte_node = 5; dce_node = 6; address = []; channels = 1; standing = false } ∷ []
 
 abbrev calling : Register
 calling = all_written_at 1 Dte placed (all_written_at 0 Dte placed (made_register plans))
@@ -79,7 +79,7 @@ all = all_written_at 0 Dce taken (all_written_at 1 Dce taken said_both)
 -- ---- the books of the lines on the way
 
 abbrev after_placed : ℕ → ℕ → Book
-after_placed a b = all_written Dte placed (planned_book (record { dte_node = a; dce_node = b; channels = 1; standing = false }))
+after_placed a b = all_written Dte placed (planned_book (record { dte_node = a; dce_node = b; address = []; channels = 1; standing = false }))
 
 abbrev after_accepted : ℕ → ℕ → Book
 after_accepted a b = all_written Dce accepted (after_placed a b)
@@ -92,8 +92,8 @@ book_is a b = refl
 
 calling_seen : Seen calling (after_placed 3 4 ∷ after_placed 5 6 ∷ [])
 calling_seen =
-    writes_seen (all_written_at 0 Dte placed (made_register plans)) (after_placed 3 4 ∷ planned_book (record { dte_node = 5; dce_node = 6; channels = 1; standing = false }) ∷ []) 1 _ Dte placed refl
-    (writes_seen (made_register plans) _ 0 _ Dte placed refl (made_seen plans (λ e. one_one, (λ e. one_one, tt))))
+    writes_seen (all_written_at 0 Dte placed (made_register plans)) (after_placed 3 4 ∷ planned_book (record { dte_node = 5; dce_node = 6; address = []; channels = 1; standing = false }) ∷ []) 1 _ Dte placed refl
+    (writes_seen (made_register plans) _ 0 _ Dte placed refl (made_seen plans (λ e. one_one, (λ e. one_one, tt)) (refl, (refl, tt))))
 
 answered_seen : Seen answered (after_accepted 3 4 ∷ after_accepted 5 6 ∷ [])
 answered_seen =
@@ -145,6 +145,7 @@ caller number node = record {
   node = node;
   own = None;
   far = Some (5 ∷ 7 ∷ []);
+  caller = None;
   sent_before = [];
   sent = record { packets = packet_of (said 72) ∷ []; interrupts = []; covered = 0 };
   taken_before = [];
@@ -153,12 +154,13 @@ caller number node = record {
   steps = [];
 }
 
-abbrev callee : (number node : ℕ) → RecordValue
-callee number node = record {
+abbrev callee : (number node placed : ℕ) → RecordValue
+callee number node placed = record {
   number = number;
   node = node;
   own = Some (5 ∷ 7 ∷ []);
   far = None;
+  caller = Some placed;
   sent_before = [];
   sent = nothing_sent;
   taken_before = [];
@@ -167,5 +169,5 @@ callee number node = record {
   steps = [];
 }
 
-records_are : all.records ≡ caller 0 3 ∷ caller 1 5 ∷ callee 2 6 ∷ callee 3 4 ∷ []
+records_are : all.records ≡ caller 0 3 ∷ caller 1 5 ∷ callee 2 6 1 ∷ callee 3 4 0 ∷ []
 records_are = refl

@@ -50,8 +50,8 @@ pub other_line : (numbers pair_numbers : List ℕ) (own seen seen' : Book) → L
 other_line numbers pair_numbers own seen seen' h records pairs dte dce = record {
   count = h.count;
   records = λ i n at.
-      let r : RecordIsSeen own.records seen.records i n = h.records i n at in
-      record { value = r.value; own_there = r.own_there; seen_there = records i n at ∙ r.seen_there };
+      let r : RecordIsSeen numbers own.records seen.records i n = h.records i n at in
+      record { value = r.value; caller = r.caller; own_there = r.own_there; seen_there = records i n at ∙ r.seen_there; numbered = r.numbered };
   pair_count = h.pair_count;
   pairs = λ i n at.
       let p : PairIsSeen numbers own.pairs seen.pairs i n = h.pairs i n at in
@@ -140,8 +140,9 @@ pub record OfLine (books : List Book) (owners : List ℕ) (n : ℕ) (r : RecordV
   pub place : ℕ
   pub numbered : slice_get (positions line owners) place ≡ Some n
   pub own : RecordValue
+  pub caller : Option ℕ
   pub own_there : slice_get book.records place ≡ Some own
-  pub same : r ≡ renumbered n own
+  pub same : r ≡ renumbered n caller own
 
 pub of_line : (g : Register) (books : List Book) (w : Seen g books) (n : ℕ) (r : RecordValue) → slice_get g.records n ≡ Some r → OfLine books w.owners n r
 of_line g books w n r at =
@@ -149,7 +150,7 @@ of_line g books w n r at =
     let owner = get_there w.owners n less in
     let book = get_there books owner.0 (w.of_lines n owner.0 owner.1) in
     let place : IsNth (positions owner.0 w.owners) n = place_of owner.0 w.owners n owner.1 in
-    let seen : RecordIsSeen book.0.records g.records place.place n = (w.line owner.0 book.0 book.1).records place.place n place.there in
+    let seen : RecordIsSeen (positions owner.0 w.owners) book.0.records g.records place.place n = (w.line owner.0 book.0 book.1).records place.place n place.there in
     record {
       line = owner.0;
       book = book.0;
@@ -157,11 +158,12 @@ of_line g books w n r at =
       place = place.place;
       numbered = place.there;
       own = seen.value;
+      caller = seen.caller;
       own_there = seen.own_there;
-      same = same_Some r (renumbered n seen.value) (sym at ∙ seen.seen_there);
+      same = same_Some r (renumbered n seen.caller seen.value) (sym at ∙ seen.seen_there);
     }
 
 pub owned : OwnedLaw
 owned g books n r w at =
     let o : OfLine books w.owners n r = of_line g books w n r at in
-    (o.line, o.book, o.line_there, record { place = o.place; own = o.own; own_there = o.own_there; same = o.same })
+    (o.line, o.book, o.line_there, record { place = o.place; own = o.own; caller = o.caller; own_there = o.own_there; same = o.same })

@@ -110,6 +110,7 @@ side_put : (numbers : List ℕ) (own seen : Side) (c : ℕ) (s t : Slot) → Sid
     → SideIsSeen numbers (record own { slots = with_nth own.slots c s }) (record seen { slots = with_nth seen.slots c t })
 side_put numbers own seen c s t h w = record {
   node = h.node;
+  address = h.address;
   channels = nth_length seen.slots c t ∙ h.channels ∙ sym (nth_length own.slots c s);
   slot = nth_same numbers own.slots seen.slots c s t h.channels h.slot w;
 }
@@ -144,8 +145,8 @@ puts lines line x role c s t h w = record {
     there = h.there;
     line = record {
       count = ap (λ (rs : List RecordValue). length rs) (records_put role c s x.own) ∙ h.line.count;
-      records = λ i n at. subst (λ (rs : List RecordValue). RecordIsSeen rs (with_slot role c t x.seen).records i n) (sym (records_put role c s x.own))
-          (subst (λ (rs : List RecordValue). RecordIsSeen x.own.records rs i n) (sym (records_put role c t x.seen)) (h.line.records i n at));
+      records = λ i n at. subst (λ (rs : List RecordValue). RecordIsSeen (positions line x.owners) rs (with_slot role c t x.seen).records i n) (sym (records_put role c s x.own))
+          (subst (λ (rs : List RecordValue). RecordIsSeen (positions line x.owners) x.own.records rs i n) (sym (records_put role c t x.seen)) (h.line.records i n at));
       pair_count = ap (λ (ps : List PairValue). length ps) (pairs_put role c s x.own) ∙ h.line.pair_count;
       pairs = λ i n at. subst (λ (ps : List PairValue). PairIsSeen (positions line x.owners) ps (with_slot role c t x.seen).pairs i n) (sym (pairs_put role c s x.own))
           (subst (λ (ps : List PairValue). PairIsSeen (positions line x.owners) x.own.pairs ps i n) (sym (pairs_put role c t x.seen)) (h.line.pairs i n at));
@@ -162,9 +163,10 @@ puts lines line x role c s t h w = record {
 
 -- ---- a record changes
 
--- the change does not look at the number
+-- the change does not look at the numbers, and leaves them
 abbrev pub IsBlind : (RecordValue → RecordValue) → Type 0
-IsBlind change = (n : ℕ) (r : RecordValue) → change (renumbered n r) ≡ renumbered n (change r)
+IsBlind change = (n : ℕ) (o : Option ℕ) (r : RecordValue)
+    → (change (renumbered n o r) ≡ renumbered n o (change r)) × ((change r).caller ≡ r.caller)
 
 pub changed_here : (rs : List RecordValue) (n : ℕ) (f : RecordValue → RecordValue) (r : RecordValue) → slice_get rs n ≡ Some r → slice_get (changed_at n f rs) n ≡ Some (f r)
 changed_here [] n f r e = absurd (none-some r e)
@@ -191,19 +193,23 @@ same_place line owners i j n p q =
 
 pub changed_record : (own seen : List RecordValue) (numbers : List ℕ) (f : RecordValue → RecordValue) → IsBlind f → (a m i n : ℕ)
     → slice_get numbers a ≡ Some m → slice_get numbers i ≡ Some n → ((i ≡ a) ⊎ (i ≢ a)) → (m ≡ n → i ≡ a)
-    → RecordIsSeen own seen i n → RecordIsSeen (changed_at a f own) (changed_at m f seen) i n
+    → RecordIsSeen numbers own seen i n → RecordIsSeen numbers (changed_at a f own) (changed_at m f seen) i n
 changed_record own seen numbers f blind a m i n at here (inl e) one h =
     let same : m ≡ n = same_Some m n (sym at ∙ ap (λ (k : ℕ). slice_get numbers k) (sym e) ∙ here) in
     record {
       value = f h.value;
+      caller = h.caller;
       own_there = subst (λ (k : ℕ). slice_get (changed_at k f own) i ≡ Some (f h.value)) e (changed_here own i f h.value h.own_there);
-      seen_there = subst (λ (k : ℕ). slice_get (changed_at k f seen) n ≡ Some (f (renumbered n h.value))) (sym same) (changed_here seen n f (renumbered n h.value) h.seen_there)
-          ∙ ap (λ (r : RecordValue). Some r) (blind n h.value);
+      seen_there = subst (λ (k : ℕ). slice_get (changed_at k f seen) n ≡ Some (f (renumbered n h.caller h.value))) (sym same) (changed_here seen n f (renumbered n h.caller h.value) h.seen_there)
+          ∙ ap (λ (r : RecordValue). Some r) (blind n h.caller h.value).0;
+      numbered = subst (λ (o : Option ℕ). IsNumbered numbers o h.caller) (sym (blind n h.caller h.value).1) h.numbered;
     }
 changed_record own seen numbers f blind a m i n at here (inr e) one h = record {
   value = h.value;
+  caller = h.caller;
   own_there = changed_elsewhere own a i f e ∙ h.own_there;
   seen_there = changed_elsewhere seen m n f (λ same. e (one (sym same))) ∙ h.seen_there;
+  numbered = h.numbered;
 }
 
 -- one record of the line, by its number in the book and in the register
@@ -283,6 +289,7 @@ more_slot line owners s t w = record {
 more_side : (line : ℕ) (owners : List ℕ) (own seen : Side) → SideIsSeen (positions line owners) own seen → SideIsSeen (positions line (with_owner line owners)) own seen
 more_side line owners own seen w = record {
   node = w.node;
+  address = w.address;
   channels = w.channels;
   slot = λ c. more_slot line owners (nth_slot own.slots c) (nth_slot seen.slots c) (w.slot c);
 }
@@ -292,23 +299,29 @@ more_sides : (line : ℕ) (owners : List ℕ) (own seen : Book) (r t : RecordVal
 more_sides line owners own seen r t w Dte = more_side line owners own.dte seen.dte (w Dte)
 more_sides line owners own seen r t w Dce = more_side line owners own.dce seen.dce (w Dce)
 
-pub more_records : (own seen : List RecordValue) (numbers : List ℕ) (r t : RecordValue) → length own ≡ length numbers → t ≡ renumbered (length seen) r
-    → ((i n : ℕ) → slice_get numbers i ≡ Some n → RecordIsSeen own seen i n)
-    → (i n : ℕ) → slice_get (numbers ++ length seen ∷ []) i ≡ Some n → RecordIsSeen (own ++ r ∷ []) (seen ++ t ∷ []) i n
-more_records own seen numbers r t count is h i n at =
+-- `more` are the numbers with that of the record which is added
+pub more_records : (own seen : List RecordValue) (numbers more : List ℕ) (r t : RecordValue) (caller : Option ℕ) → length own ≡ length numbers
+    → t ≡ renumbered (length seen) caller r → ((o p : Option ℕ) → IsNumbered numbers o p → IsNumbered more o p) → IsNumbered numbers r.caller caller
+    → ((i n : ℕ) → slice_get numbers i ≡ Some n → RecordIsSeen numbers own seen i n)
+    → (i n : ℕ) → slice_get (numbers ++ length seen ∷ []) i ≡ Some n → RecordIsSeen more (own ++ r ∷ []) (seen ++ t ∷ []) i n
+more_records own seen numbers more r t caller count is stays came h i n at =
     elim (get_pushed numbers (length seen) i n at) [
       | inl before ↦
-          let w : RecordIsSeen own seen i n = h i n before in
+          let w : RecordIsSeen numbers own seen i n = h i n before in
           record {
             value = w.value;
+            caller = w.caller;
             own_there = get_before own (r ∷ []) i w.value w.own_there;
-            seen_there = get_before seen (t ∷ []) n (renumbered n w.value) w.seen_there;
+            seen_there = get_before seen (t ∷ []) n (renumbered n w.caller w.value) w.seen_there;
+            numbered = stays w.value.caller w.caller w.numbered;
           }
       | inr last ↦ record {
         value = r;
+        caller = caller;
+        numbered = stays r.caller caller came;
         own_there = ap (λ (k : ℕ). slice_get (own ++ r ∷ []) k) (last.0 ∙ sym count) ∙ get_last own r;
         seen_there = ap (λ (k : ℕ). slice_get (seen ++ t ∷ []) k) last.1 ∙ get_last seen t ∙ ap (λ (x : RecordValue). Some x) is
-            ∙ ap (λ (k : ℕ). Some (renumbered k r)) (sym last.1);
+            ∙ ap (λ (k : ℕ). Some (renumbered k caller r)) (sym last.1);
       }
     ]
 
@@ -330,8 +343,9 @@ added line x r t = record {
   seen = with_record t x.seen;
 }
 
-pub adds_right : (lines line : ℕ) (x : Beside) (r t : RecordValue) → t ≡ renumbered (length x.seen.records) r → IsRight lines line x → IsRight lines line (added line x r t)
-adds_right lines line x r t is h = record {
+pub adds_right : (lines line : ℕ) (x : Beside) (r t : RecordValue) (caller : Option ℕ) → t ≡ renumbered (length x.seen.records) caller r → IsNumbered (positions line x.owners) r.caller caller
+    → IsRight lines line x → IsRight lines line (added line x r t)
+adds_right lines line x r t caller is came h = record {
   records_owned = length_pushed x.owners line ∙ ap suc h.records_owned ∙ sym (length_pushed x.seen.records t);
   pairs_owned = h.pairs_owned;
   of_lines = owners_more lines line x.owners h.there h.of_lines;
@@ -340,7 +354,7 @@ adds_right lines line x r t is h = record {
   line = record {
     count = length_pushed x.own.records r ∙ ap suc h.line.count ∙ sym (length_pushed (positions line x.owners) (length x.owners))
         ∙ ap (λ (ns : List ℕ). length ns) (sym (one_here line x.owners));
-    records = λ i n at. more_records x.own.records x.seen.records (positions line x.owners) r t h.line.count is h.line.records i n
+    records = λ i n at. more_records x.own.records x.seen.records (positions line x.owners) (positions line (with_owner line x.owners)) r t caller h.line.count is (more_numbered line x.owners) came h.line.records i n
         (ap (λ (k : ℕ). slice_get (positions line x.owners ++ k ∷ []) i) (sym h.records_owned) ∙ ap (λ (ns : List ℕ). slice_get ns i) (sym (one_here line x.owners)) ∙ at);
     pair_count = h.line.pair_count;
     pairs = λ i n at. more_pair line x.owners x.own.pairs x.seen.pairs i n (h.line.pairs i n at);

@@ -10,7 +10,7 @@ use Rattle.packet_layer.specs.Traffic.Taken.{TakenInterrupt, TakenPacket}
 use Rattle.packet_layer.specs.Channel.{Request, Refusal}
 use Rattle.packet_layer.specs.Channel.Request.{Accept, Clearing, Resetting, Sending, Interrupting, Taking, Releasing}
 use Rattle.call_records.specs.Records.{RecordValue, new_record, with_step, with_sent, with_interrupt_sent, with_taken, with_interrupt_taken, with_released, with_covered, with_epoch, with_closed}
-use Rattle.call_records.specs.Book.{Book, Slot, side_of, slot_at, with_slot, with_change, changed, address_of, packet_of, places_from, comes, answers, closes, sends, takes, told, all_told}
+use Rattle.call_records.specs.Book.{Book, Slot, side_of, slot_at, with_slot, with_change, changed, address_of, calling_from, packet_of, places_from, comes, answers, closes, sends, takes, told, all_told}
 use Rattle.call_records.specs.Closing.{closes_if, closes_present, closed_from, all_closed}
 use Rattle.call_records.specs.Carried.{carried, unless_refused, placed_on}
 use Rattle.call_records.specs.Writes.{Write, all_sent, let_go, written_by, all_written}
@@ -47,7 +47,7 @@ module _ (lines line : ℕ) where
   closes_goes role c x h =
       let own : Book = changed role c with_closed x.own in
       let seen : Book = changed role c with_closed x.seen in
-      let a : Leads lines line x own seen = changed_goes role c with_closed (λ n r. refl) x h in
+      let a : Leads lines line x own seen = changed_goes role c with_closed (λ n o r. (refl, refl)) x h in
       let y : Beside = after lines line x own seen a in
       let placed : IsNumbered (positions line y.owners) (slot_at role c x.own).placed (slot_at role c x.seen).placed =
       subst (λ (s : Slot). IsNumbered (positions line y.owners) s.placed (slot_at role c x.seen).placed) (slot_stays role c (slot_at role c x.own).present with_closed x.own)
@@ -59,37 +59,44 @@ module _ (lines line : ℕ) where
 
   -- ---- calls begin
 
-  adds_and_puts : (x : Beside) (r t : RecordValue) (role : Role) (c : ℕ) (s u : Slot) → IsRight lines line x → t ≡ renumbered (length x.seen.records) r
+  adds_and_puts : (x : Beside) (r t : RecordValue) (caller : Option ℕ) (role : Role) (c : ℕ) (s u : Slot) → IsRight lines line x
+      → t ≡ renumbered (length x.seen.records) caller r → IsNumbered (positions line x.owners) r.caller caller
       → SlotIsSeen (positions line (with_owner line x.owners)) s u
       → Leads lines line x (with_slot role c s (added line x r t).own) (with_slot role c u (added line x r t).seen)
-  adds_and_puts x r t role c s u h is w =
+  adds_and_puts x r t caller role c s u h is came w =
       let y : Beside = added line x r t in
-      let a : Leads lines line x y.own y.seen = record { owners = y.owners; pair_owners = y.pair_owners; is_right = adds_right lines line x r t is h; leaves = adds_leaves lines line x r t h } in
-      then lines line x y.own y.seen (with_slot role c s y.own) (with_slot role c u y.seen) a (puts lines line y role c s u (adds_right lines line x r t is h) w)
+      let a : Leads lines line x y.own y.seen = record { owners = y.owners; pair_owners = y.pair_owners; is_right = adds_right lines line x r t caller is came h; leaves = adds_leaves lines line x r t h } in
+      then lines line x y.own y.seen (with_slot role c s y.own) (with_slot role c u y.seen) a (puts lines line y role c s u (adds_right lines line x r t caller is came h) w)
 
   newest : (x : Beside) → IsRight lines line x → IsNumbered (positions line (with_owner line x.owners)) (Some (length x.own.records)) (Some (length x.seen.records))
   newest x h = last_number line x.owners (length x.own.records) h.line.count ∙ ap (λ (n : ℕ). Some n) h.records_owned
 
-  new_same : (x : Beside) (role : Role) (own far : Option (List ℕ)) → IsRight lines line x
-      → new_record (length x.seen.records) (side_of role x.seen).node own far
-      ≡ renumbered (length x.seen.records) (new_record (length x.own.records) (side_of role x.own).node own far)
-  new_same x role own far h = ap (λ (node : ℕ). new_record (length x.seen.records) node own far) (h.line.sides role).node
+  new_same : (x : Beside) (role : Role) (own far : Option (List ℕ)) (o p : Option ℕ) → IsRight lines line x
+      → new_record (length x.seen.records) (side_of role x.seen).node own far p
+      ≡ renumbered (length x.seen.records) p (new_record (length x.own.records) (side_of role x.own).node own far o)
+  new_same x role own far o p h = ap (λ (node : ℕ). new_record (length x.seen.records) node own far p) (h.line.sides role).node
 
   pub places_goes : (role : Role) (c : ℕ) (calling called : List ℕ) → Goes lines line (places_from role c calling called)
   places_goes role c calling called x h =
-      adds_and_puts x (new_record (length x.own.records) (side_of role x.own).node (address_of calling) (address_of called))
-      (new_record (length x.seen.records) (side_of role x.seen).node (address_of calling) (address_of called)) role c
+      let own : Option (List ℕ) = address_of (calling_from (side_of role x.own).address calling) in
+      let seen : Option (List ℕ) = address_of (calling_from (side_of role x.seen).address calling) in
+      let same : seen ≡ own = ap (λ (address : List ℕ). address_of (calling_from address calling)) (h.line.sides role).address in
+      adds_and_puts x (new_record (length x.own.records) (side_of role x.own).node own (address_of called) None)
+      (new_record (length x.seen.records) (side_of role x.seen).node seen (address_of called) None) None role c
       (record { present = Some (length x.own.records); placed = Some (length x.own.records); caller = None })
-      (record { present = Some (length x.seen.records); placed = Some (length x.seen.records); caller = None }) h (new_same x role (address_of calling) (address_of called) h)
+      (record { present = Some (length x.seen.records); placed = Some (length x.seen.records); caller = None }) h
+      (ap (λ (a : Option (List ℕ)). new_record (length x.seen.records) (side_of role x.seen).node a (address_of called) None) same ∙ new_same x role own (address_of called) None None h) tt
       (record { present = newest x h; placed = newest x h; caller = tt })
 
   pub comes_goes : (role : Role) (c : ℕ) (parts : CallParts) → Goes lines line (comes role c parts)
   comes_goes role c parts x h =
-      adds_and_puts x (new_record (length x.own.records) (side_of role x.own).node (address_of parts.called) (address_of parts.calling))
-      (new_record (length x.seen.records) (side_of role x.seen).node (address_of parts.called) (address_of parts.calling)) role c
+      let mine : Option ℕ = (slot_at (other_of role) c x.own).placed in
+      let seen : Option ℕ = (slot_at (other_of role) c x.seen).placed in
+      adds_and_puts x (new_record (length x.own.records) (side_of role x.own).node (address_of parts.called) (address_of parts.calling) mine)
+      (new_record (length x.seen.records) (side_of role x.seen).node (address_of parts.called) (address_of parts.calling) seen) seen role c
       (record { present = Some (length x.own.records); placed = (slot_at role c x.own).placed; caller = (slot_at (other_of role) c x.own).placed })
       (record { present = Some (length x.seen.records); placed = (slot_at role c x.seen).placed; caller = (slot_at (other_of role) c x.seen).placed })
-      h (new_same x role (address_of parts.called) (address_of parts.calling) h)
+      h (new_same x role (address_of parts.called) (address_of parts.calling) mine seen h) (slot_seen x h (other_of role) c).placed
       (record {
         present = newest x h;
         placed = more_numbered line x.owners (slot_at role c x.own).placed (slot_at role c x.seen).placed (slot_seen x h role c).placed;
@@ -105,17 +112,17 @@ module _ (lines line : ℕ) where
 
   takes_goes : (role : Role) (c : ℕ) (o : Option Taken) → Goes lines line (takes role c o)
   takes_goes role c None x h = no_step lines line x h
-  takes_goes role c (Some (TakenInterrupt octets)) x h = changed_goes role c (with_interrupt_taken octets) (λ n r. refl) x h
-  takes_goes role c (Some (TakenPacket d)) x h = changed_goes role c (with_taken (packet_of d)) (λ n r. refl) x h
+  takes_goes role c (Some (TakenInterrupt octets)) x h = changed_goes role c (with_interrupt_taken octets) (λ n o r. (refl, refl)) x h
+  takes_goes role c (Some (TakenPacket d)) x h = changed_goes role c (with_taken (packet_of d)) (λ n o r. (refl, refl)) x h
 
   sent_goes : (role : Role) (c : ℕ) (ds : List Datum) → Goes lines line (all_sent role c ds)
   sent_goes role c [] x h = no_step lines line x h
   sent_goes role c (d ∷ ds) x h =
-      in_turn x (sends role c d) (all_sent role c ds) h (changed_goes role c (with_sent (packet_of d)) (λ n r. refl)) (sent_goes role c ds)
+      in_turn x (sends role c d) (all_sent role c ds) h (changed_goes role c (with_sent (packet_of d)) (λ n o r. (refl, refl))) (sent_goes role c ds)
 
   let_go_goes : (t : Taken) (role : Role) (c : ℕ) → Goes lines line (let_go t role c)
   let_go_goes (TakenInterrupt octets) role c x h = no_step lines line x h
-  let_go_goes (TakenPacket d) role c x h = changed_goes role c (with_released 1) (λ n r. refl) x h
+  let_go_goes (TakenPacket d) role c x h = changed_goes role c (with_released 1) (λ n o r. (refl, refl)) x h
 
   -- ---- what a packet layer tells
 
@@ -123,9 +130,9 @@ module _ (lines line : ℕ) where
   told_goes role (Incoming c parts) x h = comes_goes role c parts x h
   told_goes role (Connected c) x h = no_step lines line x h
   told_goes role (Closed c cause diagnostic reason) x h = closes_goes role c x h
-  told_goes role (WasReset c cause diagnostic reason) x h = changed_goes role c with_epoch (λ n r. refl) x h
+  told_goes role (WasReset c cause diagnostic reason) x h = changed_goes role c with_epoch (λ n o r. (refl, refl)) x h
   told_goes role (InterruptConfirmed c) x h = no_step lines line x h
-  told_goes role (Covered c count) x h = changed_goes role c (with_covered count) (λ n r. refl) x h
+  told_goes role (Covered c count) x h = changed_goes role c (with_covered count) (λ n o r. (refl, refl)) x h
 
   all_told_goes : (role : Role) (notes : List Note) → Goes lines line (all_told role notes)
   all_told_goes role [] x h = no_step lines line x h
@@ -157,11 +164,11 @@ module _ (lines line : ℕ) where
   carried_goes : (role : Role) (c : ℕ) (r : Request) (front : Option Taken) → Goes lines line (carried role c r front)
   carried_goes role c Accept front x h = answers_goes role c x h
   carried_goes role c (Clearing cause diagnostic) front x h = closes_goes role c x h
-  carried_goes role c (Resetting cause diagnostic) front x h = changed_goes role c with_epoch (λ n r. refl) x h
-  carried_goes role c (Sending d) front x h = changed_goes role c (with_sent (packet_of d)) (λ n r. refl) x h
-  carried_goes role c (Interrupting octets) front x h = changed_goes role c (with_interrupt_sent octets) (λ n r. refl) x h
+  carried_goes role c (Resetting cause diagnostic) front x h = changed_goes role c with_epoch (λ n o r. (refl, refl)) x h
+  carried_goes role c (Sending d) front x h = changed_goes role c (with_sent (packet_of d)) (λ n o r. (refl, refl)) x h
+  carried_goes role c (Interrupting octets) front x h = changed_goes role c (with_interrupt_sent octets) (λ n o r. (refl, refl)) x h
   carried_goes role c Taking front x h = takes_goes role c front x h
-  carried_goes role c (Releasing count) front x h = changed_goes role c (with_released count) (λ n r. refl) x h
+  carried_goes role c (Releasing count) front x h = changed_goes role c (with_released count) (λ n o r. (refl, refl)) x h
   carried_goes role c _ front x h = no_step lines line x h
 
   unless_goes : (refusal : Option Refusal) (write : Book → Book) → Goes lines line write → Goes lines line (λ b. unless_refused refusal (write b) b)
@@ -181,7 +188,7 @@ module _ (lines line : ℕ) where
   write_goes role (Said refusal c ds) x h = unless_goes refusal (all_sent role c ds) (sent_goes role c ds) x h
   write_goes role (Took c t) x h = in_turn x (takes role c (Some t)) (let_go t role c) h (takes_goes role c (Some t)) (let_go_goes t role c)
   write_goes role (Cleared refusal c) x h = unless_goes refusal (closes role c) (closes_goes role c) x h
-  write_goes role (Edited c step) x h = changed_goes role c (with_step step) (λ n r. refl) x h
+  write_goes role (Edited c step) x h = changed_goes role c (with_step step) (λ n o r. (refl, refl)) x h
   write_goes role AllClosed x h = all_closed_goes role x h
 
   pub writes_go : (role : Role) (writes : List Write) → Goes lines line (all_written role writes)

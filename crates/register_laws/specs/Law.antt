@@ -1,5 +1,5 @@
 -- What the register of a network has, whatever is written at its lines.
-use Rattle.std.specs.Prelude.{◌≡◌, ℕ, ◌≤◌, ◌⊎◌, true, List, [], ◌∷◌, set, map, slice_get, Some, is_some}
+use Rattle.std.specs.Prelude.{◌≡◌, ℕ, ◌≤◌, ◌⊎◌, true, List, [], ◌∷◌, set, map, slice_get, Option, Some, is_some}
 use Rattle.link_timers.specs.declared.role.Role.{Role}
 use Rattle.call_records.specs.Records.{RecordValue}
 use Rattle.call_records.specs.Book.{Book, slot_at}
@@ -17,8 +17,14 @@ abbrev pub HaveChannels : List LinePlan → Type 0
 HaveChannels [] = Unit {0}
 HaveChannels (plan ∷ plans) = (plan.standing ≡ true → 1 ≤ plan.channels) × HaveChannels plans
 
+-- no line has an address, as no book of a line has
+abbrev pub HaveNoAddress : List LinePlan → Type 0
+HaveNoAddress [] = Unit {0}
+HaveNoAddress (plan ∷ plans) = (plan.address ≡ []) × HaveNoAddress plans
+
 abbrev pub MadeLaw : Type 0
-MadeLaw = (plans : List LinePlan) → HaveChannels plans → Seen (made_register plans) (map planned_book plans)
+MadeLaw = (plans : List LinePlan) → HaveChannels plans → HaveNoAddress plans
+    → Seen (made_register plans) (map planned_book plans)
 
 -- what is written at a line, in the register and in the line's book alike, leaves the other books seen as they are
 abbrev pub WriteLaw : Type 0
@@ -71,12 +77,13 @@ CalleeLaw = (g : Register) (books : List Book) (line : ℕ) (b : Book) (role : R
     → slice_get books line ≡ Some b → Seen g books
     → HasCallee b role channel → HasCallee (book_at line g) role channel
 
--- a record of the register is one of this book, but for its number
+-- a record of the register is one of this book, but for its number and that of its caller's
 pub record IsOfBook (book : Book) (n : ℕ) (r : RecordValue) : Type 0 where
   pub place : ℕ
   pub own : RecordValue
+  pub caller : Option ℕ
   pub own_there : slice_get book.records place ≡ Some own
-  pub same : r ≡ renumbered n own
+  pub same : r ≡ renumbered n caller own
 
 -- no other line has the node at an end
 abbrev pub IsAtNoOther : (line node : ℕ) → List Book → Type 0

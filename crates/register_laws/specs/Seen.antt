@@ -26,14 +26,16 @@ IsNumbered numbers None None = Unit {0}
 IsNumbered numbers (Some i) (Some n) = slice_get numbers i ≡ Some n
 IsNumbered numbers _ _ = ⊥
 
--- a record of the book is this one of the register, but for its number
-abbrev pub renumbered : (number : ℕ) → RecordValue → RecordValue
-renumbered number r = record r { number = number }
+-- a record of the book is this one of the register, but for its number and that of its caller's
+abbrev pub renumbered : (number : ℕ) → (caller : Option ℕ) → RecordValue → RecordValue
+renumbered number caller r = record r { number = number; caller = caller }
 
-pub record RecordIsSeen (own seen : List RecordValue) (i n : ℕ) : Type 0 where
+pub record RecordIsSeen (numbers : List ℕ) (own seen : List RecordValue) (i n : ℕ) : Type 0 where
   pub value : RecordValue
+  pub caller : Option ℕ
   pub own_there : slice_get own i ≡ Some value
-  pub seen_there : slice_get seen n ≡ Some (renumbered n value)
+  pub seen_there : slice_get seen n ≡ Some (renumbered n caller value)
+  pub numbered : IsNumbered numbers value.caller caller
 
 pub record PairIsSeen (numbers : List ℕ) (own seen : List PairValue) (i n : ℕ) : Type 0 where
   pub own_pair : PairValue
@@ -50,13 +52,14 @@ pub record SlotIsSeen (numbers : List ℕ) (own seen : Slot) : Type 0 where
 
 pub record SideIsSeen (numbers : List ℕ) (own seen : Side) : Type 0 where
   pub node : seen.node ≡ own.node
+  pub address : seen.address ≡ own.address
   pub channels : length seen.slots ≡ length own.slots
   pub slot : (channel : ℕ) → SlotIsSeen numbers (nth_slot own.slots channel) (nth_slot seen.slots channel)
 
 -- `numbers` and `pair_numbers` are the register's numbers of the line's records and pairs, in the order of the book
 pub record LineIsSeen (numbers pair_numbers : List ℕ) (own seen : Book) : Type 0 where
   pub count : length own.records ≡ length numbers
-  pub records : (i n : ℕ) → slice_get numbers i ≡ Some n → RecordIsSeen own.records seen.records i n
+  pub records : (i n : ℕ) → slice_get numbers i ≡ Some n → RecordIsSeen numbers own.records seen.records i n
   pub pair_count : length own.pairs ≡ length pair_numbers
   pub pairs : (i n : ℕ) → slice_get pair_numbers i ≡ Some n → PairIsSeen numbers own.pairs seen.pairs i n
   pub sides : (role : Role) → SideIsSeen numbers (side_of role own) (side_of role seen)

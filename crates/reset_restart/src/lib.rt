@@ -3,8 +3,6 @@
 
 mod reset;
 mod restart;
-#[cfg(test)]
-mod tests;
 
 pub use reset::{ResetEvent, ResetNote, ResetState, ResetStep};
 pub use restart::{RestartNote, RestartState, RestartStep};

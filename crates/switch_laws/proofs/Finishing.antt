@@ -305,7 +305,7 @@ finished_stuck routes n ls w i p j t e f =
 pub begun_right : (ls : List SwitchLine) (w : World) → IsSwitch ls w → Becomes [] ls w (all_begun ls)
 begun_right ls w i = same_ends begun ls w (λ e. refl) i
 
-begun_line : (n : ℕ) (ls : List SwitchLine) (line : SwitchLine) → slice_get (all_begun ls) n ≡ Some line → (old : SwitchLine) × ((slice_get ls n ≡ Some old) × (with_end begun old ≡ line))
+pub begun_line : (n : ℕ) (ls : List SwitchLine) (line : SwitchLine) → slice_get (all_begun ls) n ≡ Some line → (old : SwitchLine) × ((slice_get ls n ≡ Some old) × (with_end begun old ≡ line))
 begun_line n [] line e = absurd (none-some line e)
 begun_line zero (l ∷ ls) line e = (l, (refl, same_Some _ line e))
 begun_line (suc n) (l ∷ ls) line e = begun_line n ls line e

@@ -18,6 +18,7 @@ pub mod Effects
 pub mod Running
 pub mod Turning
 pub mod Finishing
+pub mod NewJoins
 pub mod Relinking
 pub mod Happening
 pub mod Newness

@@ -1,5 +1,6 @@
 -- Heeding a note does not look at the notes that are left.
-use Rattle.std.proofs.Common.{◌≡◌, ℕ, zero, suc, true, false, if◌then◌else◌, List, [], ◌∷◌, ◌<◌, get_or, length, drop, refl, sym, ap, ◌∙◌, arith, Option, Some, None}
+use Rattle.std.proofs.Common.{◌≡◌, ℕ, zero, suc, true, false, if◌then◌else◌, List, [], ◌∷◌, ◌++◌, ◌<◌, get_or, length, drop, refl, sym, ap, ap₂, ◌∙◌, arith, Option, Some, None}
+use Rattle.std.specs.Option.{option_or, option_to_list}
 use Rattle.std.specs.Prelude.{slice_get}
 use Rattle.std.proofs.lemmas.Option.{none-some, same_Some}
 use Rattle.packet_codec.specs.ClearCause.{invalid_facility}
@@ -16,6 +17,7 @@ use Rattle.switch_lines.specs.Lines.{Place, Joined, SwitchLine, changed, joined_
 use Rattle.switch_lines.specs.Relay.{told_joined, told_of, with_kept, freed, kept_anew, covered_on}
 use Rattle.switch_lines.specs.Switch.{Answer, answer, answer_by, answer_on, has_any, forwarded, address_of, place_call, with_join, answered, heed, heed_all, with_end, without_notes, notes_of, notes_heeded, acted, all_begun, quieted}
 use Rattle.switch_lines.specs.Switch.Answer.{Clears, Joins}
+use Rattle.switch_lines.specs.NewJoins.{NewJoin, join_of, joins_of_note, joins_of_notes, joins_heeded}
 use Rattle.switch_lines.specs.OfLine.{notes_on, AreRead}
 use Rattle.switch_lines.proofs.Changing.{there}
 use Rattle.switch_lines.proofs.Places.{fused, same_there, joined_after}
@@ -258,3 +260,40 @@ pub acted_length : (routes : RouteMap) (k : ℕ) (f : PacketEnd → PacketEnd) (
 acted_length routes k f ls =
     let ms = changed k (with_end (λ e. f (quieted e))) ls in
     heeded_length routes k (notes_on ms k) (unnoted k ms) ∙ length_changed k (with_end without_notes) ms ∙ length_changed k (with_end (λ e. f (quieted e))) ls
+
+-- ---- the calls that the notes join
+
+note_unnoted : (routes : RouteMap) (n : ℕ) (x : Note) (ls : List SwitchLine) → joins_of_note routes n x (unnoted n ls) ≡ joins_of_note routes n x ls
+note_unnoted routes n (Incoming c parts) ls = ap (λ (a : Answer). join_of a (record { line = n; channel = c })) (answer_unnoted routes parts n ls)
+note_unnoted routes n _ ls = refl
+
+joined_first : (routes : RouteMap) (n : ℕ) (x : Note) (notes : List Note) (ls : List SwitchLine) → Some x ≡ slice_get notes 0
+    → joins_of_note routes n x ls ++ joins_of_notes routes n (drop 1 notes) (heed routes n x ls) ≡ joins_of_notes routes n notes ls
+joined_first routes n x [] ls e = absurd (none-some x (sym e))
+joined_first routes n x (y ∷ ys) ls e = ap (λ (z : Note). joins_of_note routes n z ls ++ joins_of_notes routes n ys (heed routes n z ls)) (same_Some x y e)
+
+-- that of the first note, and then those of the others
+pub one_joined : (routes : RouteMap) (n : ℕ) (x : Note) (ls : List SwitchLine) → Some x ≡ slice_get (notes_on ls n) 0
+    → joins_of_note routes n x (changed n (with_end without_first_note) ls) ++ joins_heeded routes n (heed routes n x (changed n (with_end without_first_note) ls)) ≡ joins_heeded routes n ls
+one_joined routes n x ls e =
+    let ms = changed n (with_end without_first_note) ls in
+    let calm = calm_heed routes n x in
+    ap₂ (λ (js ks : List NewJoin). js ++ ks)
+    (sym (note_unnoted routes n x ms) ∙ ap (λ (xs : List SwitchLine). joins_of_note routes n x xs) (still_unnoted n ls))
+    (ap (λ (notes : List Note). joins_of_notes routes n notes (unnoted n (heed routes n x ms))) (calm.notes n ms ∙ first_taken n ls)
+    ∙ ap (λ (xs : List SwitchLine). joins_of_notes routes n (drop 1 (notes_on ls n)) xs)
+    (calm.commutes n ms ∙ ap (λ (xs : List SwitchLine). heed routes n x xs) (still_unnoted n ls)))
+    ∙ joined_first routes n x (notes_on ls n) (unnoted n ls) e
+
+pub none_joined : (routes : RouteMap) (n : ℕ) (ls : List SwitchLine) → notes_on ls n ≡ [] → joins_heeded routes n ls ≡ []
+none_joined routes n ls e = ap (λ (notes : List Note). joins_of_notes routes n notes (unnoted n ls)) e
+
+-- the first call, where one or none comes first
+pub first_joined : (o p : Option NewJoin) (js ks all : List NewJoin) → option_to_list p ≡ js → js ++ ks ≡ all → option_or (option_or o p) (slice_get ks 0) ≡ option_or o (slice_get all 0)
+first_joined (Some j) p js ks all e f = refl
+first_joined None None js ks all e f = ap (λ (xs : List NewJoin). slice_get (xs ++ ks) 0) e ∙ ap (λ (xs : List NewJoin). slice_get xs 0) f
+first_joined None (Some j) js ks all e f = ap (λ (xs : List NewJoin). slice_get (xs ++ ks) 0) e ∙ ap (λ (xs : List NewJoin). slice_get xs 0) f
+
+pub or_none : (o : Option NewJoin) → option_or o None ≡ o
+or_none None = refl
+or_none (Some j) = refl

@@ -3,6 +3,7 @@ pub mod Causes
 pub mod Lines
 pub mod Relay
 pub mod Switch
+pub mod NewJoins
 pub mod Alone
 pub mod OfLine
 pub mod Touched

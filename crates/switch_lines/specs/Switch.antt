@@ -2,7 +2,7 @@
 use Rattle.std.specs.Prelude.{ℕ, zero, suc, ◌*◌, Bool, true, false, ◌&&◌, if◌then◌else◌, List, [], ◌∷◌, length, map}
 use Rattle.std.specs.Prelude.{slice_get}
 use Rattle.std.specs.Prelude.{Option, Some, None, is_some}
-use Rattle.std.specs.List.{list_any}
+use Rattle.std.specs.List.{list_any, list_all}
 use Rattle.link_timers.specs.declared.timers.TimerId.{TimerId}
 use Rattle.lapb.specs.Machine.{Octets, can_offer}
 use Rattle.packet_codec.specs.ClearCause.{invalid_facility, not_obtainable, out_of_order, number_busy}
@@ -14,7 +14,7 @@ use Rattle.packet_layer.specs.Layer.{Phase, channel_given, next_packet, unread}
 use Rattle.packet_layer.specs.Layer.Phase.{PacketReady}
 use Rattle.packet_end.specs.PacketEnd.{PacketEnd, begun, received, after_timer, relinked, restarted, called}
 use Rattle.packet_end.specs.PacketEnd.{all_offered}
-use Rattle.packet_end.specs.PacketEnd.{settled, elapsed, runs_at, due, without_first_frame}
+use Rattle.packet_end.specs.PacketEnd.{settled, elapsed, runs_at, due, without_first_frame, at_rest}
 use Rattle.address_routes.specs.Routes.{RouteMap, line_for}
 use Rattle.switch_lines.specs.Direction.{new_direction}
 use Rattle.switch_lines.specs.Lines.{Place, SwitchLine, changed, with_joined, ask}
@@ -225,3 +225,12 @@ without_frame n s = record s { lines = changed n (with_end without_first_frame) 
 abbrev pub due_on : Option SwitchLine → Option TimerId
 due_on None = None
 due_on (Some l) = due l.end
+
+-- ---- at rest
+
+-- its link is up with nothing unacknowledged, nothing is owed, and nothing waits to be sent or to be carried on
+abbrev pub line_rests : SwitchLine → Bool
+line_rests l = at_rest l.end
+
+abbrev pub switch_rests : Switch → Bool
+switch_rests s = list_all line_rests s.lines

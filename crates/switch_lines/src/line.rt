@@ -15,13 +15,14 @@ ghost use Rattle.packet_end.specs.PacketEnd as end;
 ghost use Rattle.packet_end.specs.Timing.{TimersAgree};
 ghost use Rattle.packet_end.specs.declared.fault.EndFault.TheVariants as fault_is;
 ghost use Rattle.switch_lines.specs.Making.{made_line};
-ghost use Rattle.switch_lines.specs.Switch.{with_end, quieted, may_offer, without_joins};
+ghost use Rattle.switch_lines.specs.Switch.{with_end, quieted, may_offer, without_joins, line_rests};
 
 mod joins;
 
 use crate::config::LineConfig;
 use crate::place::JoinPlace;
 use frame_codec::FrameBuf;
+use line_end::MOST_FRAMES;
 use link_timers::{Role, TimerId};
 use packet_codec::{Address, CallData};
 use packet_end::{EndFault, PacketEnd};
@@ -239,11 +240,26 @@ impl SwitchLine {
         self.end.out(frame)
     }
 
+    /// How many frames wait to be taken, at most [`MOST_FRAMES`].
+    pub(crate) fn waiting_frames(&self) -> usize
+        ensures count { result ≡ length self.now.end.line.frames }
+        ensures most { result ≤ MOST_FRAMES }
+    {
+        self.end.waiting_frames()
+    }
+
     /// Lets ticks pass.
     pub(crate) fn elapse(&mut self, ticks: u16)
         ensures { self.new ≡ with_end (λ e. end.elapsed e ticks) self.old }
     {
         self.end.elapse(ticks);
+    }
+
+    /// Whether the link is up with nothing unacknowledged, and no packet waits to be sent or taken.
+    pub(crate) fn is_at_rest(&self) -> bool
+        ensures { result ≡ line_rests self.now }
+    {
+        self.end.is_at_rest()
     }
 
     /// The first timer that runs with no tick left.

@@ -1,5 +1,6 @@
 //! The lines of a switch, and what is asked of their channels.
 ghost use Rattle.std.specs.Prelude.{◌≡◌, ◌≤◌, ◌<◌, ◌∷◌, [], length, map, slice_get, MatchResult};
+ghost use Rattle.std.specs.List.{list_all};
 ghost use Rattle.std.specs.Option.{option_map};
 ghost use Rattle.std.specs.Bool.{OnTrue, OnFalse};
 ghost use Rattle.packet_layer.specs.Channel.{Request as ask_for};
@@ -10,7 +11,7 @@ ghost use Rattle.packet_end.specs.declared.fault.EndFault.TheVariants as fault_i
 ghost use Rattle.switch_lines.specs.Direction.{new_direction, carried, covered_by};
 ghost use Rattle.switch_lines.specs.Making.{IsConfig, made_line};
 ghost use Rattle.switch_lines.specs.Lines.{joined_at, with_joined, ask, front_at, changed};
-ghost use Rattle.switch_lines.specs.Switch.{timer_runs, due_on, frames_on, with_end};
+ghost use Rattle.switch_lines.specs.Switch.{timer_runs, due_on, frames_on, with_end, line_rests};
 ghost use Rattle.switch_lines.specs.OfLine.{kept_at, freed_at, is_taken};
 
 mod calling;
@@ -25,6 +26,7 @@ use crate::line::SwitchLine;
 use crate::place::{Joined, Place};
 use arrayvec::ArrayVec;
 use frame_codec::FrameBuf;
+use line_end::MOST_FRAMES;
 use line_set::LineSet;
 use link_timers::TimerId;
 use packet_end::EndFault;
@@ -104,6 +106,14 @@ impl Lines {
         self.lines[line].due()
     }
 
+    /// Whether all lines are at rest: each link is up with nothing unacknowledged, and no packet waits to be sent or to
+    /// be carried on.
+    pub fn is_at_rest(&self) -> bool
+        ensures { result ≡ list_all line_rests self.now }
+    {
+        self.lines.iter().all(|line| line.is_at_rest())
+    }
+
     /// Takes the next frame that goes out on a line, if there is one.
     pub fn out(&mut self, line: usize, frame: &mut FrameBuf) -> bool
         requires { line < length self.old }
@@ -114,6 +124,15 @@ impl Lines {
         ensures lines { self.new ≡ changed line (with_end without_first_frame) self.old }
     {
         self.lines[line].out(frame)
+    }
+
+    /// How many frames wait to go out on a line, at most [`MOST_FRAMES`].
+    pub fn waiting_frames(&self, line: usize) -> usize
+        requires { line < length self.now }
+        ensures count { result ≡ length (frames_on (slice_get self.now line)) }
+        ensures most { result ≤ MOST_FRAMES }
+    {
+        self.lines[line].waiting_frames()
     }
 
     /// The channel that a channel is joined to, if it is.

@@ -14,6 +14,13 @@ pub struct Place {
     pub channel: u8,
 }
 
+/// A call that was joined: the channel on which it came in, and the one on which it goes on.
+#[derive(Clone, Copy, Debug, PartialEq, Eq)]
+pub struct NewJoin {
+    pub came_in: Place,
+    pub placed: Place,
+}
+
 /// What a channel has whose call is joined to another one: that one, whether the call came in here, and the direction
 /// from here to there.
 #[derive(Drop)]

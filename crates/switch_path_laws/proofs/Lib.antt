@@ -1,5 +1,8 @@
 pub mod Listing
 pub mod Silence
 pub mod Seeing
+pub mod Keeping
+mod Transferring
+mod Resting
 pub mod Events
 pub mod Running

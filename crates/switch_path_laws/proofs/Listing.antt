@@ -1,6 +1,6 @@
--- Books in order, and numbers that stay as origins are added.
-use Rattle.std.specs.Prelude.{◌≡◌, ◌≢◌, ◌⊎◌, ℕ, zero, suc, ◌+◌, ◌<◌, List, [], ◌∷◌, ◌++◌, length, set, slice_get, Option, Some, None}
-use Rattle.std.proofs.Common.{inl, inr, refl, sym, ap, ap₂, subst, ◌∙◌, append_assoc, append-nil, arith}
+-- The books of a switch's lines among all books, and numbers that stay as origins are added.
+use Rattle.std.specs.Prelude.{◌≡◌, ◌≢◌, ◌⊎◌, ℕ, zero, suc, ◌<◌, List, [], ◌∷◌, ◌++◌, length, set, slice_get, Option, Some, None}
+use Rattle.std.proofs.Common.{inl, inr, refl, sym, ap, subst, ◌∙◌, append_assoc, append-nil}
 use Rattle.std.proofs.lemmas.Option.{none-some, same_Some}
 use Rattle.link_timers.specs.declared.role.Role.{Role}
 use Rattle.packet_layer.specs.Packets.{Note}
@@ -9,115 +9,111 @@ use Rattle.packet_laws.specs.Readable.{Every}
 use Rattle.call_records.specs.Book.{Book, told}
 use Rattle.call_records.specs.Writes.{Write, written_by}
 use Rattle.call_records.specs.Writes.Write.{Told, Placed, Asked, Said, Took, Cleared, Edited, AllClosed}
-use Rattle.book_laws.proofs.Basics.{get_before, get_there, number_is}
+use Rattle.book_laws.proofs.Basics.{get_before, get_there, number_is, set_here, set_elsewhere, length_set}
 use Rattle.register_laws.specs.Seen.{positions}
 use Rattle.register_laws.proofs.Positions.{one_here, one_elsewhere}
 use Rattle.switch_record_laws.specs.Written.{Books}
 use Rattle.joined_call_laws.specs.Calls.{JoinedCall}
 use Rattle.call_path_laws.specs.World.{Origin, Join, noted, all_noted, with_placed, traced, all_traced}
-use Rattle.switch_path_laws.specs.Network.{listed_from, listed, lines_of, JoinIs, AreJoins}
+use Rattle.switch_path_laws.specs.Network.{network_line, IsOther, AreAmong, lines_of, JoinIs, AreJoins}
+use Rattle.switch_path_laws.specs.Law.{OthersStay}
 
--- ---- books in order
+-- ---- the books of the switch's lines among all
 
-get_from : (count first k : ℕ) (bs : Books) → k < count → slice_get (listed_from count first bs) k ≡ Some (bs (first + k))
-get_from zero first k bs h = absurd (omega arith)
-get_from (suc count) first zero bs h = let e : first ≡ first + 0 = omega arith in ap (λ (n : ℕ). Some (bs n)) e
-get_from (suc count) first (suc k) bs h =
-    let g : k < count = omega arith in
-    let e : suc first + k ≡ first + suc k = omega arith in
-    get_from count (suc first) k bs g ∙ ap (λ (n : ℕ). Some (bs n)) e
+-- no line is two of the switch's
+abbrev pub AreApart : List ℕ → Type 0
+AreApart at = (m n : ℕ) → m < length at → n < length at → network_line at m ≡ network_line at n → m ≡ n
 
-pub get_listed : (count k : ℕ) (bs : Books) → k < count → slice_get (listed count bs) k ≡ Some (bs k)
-get_listed count k bs h = let e : 0 + k ≡ k = omega arith in get_from count 0 k bs h ∙ ap (λ (n : ℕ). Some (bs n)) e
+pub among_set : (at : List ℕ) (n : ℕ) (bs bs' : Books) (books : List Book) (b : Book) → AreApart at → n < length at → bs' n ≡ b → ((k : ℕ) → k ≢ n → bs' k ≡ bs k) → AreAmong at bs books → AreAmong at bs' (set books (network_line at n) b)
+among_set at n bs bs' books b apart h here others i k g =
+    elim (number_is k n) [
+      | inl is ↦
+          ap (λ (m : ℕ). slice_get (set books (network_line at n) b) (network_line at m)) is
+          ∙ (set_here books (network_line at n) b (bs n) (i n h) ∙ (ap (λ (x : Book). Some x) (sym here) ∙ ap (λ (m : ℕ). Some (bs' m)) (sym is)))
+      | inr ne ↦ set_elsewhere books (network_line at n) (network_line at k) b (λ e. ne (apart k n g h e)) ∙ (i k g ∙ ap (λ (x : Book). Some x) (sym (others k ne)))
+    ]
 
-length_from : (count first : ℕ) (bs : Books) → length (listed_from count first bs) ≡ count
-length_from zero first bs = refl
-length_from (suc count) first bs = ap suc (length_from count (suc first) bs)
+pub among_other : (at : List ℕ) (line : ℕ) (bs : Books) (books : List Book) (b : Book) → IsOther at line → AreAmong at bs books → AreAmong at bs (set books line b)
+among_other at line bs books b other i k g = set_elsewhere books line (network_line at k) b (λ e. other k g e) ∙ i k g
 
-pub length_listed : (count : ℕ) (bs : Books) → length (listed count bs) ≡ count
-length_listed count bs = length_from count 0 bs
+pub among_same : (at : List ℕ) (bs bs' : Books) (books : List Book) → ((k : ℕ) → k < length at → bs' k ≡ bs k) → AreAmong at bs books → AreAmong at bs' books
+among_same at bs bs' books h i k g = i k g ∙ ap (λ (x : Book). Some x) (sym (h k g))
 
-same_from : (count first : ℕ) (bs bs' : Books) → ((k : ℕ) → k < count → bs' (first + k) ≡ bs (first + k)) → listed_from count first bs' ≡ listed_from count first bs
-same_from zero first bs bs' h = refl
-same_from (suc count) first bs bs' h =
-    let zero_less : 0 < suc count = omega arith in
-    let e : first + 0 ≡ first = omega arith in
-    ap₂ (λ (b : Book) (rest : List Book). b ∷ rest) (subst (λ (n : ℕ). bs' n ≡ bs n) e (h 0 zero_less))
-    (same_from count (suc first) bs bs' (λ k g. let f : suc k < suc count = omega arith in let i : first + suc k ≡ suc first + k = omega arith in subst (λ (n : ℕ). bs' n ≡ bs n) i (h (suc k) f)))
+pub others_same : (at : List ℕ) (books : List Book) (traces : List (List Origin)) → OthersStay at books books traces traces
+others_same at books traces = record { count = refl; same = λ line o. refl; same_trace = λ line o. refl }
 
-pub same_listed : (count : ℕ) (bs bs' : Books) → ((k : ℕ) → k < count → bs' k ≡ bs k) → listed count bs' ≡ listed count bs
-same_listed count bs bs' h = same_from count 0 bs bs' (λ k g. let e : k ≡ 0 + k = omega arith in subst (λ (n : ℕ). bs' n ≡ bs n) e (h k g))
+pub others_set : (at : List ℕ) (n : ℕ) (books : List Book) (b : Book) (traces : List (List Origin)) (own : List Origin) → n < length at → OthersStay at books (set books (network_line at n) b) traces (set traces (network_line at n) own)
+others_set at n books b traces own h = record {
+  count = length_set books (network_line at n) b;
+  same = λ line o. set_elsewhere books (network_line at n) line b (λ e. o n h (sym e));
+  same_trace = λ line o. set_elsewhere traces (network_line at n) line own (λ e. o n h (sym e));
+}
 
-set_from : (count first n : ℕ) (bs bs' : Books) → n < count → ((k : ℕ) → k ≢ first + n → bs' k ≡ bs k) → listed_from count first bs' ≡ set (listed_from count first bs) n (bs' (first + n))
-set_from zero first n bs bs' h others = absurd (omega arith)
-set_from (suc count) first zero bs bs' h others =
-    let e : first ≡ first + 0 = omega arith in
-    ap₂ (λ (b : Book) (rest : List Book). b ∷ rest) (ap (λ (n : ℕ). bs' n) e) (same_from count (suc first) bs bs' (λ k g. others (suc first + k) (λ i. let f : suc first + k ≡ first + 0 = i in absurd (omega arith))))
-set_from (suc count) first (suc n) bs bs' h others =
-    let g : n < count = omega arith in
-    let e : suc first + n ≡ first + suc n = omega arith in
-    ap₂ (λ (b : Book) (rest : List Book). b ∷ rest) (others first (λ i. let f : first ≡ first + suc n = i in absurd (omega arith)))
-    (set_from count (suc first) n bs bs' g (λ k ne. others k (λ i. ne (i ∙ sym e))) ∙ ap (λ (k : ℕ). set (listed_from count (suc first) bs) n (bs' k)) e)
-
-pub listed_set : (count n : ℕ) (bs bs' : Books) → n < count → ((k : ℕ) → k ≢ n → bs' k ≡ bs k) → listed count bs' ≡ set (listed count bs) n (bs' n)
-listed_set count n bs bs' h others =
-    let e : 0 + n ≡ n = omega arith in
-    set_from count 0 n bs bs' h (λ k ne. others k (λ i. ne (i ∙ sym e))) ∙ ap (λ (k : ℕ). set (listed count bs) n (bs' k)) e
+pub others_then : (at : List ℕ) (as_ bs cs : List Book) (us vs ws : List (List Origin)) → OthersStay at as_ bs us vs → OthersStay at bs cs vs ws → OthersStay at as_ cs us ws
+others_then at as_ bs cs us vs ws p q = record {
+  count = q.count ∙ p.count;
+  same = λ line o. q.same line o ∙ p.same line o;
+  same_trace = λ line o. q.same_trace line o ∙ p.same_trace line o;
+}
 
 -- ---- origins are added behind those that are there
 
-pub record Grows (role : Role) (os ps : List Origin) : Type 0 where
+-- it is made at this end of a line
+abbrev pub IsAt : (line : ℕ) → Role → Origin → Type 0
+IsAt line role o = (o.line ≡ line) × (o.role ≡ role)
+
+pub record Grows (line : ℕ) (role : Role) (os ps : List Origin) : Type 0 where
   pub more : List Origin
   pub is : ps ≡ os ++ more
-  pub roles : Every (λ o. o.role ≡ role) more
+  pub ends : Every (IsAt line role) more
 
-grows_not : (role : Role) (os : List Origin) → Grows role os os
-grows_not role os = record { more = []; is = sym (append-nil os); roles = tt }
+grows_not : (line : ℕ) (role : Role) (os : List Origin) → Grows line role os os
+grows_not line role os = record { more = []; is = sym (append-nil os); ends = tt }
 
-pub grows_one : (role : Role) (os : List Origin) (o : Origin) → o.role ≡ role → Grows role os (os ++ o ∷ [])
-grows_one role os o e = record { more = o ∷ []; is = refl; roles = (e, tt) }
+pub grows_one : (line : ℕ) (role : Role) (os : List Origin) (o : Origin) → IsAt line role o → Grows line role os (os ++ o ∷ [])
+grows_one line role os o e = record { more = o ∷ []; is = refl; ends = (e, tt) }
 
 every_both : (P : Origin → Type 0) (xs ys : List Origin) → Every P xs → Every P ys → Every P (xs ++ ys)
 every_both P [] ys p q = q
 every_both P (x ∷ xs) ys p q = (p.0, every_both P xs ys p.1 q)
 
-grows_then : (role : Role) (os ps qs : List Origin) → Grows role os ps → Grows role ps qs → Grows role os qs
-grows_then role os ps qs a b = record {
+grows_then : (line : ℕ) (role : Role) (os ps qs : List Origin) → Grows line role os ps → Grows line role ps qs → Grows line role os qs
+grows_then line role os ps qs a b = record {
   more = a.more ++ b.more;
   is = b.is ∙ (ap (λ (xs : List Origin). xs ++ b.more) a.is ∙ append_assoc os a.more b.more);
-  roles = every_both (λ o. o.role ≡ role) a.more b.more a.roles b.roles;
+  ends = every_both (IsAt line role) a.more b.more a.ends b.ends;
 }
 
-note_grows : (line : ℕ) (role : Role) (note : Note) (b : Book) (os : List Origin) → Grows role os (noted line role note b os)
-note_grows line role (Incoming c parts) b os = grows_one role os _ refl
-note_grows line role (Connected c) b os = grows_not role os
-note_grows line role (Closed c cause diagnostic reason) b os = grows_not role os
-note_grows line role (WasReset c cause diagnostic reason) b os = grows_not role os
-note_grows line role (InterruptConfirmed c) b os = grows_not role os
-note_grows line role (Covered c k) b os = grows_not role os
+note_grows : (line : ℕ) (role : Role) (note : Note) (b : Book) (os : List Origin) → Grows line role os (noted line role note b os)
+note_grows line role (Incoming c parts) b os = grows_one line role os _ (refl, refl)
+note_grows line role (Connected c) b os = grows_not line role os
+note_grows line role (Closed c cause diagnostic reason) b os = grows_not line role os
+note_grows line role (WasReset c cause diagnostic reason) b os = grows_not line role os
+note_grows line role (InterruptConfirmed c) b os = grows_not line role os
+note_grows line role (Covered c k) b os = grows_not line role os
 
-notes_grow : (line : ℕ) (role : Role) (notes : List Note) (b : Book) (os : List Origin) → Grows role os (all_noted line role notes b os)
-notes_grow line role [] b os = grows_not role os
+notes_grow : (line : ℕ) (role : Role) (notes : List Note) (b : Book) (os : List Origin) → Grows line role os (all_noted line role notes b os)
+notes_grow line role [] b os = grows_not line role os
 notes_grow line role (note ∷ notes) b os =
-    grows_then role os (noted line role note b os) _ (note_grows line role note b os) (notes_grow line role notes (told role note b) (noted line role note b os))
+    grows_then line role os (noted line role note b os) _ (note_grows line role note b os) (notes_grow line role notes (told role note b) (noted line role note b os))
 
-placed_grows : (line : ℕ) (role : Role) (o : Option ℕ) (os : List Origin) → Grows role os (with_placed line role o os)
-placed_grows line role None os = grows_not role os
-placed_grows line role (Some c) os = grows_one role os _ refl
+placed_grows : (line : ℕ) (role : Role) (o : Option ℕ) (os : List Origin) → Grows line role os (with_placed line role o os)
+placed_grows line role None os = grows_not line role os
+placed_grows line role (Some c) os = grows_one line role os _ (refl, refl)
 
-write_grows : (line : ℕ) (role : Role) (w : Write) (b : Book) (os : List Origin) → Grows role os (traced line role w b os)
+write_grows : (line : ℕ) (role : Role) (w : Write) (b : Book) (os : List Origin) → Grows line role os (traced line role w b os)
 write_grows line role (Told notes) b os = notes_grow line role notes b os
 write_grows line role (Placed o parts) b os = placed_grows line role o os
-write_grows line role (Asked o c q f) b os = grows_not role os
-write_grows line role (Said o c ds) b os = grows_not role os
-write_grows line role (Took c t) b os = grows_not role os
-write_grows line role (Cleared o c) b os = grows_not role os
-write_grows line role (Edited c step) b os = grows_not role os
-write_grows line role AllClosed b os = grows_not role os
+write_grows line role (Asked o c q f) b os = grows_not line role os
+write_grows line role (Said o c ds) b os = grows_not line role os
+write_grows line role (Took c t) b os = grows_not line role os
+write_grows line role (Cleared o c) b os = grows_not line role os
+write_grows line role (Edited c step) b os = grows_not line role os
+write_grows line role AllClosed b os = grows_not line role os
 
-pub writes_grow : (line : ℕ) (role : Role) (ws : List Write) (b : Book) (os : List Origin) → Grows role os (all_traced line role ws b os)
-writes_grow line role [] b os = grows_not role os
-writes_grow line role (w ∷ ws) b os = grows_then role os (traced line role w b os) _ (write_grows line role w b os) (writes_grow line role ws (written_by role w b) (traced line role w b os))
+pub writes_grow : (line : ℕ) (role : Role) (ws : List Write) (b : Book) (os : List Origin) → Grows line role os (all_traced line role ws b os)
+writes_grow line role [] b os = grows_not line role os
+writes_grow line role (w ∷ ws) b os = grows_then line role os (traced line role w b os) _ (write_grows line role w b os) (writes_grow line role ws (written_by role w b) (traced line role w b os))
 
 -- an origin of these was there, or is one of those that were added
 before_or_more : (P : Origin → Type 0) (os more : List Origin) (a : ℕ) (o : Origin) → Every P more → slice_get (os ++ more) a ≡ Some o → (slice_get os a ≡ Some o) ⊎ P o
@@ -127,11 +123,11 @@ before_or_more P [] (x ∷ more) (suc a) o h e = elim (before_or_more P [] more 
 before_or_more P (x ∷ os) more zero o h e = inl e
 before_or_more P (x ∷ os) more (suc a) o h e = before_or_more P os more a o h e
 
-pub old_or_new : (role : Role) (os ps : List Origin) (a : ℕ) (o : Origin) → Grows role os ps → slice_get ps a ≡ Some o → (slice_get os a ≡ Some o) ⊎ (o.role ≡ role)
-old_or_new role os ps a o g e = before_or_more (λ x. x.role ≡ role) os g.more a o g.roles (ap (λ (xs : List Origin). slice_get xs a) (sym g.is) ∙ e)
+pub old_or_new : (line : ℕ) (role : Role) (os ps : List Origin) (a : ℕ) (o : Origin) → Grows line role os ps → slice_get ps a ≡ Some o → (slice_get os a ≡ Some o) ⊎ IsAt line role o
+old_or_new line role os ps a o g e = before_or_more (IsAt line role) os g.more a o g.ends (ap (λ (xs : List Origin). slice_get xs a) (sym g.is) ∙ e)
 
-pub old_origin : (role : Role) (os ps : List Origin) (a : ℕ) (o : Origin) → Grows role os ps → a < length os → slice_get ps a ≡ Some o → slice_get os a ≡ Some o
-old_origin role os ps a o g h e =
+pub old_origin : (line : ℕ) (role : Role) (os ps : List Origin) (a : ℕ) (o : Origin) → Grows line role os ps → a < length os → slice_get ps a ≡ Some o → slice_get os a ≡ Some o
+old_origin line role os ps a o g h e =
     let x = get_there os a h in
     x.1 ∙ (sym (get_before os g.more a x.0 x.1) ∙ (ap (λ (xs : List Origin). slice_get xs a) (sym g.is) ∙ e))
 
@@ -153,9 +149,9 @@ lines_then : (os ps : List Origin) → lines_of (os ++ ps) ≡ lines_of os ++ li
 lines_then [] ps = refl
 lines_then (o ∷ os) ps = ap (λ (xs : List ℕ). o.line ∷ xs) (lines_then os ps)
 
-pub numbers_stay : (role : Role) (os ps : List Origin) (line i n : ℕ) → Grows role os ps → slice_get (positions line (lines_of os)) i ≡ Some n → slice_get (positions line (lines_of ps)) i ≡ Some n
-numbers_stay role os ps line i n g e =
-    ap (λ (xs : List ℕ). slice_get (positions line xs) i) (ap lines_of g.is ∙ lines_then os g.more) ∙ positions_more line (lines_of os) (lines_of g.more) i n e
+pub numbers_stay : (line : ℕ) (role : Role) (os ps : List Origin) (k i n : ℕ) → Grows line role os ps → slice_get (positions k (lines_of os)) i ≡ Some n → slice_get (positions k (lines_of ps)) i ≡ Some n
+numbers_stay line role os ps k i n g e =
+    ap (λ (xs : List ℕ). slice_get (positions k xs) i) (ap lines_of g.is ∙ lines_then os g.more) ∙ positions_more k (lines_of os) (lines_of g.more) i n e
 
 pub lines_last : (os : List Origin) (o : Origin) → lines_of (os ++ o ∷ []) ≡ lines_of os ++ o.line ∷ []
 lines_last os o = lines_then os (o ∷ [])
@@ -166,33 +162,39 @@ lines_length (o ∷ os) = ap suc (lines_length os)
 
 -- ---- joins
 
-pub joins_stay : (role : Role) (os ps : List Origin) (cs : List JoinedCall) (js : List Join) → Grows role os ps → AreJoins os cs js → AreJoins ps cs js
-joins_stay role os ps [] [] g a = tt
-joins_stay role os ps (c ∷ cs) (j ∷ js) g a = (record { near = numbers_stay role os ps c.near.line c.came_in j.came_in g a.0.near; far = numbers_stay role os ps c.far.line c.placed j.placed g a.0.far }, joins_stay role os ps cs js g a.1)
-joins_stay role os ps [] (j ∷ js) g a = absurd a
-joins_stay role os ps (c ∷ cs) [] g a = absurd a
+pub joins_stay : (at : List ℕ) (line : ℕ) (role : Role) (os ps : List Origin) (cs : List JoinedCall) (js : List Join) → Grows line role os ps → AreJoins at os cs js → AreJoins at ps cs js
+joins_stay at line role os ps [] [] g a = tt
+joins_stay at line role os ps (c ∷ cs) (j ∷ js) g a = (
+  record {
+    near = (a.0.near.0, numbers_stay line role os ps (network_line at c.near.line) c.came_in j.came_in g a.0.near.1);
+    far = (a.0.far.0, numbers_stay line role os ps (network_line at c.far.line) c.placed j.placed g a.0.far.1);
+  },
+  joins_stay at line role os ps cs js g a.1,
+)
+joins_stay at line role os ps [] (j ∷ js) g a = absurd a
+joins_stay at line role os ps (c ∷ cs) [] g a = absurd a
 
-pub joins_last : (os : List Origin) (cs : List JoinedCall) (js : List Join) (c : JoinedCall) (j : Join) → AreJoins os cs js → JoinIs os c j → AreJoins os (cs ++ c ∷ []) (js ++ j ∷ [])
-joins_last os [] [] c j a i = (i, tt)
-joins_last os (d ∷ cs) (k ∷ js) c j a i = (a.0, joins_last os cs js c j a.1 i)
-joins_last os [] (k ∷ js) c j a i = absurd a
-joins_last os (d ∷ cs) [] c j a i = absurd a
+pub joins_last : (at : List ℕ) (os : List Origin) (cs : List JoinedCall) (js : List Join) (c : JoinedCall) (j : Join) → AreJoins at os cs js → JoinIs at os c j → AreJoins at os (cs ++ c ∷ []) (js ++ j ∷ [])
+joins_last at os [] [] c j a i = (i, tt)
+joins_last at os (d ∷ cs) (k ∷ js) c j a i = (a.0, joins_last at os cs js c j a.1 i)
+joins_last at os [] (k ∷ js) c j a i = absurd a
+joins_last at os (d ∷ cs) [] c j a i = absurd a
 
 -- the joined call of a join, of which something holds
-pub record Found (P : JoinedCall → Type 0) (os : List Origin) (j : Join) : Type 0 where
+pub record Found (P : JoinedCall → Type 0) (at : List ℕ) (os : List Origin) (j : Join) : Type 0 where
   pub call : JoinedCall
-  pub is : JoinIs os call j
+  pub is : JoinIs at os call j
   pub holds : P call
 
-pub join_found : (P : JoinedCall → Type 0) (os : List Origin) (cs : List JoinedCall) (js : List Join) (k : ℕ) (j : Join) → AreJoins os cs js → Every P cs → slice_get js k ≡ Some j → Found P os j
-join_found P os [] [] k j a h e = absurd (none-some j e)
-join_found P os (c ∷ cs) (i ∷ js) zero j a h e = record { call = c; is = subst (λ (x : Join). JoinIs os c x) (same_Some i j e) a.0; holds = h.0 }
-join_found P os (c ∷ cs) (i ∷ js) (suc k) j a h e = join_found P os cs js k j a.1 h.1 e
-join_found P os [] (i ∷ js) k j a h e = absurd a
-join_found P os (c ∷ cs) [] k j a h e = absurd a
+pub join_found : (P : JoinedCall → Type 0) (at : List ℕ) (os : List Origin) (cs : List JoinedCall) (js : List Join) (k : ℕ) (j : Join) → AreJoins at os cs js → Every P cs → slice_get js k ≡ Some j → Found P at os j
+join_found P at os [] [] k j a h e = absurd (none-some j e)
+join_found P at os (c ∷ cs) (i ∷ js) zero j a h e = record { call = c; is = subst (λ (x : Join). JoinIs at os c x) (same_Some i j e) a.0; holds = h.0 }
+join_found P at os (c ∷ cs) (i ∷ js) (suc k) j a h e = join_found P at os cs js k j a.1 h.1 e
+join_found P at os [] (i ∷ js) k j a h e = absurd a
+join_found P at os (c ∷ cs) [] k j a h e = absurd a
 
-pub join_at : (os : List Origin) (cs : List JoinedCall) (js : List Join) (k : ℕ) (c : JoinedCall) → AreJoins os cs js → slice_get cs k ≡ Some c → (j : Join) × ((slice_get js k ≡ Some j) × JoinIs os c j)
-join_at os [] js k c a e = absurd (none-some c e)
-join_at os (d ∷ cs) (j ∷ js) zero c a e = (j, (refl, subst (λ (x : JoinedCall). JoinIs os x j) (same_Some d c e) a.0))
-join_at os (d ∷ cs) (j ∷ js) (suc k) c a e = join_at os cs js k c a.1 e
-join_at os (d ∷ cs) [] k c a e = absurd a
+pub join_at : (at : List ℕ) (os : List Origin) (cs : List JoinedCall) (js : List Join) (k : ℕ) (c : JoinedCall) → AreJoins at os cs js → slice_get cs k ≡ Some c → (j : Join) × ((slice_get js k ≡ Some j) × JoinIs at os c j)
+join_at at os [] js k c a e = absurd (none-some c e)
+join_at at os (d ∷ cs) (j ∷ js) zero c a e = (j, (refl, subst (λ (x : JoinedCall). JoinIs at os x j) (same_Some d c e) a.0))
+join_at at os (d ∷ cs) (j ∷ js) (suc k) c a e = join_at at os cs js k c a.1 e
+join_at at os (d ∷ cs) [] k c a e = absurd a

@@ -1,6 +1,6 @@
 -- What the register has stays over what is written at the switch's ends, and over the joins of calls.
 use Rattle.std.specs.Prelude.{◌≡◌, ◌≢◌, ℕ, zero, suc, ◌<◌, ◌⊎◌, Bool, true, false, not, if◌then◌else◌, List, [], ◌∷◌, ◌++◌, length, set, slice_get, Option, Some, None}
-use Rattle.std.proofs.Common.{inl, inr, refl, sym, ap, ap₂, subst, ◌∙◌, arith, option_map, append_assoc}
+use Rattle.std.proofs.Common.{inl, inr, refl, sym, ap, ap₂, subst, ◌∙◌, true≢false, arith, option_map, append_assoc}
 use Rattle.std.proofs.lemmas.Option.{none-some, same_Some, slice_get_within}
 use Rattle.std.proofs.lemmas.Bool.{eq-eqb}
 use Rattle.link_timers.specs.declared.role.Role.{Role}
@@ -41,7 +41,8 @@ use Rattle.switch_record_laws.proofs.Notes.{TouchesOne}
 use Rattle.switch_record_laws.proofs.Partner.{writes_keep}
 use Rattle.packet_layer.specs.Traffic.{Taken}
 use Rattle.joined_call_laws.proofs.Closing.{if_apart, records_at}
-use Rattle.call_path_laws.specs.World.{Origin, Join, World, Plan, Event, after_event, MayHappen, IsSwitchEnd, AllPlaceNone, all_traced, calling_on, with_join}
+use Rattle.call_path_laws.specs.World as path
+use Rattle.call_path_laws.specs.World.{Origin, placing, Join, World, Plan, Event, after_event, MayHappen, IsSwitchEnd, AllPlaceNone, all_traced, calling_on, with_join}
 use Rattle.call_path_laws.specs.World.Event.{Writes, SwitchWrites, Joins}
 use Rattle.call_path_laws.specs.Seen.{Seen, IsJoined}
 use Rattle.call_path_laws.specs.Lines.{LinesSeen}
@@ -49,47 +50,47 @@ use Rattle.call_path_laws.specs.Forwards.{Forwards}
 use Rattle.call_path_laws.proofs.Happening.{happens}
 use Rattle.call_path_laws.proofs.Tracing.{traced}
 use Rattle.call_path_laws.proofs.Forwarding.{stays_handed_on}
-use Rattle.switch_path_laws.specs.Network.{listed, place_at, handed_on, all_handed, lines_of, JoinIs, AreJoins, IsInJoin, SendsOnJoins, IsSeen}
-use Rattle.switch_path_laws.proofs.Listing.{get_listed, length_listed, same_listed, listed_set, Grows, writes_grow, grows_one, old_or_new, old_origin, join_at, numbers_stay, lines_last, lines_length, joins_stay, joins_last, join_found}
+use Rattle.switch_path_laws.specs.Network.{network_line, AreAmong, handed_on, all_handed, lines_of, JoinIs, AreJoins, IsInJoin, SendsOnJoins, IsSeen}
+use Rattle.switch_path_laws.specs.Law.{OthersStay}
+use Rattle.switch_path_laws.proofs.Listing.{AreApart, among_set, among_same, others_same, others_set, others_then, IsAt, Grows, writes_grow, grows_one, old_or_new, old_origin, join_at, numbers_stay, lines_last, lines_length, joins_stay, joins_last, join_found}
 
 -- ---- a line of the whole register
 
-line_count : (plan : Plan) (count : ℕ) (bs : Books) (cs : List JoinedCall) (w : World) (traces : List (List Origin)) → IsSeen plan count bs cs w traces → length w.whole.lines ≡ count
-line_count plan count bs cs w traces i = i.lines.seen.lines ∙ length_listed count bs
+pub line_there : (plan : Plan) (at : List ℕ) (n : ℕ) (bs : Books) (cs : List JoinedCall) (books : List Book) (w : World) (traces : List (List Origin)) → n < length at → IsSeen plan at bs cs books w traces → network_line at n < length w.whole.lines
+line_there plan at n bs cs books w traces h i = subst (λ (k : ℕ). network_line at n < k) (sym i.lines.seen.lines) (slice_get_within books (network_line at n) (bs n) (i.among n h))
 
-pub own_trace : (plan : Plan) (count n : ℕ) (bs : Books) (cs : List JoinedCall) (w : World) (traces : List (List Origin)) → n < count → IsSeen plan count bs cs w traces → (own : List Origin) × (slice_get traces n ≡ Some own)
-own_trace plan count n bs cs w traces h i = get_there traces n (subst (λ (k : ℕ). n < k) (sym (i.lines.count ∙ length_listed count bs)) h)
+pub own_trace : (books : List Book) (line : ℕ) (b : Book) (g : Register) (origins : List Origin) (traces : List (List Origin)) → slice_get books line ≡ Some b → LinesSeen g origins books traces → (own : List Origin) × (slice_get traces line ≡ Some own)
+own_trace books line b g origins traces e i = get_there traces line (subst (λ (k : ℕ). line < k) (sym i.count) (slice_get_within books line b e))
 
--- the whole register has what the book of a line has
-pub record OnLine (n : ℕ) (b : Book) (w : World) : Type 0 where
-  pub seen : LineIsSeen (positions n (lines_of w.origins)) (positions n (lines_of w.origins)) b (book_at n w.whole)
+abbrev place_at : (at : List ℕ) → Place → path.Place
+place_at at p = record { line = network_line at p.line; role = Dce; channel = p.channel }
 
-pub line_seen : (plan : Plan) (count n : ℕ) (bs : Books) (cs : List JoinedCall) (w : World) (traces : List (List Origin)) → n < count → (i : IsSeen plan count bs cs w traces)
-    → LineIsSeen (positions n (lines_of w.origins)) (positions n i.lines.seen.pair_owners) (bs n) (book_at n w.whole)
-line_seen plan count n bs cs w traces h i =
-    let own = own_trace plan count n bs cs w traces h i in
-    subst (λ (owners : List ℕ). LineIsSeen (positions n owners) (positions n i.lines.seen.pair_owners) (bs n) (book_at n w.whole)) (i.lines.lines n own.0 own.1).owners_are
-    (i.lines.seen.line n (bs n) (get_listed count n bs h))
+pub line_seen : (plan : Plan) (at : List ℕ) (n : ℕ) (bs : Books) (cs : List JoinedCall) (books : List Book) (w : World) (traces : List (List Origin)) → n < length at → (i : IsSeen plan at bs cs books w traces)
+    → LineIsSeen (positions (network_line at n) (lines_of w.origins)) (positions (network_line at n) i.lines.seen.pair_owners) (bs n) (book_at (network_line at n) w.whole)
+line_seen plan at n bs cs books w traces h i =
+    let line = network_line at n in
+    let own = own_trace books line (bs n) w.whole w.origins traces (i.among n h) i.lines in
+    subst (λ (owners : List ℕ). LineIsSeen (positions line owners) (positions line i.lines.seen.pair_owners) (bs n) (book_at line w.whole)) (i.lines.lines line own.0 own.1).owners_are
+    (i.lines.seen.line line (bs n) (i.among n h))
 
--- ---- what is written at an end of a line
-
-event_lines : (plan : Plan) (count n : ℕ) (role : Role) (ws : List Write) (bs bs' : Books) (cs : List JoinedCall) (w : World) (traces : List (List Origin)) → n < count → bs' n ≡ all_written role ws (bs n) → ((k : ℕ) → k ≢ n → bs' k ≡ bs k)
-    → IsSeen plan count bs cs w traces
-    → (traces' : List (List Origin)) × LinesSeen (all_written_at n role ws w.whole) (all_traced n role ws (book_at n w.whole) w.origins) (listed count bs') traces'
-event_lines plan count n role ws bs bs' cs w traces h here others i =
-    let own = own_trace plan count n bs cs w traces h i in (
-      set traces n (all_traced n role ws (bs n) own.0),
-      subst (λ (books : List Book). LinesSeen (all_written_at n role ws w.whole) (all_traced n role ws (book_at n w.whole) w.origins) books (set traces n (all_traced n role ws (bs n) own.0)))
-          (sym (listed_set count n bs bs' h others ∙ ap (λ (b : Book). set (listed count bs) n b) here))
-          (traced w.whole w.origins (listed count bs) traces n (bs n) own.0 role ws (get_listed count n bs h) own.1 i.lines),
-    )
-
--- the register after it, with what it was before
-pub record Moved (plan : Plan) (count : ℕ) (bs : Books) (cs : List JoinedCall) (register : Register) : Type 0 where
+-- the register after what is written, with what it is then and with the books before it
+pub record Moved (plan : Plan) (at : List ℕ) (bs : Books) (cs : List JoinedCall) (old : List Book) (old_traces : List (List Origin)) (register : Register) : Type 0 where
+  pub books : List Book
   pub world : World
   pub traces : List (List Origin)
-  pub is : IsSeen plan count bs cs world traces
+  pub is : IsSeen plan at bs cs books world traces
   pub same : world.register ≡ register
+  pub others : OthersStay at old books old_traces traces
+
+pub moved_then : (plan : Plan) (at : List ℕ) (bs bs' : Books) (cs cs' : List JoinedCall) (old : List Book) (old_traces : List (List Origin)) (f g h : Register) → (m : Moved plan at bs cs old old_traces f) → Moved plan at bs' cs' m.books m.traces g → g ≡ h → Moved plan at bs' cs' old old_traces h
+moved_then plan at bs bs' cs cs' old old_traces f g h m x e = record {
+  books = x.books;
+  world = x.world;
+  traces = x.traces;
+  is = x.is;
+  same = x.same ∙ e;
+  others = others_then at old m.books x.books old_traces m.traces x.traces m.others x.others;
+}
 
 -- ---- what the switch sent
 
@@ -101,107 +102,134 @@ in_more js j a (inl x) = inl (x.0, joined_more js j a x.0 x.1)
 in_more js j a (inr x) = inr (x.0, joined_more js j x.0 a x.1)
 
 -- where what was sent is as it was
-silent_sends : (w v : World) (b : Book) → length w.origins ≡ length w.whole.records → Grows Dce w.origins v.origins → ((r : RecordValue) (a : ℕ) → slice_get v.whole.records a ≡ Some r
-    → ((x : RecordValue) × ((slice_get w.whole.records a ≡ Some x) × (SentNothing x → SentNothing r))) ⊎ SentNothing r) → ((a : ℕ) → IsInJoin w.joins a → IsInJoin v.joins a) → SendsOnJoins w → SendsOnJoins v
-silent_sends w v b count g silent more s a o r at dce there =
+silent_sends : (plan : Plan) (line : ℕ) (w v : World) → length w.origins ≡ length w.whole.records → Grows line Dce w.origins v.origins → ((r : RecordValue) (a : ℕ) → slice_get v.whole.records a ≡ Some r
+    → ((x : RecordValue) × ((slice_get w.whole.records a ≡ Some x) × (SentNothing x → SentNothing r))) ⊎ SentNothing r) → ((a : ℕ) → IsInJoin w.joins a → IsInJoin v.joins a) → SendsOnJoins plan w → SendsOnJoins plan v
+silent_sends plan line w v count g silent more s a o r made switch there =
     elim (silent r a there) [
       | inl x ↦
           (let within : a < length w.origins = subst (λ (n : ℕ). a < n) (sym count) (slice_get_within w.whole.records a x.0 x.1.0) in
-          elim (s a o x.0 (old_origin Dce w.origins v.origins a o g within at) dce x.1.0) [ inl h ↦ inl (x.1.1 h) | inr h ↦ inr (more a h) ])
+          elim (s a o x.0 (old_origin line Dce w.origins v.origins a o g within made) switch x.1.0) [ inl h ↦ inl (x.1.1 h) | inr h ↦ inr (more a h) ])
       | inr h ↦ inl h
     ]
 
--- what is written at the other end leaves the records of the switch's
-record Theirs (a : ℕ) (r : RecordValue) (b : Book) : Type 0 where
+-- what is written at an end leaves the records that are not present there
+record Theirs (role : Role) (a : ℕ) (r : RecordValue) (b : Book) : Type 0 where
   pub there : slice_get b.records a ≡ Some r
-  pub absent : (c : ℕ) → (slot_at Dte c b).present ≡ Some a → ⊥
+  pub absent : (c : ℕ) → (slot_at role c b).present ≡ Some a → ⊥
 
-theirs_stay : (ws : List Write) (a : ℕ) (r : RecordValue) (b : Book) → Theirs a r b → Theirs a r (all_written Dte ws b)
-theirs_stay ws a r b i = writes_keep (λ (y : Book). Theirs a r y) Dte (λ y z t h. one y z t h) ws b i
+theirs_stay : (role : Role) (ws : List Write) (a : ℕ) (r : RecordValue) (b : Book) → Theirs role a r b → Theirs role a r (all_written role ws b)
+theirs_stay role ws a r b i = writes_keep (λ (y : Book). Theirs role a r y) role (λ y z t h. one y z t h) ws b i
   where
-    one : (y z : Book) → TouchesOne Dte y z → Theirs a r y → Theirs a r z
+    one : (y z : Book) → TouchesOne role y z → Theirs role a r y → Theirs role a r z
     one y z t h = record {
       there = t.touches.kept a r h.there (λ e. h.absent t.channel e);
-      absent = λ c e. elim (here_or_not Dte t.channel Dte c) [
-        | inl is ↦ elim (t.touches.here a (ap (λ (k : ℕ). (slot_at Dte k z).present) (sym is.1) ∙ e)) [
+      absent = λ c e. elim (here_or_not role t.channel role c) [
+        | inl is ↦ elim (t.touches.here a (ap (λ (k : ℕ). (slot_at role k z).present) (sym is.1) ∙ e)) [
           | inl f ↦ h.absent t.channel f
           | inr new ↦ (let p = new.0 in let q = got_below y.records a r h.there in absurd (omega arith))
         ]
-        | inr no_ ↦ h.absent c (sym (t.touches.slots Dte c no_) ∙ e)
+        | inr no_ ↦ h.absent c (sym (t.touches.slots role c no_) ∙ e)
       ];
     }
 
-user_sends : (plan : Plan) (n : ℕ) (ws : List Write) (w v : World) → n < length w.whole.lines → Seen plan w → Grows Dte w.origins v.origins → v.whole ≡ all_written_at n Dte ws w.whole → v.joins ≡ w.joins → SendsOnJoins w → SendsOnJoins v
-user_sends plan n ws w v h seen g whole joins s a o r at dce there =
-    elim (old_or_new Dte w.origins v.origins a o g at) [
-      | inr dte ↦ absurd (not_both (sym dce ∙ dte))
+user_sends : (plan : Plan) (line : ℕ) (role : Role) (ws : List Write) (w v : World) → line < length w.whole.lines → plan.has_user line role ≡ true → Seen plan w → Grows line role w.origins v.origins → v.whole ≡ all_written_at line role ws w.whole → v.joins ≡ w.joins
+    → SendsOnJoins plan w → SendsOnJoins plan v
+user_sends plan line role ws w v h user seen g whole joins s a o r made switch there =
+    elim (old_or_new line role w.origins v.origins a o g made) [
+      | inr here ↦ absurd (not_here here)
       | inl old ↦
           (let within : a < length w.whole.records = subst (λ (k : ℕ). a < k) seen.records.count (slice_get_within w.origins a o old) in
           let x = get_there w.whole.records a within in
-          let theirs : Theirs a x.0 (book_at n w.whole) = record { there = x.1; absent = λ c e. not_both (sym dce ∙ sym (ap (λ (q : Origin). q.role) (same_Some _ o (sym (((seen.sides n Dte h).slot c).present_origin a e) ∙ old)))) } in
-          let same : x.0 ≡ r = same_Some x.0 r (sym (theirs_stay ws a x.0 (book_at n w.whole) theirs).there ∙ (ap (λ (y : Register). slice_get y.records a) (sym whole) ∙ there)) in
-          elim (s a o r old dce (x.1 ∙ ap (λ (y : RecordValue). Some y) same)) [ inl e ↦ inl e | inr e ↦ inr (subst (λ (js : List Join). IsInJoin js a) (sym joins) e) ])
+          let theirs : Theirs role a x.0 (book_at line w.whole) = record { there = x.1; absent = λ c e. let m = ((seen.sides line role h).slot c).present_origin a e in not_here (is_at (record { line = line; role = role; placed_here = m.placed_here; caller = (slot_at role c (book_at line w.whole)).caller }) (same_Some _ o (sym m.there ∙ old)) (refl, refl)) } in
+          let same : x.0 ≡ r = same_Some x.0 r (sym (theirs_stay role ws a x.0 (book_at line w.whole) theirs).there ∙ (ap (λ (y : Register). slice_get y.records a) (sym whole) ∙ there)) in
+          elim (s a o r old switch (x.1 ∙ ap (λ (y : RecordValue). Some y) same)) [ inl e ↦ inl e | inr e ↦ inr (subst (λ (js : List Join). IsInJoin js a) (sym joins) e) ])
     ]
   where
-    not_both : Dce ≡ Dte → ⊥
-    not_both e = absurd cc
+    -- the end is one with a user
+    not_here : IsAt line role o → ⊥
+    not_here is = true≢false (sym user ∙ (ap₂ (λ (k : ℕ) (y : Role). plan.has_user k y) (sym is.0) (sym is.1) ∙ switch))
 
-module _ (plan : Plan) (count : ℕ) (switch_end : (n : ℕ) → n < count → plan.has_user n Dce ≡ false) (user_end : (n : ℕ) → n < count → plan.has_user n Dte ≡ true) where
+    is_at : (x : Origin) → x ≡ o → (x.line ≡ line) × (x.role ≡ role) → IsAt line role o
+    is_at x e i = (ap (λ (y : Origin). y.line) (sym e) ∙ i.0, ap (λ (y : Origin). y.role) (sym e) ∙ i.1)
+
+-- ---- what is written at an end with a user
+
+pub written_by_user : (plan : Plan) (at : List ℕ) (line : ℕ) (role : Role) (ws : List Write) (b : Book) (own : List Origin) (bs bs' : Books) (cs : List JoinedCall) (books : List Book) (w : World) (traces : List (List Origin)) → plan.has_user line role ≡ true → slice_get books line ≡ Some b
+    → slice_get traces line ≡ Some own → AreAmong at bs' (set books line (all_written role ws b)) → IsSeen plan at bs cs books w traces → IsSeen plan at bs' cs (set books line (all_written role ws b)) (after_event (Writes line role ws) w) (set traces line (all_traced line role ws b own))
+written_by_user plan at line role ws b own bs bs' cs books w traces user there trace among i =
+    let event = Writes line role ws in
+    let may : MayHappen plan event w = (subst (λ (k : ℕ). line < k) (sym i.lines.seen.lines) (slice_get_within books line b there), user) in
+    record {
+      seen = happens plan event w may i.seen;
+      among = among;
+      lines = traced w.whole w.origins books traces line b own role ws there trace i.lines;
+      joins = joins_stay at line role w.origins _ cs w.joins (writes_grow line role ws (book_at line w.whole) w.origins) i.joins;
+      handed = stays_handed_on plan event w may tt i.seen i.handed;
+      sends = user_sends plan line role ws w (after_event event w) may.0 user i.seen (writes_grow line role ws (book_at line w.whole) w.origins) refl refl i.sends;
+    }
+
+-- ---- what is written at the switch's ends, and at the other ones of its lines
+
+module _ (plan : Plan) (at : List ℕ) (apart : AreApart at) (switch_end : (n : ℕ) → n < length at → plan.has_user (network_line at n) Dce ≡ false) (user_end : (n : ℕ) → n < length at → plan.has_user (network_line at n) Dte ≡ true) where
   -- what these writes leave of what the switch sent
   abbrev pub SendsSo : ℕ → List Write → World → Type 0
-  SendsSo n ws w = SendsOnJoins w → SendsOnJoins (after_event (SwitchWrites n Dce ws) w)
+  SendsSo line ws w = SendsOnJoins plan w → SendsOnJoins plan (after_event (SwitchWrites line Dce ws) w)
 
-  pub silently : (n : ℕ) (ws : List Write) (w : World) → length w.origins ≡ length w.whole.records → AllSilent ws → SendsSo n ws w
-  silently n ws w count i s =
-      silent_sends w (after_event (SwitchWrites n Dce ws) w) (book_at n w.whole) count (writes_grow n Dce ws (book_at n w.whole) w.origins) (λ r a e. (writes_silent ws (book_at n w.whole) i).records a r e) (λ a h. h) s
+  pub silently : (line : ℕ) (ws : List Write) (w : World) → length w.origins ≡ length w.whole.records → AllSilent ws → SendsSo line ws w
+  silently line ws w count i s =
+      silent_sends plan line w (after_event (SwitchWrites line Dce ws) w) count (writes_grow line Dce ws (book_at line w.whole) w.origins) (λ r a e. (writes_silent ws (book_at line w.whole) i).records a r e) (λ a h. h) s
 
-  pub switch_writes : (n : ℕ) (ws : List Write) (bs bs' : Books) (cs : List JoinedCall) (w : World) (traces : List (List Origin)) → n < count → AllPlaceNone ws → SendsSo n ws w → bs' n ≡ all_written Dce ws (bs n) → ((k : ℕ) → k ≢ n → bs' k ≡ bs k)
-      → IsSeen plan count bs cs w traces → Moved plan count bs' cs w.register
-  switch_writes n ws bs bs' cs w traces h none sends here others i =
-      let event = SwitchWrites n Dce ws in
-      let there : n < length w.whole.lines = subst (λ (k : ℕ). n < k) (sym (line_count plan count bs cs w traces i)) h in
-      let may : MayHappen plan event w = (record { there = there; switch = switch_end n h }, none) in
-      let lines = event_lines plan count n Dce ws bs bs' cs w traces h here others i in
+  pub switch_writes : (n : ℕ) (ws : List Write) (bs bs' : Books) (cs : List JoinedCall) (books : List Book) (w : World) (traces : List (List Origin)) → n < length at → AllPlaceNone ws → SendsSo (network_line at n) ws w → bs' n ≡ all_written Dce ws (bs n)
+      → ((k : ℕ) → k ≢ n → bs' k ≡ bs k) → IsSeen plan at bs cs books w traces → Moved plan at bs' cs books traces w.register
+  switch_writes n ws bs bs' cs books w traces h none sends here others i =
+      let line = network_line at n in
+      let event = SwitchWrites line Dce ws in
+      let may : MayHappen plan event w = (record { there = line_there plan at n bs cs books w traces h i; switch = switch_end n h }, none) in
+      let own = own_trace books line (bs n) w.whole w.origins traces (i.among n h) i.lines in
+      let b = all_written Dce ws (bs n) in
+      let trace = all_traced line Dce ws (bs n) own.0 in
       record {
+        books = set books line b;
         world = after_event event w;
-        traces = lines.0;
+        traces = set traces line trace;
         is = record {
           seen = happens plan event w may i.seen;
-          lines = lines.1;
-          joins = joins_stay Dce w.origins _ cs w.joins (writes_grow n Dce ws (book_at n w.whole) w.origins) i.joins;
+          among = among_set at n bs bs' books b apart h here others i.among;
+          lines = traced w.whole w.origins books traces line (bs n) own.0 Dce ws (i.among n h) own.1 i.lines;
+          joins = joins_stay at line Dce w.origins _ cs w.joins (writes_grow line Dce ws (book_at line w.whole) w.origins) i.joins;
           handed = stays_handed_on plan event w may tt i.seen i.handed;
           sends = sends i.sends;
         };
         same = refl;
+        others = others_set at n books b traces trace h;
       }
 
-  pub user_writes : (n : ℕ) (ws : List Write) (bs bs' : Books) (cs : List JoinedCall) (w : World) (traces : List (List Origin)) → n < count → bs' n ≡ all_written Dte ws (bs n) → ((k : ℕ) → k ≢ n → bs' k ≡ bs k)
-      → IsSeen plan count bs cs w traces → Moved plan count bs' cs (all_written_at n Dte ws w.register)
-  user_writes n ws bs bs' cs w traces h here others i =
-      let event = Writes n Dte ws in
-      let may : MayHappen plan event w = (subst (λ (k : ℕ). n < k) (sym (line_count plan count bs cs w traces i)) h, user_end n h) in
-      let lines = event_lines plan count n Dte ws bs bs' cs w traces h here others i in
+  pub user_writes : (n : ℕ) (ws : List Write) (bs bs' : Books) (cs : List JoinedCall) (books : List Book) (w : World) (traces : List (List Origin)) → n < length at → bs' n ≡ all_written Dte ws (bs n)
+      → ((k : ℕ) → k ≢ n → bs' k ≡ bs k) → IsSeen plan at bs cs books w traces → Moved plan at bs' cs books traces (all_written_at (network_line at n) Dte ws w.register)
+  user_writes n ws bs bs' cs books w traces h here others i =
+      let line = network_line at n in
+      let own = own_trace books line (bs n) w.whole w.origins traces (i.among n h) i.lines in
+      let b = all_written Dte ws (bs n) in
+      let trace = all_traced line Dte ws (bs n) own.0 in
       record {
-        world = after_event event w;
-        traces = lines.0;
-        is = record {
-          seen = happens plan event w may i.seen;
-          lines = lines.1;
-          joins = joins_stay Dte w.origins _ cs w.joins (writes_grow n Dte ws (book_at n w.whole) w.origins) i.joins;
-          handed = stays_handed_on plan event w may tt i.seen i.handed;
-          sends = user_sends plan n ws w (after_event event w) may.0 i.seen (writes_grow n Dte ws (book_at n w.whole) w.origins) refl refl i.sends;
-        };
+        books = set books line b;
+        world = after_event (Writes line Dte ws) w;
+        traces = set traces line trace;
+        is = written_by_user plan at line Dte ws (bs n) own.0 bs bs' cs books w traces (user_end n h) (i.among n h) own.1 (among_set at n bs bs' books b apart h here others i.among) i;
         same = refl;
+        others = others_set at n books b traces trace h;
       }
 
   -- ---- acts that place no call
 
-  pub same_books : (bs bs' : Books) (cs : List JoinedCall) (w : World) (traces : List (List Origin)) → ((k : ℕ) → k < count → bs' k ≡ bs k) → IsSeen plan count bs cs w traces → Moved plan count bs' cs w.register
-  same_books bs bs' cs w traces h i = record {
+  pub same_books : (bs bs' : Books) (cs : List JoinedCall) (books : List Book) (w : World) (traces : List (List Origin)) → ((k : ℕ) → k < length at → bs' k ≡ bs k) → IsSeen plan at bs cs books w traces → Moved plan at bs' cs books traces w.register
+  same_books bs bs' cs books w traces h i = record {
+    books = books;
     world = w;
     traces = traces;
-    is = record { seen = i.seen; lines = subst (λ (books : List Book). LinesSeen w.whole w.origins books traces) (sym (same_listed count bs bs' h)) i.lines; joins = i.joins; handed = i.handed; sends = i.sends };
+    is = record { seen = i.seen; among = among_same at bs bs' books h i.among; lines = i.lines; joins = i.joins; handed = i.handed; sends = i.sends };
     same = refl;
+    others = others_same at books traces;
   }
 
   asked_none : (c : ℕ) (q : Request) (l : Layer) → AllPlaceNone (asked_writes c q l)
@@ -260,42 +288,44 @@ module _ (plan : Plan) (count : ℕ) (switch_end : (n : ℕ) → n < count → p
   less_or_not (suc n) (suc k) = elim (less_or_not n k) [ inl h ↦ inl (omega arith) | inr h ↦ inr (λ g. let f : n < k = omega arith in h f) ]
 
   -- an act with what its writes leave of what the switch sent
-  act_moves : (a : Act) (ys : List Layer) (bs : Books) (cs : List JoinedCall) (w : World) (traces : List (List Origin)) → ((l : Layer) → slice_get ys (line_of a) ≡ Some l → line_of a < count → AllPlaceNone (act_writes a l) × SendsSo (line_of a) (act_writes a l) w)
-      → IsSeen plan count bs cs w traces → Moved plan count (books_after a ys bs) cs w.register
-  act_moves a ys bs cs w traces q i = by_line (less_or_not (line_of a) count)
+  act_moves : (a : Act) (ys : List Layer) (bs : Books) (cs : List JoinedCall) (books : List Book) (w : World) (traces : List (List Origin))
+      → ((l : Layer) → slice_get ys (line_of a) ≡ Some l → line_of a < length at → AllPlaceNone (act_writes a l) × SendsSo (network_line at (line_of a)) (act_writes a l) w)
+      → IsSeen plan at bs cs books w traces → Moved plan at (books_after a ys bs) cs books traces w.register
+  act_moves a ys bs cs books w traces q i = by_line (less_or_not (line_of a) (length at))
     where
-      apart : (k : ℕ) → k ≢ line_of a → books_after a ys bs k ≡ bs k
-      apart k ne = if_apart k (line_of a) (writes_at a (slice_get ys k) (bs k)) (bs k) ne
+      elsewhere : (k : ℕ) → k ≢ line_of a → books_after a ys bs k ≡ bs k
+      elsewhere k ne = if_apart k (line_of a) (writes_at a (slice_get ys k) (bs k)) (bs k) ne
 
       here : books_after a ys bs (line_of a) ≡ writes_at a (slice_get ys (line_of a)) (bs (line_of a))
       here = ap (λ (v : Bool). if v then writes_at a (slice_get ys (line_of a)) (bs (line_of a)) else bs (line_of a)) (eq-eqb (line_of a) (line_of a) refl)
 
-      by_layer : line_of a < count → (o : Option Layer) → slice_get ys (line_of a) ≡ o → Moved plan count (books_after a ys bs) cs w.register
+      by_layer : line_of a < length at → (o : Option Layer) → slice_get ys (line_of a) ≡ o → Moved plan at (books_after a ys bs) cs books traces w.register
       by_layer h None e =
-          same_books bs (books_after a ys bs) cs w traces
+          same_books bs (books_after a ys bs) cs books w traces
           (λ k g. elim (number_is k (line_of a)) [
             | inl is ↦ ap (λ (n : ℕ). books_after a ys bs n) is ∙ (here ∙ (ap (λ (o : Option Layer). writes_at a o (bs (line_of a))) e ∙ ap (λ (n : ℕ). bs n) (sym is)))
-            | inr ne ↦ apart k ne
+            | inr ne ↦ elsewhere k ne
           ]) i
       by_layer h (Some l) e =
-          switch_writes (line_of a) (act_writes a l) bs (books_after a ys bs) cs w traces h (q l e h).0 (q l e h).1 (here ∙ (ap (λ (o : Option Layer). writes_at a o (bs (line_of a))) e ∙ act_writes_are Dce a l (bs (line_of a)))) apart i
+          switch_writes (line_of a) (act_writes a l) bs (books_after a ys bs) cs books w traces h (q l e h).0 (q l e h).1 (here ∙ (ap (λ (o : Option Layer). writes_at a o (bs (line_of a))) e ∙ act_writes_are Dce a l (bs (line_of a)))) elsewhere i
 
-      by_line : (line_of a < count) ⊎ (line_of a < count → ⊥) → Moved plan count (books_after a ys bs) cs w.register
+      by_line : (line_of a < length at) ⊎ (line_of a < length at → ⊥) → Moved plan at (books_after a ys bs) cs books traces w.register
       by_line (inl h) = by_layer h (slice_get ys (line_of a)) refl
-      by_line (inr h) = same_books bs (books_after a ys bs) cs w traces (λ k g. apart k (λ is. h (subst (λ (n : ℕ). n < count) is g))) i
+      by_line (inr h) = same_books bs (books_after a ys bs) cs books w traces (λ k g. elsewhere k (λ is. h (subst (λ (n : ℕ). n < length at) is g))) i
 
   -- the calls that were joined since, and the register then
-  pub record Beyond (old : List JoinedCall) (g : Register) (bs : Books) (cs : List JoinedCall) : Type 0 where
+  pub record Beyond (old : List JoinedCall) (old_books : List Book) (old_traces : List (List Origin)) (g : Register) (bs : Books) (cs : List JoinedCall) : Type 0 where
     pub new : List JoinedCall
     pub is : cs ≡ old ++ new
-    pub moved : Moved plan count bs cs (all_handed new g)
+    pub moved : Moved plan at bs cs old_books old_traces (all_handed at new g)
 
-  pub stays_quietly : (old : List JoinedCall) (g : Register) → KeptQuietly (Beyond old g)
-  stays_quietly old g [] ys bs cs q b = b
-  stays_quietly old g (a ∷ more) ys bs cs q b =
-      let m = act_moves a ys bs cs b.moved.world b.moved.traces (λ l e h. (act_none a l q.0, silently (line_of a) (act_writes a l) b.moved.world b.moved.is.lines.owned (act_silent a l q.0))) b.moved.is in
-      stays_quietly old g more (after_act a ys) (books_after a ys bs) cs q.1
-      (record { new = b.new; is = b.is; moved = record { world = m.world; traces = m.traces; is = m.is; same = m.same ∙ b.moved.same } })
+  pub stays_quietly : (old : List JoinedCall) (old_books : List Book) (old_traces : List (List Origin)) (g : Register) → KeptQuietly (Beyond old old_books old_traces g)
+  stays_quietly old old_books old_traces g [] ys bs cs q b = b
+  stays_quietly old old_books old_traces g (a ∷ more) ys bs cs q b =
+      let m = b.moved in
+      let x = act_moves a ys bs cs m.books m.world m.traces (λ l e h. (act_none a l q.0, silently (network_line at (line_of a)) (act_writes a l) m.world m.is.lines.owned (act_silent a l q.0))) m.is in
+      stays_quietly old old_books old_traces g more (after_act a ys) (books_after a ys bs) cs q.1
+      (record { new = b.new; is = b.is; moved = moved_then plan at bs (books_after a ys bs) cs cs old_books old_traces (all_handed at b.new g) m.world.register (all_handed at b.new g) m x m.same })
 
   numbered : (ns : List ℕ) (o p : Option ℕ) (i : ℕ) → IsNumbered ns o p → o ≡ Some i → (m : ℕ) × ((p ≡ Some m) × (slice_get ns i ≡ Some m))
   numbered ns (Some j) (Some m) i h e = (m, (refl, ap (λ (k : ℕ). slice_get ns k) (sym (same_Some j i e)) ∙ h))
@@ -316,62 +346,63 @@ module _ (plan : Plan) (count : ℕ) (switch_end : (n : ℕ) → n < count → p
           elim k.1.1 [ inl x ↦ inr (g ∙ ap (λ (n : ℕ). Some n) (sym x.0)) | inr x ↦ inl (k.1.0 ∙ ap (λ (y : RecordValue). Some y) (sym x)) ]
 
   -- the present record of a joined channel is of a join
-  joined_in : (p : Place) (j : Joined) (ls : List SwitchLine) (bs : Books) (cs : List JoinedCall) (w : World) (traces : List (List Origin)) (a : ℕ) → p.line < count → Mutual ls → AreCalls ls bs cs → joined_at ls p ≡ Some j → IsSeen plan count bs cs w traces
-      → (slot_at Dce p.channel (book_at p.line w.whole)).present ≡ Some a → IsInJoin w.joins a
-  joined_in p j ls bs cs w traces a h m calls e i present = by_side j.came_in refl
+  joined_in : (p : Place) (j : Joined) (ls : List SwitchLine) (bs : Books) (cs : List JoinedCall) (books : List Book) (w : World) (traces : List (List Origin)) (a : ℕ) → p.line < length at → Mutual ls → AreCalls ls bs cs → joined_at ls p ≡ Some j → IsSeen plan at bs cs books w traces
+      → (slot_at Dce p.channel (book_at (network_line at p.line) w.whole)).present ≡ Some a → IsInJoin w.joins a
+  joined_in p j ls bs cs books w traces a h m calls e i present = by_side j.came_in refl
     where
-      seen : LineIsSeen (positions p.line (lines_of w.origins)) (positions p.line i.lines.seen.pair_owners) (bs p.line) (book_at p.line w.whole)
-      seen = line_seen plan count p.line bs cs w traces h i
+      seen : LineIsSeen (positions (network_line at p.line) (lines_of w.origins)) (positions (network_line at p.line) i.lines.seen.pair_owners) (bs p.line) (book_at (network_line at p.line) w.whole)
+      seen = line_seen plan at p.line bs cs books w traces h i
 
       k : Paired ls p j
       k = m p j e
 
-      number : (n : ℕ) → present_at p bs ≡ Some n → slice_get (positions p.line (lines_of w.origins)) n ≡ Some a
+      number : (n : ℕ) → present_at p bs ≡ Some n → slice_get (positions (network_line at p.line) (lines_of w.origins)) n ≡ Some a
       number n f =
-          let x = numbered (positions p.line (lines_of w.origins)) (slot_at Dce p.channel (bs p.line)).present (slot_at Dce p.channel (book_at p.line w.whole)).present n ((seen.sides Dce).slot p.channel).present f in
+          let x = numbered (positions (network_line at p.line) (lines_of w.origins)) (slot_at Dce p.channel (bs p.line)).present (slot_at Dce p.channel (book_at (network_line at p.line) w.whole)).present n ((seen.sides Dce).slot p.channel).present f in
           x.1.1 ∙ (sym x.1.0 ∙ present)
 
       by_side : (v : Bool) → j.came_in ≡ v → IsInJoin w.joins a
       by_side true f =
           let c = calls.all p j e f in
-          let x = join_at w.origins cs w.joins c.0 c.1 i.joins c.2 in
+          let x = join_at at w.origins cs w.joins c.0 c.1 i.joins c.2 in
           let near : present_at p bs ≡ Some c.1.came_in = ap (λ (y : Place). present_at y bs) (sym c.4) ∙ c.3.near_present in
-          let same : x.0.came_in ≡ a = same_Some x.0.came_in a (sym x.1.1.near ∙ (ap (λ (y : Place). slice_get (positions y.line (lines_of w.origins)) c.1.came_in) c.4 ∙ number c.1.came_in near)) in
+          let same : x.0.came_in ≡ a = same_Some x.0.came_in a (sym x.1.1.near.1 ∙ (ap (λ (y : Place). slice_get (positions (network_line at y.line) (lines_of w.origins)) c.1.came_in) c.4 ∙ number c.1.came_in near)) in
           inl (x.0.placed, record { place = c.0; there = x.1.0 ∙ ap (λ (n : ℕ). Some (record { came_in = n; placed = x.0.placed })) same })
       by_side false f =
           let c = calls.all j.other k.far k.joined (k.one_came_in ∙ ap not f) in
           let is : c.3.join ≡ k.far = same_Some c.3.join k.far (sym c.3.joined ∙ (ap (λ (y : Place). joined_at ls y) c.4 ∙ k.joined)) in
           let far : c.1.far ≡ p = sym c.3.other ∙ (ap (λ (y : Joined). y.other) is ∙ k.back) in
-          let x = join_at w.origins cs w.joins c.0 c.1 i.joins c.2 in
+          let x = join_at at w.origins cs w.joins c.0 c.1 i.joins c.2 in
           let there : present_at p bs ≡ Some c.1.placed = ap (λ (y : Place). present_at y bs) (sym far) ∙ c.3.far_present in
-          let same : x.0.placed ≡ a = same_Some x.0.placed a (sym x.1.1.far ∙ (ap (λ (y : Place). slice_get (positions y.line (lines_of w.origins)) c.1.placed) far ∙ number c.1.placed there)) in
+          let same : x.0.placed ≡ a = same_Some x.0.placed a (sym x.1.1.far.1 ∙ (ap (λ (y : Place). slice_get (positions (network_line at y.line) (lines_of w.origins)) c.1.placed) far ∙ number c.1.placed there)) in
           inr (x.0.came_in, record { place = c.0; there = x.1.0 ∙ ap (λ (n : ℕ). Some (record { came_in = x.0.came_in; placed = n })) same })
 
   -- a packet or an interrupt that is sent
-  sent_so : (p : Place) (j : Joined) (ls : List SwitchLine) (bs : Books) (cs : List JoinedCall) (w : World) (traces : List (List Origin)) (o : Option Refusal) (q : Request) (x : Option Taken) (f : RecordValue → RecordValue) → p.line < count → Mutual ls → AreCalls ls bs cs → joined_at ls p ≡ Some j → IsSeen plan count bs cs w traces
-      → ((b : Book) → carried Dce p.channel q x b ≡ changed Dce p.channel f b) → SendsSo p.line (Asked o p.channel q x ∷ []) w
-  sent_so p j ls bs cs w traces o q x f h m calls e i is s a origin r at dce there =
-      elim (only_present o p.channel f (book_at p.line w.whole) a r (ap (λ (b : Book). slice_get (unless_refused o b (book_at p.line w.whole)).records a) (sym (is (book_at p.line w.whole))) ∙ there)) [
-        | inl old ↦ s a origin r at dce old
-        | inr present ↦ inr (joined_in p j ls bs cs w traces a h m calls e i present)
+  sent_so : (p : Place) (j : Joined) (ls : List SwitchLine) (bs : Books) (cs : List JoinedCall) (books : List Book) (w : World) (traces : List (List Origin)) (o : Option Refusal) (q : Request) (x : Option Taken) (f : RecordValue → RecordValue) → p.line < length at → Mutual ls → AreCalls ls bs cs → joined_at ls p ≡ Some j
+      → IsSeen plan at bs cs books w traces → ((b : Book) → carried Dce p.channel q x b ≡ changed Dce p.channel f b) → SendsSo (network_line at p.line) (Asked o p.channel q x ∷ []) w
+  sent_so p j ls bs cs books w traces o q x f h m calls e i is s a origin r made switch there =
+      let b = book_at (network_line at p.line) w.whole in
+      elim (only_present o p.channel f b a r (ap (λ (y : Book). slice_get (unless_refused o y b).records a) (sym (is b)) ∙ there)) [
+        | inl old ↦ s a origin r made switch old
+        | inr present ↦ inr (joined_in p j ls bs cs books w traces a h m calls e i present)
       ]
 
-  pub stays_sending : (old : List JoinedCall) (g : Register) → KeptSending (Beyond old g)
-  stays_sending old g p q j ls bs cs m calls e b = by_request q
+  pub stays_sending : (old : List JoinedCall) (old_books : List Book) (old_traces : List (List Origin)) (g : Register) → KeptSending (Beyond old old_books old_traces g)
+  stays_sending old old_books old_traces g p q j ls bs cs m calls e b = by_request q
     where
-      quietly : (r : Request) → SendsNone r → Beyond old g (books_by (Asks p r) ls bs) cs
-      quietly r none = stays_quietly old g (Act.Asks p r ∷ []) (layers_of ls) bs cs (none, tt) b
+      quietly : (r : Request) → SendsNone r → Beyond old old_books old_traces g (books_by (Asks p r) ls bs) cs
+      quietly r none = stays_quietly old old_books old_traces g (Act.Asks p r ∷ []) (layers_of ls) bs cs (none, tt) b
 
-      sent : (r : Request) → ((l : Layer) → slice_get (layers_of ls) p.line ≡ Some l → p.line < count → AllPlaceNone (asked_writes p.channel r l) × SendsSo p.line (asked_writes p.channel r l) b.moved.world) → Beyond old g (books_by (Asks p r) ls bs) cs
+      sent : (r : Request) → ((l : Layer) → slice_get (layers_of ls) p.line ≡ Some l → p.line < length at → AllPlaceNone (asked_writes p.channel r l) × SendsSo (network_line at p.line) (asked_writes p.channel r l) b.moved.world) → Beyond old old_books old_traces g (books_by (Asks p r) ls bs) cs
       sent r so =
-          let x = act_moves (Act.Asks p r) (layers_of ls) bs cs b.moved.world b.moved.traces so b.moved.is in
-          record { new = b.new; is = b.is; moved = record { world = x.world; traces = x.traces; is = x.is; same = x.same ∙ b.moved.same } }
+          let x = act_moves (Act.Asks p r) (layers_of ls) bs cs b.moved.books b.moved.world b.moved.traces so b.moved.is in
+          record { new = b.new; is = b.is; moved = moved_then plan at bs (books_by (Asks p r) ls bs) cs cs old_books old_traces (all_handed at b.new g) b.moved.world.register (all_handed at b.new g) b.moved x b.moved.same }
 
-      by_request : (r : Request) → Beyond old g (books_by (Asks p r) ls bs) cs
+      by_request : (r : Request) → Beyond old old_books old_traces g (books_by (Asks p r) ls bs) cs
       by_request (Sending d) =
-          sent (Sending d) (λ l f h. ((tt, tt), sent_so p j ls bs cs b.moved.world b.moved.traces (request_refusal l p.channel (Sending d)) (Sending d) (front_at (channel_of l p.channel)) (with_sent (packet_of d)) h m calls e b.moved.is (λ y. refl)))
+          sent (Sending d) (λ l f h. ((tt, tt), sent_so p j ls bs cs b.moved.books b.moved.world b.moved.traces (request_refusal l p.channel (Sending d)) (Sending d) (front_at (channel_of l p.channel)) (with_sent (packet_of d)) h m calls e b.moved.is (λ y. refl)))
       by_request (Interrupting octets) =
-          sent (Interrupting octets) (λ l f h. ((tt, tt), sent_so p j ls bs cs b.moved.world b.moved.traces (request_refusal l p.channel (Interrupting octets)) (Interrupting octets) (front_at (channel_of l p.channel)) (with_interrupt_sent octets) h m calls e b.moved.is (λ y. refl)))
+          sent (Interrupting octets) (λ l f h. ((tt, tt), sent_so p j ls bs cs b.moved.books b.moved.world b.moved.traces (request_refusal l p.channel (Interrupting octets)) (Interrupting octets) (front_at (channel_of l p.channel)) (with_interrupt_sent octets) h m calls e b.moved.is (λ y. refl)))
       by_request Accept = quietly Accept tt
       by_request (Clearing cause diagnostic) = quietly (Clearing cause diagnostic) tt
       by_request (Resetting cause diagnostic) = quietly (Resetting cause diagnostic) tt
@@ -382,10 +413,17 @@ module _ (plan : Plan) (count : ℕ) (switch_end : (n : ℕ) → n < count → p
 
   -- ---- a call is joined
 
-  module _ (routes : RouteMap) (given : List (List ℕ)) (lines_given : count ≡ length given) (one_switch : (m n : ℕ) → m < count → n < count → plan.node m Dce ≡ plan.node n Dce)
-      (address : (n : ℕ) (a : List ℕ) → slice_get given n ≡ Some a → a ≡ plan.address n) (addressed : (n : ℕ) → n < count → plan.address n ≡ [] → ⊥)
-      (route : (called : List ℕ) (n : ℕ) → n < count → line_for routes called ≡ Some n → n ≡ plan.route (plan.node n Dce) (address_of called)) where
-    module _ (p q : Place) (parts : CallParts) (ls : List SwitchLine) (bs : Books) (cs : List JoinedCall) (j : Joining routes given p q parts ls bs cs) (w : World) (traces : List (List Origin)) (i : IsSeen plan count bs cs w traces) where
+  module _ (routes : RouteMap) (given : List (List ℕ)) (lines_given : length at ≡ length given) (one_switch : (m n : ℕ) → m < length at → n < length at → plan.node (network_line at m) Dce ≡ plan.node (network_line at n) Dce)
+      (address : (n : ℕ) (a : List ℕ) → slice_get given n ≡ Some a → a ≡ plan.address (network_line at n)) (addressed : (n : ℕ) → n < length at → plan.address (network_line at n) ≡ [] → ⊥)
+      (route : (called : List ℕ) (n : ℕ) → n < length at → line_for routes called ≡ Some n → network_line at n ≡ plan.route (plan.node (network_line at n) Dce) (address_of called)) where
+    module _ (p q : Place) (parts : CallParts) (ls : List SwitchLine) (bs : Books) (cs : List JoinedCall) (j : Joining routes given p q parts ls bs cs) (books : List Book) (w : World) (traces : List (List Origin)) (i : IsSeen plan at bs cs books w traces) where
+      -- the lines of the network
+      abbrev pl : ℕ
+      pl = network_line at p.line
+
+      abbrev ql : ℕ
+      ql = network_line at q.line
+
       abbrev to : CallParts
       to = forwarded ls p.line parts
 
@@ -396,10 +434,10 @@ module _ (plan : Plan) (count : ℕ) (switch_end : (n : ℕ) → n < count → p
       ws = Placed (Some q.channel) to ∷ []
 
       abbrev event : Event
-      event = Joins (place_at p) (place_at q) to
+      event = Joins (place_at at p) (place_at at q) to
 
       -- both lines are there
-      line_at : (n : ℕ) (l : SwitchLine) → slice_get ls n ≡ Some l → (n < count) × (slice_get given n ≡ Some l.address)
+      line_at : (n : ℕ) (l : SwitchLine) → slice_get ls n ≡ Some l → (n < length at) × (slice_get given n ≡ Some l.address)
       line_at n l e =
           let got : slice_get (addresses ls) n ≡ Some l.address = get_map (λ y. y.address) ls n ∙ ap (λ (o : Option SwitchLine). option_map (λ y. y.address) o) e in
           let within : n < length (addresses ls) = slice_get_within (addresses ls) n l.address got in
@@ -412,10 +450,10 @@ module _ (plan : Plan) (count : ℕ) (switch_end : (n : ℕ) → n < count → p
           by_line (Some l) e = (l, e)
           by_line None e = absurd (none-some (records_at ls bs p j.beside j.there).0 (sym (get_map (λ y. y.end.layer) ls p.line ∙ ap (λ (o : Option SwitchLine). option_map (λ y. y.end.layer) o) e) ∙ (records_at ls bs p j.beside j.there).1.0))
 
-      p_less : p.line < count
+      p_less : p.line < length at
       p_less = (line_at p.line p_line.0 p_line.1).0
 
-      q_less : q.line < count
+      q_less : q.line < length at
       q_less = (line_at q.line j.free.line j.free.there).0
 
       -- what is written
@@ -428,17 +466,17 @@ module _ (plan : Plan) (count : ℕ) (switch_end : (n : ℕ) → n < count → p
       placed_apart k ne = if_apart k q.line (writes_at (Act.Calls q.line to) (slice_get (layers_of ls) k) (bs k)) (bs k) ne
 
       -- the call that came in, in the whole register
-      p_seen : LineIsSeen (positions p.line (lines_of w.origins)) (positions p.line i.lines.seen.pair_owners) (bs p.line) (book_at p.line w.whole)
-      p_seen = line_seen plan count p.line bs cs w traces p_less i
+      p_seen : LineIsSeen (positions pl (lines_of w.origins)) (positions pl i.lines.seen.pair_owners) (bs p.line) (book_at pl w.whole)
+      p_seen = line_seen plan at p.line bs cs books w traces p_less i
 
-      present_seen : (m : ℕ) × (((slot_at Dce p.channel (book_at p.line w.whole)).present ≡ Some m) × (slice_get (positions p.line (lines_of w.origins)) j.came_in.number ≡ Some m))
-      present_seen = numbered (positions p.line (lines_of w.origins)) (slot_at Dce p.channel (bs p.line)).present (slot_at Dce p.channel (book_at p.line w.whole)).present j.came_in.number ((p_seen.sides Dce).slot p.channel).present j.came_in.present
+      present_seen : (m : ℕ) × (((slot_at Dce p.channel (book_at pl w.whole)).present ≡ Some m) × (slice_get (positions pl (lines_of w.origins)) j.came_in.number ≡ Some m))
+      present_seen = numbered (positions pl (lines_of w.origins)) (slot_at Dce p.channel (bs p.line)).present (slot_at Dce p.channel (book_at pl w.whole)).present j.came_in.number ((p_seen.sides Dce).slot p.channel).present j.came_in.present
 
-      caller_seen : (m : ℕ) × (((slot_at Dce p.channel (book_at p.line w.whole)).caller ≡ Some m) × (slice_get (positions p.line (lines_of w.origins)) j.came_in.caller ≡ Some m))
-      caller_seen = numbered (positions p.line (lines_of w.origins)) (slot_at Dce p.channel (bs p.line)).caller (slot_at Dce p.channel (book_at p.line w.whole)).caller j.came_in.caller ((p_seen.sides Dce).slot p.channel).caller j.came_in.came
+      caller_seen : (m : ℕ) × (((slot_at Dce p.channel (book_at pl w.whole)).caller ≡ Some m) × (slice_get (positions pl (lines_of w.origins)) j.came_in.caller ≡ Some m))
+      caller_seen = numbered (positions pl (lines_of w.origins)) (slot_at Dce p.channel (bs p.line)).caller (slot_at Dce p.channel (book_at pl w.whole)).caller j.came_in.caller ((p_seen.sides Dce).slot p.channel).caller j.came_in.came
 
-      last_seen : (m : ℕ) × (((slot_at Dte p.channel (book_at p.line w.whole)).placed ≡ Some m) × (slice_get (positions p.line (lines_of w.origins)) j.came_in.caller ≡ Some m))
-      last_seen = numbered (positions p.line (lines_of w.origins)) (slot_at Dte p.channel (bs p.line)).placed (slot_at Dte p.channel (book_at p.line w.whole)).placed j.came_in.caller ((p_seen.sides Dte).slot p.channel).placed j.came_in.last
+      last_seen : (m : ℕ) × (((slot_at Dte p.channel (book_at pl w.whole)).placed ≡ Some m) × (slice_get (positions pl (lines_of w.origins)) j.came_in.caller ≡ Some m))
+      last_seen = numbered (positions pl (lines_of w.origins)) (slot_at Dte p.channel (bs p.line)).placed (slot_at Dte p.channel (book_at pl w.whole)).placed j.came_in.caller ((p_seen.sides Dte).slot p.channel).placed j.came_in.last
 
       -- no join has it yet
       not_yet : (c : JoinedCall) → StandsOrEnded ls bs c → c.near.line ≡ p.line → c.came_in ≡ j.came_in.number → ⊥
@@ -452,15 +490,15 @@ module _ (plan : Plan) (count : ℕ) (switch_end : (n : ℕ) → n < count → p
 
       first : (k : ℕ) (x : Join) → slice_get w.joins k ≡ Some x → x.came_in ≡ present_seen.0 → ⊥
       first k x e f =
-          let c = join_found (StandsOrEnded ls bs) w.origins cs w.joins k x i.joins j.calls.each e in
-          let near : slice_get (positions c.call.near.line (lines_of w.origins)) c.call.came_in ≡ Some present_seen.0 = c.is.near ∙ ap (λ (m : ℕ). Some m) f in
-          let line : c.call.near.line ≡ p.line =
-          same_Some c.call.near.line p.line (sym (is_place c.call.near.line (lines_of w.origins) c.call.came_in present_seen.0 near) ∙ is_place p.line (lines_of w.origins) j.came_in.number present_seen.0 present_seen.1.1) in
-          not_yet c.call c.holds line
-          (same_place p.line (lines_of w.origins) c.call.came_in j.came_in.number present_seen.0 (ap (λ (n : ℕ). slice_get (positions n (lines_of w.origins)) c.call.came_in) (sym line) ∙ near) present_seen.1.1)
+          let c = join_found (StandsOrEnded ls bs) at w.origins cs w.joins k x i.joins j.calls.each e in
+          let cl = network_line at c.call.near.line in
+          let near : slice_get (positions cl (lines_of w.origins)) c.call.came_in ≡ Some present_seen.0 = c.is.near.1 ∙ ap (λ (m : ℕ). Some m) f in
+          let line : cl ≡ pl = same_Some cl pl (sym (is_place cl (lines_of w.origins) c.call.came_in present_seen.0 near) ∙ is_place pl (lines_of w.origins) j.came_in.number present_seen.0 present_seen.1.1) in
+          not_yet c.call c.holds (apart c.call.near.line p.line c.is.near.0 p_less line)
+          (same_place pl (lines_of w.origins) c.call.came_in j.came_in.number present_seen.0 (ap (λ (n : ℕ). slice_get (positions n (lines_of w.origins)) c.call.came_in) (sym line) ∙ near) present_seen.1.1)
 
-      end_there : (n : ℕ) → n < count → IsSwitchEnd plan n Dce w
-      end_there n h = record { there = subst (λ (k : ℕ). n < k) (sym (line_count plan count bs cs w traces i)) h; switch = switch_end n h }
+      end_there : (n : ℕ) → n < length at → IsSwitchEnd plan (network_line at n) Dce w
+      end_there n h = record { there = line_there plan at n bs cs books w traces h i; switch = switch_end n h }
 
       may : MayHappen plan event w
       may = record {
@@ -481,17 +519,17 @@ module _ (plan : Plan) (count : ℕ) (switch_end : (n : ℕ) → n < count → p
       calling_is (d ∷ ds) o h = refl
 
       forwards : Forwards plan event w
-      forwards n came at there =
-          let number : n ≡ present_seen.0 = same_Some n present_seen.0 (sym at ∙ present_seen.1.0) in
-          let seen : RecordIsSeen (bs p.line).records (book_at p.line w.whole).records j.came_in.number present_seen.0 = p_seen.records j.came_in.number present_seen.0 present_seen.1.1 in
+      forwards n came present there =
+          let number : n ≡ present_seen.0 = same_Some n present_seen.0 (sym present ∙ present_seen.1.0) in
+          let seen : RecordIsSeen (positions pl (lines_of w.origins)) (bs p.line).records (book_at pl w.whole).records j.came_in.number present_seen.0 = p_seen.records j.came_in.number present_seen.0 present_seen.1.1 in
           let value : seen.value ≡ j.came_in.it = same_Some seen.value j.came_in.it (sym seen.own_there ∙ j.came_in.there) in
-          let is : came ≡ renumbered present_seen.0 seen.value = same_Some came (renumbered present_seen.0 seen.value) (sym there ∙ (ap (λ (k : ℕ). slice_get w.whole.records k) number ∙ seen.seen_there)) in
-          let line : p_line.0.address ≡ plan.address p.line = address p.line p_line.0.address (line_at p.line p_line.0 p_line.1).1 in
+          let is : came ≡ renumbered present_seen.0 seen.caller seen.value = same_Some came (renumbered present_seen.0 seen.caller seen.value) (sym there ∙ (ap (λ (k : ℕ). slice_get w.whole.records k) number ∙ seen.seen_there)) in
+          let line : p_line.0.address ≡ plan.address pl = address p.line p_line.0.address (line_at p.line p_line.0 p_line.1).1 in
           record {
             called = sym j.came_in.own ∙ (ap (λ (r : RecordValue). r.own) (sym value) ∙ ap (λ (r : RecordValue). r.own) (sym is));
             calling =
                 ap (λ (o : Option SwitchLine). address_of (switch.address_of o)) p_line.1
-                ∙ (ap (λ (a : List ℕ). address_of a) line ∙ calling_is (plan.address p.line) came.far (addressed p.line p_less));
+                ∙ (ap (λ (a : List ℕ). address_of a) line ∙ calling_is (plan.address pl) came.far (addressed p.line p_less));
             routed = route parts.called q.line q_less j.routed;
           }
 
@@ -499,49 +537,64 @@ module _ (plan : Plan) (count : ℕ) (switch_end : (n : ℕ) → n < count → p
       abbrev made : JoinedCall
       made = record { near = p; far = q; came_in = j.came_in.number; placed = length (bs q.line).records }
 
-      q_seen : LineIsSeen (positions q.line (lines_of w.origins)) (positions q.line i.lines.seen.pair_owners) (bs q.line) (book_at q.line w.whole)
-      q_seen = line_seen plan count q.line bs cs w traces q_less i
+      q_seen : LineIsSeen (positions ql (lines_of w.origins)) (positions ql i.lines.seen.pair_owners) (bs q.line) (book_at ql w.whole)
+      q_seen = line_seen plan at q.line bs cs books w traces q_less i
 
-      made_is : JoinIs (w.origins ++ record { line = q.line; role = Dce; caller = None } ∷ []) made (record { came_in = present_seen.0; placed = length w.whole.records })
+      -- where the new record comes from
+      abbrev new : Origin
+      new = placing ql Dce
+
+      abbrev its_join : Join
+      its_join = record { came_in = present_seen.0; placed = length w.whole.records }
+
+      made_is : JoinIs at (w.origins ++ new ∷ []) made its_join
       made_is = record {
-        near = numbers_stay Dce w.origins (w.origins ++ record { line = q.line; role = Dce; caller = None } ∷ []) p.line j.came_in.number present_seen.0 (grows_one Dce w.origins _ refl) present_seen.1.1;
-        far =
-            ap (λ (xs : List ℕ). slice_get (positions q.line xs) (length (bs q.line).records)) (lines_last w.origins (record { line = q.line; role = Dce; caller = None }))
-            ∙ (ap (λ (ns : List ℕ). slice_get ns (length (bs q.line).records)) (one_here q.line (lines_of w.origins))
-            ∙ (ap (λ (k : ℕ). slice_get (positions q.line (lines_of w.origins) ++ length (lines_of w.origins) ∷ []) k) q_seen.count
-            ∙ (get_last (positions q.line (lines_of w.origins)) (length (lines_of w.origins)) ∙ ap (λ (k : ℕ). Some k) (lines_length w.origins ∙ i.lines.owned))));
+        near = (p_less, numbers_stay ql Dce w.origins (w.origins ++ new ∷ []) pl j.came_in.number present_seen.0 (grows_one ql Dce w.origins new (refl, refl)) present_seen.1.1);
+        far = (
+          q_less,
+          ap (λ (xs : List ℕ). slice_get (positions ql xs) (length (bs q.line).records)) (lines_last w.origins new)
+              ∙ (ap (λ (ns : List ℕ). slice_get ns (length (bs q.line).records)) (one_here ql (lines_of w.origins))
+              ∙ (ap (λ (k : ℕ). slice_get (positions ql (lines_of w.origins) ++ length (lines_of w.origins) ∷ []) k) q_seen.count
+              ∙ (get_last (positions ql (lines_of w.origins)) (length (lines_of w.origins)) ∙ ap (λ (k : ℕ). Some k) (lines_length w.origins ∙ i.lines.owned)))),
+        );
       }
 
-      pub join_moves : Moved plan count bs' (cs ++ made ∷ []) (handed_on made w.register)
+      pub join_moves : Moved plan at bs' (cs ++ made ∷ []) books traces (handed_on at made w.register)
       join_moves =
-          let lines = event_lines plan count q.line Dce ws bs bs' cs w traces q_less placed_here placed_apart i in
+          let own = own_trace books ql (bs q.line) w.whole w.origins traces (i.among q.line q_less) i.lines in
+          let b = all_written Dce ws (bs q.line) in
+          let trace = all_traced ql Dce ws (bs q.line) own.0 in
           record {
+            books = set books ql b;
             world = after_event event w;
-            traces = lines.0;
+            traces = set traces ql trace;
             is = record {
               seen = happens plan event w may i.seen;
-              lines = lines.1;
+              among = among_set at q.line bs bs' books b apart q_less placed_here placed_apart i.among;
+              lines = traced w.whole w.origins books traces ql (bs q.line) own.0 Dce ws (i.among q.line q_less) own.1 i.lines;
               joins =
-                  subst (λ (o : Option ℕ). AreJoins (w.origins ++ record { line = q.line; role = Dce; caller = None } ∷ []) (cs ++ made ∷ []) (with_join o (length w.whole.records) w.joins)) (sym present_seen.1.0)
-                  (joins_last _ cs w.joins made (record { came_in = present_seen.0; placed = length w.whole.records }) (joins_stay Dce w.origins _ cs w.joins (grows_one Dce w.origins _ refl) i.joins) made_is);
+                  subst (λ (o : Option ℕ). AreJoins at (w.origins ++ new ∷ []) (cs ++ made ∷ []) (with_join o (length w.whole.records) w.joins)) (sym present_seen.1.0)
+                  (joins_last at _ cs w.joins made its_join (joins_stay at ql Dce w.origins _ cs w.joins (grows_one ql Dce w.origins new (refl, refl)) i.joins) made_is);
               handed = stays_handed_on plan event w may forwards i.seen i.handed;
               sends =
-                  silent_sends w (after_event event w) (book_at q.line w.whole) i.lines.owned (grows_one Dce w.origins _ refl) (λ r a e. (pushed_silent _ (record { present = Some (length w.whole.records); placed = Some (length w.whole.records); caller = None }) q.channel (book_at q.line w.whole) nothing_yet).records a r e)
-                  (λ a x. subst (λ (o : Option ℕ). IsInJoin (with_join o (length w.whole.records) w.joins) a) (sym present_seen.1.0) (in_more w.joins (record { came_in = present_seen.0; placed = length w.whole.records }) a x)) i.sends;
+                  silent_sends plan ql w (after_event event w) i.lines.owned (grows_one ql Dce w.origins new (refl, refl)) (λ r a e. (pushed_silent _ (record { present = Some (length w.whole.records); placed = Some (length w.whole.records); caller = None }) q.channel (book_at ql w.whole) nothing_yet).records a r e)
+                  (λ a x. subst (λ (o : Option ℕ). IsInJoin (with_join o (length w.whole.records) w.joins) a) (sym present_seen.1.0) (in_more w.joins its_join a x)) i.sends;
             };
             same = refl;
+            others = others_set at q.line books b traces trace q_less;
           }
 
-    all_then : (xs ys : List JoinedCall) (g : Register) → all_handed (xs ++ ys) g ≡ all_handed ys (all_handed xs g)
+    all_then : (xs ys : List JoinedCall) (g : Register) → all_handed at (xs ++ ys) g ≡ all_handed at ys (all_handed at xs g)
     all_then [] ys g = refl
-    all_then (c ∷ xs) ys g = all_then xs ys (handed_on c g)
+    all_then (c ∷ xs) ys g = all_then xs ys (handed_on at c g)
 
-    pub stays_joining : (old : List JoinedCall) (g : Register) → KeptJoining routes given (Beyond old g)
-    stays_joining old g p q parts ls bs cs j b =
-        let m = join_moves p q parts ls bs cs j b.moved.world b.moved.traces b.moved.is in
+    pub stays_joining : (old : List JoinedCall) (old_books : List Book) (old_traces : List (List Origin)) (g : Register) → KeptJoining routes given (Beyond old old_books old_traces g)
+    stays_joining old old_books old_traces g p q parts ls bs cs j b =
+        let v = b.moved in
+        let m = join_moves p q parts ls bs cs j v.books v.world v.traces v.is in
         let c : JoinedCall = record { near = p; far = q; came_in = j.came_in.number; placed = length (bs q.line).records } in
         record {
           new = b.new ++ c ∷ [];
           is = ap (λ (xs : List JoinedCall). xs ++ c ∷ []) b.is ∙ append_assoc old b.new (c ∷ []);
-          moved = record { world = m.world; traces = m.traces; is = m.is; same = m.same ∙ (ap (λ (x : Register). handed_on c x) b.moved.same ∙ sym (all_then b.new (c ∷ []) g)) };
+          moved = moved_then plan at bs _ cs (cs ++ c ∷ []) old_books old_traces (all_handed at b.new g) (handed_on at c v.world.register) (all_handed at (b.new ++ c ∷ []) g) v m (ap (λ (x : Register). handed_on at c x) v.same ∙ sym (all_then b.new (c ∷ []) g));
         }

@@ -1,98 +1,120 @@
--- A network with one switch: the switch with the books of its lines, and the register of the calls through it.
-use Rattle.std.specs.Prelude.{◌≡◌, ℕ, zero, suc, ◌<◌, ◌⊎◌, true, false, List, [], ◌∷◌, length, map, slice_get, Some}
+-- A network with one switch, some of whose lines are those of the switch and the others lines between users: the switch
+-- with the books of all lines, and the register of all calls. A network without a switch is one whose switch has no
+-- lines.
+use Rattle.std.specs.Prelude.{◌≡◌, ℕ, ◌<◌, ◌⊎◌, true, false, List, [], ◌∷◌, length, map, slice_get, Option, Some, None}
+use Rattle.link_timers.specs.declared.role.Role.{Role}
 use Rattle.link_timers.specs.declared.role.Role.TheVariants.{Dte, Dce}
 use Rattle.address_routes.specs.Routes.{line_for}
 use Rattle.epochs.specs.ConfirmedLaws.{AreEmpty}
 use Rattle.call_records.specs.Records.{RecordValue}
 use Rattle.call_records.specs.Book.{Book, address_of}
-use Rattle.call_records.specs.Register.{Register, written_at}
+use Rattle.call_records.specs.Register.{Register}
+use Rattle.call_records.specs.Register as register
 use Rattle.book_laws.specs.Headline.{sent_by}
 use Rattle.register_laws.specs.Seen.{positions}
-use Rattle.switch_lines.specs.declared.place.Place.{Place}
 use Rattle.switch_lines.specs.Lines.{SwitchLine}
 use Rattle.switch_lines.specs.Switch.{Switch}
 use Rattle.switch_record_laws.specs.Written.{Books}
 use Rattle.switch_record_laws.specs.Tied.{Histories, IsTied}
 use Rattle.joined_call_laws.specs.Calls.{JoinedCall, AreCalls}
-use Rattle.call_path_laws.specs.World.{Origin, Join, World, Plan, AreAddressed, holds, holder_of}
-use Rattle.call_path_laws.specs.World as path
+use Rattle.call_path_laws.specs.World.{Origin, Join, World, Plan, AreAddressed}
 use Rattle.call_path_laws.specs.Seen.{Seen, IsJoined}
 use Rattle.call_path_laws.specs.Lines.{LinesSeen}
 use Rattle.call_path_laws.specs.Forwards.{AreHandedOn}
 
+-- ---- the lines of the switch
+
+abbrev pub found_line : Option ℕ → ℕ
+found_line (Some line) = line
+found_line None = 0
+
+-- the line of the network that is this own line of the switch; `at` has one for each of them, in order
+abbrev pub network_line : (at : List ℕ) → (own : ℕ) → ℕ
+network_line at own = found_line (slice_get at own)
+
+-- a line of the network is none of the switch's
+abbrev pub IsOther : (at : List ℕ) → (line : ℕ) → Type 0
+IsOther at line = (n : ℕ) → n < length at → network_line at n ≡ line → ⊥
+
+-- the books of the switch's lines are among those of the network's lines
+abbrev pub AreAmong : (at : List ℕ) → Books → List Book → Type 0
+AreAmong at bs books = (n : ℕ) → n < length at → slice_get books (network_line at n) ≡ Some (bs n)
+
 -- ---- the plan of the network
 
--- users are at the DTE's end of each line and the switch is at the DCE's; the lines have the addresses of the plan, and
--- each has one, which a line between two ends of one kind has not; the routes are those of the switch
-pub record IsPlanned (plan : Plan) (s : Switch) : Type 0 where
-  pub user_end : (n : ℕ) → n < length s.lines → plan.has_user n Dte ≡ true
-  pub switch_end : (n : ℕ) → n < length s.lines → plan.has_user n Dce ≡ false
-  pub one_switch : (m n : ℕ) → m < length s.lines → n < length s.lines → plan.node m Dce ≡ plan.node n Dce
-  pub address : (n : ℕ) (l : SwitchLine) → slice_get s.lines n ≡ Some l → l.address ≡ plan.address n
-  pub addressed : (n : ℕ) → n < length s.lines → plan.address n ≡ [] → ⊥
+-- of a network of `count` lines: no line is two of the switch's; users are at the DTE's end of each of these and the
+-- switch is at the DCE's; they have the addresses of the plan, and each has one, which a line between two ends of one
+-- kind has not; the routes are those of the switch; and all other lines are between users
+pub record IsPlanned (plan : Plan) (count : ℕ) (at : List ℕ) (s : Switch) : Type 0 where
+  pub lines : length at ≡ length s.lines
+  pub apart : (m n : ℕ) → m < length at → n < length at → network_line at m ≡ network_line at n → m ≡ n
+  pub user_end : (n : ℕ) → n < length at → plan.has_user (network_line at n) Dte ≡ true
+  pub switch_end : (n : ℕ) → n < length at → plan.has_user (network_line at n) Dce ≡ false
+  pub one_switch : (m n : ℕ) → m < length at → n < length at
+      → plan.node (network_line at m) Dce ≡ plan.node (network_line at n) Dce
+  pub address : (n : ℕ) (l : SwitchLine) → slice_get s.lines n ≡ Some l → l.address ≡ plan.address (network_line at n)
+  pub addressed : (n : ℕ) → n < length at → plan.address (network_line at n) ≡ [] → ⊥
   pub alike : AreAddressed plan
-  pub route : (called : List ℕ) (n : ℕ) → n < length s.lines → line_for s.routes called ≡ Some n
-      → n ≡ plan.route (plan.node n Dce) (address_of called)
-
--- ---- the books of the lines, in order
-
-abbrev pub listed_from : (count first : ℕ) → Books → List Book
-listed_from zero first bs = []
-listed_from (suc count) first bs = bs first ∷ listed_from count (suc first) bs
-
-abbrev pub listed : (count : ℕ) → Books → List Book
-listed count bs = listed_from count 0 bs
+  pub route : (called : List ℕ) (n : ℕ) → n < length at → line_for s.routes called ≡ Some n
+      → network_line at n ≡ plan.route (plan.node (network_line at n) Dce) (address_of called)
+  pub others : (line : ℕ) (role : Role) → line < count → IsOther at line → plan.has_user line role ≡ true
 
 -- ---- joined calls in the register
 
-abbrev pub place_at : Place → path.Place
-place_at p = record { line = p.line; role = Dce; channel = p.channel }
+-- from the line on which the call came in to that on which it goes on
+abbrev pub handed_on : (at : List ℕ) → JoinedCall → Register → Register
+handed_on at c g =
+    register.handed_on (network_line at c.near.line) c.near.channel (network_line at c.far.line) c.far.channel g
 
--- the switch hands on the holder of the call that came in
-abbrev pub handed_on : JoinedCall → Register → Register
-handed_on c g = written_at c.far.line (holds Dce c.far.channel (holder_of (place_at c.near) g)) g
-
-abbrev pub all_handed : List JoinedCall → Register → Register
-all_handed [] g = g
-all_handed (c ∷ cs) g = all_handed cs (handed_on c g)
+abbrev pub all_handed : (at : List ℕ) → List JoinedCall → Register → Register
+all_handed at [] g = g
+all_handed at (c ∷ cs) g = all_handed at cs (handed_on at c g)
 
 abbrev pub lines_of : List Origin → List ℕ
 lines_of origins = map (λ o. o.line) origins
 
--- the two records of a joined call are those of a join of the whole register
-pub record JoinIs (origins : List Origin) (c : JoinedCall) (j : Join) : Type 0 where
-  pub near : slice_get (positions c.near.line (lines_of origins)) c.came_in ≡ Some j.came_in
-  pub far : slice_get (positions c.far.line (lines_of origins)) c.placed ≡ Some j.placed
+-- the record at this place of the book of an own line has this number in the whole register
+abbrev pub HasNumber : (at : List ℕ) → List Origin → (own place number : ℕ) → Type 0
+HasNumber at origins n k m =
+    (n < length at) × (slice_get (positions (network_line at n) (lines_of origins)) k ≡ Some m)
 
-abbrev pub AreJoins : List Origin → List JoinedCall → List Join → Type 0
-AreJoins origins [] [] = Unit {0}
-AreJoins origins (c ∷ cs) (j ∷ js) = JoinIs origins c j × AreJoins origins cs js
-AreJoins origins _ _ = ⊥
+-- the two records of a joined call are those of a join of the whole register
+pub record JoinIs (at : List ℕ) (origins : List Origin) (c : JoinedCall) (j : Join) : Type 0 where
+  pub near : HasNumber at origins c.near.line c.came_in j.came_in
+  pub far : HasNumber at origins c.far.line c.placed j.placed
+
+abbrev pub AreJoins : (at : List ℕ) → List Origin → List JoinedCall → List Join → Type 0
+AreJoins at origins [] [] = Unit {0}
+AreJoins at origins (c ∷ cs) (j ∷ js) = JoinIs at origins c j × AreJoins at origins cs js
+AreJoins at origins _ _ = ⊥
 
 -- the record of a leg of a join
 abbrev pub IsInJoin : List Join → ℕ → Type 0
 IsInJoin joins a = ((b : ℕ) × IsJoined joins a b) ⊎ ((b : ℕ) × IsJoined joins b a)
 
 -- a switch sends on the legs of joins alone
-abbrev pub SendsOnJoins : World → Type 0
-SendsOnJoins w = (a : ℕ) (o : Origin) (r : RecordValue) → slice_get w.origins a ≡ Some o → o.role ≡ Dce
-    → slice_get w.whole.records a ≡ Some r → AreEmpty (sent_by r) ⊎ IsInJoin w.joins a
+abbrev pub SendsOnJoins : Plan → World → Type 0
+SendsOnJoins plan w = (a : ℕ) (o : Origin) (r : RecordValue) → slice_get w.origins a ≡ Some o
+    → plan.has_user o.line o.role ≡ false → slice_get w.whole.records a ≡ Some r
+    → AreEmpty (sent_by r) ⊎ IsInJoin w.joins a
 
 -- ---- the register beside the switch
 
--- the register has of the ends with users what the whole one has; the whole one has what the books of the lines have,
--- and its joins are the joined calls, with the addresses of these calls
-pub record IsSeen (plan : Plan) (count : ℕ) (bs : Books) (cs : List JoinedCall) (w : World)
+-- the register has of the ends with users what the whole one has; the whole one has what the books of all lines have,
+-- those of the switch's lines among them, and its joins are the joined calls, with the addresses of these calls
+pub record IsSeen (plan : Plan) (at : List ℕ) (bs : Books) (cs : List JoinedCall) (books : List Book) (w : World)
     (traces : List (List Origin)) : Type 0 where
   pub seen : Seen plan w
-  pub lines : LinesSeen w.whole w.origins (listed count bs) traces
-  pub joins : AreJoins w.origins cs w.joins
+  pub among : AreAmong at bs books
+  pub lines : LinesSeen w.whole w.origins books traces
+  pub joins : AreJoins at w.origins cs w.joins
   pub handed : AreHandedOn plan w
-  pub sends : SendsOnJoins w
+  pub sends : SendsOnJoins plan w
 
-pub record IsNetwork (plan : Plan) (s : Switch) (h : Histories) (cs : List JoinedCall) (w : World)
-    (traces : List (List Origin)) : Type 0 where
-  pub planned : IsPlanned plan s
+-- `books` are the books of all lines of the network, and `traces` where their records come from
+pub record IsNetwork (plan : Plan) (at : List ℕ) (s : Switch) (h : Histories) (cs : List JoinedCall) (books : List Book)
+    (w : World) (traces : List (List Origin)) : Type 0 where
+  pub planned : IsPlanned plan (length books) at s
   pub tied : IsTied s h
   pub calls : AreCalls s.lines h.books cs
-  pub seen : IsSeen plan (length s.lines) h.books cs w traces
+  pub seen : IsSeen plan at h.books cs books w traces

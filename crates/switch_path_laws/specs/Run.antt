@@ -1,8 +1,13 @@
--- A switch of two lines, with a user at the other end of each: such a network as it is made, and after its first frame.
-use Rattle.std.specs.Prelude.{ℕ, zero, suc, Bool, true, false, List, [], ◌∷◌, map, Option, Some, None}
+-- A network of three lines, two of a switch with a user at the other end of each, and one between users: as it is made,
+-- after a first frame to the switch, and after a call on the line between users. And one without a switch.
+use Rattle.std.specs.Prelude.{ℕ, zero, suc, Bool, true, false, List, [], ◌∷◌, map, set, Option, Some, None}
 use Rattle.std.specs.FinMap.{empty, insert}
 use Rattle.link_timers.specs.declared.role.Role.{Role}
 use Rattle.link_timers.specs.declared.role.Role.TheVariants.{Dte, Dce}
+use Rattle.packet_layer.specs.Packets.{CallParts}
+use Rattle.call_records.specs.Book.{Book}
+use Rattle.call_records.specs.Writes.{Write, all_written}
+use Rattle.call_records.specs.Writes.Write.{Placed}
 use Rattle.call_records.specs.Register.{LinePlan}
 use Rattle.address_routes.specs.Routes.{RouteMap, line_for}
 use Rattle.switch_lines.specs.Making.{made}
@@ -11,56 +16,112 @@ use Rattle.switch_laws.specs.Run.{configs, sabm}
 use Rattle.switch_laws.specs.Steps.Happening.{Brings}
 use Rattle.switch_lines.specs.Switch.{on_frame}
 use Rattle.switch_record_laws.specs.Run.{histories}
-use Rattle.call_path_laws.specs.World.{Plan, made_world, AreBetween}
-use Rattle.switch_path_laws.specs.Network.{IsPlanned, IsNetwork}
-use Rattle.switch_path_laws.specs.Law.{AfterEvent}
+use Rattle.call_path_laws.specs.World.{Origin, Plan, made_world, AreBetween, after_event, all_traced}
+use Rattle.call_path_laws.specs.World.Event.{Writes}
+use Rattle.call_path_laws.specs.Lines.{free_book}
+use Rattle.switch_path_laws.specs.Network.{network_line, AreAmong, IsPlanned, IsNetwork}
+use Rattle.switch_path_laws.specs.Law.{AfterEvent, no_switch}
 
--- calls to 2 go to line 1
+-- calls to 2 go to the switch's own line 1
 abbrev pub routes : RouteMap
 routes = insert empty (2 ∷ []) 1
 
 abbrev pub switch : Switch
 switch = made routes configs
 
--- ---- the network: node 3 on line 0 and node 4 on line 1, each at the DTE's end; the switch is node 9
+-- ---- the network: node 4 on line 0 and node 3 on line 2, each at the DTE's end, with the switch, node 9, at the other
+-- one; and nodes 5 and 6 at the ends of line 1
+
+-- the switch's own line 0 is line 2
+abbrev pub at : List ℕ
+at = 2 ∷ 0 ∷ []
 
 abbrev pub node_at : (line : ℕ) → Role → ℕ
-node_at zero Dte = 3
-node_at (suc line) Dte = 4
-node_at line Dce = 9
+node_at zero Dte = 4
+node_at zero Dce = 9
+node_at (suc zero) Dte = 5
+node_at (suc zero) Dce = 6
+node_at (suc (suc line)) Dte = 3
+node_at (suc (suc line)) Dce = 9
+
+abbrev pub has_user_at : (line : ℕ) → Role → Bool
+has_user_at line Dte = true
+has_user_at zero Dce = false
+has_user_at (suc zero) Dce = true
+has_user_at (suc (suc line)) Dce = false
 
 abbrev pub address_at : (line : ℕ) → List ℕ
-address_at zero = 1 ∷ []
-address_at line = 2 ∷ []
+address_at zero = 2 ∷ []
+address_at (suc zero) = []
+address_at (suc (suc line)) = 1 ∷ []
 
-abbrev pub is_dte : Role → Bool
-is_dte Dte = true
-is_dte Dce = false
-
-abbrev pub or_zero : Option ℕ → ℕ
-or_zero (Some line) = line
-or_zero None = 0
+abbrev pub line_or_zero : Option ℕ → ℕ
+line_or_zero (Some own) = network_line at own
+line_or_zero None = 0
 
 abbrev pub route_of : Option (List ℕ) → ℕ
-route_of (Some called) = or_zero (line_for routes called)
+route_of (Some called) = line_or_zero (line_for routes called)
 route_of None = 0
 
 abbrev pub plan : Plan
 plan = record {
   node = node_at;
-  has_user = λ line role. is_dte role;
+  has_user = has_user_at;
   address = address_at;
   route = λ switch called. route_of called;
 }
 
 abbrev pub lines : List LinePlan
 lines =
-    record { dte_node = 3; dce_node = 9; channels = 2; standing = false }
-    ∷ record { dte_node = 4; dce_node = 9; channels = 2; standing = false } ∷ []
+    record { dte_node = 4; dce_node = 9; address = 2 ∷ []; channels = 2; standing = false }
+    ∷ record { dte_node = 5; dce_node = 6; address = []; channels = 2; standing = false }
+    ∷ record { dte_node = 3; dce_node = 9; address = 1 ∷ []; channels = 2; standing = false } ∷ []
 
--- what the laws ask for is met, and so they say it of this switch
+abbrev pub books : List Book
+books = map free_book lines
+
+abbrev pub traces : List (List Origin)
+traces = map (λ line. []) lines
+
+-- ---- node 5 calls node 6 on line 1
+
+abbrev pub parts : CallParts
+parts = record { called = 7 ∷ []; calling = []; facilities = []; user_part = [] }
+
+abbrev pub placed : List Write
+placed = Placed (Some 1) parts ∷ []
+
+abbrev pub user_book : Book
+user_book = free_book (record { dte_node = 5; dce_node = 6; address = []; channels = 2; standing = false })
+
+abbrev pub books_then : List Book
+books_then = set books 1 (all_written Dte placed user_book)
+
+abbrev pub traces_then : List (List Origin)
+traces_then = set traces 1 (all_traced 1 Dte placed user_book [])
+
+-- ---- a line between users alone, without a switch
+
+abbrev pub plan_alone : Plan
+plan_alone = record {
+  node = λ line role. node_at 1 role;
+  has_user = λ line role. true;
+  address = λ line. [];
+  route = λ switch called. 0;
+}
+
+abbrev pub lines_alone : List LinePlan
+lines_alone = record { dte_node = 5; dce_node = 6; address = []; channels = 2; standing = false } ∷ []
+
+-- what the laws ask for is met, and so they say it of this switch, and of the line beside it
 pub record RunLaw : Type 0 where
-  pub planned : IsPlanned plan switch
+  pub planned : IsPlanned plan 3 at switch
   pub between : AreBetween plan 0 lines
-  pub begins : IsNetwork plan switch histories [] (made_world lines) (map (λ line. []) lines)
-  pub goes_on : AfterEvent plan 0 (Brings sabm) switch (on_frame 0 sabm switch) histories [] (made_world lines)
+  pub among : AreAmong at histories.books books
+  pub begins : IsNetwork plan at switch histories [] books (made_world lines) traces
+  pub goes_on : AfterEvent plan at 0 (Brings sabm) switch (on_frame 0 sabm switch) histories [] books
+      (made_world lines) traces
+  pub talks : IsNetwork plan at switch histories [] books_then (after_event (Writes 1 Dte placed) (made_world lines))
+      traces_then
+  pub alone : IsNetwork plan_alone [] (no_switch routes) histories [] (map free_book lines_alone)
+      (made_world lines_alone) (map (λ line. []) lines_alone)

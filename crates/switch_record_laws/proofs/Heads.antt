@@ -25,9 +25,9 @@ use Rattle.switch_record_laws.proofs.Cells.{changed_here, changed_else, slot_rec
 
 -- ---- new records
 
-opens : (c node : ℕ) (own far : Option (List ℕ)) (z : Slot) (b : Book) → HasSlot c b → z.present ≡ Some (length b.records) → Opens c own far b (with_slot Dce c z (with_record (new_record (length b.records) node own far) b))
-opens c node own far z b has e =
-    let r = new_record (length b.records) node own far in
+opens : (c node : ℕ) (own far : Option (List ℕ)) (caller : Option ℕ) (z : Slot) (b : Book) → HasSlot c b → z.present ≡ Some (length b.records) → Opens c own far b (with_slot Dce c z (with_record (new_record (length b.records) node own far caller) b))
+opens c node own far caller z b has e =
+    let r = new_record (length b.records) node own far caller in
     record {
       present = ap (λ (s : Slot). s.present) (slot_here Dce c z (with_record r b) has.0 (subst (λ (n : ℕ). c ≤ n) (sym ((size_record r b).size Dce)) has.1)) ∙ e;
       it = r;
@@ -37,10 +37,10 @@ opens c node own far z b has e =
     }
 
 pub comes_opens : ComesLaw
-comes_opens c parts b has = opens c _ _ _ _ b has refl
+comes_opens c parts b has = opens c _ _ _ _ _ b has refl
 
 pub places_opens : PlacesLaw
-places_opens c parts b has = opens c _ _ _ _ b has refl
+places_opens c parts b has = opens c _ _ _ _ _ b has refl
 
 -- ---- what stays
 

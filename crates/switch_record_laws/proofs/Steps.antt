@@ -76,11 +76,11 @@ renewed_written x d b g g' p q h = changed_written x d with_epoch b g g' renewed
     }
 
 -- a new record is that of a leg on which nothing was done
-new_written : (x : Role) (d : ℕ) (number node : ℕ) (own far : Option (List ℕ)) (z : Slot) (b : Book) (g : Leg) → IsSlot x d b → z.present ≡ Some (length b.records) → g.before ≡ [] → g.epoch ≡ empty_epoch
-    → Writes x d b (with_slot x d z (with_record (new_record number node own far) b)) (Some g)
-new_written x d number node own far z b g is e p q = record {
-  touches = touches_new x d (new_record number node own far) z b e;
-  has = has_new x d (new_record number node own far) z b g is.least is.most e (record {
+new_written : (x : Role) (d : ℕ) (number node : ℕ) (own far : Option (List ℕ)) (caller : Option ℕ) (z : Slot) (b : Book) (g : Leg) → IsSlot x d b → z.present ≡ Some (length b.records) → g.before ≡ [] → g.epoch ≡ empty_epoch
+    → Writes x d b (with_slot x d z (with_record (new_record number node own far caller) b)) (Some g)
+new_written x d number node own far caller z b g is e p q = record {
+  touches = touches_new x d (new_record number node own far caller) z b e;
+  has = has_new x d (new_record number node own far caller) z b g is.least is.most e (record {
     sent_before = ap (λ (es : List Epoch). all_sent es) (sym p);
     sent = ap (λ (u : Epoch). sent_of u) (sym q);
     taken_before = ap (λ (es : List Epoch). all_taken es) (sym p);
@@ -90,10 +90,10 @@ new_written x d number node own far z b g is e p q = record {
 }
 
 came_written : (x : Role) (d : ℕ) (parts : CallParts) (b : Book) (g : Leg) → IsSlot x d b → g.before ≡ [] → g.epoch ≡ empty_epoch → Writes x d b (comes x d parts b) (Some g)
-came_written x d parts b g is p q = new_written x d _ _ _ _ _ b g is refl p q
+came_written x d parts b g is p q = new_written x d _ _ _ _ _ _ b g is refl p q
 
 pub placed_written : (x : Role) (d : ℕ) (calling called : List ℕ) (b : Book) (g : Leg) → IsSlot x d b → g.before ≡ [] → g.epoch ≡ empty_epoch → Writes x d b (places_from x d calling called b) (Some g)
-placed_written x d calling called b g is p q = new_written x d _ _ _ _ _ b g is refl p q
+placed_written x d calling called b g is p q = new_written x d _ _ _ _ _ _ b g is refl p q
 
 slot_still : (x : Role) (d : ℕ) (b b' : Book) → Touches x d b b' → IsSlot x d b → IsSlot x d b'
 slot_still x d b b' t is = record { least = is.least; most = subst (λ (n : ℕ). d ≤ n) (sym (t.size x)) is.most }

@@ -6,7 +6,7 @@ use Rattle.packet_layer.specs.Packets.{CallParts}
 use Rattle.packet_layer.specs.Packets.Note.{Incoming}
 use Rattle.packet_layer.specs.Layer.{Layer}
 use Rattle.call_records.specs.Records.{RecordValue}
-use Rattle.call_records.specs.Book.{Book, side_of, slot_at, told, address_of}
+use Rattle.call_records.specs.Book.{Book, side_of, slot_at, told, address_of, calling_from}
 use Rattle.call_records.specs.Carried.{placed_on}
 use Rattle.call_records.specs.Writes.{Write, all_written}
 use Rattle.switch_laws.specs.World.{Act}
@@ -23,15 +23,17 @@ pub record Opens (channel : ℕ) (own far : Option (List ℕ)) (old b : Book) : 
 abbrev pub HasSlot : (channel : ℕ) → Book → Type 0
 HasSlot c b = (1 ≤ c) × (c ≤ length (side_of Dce b).slots)
 
--- a call that comes in has the called address as its own; a call that is placed has it as the far one, and the calling
--- address as its own. So the two records of a call that is handed on have one called address
+-- a call that comes in has the called address as its own; a call that is placed has it as the far one, and as its own
+-- the line's, or the calling address where the switch's end has none. So the two records of a call that is handed on
+-- have one called address
 abbrev pub ComesLaw : Type 0
 ComesLaw = (c : ℕ) (parts : CallParts) (b : Book) → HasSlot c b
     → Opens c (address_of parts.called) (address_of parts.calling) b (told Dce (Incoming c parts) b)
 
 abbrev pub PlacesLaw : Type 0
 PlacesLaw = (c : ℕ) (parts : CallParts) (b : Book) → HasSlot c b
-    → Opens c (address_of parts.calling) (address_of parts.called) b (placed_on Dce (Some c) parts b)
+    → Opens c (address_of (calling_from (side_of Dce b).address parts.calling)) (address_of parts.called) b
+    (placed_on Dce (Some c) parts b)
 
 -- the number, the node and the addresses of a record stay, whatever is written at an end of its line
 pub record SameHead (r : RecordValue) (n : ℕ) (b : Book) : Type 0 where

@@ -62,6 +62,7 @@ near_record = record {
   node = 9;
   own = Some (2 ∷ []);
   far = None;
+  caller = None;
   sent_before = nothing_sent ∷ [];
   sent = nothing_sent;
   taken_before = record { packets = letter ∷ []; interrupts = []; released = 1 } ∷ [];
@@ -76,6 +77,7 @@ far_record = record {
   node = 9;
   own = Some (1 ∷ []);
   far = Some (2 ∷ []);
+  caller = None;
   sent_before = record { packets = letter ∷ []; interrupts = []; covered = 1 } ∷ [];
   sent = nothing_sent;
   taken_before = nothing_taken ∷ [];

@@ -1,7 +1,10 @@
 //! Calls through a switch.
 
 use crate::steps::{Example, Step};
-use Step::{Due, Elapse, Expires, Flow, Frame, Hears, HearsNothing, Joined, Restart, Send, Sent};
+use Step::{
+    Due, Elapse, Expires, Flow, Frame, Hears, HearsNothing, Joined, Joins, JoinsNothing, Restart,
+    Rests, Send, Sent,
+};
 use link_timers::TimerId;
 use std::alloc::Global;
 use std::process::Abort;
@@ -23,15 +26,17 @@ const BEGINNING: [Step<'static>; 8] = [
 ];
 
 // A call from channel 4 of line 0 to the address 2, which is accepted.
-const CALL: [Step<'static>; 8] = [
+const CALL: [Step<'static>; 10] = [
     Send(0, &[0x10, 0x04, 0x0b, 0x01, 0x20, 0x00]),
     Flow,
     Hears(1, &[0x10, 0x01, 0x0b, 0x11, 0x21, 0x00]),
+    Joins((0, 4), (1, 1)),
     Joined(0, 4, Some((1, 1))),
     Joined(1, 1, Some((0, 4))),
     Send(1, &[0x10, 0x01, 0x0f]),
     Flow,
     Hears(0, &[0x10, 0x04, 0x0f]),
+    JoinsNothing,
 ];
 
 fn after_beginning(rt: &impl Abort, alloc: Global, steps: &[Step<'_>]) {
@@ -66,6 +71,7 @@ fn calls_are_cleared_in_order_of_causes(rt: HostRuntime) {
             Send(1, &[0x10, 0x04, 0x13, 0x00, 0x00]),
             Flow,
             Hears(1, &[0x10, 0x04, 0x17]),
+            JoinsNothing,
         ],
     );
 }
@@ -102,6 +108,32 @@ fn no_channel_is_left_for_a_fifth_call(rt: HostRuntime) {
             Flow,
             Hears(0, &[0x10, 0x04, 0x13, 0x01, 0x00]),
             Joined(2, 1, Some((1, 2))),
+        ],
+    );
+}
+
+#[test]
+fn a_switch_rests_when_all_is_carried_on(rt: HostRuntime) {
+    let mut example = Example::new(&rt, rt.alloc(), 7);
+    example.plays(&rt, &[Rests(false)]);
+    example.plays(&rt, &BEGINNING);
+    example.plays(&rt, &CALL);
+    example.plays(
+        &rt,
+        &[
+            Rests(true),
+            // the far leg is stopped, so a packet waits there
+            Send(1, &[0x10, 0x01, 0x05]),
+            Flow,
+            Rests(true),
+            Send(0, &[0x10, 0x04, 0x00, 0x41]),
+            Flow,
+            HearsNothing(1),
+            Rests(false),
+            Send(1, &[0x10, 0x01, 0x01]),
+            Flow,
+            Hears(1, &[0x10, 0x01, 0x00, 0x41]),
+            Rests(true),
         ],
     );
 }

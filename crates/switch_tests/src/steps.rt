@@ -10,7 +10,7 @@ use packet_codec::{Address, PacketBuf};
 use packet_end::EndParams;
 use std::alloc::Global;
 use std::process::Abort;
-use x25_switch::{LineConfig, Place, Switch, SwitchConfig};
+use x25_switch::{LineConfig, NewJoin, Place, Switch, SwitchConfig};
 
 /// A step of an example.
 #[derive(Clone, Copy, Debug)]
@@ -29,6 +29,12 @@ pub(crate) enum Step<'a> {
     Sent(&'a [u8]),
     /// What a channel is joined to, by line and channel.
     Joined(usize, u8, Option<(usize, u8)>),
+    /// The last call that a frame joined, by line and channel: where it came in, and where it goes on.
+    Joins((usize, u8), (usize, u8)),
+    /// No frame has joined a call since.
+    JoinsNothing,
+    /// Whether the switch is at rest.
+    Rests(bool),
     /// An expiry, and whether the timer ran.
     Expires(usize, TimerId, bool),
     /// Time passes.
@@ -52,6 +58,8 @@ struct Partner {
 pub(crate) struct Example {
     switch: Switch,
     partners: Vec<Partner>,
+    /// The last call that a frame joined, if no step has taken it.
+    joined: Option<NewJoin>,
 }
 
 fn number(text: &[u8]) -> Address {
@@ -72,6 +80,10 @@ fn line_config(address: &[u8], k: u8) -> LineConfig {
         },
         address: number(address),
     }
+}
+
+fn place((line, channel): (usize, u8)) -> Place {
+    Place { line, channel }
 }
 
 impl Example {
@@ -111,7 +123,11 @@ impl Example {
             };
             partners.push(partner).expect(rt, "a partner");
         }
-        let mut example = Example { switch, partners };
+        let mut example = Example {
+            switch,
+            partners,
+            joined: None,
+        };
         example.collect();
         example
     }
@@ -136,7 +152,9 @@ impl Example {
     // A frame arrives at the switch.
     fn arrive(&mut self, line: usize, octets: &[u8]) {
         if line < self.switch.lines() {
-            self.switch.on_frame(line, octets);
+            if let Some(join) = self.switch.receive(line, octets) {
+                self.joined = Some(join);
+            }
             self.collect();
         }
     }
@@ -187,14 +205,20 @@ impl Example {
                 None => false,
             },
             Step::Frame(octets) => {
-                self.arrive(0, octets);
+                if self.switch.lines() == 0 {
+                    return false;
+                }
+                self.switch.on_frame(0, octets);
+                self.collect();
                 true
             }
             Step::Sent(octets) => self.sent(octets),
             Step::Joined(line, channel, other) => {
-                let other = other.map(|(line, channel)| Place { line, channel });
-                self.switch.joins(Place { line, channel }) == other
+                self.switch.joins(Place { line, channel }) == other.map(place)
             }
+            Step::Joins(came_in, placed) => self.joins(came_in, placed),
+            Step::JoinsNothing => self.joined.is_none(),
+            Step::Rests(rests) => self.switch.is_at_rest() == rests,
             Step::Expires(line, id, runs) => self.expires(line, id, runs),
             Step::Elapse(ticks) => {
                 self.switch.elapse(ticks);
@@ -239,6 +263,17 @@ impl Example {
             return false;
         }
         partner.coming.remove(0).as_slice() == octets
+    }
+
+    fn joins(&mut self, came_in: (usize, u8), placed: (usize, u8)) -> bool {
+        let Some(join) = self.joined.take() else {
+            return false;
+        };
+        let joined = NewJoin {
+            came_in: place(came_in),
+            placed: place(placed),
+        };
+        join == joined
     }
 
     fn expires(&mut self, line: usize, id: TimerId, runs: bool) -> bool {

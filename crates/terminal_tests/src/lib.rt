@@ -2,6 +2,12 @@
 #![tactic(auto)]
 
 #[cfg(test)]
+mod editing;
+#[cfg(test)]
+mod messages;
+#[cfg(test)]
+mod parameters;
+#[cfg(test)]
 mod steps;
 #[cfg(test)]
 mod terminals;

@@ -10,6 +10,3 @@ pub use blocks::capture;
 pub use fault::TraceFault;
 pub use frame::{NotAFrame, TracedFrame, read_line};
 pub use program::convert;
-
-#[cfg(test)]
-mod tests;

@@ -8,6 +8,3 @@ mod line;
 pub use datagrams::Datagrams;
 pub use fault::SocketFault;
 pub use line::UdpLine;
-
-#[cfg(test)]
-mod tests;

@@ -66,10 +66,10 @@ standing_begins dte_node dce_node channels = record { has = λ y. has y; once = 
     has : (y : Role) → HasItsRecords y (standing_book (new_book dte_node dce_node channels))
     has Dte c n e =
         let k : 0 ≡ n = (only_present channels c n 0 (record { present = Some 0; placed = Some 0; caller = None }) refl e).0 in
-        (new_record 0 dte_node None None, ap (λ (i : ℕ). slice_get (standing_book (new_book dte_node dce_node channels)).records i) (sym k), refl)
+        (new_record 0 dte_node None None None, ap (λ (i : ℕ). slice_get (standing_book (new_book dte_node dce_node channels)).records i) (sym k), refl)
     has Dce c n e =
         let k : 1 ≡ n = (only_present channels c n 1 (record { present = Some 1; placed = None; caller = Some 0 }) refl e).0 in
-        (new_record 1 dce_node None None, ap (λ (i : ℕ). slice_get (standing_book (new_book dte_node dce_node channels)).records i) (sym k), refl)
+        (new_record 1 dce_node None None (Some 0), ap (λ (i : ℕ). slice_get (standing_book (new_book dte_node dce_node channels)).records i) (sym k), refl)
 
     once : (y : Role) → HasEachOnce y (standing_book (new_book dte_node dce_node channels))
     once Dte c d n e f =
@@ -80,13 +80,13 @@ standing_begins dte_node dce_node channels = record { has = λ y. has y; once = 
         ∙ sym (only_present channels d n 1 (record { present = Some 1; placed = None; caller = Some 0 }) refl f).1
 
     sent : (n : ℕ) (r : RecordValue) → slice_get (standing_book (new_book dte_node dce_node channels)).records n ≡ Some r → HasSent r
-    sent zero r e = subst (λ (z : RecordValue). HasSent z) (same_Some (new_record 0 dte_node None None) r e) (new_has 0 dte_node None None)
-    sent (suc zero) r e = subst (λ (z : RecordValue). HasSent z) (same_Some (new_record 1 dce_node None None) r e) (new_has 1 dce_node None None)
+    sent zero r e = subst (λ (z : RecordValue). HasSent z) (same_Some (new_record 0 dte_node None None None) r e) (new_has 0 dte_node None None None)
+    sent (suc zero) r e = subst (λ (z : RecordValue). HasSent z) (same_Some (new_record 1 dce_node None None (Some 0)) r e) (new_has 1 dce_node None None (Some 0))
     sent (suc (suc n)) r e = absurd (none-some r e)
 
     nothing : (n : ℕ) (r : RecordValue) → slice_get (standing_book (new_book dte_node dce_node channels)).records n ≡ Some r → (edit_of r.steps).held ≡ []
-    nothing zero r e = ap (λ (z : RecordValue). (edit_of z.steps).held) (sym (same_Some (new_record 0 dte_node None None) r e))
-    nothing (suc zero) r e = ap (λ (z : RecordValue). (edit_of z.steps).held) (sym (same_Some (new_record 1 dce_node None None) r e))
+    nothing zero r e = ap (λ (z : RecordValue). (edit_of z.steps).held) (sym (same_Some (new_record 0 dte_node None None None) r e))
+    nothing (suc zero) r e = ap (λ (z : RecordValue). (edit_of z.steps).held) (sym (same_Some (new_record 1 dce_node None None (Some 0)) r e))
     nothing (suc (suc n)) r e = absurd (none-some r e)
 
 book_begins : (dte_node dce_node channels : ℕ) (standing : Bool) → BookBegins (made_book dte_node dce_node channels standing)

@@ -13,7 +13,7 @@ use Rattle.packet_layer.specs.Traffic.Taken.{TakenInterrupt, TakenPacket}
 use Rattle.packet_layer.specs.Channel.{Request, Refusal}
 use Rattle.packet_layer.specs.Channel.Request.{Accept, Clearing, Resetting, Sending, Interrupting, Stopping, Taking, Releasing, Confirming}
 use Rattle.call_records.specs.Records.{RecordValue, PairValue, new_record, changed_at, with_closed, with_epoch, with_sent, with_step, with_taken, with_interrupt_taken, with_interrupt_sent, with_released, with_covered}
-use Rattle.call_records.specs.Book.{Book, Side, Slot, free_slot, side_of, nth_slot, slot_at, with_slot, with_change, changed, with_record, address_of, with_pair, answers, closes, sends, takes, edits, packet_of, told, all_told}
+use Rattle.call_records.specs.Book.{Book, Side, Slot, free_slot, side_of, nth_slot, slot_at, with_slot, with_change, changed, with_record, address_of, calling_from, with_pair, answers, closes, sends, takes, edits, packet_of, told, all_told}
 use Rattle.call_records.specs.Carried.{carried, unless_refused, placed_on}
 use Rattle.call_records.specs.Closing.{closes_if, closes_present, closed_from, all_closed}
 use Rattle.call_records.specs.Writes.{Write, Write as write, all_sent, let_go, written_by, all_written}
@@ -317,11 +317,11 @@ record_holds role X b r has h =
     }
 
 -- a call begins at an end: at that of the PAD no text is held for it
-pub opens_holds : (role : Role) (X Y : ℕ → List ℕ → Type 0) (b : Book) (x : Role) (c : ℕ) (z : Slot) (near far : Option (List ℕ)) → z.present ≡ Some (length b.records)
+pub opens_holds : (role : Role) (X Y : ℕ → List ℕ → Type 0) (b : Book) (x : Role) (c : ℕ) (z : Slot) (near far : Option (List ℕ)) (caller : Option ℕ) → z.present ≡ Some (length b.records)
     → ((d : ℕ) (t : List ℕ) → Y d t → X d t ⊎ ((role ≡ x) × (d ≡ c))) → (role ≡ x → (t : List ℕ) → Y c t → t ≡ []) → BookHolds role X b
-    → BookHolds role Y (with_slot x c z (with_record (new_record (length b.records) (side_of x b).node near far) b))
-opens_holds role X Y b x c z near far new texts none h =
-    let r : RecordValue = new_record (length b.records) (side_of x b).node near far in
+    → BookHolds role Y (with_slot x c z (with_record (new_record (length b.records) (side_of x b).node near far caller) b))
+opens_holds role X Y b x c z near far caller new texts none h =
+    let r : RecordValue = new_record (length b.records) (side_of x b).node near far caller in
     let last : (n : ℕ) → z.present ≡ Some n → slice_get (b.records ++ r ∷ []) n ≡ Some r =
     λ n e. ap (λ (k : ℕ). slice_get (b.records ++ r ∷ []) k) (same_Some n (length b.records) (sym e ∙ new)) ∙ get_last b.records r in
     slot_holds role X Y (with_record r b) x c z (λ n e. (r, last n e, ap (λ (s : Side). s.node) (sym (side_record r b x))))
@@ -330,7 +330,7 @@ opens_holds role X Y b x c z near far new texts none h =
     below_length b.records n there.0 there.1 (same_Some n (length b.records) (sym e ∙ new)))
     texts
     (λ same t y n q e g. ap (λ (w : RecordValue). (edit_of w.steps).held) (same_Some q r (sym g ∙ last n e)) ∙ sym (none same t y))
-    (record_holds role X b r (new_has (length b.records) (side_of x b).node near far) h)
+    (record_holds role X b r (new_has (length b.records) (side_of x b).node near far caller) h)
 
 -- ---- what is written
 
@@ -392,7 +392,7 @@ pub told_holds : (role : Role) (X : ℕ → List ℕ → Type 0) (x : Role) (not
     → ((c : ℕ) (parts : CallParts) → note ≡ Incoming c parts → role ≡ x → (t : List ℕ) → X c t → ⊥) → BookHolds role X b → BookHolds role X (told x note b)
 told_holds role X x (Incoming c parts) b none h =
     opens_holds role X X b x c (record { present = Some (length b.records); placed = (slot_at x c b).placed; caller = (slot_at (other_of x) c b).placed })
-    (address_of parts.called) (address_of parts.calling) refl (λ d t y. inl y) (λ same t y. absurd (none c parts refl same t y)) h
+    (address_of parts.called) (address_of parts.calling) (slot_at (other_of x) c b).placed refl (λ d t y. inl y) (λ same t y. absurd (none c parts refl same t y)) h
 told_holds role X x (Connected c) b none h = h
 told_holds role X x (Closed c cause diagnostic reason) b none h = closes_holds role X x c b h
 told_holds role X x (WasReset c cause diagnostic reason) b none h = quiet_at role X b x c with_epoch epoch_quiet h
@@ -410,7 +410,7 @@ far_placed : (role : Role) (X : ℕ → List ℕ → Type 0) (o : Option ℕ) (p
 far_placed role X None parts b h = h
 far_placed role X (Some c) parts b h =
     opens_holds role X X b (other_of role) c (record { present = Some (length b.records); placed = Some (length b.records); caller = None })
-    (address_of parts.calling) (address_of parts.called) refl (λ d t y. inl y) (λ same t y. absurd (other_differs role (sym same))) h
+    (address_of (calling_from (side_of (other_of role) b).address parts.calling)) (address_of parts.called) None refl (λ d t y. inl y) (λ same t y. absurd (other_differs role (sym same))) h
 
 far_carried : (role : Role) (X : ℕ → List ℕ → Type 0) (c : ℕ) (r : Request) (front : Option Taken) (b : Book) → BookHolds role X b → BookHolds role X (carried (other_of role) c r front b)
 far_carried role X c Accept front b h = answers_holds role X (other_of role) c b h

@@ -308,7 +308,7 @@ one_heard role l (Incoming d parts) ns incoming ports b h =
       came = λ c e. came c (same_Some d c e);
       last = subst (λ (xs : List Note). IncomingLast xs) (sym h.last) tt;
       book =
-          opens_holds role (TextOrNew incoming ports) (TextOrNew (Some d) ports) b role d _ _ _ refl
+          opens_holds role (TextOrNew incoming ports) (TextOrNew (Some d) ports) b role d _ _ _ _ refl
           (λ c t y. elim y [
             | inl o ↦ inl (inl o)
             | inr m ↦ inr (refl, sym (same_Some d c m.0))

@@ -266,5 +266,5 @@ edit_held step o r = ap (λ (ss : List Step). (edit_of ss).held) (edit_steps ste
 
 -- ---- a record that is made
 
-pub new_has : (number node : ℕ) (own far : Option (List ℕ)) → HasSent (new_record number node own far)
-new_has number node own far = record { typed = refl; told = []; of_pad = tt; qualified = refl; interrupts = tt }
+pub new_has : (number node : ℕ) (own far : Option (List ℕ)) (caller : Option ℕ) → HasSent (new_record number node own far caller)
+new_has number node own far caller = record { typed = refl; told = []; of_pad = tt; qualified = refl; interrupts = tt }

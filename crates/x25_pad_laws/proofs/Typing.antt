@@ -258,7 +258,7 @@ module _ (role : Role) (b : Book) (Others : ℕ → List ℕ → Type 0) where
     alone = λ c t o e. not_free t (subst (λ (k : ℕ). Others k t) (sym (same_channel (call_on channel) c e)) o);
     book =
         subst (λ (z : Book). BookHolds role (Joined (Some (call_on channel)) u.held) z) (sym (noted_append role l.notes (notes.Placed channel s.address ∷ []) b))
-        (opens_holds role Others (Joined (Some (call_on channel)) u.held) (noted role l.notes b) role channel _ (address_of []) (address_of s.address) refl
+        (opens_holds role Others (Joined (Some (call_on channel)) u.held) (noted role l.notes b) role channel _ _ (address_of s.address) None refl
         (λ d t y. elim y [
           | inl o ↦ inl o
           | inr m ↦ inr (refl, sym (same_channel (call_on channel) d m.0))

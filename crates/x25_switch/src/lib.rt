@@ -4,4 +4,4 @@
 mod switch;
 
 pub use switch::Switch;
-pub use switch_lines::{LineConfig, MOST_LINES, Place, SwitchConfig};
+pub use switch_lines::{LineConfig, MOST_LINES, NewJoin, Place, SwitchConfig};

@@ -1,11 +1,12 @@
 //! The switch and its events.
 ghost use Rattle.std.specs.Prelude.{◌≡◌, ◌≤◌, ◌<◌, ◌∷◌, [], length, MatchResult, slice_get};
 ghost use Rattle.std.specs.Bool.{OnTrue, OnFalse};
-ghost use Rattle.std.specs.Option.{option_map};
+ghost use Rattle.std.specs.Option.{option_map, option_to_list};
 ghost use Rattle.switch_lines.specs.Lines.{joined_at};
 ghost use Rattle.switch_lines.specs.Making.{made, IsConfig, MadeNot};
+ghost use Rattle.switch_lines.specs.NewJoins.{new_joins};
 ghost use Rattle.switch_lines.specs.Switch.{on_frame, on_timer, timer_runs, restart, elapse};
-ghost use Rattle.switch_lines.specs.Switch.{without_frame, frames_on, due_on};
+ghost use Rattle.switch_lines.specs.Switch.{without_frame, frames_on, due_on, switch_rests};
 
 use address_routes::Routes;
 use frame_codec::FrameBuf;
@@ -13,7 +14,7 @@ use link_timers::TimerId;
 use packet_end::EndFault;
 use std::alloc::Global;
 use std::marker::Model;
-use switch_lines::{Lines, Place, SwitchConfig, check_lines};
+use switch_lines::{Lines, MOST_FRAMES, NewJoin, Place, SwitchConfig, check_lines};
 
 /// A switch: the DCE on up to 64 lines, of which it joins calls (X.25 3 to 5). A call that comes in on one line goes on
 /// to the line of its route, and all that happens on the one is relayed to the other.
@@ -73,9 +74,20 @@ impl Switch {
         requires { line < length self.old.lines }
         ensures { self.new ≡ on_frame line octets.now self.old }
     {
+        let _ = self.receive(line, octets);
+    }
+
+    /// Takes the octets of a frame that a line brings, and answers the call that it joined, if it did. A frame joins no
+    /// more than one.
+    pub fn receive(&mut self, line: usize, octets: &[u8]) -> Option<NewJoin>
+        requires { line < length self.old.lines }
+        ensures join { option_to_list result ≡ new_joins line octets.now self.old }
+        ensures switch { self.new ≡ on_frame line octets.now self.old }
+    {
         self.lines.begin();
-        self.lines.receive(&self.routes, line, octets);
+        let joined = self.lines.receive(&self.routes, line, octets);
         self.lines.finish(&self.routes, line);
+        joined
     }
 
     /// Takes an expiry of a timer of a line, and answers whether the timer ran.
@@ -110,6 +122,15 @@ impl Switch {
         self.lines.out(line, frame)
     }
 
+    /// How many frames wait to go out on a line, at most [`MOST_FRAMES`].
+    pub fn waiting_frames(&self, line: usize) -> usize
+        requires { line < length self.now.lines }
+        ensures count { result ≡ length (frames_on (slice_get self.now.lines line)) }
+        ensures most { result ≤ MOST_FRAMES }
+    {
+        self.lines.waiting_frames(line)
+    }
+
     /// Lets ticks pass, each a twentieth of a second: each timer that runs has so many less, not below 0.
     pub fn elapse(&mut self, ticks: u16)
         ensures { self.new ≡ elapse ticks self.old }
@@ -123,6 +144,14 @@ impl Switch {
         ensures { result ≡ due_on (slice_get self.now.lines line) }
     {
         self.lines.due(line)
+    }
+
+    /// Whether all lines are at rest: each link is up with nothing unacknowledged, and no packet waits to be sent or to
+    /// be carried on.
+    pub fn is_at_rest(&self) -> bool
+        ensures { result ≡ switch_rests self.now }
+    {
+        self.lines.is_at_rest()
     }
 
     /// The channel to which the call on a channel is joined, if there is a call.

@@ -10,6 +10,3 @@ pub use fault::MessageFault;
 pub use message::{Message, MessageBuf, PAIR_LIMIT, Pairs};
 pub use reading::read_message;
 pub use writing::write_message;
-
-#[cfg(test)]
-mod tests;

@@ -1,5 +1,6 @@
 //! How the nodes are made, and how their lines begin.
-ghost use Rattle.std.specs.Prelude.{◌≡◌, ◌≤◌, Some, IfOk, IfErr, OnOk, length, map, slice_get, vec_len};
+ghost use Rattle.std.specs.Prelude.{◌≡◌, ◌≤◌, [], Some, IfOk, IfErr, OnOk, length, map, slice_get, vec_len, is_none};
+ghost use Rattle.std.specs.Prelude.{vec_capacity};
 ghost use Rattle.packet_end.specs.Params.{AreParams};
 ghost use Rattle.packet_host.specs.Making as host_made;
 ghost use Rattle.x25_pad.specs.Making as pad_made;
@@ -8,24 +9,38 @@ ghost use Rattle.call_records.specs.RegisterView.{register_of};
 ghost use Rattle.line_nodes.specs.Node.{Host as host_node, Pad as pad_node};
 ghost use Rattle.line_nodes.specs.NodeView.{node_of};
 ghost use Rattle.net_events.specs.Network as network;
-ghost use Rattle.net_events.specs.Opening.{IsPlan, IsMade, IsNewDte, line_plan, new_node};
+ghost use Rattle.net_events.specs.Opening.{IsPlan, IsMade, IsNewDte, PlannedUser, line_plan, new_node, own_configs};
 ghost use Rattle.link_timers.specs.declared.role.Role.TheVariants as role_is;
 ghost use Rattle.net_config.specs.declared.fault.MakeFault.TheVariants as make_fault_is;
 ghost use Rattle.net_config.specs.Plan.{StandsAlone};
-ghost use Rattle.net_nodes.specs.Making.{AreNew, HaveBegun, HasEnds, Begins, AreFree, stands};
+ghost use Rattle.net_nodes.specs.Making.{AreNew, HaveBegun, HasEnds, PutsFirst, Begins, BeginsAtSwitch};
+ghost use Rattle.net_nodes.specs.Making.{waiting_switch, IsNewNode, IsOfPlan, CanMakeLines, CanBegin, SwitchBegins};
+ghost use Rattle.net_nodes.specs.Making.{IsMadeOf, AreFree, stands};
+ghost use Rattle.net_nodes.specs.NodeView.{kind_of};
+ghost use Rattle.net_nodes.specs.Places.{user_of};
+ghost use Rattle.net_config.specs.PlanView.{add_route, routes_value};
+ghost use Rattle.std.specs.List.{position};
 
-use crate::nodes::{NetLine, Nodes, PlacedNode};
+use crate::nodes::node::{NetNode, NodeKind, network_line};
+use crate::nodes::switching::put_lines;
+use crate::nodes::{NetLine, Nodes};
+use address_routes::{RouteFault, Routes};
 use call_records::Register;
+use line_end::MOST_FRAMES;
 use line_nodes::Node;
 use link_timers::Role;
 use memory_line::{Direction, Line};
-use net_config::{MakeFault, NetPlan, NewKind, NewLine, NewNode};
+use net_config::{
+    MakeFault, NetPlan, NewKind, NewLine, NewNode, NewRoute, NewSwitch, Planned, PlannedKind,
+};
+use net_events::Put;
 use net_turns::{Room, put_frames};
 use packet_end::{EndFault, EndParams};
 use packet_host::{Host, HostConfig};
 use std::alloc::{AllocError, Global};
 use x3_params::Params;
 use x25_pad::{Pad, PadConfig};
+use x25_switch::{LineConfig, Switch, SwitchConfig};
 
 fn new_host(alloc: Global, role: Role, line: EndParams) -> Result<Node, MakeFault>
     requires { AreParams line }
@@ -75,18 +90,106 @@ fn new_node(alloc: Global, node: &NewNode, line: EndParams) -> Result<Node, Make
     }
 }
 
-fn new_nodes(alloc: Global, plan: &NetPlan) -> Result<Vec<PlacedNode>, MakeFault>
+/// A node with users, at its line.
+fn new_user(alloc: Global, plan: &NetPlan, node: &NewNode) -> Result<NodeKind, MakeFault>
+    requires plan { IsPlan plan.now }
+    requires there { IsOfPlan plan.now (PlannedUser node.now) }
+    ensures ok { IfOk result (λ kind. IsNewNode plan.now (PlannedUser node.now) (kind_of kind)) }
+    ensures err { IfErr result (λ fault. fault ≡ make_fault_is.OutOfMemory) }
+{
+    let line = &plan.lines[node.line];
+    Ok(NodeKind::User {
+        line: node.line,
+        node: new_node(alloc, node, line.params)?,
+    })
+}
+
+/// How the own lines of a switch are made.
+fn own_configs(alloc: Global, own: &[usize], plan: &NetPlan) -> Result<Vec<LineConfig>, MakeFault>
+    requires { CanMakeLines own.now plan.now.lines }
+    ensures ok { IfOk result (λ configs. configs.items ≡ own_configs own.now plan.now.lines) }
+    ensures err { IfErr result (λ fault. fault ≡ make_fault_is.OutOfMemory) }
+{
+    let mut configs = Vec::new(alloc);
+    for at in 0..own.len() {
+        let number = network_line(own, at);
+        let line = &plan.lines[number];
+        let Some(address) = line.address else {
+            unreachable!()
+        };
+        let params = line.params;
+        configs.push(LineConfig { params, address })?;
+    }
+    Ok(configs)
+}
+
+/// A route that is refused adds nothing.
+fn add_route(routes: &mut Routes, route: &NewRoute) -> Result<(), MakeFault>
+    ensures ok { OnOk result (routes.new ≡ add_route routes.old route.now) }
+    ensures err { IfErr result (λ fault. fault ≡ make_fault_is.OutOfMemory) }
+{
+    match routes.add(&route.prefix, route.line) {
+        Err(RouteFault::OutOfMemory) => Err(MakeFault::OutOfMemory),
+        Err(RouteFault::Duplicate) => Ok(()),
+        Err(RouteFault::Full) => Ok(()),
+        Ok(()) => Ok(()),
+    }
+}
+
+/// The routes of a switch.
+fn new_routes(alloc: Global, routes: &[NewRoute]) -> Result<Routes, MakeFault>
+    ensures ok { IfOk result (λ made. made ≡ routes_value routes.now) }
+    ensures err { IfErr result (λ fault. fault ≡ make_fault_is.OutOfMemory) }
+{
+    let mut made = Routes::new(alloc)?;
+    for route in routes {
+        add_route(&mut made, route)?;
+    }
+    Ok(made)
+}
+
+/// A switch at its lines.
+fn new_switch(alloc: Global, plan: &NetPlan, switch: &NewSwitch) -> Result<NodeKind, MakeFault>
+    requires { CanMakeLines switch.now.lines plan.now.lines }
+    ensures ok { IfOk result (λ kind. kind_of kind ≡ network.Switching (waiting_switch switch.now plan.now.lines)) }
+    ensures err { IfErr result (λ fault. fault ≡ make_fault_is.OutOfMemory) }
+{
+    let configs = own_configs(alloc, &switch.lines, plan)?;
+    let routes = new_routes(alloc, &switch.routes)?;
+    let own = switch.lines.clone()?;
+    let config = SwitchConfig {
+        lines: &configs,
+        routes,
+    };
+    match Switch::new(alloc, config) {
+        Ok(switch) => Ok(NodeKind::Switching { lines: own, switch }),
+        Err(EndFault::OutOfMemory) => Err(MakeFault::OutOfMemory),
+        Err(EndFault::BadConfig) => unreachable!(),
+    }
+}
+
+/// A node of the plan.
+fn new_kind(alloc: Global, plan: &NetPlan, node: &Planned) -> Result<NodeKind, MakeFault>
+    requires plan { IsPlan plan.now }
+    requires there { IsOfPlan plan.now node.now }
+    ensures ok { IfOk result (λ kind. IsNewNode plan.now node.now (kind_of kind)) }
+    ensures err { IfErr result (λ fault. fault ≡ make_fault_is.OutOfMemory) }
+{
+    match &node.kind {
+        PlannedKind::User(user) => new_user(alloc, plan, user),
+        PlannedKind::Switch(switch) => new_switch(alloc, plan, switch),
+    }
+}
+
+fn new_nodes(alloc: Global, plan: &NetPlan) -> Result<Vec<NetNode>, MakeFault>
     requires { IsPlan plan.now }
     ensures ok { IfOk result (λ nodes. AreNew 0 plan.now nodes.items) }
     ensures err { IfErr result (λ fault. fault ≡ make_fault_is.OutOfMemory) }
 {
     let mut nodes = Vec::new(alloc);
     for node in &plan.nodes {
-        let line = &plan.lines[node.line];
-        nodes.push(PlacedNode {
-            line: node.line,
-            node: new_node(alloc, node, line.params)?,
-        })?;
+        let kind = new_kind(alloc, plan, node)?;
+        nodes.push(NetNode { kind })?;
     }
     Ok(nodes)
 }
@@ -110,7 +213,8 @@ fn free_register(alloc: Global, lines: &[NewLine]) -> Result<Register, MakeFault
 {
     let mut register = Register::new(alloc)?;
     for line in lines {
-        register.add_line(alloc, line.dte, line.dce, line.params.channels)?;
+        let channels = line.params.channels;
+        register.add_line(alloc, line.dte, line.dce, line.address, channels)?;
     }
     Ok(register)
 }
@@ -130,33 +234,57 @@ fn new_register(alloc: Global, plan: &NetPlan) -> Result<Register, MakeFault>
     Ok(Register::standing(alloc, line.dte, line.dce, channels)?)
 }
 
-/// Empties a line, and puts what its nodes have to send, that of the DTE first.
+/// Puts all frames that wait at a node with users on its line; those of a switch wait.
+fn put_user_frames<L: Line>(
+    node: &mut NetNode,
+    number: usize,
+    line: &mut L,
+    direction: Direction,
+    puts: &mut Vec<Put>,
+)
+    requires empty { puts.old.items ≡ [] }
+    requires room { MOST_FRAMES ≤ vec_capacity puts.old }
+    ensures user { (n : network.PlacedNode) → node.old ≡ network.User n
+        → PutsFirst L.service direction n (L.flights line.old) node.new (L.flights line.new) }
+    ensures switch { (n : network.PlacedSwitch) → node.old ≡ network.Switching n
+        → (node.new ≡ node.old) × (L.flights line.new ≡ L.flights line.old) }
+{
+    match &mut node.kind {
+        NodeKind::User { node, .. } => put_frames(node, number, line, direction, puts),
+        NodeKind::Switching { .. } => {}
+    }
+}
+
+/// Empties a line, and puts what its nodes with users have to send, that of the DTE first.
 fn begin<L: Line>(
     alloc: Global,
-    nodes: &mut Vec<PlacedNode>,
+    nodes: &mut Vec<NetNode>,
     number: usize,
     plan: &NewLine,
     line: &mut L,
 ) -> Result<(), AllocError>
     requires { HasEnds plan.now nodes.old.items }
-    ensures { (dte dce : network.PlacedNode) → slice_get nodes.old.items plan.now.dte ≡ Some dte
-        → slice_get nodes.old.items plan.now.dce ≡ Some dce
+    ensures users { (dte dce : network.PlacedNode) → slice_get nodes.old.items plan.now.dte ≡ Some (network.User dte)
+        → slice_get nodes.old.items plan.now.dce ≡ Some (network.User dce)
         → OnOk result (Begins L.service plan.now dte dce nodes.old.items nodes.new.items (L.flights line.new)) }
+    ensures switch { (dte : network.PlacedNode) (dce : network.PlacedSwitch)
+        → slice_get nodes.old.items plan.now.dte ≡ Some (network.User dte)
+        → slice_get nodes.old.items plan.now.dce ≡ Some (network.Switching dce)
+        → OnOk result (BeginsAtSwitch L.service plan.now dte dce nodes.old.items nodes.new.items
+        (L.flights line.new)) }
 {
     let mut first = Room::new(alloc, 0)?;
     let mut second = Room::new(alloc, 0)?;
     line.empty();
-    let dte = &mut nodes[plan.dte];
-    put_frames(
-        &mut dte.node,
+    put_user_frames(
+        &mut nodes[plan.dte],
         number,
         line,
         Direction::FromDte,
         &mut first.frames,
     );
-    let dce = &mut nodes[plan.dce];
-    put_frames(
-        &mut dce.node,
+    put_user_frames(
+        &mut nodes[plan.dce],
         number,
         line,
         Direction::FromDce,
@@ -169,7 +297,7 @@ fn begin<L: Line>(
 fn begin_lines<L: Line>(
     alloc: Global,
     plan: &NetPlan,
-    nodes: &mut Vec<PlacedNode>,
+    nodes: &mut Vec<NetNode>,
     lines: Vec<L>,
 ) -> Result<Vec<NetLine<L>>, MakeFault>
     requires plan { IsPlan plan.now }
@@ -195,8 +323,59 @@ fn begin_lines<L: Line>(
     Ok(begun)
 }
 
+/// Puts what a switch has to send on its lines.
+fn begin_switch<L: Line>(
+    alloc: Global,
+    node: &mut NetNode,
+    lines: &mut Vec<NetLine<L>>,
+) -> Result<(), MakeFault>
+    requires { (n : network.PlacedSwitch) → node.old ≡ network.Switching n → CanBegin n lines.old.items }
+    ensures ok { (n : network.PlacedSwitch) → node.old ≡ network.Switching n
+        → OnOk result (SwitchBegins L.service n lines.old.items node.new lines.new.items) }
+    ensures err { IfErr result (λ fault. fault ≡ make_fault_is.OutOfMemory) }
+{
+    match &mut node.kind {
+        NodeKind::User { .. } => {}
+        NodeKind::Switching {
+            lines: own,
+            switch,
+            ..
+        } => {
+            let mut puts = Vec::with_capacity(alloc, switch.lines() * MOST_FRAMES)?;
+            put_lines(switch, own, lines, false, &mut puts);
+        }
+    }
+    Ok(())
+}
+
+/// The place of the switch, if there is one.
+fn switch_place(nodes: &[NetNode]) -> Option<usize>
+    ensures { result ≡ position (λ node. is_none (user_of node)) nodes.now }
+{
+    nodes.iter().position(|node| node.is_switch())
+}
+
+/// Puts what the switch of a network has to send on its lines, if there is a switch.
+fn begin_switches<L: Line>(
+    alloc: Global,
+    plan: &NetPlan,
+    nodes: &mut Vec<NetNode>,
+    lines: &mut Vec<NetLine<L>>,
+) -> Result<(), MakeFault>
+    requires plan { IsPlan plan.now }
+    requires nodes { AreNew (length plan.now.lines) plan.now nodes.old.items }
+    requires lines { HaveBegun L.service (length plan.now.lines) plan.now lines.old.items }
+    ensures ok { OnOk result (IsMadeOf L.service plan.now nodes.new.items lines.new.items) }
+    ensures err { IfErr result (λ fault. fault ≡ make_fault_is.OutOfMemory) }
+{
+    match switch_place(nodes) {
+        Some(place) => begin_switch(alloc, &mut nodes[place], lines),
+        None => Ok(()),
+    }
+}
+
 impl<L: Line> Nodes<L> {
-    /// Makes the nodes of a plan on these lines, each of which is emptied first; where no call stands both its ends
+    /// Makes the nodes of a plan on these lines, each of which is emptied first; where no call stands both ends of a line
     /// send a frame to begin with. It is refused for want of memory.
     pub fn new(alloc: Global, plan: &NetPlan, lines: Vec<L>) -> Result<Self, MakeFault>
         requires plan { IsPlan plan.now }
@@ -207,7 +386,8 @@ impl<L: Line> Nodes<L> {
     {
         let mut nodes = new_nodes(alloc, plan)?;
         let register = new_register(alloc, plan)?;
-        let lines = begin_lines(alloc, plan, &mut nodes, lines)?;
+        let mut lines = begin_lines(alloc, plan, &mut nodes, lines)?;
+        begin_switches(alloc, plan, &mut nodes, &mut lines)?;
         Ok(Nodes {
             alloc,
             nodes,

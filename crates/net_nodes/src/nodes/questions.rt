@@ -2,22 +2,14 @@
 ghost use Rattle.std.specs.Prelude.{◌≡◌, map};
 ghost use Rattle.std.specs.List.{list_all};
 ghost use Rattle.call_records.specs.RecordView.{shown, pair_of};
-ghost use Rattle.net_events.specs.Network.{all_elapsed, elapsed_node};
+ghost use Rattle.net_events.specs.Network.{all_elapsed};
 ghost use Rattle.net_nodes.specs.Due.{net_due};
 ghost use Rattle.net_nodes.specs.Questions.{net_confirmed, net_rests, is_empty, rests};
 
-use crate::nodes::{NetLine, Nodes, PlacedNode};
+use crate::nodes::{NetLine, Nodes};
 use call_records::{Pair, Record};
 use memory_line::{Direction, Line};
 use net_events::Event;
-
-impl PlacedNode {
-    fn elapse(&mut self, ticks: u16)
-        ensures { self.new ≡ elapsed_node ticks self.old }
-    {
-        self.node.elapse(ticks);
-    }
-}
 
 impl<L: Line> NetLine<L> {
     /// Whether no frame is in flight.
@@ -56,7 +48,7 @@ impl<L: Line> Nodes<L> {
     fn are_nodes_at_rest(&self) -> bool
         ensures { result ≡ list_all rests self.now.nodes }
     {
-        self.nodes.iter().all(|placed| placed.node.is_at_rest())
+        self.nodes.iter().all(|node| node.is_at_rest())
     }
 
     /// Whether nothing is in flight, unacknowledged, owed, or waits to be sent or taken.
@@ -73,34 +65,32 @@ impl<L: Line> Nodes<L> {
         if node >= self.nodes.len() {
             return false;
         }
-        let placed = &self.nodes[node];
-        let Ok(channel) = self.channel(placed.line, channel) else {
+        let node = &self.nodes[node];
+        let Some(line) = node.line() else {
             return false;
         };
-        placed.node.confirmed(channel)
+        let Ok(channel) = self.channel(line, channel) else {
+            return false;
+        };
+        node.confirmed(channel)
     }
 
     /// Lets ticks pass.
     pub fn elapse(&mut self, ticks: u16)
         ensures { self.new ≡ all_elapsed ticks self.old }
     {
-        for placed in self.nodes.iter_mut() {
-            placed.elapse(ticks);
+        for node in self.nodes.iter_mut() {
+            node.elapse(ticks);
         }
     }
 
-    /// The expiry of the first timer without a tick left, of the first node that has one.
+    /// The expiry of the first timer without a tick left, of the first node that has one, and there of the first line.
     pub fn next_due(&self) -> Option<Event>
         ensures { result ≡ net_due self.now }
     {
         for node in 0..self.nodes.len() {
-            let placed = &self.nodes[node];
-            if let Some(timer) = placed.node.due() {
-                return Some(Event::Expire {
-                    node,
-                    line: placed.line,
-                    timer,
-                });
+            if let Some((line, timer)) = self.nodes[node].due() {
+                return Some(Event::Expire { node, line, timer });
             }
         }
         None

@@ -1,7 +1,11 @@
 //! What comes to the nodes at their lines.
-ghost use Rattle.std.specs.Prelude.{◌≡◌};
+ghost use Rattle.std.specs.Prelude.{◌≡◌, false};
+ghost use Rattle.switch_laws.specs.Turn.{AreOctets};
+ghost use Rattle.memory_line.specs.declared.line.Direction.TheVariants as direction_is;
 ghost use Rattle.net_events.specs.declared.event.Event.TheVariants as event_is;
-ghost use Rattle.net_nodes.specs.Places.{IsStanding};
+ghost use Rattle.net_events.specs.AtSwitch.{Hears};
+ghost use Rattle.net_events.specs.EventView.{switch_event_of};
+ghost use Rattle.net_nodes.specs.Places.{IsStanding, HearsAt, IsOwnLine, is_switch_at};
 ghost use Rattle.net_nodes.specs.Happening.{Happens};
 ghost use Rattle.net_nodes.specs.Steps.{hearer};
 
@@ -9,7 +13,7 @@ use crate::nodes::turn::serve_at;
 use crate::nodes::{LineEnd, Nodes};
 use link_timers::{Role, TimerId};
 use memory_line::{Direction, Line};
-use net_events::{Answer, NodeEvent, Outcome, StepFault};
+use net_events::{Answer, NodeEvent, Outcome, StepFault, SwitchEvent};
 use net_turns::{MOST_WRITES, Room, bare_answer};
 
 /// The end that hears what is sent in a direction.
@@ -22,6 +26,14 @@ fn hearer(direction: Direction) -> Role
     }
 }
 
+/// What a switch hears on an own line: octets.
+fn frame_heard(own: usize, octets: &[u8]) -> SwitchEvent<'_>
+    ensures event { switch_event_of result ≡ Hears own octets.now }
+    ensures octets { AreOctets octets.now }
+{
+    SwitchEvent::Hears(own, octets)
+}
+
 impl<L: Line> Nodes<L> {
     /// The first frame in flight in a direction arrives.
     pub(super) fn deliver(&mut self, line: usize, direction: Direction) -> Result<Answer, StepFault>
@@ -31,6 +43,21 @@ impl<L: Line> Nodes<L> {
         if line >= self.lines.len() {
             return Err(StepFault::NoSuchNode);
         }
+        let dce = self.lines[line].dce;
+        match direction {
+            Direction::FromDte => match self.own_line(line, dce) {
+                Some(own) => self.deliver_to_switch(line, dce, own),
+                None => self.deliver_to_user(line, direction),
+            },
+            Direction::FromDce => self.deliver_to_user(line, direction),
+        }
+    }
+
+    /// It arrives at a node with users.
+    fn deliver_to_user(&mut self, line: usize, direction: Direction) -> Result<Answer, StepFault>
+        requires { HearsAt line (hearer direction) self.old }
+        ensures { Happens L.service (event_is.Deliver line direction) self.old result self.new }
+    {
         let room = Room::new(self.alloc, 0)?;
         self.register.open(line, MOST_WRITES)?;
         let net_line = &mut self.lines[line];
@@ -44,6 +71,25 @@ impl<L: Line> Nodes<L> {
         let event = NodeEvent::Hears(frame.as_slice());
         let (nodes, register) = (&mut self.nodes, &mut self.register);
         serve_at(nodes, net_line, register, end, &event, room)
+    }
+
+    /// It arrives at the switch of this place, on an own line of it.
+    fn deliver_to_switch(
+        &mut self,
+        line: usize,
+        place: usize,
+        own: usize,
+    ) -> Result<Answer, StepFault>
+        requires standing { IsStanding self.old }
+        requires switch { IsOwnLine line place own self.old }
+        ensures { Happens L.service (event_is.Deliver line direction_is.FromDte) self.old result self.new }
+    {
+        let puts = self.room_at_switch(place)?;
+        let Some(frame) = self.lines[line].line.take(Direction::FromDte) else {
+            return Ok(bare_answer(self.alloc, Outcome::Delivered(false)));
+        };
+        let event = frame_heard(own, frame.as_slice());
+        Ok(self.switch_acts(place, &event, puts))
     }
 
     /// The first frame in flight in a direction is lost.
@@ -67,6 +113,11 @@ impl<L: Line> Nodes<L> {
         requires { IsStanding self.old }
         ensures { Happens L.service (event_is.Expire node line timer) self.old result self.new }
     {
+        if let Some(own) = self.own_line(line, node) {
+            let puts = self.room_at_switch(node)?;
+            let event = SwitchEvent::Expires(own, timer);
+            return Ok(self.switch_acts(node, &event, puts));
+        }
         let end = self.end_of(node)?;
         if end.line != line {
             return Err(StepFault::NoSuchNode);
@@ -89,9 +140,22 @@ impl<L: Line> Nodes<L> {
         self.act(end, &NodeEvent::Relinks)
     }
 
-    /// A node begins anew, and its line loses all frames.
+    /// A node begins anew, and its lines lose all frames.
     pub(super) fn restart(&mut self, node: usize) -> Result<Answer, StepFault>
         requires { IsStanding self.old }
+        ensures { Happens L.service (event_is.Restart node) self.old result self.new }
+    {
+        if self.is_switch(node) {
+            let puts = self.room_at_switch(node)?;
+            return Ok(self.switch_acts(node, &SwitchEvent::Restarts, puts));
+        }
+        self.restart_user(node)
+    }
+
+    /// A node with users begins anew.
+    fn restart_user(&mut self, node: usize) -> Result<Answer, StepFault>
+        requires standing { IsStanding self.old }
+        requires user { is_switch_at node self.old ≡ false }
         ensures { Happens L.service (event_is.Restart node) self.old result self.new }
     {
         let end = self.end_of(node)?;

@@ -1,22 +1,56 @@
-//! The turn of a node at its end of a line.
-ghost use Rattle.std.specs.Prelude.{◌≡◌, Some, MatchResult, slice_get};
+//! The turn of a node with users at its end of a line.
+ghost use Rattle.std.specs.Prelude.{◌≡◌, ◌≤◌, Some, MatchResult, OnOk, OnErr, slice_get, vec_capacity};
 ghost use Rattle.call_records.specs.RegisterView.{register_of};
 ghost use Rattle.net_events.specs.EventView.{event_of};
 ghost use Rattle.net_events.specs.Network as network;
-ghost use Rattle.net_turns.specs.Served.{HasPlaces, EventHasPlaces};
-ghost use Rattle.net_nodes.specs.Turns.{CanServe, HadTurn, HadNone, CanAct, LeavesLine, Acts};
+ghost use Rattle.net_events.specs.NodeEvents.{turn_of};
+ghost use Rattle.net_turns.specs.Outcomes.{IsAnswered, text_of};
+ghost use Rattle.net_turns.specs.Served.{IsEmpty, HasPlaces, EventHasPlaces};
+ghost use Rattle.net_nodes.specs.Turns.{IsServable, UserServed, CanServe, HadTurn, HadNone, CanAct, LeavesLine, Acts};
 
-use crate::nodes::{LineEnd, NetLine, Nodes, PlacedNode};
-use call_records::Register;
-use line_nodes::{Place, TerminalEvent};
+use crate::nodes::node::{NetNode, NodeKind};
+use crate::nodes::{LineEnd, NetLine, Nodes};
+use call_records::{Book, Register};
+use line_nodes::{NodeFault, Place, TerminalEvent};
 use link_timers::Role;
 use memory_line::Line;
-use net_events::{Answer, NodeEvent, StepFault};
+use net_events::{Answer, NodeEvent, Outcome, StepFault};
 use net_turns::{MOST_TEXT, MOST_WRITES, NetPlace, Room, serve};
+
+/// Serves an event at a node with users.
+fn serve_user<L: Line>(
+    node: &mut NetNode,
+    at: NetPlace,
+    event: &NodeEvent<'_>,
+    line: &mut L,
+    book: &mut Book,
+    room: &mut Room,
+) -> Result<Outcome, NodeFault>
+    requires user { IsServable (event_of event.now) node.old }
+    requires writes { MOST_WRITES ≤ book.old.room }
+    requires pairs { 1 ≤ book.old.pairs }
+    requires empty { IsEmpty room.old }
+    requires places { EventHasPlaces (event_of event.now) (vec_capacity room.old.text) }
+    ensures answer { (n : network.PlacedNode) → node.old ≡ network.User n
+        → IsAnswered (event_of event.now) n.node result }
+    ensures text { (n : network.PlacedNode) → node.old ≡ network.User n
+        → OnOk result (room.new.text.items ≡ text_of (event_of event.now) n.node) }
+    ensures served { (n : network.PlacedNode) → node.old ≡ network.User n
+        → OnOk result (UserServed L.service at (turn_of (event_of event.now) at.place.role n.node book.old.book) n
+        (L.flights line.old) room.new.frames.items room.new.notes.items node.new (L.flights line.new) book.new.book) }
+    ensures node { OnErr result (node.new ≡ node.old) }
+    ensures line { OnErr result (line.new ≡ line.old) }
+    ensures book { OnErr result (book.new ≡ book.old) }
+{
+    match &mut node.kind {
+        NodeKind::User { node, .. } => serve(node, at, event, line, book, room),
+        NodeKind::Switching { .. } => unreachable!(),
+    }
+}
 
 /// Serves an event at the node at an end of a line, at which the register is open, and answers it.
 pub(super) fn serve_at<L: Line>(
-    nodes: &mut Vec<PlacedNode>,
+    nodes: &mut Vec<NetNode>,
     net_line: &mut NetLine<L>,
     register: &mut Register,
     end: LineEnd,
@@ -25,7 +59,7 @@ pub(super) fn serve_at<L: Line>(
 ) -> Result<Answer, StepFault>
     requires { CanServe end (event_of event.now) nodes.old.items net_line.old register.old room }
     ensures { (n : network.PlacedNode)
-        → slice_get nodes.old.items (network.place_at end.role net_line.old) ≡ Some n
+        → slice_get nodes.old.items (network.place_at end.role net_line.old) ≡ Some (network.User n)
         → MatchResult result
         (λ answer. HadTurn L.service end (event_of event.now) n nodes.old.items net_line.old (register_of register.old)
         answer nodes.new.items net_line.new (register_of register.new))
@@ -43,9 +77,8 @@ pub(super) fn serve_at<L: Line>(
             node,
         },
     };
-    let placed = &mut nodes[node];
-    let served = serve(
-        &mut placed.node,
+    let served = serve_user(
+        &mut nodes[node],
         at,
         event,
         &mut net_line.line,

@@ -1,33 +1,49 @@
 //! Calls that come in (X.25 4.1).
 ghost use Rattle.std.specs.Prelude.{◌≡◌, IfOk, OnErr, slice_get};
+ghost use Rattle.std.specs.Option.{option_to_list};
 ghost use Rattle.packet_codec.specs.Packet.{IsCallValue};
 ghost use Rattle.packet_codec.specs.View.{call_view};
 ghost use Rattle.packet_layer.specs.Octets.{parts_of};
 ghost use Rattle.switch_lines.specs.Calling.{answer_of};
+ghost use Rattle.switch_lines.specs.NewJoins.{join_of};
 ghost use Rattle.switch_lines.specs.Switch.{answer, answer_on, answered, forwarded, place_call, with_join};
 
 use crate::direction::Direction;
 use crate::lines::Lines;
-use crate::place::{Joined, Place};
+use crate::place::{Joined, NewJoin, Place};
 use address_routes::Routes;
 use packet_codec::{CallData, clear_cause, diagnostic};
 use packet_layer::{CallFault, Request};
 
 impl Lines {
-    // A call came in on a channel: it goes on and is joined, or is cleared.
-    pub(super) fn answer(&mut self, routes: &Routes, place: Place, call: &CallData<'_>)
+    // A call came in on a channel: it goes on and is joined, or is cleared. Answers the join.
+    pub(super) fn answer(
+        &mut self,
+        routes: &Routes,
+        place: Place,
+        call: &CallData<'_>,
+    ) -> Option<NewJoin>
         requires { IsCallValue (call_view call.now) }
-        ensures { let parts = parts_of (call_view call.now) in
+        ensures join { option_to_list result
+            ≡ join_of (answer routes.now self.old (parts_of (call_view call.now))) place }
+        ensures lines { let parts = parts_of (call_view call.now) in
             self.new ≡ answered (answer routes.now self.old parts) place parts self.old }
     {
         match self.forward(routes, place.line, call) {
-            Ok(other) => self.join(place, other),
+            Ok(other) => {
+                self.join(place, other);
+                Some(NewJoin {
+                    came_in: place,
+                    placed: other,
+                })
+            }
             Err(cause) => {
                 let request = Request::Clear {
                     cause,
                     diagnostic: diagnostic::NO_INFORMATION,
                 };
                 self.ask(place, &request);
+                None
             }
         }
     }

@@ -1,8 +1,9 @@
 //! What happens on a line, and the end of an event.
-ghost use Rattle.std.specs.Prelude.{◌≡◌, ◌<◌, ◌++◌, true, false, None, length, map};
+ghost use Rattle.std.specs.Prelude.{◌≡◌, ◌<◌, ◌++◌, true, false, None, length, map, slice_get};
 ghost use Rattle.std.specs.List.{list_any};
 ghost use Rattle.arrayvec.specs.ArrayVec.{array_vec_len};
 ghost use Rattle.packet_end.specs.PacketEnd as end;
+ghost use Rattle.switch_lines.specs.NewJoins.{joins_acted};
 ghost use Rattle.switch_lines.specs.OfLine.{AreRead};
 ghost use Rattle.switch_lines.specs.Alone.{finished_alone, offered_alone};
 ghost use Rattle.switch_lines.specs.Switch.{acted, all_begun, all_relinked, relinks_of, to_relink, offering_from};
@@ -10,6 +11,7 @@ ghost use Rattle.switch_lines.specs.Switch.{may_offer, with_end, without_joins};
 
 use crate::lines::touched::{begin_lines, first_to_relink, offer_lines, settle_lines};
 use crate::lines::{LineList, Lines};
+use crate::place::NewJoin;
 use address_routes::Routes;
 use arrayvec::ArrayVec;
 use line_set::LineSet;
@@ -27,15 +29,17 @@ impl Lines {
         self.untaken = LineSet::new();
     }
 
-    /// Takes the octets of a frame on a line, and heeds what it tells.
-    pub fn receive(&mut self, routes: &Routes, line: usize, octets: &[u8])
+    /// Takes the octets of a frame on a line, and heeds what it tells. Answers the first call that is joined then, if
+    /// one is.
+    pub fn receive(&mut self, routes: &Routes, line: usize, octets: &[u8]) -> Option<NewJoin>
         requires there { line < length self.old }
         requires read { AreRead self.old }
-        ensures { self.new ≡ acted routes.now line (λ e. end.received e octets.now) self.old }
+        ensures join { result ≡ slice_get (joins_acted routes.now line (λ e. end.received e octets.now) self.old) 0 }
+        ensures lines { self.new ≡ acted routes.now line (λ e. end.received e octets.now) self.old }
     {
         self.touched.insert(line);
         self.lines[line].receive(octets);
-        self.heed_line(routes, line);
+        self.heed_line(routes, line)
     }
 
     /// Takes an expiry of a timer of a line, and heeds what it tells.
@@ -46,7 +50,7 @@ impl Lines {
     {
         self.touched.insert(line);
         self.lines[line].expire(id);
-        self.heed_line(routes, line);
+        let _ = self.heed_line(routes, line);
     }
 
     // Sets the link of a line up anew, and heeds what that tells.
@@ -57,7 +61,7 @@ impl Lines {
     {
         self.touched.insert(line);
         self.lines[line].relink();
-        self.heed_line(routes, line);
+        let _ = self.heed_line(routes, line);
     }
 
     /// Ends an event of a line: links that have to be set up anew are, what may go on is relayed on the joins of this

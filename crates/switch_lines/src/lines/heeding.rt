@@ -1,35 +1,42 @@
 //! All that a line tells.
 ghost use Rattle.std.specs.Prelude.{◌≡◌, length, slice_get};
+ghost use Rattle.std.specs.Option.{option_to_list};
 ghost use Rattle.packet_end.specs.PacketEnd.{without_first_note};
 ghost use Rattle.packet_layer.specs.NoteView.{note_of, maybe_note};
 ghost use Rattle.switch_lines.specs.Lines.{changed};
+ghost use Rattle.switch_lines.specs.NewJoins.{joins_of_note, joins_heeded};
 ghost use Rattle.switch_lines.specs.OfLine.{notes_on};
 ghost use Rattle.switch_lines.specs.Switch.{heed, notes_heeded, with_end};
 
 use crate::lines::Lines;
-use crate::place::Place;
+use crate::place::{NewJoin, Place};
 use address_routes::Routes;
 use packet_layer::LayerNote;
 
 impl Lines {
-    // Heeds all that the end of a line tells.
-    pub(super) fn heed_line(&mut self, routes: &Routes, line: usize)
-        ensures { self.new ≡ notes_heeded routes.now line self.old }
+    // Heeds all that the end of a line tells, and answers the first call that is joined then, if one is.
+    pub(super) fn heed_line(&mut self, routes: &Routes, line: usize) -> Option<NewJoin>
+        ensures join { result ≡ slice_get (joins_heeded routes.now line self.old) 0 }
+        ensures lines { self.new ≡ notes_heeded routes.now line self.old }
     {
+        let mut joined = None;
         for _ in 0..self.waiting_notes(line) {
             if let Some(note) = self.next_note(line) {
-                self.heed(routes, line, note);
+                let join = self.heed(routes, line, note);
+                joined = joined.or(join);
             }
         }
+        joined
     }
 
-    // What a note of a line makes of the joins.
-    fn heed(&mut self, routes: &Routes, line: usize, note: LayerNote)
-        ensures { self.new ≡ heed routes.now line (note_of note) self.old }
+    // What a note of a line makes of the joins. Answers the call that it joins, if it does.
+    fn heed(&mut self, routes: &Routes, line: usize, note: LayerNote) -> Option<NewJoin>
+        ensures join { option_to_list result ≡ joins_of_note routes.now line (note_of note) self.old }
+        ensures lines { self.new ≡ heed routes.now line (note_of note) self.old }
     {
         match note {
             LayerNote::Incoming(channel, call) => {
-                self.answer(routes, Place { line, channel }, &call.data());
+                return self.answer(routes, Place { line, channel }, &call.data());
             }
             LayerNote::Connected(channel) => self.tell_connected(Place { line, channel }),
             LayerNote::Closed {
@@ -49,6 +56,7 @@ impl Lines {
                 self.tell_covered(Place { line, channel }, count);
             }
         }
+        None
     }
 
     // How many notes of a line wait.

@@ -3,7 +3,7 @@ use Rattle.net_events.specs.Opening.{IsPlan}
 use Rattle.net_config.specs.Served.{is_served}
 use Rattle.net_config.specs.Plan.{StandsAlone}
 use Rattle.net_config.proofs.Answering.{on_ok, if_ok, if_err, no_memory}
-use Rattle.net_config.proofs.Planned.{plan_law}
+use Rattle.net_config.proofs.Planning.{plan_law}
 use Rattle.net_config.proofs.plan.plan_of.Goals as goal
 
 pub returns : goal.returns

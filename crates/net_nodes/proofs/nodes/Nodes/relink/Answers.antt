@@ -3,7 +3,7 @@ use Rattle.link_timers.specs.declared.role.Role.TheVariants.{Dte}
 use Rattle.net_events.specs.NodeEvents.{Relinks}
 use Rattle.net_events.specs.Network.{Network}
 use Rattle.net_nodes.proofs.Places.{at_index}
-use Rattle.net_nodes.proofs.Happening.{can_at, relinked}
+use Rattle.net_nodes.proofs.Happening.{can_relink, relinked}
 use Rattle.net_nodes.proofs.nodes.Nodes.relink.Goals as goal
 
 pub act-requires-clause-can : goal.act-requires-clause-can
@@ -12,7 +12,7 @@ act-requires-clause-can g c =
     let same = ap (λ (s : Network). s.lines) c.self.view_is in
     let h : c.args.line < length s.lines = (let count = ap length same in omega (arith, c.if-line-len.false, c.len.ensures, count)) in
     let l = at_index s.lines c.args.line h in
-    can_at (record { line = c.args.line; role = Dte }) Relinks s c.requires l.0 l.1 (λ n. tt)
+    can_relink c.args.line s c.requires l.0 l.1
 
 pub returns : goal.returns
 returns g c =

@@ -1,39 +1,21 @@
-use Rattle.std.proofs.Common.{slice_get, refl, sym, ap, ◌∙◌, subst}
-use Rattle.call_records.specs.RegisterView.{register_of}
-use Rattle.net_events.specs.NodeEvents.{Restarts}
-use Rattle.net_events.specs.Network.{NetLine, place_at}
-use Rattle.net_nodes.specs.Places.{IsStanding, IsPlaceOf}
-use Rattle.net_nodes.proofs.Places.{found, within}
-use Rattle.net_nodes.proofs.Acting.{can_serve, acts_anew, turned_from, same_place}
-use Rattle.net_nodes.proofs.Happening.{registered_at, quiet_at, at_end_of, began_anew}
+use Rattle.std.proofs.Common.{◌≡◌, sym, ap, ◌∙◌, refl}
+use Rattle.net_events.specs.AtSwitch.{Restarts}
+use Rattle.net_nodes.proofs.SwitchTurns.{switch_found, can_switch, restarted}
 use Rattle.net_nodes.proofs.nodes.Nodes.restart.Goals as goal
 
-pub serve_at-requires : goal.serve_at-requires
-serve_at-requires g c =
-    let end = c.in_ok-end.end in
-    let lines = c.self.inside.lines.items in
-    let st = subst IsStanding (sym c.self.view_is) c.requires in
-    let p = subst (IsPlaceOf c.args.node end) (sym c.self.view_is) c.in_ok-end.ensures in
-    let same = c.net_line.view_is ∙ found lines end.line _ c.index_mut-net_line.result.now p.line (within lines end.line p.line p.line_there) c.index_mut-net_line.ensures.value p.line_there in
-    can_serve end Restarts c.self.inside.nodes.items p.line p.node (at_end_of c.args.node end _ p) tt (quiet_at c.args.node end _ st p) c.self.inside.register (registered_at end.line p.line _ st p.line_there) _ (g.L.Line.flights c.empty.new.self) c.open.new.self c.in_ok-room.room
-    (ap (λ (x : NetLine). record x { flights = g.L.Line.flights c.empty.new.self }) same)
-    c.open.ensures.same c.open.ensures.at c.open.ensures.book c.in_ok-open.ensures.room c.in_ok-open.ensures.pairs c.in_ok-room.ensures.empty tt
+pub switch_acts-requires : goal.switch_acts-requires
+switch_acts-requires g c =
+    let s = c.args.self.now in
+    let o = switch_found c.args.node s (sym c.if-is_switch.ensures) in
+    record {
+      switch = o.0;
+      there = o.1;
+      has_line = tt;
+      can_put = can_switch Restarts c.args.node s o.0 s.lines c.in_ok-puts.puts.items _ c.requires o.1 refl tt (c.in_ok-puts.ensures o.0 o.1);
+    }
 
-pub returns : goal.returns
-returns g c =
-    let L = g.L.Line.service in
-    let end = c.in_ok-end.end in
-    let lines = c.self.inside.lines.items in
-    let empty = g.L.Line.flights c.empty.new.self in
-    let p = subst (IsPlaceOf c.args.node end) (sym c.self.view_is) c.in_ok-end.ensures in
-    let same = c.net_line.view_is ∙ found lines end.line _ c.index_mut-net_line.result.now p.line (within lines end.line p.line p.line_there) c.index_mut-net_line.ensures.value p.line_there in
-    let emptied = ap (λ (x : NetLine). record x { flights = empty }) same in
-    let there = ap (λ i. slice_get c.self.inside.nodes.items i) (ap (place_at end.role) emptied ∙ same_place end.role p.line empty) ∙ at_end_of c.args.node end _ p in
-    let w = c.serve_at.ensures p.node there in
-    rw (← c.self.view_is)
-    (began_anew L c.args.node end _ c.serve_at.result _ p
-    (acts_anew L end Restarts _ p.line p.node empty c.serve_at.result c.serve_at.new.nodes.items
-    c.serve_at.new.net_line (register_of c.serve_at.new.register) p.line_there (at_end_of c.args.node end _ p) tt c.empty.ensures refl
-    (turned_from L end Restarts p.node c.serve_at.result c.self.inside.nodes.items _ (record p.line { flights = empty }) _ (register_of c.self.inside.register) c.serve_at.new.nodes.items
-    c.serve_at.new.net_line (register_of c.serve_at.new.register) emptied c.open.ensures.same w)
-    ))
+pub returns-then-is_switch : goal.returns-then-is_switch
+returns-then-is_switch g c =
+    let s = c.args.self.now in
+    let o = switch_found c.args.node s (sym c.if-is_switch.ensures) in
+    restarted g.L.Line.service c.args.node o.0 s c.switch_acts.result c.switch_acts.new.self o.1 (c.switch_acts.ensures o.0 o.1)

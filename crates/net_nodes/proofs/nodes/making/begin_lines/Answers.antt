@@ -1,9 +1,10 @@
-use Rattle.std.proofs.Common.{◌≡◌, ℕ, ◌<◌, suc, ◌++◌, [], ◌∷◌, List, length, vec_len, slice_get, sym, ap, ◌∙◌, subst, arith}
+use Rattle.std.proofs.Common.{◌≡◌, ℕ, ◌<◌, suc, ◌++◌, [], ◌∷◌, List, length, vec_len, slice_get, Some, inl, inr, sym, ap, ◌∙◌, subst, arith}
 use Rattle.net_events.specs.Network.{NetLine}
-use Rattle.net_events.specs.Opening.{NewLine, NetPlan}
-use Rattle.net_nodes.specs.Making.{waiting, AreNew, HaveBegun}
+use Rattle.net_events.specs.Opening.{NewNode, PlannedUser, PlannedSwitch, NewLine, NetPlan}
+use Rattle.net_nodes.specs.Making.{waiting, waiting_switch, AreNew, HaveBegun}
 use Rattle.net_nodes.proofs.Places.{there}
-use Rattle.net_nodes.proofs.Making.{none_begun, ends_of, waits_at, one_more, line_more}
+use Rattle.net_nodes.proofs.Making.{none_begun, ends_of, waits_at, one_more, one_more_at_switch, first_of_users, first_at_switch, line_more}
+use Rattle.net_nodes.proofs.Plans.{which}
 use Rattle.net_nodes.proofs.nodes.making.begin_lines.Goals as goal
 
 pub loop-line-init : goal.loop-line-init
@@ -37,18 +38,33 @@ loop-line-preserved g c =
     let h : c.len-number.result < length c.plan.inside.lines.items = (let lines = ap (λ (p : NetPlan). length p.lines) c.plan.view_is in omega (arith, c.len-number.ensures, c.loop-line.invariant.left, c.in-Some.ensures.steps.1, lines)) in
     let planned = ap (λ (p : NetPlan). slice_get p.lines (vec_len c.loop-line.begun)) (sym c.plan.view_is) ∙ ap (slice_get c.plan.inside.lines.items) (sym c.len-number.ensures)
     ∙ there c.plan.inside.lines.items c.len-number.result _ c.index-planned.result.now h c.index-planned.ensures in
-    let p = c.requires.plan.lines k l planned in
-    let w = c.in_ok-begin.ensures (waiting p.dte l.params) (waiting p.dce l.params)
-    (waits_at k plan c.loop-line.nodes.items l.dte p.dte l c.loop-line.invariant.nodes p.dte_there p.dte_line planned)
-    (waits_at k plan c.loop-line.nodes.items l.dce p.dce l c.loop-line.invariant.nodes p.dce_there p.dce_line planned) in
     let more : suc k ≡ vec_len c.push.new.self = (let e = c.in_ok-push.ensures.len in omega (arith, e)) in
     let pushed = c.in_ok-push.ensures.items ∙ ap (λ (x : NewLine). c.loop-line.begun.items ++ record { dte = x.dte; dce = x.dce; channels = x.params.channels; flights = flights } ∷ []) c.planned.view_is in
     let P : ℕ → Type 0 = λ n. AreNew n plan c.begin.new.nodes.items in
     let Q : ℕ → Type 0 = λ n. HaveBegun L n plan c.push.new.self.items in
     let R : List NetLine → Type 0 = λ xs. HaveBegun L (suc k) plan xs in
+    let at_dte = λ (n : NewNode) (e : slice_get plan.nodes l.dte ≡ Some (PlannedUser n)) (own : n.line ≡ k). waits_at k plan c.loop-line.nodes.items l.dte n l c.loop-line.invariant.nodes e own planned in
     record {
-      nodes = subst P more (one_more L k plan c.loop-line.nodes.items c.begin.new.nodes.items l flights c.requires.plan p c.loop-line.invariant.nodes planned w);
-      lines = subst Q more (subst R (sym pushed) (line_more L k plan c.loop-line.begun.items l flights p c.loop-line.invariant.lines planned (λ f. w.sent f)));
+      nodes = subst P more (elim (which plan k l c.requires.plan planned) [
+        | inl p ↦
+            one_more L k plan c.loop-line.nodes.items c.begin.new.nodes.items l flights c.requires.plan p c.loop-line.invariant.nodes planned
+            (c.in_ok-begin.ensures.users (waiting p.dte l.params) (waiting p.dce l.params) (at_dte p.dte p.dte_there p.dte_line)
+            (waits_at k plan c.loop-line.nodes.items l.dce p.dce l c.loop-line.invariant.nodes p.dce_there p.dce_line planned))
+        | inr p ↦
+            one_more_at_switch L k plan c.loop-line.nodes.items c.begin.new.nodes.items l flights c.requires.plan p c.loop-line.invariant.nodes planned
+            (c.in_ok-begin.ensures.switch (waiting p.dte l.params) (waiting_switch p.dce plan.lines) (at_dte p.dte p.dte_there p.dte_line)
+            (c.loop-line.invariant.nodes.switches l.dce p.dce p.dce_there))
+      ]);
+      lines = subst Q more (subst R (sym pushed) (elim (which plan k l c.requires.plan planned) [
+        | inl p ↦
+            line_more L k plan c.loop-line.begun.items l flights p.dte (PlannedUser p.dce) p.dte_there p.dce_there c.loop-line.invariant.lines planned
+            (λ f. first_of_users L plan.nodes k l p flights ((c.in_ok-begin.ensures.users (waiting p.dte l.params) (waiting p.dce l.params) (at_dte p.dte p.dte_there p.dte_line)
+            (waits_at k plan c.loop-line.nodes.items l.dce p.dce l c.loop-line.invariant.nodes p.dce_there p.dce_line planned)).sent f))
+        | inr p ↦
+            line_more L k plan c.loop-line.begun.items l flights p.dte (PlannedSwitch p.dce) p.dte_there p.dce_there c.loop-line.invariant.lines planned
+            (λ f. first_at_switch L plan k l p flights ((c.in_ok-begin.ensures.switch (waiting p.dte l.params) (waiting_switch p.dce plan.lines) (at_dte p.dte p.dte_there p.dte_line)
+            (c.loop-line.invariant.nodes.switches l.dce p.dce p.dce_there)).sent f))
+      ]));
       left = omega (arith, c.in_ok-push.ensures.len, c.loop-line.invariant.left, c.in-Some.ensures.steps.1);
     }
 

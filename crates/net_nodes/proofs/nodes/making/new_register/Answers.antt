@@ -1,9 +1,10 @@
-use Rattle.std.proofs.Common.{◌≡◌, true, [], ◌∷◌, map, slice_get, sym, ap, ◌∙◌, subst, arith}
+use Rattle.std.proofs.Common.{◌≡◌, true, true≢false, inl, inr, [], ◌∷◌, map, slice_get, sym, ap, ◌∙◌, subst, arith}
 use Rattle.call_records.specs.Register.{made_register}
 use Rattle.net_events.specs.Opening.{NewLine, NetPlan, line_plan}
 use Rattle.net_nodes.specs.Making.{AreFree, stands}
 use Rattle.net_nodes.proofs.Places.{there}
 use Rattle.net_nodes.proofs.Making.{are_free, one_stands, some_line}
+use Rattle.net_nodes.proofs.Plans.{which}
 use Rattle.net_nodes.proofs.nodes.making.new_register.Goals as goal
 
 pub free_register-requires : goal.free_register-requires
@@ -29,6 +30,10 @@ returns-clause-ok c =
     let h = some_line c.plan.inside.lines.items some in
     let at = ap (λ xs. slice_get xs 0) (sym lines) ∙ there c.plan.inside.lines.items 0 _ c.index-line.result.now h c.index-line.ensures in
     let one = one_stands c.args.plan.now c.requires.alone (ap stands (sym lines) ∙ some) c.index-line.result.now at in
+    let no_address : [] ≡ c.index-line.result.now.address = elim (which c.args.plan.now 0 c.index-line.result.now c.requires.plan at) [
+      | inl p ↦ sym p.no_address
+      | inr p ↦ absurd (true≢false (sym one.1 ∙ p.free))
+    ] in
     c.in_ok-standing.ensures
-    ∙ ap made_register ((λ i. record { dte_node = (c.line.view_is i).dte; dce_node = (c.line.view_is i).dce; channels = (c.line.view_is i).params.channels; standing = sym one.1 i } ∷ [])
+    ∙ ap made_register ((λ i. record { dte_node = (c.line.view_is i).dte; dce_node = (c.line.view_is i).dce; address = no_address i; channels = (c.line.view_is i).params.channels; standing = sym one.1 i } ∷ [])
     ∙ ap (map line_plan) (sym one.0))

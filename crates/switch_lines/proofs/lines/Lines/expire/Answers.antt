@@ -12,7 +12,7 @@ returns c =
     let same : length c.self.inside.lines.items ≡ length c.args.self.now =
     ap (λ (ls : List SwitchLine). length ls) c.self.view_is in
     let within : c.args.line < length c.self.inside.lines.items = omega (arith, same, c.requires.there) in
-    c.heed_line.ensures
+    c.heed_line.ensures.lines
     ∙ ap (λ (ls : List SwitchLine). notes_heeded c.args.routes.now c.args.line ls)
     (changed_lines (with_end (λ e. end.after_timer (quieted e) c.args.id)) c.self.inside.lines.items c.args.self.now
     c.args.line c.index_mut.result.now

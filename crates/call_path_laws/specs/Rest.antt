@@ -1,0 +1,38 @@
+-- Where nothing is missing on the lines of a network with switches, and each join handed on all that it took, nothing
+-- is missing in its register, over paths of any length.
+use Rattle.std.specs.Prelude.{◌≡◌, ℕ, false, slice_get, Some}
+use Rattle.call_records.specs.Records.{RecordValue, PairValue}
+use Rattle.book_laws.specs.Rest.{NothingMissing}
+use Rattle.call_path_laws.specs.World.{World, Plan}
+use Rattle.call_path_laws.specs.Seen.{CameFrom, IsJoined, Seen}
+
+-- what was sent on the one leg since the last reset is what was taken on the other one: packets (with M, Q and D) and
+-- interrupts
+pub record HandedAll (taker sender : RecordValue) : Type 0 where
+  pub packets : sender.sent.packets ≡ taker.taken.packets
+  pub interrupts : sender.sent.interrupts ≡ taker.taken.interrupts
+
+-- both records of a join are open, the call that came in is accepted, and all is handed on, both ways
+pub record HasHandedAll (w : World) (a b : ℕ) : Type 0 where
+  pub from : RecordValue
+  pub to : RecordValue
+  pub from_there : slice_get w.whole.records a ≡ Some from
+  pub to_there : slice_get w.whole.records b ≡ Some to
+  pub from_open : from.closed ≡ false
+  pub to_open : to.closed ≡ false
+  pub onward : HandedAll from to
+  pub backward : HandedAll to from
+  pub place : ℕ
+  pub pair : PairValue
+  pub there : slice_get w.whole.pairs place ≡ Some pair
+  pub accepted : pair.callee ≡ a
+
+-- so it is of each join whose call onward was accepted and is open at the other end of its line
+abbrev pub HaveHandedAll : World → Type 0
+HaveHandedAll w = (a b x i : ℕ) (pair : PairValue) (callee : RecordValue) → CameFrom w.origins a x
+    → IsJoined w.joins a b → slice_get w.whole.pairs i ≡ Some pair → pair.caller ≡ b
+    → slice_get w.whole.records pair.callee ≡ Some callee → callee.closed ≡ false → HasHandedAll w a b
+
+abbrev pub RestLaw : Type 0
+RestLaw = (plan : Plan) (w : World) → Seen plan w → NothingMissing w.whole.records w.whole.pairs → HaveHandedAll w
+    → NothingMissing w.register.records w.register.pairs

@@ -1,0 +1,13 @@
+//! What may happen at a switch.
+use link_timers::TimerId;
+
+/// What comes to a switch. Its own lines are numbered from 0.
+#[derive(Clone, Copy)]
+pub enum SwitchEvent<'a> {
+    /// A frame arrives on an own line.
+    Hears(usize, &'a [u8]),
+    /// A timer of an own line expires.
+    Expires(usize, TimerId),
+    /// The switch begins anew.
+    Restarts,
+}

@@ -1,0 +1,200 @@
+-- What serving an event at a switch does, and what it is to the network.
+use Rattle.std.proofs.Common.{◌≡◌, ℕ, ◌<◌, Bool, true, false, cond, List, length, set, get_or, Some, Result, Ok, Err, refl, sym, ap, ◌∙◌, subst, inl, inr, arith, true≢false}
+use Rattle.std.specs.Prelude.{◌⊎◌, slice_get, is_some, Option, None, nat_lt}
+use Rattle.std.specs.List.{position, position_or_len}
+use Rattle.std.proofs.lemmas.Bool.{eqb-true, eq-eqb, ltb-false}
+use Rattle.std.proofs.lemmas.List.Quantifiers.{position-Some}
+use Rattle.std.proofs.lemmas.List.Sums.{fails_before_first}
+use Rattle.std.proofs.lemmas.Option.{same_Some, slice_get-get_or, get_or_from_slice_get}
+use Rattle.link_timers.specs.declared.role.Role.TheVariants.{Dce}
+use Rattle.link_timers.specs.declared.timers.TimerId.{TimerId}
+use Rattle.call_records.specs.Register.{Register}
+use Rattle.memory_line.specs.declared.line.Direction.TheVariants.{FromDte}
+use Rattle.memory_line.specs.Lines.{Flights, LineService, without_first}
+use Rattle.switch_lines.specs.Lines.{SwitchLine}
+use Rattle.switch_lines.specs.Switch.{Switch}
+use Rattle.switch_lines.specs.declared.place.NewJoin.{NewJoin}
+use Rattle.net_events.specs.AtSwitch.{SwitchEvent, Hears, Expires, Restarts, HasOwnLine, switched, joins_of, switch_drained, all_handed, LinesServed, SwitchHappened}
+use Rattle.net_events.specs.Network.{PlacedNode, PlacedSwitch, NetNode, User, Switching, NetLine, Network, StandsAtLines}
+use Rattle.net_events.specs.declared.answer.Answer.{Answer}
+use Rattle.net_events.specs.declared.answer.Put.{Put}
+use Rattle.net_turns.specs.Sends.{all_puts}
+use Rattle.net_turns.proofs.SwitchSending.{switched_lines}
+use Rattle.switch_laws.specs.Turn.{AreOctets}
+use Rattle.net_nodes.specs.Places.{EndStands, IsStanding, is_line, own_line_in, own_line_at, is_switch, is_switch_at}
+use Rattle.net_nodes.specs.Faults.{step_fault, where_there_is, stands_at}
+use Rattle.net_nodes.specs.Happening.{Happens}
+use Rattle.net_events.specs.declared.event.Event.TheVariants.{Deliver, Expire, Restart}
+use Rattle.net_nodes.specs.Steps.{AtSwitch}
+use Rattle.net_nodes.specs.Switching.{HasRoom, CanPut, LinesPut, is_anew, SwitchServed, CanSwitch, SwitchActed}
+use Rattle.net_nodes.proofs.Places.{within}
+use Rattle.net_nodes.proofs.Switching.{heard_lines, expired_lines, restarted_lines}
+
+abbrev switch_or : PlacedSwitch → NetNode → PlacedSwitch
+switch_or other (User n) = other
+switch_or other (Switching n) = n
+
+pub switch_is : (a b : PlacedSwitch) → Switching a ≡ Switching b → a ≡ b
+switch_is a b e = ap (switch_or a) e
+
+pub same_switch : (a b : PlacedSwitch) → Some (Switching a) ≡ Some (Switching b) → a ≡ b
+same_switch a b e = switch_is a b (same_Some (Switching a) (Switching b) e)
+
+-- ---- serving
+
+pub can_put_then : (event : SwitchEvent) (p : PlacedSwitch) (own : List ℕ) (s : Switch) (lines : List NetLine) (puts : List Put) (places : ℕ) → own ≡ p.lines → s ≡ switched event p.switch
+    → CanPut p.lines p.switch.lines lines puts places → CanPut own s.lines lines puts places
+can_put_then event p own s lines puts places own_is is can =
+    subst (λ (x : List ℕ). CanPut x s.lines lines puts places) (sym own_is) (record {
+      count = can.count ∙ sym (switched_lines event p.switch) ∙ ap (λ (t : Switch). length t.lines) (sym is);
+      apart = can.apart;
+      there = can.there;
+      room = can.room;
+    })
+
+pub served_so : (L : LineService) (event : SwitchEvent) (p n : PlacedSwitch) (own own' : List ℕ) (joins : List NewJoin) (anew : Bool) (s t : Switch) (lines lines' : List NetLine) (g g' : Register) (puts : List Put)
+    → p ≡ n → own ≡ p.lines → own' ≡ p.lines → joins ≡ joins_of event p.switch → s ≡ switched event p.switch → anew ≡ is_anew event → g' ≡ all_handed own joins g
+    → t ≡ switch_drained s → LinesPut L anew own' s lines lines' → puts ≡ all_puts own' s.lines
+    → SwitchServed L event n lines g (Switching (record p { switch = t })) lines' g' puts
+served_so L event p n own own' joins anew s t lines lines' g g' puts same own_is own_is' joins_are is anew_is handed drained put listed =
+    let P : PlacedSwitch → Type 0 = λ x. SwitchServed L event x lines g (Switching (record p { switch = t })) lines' g' puts in
+    let A : Bool → Type 0 = λ x. LinesPut L x own' s lines lines' in
+    let B : List ℕ → Type 0 = λ x. LinesPut L (is_anew event) x s lines lines' in
+    let C : Switch → Type 0 = λ x. LinesPut L (is_anew event) p.lines x lines lines' in
+    subst P same (record {
+      node_is = ap (λ (x : Switch). Switching (record p { switch = x })) (drained ∙ ap switch_drained is);
+      lines_put = subst C is (subst B own_is' (subst A anew_is put));
+      register_is = handed ∙ (λ i. all_handed (own_is i) (joins_are i) g);
+      puts_are = listed ∙ (λ i. all_puts (own_is' i) (is i).lines);
+    })
+
+-- ---- in the network
+
+-- the switch of a place can be served
+pub can_switch : (event : SwitchEvent) (place : ℕ) (s : Network) (n : PlacedSwitch) (lines : List NetLine) (puts : List Put) (places : ℕ) → IsStanding s → slice_get s.nodes place ≡ Some (Switching n)
+    → length lines ≡ length s.lines → HasOwnLine event (length n.lines) → HasRoom (length n.switch.lines) puts places
+    → CanPut n.lines n.switch.lines lines puts places
+can_switch event place s n lines puts places st there count has room =
+    let at : StandsAtLines s.lines place n = st.nodes place (Switching n) there in
+    record {
+      count = at.count;
+      apart = at.apart;
+      there = λ own line own_there. let w = at.each own line own_there in (let h = within s.lines line w.line_is w.there in omega (arith, h, count));
+      room = subst (λ k. HasRoom k puts places) (sym at.count) room;
+    }
+
+-- it was: this is the event
+pub at_switch : (L : LineService) (event : SwitchEvent) (place : ℕ) (n : PlacedSwitch) (s mid : Network) (a : Answer) (t : Network) → slice_get s.nodes place ≡ Some (Switching n)
+    → mid.nodes ≡ s.nodes → mid.register ≡ s.register → HasOwnLine event (length n.lines) → SwitchActed L event place n mid a t → LinesServed L event n s.lines t.lines → AtSwitch L place event s a t
+at_switch L event place n s mid a t there same_nodes same_register has w lines = record {
+  happened = record {
+    node = n;
+    node_there = there;
+    has_line = has;
+    nodes = w.nodes_are ∙ ap (λ xs. set xs place (Switching (record n { switch = switch_drained (switched event n.switch) }))) same_nodes;
+    lines = lines;
+    register = w.register_is ∙ ap (all_handed n.lines (joins_of event n.switch)) same_register;
+  };
+  puts = w.puts;
+  notes = w.notes;
+  text = w.text;
+  outcome = w.outcome;
+}
+
+-- ---- which own line it is
+
+passes_not : (p : ℕ → Bool) (xs : List ℕ) (i x : ℕ) → position p xs ≡ None → slice_get xs i ≡ Some x → p x ≡ false
+passes_not p xs i x none there =
+    by (nat_lt (position_or_len p xs) (length xs)) refl none
+  where
+    by : (b : Bool) → nat_lt (position_or_len p xs) (length xs) ≡ b → cond b (Some (position_or_len p xs)) None ≡ None → p x ≡ false
+    by true is h = absurd (cc)
+    by false is h =
+        let long = ltb-false (position_or_len p xs) (length xs) is in
+        let less = within xs i x there in
+        ap p (sym (get_or_from_slice_get xs i x x there)) ∙ fails_before_first p xs i x (omega (arith, long, less))
+
+passes_there : (p : ℕ → Bool) (xs : List ℕ) (i : ℕ) → position p xs ≡ Some i → (x : ℕ) × (slice_get xs i ≡ Some x) × (p x ≡ true)
+passes_there p xs i is =
+    let found = position-Some p xs i 0 is in (get_or xs i 0, slice_get-get_or xs i 0 found.0, found.1)
+
+pub own_line_found : (line place own : ℕ) (s : Network) → own_line_at line place s ≡ Some own
+    → (n : PlacedSwitch) × (slice_get s.nodes place ≡ Some (Switching n)) × (slice_get n.lines own ≡ Some line)
+own_line_found line place own s is = by (slice_get s.nodes place) refl is
+  where
+    by : (o : Option NetNode) → slice_get s.nodes place ≡ o → own_line_in line o ≡ Some own → (n : PlacedSwitch) × (slice_get s.nodes place ≡ Some (Switching n)) × (slice_get n.lines own ≡ Some line)
+    by None there h = absurd (cc)
+    by (Some (User n)) there h = absurd (cc)
+    by (Some (Switching n)) there h =
+        let found = passes_there (is_line line) n.lines own h in
+        (n, there, found.1 ∙ ap Some (eqb-true found.0 line found.2))
+
+-- where the DCE of a line has it as no own line, it is a node with users
+pub no_own_line : (line place : ℕ) (l : NetLine) (s : Network) → IsStanding s → slice_get s.lines line ≡ Some l → place ≡ l.dce → own_line_at line place s ≡ None → EndStands s line l Dce
+no_own_line line place l s st there is none = elim (st.dces line l there) [
+  | inl e ↦ e
+  | inr e ↦ absurd (true≢false (sym (eq-eqb line line refl)
+      ∙ passes_not (is_line line) e.node.lines e.own line (sym (ap (own_line_in line) (ap (λ i. slice_get s.nodes i) is ∙ e.node_there)) ∙ none) e.own_line))
+]
+
+pub switch_found : (place : ℕ) (s : Network) → is_switch_at place s ≡ true → (n : PlacedSwitch) × (slice_get s.nodes place ≡ Some (Switching n))
+switch_found place s is = by (slice_get s.nodes place) refl is
+  where
+    by : (o : Option NetNode) → slice_get s.nodes place ≡ o → is_switch o ≡ true → (n : PlacedSwitch) × (slice_get s.nodes place ≡ Some (Switching n))
+    by None there h = absurd (cc)
+    by (Some (User n)) there h = absurd (cc)
+    by (Some (Switching n)) there h = (n, there)
+
+-- ---- events
+
+no_fault : (line place own : ℕ) (timer : TimerId) (n : PlacedSwitch) (s : Network) → slice_get s.nodes place ≡ Some (Switching n) → own_line_at line place s ≡ Some own → step_fault (Expire place line timer) s ≡ None
+no_fault line place own timer n s there is =
+    ap (λ o. where_there_is (stands_at line o)) there ∙ ap (λ o. where_there_is (is_some o)) (sym (ap (own_line_in line) there) ∙ is)
+
+pub expired : (L : LineService) (place line own : ℕ) (timer : TimerId) (n : PlacedSwitch) (s : Network) (a : Answer) (t : Network) → slice_get s.nodes place ≡ Some (Switching n) → slice_get n.lines own ≡ Some line
+    → own_line_at line place s ≡ Some own → SwitchActed L (Expires own timer) place n s a t → Happens L (Expire place line timer) s (Ok a) t
+unfolding at_switch
+expired L place line own timer n s a t there own_line is w = (
+  no_fault line place own timer n s there is,
+  inr (record {
+    own = own;
+    does = at_switch L (Expires own timer) place n s s a t there refl refl (within n.lines own line own_line) w (expired_lines L own timer n s.lines t.lines w.lines_put);
+    own_line = own_line;
+  }),
+)
+
+pub restarted : (L : LineService) (place : ℕ) (n : PlacedSwitch) (s : Network) (a : Answer) (t : Network) → slice_get s.nodes place ≡ Some (Switching n)
+    → SwitchActed L Restarts place n s a t → Happens L (Restart place) s (Ok a) t
+restarted L place n s a t there w = (
+  ap (λ o. where_there_is (is_some o)) there,
+  inr (at_switch L Restarts place n s s a t there refl refl tt w (restarted_lines L n s.lines t.lines w.lines_put)),
+)
+
+-- and so it can be served with a frame
+pub can_hear : (event : SwitchEvent) (own : ℕ) (octets : List ℕ) (place : ℕ) (s : Network) (puts : List Put) (places : ℕ) → event ≡ Hears own octets
+    → CanSwitch (Hears own octets) place s puts places → CanSwitch event place s puts places
+can_hear event own octets place s puts places same can = subst (λ (e : SwitchEvent). CanSwitch e place s puts places) (sym same) can
+
+pub heard : (L : LineService) (place line own : ℕ) (octets : List ℕ) (n : PlacedSwitch) (l : NetLine) (f : Flights) (s : Network) (a : Answer) (t : Network) → IsStanding s → slice_get s.nodes place ≡ Some (Switching n)
+    → slice_get n.lines own ≡ Some line → slice_get s.lines line ≡ Some l → (L.faithful → (slice_get l.flights.from_dte 0 ≡ Some octets) × (f ≡ without_first FromDte l.flights))
+    → AreOctets octets → (event : SwitchEvent) → event ≡ Hears own octets → SwitchActed L event place n (record s { lines = set s.lines line (record l { flights = f }) }) a t → Happens L (Deliver line FromDte) s (Ok a) t
+unfolding at_switch
+heard L place line own octets n l f s a t st there own_line line_there taken are event same w =
+    let at : StandsAtLines s.lines place n = st.nodes place (Switching n) there in
+    let mid : Network = record s { lines = set s.lines line (record l { flights = f }) } in
+    let acted : SwitchActed L (Hears own octets) place n mid a t = subst (λ (e : SwitchEvent). SwitchActed L e place n mid a t) same w in (
+      ap (λ o. where_there_is (is_some o)) line_there,
+      inr (
+        octets,
+        inr (record {
+          to_dce = refl;
+          place = place;
+          heard = record {
+            own = own;
+            does = at_switch L (Hears own octets) place n s mid a t there refl refl (within n.lines own line own_line, are) acted
+                (heard_lines L own line octets n l f s.lines mid.lines t.lines at.apart own_line line_there refl taken acted.lines_put);
+            own_line = own_line;
+          };
+        }),
+      ),
+    )

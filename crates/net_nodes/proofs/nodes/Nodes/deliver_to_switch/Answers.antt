@@ -1,0 +1,71 @@
+use Rattle.std.proofs.Common.{◌≡◌, ◌<◌, length, set, Some, slice_get, refl, sym, ap, ◌∙◌, inl, subst, arith}
+use Rattle.std.specs.Prelude.{is_some}
+use Rattle.book_laws.proofs.Basics.{length_set}
+use Rattle.net_events.specs.AtSwitch.{Hears, HasOwnLine}
+use Rattle.net_events.specs.Network.{Network, NetLine}
+use Rattle.net_nodes.specs.Faults.{where_there_is}
+use Rattle.net_nodes.specs.Places.{IsStanding}
+use Rattle.net_nodes.proofs.Places.{there, within}
+use Rattle.net_nodes.proofs.SwitchTurns.{can_switch, can_hear, heard}
+use Rattle.net_nodes.proofs.nodes.Nodes.deliver_to_switch.Goals as goal
+
+pub index_mut-requires : goal.index_mut-requires
+index_mut-requires g c =
+    let lines = c.self.inside.lines.items in
+    let h = within lines c.args.line c.requires.switch.line_is (ap (λ (s : Network). slice_get s.lines c.args.line) c.self.view_is ∙ c.requires.switch.line_there) in
+    omega (arith, h)
+
+pub returns-in_default : goal.returns-in_default
+returns-in_default g c =
+    let lines = c.self.inside.lines.items in
+    let h : c.args.line < length lines = within lines c.args.line c.requires.switch.line_is (ap (λ (s : Network). slice_get s.lines c.args.line) c.self.view_is ∙ c.requires.switch.line_there) in
+    let here = there lines c.args.line _ c.index_mut.result.now h c.index_mut.ensures.value ∙ ap Some (sym c.behind-self.view_is) in
+    rw (← c.self.view_is) (
+      ap (λ o. where_there_is (is_some o)) here,
+      inl (record {
+        nothing = record {
+          frames = c.bare_answer.ensures.frames;
+          notes = c.bare_answer.ensures.notes;
+          text = c.bare_answer.ensures.text;
+          answered = c.bare_answer.ensures.outcome;
+          lost = record {
+            line_is = _;
+            line_there = here;
+            flights = g.L.Line.flights c.take.new.self;
+            rest = c.in_default.ensures.others;
+            others = refl;
+          };
+        };
+        none = λ f. sym (c.in_default.ensures.taken f);
+      }),
+    )
+
+pub switch_acts-requires : goal.switch_acts-requires
+switch_acts-requires g c =
+    let o = c.requires.switch in
+    let st = subst IsStanding (sym c.self.view_is) c.requires.standing in
+    let node_there = ap (λ (s : Network). slice_get s.nodes c.args.place) c.self.view_is ∙ o.node_there in
+    let has : HasOwnLine (Hears c.args.own c.as_slice.result.now) (length o.node.lines) = (within o.node.lines c.args.own c.args.line o.own_line, c.frame_heard-event.ensures.octets) in
+    can_hear _ c.args.own c.as_slice.result.now _ _ _ _ c.frame_heard-event.ensures.event
+    (record {
+      switch = o.node;
+      there = node_there;
+      has_line = has;
+      can_put = can_switch (Hears c.args.own c.as_slice.result.now) c.args.place _ o.node _ c.in_ok-puts.puts.items _ st node_there (length_set c.self.inside.lines.items c.args.line _) has
+          (c.in_ok-puts.ensures o.node o.node_there);
+    })
+
+pub returns : goal.returns
+returns g c =
+    let L = g.L.Line.service in
+    let lines = c.self.inside.lines.items in
+    let o = c.requires.switch in
+    let st = subst IsStanding (sym c.self.view_is) c.requires.standing in
+    let node_there = ap (λ (s : Network). slice_get s.nodes c.args.place) c.self.view_is ∙ o.node_there in
+    let h : c.args.line < length lines = within lines c.args.line o.line_is (ap (λ (s : Network). slice_get s.lines c.args.line) c.self.view_is ∙ o.line_there) in
+    let here = there lines c.args.line _ c.index_mut.result.now h c.index_mut.ensures.value ∙ ap Some (sym c.behind-self.view_is) in
+    rw (← c.self.view_is)
+    (heard L c.args.place c.args.line c.args.own c.as_slice.result.now o.node _ (g.L.Line.flights c.take.new.self) _ c.switch_acts.result c.switch_acts.new.self st node_there o.own_line here
+    (λ f. (sym (c.in-Some.ensures.taken f) ∙ ap Some (sym c.as_slice.ensures.value), c.in-Some.ensures.others f))
+    c.frame_heard-event.ensures.octets
+    _ c.frame_heard-event.ensures.event (c.switch_acts.ensures o.node node_there))

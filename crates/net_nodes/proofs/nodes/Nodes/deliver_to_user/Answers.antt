@@ -1,0 +1,73 @@
+use Rattle.std.proofs.Common.{◌<◌, length, set, Some, slice_get, refl, sym, ap, ◌∙◌, arith, inl, subst}
+use Rattle.std.specs.Prelude.{is_some}
+use Rattle.call_records.specs.RegisterView.{register_of}
+use Rattle.net_events.specs.NodeEvents.{Hears}
+use Rattle.net_events.specs.Network.{NetLine}
+use Rattle.net_nodes.specs.declared.nodes.LineEnd.{LineEnd}
+use Rattle.net_nodes.specs.Faults.{where_there_is}
+use Rattle.net_nodes.specs.Places.{HearsAt}
+use Rattle.net_nodes.specs.Steps.{hearer}
+use Rattle.net_nodes.proofs.Places.{there, within, hears_there}
+use Rattle.net_nodes.proofs.Acting.{can_serve, same_place, acts_anew, turned_from, left_hears}
+use Rattle.net_nodes.proofs.Happening.{delivered}
+use Rattle.net_nodes.proofs.nodes.Nodes.deliver_to_user.Goals as goal
+
+pub returns-in_default : goal.returns-in_default
+returns-in_default g c =
+    let lines = c.self.inside.lines.items in
+    let st = subst (HearsAt c.args.line (hearer c.args.direction)) (sym c.self.view_is) c.requires in
+    let h : c.args.line < length lines = within lines c.args.line st.line_is st.line_there in
+    let here = there lines c.args.line _ c.index_mut-net_line.result.now h c.index_mut-net_line.ensures.value ∙ ap Some (sym c.net_line.view_is) in
+    let after : NetLine = record { dte = c.net_line.inside.dte; dce = c.net_line.inside.dce; channels = c.net_line.inside.channels; flights = g.L.Line.flights c.take.new.self } in
+    rw (← c.self.view_is) (
+      ap (λ o. where_there_is (is_some o)) here,
+      inl (record {
+        nothing = record {
+          frames = c.answer.ensures.frames ∙ c.in_ok-room.ensures.empty.frames;
+          notes = c.answer.ensures.notes ∙ c.in_ok-room.ensures.empty.notes;
+          text = c.answer.ensures.text ∙ c.in_ok-room.ensures.empty.text;
+          answered = c.answer.ensures.outcome;
+          lost = record {
+            line_is = _;
+            line_there = here;
+            flights = g.L.Line.flights c.take.new.self;
+            rest = c.in_default.ensures.others;
+            others = ap (λ r. record { nodes = c.self.inside.nodes.items; lines = set lines c.args.line after; register = r }) c.open.ensures.same;
+          };
+        };
+        none = λ f. sym (c.in_default.ensures.taken f);
+      }),
+    )
+
+pub serve_at-requires : goal.serve_at-requires
+serve_at-requires g c =
+    let lines = c.self.inside.lines.items in
+    let end : LineEnd = record { line = c.args.line; role = c.hearer.result } in
+    let st = subst (HearsAt c.args.line (hearer c.args.direction)) (sym c.self.view_is) c.requires in
+    let h : c.args.line < length lines = within lines c.args.line st.line_is st.line_there in
+    let here = there lines c.args.line _ c.index_mut-net_line.result.now h c.index_mut-net_line.ensures.value ∙ ap Some (sym c.net_line.view_is) in
+    let e = hears_there c.args.line (hearer c.args.direction) c.hearer.result c.hearer.ensures _ _ st here in
+    can_serve end (Hears c.as_slice.result.now) c.self.inside.nodes.items _ e.node e.node_there tt e.quiet c.self.inside.register st.registered _
+    (g.L.Line.flights c.take.new.self) c.open.new.self c.in_ok-room.room
+    refl c.open.ensures.same c.open.ensures.at c.open.ensures.book c.in_ok-open.ensures.room c.in_ok-open.ensures.pairs c.in_ok-room.ensures.empty tt
+
+pub returns : goal.returns
+returns g c =
+    let L = g.L.Line.service in
+    let lines = c.self.inside.lines.items in
+    let end : LineEnd = record { line = c.args.line; role = c.hearer.result } in
+    let event = Hears c.as_slice.result.now in
+    let st = subst (HearsAt c.args.line (hearer c.args.direction)) (sym c.self.view_is) c.requires in
+    let h : c.args.line < length lines = within lines c.args.line st.line_is st.line_there in
+    let here = there lines c.args.line _ c.index_mut-net_line.result.now h c.index_mut-net_line.ensures.value ∙ ap Some (sym c.net_line.view_is) in
+    let e = hears_there c.args.line (hearer c.args.direction) c.hearer.result c.hearer.ensures _ _ st here in
+    let w = c.serve_at.ensures e.node (ap (λ i. slice_get c.self.inside.nodes.items i) (same_place c.hearer.result _ (g.L.Line.flights c.take.new.self)) ∙ e.node_there) in
+    rw (← c.self.view_is)
+    (delivered L c.args.line c.args.direction end refl c.hearer.ensures c.as_slice.result.now _ _ here c.serve_at.result _
+    (acts_anew L end event _ _ e.node (g.L.Line.flights c.take.new.self) c.serve_at.result c.serve_at.new.nodes.items
+    c.serve_at.new.net_line (register_of c.serve_at.new.register) here e.node_there tt
+    (λ f. left_hears c.args.direction c.hearer.result c.hearer.ensures _ _ _ c.as_slice.result.now c.as_slice.ensures.value (c.in-Some.ensures.taken f) (c.in-Some.ensures.others f))
+    refl
+    (turned_from L end event e.node c.serve_at.result c.self.inside.nodes.items _ _ _ (register_of c.self.inside.register) c.serve_at.new.nodes.items
+    c.serve_at.new.net_line (register_of c.serve_at.new.register) refl c.open.ensures.same w)
+    ))

@@ -1,0 +1,34 @@
+use Rattle.std.proofs.Common.{◌≡◌, Some, set, slice_get, sym, ap, ◌∙◌, subst}
+use Rattle.std.specs.Prelude.{vec_capacity}
+use Rattle.net_events.specs.EventView.{switch_event_of}
+use Rattle.net_events.specs.Network.{NetNode, Switching}
+use Rattle.net_nodes.specs.Switching.{CanSwitch}
+use Rattle.net_nodes.proofs.Places.{found, within}
+use Rattle.net_nodes.proofs.nodes.Nodes.switch_acts.Goals as goal
+
+pub serve_switch-requires : goal.serve_switch-requires
+serve_switch-requires g c =
+    let nodes = c.self.inside.nodes.items in
+    let can = subst (λ s. CanSwitch (switch_event_of c.args.event.now) c.args.place s c.args.puts.items (vec_capacity c.args.puts)) (sym c.self.view_is) c.requires in
+    record {
+      switch = can.switch;
+      is = found nodes c.args.place _ c.index_mut.result.now (Switching can.switch) (within nodes c.args.place (Switching can.switch) can.there) c.index_mut.ensures.value can.there;
+      has_line = can.has_line;
+      can_put = can.can_put;
+    }
+
+pub returns : goal.returns
+returns g c =
+    let nodes = c.self.inside.nodes.items in
+    rw (← c.self.view_is)
+    (λ n there.
+    let w = c.serve_switch.ensures n (found nodes c.args.place _ c.index_mut.result.now (Switching n) (within nodes c.args.place (Switching n) there) c.index_mut.ensures.value there) in
+    record {
+      nodes_are = ap (λ (m : NetNode). set nodes c.args.place m) w.node_is;
+      lines_put = w.lines_put;
+      register_is = w.register_is;
+      puts = w.puts_are;
+      notes = c.bare_answer-bare.ensures.notes;
+      text = c.bare_answer-bare.ensures.text;
+      outcome = c.bare_answer-bare.ensures.outcome ∙ c.outcome_of.ensures;
+    })

@@ -1,0 +1,39 @@
+use Rattle.std.proofs.Common.{◌≡◌, length, List, ℕ, sym, ap, ◌∙◌, subst}
+use Rattle.std.specs.Prelude.{vec_capacity}
+use Rattle.std.specs.Option.{option_to_list}
+use Rattle.call_records.specs.Register.{Register}
+use Rattle.switch_lines.specs.Lines.{SwitchLine}
+use Rattle.switch_lines.specs.Switch.{Switch}
+use Rattle.net_events.specs.AtSwitch.{HasOwnLine, switched, switch_drained, all_handed, joins_of}
+use Rattle.net_events.specs.EventView.{switch_event_of}
+use Rattle.net_events.specs.Network.{PlacedSwitch, NetNode, Switching}
+use Rattle.net_turns.specs.Sends.{all_puts}
+use Rattle.net_turns.proofs.SwitchSending.{switched_lines}
+use Rattle.net_nodes.specs.NodeView.{kind_of}
+use Rattle.net_nodes.specs.Switching.{CanPut, LinesPut, is_anew}
+use Rattle.net_nodes.proofs.SwitchTurns.{switch_is, served_so, can_put_then}
+use Rattle.net_nodes.proofs.nodes.switching.serve_switch.Goals as goal
+
+pub call_switch-joined-requires : goal.call_switch-joined-requires
+call_switch-joined-requires g c =
+    let p : PlacedSwitch = record { lines = c.in-Switching.own.items; switch = c.in-Switching.switch } in
+    let same : p ≡ c.requires.switch = switch_is p c.requires.switch (ap kind_of (sym c.in-Switching.is) ∙ c.node.view_is ∙ c.requires.is) in
+    let has : HasOwnLine (switch_event_of c.args.event.now) (length p.lines) = subst (λ (x : PlacedSwitch). HasOwnLine (switch_event_of c.args.event.now) (length x.lines)) (sym same) c.requires.has_line in
+    let count : length p.lines ≡ length p.switch.lines = subst (λ (x : PlacedSwitch). length x.lines ≡ length x.switch.lines) (sym same) c.requires.can_put.count in
+    subst (HasOwnLine (switch_event_of c.args.event.now)) count has
+
+pub put_lines-requires : goal.put_lines-requires
+put_lines-requires g c =
+    let p : PlacedSwitch = record { lines = c.in-Switching.own.items; switch = c.in-Switching.switch } in
+    let same : p ≡ c.requires.switch = switch_is p c.requires.switch (ap kind_of (sym c.in-Switching.is) ∙ c.node.view_is ∙ c.requires.is) in
+    let can = subst (λ (x : PlacedSwitch). CanPut x.lines x.switch.lines c.args.lines.now.items c.args.puts.now.items (vec_capacity c.args.puts.now)) (sym same) c.requires.can_put in
+    can_put_then (switch_event_of c.args.event.now) p c.deref-in-Switching.result.now c.call_switch-joined.new.switch c.args.lines.now.items c.args.puts.now.items (vec_capacity c.args.puts.now)
+    c.deref-in-Switching.ensures.value c.call_switch-joined.ensures.switch can
+
+pub returns : goal.returns
+returns g c = λ n is.
+    let p : PlacedSwitch = record { lines = c.in-Switching.own.items; switch = c.in-Switching.switch } in
+    let same : p ≡ n = switch_is p n (ap kind_of (sym c.in-Switching.is) ∙ c.node.view_is ∙ is) in
+    served_so g.L.Line.service (switch_event_of c.args.event.now) p n c.deref.result.now c.deref-in-Switching.result.now (option_to_list c.call_switch-joined.result) c.is_anew.result c.call_switch-joined.new.switch c.put_lines.new.switch
+    c.args.lines.now.items c.put_lines.new.lines.items _ _ c.put_lines.new.puts.items
+    same c.deref.ensures.value c.deref-in-Switching.ensures.value c.call_switch-joined.ensures.join c.call_switch-joined.ensures.switch c.is_anew.ensures c.hand_on.ensures c.put_lines.ensures.switch c.put_lines.ensures.lines c.put_lines.ensures.puts

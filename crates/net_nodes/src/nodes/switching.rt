@@ -1,0 +1,153 @@
+//! What happens at a switch: it is called, its frames go onto its lines, and the call that it joined is handed on.
+ghost use Rattle.std.specs.Prelude.{◌≡◌, Some, IfOk, length, slice_get, vec_capacity};
+ghost use Rattle.std.specs.Option.{option_to_list};
+ghost use Rattle.call_records.specs.RegisterView.{register_of};
+ghost use Rattle.net_events.specs.AtSwitch.{all_handed, switch_drained};
+ghost use Rattle.net_events.specs.EventView.{switch_event_of};
+ghost use Rattle.net_events.specs.Network as network;
+ghost use Rattle.net_turns.specs.Sends.{all_puts};
+ghost use Rattle.net_nodes.specs.Places.{is_switch_at};
+ghost use Rattle.net_nodes.specs.Steps.{switch_outcome};
+ghost use Rattle.net_nodes.specs.Switching.{HasRoom, CanPut, LinesPut, cleared, is_anew, CanServeSwitch, SwitchServed};
+ghost use Rattle.net_nodes.specs.Switching.{CanSwitch, SwitchActed};
+
+use crate::nodes::node::{NetNode, NodeKind, network_line};
+use crate::nodes::{NetLine, Nodes};
+use call_records::Register;
+use line_end::MOST_FRAMES;
+use memory_line::Line;
+use net_events::{Answer, Outcome, Put, SwitchEvent};
+use net_turns::{bare_answer, call_switch, put_switch_frames};
+use std::alloc::AllocError;
+use x25_switch::{NewJoin, Switch};
+
+/// Hands on in the register the call that a switch joined, if it did.
+fn hand_on(register: &mut Register, lines: &[usize], joined: Option<NewJoin>)
+    ensures { register_of register.new ≡ all_handed lines.now (option_to_list joined) (register_of register.old) }
+{
+    if let Some(join) = joined {
+        let (from, to) = (join.came_in, join.placed);
+        register.hand_on(
+            network_line(lines, from.line),
+            from.channel,
+            network_line(lines, to.line),
+            to.channel,
+        );
+    }
+}
+
+/// Empties a line where the switch begins anew.
+fn clear<L: Line>(line: &mut L, anew: bool)
+    ensures { L.service.faithful → L.flights line.new ≡ cleared anew (L.flights line.old) }
+{
+    if anew {
+        line.empty();
+    }
+}
+
+/// Puts all frames that wait at a switch on its lines, line by line, and lists them. Where the switch begins anew each
+/// line is emptied first.
+pub(super) fn put_lines<L: Line>(
+    switch: &mut Switch,
+    own: &[usize],
+    lines: &mut Vec<NetLine<L>>,
+    anew: bool,
+    puts: &mut Vec<Put>,
+)
+    requires { CanPut own.now switch.old.lines lines.old.items puts.old.items (vec_capacity puts.old) }
+    ensures switch { switch.new ≡ switch_drained switch.old }
+    ensures puts { puts.new.items ≡ all_puts own.now switch.old.lines }
+    ensures lines { LinesPut L.service anew own.now switch.old lines.old.items lines.new.items }
+{
+    for at in 0..own.len() {
+        let number = network_line(own, at);
+        let net_line = &mut lines[number];
+        clear(&mut net_line.line, anew);
+        put_switch_frames(switch, at, number, &mut net_line.line, puts);
+    }
+}
+
+/// Whether the switch begins anew.
+fn is_anew(event: &SwitchEvent<'_>) -> bool
+    ensures { result ≡ is_anew (switch_event_of event.now) }
+{
+    matches!(event, SwitchEvent::Restarts)
+}
+
+/// Serves an event at a switch, and lists the frames that it puts.
+pub(super) fn serve_switch<L: Line>(
+    node: &mut NetNode,
+    lines: &mut Vec<NetLine<L>>,
+    register: &mut Register,
+    event: &SwitchEvent<'_>,
+    puts: &mut Vec<Put>,
+)
+    requires { CanServeSwitch (switch_event_of event.now) node.old lines.old.items puts.old.items
+        (vec_capacity puts.old) }
+    ensures { (n : network.PlacedSwitch) → node.old ≡ network.Switching n
+        → SwitchServed L.service (switch_event_of event.now) n lines.old.items (register_of register.old) node.new
+        lines.new.items (register_of register.new) puts.new.items }
+{
+    match &mut node.kind {
+        NodeKind::User { .. } => unreachable!(),
+        NodeKind::Switching { lines: own, switch } => {
+            let joined = call_switch(switch, event);
+            hand_on(register, own, joined);
+            put_lines(switch, own, lines, is_anew(event), puts);
+        }
+    }
+}
+
+/// What the event gives besides frames.
+fn outcome_of(event: &SwitchEvent<'_>) -> Outcome
+    ensures { result ≡ switch_outcome (switch_event_of event.now) }
+{
+    match event {
+        SwitchEvent::Hears(_, _) => Outcome::Delivered(true),
+        SwitchEvent::Expires(_, _) => Outcome::Done,
+        SwitchEvent::Restarts => Outcome::Done,
+    }
+}
+
+impl<L: Line> Nodes<L> {
+    /// Whether a switch is at this place.
+    pub(super) fn is_switch(&self, place: usize) -> bool
+        ensures { result ≡ is_switch_at place self.now }
+    {
+        place < self.nodes.len() && self.nodes[place].is_switch()
+    }
+
+    /// An empty list with places for all frames of an event at the switch of this place.
+    pub(super) fn room_at_switch(&self, place: usize) -> Result<Vec<Put>, AllocError>
+        ensures { (n : network.PlacedSwitch) → slice_get self.now.nodes place ≡ Some (network.Switching n)
+            → IfOk result (λ puts. HasRoom (length n.switch.lines) puts.items (vec_capacity puts)) }
+    {
+        let lines = if place < self.nodes.len() {
+            self.nodes[place].own_lines()
+        } else {
+            0
+        };
+        Vec::with_capacity(self.alloc, lines * MOST_FRAMES)
+    }
+
+    /// Serves an event at the switch of this place, and answers it.
+    pub(super) fn switch_acts(
+        &mut self,
+        place: usize,
+        event: &SwitchEvent<'_>,
+        puts: Vec<Put>,
+    ) -> Answer
+        requires { CanSwitch (switch_event_of event.now) place self.old puts.items (vec_capacity puts) }
+        ensures { (n : network.PlacedSwitch) → slice_get self.old.nodes place ≡ Some (network.Switching n)
+            → SwitchActed L.service (switch_event_of event.now) place n self.old result self.new }
+    {
+        let mut puts = puts;
+        let (lines, register) = (&mut self.lines, &mut self.register);
+        serve_switch(&mut self.nodes[place], lines, register, event, &mut puts);
+        let bare = bare_answer(self.alloc, outcome_of(event));
+        Answer {
+            frames: puts,
+            ..bare
+        }
+    }
+}

@@ -1,0 +1,51 @@
+use Rattle.std.proofs.Common.{◌≡◌, ◌<◌, ℕ, [], List, length, refl, sym, ap, ◌∙◌, subst, arith}
+use Rattle.memory_line.specs.declared.line.Direction.TheVariants.{FromDce}
+use Rattle.memory_line.specs.Lines.{IsPut}
+use Rattle.switch_lines.specs.Switch.{Switch, with_end}
+use Rattle.packet_end.specs.PacketEnd.{without_first_frame}
+use Rattle.net_events.specs.AtSwitch.{waiting_on}
+use Rattle.net_turns.proofs.Sending.{given, none-left}
+use Rattle.net_turns.proofs.SwitchSending.{length_changed, left_begins, left_less, left_ends, putting_begins, putting_more, putting_ends}
+use Rattle.net_turns.proofs.switching.put_switch_frames.Goals as goal
+
+pub loop-init : goal.loop-init
+loop-init g c = record {
+  putting = putting_begins g.L.Line.service c.args.number (waiting_on c.args.own c.args.switch.now) (g.L.Line.flights c.args.line.now) c.args.puts.now.items;
+  switch_is = left_begins c.args.own c.args.switch.now;
+  there = c.requires.there;
+  left = omega (arith, c.waiting_frames-end.ensures.count);
+  most = c.waiting_frames-end.ensures.most;
+  put = omega arith;
+  room = c.requires.room;
+  capacity = refl;
+}
+
+pub loop-preserved : goal.loop-preserved
+loop-preserved g c =
+    let some : 0 < length (waiting_on c.args.own c.loop.switch) = omega (arith, c.loop.invariant.left, c.loop-test.true) in
+    let first = given c.out.result (waiting_on c.args.own c.loop.switch) c.out.new.frame (waiting_on c.args.own c.out.new.self) c.out.ensures.frame c.out.ensures.nothing some in
+    record {
+      putting =
+          putting_more g.L.Line.service c.args.number _ _ c.args.puts.now.items c.loop.puts.items _ _ c.out.new.frame (waiting_on c.args.own c.out.new.self) _ _ c.loop.invariant.putting
+          first c.push_reserved.ensures.items
+          (λ f. let P : List ℕ → Type 0 = λ o. IsPut g.L.Line.service FromDce o (g.L.Line.flights c.loop.line) (g.L.Line.flights c.put.new.self) in subst P c.copy_of.ensures (c.put.ensures f));
+      switch_is = left_less c.args.own c.args.switch.now c.loop.switch c.out.new.self c.requires.there c.loop.invariant.switch_is c.out.ensures.switch;
+      there = (let same : length c.out.new.self.lines ≡ length c.loop.switch.lines = ap (λ (s : Switch). length s.lines) c.out.ensures.switch ∙ length_changed c.args.own (with_end without_first_frame) c.loop.switch.lines in omega (arith, same, c.loop.invariant.there));
+      left = (let l = ap length first in omega (arith, l, c.loop.invariant.left));
+      most = c.loop.invariant.most;
+      put = omega (arith, c.loop.invariant.put, c.push_reserved.ensures.len);
+      room = omega (arith, c.loop.invariant.room, c.push_reserved.ensures.capacity);
+      capacity = c.push_reserved.ensures.capacity ∙ c.loop.invariant.capacity;
+    }
+
+pub returns : goal.returns
+returns g c =
+    let none : waiting_on c.args.own c.loop.switch ≡ [] = none-left _ (omega (arith, c.loop.invariant.left, c.loop-test.false)) in
+    let all = putting_ends g.L.Line.service c.args.number _ _ c.args.puts.now.items _ _ _ c.loop.invariant.putting none in
+    record {
+      switch = left_ends c.args.own c.args.switch.now c.loop.switch c.loop.invariant.switch_is none;
+      puts = all.listed;
+      most = omega (arith, c.loop.invariant.put, c.loop.invariant.most, c.loop.invariant.left);
+      capacity = c.loop.invariant.capacity;
+      line = all.put;
+    }

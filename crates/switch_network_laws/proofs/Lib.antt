@@ -1,0 +1,25 @@
+pub mod PromiseLines
+pub mod PromiseHeld
+pub mod PromiseUsers
+pub mod PromiseAny
+pub mod FewerAny
+pub mod RestAny
+pub mod Standing
+pub mod UsersLine
+pub mod UsersWrites
+pub mod UsersHeld
+pub mod UsersEvents
+pub mod UsersTime
+pub mod UsersAny
+mod SwitchWriting
+mod SwitchSending
+mod SwitchMoving
+mod SwitchStanding
+mod SwitchPartners
+mod SwitchHolding
+pub mod SwitchEvents
+pub mod MadePlan
+pub mod MadeStanding
+pub mod MadeStands
+pub mod MadePartners
+pub mod MadeHeld

@@ -1,0 +1,25 @@
+-- What holds of any network has, on faithful lines, all that it promises; and confirmed delivery is that all is covered.
+use Rattle.std.proofs.Common.{◌≡◌, ℕ, sym, ap, ◌∙◌}
+use Rattle.std.specs.Prelude.{slice_get}
+use Rattle.packet_layer.specs.Layer.{confirmed}
+use Rattle.line_nodes.specs.Node.{end_of}
+use Rattle.memory_line.specs.Lines.{LineService}
+use Rattle.net_events.specs.Network.{PlacedNode}
+use Rattle.net_events.proofs.Users.{same_user}
+use Rattle.network_laws.specs.Promise.{EndHolds}
+use Rattle.switch_network_laws.specs.IsSwitched.{of_users, with_switch}
+use Rattle.switch_network_laws.specs.Promise.{NetworkPromise}
+use Rattle.switch_network_laws.specs.Laws.{PromiseLaw, DeliveredLaw}
+use Rattle.switch_network_laws.proofs.PromiseHeld.{promise_held}
+use Rattle.switch_network_laws.proofs.PromiseUsers.{promise_users}
+
+pub promise_any : (L : LineService) → PromiseLaw L
+promise_any L s (of_users n) f = promise_users L s n f
+promise_any L s (with_switch p) f = promise_held L s p f
+
+pub delivered_any : (L : LineService) → DeliveredLaw L
+delivered_any L s any f place channel m there says line l role number r line_is place_is present record_is =
+    let h : NetworkPromise s = promise_any L s any f in
+    let e : EndHolds s line l role = h.ends line l role line_is (m, ap (λ (i : ℕ). slice_get s.nodes i) place_is ∙ there) in
+    let same : e.node ≡ m = same_user e.node m (sym e.node_there ∙ ap (λ (i : ℕ). slice_get s.nodes i) place_is ∙ there) in
+    (e.confirmed channel number r present record_is).covered (ap (λ (x : PlacedNode). confirmed (end_of x.node).layer channel) same ∙ says)

@@ -1,0 +1,198 @@
+-- What holds of a network with a switch has, on faithful lines, all that the network promises.
+use Rattle.std.proofs.Common.{◌≡◌, ℕ, true, false, length, Some, refl, sym, ap, ◌∙◌, subst}
+use Rattle.std.specs.Prelude.{slice_get}
+use Rattle.link_timers.specs.declared.role.Role.{Role}
+use Rattle.link_timers.specs.declared.role.Role.TheVariants.{Dte, Dce}
+use Rattle.link_timers.specs.Role.{other_of}
+use Rattle.packet_layer.specs.Layer.{channel_of}
+use Rattle.packet_end.specs.PacketEnd.{PacketEnd}
+use Rattle.call_records.specs.Records.{RecordValue}
+use Rattle.call_records.specs.Book.{Book, side_of}
+use Rattle.call_records.specs.Register.{Register}
+use Rattle.book_laws.specs.Headline.{HaveRecords, has_call}
+use Rattle.x25_pad_laws.specs.Sending.{HasSent}
+use Rattle.register_laws.specs.Promise.{HasRecords}
+use Rattle.line_record_laws.specs.Kept.{end_at}
+use Rattle.line_record_laws.specs.Confirmed.{SaysConfirmed}
+use Rattle.line_record_laws.proofs.Keeping as keeping_law
+use Rattle.line_record_laws.proofs.Confirming.{confirmed_kept}
+use Rattle.call_path_laws.specs.Ends.{IsOfPresent, EndIsSeen, IsOfUser}
+use Rattle.call_path_laws.specs.Promise.{PathsHold}
+use Rattle.call_path_laws.proofs.Ending.{ends_seen, users_own, open_seen}
+use Rattle.switch_path_laws.specs.Law as paths
+use Rattle.switch_path_laws.proofs.Events.{network_holds}
+use Rattle.line_nodes.specs.Node.{NodeState, end_of, is_pad}
+use Rattle.memory_line.specs.Lines.{LineService}
+use Rattle.net_events.specs.OneLine.{LineState}
+use Rattle.net_events.specs.Network.{PlacedNode, User, NetLine, Network, place_at}
+use Rattle.network_laws.specs.IsLine.{line_of, IsLine, IsKept}
+use Rattle.network_laws.specs.Promise.{EndHolds, PlacedHolds}
+use Rattle.network_laws.proofs.Answering.{came_kept, paired_kept, placed_kept, records_kept}
+use Rattle.network_laws.proofs.Made.{typed_line}
+use Rattle.switch_network_laws.specs.IsSwitched.{ends_state, LineStands, IsHeld, IsSwitched}
+use Rattle.switch_network_laws.specs.Promise.{HasUserAt, NetworkPromise}
+use Rattle.switch_network_laws.proofs.UsersLine.{at_end, user_end}
+use Rattle.switch_network_laws.proofs.FewerAny.{quiet_user}
+use Rattle.switch_network_laws.proofs.PromiseLines.{fellow}
+
+module _ (L : LineService) (s : Network) (p : IsSwitched L s) (f : L.faithful) where
+  pub held : IsHeld L s p.switch
+  held = p.holds f
+
+  -- ---- a line with its book
+
+  pub record LineHas (line : ℕ) (l : NetLine) (b : Book) : Type 0 where
+    pub stands : LineStands s.nodes line l
+    pub holds : IsLine L (ends_state l stands.dte.node stands.dce b)
+    pub kept : IsKept (ends_state l stands.dte.node stands.dce b)
+
+  pub line_has : (line : ℕ) (l : NetLine) (b : Book) → slice_get s.lines line ≡ Some l → slice_get held.books line ≡ Some b → LineHas line l b
+  line_has line l b at there =
+      let h : LineStands s.nodes line l = p.lines line l at in
+      let is : IsLine L (ends_state l h.dte.node h.dce b) = held.lines line l b at there h in
+      record { stands = h; holds = is; kept = is.kept f }
+
+  pub its_book : (line : ℕ) (l : NetLine) → slice_get s.lines line ≡ Some l → (b : Book) × (slice_get held.books line ≡ Some b)
+  its_book line l at = fellow held.books s.lines line l held.count at
+
+  pub its_line : (line : ℕ) (b : Book) → slice_get held.books line ≡ Some b → (l : NetLine) × (slice_get s.lines line ≡ Some l)
+  its_line line b there = fellow s.lines held.books line b (sym held.count) there
+
+  -- ---- paths, and present records
+
+  book_kept : (line : ℕ) (b : Book) → slice_get held.books line ≡ Some b → paths.IsKept b
+  book_kept line b there =
+      let l = its_line line b there in
+      let h : LineHas line l.0 b = line_has line l.0 b l.1 there in
+      let own : LineState = ends_state l.0 h.stands.dte.node h.stands.dce b in
+      record { setting = h.kept.setting; line = line_of own; kept = h.kept.kept }
+
+  paths_hold : PathsHold held.plan s.register
+  paths_hold =
+      subst (λ (g : Register). PathsHold held.plan g) held.register
+      (network_holds.promise held.plan p.switch.lines p.switch.switch held.histories held.calls held.books held.world held.traces held.network
+      (λ line b other there. book_kept line b there))
+
+  book_records : (line : ℕ) (b : Book) → slice_get held.books line ≡ Some b → HaveRecords b
+  book_records line b there = let k = book_kept line b there in records_kept k.setting b k.line k.kept
+
+  records_hold : HasRecords s.register
+  records_hold =
+      subst (λ (g : Register). HasRecords g) held.register
+      (open_seen held.plan held.world held.books held.traces held.network.seen.seen held.network.seen.lines book_records)
+
+  -- ---- the ends at which users stand
+
+  end_seen : (line : ℕ) (l : NetLine) (role : Role) (b : Book) → slice_get s.lines line ≡ Some l → slice_get held.books line ≡ Some b → HasUserAt s l role
+      → EndIsSeen held.plan line role b s.register
+  end_seen line l role b at there user =
+      subst (λ (g : Register). EndIsSeen held.plan line role b g) held.register
+      (ends_seen held.plan held.world held.books held.traces line b role held.network.seen.seen held.network.seen.lines there
+      (held.plan_is.user line l role (User user.0) at user.1))
+
+  own_node : (role : Role) (l : NetLine) (dte dce : NodeState) (b : Book) → IsLine L (ends_state l dte dce b) → (side_of role b).node ≡ place_at role l
+  own_node Dte l dte dce b h = h.dte_node
+  own_node Dce l dte dce b h = h.dce_node
+
+  end_is : (role : Role) (line : ℕ) (l : NetLine) (b : Book) (h : LineStands s.nodes line l)
+      → end_at role (line_of (ends_state l h.dte.node h.dce b)) ≡ end_of (at_end role h.dte.node h.dce)
+  end_is Dte line l b h = refl
+  end_is Dce line l b h = refl
+
+  confirmed_of : (own r : RecordValue) (e x : PacketEnd) (channel : ℕ) → r ≡ record own { number = r.number; own = r.own; caller = r.caller } → e ≡ x
+      → SaysConfirmed e.layer channel own → SaysConfirmed x.layer channel r
+  confirmed_of own r e x channel same is h =
+      subst (λ (y : PacketEnd). SaysConfirmed y.layer channel r) is
+      (subst (λ (y : RecordValue). SaysConfirmed e.layer channel y) (sym same) (record { covered = h.covered; said = h.said }))
+
+  end_holds : (line : ℕ) (l : NetLine) (role : Role) → slice_get s.lines line ≡ Some l → HasUserAt s l role → EndHolds s line l role
+  end_holds line l role at user =
+      let b = its_book line l at in
+      let h : LineHas line l b.0 = line_has line l b.0 at b.1 in
+      let own : LineState = ends_state l h.stands.dte.node h.stands.dce b.0 in
+      let w : EndIsSeen held.plan line role b.0 s.register = end_seen line l role b.0 at b.1 user in
+      let u = user_end s.nodes line l h.stands role user.0 user.1 in
+      let is : end_at role (line_of own) ≡ end_of user.0.node = end_is role line l b.0 h.stands ∙ ap (λ (x : NodeState). end_of x) u.node_is in
+      record {
+        node = user.0;
+        node_there = user.1;
+        node_line = u.line_is;
+        quiet = quiet_user s.nodes line l h.stands role user.0 user.1;
+        own = w.node ∙ own_node role l h.stands.dte.node h.stands.dce b.0 h.holds;
+        slots = w.channels ∙ held.channels line l b.0 role at b.1;
+        channels = ap (λ (e : PacketEnd). length e.layer.channels) (sym is) ∙ sym (keeping_law.channels_kept h.kept.setting b.0 (line_of own) role h.kept.kept)
+            ∙ held.channels line l b.0 role at b.1;
+        present = λ channel. w.present channel ∙ keeping_law.present_kept h.kept.setting b.0 (line_of own) role channel h.kept.kept
+            ∙ ap (λ (e : PacketEnd). has_call (channel_of e.layer channel)) is;
+        came = λ channel ch there may. w.came channel
+            ∙ came_kept h.kept.setting b.0 (line_of own) role channel ch h.kept.kept (ap (λ (e : PacketEnd). channel_of e.layer channel) is ∙ there) may;
+        paired = λ channel ch there up some. w.paired channel
+            (paired_kept h.kept.setting b.0 (line_of own) role channel ch h.kept.kept (ap (λ (e : PacketEnd). channel_of e.layer channel) is ∙ there) up
+            (sym (w.came channel) ∙ some));
+        confirmed = λ channel number r present there.
+            let o : IsOfPresent b.0 role channel r = w.of_present channel number r present there in
+            confirmed_of o.own r (end_at role (line_of own)) (end_of user.0.node) channel o.same is
+            (confirmed_kept h.kept.setting b.0 (line_of own) role channel o.number o.own h.kept.kept o.present o.there);
+      }
+
+  placed_holds : (line : ℕ) (l : NetLine) (role : Role) → slice_get s.lines line ≡ Some l → HasUserAt s l role → HasUserAt s l (other_of role) → PlacedHolds s line l role
+  placed_holds line l role at user other =
+      let b = its_book line l at in
+      let h : LineHas line l b.0 = line_has line l b.0 at b.1 in
+      let own : LineState = ends_state l h.stands.dte.node h.stands.dce b.0 in
+      let w : EndIsSeen held.plan line role b.0 s.register = end_seen line l role b.0 at b.1 user in
+      let u = user_end s.nodes line l h.stands role user.0 user.1 in
+      let is : end_at role (line_of own) ≡ end_of user.0.node = end_is role line l b.0 h.stands ∙ ap (λ (x : NodeState). end_of x) u.node_is in
+      record {
+        node = user.0;
+        node_there = user.1;
+        placed = λ channel ch there up none. w.placed channel (held.plan_is.user line l (other_of role) (User other.0) at other.1)
+            (placed_kept h.kept.setting b.0 (line_of own) role channel ch h.kept.kept (ap (λ (e : PacketEnd). channel_of e.layer channel) is ∙ there) up
+            (sym (w.came channel) ∙ none));
+      }
+
+  -- ---- what a PAD typed
+
+  typed_record : (own r : RecordValue) → r ≡ record own { number = r.number; own = r.own; caller = r.caller } → HasSent own → HasSent r
+  typed_record own r same h =
+      subst HasSent (sym same) (record { typed = h.typed; told = h.told; of_pad = h.of_pad; qualified = h.qualified; interrupts = h.interrupts })
+
+  same_node : (own r : RecordValue) → r ≡ record own { number = r.number; own = r.own; caller = r.caller } → r.node ≡ own.node
+  same_node own r same = ap (λ (x : RecordValue). x.node) same
+
+  -- a PAD is at the DTE
+  typed_at : (line : ℕ) (l : NetLine) (role : Role) (b : Book) (n : PlacedNode) (i : ℕ) (own : RecordValue) → LineHas line l b
+      → slice_get s.nodes (place_at role l) ≡ Some (User n) → is_pad n.node ≡ true → slice_get b.records i ≡ Some own → own.node ≡ place_at role l → HasSent own
+  typed_at line l Dte b n i own h at pad there node =
+      let u = user_end s.nodes line l h.stands Dte n at in
+      typed_line L (ends_state l h.stands.dte.node h.stands.dce b) h.holds (ap (λ (x : NodeState). is_pad x) u.node_is ∙ pad) i own there node
+  typed_at line l Dce b n i own h at pad there node =
+      let u = user_end s.nodes line l h.stands Dce n at in
+      let no : is_pad n.node ≡ false = ap (λ (x : NodeState). is_pad x) (sym u.node_is) ∙ h.stands.host in
+      absurd (let bad : true ≡ false = sym pad ∙ no in cc)
+
+  typed_holds : (place : ℕ) (n : PlacedNode) (i : ℕ) (r : RecordValue) → slice_get s.nodes place ≡ Some (User n) → is_pad n.node ≡ true
+      → slice_get s.register.records i ≡ Some r → r.node ≡ place → HasSent r
+  typed_holds place n i r at pad there node =
+      let o : IsOfUser held.plan held.books r =
+      users_own held.plan held.world held.books held.traces i r held.network.seen.seen held.network.seen.lines
+      (ap (λ (g : Register). slice_get g.records i) held.register ∙ there) in
+      let l = its_line o.line o.line_book o.line_there in
+      let where_is : r.node ≡ place_at o.role l.0 = o.node ∙ held.plan_is.node o.line l.0 o.role l.1 in
+      let here : place_at o.role l.0 ≡ place = sym where_is ∙ node in
+      typed_record o.own r o.same
+      (typed_at o.line l.0 o.role o.line_book n o.place o.own (line_has o.line l.0 o.line_book l.1 o.line_there)
+      (ap (λ (k : ℕ). slice_get s.nodes k) here ∙ at) pad o.own_there
+      (sym (same_node o.own r o.same) ∙ where_is))
+
+  pub promise_held : NetworkPromise s
+  promise_held = record {
+    plan = held.plan;
+    plan_is = held.plan_is;
+    calls = paths_hold;
+    records = records_hold;
+    ends = end_holds;
+    placed = placed_holds;
+    typed = typed_holds;
+    alone = λ none. absurd (none p.place p.switch p.there);
+  }

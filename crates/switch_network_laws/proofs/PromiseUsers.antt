@@ -1,0 +1,171 @@
+-- What holds of a network of nodes with users alone has, on faithful lines, all that any network promises: its paths are
+-- its lines, and no line has an address.
+use Rattle.std.proofs.Common.{◌≡◌, ℕ, Bool, true, false, List, [], ◌∷◌, Option, Some, refl, sym, ap, ◌∙◌, subst, inl, inr}
+use Rattle.std.specs.Prelude.{slice_get}
+use Rattle.link_timers.specs.declared.role.Role.{Role}
+use Rattle.link_timers.specs.declared.role.Role.TheVariants.{Dte, Dce}
+use Rattle.packet_laws.specs.Line.{Event, turned}
+use Rattle.packet_laws.specs.Line as layers
+use Rattle.packet_laws.specs.Line.Happening.{Here, There}
+use Rattle.call_records.specs.Records.{RecordValue, PairValue}
+use Rattle.call_records.specs.Book.{Book, side_of, made_book}
+use Rattle.call_records.specs.Register.{book_at}
+use Rattle.call_records.specs.Writes.Write.{Edited}
+use Rattle.book_laws.specs.Told.{World, Move, written, after_move, after_all}
+use Rattle.book_laws.specs.Told.Move.{Happens, Edits}
+use Rattle.line_laws.specs.Line.{Line}
+use Rattle.line_record_laws.specs.Kept.{Setting, Kept, beginning}
+use Rattle.register_laws.specs.Promise.{PairHolds, PairIsRight}
+use Rattle.call_path_laws.specs.World.{Plan, calling_on}
+use Rattle.call_path_laws.specs.Lines.{writes_of}
+use Rattle.call_path_laws.specs.Promise.{PathIsRight, PathHolds, PathsHold, by_caller}
+use Rattle.call_path_laws.proofs.Moves.{written_so}
+use Rattle.memory_line.specs.Lines.{LineService}
+use Rattle.net_events.specs.OneLine.{LineState}
+use Rattle.net_events.specs.Network.{NetNode, User, Switching, Network, place_at}
+use Rattle.network_laws.specs.IsLine.{line_of, IsKept}
+use Rattle.network_laws.specs.IsNetwork.{line_state, LineHolds, IsNetwork}
+use Rattle.network_laws.specs.Promise.{NetworkHolds}
+use Rattle.network_laws.proofs.Shapes.{sides_stay}
+use Rattle.network_laws.proofs.Networks.{line_there}
+use Rattle.network_laws.proofs.Promising.{holds_network}
+use Rattle.switch_network_laws.specs.Plans.{has_users, IsPlanOf}
+use Rattle.switch_network_laws.specs.Promise.{NetworkPromise}
+use Rattle.switch_network_laws.proofs.PromiseLines.{fellow}
+
+-- ---- the books of lines have no addresses
+
+abbrev SameAddress : (role : Role) → (before after : Book) → Type 0
+SameAddress role before after = (side_of role after).address ≡ (side_of role before).address
+
+event_stays : (x : Role) (event : Event) (w : layers.Line) (b : Book) (role : Role) → SameAddress role b (written x event w b)
+event_stays x event w b role =
+    subst (SameAddress role b) (written_so x event w b)
+    (ap (λ (p : ℕ × ℕ × List ℕ). p.2) (sides_stay x (writes_of event w) b role))
+
+move_stays : (m : Move) (v : World) (role : Role) → SameAddress role v.book (after_move m v).book
+move_stays (Happens (Here event)) v role = event_stays Dte event v.line v.book role
+move_stays (Happens (There event)) v role = event_stays Dce event (turned v.line) v.book role
+move_stays (Edits x channel step) v role = ap (λ (p : ℕ × ℕ × List ℕ). p.2) (sides_stay x (Edited channel step ∷ []) v.book role)
+
+moves_stay : (ms : List Move) (v : World) (role : Role) → SameAddress role v.book (after_all ms v).book
+moves_stay [] v role = refl
+moves_stay (m ∷ ms) v role = moves_stay ms (after_move m v) role ∙ move_stays m v role
+
+none_made : (dte_node dce_node channels : ℕ) (standing : Bool) (role : Role) → (side_of role (made_book dte_node dce_node channels standing)).address ≡ []
+none_made dte_node dce_node channels true Dte = refl
+none_made dte_node dce_node channels true Dce = refl
+none_made dte_node dce_node channels false Dte = refl
+none_made dte_node dce_node channels false Dce = refl
+
+no_address : (x : Setting) (b : Book) (l : Line) (role : Role) → Kept x b l → (side_of role b).address ≡ []
+no_address x b l role k =
+    subst (λ (y : Book). (side_of role y).address ≡ []) k.book
+    (moves_stay k.moves (beginning x) role ∙ none_made x.dte_node x.dce_node x.dte.channels x.dte.standing role)
+
+-- ---- the plan
+
+-- all ends of lines have users, and no line has an address
+abbrev pub users_plan : Network → Plan
+users_plan s = record {
+  node = λ line role. (side_of role (book_at line s.register)).node;
+  has_user = λ line role. true;
+  address = λ line. (book_at line s.register).dte.address;
+  route = λ switch called. 0;
+}
+
+module _ (L : LineService) (s : Network) (n : IsNetwork L s) (f : L.faithful) where
+  holds : NetworkHolds s
+  holds = holds_network L s n f
+
+  users_alone : (place : ℕ) (x : NetNode) → slice_get s.nodes place ≡ Some x → has_users x ≡ true
+  users_alone place (User x) at = refl
+  users_alone place (Switching x) at = absurd (n.nodes place (Switching x) at)
+
+  plan_is : IsPlanOf s (users_plan s)
+  plan_is = record {
+    node = λ line l role at. (holds.ends line l role at).own;
+    user = λ line l role x at there. sym (users_alone (place_at role l) x there);
+    address = λ line l at. refl;
+    route = λ place x called own line at found got. absurd (n.nodes place (Switching x) at);
+  }
+
+  -- ---- the paths are the lines
+
+  book_address : (line : ℕ) (b : Book) → slice_get n.books line ≡ Some b → (book_at line s.register).dte.address ≡ []
+  book_address line b there =
+      let l = line_there L s n line b there in
+      let h : LineHolds L s.nodes line l.0 b = n.lines line l.0 b l.1 there in
+      let own : LineState = line_state l.0 h.dte h.dce b in
+      let k : IsKept own = h.holds.kept f in
+      ((n.seen.line line b there).sides Dte).address ∙ no_address k.setting b (line_of own) Dte k.kept
+
+  calling_own : (address : List ℕ) (own : Option (List ℕ)) → address ≡ [] → own ≡ calling_on address own
+  calling_own [] own e = refl
+  calling_own (digit ∷ digits) own e = absurd (cc)
+
+  path_right : (caller callee : RecordValue) → PairIsRight s.register caller callee → PathIsRight (users_plan s) caller callee
+  path_right caller callee h =
+      let b = fellow n.books s.register.lines h.line h.line_ends (sym n.seen.lines) h.line_there in
+      let calling : caller.own ≡ calling_on ((users_plan s).address h.line) caller.own =
+      calling_own ((users_plan s).address h.line) caller.own (book_address h.line b.0 b.1) in
+      elim h.ends [
+        | inl e ↦ record {
+          order = h.order;
+          own = h.own;
+          far = h.far;
+          first = h.line;
+          calling = calling;
+          line = h.line;
+          role = Dce;
+          node = e.1;
+          placed = by_caller e.0 refl;
+        }
+        | inr e ↦ record {
+          order = h.order;
+          own = h.own;
+          far = h.far;
+          first = h.line;
+          calling = calling;
+          line = h.line;
+          role = Dte;
+          node = e.1;
+          placed = by_caller e.0 refl;
+        }
+      ]
+
+  path_holds : (pair : PairValue) → PairHolds s.register pair → PathHolds (users_plan s) s.register pair
+  path_holds pair h = record {
+    caller = h.caller;
+    callee = h.callee;
+    caller_there = h.caller_there;
+    callee_there = h.callee_there;
+    matches = record {
+      onward = h.matches.onward;
+      backward = h.matches.backward;
+      onward_confirmed = h.matches.onward_confirmed;
+      backward_confirmed = h.matches.backward_confirmed;
+    };
+    is_right = path_right h.caller h.callee h.is_right;
+  }
+
+  paths_hold : PathsHold (users_plan s) s.register
+  paths_hold = record {
+    pairs_hold = λ i pair there. path_holds pair (holds.calls.pairs_hold i pair there);
+    numbers = holds.calls.numbers;
+    nodes = holds.calls.nodes;
+    in_one = holds.calls.in_one;
+    took = holds.calls.took;
+  }
+
+  pub promise_users : NetworkPromise s
+  promise_users = record {
+    plan = users_plan s;
+    plan_is = plan_is;
+    calls = paths_hold;
+    records = holds.records;
+    ends = λ line l role at user. holds.ends line l role at;
+    placed = λ line l role at user other. holds.placed line l role at;
+    typed = holds.typed;
+    alone = λ none. holds;
+  }

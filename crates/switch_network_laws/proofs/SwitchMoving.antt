@@ -1,0 +1,127 @@
+-- What an event of a switch makes of what the laws of paths say of it, before its frames go out.
+use Rattle.std.proofs.Common.{◌≡◌, ℕ, zero, suc, set, List, [], ◌∷◌, ◌++◌, map, Option, Some, None, refl, ap, ◌∙◌}
+use Rattle.std.specs.Prelude.{slice_get, unwrap_or}
+use Rattle.call_records.specs.Book.{Book}
+use Rattle.call_records.specs.Register.{Register, LineEnds, found_ends, book_at, handed_on}
+use Rattle.switch_lines.specs.declared.place.NewJoin.{NewJoin}
+use Rattle.switch_lines.specs.Switch.{Switch, on_frame, on_timer}
+use Rattle.switch_laws.specs.Steps.Happening.{Brings, RunsOut}
+use Rattle.switch_laws.specs.Steps.Step.{Happens}
+use Rattle.switch_laws.specs.World.{layers_of}
+use Rattle.switch_laws.specs.EventSteps.{event_acts}
+use Rattle.switch_laws.specs.Turn.{AreOctets}
+use Rattle.switch_record_laws.specs.Kept.{Partners, partners_after, restarted_partner, BeginWith}
+use Rattle.switch_record_laws.specs.Tied.{Histories, happened, restarted}
+use Rattle.joined_call_laws.specs.Calls.{JoinedCall}
+use Rattle.joined_call_laws.specs.Law.{calls_in, join_of_call}
+use Rattle.joined_call_laws.proofs.Eventing.{calls_hold}
+use Rattle.call_path_laws.specs.World.{Origin, World, Plan}
+use Rattle.switch_path_laws.specs.Network.{IsNetwork, found_line}
+use Rattle.switch_path_laws.specs.Network as paths
+use Rattle.switch_path_laws.specs.Law.{SwitchPathLaw, OthersStay, AfterEvent, AfterRestart}
+use Rattle.net_events.specs.AtSwitch.{SwitchEvent, Hears, Expires, Restarts, switched, joins_of, network_line, all_handed}
+use Rattle.switch_network_laws.proofs.SwitchWriting.{IsWritten, acts_written, restart_written}
+
+-- ---- calls that are handed on
+
+line_same : (o : Option ℕ) → found_line o ≡ unwrap_or o 0
+line_same None = refl
+line_same (Some line) = refl
+
+-- the joined calls, as the switch tells of them
+handed_same : (at : List ℕ) (cs : List JoinedCall) (g : Register) → paths.all_handed at cs g ≡ all_handed at (map join_of_call cs) g
+handed_same at [] g = refl
+handed_same at (c ∷ cs) g =
+    handed_same at cs (paths.handed_on at c g)
+    ∙ ap (λ (x : Register). all_handed at (map join_of_call cs) x)
+    (ap (λ (line : ℕ). handed_on line c.near.channel (paths.network_line at c.far.line) c.far.channel g) (line_same (slice_get at c.near.line))
+    ∙ ap (λ (line : ℕ). handed_on (network_line at c.near.line) c.near.channel line c.far.channel g) (line_same (slice_get at c.far.line)))
+
+-- no address of a line changes
+address_found : (xs : List LineEnds) (to line : ℕ) (e : LineEnds) → e.dte.address ≡ (found_ends (slice_get xs to)).dte.address
+    → (found_ends (slice_get (set xs to e) line)).dte.address ≡ (found_ends (slice_get xs line)).dte.address
+address_found [] to line e same = refl
+address_found (x ∷ xs) zero zero e same = same
+address_found (x ∷ xs) zero (suc line) e same = refl
+address_found (x ∷ xs) (suc to) zero e same = refl
+address_found (x ∷ xs) (suc to) (suc line) e same = address_found xs to line e same
+
+pub addresses_stay : (at : List ℕ) (joins : List NewJoin) (line : ℕ) (g : Register)
+    → (book_at line (all_handed at joins g)).dte.address ≡ (book_at line g).dte.address
+addresses_stay at [] line g = refl
+addresses_stay at (j ∷ joins) line g =
+    addresses_stay at joins line (handed_on (network_line at j.came_in.line) j.came_in.channel (network_line at j.placed.line) j.placed.channel g)
+    ∙ address_found g.lines (network_line at j.placed.line) line _ refl
+
+-- ---- each event
+
+-- what is at the other ends of its lines, and on the way
+abbrev pub partners_then : SwitchEvent → Partners → Partners
+partners_then (Hears own octets) ps = partners_after (Happens own (Brings octets)) ps
+partners_then (Expires own id) ps = ps
+partners_then Restarts ps = λ n. restarted_partner (ps n)
+
+pub record Moved (plan : Plan) (at : List ℕ) (event : SwitchEvent) (s : Switch) (h : Histories) (old : List Book) (w : World) (old_traces : List (List Origin)) : Type 0 where
+  pub histories : Histories
+  pub calls : List JoinedCall
+  pub books : List Book
+  pub world : World
+  pub traces : List (List Origin)
+  pub network : IsNetwork plan at (switched event s) histories calls books world traces
+  pub register : world.register ≡ all_handed at (joins_of event s) w.register
+  pub others : OthersStay at old books old_traces traces
+  pub written : (k : ℕ) → IsWritten (h.books k) (histories.books k)
+  pub partners : (k : ℕ) → histories.partners k ≡ partners_then event h.partners k
+
+-- a frame that arrives is read, and is the first one on the way
+abbrev pub MayCome : SwitchEvent → Histories → Type 0
+MayCome (Hears own octets) h = AreOctets octets × BeginWith octets (h.partners own).up
+MayCome (Expires own id) h = Unit {0}
+MayCome Restarts h = Unit {0}
+
+pub moved : SwitchPathLaw → (plan : Plan) (at : List ℕ) (event : SwitchEvent) (s : Switch) (h : Histories) (cs : List JoinedCall) (books : List Book) (w : World) (traces : List (List Origin))
+    → MayCome event h → IsNetwork plan at s h cs books w traces → Moved plan at event s h books w traces
+moved law plan at (Hears own octets) s h cs books w traces may i =
+    let a : AfterEvent plan at own (Brings octets) s (on_frame own octets s) h cs books w traces = law.frames plan at own octets s h cs books w traces may.0 may.1 i in
+    let joins = calls_hold.new.frames own octets s h may.0 i.tied in
+    record {
+      histories = happened own (Brings octets) s h;
+      calls = cs ++ calls_in own (Brings octets) s h;
+      books = a.books;
+      world = a.world;
+      traces = a.traces;
+      network = a.network;
+      register = a.register ∙ (handed_same at (calls_in own (Brings octets) s h) w.register ∙ ap (λ (js : List NewJoin). all_handed at js w.register) joins);
+      others = a.others;
+      written = λ k. acts_written (event_acts s.routes own (Brings octets) s.lines) (layers_of s.lines) h.books k;
+      partners = λ k. refl;
+    }
+moved law plan at (Expires own id) s h cs books w traces may i =
+    let a : AfterEvent plan at own (RunsOut id) s (on_timer own id s) h cs books w traces = law.timers plan at own id s h cs books w traces i in
+    let none = calls_hold.new.timers own id s h i.tied in
+    record {
+      histories = happened own (RunsOut id) s h;
+      calls = cs ++ calls_in own (RunsOut id) s h;
+      books = a.books;
+      world = a.world;
+      traces = a.traces;
+      network = a.network;
+      register = a.register ∙ ap (λ (js : List JoinedCall). paths.all_handed at js w.register) none;
+      others = a.others;
+      written = λ k. acts_written (event_acts s.routes own (RunsOut id) s.lines) (layers_of s.lines) h.books k;
+      partners = λ k. refl;
+    }
+moved law plan at Restarts s h cs books w traces may i =
+    let a : AfterRestart plan at s h cs books w traces = law.restarts plan at s h cs books w traces i in
+    record {
+      histories = restarted s h;
+      calls = cs;
+      books = a.books;
+      world = a.world;
+      traces = a.traces;
+      network = a.network;
+      register = a.register;
+      others = a.others;
+      written = λ k. restart_written (layers_of s.lines) h.books k;
+      partners = λ k. refl;
+    }

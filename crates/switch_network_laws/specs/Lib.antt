@@ -1,0 +1,5 @@
+pub mod Plans
+pub mod IsSwitched
+pub mod Promise
+pub mod Rest
+pub mod Laws

@@ -1,0 +1,41 @@
+-- What a network promises, with a switch or without one.
+use Rattle.std.specs.Prelude.{◌≡◌, ℕ, true, slice_get, Some}
+use Rattle.link_timers.specs.declared.role.Role.{Role}
+use Rattle.link_timers.specs.Role.{other_of}
+use Rattle.call_records.specs.Records.{RecordValue}
+use Rattle.x25_pad_laws.specs.Sending.{HasSent}
+use Rattle.register_laws.specs.Promise.{HasRecords}
+use Rattle.call_path_laws.specs.World.{Plan}
+use Rattle.call_path_laws.specs.Promise.{PathsHold}
+use Rattle.line_nodes.specs.Node.{is_pad}
+use Rattle.net_events.specs.Network.{PlacedNode, User, NetLine, Network, place_at}
+use Rattle.network_laws.specs.Promise.{EndHolds, PlacedHolds, NetworkHolds}
+use Rattle.switch_network_laws.specs.Plans.{HasNoSwitch, IsPlanOf}
+
+-- a node with users stands at the end of a role of a line
+abbrev pub HasUserAt : Network → NetLine → Role → Type 0
+HasUserAt s l role = (n : PlacedNode) × (slice_get s.nodes (place_at role l) ≡ Some (User n))
+
+pub record NetworkPromise (s : Network) : Type 0 where
+  -- which node is where, the addresses of the lines, and the routes of the switch if there is one
+  pub plan : Plan
+  pub plan_is : IsPlanOf s plan
+  -- for each pair, over one line or over two with the switch between them, what one end took matches what the other one
+  -- sent, both ways, what is confirmed was taken, and the pair is right; no record is in two pairs, and each that took
+  -- anything is in one
+  pub calls : PathsHold plan s.register
+  -- each present record is open and of the node at its end, at no other channel; each open record is present
+  pub records : HasRecords s.register
+  -- the ends of lines at which nodes with users stand
+  pub ends : (line : ℕ) (l : NetLine) (role : Role) → slice_get s.lines line ≡ Some l → HasUserAt s l role
+      → EndHolds s line l role
+  -- on a line between users, each call in data transfer that was placed is the last one placed there and is in a pair
+  pub placed : (line : ℕ) (l : NetLine) (role : Role) → slice_get s.lines line ≡ Some l → HasUserAt s l role
+      → HasUserAt s l (other_of role) → PlacedHolds s line l role
+  -- what a PAD's terminal sent on a call is, block for block with its end, what its editing rules make of the keys and
+  -- idle times; else the PAD sent only what it told the far end by its messages, and the interrupts of breaks
+  pub typed : (place : ℕ) (n : PlacedNode) (i : ℕ) (r : RecordValue) → slice_get s.nodes place ≡ Some (User n)
+      → is_pad n.node ≡ true → slice_get s.register.records i ≡ Some r → r.node ≡ place → HasSent r
+  -- without a switch each pair is of the two ends of one line, and what one end took begins, epoch by epoch, what the
+  -- other one sent
+  pub alone : HasNoSwitch s → NetworkHolds s

@@ -1,0 +1,37 @@
+-- The calls of a line's book hold where some moves lead to it; and a line is the switch's or another one.
+use Rattle.std.specs.Prelude.{◌≡◌, ℕ, zero, suc, ◌<◌, ◌⊎◌, List, [], ◌∷◌, length}
+use Rattle.std.proofs.Common.{inl, inr, sym, subst, arith}
+use Rattle.call_records.specs.Book.{Book}
+use Rattle.book_laws.proofs.Basics.{number_is}
+use Rattle.line_laws.specs.Line.{Line}
+use Rattle.line_record_laws.specs.Kept.{Setting, Kept}
+use Rattle.call_path_laws.specs.World.{Origin}
+use Rattle.call_path_laws.specs.Lines.{AreRecorded, BookCallsHold}
+use Rattle.call_path_laws.proofs.Moves.{recorded_calls}
+use Rattle.switch_path_laws.specs.Network.{network_line, IsOther}
+
+-- a line of the network is the switch's, or it is none of its
+pub own_or_other : (at : List ℕ) (line : ℕ) → ((n : ℕ) × ((n < length at) × (network_line at n ≡ line))) ⊎ IsOther at line
+own_or_other [] line = inr (λ n less e. absurd (omega arith))
+own_or_other (x ∷ xs) line = elim (number_is x line) [
+  | inl e ↦
+      let less : 0 < suc (length xs) = omega arith in inl (0, (less, e))
+  | inr ne ↦ elim (own_or_other xs line) [
+    | inl own ↦
+        let before = own.1.0 in
+        let less : suc own.0 < suc (length xs) = omega arith in inl (suc own.0, (less, own.1.1))
+    | inr other ↦ inr (none_of ne other)
+  ]
+]
+  where
+    none_of : (x ≡ line → ⊥) → IsOther xs line → IsOther (x ∷ xs) line
+    none_of ne other zero less e = ne e
+    none_of ne other (suc n) less e =
+        let before : n < length xs = omega arith in other n before e
+
+-- the calls of a book hold that some moves lead to
+pub kept_calls : (s : Setting) (b : Book) (l : Line) → Kept s b l → (own : List Origin) → AreRecorded own b.records → BookCallsHold b own
+kept_calls s b l k own recorded =
+    subst (λ (x : Book). BookCallsHold x own) k.book
+    (recorded_calls s.dte_node s.dce_node s.dte.channels s.dte.window s.dte.standing k.setting.dte.layer.channels_least k.setting.dte.layer.window_most k.moves k.allowed own
+    (subst (λ (x : Book). AreRecorded own x.records) (sym k.book) recorded))

@@ -1,0 +1,279 @@
+-- Where all lines of a network with one switch are at rest, nothing is missing in its register.
+use Rattle.std.specs.Prelude.{◌≡◌, ℕ, ◌<◌, ◌⊎◌, Bool, true, false, is_some, List, [], length, slice_get, Option, Some, None}
+use Rattle.std.proofs.Common.{inl, inr, refl, sym, ap, ap₂, subst, ◌∙◌, true≢false, option_map}
+use Rattle.std.proofs.lemmas.Option.{same_Some}
+use Rattle.link_timers.specs.declared.role.Role.{Role}
+use Rattle.link_timers.specs.declared.role.Role.TheVariants.{Dte, Dce}
+use Rattle.link_timers.specs.Role.{other_of}
+use Rattle.packet_layer.specs.Channel.{CallState, Channel, had_call, in_transfer, waits_for_call}
+use Rattle.packet_layer.specs.Channel.CallState.{Transfer}
+use Rattle.packet_layer.specs.Layer.{Layer, channel_of}
+use Rattle.line_laws.specs.Line.{Line}
+use Rattle.call_records.specs.Records.{RecordValue, PairValue}
+use Rattle.call_records.specs.Book.{Book, slot_at}
+use Rattle.call_records.specs.Register.{book_at}
+use Rattle.book_laws.specs.Headline.{IsPaired}
+use Rattle.book_laws.specs.Rest.{NothingMissing}
+use Rattle.book_laws.proofs.Answered.{are_answered}
+use Rattle.book_laws.proofs.Basics.{get_there}
+use Rattle.register_laws.specs.Seen.{positions, renumbered}
+use Rattle.register_laws.proofs.Missing.{rest_seen}
+use Rattle.register_laws.proofs.Positions.{is_place}
+use Rattle.register_laws.proofs.Promising.{numbered, pair_of, paired_seen}
+use Rattle.register_laws.proofs.Seeing.{came_seen}
+use Rattle.register_laws.proofs.Steps.{same_place}
+use Rattle.line_record_laws.specs.Kept.{Setting, Kept, end_at}
+use Rattle.line_record_laws.proofs.Missing.{rest_kept}
+use Rattle.switch_lines.specs.declared.place.Place.{Place}
+use Rattle.switch_lines.specs.declared.place.Joined.{Joined}
+use Rattle.switch_lines.specs.Lines.{SwitchLine}
+use Rattle.switch_lines.specs.Switch.{Switch}
+use Rattle.switch_laws.specs.Leg.{Leg}
+use Rattle.switch_laws.specs.Joined.{WaitsFor, IsPair, IsJoinedAt}
+use Rattle.switch_laws.specs.Joined.IsPair.{connected, waiting}
+use Rattle.switch_laws.specs.World.{Shown, shown_at, shown_on, shown_as, Agrees, layers_of}
+use Rattle.switch_laws.proofs.Lists.{get_map}
+use Rattle.switch_record_laws.specs.Records.{HasRecord, Has, call_on, leg_if}
+use Rattle.switch_record_laws.specs.Kept.{line_with}
+use Rattle.switch_record_laws.specs.Tied.{Histories}
+use Rattle.joined_call_laws.specs.Calls.{JoinedCall, StandsOrEnded, Stands}
+use Rattle.call_path_laws.specs.World.{Origin, World, Plan}
+use Rattle.call_path_laws.specs.Seen.{CameFrom}
+use Rattle.call_path_laws.specs.Rest.{HasHandedAll, HaveHandedAll}
+use Rattle.call_path_laws.proofs.Resting.{rest_paths}
+use Rattle.switch_path_laws.specs.Network.{network_line, IsOther, lines_of, HasNumber, IsNetwork}
+use Rattle.switch_path_laws.specs.Law.{SwitchRests, RestLaw}
+use Rattle.switch_path_laws.proofs.Keeping.{own_or_other}
+use Rattle.switch_path_laws.proofs.Listing.{join_found}
+use Rattle.switch_path_laws.proofs.Seeing.{line_there, own_trace, line_seen}
+use Rattle.switch_path_laws.proofs.Transferring.{BothInTransfer, in_transfer_at_rest}
+
+-- ---- two legs
+
+-- both legs are in data transfer, and what was sent on each since the last reset is what was taken on the other one
+record AreConnected (g h : Leg) : Type 0 where
+  pub near_call : g.channel.state ≡ Transfer
+  pub onward : h.epoch.sent ≡ g.epoch.taken
+  pub onward_interrupts : h.epoch.interrupts_sent ≡ g.epoch.interrupts_taken
+  pub backward : g.epoch.sent ≡ h.epoch.taken
+  pub backward_interrupts : g.epoch.interrupts_sent ≡ h.epoch.interrupts_taken
+
+no_wait : (role : Role) (state : CallState) → waits_for_call role state ≡ true → state ≡ Transfer → ⊥
+no_wait Dte state h e = true≢false (sym h ∙ ap (λ (x : CallState). waits_for_call Dte x) e)
+no_wait Dce state h e = true≢false (sym h ∙ ap (λ (x : CallState). waits_for_call Dce x) e)
+
+are_connected : (g h : Leg) (j k : Joined) → IsPair g h j k → j.came_in ≡ true → h.channel.state ≡ Transfer → AreConnected g h
+are_connected g h j k (connected c) came in_call = record {
+  near_call = c.there.holds.near_call;
+  onward = c.there.holds.direction.carries.packets;
+  onward_interrupts = c.there.holds.direction.carries.interrupts;
+  backward = c.back.holds.direction.carries.packets;
+  backward_interrupts = c.back.holds.direction.carries.interrupts;
+}
+are_connected g h j k (waiting there back w) came in_call =
+    absurd (no_wait h.role h.channel.state (subst (λ (v : Bool). WaitsFor v g h) came w).waits in_call)
+
+none_over : ⊥ ⊎ ⊥ → ⊥
+none_over (inl e) = e
+none_over (inr e) = e
+
+of_shown : (l : Layer) (o : Option Channel) → is_some (shown_as l o) ≡ true → (ch : Channel) × (o ≡ Some ch)
+of_shown l (Some ch) e = (ch, refl)
+of_shown l None e = absurd (true≢false (sym e))
+
+-- in data transfer a call that came in is in a pair
+paired_at : (s : Setting) (b : Book) (l : Line) (c : ℕ) (ch : Channel) → Kept s b l → channel_of l.dce.layer c ≡ Some ch → in_transfer ch.state ≡ true
+    → is_some (slot_at Dce c b).caller ≡ true → IsPaired (slot_at Dce c b) b.pairs
+paired_at s b l c ch k at in_call some =
+    let p = k.setting.dte.layer in
+    subst (λ (x : Book). IsPaired (slot_at Dce c x) x.pairs) k.book
+    ((are_answered s.dte_node s.dce_node s.dte.channels s.dte.window s.dte.standing p.channels_least p.window_most k.moves k.allowed).paired Dce c ch
+    (ap (λ (y : Layer). channel_of y c) k.joint.yours.layer ∙ at) in_call (ap (λ (x : Book). is_some (slot_at Dce c x).caller) k.book ∙ some))
+
+module _ (plan : Plan) (at : List ℕ) (s : Switch) (h : Histories) (cs : List JoinedCall) (books : List Book) (w : World) (traces : List (List Origin))
+    (i : IsNetwork plan at s h cs books w traces) (rests : SwitchRests s h) where
+  its_line : (n : ℕ) → n < length at → (l : SwitchLine) × (slice_get s.lines n ≡ Some l)
+  its_line n less = get_there s.lines n (subst (λ (k : ℕ). n < k) i.planned.lines less)
+
+  layer_there : (n : ℕ) (l : SwitchLine) → slice_get s.lines n ≡ Some l → slice_get (layers_of s.lines) n ≡ Some l.end.layer
+  layer_there n l e = get_map (λ (y : SwitchLine). y.end.layer) s.lines n ∙ ap (λ (o : Option SwitchLine). option_map (λ (y : SwitchLine). y.end.layer) o) e
+
+  shown_there : (x : Place) (l : SwitchLine) → slice_get s.lines x.line ≡ Some l → shown_at (layers_of s.lines) x ≡ shown_as l.end.layer (channel_of l.end.layer x.channel)
+  shown_there x l e = ap (λ (o : Option Layer). shown_on o x.channel) (layer_there x.line l e)
+
+  leg_of : (x : Place) (l : SwitchLine) → slice_get s.lines x.line ≡ Some l → (ch : Channel) → channel_of l.end.layer x.channel ≡ Some ch → (h.legs x).channel ≡ ch
+  leg_of x l e ch there =
+      let seen : Shown = record { role = l.end.layer.role; window = l.end.layer.window; channel = ch } in
+      let a : Agrees seen (h.legs x) = i.tied.holds.joins.world x seen (shown_there x l e ∙ ap (λ (o : Option Channel). shown_as l.end.layer o) there) in
+      ap (λ (y : Shown). y.channel) (sym a.shown)
+
+  leg_record : (x : Place) (l : SwitchLine) → slice_get s.lines x.line ≡ Some l → (ch : Channel) → channel_of l.end.layer x.channel ≡ Some ch → ch.state ≡ Transfer
+      → HasRecord Dce x.channel (h.legs x) (h.books x.line)
+  leg_record x l e ch there in_call =
+      subst (λ (v : Bool). Has Dce x.channel (leg_if v (h.legs x)) (h.books x.line)) (ap had_call in_call)
+      (subst (λ (o : Option Channel). Has Dce x.channel (call_on o (h.legs x)) (h.books x.line)) there
+      ((i.tied.records x.line l.end.layer (layer_there x.line l e)).has x.channel))
+
+  -- ---- the far leg, whose call was accepted and is open at the other end of its line
+
+  record FarTransfer (c : JoinedCall) (l : SwitchLine) : Type 0 where
+    pub role : Role
+    pub channel : ℕ
+    pub present : (slot_at role channel (h.books c.far.line)).present ≡ Some c.placed
+    pub its_channel : Channel
+    pub there : channel_of (end_at role (line_with (h.partners c.far.line) l.end)).layer channel ≡ Some its_channel
+    pub in_call : its_channel.state ≡ Transfer
+
+  far_transfer : (c : JoinedCall) (b k : ℕ) (pair : PairValue) (callee : RecordValue) (l : SwitchLine) → HasNumber at w.origins c.far.line c.placed b → slice_get s.lines c.far.line ≡ Some l
+      → slice_get w.whole.pairs k ≡ Some pair → pair.caller ≡ b → slice_get w.whole.records pair.callee ≡ Some callee → callee.closed ≡ false → FarTransfer c l
+  far_transfer c b k pair callee l far got pair_there caller callee_there open_ =
+      let n = c.far.line in
+      let o = pair_of w.whole books i.seen.lines.seen k pair pair_there in
+      let trace = own_trace books o.j o.book w.whole w.origins traces o.there i.seen.lines in
+      let owners : i.seen.lines.seen.owners ≡ lines_of w.origins = (i.seen.lines.lines o.j trace.0 trace.1).owners_are in
+      let line : o.j ≡ network_line at n =
+      same_Some o.j (network_line at n) (sym (is_place o.j i.seen.lines.seen.owners o.pair.own.caller pair.caller o.pair.caller)
+      ∙ ap₂ (λ (os : List ℕ) (m : ℕ). slice_get os m) owners caller ∙ is_place (network_line at n) (lines_of w.origins) c.placed b far.1) in
+      let book : o.book ≡ h.books n = same_Some o.book (h.books n) (sym o.there ∙ ap (λ (j : ℕ). slice_get books j) line ∙ i.seen.among n far.0) in
+      let own : o.pair.own.caller ≡ c.placed =
+      same_place (network_line at n) (lines_of w.origins) o.pair.own.caller c.placed b
+      (sym (ap₂ (λ (j : ℕ) (os : List ℕ). slice_get (positions j os) o.pair.own.caller) line owners) ∙ o.pair.caller ∙ ap (λ (m : ℕ). Some m) caller) far.1 in
+      let seen = (i.seen.lines.seen.line o.j o.book o.there).records o.pair.own.callee pair.callee o.pair.callee in
+      let is_open : seen.value.closed ≡ false =
+      ap (λ (r : RecordValue). r.closed) (same_Some (renumbered pair.callee seen.caller seen.value) callee (sym seen.seen_there ∙ callee_there)) ∙ open_ in
+      let kept : Kept (h.partners n).setting o.book (line_with (h.partners n) l.end) =
+      subst (λ (y : Book). Kept (h.partners n).setting y (line_with (h.partners n) l.end)) (sym book) (i.tied.kept n l got) in
+      let t : BothInTransfer o.book (line_with (h.partners n) l.end) o.pair.own =
+      in_transfer_at_rest (h.partners n).setting o.book (line_with (h.partners n) l.end) kept (rests n l got) o.pair.place o.pair.own seen.value o.pair.own_there seen.own_there is_open in
+      record {
+        role = other_of t.role;
+        channel = t.channel;
+        present = ap (λ (y : Book). (slot_at (other_of t.role) t.channel y).present) (sym book) ∙ t.caller_present ∙ ap (λ (m : ℕ). Some m) own;
+        its_channel = t.caller_channel;
+        there = t.caller_there;
+        in_call = t.caller_in_call;
+      }
+
+  -- ---- a join that stands
+
+  -- both legs are connected, and their channels are those of two records
+  record StandsConnected (c : JoinedCall) : Type 0 where
+    pub legs : AreConnected (h.legs c.near) (h.legs c.far)
+    pub near_line : SwitchLine
+    pub near_got : slice_get s.lines c.near.line ≡ Some near_line
+    pub near_channel : Channel
+    pub near_there : channel_of near_line.end.layer c.near.channel ≡ Some near_channel
+    pub near_call : near_channel.state ≡ Transfer
+    pub near : HasRecord Dce c.near.channel (h.legs c.near) (h.books c.near.line)
+    pub far : HasRecord Dce c.far.channel (h.legs c.far) (h.books c.far.line)
+
+  stands_connected : (c : JoinedCall) (l : SwitchLine) → c.near.line < length at → slice_get s.lines c.far.line ≡ Some l → FarTransfer c l → Stands s.lines h.books c → StandsConnected c
+  stands_connected c l near_less got t stands =
+      let own = (i.tied.records c.far.line l.end.layer (layer_there c.far.line l got)).apart.apart t.role Dce t.channel c.far.channel c.placed t.present stands.far_present in
+      let there : channel_of l.end.layer c.far.channel ≡ Some t.its_channel =
+      sym (ap₂ (λ (y : Role) (d : ℕ). channel_of (end_at y (line_with (h.partners c.far.line) l.end)).layer d) own.0 own.1) ∙ t.there in
+      let g : IsJoinedAt 0 [] s.lines h.legs c.near stands.join = i.tied.holds.joins.joined c.near stands.join stands.joined in
+      let far_call : (h.legs c.far).channel.state ≡ Transfer = ap (λ (y : Channel). y.state) (leg_of c.far l got t.its_channel there) ∙ t.in_call in
+      let legs : AreConnected (h.legs c.near) (h.legs c.far) = elim g.pair [
+        | inl p ↦ subst (λ (q : Place). AreConnected (h.legs c.near) (h.legs q)) stands.other
+            (are_connected (h.legs c.near) (h.legs stands.join.other) stands.join g.other p stands.came_in_here (ap (λ (q : Place). (h.legs q).channel.state) stands.other ∙ far_call))
+        | inr over ↦ absurd (none_over over)
+      ] in
+      let ln = its_line c.near.line near_less in
+      let ch = of_shown ln.0.end.layer (channel_of ln.0.end.layer c.near.channel) (ap (λ (o : Option Shown). is_some o) (sym (shown_there c.near ln.0 ln.1)) ∙ g.there) in
+      let near_call : ch.0.state ≡ Transfer = ap (λ (y : Channel). y.state) (sym (leg_of c.near ln.0 ln.1 ch.0 ch.1)) ∙ legs.near_call in
+      record {
+        legs = legs;
+        near_line = ln.0;
+        near_got = ln.1;
+        near_channel = ch.0;
+        near_there = ch.1;
+        near_call = near_call;
+        near = leg_record c.near ln.0 ln.1 ch.0 ch.1 near_call;
+        far = leg_record c.far l got t.its_channel there t.in_call;
+      }
+
+  -- the pair of the call that came in, in the whole register
+  near_paired : (c : JoinedCall) (a x : ℕ) → HasNumber at w.origins c.near.line c.came_in a → CameFrom w.origins a x → (k : StandsConnected c) → Stands s.lines h.books c
+      → (place : ℕ) × (pair : PairValue) × (slice_get w.whole.pairs place ≡ Some pair) × (pair.callee ≡ a)
+  near_paired c a x near came k stands =
+      let n = c.near.line in
+      let line = network_line at n in
+      let channel = c.near.channel in
+      let y = line_seen plan at n h.books cs books w traces near.0 i.seen in
+      let m = numbered (positions line (lines_of w.origins)) (slot_at Dce channel (h.books n)).present (slot_at Dce channel (book_at line w.whole)).present c.came_in stands.near_present
+      ((y.sides Dce).slot channel).present in
+      let present : (slot_at Dce channel (book_at line w.whole)).present ≡ Some a = m.is ∙ sym m.there ∙ near.1 in
+      let made = ((i.seen.seen.sides line Dce (line_there plan at n h.books cs books w traces near.0 i.seen)).slot channel).present_origin a present in
+      let caller : (slot_at Dce channel (book_at line w.whole)).caller ≡ Some x =
+      ap (λ (o : Origin). o.caller) (same_Some (record { line = line; role = Dce; placed_here = made.placed_here; caller = (slot_at Dce channel (book_at line w.whole)).caller }) came.origin (sym made.there ∙ came.there)) ∙ came.came in
+      let some : is_some (slot_at Dce channel (h.books n)).caller ≡ true =
+      sym (came_seen w.whole books line (h.books n) Dce channel (i.seen.among n near.0) i.seen.lines.seen) ∙ ap (λ (o : Option ℕ). is_some o) caller in
+      let own : IsPaired (slot_at Dce channel (h.books n)) (h.books n).pairs =
+      paired_at (h.partners n).setting (h.books n) (line_with (h.partners n) k.near_line.end) channel k.near_channel (i.tied.kept n k.near_line k.near_got) k.near_there (ap in_transfer k.near_call) some in
+      let p = paired_seen w.whole books line (h.books n) Dce channel (i.seen.among n near.0) i.seen.lines.seen own in
+      (p.place, record { caller = p.caller; callee = p.callee }, p.there, same_Some p.callee a (sym p.present ∙ present))
+
+  handed_on_all : (c : JoinedCall) (a b x : ℕ) (l : SwitchLine) → HasNumber at w.origins c.near.line c.came_in a → HasNumber at w.origins c.far.line c.placed b → CameFrom w.origins a x
+      → slice_get s.lines c.far.line ≡ Some l → FarTransfer c l → Stands s.lines h.books c → HasHandedAll w a b
+  handed_on_all c a b x l near far came got t stands =
+      let k : StandsConnected c = stands_connected c l near.0 got t stands in
+      let u = (line_seen plan at c.near.line h.books cs books w traces near.0 i.seen).records c.came_in a near.1 in
+      let v = (line_seen plan at c.far.line h.books cs books w traces far.0 i.seen).records c.placed b far.1 in
+      let from : u.value ≡ k.near.it =
+      same_Some u.value k.near.it (sym u.own_there ∙ ap (λ (m : ℕ). slice_get (h.books c.near.line).records m) (same_Some c.came_in k.near.number (sym stands.near_present ∙ k.near.present)) ∙ k.near.there) in
+      let to : v.value ≡ k.far.it =
+      same_Some v.value k.far.it (sym v.own_there ∙ ap (λ (m : ℕ). slice_get (h.books c.far.line).records m) (same_Some c.placed k.far.number (sym stands.far_present ∙ k.far.present)) ∙ k.far.there) in
+      let p = near_paired c a x near came k stands in
+      record {
+        from = renumbered a u.caller u.value;
+        to = renumbered b v.caller v.value;
+        from_there = u.seen_there;
+        to_there = v.seen_there;
+        from_open = ap (λ (r : RecordValue). r.closed) from ∙ k.near.is_of.open_;
+        to_open = ap (λ (r : RecordValue). r.closed) to ∙ k.far.is_of.open_;
+        onward = record {
+          packets = ap (λ (r : RecordValue). r.sent.packets) to ∙ ap (λ e. e.packets) k.far.is_of.sent ∙ k.legs.onward
+              ∙ sym (ap (λ (r : RecordValue). r.taken.packets) from ∙ ap (λ e. e.packets) k.near.is_of.taken);
+          interrupts = ap (λ (r : RecordValue). r.sent.interrupts) to ∙ ap (λ e. e.interrupts) k.far.is_of.sent ∙ k.legs.onward_interrupts
+              ∙ sym (ap (λ (r : RecordValue). r.taken.interrupts) from ∙ ap (λ e. e.interrupts) k.near.is_of.taken);
+        };
+        backward = record {
+          packets = ap (λ (r : RecordValue). r.sent.packets) from ∙ ap (λ e. e.packets) k.near.is_of.sent ∙ k.legs.backward
+              ∙ sym (ap (λ (r : RecordValue). r.taken.packets) to ∙ ap (λ e. e.packets) k.far.is_of.taken);
+          interrupts = ap (λ (r : RecordValue). r.sent.interrupts) from ∙ ap (λ e. e.interrupts) k.near.is_of.sent ∙ k.legs.backward_interrupts
+              ∙ sym (ap (λ (r : RecordValue). r.taken.interrupts) to ∙ ap (λ e. e.interrupts) k.far.is_of.taken);
+        };
+        place = p.0;
+        pair = p.1;
+        there = p.2;
+        accepted = p.3;
+      }
+
+  have_handed_all : HaveHandedAll w
+  have_handed_all a b x k pair callee came joined pair_there caller callee_there open_ =
+      let f = join_found (StandsOrEnded s.lines h.books) at w.origins cs w.joins joined.place (record { came_in = a; placed = b }) i.seen.joins i.calls.each joined.there in
+      let l = its_line f.call.far.line f.is.far.0 in
+      let t : FarTransfer f.call l.0 = far_transfer f.call b k pair callee l.0 f.is.far l.1 pair_there caller callee_there open_ in
+      elim f.holds [
+        | inl stands ↦ handed_on_all f.call a b x l.0 f.is.near f.is.far came l.1 t stands
+        | inr ended ↦ absurd (ended.far_rests.not_present t.role t.channel t.present)
+      ]
+
+  -- ---- the lines
+
+  line_rests : ((line : ℕ) (b : Book) → IsOther at line → slice_get books line ≡ Some b → NothingMissing b.records b.pairs)
+      → (line : ℕ) (b : Book) → slice_get books line ≡ Some b → NothingMissing b.records b.pairs
+  line_rests others line b there = elim (own_or_other at line) [
+    | inr other ↦ others line b other there
+    | inl own ↦
+        let l = its_line own.0 own.1.0 in
+        let same : h.books own.0 ≡ b = same_Some (h.books own.0) b (sym (i.seen.among own.0 own.1.0) ∙ (ap (λ (k : ℕ). slice_get books k) own.1.1 ∙ there)) in
+        subst (λ (y : Book). NothingMissing y.records y.pairs) same
+        (rest_kept (h.partners own.0).setting (h.books own.0) (line_with (h.partners own.0) l.0.end) (i.tied.kept own.0 l.0 l.1) (rests own.0 l.0 l.1))
+  ]
+
+pub network_rests : RestLaw
+network_rests plan at s h cs books w traces i rests others =
+    rest_paths plan w i.seen.seen (rest_seen w.whole books i.seen.lines.seen (line_rests plan at s h cs books w traces i rests others))
+    (have_handed_all plan at s h cs books w traces i rests)

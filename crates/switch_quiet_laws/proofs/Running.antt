@@ -1,0 +1,26 @@
+-- A switch of two lines whose links are not answered.
+use Rattle.std.specs.Prelude.{◌≡◌, ◌<◌}
+use Rattle.std.proofs.Common.{ℕ, refl, subst}
+use Rattle.std.specs.FinMap.{empty}
+use Rattle.link_timers.specs.declared.timers.TimerId.TheVariants.{T1}
+use Rattle.switch_laws.specs.Run.{configs, new_switch, sabm}
+use Rattle.switch_quiet_laws.specs.Quiet.{IsQuietSwitch, drained}
+use Rattle.switch_quiet_laws.specs.Due.{all_due_on}
+use Rattle.switch_quiet_laws.specs.Run.{waited, expired, RunLaw}
+use Rattle.switch_quiet_laws.proofs.Quieting.{made-quiet, time-quiet, timer-quiet, frame-quiet}
+use Rattle.switch_quiet_laws.proofs.Fewer.{fewer-due}
+
+waited-quiet : IsQuietSwitch waited
+waited-quiet = time-quiet 60 (drained new_switch) (made-quiet empty configs)
+
+two-due : all_due_on waited ≡ 2
+two-due = refl
+
+pub run-holds : RunLaw
+run-holds = record {
+  quiet = waited-quiet;
+  due = refl;
+  both = two-due;
+  fewer = subst (λ (n : ℕ). all_due_on expired < n) two-due (fewer-due 0 T1 waited waited-quiet refl);
+  stays = frame-quiet 1 sabm expired (timer-quiet 0 T1 waited waited-quiet);
+}

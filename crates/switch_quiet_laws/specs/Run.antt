@@ -1,0 +1,25 @@
+-- A switch of two lines whose links are not answered: it meets what the laws ask for.
+use Rattle.std.specs.Prelude.{◌≡◌, ◌<◌, slice_get, Some}
+use Rattle.link_timers.specs.declared.timers.TimerId.TheVariants.{T1}
+use Rattle.switch_lines.specs.Switch.{Switch, on_frame, on_timer, elapse, due_on}
+use Rattle.switch_laws.specs.Run.{new_switch, sabm}
+use Rattle.switch_quiet_laws.specs.Quiet.{IsQuietSwitch, drained}
+use Rattle.switch_quiet_laws.specs.Due.{all_due_on}
+
+-- three seconds after the making T1 is due on both lines
+abbrev pub waited : Switch
+waited = elapse 60 (drained new_switch)
+
+-- it expires on line 0; on line 1 a link is set up
+abbrev pub expired : Switch
+expired = drained (on_timer 0 T1 waited)
+
+abbrev pub answered : Switch
+answered = drained (on_frame 1 sabm expired)
+
+pub record RunLaw : Type 0 where
+  pub quiet : IsQuietSwitch waited
+  pub due : due_on (slice_get waited.lines 0) ≡ Some T1
+  pub both : all_due_on waited ≡ 2
+  pub fewer : all_due_on expired < 2
+  pub stays : IsQuietSwitch answered

@@ -1,0 +1,35 @@
+//! That a switch is quiet between two events, whatever its lines bring, and that what is due at it comes to an end.
+#![tactic(auto)]
+
+ghost use Rattle.switch_quiet_laws.specs.Quiet.{FrameQuietLaw, TimerQuietLaw, RestartQuietLaw, TimeQuietLaw};
+ghost use Rattle.switch_quiet_laws.specs.Quiet.{OutQuietLaw, MakingQuietLaw, GoneOutLaw};
+ghost use Rattle.switch_quiet_laws.specs.Due.{SwitchFewerLaw};
+ghost use Rattle.switch_quiet_laws.specs.Run.{RunLaw};
+
+/// The law of a switch between two events, over definitions alone. From the making on, and whatever arrives: once the
+/// frames of an event went out, nothing of it is left at the end of any line (X.25 2.4, 3, 4).
+pub fn switch_quiet_law()
+    ensures frames { FrameQuietLaw }
+    ensures timers { TimerQuietLaw }
+    ensures restarts { RestartQuietLaw }
+    ensures elapses { TimeQuietLaw }
+
+    // The frames go out, of one line after the other.
+    ensures out { OutQuietLaw }
+    ensures gone { GoneOutLaw }
+
+    // The making.
+    ensures made { MakingQuietLaw }
+{}
+
+/// The law of the timers of a switch, over definitions alone. Where the timer that is due on a line expires, fewer of
+/// the timers of all lines are due than before: the timer is stopped, and one that is started has ticks left (X.25
+/// 2.4.8.1, annex D).
+pub fn switch_due_law()
+    ensures { SwitchFewerLaw }
+{}
+
+/// T1 expires on a line of a switch of two lines, and a link is set up on the other one.
+pub fn quiet_run_law()
+    ensures { RunLaw }
+{}
