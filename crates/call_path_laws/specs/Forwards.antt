@@ -8,7 +8,8 @@ use Rattle.call_records.specs.Records.{RecordValue}
 use Rattle.call_records.specs.Book.{slot_at, address_of}
 use Rattle.call_records.specs.Register.{LinePlan, book_at}
 use Rattle.book_laws.specs.Headline.{sent_by, taken_by}
-use Rattle.call_path_laws.specs.World.{Origin, World, Plan, Place, Event, after_event, MayHappen, made_world, calling_on}
+use Rattle.call_path_laws.specs.World.{Origin, World, Plan, Place, Event, after_event, MayHappen, made_world}
+use Rattle.call_path_laws.specs.World.{calling_on}
 use Rattle.call_path_laws.specs.World.Event.{Joins}
 use Rattle.call_path_laws.specs.Seen.{IsJoined, Seen}
 use Rattle.call_path_laws.specs.Promise.{JoinsHold}

@@ -36,11 +36,11 @@ use Rattle.lapb.specs.declared.note.Timing.{Timing as Change}
 use Rattle.lapb.specs.Held.{Link as Holder}
 use Rattle.lapb.specs.Machine.{Octets, Link, Step, runs, timing, timing_after, on_t1}
 use Rattle.lapb.specs.Octets.{on_octets}
-use Rattle.lapb.specs.Out.{Out, no_out, with_frames, gathered}
+use Rattle.lapb.specs.Out.{Out, with_frames, gathered}
 use Rattle.line_end.specs.declared.end.LineEnd.TheInside.{Inside}
 use Rattle.line_end.specs.End.{End, timed, runs_then, did, SendsUpTo}
 use Rattle.line_end.specs.EndView.{IsPooled, IsEnd}
-use Rattle.line_end.proofs.Frames.{with_frames-again, with_frames-fit}
+use Rattle.line_end.proofs.Frames.{with_frames-fit}
 use Rattle.line_end.proofs.Steps.{Keeps, sends_on_t1}
 use Rattle.line_end.proofs.Timing.{timing_after-keep, runs_after, runs_after_expiry}
 

@@ -1,11 +1,10 @@
 -- What a node noted of an expiry is written as its turn says.
-use Rattle.std.proofs.Common.{◌≡◌, ◌∙◌, ℕ, Bool, true, false, List, [], refl, sym, ap, subst}
+use Rattle.std.proofs.Common.{◌≡◌, ◌∙◌, Bool, true, false, List, [], refl, sym, ap, subst}
 use Rattle.std.specs.Prelude.{cond, if◌then◌else◌}
 use Rattle.link_timers.specs.declared.role.Role.{Role}
 use Rattle.link_timers.specs.declared.timers.TimerId.{TimerId}
 use Rattle.link_timers.specs.declared.timers.TimerId.TheVariants as timer
 use Rattle.packet_end.specs.PacketEnd.{PacketEnd, begun, finished, after_timer, runs_at}
-use Rattle.x25_pad.specs.Notes.{PadNote}
 use Rattle.x25_pad.specs.Pad as pad
 use Rattle.x25_pad.specs.Pad.{PadState}
 use Rattle.call_records.specs.Book.{Book}

@@ -6,8 +6,8 @@ use Rattle.call_records.specs.Book.{address_of}
 use Rattle.line_nodes.specs.declared.note.HostNote.{HostNote}
 use Rattle.line_nodes.specs.declared.note.NoteKind.TheVariants as kind
 
--- a call that comes in, with the calling address if it gives one, that is connected, cleared or reset; that an interrupt
--- was confirmed, or packets sent were covered, is not told
+-- a call that comes in, with the calling address if it gives one, that is connected, cleared or reset; that an
+-- interrupt was confirmed, or packets sent were covered, is not told
 abbrev pub host_note : (node : ℕ) → Note → List HostNote
 host_note node (Incoming channel parts) =
     record { node = node; channel = channel; kind = kind.Incoming (address_of parts.calling) } ∷ []

@@ -8,8 +8,8 @@ pub use Rattle.call_records.specs.Writes.{all_sent}
 use Rattle.pad_records.specs.Writing.{writes_of}
 use Rattle.line_nodes.specs.Node.{NodeState, Pad, Host, without_notes}
 
--- the node with the frames that wait and with all notes read, the book with all that was written, and the notes that the
--- user of a host is told of, in order; a PAD has no user that is told
+-- the node with the frames that wait and with all notes read, the book with all that was written, and the notes that
+-- the user of a host is told of, in order; a PAD has no user that is told
 pub record Turn : Type 0 where
   pub node : NodeState
   pub book : Book

@@ -13,8 +13,8 @@ use link_timers::TimerId;
 use packet_host::Host;
 use x25_pad::Pad;
 
-/// A node at an end of a line. Frames that were not taken by `out`, and notes that were not read, are gone when the next
-/// event begins.
+/// A node at an end of a line. Frames that were not taken by `out`, and notes that were not read, are gone when the
+/// next event begins.
 #[derive(Drop)]
 pub enum Node {
     Pad(Pad),
@@ -32,8 +32,8 @@ impl Node {
         }
     }
 
-    /// Takes an expiry of a timer of the line, or at a PAD of a terminal's idle timer, and answers whether it ran. Where
-    /// it did not nothing happens.
+    /// Takes an expiry of a timer of the line, or at a PAD of a terminal's idle timer, and answers whether it ran.
+    /// Where it did not nothing happens.
     pub fn expire(&mut self, id: TimerId) -> bool
         ensures ran { result ≡ node_runs (node_of self.old) id }
         ensures node { node_of self.new ≡ expired (node_of self.old) id }

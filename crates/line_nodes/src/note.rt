@@ -30,8 +30,8 @@ pub enum NoteKind {
     Reset { cause: u8, diagnostic: u8 },
 }
 
-/// Lists what the user of a host is told by a note of its packet layer, if anything: neither that an interrupt was confirmed
-/// nor that packets sent were covered.
+/// Lists what the user of a host is told by a note of its packet layer, if anything: neither that an interrupt was
+/// confirmed nor that packets sent were covered.
 pub(crate) fn list_note(node: usize, note: &LayerNote, notes: &mut Vec<HostNote>)
     requires { vec_len notes.old < vec_capacity notes.old }
     ensures listed { notes.new.items ≡ notes.old.items ++ host_note node (note_of note.now) }

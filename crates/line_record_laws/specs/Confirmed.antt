@@ -9,8 +9,8 @@ use Rattle.call_records.specs.Book.{Book, slot_at}
 use Rattle.book_laws.specs.Delivery.{IsAllCovered}
 use Rattle.line_record_laws.specs.Kept.{Setting, Kept, end_at}
 
--- the layer says of a channel that delivery is confirmed where each packet with D = 1 of the last epoch that this record
--- sent is covered, and in data transfer there alone
+-- the layer says of a channel that delivery is confirmed where each packet with D = 1 of the last epoch that this
+-- record sent is covered, and in data transfer there alone
 pub record SaysConfirmed (l : Layer) (channel : ℕ) (r : RecordValue) : Type 0 where
   pub covered : confirmed l channel ≡ true → IsAllCovered r.sent
   pub said : (ch : Channel) → channel_of l channel ≡ Some ch → in_transfer ch.state ≡ true → IsAllCovered r.sent

@@ -1,6 +1,5 @@
 -- What holds of a network between events holds after each event.
-use Rattle.std.proofs.Common.{◌≡◌, ℕ, Result, Ok, Err, sym, subst, inl, inr}
-use Rattle.std.specs.Prelude.{◌⊎◌}
+use Rattle.std.proofs.Common.{ℕ, Result, Ok, Err, sym, subst, inl, inr}
 use Rattle.link_timers.specs.declared.role.Role.{Role}
 use Rattle.link_timers.specs.declared.role.Role.TheVariants.{Dte}
 use Rattle.link_timers.specs.declared.timers.TimerId.{TimerId}

@@ -2,7 +2,7 @@
 use Rattle.std.proofs.Common.{◌≡◌, ◌≢◌, ℕ, zero, suc, ◌+◌, ◌<◌, Bool, true, false, cond, List, [], ◌∷◌, Option, Some}
 use Rattle.std.proofs.Common.{None, Result, Ok, Err}
 use Rattle.std.proofs.Common.{refl, sym, ap, ◌∙◌, subst, arith, inl, inr}
-use Rattle.std.specs.Prelude.{◌⊎◌, ◌==◌, not, length, slice_get, if◌then◌else◌, is_some}
+use Rattle.std.specs.Prelude.{◌⊎◌, not, length, slice_get, is_some}
 use Rattle.std.specs.List.{position, position_or_len}
 use Rattle.std.proofs.lemmas.Bool.{eq-eqb, lt-ltb}
 use Rattle.std.proofs.lemmas.Option.{same_Some, none-some}
@@ -12,9 +12,7 @@ use Rattle.line_nodes.specs.Node.{node_due}
 use Rattle.memory_line.specs.Lines.{LineService}
 use Rattle.switch_lines.specs.Lines.{SwitchLine}
 use Rattle.switch_lines.specs.Switch.{due_on}
-use Rattle.net_events.specs.NodeEvents.{Expires}
 use Rattle.net_events.specs.Network.{PlacedNode, PlacedSwitch, NetNode, User, Switching, Network, StandsAtLines}
-use Rattle.net_events.specs.AtSwitch as switch_event
 use Rattle.net_events.proofs.Users.{same_user, not_both}
 use Rattle.net_events.specs.NextDue.{DueTimer, first_on, due_on_lines, due_at, due_of, due_from, next_due}
 use Rattle.network_laws.specs.DueCount.{all_due}
@@ -28,7 +26,6 @@ use Rattle.net_nodes.specs.Faults.{step_fault, has_line, stands_at, where_there_
 use Rattle.net_nodes.specs.Places.{is_line}
 use Rattle.net_nodes.specs.Steps.{ExpireStep}
 use Rattle.net_nodes.specs.Happening.{Happens}
-use Rattle.switch_network_laws.specs.IsSwitched.{IsAny}
 use Rattle.switch_network_laws.proofs.FewerAny.{fewer_any, fewer_at_switch}
 use Rattle.switch_network_laws.proofs.Standing.{same_switch}
 use Rattle.line_sim.specs.Between.{IsBetweenEvents}

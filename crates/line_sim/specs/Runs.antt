@@ -1,5 +1,5 @@
 -- How a network is made by a configuration, and what a list of events does.
-use Rattle.std.specs.Prelude.{◌≡◌, ℕ, Bool, true, false, List, [], ◌∷◌, take, slice_get, Option, Some, None}
+use Rattle.std.specs.Prelude.{◌≡◌, ℕ, true, false, List, [], ◌∷◌, take, slice_get, Option, Some, None}
 use Rattle.memory_line.specs.Lines.{LineService, memory_service}
 use Rattle.net_events.specs.Network.{Network}
 use Rattle.net_events.specs.Opening.{IsMade}

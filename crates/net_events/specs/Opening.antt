@@ -1,5 +1,5 @@
--- How a network is made: of nodes, each with users and at one line, or a switch at its lines, and of lines, each between
--- two nodes.
+-- How a network is made: of nodes, each with users and at one line, or a switch at its lines, and of lines, each
+-- between two nodes.
 use Rattle.std.specs.Prelude.{◌≡◌, ◌≢◌, ℕ, ◌≤◌, ◌⊎◌, false, List, [], ◌∷◌, map, length, slice_get, Option, Some, None}
 use Rattle.link_timers.specs.declared.role.Role.{Role}
 use Rattle.link_timers.specs.declared.role.Role.TheVariants.{Dte, Dce}

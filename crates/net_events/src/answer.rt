@@ -30,7 +30,8 @@ pub struct Put {
     pub octets: FrameBuf,
 }
 
-/// The answer to an event: each frame that was put, in order, what a host noted, what a terminal shows, and the outcome.
+/// The answer to an event: each frame that was put, in order, what a host noted, what a terminal shows, and the
+/// outcome.
 #[derive(Drop)]
 pub struct Answer {
     pub frames: Vec<Put>,

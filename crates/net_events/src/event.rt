@@ -45,8 +45,8 @@ pub enum Event {
         line: usize,
         direction: Direction,
     },
-    /// A timer of a node's end of a line, or the idle timer of a terminal of a PAD, expires. Where it does not run nothing
-    /// happens.
+    /// A timer of a node's end of a line, or the idle timer of a terminal of a PAD, expires. Where it does not run
+    /// nothing happens.
     Expire {
         node: usize,
         line: usize,

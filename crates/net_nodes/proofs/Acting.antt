@@ -1,5 +1,5 @@
 -- What an event at an end of a line does to the network.
-use Rattle.std.proofs.Common.{◌≡◌, ℕ, ◌<◌, ◌≤◌, zero, suc, List, [], ◌∷◌, length, set, Option, Some, None, Result, Ok, Err, refl, sym, ap, ◌∙◌, subst, arith, inl}
+use Rattle.std.proofs.Common.{◌≡◌, ℕ, ◌<◌, ◌≤◌, List, length, set, Option, Some, None, Result, Ok, Err, refl, sym, ap, ◌∙◌, subst, arith, inl}
 use Rattle.std.specs.Prelude.{slice_get, vec_capacity, MatchResult}
 use Rattle.std.proofs.lemmas.List.{length-map, length-set}
 use Rattle.std.proofs.lemmas.Option.{same_Some}
@@ -10,7 +10,6 @@ use Rattle.call_records.specs.Register.{LineEnds, book_at}
 use Rattle.call_records.specs.Book.{Book}
 use Rattle.call_records.specs.RegisterView.{ends_of, lines_of, ends_in, register_with, register_of, IsOpen}
 use Rattle.call_records.specs.declared.register.Register.{Register}
-use Rattle.line_nodes.specs.Node.{frames_of}
 use Rattle.net_turns.specs.Quiet.{IsQuiet}
 use Rattle.line_nodes.specs.Notes.{host_notes}
 use Rattle.line_nodes.specs.declared.fault.NodeFault.{NodeFault}

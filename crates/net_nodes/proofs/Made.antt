@@ -1,6 +1,6 @@
 -- A network whose lines have begun, and whose switch, if it has one, put its frames too, is made by its plan.
-use Rattle.std.proofs.Common.{◌≡◌, ◌≢◌, ℕ, ◌<◌, Bool, true, false, List, [], map, length, set, get_or, Some, refl, sym, ap, ◌∙◌, subst, arith, inl, inr, true≢false}
-use Rattle.std.specs.Prelude.{◌⊎◌, slice_get, Option, None, option_map, is_none, Result, Ok, Err, OnOk, nat_lt}
+use Rattle.std.proofs.Common.{◌≡◌, ◌≢◌, ℕ, ◌<◌, Bool, true, false, List, map, length, set, get_or, Some, refl, sym, ap, ◌∙◌, subst, arith, inl, inr, true≢false}
+use Rattle.std.specs.Prelude.{◌⊎◌, slice_get, None, option_map, is_none, Result, Ok, Err, OnOk, nat_lt}
 use Rattle.std.specs.List.{position, position_or_len}
 use Rattle.std.proofs.lemmas.Option.{same_Some, none-some, slice_get-map, slice_get-get_or, get_or_from_slice_get}
 use Rattle.std.proofs.lemmas.Bool.{ltb-false}
@@ -16,7 +16,7 @@ use Rattle.memory_line.specs.Lines.{Flights, LineService, ArePut}
 use Rattle.switch_lines.specs.Making.{made, made_line}
 use Rattle.switch_lines.specs.Switch.{frames_on}
 use Rattle.net_events.specs.AtSwitch.{waiting_on}
-use Rattle.net_events.specs.Network.{PlacedSwitch, NetNode, User, Switching, NetLine, Network}
+use Rattle.net_events.specs.Network.{NetNode, User, Switching, NetLine, Network}
 use Rattle.net_events.specs.Opening.{NewNode, NewSwitch, Planned, PlannedUser, PlannedSwitch, NewLine, NetPlan, IsUserPlan, IsSwitchPlan, IsPlan, NodeIsMade, LineIsMade, new_dce, placed_new, placed_switch, own_configs, line_plan}
 use Rattle.net_events.proofs.Users.{UserLine}
 use Rattle.net_nodes.specs.Places.{user_of}

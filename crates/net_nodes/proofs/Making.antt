@@ -5,15 +5,14 @@ use Rattle.std.proofs.lemmas.Option.{same_Some, none-some}
 use Rattle.std.proofs.lemmas.Bool.{cases_eq, lt-ltb, ltb-true, ltb-false}
 use Rattle.packet_end.specs.declared.params.EndParams.{EndParams}
 use Rattle.book_laws.proofs.Basics.{set_here, set_elsewhere, length_set, length_pushed, get_before, get_last}
-use Rattle.call_records.specs.Register.{Register, with_line, with_lines, with_free_line, with_standing_call, made_register}
+use Rattle.call_records.specs.Register.{Register, with_line, with_lines, with_free_line, with_standing_call}
 use Rattle.net_config.specs.Plan.{StandsAlone}
 use Rattle.line_nodes.specs.Node.{NodeState}
 use Rattle.line_nodes.specs.Node.{frames_of}
 use Rattle.memory_line.specs.declared.line.Direction.TheVariants.{FromDte}
 use Rattle.memory_line.specs.Lines.{Flights, no_flights, LineService, ArePut}
 use Rattle.net_events.specs.Opening.{AreSent, new_dte, new_dce}
-use Rattle.net_events.specs.Network.{PlacedNode, NetNode, User, Switching, NetLine, Network}
-use Rattle.link_timers.specs.declared.role.Role.TheVariants.{Dte, Dce}
+use Rattle.net_events.specs.Network.{NetNode, User, Switching, NetLine}
 use Rattle.net_events.specs.Opening.{NewNode, NewSwitch, Planned, PlannedUser, PlannedSwitch, NewLine, NetPlan, IsUserPlan, IsPlan, new_node, new_end, placed_new, line_plan}
 use Rattle.net_events.proofs.Users.{UserLine, same_planned}
 use Rattle.net_nodes.proofs.Plans.{SwitchLine, never_both, same_new_switch}

@@ -1,16 +1,16 @@
 -- What a plan of a network says of a line and of the lines of a switch.
-use Rattle.std.proofs.Common.{◌≡◌, ◌≢◌, ℕ, zero, suc, ◌<◌, ◌≤◌, false, List, [], ◌∷◌, ◌++◌, map, length, Some, refl, sym, ap, ◌∙◌, subst, arith, inl, inr}
+use Rattle.std.proofs.Common.{◌≡◌, ℕ, zero, suc, false, List, [], ◌∷◌, ◌++◌, length, Some, refl, sym, ap, ◌∙◌, subst, arith, inl, inr}
 use Rattle.std.specs.Prelude.{◌⊎◌, slice_get, Option, None}
 use Rattle.std.proofs.lemmas.Option.{same_Some, none-some}
 use Rattle.link_timers.specs.declared.role.Role.TheVariants.{Dte, Dce}
 use Rattle.packet_codec.specs.Address.{AreDigits}
 use Rattle.packet_end.specs.Params.{AreParams}
-use Rattle.switch_lines.specs.Making.{IsLineConfig, IsConfig}
+use Rattle.switch_lines.specs.Making.{IsLineConfig}
 use Rattle.switch_lines.specs.declared.config.LineConfig.{LineConfig}
 use Rattle.net_events.specs.Opening.{NewNode, NewSwitch, Planned, PlannedUser, PlannedSwitch, NewLine, NetPlan, IsNewDte, IsDcePlan, IsLinePlan, IsUserPlan, IsSwitchPlan, IsPlan}
 use Rattle.net_events.specs.Opening.{line_config, found_config, own_configs}
 use Rattle.net_events.proofs.Users.{UserLine, same_planned}
-use Rattle.net_nodes.specs.Making.{HasAddress, CanMakeLines}
+use Rattle.net_nodes.specs.Making.{CanMakeLines}
 use Rattle.net_nodes.proofs.Places.{at_index, within}
 
 -- ---- what is planned for a place

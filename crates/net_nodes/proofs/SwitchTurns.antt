@@ -1,6 +1,6 @@
 -- What serving an event at a switch does, and what it is to the network.
-use Rattle.std.proofs.Common.{◌≡◌, ℕ, ◌<◌, Bool, true, false, cond, List, length, set, get_or, Some, Result, Ok, Err, refl, sym, ap, ◌∙◌, subst, inl, inr, arith, true≢false}
-use Rattle.std.specs.Prelude.{◌⊎◌, slice_get, is_some, Option, None, nat_lt}
+use Rattle.std.proofs.Common.{◌≡◌, ℕ, Bool, true, false, cond, List, length, set, get_or, Some, Ok, refl, sym, ap, ◌∙◌, subst, inl, inr, arith, true≢false}
+use Rattle.std.specs.Prelude.{slice_get, is_some, Option, None, nat_lt}
 use Rattle.std.specs.List.{position, position_or_len}
 use Rattle.std.proofs.lemmas.Bool.{eqb-true, eq-eqb, ltb-false}
 use Rattle.std.proofs.lemmas.List.Quantifiers.{position-Some}
@@ -11,11 +11,10 @@ use Rattle.link_timers.specs.declared.timers.TimerId.{TimerId}
 use Rattle.call_records.specs.Register.{Register}
 use Rattle.memory_line.specs.declared.line.Direction.TheVariants.{FromDte}
 use Rattle.memory_line.specs.Lines.{Flights, LineService, without_first}
-use Rattle.switch_lines.specs.Lines.{SwitchLine}
 use Rattle.switch_lines.specs.Switch.{Switch}
 use Rattle.switch_lines.specs.declared.place.NewJoin.{NewJoin}
-use Rattle.net_events.specs.AtSwitch.{SwitchEvent, Hears, Expires, Restarts, HasOwnLine, switched, joins_of, switch_drained, all_handed, LinesServed, SwitchHappened}
-use Rattle.net_events.specs.Network.{PlacedNode, PlacedSwitch, NetNode, User, Switching, NetLine, Network, StandsAtLines}
+use Rattle.net_events.specs.AtSwitch.{SwitchEvent, Hears, Expires, Restarts, HasOwnLine, switched, joins_of, switch_drained, all_handed, LinesServed}
+use Rattle.net_events.specs.Network.{PlacedSwitch, NetNode, User, Switching, NetLine, Network, StandsAtLines}
 use Rattle.net_events.specs.declared.answer.Answer.{Answer}
 use Rattle.net_events.specs.declared.answer.Put.{Put}
 use Rattle.net_turns.specs.Sends.{all_puts}

@@ -1,7 +1,7 @@
 -- What happens at a switch: its frames go onto its lines, one line after the other.
 use Rattle.std.proofs.Common.{◌≡◌, ◌≢◌, ℕ, ◌<◌, zero, suc, Bool, true, false, List, [], ◌∷◌, ◌++◌, length, map, set, Some, refl, sym, ap, ◌∙◌, subst, arith, inl, inr, append_assoc}
 use Rattle.std.specs.Prelude.{◌⊎◌, slice_get}
-use Rattle.std.proofs.lemmas.List.{append-nil, length-map}
+use Rattle.std.proofs.lemmas.List.{append-nil}
 use Rattle.std.proofs.lemmas.Option.{same_Some}
 use Rattle.std.proofs.lemmas.Bool.{cases_eq}
 use Rattle.lapb.specs.Machine.{Octets}
@@ -11,7 +11,7 @@ use Rattle.memory_line.specs.declared.line.Direction.TheVariants.{FromDte, FromD
 use Rattle.memory_line.specs.Lines.{Flights, LineService, ArePut, without_first}
 use Rattle.switch_lines.specs.Lines.{SwitchLine, changed}
 use Rattle.switch_lines.specs.Switch.{Switch, frames_on, on_frame, on_timer, restart}
-use Rattle.net_events.specs.AtSwitch.{Hears, Expires, Restarts, waiting_on, line_drained, LeftOn, OwnLineServed, LinesServed}
+use Rattle.net_events.specs.AtSwitch.{Hears, Expires, Restarts, waiting_on, line_drained, OwnLineServed, LinesServed}
 use Rattle.net_events.specs.Network.{PlacedSwitch, NetLine}
 use Rattle.net_events.specs.declared.answer.Put.{Put}
 use Rattle.net_turns.specs.Sends.{puts_on, all_puts}

@@ -1,9 +1,8 @@
 -- The loop by which the frames of an own line of a switch are put, and how many lines a switch has.
-use Rattle.std.proofs.Common.{◌≡◌, ℕ, ◌<◌, zero, suc, arith, length, List, [], ◌∷◌, ◌++◌, drop, map, Option, Some, None, refl, sym, ap, ◌∙◌, subst, append_assoc}
+use Rattle.std.proofs.Common.{◌≡◌, ℕ, ◌<◌, zero, suc, arith, length, List, [], ◌∷◌, ◌++◌, drop, map, Some, refl, sym, ap, ◌∙◌, subst, append_assoc}
 use Rattle.std.specs.Prelude.{slice_get}
 use Rattle.std.proofs.lemmas.List.{append-nil, length-map}
 use Rattle.lapb.specs.Machine.{Octets}
-use Rattle.link_timers.specs.declared.timers.TimerId.{TimerId}
 use Rattle.packet_end.specs.PacketEnd.{PacketEnd, without_first_frame}
 use Rattle.memory_line.specs.declared.line.Direction.TheVariants.{FromDce}
 use Rattle.memory_line.specs.Lines.{Flights, IsPut, LineService, ArePut}

@@ -1,6 +1,6 @@
 //! What an event does at one node of a network: the node is called, the network writes what was asked and what the
-//! node noted at the node's line, and the node's frames go onto the line. A switch is called, and its frames go onto its
-//! lines.
+//! node noted at the node's line, and the node's frames go onto the line. A switch is called, and its frames go onto
+//! its lines.
 #![tactic(auto)]
 
 mod place;

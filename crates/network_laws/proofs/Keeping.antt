@@ -1,5 +1,5 @@
 -- What is kept of a faithful line is kept after each event.
-use Rattle.std.proofs.Common.{◌≡◌, Bool, true, List, [], ◌∷◌, ◌++◌, drop, Some, refl, sym, ap, ◌∙◌, subst}
+use Rattle.std.proofs.Common.{◌≡◌, Bool, List, [], ◌∷◌, ◌++◌, drop, Some, refl, sym, ap, ◌∙◌, subst}
 use Rattle.std.specs.Prelude.{slice_get}
 use Rattle.link_timers.specs.declared.role.Role.{Role}
 use Rattle.link_timers.specs.declared.role.Role.TheVariants.{Dte, Dce}
@@ -10,8 +10,7 @@ use Rattle.packet_end.specs.PacketEnd as end
 use Rattle.line_laws.specs.Line as line
 use Rattle.line_record_laws.specs.Kept.{Kept, coming_to}
 use Rattle.line_record_laws.specs.Happens.{sent, with_event, with_restart}
-use Rattle.node_laws.specs.Nodes.{StandsAt}
-use Rattle.line_nodes.specs.Node.{NodeState, Pad, Host, end_of, is_pad, drained, frames_of}
+use Rattle.line_nodes.specs.Node.{NodeState, Pad, Host, end_of, drained, frames_of}
 use Rattle.line_nodes.specs.Turn.{Turn}
 use Rattle.line_nodes.specs.LineTurns.{restarts}
 use Rattle.line_nodes.specs.NodeEvents.{restarted}

@@ -1,6 +1,6 @@
 -- What each event leaves of what holds of a line of any kind: the nodes of the book, a quiet node, its kind, and what a
 -- PAD's records have sent.
-use Rattle.std.proofs.Common.{◌≡◌, ℕ, Bool, true, false, List, [], refl, sym, subst}
+use Rattle.std.proofs.Common.{◌≡◌, ℕ, Bool, true, false, List, refl, sym, subst}
 use Rattle.std.specs.Prelude.{cond}
 use Rattle.link_timers.specs.declared.role.Role.{Role}
 use Rattle.link_timers.specs.declared.role.Role.TheVariants.{Dte, Dce}
@@ -31,7 +31,7 @@ use Rattle.net_events.specs.NodeEvents.NodeEvent.{Takes, AtTerminal}
 use Rattle.memory_line.specs.Lines.{LineService}
 use Rattle.network_laws.specs.IsLine.{NodeHolds, line_of, AreQuiet, IsLine}
 use Rattle.network_laws.proofs.Channels.{ends_after}
-use Rattle.network_laws.proofs.Fitting.{Leaves, stands, quiet-at}
+use Rattle.network_laws.proofs.Fitting.{Leaves, stands}
 use Rattle.network_laws.proofs.NodeKinds.{same, kind-after}
 use Rattle.network_laws.proofs.Uniform.{IsUniform, uniform}
 

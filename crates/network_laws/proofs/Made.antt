@@ -27,7 +27,6 @@ use Rattle.network_laws.proofs.Fitting.{end-drained}
 use Rattle.line_record_laws.proofs.Keeping as keeping_law
 use Rattle.node_laws.proofs.Making as making_law
 use Rattle.node_laws.proofs.QuietTurns as quiet_law
-use Rattle.x25_pad_laws.proofs.Holding as pad_law
 use Rattle.x25_pad_laws.proofs.Begins as pad_making_law
 
 -- ---- the promise

@@ -15,7 +15,7 @@ use Rattle.register_laws.proofs.Making.{made_seen}
 use Rattle.book_laws.proofs.Basics.{get_there}
 use Rattle.memory_line.specs.Lines.{LineService}
 use Rattle.line_nodes.specs.Node.{node_elapsed}
-use Rattle.net_events.specs.Network.{PlacedNode, NetNode, User, Switching, NetLine, Network, elapsed_node, all_elapsed}
+use Rattle.net_events.specs.Network.{NetNode, User, Switching, NetLine, Network, elapsed_node, all_elapsed}
 use Rattle.network_laws.specs.IsNetwork.{line_state, LineHolds, IsUserAt, IsNetwork}
 use Rattle.net_events.specs.Opening.{NewNode, PlannedUser, NewLine, NetPlan, IsUserPlan, IsPlan, AreUsers, new_end, placed_new, line_plan, LineIsMade, IsMade}
 use Rattle.net_events.proofs.Users.{UserLine, user_line}

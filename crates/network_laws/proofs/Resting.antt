@@ -1,5 +1,5 @@
 -- Where a network is at rest nothing is missing, and confirmed delivery is that all is covered.
-use Rattle.std.proofs.Common.{◌≡◌, ℕ, true, Some, sym, ap, subst, ◌∙◌}
+use Rattle.std.proofs.Common.{◌≡◌, ℕ, Some, sym, ap, ◌∙◌}
 use Rattle.std.specs.Prelude.{slice_get}
 use Rattle.packet_layer.specs.Layer.{confirmed}
 use Rattle.call_records.specs.Book.{Book}
@@ -9,7 +9,7 @@ use Rattle.line_record_laws.proofs.Missing.{rest_kept}
 use Rattle.line_nodes.specs.Node.{end_of}
 use Rattle.memory_line.specs.Lines.{LineService}
 use Rattle.net_events.specs.OneLine.{LineState}
-use Rattle.net_events.specs.Network.{PlacedNode, Network, place_at}
+use Rattle.net_events.specs.Network.{PlacedNode, Network}
 use Rattle.net_events.proofs.Users.{same_user}
 use Rattle.network_laws.specs.IsLine.{line_of, IsKept}
 use Rattle.network_laws.specs.IsNetwork.{line_state, LineHolds, IsNetwork}

@@ -20,8 +20,8 @@ its_slot line role channel g = slot_at role channel (book_at line g)
 
 -- at the end of a role of a line: no frame or note waits at the node to be taken; the register has the end as this
 -- node's, register and packet layer have the line's channels, and a channel has a present record exactly where the
--- packet layer has a call there; a call that may be accepted is one that came in, and in data transfer each that came in
--- is in a pair; and where the packet layer says of a channel that delivery is confirmed, and in data transfer there
+-- packet layer has a call there; a call that may be accepted is one that came in, and in data transfer each that came
+-- in is in a pair; and where the packet layer says of a channel that delivery is confirmed, and in data transfer there
 -- alone, each packet with D = 1 of the last epoch that its present record sent is covered
 pub record EndHolds (s : Network) (line : ℕ) (l : NetLine) (role : Role) : Type 0 where
   pub node : PlacedNode

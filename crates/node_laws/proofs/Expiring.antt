@@ -1,6 +1,6 @@
 -- Where the timer that is due at a node expires, fewer are due after its turn.
-use Rattle.std.specs.Prelude.{◌≡◌, ◌≤◌, ◌<◌, Bool, true, false, cond, Some, if◌then◌else◌}
-use Rattle.std.proofs.Common.{ℕ, arith, refl, subst}
+use Rattle.std.specs.Prelude.{◌≡◌, ◌<◌, Bool, true, false, cond, Some, if◌then◌else◌}
+use Rattle.std.proofs.Common.{arith, refl, subst}
 use Rattle.link_timers.specs.declared.role.Role.{Role}
 use Rattle.link_timers.specs.declared.timers.TimerId.{TimerId}
 use Rattle.packet_end.specs.PacketEnd.{PacketEnd, begun, runs_at, after_timer, finished}

@@ -1,5 +1,5 @@
 -- How many notes of a turn open something.
-use Rattle.std.specs.Prelude.{◌≡◌, ℕ, Bool, true, false, cond, if◌then◌else◌, [], Option, Some, None}
+use Rattle.std.specs.Prelude.{◌≡◌, Bool, true, false, cond, if◌then◌else◌, [], Option, Some, None}
 use Rattle.std.proofs.Common.{refl, ap, ◌∙◌, lit≤}
 use Rattle.packet_layer.specs.Traffic.{Taken}
 use Rattle.packet_layer.specs.Channel.{Request, Refusal}

@@ -1,5 +1,5 @@
 -- What stays of a PAD's end of the line whatever is asked of it stays whatever happens at a terminal.
-use Rattle.std.specs.Prelude.{◌≡◌, ℕ, Bool, true, false, List, [], ◌∷◌, Option, Some, None, slice_get}
+use Rattle.std.specs.Prelude.{ℕ, Bool, true, false, List, [], ◌∷◌, Option, Some, None, slice_get}
 use Rattle.std.specs.Option.{option_map_or}
 use Rattle.pad_editing.specs.Edited.{Step, key, idle}
 use Rattle.packet_layer.specs.Packets.{CallParts, Datum}

@@ -1,8 +1,6 @@
 -- How much room the notes of an event of a node need.
-use Rattle.std.specs.Prelude.{◌≡◌, ◌≤◌, ℕ, Bool, true, false, cond, List, []}
-use Rattle.std.proofs.Common.{ap, subst, sym, arith, ◌∙◌}
-use Rattle.link_timers.specs.declared.timers.TimerId.{TimerId}
-use Rattle.packet_layer.specs.Packets.{Note}
+use Rattle.std.specs.Prelude.{◌≡◌, ◌≤◌, Bool, true, false, cond}
+use Rattle.std.proofs.Common.{ap, arith}
 use Rattle.packet_end.specs.PacketEnd.{PacketEnd, begun, runs_at, after_timer, finished}
 use Rattle.packet_host.specs.Host as host
 use Rattle.call_records.specs.Room.{opening_notes}

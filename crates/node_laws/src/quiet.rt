@@ -1,8 +1,8 @@
 //! That a node is quiet between two events, whatever line it is on.
 
 ghost use Rattle.node_laws.specs.Quiet.{QuietHearingLaw, QuietExpiryLaw, QuietRelinkLaw, QuietRestartLaw, QuietCallLaw};
-ghost use Rattle.node_laws.specs.Quiet.{QuietAskingLaw, QuietRefusalLaw, QuietSayingLaw, QuietTakingLaw, QuietTerminalLaw};
-ghost use Rattle.node_laws.specs.Quiet.{QuietTimeLaw, QuietMakingLaw};
+ghost use Rattle.node_laws.specs.Quiet.{QuietAskingLaw, QuietRefusalLaw, QuietSayingLaw, QuietTakingLaw};
+ghost use Rattle.node_laws.specs.Quiet.{QuietTerminalLaw, QuietTimeLaw, QuietMakingLaw};
 
 /// The law of a node between two events, over definitions alone. From the making on, and whatever arrives, also what no
 /// node of this kind would send: each turn leaves nothing unread and less than a block held, opens at most one record

@@ -10,7 +10,7 @@ use Rattle.packet_channel.specs.Channel.Request.{Accept, Clearing, Resetting, Se
 use Rattle.packet_layer.specs.Layer as machine
 use Rattle.packet_channel.specs.Effects.{Outcome, outcome_of}
 use Rattle.packet_layer.specs.Layer.Phase.{PacketReady}
-use Rattle.packet_layer.specs.Layer.{Layer, Phase, on_channel, is_ready, is_free, free_channel, placing, nth_channel, channel_of, on_found, owing, passes_limit, set_if, with_owed}
+use Rattle.packet_layer.specs.Layer.{Layer, Phase, on_channel, is_ready, is_free, free_channel, placing, nth_channel, channel_of, on_found, owing, passes_limit, set_if}
 use Rattle.packet_channel.specs.Answers.{CarriedOut, Refused}
 use Rattle.packet_channel.specs.declared.fault.ChannelFault.{ChannelFault}
 

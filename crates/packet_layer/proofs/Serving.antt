@@ -3,7 +3,7 @@ use Rattle.std.proofs.Common.{◌≡◌, ℕ, zero, suc, ◌+◌, ◌-◌, ◌<�
 use Rattle.std.specs.Prelude.{Option, Some, None, Result, is_some, slice_get}
 use Rattle.packet_channel.specs.Packets.{Body, Packet, Received}
 use Rattle.packet_channel.specs.Channel.{Channel}
-use Rattle.packet_layer.specs.Layer.{Layer, Next, ChannelNext, channel_of, next_of, next_number, packet_of, serve, serve_found, served}
+use Rattle.packet_layer.specs.Layer.{Layer, Next, channel_of, next_of, next_number, packet_of, serve, serve_found, served}
 use Rattle.packet_codec.specs.Packet.{PacketValue}
 use Rattle.packet_codec.specs.declared.fault.PacketFault.{PacketFault}
 use Rattle.packet_channel.specs.Octets.{written, ReadsAs, body_of, content_of, heard_by}

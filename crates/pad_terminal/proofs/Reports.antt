@@ -1,7 +1,7 @@
 -- What a list of pairs makes of the settings, one pair after the other.
 use Rattle.std.proofs.Common.{◌≡◌, ℕ, ◌+◌, ◌<◌, List, [], length, take, get_or, refl}
 use Rattle.std.proofs.lemmas.List.Sums.{fold_more}
-use Rattle.pad_terminal.specs.Settings.{Change, one_more, after_pairs}
+use Rattle.pad_terminal.specs.Settings.{one_more, after_pairs}
 use Rattle.pad_terminal.specs.declared.settings.Settings.{Settings}
 
 -- one pair more

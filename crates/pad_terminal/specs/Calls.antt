@@ -1,8 +1,8 @@
 -- What a terminal learns of its call, and what it shows then (X.28 3.5).
-use Rattle.std.specs.Prelude.{ℕ, Bool, true, false, not, ◌&&◌, ◌||◌, if◌then◌else◌, List, [], ◌∷◌}
+use Rattle.std.specs.Prelude.{ℕ, Bool, false, not, ◌&&◌, ◌||◌, if◌then◌else◌, List, [], ◌∷◌}
 use Rattle.x28_commands.specs.declared.signal.Signal.{Signal}
 use Rattle.x28_commands.specs.declared.signal.Signal.TheVariants.{Connected, ClearIndication, ResetIndication}
-use Rattle.pad_terminal.specs.Output.{no_output, with_octets, with_signal, with_prompt, laid_out}
+use Rattle.pad_terminal.specs.Output.{with_octets, with_signal, with_prompt, laid_out}
 use Rattle.pad_terminal.specs.Terminal.{TerminalState, has_call}
 use Rattle.pad_terminal.specs.declared.mode.Mode.{Mode}
 use Rattle.pad_terminal.specs.declared.mode.Mode.TheVariants.{Free, CallSetUp, DataTransfer, CommandState}

@@ -2,7 +2,6 @@
 use Rattle.std.specs.Prelude.{ℕ, Bool, true, false, not, ◌&&◌, if◌then◌else◌, List, [], ◌∷◌, map, Option, Some, None}
 use Rattle.std.specs.Prelude.{Result, Ok, Err}
 use Rattle.std.specs.Result.{result_ok}
-use Rattle.arrayvec.specs.ArrayVec.{ArrayVec}
 use Rattle.x3_params.specs.Table.{profile_numbered}
 use Rattle.x3_params.specs.declared.profile.Profile.{Profile}
 use Rattle.x28_commands.specs.Reading.{command_of}

@@ -1,7 +1,6 @@
 -- What a PAD does with the messages of the far end (X.29 4.4).
-use Rattle.std.specs.Prelude.{ℕ, ◌%◌, Bool, if◌then◌else◌, List, [], ◌∷◌, map, Option, Some, None, Result, Ok, Err}
+use Rattle.std.specs.Prelude.{ℕ, ◌%◌, List, [], ◌∷◌, map, Result, Ok, Err}
 use Rattle.std.specs.Prelude.{bit_or, slice_get}
-use Rattle.arrayvec.specs.ArrayVec.{ArrayVec}
 use Rattle.x3_params.specs.declared.fault.ParamFault.{ParamFault}
 use Rattle.x3_params.specs.declared.fault.ParamFault.TheVariants as param_fault
 use Rattle.x28_commands.specs.declared.signal.Signal.TheVariants.{InvitedToClear}

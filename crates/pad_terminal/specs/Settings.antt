@@ -1,5 +1,5 @@
 -- The parameters of a terminal, and how commands and messages set and read them (X.28 3.3, X.29 4.4).
-use Rattle.std.specs.Prelude.{ℕ, Bool, false, ◌&&◌, if◌then◌else◌, List, [], ◌∷◌, ◌++◌, map, fold, Option, Some, None}
+use Rattle.std.specs.Prelude.{ℕ, false, ◌&&◌, if◌then◌else◌, List, [], ◌∷◌, ◌++◌, map, fold, Option, Some, None}
 use Rattle.std.specs.Prelude.{Result, Ok, Err, is_err, filter}
 use Rattle.x3_params.specs.Table.{is_number, profile_values}
 use Rattle.x3_params.specs.Values.{value, fault_of, with_value}

@@ -1,5 +1,5 @@
 //! The parameters of a terminal, and how commands and messages set and read them.
-ghost use Rattle.std.specs.Prelude.{◌≡◌, ◌≤◌, ◌++◌, length, map, max, MatchOption, IsOk, Err};
+ghost use Rattle.std.specs.Prelude.{◌≡◌, ◌≤◌, length, map, max, MatchOption, IsOk, Err};
 ghost use Rattle.x3_params.specs.Values.{fault_of};
 ghost use Rattle.pad_terminal.specs.Settings as spec;
 

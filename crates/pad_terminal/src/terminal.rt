@@ -1,7 +1,6 @@
 //! The terminal.
 ghost use Rattle.std.specs.Prelude.{◌≡◌, ◌≤◌, ◌+◌, ◌*◌, ◌++◌, length, false, IfOk};
 ghost use Rattle.arrayvec.specs.ArrayVec.{array_vec_len};
-ghost use Rattle.x28_commands.specs.declared.signal.Signal.TheVariants.{ClearConfirmation};
 ghost use Rattle.pad_terminal.specs.Output as output;
 ghost use Rattle.pad_terminal.specs.Terminal as spec;
 ghost use Rattle.pad_terminal.specs.Calls as calls;

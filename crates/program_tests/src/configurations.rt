@@ -1,5 +1,5 @@
-//! A network of two lines that is served, and networks like it that are not; networks with a switch that are served, and
-//! such that are not.
+//! A network of two lines that is served, and networks like it that are not; networks with a switch that are served,
+//! and such that are not.
 use net_config::{
     Config, LineConfig, MakeFault, NetPlan, NodeConfig, NodeKind, PadConfig, PlannedKind,
     RouteConfig, is_served, plan_of,

@@ -24,7 +24,7 @@ use Rattle.switch_lines.specs.declared.place.Joined.{Joined}
 use Rattle.switch_lines.specs.Lines.{SwitchLine, same_place, joined_at}
 use Rattle.switch_lines.specs.Switch.{heed}
 use Rattle.switch_laws.specs.Leg.{Leg, stepped, heard, misheard, heard_epoch}
-use Rattle.switch_laws.specs.Join.{Join, IsJoin}
+use Rattle.switch_laws.specs.Join.{IsJoin}
 use Rattle.switch_laws.specs.Join as join
 use Rattle.switch_laws.specs.World.{World, Shown, shown_of, shown_as, shown_on, shown_at, layers_of, Act, MayHappen, IsReadAs, world_after, leg_after, line_of, closed, restarted, came_in, ran_out, cleared_if}
 use Rattle.switch_laws.specs.World.Act.{Comes, Expires, GoesUp, GoesDown}

@@ -9,8 +9,6 @@ use Rattle.packet_layer.specs.Packets.{Note, Reason}
 use Rattle.packet_layer.specs.Packets.Note.{Incoming, Connected, Closed, WasReset, InterruptConfirmed, Covered}
 use Rattle.packet_layer.specs.Channel.{CallState, Channel, had_call}
 use Rattle.packet_layer.specs.Layer.{Layer, channel_of, closing_notes, unread}
-use Rattle.packet_laws.specs.Readable.{Every}
-use Rattle.packet_end.specs.PacketEnd.{PacketEnd}
 use Rattle.address_routes.specs.Routes.{RouteMap}
 use Rattle.lapb.specs.Machine.{Octets}
 use Rattle.lapb.specs.Octets as link_octets
@@ -22,14 +20,14 @@ use Rattle.switch_lines.specs.declared.place.NewJoin.{NewJoin}
 use Rattle.switch_lines.specs.NewJoins.{join_of, joins_of_notes, new_joins}
 use Rattle.switch_laws.specs.Leg.{Leg}
 use Rattle.switch_laws.specs.Turn.{AreOctets}
-use Rattle.switch_laws.specs.Steps.{Happening, does}
+use Rattle.switch_laws.specs.Steps.{does}
 use Rattle.switch_laws.specs.Steps.Happening.{Brings}
 use Rattle.switch_laws.proofs.Coming.{at}
 use Rattle.switch_laws.proofs.Layers.{seen}
 use Rattle.switch_laws.proofs.Outcomes.{AreOf}
 use Rattle.switch_laws.proofs.Effects.{Effect}
 use Rattle.switch_laws.proofs.Effects.Effect.{nothing, closes_all, on_one}
-use Rattle.switch_laws.proofs.Turning.{EndEffect, ReadsNumbers, received_effect, got_changed, changed_none}
+use Rattle.switch_laws.proofs.Turning.{ReadsNumbers, received_effect, got_changed, changed_none}
 use Rattle.switch_laws.proofs.Finishing.{begun_line, readable}
 
 -- there is one or none

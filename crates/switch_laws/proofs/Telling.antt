@@ -12,7 +12,7 @@ use Rattle.switch_lines.specs.declared.place.Joined.{Joined}
 use Rattle.switch_lines.specs.Lines.{SwitchLine, same_place, joined_at, with_joined, ask}
 use Rattle.switch_lines.specs.Relay.{told, told_of, told_joined, covered_on, kept_anew}
 use Rattle.switch_laws.specs.Leg.{Leg, asked}
-use Rattle.switch_laws.specs.Join.{Join, IsJoin}
+use Rattle.switch_laws.specs.Join.{Join}
 use Rattle.switch_laws.specs.Join as join
 use Rattle.switch_laws.specs.World.{World, layers_of, Act, MayAsk, world_after}
 use Rattle.switch_laws.specs.World.Act.{Asks}

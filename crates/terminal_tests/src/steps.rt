@@ -64,7 +64,7 @@ pub(crate) enum Step<'a> {
 
 // A terminal with what its PAD knows of the call, the last block, and what was asked last.
 #[derive(Drop)]
-struct Desk {
+struct Tested {
     terminal: Terminal,
     call: CallCondition,
     block: Option<Block>,
@@ -78,7 +78,7 @@ pub(crate) fn play(rt: &impl Abort, alloc: Global, standing: bool, steps: &[Step
         assert!(rt; false, "there is memory");
         return;
     };
-    let mut desk = Desk {
+    let mut tested = Tested {
         terminal,
         call: CallCondition {
             queue_full: false,
@@ -89,112 +89,112 @@ pub(crate) fn play(rt: &impl Abort, alloc: Global, standing: bool, steps: &[Step
         request: None,
     };
     for (place, step) in steps.iter().enumerate() {
-        play_step(rt, &mut desk, *step, place);
+        play_step(rt, &mut tested, *step, place);
     }
 }
 
-fn play_step(rt: &impl Abort, desk: &mut Desk, step: Step<'_>, place: usize) {
+fn play_step(rt: &impl Abort, tested: &mut Tested, step: Step<'_>, place: usize) {
     match step {
         Step::Type(octets) => {
             for octet in octets {
-                assert!(rt; press(desk, *octet), "step {place}");
+                assert!(rt; press(tested, *octet), "step {place}");
             }
         }
-        Step::Drops(octet) => assert!(rt; !press(desk, octet), "step {place}"),
-        Step::Idles => assert!(rt; pause(desk), "step {place}"),
-        Step::IdleDropped => assert!(rt; !pause(desk), "step {place}"),
-        Step::Breaks(octets) => assert!(rt; breaks(desk, octets), "step {place}"),
+        Step::Drops(octet) => assert!(rt; !press(tested, octet), "step {place}"),
+        Step::Idles => assert!(rt; pause(tested), "step {place}"),
+        Step::IdleDropped => assert!(rt; !pause(tested), "step {place}"),
+        Step::Breaks(octets) => assert!(rt; breaks(tested, octets), "step {place}"),
         Step::BreakDropped => {
             assert!(rt;
-                matches!(desk.terminal.on_break(desk.call), BreakAnswer::Dropped),
+                matches!(tested.terminal.on_break(tested.call), BreakAnswer::Dropped),
                 "step {place}"
             );
         }
         Step::Message(octets, answer) => {
             assert!(rt;
-                replies(&desk.terminal.on_message(octets), answer),
+                replies(&tested.terminal.on_message(octets), answer),
                 "step {place}"
             );
         }
         Step::Invited => {
             assert!(rt;
-                matches!(desk.terminal.on_message(b"\x01"), Reply::Clear),
+                matches!(tested.terminal.on_message(b"\x01"), Reply::Clear),
                 "step {place}"
             );
         }
-        Step::Connected => desk.terminal.on_connected(),
-        Step::Cleared(cause) => desk.terminal.on_cleared(cause),
-        Step::Reset(cause) => desk.terminal.on_reset(cause),
-        Step::Restart => desk.terminal.restart(),
-        Step::QueueFull(full) => desk.call.queue_full = full,
-        Step::ResetPending(pending) => desk.call.reset_pending = pending,
-        Step::InterruptPending(pending) => desk.call.interrupt_pending = pending,
-        _ => look(rt, desk, step, place),
+        Step::Connected => tested.terminal.on_connected(),
+        Step::Cleared(cause) => tested.terminal.on_cleared(cause),
+        Step::Reset(cause) => tested.terminal.on_reset(cause),
+        Step::Restart => tested.terminal.restart(),
+        Step::QueueFull(full) => tested.call.queue_full = full,
+        Step::ResetPending(pending) => tested.call.reset_pending = pending,
+        Step::InterruptPending(pending) => tested.call.interrupt_pending = pending,
+        _ => look(rt, tested, step, place),
     }
-    desk.terminal.resume_device(desk.call.queue_full);
+    tested.terminal.resume_device(tested.call.queue_full);
 }
 
-fn look(rt: &impl Abort, desk: &mut Desk, step: Step<'_>, place: usize) {
+fn look(rt: &impl Abort, tested: &mut Tested, step: Step<'_>, place: usize) {
     match step {
         Step::Sends(octets) => {
-            assert!(rt; is_block(&desk.block, octets), "step {place}");
-            desk.block = None;
+            assert!(rt; is_block(&tested.block, octets), "step {place}");
+            tested.block = None;
         }
-        Step::SendsNothing => assert!(rt; desk.block.is_none(), "step {place}"),
+        Step::SendsNothing => assert!(rt; tested.block.is_none(), "step {place}"),
         Step::Asks(asked) => {
-            assert!(rt; is_asked(&desk.request, asked), "step {place}");
-            desk.request = None;
+            assert!(rt; is_asked(&tested.request, asked), "step {place}");
+            tested.request = None;
         }
         Step::Prints(text) => {
             let mut out = ArrayVec::<u8, TEXT_LIMIT>::new();
-            desk.terminal.print(&mut out);
+            tested.terminal.print(&mut out);
             assert_eq!(rt; out.as_slice(), text, "step {place}");
         }
         Step::Shows(octets, text) => {
             let mut out = ArrayVec::<u8, 2176>::new();
             if octets.len() <= 128 {
-                desk.terminal.display(octets, &mut out);
+                tested.terminal.display(octets, &mut out);
             }
             assert_eq!(rt; out.as_slice(), text, "step {place}");
         }
-        Step::MayShow(may) => assert_eq!(rt; desk.terminal.may_show(), may, "step {place}"),
-        Step::IdleTime(time) => assert_eq!(rt; desk.terminal.idle_time(), time, "step {place}"),
-        Step::In(mode) => assert_eq!(rt; desk.terminal.mode(), mode, "step {place}"),
+        Step::MayShow(may) => assert_eq!(rt; tested.terminal.may_show(), may, "step {place}"),
+        Step::IdleTime(time) => assert_eq!(rt; tested.terminal.idle_time(), time, "step {place}"),
+        Step::In(mode) => assert_eq!(rt; tested.terminal.mode(), mode, "step {place}"),
         _ => {}
     }
 }
 
 // Presses a key. Whether it was taken.
-fn press(desk: &mut Desk, octet: u8) -> bool {
-    let answer = desk.terminal.on_key(octet, desk.call);
-    note(desk, answer)
+fn press(tested: &mut Tested, octet: u8) -> bool {
+    let answer = tested.terminal.on_key(octet, tested.call);
+    note(tested, answer)
 }
 
 // Ends the idle time. Whether that was taken.
-fn pause(desk: &mut Desk) -> bool {
-    let answer = desk.terminal.on_idle(desk.call.queue_full);
-    note(desk, answer)
+fn pause(tested: &mut Tested) -> bool {
+    let answer = tested.terminal.on_idle(tested.call.queue_full);
+    note(tested, answer)
 }
 
-fn note(desk: &mut Desk, answer: InputAnswer) -> bool {
+fn note(tested: &mut Tested, answer: InputAnswer) -> bool {
     match answer {
         InputAnswer::Dropped => false,
         InputAnswer::Edited(block) => {
             if block.is_some() {
-                desk.block = block;
+                tested.block = block;
             }
             true
         }
         InputAnswer::Taken(request) => {
-            desk.request = request;
+            tested.request = request;
             true
         }
     }
 }
 
 // Breaks. Whether that was taken, with this indication or none.
-fn breaks(desk: &mut Desk, octets: &[u8]) -> bool {
-    match desk.terminal.on_break(desk.call) {
+fn breaks(tested: &mut Tested, octets: &[u8]) -> bool {
+    match tested.terminal.on_break(tested.call) {
         BreakAnswer::Dropped => false,
         BreakAnswer::Taken(
             BreakRequests {
@@ -202,7 +202,7 @@ fn breaks(desk: &mut Desk, octets: &[u8]) -> bool {
                 indication,
             },
         ) => {
-            desk.request = request;
+            tested.request = request;
             match indication {
                 Some(message) => is_message(&message, octets),
                 None => octets.is_empty(),

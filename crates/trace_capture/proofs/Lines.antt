@@ -1,12 +1,12 @@
 -- Lines that were read, and those that are left.
 use Rattle.std.specs.Prelude.{◌≡◌, ℕ, List, [], ◌∷◌, ◌++◌, ◌%◌, ◌+◌, Option, Some, None, false}
 use Rattle.std.proofs.lemmas.List.{append_assoc, append-nil}
-use Rattle.std.proofs.Common.{◌∙◌, sym, ap, subst, refl}
+use Rattle.std.proofs.Common.{◌∙◌, sym, ap, subst}
 use Rattle.memory_line.specs.declared.line.Direction.{Direction}
 use Rattle.trace_capture.specs.Trace.{is_traced, frame_line}
 use Rattle.trace_capture.specs.Lines.{AreLines, first_line, behind_line}
 use Rattle.trace_capture.specs.Lines.AreLines.{none as no_lines, one_more}
-use Rattle.trace_capture.specs.Capture.{AreBlocks, HasBlocks, IsCapture, head, block, packet_body}
+use Rattle.trace_capture.specs.Capture.{HasBlocks, IsCapture, head, block, packet_body}
 use Rattle.trace_capture.specs.Capture.AreBlocks.{none as no_blocks, other as other_line, frame as frame_there}
 
 -- some lines of the text were read, and the capture has the blocks of these

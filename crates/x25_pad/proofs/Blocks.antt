@@ -1,23 +1,22 @@
 -- A block that is ended is taken by the send queue of the call.
 use Rattle.std.proofs.Common.{◌≡◌, ◌≢◌, ℕ, ◌-◌, ◌≤◌, ◌==◌, Bool, true, false, not, ◌&&◌, cond, List, length, Option, Some, None}
-use Rattle.std.proofs.Common.{if◌then◌else◌, nat_lt, nat_le, refl, sym, subst, ◌∙◌, ap, arith}
+use Rattle.std.proofs.Common.{if◌then◌else◌, nat_lt, nat_le, refl, subst, arith}
 use Rattle.std.specs.Prelude.{is_some}
 use borrow.Author.Tests.{eqb-false}
 use Rattle.link_timers.specs.declared.role.Role.{Role}
-use Rattle.pad_editing.specs.Edited.{Effect, after_key, after_idle}
+use Rattle.pad_editing.specs.Edited.{after_key}
 use Rattle.packet_layer.specs.Channel.{Channel, Request, Refusal, refused_if, in_transfer}
-use Rattle.packet_layer.specs.Layer.{Layer, room, room_at, channel_of, refusal_at, request_refusal}
-use Rattle.pad_terminal.specs.CommandLine as command_line
+use Rattle.packet_layer.specs.Layer.{room_at, channel_of, refusal_at, request_refusal}
 use Rattle.pad_terminal.specs.Terminal.{TerminalState, is_data_transfer, runs_idle_timer}
-use Rattle.pad_terminal.specs.Keys.{Input, after_octet, after_data_key, after_command_key, after_ended, after_edited}
-use Rattle.pad_terminal.specs.Keys.{after_idle_time, is_flow_control, is_recall, with_line}
+use Rattle.pad_terminal.specs.Keys.{Input, after_octet, after_data_key, after_command_key, after_ended}
+use Rattle.pad_terminal.specs.Keys.{after_idle_time, is_flow_control, is_recall}
 use Rattle.pad_terminal.specs.declared.answers.CallCondition.{CallCondition}
 use Rattle.pad_terminal.specs.declared.answers.InputAnswer.{InputAnswer}
-use Rattle.pad_terminal.specs.declared.answers.InputAnswer.TheVariants.{Dropped, Edited, Taken}
+use Rattle.pad_terminal.specs.declared.answers.InputAnswer.TheVariants.{Dropped, Edited}
 use Rattle.x3_params.specs.Settings.{recall_character}
-use Rattle.x25_pad.specs.Law.{BlockIsTaken, KeyBlocksAreTaken, IdleBlocksAreTaken}
+use Rattle.x25_pad.specs.Law.{KeyBlocksAreTaken, IdleBlocksAreTaken}
 use Rattle.x25_pad.specs.Line.{condition, datum}
-use Rattle.x25_pad.specs.Ports.{AtLine, key_input, idle_input}
+use Rattle.x25_pad.specs.Ports.{AtLine}
 use Rattle.x25_pad.specs.declared.call.Call.{Call}
 
 -- ---- the send queue

@@ -5,7 +5,7 @@ use Rattle.packet_layer.specs.Packets.{CallParts, Datum, Note}
 use Rattle.packet_layer.specs.Traffic.{Taken}
 use Rattle.packet_layer.specs.Packets.Note.{Incoming, Connected, Closed, WasReset, InterruptConfirmed, Covered}
 use Rattle.packet_layer.specs.Channel.{Refusal, Request}
-use Rattle.packet_layer.specs.Layer.{room, flow_refusal, request_refusal, call_refusal, channel_given}
+use Rattle.packet_layer.specs.Layer.{room, flow_refusal, request_refusal, channel_given}
 use Rattle.packet_end.specs.PacketEnd as end
 use Rattle.pad_terminal.specs.declared.answers.CallCondition.{CallCondition}
 use Rattle.x25_pad.specs.Notes as notes

@@ -6,7 +6,7 @@ use Rattle.packet_end.specs.Params.{AreParams}
 use Rattle.packet_end.specs.declared.fault.EndFault.{EndFault}
 use Rattle.packet_end.specs.declared.fault.EndFault.TheVariants.{BadConfig, OutOfMemory}
 use Rattle.x25_pad.specs.Pad.{PadState}
-use Rattle.x25_pad.specs.Ports.{PortState, new_port}
+use Rattle.x25_pad.specs.Ports.{new_port}
 use Rattle.x25_pad.specs.declared.config.PadConfig.{PadConfig}
 
 -- from 1 to 16 terminals, and parameters of a line

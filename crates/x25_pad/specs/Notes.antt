@@ -6,8 +6,8 @@ use Rattle.packet_layer.specs.Traffic.{Taken}
 use Rattle.packet_layer.specs.Channel.{Refusal}
 
 -- what its packet layer told; that a call of an address was placed, that one which came in was accepted, that one was
--- cleared or reset; a step of editing, with the values of the parameters; a packet and an interrupt that were sent; what
--- was taken to be shown; each with its channel
+-- cleared or reset; a step of editing, with the values of the parameters; a packet and an interrupt that were sent;
+-- what was taken to be shown; each with its channel
 pub data PadNote : Type 0 where
   Told : Note → PadNote
   Placed : (channel : ℕ) → (address : List ℕ) → PadNote

@@ -1,5 +1,5 @@
 -- A terminal at its port of the PAD: its call, its idle timer, and what it does at the line.
-use Rattle.std.specs.Prelude.{ℕ, ◌-◌, Bool, true, false, not, ◌&&◌, ◌==◌, if◌then◌else◌, List, [], ◌∷◌, ◌++◌}
+use Rattle.std.specs.Prelude.{ℕ, ◌-◌, Bool, true, false, ◌&&◌, ◌==◌, if◌then◌else◌, List, [], ◌∷◌, ◌++◌}
 use Rattle.std.specs.Prelude.{Option, Some, None, is_some}
 use Rattle.pad_editing.specs.Edited.{Step, key, idle}
 use Rattle.x28_commands.specs.declared.command.Selection.{Selection}

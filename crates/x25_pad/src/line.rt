@@ -5,7 +5,6 @@ ghost use Rattle.packet_layer.specs.NoteView.{note_of};
 ghost use Rattle.packet_layer.specs.RequestView.{request_of, call_refusal_of};
 ghost use Rattle.packet_layer.specs.TakenView.{taken_of, maybe_taken};
 ghost use Rattle.packet_end.specs.PacketEnd as end;
-ghost use Rattle.packet_end.specs.Timing.{TimersAgree};
 ghost use Rattle.x25_pad.specs.NoteView.{pad_note_of};
 ghost use Rattle.x25_pad.specs.Line as spec;
 
@@ -24,7 +23,7 @@ const INTERRUPT_OCTET: u8 = 1;
 const PROTOCOL: [u8; 4] = [1, 0, 0, 0];
 
 /// The most notes that are gathered at once.
-const MOST_LEARNT: usize = 96;
+const MOST_LEARNT: usize = packet_end::MOST_NOTES;
 
 /// The PAD's end of its line, and what the PAD notes.
 #[derive(Drop)]

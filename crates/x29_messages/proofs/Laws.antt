@@ -1,14 +1,14 @@
 -- What is read is in the grammar, what is in the grammar is read, and a fault is the first that the octets have.
-use Rattle.std.proofs.Common.{◌≡◌, ◌≢◌, ℕ, zero, suc, ◌+◌, ◌*◌, ◌%◌, ◌<◌, ◌≤◌, ◌⊎◌, inl, inr, Bool, true, false, not, cond, ◌&&◌, ◌||◌, ◌==◌, nat_lt, nat_le, List, [], ◌∷◌, ◌++◌, length, lit≤, Option, Some, None, Result, Ok, Err, IfOk, refl, ap, sym, subst, ◌∙◌, arith}
+use Rattle.std.proofs.Common.{◌≡◌, ◌≢◌, ℕ, zero, suc, ◌*◌, ◌%◌, ◌<◌, ◌≤◌, ◌⊎◌, inl, inr, Bool, true, false, not, cond, ◌&&◌, ◌==◌, nat_lt, nat_le, List, [], ◌∷◌, length, lit≤, Option, Some, None, Result, Ok, Err, IfOk, refl, ap, sym, subst, ◌∙◌, arith}
 use Rattle.std.specs.Prelude.{is_some}
 use Rattle.arrayvec.specs.ArrayVec.{ArrayVec}
 use borrow.Author.Tests.{eqb-true, ltb-true, ltb-false, lt-ltb, lt-leb, le-leb}
-use Rattle.x29_messages.specs.MessageForm.{MessageForm, octets_of, pairs_octets, pair_octets, error_octets, pair_count}
-use Rattle.x29_messages.specs.Reading.{Answer, fits, first_fault, fault_in, pairs_of, with_first, listed, pairs_in, with, invitation, error_in, message_in, message_of}
+use Rattle.x29_messages.specs.MessageForm.{MessageForm, octets_of, pairs_octets, pair_count}
+use Rattle.x29_messages.specs.Reading.{Answer, first_fault, fault_in, pairs_of, with_first, listed, pairs_in, with, invitation, error_in, message_in, message_of}
 use Rattle.x29_messages.specs.declared.message.Message.{Message}
 use Rattle.x29_messages.specs.declared.message.Message.TheVariants.{ParameterIndication, InvitationToClear, Set, IndicationOfBreak, Read, Error, SetAndRead}
 use Rattle.x29_messages.specs.declared.fault.MessageFault.{MessageFault}
-use Rattle.x29_messages.specs.declared.fault.MessageFault.TheVariants.{Empty, UnknownCode, OddLength}
+use Rattle.x29_messages.specs.declared.fault.MessageFault.TheVariants.{UnknownCode, OddLength}
 
 ne_false : (a b : ℕ) → a ≢ b → (a == b) ≡ false
 ne_false a b ne = go (a == b) refl

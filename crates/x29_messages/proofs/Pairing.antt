@@ -1,7 +1,6 @@
 -- Octets as pairs.
-use Rattle.std.proofs.Common.{◌≡◌, ℕ, ◌+◌, ◌*◌, ◌≤◌, List, [], ◌∷◌, ◌++◌, length, Option, Some, None, refl, ap, sym, ◌∙◌, arith, append_assoc}
+use Rattle.std.proofs.Common.{◌≡◌, ℕ, List, [], ◌∷◌, ◌++◌, length, Option, Some, None, refl, ap, arith, append_assoc}
 use Rattle.std.proofs.lemmas.List.{append-nil}
-use Rattle.x29_messages.specs.MessageForm.{pairs_octets}
 use Rattle.x29_messages.specs.Reading.{pairs_of, with_first}
 
 -- the pairs so far, and then those of the rest

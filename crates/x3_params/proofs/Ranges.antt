@@ -1,11 +1,8 @@
 -- Values that their parameters may have: those of the profiles, those after one was set, and their bounds.
-use Rattle.std.proofs.Common.{◌≡◌, ℕ, zero, suc, subst, zero-add, lit<, ◌+◌, ◌-◌, ◌<◌, ◌≤◌, ◌≢◌, Bool, true, false, ◌&&◌, List, [], ◌∷◌, length, set, get_or, slice_index, slice_set, refl, ap, sym, ◌∙◌, arith, inl, inr, ◌⊎◌, rules}
-use Rattle.std.specs.Prelude.{IsTrue, nat_le}
-use Rattle.std.proofs.lemmas.Grind.{common_steps, get_or-set_at}
-use Rattle.std.proofs.lemmas.List.{get_or-set_other}
-use Rattle.std.proofs.Math.ListN.{length-set}
-use Rattle.x3_params.specs.Table.{allows, is_number, profile_values}
-use Rattle.x3_params.specs.Values.{AreAllowed, with_value}
+use Rattle.std.proofs.Common.{◌≡◌, ℕ, zero, suc, subst, zero-add, lit<, ◌+◌, ◌<◌, ◌≤◌, Bool, true, false, ◌&&◌, List, [], ◌∷◌, length, get_or, refl, arith}
+use Rattle.std.proofs.lemmas.Grind.{common_steps}
+use Rattle.x3_params.specs.Table.{allows, profile_values}
+use Rattle.x3_params.specs.Values.{AreAllowed}
 use Rattle.x3_params.specs.declared.profile.Profile.{Profile}
 use Rattle.x3_params.specs.declared.profile.Profile.TheVariants.{Simple, Transparent}
 

@@ -1,5 +1,5 @@
 //! What a terminal does with messages of the far end.
-ghost use Rattle.std.specs.Prelude.{◌≡◌, ◌≤◌, ◌%◌, length, map};
+ghost use Rattle.std.specs.Prelude.{◌≡◌, ◌%◌, map};
 ghost use Rattle.pad_terminal.specs.Messages as spec;
 ghost use Rattle.pad_terminal.specs.Settings.{refused};
 

@@ -77,8 +77,8 @@ impl Lines {
         self.settle(all_offered);
     }
 
-    // Settles the lines on which something happened, which is all of them that need it. Then nothing is left to do there,
-    // if all was offered.
+    // Settles the lines on which something happened, which is all of them that need it. Then nothing is left to do
+    // there, if all was offered.
     fn settle(&mut self, all_offered: bool)
         requires offered { all_offered ≡ true → list_any may_offer self.old ≡ false }
         requires relinked { to_relink self.old ≡ None }

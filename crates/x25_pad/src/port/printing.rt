@@ -1,5 +1,5 @@
 //! What a terminal shows.
-ghost use Rattle.std.specs.Prelude.{◌≡◌, ◌≤◌, ◌<◌, ◌+◌, ◌*◌, ◌++◌, length};
+ghost use Rattle.std.specs.Prelude.{◌≡◌, ◌≤◌, ◌<◌, ◌+◌, ◌++◌, length};
 ghost use Rattle.arrayvec.specs.ArrayVec.{array_vec_len};
 ghost use Rattle.packet_layer.specs.TakenView.{taken_of as value_of, maybe_taken};
 ghost use Rattle.x25_pad.specs.Ports as spec;

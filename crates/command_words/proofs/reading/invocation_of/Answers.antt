@@ -2,7 +2,6 @@ use Rattle.std.proofs.Common.{◌≡◌, ◌∙◌, List, Option, Some, None, op
 use Rattle.std.proofs.lemmas.Option.{same_Some}
 use Rattle.clap.specs.Words.{Row, Text, found_of, rows_of, subcommand_rows_of}
 use Rattle.clap.proofs.WalkLemmas.{first_value-rows}
-use Rattle.command_words.specs.Invocations.{Found}
 use Rattle.command_words.proofs.reading.invocation_of.Goals as goal
 use Rattle.command_words.proofs.reading.invocation_of.Goals.{in-sim, in-run}
 

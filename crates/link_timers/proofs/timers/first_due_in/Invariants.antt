@@ -1,5 +1,5 @@
 use Rattle.std.proofs.Common.{◌≡◌, drop}
-use Rattle.link_timers.specs.Timers.{due_from, first_of}
+use Rattle.link_timers.specs.Timers.{due_from}
 use Rattle.link_timers.proofs.timers.first_due_in.Given as goal
 
 abbrev pub invariant-loop-place : goal.invariant-loop-place

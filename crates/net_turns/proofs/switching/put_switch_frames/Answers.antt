@@ -1,4 +1,4 @@
-use Rattle.std.proofs.Common.{◌≡◌, ◌<◌, ℕ, [], List, length, refl, sym, ap, ◌∙◌, subst, arith}
+use Rattle.std.proofs.Common.{◌≡◌, ◌<◌, ℕ, [], List, length, refl, ap, ◌∙◌, subst, arith}
 use Rattle.memory_line.specs.declared.line.Direction.TheVariants.{FromDce}
 use Rattle.memory_line.specs.Lines.{IsPut}
 use Rattle.switch_lines.specs.Switch.{Switch, with_end}

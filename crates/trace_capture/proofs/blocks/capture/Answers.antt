@@ -1,4 +1,4 @@
-use Rattle.std.proofs.Common.{◌≡◌, ◌∙◌, Some, None, subst, sym, ap, Ok, IfSome}
+use Rattle.std.proofs.Common.{◌≡◌, ◌∙◌, subst, sym, ap, Ok, IfSome}
 use Rattle.std.specs.Option.{option_map}
 use Rattle.trace_capture.specs.Trace.{frame_line}
 use Rattle.trace_capture.proofs.Lines.{Reads, begins, passes, pushes, ends}

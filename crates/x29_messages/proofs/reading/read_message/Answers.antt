@@ -1,5 +1,5 @@
 -- What the definition answers is in the grammar, and the other way round.
-use Rattle.std.proofs.Common.{ap, sym, ◌∙◌}
+use Rattle.std.proofs.Common.{ap, ◌∙◌}
 use Rattle.x29_messages.proofs.Laws.{message_only, message_fault, read_found}
 use Rattle.x29_messages.specs.Reading.{Answer, fault_in}
 use Rattle.x29_messages.proofs.reading.read_message.Goals as goal

@@ -1,4 +1,4 @@
-use Rattle.std.proofs.Common.{◌≡◌, ℕ, Option, Some, None, ◌<◌, ◌≤◌, set, length, sym, ap, ◌∙◌, arith}
+use Rattle.std.proofs.Common.{◌≡◌, ℕ, Option, Some, None, set, sym, ap, ◌∙◌, arith}
 use Rattle.call_records.specs.Book.{Side, Slot}
 use Rattle.call_records.specs.Register.{holder_at, handed_on}
 use Rattle.call_records.specs.RegisterView.{lines_of, register_with}

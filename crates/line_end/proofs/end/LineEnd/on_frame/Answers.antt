@@ -7,7 +7,7 @@ use Rattle.std.specs.Option.{option_copied}
 use Rattle.lapb.specs.Octets.{on_octets}
 use Rattle.link_timers.specs.declared.timers.TimerId.TheVariants.{T1}
 use Rattle.link_timers.specs.Timers.{left_of}
-use Rattle.lapb.specs.Out.{Out, gathered}
+use Rattle.lapb.specs.Out.{Out}
 use Rattle.line_end.specs.End.{End, received}
 use Rattle.line_end.specs.EndView.{end_of}
 use Rattle.line_end.proofs.Steps.{sends_on_octets}

@@ -1,13 +1,12 @@
 use Rattle.lapb.specs.declared.note.Timing.{Timing}
-use Rattle.line_end.specs.End.{runs_then, timed}
-use Rattle.std.proofs.Common.{refl}
+use Rattle.line_end.specs.End.{runs_then}
 use Rattle.std.proofs.Common.{◌≡◌, true, false, rules, ap, ◌∙◌, sym}
 use Rattle.std.specs.Prelude.{is_some}
 use Rattle.link_timers.specs.declared.timers.TimerId.{TimerId}
 use Rattle.link_timers.specs.declared.timers.TimerId.TheVariants.{T1}
 use Rattle.link_timers.specs.Timers.{left_of}
 use Rattle.lapb.specs.Machine as machine
-use Rattle.lapb.specs.Out.{Out, gathered}
+use Rattle.lapb.specs.Out.{Out}
 use Rattle.line_end.proofs.Steps.{sends_on_t1}
 use Rattle.line_end.proofs.Calls.{t1_expired-is, still_end, expiry_sends}
 use Rattle.line_end.proofs.end.LineEnd.on_timer.Goals as goal

@@ -1,12 +1,11 @@
 use Rattle.lapb.specs.declared.note.Timing.{Timing}
-use Rattle.line_end.specs.End.{runs_then, timed}
-use Rattle.std.proofs.Common.{refl}
+use Rattle.line_end.specs.End.{runs_then}
 use Rattle.std.specs.Prelude.{is_some}
 use Rattle.std.proofs.Common.{ap, ◌∙◌}
 use Rattle.lapb.specs.Machine as machine
 use Rattle.link_timers.specs.declared.timers.TimerId.TheVariants.{T1}
 use Rattle.link_timers.specs.Timers.{left_of}
-use Rattle.lapb.specs.Out.{Out, gathered}
+use Rattle.lapb.specs.Out.{Out}
 use Rattle.line_end.proofs.Steps.{sends_relink}
 use Rattle.line_end.proofs.Calls.{t1-is, still_end}
 use Rattle.line_end.proofs.end.LineEnd.relink.Goals as goal

@@ -7,7 +7,7 @@ use Rattle.flow_window.proofs.Weights.{balances_same}
 use Rattle.lapb.specs.Machine as machine
 use Rattle.link_timers.specs.declared.timers.TimerId.TheVariants.{T1}
 use Rattle.link_timers.specs.Timers.{left_of}
-use Rattle.lapb.specs.Out.{Out, gathered}
+use Rattle.lapb.specs.Out.{Out}
 use Rattle.line_end.specs.End.{settled}
 use Rattle.line_end.specs.EndView.{end_of}
 use Rattle.line_end.proofs.Steps.{settles}

@@ -1,4 +1,3 @@
-use Rattle.std.proofs.Common.{◌≡◌}
 use Rattle.line_sim.proofs.Resting.{nothing_missing}
 use Rattle.line_sim.proofs.net.Net.at_rest.Goals as goal
 

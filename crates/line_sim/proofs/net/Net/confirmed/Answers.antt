@@ -1,4 +1,3 @@
-use Rattle.std.proofs.Common.{◌≡◌}
 use Rattle.line_sim.proofs.Resting.{delivered}
 use Rattle.line_sim.proofs.net.Net.confirmed.Goals as goal
 

@@ -1,4 +1,4 @@
-use Rattle.std.proofs.Common.{◌≡◌, get_or, set, sym, ◌∙◌, subst, arith, rules, true, false}
+use Rattle.std.proofs.Common.{get_or, set, sym, ◌∙◌, subst, rules, true, false}
 use Rattle.std.specs.Prelude.{None}
 use Rattle.link_timers.specs.Timers.{AreTimers}
 use Rattle.link_timers.specs.declared.timers.Timers.TheInside.{Inside}

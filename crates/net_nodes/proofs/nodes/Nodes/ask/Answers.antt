@@ -1,4 +1,4 @@
-use Rattle.std.proofs.Common.{ℕ, refl, sym, ◌∙◌, subst}
+use Rattle.std.proofs.Common.{ℕ, refl, ◌∙◌, subst}
 use Rattle.net_events.specs.EventView.{request_event}
 use Rattle.net_turns.specs.Outcomes.{event_fault}
 use Rattle.net_events.specs.declared.event.Event.TheVariants.{Ask}

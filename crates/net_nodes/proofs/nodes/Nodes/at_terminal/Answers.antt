@@ -1,4 +1,4 @@
-use Rattle.std.proofs.Common.{◌≡◌, ◌<◌, sym, ◌∙◌, refl, arith}
+use Rattle.std.proofs.Common.{◌<◌, sym, ◌∙◌, refl, arith}
 use Rattle.net_events.specs.NodeEvents as node_event
 use Rattle.net_events.specs.declared.event.Event.TheVariants.{AtTerminal}
 use Rattle.net_nodes.proofs.Happening.{acted, can_act, pad_at, terminal_there}

@@ -1,4 +1,4 @@
-use Rattle.std.proofs.Common.{ℕ, List, refl, sym, subst, arith}
+use Rattle.std.proofs.Common.{ℕ, List, refl, subst, arith}
 use Rattle.std.proofs.lemmas.Grind.{common_steps}
 use Rattle.net_events.specs.NodeEvents.{Calls}
 use Rattle.net_turns.specs.Outcomes.{event_fault}

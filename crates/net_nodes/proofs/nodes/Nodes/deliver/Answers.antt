@@ -1,5 +1,4 @@
-use Rattle.std.proofs.Common.{◌≡◌, ◌<◌, length, Some, slice_get, sym, ap, ◌∙◌, subst, arith}
-use Rattle.link_timers.specs.declared.role.Role.TheVariants.{Dte, Dce}
+use Rattle.std.proofs.Common.{◌<◌, length, slice_get, sym, ap, ◌∙◌, subst, arith}
 use Rattle.memory_line.specs.declared.line.Direction.{Direction}
 use Rattle.net_events.specs.Network.{Network, NetLine}
 use Rattle.net_nodes.specs.Places.{HearsAt}

@@ -1,8 +1,8 @@
-use Rattle.std.proofs.Common.{◌≡◌, ◌<◌, length, set, Some, slice_get, refl, sym, ap, ◌∙◌, inl, subst, arith}
+use Rattle.std.proofs.Common.{◌<◌, length, Some, slice_get, refl, sym, ap, ◌∙◌, inl, subst, arith}
 use Rattle.std.specs.Prelude.{is_some}
 use Rattle.book_laws.proofs.Basics.{length_set}
 use Rattle.net_events.specs.AtSwitch.{Hears, HasOwnLine}
-use Rattle.net_events.specs.Network.{Network, NetLine}
+use Rattle.net_events.specs.Network.{Network}
 use Rattle.net_nodes.specs.Faults.{where_there_is}
 use Rattle.net_nodes.specs.Places.{IsStanding}
 use Rattle.net_nodes.proofs.Places.{there, within}

@@ -1,4 +1,4 @@
-use Rattle.std.proofs.Common.{◌<◌, length, set, Some, slice_get, refl, sym, ap, ◌∙◌, arith, inl, subst}
+use Rattle.std.proofs.Common.{◌<◌, length, set, Some, slice_get, refl, sym, ap, ◌∙◌, inl, subst}
 use Rattle.std.specs.Prelude.{is_some}
 use Rattle.call_records.specs.RegisterView.{register_of}
 use Rattle.net_events.specs.NodeEvents.{Hears}

@@ -1,7 +1,6 @@
-use Rattle.std.proofs.Common.{◌≡◌, ◌<◌, length, Some, slice_get, sym, ap, ◌∙◌, subst, arith}
-use Rattle.std.specs.Option.{option_map}
+use Rattle.std.proofs.Common.{◌<◌, length, Some, slice_get, sym, ap, ◌∙◌, subst, arith}
 use Rattle.link_timers.specs.declared.role.Role.TheVariants.{Dte, Dce}
-use Rattle.net_events.specs.Network.{NetLine, PlacedNode}
+use Rattle.net_events.specs.Network.{NetLine}
 use Rattle.net_nodes.specs.Places.{IsStanding}
 use Rattle.net_nodes.proofs.Places.{there, has_line, as_dte, as_dce, at_line, of_user}
 use Rattle.net_nodes.proofs.nodes.Nodes.end_of.Goals as goal

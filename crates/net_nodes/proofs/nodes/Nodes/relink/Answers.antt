@@ -1,6 +1,4 @@
 use Rattle.std.proofs.Common.{◌<◌, length, ap, arith}
-use Rattle.link_timers.specs.declared.role.Role.TheVariants.{Dte}
-use Rattle.net_events.specs.NodeEvents.{Relinks}
 use Rattle.net_events.specs.Network.{Network}
 use Rattle.net_nodes.proofs.Places.{at_index}
 use Rattle.net_nodes.proofs.Happening.{can_relink, relinked}

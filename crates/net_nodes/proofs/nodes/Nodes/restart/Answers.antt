@@ -1,4 +1,4 @@
-use Rattle.std.proofs.Common.{◌≡◌, sym, ap, ◌∙◌, refl}
+use Rattle.std.proofs.Common.{sym, refl}
 use Rattle.net_events.specs.AtSwitch.{Restarts}
 use Rattle.net_nodes.proofs.SwitchTurns.{switch_found, can_switch, restarted}
 use Rattle.net_nodes.proofs.nodes.Nodes.restart.Goals as goal

@@ -1,4 +1,4 @@
-use Rattle.std.proofs.Common.{ℕ, None, refl, sym, ◌∙◌, subst}
+use Rattle.std.proofs.Common.{ℕ, None, refl, ◌∙◌, subst}
 use Rattle.net_events.specs.NodeEvents.{Takes}
 use Rattle.net_events.specs.declared.event.Event.TheVariants.{Take}
 use Rattle.net_nodes.specs.Faults.{on_channel}

@@ -1,11 +1,10 @@
-use Rattle.std.proofs.Common.{◌≡◌, ◌≢◌, ◌<◌, length, set, slice_get, List, refl, sym, ap, ◌∙◌, subst}
+use Rattle.std.proofs.Common.{◌≡◌, ◌≢◌, set, slice_get, sym, ap, ◌∙◌, subst}
 use Rattle.memory_line.specs.declared.line.Direction.TheVariants.{FromDte}
 use Rattle.memory_line.specs.Lines.{Flights, no_flights, ArePut}
 use Rattle.line_nodes.specs.Node.{frames_of}
-use Rattle.net_events.specs.Network.{NetNode, User, Switching}
+use Rattle.net_events.specs.Network.{User, Switching}
 use Rattle.net_events.specs.Opening.{NewLine}
-use Rattle.book_laws.proofs.Basics.{set_elsewhere, length_set}
-use Rattle.net_nodes.specs.Making.{begun}
+use Rattle.book_laws.proofs.Basics.{set_elsewhere}
 use Rattle.net_nodes.proofs.Places.{found, within}
 use Rattle.net_nodes.proofs.nodes.making.begin.Goals as goal
 

@@ -1,5 +1,5 @@
-use Rattle.std.proofs.Common.{◌≡◌, length, Some, sym, ap, ◌∙◌, subst}
-use Rattle.std.specs.Prelude.{is_none, None}
+use Rattle.std.proofs.Common.{◌≡◌, Some, sym, ap, ◌∙◌, subst}
+use Rattle.std.specs.Prelude.{is_none}
 use Rattle.std.specs.List.{position}
 use Rattle.net_events.specs.Network.{PlacedSwitch, NetNode, Switching}
 use Rattle.net_nodes.specs.Places.{user_of}

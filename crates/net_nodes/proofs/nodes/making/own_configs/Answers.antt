@@ -1,9 +1,9 @@
-use Rattle.std.proofs.Common.{◌≡◌, ◌<◌, ◌≤◌, ◌++◌, [], ◌∷◌, length, take, get_or, sym, ap, ◌∙◌, arith}
+use Rattle.std.proofs.Common.{◌≡◌, ◌<◌, ◌++◌, [], ◌∷◌, length, take, sym, ap, ◌∙◌, arith}
 use Rattle.std.specs.Prelude.{unwrap_or, slice_get}
 use Rattle.std.proofs.lemmas.List.{take_more}
 use Rattle.std.proofs.lemmas.Option.{get_or_from_slice_get}
 use Rattle.packet_codec.specs.Digits.{digits_or_none}
-use Rattle.net_events.specs.Opening.{NewLine, NetPlan, line_config, own_configs}
+use Rattle.net_events.specs.Opening.{NewLine, NetPlan, own_configs}
 use Rattle.net_nodes.proofs.Places.{found, within, at_index}
 use Rattle.net_nodes.proofs.Plans.{configs_more}
 use Rattle.net_nodes.proofs.nodes.making.own_configs.Goals as goal

@@ -1,4 +1,4 @@
-use Rattle.std.proofs.Common.{◌≡◌, ◌+◌, ℕ, suc, drop, length, sym, ap, ◌∙◌, arith, Option, Some, None}
+use Rattle.std.proofs.Common.{◌≡◌, ◌+◌, ℕ, suc, drop, sym, ap, ◌∙◌, arith, Option, Some}
 use Rattle.link_timers.specs.declared.timers.TimerId.{TimerId}
 use Rattle.net_events.specs.NextDue.{first_on, due_on_lines}
 use Rattle.net_nodes.proofs.Due.{none_over, due_step}

@@ -1,11 +1,10 @@
-use Rattle.std.proofs.Common.{◌≡◌, ◌<◌, ◌≤◌, ◌*◌, ◌+◌, ℕ, suc, length, vec_len, set, slice_get, List, Some, refl, sym, ap, ◌∙◌, subst, arith}
+use Rattle.std.proofs.Common.{◌≡◌, ◌<◌, ◌+◌, suc, length, slice_get, Some, refl, sym, ap, ◌∙◌, subst, arith}
 use Rattle.std.specs.Prelude.{unwrap_or, ◌++◌}
 use Rattle.memory_line.specs.declared.line.Direction.TheVariants.{FromDce}
 use Rattle.memory_line.specs.Lines.{ArePut}
-use Rattle.switch_lines.specs.Lines.{SwitchLine, changed}
+use Rattle.switch_lines.specs.Lines.{changed}
 use Rattle.switch_lines.specs.Switch.{Switch, frames_on}
 use Rattle.net_events.specs.AtSwitch.{waiting_on, line_drained}
-use Rattle.net_events.specs.Network.{NetLine}
 use Rattle.net_turns.specs.Sends.{puts_on}
 use Rattle.net_nodes.proofs.Places.{there, at_index}
 use Rattle.net_nodes.proofs.Switching.{drained_to, drained_more, waits_still, drained_all, length_drained, puts_to, puts_more, puts_all, put_none, put_next, put_all}

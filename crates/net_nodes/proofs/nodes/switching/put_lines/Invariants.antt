@@ -1,5 +1,5 @@
 -- The first own lines are drained, and their frames are put and listed.
-use Rattle.std.proofs.Common.{◌≡◌, ◌≤◌, ◌*◌, length, vec_len, vec_capacity}
+use Rattle.std.proofs.Common.{◌≡◌, ◌≤◌, ◌*◌, vec_len, vec_capacity}
 use Rattle.net_nodes.proofs.Switching.{drained_to, puts_to, PutTo}
 use Rattle.net_nodes.proofs.nodes.switching.put_lines.Given as goal
 

@@ -1,16 +1,11 @@
-use Rattle.std.proofs.Common.{◌≡◌, length, List, ℕ, sym, ap, ◌∙◌, subst}
+use Rattle.std.proofs.Common.{◌≡◌, length, sym, ap, ◌∙◌, subst}
 use Rattle.std.specs.Prelude.{vec_capacity}
 use Rattle.std.specs.Option.{option_to_list}
-use Rattle.call_records.specs.Register.{Register}
-use Rattle.switch_lines.specs.Lines.{SwitchLine}
-use Rattle.switch_lines.specs.Switch.{Switch}
-use Rattle.net_events.specs.AtSwitch.{HasOwnLine, switched, switch_drained, all_handed, joins_of}
+use Rattle.net_events.specs.AtSwitch.{HasOwnLine}
 use Rattle.net_events.specs.EventView.{switch_event_of}
-use Rattle.net_events.specs.Network.{PlacedSwitch, NetNode, Switching}
-use Rattle.net_turns.specs.Sends.{all_puts}
-use Rattle.net_turns.proofs.SwitchSending.{switched_lines}
+use Rattle.net_events.specs.Network.{PlacedSwitch}
 use Rattle.net_nodes.specs.NodeView.{kind_of}
-use Rattle.net_nodes.specs.Switching.{CanPut, LinesPut, is_anew}
+use Rattle.net_nodes.specs.Switching.{CanPut}
 use Rattle.net_nodes.proofs.SwitchTurns.{switch_is, served_so, can_put_then}
 use Rattle.net_nodes.proofs.nodes.switching.serve_switch.Goals as goal
 

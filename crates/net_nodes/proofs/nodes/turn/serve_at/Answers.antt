@@ -1,11 +1,7 @@
-use Rattle.std.proofs.Common.{◌≡◌, Some, ap, ◌∙◌, sym, slice_get, refl, subst}
-use Rattle.std.specs.Prelude.{OnErr}
-use Rattle.line_nodes.specs.NodeView.{node_of}
+use Rattle.std.proofs.Common.{◌≡◌, ap, ◌∙◌, sym, slice_get, refl}
 use Rattle.call_records.specs.Room.{BookState}
 use Rattle.net_events.specs.EventView.{event_of}
-use Rattle.net_events.specs.Network.{NetNode, User, NetLine, place_at}
-use Rattle.net_events.proofs.Users.{same_user}
-use Rattle.net_nodes.specs.Turns.{IsServable}
+use Rattle.net_events.specs.Network.{User, NetLine, place_at}
 use Rattle.net_nodes.proofs.Places.{found, within, mapped_err}
 use Rattle.net_nodes.proofs.Serving.{user_answered, user_refused}
 use Rattle.net_nodes.proofs.nodes.turn.serve_at.Goals as goal

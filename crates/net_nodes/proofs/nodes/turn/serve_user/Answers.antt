@@ -1,14 +1,12 @@
-use Rattle.std.proofs.Common.{◌≡◌, ap, ◌∙◌, sym, subst, refl}
-use Rattle.std.specs.Prelude.{OnOk, Result, Ok, Err}
+use Rattle.std.proofs.Common.{◌≡◌, ap, ◌∙◌, sym, subst}
+use Rattle.std.specs.Prelude.{OnOk}
 use Rattle.line_nodes.specs.NodeView.{node_of}
-use Rattle.line_nodes.specs.Node.{NodeState}
 use Rattle.net_turns.specs.Quiet.{IsQuiet}
 use Rattle.net_events.specs.EventView.{event_of}
 use Rattle.net_events.specs.NodeEvents.{IsFor}
-use Rattle.net_events.specs.Network.{PlacedNode, User}
-use Rattle.net_events.proofs.Users.{user_is, not_switch}
+use Rattle.net_events.specs.Network.{PlacedNode}
+use Rattle.net_events.proofs.Users.{user_is}
 use Rattle.net_nodes.specs.NodeView.{kind_of}
-use Rattle.net_events.specs.NodeEvents.{turn_of}
 use Rattle.net_turns.specs.Outcomes.{IsAnswered, text_of}
 use Rattle.net_nodes.proofs.Serving.{user_served}
 use Rattle.net_nodes.proofs.nodes.turn.serve_user.Goals as goal

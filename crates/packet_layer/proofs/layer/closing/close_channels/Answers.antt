@@ -1,4 +1,4 @@
-use Rattle.std.proofs.Common.{◌≡◌, ◌∙◌, ◌+◌, ◌≤◌, ◌++◌, ◌<◌, [], ◌∷◌, List, ap, sym, subst, Some, length, take, drop, map, arith}
+use Rattle.std.proofs.Common.{◌≡◌, ◌∙◌, ◌+◌, ◌++◌, ◌<◌, [], ◌∷◌, List, ap, sym, Some, length, drop, arith}
 use Rattle.std.specs.Prelude.{slice_get}
 use Rattle.packet_channel.specs.Packets.{Note, Closed}
 use Rattle.packet_channel.specs.Channel.{Channel}

@@ -1,5 +1,5 @@
 -- One pair more.
-use Rattle.std.proofs.Common.{◌≡◌, ℕ, get_or, ap, sym, ◌∙◌, arith}
+use Rattle.std.proofs.Common.{ℕ, get_or, ap, sym, ◌∙◌, arith}
 use Rattle.pad_terminal.specs.Settings.{Change, one_more}
 use Rattle.pad_terminal.proofs.Reports.{pairs_more}
 use Rattle.pad_terminal.proofs.settings.Settings.set_all.Goals as goal

@@ -1,5 +1,5 @@
 -- One port more.
-use Rattle.std.proofs.Common.{◌≡◌, arith}
+use Rattle.std.proofs.Common.{arith}
 use Rattle.std.proofs.lemmas.List.Edits.{map_over_more}
 use Rattle.x25_pad.specs.Ports.{elapsed}
 use Rattle.x25_pad.proofs.pad.Pad.elapse_idle_timers.Goals as goal

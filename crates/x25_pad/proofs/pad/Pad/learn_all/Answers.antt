@@ -1,5 +1,5 @@
 -- One note more.
-use Rattle.std.proofs.Common.{◌≡◌, refl, ap}
+use Rattle.std.proofs.Common.{refl, ap}
 use Rattle.x25_pad.specs.Pad.{PadState}
 use Rattle.x25_pad.specs.declared.call.CallNote.TheVariants.{Connected}
 use Rattle.x25_pad.proofs.Hearing.{heard_more}

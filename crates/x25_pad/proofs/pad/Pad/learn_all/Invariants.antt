@@ -1,7 +1,6 @@
 -- What the terminals have learnt of the notes so far.
 use Rattle.std.proofs.Common.{◌≡◌, take}
 use Rattle.x25_pad.specs.Pad.{all_heard}
-use Rattle.x25_pad.specs.PadView.{pad_of}
 use Rattle.x25_pad.proofs.pad.Pad.learn_all.Given as goal
 
 abbrev pub invariant-loop-note : goal.invariant-loop-note

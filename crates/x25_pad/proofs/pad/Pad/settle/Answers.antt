@@ -1,5 +1,5 @@
 -- One port more, and all.
-use Rattle.std.proofs.Common.{◌≡◌, ap, arith}
+use Rattle.std.proofs.Common.{ap, arith}
 use Rattle.std.proofs.lemmas.List.Edits.{map_over_more}
 use Rattle.x25_pad.specs.Pad.{PadState}
 use Rattle.x25_pad.specs.Ports.{settled}
