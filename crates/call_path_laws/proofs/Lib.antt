@@ -15,6 +15,7 @@ pub mod Showing
 mod Each
 mod Opened
 pub mod Running
+pub mod RunningOpen
 mod Recording
 pub mod Owning
 pub mod Tracing

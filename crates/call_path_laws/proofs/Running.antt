@@ -52,7 +52,7 @@ may_reset = ((zero_two, refl), ((one_two, refl), ((record { there = zero_two; sw
 may_first : MayAll plan (drop 7 events) (after_all (take 7 events) (made_world lines))
 may_first = ((zero_two, refl), ((record { there = zero_two; switch = refl }, (tt, tt)), ((record { there = one_two; switch = refl }, (tt, tt)), ((one_two, refl), ((record { there = one_two; switch = refl }, (tt, tt)), ((record { there = zero_two; switch = refl }, (tt, tt)), ((zero_two, refl), ((one_two, refl), ((record { there = one_two; switch = refl }, (tt, (tt, tt))), ((one_two, refl), ((record { there = zero_two; switch = refl }, (tt, tt)), ((zero_two, refl), ((record { there = zero_two; switch = refl }, (tt, tt)), may_reset)))))))))))))
 
-may_all : MayAll plan events (made_world lines)
+pub may_all : MayAll plan events (made_world lines)
 may_all = ((zero_two, refl), ((record { there = zero_two; switch = refl }, (tt, tt)), (record { from_end = record { there = zero_two; switch = refl }; to_end = record { there = one_two; switch = refl }; one_switch = refl; came_in = 1; caller = 0; present = refl; came = refl; last = refl; first = λ k j at e. none-some j at }, ((one_two, refl), ((record { there = one_two; switch = refl }, (tt, tt)), ((record { there = zero_two; switch = refl }, (tt, tt)), ((zero_two, refl), may_first)))))))
 
 -- ---- the switch forwards each call as it came

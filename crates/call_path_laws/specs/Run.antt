@@ -14,11 +14,14 @@ use Rattle.call_records.specs.Records.{RecordValue, new_record}
 use Rattle.call_records.specs.Book.{packet_of}
 use Rattle.call_records.specs.Writes.Write.{Told, Placed, Asked, Cleared}
 use Rattle.call_records.specs.Register.{LinePlan}
+use Rattle.book_laws.specs.Rest.{NothingMissing}
 use Rattle.register_laws.specs.Promise.{HasRecords}
 use Rattle.call_path_laws.specs.World.{World, Plan, Event, after_all, made_world, MayAll, AreAddressed}
 use Rattle.call_path_laws.specs.World.Event.{Writes, SwitchWrites, Joins}
+use Rattle.call_path_laws.specs.Seen.{Seen}
 use Rattle.call_path_laws.specs.Promise.{CallsHold, JoinsHold}
 use Rattle.call_path_laws.specs.Forwards.{AllForward}
+use Rattle.call_path_laws.specs.Rest.{HaveHandedAll}
 
 -- ---- the network: node 1 on line 0 and node 2 on line 1, each at the DTE's end; the switch is node 9
 
@@ -121,9 +124,13 @@ cleared events =
     ∷ Writes 1 Dte (Told (Closed 1 0 0 FarEnd ∷ []) ∷ [])
     ∷ events
 
+-- the first call, up to its clear
+abbrev pub first_call : List Event → List Event
+first_call events = called (connected (confirmed (message 72) (replied (reply 73) (reset (message 74)
+    (replied (reply 75) (confirmed (message 76) events))))))
+
 abbrev pub events : List Event
-events = called (connected (confirmed (message 72) (replied (reply 73) (reset (message 74)
-    (replied (reply 75) (confirmed (message 76) (cleared (called []))))))))
+events = first_call (cleared (called []))
 
 abbrev pub world : World
 world = after_all events (made_world lines)
@@ -139,6 +146,26 @@ one_sent said = record { packets = packet_of said ∷ []; interrupts = []; cover
 abbrev pub one_taken : Datum → TakenEpoch
 one_taken said = record { packets = packet_of said ∷ []; interrupts = []; released = 1 }
 
+-- the two records of the first call, open or closed
+abbrev pub first_caller : (closed : Bool) → RecordValue
+first_caller closed = record (ended 0 1 (Some (1 ∷ 0 ∷ [])) (Some (2 ∷ 0 ∷ [])) None) {
+  sent_before =
+      record { packets = packet_of (message 72) ∷ packet_of (message 74) ∷ []; interrupts = []; covered = 1 } ∷ [];
+  sent = one_sent (message 76);
+  taken_before = one_taken (reply 73) ∷ [];
+  taken = one_taken (reply 75);
+  closed = closed;
+}
+
+abbrev pub first_callee : (closed : Bool) → RecordValue
+first_callee closed = record (ended 1 2 (Some (2 ∷ 0 ∷ [])) (Some (1 ∷ 0 ∷ [])) (Some 0)) {
+  sent_before = one_sent (reply 73) ∷ [];
+  sent = one_sent (reply 75);
+  taken_before = one_taken (message 72) ∷ [];
+  taken = one_taken (message 76);
+  closed = closed;
+}
+
 -- the run is allowed, its lines and its joins hold, open records are those that are present, and the register has two
 -- calls; in the first one each end has an epoch before the reset and one after it, in each of which a message and a
 -- reply were sent, taken and covered; the message that was lost in the reset was sent, and not taken
@@ -151,21 +178,21 @@ pub record RunLaw : Type 0 where
   pub open_records : HasRecords world.whole
   pub pairs : world.register.pairs ≡ record { caller = 0; callee = 1 } ∷ record { caller = 2; callee = 3 } ∷ []
   pub records : world.register.records
-      ≡ record (ended 0 1 (Some (1 ∷ 0 ∷ [])) (Some (2 ∷ 0 ∷ [])) None) {
-        sent_before = record {
-          packets = packet_of (message 72) ∷ packet_of (message 74) ∷ [];
-          interrupts = [];
-          covered = 1;
-        } ∷ [];
-        sent = one_sent (message 76);
-        taken_before = one_taken (reply 73) ∷ [];
-        taken = one_taken (reply 75);
-      }
-      ∷ record (ended 1 2 (Some (2 ∷ 0 ∷ [])) (Some (1 ∷ 0 ∷ [])) (Some 0)) {
-        sent_before = one_sent (reply 73) ∷ [];
-        sent = one_sent (reply 75);
-        taken_before = one_taken (message 72) ∷ [];
-        taken = one_taken (message 76);
-      }
+      ≡ first_caller true ∷ first_callee true
       ∷ new_record 2 1 (Some (1 ∷ 0 ∷ [])) (Some (2 ∷ 0 ∷ [])) None
       ∷ new_record 3 2 (Some (2 ∷ 0 ∷ [])) (Some (1 ∷ 0 ∷ [])) (Some 2) ∷ []
+
+-- ---- what it is before the clear
+
+abbrev pub still_open : World
+still_open = after_all (first_call []) (made_world lines)
+
+-- nothing is missing on either line, and the join handed on all that it took; the call is open at both ends, and each
+-- end took the message or the reply that the other one sent since the reset
+pub record OpenRunLaw : Type 0 where
+  pub may : MayAll plan (first_call []) (made_world lines)
+  pub seen : Seen plan still_open
+  pub missing : NothingMissing still_open.whole.records still_open.whole.pairs
+  pub handed : HaveHandedAll still_open
+  pub pairs : still_open.register.pairs ≡ record { caller = 0; callee = 1 } ∷ []
+  pub records : still_open.register.records ≡ first_caller false ∷ first_callee false ∷ []

@@ -7,7 +7,7 @@ ghost use Rattle.call_path_laws.specs.Law.{OwnedLaw, RecordsLaw, PresentLaw, Cam
 ghost use Rattle.call_path_laws.specs.Ends.{EndLaw, UserLaw, OpenLaw};
 ghost use Rattle.call_path_laws.specs.Lines.{MadeLinesLaw, TraceLaw, LinesLaw, WrittenLaw, BookCallsLaw, RecordedLaw};
 ghost use Rattle.call_path_laws.specs.Rest.{RestLaw};
-ghost use Rattle.call_path_laws.specs.Run.{RunLaw};
+ghost use Rattle.call_path_laws.specs.Run.{RunLaw, OpenRunLaw};
 
 /// The law of calls through switches, over definitions alone: beside the register stands a whole one, which has a
 /// record of each leg of each switch too, and whatever happens, the register has what the whole one has of the ends
@@ -70,7 +70,9 @@ pub fn lines_law()
 {}
 
 /// A run of two hosts and a switch between them, by computation: it meets what the law asks for, with a message sent
-/// with D = 1 and confirmed, and with channels used again.
+/// with D = 1 and confirmed, and with channels used again. Before the call is cleared nothing is missing on its lines,
+/// and the switch has handed on all that it took, which is what the law of rest asks for.
 pub fn run_law()
-    ensures { RunLaw }
+    ensures whole { RunLaw }
+    ensures before_the_clear { OpenRunLaw }
 {}
