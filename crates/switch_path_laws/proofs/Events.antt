@@ -433,7 +433,7 @@ addresses_are plan at s h cs books w traces i k c there =
       calling =
           ap (λ (r : RecordValue). r.own) (sym to)
           ∙ (y.calling ∙ (ap (λ (n : ℕ). calling_on (plan.address n) y.from.far) line ∙ with_address (plan.address near_line) y.from.far (i.planned.addressed c.near.line j.1.1.near.0)));
-      routed = sym onto ∙ (y.routed ∙ ap₂ (λ (n : ℕ) (d : Option (List ℕ)). plan.route n d) (ap (λ (r : RecordValue). r.node) to) (y.called ∙ own_is));
+      routed = sym (ap₂ (λ (n : ℕ) (d : Option (List ℕ)). plan.route n d) (ap (λ (r : RecordValue). r.node) to) (y.called ∙ own_is)) ∙ (y.routed ∙ ap (λ (k : ℕ). Some k) onto);
     }
 
 promise : PromiseLaw

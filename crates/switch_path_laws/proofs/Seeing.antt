@@ -415,7 +415,7 @@ module _ (plan : Plan) (at : List ℕ) (apart : AreApart at) (switch_end : (n : 
 
   module _ (routes : RouteMap) (given : List (List ℕ)) (lines_given : length at ≡ length given) (one_switch : (m n : ℕ) → m < length at → n < length at → plan.node (network_line at m) Dce ≡ plan.node (network_line at n) Dce)
       (address : (n : ℕ) (a : List ℕ) → slice_get given n ≡ Some a → a ≡ plan.address (network_line at n)) (addressed : (n : ℕ) → n < length at → plan.address (network_line at n) ≡ [] → ⊥)
-      (route : (called : List ℕ) (n : ℕ) → n < length at → line_for routes called ≡ Some n → network_line at n ≡ plan.route (plan.node (network_line at n) Dce) (address_of called)) where
+      (route : (called : List ℕ) (n : ℕ) → n < length at → line_for routes called ≡ Some n → plan.route (plan.node (network_line at n) Dce) (address_of called) ≡ Some (network_line at n)) where
     module _ (p q : Place) (parts : CallParts) (ls : List SwitchLine) (bs : Books) (cs : List JoinedCall) (j : Joining routes given p q parts ls bs cs) (books : List Book) (w : World) (traces : List (List Origin)) (i : IsSeen plan at bs cs books w traces) where
       -- the lines of the network
       abbrev pl : ℕ

@@ -153,7 +153,7 @@ pub record HasAddresses (plan : Plan) (at : List ℕ) (bs : Books) (c : JoinedCa
   pub far_there : slice_get (bs c.far.line).records c.placed ≡ Some far_record
   pub called : far_record.far ≡ near_record.own
   pub calling : far_record.own ≡ Some (plan.address (network_line at c.near.line))
-  pub routed : network_line at c.far.line ≡ plan.route far_record.node near_record.own
+  pub routed : plan.route far_record.node near_record.own ≡ Some (network_line at c.far.line)
 
 -- so it is of each joined call, whether it stands or is over
 abbrev pub AddressLaw : Type 0

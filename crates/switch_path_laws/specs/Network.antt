@@ -56,7 +56,7 @@ pub record IsPlanned (plan : Plan) (count : ℕ) (at : List ℕ) (s : Switch) : 
   pub addressed : (n : ℕ) → n < length at → plan.address (network_line at n) ≡ [] → ⊥
   pub alike : AreAddressed plan
   pub route : (called : List ℕ) (n : ℕ) → n < length at → line_for s.routes called ≡ Some n
-      → network_line at n ≡ plan.route (plan.node (network_line at n) Dce) (address_of called)
+      → plan.route (plan.node (network_line at n) Dce) (address_of called) ≡ Some (network_line at n)
   pub others : (line : ℕ) (role : Role) → line < count → IsOther at line → plan.has_user line role ≡ true
 
 -- ---- joined calls in the register
