@@ -1,5 +1,6 @@
 pub mod Listing
 pub mod Silence
+pub mod Accepting
 pub mod Seeing
 pub mod Keeping
 mod Transferring

@@ -185,7 +185,7 @@ pub slot_records : (x : Role) (d : ℕ) (z : Slot) (b : Book) → (with_slot x d
 slot_records Dte d z b = refl
 slot_records Dce d z b = refl
 
-slot_pairs : (x : Role) (d : ℕ) (z : Slot) (b : Book) → (with_slot x d z b).pairs ≡ b.pairs
+pub slot_pairs : (x : Role) (d : ℕ) (z : Slot) (b : Book) → (with_slot x d z b).pairs ≡ b.pairs
 slot_pairs Dte d z b = refl
 slot_pairs Dce d z b = refl
 
@@ -239,7 +239,7 @@ has_new x d r z b g lo hi e is =
 
 -- ---- a pair
 
-last_pair : (ps : List PairValue) (q : PairValue) (i : ℕ) (p : PairValue) → slice_get (ps ++ q ∷ []) i ≡ Some p → (slice_get ps i ≡ Some p) ⊎ (p ≡ q)
+pub last_pair : (ps : List PairValue) (q : PairValue) (i : ℕ) (p : PairValue) → slice_get (ps ++ q ∷ []) i ≡ Some p → (slice_get ps i ≡ Some p) ⊎ (p ≡ q)
 last_pair [] q zero p e = inr (sym (same_Some q p e))
 last_pair [] q (suc i) p e = absurd (none-some p e)
 last_pair (x ∷ ps) q zero p e = inl e
