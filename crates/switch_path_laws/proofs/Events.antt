@@ -54,6 +54,7 @@ use Rattle.switch_path_laws.specs.Network.{network_line, AreAmong, IsPlanned, al
 use Rattle.switch_path_laws.specs.Law.{BeginLaw, no_switch, AloneLaw, AfterEvent, FrameLaw, TimerLaw, ElapseLaw, OutLaw, RestartLaw, partner_acted, PartnerLaw, OtherLaw, AddressLaw, IsKept, PromiseLaw, SwitchPathLaw}
 use Rattle.switch_path_laws.proofs.Resting.{network_rests}
 use Rattle.switch_path_laws.proofs.Keeping.{own_or_other, kept_calls}
+use Rattle.switch_path_laws.proofs.Placing.{placed_so}
 use Rattle.switch_path_laws.proofs.Listing.{among_other, others_same, join_found, join_at}
 use Rattle.switch_path_laws.proofs.Seeing.{line_seen, Moved, moved_then, written_by_user, Beyond, silently, stays_quietly, stays_sending, stays_accepting, stays_joining, switch_writes, user_writes, same_books}
 
@@ -470,5 +471,6 @@ network_holds = record {
   others = other_after;
   addresses = addresses_are;
   promise = promise;
+  placed = placed_so;
   rest = network_rests;
 }
