@@ -3,13 +3,12 @@ use Rattle.std.proofs.Common.{◌≡◌, ℕ, true, false, length, Some, refl, s
 use Rattle.std.specs.Prelude.{slice_get}
 use Rattle.link_timers.specs.declared.role.Role.{Role}
 use Rattle.link_timers.specs.declared.role.Role.TheVariants.{Dte, Dce}
-use Rattle.link_timers.specs.Role.{other_of}
 use Rattle.packet_layer.specs.Layer.{channel_of}
 use Rattle.packet_end.specs.PacketEnd.{PacketEnd}
 use Rattle.call_records.specs.Records.{RecordValue}
 use Rattle.call_records.specs.Book.{Book, side_of}
-use Rattle.call_records.specs.Register.{Register}
-use Rattle.book_laws.specs.Headline.{HaveRecords, has_call}
+use Rattle.call_records.specs.Register.{Register, book_at}
+use Rattle.book_laws.specs.Headline.{HaveRecords, HasCallee, has_call}
 use Rattle.x25_pad_laws.specs.Sending.{HasSent}
 use Rattle.register_laws.specs.Promise.{HasRecords}
 use Rattle.line_record_laws.specs.Kept.{end_at}
@@ -135,8 +134,15 @@ module _ (L : LineService) (s : Network) (p : IsSwitched L s) (f : L.faithful) w
             (confirmed_kept h.kept.setting b.0 (line_of own) role channel o.number o.own h.kept.kept o.present o.there);
       }
 
-  placed_holds : (line : ℕ) (l : NetLine) (role : Role) → slice_get s.lines line ≡ Some l → HasUserAt s l role → HasUserAt s l (other_of role) → PlacedHolds s line l role
-  placed_holds line l role at user other =
+  placed_in_register : (line : ℕ) (l : NetLine) (role : Role) (b : Book) (channel : ℕ) → slice_get s.lines line ≡ Some l → slice_get held.books line ≡ Some b → HasUserAt s l role
+      → HasCallee b role channel → HasCallee (book_at line s.register) role channel
+  placed_in_register line l role b channel at there user has =
+      subst (λ (g : Register). HasCallee (book_at line g) role channel) held.register
+      (network_holds.placed held.plan p.switch.lines p.switch.switch held.histories held.calls held.books held.world held.traces held.network line b role channel there
+      (held.plan_is.user line l role (User user.0) at user.1) has)
+
+  placed_holds : (line : ℕ) (l : NetLine) (role : Role) → slice_get s.lines line ≡ Some l → HasUserAt s l role → PlacedHolds s line l role
+  placed_holds line l role at user =
       let b = its_book line l at in
       let h : LineHas line l b.0 = line_has line l b.0 at b.1 in
       let own : LineState = ends_state l h.stands.dte.node h.stands.dce b.0 in
@@ -146,7 +152,7 @@ module _ (L : LineService) (s : Network) (p : IsSwitched L s) (f : L.faithful) w
       record {
         node = user.0;
         node_there = user.1;
-        placed = λ channel ch there up none. w.placed channel (held.plan_is.user line l (other_of role) (User other.0) at other.1)
+        placed = λ channel ch there up none. placed_in_register line l role b.0 channel at b.1 user
             (placed_kept h.kept.setting b.0 (line_of own) role channel ch h.kept.kept (ap (λ (e : PacketEnd). channel_of e.layer channel) is ∙ there) up
             (sym (w.came channel) ∙ none));
       }

@@ -165,7 +165,7 @@ module _ (L : LineService) (s : Network) (n : IsNetwork L s) (f : L.faithful) wh
     calls = paths_hold;
     records = holds.records;
     ends = λ line l role at user. holds.ends line l role at;
-    placed = λ line l role at user other. holds.placed line l role at;
+    placed = λ line l role at user. holds.placed line l role at;
     typed = holds.typed;
     alone = λ none. holds;
   }

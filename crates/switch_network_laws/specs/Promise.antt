@@ -1,7 +1,6 @@
 -- What a network promises, with a switch or without one.
 use Rattle.std.specs.Prelude.{◌≡◌, ℕ, true, slice_get, Some}
 use Rattle.link_timers.specs.declared.role.Role.{Role}
-use Rattle.link_timers.specs.Role.{other_of}
 use Rattle.call_records.specs.Records.{RecordValue}
 use Rattle.x25_pad_laws.specs.Sending.{HasSent}
 use Rattle.register_laws.specs.Promise.{HasRecords}
@@ -29,9 +28,10 @@ pub record NetworkPromise (s : Network) : Type 0 where
   -- the ends of lines at which nodes with users stand
   pub ends : (line : ℕ) (l : NetLine) (role : Role) → slice_get s.lines line ≡ Some l → HasUserAt s l role
       → EndHolds s line l role
-  -- on a line between users, each call in data transfer that was placed is the last one placed there and is in a pair
+  -- at these ends, on lines between users and on lines to the switch, each call in data transfer that was placed is the
+  -- last one placed there and is in a pair
   pub placed : (line : ℕ) (l : NetLine) (role : Role) → slice_get s.lines line ≡ Some l → HasUserAt s l role
-      → HasUserAt s l (other_of role) → PlacedHolds s line l role
+      → PlacedHolds s line l role
   -- what a PAD's terminal sent on a call is, block for block with its end, what its editing rules make of the keys and
   -- idle times; else the PAD sent only what it told the far end by its messages, and the interrupts of breaks
   pub typed : (place : ℕ) (n : PlacedNode) (i : ℕ) (r : RecordValue) → slice_get s.nodes place ≡ Some (User n)
