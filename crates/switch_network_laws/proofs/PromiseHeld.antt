@@ -23,7 +23,7 @@ use Rattle.switch_path_laws.proofs.Events.{network_holds}
 use Rattle.line_nodes.specs.Node.{NodeState, end_of, is_pad}
 use Rattle.memory_line.specs.Lines.{LineService}
 use Rattle.net_events.specs.OneLine.{LineState}
-use Rattle.net_events.specs.Network.{PlacedNode, User, NetLine, Network, place_at}
+use Rattle.net_events.specs.Network.{PlacedNode, NetNode, User, Switching, NetLine, Network, place_at}
 use Rattle.network_laws.specs.IsLine.{line_of, IsLine, IsKept}
 use Rattle.network_laws.specs.Promise.{EndHolds, PlacedHolds}
 use Rattle.network_laws.proofs.Answering.{came_kept, paired_kept, placed_kept, records_kept}
@@ -191,11 +191,30 @@ module _ (L : LineService) (s : Network) (p : IsSwitched L s) (f : L.faithful) w
       (ap (λ (k : ℕ). slice_get s.nodes k) here ∙ at) pad o.own_there
       (sym (same_node o.own r o.same) ∙ where_is))
 
+  -- where the plan has a user at an end of a line, one stands there
+  user_there : (line : ℕ) (l : NetLine) (role : Role) → slice_get s.lines line ≡ Some l → held.plan.has_user line role ≡ true → HasUserAt s l role
+  user_there line l Dte at user = let h = p.lines line l at in (h.dte, h.dte_there)
+  user_there line l Dce at user = let h = p.lines line l at in by h.dce_there.node h.dce_there.there
+    where
+      by : (x : NetNode) → slice_get s.nodes l.dce ≡ Some x → HasUserAt s l Dce
+      by (User x) there = (x, there)
+      by (Switching x) there = absurd (let bad : true ≡ false = sym user ∙ held.plan_is.user line l Dce (Switching x) at there in cc)
+
+  of_users : (i : ℕ) (r : RecordValue) → slice_get s.register.records i ≡ Some r → (n : PlacedNode) × (slice_get s.nodes r.node ≡ Some (User n))
+  of_users i r there =
+      let o : IsOfUser held.plan held.books r =
+      users_own held.plan held.world held.books held.traces i r held.network.seen.seen held.network.seen.lines
+      (ap (λ (g : Register). slice_get g.records i) held.register ∙ there) in
+      let l = its_line o.line o.line_book o.line_there in
+      let u : HasUserAt s l.0 o.role = user_there o.line l.0 o.role l.1 o.user in
+      (u.0, ap (λ (k : ℕ). slice_get s.nodes k) (o.node ∙ held.plan_is.node o.line l.0 o.role l.1) ∙ u.1)
+
   pub promise_held : NetworkPromise s
   promise_held = record {
     plan = held.plan;
     plan_is = held.plan_is;
     calls = paths_hold;
+    of_users = of_users;
     records = records_hold;
     ends = end_holds;
     placed = placed_holds;

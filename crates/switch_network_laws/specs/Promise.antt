@@ -23,6 +23,9 @@ pub record NetworkPromise (s : Network) : Type 0 where
   -- sent, both ways, what is confirmed was taken, and the pair is right; no record is in two pairs, and each that took
   -- anything is in one
   pub calls : PathsHold plan s.register
+  -- each record is of a node with users
+  pub of_users : (i : ℕ) (r : RecordValue) → slice_get s.register.records i ≡ Some r
+      → (n : PlacedNode) × (slice_get s.nodes r.node ≡ Some (User n))
   -- each present record is open and of the node at its end, at no other channel; each open record is present
   pub records : HasRecords s.register
   -- the ends of lines at which nodes with users stand
