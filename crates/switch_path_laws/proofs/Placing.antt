@@ -1,5 +1,5 @@
 -- A call that a user placed is in a pair of the register where it is in one of its line's book: also over the switch.
-use Rattle.std.specs.Prelude.{◌≡◌, ℕ, ◌<◌, ◌⊎◌, true, false, List, length, slice_get, Option, Some}
+use Rattle.std.specs.Prelude.{◌≡◌, ℕ, ◌<◌, true, false, List, length, slice_get, Option, Some}
 use Rattle.std.proofs.Common.{inl, inr, sym, ap, ap₂, subst, ◌∙◌, true≢false, option_map}
 use Rattle.std.proofs.lemmas.Option.{same_Some}
 use Rattle.link_timers.specs.declared.role.Role.{Role}
@@ -16,7 +16,7 @@ use Rattle.switch_record_laws.specs.Tied.{Histories}
 use Rattle.joined_call_laws.specs.Calls.{JoinedCall}
 use Rattle.call_path_laws.specs.World.{Origin, placing, World, Plan}
 use Rattle.call_path_laws.proofs.Ending.{ends_seen, callee_origin, placed_onward}
-use Rattle.switch_path_laws.specs.Network.{network_line, IsOther, GoesOnAccepted, IsNetwork}
+use Rattle.switch_path_laws.specs.Network.{network_line, GoesOnAccepted, IsNetwork}
 use Rattle.switch_path_laws.specs.Law.{PlacedLaw}
 use Rattle.switch_path_laws.proofs.Keeping.{own_or_other}
 use Rattle.switch_path_laws.proofs.Seeing.{own_trace}

@@ -1,6 +1,6 @@
 -- What the register has stays over what is written at the switch's ends, and over the joins of calls.
 use Rattle.std.specs.Prelude.{◌≡◌, ◌≢◌, ℕ, zero, suc, ◌<◌, ◌⊎◌, Bool, true, false, not, if◌then◌else◌, List, [], ◌∷◌, ◌++◌, length, set, slice_get, Option, Some, None}
-use Rattle.std.proofs.Common.{inl, inr, refl, sym, ap, ap₂, subst, ◌∙◌, true≢false, arith, option_map, append_assoc}
+use Rattle.std.proofs.Common.{inl, inr, refl, sym, ap, ap₂, subst, ◌∙◌, arith, option_map, append_assoc}
 use Rattle.std.proofs.lemmas.Option.{none-some, same_Some, slice_get_within}
 use Rattle.std.proofs.lemmas.Bool.{eq-eqb}
 use Rattle.link_timers.specs.declared.role.Role.{Role}
@@ -52,7 +52,7 @@ use Rattle.call_path_laws.proofs.Tracing.{traced}
 use Rattle.call_path_laws.proofs.Forwarding.{stays_handed_on}
 use Rattle.switch_path_laws.specs.Network.{network_line, AreAmong, handed_on, all_handed, lines_of, JoinIs, AreJoins, IsInJoin, GoesOnAccepted, AcceptsAccepted, SendsOnJoins, IsSeen}
 use Rattle.switch_path_laws.specs.Law.{OthersStay}
-use Rattle.switch_path_laws.proofs.Listing.{AreApart, among_set, among_same, others_same, others_set, others_then, IsAt, Grows, writes_grow, grows_one, old_or_new, old_origin, join_at, numbers_stay, lines_last, lines_length, joins_stay, joins_last, join_found}
+use Rattle.switch_path_laws.proofs.Listing.{AreApart, among_set, among_same, others_same, others_set, others_then, Grows, writes_grow, grows_one, old_or_new, old_origin, join_at, numbers_stay, lines_last, lines_length, joins_stay, joins_last, join_found}
 
 -- ---- a line of the whole register
 
