@@ -19,7 +19,6 @@ use Rattle.call_records.specs.Register.{Register, book_at, all_written_at}
 use Rattle.book_laws.proofs.Basics.{get_before, get_there, get_last, number_is}
 use Rattle.register_laws.specs.Seen.{positions, IsNumbered, LineIsSeen, renumbered, RecordIsSeen, PairIsSeen}
 use Rattle.book_laws.specs.Headline.{IsIn}
-use Rattle.book_laws.proofs.Placed.{pair_is}
 use Rattle.register_laws.proofs.Positions.{is_place, one_here}
 use Rattle.register_laws.proofs.Steps.{same_place}
 use Rattle.switch_lines.specs.declared.place.Place.{Place}
@@ -122,6 +121,7 @@ user_sends plan line role ws w v h user seen g whole joins s a o r made switch t
           let same : x.value ≡ r = same_Some x.value r (sym (theirs_stay role ws a x.value (book_at line w.whole) x.theirs).there ∙ (ap (λ (y : Register). slice_get y.records a) (sym whole) ∙ there)) in
           elim (s a o r old switch (x.theirs.there ∙ ap (λ (y : RecordValue). Some y) same)) [ inl e ↦ inl e | inr e ↦ inr (subst (λ (js : List Join). IsInJoin js a) (sym joins) e) ])
     ]
+
 -- ---- what is written at an end with a user
 
 pub written_by_user : (plan : Plan) (at : List ℕ) (line : ℕ) (role : Role) (ws : List Write) (b : Book) (own : List Origin) (bs bs' : Books) (cs : List JoinedCall) (books : List Book) (w : World) (traces : List (List Origin)) → plan.has_user line role ≡ true → slice_get books line ≡ Some b
@@ -470,8 +470,9 @@ module _ (plan : Plan) (at : List ℕ) (apart : AreApart at) (switch_end : (n : 
               far = x.0.placed;
               joined = joined;
               place = whole_place.0;
-              callee = q.seen_pair.callee;
-              there = q.seen_there ∙ ap (λ (y : PairValue). Some y) (pair_is q.seen_pair x.0.placed q.seen_pair.callee caller refl);
+              pair = q.seen_pair;
+              there = q.seen_there;
+              caller = caller;
             }
         by_end (inr e) =
             let callee : q.seen_pair.callee ≡ x.0.placed = same_Some q.seen_pair.callee x.0.placed (sym q.callee ∙ (ap (λ (n : ℕ). slice_get (positions pl (lines_of w.origins)) n) (ap (λ (y : PairValue). y.callee) own_is ∙ e) ∙ placed_at)) in
