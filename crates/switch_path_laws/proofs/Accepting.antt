@@ -1,5 +1,5 @@
 -- Where the switch accepted a call, the one with which it goes on was accepted: what stays over all that is written.
-use Rattle.std.specs.Prelude.{◌≡◌, ℕ, ◌<◌, ◌⊎◌, true, false, List, [], ◌∷◌, length, slice_get, Option, Some, None}
+use Rattle.std.specs.Prelude.{◌≡◌, ℕ, ◌<◌, ◌⊎◌, true, false, List, length, slice_get, Option, Some, None}
 use Rattle.std.proofs.Common.{inl, inr, refl, sym, ap, ap₂, subst, ◌∙◌, true≢false, arith}
 use Rattle.std.proofs.lemmas.Option.{same_Some, slice_get_within}
 use Rattle.link_timers.specs.declared.role.Role.{Role}
@@ -88,7 +88,7 @@ accepted_records None c b = by_slot (slot_at Dce c b).caller (slot_at Dce c b).p
 -- ---- what was accepted stays so
 
 pub goes_on_still : (w v : World) (a : ℕ) → ((i : ℕ) (p : PairValue) → slice_get w.whole.pairs i ≡ Some p → slice_get v.whole.pairs i ≡ Some p) → ((a b : ℕ) → IsJoined w.joins a b → IsJoined v.joins a b) → GoesOnAccepted w a → GoesOnAccepted v a
-goes_on_still w v a pairs joins h = record { far = h.far; joined = joins a h.far h.joined; place = h.place; callee = h.callee; there = pairs h.place (record { caller = h.far; callee = h.callee }) h.there }
+goes_on_still w v a pairs joins h = record { far = h.far; joined = joins a h.far h.joined; place = h.place; pair = h.pair; there = pairs h.place h.pair h.there; caller = h.caller }
 
 pub accepts_still : (plan : Plan) (line : ℕ) (role : Role) (w v : World) → Seen plan w → Grows line role w.origins v.origins → ((i : ℕ) (p : PairValue) → slice_get w.whole.pairs i ≡ Some p → slice_get v.whole.pairs i ≡ Some p) → ((a b : ℕ) → IsJoined w.joins a b → IsJoined v.joins a b)
     → ((i : ℕ) (p : PairValue) (o : Origin) → slice_get v.whole.pairs i ≡ Some p → slice_get v.origins p.callee ≡ Some o → plan.has_user o.line o.role ≡ false → (slice_get w.whole.pairs i ≡ Some p) ⊎ GoesOnAccepted v p.callee)

@@ -1,13 +1,15 @@
 -- A call that a user placed is in a pair of the register where it is in one of its line's book: also over the switch.
-use Rattle.std.specs.Prelude.{◌≡◌, ℕ, ◌<◌, ◌⊎◌, true, false, List, length, slice_get, Option, Some}
-use Rattle.std.proofs.Common.{inl, inr, sym, ap, ap₂, subst, ◌∙◌, true≢false, option_map}
+use Rattle.std.specs.Prelude.{◌≡◌, ℕ, ◌<◌, true, false, List, length, slice_get, Option, Some}
+use Rattle.std.proofs.Common.{inl, inr, refl, sym, ap, ap₂, subst, ◌∙◌, true≢false, option_map}
 use Rattle.std.proofs.lemmas.Option.{same_Some}
 use Rattle.link_timers.specs.declared.role.Role.{Role}
 use Rattle.link_timers.specs.declared.role.Role.TheVariants.{Dte, Dce}
 use Rattle.link_timers.specs.Role.{other_of}
+use Rattle.call_records.specs.Records.{PairValue}
 use Rattle.call_records.specs.Book.{Book}
 use Rattle.call_records.specs.Register.{book_at}
 use Rattle.book_laws.specs.Headline.{HasCallee}
+use Rattle.book_laws.proofs.Placed.{pair_is}
 use Rattle.register_laws.proofs.Having.{callee_seen}
 use Rattle.register_laws.proofs.Seeing.{line_within}
 use Rattle.switch_lines.specs.Switch.{Switch}
@@ -16,7 +18,7 @@ use Rattle.switch_record_laws.specs.Tied.{Histories}
 use Rattle.joined_call_laws.specs.Calls.{JoinedCall}
 use Rattle.call_path_laws.specs.World.{Origin, placing, World, Plan}
 use Rattle.call_path_laws.proofs.Ending.{ends_seen, callee_origin, placed_onward}
-use Rattle.switch_path_laws.specs.Network.{network_line, IsOther, GoesOnAccepted, IsNetwork}
+use Rattle.switch_path_laws.specs.Network.{network_line, GoesOnAccepted, IsNetwork}
 use Rattle.switch_path_laws.specs.Law.{PlacedLaw}
 use Rattle.switch_path_laws.proofs.Keeping.{own_or_other}
 use Rattle.switch_path_laws.proofs.Seeing.{own_trace}
@@ -49,12 +51,14 @@ module _ (plan : Plan) (at : List ℕ) (s : Switch) (h : Histories) (cs : List J
         let came = callee_origin plan w i.seen.seen line role channel less whole in
         let g : GoesOnAccepted w whole.callee = i.seen.accepts whole.place (record { caller = whole.caller; callee = whole.callee }) came.0 whole.there came.1.0
         (ap₂ (λ (n : ℕ) (x : Role). plan.has_user n x) came.1.1.1.0 came.1.1.1.1 ∙ switch) in
-        let c = i.seen.seen.pairs.came g.place (record { caller = g.far; callee = g.callee }) g.there in
+        let pair : PairValue = record { caller = g.far; callee = g.pair.callee } in
+        let held : slice_get w.whole.pairs g.place ≡ Some pair = g.there ∙ ap (λ (q : PairValue). Some q) (pair_is g.pair g.far g.pair.callee g.caller refl) in
+        let c = i.seen.seen.pairs.came g.place pair held in
         let join = i.seen.seen.records.joined whole.callee g.far g.joined in
         let placer : join.to ≡ placing c.origin.line (other_of c.origin.role) =
-        same_Some join.to (placing c.origin.line (other_of c.origin.role)) (sym join.to_there ∙ i.seen.seen.records.callers g.callee g.far c.origin c.there c.came) in
-        placed_onward plan w i.seen.seen line role channel less user switch whole g.far g.place g.callee g.joined g.there c.origin c.there
-        (user_beyond c.origin.line c.origin.role (of_line line b g.callee c.origin there c.there) (ap (λ (o : Origin). plan.has_user o.line o.role) (sym placer) ∙ join.to_switch)))
+        same_Some join.to (placing c.origin.line (other_of c.origin.role)) (sym join.to_there ∙ i.seen.seen.records.callers g.pair.callee g.far c.origin c.there c.came) in
+        placed_onward plan w i.seen.seen line role channel less user switch whole g.far g.place g.pair.callee g.joined held c.origin c.there
+        (user_beyond c.origin.line c.origin.role (of_line line b g.pair.callee c.origin there c.there) (ap (λ (o : Origin). plan.has_user o.line o.role) (sym placer) ∙ join.to_switch)))
   ]
 
 pub placed_so : PlacedLaw

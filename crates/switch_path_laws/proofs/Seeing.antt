@@ -1,6 +1,6 @@
 -- What the register has stays over what is written at the switch's ends, and over the joins of calls.
 use Rattle.std.specs.Prelude.{◌≡◌, ◌≢◌, ℕ, zero, suc, ◌<◌, ◌⊎◌, Bool, true, false, not, if◌then◌else◌, List, [], ◌∷◌, ◌++◌, length, set, slice_get, Option, Some, None}
-use Rattle.std.proofs.Common.{inl, inr, refl, sym, ap, ap₂, subst, ◌∙◌, true≢false, arith, option_map, append_assoc}
+use Rattle.std.proofs.Common.{inl, inr, refl, sym, ap, ap₂, subst, ◌∙◌, arith, option_map, append_assoc}
 use Rattle.std.proofs.lemmas.Option.{none-some, same_Some, slice_get_within}
 use Rattle.std.proofs.lemmas.Bool.{eq-eqb}
 use Rattle.link_timers.specs.declared.role.Role.{Role}
@@ -19,7 +19,6 @@ use Rattle.call_records.specs.Register.{Register, book_at, all_written_at}
 use Rattle.book_laws.proofs.Basics.{get_before, get_there, get_last, number_is}
 use Rattle.register_laws.specs.Seen.{positions, IsNumbered, LineIsSeen, renumbered, RecordIsSeen, PairIsSeen}
 use Rattle.book_laws.specs.Headline.{IsIn}
-use Rattle.book_laws.proofs.Placed.{pair_is}
 use Rattle.register_laws.proofs.Positions.{is_place, one_here}
 use Rattle.register_laws.proofs.Steps.{same_place}
 use Rattle.switch_lines.specs.declared.place.Place.{Place}
@@ -52,7 +51,7 @@ use Rattle.call_path_laws.proofs.Tracing.{traced}
 use Rattle.call_path_laws.proofs.Forwarding.{stays_handed_on}
 use Rattle.switch_path_laws.specs.Network.{network_line, AreAmong, handed_on, all_handed, lines_of, JoinIs, AreJoins, IsInJoin, GoesOnAccepted, AcceptsAccepted, SendsOnJoins, IsSeen}
 use Rattle.switch_path_laws.specs.Law.{OthersStay}
-use Rattle.switch_path_laws.proofs.Listing.{AreApart, among_set, among_same, others_same, others_set, others_then, IsAt, Grows, writes_grow, grows_one, old_or_new, old_origin, join_at, numbers_stay, lines_last, lines_length, joins_stay, joins_last, join_found}
+use Rattle.switch_path_laws.proofs.Listing.{AreApart, among_set, among_same, others_same, others_set, others_then, Grows, writes_grow, grows_one, old_or_new, old_origin, join_at, numbers_stay, lines_last, lines_length, joins_stay, joins_last, join_found}
 
 -- ---- a line of the whole register
 
@@ -122,6 +121,7 @@ user_sends plan line role ws w v h user seen g whole joins s a o r made switch t
           let same : x.value ≡ r = same_Some x.value r (sym (theirs_stay role ws a x.value (book_at line w.whole) x.theirs).there ∙ (ap (λ (y : Register). slice_get y.records a) (sym whole) ∙ there)) in
           elim (s a o r old switch (x.theirs.there ∙ ap (λ (y : RecordValue). Some y) same)) [ inl e ↦ inl e | inr e ↦ inr (subst (λ (js : List Join). IsInJoin js a) (sym joins) e) ])
     ]
+
 -- ---- what is written at an end with a user
 
 pub written_by_user : (plan : Plan) (at : List ℕ) (line : ℕ) (role : Role) (ws : List Write) (b : Book) (own : List Origin) (bs bs' : Books) (cs : List JoinedCall) (books : List Book) (w : World) (traces : List (List Origin)) → plan.has_user line role ≡ true → slice_get books line ≡ Some b
@@ -470,8 +470,9 @@ module _ (plan : Plan) (at : List ℕ) (apart : AreApart at) (switch_end : (n : 
               far = x.0.placed;
               joined = joined;
               place = whole_place.0;
-              callee = q.seen_pair.callee;
-              there = q.seen_there ∙ ap (λ (y : PairValue). Some y) (pair_is q.seen_pair x.0.placed q.seen_pair.callee caller refl);
+              pair = q.seen_pair;
+              there = q.seen_there;
+              caller = caller;
             }
         by_end (inr e) =
             let callee : q.seen_pair.callee ≡ x.0.placed = same_Some q.seen_pair.callee x.0.placed (sym q.callee ∙ (ap (λ (n : ℕ). slice_get (positions pl (lines_of w.origins)) n) (ap (λ (y : PairValue). y.callee) own_is ∙ e) ∙ placed_at)) in

@@ -103,8 +103,9 @@ pub record GoesOnAccepted (w : World) (a : ℕ) : Type 0 where
   pub far : ℕ
   pub joined : IsJoined w.joins a far
   pub place : ℕ
-  pub callee : ℕ
-  pub there : slice_get w.whole.pairs place ≡ Some (record { caller = far; callee = callee })
+  pub pair : PairValue
+  pub there : slice_get w.whole.pairs place ≡ Some pair
+  pub caller : pair.caller ≡ far
 
 -- a switch accepts a call where the one with which it goes on was accepted; pairs stay, also of calls that are over
 abbrev pub AcceptsAccepted : Plan → World → Type 0
