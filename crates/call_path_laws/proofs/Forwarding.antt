@@ -41,7 +41,7 @@ handed_kept plan w v a b headed origins h =
       to_placed = origins b h.to_origin h.to_placed;
       called = q.far ∙ (h.called ∙ sym p.own);
       calling = q.own ∙ (h.calling ∙ ap (λ (d : Option (List ℕ)). calling_on (plan.address h.from_origin.line) d) (sym p.far));
-      routed = h.routed ∙ ap₂ (λ (k : ℕ) (d : Option (List ℕ)). plan.route k d) (sym q.node) (sym q.far);
+      routed = ap₂ (λ (k : ℕ) (d : Option (List ℕ)). plan.route k d) q.node q.far ∙ h.routed;
     }
 
 -- ---- writes
@@ -101,7 +101,7 @@ module _ (plan : Plan) (from to : Place) (parts : CallParts) (w : World) (m : Ma
         calling =
             ap (λ (a : List ℕ). address_of (calling_from a parts.calling)) (s.sides to.line to.role m.to_end.there).whole_address
             ∙ f.calling ∙ ap (λ (d : Option (List ℕ)). calling_on (plan.address from.line) d) (sym p.far);
-        routed = f.routed ∙ ap (λ (k : ℕ). plan.route k (address_of parts.called)) (sym node);
+        routed = ap (λ (k : ℕ). plan.route k (address_of parts.called)) node ∙ f.routed;
       }
 
   joined_handed : ((came : RecordValue) → slice_get w.whole.records m.came_in ≡ Some came → IsForwarded plan from to parts came) → AreHandedOn plan w
@@ -149,8 +149,8 @@ relayed_joins plan w h relayed sent = record {
             ∙ (k.calling ∙ ap₂ (λ (p : Origin) (x : RecordValue). calling_on (plan.address p.line) x.far) (same_Some k.from_origin o (sym k.from_came ∙ at)) from);
         far = ap (λ (x : RecordValue). x.far) (sym to) ∙ (k.called ∙ ap (λ (x : RecordValue). x.own) from);
         routed = λ o at.
-            ap (λ (p : Origin). p.line) (sym (same_Some k.to_origin o (sym k.to_placed ∙ at)))
-            ∙ (k.routed ∙ ap (λ (x : RecordValue). plan.route x.node x.far) to);
+            ap (λ (x : RecordValue). plan.route x.node x.far) (sym to)
+            ∙ (k.routed ∙ ap (λ (p : Origin). Some p.line) (same_Some k.to_origin o (sym k.to_placed ∙ at)));
       };
   sent = sent;
 }

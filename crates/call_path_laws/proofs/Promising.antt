@@ -31,7 +31,7 @@ placed_like : {plan : Plan} {c : RecordValue} {first line : ℕ} {role : Role} �
     → IsPlacedAt plan r first line role
 placed_like (by_caller e u) r node far = by_caller (node ∙ e) u
 placed_like {plan} {line = line} {role = role} (by_switch from end p same switch routed) r node far =
-    by_switch from end (placed_like p r node far) same switch (routed ∙ ap (λ (d : Option (List ℕ)). plan.route (plan.node line role) d) (sym far))
+    by_switch from end (placed_like p r node far) same switch (ap (λ (d : Option (List ℕ)). plan.route (plan.node line role) d) far ∙ routed)
 
 -- of a call that came in, the register has the own address of the whole one
 own_came : (plan : Plan) (o : Origin) (x : ℕ) (given : Option (List ℕ)) → o.caller ≡ Some x → own_of plan o given ≡ given
@@ -206,8 +206,8 @@ module _ (plan : Plan) (w : World) (addressed : AreAddressed plan) (s : Seen pla
       by_switch j.from.line j.from.role (before begin_ begins user first there (placing j.from.line (other_of j.from.role)) origin)
       (j.one_switch ∙ ap (λ (p : Origin). plan.node p.line p.role) to)
       (ap (λ (p : Origin). plan.has_user p.line p.role) (sym to) ∙ j.to_switch)
-      (r.routed o at ∙ ap (λ (n : ℕ). plan.route n r.to.far) node
-      ∙ ap (λ (d : Option (List ℕ)). plan.route (plan.node o.line o.role) d) (ap (λ (q : RecordValue). q.far) same ∙ c.carried.far)))
+      (ap (λ (d : Option (List ℕ)). plan.route (plan.node o.line o.role) d) (sym (ap (λ (q : RecordValue). q.far) same ∙ c.carried.far))
+      ∙ (ap (λ (n : ℕ). plan.route n r.to.far) (sym node) ∙ r.routed o at)))
 
   -- where a call was placed by a user, the register has the address of the line
   user_address : (o : Origin) → plan.has_user o.line o.role ≡ true → address_at plan o.line o.role ≡ plan.address o.line
@@ -295,6 +295,7 @@ module _ (plan : Plan) (w : World) (addressed : AreAddressed plan) (s : Seen pla
           line = p.came.origin.line;
           role = p.came.origin.role;
           node = s.records.nodes y p.came.origin to.value p.came.there to.whole_there;
+          user = numbered_user plan w.origins pair.callee y p.came.origin p.callee p.came.there;
           placed = placed_like
               (placed_at x p.whole.caller p.caller.way from.origin from.origin_there user from.value from.whole_there (placing p.came.origin.line (other_of p.came.origin.role)) placer)
               caller_shown refl refl;

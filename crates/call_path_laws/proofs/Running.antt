@@ -191,7 +191,7 @@ first_join = record {
   backward = confirms_itself _;
   own = λ o at. ap (λ (p : Origin). calling_on (plan.address p.line) None) (same_Some (coming 0 Dce (Some 0)) o at);
   far = refl;
-  routed = λ o at. ap (λ (p : Origin). p.line) (sym (same_Some (placing 1 Dce) o at));
+  routed = λ o at. ap (λ (p : Origin). Some p.line) (same_Some (placing 1 Dce) o at);
 }
 
 second_join : JoinHolds plan world 5 6
@@ -204,7 +204,7 @@ second_join = record {
   backward = confirms_itself _;
   own = λ o at. ap (λ (p : Origin). calling_on (plan.address p.line) None) (same_Some (coming 0 Dce (Some 4)) o at);
   far = refl;
-  routed = λ o at. ap (λ (p : Origin). p.line) (sym (same_Some (placing 1 Dce) o at));
+  routed = λ o at. ap (λ (p : Origin). Some p.line) (same_Some (placing 1 Dce) o at);
 }
 
 abbrev Sent : ℕ → Origin → Type 0

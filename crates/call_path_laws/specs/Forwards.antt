@@ -21,7 +21,7 @@ use Rattle.call_path_laws.specs.Promise.{JoinsHold}
 pub record IsForwarded (plan : Plan) (from to : Place) (parts : CallParts) (came : RecordValue) : Type 0 where
   pub called : address_of parts.called ≡ came.own
   pub calling : address_of parts.calling ≡ calling_on (plan.address from.line) came.far
-  pub routed : to.line ≡ plan.route (plan.node to.line to.role) (address_of parts.called)
+  pub routed : plan.route (plan.node to.line to.role) (address_of parts.called) ≡ Some to.line
 
 abbrev pub Forwards : Plan → Event → World → Type 0
 Forwards plan (Joins from to parts) w = (n : ℕ) (came : RecordValue)
@@ -46,7 +46,7 @@ pub record IsHandedOn (plan : Plan) (w : World) (a b : ℕ) : Type 0 where
   pub to_placed : slice_get w.origins b ≡ Some to_origin
   pub called : to.far ≡ from.own
   pub calling : to.own ≡ calling_on (plan.address from_origin.line) from.far
-  pub routed : to_origin.line ≡ plan.route to.node to.far
+  pub routed : plan.route to.node to.far ≡ Some to_origin.line
 
 abbrev pub AreHandedOn : Plan → World → Type 0
 AreHandedOn plan w = (a b : ℕ) → IsJoined w.joins a b → IsHandedOn plan w a b

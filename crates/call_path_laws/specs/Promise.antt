@@ -27,12 +27,12 @@ pub data IsPlacedAt : Plan → (caller : RecordValue) → (first line : ℕ) →
       → plan.has_user line role ≡ true → IsPlacedAt plan caller line line role
   by_switch : {plan : Plan} {caller : RecordValue} {first line : ℕ} {role : Role} (from : ℕ) (end : Role)
       → IsPlacedAt plan caller first from (other_of end) → plan.node from end ≡ plan.node line role
-      → plan.has_user line role ≡ false → line ≡ plan.route (plan.node line role) caller.far
+      → plan.has_user line role ≡ false → plan.route (plan.node line role) caller.far ≡ Some line
       → IsPlacedAt plan caller first line role
 
 -- the caller's record was made first; the callee's own address is the one that was called, and the far one is the
--- caller's own, which is that of its line, or on a line without an address the one that the caller gave; the callee is
--- at an end of a line at whose other end the call was placed
+-- caller's own, which is that of its line, or on a line without an address the one that the caller gave; the callee is a
+-- user at an end of a line at whose other end the call was placed
 pub record PathIsRight (plan : Plan) (caller callee : RecordValue) : Type 0 where
   pub order : caller.number < callee.number
   pub own : callee.own ≡ caller.far
@@ -42,6 +42,7 @@ pub record PathIsRight (plan : Plan) (caller callee : RecordValue) : Type 0 wher
   pub line : ℕ
   pub role : Role
   pub node : callee.node ≡ plan.node line role
+  pub user : plan.has_user line role ≡ true
   pub placed : IsPlacedAt plan caller first line (other_of role)
 
 pub record PathHolds (plan : Plan) (g : Register) (pair : PairValue) : Type 0 where
@@ -85,7 +86,7 @@ pub record JoinHolds (plan : Plan) (w : World) (a b : ℕ) : Type 0 where
   pub backward : Confirms (sent_by from) (taken_by to)
   pub own : (o : Origin) → slice_get w.origins a ≡ Some o → to.own ≡ calling_on (plan.address o.line) from.far
   pub far : to.far ≡ from.own
-  pub routed : (o : Origin) → slice_get w.origins b ≡ Some o → o.line ≡ plan.route to.node to.far
+  pub routed : (o : Origin) → slice_get w.origins b ≡ Some o → plan.route to.node to.far ≡ Some o.line
 
 -- and of all joins; what a switch sent on a call that came in, it sent on a joined one
 pub record JoinsHold (plan : Plan) (w : World) : Type 0 where

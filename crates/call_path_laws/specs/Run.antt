@@ -1,7 +1,7 @@
 -- A worked run: two hosts and a switch between them. The first host calls the second one, a message goes over with
 -- D = 1 and is confirmed, a reply comes back, both hosts reset the call at once, a reply and a message go over again,
 -- the call is cleared, and the same channels are used again.
-use Rattle.std.specs.Prelude.{◌≡◌, ℕ, zero, suc, Bool, true, false, List, [], ◌∷◌, Option, Some, None}
+use Rattle.std.specs.Prelude.{◌≡◌, ◌==◌, if◌then◌else◌, ℕ, zero, suc, Bool, true, false, List, [], ◌∷◌, Option, Some, None}
 use Rattle.link_timers.specs.declared.role.Role.{Role}
 use Rattle.link_timers.specs.declared.role.Role.TheVariants.{Dte, Dce}
 use Rattle.epochs.specs.Epoch.{SentEpoch, TakenEpoch}
@@ -38,12 +38,18 @@ abbrev pub is_dte : Role → Bool
 is_dte Dte = true
 is_dte Dce = false
 
+-- addresses that begin with 2 are on line 1, and no other is served
+abbrev pub line_of : Option (List ℕ) → Option ℕ
+line_of None = None
+line_of (Some []) = None
+line_of (Some (digit ∷ digits)) = if digit == 2 then Some 1 else None
+
 abbrev pub plan : Plan
 plan = record {
   node = node_at;
   has_user = λ line role. is_dte role;
   address = address_at;
-  route = λ switch called. 1;
+  route = λ switch called. line_of called;
 }
 
 abbrev pub lines : List LinePlan

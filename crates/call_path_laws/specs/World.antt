@@ -75,12 +75,12 @@ pub record World : Type 0 where
   pub joins : List Join
 
 -- the node at each end of each line, and whether it is one with users; the address of each line, of no digits where it
--- has none; and, for each switch, the line to which it sends calls to an address
+-- has none; and, for each switch, the line to which it sends calls to an address, if it sends them anywhere
 pub record Plan : Type 0 where
   pub node : (line : ℕ) → Role → ℕ
   pub has_user : (line : ℕ) → Role → Bool
   pub address : (line : ℕ) → List ℕ
-  pub route : (switch : ℕ) → Option (List ℕ) → ℕ
+  pub route : (switch : ℕ) → (called : Option (List ℕ)) → Option ℕ
 
 -- a line has an address only where a user is at the DTE's end and a switch at the DCE's
 abbrev pub AreAddressed : Plan → Type 0

@@ -9,7 +9,9 @@ use Rattle.packet_codec.specs.ClearCause as clear_cause
 use Rattle.packet_codec.specs.Diagnostic.{no_information}
 use Rattle.packet_layer.specs.Packets.{CallParts, Note, Reason}
 use Rattle.packet_layer.specs.Packets.Note.{Incoming, Connected, Closed, WasReset, InterruptConfirmed, Covered}
-use Rattle.packet_layer.specs.Channel.{CallState, Channel, Step, may_accept, had_call}
+use Rattle.packet_layer.specs.Channel.{CallState, Channel, Step, may_accept, waits_for_call, in_transfer, entered, had_call}
+use Rattle.packet_layer.specs.Channel.CallState.{Transfer}
+use Rattle.packet_layer.specs.Channel.Request.{Accept}
 use Rattle.packet_layer.specs.Layer.{Layer, channel_of, closing_notes}
 use Rattle.packet_laws.specs.History.{Epoch}
 use Rattle.packet_laws.specs.Readable.{Every}
@@ -21,16 +23,18 @@ use Rattle.book_laws.proofs.Basics.{number_is}
 use Rattle.book_laws.proofs.Writing.{slot_changed}
 use Rattle.switch_lines.specs.declared.place.Place.{Place}
 use Rattle.switch_lines.specs.declared.place.Joined.{Joined}
-use Rattle.switch_lines.specs.Lines.{SwitchLine, same_place, changed, joined_at}
+use Rattle.switch_lines.specs.Lines.{SwitchLine, same_place, changed, joined_at, ask}
 use Rattle.switch_lines.specs.Switch.{heed, heed_all, with_end, without_notes, quieted}
 use Rattle.switch_laws.specs.Leg.{Leg, stepped}
 use Rattle.switch_laws.specs.World.{World, IsWorld, Act, MayHappen, Shown, shown_of, shown_as, shown_on, shown_at, layers_of, after_acts, world_after_all}
-use Rattle.switch_laws.specs.Joined.{IsOver, IsSwitch}
+use Rattle.switch_laws.specs.Joined.{WaitsFor, IsPair, connected, waiting, IsOver, IsSwitch}
 use Rattle.switch_laws.specs.Steps.{Happening, does, lines_after, happening_acts, on_line, acts_of}
 use Rattle.switch_laws.specs.Steps as steps
-use Rattle.switch_laws.specs.Steps.Step.{Happens}
-use Rattle.switch_laws.specs.EventSteps.{heed_steps, heed_all_steps}
-use Rattle.switch_laws.proofs.Coming.{at}
+use Rattle.switch_laws.specs.Steps.Step.{Asks, Happens}
+use Rattle.switch_laws.specs.EventSteps.{told_steps, heed_steps, heed_all_steps}
+use Rattle.switch_laws.proofs.Coming.{at, never_both}
+use Rattle.switch_laws.proofs.Relaying.{waiting_before}
+use Rattle.switch_lines.specs.Relay.{told_of}
 use Rattle.switch_laws.proofs.Lists.{decided, place_is, same_as}
 use Rattle.switch_laws.proofs.Leading.{heed_leads}
 use Rattle.switch_laws.proofs.Layers.{seen, opened_shown, world_acts_all}
@@ -53,10 +57,10 @@ use Rattle.switch_record_laws.proofs.Relaying.{joins_relay}
 use Rattle.switch_record_laws.proofs.Resting.{event_rests}
 use Rattle.switch_record_laws.proofs.Stepping.{step_layers}
 use Rattle.joined_call_laws.specs.Calls.{JoinedCall, present_at, books_by, books_by_all, calls_of_all, Stands, HasEnded, StandsOrEnded, AreCalls}
-use Rattle.joined_call_laws.proofs.Steady.{HavePlaces, shape, Same, Mutual, switch_mutual, books_rest, every_map, ended_same, calls_same, steadies_same, steadies_none, IsPlain, plains_steady}
+use Rattle.joined_call_laws.proofs.Steady.{HavePlaces, shape, Same, Mutual, switch_mutual, books_rest, every_map, ended_same, calls_same, steadies_same, steadies_none, accept_same, IsPlain, plains_steady}
 use Rattle.joined_call_laws.proofs.Walking.{Beside, beside_step, there_step, there_steps, Leads, leads_then, Walked, walked_then, walked_quiet}
 use Rattle.switch_record_laws.proofs.Calming.{addresses}
-use Rattle.joined_call_laws.proofs.Following.{addresses_led, CameIn, KeptQuietly, KeptSending, KeptJoining, And, WrittenIn, step_quiet, steady_keep, last_written, noted_accepts, lines_answered}
+use Rattle.joined_call_laws.proofs.Following.{addresses_led, CameIn, KeptQuietly, KeptSending, KeptAccepting, KeptJoining, And, WrittenIn, step_quiet, steady_keep, last_written, noted_accepts, Answered, lines_answered, lines_connected}
 use Rattle.switch_laws.specs.Pairs.{IsNoted}
 use Rattle.switch_record_laws.specs.Opened.{HasSlot}
 use Rattle.switch_record_laws.specs.Kept.{Partners, AreKept}
@@ -137,11 +141,11 @@ closed_gone (Covered d k ∷ ns) r m n c b i a there e o = absurd i.0
 -- notes of a call that goes on
 pub plain_slots : (ns : List Note) (b : Book) (c : ℕ) → Every IsPlain ns → slot_at Dce c (all_told Dce ns b) ≡ slot_at Dce c b
 plain_slots [] b c i = refl
-plain_slots (Connected d ∷ ns) b c i = plain_slots ns b c i.1
 plain_slots (InterruptConfirmed d ∷ ns) b c i = plain_slots ns b c i.1
 plain_slots (WasReset d cause diagnostic reason ∷ ns) b c i = plain_slots ns (told Dce (WasReset d cause diagnostic reason) b) c i.1 ∙ slot_changed Dce c (slot_at Dce d b).present with_epoch b
 plain_slots (Covered d k ∷ ns) b c i = plain_slots ns (told Dce (Covered d k) b) c i.1 ∙ slot_changed Dce c (slot_at Dce d b).present (with_covered k) b
 plain_slots (Incoming d parts ∷ ns) b c i = absurd i.0
+plain_slots (Connected d ∷ ns) b c i = absurd i.0
 plain_slots (Closed d cause diagnostic reason ∷ ns) b c i = absurd i.0
 
 pub goes_plain : (c : ℕ) (ns : List Note) → Every (GoesOn c) ns → Every IsPlain ns
@@ -186,6 +190,16 @@ over_line n (Connected c ∷ ns) x o = over_line n ns x o
 over_line n (WasReset c cause diagnostic reason ∷ ns) x o = over_line n ns x o
 over_line n (InterruptConfirmed c ∷ ns) x o = over_line n ns x o
 over_line n (Covered c k ∷ ns) x o = over_line n ns x o
+
+-- ---- a leg that waits for its answer is that of the call that was placed
+
+waiting_placed : (came_in : Bool) (g h : Leg) → WaitsFor came_in g h → waits_for_call g.role g.channel.state ≡ true → came_in ≡ false
+waiting_placed true g h i e = absurd (never_both g.role g.channel.state i.can_accept e)
+waiting_placed false g h i e = refl
+
+waits_placed : (g h : Leg) (j k : Joined) → IsPair g h j k → waits_for_call g.role g.channel.state ≡ true → j.came_in ≡ false
+waits_placed g h j k (waiting a b i) e = waiting_placed j.came_in g h i e
+waits_placed g h j k (connected i) e = absurd (true≢false (sym (ap (λ (x : CallState). in_transfer x) i.there.holds.near_call) ∙ waiting_before g.role g.channel.state e))
 
 -- ---- what happens at the end of a line
 
@@ -271,7 +285,7 @@ module _ (routes : RouteMap) (n : ℕ) (what : Happening) (ls : List SwitchLine)
 
   -- ---- with the joined calls
 
-  module _ (cs : List JoinedCall) (a : AreCalls ls bs cs) (given : List (List ℕ)) (same_lines : addresses ls ≡ given) (R : Books → List JoinedCall → Type 0) (keeps : KeptQuietly R) (sends : KeptSending R) (joins : KeptJoining routes given R) (kept : R bs cs)
+  module _ (cs : List JoinedCall) (a : AreCalls ls bs cs) (given : List (List ℕ)) (same_lines : addresses ls ≡ given) (R : Books → List JoinedCall → Type 0) (keeps : KeptQuietly R) (sends : KeptSending R) (accepts : KeptAccepting R) (joins : KeptJoining routes given R) (kept : R bs cs)
       (ps : Partners) (lines_kept : AreKept ps (books_by (Happens n what) ls bs) (lines_after (Happens n what) ls)) where
     lines_ms : addresses ms ≡ given
     lines_ms = addresses_led (Happens n what ∷ []) ls ms given refl same_lines
@@ -529,15 +543,68 @@ module _ (routes : RouteMap) (n : ℕ) (what : Happening) (ls : List SwitchLine)
               far = k.far;
             }
 
-        by_outcome : Outcome d (w (at n d)).role (w (at n d)).channel (st (shown_of (w (at n d)))) → Walked (And AreCalls R) (heed_all_steps routes n notes ms) ms bs1 cs (heed_all routes n notes ms)
-        by_outcome (ends cause diagnostic reason rest f) = one_over d (w (at n d)).role _ of cause diagnostic reason rest (notes_are ∙ f) there comes
-        by_outcome (connects f g) = plainly (subst (λ (ns : List Note). Every IsPlain ns) (sym (notes_are ∙ ap (λ (y : Step). y.notes) g)) (tt, tt))
-        by_outcome (waits f g k) = plainly (subst (λ (ns : List Note). Every IsPlain ns) (sym (notes_are ∙ ap (λ (y : Step). y.notes) g)) tt)
-        by_outcome (goes_on f g k) = plainly (subst (λ (ns : List Note). Every IsPlain ns) (sym notes_are) (goes_plain d _ k))
+        -- a call that is connected is accepted where it came from
+        accepts_there : (j : Joined) → joined_at ls (at n d) ≡ Some j → waits_for_call (w (at n d)).role (w (at n d)).channel.state ≡ true → st (shown_of (w (at n d))) ≡ record { channel = entered Transfer (w (at n d)).channel; owes = None; notes = Connected d ∷ [] }
+            → Walked (And AreCalls R) (heed_all_steps routes n notes ms) ms bs1 cs (heed_all routes n notes ms)
+        accepts_there j at_j waiting_ is_ =
+            subst (λ (ns : List Note). Walked (And AreCalls R) (heed_all_steps routes n ns ms) ms bs1 cs (heed_all routes n ns ms)) (sym note)
+            (subst (λ (o : Option Joined). Walked (And AreCalls R) (told_steps o (Connected d) (at n d) ms ++ []) ms bs1 cs (told_of o (Connected d) (at n d) ms)) (sym here)
+            (walked_quiet (And AreCalls R) (Asks j.other Accept ∷ []) ms bs1 cs (ask j.other Accept ms) refl refl (
+              calls_same ms (ask j.other Accept ms) bs1 (books_by (Asks j.other Accept) ms bs1) cs mutual_ms (accept_same j.other ms bs1) calls_ms,
+              accepts (at n d) j ms bs1 cs (record {
+                calls = calls_ms;
+                pairs = mutual_ms;
+                joined = here;
+                placed = placed_there;
+                number = answered.number;
+                present = answered.present;
+                answered = answered.answered;
+              }) kept1,
+            )))
+          where
+            note : notes ≡ Connected d ∷ []
+            note = notes_are ∙ ap (λ (y : Step). y.notes) is_
+
+            here : joined_at ms (at n d) ≡ Some j
+            here = joined_ms (at n d) ∙ at_j
+
+            slots : (y : Place) (i : Joined) → joined_at ls y ≡ Some i → present_at y bs1 ≡ present_at y bs
+            slots y i e =
+                elim (number_is y.line n) [
+                  | inl same ↦
+                      subst (λ (k : ℕ). (slot_at Dce y.channel (bs1 k)).present ≡ (slot_at Dce y.channel (bs k)).present) (sym same)
+                      (ap (λ (b : Book). (slot_at Dce y.channel b).present) (here_book ∙ ap (λ (ns : List Note). all_told Dce ns (bs n)) note))
+                  | inr ne ↦ ap (λ (b : Book). (slot_at Dce y.channel b).present) (other_book y.line ne)
+                ]
+
+            calls_ms : AreCalls ms bs1 cs
+            calls_ms = calls_same ls ms bs bs1 cs mutual_ls (same_ms slots) a
+
+            -- it is the leg of the call that was placed
+            placed_there : j.came_in ≡ false
+            placed_there =
+                let k = i.joined (at n d) j at_j in
+                elim k.pair [
+                  | inl y ↦ waits_placed (w (at n d)) (w j.other) j k.other y waiting_
+                  | inr y ↦ elim y [ inl z ↦ absurd z | inr z ↦ absurd z ]
+                ]
+
+            answered : Answered d (bs1 n)
+            answered =
+                let y = some_there (shown_at (layers_of ms) (at n d)) there in
+                lines_connected ps bs1 ms (at n d) y.0 lines_kept y.1
+                (ap (λ (z : Shown). in_transfer z.channel.state) (world_ms (at n d) y.0 y.1).shown
+                ∙ (ap (λ (c : CallState). in_transfer c) state_is ∙ ap (λ (y : Step). in_transfer y.channel.state) is_))
+
+        by_outcome : (j : Joined) → joined_at ls (at n d) ≡ Some j → Outcome d (w (at n d)).role (w (at n d)).channel (st (shown_of (w (at n d)))) → Walked (And AreCalls R) (heed_all_steps routes n notes ms) ms bs1 cs (heed_all routes n notes ms)
+        by_outcome j at_j (ends cause diagnostic reason rest f) = one_over d (w (at n d)).role _ of cause diagnostic reason rest (notes_are ∙ f) there comes
+        by_outcome j at_j (connects f g) = accepts_there j at_j f g
+        by_outcome j at_j (waits f g k) = plainly (subst (λ (ns : List Note). Every IsPlain ns) (sym (notes_are ∙ ap (λ (y : Step). y.notes) g)) tt)
+        by_outcome j at_j (goes_on f g k) = plainly (subst (λ (ns : List Note). Every IsPlain ns) (sym notes_are) (goes_plain d _ k))
 
         by_joined : (o : Option Joined) → joined_at ls (at n d) ≡ o → Walked (And AreCalls R) (heed_all_steps routes n notes ms) ms bs1 cs (heed_all routes n notes ms)
         by_joined None f = one_alone d (w (at n d)).role _ of f there comes
-        by_joined (Some j) f = by_outcome (is.outcome (shown_of (w (at n d))) call)
+        by_joined (Some j) f = by_outcome j f (is.outcome (shown_of (w (at n d))) call)
           where
             call : had_call (w (at n d)).channel.state ≡ true
             call = let k = i.joined (at n d) j f in elim k.pair [ inl y ↦ pair_call (w (at n d)) (w j.other) j k.other y | inr y ↦ elim y [ inl z ↦ absurd z | inr z ↦ absurd z ] ]

@@ -65,7 +65,7 @@ use Rattle.joined_call_laws.proofs.Steady.{shape, ended_same}
 use Rattle.joined_call_laws.proofs.Closing.{SameEpochs, epochs_itself, relayed_same, closed_none, RestsWith, records_at}
 use Rattle.joined_call_laws.proofs.Telling.{IsClosing}
 use Rattle.joined_call_laws.proofs.Answering.{record_call}
-use Rattle.joined_call_laws.proofs.Following.{addresses_led, KeptQuietly, KeptSending, KeptJoining, And, step_quiet, steady_keep}
+use Rattle.joined_call_laws.proofs.Following.{addresses_led, KeptQuietly, KeptSending, KeptAccepting, KeptJoining, And, step_quiet, steady_keep}
 use Rattle.switch_laws.specs.Turn.{AreOctets}
 use Rattle.lapb.specs.Machine.{Octets}
 use Rattle.std.proofs.Common.{append-nil}
@@ -95,7 +95,7 @@ pub record Good (given : List (List ℕ)) (ls : List SwitchLine) (bs : Books) (c
 begun_records : (ls : List SwitchLine) (w : World) (bs : Books) → HaveRecords (layers_of ls) w bs → HaveRecords (layers_of (all_begun ls)) w bs
 begun_records ls w bs h = subst (λ (ys : List Layer). HaveRecords ys w bs) (sym (layers_on_ends begun ls (λ e. refl))) h
 
-module _ (routes : RouteMap) (given : List (List ℕ)) (R : Books → List JoinedCall → Type 0) (keeps : KeptQuietly R) (sends : KeptSending R) (joins : KeptJoining routes given R) where
+module _ (routes : RouteMap) (given : List (List ℕ)) (R : Books → List JoinedCall → Type 0) (keeps : KeptQuietly R) (sends : KeptSending R) (accepts : KeptAccepting R) (joins : KeptJoining routes given R) where
   -- steps after which the joins hold, and the calls are as they lead to
   good_after : (steps : List Step) (ls ms : List SwitchLine) (bs : Books) (cs : List JoinedCall) (x : Good given ls bs cs) → AreFit steps x.partners → Becomes (acts_of_all steps ls) ls x.legs ms → Walked (And AreCalls R) steps ls bs cs ms
       → Walked (And (Good given) R) steps ls bs cs ms
@@ -149,7 +149,7 @@ module _ (routes : RouteMap) (given : List (List ℕ)) (R : Books → List Joine
       by_line : (o : Option SwitchLine) → slice_get ls n ≡ o → Walked (And AreCalls R) (acted_steps routes n what ls) ls bs cs (acted routes n (does what) ls)
       by_line (Some line) e =
           first (subst (λ (o : Option SwitchLine). Walked (And AreCalls R) (heed_all_steps routes n (notes_of o) ms) ms (books_by (Happens n what) ls bs) cs (heed_all routes n (notes_of o) ms)) (sym (got_changed n g ls line e))
-          (heeded_walk routes n what ls x.legs bs x.switch x.records line e (eff line e) cs x.calls given x.lines R keeps sends joins r (partners_after (Happens n what) x.partners) then_kept))
+          (heeded_walk routes n what ls x.legs bs x.switch x.records line e (eff line e) cs x.calls given x.lines R keeps sends accepts joins r (partners_after (Happens n what) x.partners) then_kept))
       by_line None e =
           let gone : slice_get l1 n ≡ None = ap (λ (ks : List SwitchLine). slice_get ks n) (changed_none n g ls e) ∙ e in
           let same : ms ≡ ls = changed_none n (with_end without_notes) l1 gone ∙ changed_none n g ls e in
@@ -219,7 +219,7 @@ module _ (routes : RouteMap) (given : List (List ℕ)) (R : Books → List Joine
 begun_switch : (s : Switch) (h : Histories) → IsTied s h → IsSwitch (all_begun s.lines) h.legs
 begun_switch s h i = let b = begun_right s.lines h.legs i.holds.joins in subst (λ (v : World). IsSwitch (all_begun s.lines) v) b.reached.legs b.right
 
-module _ (R : Books → List JoinedCall → Type 0) (keeps : KeptQuietly R) (sends : KeptSending R) where
+module _ (R : Books → List JoinedCall → Type 0) (keeps : KeptQuietly R) (sends : KeptSending R) (accepts : KeptAccepting R) where
   -- the calls after an event, and what is kept beside them
   pub calls_after : (n : ℕ) (what : Happening) (s t : Switch) (h : Histories) (cs : List JoinedCall) → KeptJoining s.routes (addresses s.lines) R → t.lines ≡ finished s.routes n (acted s.routes n (does what) (all_begun s.lines))
       → ((line : SwitchLine) → slice_get (all_begun s.lines) n ≡ Some line → EndEffect n what line.end) → ReadsOctets what → IsFit (Happens n what) h.partners → IsTied s h → AreCalls s.lines h.books cs → R h.books cs
@@ -236,7 +236,7 @@ module _ (R : Books → List JoinedCall → Type 0) (keeps : KeptQuietly R) (sen
         addressed = addressed_then (Begins ∷ []) s.lines ls refl (addressed s.lines i.addresses);
         lines = addresses_led (Begins ∷ []) s.lines ls (addresses s.lines) refl refl;
       } in
-      let x = event_walk s.routes (addresses s.lines) R keeps sends joins n what s h.books cs refl eff reads begun_good fits r in
+      let x = event_walk s.routes (addresses s.lines) R keeps sends accepts joins n what s h.books cs refl eff reads begun_good fits r in
       let ss = event_steps s.routes n what s.lines in
       subst (λ (ms : List SwitchLine). And AreCalls R ms (happened n what s h).books (cs ++ calls_in n what s h)) (sym is)
       (subst (λ (new : List JoinedCall). And AreCalls R (finished s.routes n (acted s.routes n (does what) ls)) (happened n what s h).books (cs ++ new)) (sym x.leads.calls)
@@ -253,12 +253,12 @@ nothing_beside bs cs = Unit {0}
 frame_calls : FrameCalls
 unfolding nothing_beside
 frame_calls n octets s h cs are first i a =
-    (calls_after nothing_beside (λ acts ys bs ds q r. tt) (λ p q j ls bs ds m a e r. tt) n (Brings octets) s (on_frame n octets s) h cs (λ p q parts ls bs ds j r. tt) refl (frame_effect n octets s.lines are) are first i a tt).0
+    (calls_after nothing_beside (λ acts ys bs ds q r. tt) (λ p q j ls bs ds g m a e r. tt) (λ p j ls bs ds c r. tt) n (Brings octets) s (on_frame n octets s) h cs (λ p q parts ls bs ds j r. tt) refl (frame_effect n octets s.lines are) are first i a tt).0
 
 timer_calls : TimerCalls
 unfolding nothing_beside
 timer_calls n id s h cs i a =
-    (calls_after nothing_beside (λ acts ys bs ds q r. tt) (λ p q j ls bs ds m a e r. tt) n (RunsOut id) s (on_timer n id s) h cs (λ p q parts ls bs ds j r. tt) refl (λ line e. timer_effect n id line.end) tt tt i a tt).0
+    (calls_after nothing_beside (λ acts ys bs ds q r. tt) (λ p q j ls bs ds g m a e r. tt) (λ p j ls bs ds c r. tt) n (RunsOut id) s (on_timer n id s) h cs (λ p q parts ls bs ds j r. tt) refl (λ line e. timer_effect n id line.end) tt tt i a tt).0
 
 -- ---- the calls that an event joins
 

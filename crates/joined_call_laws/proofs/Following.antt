@@ -1,6 +1,6 @@
 -- What else may be kept beside the joined calls: it stays over acts that place no call, and where a call is joined.
 use Rattle.std.specs.Prelude.{◌≡◌, ◌≤◌, ℕ, zero, suc, Bool, true, false, if◌then◌else◌, List, [], ◌∷◌, ◌++◌, length, map, slice_get, Option, Some, None, is_some}
-use Rattle.std.proofs.Common.{inl, inr, refl, sym, ap, ap₂, subst, ◌∙◌, option_map}
+use Rattle.std.proofs.Common.{inl, inr, refl, sym, ap, subst, ◌∙◌, option_map}
 use Rattle.std.proofs.lemmas.Option.{none-some, same_Some}
 use Rattle.link_timers.specs.declared.role.Role.{Role}
 use Rattle.link_timers.specs.declared.role.Role.TheVariants.{Dte, Dce}
@@ -13,17 +13,17 @@ use Rattle.lapb.specs.Octets.{on_octets}
 use Rattle.packet_layer.specs.Packets.{CallParts, Note, Packet, Received}
 use Rattle.packet_layer.specs.Packets.Note.{Incoming, Connected, Closed, WasReset, InterruptConfirmed, Covered}
 use Rattle.packet_layer.specs.Octets.{heard}
-use Rattle.packet_layer.specs.Channel.{CallState, Channel, Request, may_accept, requested}
+use Rattle.packet_layer.specs.Channel.{CallState, Channel, Request, may_accept, in_transfer, requested}
 use Rattle.packet_layer.specs.Channel.Request.{Accept, Clearing, Resetting, Sending, Interrupting, Stopping, Taking, Releasing, Confirming}
 use Rattle.packet_layer.specs.Layer.{Layer, Timer, channel_of, channel_given, next_packet}
 use Rattle.packet_layer.specs.Events.{timer_named}
 use Rattle.packet_laws.specs.Readable.{Every}
 use Rattle.packet_end.specs.PacketEnd.{PacketEnd, runs_at, with_next}
 use Rattle.address_routes.specs.Routes.{RouteMap, line_for}
-use Rattle.call_records.specs.Records.{RecordValue, new_record, with_covered, with_epoch}
+use Rattle.call_records.specs.Records.{RecordValue, PairValue, new_record, with_covered, with_epoch}
 use Rattle.call_records.specs.Book.{Book, Slot, side_of, slot_at, told, all_told, address_of, closes, with_record}
 use Rattle.book_laws.specs.Told.{World, Move, after_move, after_all}
-use Rattle.book_laws.specs.Headline.{AreAnswered}
+use Rattle.book_laws.specs.Headline.{IsIn, IsPaired, HasCallee, AreAnswered}
 use Rattle.book_laws.proofs.Answered.{are_answered}
 use Rattle.packet_laws.specs.Line as layers
 use Rattle.packet_laws.specs.Line.{Event as layer_event}
@@ -110,14 +110,15 @@ addresses_led steps ls ms given e f = ap (λ (ks : List SwitchLine). addresses k
 
 -- ---- what is kept beside
 
--- a request that sends nothing, and an act that sends nothing and places no call
-abbrev pub SendsNone : Request → Type 0
-SendsNone (Sending d) = ⊥
-SendsNone (Interrupting octets) = ⊥
-SendsNone q = Unit {0}
+-- a request that sends nothing and accepts no call, and an act that does neither and places no call
+abbrev pub IsQuietRequest : Request → Type 0
+IsQuietRequest (Sending d) = ⊥
+IsQuietRequest (Interrupting octets) = ⊥
+IsQuietRequest Accept = ⊥
+IsQuietRequest q = Unit {0}
 
 abbrev pub IsQuietAct : Act → Type 0
-IsQuietAct (Act.Asks p q) = SendsNone q
+IsQuietAct (Act.Asks p q) = IsQuietRequest q
 IsQuietAct (Act.Calls n parts) = ⊥
 IsQuietAct a = Unit {0}
 
@@ -125,8 +126,32 @@ abbrev pub KeptQuietly : (Books → List JoinedCall → Type 0) → Type 0
 KeptQuietly R = (acts : List Act) (ys : List Layer) (bs : Books) (cs : List JoinedCall) → Every IsQuietAct acts → R bs cs → R (books_after_all acts ys bs) cs
 
 -- what is sent is sent on joined channels
+abbrev pub Sends : Request → Type 0
+Sends (Sending d) = Unit {0}
+Sends (Interrupting octets) = Unit {0}
+Sends q = ⊥
+
 abbrev pub KeptSending : (Books → List JoinedCall → Type 0) → Type 0
-KeptSending R = (p : Place) (q : Request) (j : Joined) (ls : List SwitchLine) (bs : Books) (cs : List JoinedCall) → Mutual ls → AreCalls ls bs cs → joined_at ls p ≡ Some j → R bs cs → R (books_by (Asks p q) ls bs) cs
+KeptSending R = (p : Place) (q : Request) (j : Joined) (ls : List SwitchLine) (bs : Books) (cs : List JoinedCall) → Sends q → Mutual ls → AreCalls ls bs cs → joined_at ls p ≡ Some j → R bs cs → R (books_by (Asks p q) ls bs) cs
+
+-- a call that came in is accepted where the one to which it is joined was: the record of this one is in a pair
+pub record IsInPair (b : Book) (number : ℕ) : Type 0 where
+  pub place : ℕ
+  pub pair : PairValue
+  pub there : slice_get b.pairs place ≡ Some pair
+  pub is_in : IsIn pair number
+
+pub record Connecting (p : Place) (j : Joined) (ls : List SwitchLine) (bs : Books) (cs : List JoinedCall) : Type 0 where
+  pub calls : AreCalls ls bs cs
+  pub pairs : Mutual ls
+  pub joined : joined_at ls p ≡ Some j
+  pub placed : j.came_in ≡ false
+  pub number : ℕ
+  pub present : present_at p bs ≡ Some number
+  pub answered : IsInPair (bs p.line) number
+
+abbrev pub KeptAccepting : (Books → List JoinedCall → Type 0) → Type 0
+KeptAccepting R = (p : Place) (j : Joined) (ls : List SwitchLine) (bs : Books) (cs : List JoinedCall) → Connecting p j ls bs cs → R bs cs → R (books_by (Asks j.other Accept) ls bs) cs
 
 abbrev pub KeptJoining : RouteMap → List (List ℕ) → (Books → List JoinedCall → Type 0) → Type 0
 KeptJoining routes given R = (p q : Place) (parts : CallParts) (ls : List SwitchLine) (bs : Books) (cs : List JoinedCall) → (j : Joining routes given p q parts ls bs cs) → R bs cs
@@ -182,7 +207,7 @@ line_quiet f None h = tt
 line_quiet f (Some l) h = h l.end
 
 abbrev pub IsQuiet : Step → Type 0
-IsQuiet (Asks p q) = SendsNone q
+IsQuiet (Asks p q) = IsQuietRequest q
 IsQuiet (Places n parts) = ⊥
 IsQuiet s = Unit {0}
 
@@ -203,9 +228,9 @@ steps_keep R k (s ∷ more) ls bs cs i r = steps_keep R k more (lines_after s ls
 -- steps that end no call and begin none
 module _ (R : Books → List JoinedCall → Type 0) (keeps : KeptQuietly R) (sends : KeptSending R) where
   asked_keeps : (p : Place) (q : Request) (ls : List SwitchLine) (bs : Books) (cs : List JoinedCall) → OnJoined q p ls → Mutual ls → AreCalls ls bs cs → R bs cs → R (books_by (Asks p q) ls bs) cs
-  asked_keeps p (Sending d) ls bs cs o m a r = sends p (Sending d) o.0 ls bs cs m a o.1 r
-  asked_keeps p (Interrupting octets) ls bs cs o m a r = sends p (Interrupting octets) o.0 ls bs cs m a o.1 r
-  asked_keeps p Accept ls bs cs o m a r = keeps (Act.Asks p Accept ∷ []) (layers_of ls) bs cs (tt, tt) r
+  asked_keeps p (Sending d) ls bs cs o m a r = sends p (Sending d) o.0 ls bs cs tt m a o.1 r
+  asked_keeps p (Interrupting octets) ls bs cs o m a r = sends p (Interrupting octets) o.0 ls bs cs tt m a o.1 r
+  asked_keeps p Accept ls bs cs o m a r = absurd o
   asked_keeps p (Clearing cause diagnostic) ls bs cs o m a r = keeps (Act.Asks p (Clearing cause diagnostic) ∷ []) (layers_of ls) bs cs (tt, tt) r
   asked_keeps p (Resetting cause diagnostic) ls bs cs o m a r = keeps (Act.Asks p (Resetting cause diagnostic) ∷ []) (layers_of ls) bs cs (tt, tt) r
   asked_keeps p (Stopping v) ls bs cs o m a r = keeps (Act.Asks p (Stopping v) ∷ []) (layers_of ls) bs cs (tt, tt) r
@@ -286,13 +311,39 @@ noted_accepts d role s parts (WasReset c cause diagnostic reason ∷ ns) of n = 
 noted_accepts d role s parts (InterruptConfirmed c ∷ ns) of n = noted_accepts d role s parts ns of.1 (elim n [ inl e ↦ absurd cc | inr more ↦ more ])
 noted_accepts d role s parts (Covered c k ∷ ns) of n = noted_accepts d role s parts ns of.1 (elim n [ inl e ↦ absurd cc | inr more ↦ more ])
 
--- ---- a call that the DCE may accept came from one that the DTE placed
+-- ---- a call that the DCE may accept came from one that the DTE placed, and one in data transfer is in a pair
 
 pub kept_answered : (s : Setting) (b : Book) (l : Line) (c : ℕ) (ch : Channel) → Kept s b l → channel_of l.dce.layer c ≡ Some ch → may_accept Dce ch.state ≡ true → is_some (slot_at Dce c b).caller ≡ true
 kept_answered s b l c ch k e may =
     let a : AreAnswered (after_all k.moves (beginning s)) =
     are_answered s.dte_node s.dce_node s.dte.channels s.dte.window s.dte.standing k.setting.dte.layer.channels_least k.setting.dte.layer.window_most k.moves k.allowed in
     subst (λ (x : Book). is_some (slot_at Dce c x).caller ≡ true) k.book (a.came Dce c ch (ap (λ (y : Layer). channel_of y c) k.joint.yours.layer ∙ e) may)
+
+-- the present record of a channel, in a pair
+pub record Answered (c : ℕ) (b : Book) : Type 0 where
+  pub number : ℕ
+  pub present : (slot_at Dce c b).present ≡ Some number
+  pub answered : IsInPair b number
+
+kept_connected : (s : Setting) (b : Book) (l : Line) (c : ℕ) (ch : Channel) → Kept s b l → channel_of l.dce.layer c ≡ Some ch → in_transfer ch.state ≡ true → Answered c b
+kept_connected s b l c ch k e up = subst (λ (x : Book). Answered c x) k.book (by_caller (is_some (slot_at Dce c w.book).caller) refl)
+  where
+    w : World
+    w = after_all k.moves (beginning s)
+
+    a : AreAnswered w
+    a = are_answered s.dte_node s.dce_node s.dte.channels s.dte.window s.dte.standing k.setting.dte.layer.channels_least k.setting.dte.layer.window_most k.moves k.allowed
+
+    there : channel_of w.line.you.layer c ≡ Some ch
+    there = ap (λ (y : Layer). channel_of y c) k.joint.yours.layer ∙ e
+
+    by_caller : (v : Bool) → is_some (slot_at Dce c w.book).caller ≡ v → Answered c w.book
+    by_caller true f =
+        let h : IsPaired (slot_at Dce c w.book) w.book.pairs = a.paired Dce c ch there up f in
+        record { number = h.callee; present = h.present; answered = record { place = h.place; pair = record { caller = h.caller; callee = h.callee }; there = h.there; is_in = inr refl } }
+    by_caller false f =
+        let h : HasCallee w.book Dce c = a.placed Dce c ch there up f in
+        record { number = h.caller; present = h.present; answered = record { place = h.place; pair = record { caller = h.caller; callee = h.callee }; there = h.there; is_in = inl refl } }
 
 up_role : (v : Bool) (n : ℕ) (w : layers.Line) → (if v then record w { me = layers.begun n w.me } else w).me.layer.role ≡ w.me.layer.role
 up_role true n w = refl
@@ -348,19 +399,38 @@ moves_role (m ∷ ms) v = moves_role ms (after_move m v) ∙ move_role m v
 kept_dce : (s : Setting) (b : Book) (l : Line) → Kept s b l → l.dce.layer.role ≡ Dce
 kept_dce s b l k = sym (ap (λ (y : Layer). y.role) k.joint.yours.layer) ∙ moves_role k.moves (beginning s)
 
-pub lines_answered : (ps : Partners) (bs : Books) (ls : List SwitchLine) (x : Place) (shown : Shown) → AreKept ps bs ls → shown_at (layers_of ls) x ≡ Some shown → may_accept shown.role shown.channel.state ≡ true → is_some (slot_at Dce x.channel (bs x.line)).caller ≡ true
-lines_answered ps bs ls x shown k e may = by_line (slice_get ls x.line) refl
+-- the line of a channel that is there
+pub record OnLine (ls : List SwitchLine) (x : Place) (shown : Shown) : Type 0 where
+  pub line : SwitchLine
+  pub there : slice_get ls x.line ≡ Some line
+  pub channel : channel_of line.end.layer x.channel ≡ Some shown.channel
+  pub role : line.end.layer.role ≡ shown.role
+
+pub line_of_shown : (ls : List SwitchLine) (x : Place) (shown : Shown) → shown_at (layers_of ls) x ≡ Some shown → OnLine ls x shown
+line_of_shown ls x shown e = by_line (slice_get ls x.line) refl
   where
     layer_is : slice_get (layers_of ls) x.line ≡ option_map (λ l. l.end.layer) (slice_get ls x.line)
     layer_is = get_map (λ l. l.end.layer) ls x.line
 
-    by_channel : (l : SwitchLine) (o : Option Channel) → slice_get ls x.line ≡ Some l → channel_of l.end.layer x.channel ≡ o → is_some (slot_at Dce x.channel (bs x.line)).caller ≡ true
+    by_channel : (l : SwitchLine) (o : Option Channel) → slice_get ls x.line ≡ Some l → channel_of l.end.layer x.channel ≡ o → OnLine ls x shown
     by_channel l None f g = absurd (none-some shown (sym (ap (λ (y : Option Layer). shown_on y x.channel) (layer_is ∙ ap (λ (o : Option SwitchLine). option_map (λ l. l.end.layer) o) f) ∙ ap (λ (o : Option Channel). shown_as l.end.layer o) g) ∙ e))
     by_channel l (Some ch) f g =
         let is : record { role = l.end.layer.role; window = l.end.layer.window; channel = ch } ≡ shown =
         same_Some _ shown (sym (ap (λ (y : Option Layer). shown_on y x.channel) (layer_is ∙ ap (λ (o : Option SwitchLine). option_map (λ l. l.end.layer) o) f) ∙ ap (λ (o : Option Channel). shown_as l.end.layer o) g) ∙ e) in
-        kept_answered (ps x.line).setting (bs x.line) (line_with (ps x.line) l.end) x.channel ch (k x.line l f) g (ap₂ (λ (r : Role) (s : CallState). may_accept r s) (sym (kept_dce (ps x.line).setting (bs x.line) (line_with (ps x.line) l.end) (k x.line l f))) refl ∙ (ap (λ (y : Shown). may_accept y.role y.channel.state) is ∙ may))
+        record { line = l; there = f; channel = g ∙ ap (λ (y : Shown). Some y.channel) is; role = ap (λ (y : Shown). y.role) is }
 
-    by_line : (o : Option SwitchLine) → slice_get ls x.line ≡ o → is_some (slot_at Dce x.channel (bs x.line)).caller ≡ true
+    by_line : (o : Option SwitchLine) → slice_get ls x.line ≡ o → OnLine ls x shown
     by_line None f = absurd (none-some shown (sym (ap (λ (y : Option Layer). shown_on y x.channel) (layer_is ∙ ap (λ (o : Option SwitchLine). option_map (λ l. l.end.layer) o) f)) ∙ e))
     by_line (Some l) f = by_channel l (channel_of l.end.layer x.channel) f refl
+
+pub lines_answered : (ps : Partners) (bs : Books) (ls : List SwitchLine) (x : Place) (shown : Shown) → AreKept ps bs ls → shown_at (layers_of ls) x ≡ Some shown → may_accept shown.role shown.channel.state ≡ true → is_some (slot_at Dce x.channel (bs x.line)).caller ≡ true
+lines_answered ps bs ls x shown k e may =
+    let o = line_of_shown ls x shown e in
+    let kept = k x.line o.line o.there in
+    let dce = kept_dce (ps x.line).setting (bs x.line) (line_with (ps x.line) o.line.end) kept in
+    kept_answered (ps x.line).setting (bs x.line) (line_with (ps x.line) o.line.end) x.channel shown.channel kept o.channel (ap (λ (r : Role). may_accept r shown.channel.state) (sym dce ∙ o.role) ∙ may)
+
+pub lines_connected : (ps : Partners) (bs : Books) (ls : List SwitchLine) (x : Place) (shown : Shown) → AreKept ps bs ls → shown_at (layers_of ls) x ≡ Some shown → in_transfer shown.channel.state ≡ true → Answered x.channel (bs x.line)
+lines_connected ps bs ls x shown k e up =
+    let o = line_of_shown ls x shown e in
+    kept_connected (ps x.line).setting (bs x.line) (line_with (ps x.line) o.line.end) x.channel shown.channel (k x.line o.line o.there) o.channel up

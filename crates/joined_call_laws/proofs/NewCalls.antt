@@ -78,7 +78,7 @@ IsOther note = Unit {0}
 
 plain_other : (x : Note) → IsPlain x → IsOther x
 plain_other (Incoming c parts) i = i
-plain_other (Connected c) i = tt
+plain_other (Connected c) i = absurd i
 plain_other (Closed c cause diagnostic reason) i = tt
 plain_other (WasReset c cause diagnostic reason) i = tt
 plain_other (InterruptConfirmed c) i = tt
@@ -106,6 +106,16 @@ quietly routes n ns ls bs none i = ap (λ (cs : List JoinedCall). map join_of_ca
 
 plainly : (routes : RouteMap) (n : ℕ) (ns : List Note) (ls : List SwitchLine) (bs : Books) → Every IsPlain ns → JoinsAsSaid routes n ns ls bs
 plainly routes n ns ls bs i = quietly routes n ns ls bs (steadies_none (heed_all_steps routes n ns ls) ls bs (plains_steady routes n ns ls i)) (every_map IsPlain IsOther ns plain_other i)
+
+-- a call that is connected
+connected_none : (o : Option Joined) (c : ℕ) (p : Place) (ls : List SwitchLine) (bs : Books) → calls_of_all (told_steps o (Connected c) p ls ++ []) ls bs ≡ []
+connected_none None c p ls bs = refl
+connected_none (Some j) c p ls bs = refl
+
+connected_as_said : (routes : RouteMap) (n c : ℕ) (ns : List Note) (ls : List SwitchLine) (bs : Books) → ns ≡ Connected c ∷ [] → JoinsAsSaid routes n ns ls bs
+connected_as_said routes n c ns ls bs is =
+    subst (λ (xs : List Note). JoinsAsSaid routes n xs ls bs) (sym is)
+    (quietly routes n (Connected c ∷ []) ls bs (connected_none (joined_at ls (at n c)) c (at n c) ls bs) (tt, tt))
 
 -- a call that is over
 closed_none : (o : Option Joined) (c cause diagnostic : ℕ) (reason : Reason) (p : Place) (ls : List SwitchLine) (bs : Books) → calls_of_all (told_steps o (Closed c cause diagnostic reason) p ls) ls bs ≡ []
@@ -213,7 +223,7 @@ module _ (routes : RouteMap) (n : ℕ) (what : Happening) (ls : List SwitchLine)
   joined y = joined_ms routes n what ls w bs i h line got eff y
 
   one_as_said : (d : ℕ) (role : Role) (s : CallState) (ch : Channel) → channel_of l d ≡ Some ch → AreOf d role s notes
-      → ((had_call (w (at n d)).channel.state ≡ true) → Every IsPlain notes ⊎ ((cause diagnostic : ℕ) × (reason : Reason) × (rest : List Note) × (notes ≡ Closed d cause diagnostic reason ∷ rest)))
+      → ((had_call (w (at n d)).channel.state ≡ true) → JoinsAsSaid routes n notes ms bs1 ⊎ ((cause diagnostic : ℕ) × (reason : Reason) × (rest : List Note) × (notes ≡ Closed d cause diagnostic reason ∷ rest)))
       → JoinsAsSaid routes n notes ms bs1
   one_as_said d role s ch found of outcome = by_joined (joined_at ls (at n d)) refl
     where
@@ -227,7 +237,7 @@ module _ (routes : RouteMap) (n : ℕ) (what : Happening) (ls : List SwitchLine)
       by_joined None f = alone_as_said routes n d role s notes ms bs1 of (record { beside = beside; none = joined (at n d) ∙ f; came = came })
       by_joined (Some j) f =
           elim (outcome call) [
-            | inl plain ↦ plainly routes n notes ms bs1 plain
+            | inl said ↦ said
             | inr is ↦
                 let first = Closed d is.0 is.1 is.2 in
                 let of_rest = (subst (λ (ns : List Note). AreOf d role s ns) is.4 of).1 in
@@ -260,11 +270,11 @@ module _ (routes : RouteMap) (n : ℕ) (what : Happening) (ls : List SwitchLine)
           agree : seen l ch ≡ shown_of (w (at n d))
           agree = (i.world (at n d) (seen l ch) shown_d).shown
 
-          by_outcome : Outcome d (seen l ch).role ch (st (seen l ch)) → Every IsPlain notes ⊎ ((cause diagnostic : ℕ) × (reason : Reason) × (rest : List Note) × (notes ≡ Closed d cause diagnostic reason ∷ rest))
+          by_outcome : Outcome d (seen l ch).role ch (st (seen l ch)) → JoinsAsSaid routes n notes ms bs1 ⊎ ((cause diagnostic : ℕ) × (reason : Reason) × (rest : List Note) × (notes ≡ Closed d cause diagnostic reason ∷ rest))
           by_outcome (ends cause diagnostic reason rest g) = inr (cause, diagnostic, reason, rest, some ch f ∙ g)
-          by_outcome (connects g k) = inl (subst (λ (ns : List Note). Every IsPlain ns) (sym (some ch f ∙ ap (λ y. y.notes) k)) (tt, tt))
-          by_outcome (waits g k z) = inl (subst (λ (ns : List Note). Every IsPlain ns) (sym (some ch f ∙ ap (λ y. y.notes) k)) tt)
-          by_outcome (goes_on g k z) = inl (subst (λ (ns : List Note). Every IsPlain ns) (sym (some ch f)) (goes_plain d _ z))
+          by_outcome (connects g k) = inl (connected_as_said routes n d notes ms bs1 (some ch f ∙ ap (λ y. y.notes) k))
+          by_outcome (waits g k z) = inl (plainly routes n notes ms bs1 (subst (λ (ns : List Note). Every IsPlain ns) (sym (some ch f ∙ ap (λ y. y.notes) k)) tt))
+          by_outcome (goes_on g k z) = inl (plainly routes n notes ms bs1 (subst (λ (ns : List Note). Every IsPlain ns) (sym (some ch f)) (goes_plain d _ z)))
 
   heeded_as_said : JoinsAsSaid routes n notes ms bs1
   heeded_as_said = by_effect eff.effect

@@ -233,10 +233,11 @@ acts_slots (a ∷ more) ys bs x m =
 
 -- ---- steps that end no call and begin none
 
--- what is sent is sent on joined channels
+-- what is sent is sent on joined channels, and no call is accepted
 abbrev pub OnJoined : Request → Place → List SwitchLine → Type 0
 OnJoined (Sending d) p ls = (j : Joined) × (joined_at ls p ≡ Some j)
 OnJoined (Interrupting octets) p ls = (j : Joined) × (joined_at ls p ≡ Some j)
+OnJoined Accept p ls = ⊥
 OnJoined q p ls = Unit {0}
 
 abbrev pub IsSteady : Step → List SwitchLine → Type 0
@@ -428,22 +429,32 @@ rounds_steady (suc most) first ls b =
         steady_then (offered_steps (length ls) 0) onward ms (offered_from (length ls) 0 ms) (offered_leads (length ls) 0 ms) (offered_steady (length ls) 0 ms) h
     by false h = tt
 
--- ---- notes of a call that goes on, or is connected
+-- ---- a call is accepted
+
+pub accept_same : (q : Place) (ls : List SwitchLine) (bs : Books) → Same ls (ask q Accept ls) bs (books_by (Asks q Accept) ls bs)
+accept_same q ls bs = record {
+  joins = λ x. ap shape (joined_asked q Accept x ls);
+  slots = λ x j e. acts_slots (Act.Asks q Accept ∷ []) (layers_of ls) bs x (tt, tt);
+  rests = λ k n r h. books_rest (Act.Asks q Accept ∷ []) (layers_of ls) bs k n r h;
+}
+
+-- ---- notes of a call that goes on
 
 anew_steady : (o : Option Joined) (q : Place) (ls : List SwitchLine) → shape (joined_at ls q) ≡ shape o → AreSteady (anew_steps o q) ls
 anew_steady None q ls e = tt
 anew_steady (Some k) q ls e = let i = shape_some (Some k) (joined_at ls q) k e refl in ((i.0, (i.1.0, sym i.1.1)), tt)
 
--- those that say neither that a call is over nor that one comes in
+-- those that say neither that a call is over or connected nor that one comes in
 abbrev pub IsPlain : Note → Type 0
 IsPlain (Incoming c parts) = ⊥
+IsPlain (Connected c) = ⊥
 IsPlain (Closed c cause diagnostic reason) = ⊥
 IsPlain note = Unit {0}
 
 told_joined_steady : (note : Note) (p : Place) (j : Joined) (ls : List SwitchLine) → IsPlain note → joined_at ls p ≡ Some j → AreSteady (told_joined_steps note p j ls) ls
 told_joined_steady (Incoming c parts) p j ls i e = absurd i
 told_joined_steady (Closed c cause diagnostic reason) p j ls i e = absurd i
-told_joined_steady (Connected c) p j ls i e = ((tt, tt), tt)
+told_joined_steady (Connected c) p j ls i e = absurd i
 told_joined_steady (InterruptConfirmed c) p j ls i e = ((tt, tt), tt)
 told_joined_steady (Covered c n) p j ls i e = covered_steady (joined_at ls j.other) refl
   where
@@ -464,7 +475,7 @@ told_steady (Some j) note p ls i e = told_joined_steady note p j ls i e
 plain_steady : (routes : RouteMap) (n : ℕ) (note : Note) (ls : List SwitchLine) → IsPlain note → AreSteady (heed_steps routes n note ls) ls
 plain_steady routes n (Incoming c parts) ls i = absurd i
 plain_steady routes n (Closed c cause diagnostic reason) ls i = absurd i
-plain_steady routes n (Connected c) ls i = told_steady (joined_at ls (at n c)) (Connected c) (at n c) ls tt refl
+plain_steady routes n (Connected c) ls i = absurd i
 plain_steady routes n (WasReset c cause diagnostic reason) ls i = told_steady (joined_at ls (at n c)) (WasReset c cause diagnostic reason) (at n c) ls tt refl
 plain_steady routes n (InterruptConfirmed c) ls i = told_steady (joined_at ls (at n c)) (InterruptConfirmed c) (at n c) ls tt refl
 plain_steady routes n (Covered c k) ls i = told_steady (joined_at ls (at n c)) (Covered c k) (at n c) ls tt refl

@@ -171,7 +171,7 @@ start_joined g h ig ih a b s t = record { there = start_there g h ig ih a b s t;
 accepted_leg : (g : Leg) → may_accept g.role g.channel.state ≡ true → asked Accept g ≡ asked_unless None Accept g
 accepted_leg g e = asked_as Accept g (ap (λ (b : Bool). refused_if (not b) Refusal.NoCall None) e)
 
-never_both : (role : Role) (s : CallState) → may_accept role s ≡ true → waits_for_call role s ≡ true → ⊥
+pub never_both : (role : Role) (s : CallState) → may_accept role s ≡ true → waits_for_call role s ≡ true → ⊥
 never_both Dte Ready a e = true≢false (sym e)
 never_both Dce Ready a e = true≢false (sym e)
 never_both Dte OwnWaiting a e = true≢false (sym a)

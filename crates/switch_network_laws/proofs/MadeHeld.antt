@@ -1,7 +1,7 @@
 -- What holds of a network with a switch holds at the making.
 use Rattle.std.proofs.Common.{◌≡◌, ℕ, ◌+◌, ◌<◌, ◌≤◌, ◌++◌, Bool, true, false, List, [], length, map, Option, Some, None, refl, sym, ap, ◌∙◌, subst, arith, inl, inr}
-use Rattle.std.specs.Prelude.{◌⊎◌, slice_get}
-use Rattle.std.proofs.lemmas.Option.{same_Some, slice_get_within}
+use Rattle.std.specs.Prelude.{◌⊎◌, slice_get, option_and_then}
+use Rattle.std.proofs.lemmas.Option.{same_Some, slice_get_within, slice_get_past}
 use Rattle.std.proofs.lemmas.List.{length-map}
 use Rattle.link_timers.specs.declared.role.Role.{Role}
 use Rattle.link_timers.specs.declared.role.Role.TheVariants.{Dte, Dce}
@@ -29,7 +29,7 @@ use Rattle.switch_record_laws.proofs.Making.{made_records}
 use Rattle.switch_record_laws.proofs.Tying.{tied_holds}
 use Rattle.call_path_laws.specs.World.{made_world}
 use Rattle.call_path_laws.specs.Lines.{free_book}
-use Rattle.switch_path_laws.specs.Network.{network_line, found_line, IsOther, AreAmong, IsPlanned}
+use Rattle.switch_path_laws.specs.Network.{network_line, IsOther, AreAmong, IsPlanned}
 use Rattle.switch_path_laws.proofs.Events.{network_holds}
 use Rattle.net_events.specs.Network.{PlacedNode, PlacedSwitch, NetNode, NetLine, Network, place_at}
 use Rattle.net_events.proofs.Users.{same_user, same_planned}
@@ -38,7 +38,7 @@ use Rattle.network_laws.specs.IsLine.{IsLine}
 use Rattle.network_laws.proofs.Channels.{channels_made}
 use Rattle.network_laws.proofs.Made.{made_lines}
 use Rattle.network_laws.proofs.Opened.{mapped, unmapped, made_network}
-use Rattle.switch_network_laws.specs.Plans.{IsPlanOf, has_users}
+use Rattle.switch_network_laws.specs.Plans.{IsPlanOf, has_users, goes_on_at}
 use Rattle.switch_network_laws.specs.IsSwitched.{ends_state, EndStands, LineStands, IsPartner, IsHeld, IsSwitched, of_users, with_switch}
 use Rattle.switch_network_laws.specs.Laws.{MadeLaw}
 use Rattle.switch_network_laws.proofs.Standing.{same_switch, AreApart, same_end, are_apart}
@@ -99,7 +99,10 @@ planned plan place n is at = record {
       let some = o.digits.0 in
       let bad : length o.l.address ≡ 0 = ap (λ (xs : List ℕ). length xs) empty in omega arith;
   alike = alike;
-  route = λ called own less routed. sym (ap (λ (xs : List ℕ). network_line n.lines (found_line (line_for n.routes xs))) (digits_of called) ∙ ap (λ (o : Option ℕ). network_line n.lines (found_line o)) routed);
+  route = λ called own less routed.
+      let x = get_there n.lines own less in
+      ap (λ (xs : List ℕ). option_and_then (λ (k : ℕ). slice_get n.lines k) (line_for n.routes xs)) (digits_of called)
+      ∙ (ap (λ (o : Option ℕ). option_and_then (λ (k : ℕ). slice_get n.lines k) o) routed ∙ (x.1 ∙ ap (λ (k : ℕ). Some k) (sym (line_named n.lines own x.0 x.1))));
   others = others;
 }
   where
@@ -114,8 +117,8 @@ planned plan place n is at = record {
         let x = get_there n.lines own less in
         subst (λ (k : ℕ). OwnLine plan place k) (sym (line_named n.lines own x.0 x.1)) (own_line plan place n is at own x.0 x.1)
 
-    dce_at : (own : ℕ) → own < length n.lines → end_place (slice_get plan.lines (network_line n.lines own)) Dce ≡ place
-    dce_at own less = let o = line_at own less in ap (λ (x : Option NewLine). end_place x Dce) o.there ∙ o.at_dce
+    dce_at : (own : ℕ) → own < length n.lines → end_place (length plan.nodes) (slice_get plan.lines (network_line n.lines own)) Dce ≡ place
+    dce_at own less = let o = line_at own less in ap (λ (x : Option NewLine). end_place (length plan.nodes) x Dce) o.there ∙ o.at_dce
 
     alike_by : (line : ℕ) (o : Option NewLine) → slice_get plan.lines line ≡ o → (true ≡ false) ⊎ (dce_is_user plan.nodes o ≡ true) → address_on o ≡ []
     alike_by line None there e = refl
@@ -239,19 +242,22 @@ partner_in L plan s is m place n own p l q same line x at_own at_line h =
 plan_made : (L : LineService) (plan : NetPlan) (s : Network) (is : IsPlan plan) (m : IsMade L plan s) (place : ℕ) (n : NewSwitch) → slice_get plan.nodes place ≡ Some (PlannedSwitch n)
     → ((k : ℕ) (l : NetLine) → slice_get s.lines k ≡ Some l → (plan_of plan n).address k ≡ (book_at k s.register).dte.address) → IsPlanOf s (plan_of plan n)
 plan_made L plan s is m place n at address = record {
-  node = λ line l role there. let v = line_planned L plan s m line l there in ap (λ o. end_place o role) v.1 ∙ place_is role v.0 l v.2;
+  node = λ line l role there. let v = line_planned L plan s m line l there in ap (λ o. end_place (length plan.nodes) o role) v.1 ∙ place_is role v.0 l v.2;
+  nowhere = λ line role more.
+      let beyond : slice_get plan.lines line ≡ None = slice_get_past plan.lines line (let same = m.line_count in omega arith) in
+      let place : (plan_of plan n).node line role ≡ length plan.nodes = ap (λ o. end_place (length plan.nodes) o role) beyond in
+      let same = m.node_count in omega arith;
   user = λ line l role x there at_x. let v = line_planned L plan s m line l there in user_is role line v.0 v.1 l v.2 x at_x;
   address = address;
-  route = λ other x called own line there routed at_line.
+  route = λ other x called there.
       let one : other ≡ place = alone_made L plan s is m place n at other x there in
       let same : x ≡ placed_switch n plan.lines = same_switch x (placed_switch n plan.lines)
       (sym there ∙ ap (λ k. slice_get s.nodes k) one ∙ m.nodes place (PlannedSwitch n) at) in
-      ap (λ (xs : List ℕ). network_line n.lines (found_line (line_for n.routes xs))) (digits_of called)
-      ∙ ap (λ (o : Option ℕ). network_line n.lines (found_line o)) (ap (λ (y : PlacedSwitch). line_for y.switch.routes called) (sym same) ∙ routed)
-      ∙ line_named n.lines own line (ap (λ (y : PlacedSwitch). slice_get y.lines own) (sym same) ∙ at_line);
+      ap (λ (xs : List ℕ). option_and_then (λ (k : ℕ). slice_get n.lines k) (line_for n.routes xs)) (digits_of called)
+      ∙ ap (λ (y : PlacedSwitch). goes_on_at y called) (sym same);
 }
   where
-    place_is : (role : Role) (v : NewLine) (l : NetLine) {flights : Flights} → l ≡ net_line v flights → end_place (Some v) role ≡ place_at role l
+    place_is : (role : Role) (v : NewLine) (l : NetLine) {flights : Flights} → l ≡ net_line v flights → end_place (length plan.nodes) (Some v) role ≡ place_at role l
     place_is Dte v l e = ap (λ (x : NetLine). x.dte) (sym e)
     place_is Dce v l e = ap (λ (x : NetLine). x.dce) (sym e)
 

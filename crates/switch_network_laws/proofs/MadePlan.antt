@@ -1,6 +1,6 @@
 -- The plan of a network with a switch, in the terms of the laws of paths, and the own lines of a switch that is made.
 use Rattle.std.proofs.Common.{◌≡◌, ℕ, zero, suc, ◌+◌, ◌⊎◌, Bool, true, false, List, [], ◌∷◌, length, map, Option, Some, None, refl, sym, ap, ◌∙◌, subst, arith, inl, inr}
-use Rattle.std.specs.Prelude.{slice_get}
+use Rattle.std.specs.Prelude.{slice_get, option_and_then}
 use Rattle.std.proofs.lemmas.Option.{same_Some, none-some, slice_get_within}
 use Rattle.link_timers.specs.declared.role.Role.{Role}
 use Rattle.link_timers.specs.declared.role.Role.TheVariants.{Dte, Dce}
@@ -11,7 +11,6 @@ use Rattle.book_laws.proofs.Basics.{get_there}
 use Rattle.switch_lines.specs.declared.config.LineConfig.{LineConfig}
 use Rattle.switch_lines.specs.Making.{IsConfig, IsLineConfig}
 use Rattle.call_path_laws.specs.World.{Plan, AreBetween}
-use Rattle.switch_path_laws.specs.Network.{network_line, found_line}
 use Rattle.net_events.specs.Opening.{NewNode, NewSwitch, Planned, PlannedUser, PlannedSwitch, NewLine, NetPlan, IsDcePlan, IsLinePlan, HasDceAt, IsSwitchPlan, IsPlan, AreUsers}
 use Rattle.net_events.specs.Opening.{line_config, found_config, own_configs, line_plan}
 
@@ -31,10 +30,11 @@ find_switch (PlannedUser n ∷ nodes) = elim (find_switch nodes) [
 
 -- ---- the plan
 
-abbrev pub end_place : Option NewLine → Role → ℕ
-end_place None role = 0
-end_place (Some l) Dte = l.dte
-end_place (Some l) Dce = l.dce
+-- of a line that is not there beyond so many places
+abbrev pub end_place : (places : ℕ) → Option NewLine → Role → ℕ
+end_place places None role = places
+end_place places (Some l) Dte = l.dte
+end_place places (Some l) Dce = l.dce
 
 abbrev pub is_user : Option Planned → Bool
 is_user None = true
@@ -59,10 +59,10 @@ digits_in (Some digits) = digits
 
 abbrev pub plan_of : NetPlan → NewSwitch → Plan
 plan_of plan n = record {
-  node = λ line role. end_place (slice_get plan.lines line) role;
+  node = λ line role. end_place (length plan.nodes) (slice_get plan.lines line) role;
   has_user = λ line role. user_at plan line role;
   address = λ line. address_on (slice_get plan.lines line);
-  route = λ place called. network_line n.lines (found_line (line_for n.routes (digits_in called)));
+  route = λ place called. option_and_then (λ own. slice_get n.lines own) (line_for n.routes (digits_in called));
 }
 
 pub digits_of : (called : List ℕ) → digits_in (address_of called) ≡ called
@@ -159,9 +159,9 @@ are_between plan n first [] all = tt
 are_between plan n first (l ∷ lines) all =
     let zero_more : first ≡ first + 0 = omega arith in
     let here : slice_get plan.lines first ≡ Some l = ap (λ k. slice_get plan.lines k) zero_more ∙ all 0 l refl in (
-      ap (λ o. end_place o Dte) (sym here),
+      ap (λ o. end_place (length plan.nodes) o Dte) (sym here),
       (
-        ap (λ o. end_place o Dce) (sym here),
+        ap (λ o. end_place (length plan.nodes) o Dce) (sym here),
         (
           ap address_on (sym here),
           are_between plan n (suc first) lines (λ j m at.

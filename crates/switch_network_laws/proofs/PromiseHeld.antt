@@ -3,13 +3,12 @@ use Rattle.std.proofs.Common.{◌≡◌, ℕ, true, false, length, Some, refl, s
 use Rattle.std.specs.Prelude.{slice_get}
 use Rattle.link_timers.specs.declared.role.Role.{Role}
 use Rattle.link_timers.specs.declared.role.Role.TheVariants.{Dte, Dce}
-use Rattle.link_timers.specs.Role.{other_of}
 use Rattle.packet_layer.specs.Layer.{channel_of}
 use Rattle.packet_end.specs.PacketEnd.{PacketEnd}
 use Rattle.call_records.specs.Records.{RecordValue}
 use Rattle.call_records.specs.Book.{Book, side_of}
-use Rattle.call_records.specs.Register.{Register}
-use Rattle.book_laws.specs.Headline.{HaveRecords, has_call}
+use Rattle.call_records.specs.Register.{Register, book_at}
+use Rattle.book_laws.specs.Headline.{HaveRecords, HasCallee, has_call}
 use Rattle.x25_pad_laws.specs.Sending.{HasSent}
 use Rattle.register_laws.specs.Promise.{HasRecords}
 use Rattle.line_record_laws.specs.Kept.{end_at}
@@ -24,7 +23,7 @@ use Rattle.switch_path_laws.proofs.Events.{network_holds}
 use Rattle.line_nodes.specs.Node.{NodeState, end_of, is_pad}
 use Rattle.memory_line.specs.Lines.{LineService}
 use Rattle.net_events.specs.OneLine.{LineState}
-use Rattle.net_events.specs.Network.{PlacedNode, User, NetLine, Network, place_at}
+use Rattle.net_events.specs.Network.{PlacedNode, NetNode, User, Switching, NetLine, Network, place_at}
 use Rattle.network_laws.specs.IsLine.{line_of, IsLine, IsKept}
 use Rattle.network_laws.specs.Promise.{EndHolds, PlacedHolds}
 use Rattle.network_laws.proofs.Answering.{came_kept, paired_kept, placed_kept, records_kept}
@@ -135,8 +134,15 @@ module _ (L : LineService) (s : Network) (p : IsSwitched L s) (f : L.faithful) w
             (confirmed_kept h.kept.setting b.0 (line_of own) role channel o.number o.own h.kept.kept o.present o.there);
       }
 
-  placed_holds : (line : ℕ) (l : NetLine) (role : Role) → slice_get s.lines line ≡ Some l → HasUserAt s l role → HasUserAt s l (other_of role) → PlacedHolds s line l role
-  placed_holds line l role at user other =
+  placed_in_register : (line : ℕ) (l : NetLine) (role : Role) (b : Book) (channel : ℕ) → slice_get s.lines line ≡ Some l → slice_get held.books line ≡ Some b → HasUserAt s l role
+      → HasCallee b role channel → HasCallee (book_at line s.register) role channel
+  placed_in_register line l role b channel at there user has =
+      subst (λ (g : Register). HasCallee (book_at line g) role channel) held.register
+      (network_holds.placed held.plan p.switch.lines p.switch.switch held.histories held.calls held.books held.world held.traces held.network line b role channel there
+      (held.plan_is.user line l role (User user.0) at user.1) has)
+
+  placed_holds : (line : ℕ) (l : NetLine) (role : Role) → slice_get s.lines line ≡ Some l → HasUserAt s l role → PlacedHolds s line l role
+  placed_holds line l role at user =
       let b = its_book line l at in
       let h : LineHas line l b.0 = line_has line l b.0 at b.1 in
       let own : LineState = ends_state l h.stands.dte.node h.stands.dce b.0 in
@@ -146,7 +152,7 @@ module _ (L : LineService) (s : Network) (p : IsSwitched L s) (f : L.faithful) w
       record {
         node = user.0;
         node_there = user.1;
-        placed = λ channel ch there up none. w.placed channel (held.plan_is.user line l (other_of role) (User other.0) at other.1)
+        placed = λ channel ch there up none. placed_in_register line l role b.0 channel at b.1 user
             (placed_kept h.kept.setting b.0 (line_of own) role channel ch h.kept.kept (ap (λ (e : PacketEnd). channel_of e.layer channel) is ∙ there) up
             (sym (w.came channel) ∙ none));
       }
@@ -185,11 +191,30 @@ module _ (L : LineService) (s : Network) (p : IsSwitched L s) (f : L.faithful) w
       (ap (λ (k : ℕ). slice_get s.nodes k) here ∙ at) pad o.own_there
       (sym (same_node o.own r o.same) ∙ where_is))
 
+  -- where the plan has a user at an end of a line, one stands there
+  user_there : (line : ℕ) (l : NetLine) (role : Role) → slice_get s.lines line ≡ Some l → held.plan.has_user line role ≡ true → HasUserAt s l role
+  user_there line l Dte at user = let h = p.lines line l at in (h.dte, h.dte_there)
+  user_there line l Dce at user = let h = p.lines line l at in by h.dce_there.node h.dce_there.there
+    where
+      by : (x : NetNode) → slice_get s.nodes l.dce ≡ Some x → HasUserAt s l Dce
+      by (User x) there = (x, there)
+      by (Switching x) there = absurd (let bad : true ≡ false = sym user ∙ held.plan_is.user line l Dce (Switching x) at there in cc)
+
+  of_users : (i : ℕ) (r : RecordValue) → slice_get s.register.records i ≡ Some r → (n : PlacedNode) × (slice_get s.nodes r.node ≡ Some (User n))
+  of_users i r there =
+      let o : IsOfUser held.plan held.books r =
+      users_own held.plan held.world held.books held.traces i r held.network.seen.seen held.network.seen.lines
+      (ap (λ (g : Register). slice_get g.records i) held.register ∙ there) in
+      let l = its_line o.line o.line_book o.line_there in
+      let u : HasUserAt s l.0 o.role = user_there o.line l.0 o.role l.1 o.user in
+      (u.0, ap (λ (k : ℕ). slice_get s.nodes k) (o.node ∙ held.plan_is.node o.line l.0 o.role l.1) ∙ u.1)
+
   pub promise_held : NetworkPromise s
   promise_held = record {
     plan = held.plan;
     plan_is = held.plan_is;
     calls = paths_hold;
+    of_users = of_users;
     records = records_hold;
     ends = end_holds;
     placed = placed_holds;

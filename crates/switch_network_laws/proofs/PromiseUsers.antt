@@ -1,7 +1,8 @@
 -- What holds of a network of nodes with users alone has, on faithful lines, all that any network promises: its paths are
 -- its lines, and no line has an address.
-use Rattle.std.proofs.Common.{◌≡◌, ℕ, Bool, true, false, List, [], ◌∷◌, Option, Some, refl, sym, ap, ◌∙◌, subst, inl, inr}
+use Rattle.std.proofs.Common.{◌≡◌, ℕ, Bool, true, false, List, [], ◌∷◌, length, Option, Some, None, refl, sym, ap, ◌∙◌, subst, inl, inr, arith}
 use Rattle.std.specs.Prelude.{slice_get}
+use Rattle.std.proofs.lemmas.Option.{slice_get_past}
 use Rattle.link_timers.specs.declared.role.Role.{Role}
 use Rattle.link_timers.specs.declared.role.Role.TheVariants.{Dte, Dce}
 use Rattle.packet_laws.specs.Line.{Event, turned}
@@ -9,20 +10,20 @@ use Rattle.packet_laws.specs.Line as layers
 use Rattle.packet_laws.specs.Line.Happening.{Here, There}
 use Rattle.call_records.specs.Records.{RecordValue, PairValue}
 use Rattle.call_records.specs.Book.{Book, side_of, made_book}
-use Rattle.call_records.specs.Register.{book_at}
+use Rattle.call_records.specs.Register.{book_at, found_ends}
 use Rattle.call_records.specs.Writes.Write.{Edited}
 use Rattle.book_laws.specs.Told.{World, Move, written, after_move, after_all}
 use Rattle.book_laws.specs.Told.Move.{Happens, Edits}
 use Rattle.line_laws.specs.Line.{Line}
 use Rattle.line_record_laws.specs.Kept.{Setting, Kept, beginning}
-use Rattle.register_laws.specs.Promise.{PairHolds, PairIsRight}
+use Rattle.register_laws.specs.Promise.{PairHolds, PairIsRight, IsOfEnd}
 use Rattle.call_path_laws.specs.World.{Plan, calling_on}
 use Rattle.call_path_laws.specs.Lines.{writes_of}
 use Rattle.call_path_laws.specs.Promise.{PathIsRight, PathHolds, PathsHold, by_caller}
 use Rattle.call_path_laws.proofs.Moves.{written_so}
 use Rattle.memory_line.specs.Lines.{LineService}
 use Rattle.net_events.specs.OneLine.{LineState}
-use Rattle.net_events.specs.Network.{NetNode, User, Switching, Network, place_at}
+use Rattle.net_events.specs.Network.{PlacedNode, NetNode, User, Switching, NetLine, Network, place_at}
 use Rattle.network_laws.specs.IsLine.{line_of, IsKept}
 use Rattle.network_laws.specs.IsNetwork.{line_state, LineHolds, IsNetwork}
 use Rattle.network_laws.specs.Promise.{NetworkHolds}
@@ -66,12 +67,16 @@ no_address x b l role k =
 -- ---- the plan
 
 -- all ends of lines have users, and no line has an address
+abbrev end_place : (places : ℕ) → Option NetLine → Role → ℕ
+end_place places None role = places
+end_place places (Some l) role = place_at role l
+
 abbrev pub users_plan : Network → Plan
 users_plan s = record {
-  node = λ line role. (side_of role (book_at line s.register)).node;
+  node = λ line role. end_place (length s.nodes) (slice_get s.lines line) role;
   has_user = λ line role. true;
   address = λ line. (book_at line s.register).dte.address;
-  route = λ switch called. 0;
+  route = λ switch called. None;
 }
 
 module _ (L : LineService) (s : Network) (n : IsNetwork L s) (f : L.faithful) where
@@ -84,10 +89,12 @@ module _ (L : LineService) (s : Network) (n : IsNetwork L s) (f : L.faithful) wh
 
   plan_is : IsPlanOf s (users_plan s)
   plan_is = record {
-    node = λ line l role at. (holds.ends line l role at).own;
+    node = λ line l role at. ap (λ o. end_place (length s.nodes) o role) at;
+    nowhere = λ line role more.
+        let place : (users_plan s).node line role ≡ length s.nodes = ap (λ o. end_place (length s.nodes) o role) (slice_get_past s.lines line more) in omega arith;
     user = λ line l role x at there. sym (users_alone (place_at role l) x there);
     address = λ line l at. refl;
-    route = λ place x called own line at found got. absurd (n.nodes place (Switching x) at);
+    route = λ place x called at. absurd (n.nodes place (Switching x) at);
   }
 
   -- ---- the paths are the lines
@@ -104,6 +111,12 @@ module _ (L : LineService) (s : Network) (n : IsNetwork L s) (f : L.faithful) wh
   calling_own [] own e = refl
   calling_own (digit ∷ digits) own e = absurd (cc)
 
+  -- the register has at an end of a line the node that stands there
+  stands_at : (line : ℕ) (role : Role) (node : ℕ) → (b : Book) × (slice_get n.books line ≡ Some b) → node ≡ (side_of role (book_at line s.register)).node
+      → node ≡ (users_plan s).node line role
+  stands_at line role node b e =
+      let l = line_there L s n line b.0 b.1 in e ∙ (holds.ends line l.0 role l.1).own ∙ sym (ap (λ o. end_place (length s.nodes) o role) l.1)
+
   path_right : (caller callee : RecordValue) → PairIsRight s.register caller callee → PathIsRight (users_plan s) caller callee
   path_right caller callee h =
       let b = fellow n.books s.register.lines h.line h.line_ends (sym n.seen.lines) h.line_there in
@@ -118,8 +131,9 @@ module _ (L : LineService) (s : Network) (n : IsNetwork L s) (f : L.faithful) wh
           calling = calling;
           line = h.line;
           role = Dce;
-          node = e.1;
-          placed = by_caller e.0 refl;
+          node = stands_at h.line Dce callee.node b e.1;
+          user = refl;
+          placed = by_caller (stands_at h.line Dte caller.node b e.0) refl;
         }
         | inr e ↦ record {
           order = h.order;
@@ -129,8 +143,9 @@ module _ (L : LineService) (s : Network) (n : IsNetwork L s) (f : L.faithful) wh
           calling = calling;
           line = h.line;
           role = Dte;
-          node = e.1;
-          placed = by_caller e.0 refl;
+          node = stands_at h.line Dte callee.node b e.1;
+          user = refl;
+          placed = by_caller (stands_at h.line Dce caller.node b e.0) refl;
         }
       ]
 
@@ -158,14 +173,28 @@ module _ (L : LineService) (s : Network) (n : IsNetwork L s) (f : L.faithful) wh
     took = holds.calls.took;
   }
 
+  -- each record is of a node at an end of a line, and all nodes have users
+  of_users : (i : ℕ) (r : RecordValue) → slice_get s.register.records i ≡ Some r → (x : PlacedNode) × (slice_get s.nodes r.node ≡ Some (User x))
+  of_users i r there =
+      let e : IsOfEnd s.register r.node = holds.calls.nodes i r there in
+      let b = fellow n.books s.register.lines e.line e.line_ends (sym n.seen.lines) e.line_there in
+      let l = line_there L s n e.line b.0 b.1 in
+      elim e.at_end [
+        | inl at ↦ let h = holds.ends e.line l.0 Dte l.1 in
+            (h.node, ap (λ k. slice_get s.nodes k) (at ∙ ap (λ o. (found_ends o).dte.node) (sym e.line_there) ∙ h.own) ∙ h.node_there)
+        | inr at ↦ let h = holds.ends e.line l.0 Dce l.1 in
+            (h.node, ap (λ k. slice_get s.nodes k) (at ∙ ap (λ o. (found_ends o).dce.node) (sym e.line_there) ∙ h.own) ∙ h.node_there)
+      ]
+
   pub promise_users : NetworkPromise s
   promise_users = record {
     plan = users_plan s;
     plan_is = plan_is;
     calls = paths_hold;
+    of_users = of_users;
     records = holds.records;
     ends = λ line l role at user. holds.ends line l role at;
-    placed = λ line l role at user other. holds.placed line l role at;
+    placed = λ line l role at user. holds.placed line l role at;
     typed = holds.typed;
     alone = λ none. holds;
   }

@@ -1,10 +1,10 @@
 -- Which node stands at which end of each line of a network with a switch: one node alone does, and where a node with
 -- users changes at one line, all other lines stand as they stood.
-use Rattle.std.proofs.Common.{◌≡◌, ◌≢◌, ℕ, List, set, Some, refl, sym, ap, ◌∙◌, subst, inl, inr}
+use Rattle.std.proofs.Common.{◌≡◌, ◌≢◌, ℕ, List, length, set, Some, refl, sym, ap, ◌∙◌, subst, inl, inr}
 use Rattle.std.specs.Prelude.{◌⊎◌, slice_get}
 use Rattle.std.proofs.lemmas.Option.{same_Some}
 use Rattle.std.proofs.lemmas.Bool.{cases_eq}
-use Rattle.book_laws.proofs.Basics.{get_set, set_here, set_elsewhere}
+use Rattle.book_laws.proofs.Basics.{get_set, set_here, set_elsewhere, length_set}
 use Rattle.line_nodes.specs.Node.{NodeState, Host}
 use Rattle.switch_lines.specs.Lines.{SwitchLine}
 use Rattle.net_events.specs.Network.{PlacedNode, PlacedSwitch, NetNode, User, Switching, NetLine, StandsAtLine, StandsAtLines, IsDceOf, Stands}
@@ -49,6 +49,7 @@ same_end nodes line place x y apart a b =
 
 -- the nodes after it: those that stand at another line are the same, each stands where it stood, and a switch stays
 pub record ChangesAt (nodes new : List NetNode) (line : ℕ) : Type 0 where
+  pub count : length new ≡ length nodes
   pub others : (place : ℕ) (m : PlacedNode) → slice_get nodes place ≡ Some (User m) → m.line ≢ line → slice_get new place ≡ Some (User m)
   pub stood : (place : ℕ) (m : PlacedNode) → slice_get new place ≡ Some (User m) → (old : PlacedNode) × (slice_get nodes place ≡ Some (User old)) × (m.line ≡ old.line)
   pub switches : (place : ℕ) (m : PlacedSwitch) → slice_get new place ≡ Some (Switching m) → slice_get nodes place ≡ Some (Switching m)
@@ -56,6 +57,7 @@ pub record ChangesAt (nodes new : List NetNode) (line : ℕ) : Type 0 where
 
 pub same_nodes : (nodes : List NetNode) (line : ℕ) → ChangesAt nodes nodes line
 same_nodes nodes line = record {
+  count = refl;
   others = λ k m there apart. there;
   stood = λ k m there. (m, there, refl);
   switches = λ k m there. there;
@@ -65,6 +67,7 @@ same_nodes nodes line = record {
 pub one_set : (nodes : List NetNode) (place line : ℕ) (q x : PlacedNode) → slice_get nodes place ≡ Some (User q) → q.line ≡ line → x.line ≡ q.line
     → ChangesAt nodes (set nodes place (User x)) line
 one_set nodes place line q x at is same = record {
+  count = length_set nodes place (User x);
   others = λ k m there apart. set_elsewhere nodes place k (User x) (λ e. apart (ap (λ (y : PlacedNode). y.line) (same_user m q (sym there ∙ ap (λ i. slice_get nodes i) e ∙ at)) ∙ is)) ∙ there;
   stood = λ k m there. by k m (get_set nodes place (User x) k (User m) there);
   switches = λ k m there. switch_by k m (get_set nodes place (User x) k (Switching m) there);

@@ -1,8 +1,8 @@
 -- On faithful lines what is held of a network with a switch is held after an event of the switch.
-use Rattle.std.proofs.Common.{◌≡◌, ◌≢◌, ℕ, ◌<◌, List, length, Some, refl, sym, ap, subst, ◌∙◌, inl, inr, arith}
-use Rattle.std.specs.Prelude.{◌⊎◌, slice_get}
+use Rattle.std.proofs.Common.{◌≡◌, ◌≢◌, ℕ, ◌<◌, List, length, Some, refl, sym, ap, ap₂, subst, ◌∙◌, inl, inr, arith}
+use Rattle.std.specs.Prelude.{◌⊎◌, slice_get, option_and_then}
 use Rattle.std.proofs.lemmas.Option.{same_Some, slice_get_within}
-use Rattle.book_laws.proofs.Basics.{get_there, get_set, set_here}
+use Rattle.book_laws.proofs.Basics.{get_there, get_set, set_here, length_set}
 use Rattle.link_timers.specs.declared.role.Role.{Role}
 use Rattle.link_timers.specs.declared.role.Role.TheVariants.{Dte, Dce}
 use Rattle.packet_end.specs.PacketEnd.{PacketEnd}
@@ -25,7 +25,7 @@ use Rattle.net_events.specs.Network.{PlacedNode, PlacedSwitch, NetNode, Switchin
 use Rattle.net_events.proofs.Users.{same_user}
 use Rattle.network_laws.specs.IsLine.{NodeHolds, line_of, IsLine}
 use Rattle.network_laws.proofs.Shapes.{writes_stay}
-use Rattle.switch_network_laws.specs.Plans.{has_users, IsPlanOf}
+use Rattle.switch_network_laws.specs.Plans.{has_users, goes_on_at, IsPlanOf}
 use Rattle.switch_network_laws.specs.IsSwitched.{ends_state, LineStands, IsPartner, IsHeld}
 use Rattle.switch_network_laws.proofs.SwitchWriting.{IsWritten}
 use Rattle.switch_network_laws.proofs.SwitchMoving.{addresses_stay, Moved, moved}
@@ -45,6 +45,9 @@ plan_then : (L : LineService) (event : SwitchEvent) (place : ℕ) (n : PlacedSwi
     → IsPlanOf s plan → IsPlanOf t plan
 plan_then L event place n s t plan there nodes served register h = record {
   node = λ line l role at. let w = was line l at in h.node line w.l role w.there ∙ same_place role w.l l w.dte w.dce;
+  nowhere = λ line role more.
+      let few = h.nowhere line role (let same = served.count in omega arith) in
+      let many : length t.nodes ≡ length s.nodes = ap (λ (ms : List NetNode). length ms) nodes ∙ length_set s.nodes place (Switching (switch_after event n)) in omega arith;
   user = λ line l role m at there.
       let w = was line l at in
       user_by line w.l role m w.there
@@ -55,8 +58,8 @@ plan_then L event place n s t plan there nodes served register h = record {
       let w = was line l at in
       h.address line w.l w.there
       ∙ (sym (addresses_stay n.lines (joins_of event n.switch) line s.register) ∙ ap (λ (g : Register). (book_at line g).dte.address) (sym register));
-  route = λ at m called own line there.
-      route_by at m called own line
+  route = λ at m called there.
+      route_by at m called
       (get_set s.nodes place (Switching (switch_after event n)) at (Switching m) (ap (λ (ms : List NetNode). slice_get ms at) (sym nodes) ∙ there));
 }
   where
@@ -70,15 +73,16 @@ plan_then L event place n s t plan there nodes served register h = record {
         h.user line l role (Switching n) at (ap (λ (k : ℕ). slice_get s.nodes k) e.0 ∙ there) ∙ ap has_users (sym e.1)
     user_by line l role m at (inr e) = h.user line l role m at e.1
 
-    route_by : (at : ℕ) (m : PlacedSwitch) (called : List ℕ) (own line : ℕ)
+    route_by : (at : ℕ) (m : PlacedSwitch) (called : List ℕ)
         → ((at ≡ place) × (Switching m ≡ Switching (switch_after event n))) ⊎ ((at ≢ place) × (slice_get s.nodes at ≡ Some (Switching m)))
-        → line_for m.switch.routes called ≡ Some own → slice_get m.lines own ≡ Some line → plan.route at (address_of called) ≡ line
-    route_by at m called own line (inl e) routed own_is =
+        → plan.route at (address_of called) ≡ goes_on_at m called
+    route_by at m called (inl e) =
         let is : m ≡ switch_after event n = same_switch m (switch_after event n) (ap (λ (x : NetNode). Some x) e.1) in
         let routes : m.switch.routes ≡ n.switch.routes = ap (λ (x : PlacedSwitch). x.switch.routes) is ∙ routes_stay event n.switch in
-        h.route at n called own line (ap (λ (k : ℕ). slice_get s.nodes k) e.0 ∙ there) (ap (λ (r : RouteMap). line_for r called) (sym routes) ∙ routed)
-        (ap (λ (x : PlacedSwitch). slice_get x.lines own) (sym is) ∙ own_is)
-    route_by at m called own line (inr e) routed own_is = h.route at m called own line e.1 routed own_is
+        let lines : m.lines ≡ n.lines = ap (λ (x : PlacedSwitch). x.lines) is in
+        h.route at n called (ap (λ (k : ℕ). slice_get s.nodes k) e.0 ∙ there)
+        ∙ ap₂ (λ (xs : List ℕ) (r : RouteMap). option_and_then (λ own. slice_get xs own) (line_for r called)) (sym lines) (sym routes)
+    route_by at m called (inr e) = h.route at m called e.1
 
 -- ---- the book of an own line
 

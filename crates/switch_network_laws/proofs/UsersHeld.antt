@@ -57,12 +57,15 @@ pub plan_after : (s : Network) (plan : Plan) (new : List NetNode) (line : ℕ) (
     → IsPlanOf (net_after new line l flights g s) plan
 plan_after s plan new line l flights g at w is address = record {
   node = λ k m role there. let o = old_line s.lines line l flights k m at there in is.node k o.0 role o.1 ∙ o.2 role;
+  nowhere = λ k role more.
+      let few = is.nowhere k role (let same = length_set s.lines line (record l { flights = flights }) in omega arith) in
+      let same = w.count in omega arith;
   user = λ k m role n there at_n.
       let o = old_line s.lines line l flights k m at there in
       let p = old_node s.nodes new line (place_at role m) n w at_n in
       is.user k o.0 role p.0 o.1 (ap (λ i. slice_get s.nodes i) (o.2 role) ∙ p.1) ∙ p.2;
   address = λ k m there. let o = old_line s.lines line l flights k m at there in address k o.0 o.1;
-  route = λ place n called own k there routed is_line. is.route place n called own k (w.switches place n there) routed is_line;
+  route = λ place n called there. is.route place n called (w.switches place n there);
 }
 
 -- the register has the addresses of the plan

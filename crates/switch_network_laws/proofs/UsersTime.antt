@@ -1,11 +1,11 @@
 -- What holds of a network with a switch holds when ticks pass at all nodes.
-use Rattle.std.proofs.Common.{◌≡◌, ◌≢◌, ℕ, zero, suc, ◌<◌, ◌≤◌, List, [], length, map, Some, refl, sym, ap, ◌∙◌, subst, arith, inl, inr}
-use Rattle.std.specs.Prelude.{slice_get}
+use Rattle.std.proofs.Common.{◌≡◌, ◌≢◌, ℕ, zero, suc, ◌<◌, ◌≤◌, List, [], length, map, Some, refl, sym, ap, ap₂, ◌∙◌, subst, arith, inl, inr}
+use Rattle.std.specs.Prelude.{slice_get, option_and_then}
 use Rattle.std.proofs.lemmas.Option.{same_Some, slice_get_within}
 use Rattle.std.proofs.lemmas.List.{length-map}
 use Rattle.std.proofs.lemmas.Bool.{cases_eq}
 use Rattle.link_timers.specs.declared.role.Role.TheVariants.{Dte}
-use Rattle.address_routes.specs.Routes.{line_for}
+use Rattle.address_routes.specs.Routes.{RouteMap, line_for}
 use Rattle.packet_end.specs.PacketEnd as end
 use Rattle.packet_end.specs.PacketEnd.{PacketEnd}
 use Rattle.call_records.specs.Book.{Book}
@@ -169,15 +169,17 @@ was_switch nodes ticks place m at = let u = unmapped (elapsed_node ticks) nodes 
 plan_elapsed : (s : Network) (ticks : ℕ) (plan : Plan) → IsPlanOf s plan → IsPlanOf (all_elapsed ticks s) plan
 plan_elapsed s ticks plan is = record {
   node = is.node;
+  nowhere = λ line role more.
+      let few = is.nowhere line role more in
+      let same = length-map s.nodes (elapsed_node ticks) in omega arith;
   user = λ k m role n there at_n.
       let u = unmapped (elapsed_node ticks) s.nodes _ n at_n in
       is.user k m role u.0 there u.1 ∙ users u.0 ∙ ap has_users (sym u.2);
   address = is.address;
-  route = λ place n called own k there routed is_line.
+  route = λ place n called there.
       let o = was_switch s.nodes ticks place n there in
-      is.route place o.0 called own k o.1
-      (ap (λ r. line_for r called) (sym o.3) ∙ routed)
-      (ap (λ (xs : List ℕ). slice_get xs own) (sym o.2) ∙ is_line);
+      is.route place o.0 called o.1
+      ∙ ap₂ (λ (xs : List ℕ) (r : RouteMap). option_and_then (λ own. slice_get xs own) (line_for r called)) (sym o.2) (sym o.3);
 }
   where
     users : (n : NetNode) → has_users n ≡ has_users (elapsed_node ticks n)

@@ -1,7 +1,6 @@
 -- What a network promises, with a switch or without one.
 use Rattle.std.specs.Prelude.{◌≡◌, ℕ, true, slice_get, Some}
 use Rattle.link_timers.specs.declared.role.Role.{Role}
-use Rattle.link_timers.specs.Role.{other_of}
 use Rattle.call_records.specs.Records.{RecordValue}
 use Rattle.x25_pad_laws.specs.Sending.{HasSent}
 use Rattle.register_laws.specs.Promise.{HasRecords}
@@ -24,14 +23,18 @@ pub record NetworkPromise (s : Network) : Type 0 where
   -- sent, both ways, what is confirmed was taken, and the pair is right; no record is in two pairs, and each that took
   -- anything is in one
   pub calls : PathsHold plan s.register
+  -- each record is of a node with users
+  pub of_users : (i : ℕ) (r : RecordValue) → slice_get s.register.records i ≡ Some r
+      → (n : PlacedNode) × (slice_get s.nodes r.node ≡ Some (User n))
   -- each present record is open and of the node at its end, at no other channel; each open record is present
   pub records : HasRecords s.register
   -- the ends of lines at which nodes with users stand
   pub ends : (line : ℕ) (l : NetLine) (role : Role) → slice_get s.lines line ≡ Some l → HasUserAt s l role
       → EndHolds s line l role
-  -- on a line between users, each call in data transfer that was placed is the last one placed there and is in a pair
+  -- at these ends, on lines between users and on lines to the switch, each call in data transfer that was placed is the
+  -- last one placed there and is in a pair
   pub placed : (line : ℕ) (l : NetLine) (role : Role) → slice_get s.lines line ≡ Some l → HasUserAt s l role
-      → HasUserAt s l (other_of role) → PlacedHolds s line l role
+      → PlacedHolds s line l role
   -- what a PAD's terminal sent on a call is, block for block with its end, what its editing rules make of the keys and
   -- idle times; else the PAD sent only what it told the far end by its messages, and the interrupts of breaks
   pub typed : (place : ℕ) (n : PlacedNode) (i : ℕ) (r : RecordValue) → slice_get s.nodes place ≡ Some (User n)

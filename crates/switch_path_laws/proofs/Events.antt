@@ -54,8 +54,9 @@ use Rattle.switch_path_laws.specs.Network.{network_line, AreAmong, IsPlanned, al
 use Rattle.switch_path_laws.specs.Law.{BeginLaw, no_switch, AloneLaw, AfterEvent, FrameLaw, TimerLaw, ElapseLaw, OutLaw, RestartLaw, partner_acted, PartnerLaw, OtherLaw, AddressLaw, IsKept, PromiseLaw, SwitchPathLaw}
 use Rattle.switch_path_laws.proofs.Resting.{network_rests}
 use Rattle.switch_path_laws.proofs.Keeping.{own_or_other, kept_calls}
+use Rattle.switch_path_laws.proofs.Placing.{placed_so}
 use Rattle.switch_path_laws.proofs.Listing.{among_other, others_same, join_found, join_at}
-use Rattle.switch_path_laws.proofs.Seeing.{line_seen, Moved, moved_then, written_by_user, Beyond, silently, stays_quietly, stays_sending, stays_joining, switch_writes, user_writes, same_books}
+use Rattle.switch_path_laws.proofs.Seeing.{line_seen, Moved, moved_then, written_by_user, Beyond, silently, stays_quietly, stays_sending, stays_accepting, stays_joining, switch_writes, user_writes, same_books}
 
 -- ---- the plan stays
 
@@ -114,11 +115,12 @@ event_after plan at n what s t h cs books w traces is routes eff reads fits tied
     let given = addresses s.lines in
     let keeps = stays_quietly plan at p.apart p.switch_end p.user_end cs books traces w.register in
     let sends = stays_sending plan at p.apart p.switch_end p.user_end cs books traces w.register in
+    let accepts = stays_accepting plan at p.apart p.switch_end p.user_end cs books traces w.register in
     let joins = stays_joining plan at p.apart p.switch_end p.user_end s.routes given (p.lines ∙ sym (length_addresses s.lines)) p.one_switch
     (λ m a e. let l = address_got s.lines m a e in sym l.1.1 ∙ p.address m l.0 l.1.0) p.addressed p.route cs books traces w.register in
     let start : Beyond plan at p.apart p.switch_end p.user_end cs books traces w.register h.books cs =
     record { new = []; is = sym (append-nil cs); moved = record { books = books; world = w; traces = traces; is = i.seen; same = refl; others = others_same at books traces } } in
-    let a = calls_after (Beyond plan at p.apart p.switch_end p.user_end cs books traces w.register) keeps sends n what s t h cs joins is eff reads fits i.tied i.calls start in
+    let a = calls_after (Beyond plan at p.apart p.switch_end p.user_end cs books traces w.register) keeps sends accepts n what s t h cs joins is eff reads fits i.tied i.calls start in
     let same : addresses t.lines ≡ addresses s.lines = addresses_led (event_steps s.routes n what s.lines) s.lines t.lines (addresses s.lines) (event_leads s.routes n what s.lines ∙ sym is) refl in
     let new : a.1.new ≡ calls_in n what s h = same_rest cs a.1.new (calls_in n what s h) (sym a.1.is) in
     let m = a.1.moved in
@@ -218,7 +220,7 @@ module _ (plan : Plan) (count : ℕ) (at : List ℕ) (s : Switch) (p : IsPlanned
                 | inr ne ↦ elsewhere n ne
               ]) m.is
           by_layer (Some l) e =
-              switch_writes plan at p.apart p.switch_end p.user_end k (Told (link_down l).notes ∷ []) (partly k ys bs) (partly (suc k) ys bs) cs m.books m.world m.traces f (tt, tt) (silently plan at p.apart p.switch_end p.user_end (network_line at k) (Told (link_down l).notes ∷ []) m.world m.is.lines.owned (tt, tt))
+              switch_writes plan at p.apart p.switch_end p.user_end k (Told (link_down l).notes ∷ []) (partly k ys bs) (partly (suc k) ys bs) cs m.books m.world m.traces f (tt, tt) (silently plan at p.apart p.switch_end p.user_end (network_line at k) (Told (link_down l).notes ∷ []) m.world m.is.seen (tt, tt))
               (here ∙ (ap (λ (o : Option Layer). restart_writes o (bs k)) e ∙ ap (λ (b : Book). all_written Dce (Told (link_down l).notes ∷ []) b) (sym before))) elsewhere m.is
 
 restart_after : RestartLaw
@@ -314,6 +316,7 @@ seen_made plan at plans bs between among = record {
   joins = tt;
   handed = made_handed_on plan plans;
   sends = λ a o r known switch there. absurd (none-some o known);
+  accepts = λ i p o there made switch. absurd (none-some p there);
 }
 
 begins : BeginLaw
@@ -433,7 +436,7 @@ addresses_are plan at s h cs books w traces i k c there =
       calling =
           ap (λ (r : RecordValue). r.own) (sym to)
           ∙ (y.calling ∙ (ap (λ (n : ℕ). calling_on (plan.address n) y.from.far) line ∙ with_address (plan.address near_line) y.from.far (i.planned.addressed c.near.line j.1.1.near.0)));
-      routed = sym onto ∙ (y.routed ∙ ap₂ (λ (n : ℕ) (d : Option (List ℕ)). plan.route n d) (ap (λ (r : RecordValue). r.node) to) (y.called ∙ own_is));
+      routed = sym (ap₂ (λ (n : ℕ) (d : Option (List ℕ)). plan.route n d) (ap (λ (r : RecordValue). r.node) to) (y.called ∙ own_is)) ∙ (y.routed ∙ ap (λ (k : ℕ). Some k) onto);
     }
 
 promise : PromiseLaw
@@ -468,5 +471,6 @@ network_holds = record {
   others = other_after;
   addresses = addresses_are;
   promise = promise;
+  placed = placed_so;
   rest = network_rests;
 }

@@ -1,5 +1,5 @@
 -- The run: what the laws ask for is met.
-use Rattle.std.specs.Prelude.{◌≡◌, ℕ, zero, suc, ◌<◌, true, false, List, [], ◌∷◌, slice_get, Some}
+use Rattle.std.specs.Prelude.{◌≡◌, ℕ, zero, suc, ◌<◌, true, false, List, [], ◌∷◌, slice_get, Option, Some, option_map}
 use Rattle.std.proofs.Common.{inl, inr, refl, sym, ap, ◌∙◌, true≢false, arith}
 use Rattle.std.proofs.lemmas.Option.{none-some, same_Some}
 use Rattle.link_timers.specs.declared.role.Role.{Role}
@@ -18,7 +18,7 @@ use Rattle.switch_record_laws.proofs.Tying.{tied_holds}
 use Rattle.call_path_laws.specs.World.{AreAddressed, AreBetween, made_world}
 use Rattle.switch_path_laws.specs.Network.{network_line, IsOther, AreAmong, IsPlanned, IsNetwork}
 use Rattle.switch_path_laws.specs.Law.{no_switch}
-use Rattle.switch_path_laws.specs.Run.{routes, switch, at, plan, lines, books, traces, placed, user_book, plan_alone, lines_alone, route_of, line_or_zero, RunLaw}
+use Rattle.switch_path_laws.specs.Run.{routes, switch, at, plan, lines, books, traces, placed, user_book, plan_alone, lines_alone, route_of, RunLaw}
 use Rattle.switch_path_laws.proofs.Events.{network_holds}
 
 -- ---- the plan of the three lines
@@ -59,9 +59,9 @@ alike (suc zero) e = refl
 alike (suc (suc line)) (inl e) = absurd (true≢false e)
 alike (suc (suc line)) (inr e) = absurd (true≢false (sym e))
 
-by_route : (called : List ℕ) (n : ℕ) → line_for routes called ≡ Some n → network_line at n ≡ route_of (address_of called)
+by_route : (called : List ℕ) (n : ℕ) → line_for routes called ≡ Some n → route_of (address_of called) ≡ Some (network_line at n)
 by_route [] n e = absurd (none-some n e)
-by_route (digit ∷ digits) n e = sym (ap line_or_zero e)
+by_route (digit ∷ digits) n e = ap (λ (o : Option ℕ). option_map (λ own. network_line at own) o) e
 
 -- the line that is not the switch's
 between_users : (line : ℕ) (role : Role) → line < 3 → IsOther at line → plan.has_user line role ≡ true

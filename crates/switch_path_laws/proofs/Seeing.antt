@@ -1,6 +1,6 @@
 -- What the register has stays over what is written at the switch's ends, and over the joins of calls.
 use Rattle.std.specs.Prelude.{◌≡◌, ◌≢◌, ℕ, zero, suc, ◌<◌, ◌⊎◌, Bool, true, false, not, if◌then◌else◌, List, [], ◌∷◌, ◌++◌, length, set, slice_get, Option, Some, None}
-use Rattle.std.proofs.Common.{inl, inr, refl, sym, ap, ap₂, subst, ◌∙◌, true≢false, arith, option_map, append_assoc}
+use Rattle.std.proofs.Common.{inl, inr, refl, sym, ap, ap₂, subst, ◌∙◌, arith, option_map, append_assoc}
 use Rattle.std.proofs.lemmas.Option.{none-some, same_Some, slice_get_within}
 use Rattle.std.proofs.lemmas.Bool.{eq-eqb}
 use Rattle.link_timers.specs.declared.role.Role.{Role}
@@ -10,14 +10,15 @@ use Rattle.packet_layer.specs.Channel.{Request, Refusal}
 use Rattle.packet_layer.specs.Channel.Request.{Accept, Clearing, Resetting, Sending, Interrupting, Stopping, Taking, Releasing, Confirming}
 use Rattle.packet_layer.specs.Layer.{Layer, channel_of, front_at, request_refusal}
 use Rattle.address_routes.specs.Routes.{RouteMap, line_for}
-use Rattle.call_records.specs.Records.{RecordValue, with_sent, with_interrupt_sent}
+use Rattle.call_records.specs.Records.{RecordValue, PairValue, with_sent, with_interrupt_sent}
 use Rattle.call_records.specs.Book.{Book, slot_at, changed, with_change, packet_of, address_of}
 use Rattle.call_records.specs.Carried.{carried, unless_refused, placed_on}
 use Rattle.call_records.specs.Writes.{Write, all_written}
 use Rattle.call_records.specs.Writes.Write.{Placed, Asked}
 use Rattle.call_records.specs.Register.{Register, book_at, all_written_at}
 use Rattle.book_laws.proofs.Basics.{get_before, get_there, get_last, number_is}
-use Rattle.register_laws.specs.Seen.{positions, IsNumbered, LineIsSeen, renumbered, RecordIsSeen}
+use Rattle.register_laws.specs.Seen.{positions, IsNumbered, LineIsSeen, renumbered, RecordIsSeen, PairIsSeen}
+use Rattle.book_laws.specs.Headline.{IsIn}
 use Rattle.register_laws.proofs.Positions.{is_place, one_here}
 use Rattle.register_laws.proofs.Steps.{same_place}
 use Rattle.switch_lines.specs.declared.place.Place.{Place}
@@ -32,13 +33,11 @@ use Rattle.switch_laws.proofs.SettingUp.{layer_there}
 use Rattle.switch_record_laws.specs.Written.{Books, asked_writes, act_writes, may_release_on, writes_at, books_after}
 use Rattle.switch_record_laws.proofs.Resting.{act_writes_are}
 use Rattle.switch_record_laws.proofs.Calming.{addresses}
-use Rattle.joined_call_laws.specs.Calls.{JoinedCall, present_at, books_by, StandsOrEnded, AreCalls}
-use Rattle.joined_call_laws.proofs.Following.{Joining, SendsNone, IsQuietAct, KeptQuietly, KeptSending, KeptJoining}
+use Rattle.joined_call_laws.specs.Calls.{JoinedCall, present_at, books_by, Stands, StandsOrEnded, AreCalls}
+use Rattle.joined_call_laws.proofs.Following.{Joining, Sends, IsQuietRequest, IsQuietAct, Connecting, KeptQuietly, KeptSending, KeptAccepting, KeptJoining}
 use Rattle.joined_call_laws.proofs.Steady.{Paired, Mutual}
+use Rattle.switch_path_laws.proofs.Accepting.{theirs_stay, pairs_stay, accepted_pair, accepted_records, goes_on_still, accepts_still, accepts_silent, not_of_user, at_switch, user_accepts}
 use Rattle.switch_path_laws.proofs.Silence.{SentNothing, AllSilent, changed_was, pushed_silent, nothing_yet, writes_silent}
-use Rattle.switch_record_laws.proofs.Cells.{here_or_not, got_below}
-use Rattle.switch_record_laws.proofs.Notes.{TouchesOne}
-use Rattle.switch_record_laws.proofs.Partner.{writes_keep}
 use Rattle.packet_layer.specs.Traffic.{Taken}
 use Rattle.joined_call_laws.proofs.Closing.{if_apart, records_at}
 use Rattle.call_path_laws.specs.World as path
@@ -50,9 +49,9 @@ use Rattle.call_path_laws.specs.Forwards.{Forwards}
 use Rattle.call_path_laws.proofs.Happening.{happens}
 use Rattle.call_path_laws.proofs.Tracing.{traced}
 use Rattle.call_path_laws.proofs.Forwarding.{stays_handed_on}
-use Rattle.switch_path_laws.specs.Network.{network_line, AreAmong, handed_on, all_handed, lines_of, JoinIs, AreJoins, IsInJoin, SendsOnJoins, IsSeen}
+use Rattle.switch_path_laws.specs.Network.{network_line, AreAmong, handed_on, all_handed, lines_of, JoinIs, AreJoins, IsInJoin, GoesOnAccepted, AcceptsAccepted, SendsOnJoins, IsSeen}
 use Rattle.switch_path_laws.specs.Law.{OthersStay}
-use Rattle.switch_path_laws.proofs.Listing.{AreApart, among_set, among_same, others_same, others_set, others_then, IsAt, Grows, writes_grow, grows_one, old_or_new, old_origin, join_at, numbers_stay, lines_last, lines_length, joins_stay, joins_last, join_found}
+use Rattle.switch_path_laws.proofs.Listing.{AreApart, among_set, among_same, others_same, others_set, others_then, Grows, writes_grow, grows_one, old_or_new, old_origin, join_at, numbers_stay, lines_last, lines_length, joins_stay, joins_last, join_found}
 
 -- ---- a line of the whole register
 
@@ -112,45 +111,16 @@ silent_sends plan line w v count g silent more s a o r made switch there =
       | inr h ↦ inl h
     ]
 
--- what is written at an end leaves the records that are not present there
-record Theirs (role : Role) (a : ℕ) (r : RecordValue) (b : Book) : Type 0 where
-  pub there : slice_get b.records a ≡ Some r
-  pub absent : (c : ℕ) → (slot_at role c b).present ≡ Some a → ⊥
-
-theirs_stay : (role : Role) (ws : List Write) (a : ℕ) (r : RecordValue) (b : Book) → Theirs role a r b → Theirs role a r (all_written role ws b)
-theirs_stay role ws a r b i = writes_keep (λ (y : Book). Theirs role a r y) role (λ y z t h. one y z t h) ws b i
-  where
-    one : (y z : Book) → TouchesOne role y z → Theirs role a r y → Theirs role a r z
-    one y z t h = record {
-      there = t.touches.kept a r h.there (λ e. h.absent t.channel e);
-      absent = λ c e. elim (here_or_not role t.channel role c) [
-        | inl is ↦ elim (t.touches.here a (ap (λ (k : ℕ). (slot_at role k z).present) (sym is.1) ∙ e)) [
-          | inl f ↦ h.absent t.channel f
-          | inr new ↦ (let p = new.0 in let q = got_below y.records a r h.there in absurd (omega arith))
-        ]
-        | inr no_ ↦ h.absent c (sym (t.touches.slots role c no_) ∙ e)
-      ];
-    }
-
 user_sends : (plan : Plan) (line : ℕ) (role : Role) (ws : List Write) (w v : World) → line < length w.whole.lines → plan.has_user line role ≡ true → Seen plan w → Grows line role w.origins v.origins → v.whole ≡ all_written_at line role ws w.whole → v.joins ≡ w.joins
     → SendsOnJoins plan w → SendsOnJoins plan v
 user_sends plan line role ws w v h user seen g whole joins s a o r made switch there =
     elim (old_or_new line role w.origins v.origins a o g made) [
-      | inr here ↦ absurd (not_here here)
+      | inr here ↦ absurd (not_of_user plan line role o user switch here)
       | inl old ↦
-          (let within : a < length w.whole.records = subst (λ (k : ℕ). a < k) seen.records.count (slice_get_within w.origins a o old) in
-          let x = get_there w.whole.records a within in
-          let theirs : Theirs role a x.0 (book_at line w.whole) = record { there = x.1; absent = λ c e. let m = ((seen.sides line role h).slot c).present_origin a e in not_here (is_at (record { line = line; role = role; placed_here = m.placed_here; caller = (slot_at role c (book_at line w.whole)).caller }) (same_Some _ o (sym m.there ∙ old)) (refl, refl)) } in
-          let same : x.0 ≡ r = same_Some x.0 r (sym (theirs_stay role ws a x.0 (book_at line w.whole) theirs).there ∙ (ap (λ (y : Register). slice_get y.records a) (sym whole) ∙ there)) in
-          elim (s a o r old switch (x.1 ∙ ap (λ (y : RecordValue). Some y) same)) [ inl e ↦ inl e | inr e ↦ inr (subst (λ (js : List Join). IsInJoin js a) (sym joins) e) ])
+          (let x = at_switch plan line role w a o h user seen old switch in
+          let same : x.value ≡ r = same_Some x.value r (sym (theirs_stay role ws a x.value (book_at line w.whole) x.theirs).there ∙ (ap (λ (y : Register). slice_get y.records a) (sym whole) ∙ there)) in
+          elim (s a o r old switch (x.theirs.there ∙ ap (λ (y : RecordValue). Some y) same)) [ inl e ↦ inl e | inr e ↦ inr (subst (λ (js : List Join). IsInJoin js a) (sym joins) e) ])
     ]
-  where
-    -- the end is one with a user
-    not_here : IsAt line role o → ⊥
-    not_here is = true≢false (sym user ∙ (ap₂ (λ (k : ℕ) (y : Role). plan.has_user k y) (sym is.0) (sym is.1) ∙ switch))
-
-    is_at : (x : Origin) → x ≡ o → (x.line ≡ line) × (x.role ≡ role) → IsAt line role o
-    is_at x e i = (ap (λ (y : Origin). y.line) (sym e) ∙ i.0, ap (λ (y : Origin). y.role) (sym e) ∙ i.1)
 
 -- ---- what is written at an end with a user
 
@@ -166,22 +136,30 @@ written_by_user plan at line role ws b own bs bs' cs books w traces user there t
       joins = joins_stay at line role w.origins _ cs w.joins (writes_grow line role ws (book_at line w.whole) w.origins) i.joins;
       handed = stays_handed_on plan event w may tt i.seen i.handed;
       sends = user_sends plan line role ws w (after_event event w) may.0 user i.seen (writes_grow line role ws (book_at line w.whole) w.origins) refl refl i.sends;
+      accepts = user_accepts plan line role ws w (after_event event w) may.0 user i.seen (writes_grow line role ws (book_at line w.whole) w.origins) refl refl i.accepts;
     }
 
 -- ---- what is written at the switch's ends, and at the other ones of its lines
 
 module _ (plan : Plan) (at : List ℕ) (apart : AreApart at) (switch_end : (n : ℕ) → n < length at → plan.has_user (network_line at n) Dce ≡ false) (user_end : (n : ℕ) → n < length at → plan.has_user (network_line at n) Dte ≡ true) where
-  -- what these writes leave of what the switch sent
-  abbrev pub SendsSo : ℕ → List Write → World → Type 0
-  SendsSo line ws w = SendsOnJoins plan w → SendsOnJoins plan (after_event (SwitchWrites line Dce ws) w)
+  -- what these writes leave of what the switch sent, and of what it accepted
+  pub record WritesSo (line : ℕ) (ws : List Write) (w : World) : Type 0 where
+    pub sends : SendsOnJoins plan w → SendsOnJoins plan (after_event (SwitchWrites line Dce ws) w)
+    pub accepts : AcceptsAccepted plan w → AcceptsAccepted plan (after_event (SwitchWrites line Dce ws) w)
 
-  pub silently : (line : ℕ) (ws : List Write) (w : World) → length w.origins ≡ length w.whole.records → AllSilent ws → SendsSo line ws w
-  silently line ws w count i s =
-      silent_sends plan line w (after_event (SwitchWrites line Dce ws) w) count (writes_grow line Dce ws (book_at line w.whole) w.origins) (λ r a e. (writes_silent ws (book_at line w.whole) i).records a r e) (λ a h. h) s
+  pub silently : (line : ℕ) (ws : List Write) (w : World) → Seen plan w → AllSilent ws → WritesSo line ws w
+  silently line ws w seen i =
+      let v = after_event (SwitchWrites line Dce ws) w in
+      let g = writes_grow line Dce ws (book_at line w.whole) w.origins in
+      let silent = writes_silent ws (book_at line w.whole) i in
+      record {
+        sends = λ s. silent_sends plan line w v seen.records.count g (λ r a e. silent.records a r e) (λ a h. h) s;
+        accepts = λ s. accepts_silent plan line Dce w v seen g silent.pairs (λ a b h. h) s;
+      }
 
-  pub switch_writes : (n : ℕ) (ws : List Write) (bs bs' : Books) (cs : List JoinedCall) (books : List Book) (w : World) (traces : List (List Origin)) → n < length at → AllPlaceNone ws → SendsSo (network_line at n) ws w → bs' n ≡ all_written Dce ws (bs n)
+  pub switch_writes : (n : ℕ) (ws : List Write) (bs bs' : Books) (cs : List JoinedCall) (books : List Book) (w : World) (traces : List (List Origin)) → n < length at → AllPlaceNone ws → WritesSo (network_line at n) ws w → bs' n ≡ all_written Dce ws (bs n)
       → ((k : ℕ) → k ≢ n → bs' k ≡ bs k) → IsSeen plan at bs cs books w traces → Moved plan at bs' cs books traces w.register
-  switch_writes n ws bs bs' cs books w traces h none sends here others i =
+  switch_writes n ws bs bs' cs books w traces h none so here others i =
       let line = network_line at n in
       let event = SwitchWrites line Dce ws in
       let may : MayHappen plan event w = (record { there = line_there plan at n bs cs books w traces h i; switch = switch_end n h }, none) in
@@ -198,7 +176,8 @@ module _ (plan : Plan) (at : List ℕ) (apart : AreApart at) (switch_end : (n : 
           lines = traced w.whole w.origins books traces line (bs n) own.0 Dce ws (i.among n h) own.1 i.lines;
           joins = joins_stay at line Dce w.origins _ cs w.joins (writes_grow line Dce ws (book_at line w.whole) w.origins) i.joins;
           handed = stays_handed_on plan event w may tt i.seen i.handed;
-          sends = sends i.sends;
+          sends = so.sends i.sends;
+          accepts = so.accepts i.accepts;
         };
         same = refl;
         others = others_set at n books b traces trace h;
@@ -227,7 +206,7 @@ module _ (plan : Plan) (at : List ℕ) (apart : AreApart at) (switch_end : (n : 
     books = books;
     world = w;
     traces = traces;
-    is = record { seen = i.seen; among = among_same at bs bs' books h i.among; lines = i.lines; joins = i.joins; handed = i.handed; sends = i.sends };
+    is = record { seen = i.seen; among = among_same at bs bs' books h i.among; lines = i.lines; joins = i.joins; handed = i.handed; sends = i.sends; accepts = i.accepts };
     same = refl;
     others = others_same at books traces;
   }
@@ -257,8 +236,8 @@ module _ (plan : Plan) (at : List ℕ) (apart : AreApart at) (switch_end : (n : 
   act_none (Act.Gives n) l i = (tt, tt)
   act_none (Act.Reads n) l i = (tt, tt)
 
-  asked_silent : (c : ℕ) (q : Request) (l : Layer) → SendsNone q → AllSilent (asked_writes c q l)
-  asked_silent c Accept l i = (tt, tt)
+  asked_silent : (c : ℕ) (q : Request) (l : Layer) → IsQuietRequest q → AllSilent (asked_writes c q l)
+  asked_silent c Accept l i = absurd i
   asked_silent c (Clearing cause diagnostic) l i = (tt, tt)
   asked_silent c (Resetting cause diagnostic) l i = (tt, tt)
   asked_silent c (Sending d) l i = absurd i
@@ -287,9 +266,9 @@ module _ (plan : Plan) (at : List ℕ) (apart : AreApart at) (switch_end : (n : 
   less_or_not zero (suc k) = inl (omega arith)
   less_or_not (suc n) (suc k) = elim (less_or_not n k) [ inl h ↦ inl (omega arith) | inr h ↦ inr (λ g. let f : n < k = omega arith in h f) ]
 
-  -- an act with what its writes leave of what the switch sent
+  -- an act with what its writes leave
   act_moves : (a : Act) (ys : List Layer) (bs : Books) (cs : List JoinedCall) (books : List Book) (w : World) (traces : List (List Origin))
-      → ((l : Layer) → slice_get ys (line_of a) ≡ Some l → line_of a < length at → AllPlaceNone (act_writes a l) × SendsSo (network_line at (line_of a)) (act_writes a l) w)
+      → ((l : Layer) → slice_get ys (line_of a) ≡ Some l → line_of a < length at → AllPlaceNone (act_writes a l) × WritesSo (network_line at (line_of a)) (act_writes a l) w)
       → IsSeen plan at bs cs books w traces → Moved plan at (books_after a ys bs) cs books traces w.register
   act_moves a ys bs cs books w traces q i = by_line (less_or_not (line_of a) (length at))
     where
@@ -323,7 +302,7 @@ module _ (plan : Plan) (at : List ℕ) (apart : AreApart at) (switch_end : (n : 
   stays_quietly old old_books old_traces g [] ys bs cs q b = b
   stays_quietly old old_books old_traces g (a ∷ more) ys bs cs q b =
       let m = b.moved in
-      let x = act_moves a ys bs cs m.books m.world m.traces (λ l e h. (act_none a l q.0, silently (network_line at (line_of a)) (act_writes a l) m.world m.is.lines.owned (act_silent a l q.0))) m.is in
+      let x = act_moves a ys bs cs m.books m.world m.traces (λ l e h. (act_none a l q.0, silently (network_line at (line_of a)) (act_writes a l) m.world m.is.seen (act_silent a l q.0))) m.is in
       stays_quietly old old_books old_traces g more (after_act a ys) (books_after a ys bs) cs q.1
       (record { new = b.new; is = b.is; moved = moved_then plan at bs (books_after a ys bs) cs cs old_books old_traces (all_handed at b.new g) m.world.register (all_handed at b.new g) m x m.same })
 
@@ -377,45 +356,156 @@ module _ (plan : Plan) (at : List ℕ) (apart : AreApart at) (switch_end : (n : 
           let same : x.0.placed ≡ a = same_Some x.0.placed a (sym x.1.1.far.1 ∙ (ap (λ (y : Place). slice_get (positions (network_line at y.line) (lines_of w.origins)) c.1.placed) far ∙ number c.1.placed there)) in
           inr (x.0.came_in, record { place = c.0; there = x.1.0 ∙ ap (λ (n : ℕ). Some (record { came_in = x.0.came_in; placed = n })) same })
 
+  -- and the pairs are the same
+  sent_pairs : (o : Option Refusal) (c : ℕ) (f : RecordValue → RecordValue) (b : Book) → (unless_refused o (changed Dce c f b) b).pairs ≡ b.pairs
+  sent_pairs (Some x) c f b = refl
+  sent_pairs None c f b = by_present (slot_at Dce c b).present
+    where
+      by_present : (p : Option ℕ) → (with_change p f b).pairs ≡ b.pairs
+      by_present None = refl
+      by_present (Some m) = refl
+
   -- a packet or an interrupt that is sent
   sent_so : (p : Place) (j : Joined) (ls : List SwitchLine) (bs : Books) (cs : List JoinedCall) (books : List Book) (w : World) (traces : List (List Origin)) (o : Option Refusal) (q : Request) (x : Option Taken) (f : RecordValue → RecordValue) → p.line < length at → Mutual ls → AreCalls ls bs cs → joined_at ls p ≡ Some j
-      → IsSeen plan at bs cs books w traces → ((b : Book) → carried Dce p.channel q x b ≡ changed Dce p.channel f b) → SendsSo (network_line at p.line) (Asked o p.channel q x ∷ []) w
-  sent_so p j ls bs cs books w traces o q x f h m calls e i is s a origin r made switch there =
-      let b = book_at (network_line at p.line) w.whole in
-      elim (only_present o p.channel f b a r (ap (λ (y : Book). slice_get (unless_refused o y b).records a) (sym (is b)) ∙ there)) [
-        | inl old ↦ s a origin r made switch old
-        | inr present ↦ inr (joined_in p j ls bs cs books w traces a h m calls e i present)
-      ]
+      → IsSeen plan at bs cs books w traces → ((b : Book) → carried Dce p.channel q x b ≡ changed Dce p.channel f b) → WritesSo (network_line at p.line) (Asked o p.channel q x ∷ []) w
+  sent_so p j ls bs cs books w traces o q x f h m calls e i is =
+      let line = network_line at p.line in
+      let b = book_at line w.whole in
+      let ws = Asked o p.channel q x ∷ [] in
+      record {
+        sends = λ s a origin r made switch there.
+            elim (only_present o p.channel f b a r (ap (λ (y : Book). slice_get (unless_refused o y b).records a) (sym (is b)) ∙ there)) [
+              | inl old ↦ s a origin r made switch old
+              | inr present ↦ inr (joined_in p j ls bs cs books w traces a h m calls e i present)
+            ];
+        accepts = λ s. accepts_silent plan line Dce w (after_event (SwitchWrites line Dce ws) w) i.seen (writes_grow line Dce ws b w.origins) (ap (λ (y : Book). (unless_refused o y b).pairs) (is b) ∙ sent_pairs o p.channel f b) (λ a b h. h) s;
+      }
+
+  -- ---- a request
+
+  asks : (old : List JoinedCall) (old_books : List Book) (old_traces : List (List Origin)) (g : Register) (p : Place) (r : Request) (ls : List SwitchLine) (bs : Books) (cs : List JoinedCall) (b : Beyond old old_books old_traces g bs cs)
+      → ((l : Layer) → slice_get (layers_of ls) p.line ≡ Some l → p.line < length at → AllPlaceNone (asked_writes p.channel r l) × WritesSo (network_line at p.line) (asked_writes p.channel r l) b.moved.world) → Beyond old old_books old_traces g (books_by (Asks p r) ls bs) cs
+  asks old old_books old_traces g p r ls bs cs b so =
+      let x = act_moves (Act.Asks p r) (layers_of ls) bs cs b.moved.books b.moved.world b.moved.traces so b.moved.is in
+      record { new = b.new; is = b.is; moved = moved_then plan at bs (books_by (Asks p r) ls bs) cs cs old_books old_traces (all_handed at b.new g) b.moved.world.register (all_handed at b.new g) b.moved x b.moved.same }
 
   pub stays_sending : (old : List JoinedCall) (old_books : List Book) (old_traces : List (List Origin)) (g : Register) → KeptSending (Beyond old old_books old_traces g)
-  stays_sending old old_books old_traces g p q j ls bs cs m calls e b = by_request q
+  stays_sending old old_books old_traces g p q j ls bs cs sending m calls e b = by_request q sending
     where
-      quietly : (r : Request) → SendsNone r → Beyond old old_books old_traces g (books_by (Asks p r) ls bs) cs
-      quietly r none = stays_quietly old old_books old_traces g (Act.Asks p r ∷ []) (layers_of ls) bs cs (none, tt) b
+      by_request : (r : Request) → Sends r → Beyond old old_books old_traces g (books_by (Asks p r) ls bs) cs
+      by_request (Sending d) i =
+          asks old old_books old_traces g p (Sending d) ls bs cs b (λ l f h. ((tt, tt), sent_so p j ls bs cs b.moved.books b.moved.world b.moved.traces (request_refusal l p.channel (Sending d)) (Sending d) (front_at (channel_of l p.channel)) (with_sent (packet_of d)) h m calls e b.moved.is (λ y. refl)))
+      by_request (Interrupting octets) i =
+          asks old old_books old_traces g p (Interrupting octets) ls bs cs b (λ l f h. ((tt, tt), sent_so p j ls bs cs b.moved.books b.moved.world b.moved.traces (request_refusal l p.channel (Interrupting octets)) (Interrupting octets) (front_at (channel_of l p.channel)) (with_interrupt_sent octets) h m calls e b.moved.is (λ y. refl)))
+      by_request Accept i = absurd i
+      by_request (Clearing cause diagnostic) i = absurd i
+      by_request (Resetting cause diagnostic) i = absurd i
+      by_request (Stopping v) i = absurd i
+      by_request Taking i = absurd i
+      by_request (Releasing n) i = absurd i
+      by_request Confirming i = absurd i
 
-      sent : (r : Request) → ((l : Layer) → slice_get (layers_of ls) p.line ≡ Some l → p.line < length at → AllPlaceNone (asked_writes p.channel r l) × SendsSo (network_line at p.line) (asked_writes p.channel r l) b.moved.world) → Beyond old old_books old_traces g (books_by (Asks p r) ls bs) cs
-      sent r so =
-          let x = act_moves (Act.Asks p r) (layers_of ls) bs cs b.moved.books b.moved.world b.moved.traces so b.moved.is in
-          record { new = b.new; is = b.is; moved = moved_then plan at bs (books_by (Asks p r) ls bs) cs cs old_books old_traces (all_handed at b.new g) b.moved.world.register (all_handed at b.new g) b.moved x b.moved.same }
+  -- ---- a call is accepted where the one with which it goes on was
 
-      by_request : (r : Request) → Beyond old old_books old_traces g (books_by (Asks p r) ls bs) cs
-      by_request (Sending d) =
-          sent (Sending d) (λ l f h. ((tt, tt), sent_so p j ls bs cs b.moved.books b.moved.world b.moved.traces (request_refusal l p.channel (Sending d)) (Sending d) (front_at (channel_of l p.channel)) (with_sent (packet_of d)) h m calls e b.moved.is (λ y. refl)))
-      by_request (Interrupting octets) =
-          sent (Interrupting octets) (λ l f h. ((tt, tt), sent_so p j ls bs cs b.moved.books b.moved.world b.moved.traces (request_refusal l p.channel (Interrupting octets)) (Interrupting octets) (front_at (channel_of l p.channel)) (with_interrupt_sent octets) h m calls e b.moved.is (λ y. refl)))
-      by_request Accept = quietly Accept tt
-      by_request (Clearing cause diagnostic) = quietly (Clearing cause diagnostic) tt
-      by_request (Resetting cause diagnostic) = quietly (Resetting cause diagnostic) tt
-      by_request (Stopping v) = quietly (Stopping v) tt
-      by_request Taking = quietly Taking tt
-      by_request (Releasing n) = quietly (Releasing n) tt
-      by_request Confirming = quietly Confirming tt
+  module _ (p : Place) (j : Joined) (ls : List SwitchLine) (bs : Books) (cs : List JoinedCall) (c : Connecting p j ls bs cs) (books : List Book) (w : World) (traces : List (List Origin)) (i : IsSeen plan at bs cs books w traces) where
+    -- the channel where the call came in
+    abbrev came : Place
+    came = j.other
+
+    accepted_goes_on : (a : ℕ) → came.line < length at → (slot_at Dce came.channel (book_at (network_line at came.line) w.whole)).present ≡ Some a → GoesOnAccepted w a
+    accepted_goes_on a h present = by_end c.answered.is_in
+      where
+        k : Paired ls p j
+        k = c.pairs p j c.joined
+
+        d : (n : ℕ) × (call : JoinedCall) × (slice_get cs n ≡ Some call) × Stands ls bs call × (call.near ≡ came)
+        d = c.calls.all came k.far k.joined (k.one_came_in ∙ ap not c.placed)
+
+        x : (its : Join) × ((slice_get w.joins d.0 ≡ Some its) × JoinIs at w.origins d.1 its)
+        x = join_at at w.origins cs w.joins d.0 d.1 i.joins d.2
+
+        far : d.1.far ≡ p
+        far =
+            let is : d.3.join ≡ k.far = same_Some d.3.join k.far (sym d.3.joined ∙ (ap (λ (y : Place). joined_at ls y) d.4 ∙ k.joined)) in
+            sym d.3.other ∙ (ap (λ (y : Joined). y.other) is ∙ k.back)
+
+        seen : LineIsSeen (positions (network_line at came.line) (lines_of w.origins)) (positions (network_line at came.line) i.lines.seen.pair_owners) (bs came.line) (book_at (network_line at came.line) w.whole)
+        seen = line_seen plan at came.line bs cs books w traces h i
+
+        came_is : x.0.came_in ≡ a
+        came_is =
+            let near : present_at came bs ≡ Some d.1.came_in = ap (λ (y : Place). present_at y bs) (sym d.4) ∙ d.3.near_present in
+            let n = numbered (positions (network_line at came.line) (lines_of w.origins)) (slot_at Dce came.channel (bs came.line)).present (slot_at Dce came.channel (book_at (network_line at came.line) w.whole)).present d.1.came_in ((seen.sides Dce).slot came.channel).present near in
+            same_Some x.0.came_in a (sym x.1.1.near.1 ∙ (ap (λ (y : Place). slice_get (positions (network_line at y.line) (lines_of w.origins)) d.1.came_in) d.4 ∙ (n.1.1 ∙ (sym n.1.0 ∙ present))))
+
+        joined : IsJoined w.joins a x.0.placed
+        joined = record { place = d.0; there = x.1.0 ∙ ap (λ (n : ℕ). Some (record { came_in = n; placed = x.0.placed })) came_is }
+
+        -- the record of the far leg, in the whole register
+        pl : ℕ
+        pl = network_line at p.line
+
+        number_is : c.number ≡ d.1.placed
+        number_is = same_Some c.number d.1.placed (sym c.present ∙ (ap (λ (y : Place). present_at y bs) (sym far) ∙ d.3.far_present))
+
+        placed_at : slice_get (positions pl (lines_of w.origins)) c.number ≡ Some x.0.placed
+        placed_at = ap₂ (λ (y : Place) (n : ℕ). slice_get (positions (network_line at y.line) (lines_of w.origins)) n) (sym far) number_is ∙ x.1.1.far.1
+
+        far_seen : LineIsSeen (positions pl (lines_of w.origins)) (positions pl i.lines.seen.pair_owners) (bs p.line) (book_at pl w.whole)
+        far_seen = line_seen plan at p.line bs cs books w traces (subst (λ (y : Place). y.line < length at) far x.1.1.far.0) i
+
+        whole_place : (n : ℕ) × (slice_get (positions pl i.lines.seen.pair_owners) c.answered.place ≡ Some n)
+        whole_place = get_there (positions pl i.lines.seen.pair_owners) c.answered.place (subst (λ (n : ℕ). c.answered.place < n) far_seen.pair_count (slice_get_within (bs p.line).pairs c.answered.place c.answered.pair c.answered.there))
+
+        q : PairIsSeen (positions pl (lines_of w.origins)) (bs p.line).pairs (book_at pl w.whole).pairs c.answered.place whole_place.0
+        q = far_seen.pairs c.answered.place whole_place.0 whole_place.1
+
+        own_is : q.own_pair ≡ c.answered.pair
+        own_is = same_Some q.own_pair c.answered.pair (sym q.own_there ∙ c.answered.there)
+
+        by_end : IsIn c.answered.pair c.number → GoesOnAccepted w a
+        by_end (inl e) =
+            let caller : q.seen_pair.caller ≡ x.0.placed = same_Some q.seen_pair.caller x.0.placed (sym q.caller ∙ (ap (λ (n : ℕ). slice_get (positions pl (lines_of w.origins)) n) (ap (λ (y : PairValue). y.caller) own_is ∙ e) ∙ placed_at)) in
+            record {
+              far = x.0.placed;
+              joined = joined;
+              place = whole_place.0;
+              pair = q.seen_pair;
+              there = q.seen_there;
+              caller = caller;
+            }
+        by_end (inr e) =
+            let callee : q.seen_pair.callee ≡ x.0.placed = same_Some q.seen_pair.callee x.0.placed (sym q.callee ∙ (ap (λ (n : ℕ). slice_get (positions pl (lines_of w.origins)) n) (ap (λ (y : PairValue). y.callee) own_is ∙ e) ∙ placed_at)) in
+            let came_here = i.seen.pairs.came whole_place.0 q.seen_pair q.seen_there in
+            let join = i.seen.records.joined a x.0.placed joined in
+            let origin : came_here.origin ≡ join.to = same_Some came_here.origin join.to (sym came_here.there ∙ (ap (λ (n : ℕ). slice_get w.origins n) callee ∙ join.to_there)) in
+            absurd (none-some q.seen_pair.caller (sym join.placed ∙ (ap (λ (y : Origin). y.caller) (sym origin) ∙ came_here.came)))
+
+    accepted_so : (o : Option Refusal) (x : Option Taken) → came.line < length at → WritesSo (network_line at came.line) (Asked o came.channel Accept x ∷ []) w
+    accepted_so o x h =
+        let line = network_line at came.line in
+        let b = book_at line w.whole in
+        let ws = Asked o came.channel Accept x ∷ [] in
+        let v = after_event (SwitchWrites line Dce ws) w in
+        let g = writes_grow line Dce ws b w.origins in
+        record {
+          sends = λ s. silent_sends plan line w v i.seen.records.count g (λ r a e. inl (r, (ap (λ (rs : List RecordValue). slice_get rs a) (sym (accepted_records o came.channel b)) ∙ e, λ h. h))) (λ a h. h) s;
+          accepts = λ s. accepts_still plan line Dce w v i.seen g (λ k p e. pairs_stay Dce ws b k p e) (λ a b h. h)
+              (λ k p o' there made switch. elim (accepted_pair o came.channel b k p there) [
+                | inl old ↦ inl old
+                | inr present ↦ inr (goes_on_still w v p.callee (λ k p e. pairs_stay Dce ws b k p e) (λ a b h. h) (accepted_goes_on p.callee h present))
+              ]) s;
+        }
+
+  pub stays_accepting : (old : List JoinedCall) (old_books : List Book) (old_traces : List (List Origin)) (g : Register) → KeptAccepting (Beyond old old_books old_traces g)
+  stays_accepting old old_books old_traces g p j ls bs cs c b =
+      asks old old_books old_traces g j.other Accept ls bs cs b (λ l f h. ((tt, tt), accepted_so p j ls bs cs c b.moved.books b.moved.world b.moved.traces b.moved.is (request_refusal l j.other.channel Accept) (front_at (channel_of l j.other.channel)) h))
 
   -- ---- a call is joined
 
   module _ (routes : RouteMap) (given : List (List ℕ)) (lines_given : length at ≡ length given) (one_switch : (m n : ℕ) → m < length at → n < length at → plan.node (network_line at m) Dce ≡ plan.node (network_line at n) Dce)
       (address : (n : ℕ) (a : List ℕ) → slice_get given n ≡ Some a → a ≡ plan.address (network_line at n)) (addressed : (n : ℕ) → n < length at → plan.address (network_line at n) ≡ [] → ⊥)
-      (route : (called : List ℕ) (n : ℕ) → n < length at → line_for routes called ≡ Some n → network_line at n ≡ plan.route (plan.node (network_line at n) Dce) (address_of called)) where
+      (route : (called : List ℕ) (n : ℕ) → n < length at → line_for routes called ≡ Some n → plan.route (plan.node (network_line at n) Dce) (address_of called) ≡ Some (network_line at n)) where
     module _ (p q : Place) (parts : CallParts) (ls : List SwitchLine) (bs : Books) (cs : List JoinedCall) (j : Joining routes given p q parts ls bs cs) (books : List Book) (w : World) (traces : List (List Origin)) (i : IsSeen plan at bs cs books w traces) where
       -- the lines of the network
       abbrev pl : ℕ
@@ -579,6 +669,9 @@ module _ (plan : Plan) (at : List ℕ) (apart : AreApart at) (switch_end : (n : 
               sends =
                   silent_sends plan ql w (after_event event w) i.lines.owned (grows_one ql Dce w.origins new (refl, refl)) (λ r a e. (pushed_silent _ (record { present = Some (length w.whole.records); placed = Some (length w.whole.records); caller = None }) q.channel (book_at ql w.whole) nothing_yet).records a r e)
                   (λ a x. subst (λ (o : Option ℕ). IsInJoin (with_join o (length w.whole.records) w.joins) a) (sym present_seen.1.0) (in_more w.joins its_join a x)) i.sends;
+              accepts =
+                  accepts_silent plan ql Dce w (after_event event w) i.seen (grows_one ql Dce w.origins new (refl, refl)) refl
+                  (λ a b x. subst (λ (o : Option ℕ). IsJoined (with_join o (length w.whole.records) w.joins) a b) (sym present_seen.1.0) (joined_more w.joins its_join a b x)) i.accepts;
             };
             same = refl;
             others = others_set at q.line books b traces trace q_less;

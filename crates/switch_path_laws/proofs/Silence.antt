@@ -1,4 +1,4 @@
--- Writes at an end that send nothing leave what was sent.
+-- Writes at an end that send nothing and accept no call leave what was sent, and the pairs.
 use Rattle.std.specs.Prelude.{◌≡◌, ℕ, zero, suc, ◌⊎◌, false, List, [], ◌∷◌, ◌++◌, map, slice_get, Option, Some, None}
 use Rattle.std.proofs.Common.{inl, inr, refl, sym, ap, subst, ◌∙◌}
 use Rattle.std.proofs.lemmas.Option.{none-some, same_Some}
@@ -13,13 +13,13 @@ use Rattle.packet_layer.specs.Traffic.Taken.{TakenInterrupt, TakenPacket}
 use Rattle.packet_layer.specs.Channel.{Request, Refusal}
 use Rattle.packet_layer.specs.Channel.Request.{Accept, Clearing, Resetting, Sending, Interrupting, Stopping, Taking, Releasing, Confirming}
 use Rattle.call_records.specs.Records.{RecordValue, with_taken, with_interrupt_taken, with_released, with_covered, with_epoch, with_closed, changed_at}
-use Rattle.call_records.specs.Book.{Book, Slot, slot_at, with_slot, with_record, with_change, changed, with_pair, closes, takes, told, all_told}
+use Rattle.call_records.specs.Book.{Book, Slot, slot_at, with_slot, with_record, with_change, changed, closes, takes, told, all_told}
 use Rattle.call_records.specs.Carried.{carried, unless_refused}
 use Rattle.call_records.specs.Writes.{Write, written_by, all_written}
 use Rattle.call_records.specs.Writes.Write.{Told, Placed, Asked, Said, Took, Cleared, Edited, AllClosed}
 use Rattle.book_laws.specs.Headline.{sent_by}
-use Rattle.switch_record_laws.proofs.Cells.{slot_records}
-use Rattle.joined_call_laws.proofs.Following.{SendsNone}
+use Rattle.switch_record_laws.proofs.Cells.{slot_records, slot_pairs}
+use Rattle.joined_call_laws.proofs.Following.{IsQuietRequest}
 
 -- ---- a record
 
@@ -45,13 +45,15 @@ epoch_silent r h = empty_more (r.sent_before ++ r.sent ∷ []) h
 
 -- ---- a book
 
--- each record is one that was there, and sent nothing if that one had, or it is a new one that sent nothing
+-- each record is one that was there, and sent nothing if that one had, or it is a new one that sent nothing; and the
+-- pairs are the same
 pub record Silent (b b' : Book) : Type 0 where
   pub records : (i : ℕ) (r' : RecordValue) → slice_get b'.records i ≡ Some r'
       → ((r : RecordValue) × ((slice_get b.records i ≡ Some r) × (SentNothing r → SentNothing r'))) ⊎ SentNothing r'
+  pub pairs : b'.pairs ≡ b.pairs
 
 pub silent_itself : (b : Book) → Silent b b
-silent_itself b = record { records = λ i r e. inl (r, (e, λ h. h)) }
+silent_itself b = record { records = λ i r e. inl (r, (e, λ h. h)); pairs = refl }
 
 pub silent_then : (a b c : Book) → Silent a b → Silent b c → Silent a c
 silent_then a b c s t = record {
@@ -59,10 +61,11 @@ silent_then a b c s t = record {
     | inl x ↦ elim (s.records i x.0 x.1.0) [ inl y ↦ inl (y.0, (y.1.0, λ h. x.1.1 (y.1.1 h))) | inr y ↦ inr (x.1.1 y) ]
     | inr x ↦ inr x
   ];
+  pairs = t.pairs ∙ s.pairs;
 }
 
-pub same_records : (b b' : Book) → b'.records ≡ b.records → Silent b b'
-same_records b b' e = record { records = λ i r f. inl (r, (ap (λ (rs : List RecordValue). slice_get rs i) (sym e) ∙ f, λ h. h)) }
+pub same_records : (b b' : Book) → b'.records ≡ b.records → b'.pairs ≡ b.pairs → Silent b b'
+same_records b b' e p = record { records = λ i r f. inl (r, (ap (λ (rs : List RecordValue). slice_get rs i) (sym e) ∙ f, λ h. h)); pairs = p }
 
 pub changed_was : (rs : List RecordValue) (n : ℕ) (f : RecordValue → RecordValue) (i : ℕ) (r' : RecordValue) → slice_get (changed_at n f rs) i ≡ Some r' → (r : RecordValue) × ((slice_get rs i ≡ Some r) × (((i ≡ n) × (r' ≡ f r)) ⊎ (r' ≡ r)))
 changed_was [] n f i r' e = absurd (none-some r' e)
@@ -79,6 +82,7 @@ change_silent (Some n) f b s = record {
   records = λ i r' e.
       let k = changed_was b.records n f i r' e in
       inl (k.0, (k.1.0, λ h. elim k.1.1 [ inl x ↦ subst (λ (r : RecordValue). SentNothing r) (sym x.1) (s k.0 h) | inr x ↦ subst (λ (r : RecordValue). SentNothing r) (sym x) h ]));
+  pairs = refl;
 }
 
 changed_silent : (c : ℕ) (f : RecordValue → RecordValue) (b : Book) → IsSilent f → Silent b (changed Dce c f b)
@@ -96,6 +100,7 @@ pushed_silent x z c b h = record {
     | inl old ↦ inl (r, (old, λ k. k))
     | inr new ↦ inr (subst (λ (y : RecordValue). SentNothing y) (sym new) h)
   ];
+  pairs = slot_pairs Dce c z (with_record x b);
 }
 
 pub nothing_yet : SentNothing (record { number = 0; node = 0; own = None; far = None; caller = None; sent_before = []; sent = nothing_sent; taken_before = []; taken = record { packets = []; interrupts = []; released = 0 }; closed = false; steps = [] })
@@ -104,7 +109,7 @@ nothing_yet = (record { items = refl; interrupts = refl }, tt)
 closes_silent : (c : ℕ) (b : Book) → Silent b (closes Dce c b)
 closes_silent c b =
     silent_then b (changed Dce c with_closed b) (closes Dce c b) (changed_silent c with_closed b (λ r h. h))
-    (same_records (changed Dce c with_closed b) (closes Dce c b) (slot_records Dce c (record (slot_at Dce c b) { present = None; caller = None }) (changed Dce c with_closed b)))
+    (same_records (changed Dce c with_closed b) (closes Dce c b) (slot_records Dce c (record (slot_at Dce c b) { present = None; caller = None }) (changed Dce c with_closed b)) (slot_pairs Dce c (record (slot_at Dce c b) { present = None; caller = None }) (changed Dce c with_closed b)))
 
 told_silent : (note : Note) (b : Book) → Silent b (told Dce note b)
 told_silent (Incoming c parts) b = pushed_silent _ _ c b nothing_yet
@@ -118,18 +123,13 @@ all_told_silent : (notes : List Note) (b : Book) → Silent b (all_told Dce note
 all_told_silent [] b = silent_itself b
 all_told_silent (note ∷ notes) b = silent_then b (told Dce note b) (all_told Dce notes (told Dce note b)) (told_silent note b) (all_told_silent notes (told Dce note b))
 
-pair_silent : (o p : Option ℕ) (b : Book) → Silent b (with_pair o p b)
-pair_silent None p b = silent_itself b
-pair_silent (Some n) None b = silent_itself b
-pair_silent (Some n) (Some m) b = same_records b (with_pair (Some n) (Some m) b) refl
-
 takes_silent : (c : ℕ) (o : Option Taken) (b : Book) → Silent b (takes Dce c o b)
 takes_silent c None b = silent_itself b
 takes_silent c (Some (TakenInterrupt octets)) b = changed_silent c (with_interrupt_taken octets) b (λ r h. h)
 takes_silent c (Some (TakenPacket d)) b = changed_silent c (with_taken d) b (λ r h. h)
 
-carried_silent : (c : ℕ) (q : Request) (o : Option Taken) (b : Book) → SendsNone q → Silent b (carried Dce c q o b)
-carried_silent c Accept o b i = pair_silent (slot_at Dce c b).caller (slot_at Dce c b).present b
+carried_silent : (c : ℕ) (q : Request) (o : Option Taken) (b : Book) → IsQuietRequest q → Silent b (carried Dce c q o b)
+carried_silent c Accept o b i = absurd i
 carried_silent c (Clearing cause diagnostic) o b i = closes_silent c b
 carried_silent c (Resetting cause diagnostic) o b i = changed_silent c with_epoch b epoch_silent
 carried_silent c (Sending d) o b i = absurd i
@@ -143,7 +143,7 @@ carried_silent c Confirming o b i = silent_itself b
 
 abbrev pub WritesSilence : Write → Type 0
 WritesSilence (Told notes) = Unit {0}
-WritesSilence (Asked o c q f) = SendsNone q
+WritesSilence (Asked o c q f) = IsQuietRequest q
 WritesSilence w = ⊥
 
 abbrev pub AllSilent : List Write → Type 0

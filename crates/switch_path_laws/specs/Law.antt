@@ -1,5 +1,5 @@
 -- What the register of a network with one switch, or with none, has, whatever happens.
-use Rattle.std.specs.Prelude.{◌≡◌, ℕ, Bool, ◌==◌, if◌then◌else◌, List, [], ◌++◌, length, map, set, slice_get, Some}
+use Rattle.std.specs.Prelude.{◌≡◌, ℕ, Bool, ◌==◌, if◌then◌else◌, List, [], ◌++◌, length, map, set, slice_get, Some, true}
 use Rattle.link_timers.specs.declared.role.Role.{Role}
 use Rattle.link_timers.specs.declared.role.Role.TheVariants.{Dte}
 use Rattle.link_timers.specs.declared.timers.TimerId.{TimerId}
@@ -7,8 +7,9 @@ use Rattle.lapb.specs.Machine.{Octets}
 use Rattle.call_records.specs.Records.{RecordValue}
 use Rattle.call_records.specs.Book.{Book}
 use Rattle.call_records.specs.Writes.{Write, all_written}
-use Rattle.call_records.specs.Register.{LinePlan, all_written_at}
+use Rattle.call_records.specs.Register.{LinePlan, book_at, all_written_at}
 use Rattle.address_routes.specs.Routes.{RouteMap}
+use Rattle.book_laws.specs.Headline.{HasCallee}
 use Rattle.book_laws.specs.Rest.{NothingMissing}
 use Rattle.line_laws.specs.Line.{Line}
 use Rattle.line_laws.specs.Rest.{AreAtRest}
@@ -153,7 +154,7 @@ pub record HasAddresses (plan : Plan) (at : List ℕ) (bs : Books) (c : JoinedCa
   pub far_there : slice_get (bs c.far.line).records c.placed ≡ Some far_record
   pub called : far_record.far ≡ near_record.own
   pub calling : far_record.own ≡ Some (plan.address (network_line at c.near.line))
-  pub routed : network_line at c.far.line ≡ plan.route far_record.node near_record.own
+  pub routed : plan.route far_record.node near_record.own ≡ Some (network_line at c.far.line)
 
 -- so it is of each joined call, whether it stands or is over
 abbrev pub AddressLaw : Type 0
@@ -177,6 +178,16 @@ PromiseLaw = (plan : Plan) (at : List ℕ) (s : Switch) (h : Histories) (cs : Li
     (w : World) (traces : List (List Origin)) → IsNetwork plan at s h cs books w traces
     → ((line : ℕ) (b : Book) → IsOther at line → slice_get books line ≡ Some b → IsKept b)
     → PathsHold plan w.register
+
+-- ---- calls that were placed
+
+-- at an end with a user, where the line's book has the present call as the last one placed there and in a pair, so it is
+-- in the register: also of a call that was placed through the switch, since this accepts it where it was accepted beyond
+abbrev pub PlacedLaw : Type 0
+PlacedLaw = (plan : Plan) (at : List ℕ) (s : Switch) (h : Histories) (cs : List JoinedCall) (books : List Book)
+    (w : World) (traces : List (List Origin)) → IsNetwork plan at s h cs books w traces → (line : ℕ) (b : Book)
+    (role : Role) (channel : ℕ) → slice_get books line ≡ Some b → plan.has_user line role ≡ true
+    → HasCallee b role channel → HasCallee (book_at line w.register) role channel
 
 -- ---- at rest
 
@@ -205,4 +216,5 @@ pub record SwitchPathLaw : Type 0 where
   pub others : OtherLaw
   pub addresses : AddressLaw
   pub promise : PromiseLaw
+  pub placed : PlacedLaw
   pub rest : RestLaw

@@ -6,7 +6,7 @@ use Rattle.link_timers.specs.declared.role.Role.{Role}
 use Rattle.link_timers.specs.declared.role.Role.TheVariants.{Dte, Dce}
 use Rattle.address_routes.specs.Routes.{line_for}
 use Rattle.epochs.specs.ConfirmedLaws.{AreEmpty}
-use Rattle.call_records.specs.Records.{RecordValue}
+use Rattle.call_records.specs.Records.{RecordValue, PairValue}
 use Rattle.call_records.specs.Book.{Book, address_of}
 use Rattle.call_records.specs.Register.{Register}
 use Rattle.call_records.specs.Register as register
@@ -56,7 +56,7 @@ pub record IsPlanned (plan : Plan) (count : ℕ) (at : List ℕ) (s : Switch) : 
   pub addressed : (n : ℕ) → n < length at → plan.address (network_line at n) ≡ [] → ⊥
   pub alike : AreAddressed plan
   pub route : (called : List ℕ) (n : ℕ) → n < length at → line_for s.routes called ≡ Some n
-      → network_line at n ≡ plan.route (plan.node (network_line at n) Dce) (address_of called)
+      → plan.route (plan.node (network_line at n) Dce) (address_of called) ≡ Some (network_line at n)
   pub others : (line : ℕ) (role : Role) → line < count → IsOther at line → plan.has_user line role ≡ true
 
 -- ---- joined calls in the register
@@ -98,6 +98,20 @@ SendsOnJoins plan w = (a : ℕ) (o : Origin) (r : RecordValue) → slice_get w.o
     → plan.has_user o.line o.role ≡ false → slice_get w.whole.records a ≡ Some r
     → AreEmpty (sent_by r) ⊎ IsInJoin w.joins a
 
+-- the call of this record goes on with one that was accepted: the record of the far leg is in a pair
+pub record GoesOnAccepted (w : World) (a : ℕ) : Type 0 where
+  pub far : ℕ
+  pub joined : IsJoined w.joins a far
+  pub place : ℕ
+  pub pair : PairValue
+  pub there : slice_get w.whole.pairs place ≡ Some pair
+  pub caller : pair.caller ≡ far
+
+-- a switch accepts a call where the one with which it goes on was accepted; pairs stay, also of calls that are over
+abbrev pub AcceptsAccepted : Plan → World → Type 0
+AcceptsAccepted plan w = (i : ℕ) (pair : PairValue) (o : Origin) → slice_get w.whole.pairs i ≡ Some pair
+    → slice_get w.origins pair.callee ≡ Some o → plan.has_user o.line o.role ≡ false → GoesOnAccepted w pair.callee
+
 -- ---- the register beside the switch
 
 -- the register has of the ends with users what the whole one has; the whole one has what the books of all lines have,
@@ -110,6 +124,7 @@ pub record IsSeen (plan : Plan) (at : List ℕ) (bs : Books) (cs : List JoinedCa
   pub joins : AreJoins at w.origins cs w.joins
   pub handed : AreHandedOn plan w
   pub sends : SendsOnJoins plan w
+  pub accepts : AcceptsAccepted plan w
 
 -- `books` are the books of all lines of the network, and `traces` where their records come from
 pub record IsNetwork (plan : Plan) (at : List ℕ) (s : Switch) (h : Histories) (cs : List JoinedCall) (books : List Book)

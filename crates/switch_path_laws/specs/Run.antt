@@ -1,6 +1,6 @@
 -- A network of three lines, two of a switch with a user at the other end of each, and one between users: as it is made,
 -- after a first frame to the switch, and after a call on the line between users. And one without a switch.
-use Rattle.std.specs.Prelude.{ℕ, zero, suc, Bool, true, false, List, [], ◌∷◌, map, set, Option, Some, None}
+use Rattle.std.specs.Prelude.{ℕ, zero, suc, Bool, true, false, List, [], ◌∷◌, map, set, Option, Some, None, option_map}
 use Rattle.std.specs.FinMap.{empty, insert}
 use Rattle.link_timers.specs.declared.role.Role.{Role}
 use Rattle.link_timers.specs.declared.role.Role.TheVariants.{Dte, Dce}
@@ -55,13 +55,9 @@ address_at zero = 2 ∷ []
 address_at (suc zero) = []
 address_at (suc (suc line)) = 1 ∷ []
 
-abbrev pub line_or_zero : Option ℕ → ℕ
-line_or_zero (Some own) = network_line at own
-line_or_zero None = 0
-
-abbrev pub route_of : Option (List ℕ) → ℕ
-route_of (Some called) = line_or_zero (line_for routes called)
-route_of None = 0
+abbrev pub route_of : Option (List ℕ) → Option ℕ
+route_of (Some called) = option_map (λ own. network_line at own) (line_for routes called)
+route_of None = None
 
 abbrev pub plan : Plan
 plan = record {
@@ -107,7 +103,7 @@ plan_alone = record {
   node = λ line role. node_at 1 role;
   has_user = λ line role. true;
   address = λ line. [];
-  route = λ switch called. 0;
+  route = λ switch called. None;
 }
 
 abbrev pub lines_alone : List LinePlan

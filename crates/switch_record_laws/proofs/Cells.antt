@@ -1,10 +1,10 @@
 -- What is written at one channel of an end leaves the present records of all others.
-use Rattle.std.specs.Prelude.{◌≡◌, ◌≢◌, ℕ, zero, suc, ◌<◌, ◌≤◌, ◌⊎◌, List, [], ◌∷◌, length, slice_get, Option, Some, None}
+use Rattle.std.specs.Prelude.{◌≡◌, ◌≢◌, ℕ, zero, suc, ◌<◌, ◌≤◌, ◌⊎◌, List, [], ◌∷◌, ◌++◌, length, slice_get, Option, Some, None}
 use Rattle.std.proofs.Common.{inl, inr, refl, sym, ap, subst, ◌∙◌, arith}
 use Rattle.std.proofs.lemmas.Option.{none-some, same_Some}
 use Rattle.link_timers.specs.declared.role.Role.{Role}
 use Rattle.link_timers.specs.declared.role.Role.TheVariants.{Dte, Dce}
-use Rattle.call_records.specs.Records.{RecordValue, with_closed, changed_at}
+use Rattle.call_records.specs.Records.{RecordValue, PairValue, with_closed, changed_at}
 use Rattle.call_records.specs.Book.{Book, Slot, side_of, nth_slot, with_nth, slot_at, with_slot, with_change, changed, with_record, closes, with_pair, answers}
 use Rattle.book_laws.proofs.Basics.{get_before, get_last, length_changed, length_pushed, number_is, is_role, role_is}
 use Rattle.book_laws.proofs.Writing.{slot_here, slot_else, slot_there, slot_changed, size_slot, size_changed, size_record}
@@ -42,16 +42,23 @@ here_or_not x d y c =
       | inr e ↦ inr (λ q. e q.0)
     ]
 
--- only what belongs to channel d at the end x may differ, and a record that becomes present there is a new one
+-- only what belongs to channel d at the end x may differ, and a record that becomes present there is a new one; pairs
+-- stay, and a new one is of a call that came in there
 pub record Touches (x : Role) (d : ℕ) (b b' : Book) : Type 0 where
   pub slots : (y : Role) (c : ℕ) → (IsHere x d y c → ⊥) → (slot_at y c b').present ≡ (slot_at y c b).present
   pub size : (y : Role) → length (side_of y b').slots ≡ length (side_of y b).slots
   pub count : length b.records ≤ length b'.records
   pub kept : (n : ℕ) (r : RecordValue) → slice_get b.records n ≡ Some r → ((slot_at x d b).present ≡ Some n → ⊥) → slice_get b'.records n ≡ Some r
   pub here : (n : ℕ) → (slot_at x d b').present ≡ Some n → ((slot_at x d b).present ≡ Some n) ⊎ ((length b.records ≤ n) × (n < length b'.records))
+  pub pairs : (i : ℕ) (p : PairValue) → slice_get b.pairs i ≡ Some p → slice_get b'.pairs i ≡ Some p
+  pub paired : (i : ℕ) (p : PairValue) → slice_get b'.pairs i ≡ Some p → (slice_get b.pairs i ≡ Some p) ⊎ (((slot_at x d b).present ≡ Some p.callee) ⊎ (length b.records ≤ p.callee))
+
+-- where the pairs are the same
+same_pairs : (b b' : Book) (i : ℕ) (p : PairValue) → b'.pairs ≡ b.pairs → slice_get b.pairs i ≡ Some p → slice_get b'.pairs i ≡ Some p
+same_pairs b b' i p e f = ap (λ (ps : List PairValue). slice_get ps i) e ∙ f
 
 pub touches_none : (x : Role) (d : ℕ) (b : Book) → Touches x d b b
-touches_none x d b = record { slots = λ y c h. refl; size = λ y. refl; count = omega arith; kept = λ n r e h. e; here = λ n e. inl e }
+touches_none x d b = record { slots = λ y c h. refl; size = λ y. refl; count = omega arith; kept = λ n r e h. e; here = λ n e. inl e; pairs = λ i p e. e; paired = λ i p e. inl e }
 
 pub touches_then : (x : Role) (d : ℕ) (a b c : Book) → Touches x d a b → Touches x d b c → Touches x d a c
 touches_then x d a b c s t = record {
@@ -65,6 +72,14 @@ touches_then x d a b c s t = record {
       | inr new ↦ inr (new.0, (let p = new.1 in let q = t.count in omega arith))
     ]
     | inr new ↦ inr ((let p = new.0 in let q = s.count in omega arith), new.1)
+  ];
+  pairs = λ i p e. t.pairs i p (s.pairs i p e);
+  paired = λ i p e. elim (t.paired i p e) [
+    | inl f ↦ s.paired i p f
+    | inr f ↦ inr (elim f [
+      | inl g ↦ elim (s.here p.callee g) [ inl old ↦ inl old | inr new ↦ inr new.0 ]
+      | inr new ↦ inr (let q = s.count in omega arith)
+    ])
   ];
 }
 
@@ -126,6 +141,8 @@ changes_by x d f b (Some m) e = record {
   count = let p = length_changed b.records m f in omega arith;
   kept = λ n r g h. changed_else b.records m n f (λ i. h (e ∙ ap (λ (k : ℕ). Some k) (sym i))) ∙ g;
   here = λ n g. inl (sym (ap (λ (s : Slot). s.present) (slot_changed x d (Some m) f b)) ∙ g);
+  pairs = λ i p g. g;
+  paired = λ i p g. inl g;
 }
 
 pub changes : (x : Role) (d : ℕ) (f : RecordValue → RecordValue) (b : Book) → Touches x d b (changed x d f b)
@@ -168,6 +185,10 @@ pub slot_records : (x : Role) (d : ℕ) (z : Slot) (b : Book) → (with_slot x d
 slot_records Dte d z b = refl
 slot_records Dce d z b = refl
 
+pub slot_pairs : (x : Role) (d : ℕ) (z : Slot) (b : Book) → (with_slot x d z b).pairs ≡ b.pairs
+slot_pairs Dte d z b = refl
+slot_pairs Dce d z b = refl
+
 pushed_slot : (r : RecordValue) (b : Book) (y : Role) (c : ℕ) → slot_at y c (with_record r b) ≡ slot_at y c b
 pushed_slot r b Dte c = refl
 pushed_slot r b Dce c = refl
@@ -180,6 +201,8 @@ empties x d z b none = record {
   count = let p = ap (λ (rs : List RecordValue). length rs) (slot_records x d z b) in omega arith;
   kept = λ n r e h. ap (λ (rs : List RecordValue). slice_get rs n) (slot_records x d z b) ∙ e;
   here = λ n e. elim (slot_after x d z b n e) [ inl f ↦ absurd (none-some n (sym none ∙ f)) | inr f ↦ inl f ];
+  pairs = λ i p e. same_pairs b (with_slot x d z b) i p (slot_pairs x d z b) e;
+  paired = λ i p e. inl (same_pairs (with_slot x d z b) b i p (sym (slot_pairs x d z b)) e);
 }
 
 pub touches_closed : (x : Role) (d : ℕ) (b : Book) → Touches x d b (closes x d b)
@@ -199,6 +222,8 @@ touches_new x d r z b e = record {
         let p = ap (λ (rs : List RecordValue). length rs) (slot_records x d z (with_record r b)) in let q = length_pushed b.records r in inr (omega arith, omega arith))
     | inr f ↦ inl (sym (ap (λ (s : Slot). s.present) (pushed_slot r b x d)) ∙ f)
   ];
+  pairs = λ i p g. same_pairs b (with_slot x d z (with_record r b)) i p (slot_pairs x d z (with_record r b)) g;
+  paired = λ i p g. inl (same_pairs (with_slot x d z (with_record r b)) b i p (sym (slot_pairs x d z (with_record r b))) g);
 }
 
 pub has_new : (x : Role) (d : ℕ) (r : RecordValue) (z : Slot) (b : Book) (g : Leg) → 1 ≤ d → d ≤ length (side_of x b).slots → z.present ≡ Some (length b.records) → IsRecordOf g r → HasRecord x d g (with_slot x d z (with_record r b))
@@ -214,10 +239,27 @@ has_new x d r z b g lo hi e is =
 
 -- ---- a pair
 
-with_pairs : (x : Role) (d : ℕ) (o p : Option ℕ) (b : Book) → Touches x d b (with_pair o p b)
-with_pairs x d None p b = touches_none x d b
-with_pairs x d (Some n) None b = touches_none x d b
-with_pairs x d (Some n) (Some m) b = record { slots = λ y c h. slots y c; size = λ y. size y; count = omega arith; kept = λ k r e h. e; here = λ k e. inl (sym (slots x d) ∙ e) }
+pub last_pair : (ps : List PairValue) (q : PairValue) (i : ℕ) (p : PairValue) → slice_get (ps ++ q ∷ []) i ≡ Some p → (slice_get ps i ≡ Some p) ⊎ (p ≡ q)
+last_pair [] q zero p e = inr (sym (same_Some q p e))
+last_pair [] q (suc i) p e = absurd (none-some p e)
+last_pair (x ∷ ps) q zero p e = inl e
+last_pair (x ∷ ps) q (suc i) p e = last_pair ps q i p e
+
+with_pairs : (x : Role) (d : ℕ) (o p : Option ℕ) (b : Book) → (slot_at x d b).present ≡ p → Touches x d b (with_pair o p b)
+with_pairs x d None p b at = touches_none x d b
+with_pairs x d (Some n) None b at = touches_none x d b
+with_pairs x d (Some n) (Some m) b at = record {
+  slots = λ y c h. slots y c;
+  size = λ y. size y;
+  count = omega arith;
+  kept = λ k r e h. e;
+  here = λ k e. inl (sym (slots x d) ∙ e);
+  pairs = λ i p e. get_before b.pairs (record { caller = n; callee = m } ∷ []) i p e;
+  paired = λ i p e. elim (last_pair b.pairs (record { caller = n; callee = m }) i p e) [
+    | inl old ↦ inl old
+    | inr new ↦ inr (inl (at ∙ ap (λ (q : PairValue). Some q.callee) (sym new)))
+  ];
+}
   where
     slots : (y : Role) (c : ℕ) → (slot_at y c (with_pair (Some n) (Some m) b)).present ≡ (slot_at y c b).present
     slots Dte c = refl
@@ -228,7 +270,7 @@ with_pairs x d (Some n) (Some m) b = record { slots = λ y c h. slots y c; size 
     size Dce = refl
 
 pub touches_answered : (x : Role) (d : ℕ) (b : Book) → Touches x d b (answers x d b)
-touches_answered x d b = with_pairs x d (slot_at x d b).caller (slot_at x d b).present b
+touches_answered x d b = with_pairs x d (slot_at x d b).caller (slot_at x d b).present b refl
 
 has_pairs : (x : Role) (d : ℕ) (o p : Option ℕ) (b : Book) (g : Leg) → HasRecord x d g b → HasRecord x d g (with_pair o p b)
 has_pairs x d None p b g h = h
