@@ -1,5 +1,6 @@
 -- What a link's calls give: the frames to be sent, as octets, and what the node is told.
-use Rattle.std.specs.Prelude.{nat_lt, ◌+◌, ◌*◌, ℕ, Bool, true, false, not, ◌&&◌, ◌||◌, List, [], ◌∷◌, ◌++◌, map, take, is_some, if◌then◌else◌}
+use Rattle.std.specs.Prelude.{nat_lt, ◌+◌, ◌*◌, ℕ, Bool, true, false, not, ◌&&◌, ◌||◌, List, [], ◌∷◌, ◌++◌, map, take}
+use Rattle.std.specs.Prelude.{is_some, if◌then◌else◌}
 use Rattle.link_timers.specs.declared.role.Role.{Role}
 use Rattle.frame_codec.specs.Spelling.{spelling, bit_of}
 use Rattle.lapb.specs.declared.note.Note.{Note}

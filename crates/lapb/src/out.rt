@@ -1,4 +1,4 @@
-ghost use Rattle.std.specs.Prelude.{◌≡◌, ◌∷◌, ◌++◌, [], length, take, drop, true, false, ◌≤◌};
+ghost use Rattle.std.specs.Prelude.{◌≡◌, ◌∷◌, [], length, take, drop, true, false, ◌≤◌};
 ghost use Rattle.frame_codec.specs.Spelling.{spelling, HasSpelling};
 ghost use Rattle.frame_codec.specs.Views.{value_of};
 ghost use Rattle.lapb.specs.Out.{most_frames, no_out, with_frames, timing_by};

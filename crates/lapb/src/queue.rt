@@ -11,8 +11,8 @@ const PLACES: usize = 8;
 /// Up to seven packets in order, each in a buffer of a pool. Those that are given up hold their buffers until
 /// `give_back`.
 ///
-/// The buffers lie in places that follow each other round, from `first` on: the `spent` ones that are given up, and then
-/// the `len` ones of the packets.
+/// The buffers lie in places that follow each other round, from `first` on: the `spent` ones that are given up, and
+/// then the `len` ones of the packets.
 #[derive(Drop)]
 pub(crate) struct Queue {
     places: [Option<BufNo>; PLACES],

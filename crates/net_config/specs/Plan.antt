@@ -1,5 +1,6 @@
 -- What a network is made with.
-use Rattle.std.specs.Prelude.{true, ◌≡◌, ◌==◌, ℕ, suc, Bool, List, [], ◌∷◌, map, length, slice_get, Some, unwrap_or, is_none}
+use Rattle.std.specs.Prelude.{true, ◌≡◌, ◌==◌, ℕ, suc, Bool, List, [], ◌∷◌, map, length, slice_get, Some, unwrap_or}
+use Rattle.std.specs.Prelude.{is_none}
 use Rattle.std.specs.Prelude.{if◌then◌else◌, string_bytes, Result, Ok, Err}
 use Rattle.std.specs.List.{list_any, position, fold}
 use Rattle.std.specs.FinMap.{empty, insert}
@@ -71,7 +72,9 @@ with_prefix routes (Err fault) own = routes
 -- and the one that the configuration has, where it is of the switch of this name
 abbrev pub with_route : (name : List ℕ) → (own : List ℕ) → RouteMap → RouteConfig → RouteMap
 with_route name own routes r =
-    if is_route_of name r then with_prefix routes (address_of (string_bytes r.prefix)) (own_number own r.line) else routes
+    if is_route_of name r
+    then with_prefix routes (address_of (string_bytes r.prefix)) (own_number own r.line)
+    else routes
 
 abbrev pub new_routes : (name : List ℕ) → (own : List ℕ) → List RouteConfig → RouteMap
 new_routes name own routes = fold (with_route name own) empty routes

@@ -28,8 +28,8 @@ pub struct NewRoute {
     pub line: LineNo,
 }
 
-/// What a switch is made with: the lines of the network that are its own lines, in order, and its routes to these, which
-/// go by their order. A route that is refused after those before it adds nothing.
+/// What a switch is made with: the lines of the network that are its own lines, in order, and its routes to these,
+/// which go by their order. A route that is refused after those before it adds nothing.
 #[derive(Drop)]
 pub struct NewSwitch {
     pub lines: Vec<usize>,

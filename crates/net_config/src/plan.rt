@@ -1,5 +1,5 @@
 //! What a network is made with.
-ghost use Rattle.std.specs.Prelude.{◌≡◌, ◌≤◌, true, false, List, length, map, IfOk, OnOk, OnErr, IfErr, ◌↔◌};
+ghost use Rattle.std.specs.Prelude.{◌≡◌, ◌≤◌, true, false, List, length, map, IfOk, OnOk, IfErr, ◌↔◌};
 ghost use Rattle.std.specs.Prelude.{string_bytes};
 ghost use Rattle.net_config.specs.Served.{is_named, has_dte, has_end, is_served};
 ghost use Rattle.net_config.specs.Served.{is_kind_served, is_pad_served, is_within};
@@ -7,8 +7,8 @@ ghost use Rattle.std.specs.List.{list_any, position};
 ghost use Rattle.packet_codec.specs.Digits.{digits_or_none};
 ghost use Rattle.packet_codec.specs.Address.{address_of};
 ghost use Rattle.net_config.specs.Plan.{set_one, initial_params, role_of, new_user, lines_from, is_line, own_number};
-ghost use Rattle.net_config.specs.Plan.{with_prefix, new_routes, new_switch, planned_as, planned_node};
-ghost use Rattle.net_config.specs.Plan.{end_params, digits_in, new_line, plan_of, StandsAlone};
+ghost use Rattle.net_config.specs.Plan.{with_prefix, new_routes, new_switch, planned_node};
+ghost use Rattle.net_config.specs.Plan.{digits_in, new_line, plan_of, StandsAlone};
 ghost use Rattle.net_config.specs.PlanView.{kind_value, routes_value};
 ghost use Rattle.net_config.specs.PlannedView.{planned_value};
 ghost use Rattle.net_events.specs.Opening.{IsPlan};

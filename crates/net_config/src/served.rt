@@ -290,8 +290,8 @@ fn count_switches(nodes: &[NodeConfig]) -> usize
     nodes.iter().filter(|node| is_switch(&node.kind)).count()
 }
 
-/// Whether the network is served: PADs and hosts, each at one end of one line, and at most one switch, at the other ends
-/// of up to 64, with its routes; all values in their limits. One that is not is refused as BadConfig where it is
+/// Whether the network is served: PADs and hosts, each at one end of one line, and at most one switch, at the other
+/// ends of up to 64, with its routes; all values in their limits. One that is not is refused as BadConfig where it is
 /// planned.
 pub fn is_served(config: &Config) -> bool
     ensures { result ≡ is_served config.now }

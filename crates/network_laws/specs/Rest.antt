@@ -31,4 +31,5 @@ IsDelivered place channel s =
 
 abbrev pub DeliveredLaw : LineService → Type 0
 DeliveredLaw L = (s : Network) → IsNetwork L s → L.faithful → (place channel : ℕ) (n : PlacedNode)
-    → slice_get s.nodes place ≡ Some (User n) → confirmed (end_of n.node).layer channel ≡ true → IsDelivered place channel s
+    → slice_get s.nodes place ≡ Some (User n) → confirmed (end_of n.node).layer channel ≡ true
+    → IsDelivered place channel s

@@ -61,4 +61,5 @@ RestLaw L = (s : Network) → IsAny L s → L.faithful → AreAllAtRest s.nodes 
 
 abbrev pub DeliveredLaw : LineService → Type 0
 DeliveredLaw L = (s : Network) → IsAny L s → L.faithful → (place channel : ℕ) (n : PlacedNode)
-    → slice_get s.nodes place ≡ Some (User n) → confirmed (end_of n.node).layer channel ≡ true → IsDelivered place channel s
+    → slice_get s.nodes place ≡ Some (User n) → confirmed (end_of n.node).layer channel ≡ true
+    → IsDelivered place channel s

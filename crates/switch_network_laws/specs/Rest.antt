@@ -7,4 +7,5 @@ use Rattle.network_laws.specs.Rest.{AreAtRest}
 -- each node with users is at rest, and a switch is so on all its lines
 pub record AreAllAtRest (nodes : List NetNode) : Type 0 where
   pub users : AreAtRest nodes
-  pub switches : (place : ℕ) (n : PlacedSwitch) → slice_get nodes place ≡ Some (Switching n) → switch_rests n.switch ≡ true
+  pub switches : (place : ℕ) (n : PlacedSwitch) → slice_get nodes place ≡ Some (Switching n)
+      → switch_rests n.switch ≡ true

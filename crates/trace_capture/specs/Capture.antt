@@ -54,8 +54,8 @@ packet_body number digits direction octets =
 
 -- ---- a trace
 
--- lines of a trace that have so many frames, counted modulo 2^32, and the blocks of these: a line that does not begin as
--- that of a frame has none
+-- lines of a trace that have so many frames, counted modulo 2^32, and the blocks of these: a line that does not begin
+-- as that of a frame has none
 pub data AreBlocks : (lines : List (List ℕ)) → (count : ℕ) → (blocks : List ℕ) → Type 0 where
   none : AreBlocks [] 0 []
   other : {lines : List (List ℕ)} {count : ℕ} {blocks : List ℕ} (line : List ℕ) → is_traced line ≡ false

@@ -1,8 +1,8 @@
 ghost use Rattle.x25_pad_laws.specs.Rooms.{KeyRoom, BreakRoom, PrintRoom, IdleRoom, FrameRoom, RelinkRoom, TimerRoom};
 
 /// How much an event of a PAD writes into the book of its line, over definitions alone, so that room for it can be made
-/// before: with room for two writes and for a pair all that the PAD notes is written. An event opens one record or epoch
-/// at most: by a key that dials (X.28 3.2.2), by a reset of either end, or by a frame that brings a call.
+/// before: with room for two writes and for a pair all that the PAD notes is written. An event opens one record or
+/// epoch at most: by a key that dials (X.28 3.2.2), by a reset of either end, or by a frame that brings a call.
 pub fn pad_room_law()
     // What happens at a terminal.
     ensures keys { KeyRoom }

@@ -92,7 +92,8 @@ impl Link {
           link = (machine.on_defect self.old.link (defect_of defect) control
               is_response).link;
         } }
-        ensures out { out.new ≡ with_step out.old self.old.link.role (machine.on_defect self.old.link (defect_of defect) control is_response) }
+        ensures out { out.new ≡ with_step out.old self.old.link.role
+            (machine.on_defect self.old.link (defect_of defect) control is_response) }
         ensures anew { result ≡ (machine.on_defect self.old.link (defect_of defect) control is_response).anew }
     {
         match self.phase {

@@ -1,6 +1,6 @@
 //! What a link makes of a frame in each phase (X.25 2.4.4, 2.4.7.3), and of octets that are no frame.
-ghost use Rattle.std.specs.Prelude.{◌≡◌, [], ◌∷◌};
-ghost use Rattle.frame_codec.specs.Views.{content_of, value_of, report_of};
+ghost use Rattle.std.specs.Prelude.{◌≡◌};
+ghost use Rattle.frame_codec.specs.Views.{content_of, value_of};
 ghost use Rattle.frame_codec.specs.Spelling.{HasNumbers};
 ghost use Rattle.lapb.specs.Machine as machine;
 ghost use Rattle.lapb.specs.Out.{with_step};
@@ -20,7 +20,8 @@ impl Link {
         ensures link { self.new ≡ record self.old {
           link = (machine.on_frame self.old.link (value_of frame.now)).link;
         } }
-        ensures out { out.new ≡ with_step out.old self.old.link.role (machine.on_frame self.old.link (value_of frame.now)) }
+        ensures out { out.new ≡ with_step out.old self.old.link.role
+            (machine.on_frame self.old.link (value_of frame.now)) }
         ensures anew { result ≡ (machine.on_frame self.old.link (value_of frame.now)).anew }
     {
         match (frame.kind, self.role) {
@@ -43,9 +44,9 @@ impl Link {
           link = (machine.in_phase self.old.link.phase self.old.link.role self.old.link (content_of
               frame.now.kind) frame.now.response frame.now.pf).link;
         } }
-        ensures out { out.new ≡ with_step out.old self.old.link.role (machine.in_phase self.old.link.phase self.old.link.role self.old.link
-            (content_of
-            frame.now.kind) frame.now.response frame.now.pf) }
+        ensures out { out.new ≡ with_step out.old self.old.link.role
+            (machine.in_phase self.old.link.phase self.old.link.role self.old.link (content_of frame.now.kind)
+            frame.now.response frame.now.pf) }
         ensures anew { result ≡ (machine.in_phase self.old.link.phase self.old.link.role self.old.link
             (content_of
             frame.now.kind) frame.now.response frame.now.pf).anew }
@@ -64,9 +65,9 @@ impl Link {
           link = (machine.in_down self.old.link.role self.old.link (content_of frame.now.kind)
               frame.now.response frame.now.pf).link;
         } }
-        ensures out { out.new ≡ with_step out.old self.old.link.role (machine.in_down self.old.link.role self.old.link (content_of
-            frame.now.kind)
-            frame.now.response frame.now.pf) }
+        ensures out { out.new ≡ with_step out.old self.old.link.role
+            (machine.in_down self.old.link.role self.old.link (content_of frame.now.kind) frame.now.response
+            frame.now.pf) }
         ensures anew { result ≡ (machine.in_down self.old.link.role self.old.link (content_of
             frame.now.kind)
             frame.now.response frame.now.pf).anew }
@@ -95,8 +96,8 @@ impl Link {
           link = (machine.in_setting_up self.old.link (content_of frame.now.kind) frame.now.response
               frame.now.pf).link;
         } }
-        ensures out { out.new ≡ with_step out.old self.old.link.role (machine.in_setting_up self.old.link (content_of frame.now.kind)
-            frame.now.response frame.now.pf) }
+        ensures out { out.new ≡ with_step out.old self.old.link.role
+            (machine.in_setting_up self.old.link (content_of frame.now.kind) frame.now.response frame.now.pf) }
         ensures anew { result ≡ (machine.in_setting_up self.old.link (content_of frame.now.kind)
             frame.now.response frame.now.pf).anew }
     {
@@ -125,8 +126,8 @@ impl Link {
           link = (machine.in_rejecting self.old.link (content_of frame.now.kind) frame.now.response
               frame.now.pf).link;
         } }
-        ensures out { out.new ≡ with_step out.old self.old.link.role (machine.in_rejecting self.old.link (content_of frame.now.kind)
-            frame.now.response frame.now.pf) }
+        ensures out { out.new ≡ with_step out.old self.old.link.role
+            (machine.in_rejecting self.old.link (content_of frame.now.kind) frame.now.response frame.now.pf) }
         ensures anew { result ≡ (machine.in_rejecting self.old.link (content_of frame.now.kind)
             frame.now.response frame.now.pf).anew }
     {

@@ -55,7 +55,8 @@ impl Link {
     // One frame is sent, and nothing else happens.
     pub(crate) fn sends(&self, frame: &Frame<'_>, out: &mut LinkOut) -> bool
         requires { HasSpelling (value_of frame.now) }
-        ensures out { out.new ≡ with_step out.old self.now.link.role (machine.sends self.now.link (value_of frame.now)) }
+        ensures out { out.new ≡ with_step out.old self.now.link.role
+            (machine.sends self.now.link (value_of frame.now)) }
         ensures anew { result ≡ (machine.sends self.now.link (value_of frame.now)).anew }
     {
         out.tell(Note::Nothing);

@@ -375,8 +375,8 @@ fn begin_switches<L: Line>(
 }
 
 impl<L: Line> Nodes<L> {
-    /// Makes the nodes of a plan on these lines, each of which is emptied first; where no call stands both ends of a line
-    /// send a frame to begin with. It is refused for want of memory.
+    /// Makes the nodes of a plan on these lines, each of which is emptied first; where no call stands both ends of a
+    /// line send a frame to begin with. It is refused for want of memory.
     pub fn new(alloc: Global, plan: &NetPlan, lines: Vec<L>) -> Result<Self, MakeFault>
         requires plan { IsPlan plan.now }
         requires alone { StandsAlone plan.now }

@@ -9,8 +9,8 @@ use crate::request::HostRequest;
 use packet_layer::ChannelFault;
 
 impl Host {
-    /// Asks something of the call on the channel: it is `answer`, `refuse`, `say`, `interrupt`, `reset`, `clear`, `stop`
-    /// or `go`, with the refusals of that call.
+    /// Asks something of the call on the channel: it is `answer`, `refuse`, `say`, `interrupt`, `reset`, `clear`,
+    /// `stop` or `go`, with the refusals of that call.
     pub fn ask(&mut self, channel: u8, request: &HostRequest) -> Result<(), ChannelFault>
         ensures answer { MatchResult result
             (λ _. ask_refusal self.old channel request.now ≡ None)

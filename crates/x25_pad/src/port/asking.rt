@@ -6,18 +6,13 @@ ghost use Rattle.x25_pad.specs.Ports as spec;
 use crate::line::PadLine;
 use crate::note::{MOST_NOTES, PadNote};
 use crate::port::{Port, call_on};
+use packet_codec::clear_cause::{NETWORK_CONGESTION, OUT_OF_ORDER};
 use packet_layer::CallFault;
 use pad_editing::Block;
 use pad_terminal::{BreakAnswer, BreakRequests, InputAnswer, Request};
 use x3_params::Params;
 use x28_commands::Selection;
 use x29_messages::{Message, MessageBuf, write_message};
-
-/// The cause that is shown where the packet layer is not ready (X.28 3.5.17).
-const OUT_OF_ORDER: u8 = 9;
-
-/// The cause that is shown where no channel is free.
-const NETWORK_CONGESTION: u8 = 5;
 
 impl Port {
     /// Takes a key, and answers whether it was taken.
