@@ -29,5 +29,5 @@ pub mod Placed
 pub mod Answered
 pub mod OpenPairs
 pub mod Accepted
-mod Delivery
+pub mod Delivery
 pub mod Rows

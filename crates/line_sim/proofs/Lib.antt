@@ -5,3 +5,4 @@ mod FewerDue
 mod Refusals
 mod RunsMore
 mod Resting
+mod Receipts

@@ -7,3 +7,4 @@ pub use Rattle.network_laws.specs.DueCount
 pub mod Between
 pub mod Runs
 pub mod Expiries
+pub mod Receipts

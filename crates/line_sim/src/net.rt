@@ -11,6 +11,7 @@ ghost use Rattle.net_nodes.specs.Faults.{step_fault, takes_memory};
 ghost use Rattle.net_nodes.specs.Happening.{Happens, IsRefusedSo};
 ghost use Rattle.net_nodes.specs.Due.{net_due};
 ghost use Rattle.line_sim.specs.Expiries.{FewerDue};
+ghost use Rattle.line_sim.specs.Receipts.{IsTakenBeyond};
 ghost use Rattle.net_nodes.specs.Questions.{net_confirmed, net_rests};
 ghost use Rattle.line_sim.specs.Runs.{IsMadeBy};
 
@@ -87,12 +88,19 @@ impl<L: Line> Net<L> {
         self.nodes.is_at_rest()
     }
 
+<<<<<<< HEAD
     /// Whether the host of this place has a call on the channel in which each packet with D = 1 since the last reset
     /// was covered (X.25 4.3.3). At another node it is not so. On faithful lines the record of that call has them all
     /// as covered.
+=======
+    /// Whether the host of this place has a call on the channel in which each packet with D = 1 since the last reset was
+    /// covered (X.25 4.3.3). At another node it is not so. On faithful lines the record of that call has them all as
+    /// covered, and the other end of the call took all that was sent up to the last of them.
+>>>>>>> 6b356f9f61e4b2b4fa01ae6818196fbd780d0e33
     pub fn confirmed(&self, node: usize, channel: u16) -> bool
         ensures exact { result ≡ net_confirmed node channel self.now }
         ensures delivered { L.service.faithful → result ≡ true → IsDelivered node channel self.now }
+        ensures taken { L.service.faithful → result ≡ true → IsTakenBeyond node channel self.now }
     {
         self.nodes.confirmed(node, channel)
     }
