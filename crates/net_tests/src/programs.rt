@@ -130,7 +130,7 @@ pub(crate) fn played_on(
 }
 
 /// The program on these words and this input ends with the status, what it prints and what it tells.
-fn ends<F: Files + net::Net + Abort, R: Read>(
+pub(crate) fn ends<F: Files + net::Net + Abort, R: Read>(
     rt: &F,
     alloc: Global,
     words: &[String],
@@ -659,7 +659,7 @@ impl Write for Broken {
 }
 
 /// The words of a line.
-fn words_of(alloc: Global, line: &str) -> Result<Vec<String>, AllocError> {
+pub(crate) fn words_of(alloc: Global, line: &str) -> Result<Vec<String>, AllocError> {
     let mut words = Vec::new(alloc);
     for word in line.split_whitespace() {
         words.push(word.to_string(alloc)?)?;
