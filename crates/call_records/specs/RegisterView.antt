@@ -2,7 +2,7 @@
 -- it.
 use Rattle.std.specs.Prelude.{◌≡◌, ℕ, ◌<◌, List, map, set, length, Option, Some, None}
 use Rattle.call_records.specs.Book.{Book}
-use Rattle.call_records.specs.Register.{LineEnds, with_book}
+use Rattle.call_records.specs.Register.{LineEnds}
 use Rattle.call_records.specs.Register as spec
 use Rattle.call_records.specs.declared.ends.Ends.{Ends}
 use Rattle.call_records.specs.declared.register.Register.{Register}

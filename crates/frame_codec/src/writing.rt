@@ -6,7 +6,6 @@ ghost use Rattle.frame_codec.specs.Spelling.{
   control_of,
   states_of,
   reasons_of,
-  field_of,
   spelling,
   HasNumbers,
   HasSpelling,

@@ -29,7 +29,6 @@ ghost use Rattle.link_timers.specs.Timers.{
   lowered,
   after_ticks,
   is_due,
-  due_from,
   due_timers,
   first_of,
   AreTimers,

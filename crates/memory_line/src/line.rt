@@ -1,6 +1,6 @@
 //! Lines: each hands over whole frames or nothing, for each direction in order.
-ghost use Rattle.std.specs.Prelude.{◌≡◌, ◌≢◌, ◌+◌, ◌<◌, ◌≤◌, ◌↔◌, ◌⊎◌, [], ◌∷◌, ◌++◌, length, map, slice_get, IsTrue};
-ghost use Rattle.std.specs.Prelude.{IfOk, replicate, vec_len};
+ghost use Rattle.std.specs.Prelude.{◌≡◌, ◌≢◌, ◌+◌, ◌<◌, ◌≤◌, ◌↔◌, [], ◌∷◌, ◌++◌, length, slice_get, IsTrue};
+ghost use Rattle.std.specs.Prelude.{IfOk, replicate};
 ghost use Rattle.memory_line.specs.Lines.{Flights, LineService, memory_service, no_flights, flying, with_flying};
 ghost use Rattle.memory_line.specs.Lines.{without_first, IsPut};
 

@@ -6,7 +6,8 @@ use Rattle.net_files.specs.Digits.{hex_value}
 -- hexadecimal digits, the high one first, and any other octet itself.
 pub data OctetForm : List ℕ → ℕ → List ℕ → Type 0 where
   backslash : {rest : List ℕ} → OctetForm (92 ∷ 92 ∷ rest) 92 rest
-  escape : {high low : ℕ} (sixteens ones : ℕ) {rest : List ℕ} → hex_value high ≡ Some sixteens → hex_value low ≡ Some ones
+  escape : {high low : ℕ} (sixteens ones : ℕ) {rest : List ℕ}
+      → hex_value high ≡ Some sixteens → hex_value low ≡ Some ones
       → OctetForm (92 ∷ high ∷ low ∷ rest) (sixteens * 16 + ones) rest
   plain : {octet : ℕ} {rest : List ℕ} → octet ≢ 92 → OctetForm (octet ∷ rest) octet rest
 

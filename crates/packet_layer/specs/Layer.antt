@@ -9,7 +9,7 @@ use Rattle.packet_codec.specs.ClearCause as clear_cause
 use Rattle.packet_codec.specs.RestartCause as restart_cause
 use Rattle.packet_codec.specs.Diagnostic.{no_information, not_allowed_in_r1}
 use Rattle.packet_channel.specs.Packets.{CallParts, Body, Packet, Received, Note, Reason}
-use Rattle.packet_channel.specs.Packets.Body.{Call, Restart, RestartConfirmation}
+use Rattle.packet_channel.specs.Packets.Body.{Restart, RestartConfirmation}
 use Rattle.packet_channel.specs.Packets.Received.{Whole, Unknown, Faulty}
 use Rattle.packet_channel.specs.Packets.Note.{Closed}
 use Rattle.packet_channel.specs.Packets.Reason.{LinkLost, FarRestart, LocalFault}

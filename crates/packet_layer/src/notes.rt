@@ -1,5 +1,5 @@
 //! The notes of a packet layer that are not yet read.
-ghost use Rattle.std.specs.Prelude.{◌≡◌, ◌<◌, ◌≤◌, ◌++◌, ◌∷◌, [], IfOk, length, drop, slice_get};
+ghost use Rattle.std.specs.Prelude.{◌≡◌, ◌<◌, ◌++◌, ◌∷◌, [], IfOk, length, drop, slice_get};
 
 use crate::params::MOST_CHANNELS;
 use circular_buffer::HeapCircularBuffer;

@@ -1,5 +1,5 @@
 //! The program that makes a capture.
-ghost use Rattle.std.specs.Prelude.{◌≡◌, ◌⊎◌, Some, None};
+ghost use Rattle.std.specs.Prelude.{◌≡◌, ◌⊎◌};
 
 use crate::blocks::capture;
 use crate::fault::TraceFault;
@@ -15,7 +15,8 @@ const DONE: u8 = 0;
 const FAULT: u8 = 1;
 
 /// Reads what a run has printed with its frames traced, and writes the capture of the frames; gives the status to end
-/// with. A fault is told on `err`, and then nothing was written but for what could be of a capture whose writing failed.
+/// with. A fault is told on `err`, and then nothing was written but for what could be of a capture whose writing
+/// failed.
 pub fn convert<R: Read, W: Write, E: Write>(
     alloc: Global,
     input: &mut R,

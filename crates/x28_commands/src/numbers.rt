@@ -1,8 +1,8 @@
 //! Numbers, pairs of them, and lists.
 
-ghost use Rattle.std.specs.Prelude.{◌≡◌, ◌==◌, ◌<◌, ◌≤◌, ◌∷◌, [], ℕ, List, Option, length, position, MatchOption};
+ghost use Rattle.std.specs.Prelude.{◌≡◌, ◌==◌, ◌<◌, ◌≤◌, ◌∷◌, [], ℕ, List, Option, length, position};
 ghost use Rattle.std.specs.Prelude.{IfSome, IsTrue};
-ghost use Rattle.std.specs.List.{list_all, slice_split};
+ghost use Rattle.std.specs.List.{list_all};
 ghost use Rattle.std.specs.Char.{is_ascii_digit};
 ghost use Rattle.x28_commands.specs.Numbers.{decimal, number_of, pair_of, entries};
 ghost use Rattle.x28_commands.specs.Lists.{Gives, Cuts};

@@ -1,6 +1,6 @@
 //! Writing messages.
 
-ghost use Rattle.std.specs.Prelude.{◌≡◌, ◌≤◌, ◌*◌, ◌+◌, ◌++◌, ◌∷◌, length};
+ghost use Rattle.std.specs.Prelude.{◌≡◌, ◌≤◌, ◌*◌, ◌∷◌, length};
 ghost use Rattle.arrayvec.specs.ArrayVec.{array_vec_len};
 ghost use Rattle.x29_messages.specs.Reading.{message_of};
 ghost use Rattle.x29_messages.specs.MessageForm.{MessageForm, error_octets, octets_of, pairs_octets};
