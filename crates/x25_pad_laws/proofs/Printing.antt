@@ -1,6 +1,6 @@
 -- Keys, breaks and printing at a terminal keep what holds of the PAD and of the book.
-use Rattle.std.specs.Prelude.{◌≡◌, ℕ, Bool, true, false, if◌then◌else◌, List, [], ◌∷◌, Option, Some, None}
-use Rattle.std.proofs.Common.{refl, sym, subst}
+use Rattle.std.specs.Prelude.{◌≡◌, ◌⊎◌, ℕ, Bool, true, false, if◌then◌else◌, List, [], ◌∷◌, Option, Some, None}
+use Rattle.std.proofs.Common.{refl, sym, subst, inl, inr}
 use Rattle.link_timers.specs.declared.role.Role.{Role}
 use Rattle.pad_editing.specs.Edited.{key, idle}
 use Rattle.packet_layer.specs.Packets.{Datum}
@@ -58,8 +58,12 @@ abbrev AnswerFollows : BreakAnswer → TerminalState → TerminalState → Type 
 AnswerFollows break_answer.Dropped t u = Same t u
 AnswerFollows (break_answer.Taken requests) t u = Follows requests.request t u × IsIndication requests.indication
 
+discards_or_not : (params : List ℕ) → (breaks.discard_pairs params ≡ []) ⊎ (breaks.discard_pairs params ≡ (8, 1) ∷ [])
+discards_or_not params =
+    either (λ (pairs : List (ℕ × ℕ)). (pairs ≡ []) ⊎ (pairs ≡ (8, 1) ∷ [])) (acts_on_break params action.Discard) ((8, 1) ∷ []) [] (inr refl) (inl refl)
+
 indication_is : (params : List ℕ) → IsIndication (breaks.indication_of params)
-indication_is params = either IsIndication (breaks.indicates params) _ None tt tt
+indication_is params = either IsIndication (breaks.indicates params) _ None (discards_or_not params) tt
 
 break_follows : (call : CallCondition) (t u : TerminalState) → Same t u → AnswerFollows (breaks.answer_of call t) t u
 break_follows call t u s =

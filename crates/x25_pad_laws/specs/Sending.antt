@@ -1,5 +1,5 @@
 -- What a PAD sends on a call: what its terminal typed, messages of X.29, and the interrupt of a break.
-use Rattle.std.specs.Prelude.{◌≡◌, ℕ, List, [], ◌∷◌, ◌++◌, map}
+use Rattle.std.specs.Prelude.{◌≡◌, ◌⊎◌, ℕ, List, [], ◌∷◌, ◌++◌, map}
 use Rattle.epochs.specs.Item.{Item, Octet, End, QualifiedOctet, QualifiedEnd, user_items}
 use Rattle.epochs.specs.Epoch.{Epoch}
 use Rattle.pad_editing.specs.Edited.{edited}
@@ -42,11 +42,12 @@ qualified_items (End ∷ is) = qualified_items is
 qualified_items (QualifiedOctet x ∷ is) = QualifiedOctet x ∷ qualified_items is
 qualified_items (QualifiedEnd ∷ is) = QualifiedEnd ∷ qualified_items is
 
--- what a PAD tells the far end: values of parameters and errors, in answer to its messages, and breaks
+-- what a PAD tells the far end: values of parameters, errors, and breaks, these with the parameter by which output is
+-- discarded or with none
 abbrev pub IsOfPad : Message → Type 0
 IsOfPad (ParameterIndication pairs) = Unit {0}
 IsOfPad (Error kind code) = Unit {0}
-IsOfPad (IndicationOfBreak pairs) = Unit {0}
+IsOfPad (IndicationOfBreak pairs) = (pairs.items ≡ []) ⊎ (pairs.items ≡ (8, 1) ∷ [])
 IsOfPad _ = ⊥
 
 -- ---- a record
