@@ -1,6 +1,6 @@
 //! Reading of the command words.
 ghost use Rattle.std.specs.Prelude.{◌≡◌, [], map, false, Ok, None, string_bytes, IfOk, IfSome};
-ghost use Rattle.clap.specs.Words.{app_of, found_of, first_of, rows_of, rule_of, subcommand_rows_of};
+ghost use Rattle.clap.specs.Words.{app_of, rule_of, subcommand_rows_of};
 ghost use Rattle.command_words.specs.Invocations.{Asks, Found, file_option, program};
 
 use crate::invocation::{Invocation, Mode, WordsFault};

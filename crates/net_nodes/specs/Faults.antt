@@ -7,7 +7,8 @@ use Rattle.net_events.specs.Network.{PlacedNode, NetNode, User, Switching, NetLi
 use Rattle.net_events.specs.EventView.{request_event}
 use Rattle.net_turns.specs.Outcomes.{event_fault}
 use Rattle.net_events.specs.declared.event.Event.{Event}
-use Rattle.net_events.specs.declared.event.Event.TheVariants.{AtTerminal, Call, Ask, Take, Deliver, Lose, Expire, Relink}
+use Rattle.net_events.specs.declared.event.Event.TheVariants.{AtTerminal, Call, Ask, Take, Deliver, Lose, Expire}
+use Rattle.net_events.specs.declared.event.Event.TheVariants.{Relink}
 use Rattle.net_events.specs.declared.event.Event.TheVariants.{Restart}
 use Rattle.net_events.specs.declared.event.StepFault.{StepFault}
 use Rattle.net_events.specs.declared.event.StepFault.TheVariants.{NoSuchNode, NoSuchTerminal, NoSuchCall, Refused}

@@ -10,7 +10,8 @@ use Rattle.memory_line.specs.Lines.{Flights, no_flights, LineService, ArePut}
 use Rattle.switch_lines.specs.Making.{made, IsConfig}
 use Rattle.net_events.specs.AtSwitch.{switch_drained}
 use Rattle.net_events.specs.Network.{PlacedNode, PlacedSwitch, NetNode, User, Switching, NetLine}
-use Rattle.net_events.specs.Opening.{NewNode, NewSwitch, Planned, PlannedUser, PlannedSwitch, NewLine, NetPlan, AreSent, IsMade}
+use Rattle.net_events.specs.Opening.{NewNode, NewSwitch, Planned, PlannedUser, PlannedSwitch, NewLine, NetPlan, AreSent}
+use Rattle.net_events.specs.Opening.{IsMade}
 use Rattle.net_events.specs.Opening.{new_node, new_dte, new_dce, placed_new, own_configs, line_plan}
 use Rattle.net_nodes.specs.Switching.{LinesPut}
 
@@ -62,7 +63,8 @@ AreFirst L dte params (PlannedUser n) flights = AreSent L dte (new_dce params) f
 AreFirst L dte params (PlannedSwitch n) flights = ArePut L FromDte (frames_of dte) no_flights flights
 
 -- the line is between its two nodes
-pub record LineHasBegun (L : LineService) (plan : NetPlan) (lines : List NetLine) (line : ℕ) (l : NewLine) : Type 0 where
+pub record LineHasBegun (L : LineService) (plan : NetPlan) (lines : List NetLine) (line : ℕ) (l : NewLine)
+    : Type 0 where
   pub flights : Flights
   pub there : slice_get lines line
       ≡ Some (record { dte = l.dte; dce = l.dce; channels = l.params.channels; flights = flights })

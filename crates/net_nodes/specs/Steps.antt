@@ -16,7 +16,8 @@ use Rattle.net_events.specs.declared.answer.Outcome.{Outcome}
 use Rattle.net_events.specs.declared.answer.Outcome.TheVariants.{Delivered, Done}
 use Rattle.net_events.specs.EventView.{request_event}
 use Rattle.net_events.specs.declared.event.Event.{Event}
-use Rattle.net_events.specs.declared.event.Event.TheVariants.{AtTerminal, Call, Ask, Take, Deliver, Lose, Expire, Relink}
+use Rattle.net_events.specs.declared.event.Event.TheVariants.{AtTerminal, Call, Ask, Take, Deliver, Lose, Expire}
+use Rattle.net_events.specs.declared.event.Event.TheVariants.{Relink}
 use Rattle.net_events.specs.declared.event.Event.TheVariants.{Restart}
 use Rattle.net_nodes.specs.declared.nodes.LineEnd.{LineEnd}
 use Rattle.net_turns.specs.Sends.{all_puts}

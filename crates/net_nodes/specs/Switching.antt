@@ -1,5 +1,6 @@
 -- What an event does at a switch, on its lines and in the register.
-use Rattle.std.specs.Prelude.{◌≡◌, ℕ, ◌*◌, ◌<◌, ◌≤◌, Bool, true, false, if◌then◌else◌, List, [], length, set, slice_get, Some}
+use Rattle.std.specs.Prelude.{◌≡◌, ℕ, ◌*◌, ◌<◌, ◌≤◌, Bool, true, false, if◌then◌else◌, List, [], length, set, slice_get}
+use Rattle.std.specs.Prelude.{Some}
 use Rattle.lapb.specs.Machine.{Octets}
 use Rattle.call_records.specs.Register.{Register}
 use Rattle.memory_line.specs.declared.line.Direction.TheVariants.{FromDce}

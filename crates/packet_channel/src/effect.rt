@@ -1,7 +1,7 @@
 //! What a step of a channel does besides changing it.
 ghost use Rattle.std.specs.Prelude.{◌≡◌, [], ◌∷◌, Some, None};
-ghost use Rattle.packet_channel.specs.ControlView.{control_body, maybe_body};
-ghost use Rattle.packet_channel.specs.NoteView.{note_of, listed};
+ghost use Rattle.packet_channel.specs.ControlView.{control_body};
+ghost use Rattle.packet_channel.specs.NoteView.{note_of};
 
 use crate::control::Control;
 use crate::note::LayerNote;

@@ -2,7 +2,7 @@
 
 ghost use Rattle.std.specs.Prelude.{◌≡◌, IfOk, false};
 ghost use Rattle.packet_codec.specs.Packet.{PacketForm, PacketValue};
-ghost use Rattle.packet_codec.specs.Reading.{bit_7, bit_8, channel_of, cause_of, content_of, fault_in, first_fault};
+ghost use Rattle.packet_codec.specs.Reading.{channel_of, cause_of, content_of, fault_in, first_fault};
 ghost use Rattle.packet_codec.specs.Reading.{named_channel, named_type, reading};
 ghost use Rattle.packet_codec.specs.View.{answer_view, content_answer_view, view};
 

@@ -1,5 +1,4 @@
 //! What the users of the nodes ask.
-ghost use Rattle.std.specs.Prelude.{◌≡◌};
 ghost use Rattle.net_events.specs.declared.event.Event.TheVariants as event_is;
 ghost use Rattle.net_nodes.specs.Places.{IsStanding};
 ghost use Rattle.net_nodes.specs.Happening.{Happens};
