@@ -43,6 +43,45 @@ fn dials_and_types(rt: HostRuntime) {
 }
 
 #[test]
+fn says_why_a_call_was_reset_or_cleared(rt: HostRuntime) {
+    play(
+        &rt,
+        rt.alloc(),
+        false,
+        &[
+            Connected,
+            Reset(0),
+            Reset(3),
+            Reset(5),
+            Reset(7),
+            Reset(9),
+            Prints(
+                b"\r\nCOM\r\n\r\nRESET DTE\r\n\r\nRESET RPE\r\n\r\nRESET ERR\r\n\r\nRESET NC\r\n\r\nRESET ERR\r\n",
+            ),
+            Cleared(3),
+            Type(b"2001\r"),
+            Cleared(11),
+            Type(b"2001\r"),
+            Cleared(17),
+            Type(b"2001\r"),
+            Cleared(19),
+            Prints(
+                b"\r\nCLR INV\r\n2001\r\r\nCLR NA\r\n2001\r\r\nCLR RPE\r\n2001\r\r\nCLR ERR\r\n",
+            ),
+            Connected,
+            Cleared(5),
+            Connected,
+            Cleared(128),
+            Connected,
+            Cleared(7),
+            Prints(
+                b"\r\nCOM\r\n\r\nCLR NC\r\n\r\nCOM\r\n\r\nCLR DTE\r\n\r\nCOM\r\n\r\nCLR ERR\r\n",
+            ),
+        ],
+    );
+}
+
+#[test]
 fn places_no_call_that_is_refused(rt: HostRuntime) {
     play(
         &rt,
