@@ -4,6 +4,8 @@
 #[cfg(test)]
 mod callers;
 #[cfg(test)]
+mod confirmed;
+#[cfg(test)]
 mod hosts;
 #[cfg(test)]
 mod networks;
