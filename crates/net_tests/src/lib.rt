@@ -5,6 +5,7 @@
 mod callers;
 #[cfg(test)]
 mod files;
+mod confirmed;
 #[cfg(test)]
 mod hosts;
 #[cfg(test)]

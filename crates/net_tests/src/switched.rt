@@ -6,7 +6,7 @@ use std::str::from_utf8;
 use std::test::Fail;
 
 /// Two hosts at a switch, of which the second has one channel.
-const SWITCHED: &str = r#"
+pub(crate) const SWITCHED: &str = r#"
 [[node]]
 name = "h1"
 kind = "host"

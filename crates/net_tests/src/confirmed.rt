@@ -1,0 +1,169 @@
+//! Delivery that is confirmed from end to end, through a switch.
+use crate::programs::played_on;
+use crate::switched::SWITCHED;
+use line_sim::Net;
+use net_files::read_net;
+use std::str::from_utf8;
+use std::test::Fail;
+
+/// A PAD and a host at a switch.
+const PAD_AND_HOST: &str = r#"
+[[node]]
+name = "pad"
+kind = "pad"
+
+[[node]]
+name = "host"
+kind = "host"
+
+[[node]]
+name = "s"
+kind = "switch"
+
+[[line]]
+dte = "pad"
+dce = "s"
+address = "1001"
+
+[[line]]
+dte = "host"
+dce = "s"
+address = "2001"
+
+[[route]]
+switch = "s"
+prefix = "1"
+line = 0
+
+[[route]]
+switch = "s"
+prefix = "2"
+line = 1
+"#;
+
+/// A script, what is printed for it, and whether the call is then confirmed at the first node, on channel 4, and at the
+/// second, on channel 1.
+type Step = (&'static str, &'static str, [bool; 2]);
+
+const HOSTS_CALL: Step = (
+    "flow\ncall h1 2001\nflow\nanswer h2 1\nflow\n",
+    "h1/4 called\nh2/1 incoming 1001\nh1/4 connected\nend rest\n",
+    [true, true],
+);
+
+/// No RR packet comes before the terminal's text is printed, or the far host has taken what was said.
+const TAKEN: [Step; 8] = [
+    HOSTS_CALL,
+    (
+        "trace on\nsay h1 4 d HI\nflow\n",
+        "0 > 01 44 50 04 00 48 49\n0 < 01 61\n1 < 03 44 50 01 00 48 49\n1 > 03 61\nend busy\n",
+        [false, true],
+    ),
+    (
+        "trace on\ntake h2 1\n",
+        "1 > 01 64 10 01 21\nh2/1 data d \"HI\"\nend busy\n",
+        [false, true],
+    ),
+    (
+        "trace on\nflow\n",
+        "0 < 03 64 10 04 21\n1 < 01 61\n0 > 03 61\nend rest\n",
+        [true, true],
+    ),
+    (
+        "trace on\nsay h1 4 - HO\nflow\n",
+        "0 > 01 66 10 04 02 48 4F\n0 < 03 86 10 04 41\n1 < 03 66 10 01 02 48 4F\n0 > 03 81\n1 > 03 81\nend busy\n",
+        [true, true],
+    ),
+    (
+        "take h2 1\nflow\nsay h2 1 d YES\nflow\n",
+        "h2/1 data - \"HO\"\nend busy\n",
+        [true, false],
+    ),
+    (
+        "take h1 4\n",
+        "h1/4 data d \"YES\"\nend busy\n",
+        [true, false],
+    ),
+    ("flow\n", "end rest\n", [true, true]),
+];
+
+const PRINTED: [Step; 5] = [
+    (
+        "flow\nkey pad 0 2001\\0D\nflow\nanswer host 1\nflow\nprint pad 0\n",
+        "host/1 incoming 1001\npad.0 \"2001\\0D\\0D\\0ACOM\\0D\\0A\"\nend rest\n",
+        [false, true],
+    ),
+    (
+        "trace on\nsay host 1 d HI\nflow\n",
+        "1 > 01 44 50 01 00 48 49\n0 < 03 44 50 04 00 48 49\n1 < 01 61\n0 > 03 61\nend busy\n",
+        [false, false],
+    ),
+    (
+        "trace on\nprint pad 0\n",
+        "0 > 01 64 10 04 21\npad.0 \"HI\"\nend busy\n",
+        [false, false],
+    ),
+    (
+        "trace on\nflow\n",
+        "0 < 01 61\n1 < 03 64 10 01 21\n1 > 03 61\nend rest\n",
+        [false, true],
+    ),
+    (
+        "trace on\nsay host 1 - HO\nflow\n",
+        "1 > 01 66 10 01 02 48 4F\n0 < 03 66 10 04 02 48 4F\n1 < 03 86 10 01 41\n1 > 03 81\n0 > 03 81\nend busy\n",
+        [false, true],
+    ),
+];
+
+/// The sender resets the call while the confirmation is on its way to it, and the taker before it takes.
+const RESET: [Step; 7] = [
+    HOSTS_CALL,
+    ("say h1 4 d HI\nflow\n", "end busy\n", [false, true]),
+    (
+        "trace on\ntake h2 1\ndeliver 1 >\n",
+        "1 > 01 64 10 01 21\nh2/1 data d \"HI\"\n0 < 03 64 10 04 21\n1 < 01 61\nend busy\n",
+        [false, true],
+    ),
+    (
+        "trace on\nreset h1 4\nflow\n",
+        "0 > 01 46 10 04 1B 00 00\n0 < 03 86 10 04 1F\n1 < 03 66 10 01 1B 00 00\n0 > 03 61\n0 > 03 81\n1 > 01 86 10 01 1F\nh2/1 reset 0 0\n1 < 01 81\nend rest\n",
+        [true, true],
+    ),
+    (
+        "trace on\nsay h1 4 d HO\nflow\n",
+        "0 > 01 88 50 04 00 48 4F\n0 < 01 A1\n1 < 03 88 50 01 00 48 4F\n1 > 03 A1\nend busy\n",
+        [false, true],
+    ),
+    (
+        "trace on\nreset h2 1\n",
+        "1 > 01 A8 10 01 1B 00 00\nend busy\n",
+        [false, true],
+    ),
+    (
+        "trace on\nflow\n",
+        "0 < 03 A8 10 04 1B 00 00\n1 < 03 AA 10 01 1F\n1 > 03 C1\n0 > 01 AA 10 04 1F\nh1/4 reset 0 0\n0 < 01 C1\nend rest\n",
+        [true, true],
+    ),
+];
+
+#[test]
+fn delivery_is_confirmed_through_a_switch(rt: HostRuntime) -> Result<(), Fail> {
+    let runs = [
+        (SWITCHED, TAKEN.as_slice()),
+        (PAD_AND_HOST, PRINTED.as_slice()),
+        (SWITCHED, RESET.as_slice()),
+    ];
+    for (network, steps) in runs {
+        let config = read_net(rt.alloc(), network)?;
+        let mut net = Net::on_memory_lines(rt.alloc(), &config)?;
+        for (script, printed, confirmed) in steps {
+            let out = played_on(rt.alloc(), &mut net, &config, script.as_bytes())?;
+            assert_eq!(rt; from_utf8(out.as_slice())?, *printed);
+            assert!(rt;
+                [net.confirmed(0, 4), net.confirmed(1, 1)] == *confirmed,
+                "{script}"
+            );
+        }
+    }
+    Ok(())
+}
