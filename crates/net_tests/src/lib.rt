@@ -4,8 +4,9 @@
 #[cfg(test)]
 mod callers;
 #[cfg(test)]
-mod files;
 mod confirmed;
+#[cfg(test)]
+mod files;
 #[cfg(test)]
 mod hosts;
 #[cfg(test)]
