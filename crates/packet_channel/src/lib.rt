@@ -20,4 +20,5 @@ pub use fault::ChannelFault;
 pub use note::{LayerNote, Reason};
 pub use state::{CallState, End, error_cause};
 pub use taken::{Front, Taken};
+pub use traffic::SEND_QUEUE;
 pub use user_data::{InterruptData, UserData};

@@ -13,7 +13,7 @@ use std::alloc::{AllocError, Global};
 use std::marker::Model;
 
 /// How many packets of a call may wait to be sent.
-pub(crate) const SEND_QUEUE: usize = 8;
+pub const SEND_QUEUE: usize = 8;
 
 /// How many packets of a call may wait to be taken: no window is larger.
 const RECEIVE_QUEUE: usize = 8;

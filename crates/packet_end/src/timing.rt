@@ -1,18 +1,15 @@
 //! Which timers of the packet layer run (X.25 annex D).
-ghost use Rattle.std.specs.Prelude.{◌≡◌, ◌≢◌, ◌≤◌};
+ghost use Rattle.std.specs.Prelude.{◌≡◌, ◌≤◌};
 ghost use Rattle.link_timers.specs.declared.timers.TimerId.{TimerId as TimerName};
-ghost use Rattle.link_timers.specs.Timers.{IsTimer, left_of};
+ghost use Rattle.link_timers.specs.Timers.{IsTimer};
 ghost use Rattle.packet_end.specs.Timing.{brought_one, brought_channel, brought, RunsAsWanted, IsPacketTimer};
 ghost use Rattle.packet_end.specs.Timing.{TimersAgree, channel_number};
 
 use link_timers::{TimerId, Timers};
-use packet_layer::Layer;
+use packet_layer::{Layer, MOST_CHANNELS};
 
 /// How long each of these timers runs, in ticks of a twentieth of a second.
 const PACKET_TICKS: u16 = 3600;
-
-/// The most channels of a line.
-const MOST_CHANNELS: u8 = 32;
 
 #[tactic(auto, unfolding(crate::specs::Timing::brought))]
 /// Starts the timers that are to run and do not, and stops those that are not to run.

@@ -1,7 +1,7 @@
 //! The host and its calls.
-ghost use Rattle.std.specs.Prelude.{◌≡◌, ◌≤◌, ◌∷◌, [], true, false, Some, None, length, MatchResult, OnOk, OnErr, OnSome};
+ghost use Rattle.std.specs.Prelude.{◌≡◌, ◌≤◌, ◌∷◌, [], true, false, Some, None, length, MatchResult, OnOk, OnErr};
+ghost use Rattle.std.specs.Prelude.{OnSome};
 ghost use Rattle.std.specs.Prelude.{slice_get};
-ghost use Rattle.std.specs.Bool.{OnTrue, OnFalse};
 ghost use Rattle.packet_layer.specs.Channel.{Request as ask};
 ghost use Rattle.packet_layer.specs.Layer as machine;
 ghost use Rattle.packet_layer.specs.NoteView.{maybe_note};
@@ -11,9 +11,8 @@ ghost use Rattle.packet_end.specs.Params.{AreParams, MadeNot};
 ghost use Rattle.packet_end.specs.PacketEnd as end;
 ghost use Rattle.packet_end.specs.Timing.{TimersAgree};
 ghost use Rattle.packet_host.specs.Host.{ended, call_parts, after_call, after_request, refuse_refusal, after_refuse};
-ghost use Rattle.packet_host.specs.Host.{after_say, after_take, after_frame, after_expiry, after_relink};
+ghost use Rattle.packet_host.specs.Host.{after_take};
 ghost use Rattle.packet_host.specs.Making.{made};
-ghost use Rattle.packet_host.specs.Saying.{say_refusal};
 
 mod asking;
 mod line;

@@ -11,6 +11,6 @@ mod restart;
 pub use fault::{CallFault, MakeFault};
 pub use layer::Layer;
 pub use packet_channel::{
-    ChannelFault, Front, InterruptData, LayerNote, Reason, Request, Taken, UserData,
+    ChannelFault, Front, InterruptData, LayerNote, Reason, Request, SEND_QUEUE, Taken, UserData,
 };
-pub use params::LayerParams;
+pub use params::{LayerParams, MOST_CHANNELS};

@@ -1,5 +1,5 @@
 //! What a host says on a call (X.25 4.3).
-ghost use Rattle.std.specs.Prelude.{◌≡◌, ◌≤◌, Some, None, MatchResult, OnOk, length};
+ghost use Rattle.std.specs.Prelude.{◌≡◌, Some, None, MatchResult, OnOk};
 ghost use Rattle.packet_layer.specs.RequestView.{refusal_of};
 ghost use Rattle.packet_end.specs.PacketEnd as end;
 ghost use Rattle.packet_host.specs.Host.{after_say};
@@ -9,10 +9,7 @@ ghost use Rattle.packet_host.specs.Saying.{AllTaken};
 use crate::host::Host;
 use packet_codec::MAX_USER_DATA;
 use packet_end::PacketEnd;
-use packet_layer::{ChannelFault, Request};
-
-/// The places of a send queue.
-const QUEUE: usize = 8;
+use packet_layer::{ChannelFault, Request, SEND_QUEUE};
 
 impl Host {
     #[tactic(auto, using(crate::proofs::Taken::all_said))]
@@ -65,7 +62,7 @@ fn needed(octets: &[u8], qualified: bool) -> usize
     if qualified {
         1
     } else {
-        QUEUE.min(full_packets(octets) + 1)
+        SEND_QUEUE.min(full_packets(octets) + 1)
     }
 }
 
@@ -76,7 +73,7 @@ fn most(qualified: bool) -> usize
     if qualified {
         MAX_USER_DATA
     } else {
-        QUEUE * MAX_USER_DATA
+        SEND_QUEUE * MAX_USER_DATA
     }
 }
 
