@@ -78,11 +78,11 @@ impl<L: Line> Net<L> {
         self.nodes.pairs()
     }
 
-    /// Whether nothing is in flight, unacknowledged, owed, or waits to be sent, carried on or taken. Then, on faithful
-    /// lines, nothing is missing: of each call that is open at both ends each end took all that the other one sent since
-    /// the last reset.
+    /// Whether nothing is in flight, unacknowledged, owed, or waits to be sent, carried on or taken. What waits at a
+    /// terminal does not count; what is in flight is what the lines say. Then, on faithful lines, nothing is missing: of
+    /// each call that is open at both ends each end took all that the other one sent since the last reset.
     pub fn at_rest(&self) -> bool
-        ensures exact { L.service.faithful → result ≡ net_rests self.now }
+        ensures exact { result ≡ net_rests self.now }
         ensures nothing_missing { L.service.faithful → result ≡ true → MissesNothing self.now }
     {
         self.nodes.is_at_rest()
