@@ -39,9 +39,9 @@ pub trait Line: Drop {
     fn empty(&mut self)
         ensures { service.faithful → flights self.new ≡ no_flights };
 
-    /// Whether a frame is in flight in this direction.
+    /// Whether a frame is in flight in this direction, as far as the line knows.
     fn in_flight(&self, direction: Direction) -> bool
-        ensures { service.faithful → IsTrue result ↔ (flying direction (flights self.now) ≢ []) };
+        ensures { IsTrue result ↔ (flying direction (flights self.now) ≢ []) };
 }
 
 /// A line in memory, which holds 64 frames for each direction: a frame put beyond these is lost. It is faithful.

@@ -139,7 +139,7 @@ pub record Plays (L : LineService) (script : Script) (s : Network) (text : List 
   pub commands :
       InTurn Command Played (DoesCommand L script.names.items script.lines) script.commands.items
       (record { net = s; traces = false }) told (record { net = t; traces = traces })
-  pub rest : L.faithful → at_rest ≡ net_rests t
+  pub rest : at_rest ≡ net_rests t
   pub whole : text ≡ told ++ end_line at_rest
 
 -- a network was made on lines of this service, a script played on it, and its text written behind what was known to be

@@ -14,7 +14,7 @@ use net_events::Event;
 impl<L: Line> NetLine<L> {
     /// Whether no frame is in flight.
     fn is_empty(&self) -> bool
-        ensures { L.service.faithful → result ≡ is_empty self.now }
+        ensures { result ≡ is_empty self.now }
     {
         !self.line.in_flight(Direction::FromDte) && !self.line.in_flight(Direction::FromDce)
     }
@@ -35,7 +35,7 @@ impl<L: Line> Nodes<L> {
 
     /// Whether no frame is in flight.
     fn are_lines_empty(&self) -> bool
-        ensures { L.service.faithful → result ≡ list_all is_empty self.now.lines }
+        ensures { result ≡ list_all is_empty self.now.lines }
     {
         for line in &self.lines {
             if !line.is_empty() {
@@ -53,7 +53,7 @@ impl<L: Line> Nodes<L> {
 
     /// Whether nothing is in flight, unacknowledged, owed, or waits to be sent or taken.
     pub fn is_at_rest(&self) -> bool
-        ensures { L.service.faithful → result ≡ net_rests self.now }
+        ensures { result ≡ net_rests self.now }
     {
         self.are_lines_empty() && self.are_nodes_at_rest()
     }

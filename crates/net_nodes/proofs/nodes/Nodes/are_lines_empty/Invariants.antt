@@ -5,4 +5,4 @@ use Rattle.net_nodes.specs.Questions.{is_empty}
 use Rattle.net_nodes.proofs.nodes.Nodes.are_lines_empty.Given as goal
 
 abbrev pub invariant-loop-line : goal.invariant-loop-line
-invariant-loop-line g l = g.L.Line.service.faithful → list_all is_empty (take l.line-index l.line-items) ≡ true
+invariant-loop-line g l = list_all is_empty (take l.line-index l.line-items) ≡ true
