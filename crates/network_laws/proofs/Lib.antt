@@ -16,3 +16,5 @@ pub mod Promising
 pub mod Resting
 pub mod Due
 mod Rows
+mod PadRows
+pub mod PadRuns

@@ -1,5 +1,6 @@
 pub mod IsLine
 pub mod LineLaw
+pub mod PadRun
 pub mod IsNetwork
 pub mod Promise
 pub mod DueCount

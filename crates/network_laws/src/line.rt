@@ -1,5 +1,6 @@
 //! One line of a network.
 ghost use Rattle.network_laws.specs.LineLaw.{MadeLaw, EventLaw, LossLaw, TimeLaw, BookLaw, TypedLaw};
+ghost use Rattle.network_laws.specs.PadRun.{PadRunLaw};
 
 use memory_line::Line;
 
@@ -14,4 +15,12 @@ pub fn one_line_law<L: Line>()
     ensures time { TimeLaw L.service }
     ensures book { BookLaw L.service }
     ensures typed { TypedLaw L.service }
+{}
+
+/// Two runs of a PAD and a host on a line, by computation, of which the law of the line speaks from the making on:
+/// dialled, connected, typed with a deletion, a parameter read by the host (X.29), reset; and on a call that stands
+/// reset while text is held, a break, cleared. Records and pair are what was typed, answered and told, and what the
+/// terminal is shown are its echo and the service signals (X.28).
+pub fn pad_run_law<L: Line>()
+    ensures { PadRunLaw L.service }
 {}
