@@ -1,6 +1,6 @@
 -- What the worked run of a PAD and a host comes to, by computation.
-use Rattle.std.specs.Prelude.{◌≡◌, ℕ, true, false, List, [], ◌∷◌, ◌++◌, map, Option, Some, None}
-use Rattle.std.proofs.Common.{refl, ap, ◌∙◌, sym}
+use Rattle.std.specs.Prelude.{◌≡◌, ℕ, true, false, List, [], ◌∷◌, ◌++◌, Option, Some, None}
+use Rattle.std.proofs.Common.{refl, ap, ◌∙◌}
 use Rattle.epochs.specs.Item.{DataPacket}
 use Rattle.epochs.specs.Epoch.{nothing_sent, nothing_taken}
 use Rattle.pad_editing.specs.Edited as editing

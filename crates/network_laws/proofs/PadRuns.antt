@@ -1,11 +1,11 @@
 -- The worked runs of a PAD and a host: each act is one of which the law of the line speaks, and what comes of it by computation.
-use Rattle.std.specs.Prelude.{◌≡◌, ℕ, ◌<◌, Bool, true, false, if◌then◌else◌, ◌≤◌, List, [], ◌∷◌, ◌++◌, length, map, fold, position, slice_get, slice_set, Option, Some, None}
+use Rattle.std.specs.Prelude.{◌≡◌, ℕ, ◌<◌, Bool, true, false, if◌then◌else◌, ◌≤◌, List, [], ◌∷◌, ◌++◌, length, fold, slice_get, slice_set, Option, Some, None}
 use Rattle.std.specs.Option.{option_map_or}
 use Rattle.std.proofs.Common.{refl, sym, ◌∙◌, ap, subst, inl, arith}
 use Rattle.std.proofs.lemmas.List.{length-set, length-map}
 use Rattle.link_timers.specs.declared.role.Role.{Role}
 use Rattle.link_timers.specs.declared.role.Role.TheVariants.{Dte, Dce}
-use Rattle.packet_end.specs.PacketEnd.{PacketEnd, finished, all_offered, received}
+use Rattle.packet_end.specs.PacketEnd.{PacketEnd, finished, received}
 use Rattle.packet_end.specs.Params.{AreParams}
 use Rattle.x25_pad.specs.Pad as pad
 use Rattle.x25_pad.specs.Pad.{PadState, all_heard}
@@ -20,7 +20,7 @@ use Rattle.line_nodes.specs.Node.{NodeState, Pad, Host, is_pad, frames_of, end_o
 use Rattle.line_nodes.specs.Terminals.{after_terminal, HasTerminal}
 use Rattle.line_nodes.specs.declared.terminal.TerminalEvent.{TerminalEvent}
 use Rattle.line_nodes.specs.declared.terminal.TerminalEvent.TheVariants.{Key, Break, Idle, Print}
-use Rattle.net_events.specs.OneLine.{LineState, node_at, with_turn, direction_of, direction_to}
+use Rattle.net_events.specs.OneLine.{LineState, node_at, direction_to}
 use Rattle.net_events.specs.NodeEvents.{NodeEvent, Happened, IsFor, LeftBy, turn_of}
 use Rattle.net_events.specs.NodeEvents.NodeEvent.{Hears, Asks, Says, Takes, AtTerminal}
 use Rattle.net_events.specs.Opening.{new_dte, new_dce, AreSent}

@@ -8,11 +8,11 @@ use Rattle.link_timers.specs.declared.role.Role.{Role}
 use Rattle.link_timers.specs.declared.role.Role.TheVariants.{Dte, Dce}
 use Rattle.epochs.specs.Item.{DataPacket}
 use Rattle.epochs.specs.Epoch.{SentEpoch, TakenEpoch, nothing_sent, nothing_taken}
-use Rattle.pad_editing.specs.Edited.{Step, key}
+use Rattle.pad_editing.specs.Edited.{key}
 use Rattle.packet_layer.specs.Channel.{Request}
 use Rattle.packet_layer.specs.Channel.Request.{Accept, Resetting}
 use Rattle.packet_end.specs.declared.params.EndParams.{EndParams}
-use Rattle.call_records.specs.Records.{RecordValue, PairValue, new_record, with_closed}
+use Rattle.call_records.specs.Records.{RecordValue, new_record, with_closed}
 use Rattle.memory_line.specs.declared.line.Direction.{Direction}
 use Rattle.memory_line.specs.Lines.{Flights, no_flights, flying, with_flying, without_first, LineService}
 use Rattle.line_nodes.specs.Node.{NodeState, Pad, Host, frames_of}
