@@ -16,6 +16,8 @@ mod programs;
 #[cfg(test)]
 mod switched;
 #[cfg(test)]
+mod switched_terminals;
+#[cfg(test)]
 mod terminal_calls;
 #[cfg(test)]
 mod terminals;
