@@ -23,3 +23,4 @@ pub mod MadeStanding
 pub mod MadeStands
 pub mod MadePartners
 pub mod MadeHeld
+pub mod Running

@@ -3,3 +3,4 @@ pub mod IsSwitched
 pub mod Promise
 pub mod Rest
 pub mod Laws
+pub mod Run

@@ -3,6 +3,7 @@
 
 ghost use Rattle.switch_network_laws.specs.Laws.{MadeLaw, EventLaw, SwitchEventLaw, LossLaw, TimeLaw, PromiseLaw};
 ghost use Rattle.switch_network_laws.specs.Laws.{FewerLaw, SwitchFewerLaw, RestLaw, DeliveredLaw};
+ghost use Rattle.switch_network_laws.specs.Run.{RunLaw};
 
 use memory_line::Line;
 
@@ -23,4 +24,11 @@ pub fn any_network_law<L: Line>()
     ensures fewer_due_at_switch { SwitchFewerLaw L.service }
     ensures rest { RestLaw L.service }
     ensures delivered { DeliveredLaw L.service }
+{}
+
+/// A run over frames, by computation: two hosts at a switch set their links up, one calls the other, data goes both
+/// ways, of which a message with D = 1 is confirmed, and with the call open all comes to rest. Each step is an event of
+/// which the law speaks, so that what the law of rest asks for is met, and nothing is missing.
+pub fn run_law()
+    ensures { RunLaw }
 {}
