@@ -24,7 +24,7 @@ use Rattle.book_laws.proofs.Invariant.Kind.{Caller, Callee, Cancelled}
 use Rattle.book_laws.proofs.Carrying.{same_tag}
 use Rattle.book_laws.proofs.EndSteps.{status_at, views_of}
 use Rattle.book_laws.proofs.Presence.{present_in}
-use Rattle.book_laws.proofs.Lines.{KeptIn, Laws, all_kept}
+use Rattle.book_laws.proofs.Lines.{KeptIn, Laws, all_kept, start_counts}
 use Rattle.book_laws.proofs.OpenPairs.{in_slots, holds_there}
 use Rattle.book_laws.proofs.Starting.{start_kept}
 
@@ -105,7 +105,7 @@ module _ (dte_node dce_node channels window : ℕ) (standing : Bool) (some : 1 �
 
   all : KeptIn channels world (all_callers ms (start dte_node dce_node channels window standing) (made_callers standing)) × Laws channels world.line
   all = all_kept channels ms (start dte_node dce_node channels window standing) (made_callers standing) (start_kept dte_node dce_node channels window standing some)
-      (λ hs. (line_holds channels window standing some small hs).0) allowed
+      (λ hs. (line_holds channels window standing some small hs).0) (start_counts channels window standing some small) allowed
 
   abbrev view_at : Role → EndView
   view_at x = views_of Dte world.line.me world.line.you world.top_me world.top_you x

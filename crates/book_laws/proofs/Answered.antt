@@ -22,7 +22,7 @@ use Rattle.book_laws.proofs.EndSteps.{status_of, status_at, view_of, views_of}
 use Rattle.book_laws.proofs.Layers.{in_range}
 use Rattle.book_laws.proofs.Moving.{IsEnd}
 use Rattle.book_laws.proofs.Placed.{pair_is, has_callee}
-use Rattle.book_laws.proofs.Lines.{KeptIn, all_kept}
+use Rattle.book_laws.proofs.Lines.{KeptIn, all_kept, start_counts}
 use Rattle.book_laws.proofs.Starting.{start_kept}
 
 far_call : (x : Role) (s : CallState) → may_accept x s ≡ true → status_of x s ≡ FarCall
@@ -134,5 +134,5 @@ pub are_answered : AnsweredLaw
 are_answered dte_node dce_node channels window standing some small ms allowed =
     let w : World = after_all ms (start dte_node dce_node channels window standing) in
     let k = all_kept channels ms (start dte_node dce_node channels window standing) (made_callers standing) (start_kept dte_node dce_node channels window standing some)
-    (λ hs. (line_holds channels window standing some small hs).0) allowed in
+    (λ hs. (line_holds channels window standing some small hs).0) (start_counts channels window standing some small) allowed in
     kept_answered channels w _ k.0 (λ s c least most. k.1 [] s c least most)

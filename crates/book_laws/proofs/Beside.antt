@@ -13,7 +13,7 @@ use Rattle.book_laws.specs.Headline.{PresentLaw, IsBeside, has_call, layer_at}
 use Rattle.book_laws.proofs.Invariant.{EndView, CallStatus, Tag, SlotIs}
 use Rattle.book_laws.proofs.Invariant.CallStatus.{Idle, OwnCall, FarCall, Open}
 use Rattle.book_laws.proofs.EndSteps.{status_of, status_at, met_status}
-use Rattle.book_laws.proofs.Lines.{all_kept, KeptIn}
+use Rattle.book_laws.proofs.Lines.{all_kept, KeptIn, start_counts}
 use Rattle.book_laws.proofs.Starting.{start_kept}
 
 -- a status of a call
@@ -60,4 +60,4 @@ pub is_beside : PresentLaw
 is_beside dte_node dce_node channels window standing some small ms allowed =
     kept_beside channels (after_all ms (start dte_node dce_node channels window standing)) _
     (all_kept channels ms (start dte_node dce_node channels window standing) (made_callers standing) (start_kept dte_node dce_node channels window standing some)
-    (λ hs. (line_holds channels window standing some small hs).0) allowed).0
+    (λ hs. (line_holds channels window standing some small hs).0) (start_counts channels window standing some small) allowed).0

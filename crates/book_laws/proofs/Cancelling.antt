@@ -10,7 +10,7 @@ use Rattle.std.specs.Option.{IsSome}
 use Rattle.call_records.specs.Records.{RecordValue, PairValue}
 use Rattle.call_records.specs.Book.{Slot}
 use Rattle.book_laws.proofs.Basics.{is_role, number_is, twice, get_set, set_here, set_elsewhere, length_set}
-use Rattle.book_laws.proofs.Invariant.{EndView, CallStatus, ChannelUse, Kind, Tag, BookParts, AreOpen, IsLive, Stands, Means, Fits, Present, SlotIs, PlacedIs, UpTo, IsPair, IsRight, epoch_at, called_at, now, taken_of, nothing_passed, taken_as, came_from}
+use Rattle.book_laws.proofs.Invariant.{EndView, CallStatus, ChannelUse, Kind, Tag, BookParts, AreOpen, IsLive, Stands, Means, Fits, Present, SlotIs, PlacedIs, UpTo, IsPair, IsRight, epoch_at, called_at, now, sent_of, taken_of, nothing_passed, sent_as, taken_as, came_from}
 use Rattle.book_laws.proofs.Invariant.CallStatus.{Idle, OwnCall, FarCall, Open}
 use Rattle.book_laws.proofs.Invariant.Kind.{Caller, Callee, Cancelled}
 use Rattle.book_laws.proofs.Carrying.{is_present, same_tag}
@@ -54,7 +54,8 @@ pub record Cancels (x : Role) (c : ℕ) (views : Role → EndView) (status : Rol
   pub own : Present (views x) tags x c (b.slots x c)
   pub kind : own.tag.kind ≡ Caller
   pub met : IsSome (called_at (views (other_of x)) (now (views x) own.session c))
-  pub nothing : (g : ℕ) → taken_of (epoch_at (views x) (now (views x) own.session c) g) ≡ nothing_passed
+  pub nothing_sent : (g : ℕ) → sent_of (epoch_at (views x) (now (views x) own.session c) g) ≡ nothing_passed
+  pub nothing_taken : (g : ℕ) → taken_of (epoch_at (views x) (now (views x) own.session c) g) ≡ nothing_passed
   pub idle : status x c ≡ Idle
   pub status_else : (y : Role) (d : ℕ) → ((y ≡ x) × (d ≡ c) → ⊥) → status y d ≡ (views y).status d
   pub free : (slots x c).present ≡ None
@@ -194,7 +195,10 @@ module _ (x : Role) (c : ℕ) (views : Role → EndView) (status : Role → ℕ 
       sent = λ g. rw (a.sent_before, a.sent) ((o.tells live).sent g);
       taken = λ g. rw (a.taken_before, a.taken) ((o.tells live).taken g);
     };
-    none = λ e g. rw (a.taken_before, a.taken) (o.none e g);
+    none = λ e. record {
+      sent = λ g. rw (a.sent_before, a.sent) ((o.none e).sent g);
+      taken = λ g. rw (a.taken_before, a.taken) ((o.none e).taken g);
+    };
     epochs = λ up is live. let h = o.epochs up is live in record { sent = ap length a.sent_before ∙ h.sent; taken = ap length a.taken_before ∙ h.taken };
   }
 
@@ -209,7 +213,10 @@ module _ (x : Role) (c : ℕ) (views : Role → EndView) (status : Role → ℕ 
     far = a.head.far ∙ o.far;
     caller = a.head.caller ∙ o.caller ∙ ap (λ (k : Kind). came_from (record q.own.tag { kind = k })) q.kind;
     tells = λ live. absurd (live refl);
-    none = λ e g. taken_as _ _ _ (sym (ap (λ (k : ChannelUse). taken_of (epoch_at (views x) k g)) q.own.channel_use ∙ q.nothing g)) (rw (a.taken_before, a.taken) ((o.tells own_live).taken g));
+    none = λ e. record {
+      sent = λ g. sent_as _ _ _ (sym (ap (λ (k : ChannelUse). sent_of (epoch_at (views x) k g)) q.own.channel_use ∙ q.nothing_sent g)) (rw (a.sent_before, a.sent) ((o.tells own_live).sent g));
+      taken = λ g. taken_as _ _ _ (sym (ap (λ (k : ChannelUse). taken_of (epoch_at (views x) k g)) q.own.channel_use ∙ q.nothing_taken g)) (rw (a.taken_before, a.taken) ((o.tells own_live).taken g));
+    };
     epochs = λ up is live. absurd (live refl);
   }
 

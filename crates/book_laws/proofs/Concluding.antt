@@ -9,7 +9,6 @@ use Rattle.epochs.specs.Item.{DataPacket}
 use Rattle.epochs.specs.Prefix.{IsListPrefix}
 use Rattle.epochs.specs.Epoch.{SentEpoch, TakenEpoch, nothing_sent, nothing_taken, taken_epoch, IsEmpty, IsAligned, AreAligned}
 use Rattle.epochs.proofs.Matching.{aligned-match}
-use Rattle.std.proofs.Math.Nat.{min-eq_right}
 use Rattle.std.proofs.lemmas.List.{length-map}
 use Rattle.packet_layer.specs.Packets.{Datum}
 use Rattle.packet_laws.specs.History.{Epoch}
@@ -54,15 +53,14 @@ map_append (x ∷ xs) ys = ap (λ (l : List DataPacket). packet_of x ∷ l) (map
 begins : (e f : Epoch) (s t : Passed) → Aligned e f → HasSent s (sent_of e) → HasTaken t (taken_of f) → IsFrom s t
 begins e f s t a mine yours =
     let all : f.released ≤ length (map packet_of f.taken) = subst (λ (n : ℕ). f.released ≤ n) (sym (length-map f.taken packet_of)) a.released_is_taken in
-    let least : f.released ≤ t.count = subst (λ (n : ℕ). n ≤ t.count) (min-eq_right all) yours.count in
     record {
       packets = record {
         rest = map packet_of a.packets.0;
         whole = ap (λ (l : List DataPacket). l ++ map packet_of a.packets.0) yours.packets ∙ sym (map_append f.taken a.packets.0) ∙ ap (λ (l : List Datum). map packet_of l) a.packets.1 ∙ sym mine.packets;
       };
       interrupts = record { rest = a.interrupts.0; whole = ap (λ (l : List (List ℕ)). l ++ a.interrupts.0) yours.interrupts ∙ a.interrupts.1 ∙ sym mine.interrupts };
-      covered = let here = mine.count in let there = a.covered_is_released in omega arith;
-      released = yours.within;
+      covered = let here = mine.count in let there = yours.count in let released = a.covered_is_released in omega arith;
+      released = let here = yours.count in subst (λ (l : List DataPacket). t.count ≤ length l) (sym yours.packets) (omega arith);
     }
 
 taken_from : (f y : EndView) (k : ChannelUse) (s t : RecordValue) → ((g : ℕ) → Aligned (epoch_at f k g) (epoch_at y k g)) → Tells f k s → Tells y k t → IsTakenFrom s t
@@ -246,7 +244,7 @@ module _ (views : Role → EndView) (b : Book) (tags : List Tag) (w : IsRight vi
       elim (kind_cases t.kind) [
         | inl h ↦ took_caller n t ((w.means n t there).caller h) (took_live n t r g there got (λ e. caller_not_cancelled (sym h ∙ e)) took)
         | inr (inl h) ↦ took_callee n h.0 t ((w.means n t there).callee h.0 h.1) (took_live n t r g there got (λ e. callee_not_cancelled h.0 (sym h.1 ∙ e)) took)
-        | inr (inr h) ↦ absurd (took (((w.fits n t r there got).none h g).packets, ((w.fits n t r there got).none h g).interrupts))
+        | inr (inr h) ↦ absurd (took ((((w.fits n t r there got).none h).taken g).packets, (((w.fits n t r there got).none h).taken g).interrupts))
       ]
 
   took_of : (n : ℕ) (r : RecordValue) → slice_get b.records n ≡ Some r → TookNothing (taken_epochs r) ⊎ InPair b.pairs n

@@ -128,7 +128,10 @@ fits_alike f f' node n t r r' same count a w = record {
   far = a.head.far ∙ w.far;
   caller = a.head.caller ∙ w.caller;
   tells = λ live. tells_same f f' t.channel_use r r' same a (w.tells live);
-  none = λ k g. rw (a.taken_before, a.taken) (w.none k g);
+  none = λ k. record {
+    sent = λ g. rw (a.sent_before, a.sent) ((w.none k).sent g);
+    taken = λ g. rw (a.taken_before, a.taken) ((w.none k).taken g);
+  };
   epochs = λ up is live. let h = count up is in epochs_same r r' (f.histories t.channel_use.session t.channel_use.channel).epoch (f'.histories t.channel_use.session t.channel_use.channel).epoch a h.2 (w.epochs h.0 h.1 live);
 }
 

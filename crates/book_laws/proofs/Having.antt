@@ -10,7 +10,7 @@ use Rattle.book_laws.specs.Headline.{IsOpenHere, HaveRecords, RecordsLaw}
 use Rattle.book_laws.proofs.Basics.{get_there}
 use Rattle.book_laws.proofs.Invariant.{EndView, Tag, IsRight, book_parts}
 use Rattle.book_laws.proofs.Presence.{present_in}
-use Rattle.book_laws.proofs.Lines.{KeptIn, all_kept}
+use Rattle.book_laws.proofs.Lines.{KeptIn, all_kept, start_counts}
 use Rattle.book_laws.proofs.Starting.{start_kept}
 
 module _ (views : Role → EndView) (b : Book) (tags : List Tag) (w : IsRight views (book_parts b) tags) where
@@ -37,5 +37,5 @@ have_records dte_node dce_node channels window standing some small ms allowed =
     let w : World = after_all ms (start dte_node dce_node channels window standing) in
     let k : KeptIn channels w (all_callers ms (start dte_node dce_node channels window standing) (made_callers standing)) =
     (all_kept channels ms (start dte_node dce_node channels window standing) (made_callers standing) (start_kept dte_node dce_node channels window standing some)
-    (λ hs. (line_holds channels window standing some small hs).0) allowed).0 in
+    (λ hs. (line_holds channels window standing some small hs).0) (start_counts channels window standing some small) allowed).0 in
     right_records _ w.book k.tags k.right

@@ -1,7 +1,7 @@
 -- What the book of a line has to agree with: the two ends as their calls see them, the records with what each stands for, and
 -- when all of it is right.
-use Rattle.std.specs.Prelude.{◌≡◌, ◌≢◌, ℕ, zero, suc, ◌<◌, ◌≤◌, Bool, true, false, List, [], ◌∷◌, ◌++◌, length, map, min, slice_get, Option, Some, None}
-use Rattle.std.proofs.Common.{refl, sym, subst, arith}
+use Rattle.std.specs.Prelude.{◌≡◌, ◌≢◌, ℕ, zero, suc, ◌<◌, ◌≤◌, Bool, true, false, List, [], ◌∷◌, ◌++◌, length, map, slice_get, Option, Some, None}
+use Rattle.std.proofs.Common.{refl, sym, subst}
 use Rattle.link_timers.specs.declared.role.Role.{Role}
 use Rattle.link_timers.specs.declared.role.Role.TheVariants.{Dte, Dce}
 use Rattle.link_timers.specs.Role.{other_of}
@@ -74,19 +74,16 @@ passed_sent e = record { packets = e.packets; interrupts = e.interrupts; count =
 abbrev pub passed_taken : TakenEpoch → Passed
 passed_taken e = record { packets = e.packets; interrupts = e.interrupts; count = e.released }
 
--- what a record has of a sent epoch is what passed in it, and no more of it covered; nor fewer of the packets sent
+-- what a record has of an epoch is what passed in it, and as much of it is covered or released
 pub record HasSent (own passed : Passed) : Type 0 where
   pub packets : own.packets ≡ passed.packets
   pub interrupts : own.interrupts ≡ passed.interrupts
-  pub count : own.count ≤ passed.count
-  pub least : min (length passed.packets) passed.count ≤ own.count
+  pub count : own.count ≡ passed.count
 
--- what it has of a taken one is what passed in it, and no less of it released, but no more than was taken
 pub record HasTaken (own passed : Passed) : Type 0 where
   pub packets : own.packets ≡ passed.packets
   pub interrupts : own.interrupts ≡ passed.interrupts
-  pub count : min (length passed.packets) passed.count ≤ own.count
-  pub within : own.count ≤ length own.packets
+  pub count : own.count ≡ passed.count
 
 pub sent_as : (own a b : Passed) → b ≡ a → HasSent own a → HasSent own b
 sent_as own a b e h = subst (λ (p : Passed). HasSent own p) (sym e) h
@@ -101,10 +98,10 @@ pub own_taken : (own mine passed : Passed) → mine ≡ own → HasTaken own pas
 own_taken own mine passed e h = subst (λ (p : Passed). HasTaken p passed) (sym e) h
 
 pub nothing_sent_yet : HasSent nothing_passed nothing_passed
-nothing_sent_yet = record { packets = refl; interrupts = refl; count = omega arith; least = omega arith }
+nothing_sent_yet = record { packets = refl; interrupts = refl; count = refl }
 
 pub nothing_taken_yet : HasTaken nothing_passed nothing_passed
-nothing_taken_yet = record { packets = refl; interrupts = refl; count = omega arith; within = omega arith }
+nothing_taken_yet = record { packets = refl; interrupts = refl; count = refl }
 
 -- ---- records
 
@@ -223,8 +220,10 @@ pub record HasEpochs (r : RecordValue) (count : ℕ) : Type 0 where
   pub sent : length r.sent_before ≡ count
   pub taken : length r.taken_before ≡ count
 
-abbrev pub TookNone : RecordValue → Type 0
-TookNone r = (g : ℕ) → HasTaken (nth_taken (all_taken r) g) nothing_passed
+-- nothing passed in any of its epochs
+pub record HasNothing (r : RecordValue) : Type 0 where
+  pub sent : (g : ℕ) → HasSent (nth_sent (all_sent r) g) nothing_passed
+  pub taken : (g : ℕ) → HasTaken (nth_taken (all_taken r) g) nothing_passed
 
 pub record Fits (f : EndView) (node n : ℕ) (t : Tag) (r : RecordValue) : Type 0 where
   pub number : r.number ≡ n
@@ -233,7 +232,7 @@ pub record Fits (f : EndView) (node n : ℕ) (t : Tag) (r : RecordValue) : Type 
   pub far : r.far ≡ t.far
   pub caller : r.caller ≡ came_from t
   pub tells : IsLive t.kind → Tells f t.channel_use r
-  pub none : t.kind ≡ Cancelled → TookNone r
+  pub none : t.kind ≡ Cancelled → HasNothing r
   pub epochs : f.session ≡ Some t.channel_use.session → t.channel_use ≡ now f t.channel_use.session t.channel_use.channel → IsLive t.kind
       → HasEpochs r (f.histories t.channel_use.session t.channel_use.channel).epoch
 

@@ -13,6 +13,7 @@ mod EndSteps
 mod Histories
 mod Steps
 mod Meetings
+pub mod Numbers
 mod Outcomes
 mod Moving
 pub mod Layers
@@ -28,6 +29,7 @@ pub mod Beside
 pub mod Placed
 pub mod Answered
 pub mod OpenPairs
+pub mod Counting
 pub mod Accepted
 pub mod Delivery
 pub mod Rows

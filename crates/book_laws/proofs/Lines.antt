@@ -10,7 +10,9 @@ use Rattle.packet_layer.specs.Packets.{Packet, Datum}
 use Rattle.packet_layer.specs.Layer.{link_up, runs, channel_given}
 use Rattle.packet_laws.specs.History.{Epoch}
 use Rattle.packet_laws.specs.Law.{Holds, HasNoLogs, Aligned}
-use Rattle.packet_laws.specs.Line.{End, Line, Event, Happening, turned, happens, after, may_begin, begun, offers, accepts, arrives_in, next_of_session}
+use Rattle.packet_laws.specs.Counted.{IsCounted}
+use Rattle.packet_laws.proofs.Line.Counted.{line_counts}
+use Rattle.packet_laws.specs.Line.{End, Line, Event, Happening, start_line, turned, happens, after, may_begin, begun, offers, accepts, arrives_in, next_of_session}
 use Rattle.packet_laws.specs.Line.Event.{Up, Down, Calls, Requests, Expires, Offers, Arrives}
 use Rattle.packet_laws.specs.Line.Happening.{Here, There}
 use Rattle.call_records.specs.Records.{RecordValue, with_step}
@@ -177,6 +179,13 @@ edit_kept n e y te ty b cs role channel step k =
 abbrev pub Laws : ℕ → Line → Type 0
 Laws n w = (hs : List Happening) (s c : ℕ) → 1 ≤ c → c ≤ n → Holds (after hs w) s c
 
+-- and its numbers
+abbrev pub Counts : ℕ → Line → Type 0
+Counts n w = (hs : List Happening) (s c : ℕ) → 1 ≤ c → c ≤ n → (window : ℕ) × (window ≤ 7) × IsCounted window (after hs w).me s c × IsCounted window (after hs w).you s c
+
+pub start_counts : (channels window : ℕ) (standing : Bool) → 1 ≤ channels → window ≤ 7 → Counts channels (start_line channels window standing)
+start_counts channels window standing some small hs s c least most = let k = line_counts channels window standing some small hs s c least most in (window, small, k.0, k.1)
+
 pub covered_within : (e f : Epoch) → Aligned e f → e.covered ≤ length e.sent
 covered_within e f a =
     let released = a.covered_is_released in
@@ -185,42 +194,49 @@ covered_within e f a =
     let whole = ap (λ (l : List Datum). length l) a.packets.1 in
     omega arith
 
-facts_here : (n : ℕ) (w : Line) → Laws n w → Facts n w.me w.you
-facts_here n w law = record {
+facts_here : (n : ℕ) (w : Line) → Laws n w → Counts n w → Facts n w.me w.you
+facts_here n w law count = record {
   here = λ s c lo hi. (law [] s c lo hi).here;
   there = λ s c lo hi. (law [] s c lo hi).there;
   answers_there = λ s c lo hi. (law [] s c lo hi).answers_there;
   within = λ s c lo hi r u g. (((law [] s c lo hi).back r u g).released_is_taken, covered_within _ _ ((law [] s c lo hi).forth r u g));
+  counts = λ s c lo hi. let k = count [] s c lo hi in (k.0, k.1, k.2);
   call = λ s c parts lo hi a. (law [] s c lo hi).call_here parts a;
 }
 
-facts_there : (n : ℕ) (w : Line) → Laws n w → Facts n w.you w.me
-facts_there n w law = record {
+facts_there : (n : ℕ) (w : Line) → Laws n w → Counts n w → Facts n w.you w.me
+facts_there n w law count = record {
   here = λ s c lo hi. (law [] s c lo hi).there;
   there = λ s c lo hi. (law [] s c lo hi).here;
   answers_there = λ s c lo hi. (law [] s c lo hi).answers_here;
   within = λ s c lo hi r u g. (((law [] s c lo hi).forth r u g).released_is_taken, covered_within _ _ ((law [] s c lo hi).back r u g));
+  counts = λ s c lo hi. let k = count [] s c lo hi in (k.0, k.1, k.3);
   call = λ s c parts lo hi a. (law [] s c lo hi).call_there parts a;
 }
 
 abbrev pub KeptIn : ℕ → World → List (Option ℕ) → Type 0
 KeptIn n v cs = KeptAt n Dte v.line.me v.line.you v.top_me v.top_you v.book cs
 
-move_kept : (n : ℕ) (m : Move) (v : World) (cs : List (Option ℕ)) → KeptIn n v cs → Laws n v.line → IsAllowed m v → KeptIn n (after_move m v) (callers_after m v cs)
-move_kept n (Happens (Here event)) v cs k law a = event_at n Dte v.line.me v.line.you v.top_me v.top_you v.book cs event k (facts_here n v.line law) a
-move_kept n (Happens (There event)) v cs k law a =
+move_kept : (n : ℕ) (m : Move) (v : World) (cs : List (Option ℕ)) → KeptIn n v cs → Laws n v.line → Counts n v.line → IsAllowed m v → KeptIn n (after_move m v) (callers_after m v cs)
+move_kept n (Happens (Here event)) v cs k law count a = event_at n Dte v.line.me v.line.you v.top_me v.top_you v.book cs event k (facts_here n v.line law count) a
+move_kept n (Happens (There event)) v cs k law count a =
     turned_back n (happens event (turned v.line)).you (happens event (turned v.line)).me v.top_me (top_after event (turned v.line) v.top_you) (written Dce event (turned v.line) v.book) (callers_by Dce event (turned v.line) v.book cs)
-    (event_at n Dce v.line.you v.line.me v.top_you v.top_me v.book cs event (turned_there n v.line.me v.line.you v.top_me v.top_you v.book cs k) (facts_there n v.line law) a)
-move_kept n (Edits role channel step) v cs k law a = edit_kept n v.line.me v.line.you v.top_me v.top_you v.book cs role channel step k
+    (event_at n Dce v.line.you v.line.me v.top_you v.top_me v.book cs event (turned_there n v.line.me v.line.you v.top_me v.top_you v.book cs k) (facts_there n v.line law count) a)
+move_kept n (Edits role channel step) v cs k law count a = edit_kept n v.line.me v.line.you v.top_me v.top_you v.book cs role channel step k
 
 move_laws : (n : ℕ) (m : Move) (v : World) → Laws n v.line → Laws n (after_move m v).line
 move_laws n (Happens (Here event)) v law = λ hs. law (Here event ∷ hs)
 move_laws n (Happens (There event)) v law = λ hs. law (There event ∷ hs)
 move_laws n (Edits role channel step) v law = law
 
-pub all_kept : (n : ℕ) (ms : List Move) (v : World) (cs : List (Option ℕ)) → KeptIn n v cs → Laws n v.line → AreAllowed ms v → KeptIn n (after_all ms v) (all_callers ms v cs) × Laws n (after_all ms v).line
-all_kept n [] v cs k law a = (k, law)
-all_kept n (m ∷ ms) v cs k law a = all_kept n ms (after_move m v) (callers_after m v cs) (move_kept n m v cs k law a.0) (move_laws n m v law) a.1
+move_counts : (n : ℕ) (m : Move) (v : World) → Counts n v.line → Counts n (after_move m v).line
+move_counts n (Happens (Here event)) v count = λ hs. count (Here event ∷ hs)
+move_counts n (Happens (There event)) v count = λ hs. count (There event ∷ hs)
+move_counts n (Edits role channel step) v count = count
+
+pub all_kept : (n : ℕ) (ms : List Move) (v : World) (cs : List (Option ℕ)) → KeptIn n v cs → Laws n v.line → Counts n v.line → AreAllowed ms v → KeptIn n (after_all ms v) (all_callers ms v cs) × Laws n (after_all ms v).line
+all_kept n [] v cs k law count a = (k, law)
+all_kept n (m ∷ ms) v cs k law count a = all_kept n ms (after_move m v) (callers_after m v cs) (move_kept n m v cs k law count a.0) (move_laws n m v law) (move_counts n m v count) a.1
 
 -- ---- what the line says of the uses that may have a call
 
@@ -232,7 +248,7 @@ and_second : (a b : Bool) → (a && b) ≡ true → b ≡ true
 and_second true b e = e
 and_second false b e = absurd (true≢false (sym e))
 
-in_line : (n : ℕ) (x : Role) (e : End) (te : ℕ) (k : ChannelUse) → length e.layer.channels ≡ n → (view_of x e te).begun k ≡ true → (1 ≤ k.channel) × (k.channel ≤ n)
+pub in_line : (n : ℕ) (x : Role) (e : End) (te : ℕ) (k : ChannelUse) → length e.layer.channels ≡ n → (view_of x e te).begun k ≡ true → (1 ≤ k.channel) × (k.channel ≤ n)
 in_line n x e te k count h = range_of n k.channel (ap (λ (m : ℕ). within m k.channel) (sym count) ∙ and_second (has_come e k.session) (within (length e.layer.channels) k.channel) h)
 
 pub says_of : (n : ℕ) (e y : End) (te ty : ℕ) → length e.layer.channels ≡ n → length y.layer.channels ≡ n → ((s c : ℕ) → 1 ≤ c → c ≤ n → Holds (record { me = e; you = y }) s c) → LineSays (views_of Dte e y te ty)

@@ -62,7 +62,8 @@ module _ (e e' y : End) (s d te ty : ℕ) (parts : CallParts) (b : Book) (tags :
     own = mine.0;
     kind = mine.1;
     met = subst (λ (n : ℕ). IsSome (called_at (view_of Dte y ty) (now (view_of Dce e te) n d))) (sym its_session) (ap (λ (o : Option CallParts). is_some o) q.known);
-    nothing = λ g. subst (λ (n : ℕ). taken_of (epoch_at (view_of Dce e te) (now (view_of Dce e te) n d) g) ≡ nothing_passed) (sym its_session) (q.new.taken g);
+    nothing_sent = λ g. subst (λ (n : ℕ). sent_of (epoch_at (view_of Dce e te) (now (view_of Dce e te) n d) g) ≡ nothing_passed) (sym its_session) (q.new.sent g);
+    nothing_taken = λ g. subst (λ (n : ℕ). taken_of (epoch_at (view_of Dce e te) (now (view_of Dce e te) n d) g) ≡ nothing_passed) (sym its_session) (q.new.taken g);
     idle = between_here e y d;
     status_else = statuses_else;
     free = closed_here Dce d b;

@@ -14,6 +14,7 @@ use Rattle.packet_layer.specs.Layer.{channel_of}
 use Rattle.packet_layer.specs.Layer.Phase.{PacketReady}
 use Rattle.packet_laws.specs.History.{Epoch, History, call_accepted}
 use Rattle.packet_laws.specs.Law.{HoldsAt, OneAnswers, CallArrives, CallKnown, InUse, IsUnused, HasPlaced}
+use Rattle.packet_laws.specs.Counted.{IsCounted}
 use Rattle.packet_laws.specs.Line.{End}
 use Rattle.call_records.specs.Records.{RecordValue}
 use Rattle.call_records.specs.Book.{Book, slot_at, side_of, with_change, changed, answers, with_pair, closes, comes, with_record}
@@ -50,12 +51,17 @@ pub record KeptAt (n : ℕ) (x : Role) (e y : End) (te ty : ℕ) (b : Book) (cs 
   pub here : IsEnd n x e
   pub there : IsEnd n (other_of x) y
 
+-- the numbers of a channel in data transfer name the counts of its present epoch
+abbrev pub AreCounts : End → (s c : ℕ) → Type 0
+AreCounts e s c = (window : ℕ) × (window ≤ 7) × IsCounted window e s c
+
 -- what the law of the line says at one end
 pub record Facts (n : ℕ) (e y : End) : Type 0 where
   pub here : (s c : ℕ) → 1 ≤ c → c ≤ n → HoldsAt e s c
   pub there : (s c : ℕ) → 1 ≤ c → c ≤ n → HoldsAt y s c
   pub answers_there : (s c : ℕ) → 1 ≤ c → c ≤ n → OneAnswers (y.histories s c) (e.histories s c)
   pub within : (s c : ℕ) → 1 ≤ c → c ≤ n → IsWithin (e.histories s c)
+  pub counts : (s c : ℕ) → 1 ≤ c → c ≤ n → AreCounts e s c
   pub call : (s c : ℕ) (parts : CallParts) → 1 ≤ c → c ≤ n → CallArrives (record { me = e; you = y }) s c parts → CallKnown (e.histories s c) (y.histories s c) parts
 
 -- ---- the step
@@ -234,14 +240,14 @@ module _ (n : ℕ) (x : Role) (e e' y : End) (te ty : ℕ) (b : Book) (cs : List
     there = k.there;
   }
 
-  grows_at : (p : Present (view_of x e te) k.tags x d (slot_at x d b)) (r r' : RecordValue) → RecordGrows (e.histories s d) (told (e.histories s d)) r r' → Grows (view_of x e te) (view_of x e' te) p.session d r r'
+  grows_at : (p : Present (view_of x e te) k.tags x d (slot_at x d b)) (r r' : RecordValue) → RecordGrows ch (e.histories s d) (told (e.histories s d)) r r' → Grows (view_of x e te) (view_of x e' te) p.session d r r'
   grows_at p r r' g =
       subst (λ (a : ℕ). Grows (view_of x e te) (view_of x e' te) a d r r') (same_Some s p.session (sym q.on.up ∙ p.up))
       (record {
         head = g.head;
         closed = g.closed;
         tells = λ t h.
-            let after = g.tells (record { sent = t.sent; taken = t.taken }) h (facts.within s d q.least q.most) in
+            let after = g.tells (record { sent = t.sent; taken = t.taken }) h (λ flows. let c = facts.counts s d q.least q.most in (c.0, c.1, c.2 ch q.on.up q.found flows)) in
             record {
               sent = λ i. sent_as _ _ _ (ap (λ (z : History). sent_of (z.epochs (e.histories s d).restart (e.histories s d).use_ i)) q.history) (after.sent i);
               taken = λ i. taken_as _ _ _ (ap (λ (z : History). taken_of (z.epochs (e.histories s d).restart (e.histories s d).use_ i)) q.history) (after.taken i);
@@ -249,7 +255,7 @@ module _ (n : ℕ) (x : Role) (e e' y : End) (te ty : ℕ) (b : Book) (cs : List
         epochs = λ h. subst (λ (z : History). HasEpochs r' z.epoch) (sym q.history) (g.epochs h);
       })
 
-  kept_at : (o : Option ℕ) (change : RecordValue → RecordValue) (p : Present (view_of x e te) k.tags x d (slot_at x d b)) → o ≡ Some p.number → ((r : RecordValue) → RecordGrows (e.histories s d) (told (e.histories s d)) r (change r))
+  kept_at : (o : Option ℕ) (change : RecordValue → RecordValue) (p : Present (view_of x e te) k.tags x d (slot_at x d b)) → o ≡ Some p.number → ((r : RecordValue) → RecordGrows ch (e.histories s d) (told (e.histories s d)) r (change r))
       → (m : ℕ) (r' : RecordValue) → slice_get (with_change o change b).records m ≡ Some r' → (r : RecordValue) × (slice_get b.records m ≡ Some r) × (((m ≡ p.number) × Grows (view_of x e te) (view_of x e' te) p.session d r r') ⊎ ((m ≢ p.number) × (r' ≡ r)))
   kept_at None change p e0 grows m r' got = absurd (none-some p.number e0)
   kept_at (Some i) change p e0 grows m r' got =
@@ -263,7 +269,7 @@ module _ (n : ℕ) (x : Role) (e e' y : End) (te ty : ℕ) (b : Book) (cs : List
         ],
       )
 
-  changed_after : (change : RecordValue → RecordValue) → status_of x ch.state ≡ Open → status_of x ch'.state ≡ Open → ((st : History) → HistoryGrows st (told st)) → ((st : History) (r : RecordValue) → RecordGrows st (told st) r (change r)) → KeptAt n x e' y te ty (changed x d change b) cs
+  changed_after : (change : RecordValue → RecordValue) → status_of x ch.state ≡ Open → status_of x ch'.state ≡ Open → ((st : History) → HistoryGrows st (told st)) → ((st : History) (r : RecordValue) → RecordGrows ch st (told st) r (change r)) → KeptAt n x e' y te ty (changed x d change b) cs
   changed_after change m m' grows rgrows =
       let o : Option ℕ = (slot_at x d b).present in
       let open_ = subst (λ (z : CallStatus). SlotIs z (view_of x e te) k.tags x d (slot_at x d b)) (status_now ∙ m) (slot_of x e y te ty b k.tags d k.right) in
@@ -272,7 +278,7 @@ module _ (n : ℕ) (x : Role) (e e' y : End) (te ty : ℕ) (b : Book) (cs : List
       (kept_at o change p p.is_present (λ r. rgrows (e.histories s d) r))
       (book_parts_records b (changed x d change b) (pairs_changed o change b) (size_changed o change b).node (λ z c. slot_changed z c o change b)) (size_changed o change b)
 
-  same_record : (st st' : History) (r : RecordValue) → SameHistory st st' → RecordGrows st st' r r
+  same_record : (st st' : History) (r : RecordValue) → SameHistory st st' → RecordGrows ch st st' r r
   same_record st st' r h = record {
     head = record { number = refl; node = refl; own = refl; far = refl; caller = refl };
     closed = refl;

@@ -1,13 +1,11 @@
 -- The last epochs of present records are the present ones of their channels; two open records of a pair share a channel.
-use Rattle.std.specs.Prelude.{◌≡◌, ℕ, zero, suc, ◌≤◌, Bool, List, [], ◌∷◌, length, map, slice_get, Option, Some, None}
+use Rattle.std.specs.Prelude.{◌≡◌, ℕ, zero, suc, ◌≤◌, Bool, List, [], ◌∷◌, length, slice_get, Option, Some, None}
 use Rattle.std.proofs.Common.{refl, sym, ap, subst, ◌∙◌, arith}
 use Rattle.std.proofs.lemmas.Option.{none-some, slice_get_within}
-use Rattle.std.proofs.lemmas.List.{length-map}
-use Rattle.std.proofs.Math.Nat.{min-eq_right}
 use Rattle.link_timers.specs.declared.role.Role.{Role}
 use Rattle.link_timers.specs.declared.role.Role.TheVariants.{Dte, Dce}
 use Rattle.link_timers.specs.Role.{other_of}
-use Rattle.packet_laws.specs.History.{Epoch, History}
+use Rattle.packet_laws.specs.History.{History}
 use Rattle.packet_laws.specs.Law.{Holds, epoch_now}
 use Rattle.packet_laws.specs.Counted.{IsCounted}
 use Rattle.packet_laws.specs.Line.{Line, Happening, start_line, after}
@@ -15,7 +13,7 @@ use Rattle.packet_laws.specs.Line.Happening.{Here, There}
 use Rattle.packet_laws.proofs.Line.LineHolds.{line_holds}
 use Rattle.packet_laws.proofs.Line.Counted.{line_counts}
 use Rattle.call_records.specs.Records.{RecordValue}
-use Rattle.call_records.specs.Book.{Slot, side_of, slot_at, nth_slot, found_slot, packet_of}
+use Rattle.call_records.specs.Book.{Slot, side_of, slot_at, nth_slot, found_slot}
 use Rattle.book_laws.specs.Told.{World, Move, after_move, after_all, all_callers, AreAllowed, start, made_callers}
 use Rattle.book_laws.specs.Told.Move.{Happens, Edits}
 use Rattle.book_laws.specs.Open.{HasLast, IsInEpoch, PresentInEpoch, OpenPairsShare, OpenHold, OpenLaw, layers_at}
@@ -25,7 +23,7 @@ use Rattle.book_laws.proofs.Carrying.{same_tag}
 use Rattle.book_laws.proofs.Presence.{present_in}
 use Rattle.book_laws.proofs.EndSteps.{views_of}
 use Rattle.book_laws.proofs.Outcomes.{nth_at, nth_at_taken}
-use Rattle.book_laws.proofs.Lines.{KeptIn, Laws, all_kept, covered_within}
+use Rattle.book_laws.proofs.Lines.{KeptIn, Laws, all_kept, start_counts}
 use Rattle.book_laws.proofs.Starting.{start_kept}
 
 -- ---- one record
@@ -38,33 +36,25 @@ epochs_now f k s c r same up =
     subst (λ (u : ChannelUse). (f.session ≡ Some u.session → u ≡ now f u.session u.channel → HasEpochs r (f.histories u.session u.channel).epoch) → HasEpochs r (f.histories s c).epoch)
     (sym same) (λ h. h up refl)
 
--- no more is covered than was sent
-abbrev IsWithin : Epoch → Type 0
-IsWithin e = e.covered ≤ length e.sent
-
-has_last : (f : EndView) (s c : ℕ) (r : RecordValue) → Tells f (now f s c) r → HasEpochs r (f.histories s c).epoch → IsWithin (epoch_now (f.histories s c)) → HasLast r (epoch_now (f.histories s c))
-has_last f s c r t n w =
-    let e : Epoch = epoch_now (f.histories s c) in
+has_last : (f : EndView) (s c : ℕ) (r : RecordValue) → Tells f (now f s c) r → HasEpochs r (f.histories s c).epoch → HasLast r (epoch_now (f.histories s c))
+has_last f s c r t n =
     let g : ℕ = (f.histories s c).epoch in
     let sent_at : passed_sent r.sent ≡ nth_sent (all_sent r) g = sym (nth_at r.sent_before r.sent) ∙ ap (λ (i : ℕ). nth_sent (all_sent r) i) n.sent in
     let taken_at : passed_taken r.taken ≡ nth_taken (all_taken r) g = sym (nth_at_taken r.taken_before r.taken) ∙ ap (λ (i : ℕ). nth_taken (all_taken r) i) n.taken in
     let sent : HasSent (passed_sent r.sent) (sent_of (epoch_now (f.histories s c))) = own_sent _ _ _ sent_at (t.sent g) in
     let taken : HasTaken (passed_taken r.taken) (taken_of (epoch_now (f.histories s c))) = own_taken _ _ _ taken_at (t.taken g) in
-    let long : e.covered ≤ length (map packet_of e.sent) = subst (λ (k : ℕ). e.covered ≤ k) (sym (length-map e.sent packet_of)) w in
-    let least : e.covered ≤ r.sent.covered = subst (λ (k : ℕ). k ≤ r.sent.covered) (min-eq_right long) sent.least in
-    let most = sent.count in
     record {
       sent = sent.packets;
       interrupts_sent = sent.interrupts;
-      covered = omega arith;
+      covered = sent.count;
       taken = taken.packets;
       interrupts_taken = taken.interrupts;
+      released = taken.count;
     }
 
 -- ---- both ends
 
-module _ (v : World) (tags : List Tag) (w : IsRight (views_of Dte v.line.me v.line.you v.top_me v.top_you) (book_parts v.book) tags)
-    (law : (x : Role) (c n : ℕ) → (slot_at x c v.book).present ≡ Some n → (s : ℕ) → Holds v.line s c) where
+module _ (v : World) (tags : List Tag) (w : IsRight (views_of Dte v.line.me v.line.you v.top_me v.top_you) (book_parts v.book) tags) where
   abbrev view_at : Role → EndView
   view_at x = views_of Dte v.line.me v.line.you v.top_me v.top_you x
 
@@ -75,10 +65,6 @@ module _ (v : World) (tags : List Tag) (w : IsRight (views_of Dte v.line.me v.li
   same_histories : (x : Role) → (view_at x).histories ≡ (layers_at x v.line).histories
   same_histories Dte = refl
   same_histories Dce = refl
-
-  within : (x : Role) (c n : ℕ) → (slot_at x c v.book).present ≡ Some n → (s : ℕ) → IsWithin (epoch_now ((layers_at x v.line).histories s c))
-  within Dte c n e s = covered_within _ _ ((law Dte c n e s).forth _ _ _)
-  within Dce c n e s = covered_within _ _ ((law Dce c n e s).back _ _ _)
 
   in_epoch : (x : Role) (c n : ℕ) (r : RecordValue) (p : Present (view_at x) tags x c (slot_at x c v.book)) → slice_get tags n ≡ Some p.tag
       → (slot_at x c v.book).present ≡ Some n → slice_get v.book.records n ≡ Some r → IsInEpoch v x p.session c n r
@@ -91,8 +77,7 @@ module _ (v : World) (tags : List Tag) (w : IsRight (views_of Dte v.line.me v.li
       record {
         present = present;
         up = same_session x ∙ p.up;
-        last = subst (λ (h : ℕ → ℕ → History). HasLast r (epoch_now (h p.session c))) (same_histories x) (has_last f p.session c r tells epochs
-            (subst (λ (h : ℕ → ℕ → History). IsWithin (epoch_now (h p.session c))) (sym (same_histories x)) (within x c n present p.session)));
+        last = subst (λ (h : ℕ → ℕ → History). HasLast r (epoch_now (h p.session c))) (same_histories x) (has_last f p.session c r tells epochs);
       }
 
   present : PresentInEpoch v
@@ -156,7 +141,7 @@ module _ (dte_node dce_node channels window : ℕ) (standing : Bool) (some : 1 �
 
   all : KeptIn channels world (all_callers ms (start dte_node dce_node channels window standing) (made_callers standing)) × Laws channels world.line
   all = all_kept channels ms (start dte_node dce_node channels window standing) (made_callers standing) (start_kept dte_node dce_node channels window standing some)
-      (λ hs. (line_holds channels window standing some small hs).0) allowed
+      (λ hs. (line_holds channels window standing some small hs).0) (start_counts channels window standing some small) allowed
 
   -- the law of the line on a channel that has a present record
   pub holds_there : (role : Role) (c n : ℕ) → (slot_at role c world.book).present ≡ Some n → (s : ℕ) → Holds world.line s c
@@ -175,7 +160,7 @@ module _ (dte_node dce_node channels window : ℕ) (standing : Bool) (some : 1 �
       subst (λ (l : Line). IsCounted window (layers_at role l) s c) (sym ran.1) (both_ends window (after ran.0 (start_line channels window standing)) s c role both)
 
   pub opened : OpenHold world
-  opened = record { present = present world all.0.tags all.0.right holds_there; pairs = share world all.0.tags all.0.right holds_there }
+  opened = record { present = present world all.0.tags all.0.right; pairs = share world all.0.tags all.0.right }
 
 pub open_pairs : OpenLaw
 open_pairs dte_node dce_node channels window standing some small ms allowed = opened dte_node dce_node channels window standing some small ms allowed

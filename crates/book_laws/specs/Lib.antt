@@ -1,5 +1,6 @@
 pub mod Told
 pub mod Headline
 pub mod Open
+pub mod Counts
 pub mod Rest
 pub mod Delivery

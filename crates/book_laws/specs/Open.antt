@@ -17,13 +17,14 @@ abbrev pub layers_at : Role → Line → End
 layers_at Dte v = v.me
 layers_at Dce v = v.you
 
--- the last epochs of a record are what its end sent and took in this epoch, with as many packets covered
+-- the last epochs of a record are what its end sent and took in this epoch, with as many packets covered and released
 pub record HasLast (r : RecordValue) (e : Epoch) : Type 0 where
   pub sent : r.sent.packets ≡ map packet_of e.sent
   pub interrupts_sent : r.sent.interrupts ≡ e.interrupts_sent
   pub covered : r.sent.covered ≡ e.covered
   pub taken : r.taken.packets ≡ map packet_of e.taken
   pub interrupts_taken : r.taken.interrupts ≡ e.interrupts_taken
+  pub released : r.taken.released ≡ e.released
 
 -- the record is the present one of a channel at an end that is up in this session, and has the present epoch last
 pub record IsInEpoch (w : World) (role : Role) (session channel number : ℕ) (r : RecordValue) : Type 0 where

@@ -1,4 +1,5 @@
 ghost use Rattle.book_laws.specs.Headline.{BookLaw, RecordsLaw, PresentLaw, AnsweredLaw, CallsLaw, CallersLaw};
+ghost use Rattle.book_laws.specs.Counts.{CountsLaw};
 ghost use Rattle.book_laws.specs.Delivery.{DeliveryLaw};
 ghost use Rattle.book_laws.specs.Open.{OpenLaw};
 
@@ -27,6 +28,10 @@ pub fn book_law()
     // The last epochs of a present record are the present one of its channel. Two open records of a pair are present on
     // one channel, one at each end.
     ensures epochs { OpenLaw }
+
+    // The epochs of each record, open or closed, are those that the packet layer of its end counted: packets,
+    // interrupts, and how many packets a P(R) covered and how many were released.
+    ensures counts { CountsLaw }
 {}
 
 /// Where each packet of an epoch that was sent with D = 1 is covered, what is confirmed of the epoch is all of it up to

@@ -1,5 +1,6 @@
 -- What a network keeps of each end's part in a call, and which two of these make a call.
-use Rattle.std.specs.Prelude.{ℕ, zero, suc, ◌+◌, Bool, true, false, List, [], ◌∷◌, ◌++◌, length, map, min, Option}
+use Rattle.std.specs.Prelude.{ℕ, zero, suc, ◌+◌, Bool, true, false, nat_le, if◌then◌else◌, List, [], ◌∷◌, ◌++◌, length, map}
+use Rattle.std.specs.Prelude.{Option}
 use Rattle.epochs.specs.Item.{DataPacket}
 use Rattle.epochs.specs.Epoch.{nothing_sent, nothing_taken, Epoch, SentEpoch, TakenEpoch, sent_epoch, taken_epoch}
 use Rattle.pad_editing.specs.Edited.{Step}
@@ -68,17 +69,21 @@ with_taken packet r = record r { taken = record r.taken { packets = r.taken.pack
 abbrev pub with_interrupt_taken : List ℕ → RecordValue → RecordValue
 with_interrupt_taken octets r = record r { taken = record r.taken { interrupts = r.taken.interrupts ++ octets ∷ [] } }
 
--- n more of the packets taken are released, at most all of them
+-- a count with n more, where it is of so many; what would pass further is not counted
+abbrev pub counted : (all count n : ℕ) → ℕ
+counted all count n = if nat_le (count + n) all then count + n else count
+
+-- n more of the packets taken are released: P(R) passes no packet that was not taken
 abbrev pub with_released : ℕ → RecordValue → RecordValue
 with_released n r = record r {
   taken = record r.taken {
-    released = min (length r.taken.packets) (r.taken.released + n);
+    released = counted (length r.taken.packets) r.taken.released n;
   };
 }
 
--- n more of the packets sent are covered, at most all of them
+-- n more of the packets sent are covered: a P(R) covers no packet that was not sent
 abbrev pub with_covered : ℕ → RecordValue → RecordValue
-with_covered n r = record r { sent = record r.sent { covered = min (length r.sent.packets) (r.sent.covered + n) } }
+with_covered n r = record r { sent = record r.sent { covered = counted (length r.sent.packets) r.sent.covered n } }
 
 -- a reset opens an epoch in both lists
 abbrev pub with_epoch : RecordValue → RecordValue

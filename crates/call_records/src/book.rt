@@ -24,7 +24,8 @@ use std::marker::Model;
 
 /// The book of a line: the records of the calls' two ends, the pairs of them that make a call, and for each end,
 /// channel by channel, which records belong there. Only `new` and `reserve` take memory; what is written needs room
-/// that was reserved. A call that comes in leaves no room, but that for pairs stays: so it can be accepted at once.
+/// that was reserved. A call that comes in leaves no room, but that for pairs stays: so it can be accepted at once. An
+/// epoch that ends keeps no spare room, and neither does the record of a call that is over, once room is made again.
 #[derive(Drop)]
 pub struct Book {
     alloc: Global,
@@ -33,6 +34,8 @@ pub struct Book {
     ends: Ends,
     room: usize,
     pair_room: usize,
+    // The records of the calls that ended since room was made last.
+    over: Vec<usize>,
 }
 
 impl Model for Book {
@@ -96,6 +99,7 @@ impl Book {
             ends,
             room: 0,
             pair_room: 0,
+            over: Vec::new(alloc),
         })
     }
 
@@ -110,6 +114,9 @@ impl Book {
     {
         self.room = 0;
         self.pair_room = 0;
+        give_back(&mut self.records, self.over.as_slice());
+        self.over.clear();
+        self.over.reserve(self.ends.channels())?;
         self.records.reserve(count)?;
         self.pairs.reserve(count)?;
         reserve_present(&mut self.records, self.ends.of(Role::Dte), count)?;
@@ -237,6 +244,8 @@ impl Book {
     pub fn close(&mut self, role: Role, channel: u8)
         ensures { self.new ≡ record self.old { book = closes role channel self.old.book } }
     {
+        let present = self.present(role, channel);
+        self.note_end(present);
         self.grow(role, channel, Growth::Closed);
         let placed = self.ends.of(role).slot(channel).placed;
         let slot = Slot {
@@ -245,6 +254,18 @@ impl Book {
             caller: None,
         };
         self.ends.put(role, channel, slot);
+    }
+
+    // The call of a record is over, which gives back its spare room when room is made next.
+    fn note_end(&mut self, present: Option<usize>)
+        ensures { self.new ≡ self.old }
+    {
+        let Some(number) = present else {
+            return;
+        };
+        if self.over.len() < self.over.capacity() {
+            self.over.push_reserved(number);
+        }
     }
 
     /// The present calls on all channels of an end are over for it, in rising order of channels.
@@ -327,14 +348,14 @@ impl Book {
         }
     }
 
-    /// So many more of the packets taken are released, at most all of them (X.25 4.4.1.3).
+    /// So many more of the packets taken are released, if so many are not yet (X.25 4.4.1.3).
     pub fn release(&mut self, role: Role, channel: u8, count: usize)
         ensures { self.new ≡ record self.old { book = releases role channel count self.old.book } }
     {
         self.grow(role, channel, Growth::Released(count));
     }
 
-    /// So many more of the packets sent are covered, at most all of them (X.25 4.4.1.3).
+    /// So many more of the packets sent are covered, if so many are not yet (X.25 4.4.1.3).
     pub fn cover(&mut self, role: Role, channel: u8, count: usize)
         ensures { self.new ≡ record self.old { book = covers role channel count self.old.book } }
     {
@@ -452,4 +473,27 @@ fn reserve_present(records: &mut Vec<Record>, side: &Side, count: usize) -> Resu
         }
     }
     Ok(())
+}
+
+// The records of these numbers give back their spare room.
+fn give_back(records: &mut Vec<Record>, numbers: &[usize])
+    ensures same { map shown records.new.items ≡ map shown records.old.items }
+    ensures len { vec_len records.new ≡ vec_len records.old }
+    ensures capacity { vec_capacity records.new ≡ vec_capacity records.old }
+{
+    for number in numbers {
+        give_back_at(records, *number);
+    }
+}
+
+// So does the record of this number, if there is one.
+fn give_back_at(records: &mut Vec<Record>, number: usize)
+    ensures same { map shown records.new.items ≡ map shown records.old.items }
+    ensures len { vec_len records.new ≡ vec_len records.old }
+    ensures capacity { vec_capacity records.new ≡ vec_capacity records.old }
+{
+    if number < records.len() {
+        let record = &mut records[number];
+        record.give_back();
+    }
 }

@@ -190,6 +190,11 @@ impl Ends {
         }
     }
 
+    /// How many channels the two ends have together.
+    pub(crate) fn channels(&self) -> usize {
+        usize::from(self.dte.channels()) + usize::from(self.dce.channels())
+    }
+
     /// Keeps something of a channel of the end of this role.
     pub(crate) fn put(&mut self, role: Role, channel: u8, slot: Slot)
         ensures { (records : List RecordValue) (pairs : List PairValue) → book_with records pairs self.new

@@ -1,7 +1,7 @@
 //! What a network keeps of each end's part in a call, and which two of these make a call.
 ghost use Rattle.std.specs.Prelude.{◌≡◌, ◌≤◌, ℕ, OnOk};
 ghost use Rattle.epochs.specs.Epoch.{nothing_sent, nothing_taken};
-ghost use Rattle.call_records.specs.Records.{new_record, with_epoch};
+ghost use Rattle.call_records.specs.Records.{new_record, counted as counted_of, with_epoch};
 ghost use Rattle.call_records.specs.RecordView.{shown, sent_of, taken_of, grown, needed, left, HasPlaces};
 
 use crate::interrupt::Interrupt;
@@ -124,6 +124,14 @@ impl SentEpoch {
             covered: 0,
         }
     }
+
+    // Gives back what room there is beyond what was sent.
+    fn give_back(&mut self)
+        ensures { sent_of self.new ≡ sent_of self.old }
+    {
+        self.packets.shrink_to_fit();
+        self.interrupts.shrink_to_fit();
+    }
 }
 
 impl TakenEpoch {
@@ -136,6 +144,14 @@ impl TakenEpoch {
             interrupts: Vec::new(alloc),
             released: 0,
         }
+    }
+
+    // Gives back what room there is beyond what was taken.
+    fn give_back(&mut self)
+        ensures { taken_of self.new ≡ taken_of self.old }
+    {
+        self.packets.shrink_to_fit();
+        self.interrupts.shrink_to_fit();
     }
 }
 
@@ -192,12 +208,10 @@ impl Record {
             Growth::Taken(packet) => self.taken.packets.push_reserved(packet),
             Growth::InterruptTaken(interrupt) => self.taken.interrupts.push_reserved(interrupt),
             Growth::Covered(count) => {
-                let covered = self.sent.covered.saturating_add(count);
-                self.sent.covered = covered.min(self.sent.packets.len());
+                self.sent.covered = counted(self.sent.packets.len(), self.sent.covered, count);
             }
             Growth::Released(count) => {
-                let released = self.taken.released.saturating_add(count);
-                self.taken.released = released.min(self.taken.packets.len());
+                self.taken.released = counted(self.taken.packets.len(), self.taken.released, count);
             }
             Growth::Step(step) => self.steps.push_reserved(step),
             Growth::Epoch => self.open_epoch(alloc),
@@ -205,14 +219,37 @@ impl Record {
         }
     }
 
-    // Opens an epoch in both lists.
+    /// Gives back what room there is beyond what the record has.
+    pub(crate) fn give_back(&mut self)
+        ensures { shown self.new ≡ shown self.old }
+    {
+        self.sent_before.shrink_to_fit();
+        self.sent.give_back();
+        self.taken_before.shrink_to_fit();
+        self.taken.give_back();
+        self.steps.shrink_to_fit();
+    }
+
+    // Opens an epoch in both lists. The one that ends keeps no spare room.
     fn open_epoch(&mut self, alloc: Global)
         requires { HasPlaces 1 self.old }
         ensures { shown self.new ≡ with_epoch (shown self.old) }
     {
-        let sent = mem::replace(&mut self.sent, SentEpoch::new(alloc));
-        let taken = mem::replace(&mut self.taken, TakenEpoch::new(alloc));
+        let mut sent = mem::replace(&mut self.sent, SentEpoch::new(alloc));
+        sent.give_back();
+        let mut taken = mem::replace(&mut self.taken, TakenEpoch::new(alloc));
+        taken.give_back();
         self.sent_before.push_reserved(sent);
         self.taken_before.push_reserved(taken);
+    }
+}
+
+// A count with so many more, where it is of so many; what would pass further is not counted.
+fn counted(all: usize, count: usize, more: usize) -> usize
+    ensures { result ≡ counted_of all count more }
+{
+    match count.checked_add(more) {
+        Some(sum) if sum <= all => sum,
+        _ => count,
     }
 }

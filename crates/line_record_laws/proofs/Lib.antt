@@ -12,4 +12,5 @@ pub mod DueEnds
 pub mod Hosting
 pub mod Missing
 pub mod Confirming
+pub mod Counting
 pub mod Relinking

@@ -6,3 +6,4 @@ pub mod Opening
 pub mod Due
 pub mod Rest
 pub mod Confirmed
+pub mod Counted

@@ -6,6 +6,7 @@ ghost use Rattle.line_record_laws.specs.Clauses.{LossLaw, EditLaw, LikeLaw, Hold
 ghost use Rattle.line_record_laws.specs.Clauses.{AskedLaw, FrontLaw, ChannelsLaw, ClosingLaw};
 ghost use Rattle.line_record_laws.specs.Rest.{RestLaw, SettledLaw};
 ghost use Rattle.line_record_laws.specs.Confirmed.{ConfirmedLaw};
+ghost use Rattle.line_record_laws.specs.Counted.{ShownLaw, CountsLaw};
 ghost use Rattle.line_record_laws.specs.Happens.{FrameLaw, ExpiryLaw, RelinkLaw, RestartedLaw, CalledLaw, RequestedLaw};
 ghost use Rattle.line_record_laws.specs.Hosts.{HostExpiryLaw, HostCallLaw, HostRequestLaw, HostSayLaw, HostRefuseLaw};
 ghost use Rattle.line_record_laws.specs.Hosts.{HostTakeLaw};
@@ -46,6 +47,11 @@ pub fn line_record_law()
 
     // Where an end says that delivery is confirmed, each packet with D = 1 of the last epoch is covered.
     ensures confirmed { ConfirmedLaw }
+
+    // What a present record counts agrees with the numbers of its channel; and each record, open or closed, has the epochs
+    // that the packet layer of its end counted.
+    ensures shown { ShownLaw }
+    ensures counts { CountsLaw }
 {}
 
 /// The same of whole events of a node: what comes to it or is asked at it, its end, and its frames, which go onto the

@@ -14,7 +14,7 @@ use Rattle.line_record_laws.proofs.Confirming.{confirmed_kept}
 use Rattle.network_laws.specs.Promise.{its_slot}
 
 -- the number of the line's book for a number of the register
-own_number : (numbers : List ℕ) (own seen : Option ℕ) (n : ℕ) → IsNumbered numbers own seen → seen ≡ Some n
+pub own_number : (numbers : List ℕ) (own seen : Option ℕ) (n : ℕ) → IsNumbered numbers own seen → seen ≡ Some n
     → (i : ℕ) × (own ≡ Some i) × (slice_get numbers i ≡ Some n)
 own_number numbers None None n h e = absurd (cc)
 own_number numbers None (Some m) n h e = absurd h

@@ -12,6 +12,7 @@ pub mod Made
 pub mod Networks
 pub mod Opened
 mod Confirming
+pub mod Counting
 pub mod Promising
 pub mod Resting
 pub mod Due

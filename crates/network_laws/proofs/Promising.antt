@@ -28,7 +28,10 @@ use Rattle.network_laws.proofs.Answering.{came_kept, paired_kept, placed_kept, r
 use Rattle.network_laws.proofs.Made.{book_line, typed_line}
 use Rattle.network_laws.proofs.Networks.{book_there, placed, there_is, line_there}
 use Rattle.network_laws.proofs.Confirming.{says_confirmed}
+use Rattle.network_laws.proofs.Counting.{shows_counts}
 use Rattle.line_record_laws.specs.Confirmed.{SaysConfirmed}
+use Rattle.line_record_laws.specs.Counted.{ShowsCounts, HasItsEpochs}
+use Rattle.line_record_laws.proofs.Counting.{counts_kept, all_sent, all_taken, its_epochs_alike}
 
 -- ---- each line's book holds
 
@@ -86,6 +89,9 @@ end_holds L s n f line l role at =
       confirmed = λ channel number r present there.
           subst (λ (e : PacketEnd). SaysConfirmed e.layer channel r) (end_is role l h.dte h.dce b.0)
           (says_confirmed s.register n.books line b.0 role channel k.setting (line_of own) number r b.1 n.seen k.kept present there);
+      shown = λ channel number r present there.
+          subst (λ (e : PacketEnd). ShowsCounts e.layer channel r) (end_is role l h.dte h.dce b.0)
+          (shows_counts s.register n.books line b.0 role channel k.setting (line_of own) number r b.1 n.seen k.kept present there);
     }
 
 -- ---- calls that were placed
@@ -149,6 +155,29 @@ typed_holds L s n f place p i r at pad there node =
     (typed_line L (line_state st.line h.dte h.dce b.0) h.holds is.1 w.place w.own w.own_there
     (sym (ap (λ (x : RecordValue). x.node) w.same) ∙ node ∙ sym is.0))
 
+-- ---- what the records count
+
+counts_hold : (L : LineService) (s : Network) (n : IsNetwork L s) → L.faithful → (place : ℕ) (p : PlacedNode) (i : ℕ) (r : RecordValue) → slice_get s.nodes place ≡ Some (User p)
+    → slice_get s.register.records i ≡ Some r → r.node ≡ place → (role : Role) × HasItsEpochs role (end_of p.node).layer r
+counts_hold L s n f place p i r at there node =
+    let st : StandsAtLine s.lines place p = n.nodes place (User p) at in
+    let b = book_there L s n p.line st.line st.there in
+    let h : LineHolds L s.nodes p.line st.line b.0 = n.lines p.line st.line b.0 st.there b.1 in
+    let own : LineState = line_state st.line h.dte h.dce b.0 in
+    let k : IsKept own = h.holds.kept f in
+    let w : IsOfBook b.0 i r =
+    of_one_line s.register n.books p.line b.0 i r n.seen (books_hold L s n f) b.1
+    (subst (λ (m : ℕ). IsAtNoOther p.line m n.books) (sym node) (at_no_other L s n place p at)) there in
+    let c = counts_kept k.setting b.0 (line_of own) w.place w.own k.kept w.own_there in
+    let here : place_at c.role st.line ≡ place =
+    sym (own_node L own c.role st.line h.dte h.dce b.0 h.holds) ∙ sym c.node ∙ sym (ap (λ (x : RecordValue). x.node) w.same) ∙ node in
+    let same : placed c.role h.dte h.dce ≡ p =
+    same_user (placed c.role h.dte h.dce) p (sym (there_is L s.nodes p.line st.line b.0 h c.role).0 ∙ ap (λ (m : ℕ). slice_get s.nodes m) here ∙ at) in (
+      c.role,
+      subst (λ (x : PlacedNode). HasItsEpochs c.role (end_of x.node).layer r) same
+          (subst (λ (e : PacketEnd). HasItsEpochs c.role e.layer r) (end_is c.role st.line h.dte h.dce b.0) (its_epochs_alike c.role (end_at c.role (line_of own)).layer w.own r (ap (λ (x : RecordValue). all_sent x) w.same) (ap (λ (x : RecordValue). all_taken x) w.same) c.epochs)),
+    )
+
 pub holds_network : (L : LineService) (s : Network) → IsNetwork L s → L.faithful → NetworkHolds s
 holds_network L s n f = record {
   calls = promised s.register n.books n.seen (books_hold L s n f);
@@ -156,4 +185,5 @@ holds_network L s n f = record {
   ends = end_holds L s n f;
   placed = placed_holds L s n f;
   typed = typed_holds L s n f;
+  counts = counts_hold L s n f;
 }

@@ -10,6 +10,7 @@ use Rattle.book_laws.specs.Headline.{has_call, IsPaired, HasCallee}
 use Rattle.node_laws.specs.Quiet.{IsQuiet}
 use Rattle.x25_pad_laws.specs.Sending.{HasSent}
 use Rattle.line_record_laws.specs.Confirmed.{SaysConfirmed}
+use Rattle.line_record_laws.specs.Counted.{ShowsCounts, HasItsEpochs}
 use Rattle.register_laws.specs.Promise.{RegisterHolds, HasRecords}
 use Rattle.line_nodes.specs.Node.{end_of, is_pad}
 use Rattle.net_events.specs.Network.{PlacedNode, User, NetLine, Network, place_at}
@@ -22,7 +23,8 @@ its_slot line role channel g = slot_at role channel (book_at line g)
 -- node's, register and packet layer have the line's channels, and a channel has a present record exactly where the
 -- packet layer has a call there; a call that may be accepted is one that came in, and in data transfer each that came
 -- in is in a pair; and where the packet layer says of a channel that delivery is confirmed, and in data transfer there
--- alone, each packet with D = 1 of the last epoch that its present record sent is covered
+-- alone, each packet with D = 1 of the last epoch that its present record sent is covered; and what this record counts
+-- as covered and released agrees with the numbers of the channel
 pub record EndHolds (s : Network) (line : ℕ) (l : NetLine) (role : Role) : Type 0 where
   pub node : PlacedNode
   pub node_there : slice_get s.nodes (place_at role l) ≡ Some (User node)
@@ -41,6 +43,9 @@ pub record EndHolds (s : Network) (line : ℕ) (l : NetLine) (role : Role) : Typ
   pub confirmed : (channel number : ℕ) (r : RecordValue)
       → (its_slot line role channel s.register).present ≡ Some number → slice_get s.register.records number ≡ Some r
       → SaysConfirmed (end_of node.node).layer channel r
+  pub shown : (channel number : ℕ) (r : RecordValue)
+      → (its_slot line role channel s.register).present ≡ Some number → slice_get s.register.records number ≡ Some r
+      → ShowsCounts (end_of node.node).layer channel r
 
 -- on the same end, in data transfer each call that was placed is the last one placed there and is in a pair
 pub record PlacedHolds (s : Network) (line : ℕ) (l : NetLine) (role : Role) : Type 0 where
@@ -64,3 +69,8 @@ pub record NetworkHolds (s : Network) : Type 0 where
   -- idle times; else the PAD sent only what it told the far end by its messages, and the interrupts of breaks
   pub typed : (place : ℕ) (n : PlacedNode) (i : ℕ) (r : RecordValue) → slice_get s.nodes place ≡ Some (User n)
       → is_pad n.node ≡ true → slice_get s.register.records i ≡ Some r → r.node ≡ place → HasSent r
+  -- each record, open or closed, has the epochs that the packet layer of its node counted: packets, interrupts, and how
+  -- many packets a P(R) covered and how many were released, with nothing cut
+  pub counts : (place : ℕ) (n : PlacedNode) (i : ℕ) (r : RecordValue) → slice_get s.nodes place ≡ Some (User n)
+      → slice_get s.register.records i ≡ Some r → r.node ≡ place
+      → (role : Role) × HasItsEpochs role (end_of n.node).layer r

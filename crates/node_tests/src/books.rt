@@ -265,7 +265,7 @@ fn all_is_written(
         assert!(rt; false, "a standing call has two records");
         return Ok(());
     };
-    assert!(rt; dce.taken.released == 1 && dte.sent.covered == 2);
+    assert!(rt; dce.taken.released == 1 && dte.sent.covered == 1);
     Ok(())
 }
 

@@ -13,8 +13,10 @@ use Rattle.x25_pad_laws.specs.Sending.{HasSent}
 use Rattle.register_laws.specs.Promise.{HasRecords}
 use Rattle.line_record_laws.specs.Kept.{end_at}
 use Rattle.line_record_laws.specs.Confirmed.{SaysConfirmed}
+use Rattle.line_record_laws.specs.Counted.{ShowsCounts, HasItsEpochs}
 use Rattle.line_record_laws.proofs.Keeping as keeping_law
 use Rattle.line_record_laws.proofs.Confirming.{confirmed_kept}
+use Rattle.line_record_laws.proofs.Counting.{shown_kept, counts_kept, all_sent, all_taken, its_epochs_alike}
 use Rattle.call_path_laws.specs.Ends.{IsOfPresent, EndIsSeen, IsOfUser}
 use Rattle.call_path_laws.specs.Promise.{PathsHold}
 use Rattle.call_path_laws.proofs.Ending.{ends_seen, users_own, open_seen}
@@ -104,6 +106,12 @@ module _ (L : LineService) (s : Network) (p : IsSwitched L s) (f : L.faithful) w
       subst (λ (y : PacketEnd). SaysConfirmed y.layer channel r) is
       (subst (λ (y : RecordValue). SaysConfirmed e.layer channel y) (sym same) (record { covered = h.covered; said = h.said }))
 
+  shown_of : (own r : RecordValue) (e x : PacketEnd) (channel : ℕ) → r ≡ record own { number = r.number; own = r.own; caller = r.caller } → e ≡ x
+      → ShowsCounts e.layer channel own → ShowsCounts x.layer channel r
+  shown_of own r e x channel same is h =
+      subst (λ (y : PacketEnd). ShowsCounts y.layer channel r) is
+      (subst (λ (y : RecordValue). ShowsCounts e.layer channel y) (sym same) (record { covered = h.covered; released = h.released }))
+
   end_holds : (line : ℕ) (l : NetLine) (role : Role) → slice_get s.lines line ≡ Some l → HasUserAt s l role → EndHolds s line l role
   end_holds line l role at user =
       let b = its_book line l at in
@@ -132,6 +140,10 @@ module _ (L : LineService) (s : Network) (p : IsSwitched L s) (f : L.faithful) w
             let o : IsOfPresent b.0 role channel r = w.of_present channel number r present there in
             confirmed_of o.own r (end_at role (line_of own)) (end_of user.0.node) channel o.same is
             (confirmed_kept h.kept.setting b.0 (line_of own) role channel o.number o.own h.kept.kept o.present o.there);
+        shown = λ channel number r present there.
+            let o : IsOfPresent b.0 role channel r = w.of_present channel number r present there in
+            shown_of o.own r (end_at role (line_of own)) (end_of user.0.node) channel o.same is
+            (shown_kept h.kept.setting b.0 (line_of own) role channel o.number o.own h.kept.kept o.present o.there);
       }
 
   placed_in_register : (line : ℕ) (l : NetLine) (role : Role) (b : Book) (channel : ℕ) → slice_get s.lines line ≡ Some l → slice_get held.books line ≡ Some b → HasUserAt s l role
@@ -191,6 +203,24 @@ module _ (L : LineService) (s : Network) (p : IsSwitched L s) (f : L.faithful) w
       (ap (λ (k : ℕ). slice_get s.nodes k) here ∙ at) pad o.own_there
       (sym (same_node o.own r o.same) ∙ where_is))
 
+  -- ---- what the records count
+
+  counts_hold : (place : ℕ) (n : PlacedNode) (i : ℕ) (r : RecordValue) → slice_get s.nodes place ≡ Some (User n)
+      → slice_get s.register.records i ≡ Some r → r.node ≡ place → (role : Role) × HasItsEpochs role (end_of n.node).layer r
+  counts_hold place n i r at there node =
+      let o : IsOfUser held.plan held.books r =
+      users_own held.plan held.world held.books held.traces i r held.network.seen.seen held.network.seen.lines
+      (ap (λ (g : Register). slice_get g.records i) held.register ∙ there) in
+      let l = its_line o.line o.line_book o.line_there in
+      let h : LineHas o.line l.0 o.line_book = line_has o.line l.0 o.line_book l.1 o.line_there in
+      let own : LineState = ends_state l.0 h.stands.dte.node h.stands.dce o.line_book in
+      let c = counts_kept h.kept.setting o.line_book (line_of own) o.place o.own h.kept.kept o.own_there in
+      let here : place_at c.role l.0 ≡ place =
+      sym (own_node c.role l.0 h.stands.dte.node h.stands.dce o.line_book h.holds) ∙ sym c.node ∙ sym (same_node o.own r o.same) ∙ node in
+      let u = user_end s.nodes o.line l.0 h.stands c.role n (ap (λ (k : ℕ). slice_get s.nodes k) here ∙ at) in
+      let is : end_at c.role (line_of own) ≡ end_of n.node = end_is c.role o.line l.0 o.line_book h.stands ∙ ap (λ (x : NodeState). end_of x) u.node_is in
+      (c.role, subst (λ (e : PacketEnd). HasItsEpochs c.role e.layer r) is (its_epochs_alike c.role (end_at c.role (line_of own)).layer o.own r (ap (λ (x : RecordValue). all_sent x) o.same) (ap (λ (x : RecordValue). all_taken x) o.same) c.epochs))
+
   -- where the plan has a user at an end of a line, one stands there
   user_there : (line : ℕ) (l : NetLine) (role : Role) → slice_get s.lines line ≡ Some l → held.plan.has_user line role ≡ true → HasUserAt s l role
   user_there line l Dte at user = let h = p.lines line l at in (h.dte, h.dte_there)
@@ -219,5 +249,6 @@ module _ (L : LineService) (s : Network) (p : IsSwitched L s) (f : L.faithful) w
     ends = end_holds;
     placed = placed_holds;
     typed = typed_holds;
+    counts = counts_hold;
     alone = λ none. absurd (none p.place p.switch p.there);
   }

@@ -196,5 +196,6 @@ module _ (L : LineService) (s : Network) (n : IsNetwork L s) (f : L.faithful) wh
     ends = λ line l role at user. holds.ends line l role at;
     placed = λ line l role at user. holds.placed line l role at;
     typed = holds.typed;
+    counts = holds.counts;
     alone = λ none. holds;
   }

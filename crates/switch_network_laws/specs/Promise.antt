@@ -6,7 +6,8 @@ use Rattle.x25_pad_laws.specs.Sending.{HasSent}
 use Rattle.register_laws.specs.Promise.{HasRecords}
 use Rattle.call_path_laws.specs.World.{Plan}
 use Rattle.call_path_laws.specs.Promise.{PathsHold}
-use Rattle.line_nodes.specs.Node.{is_pad}
+use Rattle.line_record_laws.specs.Counted.{HasItsEpochs}
+use Rattle.line_nodes.specs.Node.{end_of, is_pad}
 use Rattle.net_events.specs.Network.{PlacedNode, User, NetLine, Network, place_at}
 use Rattle.network_laws.specs.Promise.{EndHolds, PlacedHolds, NetworkHolds}
 use Rattle.switch_network_laws.specs.Plans.{HasNoSwitch, IsPlanOf}
@@ -39,6 +40,11 @@ pub record NetworkPromise (s : Network) : Type 0 where
   -- idle times; else the PAD sent only what it told the far end by its messages, and the interrupts of breaks
   pub typed : (place : ℕ) (n : PlacedNode) (i : ℕ) (r : RecordValue) → slice_get s.nodes place ≡ Some (User n)
       → is_pad n.node ≡ true → slice_get s.register.records i ≡ Some r → r.node ≡ place → HasSent r
+  -- each record, open or closed, has the epochs that the packet layer of its node counted: packets, interrupts, and how
+  -- many packets a P(R) covered and how many were released, with nothing cut
+  pub counts : (place : ℕ) (n : PlacedNode) (i : ℕ) (r : RecordValue) → slice_get s.nodes place ≡ Some (User n)
+      → slice_get s.register.records i ≡ Some r → r.node ≡ place
+      → (role : Role) × HasItsEpochs role (end_of n.node).layer r
   -- without a switch each pair is of the two ends of one line, and what one end took begins, epoch by epoch, what the
   -- other one sent
   pub alone : HasNoSwitch s → NetworkHolds s

@@ -1,7 +1,7 @@
 -- A step of a channel, by what is asked and by what comes, writes in its record what it makes of its leg.
-use Rattle.std.specs.Prelude.{◌≡◌, ℕ, ◌+◌, ◌≤◌, Bool, true, false, cond, ◌==◌, not, List, [], ◌∷◌, ◌++◌, length, min, Option, Some, None}
+use Rattle.std.specs.Prelude.{◌≡◌, ℕ, ◌+◌, ◌≤◌, Bool, true, false, cond, ◌==◌, not, List, [], ◌∷◌, ◌++◌, length, Option, Some, None}
 use Rattle.std.proofs.Common.{refl, sym, ap, ap₂, subst, ◌∙◌, arith, true≢false, length-append}
-use Rattle.std.proofs.lemmas.Bool.{eqb-true}
+use Rattle.std.proofs.lemmas.Bool.{eqb-true, le-leb}
 use Rattle.link_timers.specs.declared.role.Role.{Role}
 use Rattle.link_timers.specs.declared.role.Role.TheVariants.{Dte, Dce}
 use Rattle.epochs.specs.Epoch.{SentEpoch, TakenEpoch}
@@ -17,7 +17,7 @@ use Rattle.packet_layer.specs.Channel.Request.{Accept, Clearing, Resetting, Send
 use Rattle.packet_laws.specs.History.{Epoch, empty_epoch, logged_heard, with_taken as epoch_with_taken}
 use Rattle.packet_laws.specs.Counts.{NamesCounts, NamesAfter, IsNumbered}
 use Rattle.packet_laws.proofs.Naming.{counts_hold}
-use Rattle.call_records.specs.Records.{RecordValue, with_sent, with_interrupt_sent, with_taken, with_interrupt_taken, with_released, with_covered, with_epoch, new_record}
+use Rattle.call_records.specs.Records.{RecordValue, counted, with_sent, with_interrupt_sent, with_taken, with_interrupt_taken, with_released, with_covered, with_epoch, new_record}
 use Rattle.call_records.specs.Book.{Book, Slot, side_of, with_slot, with_record, changed, closes, renews, comes, places_from, answers, takes, releases, all_told}
 use Rattle.call_records.specs.Carried.{unless_refused}
 use Rattle.book_laws.proofs.Writing.{closed_here}
@@ -111,8 +111,8 @@ abbrev Before : Role → ℕ → Leg → Book → Type 0
 Before x d g b = Has x d (leg_if (had_call g.channel.state) g) b
 
 -- no more are covered than were sent
-least_is : (m n : ℕ) → n ≤ m → min m n ≡ n
-least_is m n h = omega arith
+counted_all : (all count n : ℕ) → count + n ≤ all → counted all count n ≡ count + n
+counted_all all count n h = ap (λ (v : Bool). cond v (count + n) count) (le-leb (count + n) all h)
 
 covered_written : (x : Role) (d n : ℕ) (u : Traffic) (v : Bool) (b : Book) (g g' : Leg) → (n == 0) ≡ v → NamesCounts g.window u (record g.epoch { covered = g.epoch.covered + n }) → g'.before ≡ g.before
     → g'.epoch ≡ record g.epoch { covered = g.epoch.covered + n } → HasRecord x d g b → Writes x d b (all_told x (cond v [] (Covered d n ∷ [])) b) (Some g')
@@ -133,8 +133,8 @@ covered_written x d n u false b g g' z k p q h = changed_written x d (with_cover
     grows r i = record {
       sent_before = i.sent_before ∙ ap (λ (es : List Epoch). all_sent es) (sym p);
       sent =
-          ap (λ (s : SentEpoch). record s { covered = min (length s.packets) (s.covered + n) }) i.sent
-          ∙ (ap (λ (m : ℕ). record (sent_of g.epoch) { covered = m }) (least_is (length g.epoch.sent) (g.epoch.covered + n) within) ∙ ap (λ (e : Epoch). sent_of e) (sym q));
+          ap (λ (s : SentEpoch). record s { covered = counted (length s.packets) s.covered n }) i.sent
+          ∙ (ap (λ (m : ℕ). record (sent_of g.epoch) { covered = m }) (counted_all (length g.epoch.sent) g.epoch.covered n within) ∙ ap (λ (e : Epoch). sent_of e) (sym q));
       taken_before = i.taken_before ∙ ap (λ (es : List Epoch). all_taken es) (sym p);
       taken = i.taken ∙ ap (λ (e : Epoch). taken_of e) (sym q);
       open_ = i.open_;
@@ -323,8 +323,8 @@ releases_written x c n true b g g' e i p q h = changed_written x c (with_release
       sent = j.sent ∙ ap (λ (e : Epoch). sent_of e) (sym q);
       taken_before = j.taken_before ∙ ap (λ (es : List Epoch). all_taken es) (sym p);
       taken =
-          ap (λ (s : TakenEpoch). record s { released = min (length s.packets) (s.released + n) }) j.taken
-          ∙ (ap (λ (m : ℕ). record (taken_of g.epoch) { released = m }) (least_is (length g.epoch.taken) (g.epoch.released + n) within) ∙ ap (λ (e : Epoch). taken_of e) (sym q));
+          ap (λ (s : TakenEpoch). record s { released = counted (length s.packets) s.released n }) j.taken
+          ∙ (ap (λ (m : ℕ). record (taken_of g.epoch) { released = m }) (counted_all (length g.epoch.taken) g.epoch.released n within) ∙ ap (λ (e : Epoch). taken_of e) (sym q));
       open_ = j.open_;
     }
 

@@ -2,6 +2,7 @@ use Rattle.line_record_laws.proofs.Keeping.{made_kept, tells_kept, silent_kept, 
 use Rattle.line_record_laws.proofs.Missing.{rest_kept}
 use Rattle.line_record_laws.proofs.Relinking.{finished_asks}
 use Rattle.line_record_laws.proofs.Confirming.{confirmed_kept}
+use Rattle.line_record_laws.proofs.Counting.{shown_kept, counts_kept}
 use Rattle.line_record_laws.proofs.line_record_law.Goals as goal
 
 pub returns : goal.returns
@@ -25,4 +26,6 @@ returns c = record {
   rest = rest_kept;
   settled = finished_asks;
   confirmed = confirmed_kept;
+  shown = shown_kept;
+  counts = counts_kept;
 }

@@ -11,9 +11,9 @@ invariant_of-self-2 c =
     let Q : Side → Type 0 = λ s. CallsHavePlaces c.args.count s.slots last in
     let dte : CallsHavePlaces c.args.count c.self.inside.ends.dte.slots first = subst P (c.of.ensures [] []) c.in_ok-reserve_present.ensures.ok in
     record {
-      records = omega (arith, c.in_ok-reserve.ensures.ok, c.reserve_present.ensures.len, c.reserve_present.ensures.capacity, c.reserve_present-2.ensures.len, c.reserve_present-2.ensures.capacity);
-      pairs = omega (arith, c.in_ok-reserve-2.ensures.ok);
-      pair_room = omega (arith, c.in_ok-reserve-2.ensures.ok);
+      records = omega (arith, c.in_ok-reserve-2.ensures.ok, c.reserve_present.ensures.len, c.reserve_present.ensures.capacity, c.reserve_present-2.ensures.len, c.reserve_present-2.ensures.capacity);
+      pairs = omega (arith, c.in_ok-reserve-3.ensures.ok);
+      pair_room = omega (arith, c.in_ok-reserve-3.ensures.ok);
       dte = λ channel number e. c.in_ok-reserve_present-2.ensures.kept number (dte channel number e);
       dce = subst Q (c.of-2.ensures [] []) c.in_ok-reserve_present-2.ensures.ok;
     }
