@@ -1,7 +1,7 @@
 -- The words that the program takes, and what they name.
 use Rattle.std.specs.Prelude.{◌≡◌, List, [], Option, Some, None, true, codes}
 use Rattle.clap.specs.Words.{App, Row, Rule, Text, first_of, new_app, new_rule, subcommand_of, with_rule}
-use Rattle.clap.specs.Words.{with_subcommand}
+use Rattle.clap.specs.Words.{fault_of, with_subcommand}
 use Rattle.command_words.specs.declared.invocation.Mode.{Mode}
 use Rattle.command_words.specs.declared.invocation.Mode.TheVariants.{Sim, Run}
 use Rattle.command_words.specs.declared.invocation.Invocation.{Invocation}
@@ -34,7 +34,12 @@ pub record Found (found : Option (Text × List Row)) (invocation : Invocation) :
   pub net : first_of (codes "net") options ≡ Some invocation.net.now
   pub script : first_of (codes "script") options ≡ Some invocation.script.now
 
--- no words ask for the built-in network; others name a mode and its files
+-- the words have no fault, and name a mode and its two files, which are those of the invocation
+pub record AsksFor (words : List Text) (invocation : Invocation) : Type 0 where
+  pub faultless : fault_of program words ≡ []
+  pub found : Found (subcommand_of program words) invocation
+
+-- no words ask for the built-in network; others ask for a mode and its files
 abbrev pub Asks : List Text → Option Invocation → Type 0
 Asks words None = words ≡ []
-Asks words (Some invocation) = Found (subcommand_of program words) invocation
+Asks words (Some invocation) = AsksFor words invocation

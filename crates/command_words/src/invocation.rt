@@ -46,6 +46,13 @@ impl From<AllocError> for WordsFault {
 }
 
 impl From<ClapError> for WordsFault {
+    ghost use Rattle.std.specs.Prelude.{◌≡◌, ◌≢◌};
+    ghost use Rattle.clap.specs.Words.{kind_of};
+    ghost use Rattle.clap.specs.declared.error.kind.ErrorKind.TheVariants.{OutOfMemory as NoMemory};
+    ghost use Rattle.command_words.specs.declared.invocation.WordsFault.TheVariants.{BadWords};
+
+    ghost from_gives = { λ error fault. fault ≡ BadWords → kind_of error ≢ NoMemory };
+
     fn from(error: ClapError) -> Self {
         match error.kind() {
             ErrorKind::OutOfMemory => WordsFault::OutOfMemory,

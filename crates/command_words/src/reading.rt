@@ -1,7 +1,8 @@
 //! Reading of the command words.
-ghost use Rattle.std.specs.Prelude.{◌≡◌, [], map, false, Ok, None, string_bytes, IfOk, IfSome};
+ghost use Rattle.std.specs.Prelude.{◌≡◌, [], map, false, Ok, Err, None, Option, string_bytes, IfOk, MatchOption};
 ghost use Rattle.clap.specs.Words.{app_of, rule_of, subcommand_rows_of};
 ghost use Rattle.command_words.specs.Invocations.{Asks, Found, file_option, program};
+ghost use Rattle.command_words.specs.declared.invocation.Invocation.{Invocation};
 
 use crate::invocation::{Invocation, Mode, WordsFault};
 use clap::error::ErrorKind;
@@ -18,6 +19,8 @@ pub fn read_words<'a>(
 ) -> Result<Option<Invocation<'a>>, WordsFault>
     ensures none { words.entry.now ≡ [] → result ≡ Ok None }
     ensures asks { IfOk result (Asks (map (λ word. string_bytes word) words.entry.now)) }
+    ensures bad { result ≡ Err WordsFault.BadWords
+        → (asked : Option Invocation) → ¬ Asks (map (λ word. string_bytes word) words.entry.now) asked }
 {
     if words.is_empty() {
         return Ok(None);
@@ -55,7 +58,8 @@ fn file_option<'a>(alloc: Global, name: &'a str) -> Arg<'a>
 
 /// What the words were found to ask for.
 fn invocation_of<'a>(matches: &ArgMatches<'a>) -> Option<Invocation<'a>>
-    ensures { IfSome result (Found (subcommand_rows_of matches.now)) }
+    ensures { MatchOption result ((invocation : Invocation) → ¬ Found (subcommand_rows_of matches.now) invocation)
+        (Found (subcommand_rows_of matches.now)) }
 {
     let (word, found) = matches.subcommand()?;
     let mode = match word {

@@ -1,7 +1,7 @@
 use Rattle.std.proofs.Common.{rules, ◌≡◌, ◌∙◌, ap, ap₂, codes}
 use Rattle.std.proofs.lemmas.Result.{IfOk-weaker}
 use Rattle.clap.specs.Words.{App, app_of, new_app, with_rule, with_subcommand}
-use Rattle.command_words.specs.Invocations.{file_option, nameless, played}
+use Rattle.command_words.specs.Invocations.{nameless, played}
 use Rattle.command_words.proofs.reading.program.Goals as goal
 
 pub returns : goal.returns
