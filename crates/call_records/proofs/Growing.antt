@@ -39,6 +39,12 @@ shown_same (x ∷ rs) zero r new h e =
     ap (λ (y : RecordValue). y ∷ map shown rs) (e ∙ ap shown same)
 shown_same (x ∷ rs) (suc n) r new h e = ap (λ (ys : List RecordValue). shown x ∷ ys) (shown_same rs n r new h e)
 
+-- a change of one element that does not show
+pub map_same : {X Y : Type 0} (f : X → Y) (xs : List X) (n : ℕ) (x new : X) → slice_get xs n ≡ Some x → f new ≡ f x → map f (set xs n new) ≡ map f xs
+map_same f [] n x new h e = refl
+map_same f (y ∷ xs) zero x new h e = let same : x ≡ y = cc in ap (λ z. z ∷ map f xs) (e ∙ ap f same)
+map_same f (y ∷ xs) (suc n) x new h e = ap (λ zs. f y ∷ zs) (map_same f xs n x new h e)
+
 pub changed_none : (rs : List Record) (n : ℕ) (change : RecordValue → RecordValue) → length rs ≤ n → changed_at n change (map shown rs) ≡ map shown rs
 changed_none [] n change h = refl
 changed_none (x ∷ rs) zero change h = absurd (let no : ⊥ = omega arith in no)

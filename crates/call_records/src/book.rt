@@ -114,13 +114,23 @@ impl Book {
     {
         self.room = 0;
         self.pair_room = 0;
-        give_back(&mut self.records, self.over.as_slice());
+        give_back(self.alloc, &mut self.records, self.over.as_slice())?;
         self.over.clear();
         self.over.reserve(self.ends.channels())?;
         self.records.reserve(count)?;
         self.pairs.reserve(count)?;
-        reserve_present(&mut self.records, self.ends.of(Role::Dte), count)?;
-        reserve_present(&mut self.records, self.ends.of(Role::Dce), count)?;
+        reserve_present(
+            self.alloc,
+            &mut self.records,
+            self.ends.of(Role::Dte),
+            count,
+        )?;
+        reserve_present(
+            self.alloc,
+            &mut self.records,
+            self.ends.of(Role::Dce),
+            count,
+        )?;
         self.room = count;
         self.pair_room = count;
         Ok(())
@@ -443,7 +453,12 @@ fn grow_at(records: &mut Vec<Record>, number: usize, alloc: Global, growth: Grow
 }
 
 // Makes room in the record of this number, if there is one.
-fn reserve_at(records: &mut Vec<Record>, number: usize, count: usize) -> Result<(), AllocError>
+fn reserve_at(
+    alloc: Global,
+    records: &mut Vec<Record>,
+    number: usize,
+    count: usize,
+) -> Result<(), AllocError>
     ensures same { map shown records.new.items ≡ map shown records.old.items }
     ensures len { vec_len records.new ≡ vec_len records.old }
     ensures capacity { vec_capacity records.new ≡ vec_capacity records.old }
@@ -453,13 +468,18 @@ fn reserve_at(records: &mut Vec<Record>, number: usize, count: usize) -> Result<
 {
     if number < records.len() {
         let record = &mut records[number];
-        record.reserve(count)?;
+        record.reserve(alloc, count)?;
     }
     Ok(())
 }
 
 // Makes room in the records of the present calls of an end.
-fn reserve_present(records: &mut Vec<Record>, side: &Side, count: usize) -> Result<(), AllocError>
+fn reserve_present(
+    alloc: Global,
+    records: &mut Vec<Record>,
+    side: &Side,
+    count: usize,
+) -> Result<(), AllocError>
     ensures same { map shown records.new.items ≡ map shown records.old.items }
     ensures len { vec_len records.new ≡ vec_len records.old }
     ensures capacity { vec_capacity records.new ≡ vec_capacity records.old }
@@ -469,31 +489,33 @@ fn reserve_present(records: &mut Vec<Record>, side: &Side, count: usize) -> Resu
 {
     for place in 0..side.channels() {
         if let Some(number) = side.slot(place + 1).present {
-            reserve_at(records, number, count)?;
+            reserve_at(alloc, records, number, count)?;
         }
     }
     Ok(())
 }
 
 // The records of these numbers give back their spare room.
-fn give_back(records: &mut Vec<Record>, numbers: &[usize])
+fn give_back(alloc: Global, records: &mut Vec<Record>, numbers: &[usize]) -> Result<(), AllocError>
     ensures same { map shown records.new.items ≡ map shown records.old.items }
     ensures len { vec_len records.new ≡ vec_len records.old }
     ensures capacity { vec_capacity records.new ≡ vec_capacity records.old }
 {
     for number in numbers {
-        give_back_at(records, *number);
+        give_back_at(alloc, records, *number)?;
     }
+    Ok(())
 }
 
 // So does the record of this number, if there is one.
-fn give_back_at(records: &mut Vec<Record>, number: usize)
+fn give_back_at(alloc: Global, records: &mut Vec<Record>, number: usize) -> Result<(), AllocError>
     ensures same { map shown records.new.items ≡ map shown records.old.items }
     ensures len { vec_len records.new ≡ vec_len records.old }
     ensures capacity { vec_capacity records.new ≡ vec_capacity records.old }
 {
     if number < records.len() {
         let record = &mut records[number];
-        record.give_back();
+        record.give_back(alloc)?;
     }
+    Ok(())
 }

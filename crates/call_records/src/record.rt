@@ -1,5 +1,5 @@
 //! What a network keeps of each end's part in a call, and which two of these make a call.
-ghost use Rattle.std.specs.Prelude.{◌≡◌, ◌≤◌, ℕ, OnOk};
+ghost use Rattle.std.specs.Prelude.{◌≡◌, ◌≤◌, ℕ, OnOk, map};
 ghost use Rattle.epochs.specs.Epoch.{nothing_sent, nothing_taken};
 ghost use Rattle.call_records.specs.Records.{new_record, counted as counted_of, with_epoch};
 ghost use Rattle.call_records.specs.RecordView.{shown, sent_of, taken_of, grown, needed, left, HasPlaces};
@@ -126,11 +126,11 @@ impl SentEpoch {
     }
 
     // Gives back what room there is beyond what was sent.
-    fn give_back(&mut self)
+    fn give_back(&mut self, alloc: Global) -> Result<(), AllocError>
         ensures { sent_of self.new ≡ sent_of self.old }
     {
-        self.packets.shrink_to_fit();
-        self.interrupts.shrink_to_fit();
+        give_back(alloc, &mut self.packets)?;
+        give_back(alloc, &mut self.interrupts)
     }
 }
 
@@ -147,11 +147,11 @@ impl TakenEpoch {
     }
 
     // Gives back what room there is beyond what was taken.
-    fn give_back(&mut self)
+    fn give_back(&mut self, alloc: Global) -> Result<(), AllocError>
         ensures { taken_of self.new ≡ taken_of self.old }
     {
-        self.packets.shrink_to_fit();
-        self.interrupts.shrink_to_fit();
+        give_back(alloc, &mut self.packets)?;
+        give_back(alloc, &mut self.interrupts)
     }
 }
 
@@ -182,11 +182,13 @@ impl Record {
         }
     }
 
-    /// Makes room in every list.
-    pub(crate) fn reserve(&mut self, count: usize) -> Result<(), AllocError>
+    /// Makes room in every list. Epochs that ended give theirs back.
+    pub(crate) fn reserve(&mut self, alloc: Global, count: usize) -> Result<(), AllocError>
         ensures same { shown self.new ≡ shown self.old }
         ensures ok { OnOk result (HasPlaces count self.new) }
     {
+        give_back_last_sent(alloc, &mut self.sent_before)?;
+        give_back_last_taken(alloc, &mut self.taken_before)?;
         self.sent_before.reserve(count)?;
         self.sent.packets.reserve(count)?;
         self.sent.interrupts.reserve(count)?;
@@ -219,26 +221,24 @@ impl Record {
         }
     }
 
-    /// Gives back what room there is beyond what the record has.
-    pub(crate) fn give_back(&mut self)
+    /// Gives back what room there is beyond what the record has, as far as there is memory for it.
+    pub(crate) fn give_back(&mut self, alloc: Global) -> Result<(), AllocError>
         ensures { shown self.new ≡ shown self.old }
     {
-        self.sent_before.shrink_to_fit();
-        self.sent.give_back();
-        self.taken_before.shrink_to_fit();
-        self.taken.give_back();
-        self.steps.shrink_to_fit();
+        give_back(alloc, &mut self.sent_before)?;
+        self.sent.give_back(alloc)?;
+        give_back(alloc, &mut self.taken_before)?;
+        self.taken.give_back(alloc)?;
+        give_back(alloc, &mut self.steps)
     }
 
-    // Opens an epoch in both lists. The one that ends keeps no spare room.
+    // Opens an epoch in both lists.
     fn open_epoch(&mut self, alloc: Global)
         requires { HasPlaces 1 self.old }
         ensures { shown self.new ≡ with_epoch (shown self.old) }
     {
-        let mut sent = mem::replace(&mut self.sent, SentEpoch::new(alloc));
-        sent.give_back();
-        let mut taken = mem::replace(&mut self.taken, TakenEpoch::new(alloc));
-        taken.give_back();
+        let sent = mem::replace(&mut self.sent, SentEpoch::new(alloc));
+        let taken = mem::replace(&mut self.taken, TakenEpoch::new(alloc));
         self.sent_before.push_reserved(sent);
         self.taken_before.push_reserved(taken);
     }
@@ -252,4 +252,40 @@ fn counted(all: usize, count: usize, more: usize) -> usize
         Some(sum) if sum <= all => sum,
         _ => count,
     }
+}
+
+// Moves a list into a block of its own size, and gives back the one in which it was. Without the memory it stays there.
+fn give_back<T: Drop>(alloc: Global, list: &mut Vec<T>) -> Result<(), AllocError>
+    ensures { list.new.items ≡ list.old.items }
+{
+    if list.len() < list.capacity() {
+        let mut fitting = Vec::with_capacity(alloc, list.len())?;
+        fitting.append(list)?;
+        *list = fitting;
+    }
+    Ok(())
+}
+
+// The last of these epochs gives back what room there is beyond what was sent in it.
+fn give_back_last_sent(alloc: Global, epochs: &mut Vec<SentEpoch>) -> Result<(), AllocError>
+    ensures { map sent_of epochs.new.items ≡ map sent_of epochs.old.items }
+{
+    let count = epochs.len();
+    if count == 0 {
+        return Ok(());
+    }
+    let epoch = &mut epochs[count - 1];
+    epoch.give_back(alloc)
+}
+
+// The last of these epochs gives back what room there is beyond what was taken in it.
+fn give_back_last_taken(alloc: Global, epochs: &mut Vec<TakenEpoch>) -> Result<(), AllocError>
+    ensures { map taken_of epochs.new.items ≡ map taken_of epochs.old.items }
+{
+    let count = epochs.len();
+    if count == 0 {
+        return Ok(());
+    }
+    let epoch = &mut epochs[count - 1];
+    epoch.give_back(alloc)
 }
