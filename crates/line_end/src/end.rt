@@ -227,7 +227,7 @@ impl LineEnd {
     pub fn elapse(&mut self, ticks: u16)
         ensures { self.new ≡ elapsed self.old ticks }
     {
-        self.timers.tick(ticks);
+        self.timers.elapse(ticks);
     }
 
     /// The first timer that runs with no tick left.

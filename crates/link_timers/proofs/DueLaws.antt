@@ -1,56 +1,9 @@
 -- Which timers are among those that have no ticks left.
-use Rattle.std.proofs.Common.{
-  ◌≡◌,
-  ◌≢◌,
-  ℕ,
-  zero,
-  suc,
-  ◌+◌,
-  ◌-◌,
-  ◌<◌,
-  ◌≤◌,
-  ◌⊎◌,
-  ◌↔◌,
-  List,
-  [],
-  ◌∷◌,
-  length,
-  get_or,
-  refl,
-  sym,
-  ◌∙◌,
-  ap,
-  subst,
-  arith,
-  Contains,
-  inl,
-  inr,
-  ne_eqb,
-  nat_eq,
-  Bool,
-  true,
-  set,
-  replicate,
-  false,
-}
-use Rattle.std.specs.Prelude.{Option, Some, None, MatchOption, if◌then◌else◌, ◌==◌}
-use Rattle.std.specs.Option.{option_eq}
+use Rattle.std.proofs.Common.{◌≡◌, ◌≢◌, ℕ, zero, suc, ◌+◌, ◌-◌, ◌<◌, ◌≤◌, ◌⊎◌, ◌↔◌, List, [], ◌∷◌, length, get_or, refl, sym, ◌∙◌, ap, subst, arith, Contains, inl, inr, ne_eqb, nat_eq, false}
+use Rattle.std.specs.Prelude.{Option, Some, None, MatchOption}
 use Rattle.std.proofs.lemmas.Bool.{cases_lt}
-use Rattle.std.proofs.lemmas.List.{length-set}
 use Rattle.link_timers.specs.declared.timers.TimerId.{TimerId}
-use Rattle.link_timers.specs.Timers.{
-  Places,
-  place_of,
-  timer_at,
-  IsTimer,
-  left_of,
-  is_due,
-  due_from,
-  due_timers,
-  first_of,
-  none_running,
-  AreTimers,
-}
+use Rattle.link_timers.specs.Timers.{Places, place_of, timer_at, IsTimer, left_of, due_from, due_timers, first_of}
 use Rattle.link_timers.proofs.PlaceLaws.{
   has_place,
   timer_or_none,
@@ -66,7 +19,7 @@ use Rattle.link_timers.proofs.PlaceLaws.{
 }
 
 -- the place of the timer at a place
-place_back : (place : ℕ) → place < 211 → place_of (timer_at place) ≡ place
+pub place_back : (place : ℕ) → place < 211 → place_of (timer_at place) ≡ place
 place_back place below = first (cases_lt place 3) (cases_lt place 35) (cases_lt place 67) (cases_lt place 99)
     (cases_lt place 131)
     (cases_lt place 163) (cases_lt place 195)
@@ -223,76 +176,3 @@ first_due timers first is whole = go first (due_timers timers) is refl
         let same : x ≡ id = cc in
         let at : Contains (x ∷ ids) id = (0, omega arith, same) in
         member_of_list timers id whole (subst (λ l. Contains l id) (sym all) at)
-
--- ---- how many have none left
-
-abbrev due_number : Bool → ℕ
-due_number true = 1
-due_number false = 0
-
--- a place is set to what has ticks left or does not run
-put_from : (place k : ℕ) (timers : Places) (left : Option ℕ) → is_due left ≡ false → k < length timers →
-    length (due_from place (set timers k left)) + due_number (is_due (get_or timers k None)) ≡ length
-    (due_from place timers)
-put_from place k [] left later within = absurd (omega arith)
-put_from place zero (x ∷ timers) left later within = rw later (go (is_due x))
-  where
-    go : (due : Bool) → length (due_from (place + 1) timers) + due_number due ≡
-        length (if due then timer_at place ∷ due_from (place + 1) timers else due_from (place + 1) timers)
-    go true = omega arith
-    go false = omega arith
-put_from place (suc k) (x ∷ timers) left later within =
-    go (is_due x) (put_from (place + 1) k timers left later (omega (arith, within)))
-  where
-    go : (due : Bool) → length (due_from (place + 1) (set timers k left)) + due_number (is_due (get_or timers k None)) ≡
-        length (due_from (place + 1) timers) →
-        length (if due then timer_at place ∷ due_from (place + 1) (set timers k left) else due_from (place + 1)
-        (set timers k left))
-        + due_number (is_due (get_or timers k None)) ≡
-        length (if due then timer_at place ∷ due_from (place + 1) timers else due_from (place + 1) timers)
-    go true e = omega (arith, e)
-    go false e = e
-
--- the count after a place is set so
-pub put_is : (timers : Places) (due k : ℕ) (left : Option ℕ) → AreTimers timers due → is_due left ≡ false →
-    k < length timers →
-    (was : Bool) → was ≡ is_due (get_or timers k None) → AreTimers (set timers k left) (if was then due - 1 else due)
-put_is timers due k left are later within was is = record {
-  whole = length-set timers k left ∙ are.whole;
-  count = go was (ap (λ b. length (due_timers (set timers k left)) + due_number b) is ∙
-      put_from 0 k timers left later within);
-}
-  where
-    go : (b : Bool) → length (due_timers (set timers k left)) + due_number b ≡ length (due_timers timers) →
-        (if b then due - 1 else due) ≡ length (due_timers (set timers k left))
-    go true e = omega (arith, e, are.count)
-    go false e = omega (arith, e, are.count)
-
--- a timer has none left
-pub is_zero : (left : Option ℕ) → option_eq ◌==◌ left (Some 0) ≡ is_due left
-is_zero None = refl
-is_zero (Some n) = refl
-
-none_in : (place count : ℕ) → length (due_from place (replicate count (let none : Option ℕ = None in none))) ≡ 0
-none_in place zero = refl
-none_in place (suc count) = none_in (place + 1) count
-
--- where no timer runs, none has none left
-pub none_due : 0 ≡ length (due_timers none_running)
-none_due = sym (none_in 0 211)
-
--- a timer that has none left is counted
-pub was_due : (timers : Places) (k due : ℕ) → AreTimers timers due → k < length timers →
-    is_due (get_or timers k None) ≡ true → 1 ≤ due
-was_due timers k due are within was =
-    let count = ap (λ b. length (due_timers (set timers k None)) + due_number b) (sym was) ∙
-    put_from 0 k timers None refl within in
-    omega (arith, count, are.count)
-
--- where none is counted no timer has none left
-pub none_counted : (timers : Places) (due : ℕ) → length timers ≡ 211 → due ≡ length (due_timers timers) → due ≡ 0 →
-    (id : TimerId) →
-    left_of timers id ≢ Some 0
-none_counted timers due whole count zero_due id left =
-    let some = (list_of_member timers id whole left).1 in
-    omega (arith, some, count, zero_due)

@@ -1,3 +1,4 @@
-pub mod Walks
 pub mod PlaceLaws
 pub mod DueLaws
+pub mod PlaceSets
+pub mod RunningLaws

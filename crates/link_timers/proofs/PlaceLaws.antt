@@ -277,7 +277,7 @@ own_none timers id whole = go (timer_or_none id)
     go (inr is) = own_left timers id None whole is
 
 -- ticks pass for each
-lowered_at : (timers : Places) (place ticks : ℕ) → get_or (map (lowered ticks) timers) place None ≡ lowered ticks
+pub lowered_at : (timers : Places) (place ticks : ℕ) → get_or (map (lowered ticks) timers) place None ≡ lowered ticks
     (get_or timers place None)
 lowered_at [] place ticks = refl
 lowered_at (left ∷ timers) zero ticks = refl
@@ -287,7 +287,7 @@ pub left_after_ticks : (timers : Places) (id : TimerId) (ticks : ℕ) → left_o
     lowered ticks (left_of timers id)
 left_after_ticks timers id ticks = lowered_at timers (place_of id) ticks
 
-none_at : (count place : ℕ) → get_or (replicate count (let none : Option ℕ = None in none)) place None ≡ None
+pub none_at : (count place : ℕ) → get_or (replicate count (let none : Option ℕ = None in none)) place None ≡ None
 none_at zero place = refl
 none_at (suc count) zero = refl
 none_at (suc count) (suc place) = none_at count place

@@ -1,2 +1,4 @@
 pub mod Role
+pub mod PlaceSet
+pub mod RunningTimers
 pub mod Timers

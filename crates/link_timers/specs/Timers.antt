@@ -17,6 +17,7 @@ use Rattle.std.specs.Prelude.{
   Option,
   Some,
   None,
+  is_some,
   slice_index_or,
   slice_set,
   nat_le,
@@ -24,8 +25,10 @@ use Rattle.std.specs.Prelude.{
   ◌==◌,
   if◌then◌else◌,
 }
+use Rattle.link_timers.specs.declared.places.PlaceSet.{PlaceSet}
 use Rattle.link_timers.specs.declared.timers.TimerId.{TimerId}
 use Rattle.link_timers.specs.declared.timers.TimerId.TheVariants.{T1, T10, T20, T11, T12, T13, T21, T22, T23, Idle}
+use Rattle.link_timers.specs.PlaceSet.{has}
 
 -- the timers' places: in the order in which their names are listed, then by number
 abbrev pub Places : Type 0
@@ -123,7 +126,7 @@ abbrev pub first_of : List TimerId → Option TimerId
 first_of [] = None
 first_of (id ∷ ids) = Some id
 
--- what always holds of the places and of the number of those that have no ticks left
-pub record AreTimers (timers : Places) (due : ℕ) : Type 0 where
+-- what always holds of the places and of the set of those at which a timer runs
+pub record AreTimers (timers : Places) (running : PlaceSet) : Type 0 where
   pub whole : length timers ≡ places
-  pub count : due ≡ length (due_timers timers)
+  pub runs : (place : ℕ) → has running place ≡ is_some (slice_index_or timers place None)

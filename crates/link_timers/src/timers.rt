@@ -1,14 +1,15 @@
 ghost use Rattle.std.specs.Prelude.{
   ◌≡◌,
   ◌≢◌,
+  ℕ,
   ◌≤◌,
   ◌<◌,
   ◌+◌,
   ◌↔◌,
+  true,
   false,
   map,
   length,
-  slice_set,
   Some,
   None,
   is_some,
@@ -16,6 +17,7 @@ ghost use Rattle.std.specs.Prelude.{
   Contains,
 };
 ghost use Rattle.link_timers.specs.declared.timers.TimerId.{TimerId};
+ghost use Rattle.link_timers.specs.PlaceSet.{has};
 ghost use Rattle.link_timers.specs.Timers.{
   places,
   place_of,
@@ -28,12 +30,11 @@ ghost use Rattle.link_timers.specs.Timers.{
   stopped,
   lowered,
   after_ticks,
-  is_due,
   due_timers,
   first_of,
-  AreTimers,
 };
 
+use crate::places::PlaceSet;
 use arrayvec::ArrayVec;
 use std::marker::Model;
 
@@ -75,8 +76,8 @@ pub const MOST_TIMERS: usize = 211;
 #[derive(Drop)]
 pub struct Timers {
     left: [Option<u16>; MOST_TIMERS],
-    /// How many of them have no tick left.
-    due: u8,
+    /// The places of those that run.
+    running: PlaceSet,
 }
 
 impl Model for Timers {
@@ -90,10 +91,12 @@ impl Model for Timers {
 
     ghost view = { λ t. t.left };
 
-    ghost invariant = { λ t. AreTimers t.left t.due };
+    ghost invariant = { λ t. AreTimers t.left t.running };
 }
 
 impl Timers {
+    ghost use Rattle.link_timers.specs.RunningTimers.{holds};
+
     /// No timer runs.
     pub fn new() -> Self
         ensures places { result ≡ none_running }
@@ -101,7 +104,7 @@ impl Timers {
     {
         Timers {
             left: [None; MOST_TIMERS],
-            due: 0,
+            running: PlaceSet::new(),
         }
     }
 
@@ -115,7 +118,10 @@ impl Timers {
         ensures left { left_of self.new id ≡ Some ticks }
         ensures others { (other : TimerId) → other ≢ id → left_of self.new other ≡ left_of self.old other }
     {
-        self.put(id, Some(ticks));
+        if let Some(place) = place(id) {
+            self.left[place] = Some(ticks);
+            self.running.insert(place);
+        }
     }
 
     /// Stops a timer, if it runs.
@@ -124,17 +130,14 @@ impl Timers {
         ensures left { left_of self.new id ≡ None }
         ensures others { (other : TimerId) → other ≢ id → left_of self.new other ≡ left_of self.old other }
     {
-        self.put(id, None);
+        self.fire(id);
     }
 
     /// Whether a timer runs, also with no tick left.
     pub fn is_running(&self, id: TimerId) -> bool
         ensures { result ≡ is_some (left_of self.now id) }
     {
-        match place(id) {
-            Some(place) => self.left[place].is_some(),
-            None => false,
-        }
+        self.running_place(id).is_some()
     }
 
     /// Takes an expiry of a timer: whether it ran, and it is stopped.
@@ -144,13 +147,37 @@ impl Timers {
         ensures left { left_of self.new id ≡ None }
         ensures others { (other : TimerId) → other ≢ id → left_of self.new other ≡ left_of self.old other }
     {
-        let ran = self.is_running(id);
-        self.stop(id);
-        ran
+        let Some(place) = self.running_place(id) else {
+            return false;
+        };
+        self.left[place] = None;
+        self.running.remove(place);
+        true
     }
 
-    /// Lets ticks pass: each timer that runs has so many less, not below 0. Gives those that have none left, in the
-    /// order of [`TimerId`] and then by number. They run until they are fired.
+    /// The timers that run now, to be taken one after the other.
+    pub fn running(&self) -> RunningTimers
+        ensures { (id : TimerId) → holds result id ≡ is_some (left_of self.now id) }
+    {
+        RunningTimers {
+            places: self.running,
+        }
+    }
+
+    /// Lets ticks pass: each timer that runs has so many less, not below 0. Those that have none left run until they
+    /// are fired.
+    pub fn elapse(&mut self, ticks: u16)
+        ensures places { self.new ≡ after_ticks self.old ticks }
+        ensures left { (id : TimerId) → left_of self.new id ≡ lowered ticks (left_of self.old id) }
+    {
+        let mut running = self.running;
+        while let Some(place) = running.take_first() {
+            self.left[place] = lower_one(self.left[place], ticks);
+        }
+    }
+
+    /// Lets ticks pass as `elapse` does, and gives the timers that have none left then, in the order of [`TimerId`]
+    /// and then by number.
     #[tactic(auto, using(crate::proofs::DueLaws::due_members))]
     pub fn tick(&mut self, ticks: u16) -> ArrayVec<TimerId, MOST_TIMERS>
         ensures places { self.new ≡ after_ticks self.old ticks }
@@ -160,14 +187,12 @@ impl Timers {
         // It gives exactly the timers that run and have no tick left.
         ensures members { (id : TimerId) → Contains result.items id ↔ (left_of self.new id ≡ Some 0) }
     {
-        lower(&mut self.left, ticks);
-        let due = due_in(&self.left);
-        self.due = due.len() as u8;
-        due
+        self.elapse(ticks);
+        due_in(&self.left)
     }
 
     /// The first timer that has no tick left, in the order of `tick`.
-    #[tactic(auto, using(crate::proofs::DueLaws::first_due, crate::proofs::DueLaws::none_counted))]
+    #[tactic(auto, using(crate::proofs::DueLaws::first_due))]
     pub fn due(&self) -> Option<TimerId>
         ensures first { result ≡ first_of (due_timers self.now) }
 
@@ -175,32 +200,46 @@ impl Timers {
         ensures member { MatchOption result ((id : TimerId) → left_of self.now id ≢ Some 0)
             (λ id. left_of self.now id ≡ Some 0) }
     {
-        if self.due == 0 {
-            return None;
+        let mut running = self.running;
+        while let Some(place) = running.take_first() {
+            if self.left[place] == Some(0) {
+                return Some(timer(place));
+            }
         }
-        first_due_in(&self.left)
+        None
     }
 
-    // Lets a timer run with ticks left, or not run.
-    fn put(&mut self, id: TimerId, left: Option<u16>)
-        requires { is_due left ≡ false }
-        ensures places { self.new ≡ slice_set self.old (place_of id) left }
-        ensures whole { length self.old ≡ places }
+    // The place of a timer, if it runs.
+    fn running_place(&self, id: TimerId) -> Option<usize>
+        ensures { MatchOption result (left_of self.now id ≡ None) (λ place. (place ≡ place_of id) × (place < places)
+            × (is_some (left_of self.now id) ≡ true)) }
     {
-        if let Some(place) = place(id) {
-            if self.left[place] == Some(0) {
-                self.due -= 1;
-            }
-            self.left[place] = left;
+        match place(id) {
+            Some(place) if self.left[place].is_some() => Some(place),
+            _ => None,
         }
     }
 }
 
-fn lower(timers: &mut [Option<u16>], ticks: u16)
-    ensures { timers.new ≡ after_ticks timers.old ticks }
-{
-    for left in timers.iter_mut() {
-        *left = lower_one(*left, ticks);
+/// Timers that ran at one time, to be taken one after the other.
+#[derive(Drop)]
+pub struct RunningTimers {
+    places: PlaceSet,
+    ghost within: { (place : ℕ) → has places place ≡ true → place < 211 },
+}
+
+impl RunningTimers {
+    ghost use Rattle.link_timers.specs.RunningTimers.{holds, size, IsFirstTimer};
+
+    /// Takes the first of them, in the order of [`TimerId`] and then by number.
+    pub fn take_first(&mut self) -> Option<TimerId>
+        ensures first { MatchOption result
+            ((id : TimerId) → holds self.old id ≡ false)
+            (λ id. IsFirstTimer self.old id self.new) }
+        ensures fewer { MatchOption result (self.new ≡ self.old) (λ _. size self.new < size self.old) }
+    {
+        let place = self.places.take_first()?;
+        Some(timer(place))
     }
 }
 
@@ -221,18 +260,6 @@ fn due_in(timers: &[Option<u16>]) -> ArrayVec<TimerId, MOST_TIMERS>
         }
     }
     due
-}
-
-fn first_due_in(timers: &[Option<u16>]) -> Option<TimerId>
-    requires { length timers.now ≡ places }
-    ensures { result ≡ first_of (due_timers timers.now) }
-{
-    for (place, ticks) in timers.iter().enumerate() {
-        if *ticks == Some(0) {
-            return Some(timer(place));
-        }
-    }
-    None
 }
 
 // The place of a timer, if there is its channel or terminal.

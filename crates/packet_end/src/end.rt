@@ -225,7 +225,7 @@ impl PacketEnd {
         ensures { self.new ≡ elapsed self.old ticks }
     {
         self.line.elapse(ticks);
-        self.timers.tick(ticks);
+        self.timers.elapse(ticks);
     }
 
     /// The first timer that runs with no tick left, in the order of [`TimerId`] and then by number.

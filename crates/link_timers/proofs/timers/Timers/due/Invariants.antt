@@ -1,0 +1,9 @@
+use Rattle.std.specs.Prelude.{sum}
+use Rattle.link_timers.proofs.RunningLaws.{IsPassed}
+use Rattle.link_timers.proofs.timers.Timers.due.Given as goal
+
+abbrev pub invariant-loop-place : goal.invariant-loop-place
+invariant-loop-place l = IsPassed l.self-inside.left l.self-inside.running l.running
+
+abbrev pub decreases-loop-place : goal.decreases-loop-place
+decreases-loop-place l = sum l.running.words

@@ -1,0 +1,13 @@
+use Rattle.std.proofs.Common.{◌≡◌}
+use Rattle.std.specs.Prelude.{sum}
+use Rattle.link_timers.proofs.RunningLaws.{IsLowered}
+use Rattle.link_timers.proofs.timers.Timers.elapse.Given as goal
+
+abbrev pub invariant-loop-place : goal.invariant-loop-place
+invariant-loop-place l = record {
+  lowered : IsLowered l.ticks l.initial.self-inside.left l.self-inside.left l.self-inside.running l.running;
+  running : l.self-inside.running ≡ l.initial.self-inside.running;
+}
+
+abbrev pub decreases-loop-place : goal.decreases-loop-place
+decreases-loop-place l = sum l.running.words
