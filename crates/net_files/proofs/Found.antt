@@ -16,7 +16,7 @@ use Rattle.net_files.specs.declared.keywords.EventWord.TheVariants as event_is
 use Rattle.net_files.specs.declared.keywords.RequestWord.{RequestWord}
 use Rattle.net_files.specs.declared.keywords.RequestWord.TheVariants as request_is
 use Rattle.net_files.specs.Texts.{octets_of, octets_from}
-use Rattle.net_files.specs.Words.{◌␣◌, ◌>>=◌, IsNumber, IsNode, number_of, Left, next_word, named, number_at, node_at, address_at, timer_number_at, text_of, ended, last}
+use Rattle.net_files.specs.Words.{◌␣◌, IsNumber, IsNode, number_of, Left, next_word, named, number_at, node_at, address_at, timer_number_at, text_of, ended, last}
 use Rattle.net_files.specs.Values.{RequestValue, EventValue, CommandValue}
 use Rattle.net_files.specs.CommandForm.{WithText, TimerForm, DirectionForm, SayForm, RequestForm, TerminalForm, EventForm, CommandForm}
 use Rattle.net_files.specs.CommandForm.{WithText as with_text}
@@ -29,7 +29,7 @@ use Rattle.net_files.specs.CommandForm.{EventForm as event_form}
 use Rattle.net_files.specs.CommandForm.{CommandForm as command_form}
 use Rattle.net_files.specs.Reading.{switch_of, direction_of, flags_of, lone_timer, numbered_timer, timer_with, timer_of, directed_of, say_of, request_of, ask_of, at_terminal_of, call_of, call_with, take_of, expiry_of, event_of, request_word, event_word, command_word, command_from, command_of, keys_of}
 use Rattle.net_files.proofs.Spelling.{text_found}
-use Rattle.net_files.proofs.LineWords.{bind_some, map_some, last_some, named_some, joined, IsFront, front, NumberRead, number_read, NodeRead, node_read, text_is, number_found}
+use Rattle.net_files.proofs.LineWords.{bind_some, map_some, last_some, named_some, joined, IsFront, front, number_read, node_read, text_is, number_found}
 
 -- ---- words that stand for themselves
 

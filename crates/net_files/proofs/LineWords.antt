@@ -1,9 +1,9 @@
 -- The words of a line: what is read of it, and of what it is made then.
-use Rattle.std.proofs.Common.{◌≡◌, ◌≢◌, ℕ, zero, suc, ◌+◌, ◌<◌, ◌≤◌, Bool, true, false, not, cond, ◌&&◌, ◌==◌, nat_lt, nat_le, List, [], ◌∷◌, ◌++◌, length, map, take, drop, Option, Some, None, option_map, refl, ap, sym, subst, ◌∙◌, arith, get_or, add-one, drop-cons, length-append, lit<, bytes_eq}
+use Rattle.std.proofs.Common.{◌≡◌, ℕ, zero, suc, ◌+◌, ◌<◌, ◌≤◌, Bool, true, false, not, cond, ◌==◌, nat_lt, List, [], ◌∷◌, ◌++◌, length, map, take, drop, Option, Some, None, option_map, refl, ap, sym, subst, ◌∙◌, arith, get_or, add-one, drop-cons, length-append, bytes_eq}
 use Rattle.std.specs.Prelude.{position, slice_get}
 use Rattle.std.specs.List.{list_all, prefix_len, position_or_len}
 use Rattle.std.specs.Char.{is_ascii_digit}
-use borrow.Author.Tests.{eqb-true, leb-true, le-leb, lt-ltb, ltb-true, ltb-false, ne_eqb, not-true}
+use borrow.Author.Tests.{eqb-true, leb-true, le-leb, lt-ltb, ltb-true, ltb-false}
 use Rattle.std.proofs.lemmas.List.{take-append-drop}
 use Rattle.std.proofs.Math.Seq.{take-append_seam}
 use Rattle.std.proofs.lemmas.List.Quantifiers.{position-Some}
@@ -11,7 +11,7 @@ use Rattle.std.proofs.lemmas.Option.{same_Some}
 use Rattle.std.proofs.lemmas.Slice.Eq.{bytes_eq-Decides}
 use Rattle.x28_commands.specs.Numbers.{decimal}
 use Rattle.x28_commands.proofs.Grammar.{both_true, all_implied, digit_bounds, apart, prefix_append, drop_past}
-use Rattle.net_files.specs.Cuts.{before, behind, before_place, behind_place}
+use Rattle.net_files.specs.Cuts.{before_place, behind_place}
 use Rattle.net_files.specs.Words.{◌␣◌, ◌>>=◌, has_no_space, IsNumber, IsNode, number_of, node_of, Left, next_word, named, number_at, node_at, ended, last}
 
 -- ---- options

@@ -1,12 +1,10 @@
 -- What the grammar of a script has is read.
-use Rattle.std.proofs.Common.{◌≡◌, ℕ, ◌+◌, ◌≤◌, Bool, true, false, cond, ◌==◌, min, nat_lt, nat_le, List, [], ◌∷◌, length, map, codes, Option, Some, None, option_map, Ok, Err, refl, ap, sym, subst, ◌∙◌, lit≤}
-use Rattle.std.specs.Prelude.{IsTrue}
+use Rattle.std.proofs.Common.{◌≡◌, ℕ, ◌≤◌, Bool, true, false, cond, ◌==◌, min, nat_lt, List, [], ◌∷◌, length, map, codes, Option, Some, None, option_map, Ok, Err, refl, ap, ◌∙◌}
 use Rattle.std.specs.Result.{result_ok}
 use Rattle.std.specs.List.{list_all}
 use Rattle.std.specs.Char.{is_ascii_digit}
 use borrow.Author.Tests.{le-leb}
 use Rattle.link_timers.specs.declared.timers.TimerId.{TimerId}
-use Rattle.link_timers.specs.declared.timers.TimerId.TheVariants as timer
 use Rattle.packet_codec.specs.Address.{address_of, digit_values}
 use Rattle.packet_codec.specs.declared.address.AddressFault.TheVariants.{Empty, TooLong, NotADigit}
 use Rattle.memory_line.specs.declared.line.Direction.{Direction}
@@ -19,7 +17,7 @@ use Rattle.net_files.specs.declared.keywords.EventWord.TheVariants as event_is
 use Rattle.net_files.specs.declared.keywords.RequestWord.{RequestWord}
 use Rattle.net_files.specs.declared.keywords.RequestWord.TheVariants as request_is
 use Rattle.net_files.specs.Texts.{octets_of, octets_from}
-use Rattle.net_files.specs.Words.{◌␣◌, ◌>>=◌, has_no_space, IsNumber, IsNode, number_of, Left, next_word, named, number_at, node_at, address_at, timer_number_at, text_of, ended, last}
+use Rattle.net_files.specs.Words.{◌␣◌, ◌>>=◌, has_no_space, IsNumber, IsNode, number_of, Left, next_word, named, number_at, node_at, timer_number_at, text_of, last}
 use Rattle.net_files.specs.Values.{RequestValue, EventValue, CommandValue}
 use Rattle.net_files.specs.CommandForm.{WithText, TimerForm, DirectionForm, SayForm, RequestForm, TerminalForm, EventForm, CommandForm}
 use Rattle.net_files.specs.CommandForm.{WithText as with_text}
@@ -30,7 +28,7 @@ use Rattle.net_files.specs.CommandForm.{RequestForm as request_form}
 use Rattle.net_files.specs.CommandForm.{TerminalForm as terminal_form}
 use Rattle.net_files.specs.CommandForm.{EventForm as event_form}
 use Rattle.net_files.specs.CommandForm.{CommandForm as command_form}
-use Rattle.net_files.specs.Reading.{direction_of, flags_of, lone_timer, numbered_timer, timer_with, timer_of, directed_of, say_of, request_of, ask_of, at_terminal_of, call_of, call_with, take_of, expiry_of, event_of, command_word, command_from, command_of, keys_of, switch_of}
+use Rattle.net_files.specs.Reading.{direction_of, flags_of, lone_timer, numbered_timer, timer_with, timer_of, directed_of, say_of, request_of, ask_of, at_terminal_of, call_of, call_with, expiry_of, event_of, command_word, command_from, command_of}
 use Rattle.net_files.proofs.Spelling.{text_only}
 use Rattle.net_files.proofs.LineWords.{word_last, word_then, number_last, number_then, number_only, number_spaceless, node_last, node_then, named_is, digits_word}
 
