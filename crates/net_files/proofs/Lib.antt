@@ -1,1 +1,5 @@
-pub mod Texts
+pub mod LineWords
+pub mod Spelling
+pub mod Only
+pub mod ScriptLines
+pub mod Found

@@ -1,5 +1,10 @@
 pub mod Cuts
-pub mod Scripts
 pub mod Digits
 pub mod Marks
 pub mod Texts
+pub mod Words
+pub mod Values
+pub mod CommandForm
+pub mod Reading
+pub mod Answers
+pub mod Scripts

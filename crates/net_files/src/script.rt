@@ -1,8 +1,20 @@
 //! Scripts: a text of one command a line, read for a network.
-ghost use Rattle.std.specs.Prelude.{◌≡◌, IfOk, IfErr, MatchOption, vec_len};
-ghost use Rattle.net_files.specs.Scripts.{AreNamesOf, IsScriptFault};
+ghost use Rattle.std.specs.Prelude.{◌≡◌, IfOk, IfErr, map, option_map, string_bytes};
+ghost use Rattle.net_files.specs.Values.{request_value, event_value, command_value};
+ghost use Rattle.net_files.specs.Values.{EventValue as event};
+ghost use Rattle.net_files.specs.Values.{CommandValue as command};
+ghost use Rattle.net_files.specs.Reading.{keys_of, at_terminal_of, call_of, take_of, directed_of, timer_of, expiry_of};
+ghost use Rattle.net_files.specs.Reading.{switch_of, say_of, request_of, ask_of, event_of, command_of, commands_of};
+ghost use Rattle.net_files.specs.Reading.{added};
+ghost use Rattle.net_files.specs.Words.{next_word, named, number_at, node_at, last, ended};
+ghost use Rattle.net_files.specs.Answers.{Gives, GivesOrWants, left_of};
+ghost use Rattle.net_files.specs.Scripts.{AreNamesOf, AreRead, IsScript, IsScriptFault, lines_of};
 
 use crate::fault::ProgFault;
+use crate::keywords::{
+    CommandWord, EventWord, RequestWord, direction_of, flags_of, lone_timer, numbered_timer,
+    switch_of,
+};
 use crate::words::{LineFault, Words, cut, read_text};
 use arrayvec::ArrayVec;
 use line_nodes::TerminalEvent;
@@ -41,26 +53,11 @@ pub struct Script {
 /// has a backslash that begins no octet, or the user data of a call is more than 16 octets. What a number means, as of
 /// a terminal or a channel, is tested when the event comes.
 pub fn read_script(alloc: Global, text: &[u8], config: &Config) -> Result<Script, ProgFault>
-    ensures names { IfOk result (λ script. AreNamesOf config.now.nodes.items script.names.items) }
-    ensures lines { IfOk result (λ script. script.lines ≡ vec_len config.now.lines) }
-    ensures faults { IfErr result (IsScriptFault text.now) }
+    ensures script { IfOk result (IsScript config.now text.now) }
+    ensures fault { IfErr result (IsScriptFault config.now text.now) }
 {
     let names = names_of(alloc, config)?;
-    let mut commands = Vec::new(alloc);
-    let mut rest = Some(text);
-    let mut number = 0usize;
-    while let Some(lines) = rest {
-        let (line, others) = cut(lines, b'\n');
-        number += 1;
-        if !line.is_empty() {
-            match read_line(alloc, line, names.as_slice()) {
-                Ok(command) => commands.push(command)?,
-                Err(LineFault::NotACommand) => return Err(ProgFault::Script(number)),
-                Err(LineFault::OutOfMemory) => return Err(ProgFault::OutOfMemory),
-            }
-        }
-        rest = others;
-    }
+    let commands = read_lines(alloc, text, names.as_slice())?;
     Ok(Script {
         names,
         lines: config.lines.len(),
@@ -79,14 +76,52 @@ fn names_of(alloc: Global, config: &Config) -> Result<Vec<String>, AllocError>
     Ok(names)
 }
 
-fn read_line(alloc: Global, line: &[u8], names: &[String]) -> Result<Command, LineFault> {
+/// The commands of the lines of a text.
+fn read_lines(alloc: Global, text: &[u8], names: &[String]) -> Result<Vec<Command>, ProgFault>
+    ensures { AreRead (map string_bytes names.now) (lines_of text.now) result }
+{
+    let mut commands = Vec::new(alloc);
+    let mut rest = Some(text);
+    let mut number = 0usize;
+    while let Some(lines) = rest {
+        let (line, others) = cut(lines, b'\n');
+        number += 1;
+        match add_command(alloc, line, names, &mut commands) {
+            Ok(()) => rest = others,
+            Err(LineFault::NotACommand) => return Err(ProgFault::Script(number)),
+            Err(LineFault::OutOfMemory) => return Err(ProgFault::OutOfMemory),
+        }
+    }
+    Ok(commands)
+}
+
+/// Adds the command of a line to others, or none where the line is empty.
+fn add_command(
+    alloc: Global,
+    line: &[u8],
+    names: &[String],
+    commands: &mut Vec<Command>,
+) -> Result<(), LineFault>
+    ensures { GivesOrWants (λ _. map command_value commands.new.items) result
+        (added (map command_value commands.old.items) (commands_of (map string_bytes names.now) line.now)) }
+{
+    if !line.is_empty() {
+        commands.push(read_line(alloc, line, names)?)?;
+    }
+    Ok(())
+}
+
+/// The command of a line.
+fn read_line(alloc: Global, line: &[u8], names: &[String]) -> Result<Command, LineFault>
+    ensures { GivesOrWants command_value result (command_of (map string_bytes names.now) line.now) }
+{
     let mut words = Words::new(line);
-    match words.next_word()? {
-        b"key" => read_keys(alloc, words, names),
-        b"flow" => read_flow(words),
-        b"tick" => read_tick(words),
-        b"trace" => read_trace(words),
-        word => {
+    match words.command_word()? {
+        CommandWord::Key => read_keys(alloc, words, names),
+        CommandWord::Flow => read_flow(words),
+        CommandWord::Tick => read_tick(words),
+        CommandWord::Trace => read_trace(words),
+        CommandWord::Event(word) => {
             let event = read_event(alloc, word, words, names)?;
             Ok(Command::Events(vec![in alloc; event]?))
         }
@@ -94,33 +129,50 @@ fn read_line(alloc: Global, line: &[u8], names: &[String]) -> Result<Command, Li
 }
 
 /// `key NODE TERM TEXT`: a key for each octet of the text.
-fn read_keys(alloc: Global, words: Words<'_>, names: &[String]) -> Result<Command, LineFault> {
+fn read_keys(alloc: Global, words: Words<'_>, names: &[String]) -> Result<Command, LineFault>
+    ensures { GivesOrWants command_value result (keys_of (map string_bytes names.now) (left_of words.entry)) }
+{
     let mut words = words;
     let node = words.node(names)?;
     let terminal = words.number()?;
     let text = read_text(alloc, words.text())?;
+    let events = key_events(alloc, node, terminal, text.as_slice())?;
+    Ok(Command::Events(events))
+}
+
+/// A key for each of some octets.
+fn key_events(
+    alloc: Global,
+    node: usize,
+    terminal: u16,
+    octets: &[u8],
+) -> Result<Vec<Event>, AllocError>
+    ensures { IfOk result (λ events. map event_value events.items
+        ≡ map (λ octet. event.AtTerminal node terminal (TerminalEvent.Key octet)) octets.now) }
+{
     let mut events = Vec::new(alloc);
-    for octet in &text {
+    for octet in octets {
         events.push(Event::AtTerminal {
             node,
             terminal,
             event: TerminalEvent::Key(*octet),
         })?;
     }
-    Ok(Command::Events(events))
+    Ok(events)
 }
 
 /// `flow`.
 fn read_flow(words: Words<'_>) -> Result<Command, LineFault>
-    ensures alone { MatchOption words.entry.rest (result ≡ Ok Command.Flow)
-        (λ left. result ≡ Err LineFault.NotACommand) }
+    ensures { Gives command_value result (ended (left_of words.entry) command.Flow) }
 {
     words.end()?;
     Ok(Command::Flow)
 }
 
 /// `tick N`.
-fn read_tick(words: Words<'_>) -> Result<Command, LineFault> {
+fn read_tick(words: Words<'_>) -> Result<Command, LineFault>
+    ensures { Gives command_value result (option_map command.Tick (last (number_at (left_of words.entry)))) }
+{
     let mut words = words;
     let ticks = words.number()?;
     words.end()?;
@@ -128,42 +180,46 @@ fn read_tick(words: Words<'_>) -> Result<Command, LineFault> {
 }
 
 /// `trace on` or `trace off`.
-fn read_trace(words: Words<'_>) -> Result<Command, LineFault> {
+fn read_trace(words: Words<'_>) -> Result<Command, LineFault>
+    ensures { Gives command_value result
+        (option_map command.Trace (last (named switch_of (next_word (left_of words.entry))))) }
+{
     let mut words = words;
-    let traces = match words.next_word()? {
-        b"on" => true,
-        b"off" => false,
-        _ => return Err(LineFault::NotACommand),
+    let word = words.next_word()?;
+    let Some(traces) = switch_of(word) else {
+        return Err(LineFault::NotACommand);
     };
     words.end()?;
     Ok(Command::Trace(traces))
 }
 
-/// What follows the first word, where that is the name of one event.
+/// What follows the name of an event.
 fn read_event(
     alloc: Global,
-    word: &[u8],
+    word: EventWord,
     words: Words<'_>,
     names: &[String],
-) -> Result<Event, LineFault> {
+) -> Result<Event, LineFault>
+    ensures { GivesOrWants event_value result (event_of (map string_bytes names.now) word (left_of words.entry)) }
+{
     match word {
-        b"break" => read_at_terminal(words, names, TerminalEvent::Break),
-        b"idle" => read_at_terminal(words, names, TerminalEvent::Idle),
-        b"print" => read_at_terminal(words, names, TerminalEvent::Print),
-        b"call" => read_call(alloc, words, names),
-        b"take" => read_take(words, names),
-        b"deliver" => {
+        EventWord::Break => read_at_terminal(words, names, TerminalEvent::Break),
+        EventWord::Idle => read_at_terminal(words, names, TerminalEvent::Idle),
+        EventWord::Print => read_at_terminal(words, names, TerminalEvent::Print),
+        EventWord::Call => read_call(alloc, words, names),
+        EventWord::Take => read_take(words, names),
+        EventWord::Deliver => {
             let (line, direction) = read_direction(words)?;
             Ok(Event::Deliver { line, direction })
         }
-        b"lose" => {
+        EventWord::Lose => {
             let (line, direction) = read_direction(words)?;
             Ok(Event::Lose { line, direction })
         }
-        b"expire" => read_expiry(words, names),
-        b"relink" => read_relink(words),
-        b"restart" => read_restart(words, names),
-        word => read_ask(alloc, word, words, names),
+        EventWord::Expire => read_expiry(words, names),
+        EventWord::Relink => read_relink(words),
+        EventWord::Restart => read_restart(words, names),
+        EventWord::Ask(word) => read_ask(alloc, word, words, names),
     }
 }
 
@@ -172,7 +228,9 @@ fn read_at_terminal(
     words: Words<'_>,
     names: &[String],
     event: TerminalEvent,
-) -> Result<Event, LineFault> {
+) -> Result<Event, LineFault>
+    ensures { Gives event_value result (at_terminal_of (map string_bytes names.now) event (left_of words.entry)) }
+{
     let mut words = words;
     let node = words.node(names)?;
     let terminal = words.number()?;
@@ -185,14 +243,15 @@ fn read_at_terminal(
 }
 
 /// `call NODE ADDRESS TEXT`, where the text is the user data.
-fn read_call(alloc: Global, words: Words<'_>, names: &[String]) -> Result<Event, LineFault> {
+fn read_call(alloc: Global, words: Words<'_>, names: &[String]) -> Result<Event, LineFault>
+    ensures { GivesOrWants event_value result (call_of (map string_bytes names.now) (left_of words.entry)) }
+{
     let mut words = words;
     let node = words.node(names)?;
     let address = words.address()?;
     let text = read_text(alloc, words.text())?;
-    let mut user_data = ArrayVec::new();
-    match user_data.try_extend_from_slice(text.as_slice()) {
-        Ok(()) => Ok(Event::Call {
+    match ArrayVec::try_from(text.as_slice()) {
+        Ok(user_data) => Ok(Event::Call {
             node,
             address,
             user_data,
@@ -202,7 +261,9 @@ fn read_call(alloc: Global, words: Words<'_>, names: &[String]) -> Result<Event,
 }
 
 /// `take NODE CH`.
-fn read_take(words: Words<'_>, names: &[String]) -> Result<Event, LineFault> {
+fn read_take(words: Words<'_>, names: &[String]) -> Result<Event, LineFault>
+    ensures { Gives event_value result (take_of (map string_bytes names.now) (left_of words.entry)) }
+{
     let mut words = words;
     let node = words.node(names)?;
     let channel = words.number()?;
@@ -211,20 +272,23 @@ fn read_take(words: Words<'_>, names: &[String]) -> Result<Event, LineFault> {
 }
 
 /// `LINE >` or `LINE <`, at the end.
-fn read_direction(words: Words<'_>) -> Result<(usize, Direction), LineFault> {
+fn read_direction(words: Words<'_>) -> Result<(usize, Direction), LineFault>
+    ensures { Gives (λ read. read) result (directed_of (left_of words.entry)) }
+{
     let mut words = words;
     let line = usize::from(words.number()?);
-    let direction = match words.next_word()? {
-        b">" => Direction::FromDte,
-        b"<" => Direction::FromDce,
-        _ => return Err(LineFault::NotACommand),
+    let word = words.next_word()?;
+    let Some(direction) = direction_of(word) else {
+        return Err(LineFault::NotACommand);
     };
     words.end()?;
     Ok((line, direction))
 }
 
 /// `expire NODE LINE`, and a timer.
-fn read_expiry(words: Words<'_>, names: &[String]) -> Result<Event, LineFault> {
+fn read_expiry(words: Words<'_>, names: &[String]) -> Result<Event, LineFault>
+    ensures { Gives event_value result (expiry_of (map string_bytes names.now) (left_of words.entry)) }
+{
     let mut words = words;
     let node = words.node(names)?;
     let line = usize::from(words.number()?);
@@ -233,27 +297,24 @@ fn read_expiry(words: Words<'_>, names: &[String]) -> Result<Event, LineFault> {
 }
 
 /// `T1`, `T10` or `T20`, another timer of the packet layer and its channel, or `Idle` and a terminal, at the end.
-fn read_timer(words: Words<'_>) -> Result<TimerId, LineFault> {
+fn read_timer(words: Words<'_>) -> Result<TimerId, LineFault>
+    ensures { Gives (λ timer. timer) result (timer_of (left_of words.entry)) }
+{
     let mut words = words;
-    let timer = match words.next_word()? {
-        b"T1" => TimerId::T1,
-        b"T10" => TimerId::T10,
-        b"T20" => TimerId::T20,
-        b"T11" => TimerId::T11(words.timer_number()?),
-        b"T12" => TimerId::T12(words.timer_number()?),
-        b"T13" => TimerId::T13(words.timer_number()?),
-        b"T21" => TimerId::T21(words.timer_number()?),
-        b"T22" => TimerId::T22(words.timer_number()?),
-        b"T23" => TimerId::T23(words.timer_number()?),
-        b"Idle" => TimerId::Idle(words.timer_number()?),
-        _ => return Err(LineFault::NotACommand),
-    };
+    let word = words.next_word()?;
+    if let Some(timer) = lone_timer(word) {
+        words.end()?;
+        return Ok(timer);
+    }
+    let number = words.timer_number()?;
     words.end()?;
-    Ok(timer)
+    numbered_timer(word, number).ok_or(LineFault::NotACommand)
 }
 
 /// `relink LINE`.
-fn read_relink(words: Words<'_>) -> Result<Event, LineFault> {
+fn read_relink(words: Words<'_>) -> Result<Event, LineFault>
+    ensures { Gives event_value result (option_map event.Relink (last (number_at (left_of words.entry)))) }
+{
     let mut words = words;
     let line = usize::from(words.number()?);
     words.end()?;
@@ -261,7 +322,10 @@ fn read_relink(words: Words<'_>) -> Result<Event, LineFault> {
 }
 
 /// `restart NODE`.
-fn read_restart(words: Words<'_>, names: &[String]) -> Result<Event, LineFault> {
+fn read_restart(words: Words<'_>, names: &[String]) -> Result<Event, LineFault>
+    ensures { Gives event_value result
+        (option_map event.Restart (last (node_at (map string_bytes names.now) (left_of words.entry)))) }
+{
     let mut words = words;
     let node = words.node(names)?;
     words.end()?;
@@ -271,10 +335,12 @@ fn read_restart(words: Words<'_>, names: &[String]) -> Result<Event, LineFault> 
 /// `NODE CH`, and what is asked of the call there.
 fn read_ask(
     alloc: Global,
-    word: &[u8],
+    word: RequestWord,
     words: Words<'_>,
     names: &[String],
-) -> Result<Event, LineFault> {
+) -> Result<Event, LineFault>
+    ensures { GivesOrWants event_value result (ask_of (map string_bytes names.now) word (left_of words.entry)) }
+{
     let mut words = words;
     let node = words.node(names)?;
     let channel = words.number()?;
@@ -287,31 +353,35 @@ fn read_ask(
 }
 
 /// What the word asks, with what it takes to be said.
-fn read_request(alloc: Global, word: &[u8], words: Words<'_>) -> Result<HostRequest, LineFault> {
+fn read_request(
+    alloc: Global,
+    word: RequestWord,
+    words: Words<'_>,
+) -> Result<HostRequest, LineFault>
+    ensures { GivesOrWants request_value result (request_of word (left_of words.entry)) }
+{
     let request = match word {
-        b"say" => return read_say(alloc, words),
-        b"int" => return read_interrupt(alloc, words),
-        b"answer" => HostRequest::Answer,
-        b"refuse" => HostRequest::Refuse,
-        b"reset" => HostRequest::Reset,
-        b"clear" => HostRequest::Clear,
-        b"stop" => HostRequest::Stop,
-        b"go" => HostRequest::Go,
-        _ => return Err(LineFault::NotACommand),
+        RequestWord::Say => return read_say(alloc, words),
+        RequestWord::Interrupt => return read_interrupt(alloc, words),
+        RequestWord::Answer => HostRequest::Answer,
+        RequestWord::Refuse => HostRequest::Refuse,
+        RequestWord::Reset => HostRequest::Reset,
+        RequestWord::Clear => HostRequest::Clear,
+        RequestWord::Stop => HostRequest::Stop,
+        RequestWord::Go => HostRequest::Go,
     };
     words.end()?;
     Ok(request)
 }
 
 /// `FLAGS TEXT` behind `say NODE CH`.
-fn read_say(alloc: Global, words: Words<'_>) -> Result<HostRequest, LineFault> {
+fn read_say(alloc: Global, words: Words<'_>) -> Result<HostRequest, LineFault>
+    ensures { GivesOrWants request_value result (say_of (left_of words.entry)) }
+{
     let mut words = words;
-    let (qualified, delivery) = match words.next_word()? {
-        b"-" => (false, false),
-        b"q" => (true, false),
-        b"d" => (false, true),
-        b"qd" => (true, true),
-        _ => return Err(LineFault::NotACommand),
+    let word = words.next_word()?;
+    let Some((qualified, delivery)) = flags_of(word) else {
+        return Err(LineFault::NotACommand);
     };
     let octets = read_text(alloc, words.text())?;
     Ok(HostRequest::Say {
@@ -322,7 +392,9 @@ fn read_say(alloc: Global, words: Words<'_>) -> Result<HostRequest, LineFault> {
 }
 
 /// `TEXT` behind `int NODE CH`.
-fn read_interrupt(alloc: Global, words: Words<'_>) -> Result<HostRequest, LineFault> {
+fn read_interrupt(alloc: Global, words: Words<'_>) -> Result<HostRequest, LineFault>
+    ensures { GivesOrWants request_value result (request_of RequestWord.Interrupt (left_of words.entry)) }
+{
     let octets = read_text(alloc, words.text())?;
     Ok(HostRequest::Interrupt { octets })
 }

@@ -1,10 +1,18 @@
 //! The words of a line of a script.
-ghost use Rattle.std.specs.Prelude.{◌≡◌, ◌<◌, ◌≤◌, ◌==◌, [], ◌∷◌, IfOk, IfErr, IsOk, MatchOption, length, position};
+ghost use Rattle.std.specs.Prelude.{◌≡◌, ◌<◌, ◌≤◌, ◌==◌, [], ◌∷◌, Some, IfOk, IfErr, length, map, position};
+ghost use Rattle.std.specs.Prelude.{bytes_eq, min, option_map, string_bytes, IsTrue};
+ghost use Rattle.std.specs.List.{list_all};
+ghost use Rattle.std.specs.Char.{is_ascii_digit};
+ghost use Rattle.x28_commands.specs.Numbers.{decimal};
 ghost use Rattle.net_files.specs.Digits.{hex_value};
-ghost use Rattle.net_files.specs.Texts.{TextForm, OctetForm};
-ghost use Rattle.std.specs.Option.{option_map};
+ghost use Rattle.net_files.specs.Texts.{octet_at, octets_of};
 ghost use Rattle.net_files.specs.Cuts.{before, behind, length_left};
+ghost use Rattle.net_files.specs.Words.{next_word, named, node_at, number_of, number_at, timer_number_at};
+ghost use Rattle.net_files.specs.Words.{address_at, text_of};
+ghost use Rattle.net_files.specs.Reading.{command_word};
+ghost use Rattle.net_files.specs.Answers.{EndsLine, Gives, GivesOrWants, left_of};
 
+use crate::keywords::CommandWord;
 use packet_codec::Address;
 use std::alloc::{AllocError, AllocFailed, Global};
 use thiserror::Error;
@@ -47,12 +55,16 @@ pub(crate) struct Words<'a> {
 }
 
 impl<'a> Words<'a> {
-    pub(crate) fn new(line: &'a [u8]) -> Self {
+    pub(crate) fn new(line: &'a [u8]) -> Self
+        ensures { left_of result ≡ Some line.entry.now }
+    {
         Words { rest: Some(line) }
     }
 
     /// The next word.
-    pub(crate) fn next_word(&mut self) -> Result<&'a [u8], LineFault> {
+    pub(crate) fn next_word(&mut self) -> Result<&'a [u8], LineFault>
+        ensures { Gives (λ word. (word.now, left_of self.new)) result (next_word (left_of self.old)) }
+    {
         let Some(line) = self.rest else {
             return Err(LineFault::NotACommand);
         };
@@ -61,32 +73,44 @@ impl<'a> Words<'a> {
         Ok(word)
     }
 
-    /// The next word, as the place of the node of that name.
-    pub(crate) fn node(&mut self, names: &[String]) -> Result<usize, LineFault> {
+    /// The next word, as what the line asks for.
+    pub(crate) fn command_word(&mut self) -> Result<CommandWord, LineFault>
+        ensures { Gives (λ word. (word, left_of self.new)) result (named command_word (next_word (left_of self.old))) }
+    {
         let word = self.next_word()?;
-        for (place, name) in names.iter().enumerate() {
-            if name.as_bytes() == word {
-                return Ok(place);
-            }
-        }
-        Err(LineFault::NotACommand)
+        CommandWord::named(word).ok_or(LineFault::NotACommand)
+    }
+
+    /// The next word, as the place of the node of that name.
+    pub(crate) fn node(&mut self, names: &[String]) -> Result<usize, LineFault>
+        ensures { Gives (λ node. (node, left_of self.new)) result
+            (node_at (map string_bytes names.now) (left_of self.old)) }
+    {
+        let word = self.next_word()?;
+        place_of(names, word).ok_or(LineFault::NotACommand)
     }
 
     /// The next word, as a number from 0 to 65,535.
-    pub(crate) fn number(&mut self) -> Result<u16, LineFault> {
+    pub(crate) fn number(&mut self) -> Result<u16, LineFault>
+        ensures { Gives (λ number. (number, left_of self.new)) result (number_at (left_of self.old)) }
+    {
         let word = self.next_word()?;
         read_number(word).ok_or(LineFault::NotACommand)
     }
 
     /// The next word, as the number of a timer's logical channel or terminal. Beyond 255, as beyond the channels that a
     /// line and the terminals that a PAD may have, it names a timer that never runs.
-    pub(crate) fn timer_number(&mut self) -> Result<u8, LineFault> {
+    pub(crate) fn timer_number(&mut self) -> Result<u8, LineFault>
+        ensures { Gives (λ number. (number, left_of self.new)) result (timer_number_at (left_of self.old)) }
+    {
         let number = self.number()?;
         Ok(u8::try_from(number).unwrap_or(u8::MAX))
     }
 
     /// The next word, as an address of 1 to 15 digits.
-    pub(crate) fn address(&mut self) -> Result<Address, LineFault> {
+    pub(crate) fn address(&mut self) -> Result<Address, LineFault>
+        ensures { Gives (λ address. (address, left_of self.new)) result (address_at (left_of self.old)) }
+    {
         let word = self.next_word()?;
         match Address::read(word) {
             Ok(address) => Ok(address),
@@ -95,7 +119,9 @@ impl<'a> Words<'a> {
     }
 
     /// All that is left, nothing where no word follows.
-    pub(crate) fn text(self) -> &'a [u8] {
+    pub(crate) fn text(self) -> &'a [u8]
+        ensures { result.now ≡ text_of (left_of self.entry) }
+    {
         match self.rest {
             Some(text) => text,
             None => &[],
@@ -104,13 +130,21 @@ impl<'a> Words<'a> {
 
     /// That nothing is left.
     pub(crate) fn end(self) -> Result<(), LineFault>
-        ensures { MatchOption self.entry.rest (IsOk result) (λ left. result ≡ Err LineFault.NotACommand) }
+        ensures { EndsLine result (left_of self.entry) }
     {
         match self.rest {
             None => Ok(()),
             Some(_) => Err(LineFault::NotACommand),
         }
     }
+}
+
+/// The place of the first of these names that a word is.
+
+fn place_of(names: &[String], word: &[u8]) -> Option<usize>
+    ensures { result ≡ position (λ name. bytes_eq (string_bytes name) word.now) names.now }
+{
+    names.iter().position(|name| name.as_bytes() == word)
 }
 
 /// The octets before the first one of a kind, and those behind it if there is one.
@@ -133,25 +167,39 @@ fn first_place(octets: &[u8], at: u8) -> Option<usize>
 }
 
 /// Reads digits, of a number of at most 65,535.
-fn read_number(word: &[u8]) -> Option<u16> {
-    if word.is_empty() {
+fn read_number(word: &[u8]) -> Option<u16>
+    ensures { result ≡ number_of word.now }
+{
+    if word.is_empty() || !are_digits(word) {
         return None;
     }
-    let mut number = 0u16;
-    for octet in word {
-        if !octet.is_ascii_digit() {
-            return None;
-        }
-        number = number
-            .checked_mul(10)?
-            .checked_add(u16::from(*octet - b'0'))?;
+    u16::try_from(value_of(word)).ok()
+}
+
+/// Whether a word has nothing but digits.
+fn are_digits(word: &[u8]) -> bool
+    ensures { result ≡ list_all is_ascii_digit word.now }
+{
+    word.iter().all(|octet| octet.is_ascii_digit())
+}
+
+/// What digits are worth, or the most that there can be where they are worth more.
+fn value_of(digits: &[u8]) -> u32
+    requires { IsTrue (list_all is_ascii_digit digits.now) }
+    ensures { result ≡ min (decimal digits.now) u32.MAX }
+{
+    let mut value = 0u32;
+    for digit in digits {
+        value = value
+            .saturating_mul(10)
+            .saturating_add(u32::from(*digit - b'0'));
     }
-    Some(number)
+    value
 }
 
 /// Reads a text: `\XX` is the octet of two hexadecimal digits, `\\` a backslash, and any other octet stands for itself.
 pub(crate) fn read_text(alloc: Global, text: &[u8]) -> Result<Vec<u8>, LineFault>
-    ensures spelled { IfOk result (λ octets. TextForm text.now octets.items) }
+    ensures { GivesOrWants (λ octets. octets.items) result (octets_of text.now) }
 {
     let mut octets = Vec::new(alloc);
     let mut rest = text;
@@ -165,7 +213,7 @@ pub(crate) fn read_text(alloc: Global, text: &[u8]) -> Result<Vec<u8>, LineFault
 
 /// Reads the octet that a text begins with, and gives what stands behind it.
 fn read_octet(text: &[u8]) -> Result<(u8, &[u8]), LineFault>
-    ensures spelled { IfOk result (λ read. OctetForm text.entry.now read.0 read.1.now) }
+    ensures { Gives (λ read. (read.0, read.1.now)) result (octet_at text.entry.now) }
 {
     let (first, rest) = first_octet(text)?;
     if first != b'\\' {
@@ -182,7 +230,7 @@ fn read_octet(text: &[u8]) -> Result<(u8, &[u8]), LineFault>
 /// The first octet, and those behind it.
 fn first_octet(octets: &[u8]) -> Result<(u8, &[u8]), LineFault>
     ensures first { IfOk result (λ parts. octets.entry.now ≡ parts.0 ∷ parts.1.now) }
-    ensures none { IfErr result (λ fault. octets.entry.now ≡ []) }
+    ensures none { IfErr result (λ fault. (fault ≡ LineFault.NotACommand) × (octets.entry.now ≡ [])) }
 {
     match octets.split_first() {
         Some((first, rest)) => Ok((*first, rest)),
@@ -192,7 +240,7 @@ fn first_octet(octets: &[u8]) -> Result<(u8, &[u8]), LineFault>
 
 /// The value of a hexadecimal digit.
 fn hex_value(digit: u8) -> Result<u8, LineFault>
-    ensures value { MatchOption (hex_value digit) (result ≡ Err LineFault.NotACommand) (λ value. result ≡ Ok value) }
+    ensures value { Gives (λ value. value) result (hex_value digit) }
     ensures small { IfOk result (λ value. value < 16) }
 {
     match digit {

@@ -1,10 +1,11 @@
-use Rattle.std.proofs.Common.{length}
-use Rattle.net_files.proofs.Texts.{Continues}
+use Rattle.std.proofs.Common.{◌≡◌, length}
+use Rattle.net_files.specs.Texts.{octets_of}
+use Rattle.net_files.proofs.Spelling.{with_front}
 use Rattle.net_files.proofs.words.read_text.Given as goal
 
--- whatever the rest spells ends what the text spells
+-- the octets so far, and then those that the rest spells, are those that the text spells
 abbrev pub invariant-loop-rest : goal.invariant-loop-rest
-invariant-loop-rest l = Continues l.text l.octets.items l.rest
+invariant-loop-rest l = with_front l.octets.items (octets_of l.rest) ≡ octets_of l.text
 
 -- what is left gets shorter
 abbrev pub decreases-loop-rest : goal.decreases-loop-rest

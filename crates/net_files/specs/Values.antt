@@ -1,0 +1,70 @@
+-- What commands say, as plain values: the lists in them are lists of octets.
+use Rattle.std.specs.Prelude.{ℕ, Bool, List, map}
+use Rattle.link_timers.specs.declared.timers.TimerId.{TimerId}
+use Rattle.memory_line.specs.declared.line.Direction.{Direction}
+use Rattle.packet_host.specs.declared.request.HostRequest.{HostRequest}
+use Rattle.packet_host.specs.declared.request.HostRequest.TheVariants as host
+use Rattle.line_nodes.specs.declared.terminal.TerminalEvent.{TerminalEvent}
+use Rattle.net_events.specs.declared.event.Event.{Event}
+use Rattle.net_events.specs.declared.event.Event.TheVariants as event
+use Rattle.net_files.specs.declared.script.Command.{Command}
+use Rattle.net_files.specs.declared.script.Command.TheVariants as command
+
+-- what is asked of a call
+pub data RequestValue : Type 0 where
+  Answer : RequestValue
+  Refuse : RequestValue
+  Say : (octets : List ℕ) → (qualified delivery : Bool) → RequestValue
+  Interrupt : (octets : List ℕ) → RequestValue
+  Reset : RequestValue
+  Clear : RequestValue
+  Stop : RequestValue
+  Go : RequestValue
+
+-- an event of a network
+pub data EventValue : Type 0 where
+  AtTerminal : (node terminal : ℕ) → TerminalEvent → EventValue
+  Call : (node : ℕ) → (address user_data : List ℕ) → EventValue
+  Ask : (node channel : ℕ) → RequestValue → EventValue
+  Take : (node channel : ℕ) → EventValue
+  Deliver : (line : ℕ) → Direction → EventValue
+  Lose : (line : ℕ) → Direction → EventValue
+  Expire : (node line : ℕ) → TimerId → EventValue
+  Relink : (line : ℕ) → EventValue
+  Restart : (node : ℕ) → EventValue
+
+-- a command of a script
+pub data CommandValue : Type 0 where
+  Events : List EventValue → CommandValue
+  Flow : CommandValue
+  Tick : (ticks : ℕ) → CommandValue
+  Trace : (traces : Bool) → CommandValue
+
+-- ---- of the code's requests, events and commands
+
+abbrev pub request_value : HostRequest → RequestValue
+request_value host.Answer = Answer
+request_value host.Refuse = Refuse
+request_value (host.Say octets qualified delivery) = Say octets.items qualified delivery
+request_value (host.Interrupt octets) = Interrupt octets.items
+request_value host.Reset = Reset
+request_value host.Clear = Clear
+request_value host.Stop = Stop
+request_value host.Go = Go
+
+abbrev pub event_value : Event → EventValue
+event_value (event.AtTerminal node terminal what) = AtTerminal node terminal what
+event_value (event.Call node address user_data) = Call node address user_data.items
+event_value (event.Ask node channel request) = Ask node channel (request_value request)
+event_value (event.Take node channel) = Take node channel
+event_value (event.Deliver line direction) = Deliver line direction
+event_value (event.Lose line direction) = Lose line direction
+event_value (event.Expire node line timer) = Expire node line timer
+event_value (event.Relink line) = Relink line
+event_value (event.Restart node) = Restart node
+
+abbrev pub command_value : Command → CommandValue
+command_value (command.Events events) = Events (map event_value events.items)
+command_value command.Flow = Flow
+command_value (command.Tick ticks) = Tick ticks
+command_value (command.Trace traces) = Trace traces
