@@ -1,2 +1,4 @@
 pub mod Offering
 pub mod Wanted
+pub mod Untouched
+pub mod Waits

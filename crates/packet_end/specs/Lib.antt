@@ -1,5 +1,6 @@
 pub mod PacketEnd
 pub mod Timing
+pub mod Touched
 pub mod Params
 pub mod NoteQueueView
 pub mod EndView

@@ -15,6 +15,7 @@ use crate::fault::EndFault;
 use crate::notes::{MOST_NOTES, NoteQueue};
 use crate::params::EndParams;
 use crate::timing::bring_into_line;
+use crate::touched::Touched;
 use frame_codec::FrameBuf;
 use lapb::{LinkParams, Note};
 use line_end::{LineEnd, MOST_FRAMES};
@@ -35,6 +36,7 @@ pub struct PacketEnd {
     layer: Layer,
     timers: Timers,
     notes: NoteQueue,
+    touched: Touched,
 }
 
 impl Model for PacketEnd {
@@ -42,9 +44,11 @@ impl Model for PacketEnd {
 
     ghost Value = { end.PacketEnd };
 
-    ghost use Rattle.packet_end.specs.EndView.{end_of};
+    ghost use Rattle.packet_end.specs.EndView.{end_of, IsEnd};
 
     ghost view = { end_of };
+
+    ghost invariant = { IsEnd };
 }
 
 impl PacketEnd {
@@ -83,6 +87,7 @@ impl PacketEnd {
             layer,
             timers: Timers::new(),
             notes: NoteQueue::new(alloc)?,
+            touched: Touched::Everything,
         })
     }
 
@@ -103,6 +108,7 @@ impl PacketEnd {
         let received = self.line.on_frame(octets);
         self.heed(received.note);
         if let Some(packet) = received.packet {
+            self.touched.insert_named(packet);
             self.layer.on_packet(packet);
             self.gather();
         }
@@ -129,6 +135,7 @@ impl PacketEnd {
                 self.heed(note);
             }
         } else if self.timers.fire(id) {
+            self.touched = Touched::Everything;
             self.layer.on_timer(id);
             self.gather();
         }
@@ -143,6 +150,7 @@ impl PacketEnd {
         self.line.relink();
         self.layer.link_down();
         self.timers = Timers::new();
+        self.touched = Touched::Everything;
         self.gather();
     }
 
@@ -173,6 +181,7 @@ impl PacketEnd {
         self.line.restart();
         self.layer.link_down();
         self.timers = Timers::new();
+        self.touched = Touched::Everything;
         self.gather();
         self.notes.clear();
     }
@@ -185,7 +194,8 @@ impl PacketEnd {
         ensures all_sent { HasSentAll self.new.line.link }
         ensures timers { TimersAgree self.new.layer self.new.timers }
     {
-        bring_into_line(&mut self.timers, &self.layer);
+        bring_into_line(&mut self.timers, &self.layer, self.touched);
+        self.touched = Touched::Nothing;
         self.line.settle();
     }
 
@@ -281,6 +291,7 @@ impl PacketEnd {
             Note::Down => self.layer.link_down(),
         }
         self.timers = Timers::new();
+        self.touched = Touched::Everything;
         self.gather();
     }
 

@@ -8,6 +8,7 @@ mod fault;
 mod notes;
 mod params;
 mod timing;
+mod touched;
 
 pub use end::PacketEnd;
 pub use fault::EndFault;

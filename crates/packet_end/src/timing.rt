@@ -4,16 +4,34 @@ ghost use Rattle.link_timers.specs.declared.timers.TimerId.{TimerId as TimerName
 ghost use Rattle.link_timers.specs.Timers.{IsTimer};
 ghost use Rattle.packet_end.specs.Timing.{brought_one, brought_channel, brought, RunsAsWanted, IsPacketTimer};
 ghost use Rattle.packet_end.specs.Timing.{TimersAgree, channel_number};
+ghost use Rattle.packet_end.specs.Touched.{OthersAgree};
 
+use crate::touched::Touched;
 use link_timers::{TimerId, Timers};
 use packet_layer::{Layer, MOST_CHANNELS};
 
 /// How long each of these timers runs, in ticks of a twentieth of a second.
 const PACKET_TICKS: u16 = 3600;
 
+/// Starts the timers that are to run and do not, and stops those that are not to run: only timers of the channels that
+/// are touched.
+#[tactic(auto, using(crate::proofs::Untouched::one_agrees))]
+pub(crate) fn bring_into_line(timers: &mut Timers, layer: &Layer, touched: Touched)
+    requires { OthersAgree layer.now timers.old touched }
+    ensures places { timers.new ≡ brought layer.now timers.old }
+    ensures agree { TimersAgree layer.now timers.new }
+{
+    match touched {
+        Touched::Nothing => {}
+        Touched::Channel(channel) if 1 <= channel && channel <= MOST_CHANNELS => {
+            bring_channel(timers, layer, channel);
+        }
+        _ => bring_all(timers, layer),
+    }
+}
+
 #[tactic(auto, unfolding(crate::specs::Timing::brought))]
-/// Starts the timers that are to run and do not, and stops those that are not to run.
-pub(crate) fn bring_into_line(timers: &mut Timers, layer: &Layer)
+fn bring_all(timers: &mut Timers, layer: &Layer)
     ensures places { timers.new ≡ brought layer.now timers.old }
     ensures agree { TimersAgree layer.now timers.new }
 {

@@ -9,6 +9,7 @@ ghost use Rattle.packet_layer.specs.Octets.{parts_of};
 ghost use Rattle.packet_layer.specs.RequestView.{request_of, refusal_of, call_refusal_of};
 ghost use Rattle.packet_layer.specs.TakenView.{maybe_taken, maybe_front};
 ghost use Rattle.packet_end.specs.PacketEnd.{asked, called};
+ghost use Rattle.packet_end.specs.Touched.{is_of_call};
 
 use crate::end::PacketEnd;
 use packet_codec::CallData;
@@ -27,7 +28,9 @@ impl PacketEnd {
             (λ fault. machine.call_refusal self.old.layer self.old.layer.phase ≡ Some (call_refusal_of fault)) }
         ensures end { self.new ≡ called self.old (parts_of (call_view call.now)) }
     {
-        self.layer.call(call)
+        let channel = self.layer.call(call)?;
+        self.touched.insert(channel);
+        Ok(channel)
     }
 
     /// Asks something of the call on the channel: [`Request`] has each refusal. A channel that the line does not have
@@ -39,6 +42,9 @@ impl PacketEnd {
             ≡ Some (refusal_of fault)) }
         ensures end { self.new ≡ asked self.old channel (request_of request.now) }
     {
+        if changes_call(request) {
+            self.touched.insert(channel);
+        }
         self.layer.ask(channel, request)
     }
 
@@ -97,4 +103,14 @@ impl PacketEnd {
     {
         self.layer.confirmed(channel)
     }
+}
+
+// Whether a request is of the call itself, so that an own call, reset or clear may begin or end.
+fn changes_call(request: &Request<'_>) -> bool
+    ensures { result ≡ is_of_call (request_of request.now) }
+{
+    matches!(
+        request,
+        Request::Accept | Request::Clear { .. } | Request::Reset { .. }
+    )
 }

@@ -1,5 +1,6 @@
 use Rattle.std.proofs.Common.{◌≡◌, ◌≤◌, ◌+◌, ◌++◌, length}
 use Rattle.packet_layer.specs.Layer.{unread}
+use Rattle.packet_end.specs.Touched.{OthersAgree}
 use Rattle.packet_end.proofs.end.PacketEnd.gather.Given as goal
 
 abbrev pub invariant-loop : goal.invariant-loop
@@ -12,4 +13,5 @@ invariant-loop l = record {
   layer : unread l.self-inside.layer ≡ unread l.fn.self.layer;
   line : l.self-inside.line ≡ l.fn.self.line;
   timers : l.self-inside.timers ≡ l.fn.self.timers;
+  agree : OthersAgree l.self-inside.layer l.self-inside.timers l.self-inside.touched;
 }

@@ -7,6 +7,7 @@ use Rattle.packet_layer.specs.Events.{written_packet}
 use Rattle.packet_end.specs.EndView.{end_of}
 use Rattle.packet_end.specs.PacketEnd.{offered, all_offered, with_next}
 use Rattle.packet_end.proofs.Offering.{next_none, written_same, no_room, no_packet, one_offered, takes_none, longer, silent_all_offered, may_room, may_silent, may_both, may_before, may_counted}
+use Rattle.packet_end.proofs.Waits.{others_agree, next_alike}
 use Rattle.packet_end.proofs.end.PacketEnd.offer_packets.Goals as goal
 use Rattle.packet_end.proofs.end.PacketEnd.offer_packets.Goals.{then-not-has_room-via-then-not-has_room, then-not-has_room-via-else-not-has_room+then-not-next_packet}
 
@@ -33,7 +34,23 @@ loop-count-preserved c =
       begins = λ none. absurd (omega (arith, none));
       some = λ _. may_before c.loop-count.count e c.args.self.now c.loop-count.invariant.begins c.loop-count.invariant.some (may_both e room says);
       most = λ _. rw end c.has_room.ensures.most;
+      agree = rw c.next_packet.ensures.layer
+          (others_agree e.layer _ e.timers c.loop-count.self-inside.touched c.loop-count.self-inside.touched
+          c.loop-count.invariant.agree (λ n out. (out, next_alike e.layer n)));
     }
+
+pub invariant_of-self : goal.invariant_of-self
+invariant_of-self c = c.loop-count.invariant.agree
+
+pub invariant_of-self-then-not-has_room : goal.invariant_of-self-then-not-has_room
+invariant_of-self-then-not-has_room c = c.loop-count.invariant.agree
+
+pub invariant_of-self-then-not-next_packet : goal.invariant_of-self-then-not-next_packet
+invariant_of-self-then-not-next_packet c =
+    let inside = c.loop-count.self-inside in
+    rw c.next_packet.ensures.layer
+    (others_agree inside.layer _ inside.timers inside.touched inside.touched c.loop-count.invariant.agree
+    (λ n out. (out, next_alike inside.layer n)))
 
 pub returns-then-not-has_room-clause-end : goal.returns-then-not-has_room-clause-end
 returns-then-not-has_room-clause-end c =

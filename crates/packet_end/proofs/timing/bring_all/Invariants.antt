@@ -2,7 +2,7 @@ use Rattle.std.proofs.Common.{◌≡◌, ◌≤◌}
 use Rattle.link_timers.specs.declared.timers.TimerId.{TimerId}
 use Rattle.link_timers.specs.declared.timers.TimerId.TheVariants.{T10, T20}
 use Rattle.packet_end.specs.Timing.{brought_one, brought_channels, RunsAsWanted, IsPacketTimer, channel_number}
-use Rattle.packet_end.proofs.timing.bring_into_line.Given as goal
+use Rattle.packet_end.proofs.timing.bring_all.Given as goal
 
 abbrev pub invariant-loop-place : goal.invariant-loop-place
 invariant-loop-place l = record {

@@ -1,0 +1,32 @@
+-- Which channels of a line are touched, and what is so of the timers of the others.
+use Rattle.std.specs.Prelude.{◌≡◌, ◌≢◌, ℕ, ◌≤◌, Bool, true, false, ◌==◌, Option, Some, None}
+use Rattle.link_timers.specs.declared.timers.TimerId.{TimerId}
+use Rattle.link_timers.specs.Timers.{Places}
+use Rattle.packet_layer.specs.Channel.{Request}
+use Rattle.packet_layer.specs.Channel.Request.{Accept, Clearing, Resetting}
+use Rattle.packet_layer.specs.Layer.{Layer}
+use Rattle.packet_end.specs.Timing.{RunsAsWanted, IsPacketTimer, channel_number}
+use Rattle.packet_end.specs.declared.touched.Touched.{Touched}
+use Rattle.packet_end.specs.declared.touched.Touched.TheVariants.{Nothing, Channel, Everything}
+
+abbrev pub has : Touched → (channel : ℕ) → Bool
+has Nothing n = false
+has (Channel channel) n = n == channel
+has Everything n = true
+
+-- each timer of a channel that is not touched runs exactly where the layer wants it to
+abbrev pub OthersAgree : Layer → Places → Touched → Type 0
+OthersAgree l timers touched =
+    (id : TimerId) → IsPacketTimer id → has touched (channel_number id) ≡ false → RunsAsWanted l timers id
+
+-- octets name a channel, which is another than this one, and do not speak of the restart
+abbrev pub NamesAnother : Option ℕ → ℕ → Type 0
+NamesAnother None n = ⊥
+NamesAnother (Some channel) n = (1 ≤ channel) × (n ≢ channel)
+
+-- a request may begin or end an own call, reset or clear
+abbrev pub is_of_call : Request → Bool
+is_of_call Accept = true
+is_of_call (Clearing cause diagnostic) = true
+is_of_call (Resetting cause diagnostic) = true
+is_of_call _ = false
