@@ -1,5 +1,5 @@
 -- What waits to be shown at a terminal (X.3 3.8, X.28 3.1, 3.5).
-use Rattle.std.specs.Prelude.{ℕ, ◌-◌, true, false, if◌then◌else◌, List, [], ◌∷◌, ◌++◌, length, drop}
+use Rattle.std.specs.Prelude.{ℕ, ◌-◌, true, false, if◌then◌else◌, List, [], ◌++◌, length, drop}
 use Rattle.x3_params.specs.Settings.{has_signals, has_prompt, discards_output}
 use Rattle.pad_editing.specs.Shown.{Shown, shows, shown}
 use Rattle.x28_commands.specs.Signals.{signal_text}

@@ -14,8 +14,8 @@ use x28_commands::{Signal, write_signal};
 /// How many octets of text may wait to be shown at a terminal.
 pub const TEXT_LIMIT: usize = 1024;
 
-/// How many octets the longest echo of a key is laid out to: 129, each of at most 17.
-const ECHO_LIMIT: usize = 2193;
+/// The most octets to which one is laid out.
+const OCTET_LIMIT: usize = 17;
 
 /// The longest service signal.
 const SIGNAL_LIMIT: usize = 160;
@@ -68,12 +68,13 @@ impl Output {
 
     /// Adds what is echoed, laid out for the terminal.
     pub(crate) fn echo(&mut self, octets: &[u8], params: &Params)
-        requires { length octets.now ≤ 129 }
         ensures { self.new ≡ with_echo octets.now params.now self.old }
     {
-        let mut shown = ArrayVec::<u8, ECHO_LIMIT>::new();
-        self.column = Display::text(octets, true, params, self.column, &mut shown);
-        self.text.extend_from_slice(shown.as_slice());
+        for octet in octets {
+            let mut shown = ArrayVec::<u8, OCTET_LIMIT>::new();
+            self.column = Display::text(&[*octet], true, params, self.column, &mut shown);
+            self.text.extend_from_slice(shown.as_slice());
+        }
     }
 
     /// Adds a service signal, where signals are shown (X.3 3.6, X.28 3.5).
