@@ -1,4 +1,5 @@
 pub use Rattle.net_turns.specs.Outcomes
+pub use Rattle.net_turns.specs.Quiet
 pub mod NodeView
 pub mod Places
 pub mod Faults

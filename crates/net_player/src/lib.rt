@@ -5,5 +5,9 @@ mod answer;
 mod player;
 mod program;
 
+pub use line_sim::{
+    Config, Direction, Event, Line, LineConfig, MakeFault, MemLine, Net, NodeConfig, NodeKind,
+    Pair, Record, RunFault, SentEpoch, StepFault, TakenEpoch, TerminalEvent, run,
+};
 pub use player::play;
 pub use program::{perform, refuse_words};

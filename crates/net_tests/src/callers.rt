@@ -1,7 +1,6 @@
 //! A call that comes from a partner of another make, which gives its address.
-use line_sim::Net;
 use net_files::{read_net, read_script};
-use net_player::play;
+use net_player::{Net, play};
 use std::io;
 use std::test::Fail;
 use udp_line::{Datagrams, UdpLine};

@@ -1,8 +1,8 @@
 //! Delivery that is confirmed from end to end, through a switch.
 use crate::programs::played_on;
 use crate::switched::SWITCHED;
-use line_sim::Net;
 use net_files::read_net;
+use net_player::Net;
 use std::str::from_utf8;
 use std::test::Fail;
 

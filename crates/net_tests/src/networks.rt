@@ -1,11 +1,11 @@
 //! What networks keep of their calls, and a line in memory.
 use crate::programs::played_on;
 use frame_codec::FrameBuf;
-use line_sim::{
+use net_files::{FIRST, read_net};
+use net_player::{
     Config, Direction, Event, Line, MakeFault, MemLine, Net, Pair, Record, RunFault, SentEpoch,
     StepFault, TakenEpoch, TerminalEvent, run,
 };
-use net_files::{FIRST, read_net};
 use packet_codec::Address;
 use std::alloc::Global;
 use std::test::Fail;

@@ -1,6 +1,7 @@
-use line_sim::{Config, Event, LineConfig, MakeFault, MemLine, Net, NodeConfig, NodeKind};
 use net_files::{Command, FIRST, ProgFault, read_net, read_script};
-use net_player::{perform, play};
+use net_player::{
+    Config, Event, LineConfig, MakeFault, MemLine, Net, NodeConfig, NodeKind, perform, play,
+};
 use packet_codec::Address;
 use std::alloc::{AllocError, Global};
 use std::fs::Files;

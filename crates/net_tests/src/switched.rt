@@ -1,7 +1,7 @@
 //! Calls through a switch.
 use crate::networks::{Case, FIRST_PAIR, FRESH, Kept, goes_so};
 use crate::programs::played;
-use line_sim::Pair;
+use net_player::Pair;
 use std::str::from_utf8;
 use std::test::Fail;
 

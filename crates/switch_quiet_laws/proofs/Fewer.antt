@@ -15,7 +15,8 @@ use Rattle.switch_laws.specs.Steps.{does}
 use Rattle.switch_laws.specs.Steps.Happening.{RunsOut}
 use Rattle.switch_record_laws.specs.Kept.{all_frames_out}
 use Rattle.switch_quiet_laws.specs.Quiet.{drained}
-use Rattle.switch_quiet_laws.specs.Due.{lines_due, all_due_on, SwitchFewerLaw}
+use Rattle.switch_record_laws.specs.DueTimers.{lines_due, all_due_on}
+use Rattle.switch_quiet_laws.specs.Due.{SwitchFewerLaw}
 use Rattle.switch_quiet_laws.proofs.Ends.{begun-stays, out-stays}
 use Rattle.switch_quiet_laws.proofs.Lines.{lines-all, no-more, fewer-first}
 use Rattle.switch_quiet_laws.proofs.Events.{happened, others-stay}

@@ -5,7 +5,7 @@ use Rattle.std.proofs.lemmas.Option.{none-some, same_Some}
 use Rattle.line_record_laws.specs.Due.{due_count}
 use Rattle.line_record_laws.proofs.DueEnds.{no-more-due}
 use Rattle.switch_lines.specs.Lines.{SwitchLine, changed}
-use Rattle.switch_quiet_laws.specs.Due.{lines_due}
+use Rattle.switch_record_laws.specs.DueTimers.{lines_due}
 use Rattle.switch_quiet_laws.proofs.Ends.{EndStays, end-same, end-then}
 
 abbrev pub LineStays : (SwitchLine → SwitchLine) → Type 0

@@ -5,7 +5,7 @@ use Rattle.std.specs.FinMap.{empty}
 use Rattle.link_timers.specs.declared.timers.TimerId.TheVariants.{T1}
 use Rattle.switch_laws.specs.Run.{configs, new_switch, sabm}
 use Rattle.switch_quiet_laws.specs.Quiet.{IsQuietSwitch, drained}
-use Rattle.switch_quiet_laws.specs.Due.{all_due_on}
+use Rattle.switch_record_laws.specs.DueTimers.{all_due_on}
 use Rattle.switch_quiet_laws.specs.Run.{waited, expired, RunLaw}
 use Rattle.switch_quiet_laws.proofs.Quieting.{made-quiet, time-quiet, timer-quiet, frame-quiet}
 use Rattle.switch_quiet_laws.proofs.Fewer.{fewer-due}

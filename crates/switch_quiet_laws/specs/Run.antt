@@ -4,7 +4,7 @@ use Rattle.link_timers.specs.declared.timers.TimerId.TheVariants.{T1}
 use Rattle.switch_lines.specs.Switch.{Switch, on_frame, on_timer, elapse, due_on}
 use Rattle.switch_laws.specs.Run.{new_switch, sabm}
 use Rattle.switch_quiet_laws.specs.Quiet.{IsQuietSwitch, drained}
-use Rattle.switch_quiet_laws.specs.Due.{all_due_on}
+use Rattle.switch_record_laws.specs.DueTimers.{all_due_on}
 
 -- three seconds after the making T1 is due on both lines
 abbrev pub waited : Switch

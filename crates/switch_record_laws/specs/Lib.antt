@@ -6,5 +6,6 @@ pub mod Joined
 pub mod Opened
 pub mod Kept
 pub mod Tied
+pub mod DueTimers
 pub mod Law
 pub mod Run
