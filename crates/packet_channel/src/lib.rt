@@ -8,16 +8,17 @@ mod effect;
 mod fault;
 mod heard;
 mod note;
+mod owed;
 mod state;
 mod taken;
 mod traffic;
 mod user_data;
 
 pub use channel::{Channel, Request};
-pub use control::MOST_OWED;
 pub use effect::Outcome;
 pub use fault::ChannelFault;
 pub use note::{LayerNote, Reason};
+pub use owed::Owed;
 pub use state::{CallState, End, error_cause};
 pub use taken::{Front, Taken};
 pub use traffic::SEND_QUEUE;

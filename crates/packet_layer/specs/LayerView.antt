@@ -1,7 +1,7 @@
 -- What contracts see of the code's packet layer, and what always holds of it.
 use Rattle.std.specs.Prelude.{◌≤◌, length}
 use Rattle.packet_layer.specs.Layer.{Layer}
-use Rattle.packet_layer.specs.RestartView.{phase_of}
+use Rattle.packet_layer.specs.RestartView.{phase_of, restart_bodies}
 use Rattle.packet_layer.specs.declared.layer.Layer.TheInside.{Inside}
 
 abbrev pub layer_of : Inside → Layer
@@ -10,7 +10,7 @@ layer_of a = record {
   window = a.window;
   channels = a.channels.items;
   phase = phase_of a.phase;
-  owed = a.owed;
+  owed = restart_bodies a.owed;
   served_last = a.served_last;
   relink = a.relink;
   notes = a.notes;

@@ -16,9 +16,9 @@ mod timers;
 use crate::fault::MakeFault;
 use crate::notes::Notes;
 use crate::params::LayerParams;
-use crate::restart::{OwedRestarts, Phase};
+use crate::restart::{Phase, RestartPacket};
 use link_timers::Role;
-use packet_channel::{Channel, End, LayerNote, Outcome};
+use packet_channel::{Channel, End, LayerNote, Outcome, Owed};
 use std::alloc::{AllocError, Global};
 use std::marker::Model;
 
@@ -29,7 +29,7 @@ pub struct Layer {
     window: u8,
     channels: Vec<Channel>,
     phase: Phase,
-    owed: OwedRestarts,
+    owed: Owed<RestartPacket>,
     served_last: u8,
     relink: bool,
     notes: Notes,
@@ -92,7 +92,7 @@ impl Layer {
             } else {
                 Phase::NoSession
             },
-            owed: OwedRestarts::new(),
+            owed: Owed::new(),
             served_last: 0,
             relink: false,
             notes,

@@ -84,7 +84,7 @@ impl Channel {
             return Err(ChannelFault::NoCall);
         }
         self.state = CallState::Transfer;
-        Ok(self.owed.owe(Some(Control::Accepted)))
+        Ok(self.owe(Control::Accepted))
     }
 
     fn clear(&mut self, cause: u8, diagnostic: u8) -> Result<bool, ChannelFault>
@@ -95,7 +95,7 @@ impl Channel {
             return Err(ChannelFault::NoCall);
         }
         self.end_call(CallState::OwnClear);
-        Ok(self.owed.owe(Some(Control::Clear { cause, diagnostic })))
+        Ok(self.owe(Control::Clear { cause, diagnostic }))
     }
 
     fn reset(&mut self, cause: u8, diagnostic: u8) -> Result<bool, ChannelFault>
@@ -110,7 +110,7 @@ impl Channel {
         }
         self.resetting = true;
         self.traffic.clear();
-        Ok(self.owed.owe(Some(Control::Reset { cause, diagnostic })))
+        Ok(self.owe(Control::Reset { cause, diagnostic }))
     }
 
     fn send(

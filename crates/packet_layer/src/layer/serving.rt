@@ -4,7 +4,7 @@ ghost use Rattle.packet_layer.specs.Layer as machine;
 ghost use Rattle.packet_layer.specs.Events.{written_packet, ReadsBack, IsHeard};
 
 use crate::layer::Layer;
-use crate::restart::Phase;
+use crate::restart::{Phase, write_restart};
 use packet_codec::PacketBuf;
 
 impl Layer {
@@ -22,7 +22,8 @@ impl Layer {
         if matches!(self.phase, Phase::NoSession) || self.relink {
             return false;
         }
-        if self.owed.next_packet(buf) {
+        if let Some(packet) = self.owed.take_first() {
+            write_restart(packet, buf);
             return true;
         }
         self.serve(buf)

@@ -56,6 +56,7 @@ impl Layer {
         self.owe_restart(RestartPacket::Restart { cause, diagnostic });
     }
 
+    #[tactic(auto, using(packet_channel::proofs::Owing::map_with_owed, packet_channel::proofs::Owing::map_passes))]
     pub(crate) fn owe_restart(&mut self, packet: RestartPacket)
         ensures { self.new ≡ machine.owes_restart (Some (restart_body packet)) self.old }
     {
