@@ -1,15 +1,16 @@
 -- The bits of a number as a set.
 use Rattle.std.proofs.Common.{◌≡◌, ℕ, zero, suc, ◌+◌, ◌*◌, ◌^◌, ◌%◌, ◌<◌, ◌≤◌, Bool, false, not, ◌&&◌, ◌||◌, ◌==◌, ◌⊎◌}
-use Rattle.std.proofs.Common.{inl, inr, refl, sym, ap, ap₂, ◌∙◌, arith, max}
-use Rattle.std.specs.Prelude.{bit_and, bit_or, bit_xor, nat_lt}
-use Rattle.std.specs.Int.{bit_at, w64, trailing_zeros}
+use Rattle.std.proofs.Common.{inl, inr, refl, sym, ap, ap₂, ◌∙◌, arith, max, ◌-◌}
+use Rattle.std.specs.Prelude.{bit_and, bit_or, bit_xor, nat_lt, true}
+use Rattle.std.specs.Int.{bit_at, w64, trailing_zeros, bit_not}
 use Rattle.std.proofs.lemmas.Bool.{eq-eqb, ne_eqb, cases_eq, cases_lt, lt-ltb, le-ltb}
 use Rattle.std.proofs.lemmas.Nat.{one_shl, pow_pos}
 use Rattle.std.proofs.lemmas.Nat.Bits.{bit_at-lt, bit_at-zero, bit_at-pow_same, bit_at-pow_other, bit_at_or, bit_at_xor}
-use Rattle.std.proofs.lemmas.Nat.Bits.{bit_at-trailing_zeros, and_pow}
+use Rattle.std.proofs.lemmas.Nat.Bits.{bit_at-trailing_zeros, and_pow, bit_at_and, bit_at_above, ones_shl}
+use Rattle.std.proofs.lemmas.Nat.Bits.{bit_at_clear_same, bit_at_clear_other, bit_at_mask_inside, bit_at_mask_below}
 use lib.Bits.{xor_add_and}
-use Rattle.line_set.specs.declared.LineSet.{LineSet}
-use Rattle.line_set.specs.LineSet.{IsFirstOf}
+use Rattle.number_set.specs.declared.NumberSet.{NumberSet}
+use Rattle.number_set.specs.NumberSet.{IsFirstOf}
 
 by_bits : (P : ℕ → ℕ → Type 0) → P 0 0 → P 0 1 → P 1 0 → P 1 1 → (a b : ℕ) → a < 2 → b < 2 → P a b
 by_bits P oo oi io ii zero zero f g = oo
@@ -64,7 +65,7 @@ lowest a = trailing_zeros w64 a
 shifted : (a : ℕ) → 0 < a → a < 2 ^ 64 → 1 * 2 ^ lowest a % 18446744073709551616 ≡ 2 ^ lowest a
 shifted a some fits = one_shl (lowest a) 64 (bit_at-trailing_zeros w64 a some fits).0
 
-pub first_of : (s : LineSet) → 0 < s.bits → s.bits < 2 ^ 64 →
+pub first_of : (s : NumberSet) → 0 < s.bits → s.bits < 2 ^ 64 →
     IsFirstOf s (lowest s.bits) (record { bits = bit_xor s.bits (1 * 2 ^ lowest s.bits % 18446744073709551616) })
 first_of s some fits =
     let low = bit_at-trailing_zeros w64 s.bits some fits in
@@ -99,3 +100,92 @@ one_more a k n is = ap (λ (b : Bool). b || n == k) is ∙ go (cases_lt n k) (ca
     go (inr least) (inr apart) =
         ap₂ (λ (a b : Bool). a || b) (le-ltb n k least) (ne_eqb n k apart)
         ∙ sym (le-ltb n (k + 1) (omega (arith, apart)))
+
+and_true : (b : Bool) → (b && true) ≡ b
+and_true true = refl
+and_true false = refl
+
+and_false : (b : Bool) → (b && false) ≡ false
+and_false true = refl
+and_false false = refl
+
+-- no bit from the 64th on
+none_above : (a n : ℕ) → a < 2 ^ 64 → 64 ≤ n → bit a n ≡ false
+none_above a n fits high = ap (λ (x : ℕ). x == 1) (bit_at_above a 64 n fits high)
+
+none_of_both : (a m n : ℕ) → a < 2 ^ 64 → 64 ≤ n → bit (bit_and a m) n ≡ false
+none_of_both a m n fits high =
+    let zero_bit = bit_at_above a 64 n fits high in
+    let both : bit_at (bit_and a m) n ≡ 0 = bit_at_and a m n ∙ omega (arith, zero_bit) in
+    ap (λ (x : ℕ). x == 1) both
+
+-- a bit is cleared
+pub bits_without : (a k n : ℕ) → a < 2 ^ 64 → k < 64 →
+    bit (bit_and a (bit_not w64 (1 * 2 ^ k % 18446744073709551616))) n ≡ (bit a n && not (n == k))
+bits_without a k n fits h = go (cases_eq n k) (cases_lt n 64)
+  where
+    cleared : ℕ
+    cleared = bit_and a (bit_not w64 (1 * 2 ^ k % 18446744073709551616))
+
+    go : (n ≡ k) ⊎ (n ≡ k → ⊥) → (n < 64) ⊎ (64 ≤ n) → bit cleared n ≡ (bit a n && not (n == k))
+    go (inl e) other =
+        ap (λ (x : ℕ). x == 1) (ap (λ (m : ℕ). bit_at cleared m) e ∙ bit_at_clear_same w64 a k h)
+        ∙ sym (ap (λ (b : Bool). bit a n && not b) (eq-eqb n k e) ∙ and_false (bit a n))
+    go (inr apart) (inl low) =
+        ap (λ (x : ℕ). x == 1) (bit_at_clear_other w64 a k h n low apart)
+        ∙ sym (ap (λ (b : Bool). bit a n && not b) (ne_eqb n k apart) ∙ and_true (bit a n))
+    go (inr apart) (inr high) =
+        none_of_both a (bit_not w64 (1 * 2 ^ k % 18446744073709551616)) n fits high
+        ∙ sym (ap (λ (b : Bool). b && not (n == k)) (none_above a n fits high))
+
+-- the bits from one on, and those below it
+abbrev upper : ℕ → ℕ
+upper k = 2 ^ 64 - 2 ^ k
+
+upper_is : (k : ℕ) → k < 64 → 18446744073709551615 * 2 ^ k % 18446744073709551616 ≡ upper k
+upper_is k h = ones_shl 64 k (omega arith)
+
+of_upper : (a k n : ℕ) → a < 2 ^ 64 → bit (bit_and a (upper k)) n ≡ (bit a n && not (nat_lt n k))
+of_upper a k n fits = go (cases_lt n k) (cases_lt n 64)
+  where
+    go : (n < k) ⊎ (k ≤ n) → (n < 64) ⊎ (64 ≤ n) → bit (bit_and a (upper k)) n ≡ (bit a n && not (nat_lt n k))
+    go (inl low) other =
+        let masked = bit_at_mask_below k 64 n low in
+        let both : bit_at (bit_and a (upper k)) n ≡ 0 = bit_at_and a (upper k) n ∙ omega (arith, masked) in
+        ap (λ (x : ℕ). x == 1) both
+        ∙ sym (ap (λ (b : Bool). bit a n && not b) (lt-ltb n k low) ∙ and_false (bit a n))
+    go (inr least) (inl low) =
+        let masked = bit_at_mask_inside k 64 n least low in
+        let small = bit_at-lt a n in
+        let both : bit_at (bit_and a (upper k)) n ≡ bit_at a n =
+        bit_at_and a (upper k) n ∙ omega (arith, masked, small) in
+        ap (λ (x : ℕ). x == 1) both
+        ∙ sym (ap (λ (b : Bool). bit a n && not b) (le-ltb n k least) ∙ and_true (bit a n))
+    go (inr least) (inr high) =
+        none_of_both a (upper k) n fits high
+        ∙ sym (ap (λ (b : Bool). b && not (nat_lt n k)) (none_above a n fits high))
+
+pub bits_from : (a k n : ℕ) → a < 2 ^ 64 → k < 64 →
+    bit (bit_and a (18446744073709551615 * 2 ^ k % 18446744073709551616)) n ≡ (bit a n && not (nat_lt n k))
+bits_from a k n fits h =
+    ap (λ (m : ℕ). bit (bit_and a m) n) (upper_is k h) ∙ of_upper a k n fits
+
+-- what is left without them
+bits_left : (a b n : ℕ) (c : Bool) → bit b n ≡ (bit a n && not c) → bit (bit_xor a b) n ≡ (bit a n && c)
+bits_left a b n c is =
+    ap (λ (x : ℕ). x == 1) (bit_at_xor a b n)
+    ∙ by_bits (λ x y. (c : Bool) → (y == 1) ≡ ((x == 1) && not c) → ((x + y) % 2 == 1) ≡ ((x == 1) && c))
+    (λ c e. refl) (λ c e. absurd (cc)) left right (bit_at a n) (bit_at b n) (bit_at-lt a n) (bit_at-lt b n) c is
+  where
+    left : (c : Bool) → false ≡ (true && not c) → true ≡ (true && c)
+    left true e = refl
+    left false e = absurd (cc)
+
+    right : (c : Bool) → true ≡ (true && not c) → false ≡ (true && c)
+    right true e = absurd (cc)
+    right false e = refl
+
+pub bits_below : (a k n : ℕ) → a < 2 ^ 64 → k < 64 →
+    bit (bit_xor a (bit_and a (18446744073709551615 * 2 ^ k % 18446744073709551616))) n ≡ (bit a n && nat_lt n k)
+bits_below a k n fits h =
+    bits_left a (bit_and a (18446744073709551615 * 2 ^ k % 18446744073709551616)) n (nat_lt n k) (bits_from a k n fits h)
