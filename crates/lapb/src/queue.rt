@@ -104,8 +104,22 @@ impl Queue {
     }
 
     /// Frees the buffers of the packets that were given up.
-    #[inline]
+    #[inline(always)]
     pub(crate) fn give_back(&mut self, pool: &mut Pool)
+        requires { Holds pool.old self.old.held }
+        ensures packets { self.new.packets ≡ self.old.packets }
+        ensures tight { length self.new.held ≡ length self.new.packets }
+        ensures fewer { length self.new.held ≤ length self.old.held }
+        ensures pool { Balances pool.old self.old.held pool.new self.new.held }
+    {
+        for _ in 0..self.spent {
+            self.free_first(pool);
+        }
+    }
+
+    /// The same, for a call that seldom finds one.
+    #[inline(always)]
+    pub(crate) fn give_back_any(&mut self, pool: &mut Pool)
         requires { Holds pool.old self.old.held }
         ensures packets { self.new.packets ≡ self.old.packets }
         ensures tight { length self.new.held ≡ length self.new.packets }
@@ -117,6 +131,7 @@ impl Queue {
         }
     }
 
+    #[cold]
     #[inline(never)]
     fn free_spent(&mut self, pool: &mut Pool)
         requires { Holds pool.old self.old.held }
@@ -125,9 +140,7 @@ impl Queue {
         ensures fewer { length self.new.held ≤ length self.old.held }
         ensures pool { Balances pool.old self.old.held pool.new self.new.held }
     {
-        for _ in 0..self.spent {
-            self.free_first(pool);
-        }
+        self.give_back(pool);
     }
 
     // Frees the buffer of the first packet, which was given up.
