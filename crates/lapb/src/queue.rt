@@ -18,7 +18,7 @@ pub(crate) struct Queue {
     places: [Option<BufNo>; PLACES],
     first: usize,
     spent: usize,
-    len: u8,
+    len: usize,
 }
 
 impl Model for Queue {
@@ -50,7 +50,7 @@ impl Queue {
         ensures value { result ≡ length self.now.packets }
         ensures fits { result ≤ 7 }
     {
-        self.len
+        self.len as u8
     }
 
     pub(crate) fn is_empty(&self) -> bool
@@ -67,7 +67,7 @@ impl Queue {
           held = self.old.held ++ b ∷ [];
         } }
     {
-        let place = (self.first + self.spent + usize::from(self.len)) % PLACES;
+        let place = (self.first + self.spent + self.len) % PLACES;
         self.places[place] = Some(b);
         self.len += 1;
     }
@@ -91,7 +91,8 @@ impl Queue {
         requires { count ≤ length self.old.packets }
         ensures { self.new ≡ record self.old { packets = drop count self.old.packets } }
     {
-        self.spent += usize::from(count);
+        let count = usize::from(count);
+        self.spent += count;
         self.len -= count;
     }
 
@@ -99,7 +100,7 @@ impl Queue {
     pub(crate) fn clear(&mut self)
         ensures { self.new ≡ record self.old { packets = [] } }
     {
-        self.spent += usize::from(self.len);
+        self.spent += self.len;
         self.len = 0;
     }
 

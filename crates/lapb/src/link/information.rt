@@ -51,18 +51,20 @@ impl Link {
             (machine.on_supervisory self.old.link busy back is_response pf) }
     {
         self.busy = busy;
-        if back || is_response && pf {
+        let ends_poll = is_response && pf;
+        if back || ends_poll {
             let oldest = self.window.oldest();
             self.window.go_back(oldest);
         }
-        if is_response && pf {
+        if ends_poll {
             self.polling = false;
             self.polls = 0;
         }
-        if pf && !is_response {
+        let polls = pf && !is_response;
+        if polls {
             self.owed = false;
         }
-        self.answer(pf && !is_response, out);
+        self.answer(polls, out);
     }
 
     // RR as a response with F = 1, if it is due.
