@@ -19,9 +19,9 @@ pub const MOST_FRAMES: usize = 9;
 /// Each frame is written in its place, and stays there until it is taken or all is cleared.
 #[derive(Drop)]
 pub struct LinkOut {
-    places: [FrameBuf; MOST_FRAMES],
     taken: usize,
     end: usize,
+    places: [FrameBuf; MOST_FRAMES],
     note: Note,
     accepted: bool,
     timer: Timing,
@@ -45,6 +45,8 @@ impl LinkOut {
         ensures { result ≡ no_out }
     {
         LinkOut {
+            taken: 0,
+            end: 0,
             places: [
                 FrameBuf::new(),
                 FrameBuf::new(),
@@ -56,8 +58,6 @@ impl LinkOut {
                 FrameBuf::new(),
                 FrameBuf::new(),
             ],
-            taken: 0,
-            end: 0,
             note: Note::Nothing,
             accepted: false,
             timer: Timing::Keep,

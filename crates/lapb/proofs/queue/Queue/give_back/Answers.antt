@@ -2,7 +2,7 @@ use Rattle.std.proofs.Common.{◌+◌, length, drop, ap, ◌∙◌, arith, lengt
 use Rattle.flow_window.proofs.Weights.{balances_then}
 use Rattle.lapb.specs.Held.{Queue}
 use Rattle.lapb.proofs.Queues.{around_length, packets_length, drop_more}
-use Rattle.lapb.proofs.queue.Queue.free_spent.Goals as goal
+use Rattle.lapb.proofs.queue.Queue.give_back.Goals as goal
 
 pub free_first-requires-clause-spent : goal.free_first-requires-clause-spent
 free_first-requires-clause-spent c =

@@ -1,6 +1,6 @@
 use Rattle.std.proofs.Common.{◌≡◌, drop}
 use Rattle.flow_window.specs.Pool.{Balances}
-use Rattle.lapb.proofs.queue.Queue.free_spent.Given as goal
+use Rattle.lapb.proofs.queue.Queue.give_back.Given as goal
 
 abbrev pub invariant-loop : goal.invariant-loop
 invariant-loop l = record {
