@@ -5,9 +5,11 @@ use Rattle.std.specs.Prelude.{bit_and, bit_or, bit_xor, nat_lt, true}
 use Rattle.std.specs.Int.{bit_at, w64, trailing_zeros, bit_not}
 use Rattle.std.proofs.lemmas.Bool.{eq-eqb, ne_eqb, cases_eq, cases_lt, lt-ltb, le-ltb}
 use Rattle.std.proofs.lemmas.Nat.{one_shl, pow_pos}
+use Rattle.std.proofs.Math.Nat.{pow-le-pow_right}
 use Rattle.std.proofs.lemmas.Nat.Bits.{bit_at-lt, bit_at-zero, bit_at-pow_same, bit_at-pow_other, bit_at_or, bit_at_xor}
-use Rattle.std.proofs.lemmas.Nat.Bits.{bit_at-trailing_zeros, and_pow, bit_at_and, bit_at_above, ones_shl}
+use Rattle.std.proofs.lemmas.Nat.Bits.{bit_at-trailing_zeros, and_pow, bit_at_and, bit_at_above}
 use Rattle.std.proofs.lemmas.Nat.Bits.{bit_at_clear_same, bit_at_clear_other, bit_at_mask_inside, bit_at_mask_below}
+use Rattle.std.proofs.lemmas.Nat.Bits.{bit_at_mask_above}
 use lib.Bits.{xor_add_and}
 use Rattle.number_set.specs.declared.NumberSet.{NumberSet}
 use Rattle.number_set.specs.NumberSet.{IsFirstOf}
@@ -138,54 +140,39 @@ bits_without a k n fits h = go (cases_eq n k) (cases_lt n 64)
         none_of_both a (bit_not w64 (1 * 2 ^ k % 18446744073709551616)) n fits high
         ∙ sym (ap (λ (b : Bool). b && not (n == k)) (none_above a n fits high))
 
--- the bits from one on, and those below it
-abbrev upper : ℕ → ℕ
-upper k = 2 ^ 64 - 2 ^ k
+-- the bits from one up to another
+mask_is : (k m : ℕ) → k ≤ m → m < 64 → 1 * 2 ^ m % 18446744073709551616 - 1 * 2 ^ k % 18446744073709551616 ≡ 2 ^ m - 2 ^ k
+mask_is k m order most = ap₂ (λ (x y : ℕ). x - y) (one_shl m 64 most) (one_shl k 64 (omega arith))
 
-upper_is : (k : ℕ) → k < 64 → 18446744073709551615 * 2 ^ k % 18446744073709551616 ≡ upper k
-upper_is k h = ones_shl 64 k (omega arith)
+pub mask_fits : (k m : ℕ) → k ≤ m → m < 64 → 1 * 2 ^ k % 18446744073709551616 ≤ 1 * 2 ^ m % 18446744073709551616
+mask_fits k m order most = rw (one_shl m 64 most, one_shl k 64 (omega arith)) (pow-le-pow_right {n = 2} (omega arith) order)
 
-of_upper : (a k n : ℕ) → a < 2 ^ 64 → bit (bit_and a (upper k)) n ≡ (bit a n && not (nat_lt n k))
-of_upper a k n fits = go (cases_lt n k) (cases_lt n 64)
+of_mask : (a k m n : ℕ) → bit (bit_and a (2 ^ m - 2 ^ k)) n ≡ (bit a n && (not (nat_lt n k) && nat_lt n m))
+of_mask a k m n = go (cases_lt n k) (cases_lt n m)
   where
-    go : (n < k) ⊎ (k ≤ n) → (n < 64) ⊎ (64 ≤ n) → bit (bit_and a (upper k)) n ≡ (bit a n && not (nat_lt n k))
+    masked : ℕ
+    masked = bit_and a (2 ^ m - 2 ^ k)
+
+    go : (n < k) ⊎ (k ≤ n) → (n < m) ⊎ (m ≤ n) → bit masked n ≡ (bit a n && (not (nat_lt n k) && nat_lt n m))
     go (inl low) other =
-        let masked = bit_at_mask_below k 64 n low in
-        let both : bit_at (bit_and a (upper k)) n ≡ 0 = bit_at_and a (upper k) n ∙ omega (arith, masked) in
+        let out = bit_at_mask_below k m n low in
+        let both : bit_at masked n ≡ 0 = bit_at_and a (2 ^ m - 2 ^ k) n ∙ omega (arith, out) in
         ap (λ (x : ℕ). x == 1) both
-        ∙ sym (ap (λ (b : Bool). bit a n && not b) (lt-ltb n k low) ∙ and_false (bit a n))
-    go (inr least) (inl low) =
-        let masked = bit_at_mask_inside k 64 n least low in
+        ∙ sym (ap (λ (b : Bool). bit a n && (not b && nat_lt n m)) (lt-ltb n k low) ∙ and_false (bit a n))
+    go (inr least) (inl less) =
+        let there = bit_at_mask_inside k m n least less in
         let small = bit_at-lt a n in
-        let both : bit_at (bit_and a (upper k)) n ≡ bit_at a n =
-        bit_at_and a (upper k) n ∙ omega (arith, masked, small) in
+        let both : bit_at masked n ≡ bit_at a n = bit_at_and a (2 ^ m - 2 ^ k) n ∙ omega (arith, there, small) in
         ap (λ (x : ℕ). x == 1) both
-        ∙ sym (ap (λ (b : Bool). bit a n && not b) (le-ltb n k least) ∙ and_true (bit a n))
+        ∙ sym (ap₂ (λ (b c : Bool). bit a n && (not b && c)) (le-ltb n k least) (lt-ltb n m less) ∙ and_true (bit a n))
     go (inr least) (inr high) =
-        none_of_both a (upper k) n fits high
-        ∙ sym (ap (λ (b : Bool). b && not (nat_lt n k)) (none_above a n fits high))
+        let out = bit_at_mask_above k m n high in
+        let both : bit_at masked n ≡ 0 = bit_at_and a (2 ^ m - 2 ^ k) n ∙ omega (arith, out) in
+        ap (λ (x : ℕ). x == 1) both
+        ∙ sym (ap₂ (λ (b c : Bool). bit a n && (not b && c)) (le-ltb n k least) (le-ltb n m high) ∙ and_false (bit a n))
 
-pub bits_from : (a k n : ℕ) → a < 2 ^ 64 → k < 64 →
-    bit (bit_and a (18446744073709551615 * 2 ^ k % 18446744073709551616)) n ≡ (bit a n && not (nat_lt n k))
-bits_from a k n fits h =
-    ap (λ (m : ℕ). bit (bit_and a m) n) (upper_is k h) ∙ of_upper a k n fits
-
--- what is left without them
-bits_left : (a b n : ℕ) (c : Bool) → bit b n ≡ (bit a n && not c) → bit (bit_xor a b) n ≡ (bit a n && c)
-bits_left a b n c is =
-    ap (λ (x : ℕ). x == 1) (bit_at_xor a b n)
-    ∙ by_bits (λ x y. (c : Bool) → (y == 1) ≡ ((x == 1) && not c) → ((x + y) % 2 == 1) ≡ ((x == 1) && c))
-    (λ c e. refl) (λ c e. absurd (cc)) left right (bit_at a n) (bit_at b n) (bit_at-lt a n) (bit_at-lt b n) c is
-  where
-    left : (c : Bool) → false ≡ (true && not c) → true ≡ (true && c)
-    left true e = refl
-    left false e = absurd (cc)
-
-    right : (c : Bool) → true ≡ (true && not c) → false ≡ (true && c)
-    right true e = absurd (cc)
-    right false e = refl
-
-pub bits_below : (a k n : ℕ) → a < 2 ^ 64 → k < 64 →
-    bit (bit_xor a (bit_and a (18446744073709551615 * 2 ^ k % 18446744073709551616))) n ≡ (bit a n && nat_lt n k)
-bits_below a k n fits h =
-    bits_left a (bit_and a (18446744073709551615 * 2 ^ k % 18446744073709551616)) n (nat_lt n k) (bits_from a k n fits h)
+pub bits_between : (a k m n : ℕ) → k ≤ m → m < 64 →
+    bit (bit_and a (1 * 2 ^ m % 18446744073709551616 - 1 * 2 ^ k % 18446744073709551616)) n
+    ≡ (bit a n && (not (nat_lt n k) && nat_lt n m))
+bits_between a k m n order most =
+    ap (λ (x : ℕ). bit (bit_and a x) n) (mask_is k m order most) ∙ of_mask a k m n

@@ -56,15 +56,15 @@ impl NumberSet {
         }
     }
 
-    /// Takes the numbers from `at` on out, and gives them.
-    pub fn split_off(&mut self, at: usize) -> NumberSet
-        requires { at < 64 }
-        ensures given { (n : ℕ) → has result n ≡ (has self.old n && not (nat_lt n at)) }
-        ensures kept { (n : ℕ) → has self.new n ≡ (has self.old n && nat_lt n at) }
+    /// Those from one number up to another.
+    pub fn between(self, first: usize, end: usize) -> NumberSet
+        requires order { first ≤ end }
+        requires most { end < 64 }
+        ensures { (n : ℕ) → has result n ≡ (has self n && (not (nat_lt n first) && nat_lt n end)) }
     {
-        let bits = self.bits & (u64::MAX << at);
-        self.bits ^= bits;
-        NumberSet { bits }
+        NumberSet {
+            bits: self.bits & ((1 << end) - (1 << first)),
+        }
     }
 
     /// Takes the first number out, if there is one.

@@ -2,3 +2,5 @@ pub mod Places
 pub mod FreeChannels
 pub mod Closed
 pub mod Serving
+pub mod Silence
+pub mod Round

@@ -10,6 +10,7 @@ pub mod Layer
 pub mod RequestView
 pub mod Params
 pub mod RestartView
+pub mod Silence
 pub mod LayerView
 pub mod Events
 pub mod TimerView

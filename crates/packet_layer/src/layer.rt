@@ -18,6 +18,7 @@ use crate::notes::Notes;
 use crate::params::LayerParams;
 use crate::restart::{Phase, RestartPacket};
 use link_timers::Role;
+use number_set::NumberSet;
 use packet_channel::{Channel, End, LayerNote, Outcome, Owed};
 use std::alloc::{AllocError, Global};
 use std::marker::Model;
@@ -28,6 +29,8 @@ pub struct Layer {
     role: Role,
     window: u8,
     channels: Vec<Channel>,
+    /// The places of the channels that may have something for the link. The others have nothing.
+    to_serve: NumberSet,
     phase: Phase,
     owed: Owed<RestartPacket>,
     served_last: u8,
@@ -87,6 +90,7 @@ impl Layer {
             role,
             window,
             channels,
+            to_serve: NumberSet::new(),
             phase: if standing {
                 Phase::PacketReady
             } else {

@@ -61,6 +61,7 @@ impl Layer {
             return Err(CallFault::NoChannel);
         };
         let call = CallBuf::new(call);
+        self.to_serve.insert(place);
         let channel = &mut self.channels[place];
         if channel.place_call(call) {
             self.relink = true;
@@ -91,6 +92,7 @@ impl Layer {
             return Err(ChannelFault::NoCall);
         };
         let role = self.role;
+        self.to_serve.insert(place);
         let channel = &mut self.channels[place];
         match channel.request(role, request) {
             Ok(relink) => {
@@ -219,6 +221,7 @@ impl Layer {
         ensures layer { self.new ≡ machine.request self.old channel asked.Taking }
     {
         let place = self.place(u16::from(channel))?;
+        self.to_serve.insert(place);
         let channel = &mut self.channels[place];
         channel.take()
     }

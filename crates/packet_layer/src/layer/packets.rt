@@ -86,6 +86,7 @@ impl Layer {
             return;
         };
         let end = self.end(place);
+        self.to_serve.insert(place);
         let channel = &mut self.channels[place];
         let outcome = channel.take_packet(end, packet);
         self.report(outcome);
@@ -105,6 +106,7 @@ impl Layer {
             return;
         };
         let end = self.end(place);
+        self.to_serve.insert(place);
         let channel = &mut self.channels[place];
         let outcome = channel.take_unreadable(end, unknown);
         self.report(outcome);

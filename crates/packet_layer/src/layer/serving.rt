@@ -1,5 +1,5 @@
 //! What goes to the link.
-ghost use Rattle.std.specs.Prelude.{◌≡◌, ◌<◌, length, is_some};
+ghost use Rattle.std.specs.Prelude.{◌≡◌, ◌<◌, ◌≤◌, ◌+◌, ◌-◌, length, is_some};
 ghost use Rattle.packet_layer.specs.Layer as machine;
 ghost use Rattle.packet_layer.specs.Events.{written_packet, ReadsBack, IsHeard};
 
@@ -44,46 +44,56 @@ impl Layer {
             (machine.serve (length self.old.channels) self.old
             (machine.next_number self.old self.old.served_last)).packet buf.new.items }
     {
+        let next = self.next_place();
         let count = self.channels.len();
-        let mut number = self.next_number(self.served_last);
-        for _ in 0..count {
-            if self.serve_channel(number, buf) {
+        self.serve_between(next, count, buf) || self.serve_between(0, next, buf)
+    }
+
+    // The place of the channel after that which was served last, round.
+    fn next_place(&self) -> usize
+        ensures place { result + 1 ≡ machine.next_number self.now self.now.served_last }
+        ensures most { result ≤ length self.now.channels }
+    {
+        let next = usize::from(self.served_last);
+        if next < self.channels.len() { next } else { 0 }
+    }
+
+    // The first of the channels from one place up to another that has anything.
+    fn serve_between(&mut self, first: usize, end: usize, buf: &mut PacketBuf) -> bool
+        requires order { first ≤ end }
+        requires within { end ≤ length self.old.channels }
+        ensures layer { self.new ≡ (machine.serve (end - first) self.old (first + 1)).layer }
+        ensures said { result ≡ is_some (machine.serve (end - first) self.old (first + 1)).packet }
+        ensures octets { buf.new.items
+            ≡ written_packet (machine.serve (end - first) self.old (first + 1)).packet buf.old.items }
+        ensures reads_back { ReadsBack (machine.serve (end - first) self.old (first + 1)).packet buf.new.items }
+    {
+        let mut places = self.to_serve.between(first, end);
+        while let Some(place) = places.take_first() {
+            if self.serve_channel(place, buf) {
                 return true;
             }
-            number = self.next_number(number);
         }
         false
     }
 
-    // The number of the next channel, round.
-    fn next_number(&self, number: u8) -> u8
-        ensures value { result ≡ machine.next_number self.now number }
-        ensures least { 0 < result }
+    // What one channel has. Where that is nothing, the channel need not be served again.
+    fn serve_channel(&mut self, place: usize, buf: &mut PacketBuf) -> bool
+        requires { place < length self.old.channels }
+        ensures layer { self.new ≡ (machine.serve 1 self.old (place + 1)).layer }
+        ensures said { result ≡ is_some (machine.serve 1 self.old (place + 1)).packet }
+        ensures octets { buf.new.items ≡ written_packet (machine.serve 1 self.old (place + 1)).packet buf.old.items }
+        ensures reads_back { ReadsBack (machine.serve 1 self.old (place + 1)).packet buf.new.items }
     {
-        if self.channels.len() <= usize::from(number) {
-            1
-        } else {
-            number + 1
-        }
-    }
-
-    // What one channel has.
-    fn serve_channel(&mut self, number: u8, buf: &mut PacketBuf) -> bool
-        requires { 0 < number }
-        ensures layer { self.new ≡ (machine.serve 1 self.old number).layer }
-        ensures said { result ≡ is_some (machine.serve 1 self.old number).packet }
-        ensures octets { buf.new.items ≡ written_packet (machine.serve 1 self.old number).packet buf.old.items }
-        ensures reads_back { ReadsBack (machine.serve 1 self.old number).packet buf.new.items }
-    {
-        let Some(place) = self.place(u16::from(number)) else {
-            return false;
-        };
         let window = self.window;
+        let number = place as u8 + 1;
         let channel = &mut self.channels[place];
-        if !channel.next_packet(window, number, buf) {
-            return false;
+        if channel.next_packet(window, number, buf) {
+            self.served_last = number;
+            true
+        } else {
+            self.to_serve.remove(place);
+            false
         }
-        self.served_last = number;
-        true
     }
 }

@@ -8,6 +8,7 @@ use crate::layer::Layer;
 use crate::layer::closing::close_channels;
 use crate::restart::{Phase, RestartPacket};
 use link_timers::Role;
+use number_set::NumberSet;
 use packet_channel::Reason;
 use packet_codec::{diagnostic, restart_cause};
 
@@ -45,6 +46,7 @@ impl Layer {
         ensures { self.new ≡ machine.all_closed (reason_of reason) self.old }
     {
         close_channels(&mut self.channels, &mut self.notes, reason);
+        self.to_serve = NumberSet::new();
     }
 
     // Begins a restart of this end.

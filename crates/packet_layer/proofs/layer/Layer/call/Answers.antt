@@ -7,6 +7,8 @@ use Rattle.packet_codec.specs.View.{call_view}
 use Rattle.packet_channel.specs.Octets.{parts_of}
 use Rattle.packet_layer.specs.RestartView.{phase_of}
 use Rattle.packet_layer.proofs.Places.{item_at, kept, call_done, free_ready}
+use Rattle.std.specs.Prelude.{true}
+use Rattle.packet_layer.proofs.Silence.{layer_touched}
 use Rattle.packet_layer.proofs.layer.Layer.call.Goals as goal
 use Rattle.packet_layer.proofs.layer.Layer.call.Goals.{then-place_call, else-place_call}
 
@@ -32,3 +34,13 @@ returns-clause-layer c =
       | then-place_call w ↦ w.self-is ∙ ap (λ (b : Bool). kept l c.in-Some.place c.place_call.new.self b) (sym w.if-place_call.true) ∙ done
       | else-place_call w ↦ w.self-is ∙ ap (λ (b : Bool). kept l c.in-Some.place c.place_call.new.self b) (sym w.if-place_call.false) ∙ done
     ]
+
+pub invariant_of-self : goal.invariant_of-self
+invariant_of-self c =
+    layer_touched c.self.inside c.insert.new.self c.in-Some.place c.place_call.new.self true c.self.invariant
+    c.insert.ensures
+
+pub invariant_of-self-else-place_call : goal.invariant_of-self-else-place_call
+invariant_of-self-else-place_call c =
+    layer_touched c.self.inside c.insert.new.self c.in-Some.place c.place_call.new.self c.self.inside.relink
+    c.self.invariant c.insert.ensures

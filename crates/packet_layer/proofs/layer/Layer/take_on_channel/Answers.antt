@@ -6,6 +6,7 @@ use Rattle.packet_channel.specs.Octets.{body_of}
 use Rattle.packet_layer.specs.LayerView.{layer_of}
 use Rattle.packet_layer.specs.RestartView.{phase_of}
 use Rattle.packet_layer.proofs.Places.{item_at, packet_taken}
+use Rattle.packet_layer.proofs.Silence.{layer_touched}
 use Rattle.packet_layer.proofs.layer.Layer.take_on_channel.Goals as goal
 
 pub returns : goal.returns
@@ -23,3 +24,8 @@ returns c =
     (c.end-end.ensures.window ∙ ap (λ (x : Layer). x.window) (sym c.self.view_is))
     c.end-end.ensures.channel
     c.take_packet-outcome.ensures.channel c.take_packet-outcome.ensures.outcome))
+
+pub invariant_of-self : goal.invariant_of-self
+invariant_of-self c =
+    layer_touched c.self.inside c.insert.new.self c.in-Some.place c.take_packet-outcome.new.self c.self.inside.relink
+    c.self.invariant c.insert.ensures
