@@ -83,7 +83,7 @@ next_within l c some = go (cases_lt c (length l.channels))
     go (inl less) = let next = not_last l c less in omega (arith, next)
     go (inr most) =
         let next : next_number l c ≡ 1 =
-            ap (λ (b : Bool). if b then 1 else suc c) (le-leb (length l.channels) c most) in
+        ap (λ (b : Bool). if b then 1 else suc c) (le-leb (length l.channels) c most) in
         omega (arith, next)
 
 pub whole_round : (l : Layer) (c place : ℕ) → place + 1 ≡ next_number l c → place ≤ length l.channels →
@@ -147,13 +147,13 @@ pub none_passed : (l : Layer) (first end : ℕ) (all places : NumberSet) → Oth
     ((n : ℕ) → has places n ≡ (has all n && (not (nat_lt n first) && nat_lt n end))) → ArePassed l first end places
 none_passed l first end all places others is = record {
   among = λ p there.
-    let parts = both_hold (has all p) (not (nat_lt p first) && nat_lt p end) (sym (is p) ∙ there) in
-    let range = both_hold (not (nat_lt p first)) (nat_lt p end) parts.1 in
-    (ltb-false p first (not_true (nat_lt p first) range.0), ltb-true p end range.1);
+      let parts = both_hold (has all p) (not (nat_lt p first) && nat_lt p end) (sym (is p) ∙ there) in
+      let range = both_hold (not (nat_lt p first)) (nat_lt p end) parts.1 in
+      (ltb-false p first (not_true (nat_lt p first) range.0), ltb-true p end range.1);
   silent = λ p least less out.
-    silent_there l all p others
-    (sym (ap₂ (λ (a b : Bool). has all p && (not a && b)) (le-ltb p first least) (lt-ltb p end less)
-    ∙ and_true (has all p)) ∙ sym (is p) ∙ out);
+      silent_there l all p others
+      (sym (ap₂ (λ (a b : Bool). has all p && (not a && b)) (le-ltb p first least) (lt-ltb p end less)
+      ∙ and_true (has all p)) ∙ sym (is p) ∙ out);
 }
 
 -- one more place is passed
@@ -161,7 +161,7 @@ pub one_passed : (l : Layer) (first end place : ℕ) (places rest : NumberSet) �
     IsFirstOf places place rest → is_some (serve 1 l (place + 1)).packet ≡ false → ArePassed l first end rest
 one_passed l first end place places rest passed is_first silent = record {
   among = λ p there.
-    passed.among p (both_hold (has places p) (not (p == place)) (sym (is_first.others p) ∙ there)).0;
+      passed.among p (both_hold (has places p) (not (p == place)) (sym (is_first.others p) ∙ there)).0;
   silent = λ p least less out. by_place p least less (taken_out (has places p) (p == place)
       (sym (is_first.others p) ∙ out));
 }

@@ -38,8 +38,8 @@ pub touched : (window : ℕ) (old new : NumberSet) (chs : List Channel) (place :
     OthersAreSilent window new (set chs place ch)
 touched window old new chs place ch others is = record {
   silent = λ p x there out.
-    let parts = put_in (has old p) (p == place) (sym (is p) ∙ out) in
-    others.silent p x (sym (other_item chs p place ch (differs p place parts.1)) ∙ there) parts.0;
+      let parts = put_in (has old p) (p == place) (sym (is p) ∙ out) in
+      others.silent p x (sym (other_item chs p place ch (differs p place parts.1)) ∙ there) parts.0;
 }
 
 -- of a whole layer
@@ -130,7 +130,7 @@ pub closed_are_silent : (window : ℕ) (s : NumberSet) (chs : List Channel) →
     OthersAreSilent window s (map (λ ch. closed_channel) chs)
 closed_are_silent window s chs = record {
   silent = λ p x there out.
-    subst (λ (y : Channel). is_some (next_of window y).body ≡ false) (each_closed chs p x there) refl;
+      subst (λ (y : Channel). is_some (next_of window y).body ≡ false) (each_closed chs p x there) refl;
 }
 
 -- a channel that is not in the set has nothing

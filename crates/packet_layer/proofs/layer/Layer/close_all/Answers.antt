@@ -10,12 +10,12 @@ pub invariant_of-self : goal.invariant_of-self
 invariant_of-self c =
     let now = c.self.inside.channels.items in
     let all_closed : c.close_channels.new.channels ≡ map (λ ch. closed_channel) now =
-        c.close_channels.ensures.channels
-        ∙ ap (λ (chs : List Channel). map (λ ch. closed_channel) chs) c.deref_mut.ensures.value in
+    c.close_channels.ensures.channels
+    ∙ ap (λ (chs : List Channel). map (λ ch. closed_channel) chs) c.deref_mut.ensures.value in
     let closed : (with_items c.self.inside.channels c.close_channels.new.channels).items ≡ map (λ ch. closed_channel) now =
-        written_over c.self.inside.channels c.close_channels.new.channels
-        (ap (λ (chs : List Channel). length chs) all_closed ∙ length-map now (λ ch. closed_channel))
-        ∙ all_closed in
+    written_over c.self.inside.channels c.close_channels.new.channels
+    (ap (λ (chs : List Channel). length chs) all_closed ∙ length-map now (λ ch. closed_channel))
+    ∙ all_closed in
     record {
       window = c.self.invariant.window;
       channels = rw closed (rw (length-map now (λ ch. closed_channel)) c.self.invariant.channels);

@@ -13,10 +13,10 @@ returns-then-serve_channel-clause-layer c =
     let place = c.in-Some.place in
     let same = c.loop-place.invariant.same in
     let says : is_some (serve 1 old (place + 1)).packet ≡ true =
-        sym (c.if-serve_channel.ensures.said ∙ ap (λ (x : Layer). is_some (serve 1 x (place + 1)).packet) same) in
+    sym (c.if-serve_channel.ensures.said ∙ ap (λ (x : Layer). is_some (serve 1 x (place + 1)).packet) same) in
     let first : serve (c.args.end - c.args.first) old (c.args.first + 1) ≡ serve 1 old (place + 1) =
-        serves_first old c.args.first c.args.end place c.loop-place.places c.take_first.new.self c.requires.within
-        c.loop-place.invariant.passed c.in-Some.ensures.first says in
+    serves_first old c.args.first c.args.end place c.loop-place.places c.take_first.new.self c.requires.within
+    c.loop-place.invariant.passed c.in-Some.ensures.first says in
     c.serve_channel.ensures.layer
     ∙ ap (λ (x : Layer). (serve 1 x (place + 1)).layer) same
     ∙ ap (λ (n : Next). n.layer) (sym first)
@@ -27,10 +27,10 @@ returns-then-serve_channel-clause-said c =
     let place = c.in-Some.place in
     let same = c.loop-place.invariant.same in
     let says : is_some (serve 1 old (place + 1)).packet ≡ true =
-        sym (c.if-serve_channel.ensures.said ∙ ap (λ (x : Layer). is_some (serve 1 x (place + 1)).packet) same) in
+    sym (c.if-serve_channel.ensures.said ∙ ap (λ (x : Layer). is_some (serve 1 x (place + 1)).packet) same) in
     let first : serve (c.args.end - c.args.first) old (c.args.first + 1) ≡ serve 1 old (place + 1) =
-        serves_first old c.args.first c.args.end place c.loop-place.places c.take_first.new.self c.requires.within
-        c.loop-place.invariant.passed c.in-Some.ensures.first says in
+    serves_first old c.args.first c.args.end place c.loop-place.places c.take_first.new.self c.requires.within
+    c.loop-place.invariant.passed c.in-Some.ensures.first says in
     sym says ∙ ap (λ (n : Next). is_some n.packet) (sym first)
 
 pub returns-then-serve_channel-clause-octets : goal.returns-then-serve_channel-clause-octets
@@ -39,10 +39,10 @@ returns-then-serve_channel-clause-octets c =
     let place = c.in-Some.place in
     let same = c.loop-place.invariant.same in
     let says : is_some (serve 1 old (place + 1)).packet ≡ true =
-        sym (c.if-serve_channel.ensures.said ∙ ap (λ (x : Layer). is_some (serve 1 x (place + 1)).packet) same) in
+    sym (c.if-serve_channel.ensures.said ∙ ap (λ (x : Layer). is_some (serve 1 x (place + 1)).packet) same) in
     let first : serve (c.args.end - c.args.first) old (c.args.first + 1) ≡ serve 1 old (place + 1) =
-        serves_first old c.args.first c.args.end place c.loop-place.places c.take_first.new.self c.requires.within
-        c.loop-place.invariant.passed c.in-Some.ensures.first says in
+    serves_first old c.args.first c.args.end place c.loop-place.places c.take_first.new.self c.requires.within
+    c.loop-place.invariant.passed c.in-Some.ensures.first says in
     c.serve_channel.ensures.octets
     ∙ ap (λ (x : Layer). written_packet (serve 1 x (place + 1)).packet c.loop-place.buf.items) same
     ∙ ap (λ (n : Next). written_packet n.packet c.loop-place.buf.items) (sym first)
@@ -55,10 +55,10 @@ returns-then-serve_channel-clause-reads_back c =
     let place = c.in-Some.place in
     let same = c.loop-place.invariant.same in
     let says : is_some (serve 1 old (place + 1)).packet ≡ true =
-        sym (c.if-serve_channel.ensures.said ∙ ap (λ (x : Layer). is_some (serve 1 x (place + 1)).packet) same) in
+    sym (c.if-serve_channel.ensures.said ∙ ap (λ (x : Layer). is_some (serve 1 x (place + 1)).packet) same) in
     let first : serve (c.args.end - c.args.first) old (c.args.first + 1) ≡ serve 1 old (place + 1) =
-        serves_first old c.args.first c.args.end place c.loop-place.places c.take_first.new.self c.requires.within
-        c.loop-place.invariant.passed c.in-Some.ensures.first says in
+    serves_first old c.args.first c.args.end place c.loop-place.places c.take_first.new.self c.requires.within
+    c.loop-place.invariant.passed c.in-Some.ensures.first says in
     subst (λ (n : Next). ReadsBack n.packet c.serve_channel.new.buf.items) (sym first)
     (subst (λ (x : Layer). ReadsBack (serve 1 x (place + 1)).packet c.serve_channel.new.buf.items) same
     c.serve_channel.ensures.reads_back)
@@ -67,32 +67,32 @@ pub returns-clause-layer : goal.returns-clause-layer
 returns-clause-layer c =
     let old = c.args.self.now in
     let none : serve (c.args.end - c.args.first) old (c.args.first + 1) ≡ record { layer = old; packet = None } =
-        serves_none old c.args.first c.args.end c.loop-place.places c.requires.order c.requires.within
-        c.loop-place.invariant.passed c.in_default.ensures.first in
+    serves_none old c.args.first c.args.end c.loop-place.places c.requires.order c.requires.within
+    c.loop-place.invariant.passed c.in_default.ensures.first in
     c.loop-place.invariant.same ∙ ap (λ (n : Next). n.layer) (sym none)
 
 pub returns-clause-said : goal.returns-clause-said
 returns-clause-said c =
     let old = c.args.self.now in
     let none : serve (c.args.end - c.args.first) old (c.args.first + 1) ≡ record { layer = old; packet = None } =
-        serves_none old c.args.first c.args.end c.loop-place.places c.requires.order c.requires.within
-        c.loop-place.invariant.passed c.in_default.ensures.first in
+    serves_none old c.args.first c.args.end c.loop-place.places c.requires.order c.requires.within
+    c.loop-place.invariant.passed c.in_default.ensures.first in
     ap (λ (n : Next). is_some n.packet) (sym none)
 
 pub returns-clause-octets : goal.returns-clause-octets
 returns-clause-octets c =
     let old = c.args.self.now in
     let none : serve (c.args.end - c.args.first) old (c.args.first + 1) ≡ record { layer = old; packet = None } =
-        serves_none old c.args.first c.args.end c.loop-place.places c.requires.order c.requires.within
-        c.loop-place.invariant.passed c.in_default.ensures.first in
+    serves_none old c.args.first c.args.end c.loop-place.places c.requires.order c.requires.within
+    c.loop-place.invariant.passed c.in_default.ensures.first in
     c.loop-place.invariant.octets ∙ ap (λ (n : Next). written_packet n.packet c.args.buf.now.items) (sym none)
 
 pub returns-clause-reads_back : goal.returns-clause-reads_back
 returns-clause-reads_back c =
     let old = c.args.self.now in
     let none : serve (c.args.end - c.args.first) old (c.args.first + 1) ≡ record { layer = old; packet = None } =
-        serves_none old c.args.first c.args.end c.loop-place.places c.requires.order c.requires.within
-        c.loop-place.invariant.passed c.in_default.ensures.first in
+    serves_none old c.args.first c.args.end c.loop-place.places c.requires.order c.requires.within
+    c.loop-place.invariant.passed c.in_default.ensures.first in
     subst (λ (n : Next). ReadsBack n.packet c.loop-place.buf.items) (sym none) tt
 
 pub loop-place-init : goal.loop-place-init
@@ -110,7 +110,7 @@ loop-place-preserved c =
     let place = c.in-Some.place in
     let same = c.loop-place.invariant.same in
     let silent : is_some (serve 1 old (place + 1)).packet ≡ false =
-        sym (c.if-serve_channel.ensures.said ∙ ap (λ (x : Layer). is_some (serve 1 x (place + 1)).packet) same) in
+    sym (c.if-serve_channel.ensures.said ∙ ap (λ (x : Layer). is_some (serve 1 x (place + 1)).packet) same) in
     let nothing = silent_same old (place + 1) silent in
     record {
       same = c.serve_channel.ensures.layer ∙ ap (λ (x : Layer). (serve 1 x (place + 1)).layer) same

@@ -15,11 +15,11 @@ invariant_of-self c =
     let place = c.args.place in
     let ch = c.index_mut-channel.result.now in
     let within : place < length l.channels =
-        subst (λ (x : Layer). place < length x.channels) (sym c.self.view_is) c.requires in
+    subst (λ (x : Layer). place < length x.channels) (sym c.self.view_is) c.requires in
     let found : slice_get l.channels place ≡ Some ch =
-        item_at l.channels place ch within c.index_mut-channel.ensures.value in
+    item_at l.channels place ch within c.index_mut-channel.ensures.value in
     let says : is_some (next_of l.window ch).body ≡ true =
-        sym c.if-next_packet.ensures.said in
+    sym c.if-next_packet.ensures.said in
     layer_spoke c.self.inside place ch c.next_packet.new.self (place + 1) c.self.invariant found says
 
 pub invariant_of-self-else-next_packet : goal.invariant_of-self-else-next_packet
@@ -28,11 +28,11 @@ invariant_of-self-else-next_packet c =
     let place = c.args.place in
     let ch = c.index_mut-channel.result.now in
     let within : place < length l.channels =
-        subst (λ (x : Layer). place < length x.channels) (sym c.self.view_is) c.requires in
+    subst (λ (x : Layer). place < length x.channels) (sym c.self.view_is) c.requires in
     let found : slice_get l.channels place ≡ Some ch =
-        item_at l.channels place ch within c.index_mut-channel.ensures.value in
+    item_at l.channels place ch within c.index_mut-channel.ensures.value in
     let silent : is_some (next_of l.window ch).body ≡ false =
-        sym c.if-next_packet.ensures.said in
+    sym c.if-next_packet.ensures.said in
     layer_quieted c.self.inside c.remove.new.self place ch c.next_packet.new.self c.self.invariant c.remove.ensures
     found silent c.if-next_packet.ensures.same
 
@@ -42,11 +42,11 @@ returns-then-next_packet-clause-layer c =
     let place = c.args.place in
     let ch = c.index_mut-channel.result.now in
     let within : place < length l.channels =
-        subst (λ (x : Layer). place < length x.channels) (sym c.self.view_is) c.requires in
+    subst (λ (x : Layer). place < length x.channels) (sym c.self.view_is) c.requires in
     let found : slice_get l.channels place ≡ Some ch =
-        item_at l.channels place ch within c.index_mut-channel.ensures.value in
+    item_at l.channels place ch within c.index_mut-channel.ensures.value in
     let says : is_some (next_of l.window ch).body ≡ true =
-        sym c.if-next_packet.ensures.said in
+    sym c.if-next_packet.ensures.said in
     let is_said = says_at l (place + 1) place ch refl found says in
     rw (← c.self.view_is) (ap (λ (x : Channel). record l { channels = set l.channels place x; served_last = place + 1 })
     c.if-next_packet.ensures.channel
@@ -58,11 +58,11 @@ returns-then-next_packet-clause-said c =
     let place = c.args.place in
     let ch = c.index_mut-channel.result.now in
     let within : place < length l.channels =
-        subst (λ (x : Layer). place < length x.channels) (sym c.self.view_is) c.requires in
+    subst (λ (x : Layer). place < length x.channels) (sym c.self.view_is) c.requires in
     let found : slice_get l.channels place ≡ Some ch =
-        item_at l.channels place ch within c.index_mut-channel.ensures.value in
+    item_at l.channels place ch within c.index_mut-channel.ensures.value in
     let says : is_some (next_of l.window ch).body ≡ true =
-        sym c.if-next_packet.ensures.said in
+    sym c.if-next_packet.ensures.said in
     let is_said = says_at l (place + 1) place ch refl found says in
     rw (← c.self.view_is) (sym (ap (λ (n : Next). is_some n.packet) is_said
     ∙ said_of (next_of l.window ch).body (place + 1) ∙ says))
@@ -73,11 +73,11 @@ returns-then-next_packet-clause-octets c =
     let place = c.args.place in
     let ch = c.index_mut-channel.result.now in
     let within : place < length l.channels =
-        subst (λ (x : Layer). place < length x.channels) (sym c.self.view_is) c.requires in
+    subst (λ (x : Layer). place < length x.channels) (sym c.self.view_is) c.requires in
     let found : slice_get l.channels place ≡ Some ch =
-        item_at l.channels place ch within c.index_mut-channel.ensures.value in
+    item_at l.channels place ch within c.index_mut-channel.ensures.value in
     let says : is_some (next_of l.window ch).body ≡ true =
-        sym c.if-next_packet.ensures.said in
+    sym c.if-next_packet.ensures.said in
     let is_said = says_at l (place + 1) place ch refl found says in
     rw (← c.self.view_is) (c.if-next_packet.ensures.octets
     ∙ written_of (next_of l.window ch).body (place + 1) c.args.buf.now.items
@@ -89,11 +89,11 @@ returns-then-next_packet-clause-reads_back c =
     let place = c.args.place in
     let ch = c.index_mut-channel.result.now in
     let within : place < length l.channels =
-        subst (λ (x : Layer). place < length x.channels) (sym c.self.view_is) c.requires in
+    subst (λ (x : Layer). place < length x.channels) (sym c.self.view_is) c.requires in
     let found : slice_get l.channels place ≡ Some ch =
-        item_at l.channels place ch within c.index_mut-channel.ensures.value in
+    item_at l.channels place ch within c.index_mut-channel.ensures.value in
     let says : is_some (next_of l.window ch).body ≡ true =
-        sym c.if-next_packet.ensures.said in
+    sym c.if-next_packet.ensures.said in
     let is_said = says_at l (place + 1) place ch refl found says in
     rw (← c.self.view_is) (subst (λ (n : Next). ReadsBack n.packet c.next_packet.new.buf.items) (sym is_said)
     (reads_of (next_of l.window ch).body (place + 1) c.next_packet.new.buf.items c.if-next_packet.ensures.reads_back))
@@ -104,11 +104,11 @@ returns-else-next_packet-clause-layer c =
     let place = c.args.place in
     let ch = c.index_mut-channel.result.now in
     let within : place < length l.channels =
-        subst (λ (x : Layer). place < length x.channels) (sym c.self.view_is) c.requires in
+    subst (λ (x : Layer). place < length x.channels) (sym c.self.view_is) c.requires in
     let found : slice_get l.channels place ≡ Some ch =
-        item_at l.channels place ch within c.index_mut-channel.ensures.value in
+    item_at l.channels place ch within c.index_mut-channel.ensures.value in
     let silent : is_some (next_of l.window ch).body ≡ false =
-        sym c.if-next_packet.ensures.said in
+    sym c.if-next_packet.ensures.said in
     let is_silent = silent_at l (place + 1) place ch refl found silent in
     rw (← c.self.view_is) (unchanged l place ch c.next_packet.new.self found c.if-next_packet.ensures.same
     ∙ sym (ap (λ (n : Next). n.layer) is_silent))
@@ -119,11 +119,11 @@ returns-else-next_packet-clause-said c =
     let place = c.args.place in
     let ch = c.index_mut-channel.result.now in
     let within : place < length l.channels =
-        subst (λ (x : Layer). place < length x.channels) (sym c.self.view_is) c.requires in
+    subst (λ (x : Layer). place < length x.channels) (sym c.self.view_is) c.requires in
     let found : slice_get l.channels place ≡ Some ch =
-        item_at l.channels place ch within c.index_mut-channel.ensures.value in
+    item_at l.channels place ch within c.index_mut-channel.ensures.value in
     let silent : is_some (next_of l.window ch).body ≡ false =
-        sym c.if-next_packet.ensures.said in
+    sym c.if-next_packet.ensures.said in
     let is_silent = silent_at l (place + 1) place ch refl found silent in
     rw (← c.self.view_is) (sym (ap (λ (n : Next). is_some n.packet) is_silent))
 
@@ -133,11 +133,11 @@ returns-else-next_packet-clause-octets c =
     let place = c.args.place in
     let ch = c.index_mut-channel.result.now in
     let within : place < length l.channels =
-        subst (λ (x : Layer). place < length x.channels) (sym c.self.view_is) c.requires in
+    subst (λ (x : Layer). place < length x.channels) (sym c.self.view_is) c.requires in
     let found : slice_get l.channels place ≡ Some ch =
-        item_at l.channels place ch within c.index_mut-channel.ensures.value in
+    item_at l.channels place ch within c.index_mut-channel.ensures.value in
     let silent : is_some (next_of l.window ch).body ≡ false =
-        sym c.if-next_packet.ensures.said in
+    sym c.if-next_packet.ensures.said in
     let is_silent = silent_at l (place + 1) place ch refl found silent in
     rw (← c.self.view_is) (c.if-next_packet.ensures.octets
     ∙ written_none (next_of l.window ch).body (place + 1) c.args.buf.now.items silent
@@ -149,10 +149,10 @@ returns-else-next_packet-clause-reads_back c =
     let place = c.args.place in
     let ch = c.index_mut-channel.result.now in
     let within : place < length l.channels =
-        subst (λ (x : Layer). place < length x.channels) (sym c.self.view_is) c.requires in
+    subst (λ (x : Layer). place < length x.channels) (sym c.self.view_is) c.requires in
     let found : slice_get l.channels place ≡ Some ch =
-        item_at l.channels place ch within c.index_mut-channel.ensures.value in
+    item_at l.channels place ch within c.index_mut-channel.ensures.value in
     let silent : is_some (next_of l.window ch).body ≡ false =
-        sym c.if-next_packet.ensures.said in
+    sym c.if-next_packet.ensures.said in
     let is_silent = silent_at l (place + 1) place ch refl found silent in
     rw (← c.self.view_is) (subst (λ (n : Next). ReadsBack n.packet c.next_packet.new.buf.items) (sym is_silent) tt)
