@@ -1,6 +1,7 @@
 //! What an event does at one node, on its line and in the book: the node is called, the network writes what was asked
 //! and what the node noted, and the frames go onto the line.
-ghost use Rattle.std.specs.Prelude.{◌≡◌, ◌≤◌, ◌<◌, [], OnOk, OnErr, length, vec_capacity};
+ghost use Rattle.std.specs.Prelude.{◌≡◌, ◌≤◌, ◌<◌, [], Ok, OnOk, OnErr, length, vec_capacity};
+ghost use Rattle.core.specs.Result.{result_and};
 ghost use Rattle.packet_layer.specs.Layer.{front_on};
 ghost use Rattle.packet_layer.specs.TakenView.{maybe_taken};
 ghost use Rattle.packet_host.specs.Host.{after_take};
@@ -16,14 +17,13 @@ ghost use Rattle.net_turns.specs.Outcomes.{IsAnswered, pad_outcome, text_of};
 ghost use Rattle.net_turns.specs.Served.{IsCalled, Served, IsEmpty, HasPlaces, EventHasPlaces, taken_written};
 
 use crate::place::NetPlace;
-use crate::room::Room;
 use crate::send::put_frames;
 use arrayvec::ArrayVec;
 use call_records::Book;
 use line_nodes::{Node, NodeFault, TerminalEvent, write_notes, write_request, write_taken};
 use link_timers::Role;
 use memory_line::{Direction, Line};
-use net_events::{NodeEvent, Outcome};
+use net_events::{Answer, NodeEvent, Outcome};
 use packet_host::Host;
 use packet_layer::Taken;
 use x25_pad::Pad;
@@ -155,38 +155,39 @@ fn call_node(
     }
 }
 
-/// Serves an event at a node, where a host is asked and a PAD has the terminal. What the node refuses changes nothing.
+/// Serves an event at a node, where a host is asked and a PAD has the terminal, and writes the answer. What the node
+/// refuses changes nothing.
 pub fn serve<L: Line>(
     node: &mut Node,
     at: NetPlace,
     event: &NodeEvent<'_>,
     line: &mut L,
     book: &mut Book,
-    room: &mut Room,
-) -> Result<Outcome, NodeFault>
+    answer: &mut Answer,
+) -> Result<(), NodeFault>
     requires is_for { IsFor (event_of event.now) (node_of node.old) }
     requires quiet { IsQuiet (node_of node.old) }
     requires writes { MOST_WRITES ≤ book.old.room }
     requires pairs { 1 ≤ book.old.pairs }
-    requires empty { IsEmpty room.old }
-    requires places { EventHasPlaces (event_of event.now) (vec_capacity room.old.text) }
-    ensures answer { IsAnswered (event_of event.now) (node_of node.old) result }
-    ensures text { OnOk result (room.new.text.items ≡ text_of (event_of event.now) (node_of node.old)) }
+    requires empty { IsEmpty answer.old }
+    requires places { EventHasPlaces (event_of event.now) (vec_capacity answer.old.text) }
+    ensures answer { IsAnswered (event_of event.now) (node_of node.old) (result_and result (Ok answer.new.outcome)) }
+    ensures text { OnOk result (answer.new.text.items ≡ text_of (event_of event.now) (node_of node.old)) }
     ensures served { OnOk result (Served L.service at
         (turn_of (event_of event.now) at.place.role (node_of node.old) book.old.book) (L.flights line.old)
-        room.new.frames.items room.new.notes.items (node_of node.new) (L.flights line.new) book.new.book) }
+        answer.new.frames.items answer.new.notes.items (node_of node.new) (L.flights line.new) book.new.book) }
     ensures node { OnErr result (node_of node.new ≡ node_of node.old) }
     ensures line { OnErr result (line.new ≡ line.old) }
     ensures book { OnErr result (book.new ≡ book.old) }
 {
-    let outcome = call_node(node, at.place.role, event, book, &mut room.text)?;
-    write_notes(node, at.place, book, &mut room.notes);
+    answer.outcome = call_node(node, at.place.role, event, book, &mut answer.text)?;
+    write_notes(node, at.place, book, &mut answer.notes);
     put_frames(
         node,
         at.line,
         line,
         direction_of(at.place.role),
-        &mut room.frames,
+        &mut answer.frames,
     );
-    Ok(outcome)
+    Ok(())
 }
