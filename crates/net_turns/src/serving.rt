@@ -56,22 +56,28 @@ fn take(host: &mut Host, role: Role, channel: u8, book: &mut Book) -> Option<Tak
     Some(taken)
 }
 
-/// Something happens at a terminal of a PAD, and what it shows is added to the text.
-fn at_terminal(pad: &mut Pad, terminal: u8, event: TerminalEvent, text: &mut Vec<u8>) -> Outcome
+/// Something happens at a terminal of a PAD: gives the outcome, and adds what the terminal shows to the text.
+fn at_terminal(
+    pad: &mut Pad,
+    terminal: u8,
+    event: TerminalEvent,
+    text: &mut Vec<u8>,
+    outcome: &mut Outcome,
+)
     requires there { terminal < length pad.old.ports }
     requires empty { text.old.items ≡ [] }
     requires places { HasPlaces event (vec_capacity text.old) }
     ensures pad { pad.new ≡ after_terminal terminal event pad.old }
-    ensures outcome { result ≡ pad_outcome terminal event pad.old }
+    ensures outcome { outcome.new ≡ pad_outcome terminal event pad.old }
     ensures text { text.new.items ≡ text_shown terminal event pad.old }
 {
     match event {
-        TerminalEvent::Key(octet) => Outcome::Typed(pad.on_key(terminal, octet)),
-        TerminalEvent::Break => Outcome::Typed(pad.on_break(terminal)),
-        TerminalEvent::Idle => Outcome::Typed(pad.on_idle(terminal)),
+        TerminalEvent::Key(octet) => *outcome = Outcome::Typed(pad.on_key(terminal, octet)),
+        TerminalEvent::Break => *outcome = Outcome::Typed(pad.on_break(terminal)),
+        TerminalEvent::Idle => *outcome = Outcome::Typed(pad.on_idle(terminal)),
         TerminalEvent::Print => {
             show(pad, terminal, text);
-            Outcome::Printed
+            *outcome = Outcome::Printed;
         }
     }
 }
@@ -91,19 +97,20 @@ fn show(pad: &mut Pad, terminal: u8, text: &mut Vec<u8>)
     };
 }
 
-/// Calls the node, and writes what was asked of it. What a terminal shows is added to the text.
+/// Calls the node, writes what was asked of it, and gives the outcome. What a terminal shows is added to the text.
 fn call_node(
     node: &mut Node,
     role: Role,
     event: &NodeEvent<'_>,
     book: &mut Book,
     text: &mut Vec<u8>,
-) -> Result<Outcome, NodeFault>
+    outcome: &mut Outcome,
+) -> Result<(), NodeFault>
     requires is_for { IsFor (event_of event.now) (node_of node.old) }
     requires room { (MOST_WRITES ≤ book.old.room) × (1 ≤ book.old.pairs) }
     requires quiet { IsQuiet (node_of node.old) }
     requires text { (text.old.items ≡ []) × EventHasPlaces (event_of event.now) (vec_capacity text.old) }
-    ensures answer { IsAnswered (event_of event.now) (node_of node.old) result }
+    ensures answer { IsAnswered (event_of event.now) (node_of node.old) (result_and result (Ok outcome.new)) }
     ensures text { OnOk result (text.new.items ≡ text_of (event_of event.now) (node_of node.old)) }
     ensures ok { OnOk result (IsCalled (event_of event.now) role (node_of node.old) book.old.book (node_of node.new)
         book.new) }
@@ -113,26 +120,31 @@ fn call_node(
     match event {
         NodeEvent::Hears(octets) => {
             node.hear(octets);
-            Ok(Outcome::Delivered(true))
+            *outcome = Outcome::Delivered(true);
+            Ok(())
         }
         NodeEvent::Expires(timer) => {
             let _ = node.expire(*timer);
-            Ok(Outcome::Done)
+            *outcome = Outcome::Done;
+            Ok(())
         }
         NodeEvent::Relinks => {
             node.relink();
-            Ok(Outcome::Done)
+            *outcome = Outcome::Done;
+            Ok(())
         }
         NodeEvent::Restarts => {
             node.restart();
             book.close_all(role);
-            Ok(Outcome::Done)
+            *outcome = Outcome::Done;
+            Ok(())
         }
         NodeEvent::Calls(address, user_data) => match node {
             Node::Host(host) => {
                 let channel = host.call(*address, user_data)?;
                 book.place(role, channel, address);
-                Ok(Outcome::Called { channel })
+                *outcome = Outcome::Called { channel };
+                Ok(())
             }
             Node::Pad(_) => unreachable!(),
         },
@@ -140,16 +152,23 @@ fn call_node(
             Node::Host(host) => {
                 host.ask(*channel, request)?;
                 write_request(book, role, *channel, request);
-                Ok(Outcome::Done)
+                *outcome = Outcome::Done;
+                Ok(())
             }
             Node::Pad(_) => unreachable!(),
         },
         NodeEvent::Takes(channel) => match node {
-            Node::Host(host) => Ok(Outcome::Took(take(host, role, *channel, book))),
+            Node::Host(host) => {
+                *outcome = Outcome::Took(take(host, role, *channel, book));
+                Ok(())
+            }
             Node::Pad(_) => unreachable!(),
         },
         NodeEvent::AtTerminal(terminal, event) => match node {
-            Node::Pad(pad) => Ok(at_terminal(pad, *terminal, *event, text)),
+            Node::Pad(pad) => {
+                at_terminal(pad, *terminal, *event, text, outcome);
+                Ok(())
+            }
             Node::Host(_) => unreachable!(),
         },
     }
@@ -180,7 +199,14 @@ pub fn serve<L: Line>(
     ensures line { OnErr result (line.new ≡ line.old) }
     ensures book { OnErr result (book.new ≡ book.old) }
 {
-    answer.outcome = call_node(node, at.place.role, event, book, &mut answer.text)?;
+    call_node(
+        node,
+        at.place.role,
+        event,
+        book,
+        &mut answer.text,
+        &mut answer.outcome,
+    )?;
     write_notes(node, at.place, book, &mut answer.notes);
     put_frames(
         node,
