@@ -1,5 +1,5 @@
 use Rattle.std.proofs.Common.{Ok, ◌≡◌, ◌≢◌, Result, Err, ⊤, rules}
-use Rattle.core.specs.Result.{result_and}
+use Rattle.std.specs.Result.{result_and}
 use Rattle.switch_network_laws.proofs.PromiseAny.{promise_any}
 use Rattle.line_sim.specs.Stepping.{lent}
 use Rattle.line_sim.proofs.Standing.{standing}
