@@ -1,6 +1,6 @@
 //! The nodes of a network on their lines, and the register of their calls: each event, exactly.
 ghost use Rattle.std.specs.Prelude.{◌≡◌, MatchResult, None, Ok, true, false};
-ghost use Rattle.core.specs.Result.{result_and};
+ghost use Rattle.std.specs.Result.{result_and};
 ghost use Rattle.net_events.specs.declared.event.StepFault.TheVariants.{NoSuchNode, NoSuchCall};
 ghost use Rattle.net_nodes.specs.Faults.{is_channel_at};
 ghost use Rattle.net_nodes.specs.Places.{IsStanding, IsPlaceOf, is_host_at, pad_terminals, user_at, own_line_at};

@@ -1,7 +1,7 @@
 //! What an event does at one node, on its line and in the book: the node is called, the network writes what was asked
 //! and what the node noted, and the frames go onto the line.
 ghost use Rattle.std.specs.Prelude.{◌≡◌, ◌≤◌, ◌<◌, [], Ok, OnOk, OnErr, length, vec_capacity};
-ghost use Rattle.core.specs.Result.{result_and};
+ghost use Rattle.std.specs.Result.{result_and};
 ghost use Rattle.packet_layer.specs.Layer.{front_on};
 ghost use Rattle.packet_layer.specs.TakenView.{maybe_taken};
 ghost use Rattle.packet_host.specs.Host.{after_take};

@@ -1,6 +1,6 @@
 //! What the users of the nodes ask.
 ghost use Rattle.std.specs.Prelude.{Ok};
-ghost use Rattle.core.specs.Result.{result_and};
+ghost use Rattle.std.specs.Result.{result_and};
 ghost use Rattle.net_events.specs.declared.event.Event.TheVariants as event_is;
 ghost use Rattle.net_nodes.specs.Places.{IsStanding};
 ghost use Rattle.net_nodes.specs.Happening.{Happens};

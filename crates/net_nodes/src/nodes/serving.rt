@@ -1,6 +1,6 @@
 //! What comes to the nodes at their lines.
 ghost use Rattle.std.specs.Prelude.{◌≡◌, false, Ok};
-ghost use Rattle.core.specs.Result.{result_and};
+ghost use Rattle.std.specs.Result.{result_and};
 ghost use Rattle.switch_laws.specs.Turn.{AreOctets};
 ghost use Rattle.memory_line.specs.declared.line.Direction.TheVariants as direction_is;
 ghost use Rattle.net_events.specs.declared.event.Event.TheVariants as event_is;

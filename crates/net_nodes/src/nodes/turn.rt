@@ -1,6 +1,6 @@
 //! The turn of a node with users at its end of a line.
 ghost use Rattle.std.specs.Prelude.{◌≡◌, ◌≤◌, Some, Ok, MatchResult, OnOk, OnErr, slice_get, vec_capacity};
-ghost use Rattle.core.specs.Result.{result_and};
+ghost use Rattle.std.specs.Result.{result_and};
 ghost use Rattle.call_records.specs.RegisterView.{register_of};
 ghost use Rattle.net_events.specs.EventView.{event_of};
 ghost use Rattle.net_events.specs.Network as network;

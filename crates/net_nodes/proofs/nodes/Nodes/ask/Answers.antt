@@ -1,5 +1,5 @@
 use Rattle.std.proofs.Common.{Ok, ℕ, refl, ◌∙◌, subst}
-use Rattle.core.specs.Result.{result_and}
+use Rattle.std.specs.Result.{result_and}
 use Rattle.net_events.specs.EventView.{request_event}
 use Rattle.net_turns.specs.Outcomes.{event_fault}
 use Rattle.net_events.specs.declared.event.Event.TheVariants.{Ask}

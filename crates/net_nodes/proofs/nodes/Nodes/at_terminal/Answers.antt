@@ -1,5 +1,5 @@
 use Rattle.std.proofs.Common.{Ok, ◌<◌, sym, ◌∙◌, refl, arith}
-use Rattle.core.specs.Result.{result_and}
+use Rattle.std.specs.Result.{result_and}
 use Rattle.net_events.specs.NodeEvents as node_event
 use Rattle.net_events.specs.declared.event.Event.TheVariants.{AtTerminal}
 use Rattle.net_nodes.proofs.Happening.{acted, can_act, pad_at, terminal_there}

@@ -1,6 +1,6 @@
 use Rattle.std.proofs.Common.{Ok, ℕ, List, refl, subst, arith}
 use Rattle.std.proofs.lemmas.Grind.{common_steps}
-use Rattle.core.specs.Result.{result_and}
+use Rattle.std.specs.Result.{result_and}
 use Rattle.net_events.specs.NodeEvents.{Calls}
 use Rattle.net_turns.specs.Outcomes.{event_fault}
 use Rattle.net_events.specs.declared.event.Event.TheVariants.{Call}

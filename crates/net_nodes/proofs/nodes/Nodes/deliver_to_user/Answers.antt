@@ -1,6 +1,6 @@
 use Rattle.std.proofs.Common.{Ok, ◌<◌, length, set, Some, slice_get, refl, sym, ap, ◌∙◌, inl, subst}
 use Rattle.std.specs.Prelude.{is_some}
-use Rattle.core.specs.Result.{result_and}
+use Rattle.std.specs.Result.{result_and}
 use Rattle.call_records.specs.RegisterView.{register_of}
 use Rattle.net_events.specs.NodeEvents.{Hears}
 use Rattle.net_events.specs.Network.{NetLine}

@@ -1,5 +1,5 @@
 use Rattle.std.proofs.Common.{Ok, ◌<◌, length, ap, arith}
-use Rattle.core.specs.Result.{result_and}
+use Rattle.std.specs.Result.{result_and}
 use Rattle.net_events.specs.Network.{Network}
 use Rattle.net_nodes.proofs.Places.{at_index}
 use Rattle.net_nodes.proofs.Happening.{can_relink, relinked}

@@ -1,5 +1,5 @@
 use Rattle.std.proofs.Common.{Ok, slice_get, refl, sym, ap, ◌∙◌, subst}
-use Rattle.core.specs.Result.{result_and}
+use Rattle.std.specs.Result.{result_and}
 use Rattle.call_records.specs.RegisterView.{register_of}
 use Rattle.net_events.specs.NodeEvents.{Restarts}
 use Rattle.net_events.specs.Network.{NetLine, place_at}

@@ -1,5 +1,5 @@
 use Rattle.std.proofs.Common.{Ok, ℕ, None, refl, ◌∙◌, subst}
-use Rattle.core.specs.Result.{result_and}
+use Rattle.std.specs.Result.{result_and}
 use Rattle.net_events.specs.NodeEvents.{Takes}
 use Rattle.net_events.specs.declared.event.Event.TheVariants.{Take}
 use Rattle.net_nodes.specs.Faults.{on_channel}

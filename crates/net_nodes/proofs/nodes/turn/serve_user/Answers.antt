@@ -1,6 +1,6 @@
 use Rattle.std.proofs.Common.{Ok, ◌≡◌, ap, ◌∙◌, sym, subst}
 use Rattle.std.specs.Prelude.{OnOk}
-use Rattle.core.specs.Result.{result_and}
+use Rattle.std.specs.Result.{result_and}
 use Rattle.line_nodes.specs.NodeView.{node_of}
 use Rattle.net_turns.specs.Quiet.{IsQuiet}
 use Rattle.net_events.specs.EventView.{event_of}
