@@ -1,3 +1,4 @@
 pub mod Turns
+mod Lent
 pub mod Deliveries
 pub mod Expiries

@@ -11,9 +11,9 @@ use Rattle.packet_end.specs.PacketEnd.{begun, settled, all_offered}
 use Rattle.number_set.specs.declared.NumberSet.{NumberSet}
 use Rattle.number_set.specs.NumberSet.{has}
 use Rattle.switch_lines.specs.Lines.{SwitchLine}
-use Rattle.switch_lines.specs.Switch.{with_end, may_offer, offering_from, raised, to_relink}
+use Rattle.switch_lines.specs.Switch.{with_end, may_offer, offering_from, raised, to_relink, frames_on}
 use Rattle.switch_lines.specs.Touched.{AreThere, IsSettled, IsTaken, NothingElseIsLeft, changed_in, offering_in}
-use Rattle.switch_lines.specs.Touched.{first_to_relink}
+use Rattle.switch_lines.specs.Touched.{first_to_relink, HasAllFrames}
 use Rattle.switch_lines.proofs.Changing.{there}
 use Rattle.switch_lines.proofs.Ending.{written, offer_none}
 use Rattle.switch_lines.proofs.Places.{decided}
@@ -290,6 +290,17 @@ both_are_there s t u xs ys is both first second = subst (λ (zs : Lines). AreThe
 pub in_neither : (s t u : NumberSet) → ((n : ℕ) → has u n ≡ (has s n || has t n)) → (n : ℕ) → has u n ≡ false →
     has s n ≡ false
 in_neither s t u both n out = (or_parts (has s n) (has t n) (sym (both n) ∙ out)).0
+
+-- no frame waits on a line of neither set
+pub no_frames : (s t u : LineSet) (xs : Lines) → ((n : ℕ) → has u n ≡ (has s n || has t n)) → NothingElseIsLeft s t xs
+    → HasAllFrames u xs
+no_frames s t u xs both h n out = by (slice_get xs n) refl
+  where
+    by : (o : Option SwitchLine) → slice_get xs n ≡ o → frames_on o ≡ []
+    by None found = refl
+    by (Some l) found =
+        let neither = or_parts (has s n) (has t n) (sym (both n) ∙ out) in
+        (h.taken n l neither.0 neither.1 found).frames
 
 -- what is offered, and which link has to be set up anew
 pub offering_all : (s u : NumberSet) (xs : Lines) → NothingElseIsLeft s u xs → offering_in s 0 xs ≡ offering_from 0 xs

@@ -10,7 +10,7 @@ use Rattle.packet_end.specs.Timing.{TimersAgree}
 use Rattle.number_set.specs.NumberSet.{has}
 use Rattle.number_set.specs.declared.NumberSet.{NumberSet}
 use Rattle.switch_lines.specs.Lines.{SwitchLine}
-use Rattle.switch_lines.specs.Switch.{may_offer}
+use Rattle.switch_lines.specs.Switch.{may_offer, frames_on}
 
 -- the link has nothing to send, and T1 does not run where the link does not want it to
 pub record HasNothingToSend (e : End) : Type 0 where
@@ -33,6 +33,10 @@ pub record IsTaken (l : SwitchLine) : Type 0 where
 
 abbrev pub AreThere : NumberSet → List SwitchLine → Type 0
 AreThere s ls = (n : ℕ) → has s n ≡ true → n < length ls
+
+-- no frame waits on a line that is not in the set
+abbrev pub HasAllFrames : LineSet → List SwitchLine → Type 0
+HasAllFrames s ls = (n : ℕ) → has s n ≡ false → frames_on (slice_get ls n) ≡ []
 
 -- the lines that are not touched are settled, and the frames of those that are not untaken either were taken
 pub record NothingElseIsLeft (touched untaken : NumberSet) (ls : List SwitchLine) : Type 0 where

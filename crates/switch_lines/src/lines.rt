@@ -13,6 +13,7 @@ ghost use Rattle.switch_lines.specs.Making.{IsConfig, made_line};
 ghost use Rattle.switch_lines.specs.Lines.{joined_at, with_joined, ask, front_at, changed};
 ghost use Rattle.switch_lines.specs.Switch.{timer_runs, due_on, frames_on, with_end, line_rests};
 ghost use Rattle.switch_lines.specs.OfLine.{kept_at, freed_at, is_taken};
+ghost use Rattle.switch_lines.specs.Touched.{AreThere, HasAllFrames};
 
 mod calling;
 mod finishing;
@@ -133,6 +134,14 @@ impl Lines {
         ensures most { result ≤ MOST_FRAMES }
     {
         self.lines[line].waiting_frames()
+    }
+
+    /// Lines on which frames may wait to go out: on all others none does.
+    pub fn with_frames(&self) -> LineSet
+        ensures there { AreThere result self.now }
+        ensures others { HasAllFrames result self.now }
+    {
+        self.touched.with(self.untaken)
     }
 
     /// The channel that a channel is joined to, if it is.

@@ -1,5 +1,5 @@
 //! What happens at a switch: it is called, its frames go onto its lines, and the call that it joined is handed on.
-ghost use Rattle.std.specs.Prelude.{◌≡◌, Some, IfOk, length, slice_get, vec_capacity};
+ghost use Rattle.std.specs.Prelude.{◌≡◌, [], Some, OnOk, true, false, length, slice_get, vec_capacity};
 ghost use Rattle.std.specs.Option.{option_to_list};
 ghost use Rattle.call_records.specs.RegisterView.{register_of};
 ghost use Rattle.net_events.specs.AtSwitch.{all_handed, switch_drained};
@@ -8,7 +8,7 @@ ghost use Rattle.net_events.specs.Network as network;
 ghost use Rattle.net_turns.specs.Sends.{all_puts};
 ghost use Rattle.net_nodes.specs.Places.{is_switch_at};
 ghost use Rattle.net_nodes.specs.Steps.{switch_outcome};
-ghost use Rattle.net_nodes.specs.Switching.{HasRoom, CanPut, LinesPut, cleared, is_anew, CanServeSwitch, SwitchServed};
+ghost use Rattle.net_nodes.specs.Switching.{HasRoom, CanPut, LinesPut, is_anew, CanServeSwitch, SwitchServed};
 ghost use Rattle.net_nodes.specs.Switching.{CanSwitch, SwitchActed};
 
 use crate::nodes::node::{NetNode, NodeKind, network_line};
@@ -17,7 +17,7 @@ use call_records::Register;
 use line_end::MOST_FRAMES;
 use memory_line::Line;
 use net_events::{Answer, Outcome, Put, SwitchEvent};
-use net_turns::{bare_answer, call_switch, put_switch_frames};
+use net_turns::{call_switch, make_frame_room, put_switch_frames};
 use std::alloc::AllocError;
 use x25_switch::{NewJoin, Switch};
 
@@ -36,12 +36,45 @@ fn hand_on(register: &mut Register, lines: &[usize], joined: Option<NewJoin>)
     }
 }
 
-/// Empties a line where the switch begins anew.
-fn clear<L: Line>(line: &mut L, anew: bool)
-    ensures { L.service.faithful → L.flights line.new ≡ cleared anew (L.flights line.old) }
+/// Empties the lines of a switch that begins anew, puts all frames that wait there on them, line by line, and lists
+/// them.
+fn put_anew<L: Line>(
+    switch: &mut Switch,
+    own: &[usize],
+    lines: &mut Vec<NetLine<L>>,
+    puts: &mut Vec<Put>,
+)
+    requires { CanPut own.now switch.old.lines lines.old.items puts.old.items (vec_capacity puts.old) }
+    ensures switch { switch.new ≡ switch_drained switch.old }
+    ensures puts { puts.new.items ≡ all_puts own.now switch.old.lines }
+    ensures lines { LinesPut L.service true own.now switch.old lines.old.items lines.new.items }
 {
-    if anew {
-        line.empty();
+    for at in 0..own.len() {
+        let number = network_line(own, at);
+        let net_line = &mut lines[number];
+        net_line.line.empty();
+        put_switch_frames(switch, at, number, &mut net_line.line, puts);
+    }
+}
+
+/// Puts all frames that wait at a switch on its lines, line by line, and lists them. The lines on which none waits are
+/// not looked at.
+fn put_waiting<L: Line>(
+    switch: &mut Switch,
+    own: &[usize],
+    lines: &mut Vec<NetLine<L>>,
+    puts: &mut Vec<Put>,
+)
+    requires { CanPut own.now switch.old.lines lines.old.items puts.old.items (vec_capacity puts.old) }
+    ensures switch { switch.new ≡ switch_drained switch.old }
+    ensures puts { puts.new.items ≡ all_puts own.now switch.old.lines }
+    ensures lines { LinesPut L.service false own.now switch.old lines.old.items lines.new.items }
+{
+    let mut waiting = switch.with_frames();
+    while let Some(at) = waiting.take_first() {
+        let number = network_line(own, at);
+        let net_line = &mut lines[number];
+        put_switch_frames(switch, at, number, &mut net_line.line, puts);
     }
 }
 
@@ -59,11 +92,10 @@ pub(super) fn put_lines<L: Line>(
     ensures puts { puts.new.items ≡ all_puts own.now switch.old.lines }
     ensures lines { LinesPut L.service anew own.now switch.old lines.old.items lines.new.items }
 {
-    for at in 0..own.len() {
-        let number = network_line(own, at);
-        let net_line = &mut lines[number];
-        clear(&mut net_line.line, anew);
-        put_switch_frames(switch, at, number, &mut net_line.line, puts);
+    if anew {
+        put_anew(switch, own, lines, puts);
+    } else {
+        put_waiting(switch, own, lines, puts);
     }
 }
 
@@ -117,37 +149,43 @@ impl<L: Line> Nodes<L> {
         place < self.nodes.len() && self.nodes[place].is_switch()
     }
 
-    /// An empty list with places for all frames of an event at the switch of this place.
-    pub(super) fn room_at_switch(&self, place: usize) -> Result<Vec<Put>, AllocError>
-        ensures { (n : network.PlacedSwitch) → slice_get self.now.nodes place ≡ Some (network.Switching n)
-            → IfOk result (λ puts. HasRoom (length n.switch.lines) puts.items (vec_capacity puts)) }
+    /// Empties an answer, and makes room in it for all frames of an event at the switch of this place.
+    pub(super) fn make_switch_room(
+        &self,
+        place: usize,
+        answer: &mut Answer,
+    ) -> Result<(), AllocError>
+        ensures room { (n : network.PlacedSwitch) → slice_get self.now.nodes place ≡ Some (network.Switching n)
+            → OnOk result (HasRoom (length n.switch.lines) answer.new.frames.items (vec_capacity answer.new.frames)) }
+        ensures frames { answer.new.frames.items ≡ [] }
+        ensures notes { answer.new.notes.items ≡ [] }
+        ensures text { answer.new.text.items ≡ [] }
     {
         let lines = if place < self.nodes.len() {
             self.nodes[place].own_lines()
         } else {
             0
         };
-        Vec::with_capacity(self.alloc, lines * MOST_FRAMES)
+        make_frame_room(answer, lines * MOST_FRAMES)
     }
 
-    /// Serves an event at the switch of this place, and answers it.
-    pub(super) fn switch_acts(
-        &mut self,
-        place: usize,
-        event: &SwitchEvent<'_>,
-        puts: Vec<Put>,
-    ) -> Answer
-        requires { CanSwitch (switch_event_of event.now) place self.old puts.items (vec_capacity puts) }
+    /// Serves an event at the switch of this place, and writes the answer, in which nothing stands before.
+    pub(super) fn switch_acts(&mut self, place: usize, event: &SwitchEvent<'_>, answer: &mut Answer)
+        requires can { CanSwitch (switch_event_of event.now) place self.old answer.old.frames.items
+            (vec_capacity answer.old.frames) }
+        requires notes { answer.old.notes.items ≡ [] }
+        requires text { answer.old.text.items ≡ [] }
         ensures { (n : network.PlacedSwitch) → slice_get self.old.nodes place ≡ Some (network.Switching n)
-            → SwitchActed L.service (switch_event_of event.now) place n self.old result self.new }
+            → SwitchActed L.service (switch_event_of event.now) place n self.old answer.new self.new }
     {
-        let mut puts = puts;
         let (lines, register) = (&mut self.lines, &mut self.register);
-        serve_switch(&mut self.nodes[place], lines, register, event, &mut puts);
-        let bare = bare_answer(self.alloc, outcome_of(event));
-        Answer {
-            frames: puts,
-            ..bare
-        }
+        serve_switch(
+            &mut self.nodes[place],
+            lines,
+            register,
+            event,
+            &mut answer.frames,
+        );
+        answer.outcome = outcome_of(event);
     }
 }

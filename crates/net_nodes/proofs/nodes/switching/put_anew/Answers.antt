@@ -1,4 +1,4 @@
-use Rattle.std.proofs.Common.{◌≡◌, ◌<◌, ◌+◌, suc, length, slice_get, Some, refl, sym, ap, ◌∙◌, subst, arith}
+use Rattle.std.proofs.Common.{true, ◌≡◌, ◌<◌, ◌+◌, suc, length, slice_get, Some, refl, sym, ap, ◌∙◌, subst, arith}
 use Rattle.std.specs.Prelude.{unwrap_or, ◌++◌}
 use Rattle.memory_line.specs.declared.line.Direction.TheVariants.{FromDce}
 use Rattle.memory_line.specs.Lines.{ArePut}
@@ -8,7 +8,7 @@ use Rattle.net_events.specs.AtSwitch.{waiting_on, line_drained}
 use Rattle.net_turns.specs.Sends.{puts_on}
 use Rattle.net_nodes.proofs.Places.{there, at_index}
 use Rattle.net_nodes.proofs.Switching.{drained_to, drained_more, waits_still, drained_all, length_drained, puts_to, puts_more, puts_all, put_none, put_next, put_all}
-use Rattle.net_nodes.proofs.nodes.switching.put_lines.Goals as goal
+use Rattle.net_nodes.proofs.nodes.switching.put_anew.Goals as goal
 
 pub loop-at-init : goal.loop-at-init
 loop-at-init g c = record {
@@ -16,7 +16,7 @@ loop-at-init g c = record {
   puts_are = c.requires.room.empty;
   places = (let none = ap length c.requires.room.empty in omega (arith, none));
   capacity = refl;
-  lines_put = put_none g.L.Line.service c.args.anew c.args.own.now c.args.switch.now c.args.lines.now.items;
+  lines_put = put_none g.L.Line.service true c.args.own.now c.args.switch.now c.args.lines.now.items;
 }
 
 pub index_mut-net_line-requires : goal.index_mut-net_line-requires
@@ -63,9 +63,9 @@ loop-at-preserved g c =
           ∙ sym (puts_more n c.network_line-number.result own s.lines here within) ∙ ap (λ m. puts_to m own s.lines) next;
       places = omega (arith, c.loop-at.invariant.places, c.put_switch_frames.ensures.most);
       capacity = c.put_switch_frames.ensures.capacity ∙ c.loop-at.invariant.capacity;
-      lines_put = put_next L c.args.anew own s n (n + 1) c.network_line-number.result c.args.lines.now.items c.loop-at.lines.items _ _ (g.L.Line.flights c.clear.new.line) (g.L.Line.flights c.put_switch_frames.new.line)
-          c.requires.apart c.loop-at.invariant.lines_put here line_there c.clear.ensures
-          (λ f. subst (λ fs. ArePut L FromDce fs (g.L.Line.flights c.clear.new.line) (g.L.Line.flights c.put_switch_frames.new.line)) waits (c.put_switch_frames.ensures.line f))
+      lines_put = put_next L true own s n (n + 1) c.network_line-number.result c.args.lines.now.items c.loop-at.lines.items _ _ (g.L.Line.flights c.empty.new.self) (g.L.Line.flights c.put_switch_frames.new.line)
+          c.requires.apart c.loop-at.invariant.lines_put here line_there c.empty.ensures
+          (λ f. subst (λ fs. ArePut L FromDce fs (g.L.Line.flights c.empty.new.self) (g.L.Line.flights c.put_switch_frames.new.line)) waits (c.put_switch_frames.ensures.line f))
           refl next;
     }
 
@@ -83,4 +83,4 @@ returns-clause-puts g c =
 pub returns-clause-lines : goal.returns-clause-lines
 returns-clause-lines g c =
     let all : c.loop-at.at ≡ length c.args.own.now = omega (arith, c.loop-at-test.false, c.loop-at.auto.at-end) in
-    put_all g.L.Line.service c.args.anew c.args.own.now c.args.switch.now c.loop-at.at c.args.lines.now.items c.loop-at.lines.items all c.loop-at.invariant.lines_put
+    put_all g.L.Line.service true c.args.own.now c.args.switch.now c.loop-at.at c.args.lines.now.items c.loop-at.lines.items all c.loop-at.invariant.lines_put
