@@ -17,7 +17,7 @@ ghost use Rattle.line_sim.specs.Runs.{IsMadeBy};
 use call_records::{Pair, Record};
 use memory_line::Line;
 use net_config::{Config, MakeFault, plan_of};
-use net_events::{Answer, Event, StepFault};
+use net_events::{Answer, Event, Outcome, StepFault};
 use net_nodes::Nodes;
 use std::alloc::Global;
 use std::marker::Model;
@@ -48,6 +48,16 @@ impl<L: Line> Model for Net<L> {
     ghost invariant = { λ n. IsBetweenEvents L.service n.nodes };
 }
 
+/// An answer without frames, notes and text, which takes no memory.
+fn bare_answer(alloc: Global) -> Answer {
+    Answer {
+        frames: Vec::new(alloc),
+        notes: Vec::new(alloc),
+        text: Vec::new(alloc),
+        outcome: Outcome::Done,
+    }
+}
+
 impl<L: Line> Net<L> {
     ghost use Rattle.std.specs.Borrow.{sem};
     ghost use Rattle.std.specs.Io.BufRead.{Rests};
@@ -66,7 +76,7 @@ impl<L: Line> Net<L> {
     {
         let plan = plan_of(alloc, config)?;
         let nodes = Nodes::new(alloc, &plan, lines)?;
-        let answer = Answer::new(alloc);
+        let answer = bare_answer(alloc);
         Ok(Net { nodes, answer })
     }
 

@@ -1,12 +1,8 @@
 //! What answers an event of a network.
-ghost use Rattle.std.specs.Prelude.{◌≡◌, []};
-ghost use Rattle.net_events.specs.declared.answer.Outcome.TheVariants.{Done};
-
 use frame_codec::FrameBuf;
 use line_nodes::HostNote;
 use memory_line::Direction;
 use packet_layer::Taken;
-use std::alloc::Global;
 use x25_pad::PadAnswer;
 
 /// What an event gave, besides frames.
@@ -42,21 +38,4 @@ pub struct Answer {
     pub notes: Vec<HostNote>,
     pub text: Vec<u8>,
     pub outcome: Outcome,
-}
-
-impl Answer {
-    /// An answer without frames, notes and text, which takes no memory.
-    pub fn new(alloc: Global) -> Self
-        ensures frames { result.frames.items ≡ [] }
-        ensures notes { result.notes.items ≡ [] }
-        ensures text { result.text.items ≡ [] }
-        ensures outcome { result.outcome ≡ Done }
-    {
-        Answer {
-            frames: Vec::new(alloc),
-            notes: Vec::new(alloc),
-            text: Vec::new(alloc),
-            outcome: Outcome::Done,
-        }
-    }
 }
