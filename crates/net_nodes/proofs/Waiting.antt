@@ -3,8 +3,8 @@ use Rattle.std.proofs.Common.{◌≡◌, ◌≢◌, ℕ, ◌+◌, ◌*◌, ◌<�
 use Rattle.std.specs.Prelude.{◌⊎◌, not, slice_get}
 use Rattle.std.proofs.lemmas.List.{append-nil}
 use Rattle.std.proofs.lemmas.Bool.{cases_eq, cases_lt, ne_eqb, eq-eqb}
-use Rattle.line_set.specs.declared.LineSet.{LineSet}
-use Rattle.line_set.specs.LineSet.{has, IsFirstOf}
+use Rattle.number_set.specs.declared.NumberSet.{NumberSet}
+use Rattle.number_set.specs.NumberSet.{has, IsFirstOf}
 use Rattle.memory_line.specs.declared.line.Direction.TheVariants.{FromDce}
 use Rattle.memory_line.specs.Lines.{LineService, ArePut}
 use Rattle.switch_lines.specs.Lines.{SwitchLine}
@@ -38,7 +38,7 @@ puts_none n line own ls at h none =
 
 -- the own lines before this one are drained, and their frames are put and listed; none of them is left in the set, and
 -- no frame waits on one behind them that is not in it
-pub record PutBefore (L : LineService) (own : List ℕ) (s t : Switch) (waiting : LineSet) (puts : List Put) (count : ℕ) (before after : List NetLine) (at : ℕ) : Type 0 where
+pub record PutBefore (L : LineService) (own : List ℕ) (s t : Switch) (waiting : NumberSet) (puts : List Put) (count : ℕ) (before after : List NetLine) (at : ℕ) : Type 0 where
   pub most : at ≤ length own
   pub passed : (n : ℕ) → n < at → has waiting n ≡ false
   pub left : AreThere waiting s.lines
@@ -48,7 +48,7 @@ pub record PutBefore (L : LineService) (own : List ℕ) (s t : Switch) (waiting 
   pub places : count ≤ 9 * at
   pub lines_put : PutTo L false own s at before after
 
-pub none_put : (L : LineService) (own : List ℕ) (s : Switch) (waiting : LineSet) (puts : List Put) (count : ℕ) (lines : List NetLine)
+pub none_put : (L : LineService) (own : List ℕ) (s : Switch) (waiting : NumberSet) (puts : List Put) (count : ℕ) (lines : List NetLine)
     → AreThere waiting s.lines → HasAllFrames waiting s.lines → puts ≡ [] → count ≡ 0
     → PutBefore L own s s waiting puts count lines lines 0
 none_put L own s waiting puts count lines there all none zero_count = record {
@@ -62,7 +62,7 @@ none_put L own s waiting puts count lines there all none zero_count = record {
   lines_put = put_none L false own s lines;
 }
 
-module _ (L : LineService) (own : List ℕ) (s t : Switch) (waiting : LineSet) (puts : List Put) (count : ℕ) (before after : List NetLine)
+module _ (L : LineService) (own : List ℕ) (s t : Switch) (waiting : NumberSet) (puts : List Put) (count : ℕ) (before after : List NetLine)
     (counts : length own ≡ length s.lines) (apart : AreApart own) (there : (at line : ℕ) → slice_get own at ≡ Some line → line < length before) where
   -- one line is passed over
   pass_one : (a : ℕ) → PutBefore L own s t waiting puts count before after a → a < length own → has waiting a ≡ false
@@ -100,7 +100,7 @@ module _ (L : LineService) (own : List ℕ) (s t : Switch) (waiting : LineSet) (
       (λ n behind before_k. out n (omega (arith, behind)) before_k)
 
   -- up to the first line that is left in the set
-  pub pass_to : (a k : ℕ) (rest : LineSet) → PutBefore L own s t waiting puts count before after a → IsFirstOf waiting k rest
+  pub pass_to : (a k : ℕ) (rest : NumberSet) → PutBefore L own s t waiting puts count before after a → IsFirstOf waiting k rest
       → PutBefore L own s t waiting puts count before after k
   pass_to a k rest w first =
       let here = w.left k first.there in
@@ -122,7 +122,7 @@ module _ (L : LineService) (own : List ℕ) (s t : Switch) (waiting : LineSet) (
 -- ---- and what waits on the line that is taken out of the set is put
 
 -- what is left of a set without a line
-kept_out : (waiting rest : LineSet) (k : ℕ) → IsFirstOf waiting k rest → (n : ℕ) → n < suc k → has rest n ≡ false
+kept_out : (waiting rest : NumberSet) (k : ℕ) → IsFirstOf waiting k rest → (n : ℕ) → n < suc k → has rest n ≡ false
 kept_out waiting rest k first n h = by (cases_eq n k)
   where
     by : (n ≡ k) ⊎ (n ≢ k) → has rest n ≡ false
@@ -138,7 +138,7 @@ still_in : (a b : Bool) → (a && b) ≡ true → a ≡ true
 still_in true b e = refl
 still_in false b e = e
 
-pub left_there : (waiting rest : LineSet) (k : ℕ) (ls : List SwitchLine) → IsFirstOf waiting k rest → AreThere waiting ls → AreThere rest ls
+pub left_there : (waiting rest : NumberSet) (k : ℕ) (ls : List SwitchLine) → IsFirstOf waiting k rest → AreThere waiting ls → AreThere rest ls
 left_there waiting rest k ls first there n is =
     there n (still_in (has waiting n) (not (n == k)) (sym (first.others n) ∙ is))
 
@@ -146,12 +146,12 @@ out_before : (b : Bool) → (b && not false) ≡ false → b ≡ false
 out_before true e = e
 out_before false e = refl
 
-not_in : (waiting rest : LineSet) (k n : ℕ) → IsFirstOf waiting k rest → suc k ≤ n → has rest n ≡ false → has waiting n ≡ false
+not_in : (waiting rest : NumberSet) (k n : ℕ) → IsFirstOf waiting k rest → suc k ≤ n → has rest n ≡ false → has waiting n ≡ false
 not_in waiting rest k n first h out =
     let other : n ≢ k = λ e. (let same = e in omega (arith, h, same)) in
     out_before (has waiting n) (ap (λ b. has waiting n && not b) (sym (ne_eqb n k other)) ∙ sym (first.others n) ∙ out)
 
-pub put_at : (L : LineService) (own : List ℕ) (s t u : Switch) (waiting rest : LineSet) (puts more : List Put) (count many : ℕ) (before mid after : List NetLine) (k : ℕ)
+pub put_at : (L : LineService) (own : List ℕ) (s t u : Switch) (waiting rest : NumberSet) (puts more : List Put) (count many : ℕ) (before mid after : List NetLine) (k : ℕ)
     → PutBefore L own s t waiting puts count before mid k → IsFirstOf waiting k rest → length own ≡ length s.lines
     → u ≡ record s { lines = drained_to (suc k) s.lines } → more ≡ puts_to (suc k) own s.lines → many ≤ count + 9
     → PutTo L false own s (suc k) before after → PutBefore L own s u rest more many before after (suc k)

@@ -292,7 +292,7 @@ pub in_neither : (s t u : NumberSet) → ((n : ℕ) → has u n ≡ (has s n || 
 in_neither s t u both n out = (or_parts (has s n) (has t n) (sym (both n) ∙ out)).0
 
 -- no frame waits on a line of neither set
-pub no_frames : (s t u : LineSet) (xs : Lines) → ((n : ℕ) → has u n ≡ (has s n || has t n)) → NothingElseIsLeft s t xs
+pub no_frames : (s t u : NumberSet) (xs : Lines) → ((n : ℕ) → has u n ≡ (has s n || has t n)) → NothingElseIsLeft s t xs
     → HasAllFrames u xs
 no_frames s t u xs both h n out = by (slice_get xs n) refl
   where

@@ -35,7 +35,7 @@ abbrev pub AreThere : NumberSet → List SwitchLine → Type 0
 AreThere s ls = (n : ℕ) → has s n ≡ true → n < length ls
 
 -- no frame waits on a line that is not in the set
-abbrev pub HasAllFrames : LineSet → List SwitchLine → Type 0
+abbrev pub HasAllFrames : NumberSet → List SwitchLine → Type 0
 HasAllFrames s ls = (n : ℕ) → has s n ≡ false → frames_on (slice_get ls n) ≡ []
 
 -- the lines that are not touched are settled, and the frames of those that are not untaken either were taken

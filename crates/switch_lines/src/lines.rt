@@ -28,8 +28,8 @@ use crate::place::{Joined, Place};
 use arrayvec::ArrayVec;
 use frame_codec::FrameBuf;
 use line_end::MOST_FRAMES;
-use number_set::NumberSet;
 use link_timers::TimerId;
+use number_set::NumberSet;
 use packet_end::EndFault;
 use packet_layer::{Front, Request, Taken};
 use std::alloc::{AllocError, Global};
@@ -137,7 +137,7 @@ impl Lines {
     }
 
     /// Lines on which frames may wait to go out: on all others none does.
-    pub fn with_frames(&self) -> LineSet
+    pub fn with_frames(&self) -> NumberSet
         ensures there { AreThere result self.now }
         ensures others { HasAllFrames result self.now }
     {

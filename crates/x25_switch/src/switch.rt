@@ -11,8 +11,8 @@ ghost use Rattle.switch_lines.specs.Touched.{AreThere, HasAllFrames};
 
 use address_routes::Routes;
 use frame_codec::FrameBuf;
-use line_set::LineSet;
 use link_timers::TimerId;
+use number_set::NumberSet;
 use packet_end::EndFault;
 use std::alloc::Global;
 use std::marker::Model;
@@ -134,7 +134,7 @@ impl Switch {
     }
 
     /// Lines on which frames may wait to go out: on all others none does.
-    pub fn with_frames(&self) -> LineSet
+    pub fn with_frames(&self) -> NumberSet
         ensures there { AreThere result self.now.lines }
         ensures others { HasAllFrames result self.now.lines }
     {
