@@ -217,8 +217,7 @@ impl LineEnd {
         let Some(first) = self.out.frames().first() else {
             return false;
         };
-        frame.clear();
-        frame.extend(first.as_slice());
+        frame.copy_from(first);
         self.out.drop_first();
         true
     }

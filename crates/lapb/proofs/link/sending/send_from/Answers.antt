@@ -1,4 +1,4 @@
-use Rattle.std.proofs.Common.{◌≡◌, ◌+◌, ◌%◌, ◌∷◌, [], drop, map, ap, ◌∙◌, false, arith}
+use Rattle.std.proofs.Common.{◌+◌, ◌∷◌, [], drop, map, ap, ◌∙◌, false, arith}
 use Rattle.frame_codec.specs.Frame.{I}
 use Rattle.frame_codec.specs.Spelling.{spelling}
 use Rattle.lapb.specs.Machine.{command, numbered}
