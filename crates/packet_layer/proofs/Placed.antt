@@ -1,13 +1,16 @@
 -- Channels with their buffers: what one of them, by its place, is to all.
-use Rattle.std.proofs.Common.{◌≡◌, ℕ, zero, suc, ◌+◌, ◌*◌, ◌<◌, ◌≤◌, List, [], ◌∷◌, ◌++◌, length, map, set, get_or, Some, refl, ap, ◌∙◌, sym, arith}
-use Rattle.std.specs.Prelude.{slice_get, replicate}
+use Rattle.std.proofs.Common.{◌≡◌, ℕ, zero, suc, ◌+◌, ◌*◌, ◌<◌, ◌≤◌, List, [], ◌∷◌, ◌++◌, length, map, set, get_or, Some, refl, ap, ◌∙◌, sym, subst, arith}
+use Rattle.std.specs.Prelude.{slice_get}
 use Rattle.std.proofs.lemmas.Option.{same_Some, none-some}
 use Rattle.std.proofs.lemmas.List.{length-map, map-set}
 use Rattle.flow_window.specs.Pool.{Pool, Buffer, weight, pooled, in_use, Holds, Balances}
 use Rattle.flow_window.proofs.Weights.{weight_append, weight_ones}
-use Rattle.packet_channel.specs.Channel.{Channel, closed_channel}
+use Rattle.packet_channel.specs.Packets.{CallParts}
+use Rattle.packet_channel.specs.Channel.{Channel, owing, placing}
 use Rattle.packet_channel.specs.Held.{Channel as Holder, Fits}
-use Rattle.packet_layer.specs.Held.{plain, buffers, AllFit, HasRoom}
+use Rattle.packet_layer.specs.declared.layer.Layer.TheInside.{Inside}
+use Rattle.packet_layer.specs.Held.{Layer as Held, plain, buffers, AllFit, HasRoom, most_held}
+use Rattle.packet_layer.specs.LayerView.{holding, IsLayer}
 use Rattle.packet_layer.proofs.Places.{at_place}
 
 pub plain_length : (cs : List Holder) → length (plain cs) ≡ length cs
@@ -42,7 +45,7 @@ buffers_set w (x ∷ xs) (suc i) old new e =
     let after = weight_append w x.held (buffers (set xs i new)) in
     omega (arith, rest, before, after)
 
-buffers_there : (w : Buffer → ℕ) (cs : List Holder) (i : ℕ) (c : Holder) → slice_get cs i ≡ Some c →
+pub buffers_there : (w : Buffer → ℕ) (cs : List Holder) (i : ℕ) (c : Holder) → slice_get cs i ≡ Some c →
     weight w c.held ≤ weight w (buffers cs)
 buffers_there w [] i c e = absurd (none-some c e)
 buffers_there w (x ∷ xs) zero c e =
@@ -116,3 +119,46 @@ few window (c ∷ cs) all =
 pub room_for_one : (pool : Pool) (window : ℕ) (cs : List Holder) → AllFit window cs →
     HasRoom pool (buffers cs) (length (plain cs) * (window + 8) + 1) → in_use pool < length pool.places
 room_for_one pool window cs all room = let most = few window cs all in omega (arith, most, room)
+
+-- ---- a step of the channel at a place
+
+pub placed : (a : Inside) (x : Held) (i : ℕ) (c : Holder) → holding a ≡ x → i < length x.layer.channels →
+    c ≡ get_or a.channels.items i c → slice_get a.channels.items i ≡ Some c
+placed a x i c view within e =
+    let same = ap (λ (x : Held). length x.layer.channels) view in
+    borrowed a.channels.items i c (omega (arith, same, within)) e
+
+pub own_held : (a : Inside) (x : Held) (pool : Pool) (i : ℕ) (c : Holder) → holding a ≡ x → Holds pool x.held →
+    slice_get a.channels.items i ≡ Some c → Holds pool c.held
+own_held a x pool i c view all e =
+    holds_at pool a.channels.items i c (subst (λ (x : Held). Holds pool x.held) (sym view) all) e
+
+pub own_room : (a : Inside) (x : Held) (pool : Pool) → IsLayer a → holding a ≡ x →
+    HasRoom pool x.held (most_held x.layer + 1) → in_use pool < length pool.places
+own_room a x pool is view room =
+    room_for_one pool a.window a.channels.items is.fits
+    (subst (λ (x : Held). HasRoom pool x.held (most_held x.layer + 1)) (sym view) room)
+
+pub own_balance : (a : Inside) (x : Held) (before after : Pool) (i : ℕ) (old new : Holder) → holding a ≡ x →
+    slice_get a.channels.items i ≡ Some old → Balances before old.held after new.held →
+    Balances before x.held after (buffers (set a.channels.items i new))
+own_balance a x before after i old new view e change =
+    subst (λ (x : Held). Balances before x.held after (buffers (set a.channels.items i new))) view
+    (balances_at before after a.channels.items i old new e change)
+
+pub fits_after : (window : ℕ) (cs : List Holder) (i : ℕ) (old new : Holder) → AllFit window cs →
+    slice_get cs i ≡ Some old → (Fits window old → Fits window new) → AllFit window (set cs i new)
+fits_after window cs i old new all e fits = fits_set window cs i new all (fits (fits_at window cs i old all e))
+
+pub rw_fits : (window other : ℕ) (old new : Holder) → other ≡ window → (Fits other old → Fits other new) →
+    Fits window old → Fits window new
+rw_fits window other old new e fits = subst (λ (n : ℕ). Fits n old → Fits n new) e fits
+
+-- a call that is placed takes no buffer
+pub fits_kept : (window : ℕ) (old new : Holder) (parts : CallParts) →
+    new ≡ record old { channel = owing (placing parts old.channel) } → Fits window old → Fits window new
+fits_kept window old new parts e fits = rw e (record { arrived = fits.arrived; held = fits.held })
+
+pub own_few : (a : Inside) (x : Held) → IsLayer a → holding a ≡ x → length x.held ≤ most_held x.layer
+own_few a x is view =
+    subst (λ (x : Held). length x.held ≤ most_held x.layer) view (few a.window a.channels.items is.fits)

@@ -1,7 +1,8 @@
 //! The packet layer of one line (X.25 3 to 5).
-ghost use Rattle.std.specs.Prelude.{◌≡◌, ◌<◌, ◌≤◌, ◌+◌, ◌++◌, MatchResult, MatchOption, IfOk, None, false, Bool, []};
+ghost use Rattle.std.specs.Prelude.{◌≡◌, ◌<◌, ◌≤◌, ◌+◌, ◌++◌, MatchResult, MatchOption, IfOk, Some, None, false, Bool, ℕ, []};
 ghost use Rattle.std.specs.Prelude.{length, drop, replicate, slice_get};
 ghost use Rattle.packet_channel.specs.Channel.{Channel as ChannelValue, closed_channel};
+ghost use Rattle.flow_window.specs.Pool.{Buffer, weight};
 ghost use Rattle.packet_layer.specs.Layer as machine;
 ghost use Rattle.packet_layer.specs.Params.{AreParams, MadeNot};
 
@@ -135,16 +136,27 @@ impl Layer {
         }
     }
 
-    // The place of a channel of the line, where the restart procedure is done.
-    fn ready_place(&self, channel: u16) -> Option<usize>
+    // The channel of this number, if it is one of the line.
+    fn channel(&self, number: u16) -> Option<&Channel>
+        ensures found { MatchOption result (machine.channel_of self.now.layer number ≡ None)
+            (λ channel. machine.channel_of self.now.layer number ≡ Some channel.now.channel) }
+        ensures held { MatchOption result (Unit {0})
+            (λ channel. (w : Buffer → ℕ) → weight w channel.now.held ≤ weight w self.now.held) }
+    {
+        let place = self.place(number)?;
+        Some(&self.channels[place])
+    }
+
+    // The channel of this number, where the restart procedure is done.
+    fn ready_channel(&self, number: u16) -> Option<&Channel>
         ensures { MatchOption result
             ((test : ChannelValue → Bool)
-            → machine.runs_at test self.now.layer.phase (machine.channel_of self.now.layer channel) ≡ false)
-            (λ place. (self.now.layer.phase ≡ machine.Phase.PacketReady) × (place + 1 ≡ channel)
-            × (place < length self.now.layer.channels)) }
+            → machine.runs_at test self.now.layer.phase (machine.channel_of self.now.layer number) ≡ false)
+            (λ channel. (self.now.layer.phase ≡ machine.Phase.PacketReady)
+            × (machine.channel_of self.now.layer number ≡ Some channel.now.channel)) }
     {
         match self.phase {
-            Phase::PacketReady => self.place(channel),
+            Phase::PacketReady => self.channel(number),
             Phase::NoSession | Phase::OwnRestart => None,
         }
     }

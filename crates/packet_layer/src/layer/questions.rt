@@ -9,15 +9,15 @@ ghost use Rattle.packet_channel.specs.TakenView.{maybe_front};
 
 use crate::layer::Layer;
 use flow_window::pool::Pool;
-use packet_channel::{ChannelFault, Front};
+use packet_channel::{Channel, ChannelFault, Front};
 
 impl Layer {
     /// Whether `accept` takes a call on the channel: one came in and is not answered.
     pub fn can_accept(&self, channel: u8) -> bool
         ensures { result ≡ machine.can_accept self.now.layer channel }
     {
-        match self.place(u16::from(channel)) {
-            Some(place) => self.channels[place].state().may_accept(self.role),
+        match self.channel(u16::from(channel)) {
+            Some(channel) => channel.state().may_accept(self.role),
             None => false,
         }
     }
@@ -29,10 +29,9 @@ impl Layer {
             (λ _. machine.flow_refusal self.now.layer channel ≡ None)
             (λ fault. machine.flow_refusal self.now.layer channel ≡ Some (refusal_of fault)) }
     {
-        let Some(place) = self.place(u16::from(channel)) else {
+        let Some(channel) = self.channel(u16::from(channel)) else {
             return Err(ChannelFault::NoCall);
         };
-        let channel = &self.channels[place];
         if !channel.state().in_transfer() {
             return Err(ChannelFault::NoCall);
         }
@@ -46,8 +45,8 @@ impl Layer {
     pub fn room(&self, channel: u8) -> u8
         ensures { result ≡ machine.room self.now.layer channel }
     {
-        match self.place(u16::from(channel)) {
-            Some(place) => self.channels[place].room(),
+        match self.channel(u16::from(channel)) {
+            Some(channel) => channel.room(),
             None => 0,
         }
     }
@@ -57,8 +56,8 @@ impl Layer {
     pub fn may_interrupt(&self, channel: u8) -> bool
         ensures { result ≡ may_interrupt self.now.layer channel }
     {
-        match self.place(u16::from(channel)) {
-            Some(place) => self.channels[place].may_interrupt(),
+        match self.channel(u16::from(channel)) {
+            Some(channel) => channel.may_interrupt(),
             None => false,
         }
     }
@@ -69,8 +68,8 @@ impl Layer {
         requires { Holds pool.now self.now.held }
         ensures { result ≡ maybe_front (machine.front_on self.now.layer channel) }
     {
-        let place = self.place(u16::from(channel))?;
-        self.channels[place].front(pool)
+        let channel = self.channel(u16::from(channel))?;
+        channel.front(pool)
     }
 
     /// Whether a call stands on the channel in which every packet with D = 1 since the last reset was covered (X.25
@@ -78,8 +77,8 @@ impl Layer {
     pub fn confirmed(&self, channel: u8) -> bool
         ensures { result ≡ machine.confirmed self.now.layer channel }
     {
-        match self.place(u16::from(channel)) {
-            Some(place) => self.channels[place].is_confirmed(),
+        match self.channel(u16::from(channel)) {
+            Some(channel) => channel.is_confirmed(),
             None => false,
         }
     }
@@ -95,12 +94,13 @@ impl Layer {
     pub fn is_at_rest(&self) -> bool
         ensures { result ≡ machine.at_rest self.now.layer }
     {
-        self.owed.is_empty() && self.channels_rest()
+        self.owed.is_empty() && rest(self.channels.as_slice())
     }
+}
 
-    fn channels_rest(&self) -> bool
-        ensures { result ≡ list_all machine.channel_rests self.now.layer.channels }
-    {
-        self.channels.iter().all(|channel| channel.is_at_rest())
-    }
+// Whether nothing is owed and nothing waits on any of these channels.
+fn rest(channels: &[Channel]) -> bool
+    ensures { result ≡ list_all (λ c. machine.channel_rests c.channel) channels.now }
+{
+    channels.iter().all(|channel| channel.is_at_rest())
 }

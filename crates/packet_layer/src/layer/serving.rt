@@ -24,7 +24,7 @@ impl Layer {
         ensures heard { IsHeard (machine.next_packet self.old.layer).packet buf.new.items }
         ensures pool { Balances pool.old self.old.held pool.new self.new.held }
         ensures most { most_held self.new.layer ≡ most_held self.old.layer }
-        ensures fits { length self.new.held ≤ most_held self.new.layer }
+        ensures few { length self.new.held ≤ most_held self.new.layer }
     {
         if matches!(self.phase, Phase::NoSession) || self.relink {
             return false;
@@ -37,6 +37,7 @@ impl Layer {
 
     // The first channel that has anything, round.
     fn serve(&mut self, buf: &mut PacketBuf, pool: &mut Pool) -> bool
+        requires few { length self.old.held ≤ most_held self.old.layer }
         requires holds { Holds pool.old self.old.held }
         ensures layer { self.new.layer
             ≡ (machine.serve (length self.old.layer.channels) self.old.layer
@@ -52,6 +53,7 @@ impl Layer {
             (machine.next_number self.old.layer self.old.layer.served_last)).packet buf.new.items }
         ensures pool { Balances pool.old self.old.held pool.new self.new.held }
         ensures most { most_held self.new.layer ≡ most_held self.old.layer }
+        ensures few { length self.new.held ≤ most_held self.new.layer }
     {
         let count = self.channels.len();
         let mut number = self.next_number(self.served_last);
@@ -86,6 +88,7 @@ impl Layer {
         ensures reads_back { ReadsBack (machine.serve 1 self.old.layer number).packet buf.new.items }
         ensures pool { Balances pool.old self.old.held pool.new self.new.held }
         ensures most { most_held self.new.layer ≡ most_held self.old.layer }
+        ensures few { length self.new.held ≤ most_held self.new.layer }
     {
         let Some(place) = self.place(u16::from(number)) else {
             return false;

@@ -59,16 +59,16 @@ impl Layer {
     {
         match timer {
             Timer::Restart => matches!(self.phase, Phase::OwnRestart),
-            Timer::Call(channel) => match self.ready_place(u16::from(channel)) {
-                Some(place) => self.channels[place].state().waits_for_call(self.role),
+            Timer::Call(channel) => match self.ready_channel(u16::from(channel)) {
+                Some(channel) => channel.state().waits_for_call(self.role),
                 None => false,
             },
-            Timer::Reset(channel) => match self.ready_place(u16::from(channel)) {
-                Some(place) => self.channels[place].waits_for_reset(),
+            Timer::Reset(channel) => match self.ready_channel(u16::from(channel)) {
+                Some(channel) => channel.waits_for_reset(),
                 None => false,
             },
-            Timer::Clear(channel) => match self.ready_place(u16::from(channel)) {
-                Some(place) => self.channels[place].state().waits_for_clear(),
+            Timer::Clear(channel) => match self.ready_channel(u16::from(channel)) {
+                Some(channel) => channel.state().waits_for_clear(),
                 None => false,
             },
         }

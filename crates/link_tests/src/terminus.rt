@@ -1,0 +1,81 @@
+ghost use Rattle.std.specs.Prelude.{◌≤◌, length};
+ghost use Rattle.frame_codec.specs.Spelling.{most_information};
+
+use crate::fault::MakeFault;
+use flow_window::pool::Pool;
+use frame_codec::{FrameBuf, MAX_INFORMATION};
+use lapb::{LinkParams, Note, OfferFault};
+use line_end::{LineEnd, Received};
+use link_timers::{Role, TimerId};
+use std::alloc::Global;
+use std::marker::Model;
+
+/// The end of a line with a pool of its own.
+#[derive(Drop)]
+pub(crate) struct Terminus {
+    end: LineEnd,
+    pool: Pool,
+}
+
+impl Model for Terminus {
+    ghost use Rattle.line_end.specs.End as end;
+
+    ghost Value = { end.End };
+
+    ghost use Rattle.link_tests.specs.Terminus.{end_of, IsTerminus};
+
+    ghost view = { end_of };
+
+    ghost invariant = { IsTerminus };
+}
+
+impl Terminus {
+    pub(crate) fn new(alloc: Global, role: Role, params: LinkParams) -> Result<Self, MakeFault> {
+        params.check()?;
+        let mut pool = Pool::new(alloc, usize::from(params.k) + 1, MAX_INFORMATION)?;
+        let end = LineEnd::new(role, params, &mut pool)?;
+        Ok(Terminus { end, pool })
+    }
+
+    pub(crate) fn end(&self) -> &LineEnd {
+        &self.end
+    }
+
+    pub(crate) fn drop_frames(&mut self) {
+        self.end.drop_frames();
+    }
+
+    pub(crate) fn on_frame<'a>(&mut self, octets: &'a [u8]) -> Received<'a> {
+        self.end.on_frame(octets, &mut self.pool)
+    }
+
+    pub(crate) fn on_timer(&mut self, id: TimerId) -> Option<Note> {
+        self.end.on_timer(id, &mut self.pool)
+    }
+
+    pub(crate) fn relink(&mut self) -> Note {
+        self.end.relink(&mut self.pool)
+    }
+
+    pub(crate) fn restart(&mut self) {
+        self.end.restart(&mut self.pool);
+    }
+
+    pub(crate) fn offer(&mut self, packet: &[u8]) -> Result<(), OfferFault>
+        requires { length packet.now ≤ most_information }
+    {
+        self.end.offer(packet, &mut self.pool)
+    }
+
+    pub(crate) fn settle(&mut self) {
+        self.end.settle(&mut self.pool);
+    }
+
+    pub(crate) fn out(&mut self, frame: &mut FrameBuf) -> bool {
+        self.end.out(frame)
+    }
+
+    pub(crate) fn elapse(&mut self, ticks: u16) {
+        self.end.elapse(ticks);
+    }
+}
