@@ -36,7 +36,10 @@ use Rattle.lapb.specs.Machine.{Octets, Link, Step, runs, timing, timing_after, o
 use Rattle.lapb.specs.Octets.{on_octets}
 use Rattle.lapb.specs.Out.{Out, with_frames, gathered}
 use Rattle.line_end.specs.declared.end.LineEnd.TheInside.{Inside}
-use Rattle.line_end.specs.End.{End, timed, runs_then, did, SendsUpTo}
+use Rattle.link_timers.specs.declared.role.Role.{Role}
+use Rattle.link_timers.specs.declared.role.Role.TheVariants.{Dte, Dce}
+use Rattle.flow_window.specs.Pool.{Buffer}
+use Rattle.line_end.specs.End.{End, timed, runs_then, did, made, SendsUpTo}
 use Rattle.line_end.specs.EndView.{IsEnd}
 use Rattle.line_end.proofs.Frames.{with_frames-fit}
 use Rattle.line_end.proofs.Steps.{Keeps, sends_on_t1}
@@ -130,3 +133,12 @@ packet-is octets (Some packet) (Some x) long is some found =
 pub none_of : (accepted : Option Octets) → is_some accepted ≡ false → accepted ≡ None
 none_of None e = refl
 none_of (Some packet) e = absurd (cc)
+
+-- an end as it is made holds no packet
+pub made_queue : (role : Role) (k n2 : ℕ) → length (made role k n2 false).link.queue ≡ 0
+made_queue Dte k n2 = refl
+made_queue Dce k n2 = refl
+
+pub none_held : (bs : List Buffer) → length bs ≡ 0 → bs ≡ []
+none_held [] e = refl
+none_held (b ∷ bs) e = absurd (omega (arith, e))

@@ -125,6 +125,7 @@ impl LineEnd {
         ensures note { result.note ≡ (on_octets self.old.end.link octets.now).note }
         ensures packet { option_copied result.packet ≡ (on_octets self.old.end.link octets.now).accepted }
         ensures pool { Balances pool.old self.old.held pool.new self.new.held }
+        ensures tight { length self.new.held ≡ length self.new.end.link.queue }
         ensures most { length self.new.held ≤ self.new.end.link.k }
         ensures k { self.new.end.link.k ≡ self.old.end.link.k }
     {
@@ -151,6 +152,7 @@ impl LineEnd {
         // T1 runs exactly where the link needs it.
         ensures t1 { is_some (left_of self.old.end.timers TimerId.T1) ≡ machine.runs self.old.end.link }
         ensures pool { Balances pool.old self.old.held pool.new self.new.held }
+        ensures tight { length self.new.held ≡ length self.new.end.link.queue }
         ensures most { length self.new.held ≤ self.new.end.link.k }
         ensures k { self.new.end.link.k ≡ self.old.end.link.k }
     {
@@ -172,6 +174,7 @@ impl LineEnd {
         ensures frames { SendsUpTo 1 self.old.end (machine.relink self.old.end.link) }
         ensures note { result ≡ (machine.relink self.old.end.link).note }
         ensures pool { Balances pool.old self.old.held pool.new self.new.held }
+        ensures tight { length self.new.held ≡ length self.new.end.link.queue }
         ensures most { length self.new.held ≤ self.new.end.link.k }
         ensures k { self.new.end.link.k ≡ self.old.end.link.k }
     {
@@ -186,6 +189,7 @@ impl LineEnd {
         requires { Holds pool.old self.old.held }
         ensures end { self.new.end ≡ restarted self.old.end }
         ensures pool { Balances pool.old self.old.held pool.new self.new.held }
+        ensures tight { length self.new.held ≡ length self.new.end.link.queue }
         ensures most { length self.new.held ≤ self.new.end.link.k }
         ensures k { self.new.end.link.k ≡ self.old.end.link.k }
     {
@@ -208,6 +212,7 @@ impl LineEnd {
         ensures taken { is_ok result ≡ machine.can_offer self.old.end.link }
         ensures end { self.new.end ≡ offered self.old.end packet.now }
         ensures pool { Balances pool.old self.old.held pool.new self.new.held }
+        ensures tight { length self.new.held ≡ length self.new.end.link.queue }
         ensures most { length self.new.held ≤ self.new.end.link.k }
         ensures k { self.new.end.link.k ≡ self.old.end.link.k }
     {

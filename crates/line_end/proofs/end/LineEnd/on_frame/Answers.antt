@@ -1,7 +1,7 @@
 use Rattle.lapb.specs.declared.note.Timing.{Timing}
 use Rattle.line_end.specs.End.{runs_then, timed}
 use Rattle.std.proofs.Common.{refl}
-use Rattle.std.proofs.Common.{◌≡◌, ap, ◌∙◌, sym}
+use Rattle.std.proofs.Common.{◌≡◌, ap, ◌∙◌, sym, arith}
 use Rattle.std.specs.Prelude.{is_some}
 use Rattle.std.specs.Option.{option_copied}
 use Rattle.lapb.specs.Octets.{on_octets}
@@ -11,7 +11,7 @@ use Rattle.lapb.specs.Out.{Out}
 use Rattle.line_end.specs.Held.{LineEnd}
 use Rattle.line_end.specs.End.{received}
 use Rattle.line_end.specs.EndView.{end_of}
-use Rattle.line_end.proofs.Steps.{sends_on_octets}
+use Rattle.line_end.proofs.Steps.{Keeps, sends_on_octets}
 use Rattle.line_end.proofs.Calls.{did-is, t1-is, still_end, accepted_long, packet-is, none_of, sends_up_to}
 use Rattle.line_end.proofs.end.LineEnd.on_frame.Goals as goal
 use Rattle.line_end.proofs.end.LineEnd.on_frame.Goals.{then-accepted, else-accepted}
@@ -56,3 +56,15 @@ returns-clause-packet c =
 
 pub returns-clause-frames : goal.returns-clause-frames
 returns-clause-frames c = sends_up_to 1 c.args.self.now.end _ (sends_on_octets c.args.self.now.end.link c.args.octets.now).few
+
+pub returns-clause-most : goal.returns-clause-most
+returns-clause-most c =
+    let keeps : Keeps c.self.inside.link.link c.on_frame.new.self.link =
+    rw c.on_frame.ensures.link (sends_on_octets c.self.inside.link.link c.args.octets.now).keeps in
+    omega (arith, keeps.queue, c.self.invariant.queue, keeps.k, c.on_frame.ensures.tight)
+
+pub returns-clause-k : goal.returns-clause-k
+returns-clause-k c =
+    let keeps : Keeps c.self.inside.link.link c.on_frame.new.self.link =
+    rw c.on_frame.ensures.link (sends_on_octets c.self.inside.link.link c.args.octets.now).keeps in
+    keeps.k ∙ ap (λ (e : LineEnd). e.end.link.k) c.self.view_is
