@@ -7,6 +7,9 @@ use Rattle.lapb.specs.Held.{Link}
 use Rattle.line_end.proofs.Steps.{Keeps}
 use Rattle.link_tests.specs.declared.station.Station.TheInside.{Inside}
 use Rattle.link_tests.specs.Station.{IsPooled, IsStation}
+use Rattle.line_end.specs.Held.{LineEnd}
+use Rattle.link_tests.specs.declared.terminus.Terminus.TheInside.{Inside as TerminusInside}
+use Rattle.link_tests.specs.Terminus.{IsTerminus}
 
 -- after a call of the link that gives buffers back or takes one
 pub still_pooled : (before after : Pool) (old new : Link) → IsPooled before old → new.link.k ≡ old.link.k →
@@ -33,3 +36,21 @@ has_room pool link is few =
     let all = is.exact (λ _. 1) in
     let ones = weight_ones link.held in
     omega (arith, all, ones, is.tight, is.places, few)
+
+-- ---- the end of a line
+
+pub still_terminus : (a : TerminusInside) (end : LineEnd) (pool : Pool) → IsTerminus a →
+    Balances a.pool a.end.held pool end.held → length end.held ≤ end.end.link.k → end.end.link.k ≡ a.end.end.link.k →
+    IsTerminus (record a { end = end; pool = pool })
+still_terminus a end pool is change few k = record {
+  size = change.size ∙ is.size;
+  places = change.places ∙ is.places ∙ ap (λ n. n + 1) (sym k);
+  exact = λ w. let weights = change.weights w in let exact = is.exact w in omega (arith, weights, exact);
+  few = few;
+}
+
+pub has_buffer : (a : TerminusInside) → IsTerminus a → in_use a.pool < length a.pool.places
+has_buffer a is =
+    let all = is.exact (λ _. 1) in
+    let ones = weight_ones a.end.held in
+    omega (arith, all, ones, is.places, is.few)

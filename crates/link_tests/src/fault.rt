@@ -1,9 +1,10 @@
+//! Why what is tested was not made.
 use lapb::BadParams;
 use std::alloc::AllocError;
 
 /// Why a link or the end of a line was not made.
 #[derive(Clone, Copy, Debug, PartialEq, Eq)]
-pub(crate) enum MakeFault {
+pub enum MakeFault {
     BadParams,
     OutOfMemory,
 }

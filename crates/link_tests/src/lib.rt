@@ -12,3 +12,6 @@ mod terminus;
 mod timers;
 #[cfg(test)]
 mod windows;
+
+pub use fault::MakeFault;
+pub use terminus::Terminus;

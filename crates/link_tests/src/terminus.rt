@@ -1,3 +1,4 @@
+//! The end of a line with a pool of its own, for tests.
 ghost use Rattle.std.specs.Prelude.{◌≤◌, length};
 ghost use Rattle.frame_codec.specs.Spelling.{most_information};
 
@@ -12,7 +13,7 @@ use std::marker::Model;
 
 /// The end of a line with a pool of its own.
 #[derive(Drop)]
-pub(crate) struct Terminus {
+pub struct Terminus {
     end: LineEnd,
     pool: Pool,
 }
@@ -30,52 +31,54 @@ impl Model for Terminus {
 }
 
 impl Terminus {
-    pub(crate) fn new(alloc: Global, role: Role, params: LinkParams) -> Result<Self, MakeFault> {
+    /// The end of this role of a line, with a pool of k + 1 buffers.
+    pub fn new(alloc: Global, role: Role, params: LinkParams) -> Result<Self, MakeFault> {
         params.check()?;
         let mut pool = Pool::new(alloc, usize::from(params.k) + 1, MAX_INFORMATION)?;
         let end = LineEnd::new(role, params, &mut pool)?;
         Ok(Terminus { end, pool })
     }
 
-    pub(crate) fn end(&self) -> &LineEnd {
+    /// What may be asked of it.
+    pub fn end(&self) -> &LineEnd {
         &self.end
     }
 
-    pub(crate) fn drop_frames(&mut self) {
+    pub fn drop_frames(&mut self) {
         self.end.drop_frames();
     }
 
-    pub(crate) fn on_frame<'a>(&mut self, octets: &'a [u8]) -> Received<'a> {
+    pub fn on_frame<'a>(&mut self, octets: &'a [u8]) -> Received<'a> {
         self.end.on_frame(octets, &mut self.pool)
     }
 
-    pub(crate) fn on_timer(&mut self, id: TimerId) -> Option<Note> {
+    pub fn on_timer(&mut self, id: TimerId) -> Option<Note> {
         self.end.on_timer(id, &mut self.pool)
     }
 
-    pub(crate) fn relink(&mut self) -> Note {
+    pub fn relink(&mut self) -> Note {
         self.end.relink(&mut self.pool)
     }
 
-    pub(crate) fn restart(&mut self) {
+    pub fn restart(&mut self) {
         self.end.restart(&mut self.pool);
     }
 
-    pub(crate) fn offer(&mut self, packet: &[u8]) -> Result<(), OfferFault>
+    pub fn offer(&mut self, packet: &[u8]) -> Result<(), OfferFault>
         requires { length packet.now ≤ most_information }
     {
         self.end.offer(packet, &mut self.pool)
     }
 
-    pub(crate) fn settle(&mut self) {
+    pub fn settle(&mut self) {
         self.end.settle(&mut self.pool);
     }
 
-    pub(crate) fn out(&mut self, frame: &mut FrameBuf) -> bool {
+    pub fn out(&mut self, frame: &mut FrameBuf) -> bool {
         self.end.out(frame)
     }
 
-    pub(crate) fn elapse(&mut self, ticks: u16) {
+    pub fn elapse(&mut self, ticks: u16) {
         self.end.elapse(ticks);
     }
 }

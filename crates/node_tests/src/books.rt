@@ -2,9 +2,11 @@
 ghost use Rattle.std.specs.Prelude.{◌≤◌, length};
 
 use call_records::{Book, EditStep, Interrupt, Pair, Record};
+use frame_codec::FrameBuf;
 use link_timers::Role;
-use packet_codec::{Address, CallBuf, CallData, PacketBuf};
-use packet_layer::{Layer, LayerNote, LayerParams, MakeFault, Reason, Taken, UserData};
+use packet_codec::{Address, CallBuf, CallData};
+use packet_end::{EndFault, EndParams, PacketEnd};
+use packet_layer::{LayerNote, Reason, Request, Taken, UserData};
 use std::alloc::{AllocError, Global};
 use std::process::Abort;
 use std::test::Fail;

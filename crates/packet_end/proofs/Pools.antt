@@ -1,8 +1,15 @@
 -- What a link and a layer hold of their pool, after a step of one of them.
-use Rattle.std.proofs.Common.{◌≡◌, ℕ, ◌+◌, ◌<◌, ◌≤◌, length, ap, ◌∙◌, sym, arith}
+use Rattle.std.proofs.Common.{◌≡◌, ℕ, zero, suc, ◌+◌, ◌*◌, ◌<◌, ◌≤◌, Bool, true, false, length, refl, ap, ◌∙◌, sym, arith}
+use Rattle.std.specs.Prelude.{replicate}
+use Rattle.link_timers.specs.declared.role.Role.{Role}
+use Rattle.link_timers.specs.declared.role.Role.TheVariants.{Dte, Dce}
 use Rattle.flow_window.specs.Pool.{Pool, Buffer, weight, pooled, in_use, Holds, Balances}
 use Rattle.flow_window.proofs.Weights.{weight_ones}
+use Rattle.line_end.specs.End as line
 use Rattle.line_end.specs.Held.{LineEnd}
+use Rattle.packet_layer.specs.Channel.{closed_channel}
+use Rattle.packet_layer.specs.Layer as machine
+use Rattle.packet_layer.specs.Layer.{standing_channels}
 use Rattle.packet_layer.specs.Held.{Layer, most_held, HasRoom}
 use Rattle.packet_end.specs.Stack.{IsPooled}
 
@@ -50,3 +57,25 @@ line_room pool line layer is most =
     let own = weight_ones line.held in
     let others = weight_ones layer.held in
     omega (arith, exact, own, others, is.few, is.places, most)
+
+-- ---- as both are made
+
+pub made_k : (role : Role) (k n2 : ℕ) (standing : Bool) → (line.made role k n2 standing).link.k ≡ k
+made_k Dte k n2 true = refl
+made_k Dce k n2 true = refl
+made_k Dte k n2 false = refl
+made_k Dce k n2 false = refl
+
+made_length : (standing : Bool) (n : ℕ) → length (standing_channels standing (replicate n closed_channel)) ≡ n
+made_length true zero = refl
+made_length true (suc n) = ap (λ m. suc m) (made_length false n)
+made_length false zero = refl
+made_length false (suc n) = ap (λ m. suc m) (made_length false n)
+
+pub made_most : (role : Role) (channels window : ℕ) (standing : Bool) →
+    most_held (machine.made role channels window standing) ≡ channels * (window + 8)
+made_most role channels window standing = ap (λ n. n * (window + 8)) (made_length standing channels)
+
+pub replicated : {X : Type 0} (n : ℕ) (x : X) → length (replicate n x) ≡ n
+replicated zero x = refl
+replicated (suc n) x = ap (λ m. suc m) (replicated n x)

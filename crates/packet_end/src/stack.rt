@@ -1,5 +1,5 @@
 //! The link and the packet layer of one line, whose packets lie in one pool.
-ghost use Rattle.std.specs.Prelude.{◌≡◌, ◌≤◌, [], length, MatchOption, MatchResult, Some, None, drop, is_some};
+ghost use Rattle.std.specs.Prelude.{◌≡◌, ◌≤◌, [], ◌∷◌, length, MatchOption, MatchResult, Some, None, drop, is_some};
 ghost use Rattle.std.specs.Prelude.{option_copied, slice_get};
 ghost use Rattle.std.specs.Bool.{OnTrue, OnFalse};
 ghost use Rattle.lapb.specs.Machine as link;

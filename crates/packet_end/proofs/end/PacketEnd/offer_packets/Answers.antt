@@ -1,6 +1,7 @@
-use Rattle.std.proofs.Common.{rules, [], ◌≡◌, ◌∙◌, ◌+◌, ◌-◌, ap, sym, arith, inl}
+use Rattle.std.proofs.Common.{rules, [], ◌≡◌, ◌∙◌, ◌+◌, ◌-◌, ◌≤◌, ap, sym, subst, arith, inl}
 use Rattle.std.specs.Prelude.{is_some, true, false}
 use Rattle.line_end.specs.End as line
+use Rattle.line_end.specs.End.{End}
 use Rattle.lapb.specs.Machine.{can_offer}
 use Rattle.packet_layer.specs.Layer.{Layer, next_packet}
 use Rattle.packet_layer.specs.Events.{written_packet}
@@ -18,7 +19,7 @@ loop-count-init c = search rules
 pub loop-count-preserved : goal.loop-count-preserved
 loop-count-preserved c =
     let e = end_of c.loop-count.self-inside in
-    let room : can_offer e.line.link ≡ true = sym c.has_room.ensures.room ∙ c.if-not-has_room.false in
+    let room : can_offer e.line.link ≡ true = sym (c.has_room.ensures.room ∙ ap (λ (x : End). can_offer x.link) c.line.ensures) ∙ c.if-not-has_room.false in
     let says : is_some (next_packet e.layer).packet ≡ true = sym c.offer_next.ensures.said ∙ c.if-not-offer_next.false in
     let end : c.offer_next.new.self.line ≡ line.offered e.line (written_packet (next_packet e.layer).packet []) =
     c.if-not-offer_next.ensures.offered ∙ ap (line.offered e.line) (written_same (next_packet e.layer).packet c.loop-count.packet.items says) in
@@ -31,7 +32,7 @@ loop-count-preserved c =
       notes = c.loop-count.invariant.notes;
       begins = λ none. absurd (omega (arith, none));
       some = λ _. may_before c.loop-count.count e c.args.self.now c.loop-count.invariant.begins c.loop-count.invariant.some (may_both e room says);
-      most = λ _. rw end c.has_room.ensures.most;
+      most = λ _. rw end (subst (λ (x : End). x.link.k ≤ 7) c.line.ensures c.has_room.ensures.most);
       agree = rw c.offer_next.ensures.layer
           (others_agree e.layer _ e.timers c.loop-count.self-inside.touched c.loop-count.self-inside.touched
           c.loop-count.invariant.agree (λ n out. (out, next_alike e.layer n)));
@@ -55,7 +56,7 @@ returns-then-not-has_room-clause-end c =
     let e = end_of c.loop-count.self-inside in
     elim c.then-not-has_room.branch [
       | then-not-has_room-via-then-not-has_room w ↦
-          w.self-is ∙ sym (no_room (7 - c.loop-count.count) e (sym c.has_room.ensures.room ∙ w.if-not-has_room.true)) ∙ c.loop-count.invariant.left
+          w.self-is ∙ sym (no_room (7 - c.loop-count.count) e (sym (c.has_room.ensures.room ∙ ap (λ (x : End). can_offer x.link) c.line.ensures) ∙ w.if-not-has_room.true)) ∙ c.loop-count.invariant.left
       | then-not-has_room-via-else-not-has_room+then-not-offer_next w ↦
           let silent : is_some (next_packet e.layer).packet ≡ false = sym w.offer_next.ensures.said ∙ w.if-not-offer_next.true in
           let layer : w.offer_next.new.self.layer ≡ e.layer = w.offer_next.ensures.layer ∙ next_none e.layer silent in
@@ -68,7 +69,7 @@ returns-then-not-has_room-clause-all_offered c =
     let e = end_of c.loop-count.self-inside in
     elim c.then-not-has_room.branch [
       | then-not-has_room-via-then-not-has_room w ↦
-          rw w.self-is (inl (sym c.has_room.ensures.room ∙ w.if-not-has_room.true))
+          rw w.self-is (inl (sym (c.has_room.ensures.room ∙ ap (λ (x : End). can_offer x.link) c.line.ensures) ∙ w.if-not-has_room.true))
       | then-not-has_room-via-else-not-has_room+then-not-offer_next w ↦
           let silent : is_some (next_packet e.layer).packet ≡ false = sym w.offer_next.ensures.said ∙ w.if-not-offer_next.true in
           let layer : w.offer_next.new.self.layer ≡ e.layer = w.offer_next.ensures.layer ∙ next_none e.layer silent in
@@ -84,7 +85,7 @@ returns-then-not-has_room-clause-offered c =
     elim c.then-not-has_room.branch [
       | then-not-has_room-via-then-not-has_room w ↦
           may_counted c.loop-count.count e c.args.self.now c.loop-count.invariant.begins c.loop-count.invariant.some
-          (may_room e (sym c.has_room.ensures.room ∙ w.if-not-has_room.true))
+          (may_room e (sym (c.has_room.ensures.room ∙ ap (λ (x : End). can_offer x.link) c.line.ensures) ∙ w.if-not-has_room.true))
       | then-not-has_room-via-else-not-has_room+then-not-offer_next w ↦
           may_counted c.loop-count.count e c.args.self.now c.loop-count.invariant.begins c.loop-count.invariant.some
           (may_silent e (sym w.offer_next.ensures.said ∙ w.if-not-offer_next.true))
