@@ -33,7 +33,9 @@ impl Station {
     pub(crate) fn new(alloc: Global, role: Role, params: LayerParams) -> Result<Self, MakeFault> {
         let layer = Layer::new(alloc, role, params)?;
         let LayerParams {
-            channels, window, ..
+            channels,
+            window,
+            ..
         } = params;
         let buffers = usize::from(channels) * (usize::from(window) + SEND_QUEUE) + 1;
         let pool = Pool::new(alloc, buffers, MAX_USER_DATA)?;
@@ -86,7 +88,12 @@ impl Station {
         self.layer.reset(channel, 0, 0, &mut self.pool)
     }
 
-    pub(crate) fn send(&mut self, channel: u8, octets: &[u8], delivery: bool) -> Result<(), ChannelFault> {
+    pub(crate) fn send(
+        &mut self,
+        channel: u8,
+        octets: &[u8],
+        delivery: bool,
+    ) -> Result<(), ChannelFault> {
         self.layer
             .send(channel, octets, false, false, delivery, &mut self.pool)
     }

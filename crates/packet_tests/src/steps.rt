@@ -61,7 +61,11 @@ pub(crate) enum Turn<'a> {
 }
 
 /// The number of the first turn that does not fit, if any.
-pub(crate) fn first_misfit(dte: &mut Station, dce: &mut Station, turns: &[Turn<'_>]) -> Option<usize> {
+pub(crate) fn first_misfit(
+    dte: &mut Station,
+    dce: &mut Station,
+    turns: &[Turn<'_>],
+) -> Option<usize> {
     for (number, turn) in turns.iter().enumerate() {
         if !fits(dte, dce, turn) {
             return Some(number);
@@ -136,12 +140,8 @@ fn answer_fits(station: &mut Station, step: &Step<'_>) -> bool {
         Step::Accept(channel, answer) => station.accept(*channel) == *answer,
         Step::Clear(channel) => station.clear(*channel).is_ok(),
         Step::Reset(channel, answer) => station.reset(*channel) == *answer,
-        Step::Send(channel, octets, answer) => {
-            station.send(*channel, octets, false) == *answer
-        }
-        Step::SendToConfirm(channel, octets) => {
-            station.send(*channel, octets, true).is_ok()
-        }
+        Step::Send(channel, octets, answer) => { station.send(*channel, octets, false) == *answer }
+        Step::SendToConfirm(channel, octets) => { station.send(*channel, octets, true).is_ok() }
         Step::Interrupt(channel, octets, answer) => station.interrupt(*channel, octets) == *answer,
         Step::Stop(channel) => station.stop(*channel).is_ok(),
         Step::Go(channel, answer) => station.go(*channel) == *answer,

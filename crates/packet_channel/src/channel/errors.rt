@@ -159,7 +159,11 @@ impl Channel {
             CallState::Ready => self.clear_error(end, in_state, false, pool),
             CallState::OwnClear => Effect::nothing(),
             CallState::Transfer if !self.resetting => {
-                self.reset_error(end, diagnostic_if(unknown, diagnostic::NOT_ALLOWED_IN_D1), pool)
+                self.reset_error(
+                    end,
+                    diagnostic_if(unknown, diagnostic::NOT_ALLOWED_IN_D1),
+                    pool,
+                )
             }
             CallState::Transfer
             | CallState::OwnWaiting

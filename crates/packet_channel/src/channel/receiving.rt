@@ -117,7 +117,9 @@ impl Channel {
         ensures fits { (window : ℕ) → Fits window self.old → Fits window self.new }
     {
         match packet.content {
-            Content::ClearRequest { cause, diagnostic } => self.far_cleared(end, cause, diagnostic, pool),
+            Content::ClearRequest { cause, diagnostic } => self.far_cleared(
+                end, cause, diagnostic, pool,
+            ),
             _ => self.not_allowed(end, pool),
         }
     }
@@ -139,7 +141,9 @@ impl Channel {
                 }
                 Role::Dce => self.not_allowed(end, pool),
             },
-            Content::ClearRequest { cause, diagnostic } => self.far_cleared(end, cause, diagnostic, pool),
+            Content::ClearRequest { cause, diagnostic } => self.far_cleared(
+                end, cause, diagnostic, pool,
+            ),
             _ => self.not_allowed(end, pool),
         }
     }
@@ -172,7 +176,9 @@ impl Channel {
         ensures fits { (window : ℕ) → Fits window self.old → Fits window self.new }
     {
         match packet.content {
-            Content::ClearRequest { cause, diagnostic } => self.far_cleared(end, cause, diagnostic, pool),
+            Content::ClearRequest { cause, diagnostic } => self.far_cleared(
+                end, cause, diagnostic, pool,
+            ),
             Content::ResetRequest { .. } | Content::ResetConfirmation => {
                 self.resetting = false;
                 Effect::nothing()
@@ -201,9 +207,17 @@ impl Channel {
         ensures fits { Fits end.window self.old → Fits end.window self.new }
     {
         match packet.content {
-            Content::ClearRequest { cause, diagnostic } => self.far_cleared(end, cause, diagnostic, pool),
-            Content::ResetRequest { cause, diagnostic } => self.far_reset(end, cause, diagnostic, pool),
-            Content::ResetConfirmation => self.reset_error(end, diagnostic::NOT_ALLOWED_IN_D1, pool),
+            Content::ClearRequest { cause, diagnostic } => self.far_cleared(
+                end, cause, diagnostic, pool,
+            ),
+            Content::ResetRequest { cause, diagnostic } => self.far_reset(
+                end, cause, diagnostic, pool,
+            ),
+            Content::ResetConfirmation => self.reset_error(
+                end,
+                diagnostic::NOT_ALLOWED_IN_D1,
+                pool,
+            ),
             Content::Data(packet) => {
                 let heard = self.traffic.hear_data(end.window, &packet, pool);
                 self.after_heard(end, heard, pool)

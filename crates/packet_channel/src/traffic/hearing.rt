@@ -45,12 +45,7 @@ impl Traffic {
         let Some(buffer) = pool.put(packet.user_data) else {
             unreachable!();
         };
-        self.arrived.push(KeptPacket::new(
-            buffer,
-            packet.more,
-            packet.qualified,
-            packet.delivery,
-        ));
+        self.arrived.push(KeptPacket::new(buffer, packet.more, packet.qualified, packet.delivery));
         Heard::Keeps(newly)
     }
 

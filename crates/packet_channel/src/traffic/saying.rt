@@ -77,13 +77,7 @@ impl Traffic {
         true
     }
 
-    fn next_data(
-        &mut self,
-        window: u8,
-        channel: u8,
-        buf: &mut PacketBuf,
-        pool: &mut Pool,
-    ) -> bool
+    fn next_data(&mut self, window: u8, channel: u8, buf: &mut PacketBuf, pool: &mut Pool) -> bool
         requires window { window ≤ 7 }
         requires channel { 0 < channel }
         requires holds { Holds pool.old self.old.held }

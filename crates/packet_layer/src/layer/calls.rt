@@ -89,7 +89,12 @@ impl Layer {
 
     /// Asks something of the call on the channel: [`Request`] has each refusal. A channel that the line does not have
     /// has no call. What is refused changes nothing.
-    pub fn ask(&mut self, channel: u8, request: &Request<'_>, pool: &mut Pool) -> Result<(), ChannelFault>
+    pub fn ask(
+        &mut self,
+        channel: u8,
+        request: &Request<'_>,
+        pool: &mut Pool,
+    ) -> Result<(), ChannelFault>
         requires holds { Holds pool.old self.old.held }
         requires size { 128 ≤ pool.old.size }
         requires room { HasRoom pool.old self.old.held (most_held self.old.layer + 1) }
@@ -136,7 +141,13 @@ impl Layer {
     /// Clears the call on the channel, also one that is being set up, with a cause and a diagnostic (X.25 4.1.7).
     ///
     /// `NoCall` comes where there is none.
-    pub fn clear(&mut self, channel: u8, cause: u8, diagnostic: u8, pool: &mut Pool) -> Result<(), ChannelFault>
+    pub fn clear(
+        &mut self,
+        channel: u8,
+        cause: u8,
+        diagnostic: u8,
+        pool: &mut Pool,
+    ) -> Result<(), ChannelFault>
         requires holds { Holds pool.old self.old.held }
         requires size { 128 ≤ pool.old.size }
         requires room { HasRoom pool.old self.old.held (most_held self.old.layer + 1) }
@@ -155,7 +166,13 @@ impl Layer {
     /// 4.4.3).
     ///
     /// `NoCall` comes where no call is in data transfer, `Resetting` while the last own reset is not confirmed.
-    pub fn reset(&mut self, channel: u8, cause: u8, diagnostic: u8, pool: &mut Pool) -> Result<(), ChannelFault>
+    pub fn reset(
+        &mut self,
+        channel: u8,
+        cause: u8,
+        diagnostic: u8,
+        pool: &mut Pool,
+    ) -> Result<(), ChannelFault>
         requires holds { Holds pool.old self.old.held }
         requires size { 128 ≤ pool.old.size }
         requires room { HasRoom pool.old self.old.held (most_held self.old.layer + 1) }
@@ -214,7 +231,12 @@ impl Layer {
     ///
     /// `NoCall` comes where no call is in data transfer, then `Resetting` while the own reset is not confirmed,
     /// `TooLong` for no octets or more than 32, `InterruptPending` while the last interrupt is not confirmed.
-    pub fn interrupt(&mut self, channel: u8, octets: &[u8], pool: &mut Pool) -> Result<(), ChannelFault>
+    pub fn interrupt(
+        &mut self,
+        channel: u8,
+        octets: &[u8],
+        pool: &mut Pool,
+    ) -> Result<(), ChannelFault>
         requires holds { Holds pool.old self.old.held }
         requires size { 128 ≤ pool.old.size }
         requires room { HasRoom pool.old self.old.held (most_held self.old.layer + 1) }
