@@ -4,6 +4,7 @@ ghost use Rattle.std.specs.Prelude.{◌≡◌, ◌<◌, ◌≤◌, ℕ, [], IfOk
 ghost use Rattle.std.specs.Prelude.{if◌then◌else◌};
 ghost use Rattle.flow_window.specs.Pool.{Holds, Balances, in_use};
 ghost use Rattle.packet_channel.specs.Channel as machine;
+ghost use Rattle.packet_channel.specs.ControlView.{control_body};
 ghost use Rattle.packet_channel.specs.Held.{Fits};
 ghost use Rattle.packet_channel.specs.StateView.{state_of};
 ghost use Rattle.packet_channel.specs.Octets.{body_of, parts_of, written, ReadsAs};
@@ -16,8 +17,9 @@ mod errors;
 mod receiving;
 mod requests;
 
-use crate::control::{Control, Owed};
+use crate::control::{Control, write_control};
 use crate::effect::{Effect, Outcome};
+use crate::owed::Owed;
 use crate::state::{CallState, End};
 use crate::taken::{Front, Taken};
 use crate::traffic::{SEND_QUEUE, Traffic};
@@ -33,7 +35,7 @@ use std::marker::Model;
 pub struct Channel {
     state: CallState,
     resetting: bool,
-    owed: Owed,
+    owed: Owed<Control>,
     traffic: Traffic,
 }
 
@@ -194,7 +196,8 @@ impl Channel {
         ensures reads_back { ReadsAs channel (machine.next_of window self.old.channel).body buf.new.items }
         ensures same { OnFalse result (self.new ≡ self.old) }
     {
-        if self.owed.next_packet(channel, buf) {
+        if let Some(control) = self.owed.take_first() {
+            write_control(channel, &control, buf);
             return true;
         }
         if !self.has_flow() {
@@ -258,7 +261,20 @@ impl Channel {
         ensures passes { result ≡ machine.passes_limit self.old.channel.owed (Some (body.Call (parts_of call))) }
     {
         self.state = CallState::OwnWaiting;
-        self.owed.owe(Some(Control::Call(call)))
+        self.owe(Control::Call(call))
+    }
+
+    // Owes a control packet more, and answers whether it is one too many.
+    #[tactic(auto, using(crate::proofs::Owing::map_with_owed, crate::proofs::Owing::map_passes))]
+    pub(crate) fn owe(&mut self, control: Control) -> bool
+        ensures channel { self.new ≡ record self.old {
+          channel = record self.old.channel {
+            owed = machine.with_owed self.old.channel.owed (Some (control_body control));
+          };
+        } }
+        ensures passes { result ≡ machine.passes_limit self.old.channel.owed (Some (control_body control)) }
+    {
+        self.owed.owe(control)
     }
 
     // Owes what a step owes.
@@ -274,8 +290,12 @@ impl Channel {
             first,
             second,
         } = effect;
+        let relink = match owes {
+            Some(control) => self.owe(control),
+            None => false,
+        };
         Outcome {
-            relink: self.owed.owe(owes),
+            relink,
             first,
             second,
         }

@@ -1,6 +1,8 @@
 -- Closing the channels one by one.
 use Rattle.std.proofs.Common.{◌≡◌, ℕ, zero, suc, ◌+◌, ◌<◌, ◌≤◌, Bool, true, false, List, [], ◌∷◌, ◌++◌, length, set, get_or, take, drop, map, refl, sym, ap, ◌∙◌, arith, add-one, append_assoc, length-append}
-use Rattle.std.specs.Prelude.{Some, slice_get, replicate}
+use Rattle.std.specs.Prelude.{Some, slice_get, replicate, Vec}
+use Rattle.std.specs.Vec.{with_items}
+use Rattle.std.proofs.lemmas.List.{with_items_is, length-map}
 use Rattle.packet_codec.specs.ClearCause.{out_of_order}
 use Rattle.packet_codec.specs.Diagnostic.{no_information}
 use Rattle.packet_channel.specs.Packets.{Note, Reason, Closed}
@@ -131,3 +133,10 @@ pub made_length : (standing : Bool) (n : ℕ) → length (made standing n) ≡ n
 made_length true zero = refl
 made_length true (suc n) = ap (λ m. suc m) (length_replicated n)
 made_length false n = length_replicated n
+
+-- closed channels are written over all
+pub written_closed : {Z : Type 0} (v : Vec Holder Z) (old new : List Holder) → new ≡ map (λ ch. closed) old → old ≡ v.items →
+    (with_items v new).items ≡ map (λ ch. closed) v.items
+written_closed v old new is same =
+    let all = is ∙ ap (map (λ (ch : Holder). closed)) same in
+    with_items_is v new (ap length all ∙ length-map v.items (λ (ch : Holder). closed) ∙ sym v.ok.0) ∙ all

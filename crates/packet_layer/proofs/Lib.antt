@@ -3,3 +3,5 @@ pub mod Placed
 pub mod FreeChannels
 pub mod Closed
 pub mod Serving
+pub mod Silence
+pub mod Round

@@ -11,6 +11,7 @@ pub mod Held
 pub mod RequestView
 pub mod Params
 pub mod RestartView
+pub mod Silence
 pub mod LayerView
 pub mod Events
 pub mod TimerView

@@ -17,9 +17,10 @@ mod timers;
 use crate::fault::MakeFault;
 use crate::notes::Notes;
 use crate::params::LayerParams;
-use crate::restart::{OwedRestarts, Phase};
+use crate::restart::{Phase, RestartPacket};
 use link_timers::Role;
-use packet_channel::{Channel, End, LayerNote, Outcome};
+use number_set::NumberSet;
+use packet_channel::{Channel, End, LayerNote, Outcome, Owed};
 use std::alloc::{AllocError, Global};
 use std::marker::Model;
 
@@ -29,8 +30,10 @@ pub struct Layer {
     role: Role,
     window: u8,
     channels: Vec<Channel>,
+    /// The places of the channels that may have something for the link. The others have nothing.
+    to_serve: NumberSet,
     phase: Phase,
-    owed: OwedRestarts,
+    owed: Owed<RestartPacket>,
     served_last: u8,
     relink: bool,
     notes: Notes,
@@ -92,12 +95,13 @@ impl Layer {
             role,
             window,
             channels,
+            to_serve: NumberSet::new(),
             phase: if standing {
                 Phase::PacketReady
             } else {
                 Phase::NoSession
             },
-            owed: OwedRestarts::new(),
+            owed: Owed::new(),
             served_last: 0,
             relink: false,
             notes,

@@ -27,7 +27,7 @@ use crate::place::{Joined, Place};
 use arrayvec::ArrayVec;
 use frame_codec::FrameBuf;
 use line_end::MOST_FRAMES;
-use line_set::LineSet;
+use number_set::NumberSet;
 use link_timers::TimerId;
 use packet_end::EndFault;
 use packet_layer::{Front, Request, Taken};
@@ -42,9 +42,9 @@ type LineList = ArrayVec<usize, 65>;
 pub struct Lines {
     lines: Vec<SwitchLine>,
     /// Those on which something happened since they were settled. On the others nothing is left to do.
-    touched: LineSet,
+    touched: NumberSet,
     /// Those on which frames of the last event may be left, beside these.
-    untaken: LineSet,
+    untaken: NumberSet,
 }
 
 impl Model for Lines {
@@ -74,11 +74,11 @@ impl Lines {
                 Err(failed) => return Err(AllocError::from(failed).into()),
             }
         }
-        let touched = LineSet::first(made.len());
+        let touched = NumberSet::first(made.len());
         Ok(Lines {
             lines: made,
             touched,
-            untaken: LineSet::new(),
+            untaken: NumberSet::new(),
         })
     }
 

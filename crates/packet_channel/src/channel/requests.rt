@@ -101,7 +101,7 @@ impl Channel {
             return Err(ChannelFault::NoCall);
         }
         self.state = CallState::Transfer;
-        Ok(self.owed.owe(Some(Control::Accepted)))
+        Ok(self.owe(Control::Accepted))
     }
 
     fn clear(&mut self, cause: u8, diagnostic: u8, pool: &mut Pool) -> Result<bool, ChannelFault>
@@ -115,7 +115,7 @@ impl Channel {
             return Err(ChannelFault::NoCall);
         }
         self.end_call(CallState::OwnClear, pool);
-        Ok(self.owed.owe(Some(Control::Clear { cause, diagnostic })))
+        Ok(self.owe(Control::Clear { cause, diagnostic }))
     }
 
     fn reset(&mut self, cause: u8, diagnostic: u8, pool: &mut Pool) -> Result<bool, ChannelFault>
@@ -133,7 +133,7 @@ impl Channel {
         }
         self.resetting = true;
         self.traffic.clear(pool);
-        Ok(self.owed.owe(Some(Control::Reset { cause, diagnostic })))
+        Ok(self.owe(Control::Reset { cause, diagnostic }))
     }
 
     fn send(

@@ -69,6 +69,7 @@ impl Layer {
             return Err(CallFault::NoChannel);
         };
         let call = CallBuf::new(call);
+        self.to_serve.insert(place);
         let channel = &mut self.channels[place];
         if channel.place_call(call) {
             self.relink = true;
@@ -109,6 +110,7 @@ impl Layer {
             return Err(ChannelFault::NoCall);
         };
         let role = self.role;
+        self.to_serve.insert(place);
         let channel = &mut self.channels[place];
         match channel.request(role, request, pool) {
             Ok(relink) => {
@@ -294,6 +296,7 @@ impl Layer {
         ensures most { most_held self.new.layer ≡ most_held self.old.layer }
     {
         let place = self.place(u16::from(channel))?;
+        self.to_serve.insert(place);
         let channel = &mut self.channels[place];
         channel.take(pool)
     }

@@ -107,6 +107,7 @@ impl Layer {
             return;
         };
         let end = self.end(place);
+        self.to_serve.insert(place);
         let channel = &mut self.channels[place];
         let outcome = channel.take_packet(end, packet, pool);
         self.report(outcome);
@@ -129,6 +130,7 @@ impl Layer {
             return;
         };
         let end = self.end(place);
+        self.to_serve.insert(place);
         let channel = &mut self.channels[place];
         let outcome = channel.take_unreadable(end, unknown, pool);
         self.report(outcome);

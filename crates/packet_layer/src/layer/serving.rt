@@ -1,12 +1,12 @@
 //! What goes to the link.
-ghost use Rattle.std.specs.Prelude.{◌≤◌, ◌≡◌, ◌<◌, length, is_some};
+ghost use Rattle.std.specs.Prelude.{◌≡◌, ◌<◌, ◌≤◌, ◌+◌, ◌-◌, length, is_some};
 ghost use Rattle.flow_window.specs.Pool.{Holds, Balances};
 ghost use Rattle.packet_layer.specs.Held.{most_held};
 ghost use Rattle.packet_layer.specs.Layer as machine;
 ghost use Rattle.packet_layer.specs.Events.{written_packet, ReadsBack, IsHeard};
 
 use crate::layer::Layer;
-use crate::restart::Phase;
+use crate::restart::{Phase, write_restart};
 use flow_window::pool::Pool;
 use packet_codec::PacketBuf;
 
@@ -29,7 +29,8 @@ impl Layer {
         if matches!(self.phase, Phase::NoSession) || self.relink {
             return false;
         }
-        if self.owed.next_packet(buf) {
+        if let Some(packet) = self.owed.take_first() {
+            write_restart(packet, buf);
             return true;
         }
         self.serve(buf, pool)
@@ -55,50 +56,65 @@ impl Layer {
         ensures most { most_held self.new.layer ≡ most_held self.old.layer }
         ensures few { length self.new.held ≤ most_held self.new.layer }
     {
+        let next = self.next_place();
         let count = self.channels.len();
-        let mut number = self.next_number(self.served_last);
-        for _ in 0..count {
-            if self.serve_channel(number, buf, pool) {
-                return true;
-            }
-            number = self.next_number(number);
-        }
-        false
+        self.serve_between(next, count, buf, pool) || self.serve_between(0, next, buf, pool)
     }
 
-    // The number of the next channel, round.
-    fn next_number(&self, number: u8) -> u8
-        ensures value { result ≡ machine.next_number self.now.layer number }
-        ensures least { 0 < result }
+    // The place of the channel after that which was served last, round.
+    fn next_place(&self) -> usize
+        ensures place { result + 1 ≡ machine.next_number self.now.layer self.now.layer.served_last }
+        ensures most { result ≤ length self.now.layer.channels }
     {
-        if self.channels.len() <= usize::from(number) {
-            1
-        } else {
-            number + 1
-        }
+        let next = usize::from(self.served_last);
+        if next < self.channels.len() { next } else { 0 }
     }
 
-    // What one channel has.
-    fn serve_channel(&mut self, number: u8, buf: &mut PacketBuf, pool: &mut Pool) -> bool
-        requires number { 0 < number }
+    // The first of the channels from one place up to another that has anything.
+    fn serve_between(&mut self, first: usize, end: usize, buf: &mut PacketBuf, pool: &mut Pool) -> bool
+        requires order { first ≤ end }
+        requires within { end ≤ length self.old.layer.channels }
+        requires few { length self.old.held ≤ most_held self.old.layer }
         requires holds { Holds pool.old self.old.held }
-        ensures layer { self.new.layer ≡ (machine.serve 1 self.old.layer number).layer }
-        ensures said { result ≡ is_some (machine.serve 1 self.old.layer number).packet }
-        ensures octets { buf.new.items ≡ written_packet (machine.serve 1 self.old.layer number).packet buf.old.items }
-        ensures reads_back { ReadsBack (machine.serve 1 self.old.layer number).packet buf.new.items }
+        ensures layer { self.new.layer ≡ (machine.serve (end - first) self.old.layer (first + 1)).layer }
+        ensures said { result ≡ is_some (machine.serve (end - first) self.old.layer (first + 1)).packet }
+        ensures octets { buf.new.items
+            ≡ written_packet (machine.serve (end - first) self.old.layer (first + 1)).packet buf.old.items }
+        ensures reads_back { ReadsBack (machine.serve (end - first) self.old.layer (first + 1)).packet buf.new.items }
         ensures pool { Balances pool.old self.old.held pool.new self.new.held }
         ensures most { most_held self.new.layer ≡ most_held self.old.layer }
         ensures few { length self.new.held ≤ most_held self.new.layer }
     {
-        let Some(place) = self.place(u16::from(number)) else {
-            return false;
-        };
-        let window = self.window;
-        let channel = &mut self.channels[place];
-        if !channel.next_packet(window, number, buf, pool) {
-            return false;
+        let mut places = self.to_serve.between(first, end);
+        while let Some(place) = places.take_first() {
+            if self.serve_channel(place, buf, pool) {
+                return true;
+            }
         }
-        self.served_last = number;
-        true
+        false
+    }
+
+    // What one channel has. Where that is nothing, the channel need not be served again.
+    fn serve_channel(&mut self, place: usize, buf: &mut PacketBuf, pool: &mut Pool) -> bool
+        requires place { place < length self.old.layer.channels }
+        requires holds { Holds pool.old self.old.held }
+        ensures layer { self.new.layer ≡ (machine.serve 1 self.old.layer (place + 1)).layer }
+        ensures said { result ≡ is_some (machine.serve 1 self.old.layer (place + 1)).packet }
+        ensures octets { buf.new.items ≡ written_packet (machine.serve 1 self.old.layer (place + 1)).packet buf.old.items }
+        ensures reads_back { ReadsBack (machine.serve 1 self.old.layer (place + 1)).packet buf.new.items }
+        ensures pool { Balances pool.old self.old.held pool.new self.new.held }
+        ensures most { most_held self.new.layer ≡ most_held self.old.layer }
+        ensures few { length self.new.held ≤ most_held self.new.layer }
+    {
+        let window = self.window;
+        let number = place as u8 + 1;
+        let channel = &mut self.channels[place];
+        if channel.next_packet(window, number, buf, pool) {
+            self.served_last = number;
+            true
+        } else {
+            self.to_serve.remove(place);
+            false
+        }
     }
 }

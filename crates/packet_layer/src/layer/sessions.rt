@@ -11,6 +11,7 @@ use crate::layer::closing::close_channels;
 use crate::restart::{Phase, RestartPacket};
 use flow_window::pool::Pool;
 use link_timers::Role;
+use number_set::NumberSet;
 use packet_channel::Reason;
 use packet_codec::{diagnostic, restart_cause};
 
@@ -57,6 +58,7 @@ impl Layer {
         ensures most { most_held self.new.layer ≡ most_held self.old.layer }
     {
         close_channels(&mut self.channels, &mut self.notes, reason, pool);
+        self.to_serve = NumberSet::new();
     }
 
     // Begins a restart of this end.
@@ -68,6 +70,7 @@ impl Layer {
         self.owe_restart(RestartPacket::Restart { cause, diagnostic });
     }
 
+    #[tactic(auto, using(packet_channel::proofs::Owing::map_with_owed, packet_channel::proofs::Owing::map_passes))]
     pub(crate) fn owe_restart(&mut self, packet: RestartPacket)
         ensures { self.new ≡ record self.old {
           layer = machine.owes_restart (Some (restart_body packet)) self.old.layer;

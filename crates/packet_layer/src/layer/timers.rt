@@ -120,6 +120,7 @@ impl Layer {
             return;
         };
         let end = self.end(place);
+        self.to_serve.insert(place);
         let channel = &mut self.channels[place];
         let outcome = channel.expire(end, pool);
         self.report(outcome);

@@ -6,6 +6,7 @@ use Rattle.packet_layer.specs.LayerView.{layer_of}
 use Rattle.packet_layer.proofs.Placed.{placed, own_held, own_room, own_balance, fits_after, borrowed, plain_at, plain_set}
 use Rattle.packet_layer.specs.RequestView.{request_of}
 use Rattle.packet_layer.proofs.Places.{kept, request_done, request_refused, refused_at}
+use Rattle.packet_layer.proofs.Silence.{layer_touched}
 use Rattle.packet_layer.proofs.layer.Layer.ask.Goals as goal
 
 pub returns-then-relink-clause-layer : goal.returns-then-relink-clause-layer
@@ -73,45 +74,6 @@ request-requires-clause-holds c =
 pub request-requires-clause-room : goal.request-requires-clause-room
 request-requires-clause-room c = own_room c.self.inside c.args.self.now c.args.pool.now c.self.invariant c.self.view_is c.requires.room
 
-pub invariant_of-self : goal.invariant_of-self
-invariant_of-self c =
-    let a = c.self.inside in
-    let held = c.index_mut-channel.result.now in
-    let there = placed a c.args.self.now c.in-Some.place held c.self.view_is c.in-Some.ensures.1 c.index_mut-channel.ensures.value in
-    let long = length-set a.channels.items c.in-Some.place c.request.new.self in
-    record {
-      window = c.self.invariant.window;
-      channels = omega (arith, c.self.invariant.channels, long);
-      notes = c.self.invariant.notes;
-      fits = fits_after a.window a.channels.items c.in-Some.place held c.request.new.self c.self.invariant.fits there (c.request.ensures.fits a.window);
-    }
-
-pub invariant_of-self-else-relink : goal.invariant_of-self-else-relink
-invariant_of-self-else-relink c =
-    let a = c.self.inside in
-    let held = c.index_mut-channel.result.now in
-    let there = placed a c.args.self.now c.in-Some.place held c.self.view_is c.in-Some.ensures.1 c.index_mut-channel.ensures.value in
-    let long = length-set a.channels.items c.in-Some.place c.request.new.self in
-    record {
-      window = c.self.invariant.window;
-      channels = omega (arith, c.self.invariant.channels, long);
-      notes = c.self.invariant.notes;
-      fits = fits_after a.window a.channels.items c.in-Some.place held c.request.new.self c.self.invariant.fits there (c.request.ensures.fits a.window);
-    }
-
-pub invariant_of-self-in-Err : goal.invariant_of-self-in-Err
-invariant_of-self-in-Err c =
-    let a = c.self.inside in
-    let held = c.index_mut-channel.result.now in
-    let there = placed a c.args.self.now c.in-Some.place held c.self.view_is c.in-Some.ensures.1 c.index_mut-channel.ensures.value in
-    let long = length-set a.channels.items c.in-Some.place c.request.new.self in
-    record {
-      window = c.self.invariant.window;
-      channels = omega (arith, c.self.invariant.channels, long);
-      notes = c.self.invariant.notes;
-      fits = fits_after a.window a.channels.items c.in-Some.place held c.request.new.self c.self.invariant.fits there (c.request.ensures.fits a.window);
-    }
-
 pub returns-then-relink-clause-pool : goal.returns-then-relink-clause-pool
 returns-then-relink-clause-pool c =
     let a = c.self.inside in
@@ -143,3 +105,24 @@ returns-then-relink-clause-answer c =
     let there = placed c.self.inside c.args.self.now c.in-Some.place held c.self.view_is c.in-Some.ensures.1 c.index_mut-channel.ensures.value in
     let found = plain_at c.self.inside.channels.items c.in-Some.place held there in
     rw (← c.self.view_is) (refused_at l c.args.channel c.in-Some.place held.channel (request_of c.args.request.now) (c.in-Some.ensures.0 ∙ c.from.ensures) found ∙ c.in-Ok.ensures.answer.allowed)
+
+pub invariant_of-self : goal.invariant_of-self
+invariant_of-self c =
+    let a = c.self.inside in
+    let held = c.index_mut-channel.result.now in
+    let there = placed a c.args.self.now c.in-Some.place held c.self.view_is c.in-Some.ensures.1 c.index_mut-channel.ensures.value in
+    layer_touched a c.insert.new.self c.in-Some.place held c.request.new.self true c.self.invariant c.insert.ensures there (c.request.ensures.fits a.window)
+
+pub invariant_of-self-else-relink : goal.invariant_of-self-else-relink
+invariant_of-self-else-relink c =
+    let a = c.self.inside in
+    let held = c.index_mut-channel.result.now in
+    let there = placed a c.args.self.now c.in-Some.place held c.self.view_is c.in-Some.ensures.1 c.index_mut-channel.ensures.value in
+    layer_touched a c.insert.new.self c.in-Some.place held c.request.new.self c.self.inside.relink c.self.invariant c.insert.ensures there (c.request.ensures.fits a.window)
+
+pub invariant_of-self-in-Err : goal.invariant_of-self-in-Err
+invariant_of-self-in-Err c =
+    let a = c.self.inside in
+    let held = c.index_mut-channel.result.now in
+    let there = placed a c.args.self.now c.in-Some.place held c.self.view_is c.in-Some.ensures.1 c.index_mut-channel.ensures.value in
+    layer_touched a c.insert.new.self c.in-Some.place held c.request.new.self c.self.inside.relink c.self.invariant c.insert.ensures there (c.request.ensures.fits a.window)

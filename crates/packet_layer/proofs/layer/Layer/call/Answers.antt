@@ -11,6 +11,8 @@ use Rattle.packet_codec.specs.View.{call_view}
 use Rattle.packet_channel.specs.Octets.{parts_of}
 use Rattle.packet_layer.specs.RestartView.{phase_of}
 use Rattle.packet_layer.proofs.Places.{kept, call_done, free_ready}
+use Rattle.std.specs.Prelude.{true}
+use Rattle.packet_layer.proofs.Silence.{layer_touched}
 use Rattle.packet_layer.proofs.layer.Layer.call.Goals as goal
 use Rattle.packet_layer.proofs.layer.Layer.call.Goals.{then-place_call, else-place_call}
 
@@ -46,15 +48,16 @@ returns-clause-layer c =
       | else-place_call w ↦ w.self-is ∙ λ i. record { layer = (ap (λ (b : Bool). record l { channels = plain (set a.channels.items c.in-Some.place new); relink = set_if b l.relink }) (sym w.if-place_call.false) ∙ after) i; held = same i }
     ]
 
+pub invariant_of-self : goal.invariant_of-self
+invariant_of-self c =
+    let a = c.self.inside in
+    let held = c.index_mut-channel.result.now in
+    let there = placed a c.args.self.now c.in-Some.place held c.self.view_is c.in-Some.ensures.1.there c.index_mut-channel.ensures.value in
+    layer_touched a c.insert.new.self c.in-Some.place held c.place_call.new.self true c.self.invariant c.insert.ensures there (fits_kept a.window held c.place_call.new.self _ c.place_call.ensures.channel)
+
 pub invariant_of-self-else-place_call : goal.invariant_of-self-else-place_call
 invariant_of-self-else-place_call c =
     let a = c.self.inside in
     let held = c.index_mut-channel.result.now in
     let there = placed a c.args.self.now c.in-Some.place held c.self.view_is c.in-Some.ensures.1.there c.index_mut-channel.ensures.value in
-    let long = length-set a.channels.items c.in-Some.place c.place_call.new.self in
-    record {
-      window = c.self.invariant.window;
-      channels = omega (arith, c.self.invariant.channels, long);
-      notes = c.self.invariant.notes;
-      fits = fits_after a.window a.channels.items c.in-Some.place held c.place_call.new.self c.self.invariant.fits there (λ fits. fits_kept a.window held c.place_call.new.self _ c.place_call.ensures.channel fits);
-    }
+    layer_touched a c.insert.new.self c.in-Some.place held c.place_call.new.self c.self.inside.relink c.self.invariant c.insert.ensures there (fits_kept a.window held c.place_call.new.self _ c.place_call.ensures.channel)

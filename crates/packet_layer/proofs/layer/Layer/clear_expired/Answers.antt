@@ -8,6 +8,7 @@ use Rattle.packet_layer.specs.Events.{after_hearing}
 use Rattle.packet_channel.specs.Octets.{unreadable_as}
 use Rattle.packet_layer.proofs.Places.{unreadable_taken, expiry_taken}
 use Rattle.packet_layer.proofs.Placed.{placed, plain_at, plain_set, own_held, own_balance, fits_after}
+use Rattle.packet_layer.proofs.Silence.{layer_touched}
 use Rattle.packet_layer.proofs.layer.Layer.clear_expired.Goals as goal
 
 pub expire-outcome-requires : goal.expire-outcome-requires
@@ -16,19 +17,6 @@ expire-outcome-requires c =
     let held = c.index_mut-channel.result.now in
     let there = placed a c.args.self.now c.in-Some.place held c.self.view_is c.in-Some.ensures.1 c.index_mut-channel.ensures.value in
     own_held a c.args.self.now c.args.pool.now c.in-Some.place held c.self.view_is c.requires.holds there
-
-pub invariant_of-self : goal.invariant_of-self
-invariant_of-self c =
-    let a = c.self.inside in
-    let held = c.index_mut-channel.result.now in
-    let there = placed a c.args.self.now c.in-Some.place held c.self.view_is c.in-Some.ensures.1 c.index_mut-channel.ensures.value in
-    let long = length-set a.channels.items c.in-Some.place c.expire-outcome.new.self in
-    record {
-      window = c.self.invariant.window;
-      channels = omega (arith, c.self.invariant.channels, long);
-      notes = c.self.invariant.notes;
-      fits = fits_after a.window a.channels.items c.in-Some.place held c.expire-outcome.new.self c.self.invariant.fits there (c.expire-outcome.ensures.fits a.window);
-    }
 
 pub returns-clause-pool : goal.returns-clause-pool
 returns-clause-pool c =
@@ -49,3 +37,10 @@ returns-clause-layer c =
     ∙ (rw (← c.self.view_is) (ap (λ chs. record l { channels = chs; relink = set_if c.expire-outcome.result.relink l.relink; notes = l.notes ++ c.expire-outcome.result.notes }) (plain_set a.channels.items c.in-Some.place c.expire-outcome.new.self)
     ∙ expiry_taken l c.args.channel c.in-Some.place held.channel c.expire-outcome.new.self.channel c.expire-outcome.result c.end-end.result.role c.end-end.result.channel (c.in-Some.ensures.0 ∙ c.from.ensures) found
     (c.end-end.ensures.role ∙ ap (λ (x : Held). x.layer.role) (sym c.self.view_is)) c.end-end.ensures.channel c.expire-outcome.ensures.channel c.expire-outcome.ensures.outcome))
+
+pub invariant_of-self : goal.invariant_of-self
+invariant_of-self c =
+    let a = c.self.inside in
+    let held = c.index_mut-channel.result.now in
+    let there = placed a c.args.self.now c.in-Some.place held c.self.view_is c.in-Some.ensures.1 c.index_mut-channel.ensures.value in
+    layer_touched a c.insert.new.self c.in-Some.place held c.expire-outcome.new.self c.self.inside.relink c.self.invariant c.insert.ensures there (c.expire-outcome.ensures.fits a.window)

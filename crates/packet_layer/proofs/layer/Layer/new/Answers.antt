@@ -1,13 +1,15 @@
 use Rattle.std.proofs.Common.{◌≡◌, ap, sym, ◌∙◌, length, arith, subst, Bool}
 use Rattle.packet_layer.specs.Held.{plain, buffers, AllFit}
 use Rattle.packet_layer.specs.Layer.{start_phase}
-use Rattle.packet_layer.specs.RestartView.{phase_of}
+use Rattle.packet_layer.specs.RestartView.{phase_of, restart_bodies}
+use Rattle.packet_layer.specs.Silence.{OthersAreSilent}
+use Rattle.packet_layer.proofs.Silence.{made_silent}
 use Rattle.packet_layer.proofs.Closed.{made, made_standing, made_holds, made_fit, made_plain, made_length}
 use Rattle.packet_layer.proofs.layer.Layer.new.Goals as goal
 use Rattle.packet_layer.proofs.layer.Layer.new.Goals.{then-standing, else-standing, then-standing-2, else-standing-2}
 
 -- the channels that it has
-channels-are : (c : goal.After-new-2) → c.if-standing.channels.items ≡ made c.args.params.standing c.args.params.channels
+channels-are : (c : goal.After-new-3) → c.if-standing.channels.items ≡ made c.args.params.standing c.args.params.channels
 channels-are c =
     let n = c.args.params.channels in
     elim c.if-standing.branch [
@@ -27,6 +29,7 @@ invariant_of-result c =
     record {
       window = c.in_ok-check.ensures.window_most;
       channels = omega (arith, long, c.in_ok-check.ensures.channels_most);
+      others = subst (OthersAreSilent p.window _) (sym (ap plain (channels-are c) ∙ made_plain p.standing p.channels)) (made_silent p.window _ p.standing p.channels);
       notes = rw c.in_ok-notes.ensures (omega arith);
       fits = subst (AllFit p.window) (sym (channels-are c)) (made_fit p.window p.standing p.channels);
     }
@@ -48,7 +51,7 @@ returns c =
           window = p.window;
           channels = channels i;
           phase = phase i;
-          owed = c.new-2.ensures i;
+          owed = restart_bodies (c.new-3.ensures i);
           served_last = 0;
           relink = Bool.false;
           notes = c.in_ok-notes.ensures i;

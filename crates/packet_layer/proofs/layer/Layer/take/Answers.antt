@@ -4,6 +4,7 @@ use Rattle.packet_layer.specs.Held.{Layer as Held}
 use Rattle.packet_layer.specs.LayerView.{layer_of}
 use Rattle.packet_layer.proofs.Placed.{placed, own_held, own_balance, fits_after, borrowed, plain_at, plain_set}
 use Rattle.packet_layer.proofs.Places.{taking_done, front_there}
+use Rattle.packet_layer.proofs.Silence.{layer_touched}
 use Rattle.packet_layer.proofs.layer.Layer.take.Goals as goal
 
 pub returns-clause-layer : goal.returns-clause-layer
@@ -24,19 +25,6 @@ take-requires c =
     let there = placed a c.args.self.now c.in_ok-place.place held c.self.view_is c.in_ok-place.ensures.1 c.index_mut-channel.ensures.value in
     own_held a c.args.self.now c.args.pool.now c.in_ok-place.place held c.self.view_is c.requires.holds there
 
-pub invariant_of-self : goal.invariant_of-self
-invariant_of-self c =
-    let a = c.self.inside in
-    let held = c.index_mut-channel.result.now in
-    let there = placed a c.args.self.now c.in_ok-place.place held c.self.view_is c.in_ok-place.ensures.1 c.index_mut-channel.ensures.value in
-    let long = length-set a.channels.items c.in_ok-place.place c.take.new.self in
-    record {
-      window = c.self.invariant.window;
-      channels = omega (arith, c.self.invariant.channels, long);
-      notes = c.self.invariant.notes;
-      fits = fits_after a.window a.channels.items c.in_ok-place.place held c.take.new.self c.self.invariant.fits there (c.take.ensures.fits a.window);
-    }
-
 pub returns-clause-pool : goal.returns-clause-pool
 returns-clause-pool c =
     let a = c.self.inside in
@@ -52,3 +40,10 @@ returns-clause-taken c =
     let there = placed c.self.inside c.args.self.now c.in_ok-place.place held c.self.view_is c.in_ok-place.ensures.1 c.index_mut-channel.ensures.value in
     let found = plain_at c.self.inside.channels.items c.in_ok-place.place held there in
     rw (← c.self.view_is) (c.take.ensures.taken ∙ sym (front_there l c.args.channel c.in_ok-place.place held.channel (c.in_ok-place.ensures.0 ∙ c.from.ensures) found))
+
+pub invariant_of-self : goal.invariant_of-self
+invariant_of-self c =
+    let a = c.self.inside in
+    let held = c.index_mut-channel.result.now in
+    let there = placed a c.args.self.now c.in_ok-place.place held c.self.view_is c.in_ok-place.ensures.1 c.index_mut-channel.ensures.value in
+    layer_touched a c.insert.new.self c.in_ok-place.place held c.take.new.self c.self.inside.relink c.self.invariant c.insert.ensures there (c.take.ensures.fits a.window)

@@ -8,6 +8,7 @@ use Rattle.packet_layer.specs.LayerView.{layer_of}
 use Rattle.packet_layer.proofs.Placed.{placed, own_held, own_room, own_balance, fits_after, rw_fits, borrowed, plain_at, plain_set}
 use Rattle.packet_layer.specs.RestartView.{phase_of}
 use Rattle.packet_layer.proofs.Places.{packet_taken}
+use Rattle.packet_layer.proofs.Silence.{layer_touched}
 use Rattle.packet_layer.proofs.layer.Layer.take_on_channel.Goals as goal
 
 pub returns-clause-layer : goal.returns-clause-layer
@@ -40,19 +41,6 @@ take_packet-outcome-requires-clause-holds c =
 pub take_packet-outcome-requires-clause-room : goal.take_packet-outcome-requires-clause-room
 take_packet-outcome-requires-clause-room c = own_room c.self.inside c.args.self.now c.args.pool.now c.self.invariant c.self.view_is c.requires.room
 
-pub invariant_of-self : goal.invariant_of-self
-invariant_of-self c =
-    let a = c.self.inside in
-    let held = c.index_mut-channel.result.now in
-    let there = placed a c.args.self.now c.in-Some.place held c.self.view_is c.in-Some.ensures.1 c.index_mut-channel.ensures.value in
-    let long = length-set a.channels.items c.in-Some.place c.take_packet-outcome.new.self in
-    record {
-      window = c.self.invariant.window;
-      channels = omega (arith, c.self.invariant.channels, long);
-      notes = c.self.invariant.notes;
-      fits = fits_after a.window a.channels.items c.in-Some.place held c.take_packet-outcome.new.self c.self.invariant.fits there (λ fits. rw_fits a.window c.end-end.result.window held c.take_packet-outcome.new.self (c.end-end.ensures.window ∙ ap (λ (x : Held). x.layer.window) (sym c.self.view_is)) c.take_packet-outcome.ensures.fits fits);
-    }
-
 pub returns-clause-pool : goal.returns-clause-pool
 returns-clause-pool c =
     let a = c.self.inside in
@@ -60,3 +48,10 @@ returns-clause-pool c =
     let there = placed a c.args.self.now c.in-Some.place held c.self.view_is c.in-Some.ensures.1 c.index_mut-channel.ensures.value in
     rw c.report.ensures (own_balance a c.args.self.now c.args.pool.now c.take_packet-outcome.new.pool c.in-Some.place held c.take_packet-outcome.new.self c.self.view_is there
     c.take_packet-outcome.ensures.pool)
+
+pub invariant_of-self : goal.invariant_of-self
+invariant_of-self c =
+    let a = c.self.inside in
+    let held = c.index_mut-channel.result.now in
+    let there = placed a c.args.self.now c.in-Some.place held c.self.view_is c.in-Some.ensures.1 c.index_mut-channel.ensures.value in
+    layer_touched a c.insert.new.self c.in-Some.place held c.take_packet-outcome.new.self c.self.inside.relink c.self.invariant c.insert.ensures there (rw_fits a.window c.end-end.result.window held c.take_packet-outcome.new.self (c.end-end.ensures.window ∙ ap (λ (x : Held). x.layer.window) (sym c.self.view_is)) c.take_packet-outcome.ensures.fits)

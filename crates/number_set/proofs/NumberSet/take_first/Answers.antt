@@ -1,6 +1,6 @@
 use Rattle.std.proofs.Common.{arith}
-use Rattle.line_set.proofs.Bits.{first_of, fewer}
-use Rattle.line_set.proofs.LineSet.take_first.Goals as goal
+use Rattle.number_set.proofs.Bits.{first_of, fewer}
+use Rattle.number_set.proofs.NumberSet.take_first.Goals as goal
 
 pub returns-clause-first : goal.returns-clause-first
 returns-clause-first c = first_of c.args.self.now (omega arith) (omega arith)
