@@ -1,23 +1,14 @@
--- What a layer holds stays in its pool.
-use Rattle.std.proofs.Common.{◌≡◌, ℕ, zero, suc, ◌+◌, ◌*◌, ◌≤◌, Bool, true, false, length, refl, ap, ◌∙◌, sym, arith}
+-- The pool of a layer has room.
+use Rattle.std.proofs.Common.{◌≡◌, ℕ, zero, suc, ◌+◌, ◌*◌, Bool, true, false, length, refl, ap, arith}
 use Rattle.std.specs.Prelude.{replicate}
 use Rattle.link_timers.specs.declared.role.Role.{Role}
-use Rattle.flow_window.specs.Pool.{Pool, Balances}
 use Rattle.flow_window.proofs.Weights.{weight_ones}
 use Rattle.packet_layer.specs.Channel.{closed_channel}
-use Rattle.packet_layer.specs.Held.{Layer, most_held, HasRoom}
+use Rattle.packet_layer.specs.Held.{most_held, HasRoom}
 use Rattle.packet_layer.specs.Layer as machine
 use Rattle.packet_layer.specs.Layer.{standing_channels}
 use Rattle.packet_tests.specs.declared.station.Station.TheInside.{Inside}
 use Rattle.packet_tests.specs.Station.{IsStation}
-
-pub still_station : (a : Inside) (layer : Layer) (pool : Pool) → IsStation a → Balances a.pool a.layer.held pool layer.held →
-    most_held layer.layer ≡ most_held a.layer.layer → IsStation (record a { layer = layer; pool = pool })
-still_station a layer pool is change most = record {
-  size = change.size ∙ is.size;
-  places = change.places ∙ is.places ∙ ap (λ n. n + 1) (sym most);
-  exact = λ w. let weights = change.weights w in let exact = is.exact w in omega (arith, weights, exact);
-}
 
 -- there is room for all that the layer may hold, and one packet more
 pub has_room : (a : Inside) → IsStation a → HasRoom a.pool a.layer.held (most_held a.layer.layer + 1)
