@@ -19,9 +19,9 @@ pub struct Terminus {
 }
 
 impl Model for Terminus {
-    ghost use Rattle.line_end.specs.End as end;
+    ghost use Rattle.line_end.specs.End as line;
 
-    ghost Value = { end.End };
+    ghost Value = { line.End };
 
     ghost use Rattle.link_tests.specs.Terminus.{end_of, IsTerminus};
 
