@@ -1,4 +1,5 @@
 pub mod Places
+pub mod Placed
 pub mod FreeChannels
 pub mod Closed
 pub mod Serving

@@ -1,19 +1,23 @@
 -- Channels that have nothing for the link, and those that may have something.
 use Rattle.std.proofs.Common.{◌≡◌, ℕ, zero, suc, ◌+◌, Bool, true, false, List, [], ◌∷◌, ◌||◌, ◌&&◌, ◌==◌, ◌⊎◌, inl, inr}
 use Rattle.std.proofs.Common.{not, set, map, take, drop, ◌++◌, refl, sym, ap, subst, ◌∙◌, length, arith}
-use Rattle.std.specs.Prelude.{Option, Some, None, is_some, slice_get}
+use Rattle.std.specs.Prelude.{Option, Some, None, is_some, slice_get, replicate}
 use Rattle.std.specs.Prelude.{Vec}
 use Rattle.std.specs.Vec.{with_item, with_items}
 use Rattle.std.proofs.lemmas.List.{length-set}
 use Rattle.std.proofs.lemmas.Bool.{eq-eqb, ne_eqb, cases_eq}
 use Rattle.number_set.specs.NumberSet.{has}
 use Rattle.number_set.specs.declared.NumberSet.{NumberSet}
-use Rattle.packet_channel.specs.Channel.{Channel, closed_channel, next_of}
-use Rattle.packet_layer.specs.Layer.{Layer, Next, channel_of, serve}
+use Rattle.packet_channel.specs.Channel.{Channel, closed_channel, entered, next_of}
+use Rattle.packet_channel.specs.Channel.CallState.{Transfer}
+use Rattle.packet_channel.specs.Held.{Channel as Holder, Fits}
+use Rattle.packet_layer.specs.Held.{plain, AllFit}
+use Rattle.packet_layer.specs.Layer.{Layer, Next, channel_of, serve, standing_channels}
 use Rattle.packet_layer.specs.Silence.{OthersAreSilent}
 use Rattle.packet_layer.specs.LayerView.{IsLayer}
 use Rattle.packet_layer.specs.declared.layer.Layer.TheInside.{Inside}
 use Rattle.packet_layer.proofs.Places.{channel_at, set_same}
+use Rattle.packet_layer.proofs.Placed.{plain_at, plain_set, fits_after}
 use Rattle.packet_layer.proofs.Serving.{silent_at}
 
 -- what a write of one place leaves at the others, and puts there
@@ -43,14 +47,17 @@ touched window old new chs place ch others is = record {
 }
 
 -- of a whole layer
-pub layer_touched : (a : Inside) (new : NumberSet) (place : ℕ) (ch : Channel) (relink : Bool) → IsLayer a →
-    ((n : ℕ) → has new n ≡ (has a.to_serve n || n == place)) →
+pub layer_touched : (a : Inside) (new : NumberSet) (place : ℕ) (old ch : Holder) (relink : Bool) → IsLayer a →
+    ((n : ℕ) → has new n ≡ (has a.to_serve n || n == place)) → slice_get a.channels.items place ≡ Some old →
+    (Fits a.window old → Fits a.window ch) →
     IsLayer (record a { channels = with_item a.channels place ch; to_serve = new; relink = relink })
-layer_touched a new place ch relink is puts_in = record {
+layer_touched a new place old ch relink is puts_in there fits = record {
   window = is.window;
   channels = omega (arith, is.channels, length-set a.channels.items place ch);
-  others = touched a.window a.to_serve new a.channels.items place ch is.others puts_in;
+  others = subst (OthersAreSilent a.window new) (sym (plain_set a.channels.items place ch))
+      (touched a.window a.to_serve new (plain a.channels.items) place ch.channel is.others puts_in);
   notes = is.notes;
+  fits = fits_after a.window a.channels.items place old ch is.fits there fits;
 }
 
 -- one that has something is in the set
@@ -95,29 +102,36 @@ quieted window old new chs place ch others is found silent = record {
         subst (λ (y : Channel). is_some (next_of window y).body ≡ false) same silent
     by_place p x there (inr out) = others.silent p x there out
 
-pub layer_spoke : (a : Inside) (place : ℕ) (old new : Channel) (served : ℕ) → IsLayer a →
-    slice_get a.channels.items place ≡ Some old → is_some (next_of a.window old).body ≡ true →
+pub layer_spoke : (a : Inside) (place : ℕ) (old new : Holder) (served : ℕ) → IsLayer a →
+    slice_get a.channels.items place ≡ Some old → is_some (next_of a.window old.channel).body ≡ true →
+    (Fits a.window old → Fits a.window new) →
     IsLayer (record a { channels = with_item a.channels place new; served_last = served })
-layer_spoke a place old new served is found says = record {
+layer_spoke a place old new served is found says fits = record {
   window = is.window;
   channels = omega (arith, is.channels, length-set a.channels.items place new);
-  others = spoke a.window a.to_serve a.channels.items place old new is.others found says;
+  others = subst (OthersAreSilent a.window a.to_serve) (sym (plain_set a.channels.items place new))
+      (spoke a.window a.to_serve (plain a.channels.items) place old.channel new.channel is.others
+      (plain_at a.channels.items place old found) says);
   notes = is.notes;
+  fits = fits_after a.window a.channels.items place old new is.fits found fits;
 }
 
-pub layer_quieted : (a : Inside) (rest : NumberSet) (place : ℕ) (ch new : Channel) → IsLayer a →
+pub layer_quieted : (a : Inside) (rest : NumberSet) (place : ℕ) (ch new : Holder) → IsLayer a →
     ((n : ℕ) → has rest n ≡ (has a.to_serve n && not (n == place))) → slice_get a.channels.items place ≡ Some ch →
-    is_some (next_of a.window ch).body ≡ false → new ≡ ch →
+    is_some (next_of a.window ch.channel).body ≡ false → new ≡ ch →
     IsLayer (record a { channels = with_item a.channels place new; to_serve = rest })
-layer_quieted a rest place ch new is takes_out found silent same = record {
-  window = is.window;
-  channels = omega (arith, is.channels, length-set a.channels.items place new);
-  others = subst (λ (chs : List Channel). OthersAreSilent a.window rest chs)
-      (sym (set_same a.channels.items place ch found)
-      ∙ ap (λ (x : Channel). set a.channels.items place x) (sym same))
-      (quieted a.window a.to_serve rest a.channels.items place ch is.others takes_out found silent);
-  notes = is.notes;
-}
+layer_quieted a rest place ch new is takes_out found silent same =
+    let as_before = sym (set_same a.channels.items place ch found)
+    ∙ ap (λ (x : Holder). set a.channels.items place x) (sym same) in
+    record {
+      window = is.window;
+      channels = omega (arith, is.channels, length-set a.channels.items place new);
+      others = subst (λ (cs : List Holder). OthersAreSilent a.window rest (plain cs)) as_before
+          (quieted a.window a.to_serve rest (plain a.channels.items) place ch.channel is.others takes_out
+          (plain_at a.channels.items place ch found) silent);
+      notes = is.notes;
+      fits = subst (AllFit a.window) as_before is.fits;
+    }
 
 -- closed channels have nothing
 each_closed : (chs : List Channel) (p : ℕ) (x : Channel) →
@@ -132,6 +146,28 @@ closed_are_silent window s chs = record {
   silent = λ p x there out.
       subst (λ (y : Channel). is_some (next_of window y).body ≡ false) (each_closed chs p x there) refl;
 }
+
+replicated_closed : (n p : ℕ) (x : Channel) → slice_get (replicate n closed_channel) p ≡ Some x → closed_channel ≡ x
+replicated_closed zero p x h = absurd (cc)
+replicated_closed (suc n) zero x h = cc
+replicated_closed (suc n) (suc p) x h = replicated_closed n p x h
+
+-- so have the channels of a layer as it is made
+pub made_silent : (window : ℕ) (s : NumberSet) (standing : Bool) (n : ℕ) →
+    OthersAreSilent window s (standing_channels standing (replicate n closed_channel))
+made_silent window s standing n = record { silent = λ p x there out. at_place standing n p x there; }
+  where
+    at_place : (standing : Bool) (n p : ℕ) (x : Channel) →
+        slice_get (standing_channels standing (replicate n closed_channel)) p ≡ Some x →
+        is_some (next_of window x).body ≡ false
+    at_place true zero p x h = absurd (cc)
+    at_place true (suc n) zero x h =
+        let e : entered Transfer closed_channel ≡ x = cc in
+        subst (λ (y : Channel). is_some (next_of window y).body ≡ false) e refl
+    at_place true (suc n) (suc p) x h =
+        subst (λ (y : Channel). is_some (next_of window y).body ≡ false) (replicated_closed n p x h) refl
+    at_place false n p x h =
+        subst (λ (y : Channel). is_some (next_of window y).body ≡ false) (replicated_closed n p x h) refl
 
 -- a channel that is not in the set has nothing
 nowhere : (l : Layer) (c : ℕ) → channel_of l c ≡ None → is_some (serve 1 l c).packet ≡ false

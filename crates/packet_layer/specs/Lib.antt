@@ -7,6 +7,7 @@ pub use Rattle.packet_channel.specs.ControlView
 pub use Rattle.packet_channel.specs.NoteView
 pub use Rattle.packet_channel.specs.Effects
 pub mod Layer
+pub mod Held
 pub mod RequestView
 pub mod Params
 pub mod RestartView
