@@ -155,7 +155,7 @@ replicated_closed (suc n) (suc p) x h = replicated_closed n p x h
 -- so have the channels of a layer as it is made
 pub made_silent : (window : ℕ) (s : NumberSet) (standing : Bool) (n : ℕ) →
     OthersAreSilent window s (standing_channels standing (replicate n closed_channel))
-made_silent window s standing n = record { silent = λ p x there out. at_place standing n p x there; }
+made_silent window s standing n = record { silent = λ p x there out. at_place standing n p x there }
   where
     at_place : (standing : Bool) (n p : ℕ) (x : Channel) →
         slice_get (standing_channels standing (replicate n closed_channel)) p ≡ Some x →

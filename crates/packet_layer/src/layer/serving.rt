@@ -71,7 +71,13 @@ impl Layer {
     }
 
     // The first of the channels from one place up to another that has anything.
-    fn serve_between(&mut self, first: usize, end: usize, buf: &mut PacketBuf, pool: &mut Pool) -> bool
+    fn serve_between(
+        &mut self,
+        first: usize,
+        end: usize,
+        buf: &mut PacketBuf,
+        pool: &mut Pool,
+    ) -> bool
         requires order { first ≤ end }
         requires within { end ≤ length self.old.layer.channels }
         requires few { length self.old.held ≤ most_held self.old.layer }

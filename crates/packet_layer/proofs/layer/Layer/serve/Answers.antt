@@ -16,13 +16,13 @@ returns-then-serve_between-clause-layer c =
     let first = serve (c.len-count.result - next) old (next + 1) in
     let second = serve (next - 0) old 1 in
     let count : c.len-count.result ≡ length old.channels =
-        c.len-count.ensures ∙ c.self.inside.channels.ok.0
-        ∙ sym (plain_length c.self.inside.channels.items) ∙ ap (λ (x : Held). length x.layer.channels) c.self.view_is in
+    c.len-count.ensures ∙ c.self.inside.channels.ok.0
+    ∙ sym (plain_length c.self.inside.channels.items) ∙ ap (λ (x : Held). length x.layer.channels) c.self.view_is in
     let round : serve (length old.channels) old (next_number old old.served_last) ≡ or_else first second =
-        whole_round old old.served_last next c.next_place-next.ensures.place c.next_place-next.ensures.most
-        ∙ ap₂ (λ (n k : ℕ). or_else (serve (n - next) old (next + 1)) (serve k old 1)) (sym count) (less_none next) in
+    whole_round old old.served_last next c.next_place-next.ensures.place c.next_place-next.ensures.most
+    ∙ ap₂ (λ (n k : ℕ). or_else (serve (n - next) old (next + 1)) (serve k old 1)) (sym count) (less_none next) in
     let all : serve (length old.channels) old (next_number old old.served_last) ≡ first =
-        round ∙ or_else_first first second (sym c.if-serve_between.ensures.said) in
+    round ∙ or_else_first first second (sym c.if-serve_between.ensures.said) in
     c.if-serve_between.ensures.layer ∙ ap (λ (n : Next). n.layer) (sym all)
 
 pub returns-then-serve_between-clause-said : goal.returns-then-serve_between-clause-said
@@ -32,13 +32,13 @@ returns-then-serve_between-clause-said c =
     let first = serve (c.len-count.result - next) old (next + 1) in
     let second = serve (next - 0) old 1 in
     let count : c.len-count.result ≡ length old.channels =
-        c.len-count.ensures ∙ c.self.inside.channels.ok.0
-        ∙ sym (plain_length c.self.inside.channels.items) ∙ ap (λ (x : Held). length x.layer.channels) c.self.view_is in
+    c.len-count.ensures ∙ c.self.inside.channels.ok.0
+    ∙ sym (plain_length c.self.inside.channels.items) ∙ ap (λ (x : Held). length x.layer.channels) c.self.view_is in
     let round : serve (length old.channels) old (next_number old old.served_last) ≡ or_else first second =
-        whole_round old old.served_last next c.next_place-next.ensures.place c.next_place-next.ensures.most
-        ∙ ap₂ (λ (n k : ℕ). or_else (serve (n - next) old (next + 1)) (serve k old 1)) (sym count) (less_none next) in
+    whole_round old old.served_last next c.next_place-next.ensures.place c.next_place-next.ensures.most
+    ∙ ap₂ (λ (n k : ℕ). or_else (serve (n - next) old (next + 1)) (serve k old 1)) (sym count) (less_none next) in
     let all : serve (length old.channels) old (next_number old old.served_last) ≡ first =
-        round ∙ or_else_first first second (sym c.if-serve_between.ensures.said) in
+    round ∙ or_else_first first second (sym c.if-serve_between.ensures.said) in
     c.serve_between.ensures.said ∙ ap (λ (n : Next). is_some n.packet) (sym all)
 
 pub returns-then-serve_between-clause-octets : goal.returns-then-serve_between-clause-octets
@@ -48,13 +48,13 @@ returns-then-serve_between-clause-octets c =
     let first = serve (c.len-count.result - next) old (next + 1) in
     let second = serve (next - 0) old 1 in
     let count : c.len-count.result ≡ length old.channels =
-        c.len-count.ensures ∙ c.self.inside.channels.ok.0
-        ∙ sym (plain_length c.self.inside.channels.items) ∙ ap (λ (x : Held). length x.layer.channels) c.self.view_is in
+    c.len-count.ensures ∙ c.self.inside.channels.ok.0
+    ∙ sym (plain_length c.self.inside.channels.items) ∙ ap (λ (x : Held). length x.layer.channels) c.self.view_is in
     let round : serve (length old.channels) old (next_number old old.served_last) ≡ or_else first second =
-        whole_round old old.served_last next c.next_place-next.ensures.place c.next_place-next.ensures.most
-        ∙ ap₂ (λ (n k : ℕ). or_else (serve (n - next) old (next + 1)) (serve k old 1)) (sym count) (less_none next) in
+    whole_round old old.served_last next c.next_place-next.ensures.place c.next_place-next.ensures.most
+    ∙ ap₂ (λ (n k : ℕ). or_else (serve (n - next) old (next + 1)) (serve k old 1)) (sym count) (less_none next) in
     let all : serve (length old.channels) old (next_number old old.served_last) ≡ first =
-        round ∙ or_else_first first second (sym c.if-serve_between.ensures.said) in
+    round ∙ or_else_first first second (sym c.if-serve_between.ensures.said) in
     c.if-serve_between.ensures.octets
     ∙ ap (λ (n : Next). written_packet n.packet c.args.buf.now.items) (sym all)
 
@@ -65,13 +65,13 @@ returns-then-serve_between-clause-reads_back c =
     let first = serve (c.len-count.result - next) old (next + 1) in
     let second = serve (next - 0) old 1 in
     let count : c.len-count.result ≡ length old.channels =
-        c.len-count.ensures ∙ c.self.inside.channels.ok.0
-        ∙ sym (plain_length c.self.inside.channels.items) ∙ ap (λ (x : Held). length x.layer.channels) c.self.view_is in
+    c.len-count.ensures ∙ c.self.inside.channels.ok.0
+    ∙ sym (plain_length c.self.inside.channels.items) ∙ ap (λ (x : Held). length x.layer.channels) c.self.view_is in
     let round : serve (length old.channels) old (next_number old old.served_last) ≡ or_else first second =
-        whole_round old old.served_last next c.next_place-next.ensures.place c.next_place-next.ensures.most
-        ∙ ap₂ (λ (n k : ℕ). or_else (serve (n - next) old (next + 1)) (serve k old 1)) (sym count) (less_none next) in
+    whole_round old old.served_last next c.next_place-next.ensures.place c.next_place-next.ensures.most
+    ∙ ap₂ (λ (n k : ℕ). or_else (serve (n - next) old (next + 1)) (serve k old 1)) (sym count) (less_none next) in
     let all : serve (length old.channels) old (next_number old old.served_last) ≡ first =
-        round ∙ or_else_first first second (sym c.if-serve_between.ensures.said) in
+    round ∙ or_else_first first second (sym c.if-serve_between.ensures.said) in
     subst (λ (n : Next). ReadsBack n.packet c.serve_between.new.buf.items) (sym all)
     c.if-serve_between.ensures.reads_back
 
@@ -82,16 +82,16 @@ returns-else-serve_between-clause-layer c =
     let first = serve (c.len-count.result - next) old (next + 1) in
     let second = serve (next - 0) old 1 in
     let count : c.len-count.result ≡ length old.channels =
-        c.len-count.ensures ∙ c.self.inside.channels.ok.0
-        ∙ sym (plain_length c.self.inside.channels.items) ∙ ap (λ (x : Held). length x.layer.channels) c.self.view_is in
+    c.len-count.ensures ∙ c.self.inside.channels.ok.0
+    ∙ sym (plain_length c.self.inside.channels.items) ∙ ap (λ (x : Held). length x.layer.channels) c.self.view_is in
     let round : serve (length old.channels) old (next_number old old.served_last) ≡ or_else first second =
-        whole_round old old.served_last next c.next_place-next.ensures.place c.next_place-next.ensures.most
-        ∙ ap₂ (λ (n k : ℕ). or_else (serve (n - next) old (next + 1)) (serve k old 1)) (sym count) (less_none next) in
+    whole_round old old.served_last next c.next_place-next.ensures.place c.next_place-next.ensures.most
+    ∙ ap₂ (λ (n k : ℕ). or_else (serve (n - next) old (next + 1)) (serve k old 1)) (sym count) (less_none next) in
     let none = nothing_served (c.len-count.result - next) old (next + 1) (sym c.if-serve_between.ensures.said) in
     let same : c.serve_between.new.self.layer ≡ old =
-        c.if-serve_between.ensures.layer ∙ ap (λ (n : Next). n.layer) none in
+    c.if-serve_between.ensures.layer ∙ ap (λ (n : Next). n.layer) none in
     let all : serve (length old.channels) old (next_number old old.served_last) ≡ second =
-        round ∙ or_else_second first second (sym c.if-serve_between.ensures.said) in
+    round ∙ or_else_second first second (sym c.if-serve_between.ensures.said) in
     c.serve_between-else-serve_between.ensures.layer ∙ ap (λ (x : Layer). (serve (next - 0) x 1).layer) same
     ∙ ap (λ (n : Next). n.layer) (sym all)
 
@@ -102,16 +102,16 @@ returns-else-serve_between-clause-said c =
     let first = serve (c.len-count.result - next) old (next + 1) in
     let second = serve (next - 0) old 1 in
     let count : c.len-count.result ≡ length old.channels =
-        c.len-count.ensures ∙ c.self.inside.channels.ok.0
-        ∙ sym (plain_length c.self.inside.channels.items) ∙ ap (λ (x : Held). length x.layer.channels) c.self.view_is in
+    c.len-count.ensures ∙ c.self.inside.channels.ok.0
+    ∙ sym (plain_length c.self.inside.channels.items) ∙ ap (λ (x : Held). length x.layer.channels) c.self.view_is in
     let round : serve (length old.channels) old (next_number old old.served_last) ≡ or_else first second =
-        whole_round old old.served_last next c.next_place-next.ensures.place c.next_place-next.ensures.most
-        ∙ ap₂ (λ (n k : ℕ). or_else (serve (n - next) old (next + 1)) (serve k old 1)) (sym count) (less_none next) in
+    whole_round old old.served_last next c.next_place-next.ensures.place c.next_place-next.ensures.most
+    ∙ ap₂ (λ (n k : ℕ). or_else (serve (n - next) old (next + 1)) (serve k old 1)) (sym count) (less_none next) in
     let none = nothing_served (c.len-count.result - next) old (next + 1) (sym c.if-serve_between.ensures.said) in
     let same : c.serve_between.new.self.layer ≡ old =
-        c.if-serve_between.ensures.layer ∙ ap (λ (n : Next). n.layer) none in
+    c.if-serve_between.ensures.layer ∙ ap (λ (n : Next). n.layer) none in
     let all : serve (length old.channels) old (next_number old old.served_last) ≡ second =
-        round ∙ or_else_second first second (sym c.if-serve_between.ensures.said) in
+    round ∙ or_else_second first second (sym c.if-serve_between.ensures.said) in
     c.serve_between-else-serve_between.ensures.said ∙ ap (λ (x : Layer). is_some (serve (next - 0) x 1).packet) same
     ∙ ap (λ (n : Next). is_some n.packet) (sym all)
 
@@ -122,19 +122,19 @@ returns-else-serve_between-clause-octets c =
     let first = serve (c.len-count.result - next) old (next + 1) in
     let second = serve (next - 0) old 1 in
     let count : c.len-count.result ≡ length old.channels =
-        c.len-count.ensures ∙ c.self.inside.channels.ok.0
-        ∙ sym (plain_length c.self.inside.channels.items) ∙ ap (λ (x : Held). length x.layer.channels) c.self.view_is in
+    c.len-count.ensures ∙ c.self.inside.channels.ok.0
+    ∙ sym (plain_length c.self.inside.channels.items) ∙ ap (λ (x : Held). length x.layer.channels) c.self.view_is in
     let round : serve (length old.channels) old (next_number old old.served_last) ≡ or_else first second =
-        whole_round old old.served_last next c.next_place-next.ensures.place c.next_place-next.ensures.most
-        ∙ ap₂ (λ (n k : ℕ). or_else (serve (n - next) old (next + 1)) (serve k old 1)) (sym count) (less_none next) in
+    whole_round old old.served_last next c.next_place-next.ensures.place c.next_place-next.ensures.most
+    ∙ ap₂ (λ (n k : ℕ). or_else (serve (n - next) old (next + 1)) (serve k old 1)) (sym count) (less_none next) in
     let none = nothing_served (c.len-count.result - next) old (next + 1) (sym c.if-serve_between.ensures.said) in
     let same : c.serve_between.new.self.layer ≡ old =
-        c.if-serve_between.ensures.layer ∙ ap (λ (n : Next). n.layer) none in
+    c.if-serve_between.ensures.layer ∙ ap (λ (n : Next). n.layer) none in
     let all : serve (length old.channels) old (next_number old old.served_last) ≡ second =
-        round ∙ or_else_second first second (sym c.if-serve_between.ensures.said) in
+    round ∙ or_else_second first second (sym c.if-serve_between.ensures.said) in
     let kept : c.serve_between.new.buf.items ≡ c.args.buf.now.items =
-        c.if-serve_between.ensures.octets
-        ∙ ap (λ (n : Next). written_packet n.packet c.args.buf.now.items) none in
+    c.if-serve_between.ensures.octets
+    ∙ ap (λ (n : Next). written_packet n.packet c.args.buf.now.items) none in
     c.serve_between-else-serve_between.ensures.octets
     ∙ ap (λ (x : Layer). written_packet (serve (next - 0) x 1).packet c.serve_between.new.buf.items) same
     ∙ ap (λ (n : Next). written_packet n.packet c.serve_between.new.buf.items) (sym all)
@@ -148,16 +148,16 @@ returns-else-serve_between-clause-reads_back c =
     let first = serve (c.len-count.result - next) old (next + 1) in
     let second = serve (next - 0) old 1 in
     let count : c.len-count.result ≡ length old.channels =
-        c.len-count.ensures ∙ c.self.inside.channels.ok.0
-        ∙ sym (plain_length c.self.inside.channels.items) ∙ ap (λ (x : Held). length x.layer.channels) c.self.view_is in
+    c.len-count.ensures ∙ c.self.inside.channels.ok.0
+    ∙ sym (plain_length c.self.inside.channels.items) ∙ ap (λ (x : Held). length x.layer.channels) c.self.view_is in
     let round : serve (length old.channels) old (next_number old old.served_last) ≡ or_else first second =
-        whole_round old old.served_last next c.next_place-next.ensures.place c.next_place-next.ensures.most
-        ∙ ap₂ (λ (n k : ℕ). or_else (serve (n - next) old (next + 1)) (serve k old 1)) (sym count) (less_none next) in
+    whole_round old old.served_last next c.next_place-next.ensures.place c.next_place-next.ensures.most
+    ∙ ap₂ (λ (n k : ℕ). or_else (serve (n - next) old (next + 1)) (serve k old 1)) (sym count) (less_none next) in
     let none = nothing_served (c.len-count.result - next) old (next + 1) (sym c.if-serve_between.ensures.said) in
     let same : c.serve_between.new.self.layer ≡ old =
-        c.if-serve_between.ensures.layer ∙ ap (λ (n : Next). n.layer) none in
+    c.if-serve_between.ensures.layer ∙ ap (λ (n : Next). n.layer) none in
     let all : serve (length old.channels) old (next_number old old.served_last) ≡ second =
-        round ∙ or_else_second first second (sym c.if-serve_between.ensures.said) in
+    round ∙ or_else_second first second (sym c.if-serve_between.ensures.said) in
     subst (λ (n : Next). ReadsBack n.packet c.serve_between-else-serve_between.new.buf.items) (sym all)
     (subst (λ (x : Layer). ReadsBack (serve (next - 0) x 1).packet c.serve_between-else-serve_between.new.buf.items) same c.serve_between-else-serve_between.ensures.reads_back)
 
@@ -168,14 +168,14 @@ serve_between-requires-else-serve_between-clause-within c =
     let first = serve (c.len-count.result - next) old (next + 1) in
     let second = serve (next - 0) old 1 in
     let count : c.len-count.result ≡ length old.channels =
-        c.len-count.ensures ∙ c.self.inside.channels.ok.0
-        ∙ sym (plain_length c.self.inside.channels.items) ∙ ap (λ (x : Held). length x.layer.channels) c.self.view_is in
+    c.len-count.ensures ∙ c.self.inside.channels.ok.0
+    ∙ sym (plain_length c.self.inside.channels.items) ∙ ap (λ (x : Held). length x.layer.channels) c.self.view_is in
     let round : serve (length old.channels) old (next_number old old.served_last) ≡ or_else first second =
-        whole_round old old.served_last next c.next_place-next.ensures.place c.next_place-next.ensures.most
-        ∙ ap₂ (λ (n k : ℕ). or_else (serve (n - next) old (next + 1)) (serve k old 1)) (sym count) (less_none next) in
+    whole_round old old.served_last next c.next_place-next.ensures.place c.next_place-next.ensures.most
+    ∙ ap₂ (λ (n k : ℕ). or_else (serve (n - next) old (next + 1)) (serve k old 1)) (sym count) (less_none next) in
     let none = nothing_served (c.len-count.result - next) old (next + 1) (sym c.if-serve_between.ensures.said) in
     let same : c.serve_between.new.self.layer ≡ old =
-        c.if-serve_between.ensures.layer ∙ ap (λ (n : Next). n.layer) none in
+    c.if-serve_between.ensures.layer ∙ ap (λ (n : Next). n.layer) none in
     subst (λ (x : Layer). next ≤ length x.channels) (sym same) c.next_place-next.ensures.most
 
 pub serve_between-requires-else-serve_between-clause-holds : goal.serve_between-requires-else-serve_between-clause-holds

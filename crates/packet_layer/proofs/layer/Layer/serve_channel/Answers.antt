@@ -21,7 +21,7 @@ invariant_of-self c =
     let there = placed a c.args.self.now place held c.self.view_is c.requires.place c.index_mut-channel.ensures.value in
     let found : slice_get l.channels place ≡ Some ch = plain_at a.channels.items place held there in
     let says : is_some (next_of l.window ch).body ≡ true =
-        sym c.if-next_packet.ensures.said in
+    sym c.if-next_packet.ensures.said in
     layer_spoke a place held c.next_packet.new.self (place + 1) c.self.invariant there says (c.next_packet.ensures.fits a.window)
 
 pub invariant_of-self-else-next_packet : goal.invariant_of-self-else-next_packet
@@ -34,7 +34,7 @@ invariant_of-self-else-next_packet c =
     let there = placed a c.args.self.now place held c.self.view_is c.requires.place c.index_mut-channel.ensures.value in
     let found : slice_get l.channels place ≡ Some ch = plain_at a.channels.items place held there in
     let silent : is_some (next_of l.window ch).body ≡ false =
-        sym c.if-next_packet.ensures.said in
+    sym c.if-next_packet.ensures.said in
     layer_quieted a c.remove.new.self place held c.next_packet.new.self c.self.invariant c.remove.ensures
     there silent c.if-next_packet.ensures.same
 
@@ -48,7 +48,7 @@ returns-then-next_packet-clause-layer c =
     let there = placed a c.args.self.now place held c.self.view_is c.requires.place c.index_mut-channel.ensures.value in
     let found : slice_get l.channels place ≡ Some ch = plain_at a.channels.items place held there in
     let says : is_some (next_of l.window ch).body ≡ true =
-        sym c.if-next_packet.ensures.said in
+    sym c.if-next_packet.ensures.said in
     let is_said = says_at l (place + 1) place ch refl found says in
     rw (← c.self.view_is) (ap (λ chs. record l { channels = chs; served_last = place + 1 }) (plain_set a.channels.items place c.next_packet.new.self)
     ∙ ap (λ (x : Channel). record l { channels = set l.channels place x; served_last = place + 1 })
@@ -65,7 +65,7 @@ returns-then-next_packet-clause-said c =
     let there = placed a c.args.self.now place held c.self.view_is c.requires.place c.index_mut-channel.ensures.value in
     let found : slice_get l.channels place ≡ Some ch = plain_at a.channels.items place held there in
     let says : is_some (next_of l.window ch).body ≡ true =
-        sym c.if-next_packet.ensures.said in
+    sym c.if-next_packet.ensures.said in
     let is_said = says_at l (place + 1) place ch refl found says in
     rw (← c.self.view_is) (sym (ap (λ (n : Next). is_some n.packet) is_said
     ∙ said_of (next_of l.window ch).body (place + 1) ∙ says))
@@ -80,7 +80,7 @@ returns-then-next_packet-clause-octets c =
     let there = placed a c.args.self.now place held c.self.view_is c.requires.place c.index_mut-channel.ensures.value in
     let found : slice_get l.channels place ≡ Some ch = plain_at a.channels.items place held there in
     let says : is_some (next_of l.window ch).body ≡ true =
-        sym c.if-next_packet.ensures.said in
+    sym c.if-next_packet.ensures.said in
     let is_said = says_at l (place + 1) place ch refl found says in
     rw (← c.self.view_is) (c.if-next_packet.ensures.octets
     ∙ written_of (next_of l.window ch).body (place + 1) c.args.buf.now.items
@@ -96,7 +96,7 @@ returns-then-next_packet-clause-reads_back c =
     let there = placed a c.args.self.now place held c.self.view_is c.requires.place c.index_mut-channel.ensures.value in
     let found : slice_get l.channels place ≡ Some ch = plain_at a.channels.items place held there in
     let says : is_some (next_of l.window ch).body ≡ true =
-        sym c.if-next_packet.ensures.said in
+    sym c.if-next_packet.ensures.said in
     let is_said = says_at l (place + 1) place ch refl found says in
     rw (← c.self.view_is) (subst (λ (n : Next). ReadsBack n.packet c.next_packet.new.buf.items) (sym is_said)
     (reads_of (next_of l.window ch).body (place + 1) c.next_packet.new.buf.items c.if-next_packet.ensures.reads_back))
@@ -111,7 +111,7 @@ returns-else-next_packet-clause-layer c =
     let there = placed a c.args.self.now place held c.self.view_is c.requires.place c.index_mut-channel.ensures.value in
     let found : slice_get l.channels place ≡ Some ch = plain_at a.channels.items place held there in
     let silent : is_some (next_of l.window ch).body ≡ false =
-        sym c.if-next_packet.ensures.said in
+    sym c.if-next_packet.ensures.said in
     let is_silent = silent_at l (place + 1) place ch refl found silent in
     rw (← c.self.view_is) (ap (λ chs. record l { channels = chs }) (plain_set a.channels.items place c.next_packet.new.self)
     ∙ unchanged l place ch c.next_packet.new.self.channel found (ap (λ (x : Holder). x.channel) c.if-next_packet.ensures.same)
@@ -127,7 +127,7 @@ returns-else-next_packet-clause-said c =
     let there = placed a c.args.self.now place held c.self.view_is c.requires.place c.index_mut-channel.ensures.value in
     let found : slice_get l.channels place ≡ Some ch = plain_at a.channels.items place held there in
     let silent : is_some (next_of l.window ch).body ≡ false =
-        sym c.if-next_packet.ensures.said in
+    sym c.if-next_packet.ensures.said in
     let is_silent = silent_at l (place + 1) place ch refl found silent in
     rw (← c.self.view_is) (sym (ap (λ (n : Next). is_some n.packet) is_silent))
 
@@ -141,7 +141,7 @@ returns-else-next_packet-clause-octets c =
     let there = placed a c.args.self.now place held c.self.view_is c.requires.place c.index_mut-channel.ensures.value in
     let found : slice_get l.channels place ≡ Some ch = plain_at a.channels.items place held there in
     let silent : is_some (next_of l.window ch).body ≡ false =
-        sym c.if-next_packet.ensures.said in
+    sym c.if-next_packet.ensures.said in
     let is_silent = silent_at l (place + 1) place ch refl found silent in
     rw (← c.self.view_is) (c.if-next_packet.ensures.octets
     ∙ written_none (next_of l.window ch).body (place + 1) c.args.buf.now.items silent
@@ -157,7 +157,7 @@ returns-else-next_packet-clause-reads_back c =
     let there = placed a c.args.self.now place held c.self.view_is c.requires.place c.index_mut-channel.ensures.value in
     let found : slice_get l.channels place ≡ Some ch = plain_at a.channels.items place held there in
     let silent : is_some (next_of l.window ch).body ≡ false =
-        sym c.if-next_packet.ensures.said in
+    sym c.if-next_packet.ensures.said in
     let is_silent = silent_at l (place + 1) place ch refl found silent in
     rw (← c.self.view_is) (subst (λ (n : Next). ReadsBack n.packet c.next_packet.new.buf.items) (sym is_silent) tt)
 
