@@ -1,6 +1,9 @@
 -- What a link holds stays in its pool.
-use Rattle.std.specs.Prelude.{◌≡◌, ◌+◌, ◌<◌, ◌≤◌, length}
-use Rattle.std.proofs.Common.{ap, ◌∙◌, sym, arith}
+use Rattle.std.specs.Prelude.{◌≡◌, ℕ, zero, suc, ◌+◌, ◌<◌, ◌≤◌, Bool, true, false, length, replicate}
+use Rattle.std.proofs.Common.{refl, ap, ◌∙◌, sym, arith}
+use Rattle.link_timers.specs.declared.role.Role.{Role}
+use Rattle.link_timers.specs.declared.role.Role.TheVariants.{Dte, Dce}
+use Rattle.line_end.specs.End as line
 use Rattle.flow_window.specs.Pool.{Pool, in_use, Balances}
 use Rattle.flow_window.proofs.Weights.{weight_ones}
 use Rattle.lapb.specs.Held.{Link}
@@ -54,3 +57,14 @@ has_buffer a is =
     let all = is.exact (λ _. 1) in
     let ones = weight_ones a.end.held in
     omega (arith, all, ones, is.places, is.few)
+
+-- as it is made
+pub made_k : (role : Role) (k n2 : ℕ) (standing : Bool) → (line.made role k n2 standing).link.k ≡ k
+made_k Dte k n2 true = refl
+made_k Dce k n2 true = refl
+made_k Dte k n2 false = refl
+made_k Dce k n2 false = refl
+
+pub replicated : {X : Type 0} (n : ℕ) (x : X) → length (replicate n x) ≡ n
+replicated zero x = refl
+replicated (suc n) x = ap (λ m. suc m) (replicated n x)
