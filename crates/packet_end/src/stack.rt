@@ -259,7 +259,8 @@ impl Stack {
         ensures said { result ≡ is_some (machine.next_packet self.old.layer).packet }
         ensures layer { self.new.layer ≡ (machine.next_packet self.old.layer).layer }
         ensures offered { OnTrue result (self.new.line
-            ≡ line.offered self.old.line (written_packet (machine.next_packet self.old.layer).packet packet.old.items)) }
+            ≡ line.offered self.old.line
+            (written_packet (machine.next_packet self.old.layer).packet packet.old.items)) }
         ensures same { OnFalse result (self.new.line ≡ self.old.line) }
     {
         if !self.layer.next_packet(packet, &mut self.pool) {

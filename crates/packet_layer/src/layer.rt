@@ -1,6 +1,6 @@
 //! The packet layer of one line (X.25 3 to 5).
-ghost use Rattle.std.specs.Prelude.{◌≡◌, ◌<◌, ◌≤◌, ◌+◌, ◌++◌, MatchResult, MatchOption, IfOk, Some, None, false, Bool, ℕ, []};
-ghost use Rattle.std.specs.Prelude.{length, drop, replicate, slice_get};
+ghost use Rattle.std.specs.Prelude.{◌≡◌, ◌<◌, ◌≤◌, ◌+◌, ◌++◌, MatchResult, MatchOption, IfOk, Some, None, false, Bool};
+ghost use Rattle.std.specs.Prelude.{ℕ, [], length, drop, replicate, slice_get};
 ghost use Rattle.packet_channel.specs.Channel.{Channel as ChannelValue, closed_channel};
 ghost use Rattle.flow_window.specs.Pool.{Buffer, weight};
 ghost use Rattle.packet_layer.specs.Layer as machine;

@@ -248,7 +248,8 @@ impl Channel {
         requires holds { Holds pool.old self.old.held }
         ensures channel { self.new ≡ record { channel = machine.renewed false self.old.channel; held = [] } }
         ensures effect { result
-            ≡ effect_of (machine.in_flow_ready end.role end.window end.channel self.old.channel (body.Reset cause diagnostic)) }
+            ≡ effect_of (machine.in_flow_ready end.role end.window end.channel self.old.channel
+            (body.Reset cause diagnostic)) }
         ensures pool { Balances pool.old self.old.held pool.new [] }
     {
         self.resetting = false;
@@ -269,9 +270,11 @@ impl Channel {
         requires transfer { machine.in_transfer self.old.channel.state ≡ true }
         requires holds { Holds pool.old self.old.held }
         ensures channel { self.new.channel
-            ≡ (machine.after_heard end.role end.channel self.old.channel (heard_of heard self.old.channel.traffic)).channel }
+            ≡ (machine.after_heard end.role end.channel self.old.channel
+            (heard_of heard self.old.channel.traffic)).channel }
         ensures effect { result
-            ≡ effect_of (machine.after_heard end.role end.channel self.old.channel (heard_of heard self.old.channel.traffic)) }
+            ≡ effect_of (machine.after_heard end.role end.channel self.old.channel
+            (heard_of heard self.old.channel.traffic)) }
         ensures pool { Balances pool.old self.old.held pool.new self.new.held }
         ensures fits { (window : ℕ) → Fits window self.old → Fits window self.new }
     {

@@ -149,7 +149,8 @@ impl Channel {
         ensures answer { (role : RoleValue)
             → Answers role self.old.channel
             (machine.Request.Sending
-            (record { octets = octets.now; more = more; qualified = qualified; delivery = delivery })) result self.new.channel }
+            (record { octets = octets.now; more = more; qualified = qualified; delivery = delivery }))
+            result self.new.channel }
         ensures pool { Balances pool.old self.old.held pool.new self.new.held }
         ensures fits { (window : ℕ) → Fits window self.old → Fits window self.new }
     {
@@ -174,7 +175,8 @@ impl Channel {
     }
 
     fn interrupt(&mut self, octets: &[u8]) -> Result<bool, ChannelFault>
-        ensures answer { (role : RoleValue) → Answers role self.old.channel (machine.Request.Interrupting octets.now) result self.new.channel }
+        ensures answer { (role : RoleValue)
+            → Answers role self.old.channel (machine.Request.Interrupting octets.now) result self.new.channel }
         ensures held { self.new.held ≡ self.old.held }
         ensures arrived { self.new.channel.traffic.arrived ≡ self.old.channel.traffic.arrived }
     {
@@ -195,7 +197,8 @@ impl Channel {
     }
 
     fn stop(&mut self, stopped: bool) -> Result<bool, ChannelFault>
-        ensures answer { (role : RoleValue) → Answers role self.old.channel (machine.Request.Stopping stopped) result self.new.channel }
+        ensures answer { (role : RoleValue)
+            → Answers role self.old.channel (machine.Request.Stopping stopped) result self.new.channel }
         ensures held { self.new.held ≡ self.old.held }
         ensures arrived { self.new.channel.traffic.arrived ≡ self.old.channel.traffic.arrived }
     {
@@ -207,7 +210,8 @@ impl Channel {
     }
 
     fn release(&mut self, count: u8) -> Result<bool, ChannelFault>
-        ensures answer { (role : RoleValue) → Answers role self.old.channel (machine.Request.Releasing count) result self.new.channel }
+        ensures answer { (role : RoleValue)
+            → Answers role self.old.channel (machine.Request.Releasing count) result self.new.channel }
         ensures held { self.new.held ≡ self.old.held }
         ensures arrived { self.new.channel.traffic.arrived ≡ self.old.channel.traffic.arrived }
     {
@@ -219,7 +223,8 @@ impl Channel {
     }
 
     fn confirm_interrupt(&mut self) -> Result<bool, ChannelFault>
-        ensures answer { (role : RoleValue) → Answers role self.old.channel machine.Request.Confirming result self.new.channel }
+        ensures answer { (role : RoleValue)
+            → Answers role self.old.channel machine.Request.Confirming result self.new.channel }
         ensures held { self.new.held ≡ self.old.held }
         ensures arrived { self.new.channel.traffic.arrived ≡ self.old.channel.traffic.arrived }
     {

@@ -53,10 +53,13 @@ impl Traffic {
         requires window { window ≤ 7 }
         requires channel { 0 < channel }
         requires holds { Holds pool.old self.old.held }
-        ensures traffic { self.new.traffic ≡ (machine.says_interrupt window self.old.traffic.interrupt_waiting self.old.traffic).traffic }
-        ensures said { result ≡ is_some (machine.says_interrupt window self.old.traffic.interrupt_waiting self.old.traffic).body }
+        ensures traffic { self.new.traffic
+            ≡ (machine.says_interrupt window self.old.traffic.interrupt_waiting self.old.traffic).traffic }
+        ensures said { result
+            ≡ is_some (machine.says_interrupt window self.old.traffic.interrupt_waiting self.old.traffic).body }
         ensures octets { buf.new.items
-            ≡ written channel (machine.says_interrupt window self.old.traffic.interrupt_waiting self.old.traffic).body buf.old.items }
+            ≡ written channel (machine.says_interrupt window self.old.traffic.interrupt_waiting self.old.traffic).body
+            buf.old.items }
         ensures reads_back { ReadsAs channel
             (machine.says_interrupt window self.old.traffic.interrupt_waiting self.old.traffic).body buf.new.items }
         ensures pool { Balances pool.old self.old.held pool.new self.new.held }
@@ -81,11 +84,13 @@ impl Traffic {
         requires window { window ≤ 7 }
         requires channel { 0 < channel }
         requires holds { Holds pool.old self.old.held }
-        ensures traffic { self.new.traffic ≡ (machine.says_data window self.old.traffic.waiting self.old.traffic).traffic }
+        ensures traffic { self.new.traffic
+            ≡ (machine.says_data window self.old.traffic.waiting self.old.traffic).traffic }
         ensures said { result ≡ is_some (machine.says_data window self.old.traffic.waiting self.old.traffic).body }
         ensures octets { buf.new.items
             ≡ written channel (machine.says_data window self.old.traffic.waiting self.old.traffic).body buf.old.items }
-        ensures reads_back { ReadsAs channel (machine.says_data window self.old.traffic.waiting self.old.traffic).body buf.new.items }
+        ensures reads_back { ReadsAs channel
+            (machine.says_data window self.old.traffic.waiting self.old.traffic).body buf.new.items }
         ensures pool { Balances pool.old self.old.held pool.new self.new.held }
         ensures most { length self.new.held ≤ 8 + length self.new.traffic.arrived }
         ensures arrived { self.new.traffic.arrived ≡ self.old.traffic.arrived }

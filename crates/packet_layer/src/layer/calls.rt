@@ -101,7 +101,8 @@ impl Layer {
         requires room { HasRoom pool.old self.old.held (most_held self.old.layer + 1) }
         ensures answer { MatchResult result
             (λ _. machine.request_refusal self.old.layer channel (request_of request.now) ≡ None)
-            (λ fault. machine.request_refusal self.old.layer channel (request_of request.now) ≡ Some (refusal_of fault)) }
+            (λ fault. machine.request_refusal self.old.layer channel (request_of request.now)
+            ≡ Some (refusal_of fault)) }
         ensures layer { self.new.layer ≡ machine.request self.old.layer channel (request_of request.now) }
         ensures pool { Balances pool.old self.old.held pool.new self.new.held }
         ensures most { most_held self.new.layer ≡ most_held self.old.layer }

@@ -116,7 +116,8 @@ impl Layer {
     fn take_unreadable(&mut self, octets: &[u8], unknown: bool, pool: &mut Pool)
         requires read { self.old.layer.notes ≡ [] }
         requires holds { Holds pool.old self.old.held }
-        ensures layer { self.new.layer ≡ after_hearing self.old.layer (unreadable_as unknown (named_channel octets.now)) }
+        ensures layer { self.new.layer
+            ≡ after_hearing self.old.layer (unreadable_as unknown (named_channel octets.now)) }
         ensures pool { Balances pool.old self.old.held pool.new self.new.held }
         ensures most { most_held self.new.layer ≡ most_held self.old.layer }
     {
