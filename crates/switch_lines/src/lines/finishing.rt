@@ -14,8 +14,8 @@ use crate::lines::{LineList, Lines};
 use crate::place::NewJoin;
 use address_routes::Routes;
 use arrayvec::ArrayVec;
-use number_set::NumberSet;
 use link_timers::TimerId;
+use number_set::NumberSet;
 
 /// The most packets that a link has unacknowledged.
 const MOST_PACKETS: usize = 7;
