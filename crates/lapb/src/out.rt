@@ -19,12 +19,12 @@ pub const MOST_FRAMES: usize = 9;
 /// Each frame is written in its place, and stays there until it is taken or all is cleared.
 #[derive(Drop)]
 pub struct LinkOut {
+    taken: usize,
+    end: usize,
     places: [FrameBuf; MOST_FRAMES],
     note: Note,
     accepted: bool,
     timer: Timing,
-    taken: usize,
-    end: usize,
 }
 
 impl Model for LinkOut {
@@ -45,6 +45,8 @@ impl LinkOut {
         ensures { result ≡ no_out }
     {
         LinkOut {
+            taken: 0,
+            end: 0,
             places: [
                 FrameBuf::new(),
                 FrameBuf::new(),
@@ -59,8 +61,6 @@ impl LinkOut {
             note: Note::Nothing,
             accepted: false,
             timer: Timing::Keep,
-            taken: 0,
-            end: 0,
         }
     }
 

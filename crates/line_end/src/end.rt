@@ -250,7 +250,8 @@ impl LineEnd {
         let Some(first) = self.out.frames().first() else {
             return false;
         };
-        frame.copy_from(first);
+        frame.clear();
+        frame.extend(first.as_slice());
         self.out.drop_first();
         true
     }
