@@ -1,3 +1,6 @@
 pub mod Turns
+pub mod Parts
 pub mod Deliveries
 pub mod Expiries
+pub mod WholeRead
+pub mod Failing
