@@ -8,16 +8,8 @@ mod confirmed;
 #[cfg(test)]
 mod files;
 #[cfg(test)]
-mod hosts;
-#[cfg(test)]
 mod networks;
 #[cfg(test)]
 mod programs;
 #[cfg(test)]
 mod switched;
-#[cfg(test)]
-mod switched_terminals;
-#[cfg(test)]
-mod terminal_calls;
-#[cfg(test)]
-mod terminals;

@@ -1,4 +1,4 @@
-use crate::programs::played;
+use crate::playing::played;
 use std::str::from_utf8;
 use std::test::Fail;
 

@@ -1,5 +1,5 @@
 //! PADs at their hosts: what their terminals show, and what goes over the line.
-use crate::programs::played;
+use crate::playing::played;
 use crate::terminal_calls::{CALL, IN_A_CALL};
 use std::alloc::Global;
 use std::str::from_utf8;

@@ -1,5 +1,5 @@
 //! Terminals that call through a switch, with the octets of the lines.
-use crate::programs::played;
+use crate::playing::played;
 use std::str::from_utf8;
 use std::test::Fail;
 
