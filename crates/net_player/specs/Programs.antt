@@ -17,6 +17,7 @@ use Rattle.net_files.specs.declared.network.TheConstants.{FIRST}
 use Rattle.net_files.specs.declared.fault.ProgFault.{ProgFault}
 use Rattle.net_files.specs.declared.fault.ProgFault.TheVariants as fault_is
 use Rattle.net_files.specs.declared.script.Script.{Script}
+use Rattle.net_files.specs.Networks.{Spells}
 use Rattle.net_files.specs.Scripts.{IsScript, IsScriptFault}
 use Rattle.net_player.specs.InTurn.{Writes}
 use Rattle.net_player.specs.Playing.{Plays}
@@ -55,13 +56,6 @@ making_fault make_fault_is.OutOfMemory = fault_is.OutOfMemory
 
 -- ---- the texts of both
 
--- the text is a document of which this network is read
-abbrev pub IsNetworkOf : (net : List ℕ) → Config → Type 0
-IsNetworkOf net config = ⊤
-
-abbrev pub IsNetFault : (net : List ℕ) → ProgFault → Type 0
-IsNetFault net fault = ⊤
-
 -- the text of the built-in network
 abbrev pub IsFirst : List ℕ → Type 0
 IsFirst text = text ≡ FIRST.now
@@ -79,28 +73,29 @@ pub record PlaysTexts (mode : Mode) (IsNet IsText : List ℕ → Type 0) (before
   pub net : List ℕ
   pub is_net : IsNet net
   pub config : Config
-  pub network : IsNetworkOf net config
+  pub network : Spells net config
   pub text : List ℕ
   pub is_text : IsText text
   pub script : Script
   pub read : IsScript config text script
   pub plays : PlaysOn mode config script before after
 
--- or not: memory was wanted, a text could not be had, that of the network is no text or no network, the script has a
--- line that is no command, each before anything was written; or the script was not played to its end
+-- or not: memory was wanted, a text could not be had, that of the network is no text or spells no network, the
+-- script has a line that is no command, each before anything was written; or the script was not played to its end
 pub data TextsFail (mode : Mode) (IsNet IsText : List ℕ → Type 0) (before after : Option (List ℕ))
     : ProgFault → Type 0 where
   no_memory : after ≡ before → TextsFail mode IsNet IsText before after fault_is.OutOfMemory
   unread : after ≡ before → TextsFail mode IsNet IsText before after fault_is.File
   no_text : (net : List ℕ)
       → IsNet net → ¬ IsUtf8 net → after ≡ before → TextsFail mode IsNet IsText before after fault_is.NetText
-  bad_net : {fault : ProgFault} (net : List ℕ)
-      → IsNet net → IsNetFault net fault → after ≡ before → TextsFail mode IsNet IsText before after fault
+  no_network : (net : List ℕ)
+      → IsNet net → ((config : Config) → ¬ Spells net config) → after ≡ before
+      → TextsFail mode IsNet IsText before after fault_is.NetText
   bad_script : {fault : ProgFault} (net : List ℕ) (config : Config) (text : List ℕ)
-      → IsNet net → IsNetworkOf net config → IsText text → IsScriptFault config text fault
+      → IsNet net → Spells net config → IsText text → IsScriptFault config text fault
       → after ≡ before → TextsFail mode IsNet IsText before after fault
   unplayed : {fault : ProgFault} (net : List ℕ) (config : Config) (text : List ℕ) (script : Script)
-      → IsNet net → IsNetworkOf net config → IsText text → IsScript config text script
+      → IsNet net → Spells net config → IsText text → IsScript config text script
       → PlayFails mode config script before after fault → TextsFail mode IsNet IsText before after fault
 
 -- ---- the words

@@ -1,6 +1,6 @@
 use Rattle.std.proofs.Common.{refl, inl, inr}
 use Rattle.std.proofs.lemmas.Result.{err_from_is_err_and}
-use Rattle.net_player.specs.Programs.TextsFail.{no_memory, unread, no_text, bad_net, bad_script, unplayed}
+use Rattle.net_player.specs.Programs.TextsFail.{no_memory, unread, no_text, no_network, bad_script, unplayed}
 use Rattle.net_player.proofs.Parts.{if_err_as, on_ok_as}
 use Rattle.net_player.proofs.program.play_files.Goals as goal
 
@@ -20,7 +20,10 @@ returns-in_err-text_of-clause-failed g c =
 pub returns-in_err-config-clause-failed : goal.returns-in_err-config-clause-failed
 returns-in_err-config-clause-failed g c =
     let p = err_from_is_err_and c.from_residual-in_err-config.result c.from_residual-in_err-config.ensures.1 in
-    rw (p.1, p.2) (bad_net c.in_ok-text_of.field-0.now tt tt refl)
+    rw (p.1, p.2) (elim c.in_err-config.ensures.spelled [
+      | inl is ↦ rw is (no_memory refl)
+      | inr none ↦ rw none.0 (no_network c.in_ok-text_of.field-0.now tt none.1 refl)
+    ])
 
 pub returns-in_err-text-2-clause-failed : goal.returns-in_err-text-2-clause-failed
 returns-in_err-text-2-clause-failed g c =
@@ -33,7 +36,8 @@ returns-in_err-text-2-clause-failed g c =
 pub returns-in_err-script-clause-failed : goal.returns-in_err-script-clause-failed
 returns-in_err-script-clause-failed g c =
     let p = err_from_is_err_and c.from_residual-in_err-script.result c.from_residual-in_err-script.ensures.1 in
-    rw (p.1, p.2) (bad_script c.in_ok-text_of.field-0.now c.in_ok-config.config _ tt tt tt c.in_err-script.ensures.fault refl)
+    rw (p.1, p.2) (bad_script c.in_ok-text_of.field-0.now c.in_ok-config.config _ tt
+    c.in_ok-config.ensures.spelled tt c.in_err-script.ensures.fault refl)
 
 pub returns-clause-played : goal.returns-clause-played
 returns-clause-played g c =
@@ -41,7 +45,7 @@ returns-clause-played g c =
       net = c.in_ok-text_of.field-0.now;
       is_net = tt;
       config = c.in_ok-config.config;
-      network = tt;
+      network = c.in_ok-config.ensures.spelled;
       text = _;
       is_text = tt;
       script = c.in_ok-script.script;
@@ -52,4 +56,4 @@ returns-clause-played g c =
 pub returns-clause-failed : goal.returns-clause-failed
 returns-clause-failed g c =
     if_err_as c.play_over.result (λ fault fails. unplayed c.in_ok-text_of.field-0.now c.in_ok-config.config _
-    c.in_ok-script.script tt tt tt c.in_ok-script.ensures.script fails) c.play_over.ensures.failed
+    c.in_ok-script.script tt c.in_ok-config.ensures.spelled tt c.in_ok-script.ensures.script fails) c.play_over.ensures.failed

@@ -1,13 +1,16 @@
 use Rattle.std.proofs.Common.{refl, inl, inr}
 use Rattle.std.proofs.lemmas.Result.{err_from_is_err_and}
-use Rattle.net_player.specs.Programs.TextsFail.{no_memory, unread, bad_net, bad_script, unplayed}
+use Rattle.net_player.specs.Programs.TextsFail.{no_memory, unread, no_network, bad_script, unplayed}
 use Rattle.net_player.proofs.Parts.{if_err_as, on_ok_as}
 use Rattle.net_player.proofs.program.play_first.Goals as goal
 
 pub returns-in_err-config-clause-failed : goal.returns-in_err-config-clause-failed
 returns-in_err-config-clause-failed g c =
     let p = err_from_is_err_and c.from_residual.result c.from_residual.ensures.1 in
-    rw (p.1, p.2) (bad_net _ refl tt refl)
+    rw (p.1, p.2) (elim c.in_err-config.ensures.spelled [
+      | inl is ↦ rw is (no_memory refl)
+      | inr none ↦ rw none.0 (no_network _ refl none.1 refl)
+    ])
 
 pub returns-in_err-text-clause-failed : goal.returns-in_err-text-clause-failed
 returns-in_err-text-clause-failed g c =
@@ -20,7 +23,7 @@ returns-in_err-text-clause-failed g c =
 pub returns-in_err-script-clause-failed : goal.returns-in_err-script-clause-failed
 returns-in_err-script-clause-failed g c =
     let p = err_from_is_err_and c.from_residual-in_err-script.result c.from_residual-in_err-script.ensures.1 in
-    rw (p.1, p.2) (bad_script _ c.in_ok-config.config _ refl tt c.in_ok-text.ensures.left
+    rw (p.1, p.2) (bad_script _ c.in_ok-config.config _ refl c.in_ok-config.ensures.spelled c.in_ok-text.ensures.left
     (rw c.as_slice.ensures.value at c.in_err-script.ensures.fault) refl)
 
 pub returns-clause-played : goal.returns-clause-played
@@ -29,7 +32,7 @@ returns-clause-played g c =
       net = _;
       is_net = refl;
       config = c.in_ok-config.config;
-      network = tt;
+      network = c.in_ok-config.ensures.spelled;
       text = _;
       is_text = c.in_ok-text.ensures.left;
       script = c.in_ok-script.script;
@@ -39,6 +42,6 @@ returns-clause-played g c =
 
 pub returns-clause-failed : goal.returns-clause-failed
 returns-clause-failed g c =
-    if_err_as c.play_in_memory.result (λ fault fails. unplayed _ c.in_ok-config.config _ c.in_ok-script.script refl tt
-    c.in_ok-text.ensures.left (rw c.as_slice.ensures.value at c.in_ok-script.ensures.script) fails)
+    if_err_as c.play_in_memory.result (λ fault fails. unplayed _ c.in_ok-config.config _ c.in_ok-script.script refl
+    c.in_ok-config.ensures.spelled c.in_ok-text.ensures.left (rw c.as_slice.ensures.value at c.in_ok-script.ensures.script) fails)
     c.play_in_memory.ensures.failed
