@@ -4,5 +4,6 @@ mod Events
 mod FewerDue
 mod Refusals
 mod RunsMore
+mod Stepped
 mod Resting
 mod Receipts

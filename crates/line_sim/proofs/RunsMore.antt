@@ -18,6 +18,8 @@ use Rattle.net_nodes.specs.Places.{is_host_at, pad_terminals, user_at}
 use Rattle.net_nodes.specs.Faults.{step_fault, refused, at_node, at_host, is_channel_at, on_channel, stands_at, at_terminal, where_there_is, takes_memory, MayWant}
 use Rattle.net_nodes.specs.Happening.{Happens}
 use Rattle.line_sim.specs.Runs.{IsHandled, Ran, HasRun, HasStopped}
+use Rattle.line_sim.specs.Stepping.{lent, HasStepped}
+use Rattle.std.specs.Borrow.{Bor}
 
 -- what was answered, or refused for another reason than want of memory, happened
 pub happened : (L : LineService) (e : Event) (s : Network) (r : Result Answer StepFault) (t : Network) → Happens L e s r t → (r ≡ Err OutOfMemory → ⊥) → IsHandled L e s (step_fault e s) t
@@ -117,6 +119,24 @@ wanting L e s (Err fault) t h memory =
 pub has-memory : (L : LineService) (e : Event) (s : Network) (r : Result Answer StepFault) (t : Network) → Happens L e s r t
     → takes_memory e ≡ false → r ≡ Err OutOfMemory → ⊥
 has-memory L e s r t h none memory = absurd (let takes = (wanting L e s r t h memory).0 in cc)
+
+-- ---- an answer that is lent
+
+module _ (L : LineService) (e : Event) (s t : Network) (r : Result (Bor Answer) StepFault) (w : HasStepped L e s (lent r) t) where
+  same_fault : (fault : StepFault) → r ≡ Err fault → lent r ≡ Err OutOfMemory → fault ≡ OutOfMemory
+  same_fault fault is memory =
+      let same : ◌≡◌ {A = Result Answer StepFault} (Err fault) (Err OutOfMemory) = ap lent (sym is) ∙ memory in cc
+
+  pub lent_refused : (fault : StepFault) → r ≡ Err fault → (fault ≡ OutOfMemory → ⊥) → IsHandled L e s (step_fault e s) t
+  lent_refused fault is not_memory = happened L e s (lent r) t w.happens (λ memory. not_memory (same_fault fault is memory))
+
+  pub lent_answered : (answer : Bor Answer) → r ≡ Ok answer → IsHandled L e s (step_fault e s) t
+  lent_answered answer is =
+      happened L e s (lent r) t w.happens
+      (λ memory. absurd (let same : ◌≡◌ {A = Result Answer StepFault} (Ok answer.now) (Err OutOfMemory) = ap lent (sym is) ∙ memory in cc))
+
+  pub lent_wanting : (fault : StepFault) → r ≡ Err fault → fault ≡ OutOfMemory → MayWant e s
+  lent_wanting fault is memory = wanting L e s (lent r) t w.happens (ap lent is ∙ ap Err memory)
 
 pub stops : (config : Config) (events : List Event) (i : ℕ) (d e : Event) (t : Network) → i < length events → e ≡ get_or events i d
     → HasRun config (take i events) t → MayWant e t → HasStopped config events i

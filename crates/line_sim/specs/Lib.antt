@@ -8,3 +8,4 @@ pub mod Between
 pub mod Runs
 pub mod Expiries
 pub mod Receipts
+pub mod Stepping

@@ -1,5 +1,5 @@
 //! The network, and what it promises.
-ghost use Rattle.std.specs.Prelude.{◌≡◌, ◌≢◌, true, false, map, Err, IsOkUnless, IfOk, OnErr, vec_len};
+ghost use Rattle.std.specs.Prelude.{◌≡◌, ◌≢◌, true, false, map, Err, IsOkUnless, IfOk, vec_len};
 ghost use Rattle.call_records.specs.RecordView.{shown, pair_of};
 ghost use Rattle.net_events.specs.Network.{all_elapsed};
 ghost use Rattle.switch_network_laws.specs.Promise.{NetworkPromise};
@@ -8,9 +8,8 @@ ghost use Rattle.net_config.specs.declared.fault.MakeFault.TheVariants as make_f
 ghost use Rattle.net_config.specs.Served.{is_served};
 ghost use Rattle.net_events.specs.declared.event.StepFault.TheVariants as step_fault_is;
 ghost use Rattle.net_nodes.specs.Faults.{step_fault, takes_memory};
-ghost use Rattle.net_nodes.specs.Happening.{Happens, IsRefusedSo};
+ghost use Rattle.net_nodes.specs.Happening.{IsRefusedSo};
 ghost use Rattle.net_nodes.specs.Due.{net_due};
-ghost use Rattle.line_sim.specs.Expiries.{FewerDue};
 ghost use Rattle.line_sim.specs.Receipts.{IsTakenBeyond};
 ghost use Rattle.net_nodes.specs.Questions.{net_confirmed, net_rests};
 ghost use Rattle.line_sim.specs.Runs.{IsMadeBy};
@@ -18,7 +17,7 @@ ghost use Rattle.line_sim.specs.Runs.{IsMadeBy};
 use call_records::{Pair, Record};
 use memory_line::Line;
 use net_config::{Config, MakeFault, plan_of};
-use net_events::{Answer, Event, StepFault};
+use net_events::{Answer, Event, Outcome, StepFault};
 use net_nodes::Nodes;
 use std::alloc::Global;
 use std::marker::Model;
@@ -29,6 +28,7 @@ use std::marker::Model;
 #[derive(Drop)]
 pub struct Net<L: Line> {
     nodes: Nodes<L>,
+    answer: Answer,
 }
 
 impl<L: Line> Model for Net<L> {
@@ -48,7 +48,22 @@ impl<L: Line> Model for Net<L> {
     ghost invariant = { λ n. IsBetweenEvents L.service n.nodes };
 }
 
+/// An answer without frames, notes and text, which takes no memory.
+fn bare_answer(alloc: Global) -> Answer {
+    Answer {
+        frames: Vec::new(alloc),
+        notes: Vec::new(alloc),
+        text: Vec::new(alloc),
+        outcome: Outcome::Done,
+    }
+}
+
 impl<L: Line> Net<L> {
+    ghost use Rattle.std.specs.Borrow.{sem};
+    ghost use Rattle.std.specs.Io.BufRead.{Rests};
+    ghost use Rattle.line_sim.specs.contracts.net.Net.{the_row};
+    ghost use Rattle.line_sim.specs.Stepping.{lent, HasStepped};
+
     /// Makes a network on these lines, each of which is emptied first; where no call stands both ends of a line send a
     /// frame to begin with. It is refused where the configuration is outside its limits or of a kind that is not
     /// served; then for want of memory.
@@ -61,7 +76,8 @@ impl<L: Line> Net<L> {
     {
         let plan = plan_of(alloc, config)?;
         let nodes = Nodes::new(alloc, &plan, lines)?;
-        Ok(Net { nodes })
+        let answer = bare_answer(alloc);
+        Ok(Net { nodes, answer })
     }
 
     /// What the network keeps of each end's part in each call, in the order of making.
@@ -115,20 +131,20 @@ impl<L: Line> Net<L> {
         self.nodes.next_due()
     }
 
-    /// Handles an event. Refusals come in the order of [`StepFault`]: where no node or line has the number, the line is
-    /// not the node's or the node is of another kind, then where the PAD has no such terminal, then where the channel
-    /// is 0 or beyond those of the line. Want of memory comes after these and before the node is called, which may
-    /// refuse what it is asked; the loss of a frame takes no memory. A refused event changes nothing.
-    pub fn step(&mut self, event: &Event) -> Result<Answer, StepFault>
-        ensures faults { IsRefusedSo (step_fault event.now self.old) result }
-        ensures happens { Happens L.service event.now self.old result self.new }
-        ensures err { OnErr result (self.new ≡ self.old) }
-        ensures memory { takes_memory event.now ≡ false → result ≢ Err step_fault_is.OutOfMemory }
+    /// Handles an event, and lends the answer, which stands in the network until the next event. Refusals come in the
+    /// order of [`StepFault`]: where no node or line has the number, the line is not the node's or the node is of
+    /// another kind, then where the PAD has no such terminal, then where the channel is 0 or beyond those of the line.
+    /// Want of memory comes after these and before the node is called, which may refuse what it is asked; the loss of a
+    /// frame takes no memory. A refused event changes nothing.
+    pub fn step(&mut self, event: &Event) -> Result<&Answer, StepFault>
+        ensures faults { IsRefusedSo (step_fault event.now self.old) (lent result) }
+        ensures memory { takes_memory event.now ≡ false → lent result ≢ Err step_fault_is.OutOfMemory }
 
-        // What is due comes to an end, on any line.
-        ensures fewer_due { FewerDue event.now self.old result self.new }
-        ensures headline { L.service.faithful → NetworkPromise self.new }
+        // The network once the answer is given back.
+        ensures* after { sem 𝓛 (Rests (the_row L.row L.Line) self.entry (λ net.
+            HasStepped L.service event.now self.old (lent result) net)) }
     {
-        self.nodes.happen(event)
+        self.nodes.happen(event, &mut self.answer)?;
+        Ok(&self.answer)
     }
 }

@@ -67,7 +67,6 @@ pub fn run(alloc: Global, config: &Config, events: &[Event]) -> Result<Net<MemLi
 
 /// Handles an event, and says whether memory was there. Where it was not, the event takes memory, and the network
 /// itself does not refuse it.
-#[tactic(auto, using(crate::proofs::RunsMore::happened, crate::proofs::RunsMore::wanting))]
 fn goes_on(net: &mut Net<MemLine>, event: &Event) -> bool
     ensures handled { OnTrue result (IsHandled memory_service event.now net.old (step_fault event.now net.old)
         net.new) }

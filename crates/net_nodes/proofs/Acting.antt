@@ -21,7 +21,6 @@ use Rattle.line_nodes.specs.declared.terminal.TerminalEvent.TheVariants.{Key, Br
 use Rattle.net_events.specs.NodeEvents.{NodeEvent, IsFor, LeftBy, Hears, Expires, Relinks, Restarts, Calls, Asks, Refuses, Says, Takes, AtTerminal}
 use Rattle.net_events.specs.Network.{PlacedNode, NetNode, User, NetLine, Network, place_at}
 use Rattle.net_events.specs.declared.answer.Answer.{Answer}
-use Rattle.net_turns.specs.declared.room.Room.{Room}
 use Rattle.net_turns.specs.Outcomes.{event_fault}
 use Rattle.net_turns.specs.Served.{IsEmpty, EventHasPlaces}
 use Rattle.net_events.specs.declared.event.StepFault.{StepFault}
@@ -62,11 +61,11 @@ places_more (Takes channel) few many more h = tt
 
 -- the register is opened at the line with room, and the frames in flight may have changed
 pub can_serve : (end : LineEnd) (event : NodeEvent) (nodes : List NetNode) (l : NetLine) (n : PlacedNode) → slice_get nodes (place_at end.role l) ≡ Some (User n) → IsFor event n.node → IsQuiet n.node
-    → (g : Register) → end.line < length (register_of g).lines → (v : NetLine) (flights : Flights) (h : Register) (room : Room)
+    → (g : Register) → end.line < length (register_of g).lines → (v : NetLine) (flights : Flights) (h : Register) (a : Answer)
     → v ≡ record l { flights = flights } → register_of h ≡ register_of g
     → (end.line < length g.lines.items → IsOpen end.line h) → (end.line < length g.lines.items → h.book.book ≡ book_at end.line (register_of g))
-    → h.book.room ≡ 8 → h.book.pairs ≡ 8 → IsEmpty room → EventHasPlaces event (vec_capacity room.text) → CanServe end event nodes v h room
-can_serve end event nodes l n node_there is_for quiet g registered v flights h room is_line same opens has_book has_room has_pairs empty places =
+    → h.book.room ≡ 8 → h.book.pairs ≡ 8 → IsEmpty a → EventHasPlaces event (vec_capacity a.text) → CanServe end event nodes v h a
+can_serve end event nodes l n node_there is_for quiet g registered v flights h a is_line same opens has_book has_room has_pairs empty places =
     let here : end.line < length g.lines.items = (let count = count_is g in omega (arith, count, registered)) in
     let place : place_at end.role v ≡ place_at end.role l = ap (place_at end.role) is_line ∙ same_place end.role l flights in
     record {

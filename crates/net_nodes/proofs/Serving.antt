@@ -1,6 +1,7 @@
 -- What serving an event does to the nodes, to the line and to the register.
 use Rattle.std.proofs.Common.{◌≡◌, ℕ, zero, suc, List, [], ◌∷◌, set, Option, Some, None, Result, Ok, Err, refl, sym, ap, ◌∙◌, subst}
 use Rattle.std.specs.Prelude.{slice_get, MatchResult, OnOk, OnErr}
+use Rattle.std.specs.Result.{result_and}
 use Rattle.std.proofs.lemmas.List.{set-set}
 use Rattle.std.proofs.lemmas.Option.{same_Some}
 use Rattle.call_records.specs.Book.{Book}
@@ -23,7 +24,6 @@ use Rattle.net_events.specs.declared.event.StepFault.TheVariants.{Refused}
 use Rattle.link_timers.specs.declared.role.Role.{Role}
 use Rattle.line_nodes.specs.declared.note.HostNote.{HostNote}
 use Rattle.net_turns.specs.declared.place.NetPlace.{NetPlace}
-use Rattle.net_turns.specs.declared.room.Room.{Room}
 use Rattle.net_turns.specs.Outcomes.{event_fault, IsOutcome, IsAnswered, text_of}
 use Rattle.net_turns.specs.Sends.{Sends}
 use Rattle.net_turns.specs.Served.{Served}
@@ -49,7 +49,7 @@ register_turned g line b t at_line is =
 
 -- the turn of a node with users, named otherwise
 pub user_served : (L : LineService) (at : NetPlace) (event : NodeEvent) (role : Role) (p n : PlacedNode) (old : Book) (before : Flights) (frames : List Put) (notes : List HostNote) (state : NodeState)
-    (after : Flights) (book : Book) (r : Result Outcome NodeFault) → p ≡ n → OnOk r (Served L at (turn_of event role p.node old) before frames notes state after book)
+    (after : Flights) (book : Book) {D : Type 0} (r : Result D NodeFault) → p ≡ n → OnOk r (Served L at (turn_of event role p.node old) before frames notes state after book)
     → OnOk r (UserServed L at (turn_of event role n.node old) n before frames notes (User (record p { node = state })) after book)
 user_served L at event role p n old before frames notes state after book (Err fault) same w = tt
 user_served L at event role p n old before frames notes state after book (Ok o) same w = record {
@@ -67,28 +67,26 @@ module _ (L : LineService) (end : LineEnd) (event : NodeEvent) (p n : PlacedNode
   same_turn : turn_of event end.role p.node g.book.book ≡ turn
   same_turn = λ i. turn_of event end.role (is_node i).node (book i)
 
-  turned : (o : Outcome) (room : Room) (a : Answer) (node : NodeState) (flights : Flights) (b : Book)
-      → (event_fault event p.node ≡ None) × IsOutcome event p.node o
+  turned : (a : Answer) (node : NodeState) (flights : Flights) (b : Book)
+      → (event_fault event p.node ≡ None) × IsOutcome event p.node a.outcome
       → Served L (record { line = end.line; place = record { role = end.role; node = place } })
-      (turn_of event end.role p.node g.book.book) v.flights room.frames.items room.notes.items node flights b
-      → room.text.items ≡ text_of event p.node → a.frames.items ≡ room.frames.items → a.notes.items ≡ room.notes.items → a.text.items ≡ room.text.items → a.outcome ≡ o
+      (turn_of event end.role p.node g.book.book) v.flights a.frames.items a.notes.items node flights b
+      → a.text.items ≡ text_of event p.node
       → HadTurn L end event n nodes l (register_of g) a (set nodes place (User (record p { node = node })))
       (record v { flights = flights }) (register_with g.open b (lines_of g.lines.items))
-  turned o room a node flights b answered w shows frames notes text outcome =
+  turned a node flights b answered w shows =
       let P : Turn → Flights → List Put → Type 0 = λ t f puts. Sends L (direction_of end.role) end.line (frames_of t.node) f puts flights in
       let Q : Turn → Type 0 = λ t. P t l.flights a.frames.items in
       let R : Flights → Type 0 = λ f. P (turn_of event end.role p.node g.book.book) f a.frames.items in
-      let S : List Put → Type 0 = λ puts. P (turn_of event end.role p.node g.book.book) v.flights puts in
       let N : NodeState → Type 0 = λ m. event_fault event m ≡ None in
-      let O : NodeState → Outcome → Type 0 = λ m x. IsOutcome event m x in
       let node_is : p.node ≡ n.node = ap (λ (x : PlacedNode). x.node) is_node in
       let drained_is : node ≡ drained turn.node = w.node_is ∙ ap (λ (t : Turn). drained t.node) same_turn in
       record {
         no_fault = subst N node_is answered.0;
-        outcome = subst (O n.node) (sym outcome) (subst (λ m. O m o) node_is answered.1);
-        sends = subst Q same_turn (subst R (ap (λ (x : NetLine). x.flights) is_line) (subst S (sym frames) w.sends));
-        told = notes ∙ w.told_of ∙ (λ i. host_notes (is_place i) (same_turn i).notes);
-        text = text ∙ shows ∙ ap (text_of event) node_is;
+        outcome = subst (λ m. IsOutcome event m a.outcome) node_is answered.1;
+        sends = subst Q same_turn (subst R (ap (λ (x : NetLine). x.flights) is_line) w.sends);
+        told = w.told_of ∙ (λ i. host_notes (is_place i) (same_turn i).notes);
+        text = shows ∙ ap (text_of event) node_is;
         nodes_are = λ i. set nodes (is_place i) (User (record (is_node i) { node = drained_is i }));
         line_is = λ i. record (is_line i) { flights = flights };
         register_is = register_turned g end.line b turn.book at_line (w.book_is ∙ ap (λ (t : Turn). t.book) same_turn);
@@ -121,28 +119,14 @@ module _ (L : LineService) (end : LineEnd) (event : NodeEvent) (p n : PlacedNode
       (λ fault. HadNone event n fault nodes l (register_of g) (set nodes place (User (record p { node = node })))
       (record v { flights = flights }) (register_with g.open b (lines_of g.lines.items)))
 
-  pub answered : (r : Result Outcome NodeFault) (x : Result Answer StepFault) (o : Outcome) (room : Room) (a : Answer) (node : NodeState) (flights : Flights) (b : Book)
-      → r ≡ Ok o → x ≡ Ok a → IsAnswered event p.node r
-      → OnOk r (Served L (record { line = end.line; place = record { role = end.role; node = place } })
-      (turn_of event end.role p.node g.book.book) v.flights room.frames.items room.notes.items node flights b)
-      → OnOk r (room.text.items ≡ text_of event p.node) → a.frames.items ≡ room.frames.items → a.notes.items ≡ room.notes.items → a.text.items ≡ room.text.items → a.outcome ≡ o
-      → IsTurn x node flights b
-  answered r x o room a node flights b is_ok is_answer of_node w shows frames notes text outcome =
-      let A : Result Outcome NodeFault → Type 0 = λ y. IsAnswered event p.node y in
-      let S : Result Outcome NodeFault → Type 0 = λ y. OnOk y (Served L (record { line = end.line; place = record { role = end.role; node = place } })
-      (turn_of event end.role p.node g.book.book) v.flights room.frames.items room.notes.items node flights b) in
-      let T : Result Outcome NodeFault → Type 0 = λ y. OnOk y (room.text.items ≡ text_of event p.node) in
-      let X : Result Answer StepFault → Type 0 = λ y. IsTurn y node flights b in
-      subst X (sym is_answer) (turned o room a node flights b (subst A is_ok of_node) (subst S is_ok w) (subst T is_ok shows) frames notes text outcome)
-
-  pub answered_not : (r : Result Outcome NodeFault) (x : Result Answer StepFault) (refusal : NodeFault) (node : NodeState) (flights : Flights) (b : Book)
-      → slice_get nodes (place_at end.role l) ≡ Some (User n) → r ≡ Err refusal → x ≡ Err (Refused refusal) → IsAnswered event p.node r
+  pub answered_not : {D : Type 0} (r : Result D NodeFault) (x : Result Answer StepFault) (o : Outcome) (refusal : NodeFault) (node : NodeState) (flights : Flights) (b : Book)
+      → slice_get nodes (place_at end.role l) ≡ Some (User n) → r ≡ Err refusal → x ≡ Err (Refused refusal) → IsAnswered event p.node (result_and r (Ok o))
       → OnErr r (node ≡ p.node) → OnErr r (flights ≡ v.flights) → OnErr r (b ≡ g.book.book) → IsTurn x node flights b
-  answered_not r x refusal node flights b there is_err is_refusal of_node same_node same_flights same_book =
-      let A : Result Outcome NodeFault → Type 0 = λ y. IsAnswered event p.node y in
-      let N : Result Outcome NodeFault → Type 0 = λ y. OnErr y (node ≡ p.node) in
-      let F : Result Outcome NodeFault → Type 0 = λ y. OnErr y (flights ≡ v.flights) in
-      let B : Result Outcome NodeFault → Type 0 = λ y. OnErr y (b ≡ g.book.book) in
+  answered_not {D} r x o refusal node flights b there is_err is_refusal of_node same_node same_flights same_book =
+      let A : Result D NodeFault → Type 0 = λ y. IsAnswered event p.node (result_and y (Ok o)) in
+      let N : Result D NodeFault → Type 0 = λ y. OnErr y (node ≡ p.node) in
+      let F : Result D NodeFault → Type 0 = λ y. OnErr y (flights ≡ v.flights) in
+      let B : Result D NodeFault → Type 0 = λ y. OnErr y (b ≡ g.book.book) in
       let X : Result Answer StepFault → Type 0 = λ y. IsTurn y node flights b in
       subst X (sym is_refusal)
       (refused refusal (Refused refusal) node flights b there (subst A is_err of_node) refl (subst N is_err same_node) (subst F is_err same_flights) (subst B is_err same_book))
@@ -156,30 +140,31 @@ module _ (L : LineService) (end : LineEnd) (event : NodeEvent) (p n : PlacedNode
       (λ fault. HadNone event n fault nodes l (register_of g) (set nodes place m)
       (record v { flights = flights }) (register_with g.open b (lines_of g.lines.items)))
 
-  pub user_answered : (r : Result Outcome NodeFault) (x : Result Answer StepFault) (o : Outcome) (room : Room) (a : Answer) (m : NetNode) (flights : Flights) (b : Book)
-      → r ≡ Ok o → x ≡ Ok a → IsAnswered event p.node r
+  pub user_answered : {D E : Type 0} (r : Result D NodeFault) (x : Result E StepFault) (d : D) (e : E) (a : Answer) (m : NetNode) (flights : Flights) (b : Book)
+      → r ≡ Ok d → x ≡ Ok e → IsAnswered event p.node (result_and r (Ok a.outcome))
       → OnOk r (UserServed L (record { line = end.line; place = record { role = end.role; node = place } })
-      (turn_of event end.role p.node g.book.book) p v.flights room.frames.items room.notes.items m flights b)
-      → OnOk r (room.text.items ≡ text_of event p.node) → a.frames.items ≡ room.frames.items → a.notes.items ≡ room.notes.items → a.text.items ≡ room.text.items → a.outcome ≡ o
-      → IsTurnOf x m flights b
-  user_answered r x o room a m flights b is_ok is_answer of_node w shows frames notes text outcome =
-      let A : Result Outcome NodeFault → Type 0 = λ y. IsAnswered event p.node y in
-      let S : Result Outcome NodeFault → Type 0 = λ y. OnOk y (UserServed L (record { line = end.line; place = record { role = end.role; node = place } })
-      (turn_of event end.role p.node g.book.book) p v.flights room.frames.items room.notes.items m flights b) in
-      let T : Result Outcome NodeFault → Type 0 = λ y. OnOk y (room.text.items ≡ text_of event p.node) in
-      let X : Result Answer StepFault → Type 0 = λ y. IsTurnOf y m flights b in
+      (turn_of event end.role p.node g.book.book) p v.flights a.frames.items a.notes.items m flights b)
+      → OnOk r (a.text.items ≡ text_of event p.node)
+      → IsTurnOf (result_and x (Ok a)) m flights b
+  user_answered {D} {E} r x d e a m flights b is_ok is_answer of_node w shows =
+      let A : Result D NodeFault → Type 0 = λ y. IsAnswered event p.node (result_and y (Ok a.outcome)) in
+      let S : Result D NodeFault → Type 0 = λ y. OnOk y (UserServed L (record { line = end.line; place = record { role = end.role; node = place } })
+      (turn_of event end.role p.node g.book.book) p v.flights a.frames.items a.notes.items m flights b) in
+      let T : Result D NodeFault → Type 0 = λ y. OnOk y (a.text.items ≡ text_of event p.node) in
+      let X : Result E StepFault → Type 0 = λ y. IsTurnOf (result_and y (Ok a)) m flights b in
       let u : UserServed L (record { line = end.line; place = record { role = end.role; node = place } })
-      (turn_of event end.role p.node g.book.book) p v.flights room.frames.items room.notes.items m flights b = subst S is_ok w in
+      (turn_of event end.role p.node g.book.book) p v.flights a.frames.items a.notes.items m flights b = subst S is_ok w in
       let N : NetNode → Type 0 = λ y. IsTurnOf (Ok a) y flights b in
       subst X (sym is_answer) (subst N (sym u.node_is)
-      (turned o room a u.state flights b (subst A is_ok of_node) u.served (subst T is_ok shows) frames notes text outcome))
+      (turned a u.state flights b (subst A is_ok of_node) u.served (subst T is_ok shows)))
 
-  pub user_refused : (r : Result Outcome NodeFault) (x : Result Answer StepFault) (refusal : NodeFault) (m : NetNode) (flights : Flights) (b : Book)
-      → slice_get nodes (place_at end.role l) ≡ Some (User n) → r ≡ Err refusal → x ≡ Err (Refused refusal) → IsAnswered event p.node r
-      → OnErr r (m ≡ User p) → OnErr r (flights ≡ v.flights) → OnErr r (b ≡ g.book.book) → IsTurnOf x m flights b
-  user_refused r x refusal m flights b there is_err is_refusal of_node same_node same_flights same_book =
-      let M : Result Outcome NodeFault → Type 0 = λ y. OnErr y (m ≡ User p) in
-      let N : NetNode → Type 0 = λ y. IsTurnOf x y flights b in
-      let E : Result Outcome NodeFault → Type 0 = λ y. OnErr y (p.node ≡ p.node) in
-      subst N (sym (subst M is_err same_node))
-      (answered_not r x refusal p.node flights b there is_err is_refusal of_node (subst E (sym is_err) refl) same_flights same_book)
+  pub user_refused : {D E : Type 0} (r : Result D NodeFault) (x : Result E StepFault) (refusal : NodeFault) (a : Answer) (m : NetNode) (flights : Flights) (b : Book)
+      → slice_get nodes (place_at end.role l) ≡ Some (User n) → r ≡ Err refusal → x ≡ Err (Refused refusal) → IsAnswered event p.node (result_and r (Ok a.outcome))
+      → OnErr r (m ≡ User p) → OnErr r (flights ≡ v.flights) → OnErr r (b ≡ g.book.book) → IsTurnOf (result_and x (Ok a)) m flights b
+  user_refused {D} {E} r x refusal a m flights b there is_err is_refusal of_node same_node same_flights same_book =
+      let M : Result D NodeFault → Type 0 = λ y. OnErr y (m ≡ User p) in
+      let N : NetNode → Type 0 = λ y. IsTurnOf (Err (Refused refusal)) y flights b in
+      let K : Result D NodeFault → Type 0 = λ y. OnErr y (p.node ≡ p.node) in
+      let X : Result E StepFault → Type 0 = λ y. IsTurnOf (result_and y (Ok a)) m flights b in
+      subst X (sym is_refusal) (subst N (sym (subst M is_err same_node))
+      (answered_not r (Err (Refused refusal)) a.outcome refusal p.node flights b there is_err refl of_node (subst K (sym is_err) refl) same_flights same_book))

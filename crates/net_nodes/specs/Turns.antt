@@ -18,7 +18,6 @@ use Rattle.net_events.specs.NodeEvents.{NodeEvent, Hears, Restarts, IsFor, turn_
 use Rattle.net_events.specs.Network.{PlacedNode, NetNode, User, NetLine, Network, place_at, net_turn, HappenedAt}
 use Rattle.net_events.specs.declared.answer.Answer.{Answer}
 use Rattle.net_events.specs.declared.answer.Put.{Put}
-use Rattle.net_turns.specs.declared.room.Room.{Room}
 use Rattle.net_turns.specs.Outcomes.{event_fault, IsOutcome, text_of}
 use Rattle.net_turns.specs.Sends.{ArePutsOf, Sends}
 use Rattle.net_turns.specs.declared.place.NetPlace.{NetPlace}
@@ -46,7 +45,7 @@ pub record UserServed (L : LineService) (at : NetPlace) (turn : Turn) (n : Place
 -- the node is there, it has no frame or note that waits, and the event is for its kind; the register is open at the
 -- line, with room for all that may be written, and so are the lists of the answer
 pub record CanServe (end : LineEnd) (event : NodeEvent) (nodes : List NetNode) (l : NetLine) (g : Register)
-    (room : Room) : Type 0 where
+    (answer : Answer) : Type 0 where
   pub node : PlacedNode
   pub there : slice_get nodes (place_at end.role l) ≡ Some (User node)
   pub is_for : IsFor event node.node
@@ -55,8 +54,8 @@ pub record CanServe (end : LineEnd) (event : NodeEvent) (nodes : List NetNode) (
   pub book : g.book.book ≡ book_at end.line (Rattle.call_records.specs.RegisterView.register_of g)
   pub writes : 8 ≤ g.book.room
   pub pairs : 1 ≤ g.book.pairs
-  pub empty : IsEmpty room
-  pub places : EventHasPlaces event (vec_capacity room.text)
+  pub empty : IsEmpty answer
+  pub places : EventHasPlaces event (vec_capacity answer.text)
 
 abbrev pub its_turn : LineEnd → NodeEvent → PlacedNode → spec.Register → Turn
 its_turn end event n g = turn_of event end.role n.node (book_at end.line g)

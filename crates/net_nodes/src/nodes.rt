@@ -1,5 +1,6 @@
 //! The nodes of a network on their lines, and the register of their calls: each event, exactly.
-ghost use Rattle.std.specs.Prelude.{◌≡◌, MatchResult, None, true, false};
+ghost use Rattle.std.specs.Prelude.{◌≡◌, MatchResult, None, Ok, true, false};
+ghost use Rattle.std.specs.Result.{result_and};
 ghost use Rattle.net_events.specs.declared.event.StepFault.TheVariants.{NoSuchNode, NoSuchCall};
 ghost use Rattle.net_nodes.specs.Faults.{is_channel_at};
 ghost use Rattle.net_nodes.specs.Places.{IsStanding, IsPlaceOf, is_host_at, pad_terminals, user_at, own_line_at};
@@ -18,7 +19,6 @@ use call_records::Register;
 use link_timers::Role;
 use memory_line::Line;
 use net_events::{Answer, Event, StepFault};
-use std::alloc::Global;
 use std::marker::Model;
 
 /// A line between two nodes, which go by their places.
@@ -48,7 +48,6 @@ pub(crate) struct LineEnd {
 /// The nodes of a network, its lines, and the register of all calls.
 #[derive(Drop)]
 pub struct Nodes<L: Line> {
-    alloc: Global,
     nodes: Vec<NetNode>,
     lines: Vec<NetLine<L>>,
     register: Register,
@@ -142,33 +141,34 @@ impl<L: Line> Nodes<L> {
         Ok(channel as u8)
     }
 
-    /// Handles an event.
-    pub fn happen(&mut self, event: &Event) -> Result<Answer, StepFault>
+    /// Handles an event, and writes the answer; what stood there before is gone. Where the event is refused the answer
+    /// says nothing.
+    pub fn happen(&mut self, event: &Event, answer: &mut Answer) -> Result<(), StepFault>
         requires { IsStanding self.old }
-        ensures { Happens L.service event.now self.old result self.new }
+        ensures { Happens L.service event.now self.old (result_and result (Ok answer.new)) self.new }
     {
         match event {
             Event::AtTerminal {
                 node,
                 terminal,
                 event,
-            } => self.at_terminal(*node, *terminal, *event),
+            } => self.at_terminal(*node, *terminal, *event, answer),
             Event::Call {
                 node,
                 address,
                 user_data,
-            } => self.call(*node, *address, user_data),
+            } => self.call(*node, *address, user_data, answer),
             Event::Ask {
                 node,
                 channel,
                 request,
-            } => self.ask(*node, *channel, request),
-            Event::Take { node, channel } => self.take(*node, *channel),
-            Event::Deliver { line, direction } => self.deliver(*line, *direction),
-            Event::Lose { line, direction } => self.lose(*line, *direction),
-            Event::Expire { node, line, timer } => self.expire(*node, *line, *timer),
-            Event::Relink { line } => self.relink(*line),
-            Event::Restart { node } => self.restart(*node),
+            } => self.ask(*node, *channel, request, answer),
+            Event::Take { node, channel } => self.take(*node, *channel, answer),
+            Event::Deliver { line, direction } => self.deliver(*line, *direction, answer),
+            Event::Lose { line, direction } => self.lose(*line, *direction, answer),
+            Event::Expire { node, line, timer } => self.expire(*node, *line, *timer, answer),
+            Event::Relink { line } => self.relink(*line, answer),
+            Event::Restart { node } => self.restart(*node, answer),
         }
     }
 }

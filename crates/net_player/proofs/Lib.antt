@@ -1,4 +1,5 @@
 pub mod Turns
+mod Lent
 pub mod Parts
 pub mod Deliveries
 pub mod Expiries

@@ -240,7 +240,7 @@ impl Player<'_> {
     {
         match net.step(event) {
             Ok(answer) => {
-                self.write_answer(event, &answer, out)?;
+                self.write_answer(event, answer, out)?;
                 Ok(has_arrived(&answer.outcome))
             }
             Err(StepFault::OutOfMemory) => Err(ProgFault::OutOfMemory),

@@ -15,9 +15,9 @@ use Rattle.net_events.specs.OneLine.{direction_of}
 use Rattle.line_nodes.specs.declared.terminal.TerminalEvent.{TerminalEvent}
 use Rattle.line_nodes.specs.declared.terminal.TerminalEvent.TheVariants.{Print}
 use Rattle.net_events.specs.NodeEvents.{NodeEvent, AtTerminal, turn_of}
+use Rattle.net_events.specs.declared.answer.Answer.{Answer}
 use Rattle.net_events.specs.declared.answer.Put.{Put}
 use Rattle.net_turns.specs.declared.place.NetPlace.{NetPlace}
-use Rattle.net_turns.specs.declared.room.Room.{Room}
 use Rattle.net_turns.specs.Sends.{Sends}
 
 -- the node was called, and what was asked is in the book: when its notes are read and written there as well, this is
@@ -37,12 +37,12 @@ pub record Served (L : LineService) (at : NetPlace) (turn : Turn) (before : Flig
   pub book_is : book ≡ turn.book
 
 -- the lists of an answer are empty, with places for the frames and notes of one event
-pub record IsEmpty (r : Room) : Type 0 where
-  pub frames : r.frames.items ≡ []
-  pub notes : r.notes.items ≡ []
-  pub text : r.text.items ≡ []
-  pub frame_places : 9 ≤ vec_capacity r.frames
-  pub note_places : 96 ≤ vec_capacity r.notes
+pub record IsEmpty (a : Answer) : Type 0 where
+  pub frames : a.frames.items ≡ []
+  pub notes : a.notes.items ≡ []
+  pub text : a.text.items ≡ []
+  pub frame_places : 9 ≤ vec_capacity a.frames
+  pub note_places : 96 ≤ vec_capacity a.notes
 
 -- so many places are enough for the text that is shown
 abbrev pub HasPlaces : TerminalEvent → (places : ℕ) → Type 0

@@ -10,7 +10,7 @@ mod serving;
 mod switching;
 
 pub use place::NetPlace;
-pub use room::{Room, bare_answer};
+pub use room::{make_bare, make_frame_room, make_room};
 pub use send::put_frames;
 pub use serving::{MOST_TEXT, MOST_WRITES, serve};
 pub use switching::{call_switch, put_switch_frames};

@@ -1,66 +1,53 @@
-//! The lists of an answer, grown before a node is called.
-ghost use Rattle.std.specs.Prelude.{◌≡◌, ◌≤◌, [], IfOk, vec_capacity};
+//! The lists of an answer, which keep their room from event to event.
+ghost use Rattle.std.specs.Prelude.{◌≡◌, ◌≤◌, [], OnOk, vec_capacity};
 ghost use Rattle.net_turns.specs.Served.{IsEmpty};
 
 use line_end::MOST_FRAMES;
-use line_nodes::HostNote;
-use net_events::{Answer, Outcome, Put};
+use net_events::{Answer, Outcome};
 use packet_end::MOST_NOTES;
-use std::alloc::{AllocError, Global};
+use std::alloc::AllocError;
 
-/// The lists of an answer, grown before the node is called.
-#[derive(Drop)]
-pub struct Room {
-    pub frames: Vec<Put>,
-    pub notes: Vec<HostNote>,
-    pub text: Vec<u8>,
-}
-
-impl Room {
-    /// Room for the frames and notes of one event of a node, and for so many octets of text.
-    pub fn new(alloc: Global, octets: usize) -> Result<Self, AllocError>
-        ensures empty { IfOk result IsEmpty }
-        ensures text { IfOk result (λ room. octets ≤ vec_capacity room.text) }
-    {
-        Ok(Room {
-            frames: Vec::with_capacity(alloc, MOST_FRAMES)?,
-            notes: Vec::with_capacity(alloc, MOST_NOTES)?,
-            text: Vec::with_capacity(alloc, octets)?,
-        })
-    }
-
-    /// An answer with this outcome.
-    pub fn answer(self, outcome: Outcome) -> Answer
-        ensures frames { result.frames.items ≡ self.frames.items }
-        ensures notes { result.notes.items ≡ self.notes.items }
-        ensures text { result.text.items ≡ self.text.items }
-        ensures outcome { result.outcome ≡ outcome }
-    {
-        let Room {
-            frames,
-            notes,
-            text,
-        } = self;
-        Answer {
-            frames,
-            notes,
-            text,
-            outcome,
-        }
-    }
-}
-
-/// An answer without frames, notes and text, which takes no memory.
-pub fn bare_answer(alloc: Global, outcome: Outcome) -> Answer
-    ensures frames { result.frames.items ≡ [] }
-    ensures notes { result.notes.items ≡ [] }
-    ensures text { result.text.items ≡ [] }
-    ensures outcome { result.outcome ≡ outcome }
+/// Empties an answer's lists, and makes room where it lacks: for the frames and notes of one event of a node, and for
+/// so many octets of text.
+pub fn make_room(answer: &mut Answer, octets: usize) -> Result<(), AllocError>
+    ensures empty { OnOk result (IsEmpty answer.new) }
+    ensures text { OnOk result (octets ≤ vec_capacity answer.new.text) }
 {
-    Answer {
-        frames: Vec::new(alloc),
-        notes: Vec::new(alloc),
-        text: Vec::new(alloc),
-        outcome,
-    }
+    clear(answer);
+    answer.frames.reserve(MOST_FRAMES)?;
+    answer.notes.reserve(MOST_NOTES)?;
+    answer.text.reserve(octets)
+}
+
+/// Empties an answer's lists, and makes room where it lacks for so many frames.
+pub fn make_frame_room(answer: &mut Answer, frames: usize) -> Result<(), AllocError>
+    ensures frames { answer.new.frames.items ≡ [] }
+    ensures notes { answer.new.notes.items ≡ [] }
+    ensures text { answer.new.text.items ≡ [] }
+    ensures room { OnOk result (frames ≤ vec_capacity answer.new.frames) }
+{
+    clear(answer);
+    answer.frames.reserve(frames)
+}
+
+/// Makes an answer one without frames, notes and text, which takes no memory: its lists keep their room.
+pub fn make_bare(answer: &mut Answer, outcome: Outcome)
+    ensures frames { answer.new.frames.items ≡ [] }
+    ensures notes { answer.new.notes.items ≡ [] }
+    ensures text { answer.new.text.items ≡ [] }
+    ensures outcome { answer.new.outcome ≡ outcome }
+{
+    clear(answer);
+    answer.outcome = outcome;
+}
+
+/// Empties an answer's lists, which keep their room.
+fn clear(answer: &mut Answer)
+    ensures frames { answer.new.frames.items ≡ [] }
+    ensures notes { answer.new.notes.items ≡ [] }
+    ensures text { answer.new.text.items ≡ [] }
+{
+    answer.frames.clear();
+    answer.notes.clear();
+    answer.text.clear();
 }

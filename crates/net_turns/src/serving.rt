@@ -1,6 +1,7 @@
 //! What an event does at one node, on its line and in the book: the node is called, the network writes what was asked
 //! and what the node noted, and the frames go onto the line.
-ghost use Rattle.std.specs.Prelude.{◌≡◌, ◌≤◌, ◌<◌, [], OnOk, OnErr, length, vec_capacity};
+ghost use Rattle.std.specs.Prelude.{◌≡◌, ◌≤◌, ◌<◌, [], Ok, OnOk, OnErr, length, vec_capacity};
+ghost use Rattle.std.specs.Result.{result_and};
 ghost use Rattle.packet_layer.specs.Layer.{front_on};
 ghost use Rattle.packet_layer.specs.TakenView.{maybe_taken};
 ghost use Rattle.packet_host.specs.Host.{after_take};
@@ -16,14 +17,13 @@ ghost use Rattle.net_turns.specs.Outcomes.{IsAnswered, pad_outcome, text_of};
 ghost use Rattle.net_turns.specs.Served.{IsCalled, Served, IsEmpty, HasPlaces, EventHasPlaces, taken_written};
 
 use crate::place::NetPlace;
-use crate::room::Room;
 use crate::send::put_frames;
 use arrayvec::ArrayVec;
 use call_records::Book;
 use line_nodes::{Node, NodeFault, TerminalEvent, write_notes, write_request, write_taken};
 use link_timers::Role;
 use memory_line::{Direction, Line};
-use net_events::{NodeEvent, Outcome};
+use net_events::{Answer, NodeEvent, Outcome};
 use packet_host::Host;
 use packet_layer::Taken;
 use x25_pad::Pad;
@@ -56,22 +56,28 @@ fn take(host: &mut Host, role: Role, channel: u8, book: &mut Book) -> Option<Tak
     Some(taken)
 }
 
-/// Something happens at a terminal of a PAD, and what it shows is added to the text.
-fn at_terminal(pad: &mut Pad, terminal: u8, event: TerminalEvent, text: &mut Vec<u8>) -> Outcome
+/// Something happens at a terminal of a PAD: gives the outcome, and adds what the terminal shows to the text.
+fn at_terminal(
+    pad: &mut Pad,
+    terminal: u8,
+    event: TerminalEvent,
+    text: &mut Vec<u8>,
+    outcome: &mut Outcome,
+)
     requires there { terminal < length pad.old.ports }
     requires empty { text.old.items ≡ [] }
     requires places { HasPlaces event (vec_capacity text.old) }
     ensures pad { pad.new ≡ after_terminal terminal event pad.old }
-    ensures outcome { result ≡ pad_outcome terminal event pad.old }
+    ensures outcome { outcome.new ≡ pad_outcome terminal event pad.old }
     ensures text { text.new.items ≡ text_shown terminal event pad.old }
 {
     match event {
-        TerminalEvent::Key(octet) => Outcome::Typed(pad.on_key(terminal, octet)),
-        TerminalEvent::Break => Outcome::Typed(pad.on_break(terminal)),
-        TerminalEvent::Idle => Outcome::Typed(pad.on_idle(terminal)),
+        TerminalEvent::Key(octet) => *outcome = Outcome::Typed(pad.on_key(terminal, octet)),
+        TerminalEvent::Break => *outcome = Outcome::Typed(pad.on_break(terminal)),
+        TerminalEvent::Idle => *outcome = Outcome::Typed(pad.on_idle(terminal)),
         TerminalEvent::Print => {
             show(pad, terminal, text);
-            Outcome::Printed
+            *outcome = Outcome::Printed;
         }
     }
 }
@@ -91,19 +97,20 @@ fn show(pad: &mut Pad, terminal: u8, text: &mut Vec<u8>)
     };
 }
 
-/// Calls the node, and writes what was asked of it. What a terminal shows is added to the text.
+/// Calls the node, writes what was asked of it, and gives the outcome. What a terminal shows is added to the text.
 fn call_node(
     node: &mut Node,
     role: Role,
     event: &NodeEvent<'_>,
     book: &mut Book,
     text: &mut Vec<u8>,
-) -> Result<Outcome, NodeFault>
+    outcome: &mut Outcome,
+) -> Result<(), NodeFault>
     requires is_for { IsFor (event_of event.now) (node_of node.old) }
     requires room { (MOST_WRITES ≤ book.old.room) × (1 ≤ book.old.pairs) }
     requires quiet { IsQuiet (node_of node.old) }
     requires text { (text.old.items ≡ []) × EventHasPlaces (event_of event.now) (vec_capacity text.old) }
-    ensures answer { IsAnswered (event_of event.now) (node_of node.old) result }
+    ensures answer { IsAnswered (event_of event.now) (node_of node.old) (result_and result (Ok outcome.new)) }
     ensures text { OnOk result (text.new.items ≡ text_of (event_of event.now) (node_of node.old)) }
     ensures ok { OnOk result (IsCalled (event_of event.now) role (node_of node.old) book.old.book (node_of node.new)
         book.new) }
@@ -113,26 +120,31 @@ fn call_node(
     match event {
         NodeEvent::Hears(octets) => {
             node.hear(octets);
-            Ok(Outcome::Delivered(true))
+            *outcome = Outcome::Delivered(true);
+            Ok(())
         }
         NodeEvent::Expires(timer) => {
             let _ = node.expire(*timer);
-            Ok(Outcome::Done)
+            *outcome = Outcome::Done;
+            Ok(())
         }
         NodeEvent::Relinks => {
             node.relink();
-            Ok(Outcome::Done)
+            *outcome = Outcome::Done;
+            Ok(())
         }
         NodeEvent::Restarts => {
             node.restart();
             book.close_all(role);
-            Ok(Outcome::Done)
+            *outcome = Outcome::Done;
+            Ok(())
         }
         NodeEvent::Calls(address, user_data) => match node {
             Node::Host(host) => {
                 let channel = host.call(*address, user_data)?;
                 book.place(role, channel, address);
-                Ok(Outcome::Called { channel })
+                *outcome = Outcome::Called { channel };
+                Ok(())
             }
             Node::Pad(_) => unreachable!(),
         },
@@ -140,53 +152,68 @@ fn call_node(
             Node::Host(host) => {
                 host.ask(*channel, request)?;
                 write_request(book, role, *channel, request);
-                Ok(Outcome::Done)
+                *outcome = Outcome::Done;
+                Ok(())
             }
             Node::Pad(_) => unreachable!(),
         },
         NodeEvent::Takes(channel) => match node {
-            Node::Host(host) => Ok(Outcome::Took(take(host, role, *channel, book))),
+            Node::Host(host) => {
+                *outcome = Outcome::Took(take(host, role, *channel, book));
+                Ok(())
+            }
             Node::Pad(_) => unreachable!(),
         },
         NodeEvent::AtTerminal(terminal, event) => match node {
-            Node::Pad(pad) => Ok(at_terminal(pad, *terminal, *event, text)),
+            Node::Pad(pad) => {
+                at_terminal(pad, *terminal, *event, text, outcome);
+                Ok(())
+            }
             Node::Host(_) => unreachable!(),
         },
     }
 }
 
-/// Serves an event at a node, where a host is asked and a PAD has the terminal. What the node refuses changes nothing.
+/// Serves an event at a node, where a host is asked and a PAD has the terminal, and writes the answer. What the node
+/// refuses changes nothing.
 pub fn serve<L: Line>(
     node: &mut Node,
     at: NetPlace,
     event: &NodeEvent<'_>,
     line: &mut L,
     book: &mut Book,
-    room: &mut Room,
-) -> Result<Outcome, NodeFault>
+    answer: &mut Answer,
+) -> Result<(), NodeFault>
     requires is_for { IsFor (event_of event.now) (node_of node.old) }
     requires quiet { IsQuiet (node_of node.old) }
     requires writes { MOST_WRITES ≤ book.old.room }
     requires pairs { 1 ≤ book.old.pairs }
-    requires empty { IsEmpty room.old }
-    requires places { EventHasPlaces (event_of event.now) (vec_capacity room.old.text) }
-    ensures answer { IsAnswered (event_of event.now) (node_of node.old) result }
-    ensures text { OnOk result (room.new.text.items ≡ text_of (event_of event.now) (node_of node.old)) }
+    requires empty { IsEmpty answer.old }
+    requires places { EventHasPlaces (event_of event.now) (vec_capacity answer.old.text) }
+    ensures answer { IsAnswered (event_of event.now) (node_of node.old) (result_and result (Ok answer.new.outcome)) }
+    ensures text { OnOk result (answer.new.text.items ≡ text_of (event_of event.now) (node_of node.old)) }
     ensures served { OnOk result (Served L.service at
         (turn_of (event_of event.now) at.place.role (node_of node.old) book.old.book) (L.flights line.old)
-        room.new.frames.items room.new.notes.items (node_of node.new) (L.flights line.new) book.new.book) }
+        answer.new.frames.items answer.new.notes.items (node_of node.new) (L.flights line.new) book.new.book) }
     ensures node { OnErr result (node_of node.new ≡ node_of node.old) }
     ensures line { OnErr result (line.new ≡ line.old) }
     ensures book { OnErr result (book.new ≡ book.old) }
 {
-    let outcome = call_node(node, at.place.role, event, book, &mut room.text)?;
-    write_notes(node, at.place, book, &mut room.notes);
+    call_node(
+        node,
+        at.place.role,
+        event,
+        book,
+        &mut answer.text,
+        &mut answer.outcome,
+    )?;
+    write_notes(node, at.place, book, &mut answer.notes);
     put_frames(
         node,
         at.line,
         line,
         direction_of(at.place.role),
-        &mut room.frames,
+        &mut answer.frames,
     );
-    Ok(outcome)
+    Ok(())
 }

@@ -1,4 +1,6 @@
 //! What the users of the nodes ask.
+ghost use Rattle.std.specs.Prelude.{Ok};
+ghost use Rattle.std.specs.Result.{result_and};
 ghost use Rattle.net_events.specs.declared.event.Event.TheVariants as event_is;
 ghost use Rattle.net_nodes.specs.Places.{IsStanding};
 ghost use Rattle.net_nodes.specs.Happening.{Happens};
@@ -18,9 +20,11 @@ impl<L: Line> Nodes<L> {
         node: usize,
         terminal: u16,
         event: TerminalEvent,
-    ) -> Result<Answer, StepFault>
+        answer: &mut Answer,
+    ) -> Result<(), StepFault>
         requires { IsStanding self.old }
-        ensures { Happens L.service (event_is.AtTerminal node terminal event) self.old result self.new }
+        ensures { Happens L.service (event_is.AtTerminal node terminal event) self.old
+            (result_and result (Ok answer.new)) self.new }
     {
         let Some(terminals) = self.terminals_at(node) else {
             return Err(StepFault::NoSuchNode);
@@ -29,7 +33,7 @@ impl<L: Line> Nodes<L> {
             return Err(StepFault::NoSuchTerminal);
         }
         let end = self.end_of(node)?;
-        self.act(end, &NodeEvent::AtTerminal(terminal as u8, event))
+        self.act(end, &NodeEvent::AtTerminal(terminal as u8, event), answer)
     }
 
     /// A host places a call.
@@ -38,12 +42,18 @@ impl<L: Line> Nodes<L> {
         node: usize,
         address: Address,
         user_data: &ArrayVec<u8, 16>,
-    ) -> Result<Answer, StepFault>
+        answer: &mut Answer,
+    ) -> Result<(), StepFault>
         requires { IsStanding self.old }
-        ensures { Happens L.service (event_is.Call node address user_data.now) self.old result self.new }
+        ensures { Happens L.service (event_is.Call node address user_data.now) self.old
+            (result_and result (Ok answer.new)) self.new }
     {
         let end = self.host_end(node)?;
-        self.act(end, &NodeEvent::Calls(address, user_data.as_slice()))
+        self.act(
+            end,
+            &NodeEvent::Calls(address, user_data.as_slice()),
+            answer,
+        )
     }
 
     /// A host is asked something on a channel.
@@ -52,22 +62,30 @@ impl<L: Line> Nodes<L> {
         node: usize,
         channel: u16,
         request: &HostRequest,
-    ) -> Result<Answer, StepFault>
+        answer: &mut Answer,
+    ) -> Result<(), StepFault>
         requires { IsStanding self.old }
-        ensures { Happens L.service (event_is.Ask node channel request.now) self.old result self.new }
+        ensures { Happens L.service (event_is.Ask node channel request.now) self.old
+            (result_and result (Ok answer.new)) self.new }
     {
         let end = self.host_end(node)?;
         let channel = self.channel(end.line, channel)?;
-        self.act(end, &NodeEvent::Asks(channel, request))
+        self.act(end, &NodeEvent::Asks(channel, request), answer)
     }
 
     /// A host takes what waits on a channel.
-    pub(super) fn take(&mut self, node: usize, channel: u16) -> Result<Answer, StepFault>
+    pub(super) fn take(
+        &mut self,
+        node: usize,
+        channel: u16,
+        answer: &mut Answer,
+    ) -> Result<(), StepFault>
         requires { IsStanding self.old }
-        ensures { Happens L.service (event_is.Take node channel) self.old result self.new }
+        ensures { Happens L.service (event_is.Take node channel) self.old
+            (result_and result (Ok answer.new)) self.new }
     {
         let end = self.host_end(node)?;
         let channel = self.channel(end.line, channel)?;
-        self.act(end, &NodeEvent::Takes(channel))
+        self.act(end, &NodeEvent::Takes(channel), answer)
     }
 }

@@ -34,7 +34,7 @@ use net_config::{
     MakeFault, NetPlan, NewKind, NewLine, NewNode, NewRoute, NewSwitch, Planned, PlannedKind,
 };
 use net_events::Put;
-use net_turns::{Room, put_frames};
+use net_turns::put_frames;
 use packet_end::{EndFault, EndParams};
 use packet_host::{Host, HostConfig};
 use std::alloc::{AllocError, Global};
@@ -273,22 +273,22 @@ fn begin<L: Line>(
         → OnOk result (BeginsAtSwitch L.service plan.now dte dce nodes.old.items nodes.new.items
         (L.flights line.new)) }
 {
-    let mut first = Room::new(alloc, 0)?;
-    let mut second = Room::new(alloc, 0)?;
+    let mut first = Vec::with_capacity(alloc, MOST_FRAMES)?;
+    let mut second = Vec::with_capacity(alloc, MOST_FRAMES)?;
     line.empty();
     put_user_frames(
         &mut nodes[plan.dte],
         number,
         line,
         Direction::FromDte,
-        &mut first.frames,
+        &mut first,
     );
     put_user_frames(
         &mut nodes[plan.dce],
         number,
         line,
         Direction::FromDce,
-        &mut second.frames,
+        &mut second,
     );
     Ok(())
 }
@@ -389,7 +389,6 @@ impl<L: Line> Nodes<L> {
         let mut lines = begin_lines(alloc, plan, &mut nodes, lines)?;
         begin_switches(alloc, plan, &mut nodes, &mut lines)?;
         Ok(Nodes {
-            alloc,
             nodes,
             lines,
             register,

@@ -1,5 +1,6 @@
 //! What comes to the nodes at their lines.
-ghost use Rattle.std.specs.Prelude.{◌≡◌, false};
+ghost use Rattle.std.specs.Prelude.{◌≡◌, false, Ok};
+ghost use Rattle.std.specs.Result.{result_and};
 ghost use Rattle.switch_laws.specs.Turn.{AreOctets};
 ghost use Rattle.memory_line.specs.declared.line.Direction.TheVariants as direction_is;
 ghost use Rattle.net_events.specs.declared.event.Event.TheVariants as event_is;
@@ -14,7 +15,7 @@ use crate::nodes::{LineEnd, Nodes};
 use link_timers::{Role, TimerId};
 use memory_line::{Direction, Line};
 use net_events::{Answer, NodeEvent, Outcome, StepFault, SwitchEvent};
-use net_turns::{MOST_WRITES, Room, bare_answer};
+use net_turns::{MOST_WRITES, make_bare, make_room};
 
 /// The end that hears what is sent in a direction.
 fn hearer(direction: Direction) -> Role
@@ -36,9 +37,15 @@ fn frame_heard(own: usize, octets: &[u8]) -> SwitchEvent<'_>
 
 impl<L: Line> Nodes<L> {
     /// The first frame in flight in a direction arrives.
-    pub(super) fn deliver(&mut self, line: usize, direction: Direction) -> Result<Answer, StepFault>
+    pub(super) fn deliver(
+        &mut self,
+        line: usize,
+        direction: Direction,
+        answer: &mut Answer,
+    ) -> Result<(), StepFault>
         requires { IsStanding self.old }
-        ensures { Happens L.service (event_is.Deliver line direction) self.old result self.new }
+        ensures { Happens L.service (event_is.Deliver line direction) self.old
+            (result_and result (Ok answer.new)) self.new }
     {
         if line >= self.lines.len() {
             return Err(StepFault::NoSuchNode);
@@ -46,23 +53,30 @@ impl<L: Line> Nodes<L> {
         let dce = self.lines[line].dce;
         match direction {
             Direction::FromDte => match self.own_line(line, dce) {
-                Some(own) => self.deliver_to_switch(line, dce, own),
-                None => self.deliver_to_user(line, direction),
+                Some(own) => self.deliver_to_switch(line, dce, own, answer),
+                None => self.deliver_to_user(line, direction, answer),
             },
-            Direction::FromDce => self.deliver_to_user(line, direction),
+            Direction::FromDce => self.deliver_to_user(line, direction, answer),
         }
     }
 
     /// It arrives at a node with users.
-    fn deliver_to_user(&mut self, line: usize, direction: Direction) -> Result<Answer, StepFault>
+    fn deliver_to_user(
+        &mut self,
+        line: usize,
+        direction: Direction,
+        answer: &mut Answer,
+    ) -> Result<(), StepFault>
         requires { HearsAt line (hearer direction) self.old }
-        ensures { Happens L.service (event_is.Deliver line direction) self.old result self.new }
+        ensures { Happens L.service (event_is.Deliver line direction) self.old
+            (result_and result (Ok answer.new)) self.new }
     {
-        let room = Room::new(self.alloc, 0)?;
+        make_room(answer, 0)?;
         self.register.open(line, MOST_WRITES)?;
         let net_line = &mut self.lines[line];
         let Some(frame) = net_line.line.take(direction) else {
-            return Ok(room.answer(Outcome::Delivered(false)));
+            answer.outcome = Outcome::Delivered(false);
+            return Ok(());
         };
         let end = LineEnd {
             line,
@@ -70,7 +84,7 @@ impl<L: Line> Nodes<L> {
         };
         let event = NodeEvent::Hears(frame.as_slice());
         let (nodes, register) = (&mut self.nodes, &mut self.register);
-        serve_at(nodes, net_line, register, end, &event, room)
+        serve_at(nodes, net_line, register, end, &event, answer)
     }
 
     /// It arrives at the switch of this place, on an own line of it.
@@ -79,28 +93,39 @@ impl<L: Line> Nodes<L> {
         line: usize,
         place: usize,
         own: usize,
-    ) -> Result<Answer, StepFault>
+        answer: &mut Answer,
+    ) -> Result<(), StepFault>
         requires standing { IsStanding self.old }
         requires switch { IsOwnLine line place own self.old }
-        ensures { Happens L.service (event_is.Deliver line direction_is.FromDte) self.old result self.new }
+        ensures { Happens L.service (event_is.Deliver line direction_is.FromDte) self.old
+            (result_and result (Ok answer.new)) self.new }
     {
-        let puts = self.room_at_switch(place)?;
+        self.make_switch_room(place, answer)?;
         let Some(frame) = self.lines[line].line.take(Direction::FromDte) else {
-            return Ok(bare_answer(self.alloc, Outcome::Delivered(false)));
+            answer.outcome = Outcome::Delivered(false);
+            return Ok(());
         };
         let event = frame_heard(own, frame.as_slice());
-        Ok(self.switch_acts(place, &event, puts))
+        self.switch_acts(place, &event, answer);
+        Ok(())
     }
 
     /// The first frame in flight in a direction is lost.
-    pub(super) fn lose(&mut self, line: usize, direction: Direction) -> Result<Answer, StepFault>
-        ensures { Happens L.service (event_is.Lose line direction) self.old result self.new }
+    pub(super) fn lose(
+        &mut self,
+        line: usize,
+        direction: Direction,
+        answer: &mut Answer,
+    ) -> Result<(), StepFault>
+        ensures { Happens L.service (event_is.Lose line direction) self.old
+            (result_and result (Ok answer.new)) self.new }
     {
         if line >= self.lines.len() {
             return Err(StepFault::NoSuchNode);
         }
         let _ = self.lines[line].line.take(direction);
-        Ok(bare_answer(self.alloc, Outcome::Done))
+        make_bare(answer, Outcome::Done);
+        Ok(())
     }
 
     /// A timer of a node's end of a line expires.
@@ -109,26 +134,29 @@ impl<L: Line> Nodes<L> {
         node: usize,
         line: usize,
         timer: TimerId,
-    ) -> Result<Answer, StepFault>
+        answer: &mut Answer,
+    ) -> Result<(), StepFault>
         requires { IsStanding self.old }
-        ensures { Happens L.service (event_is.Expire node line timer) self.old result self.new }
+        ensures { Happens L.service (event_is.Expire node line timer) self.old
+            (result_and result (Ok answer.new)) self.new }
     {
         if let Some(own) = self.own_line(line, node) {
-            let puts = self.room_at_switch(node)?;
-            let event = SwitchEvent::Expires(own, timer);
-            return Ok(self.switch_acts(node, &event, puts));
+            self.make_switch_room(node, answer)?;
+            self.switch_acts(node, &SwitchEvent::Expires(own, timer), answer);
+            return Ok(());
         }
         let end = self.end_of(node)?;
         if end.line != line {
             return Err(StepFault::NoSuchNode);
         }
-        self.act(end, &NodeEvent::Expires(timer))
+        self.act(end, &NodeEvent::Expires(timer), answer)
     }
 
     /// The DTE of a line gives its link up and sets it up again.
-    pub(super) fn relink(&mut self, line: usize) -> Result<Answer, StepFault>
+    pub(super) fn relink(&mut self, line: usize, answer: &mut Answer) -> Result<(), StepFault>
         requires { IsStanding self.old }
-        ensures { Happens L.service (event_is.Relink line) self.old result self.new }
+        ensures { Happens L.service (event_is.Relink line) self.old
+            (result_and result (Ok answer.new)) self.new }
     {
         if line >= self.lines.len() {
             return Err(StepFault::NoSuchNode);
@@ -137,34 +165,37 @@ impl<L: Line> Nodes<L> {
             line,
             role: Role::Dte,
         };
-        self.act(end, &NodeEvent::Relinks)
+        self.act(end, &NodeEvent::Relinks, answer)
     }
 
     /// A node begins anew, and its lines lose all frames.
-    pub(super) fn restart(&mut self, node: usize) -> Result<Answer, StepFault>
+    pub(super) fn restart(&mut self, node: usize, answer: &mut Answer) -> Result<(), StepFault>
         requires { IsStanding self.old }
-        ensures { Happens L.service (event_is.Restart node) self.old result self.new }
+        ensures { Happens L.service (event_is.Restart node) self.old
+            (result_and result (Ok answer.new)) self.new }
     {
         if self.is_switch(node) {
-            let puts = self.room_at_switch(node)?;
-            return Ok(self.switch_acts(node, &SwitchEvent::Restarts, puts));
+            self.make_switch_room(node, answer)?;
+            self.switch_acts(node, &SwitchEvent::Restarts, answer);
+            return Ok(());
         }
-        self.restart_user(node)
+        self.restart_user(node, answer)
     }
 
     /// A node with users begins anew.
-    fn restart_user(&mut self, node: usize) -> Result<Answer, StepFault>
+    fn restart_user(&mut self, node: usize, answer: &mut Answer) -> Result<(), StepFault>
         requires standing { IsStanding self.old }
         requires user { is_switch_at node self.old ≡ false }
-        ensures { Happens L.service (event_is.Restart node) self.old result self.new }
+        ensures { Happens L.service (event_is.Restart node) self.old
+            (result_and result (Ok answer.new)) self.new }
     {
         let end = self.end_of(node)?;
-        let room = Room::new(self.alloc, 0)?;
+        make_room(answer, 0)?;
         self.register.open(end.line, MOST_WRITES)?;
         let net_line = &mut self.lines[end.line];
         net_line.line.empty();
         let (nodes, register) = (&mut self.nodes, &mut self.register);
         let event = NodeEvent::Restarts;
-        serve_at(nodes, net_line, register, end, &event, room)
+        serve_at(nodes, net_line, register, end, &event, answer)
     }
 }

@@ -1,5 +1,5 @@
 //! What happens at a switch: it is called, its frames go onto its lines, and the call that it joined is handed on.
-ghost use Rattle.std.specs.Prelude.{◌≡◌, Some, IfOk, length, slice_get, vec_capacity};
+ghost use Rattle.std.specs.Prelude.{◌≡◌, [], Some, OnOk, length, slice_get, vec_capacity};
 ghost use Rattle.std.specs.Option.{option_to_list};
 ghost use Rattle.call_records.specs.RegisterView.{register_of};
 ghost use Rattle.net_events.specs.AtSwitch.{all_handed, switch_drained};
@@ -17,7 +17,7 @@ use call_records::Register;
 use line_end::MOST_FRAMES;
 use memory_line::Line;
 use net_events::{Answer, Outcome, Put, SwitchEvent};
-use net_turns::{bare_answer, call_switch, put_switch_frames};
+use net_turns::{call_switch, make_frame_room, put_switch_frames};
 use std::alloc::AllocError;
 use x25_switch::{NewJoin, Switch};
 
@@ -117,37 +117,43 @@ impl<L: Line> Nodes<L> {
         place < self.nodes.len() && self.nodes[place].is_switch()
     }
 
-    /// An empty list with places for all frames of an event at the switch of this place.
-    pub(super) fn room_at_switch(&self, place: usize) -> Result<Vec<Put>, AllocError>
-        ensures { (n : network.PlacedSwitch) → slice_get self.now.nodes place ≡ Some (network.Switching n)
-            → IfOk result (λ puts. HasRoom (length n.switch.lines) puts.items (vec_capacity puts)) }
+    /// Empties an answer, and makes room in it for all frames of an event at the switch of this place.
+    pub(super) fn make_switch_room(
+        &self,
+        place: usize,
+        answer: &mut Answer,
+    ) -> Result<(), AllocError>
+        ensures room { (n : network.PlacedSwitch) → slice_get self.now.nodes place ≡ Some (network.Switching n)
+            → OnOk result (HasRoom (length n.switch.lines) answer.new.frames.items (vec_capacity answer.new.frames)) }
+        ensures frames { answer.new.frames.items ≡ [] }
+        ensures notes { answer.new.notes.items ≡ [] }
+        ensures text { answer.new.text.items ≡ [] }
     {
         let lines = if place < self.nodes.len() {
             self.nodes[place].own_lines()
         } else {
             0
         };
-        Vec::with_capacity(self.alloc, lines * MOST_FRAMES)
+        make_frame_room(answer, lines * MOST_FRAMES)
     }
 
-    /// Serves an event at the switch of this place, and answers it.
-    pub(super) fn switch_acts(
-        &mut self,
-        place: usize,
-        event: &SwitchEvent<'_>,
-        puts: Vec<Put>,
-    ) -> Answer
-        requires { CanSwitch (switch_event_of event.now) place self.old puts.items (vec_capacity puts) }
+    /// Serves an event at the switch of this place, and writes the answer, in which nothing stands before.
+    pub(super) fn switch_acts(&mut self, place: usize, event: &SwitchEvent<'_>, answer: &mut Answer)
+        requires can { CanSwitch (switch_event_of event.now) place self.old answer.old.frames.items
+            (vec_capacity answer.old.frames) }
+        requires notes { answer.old.notes.items ≡ [] }
+        requires text { answer.old.text.items ≡ [] }
         ensures { (n : network.PlacedSwitch) → slice_get self.old.nodes place ≡ Some (network.Switching n)
-            → SwitchActed L.service (switch_event_of event.now) place n self.old result self.new }
+            → SwitchActed L.service (switch_event_of event.now) place n self.old answer.new self.new }
     {
-        let mut puts = puts;
         let (lines, register) = (&mut self.lines, &mut self.register);
-        serve_switch(&mut self.nodes[place], lines, register, event, &mut puts);
-        let bare = bare_answer(self.alloc, outcome_of(event));
-        Answer {
-            frames: puts,
-            ..bare
-        }
+        serve_switch(
+            &mut self.nodes[place],
+            lines,
+            register,
+            event,
+            &mut answer.frames,
+        );
+        answer.outcome = outcome_of(event);
     }
 }

@@ -1,5 +1,6 @@
 //! The turn of a node with users at its end of a line.
-ghost use Rattle.std.specs.Prelude.{◌≡◌, ◌≤◌, Some, MatchResult, OnOk, OnErr, slice_get, vec_capacity};
+ghost use Rattle.std.specs.Prelude.{◌≡◌, ◌≤◌, Some, Ok, MatchResult, OnOk, OnErr, slice_get, vec_capacity};
+ghost use Rattle.std.specs.Result.{result_and};
 ghost use Rattle.call_records.specs.RegisterView.{register_of};
 ghost use Rattle.net_events.specs.EventView.{event_of};
 ghost use Rattle.net_events.specs.Network as network;
@@ -14,8 +15,8 @@ use call_records::{Book, Register};
 use line_nodes::{NodeFault, Place, TerminalEvent};
 use link_timers::Role;
 use memory_line::Line;
-use net_events::{Answer, NodeEvent, Outcome, StepFault};
-use net_turns::{MOST_TEXT, MOST_WRITES, NetPlace, Room, serve};
+use net_events::{Answer, NodeEvent, StepFault};
+use net_turns::{MOST_TEXT, MOST_WRITES, NetPlace, make_room, serve};
 
 /// Serves an event at a node with users.
 fn serve_user<L: Line>(
@@ -24,45 +25,46 @@ fn serve_user<L: Line>(
     event: &NodeEvent<'_>,
     line: &mut L,
     book: &mut Book,
-    room: &mut Room,
-) -> Result<Outcome, NodeFault>
+    answer: &mut Answer,
+) -> Result<(), NodeFault>
     requires user { IsServable (event_of event.now) node.old }
     requires writes { MOST_WRITES ≤ book.old.room }
     requires pairs { 1 ≤ book.old.pairs }
-    requires empty { IsEmpty room.old }
-    requires places { EventHasPlaces (event_of event.now) (vec_capacity room.old.text) }
+    requires empty { IsEmpty answer.old }
+    requires places { EventHasPlaces (event_of event.now) (vec_capacity answer.old.text) }
     ensures answer { (n : network.PlacedNode) → node.old ≡ network.User n
-        → IsAnswered (event_of event.now) n.node result }
+        → IsAnswered (event_of event.now) n.node (result_and result (Ok answer.new.outcome)) }
     ensures text { (n : network.PlacedNode) → node.old ≡ network.User n
-        → OnOk result (room.new.text.items ≡ text_of (event_of event.now) n.node) }
+        → OnOk result (answer.new.text.items ≡ text_of (event_of event.now) n.node) }
     ensures served { (n : network.PlacedNode) → node.old ≡ network.User n
         → OnOk result (UserServed L.service at (turn_of (event_of event.now) at.place.role n.node book.old.book) n
-        (L.flights line.old) room.new.frames.items room.new.notes.items node.new (L.flights line.new) book.new.book) }
+        (L.flights line.old) answer.new.frames.items answer.new.notes.items node.new (L.flights line.new)
+        book.new.book) }
     ensures node { OnErr result (node.new ≡ node.old) }
     ensures line { OnErr result (line.new ≡ line.old) }
     ensures book { OnErr result (book.new ≡ book.old) }
 {
     match &mut node.kind {
-        NodeKind::User { node, .. } => serve(node, at, event, line, book, room),
+        NodeKind::User { node, .. } => serve(node, at, event, line, book, answer),
         NodeKind::Switching { .. } => unreachable!(),
     }
 }
 
-/// Serves an event at the node at an end of a line, at which the register is open, and answers it.
+/// Serves an event at the node at an end of a line, at which the register is open, and writes the answer.
 pub(super) fn serve_at<L: Line>(
     nodes: &mut Vec<NetNode>,
     net_line: &mut NetLine<L>,
     register: &mut Register,
     end: LineEnd,
     event: &NodeEvent<'_>,
-    mut room: Room,
-) -> Result<Answer, StepFault>
-    requires { CanServe end (event_of event.now) nodes.old.items net_line.old register.old room }
+    answer: &mut Answer,
+) -> Result<(), StepFault>
+    requires { CanServe end (event_of event.now) nodes.old.items net_line.old register.old answer.old }
     ensures { (n : network.PlacedNode)
         → slice_get nodes.old.items (network.place_at end.role net_line.old) ≡ Some (network.User n)
-        → MatchResult result
-        (λ answer. HadTurn L.service end (event_of event.now) n nodes.old.items net_line.old (register_of register.old)
-        answer nodes.new.items net_line.new (register_of register.new))
+        → MatchResult (result_and result (Ok answer.new))
+        (λ a. HadTurn L.service end (event_of event.now) n nodes.old.items net_line.old (register_of register.old)
+        a nodes.new.items net_line.new (register_of register.new))
         (λ fault. HadNone (event_of event.now) n fault nodes.old.items net_line.old (register_of register.old)
         nodes.new.items net_line.new (register_of register.new)) }
 {
@@ -83,10 +85,10 @@ pub(super) fn serve_at<L: Line>(
         event,
         &mut net_line.line,
         &mut register.book,
-        &mut room,
+        answer,
     );
     match served {
-        Ok(outcome) => Ok(room.answer(outcome)),
+        Ok(()) => Ok(()),
         Err(fault) => Err(StepFault::Refused(fault)),
     }
 }
@@ -119,14 +121,26 @@ fn terminal_places(event: TerminalEvent) -> usize
 
 impl<L: Line> Nodes<L> {
     /// Something happens at the node at an end of a line; it is not that a frame arrives or that the node begins anew.
-    pub(super) fn act(&mut self, end: LineEnd, event: &NodeEvent<'_>) -> Result<Answer, StepFault>
+    pub(super) fn act(
+        &mut self,
+        end: LineEnd,
+        event: &NodeEvent<'_>,
+        answer: &mut Answer,
+    ) -> Result<(), StepFault>
         requires can { CanAct end (event_of event.now) self.old }
         requires leaves { LeavesLine (event_of event.now) }
-        ensures { Acts L.service end (event_of event.now) self.old result self.new }
+        ensures { Acts L.service end (event_of event.now) self.old (result_and result (Ok answer.new)) self.new }
     {
-        let room = Room::new(self.alloc, text_places(event))?;
+        make_room(answer, text_places(event))?;
         self.register.open(end.line, MOST_WRITES)?;
         let (nodes, register) = (&mut self.nodes, &mut self.register);
-        serve_at(nodes, &mut self.lines[end.line], register, end, event, room)
+        serve_at(
+            nodes,
+            &mut self.lines[end.line],
+            register,
+            end,
+            event,
+            answer,
+        )
     }
 }

@@ -1,23 +1,56 @@
-use Rattle.switch_network_laws.proofs.PromiseAny.{promise_any}
+use Rattle.std.proofs.Common.{◌≡◌, Ok, Err, Result, refl, sym, ap, ◌∙◌, subst, rules}
+use Rattle.std.specs.Result.{result_and}
+use Rattle.net_events.specs.declared.answer.Answer.{Answer}
+use Rattle.net_events.specs.declared.event.StepFault.{StepFault}
+use Rattle.net_nodes.specs.Happening.{Happens}
+use Rattle.line_sim.specs.Stepping.{lent}
 use Rattle.line_sim.proofs.Standing.{standing}
 use Rattle.line_sim.proofs.Events.{happens}
-use Rattle.line_sim.proofs.FewerDue.{fewer_due}
+use Rattle.line_sim.proofs.Refusals.{refusals}
 use Rattle.line_sim.proofs.RunsMore.{has-memory}
+use Rattle.line_sim.proofs.Stepped.{stepped}
 use Rattle.line_sim.proofs.net.Net.step.Goals as goal
 
 pub happen-requires : goal.happen-requires
 happen-requires g c = standing g.L.Line.service _ c.self.invariant
 
 pub invariant_of-self : goal.invariant_of-self
-invariant_of-self g c = happens g.L.Line.service c.args.event.now _ c.happen.result c.happen.new.self c.self.invariant c.happen.ensures
+invariant_of-self g c =
+    happens g.L.Line.service c.args.event.now _ (result_and c.happen.result (Ok c.happen.new.answer)) c.happen.new.self c.self.invariant c.happen.ensures
 
-pub returns-clause-fewer_due : goal.returns-clause-fewer_due
-returns-clause-fewer_due g c = rw (← c.self.view_is) (fewer_due g.L.Line.service c.args.event.now _ c.happen.result c.happen.new.self c.self.invariant c.happen.ensures)
+pub invariant_of-self-2 : goal.invariant_of-self-2
+invariant_of-self-2 g c =
+    happens g.L.Line.service c.args.event.now _ (result_and c.happen.result (Ok c.happen.new.answer)) c.happen.new.self c.self.invariant c.happen.ensures
 
-pub returns-clause-memory : goal.returns-clause-memory
-returns-clause-memory g c = has-memory g.L.Line.service c.args.event.now _ c.happen.result c.happen.new.self c.happen.ensures
+pub returns-in_err-happen : goal.returns-in_err-happen
+returns-in_err-happen g c =
+    let L = g.L.Line.service in
+    let r : Result Answer StepFault = lent c.from_residual.result in
+    let is : result_and c.happen.result (Ok c.happen.new.answer) ≡ r
+    = ap (λ x. result_and x (Ok c.happen.new.answer)) c.in_err-happen.was ∙ search rules in
+    let h : Happens L c.args.event.now c.self.inside.nodes r c.happen.new.self
+    = subst (λ (x : Result Answer StepFault). Happens L c.args.event.now c.self.inside.nodes x c.happen.new.self) is c.happen.ensures in
+    rw (← c.self.view_is) (
+      (refl, λ _. tt, stepped L c.args.event.now c.self.inside.nodes r c.happen.new.self c.self.invariant h),
+      record {
+        faults = refusals L c.args.event.now c.self.inside.nodes r c.happen.new.self h;
+        memory = has-memory L c.args.event.now c.self.inside.nodes r c.happen.new.self h;
+        after = tt;
+      },
+    )
 
-pub returns-clause-headline : goal.returns-clause-headline
-returns-clause-headline g c =
-    promise_any g.L.Line.service c.happen.new.self
-    (happens g.L.Line.service c.args.event.now _ c.happen.result c.happen.new.self c.self.invariant c.happen.ensures).any
+pub returns : goal.returns
+returns g c =
+    let L = g.L.Line.service in
+    let r : Result Answer StepFault = Ok c.happen.new.answer in
+    let is : result_and c.happen.result r ≡ r = ap (λ x. result_and x r) c.in_ok-happen.was in
+    let h : Happens L c.args.event.now c.self.inside.nodes r c.happen.new.self
+    = subst (λ (x : Result Answer StepFault). Happens L c.args.event.now c.self.inside.nodes x c.happen.new.self) is c.happen.ensures in
+    rw (← c.self.view_is) (
+      (refl, λ _. tt, stepped L c.args.event.now c.self.inside.nodes r c.happen.new.self c.self.invariant h),
+      record {
+        faults = refusals L c.args.event.now c.self.inside.nodes r c.happen.new.self h;
+        memory = has-memory L c.args.event.now c.self.inside.nodes r c.happen.new.self h;
+        after = tt;
+      },
+    )

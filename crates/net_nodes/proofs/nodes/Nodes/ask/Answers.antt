@@ -1,4 +1,5 @@
-use Rattle.std.proofs.Common.{ℕ, refl, ◌∙◌, subst}
+use Rattle.std.proofs.Common.{Ok, ℕ, refl, ◌∙◌, subst}
+use Rattle.std.specs.Result.{result_and}
 use Rattle.net_events.specs.EventView.{request_event}
 use Rattle.net_turns.specs.Outcomes.{event_fault}
 use Rattle.net_events.specs.declared.event.Event.TheVariants.{Ask}
@@ -20,8 +21,8 @@ returns g c =
     let s = c.args.self.now in
     let ch = c.in_ok-channel.ensures in
     let event = request_event c.args.channel c.args.request.now in
-    let P : ℕ → Type 0 = λ k. Acts g.L.Line.service c.in_ok-end.end (request_event k c.args.request.now) s c.act.result c.act.new.self in
-    acted g.L.Line.service (Ask c.args.node c.args.channel c.args.request.now) c.args.node event c.in_ok-end.end s c.act.new.self c.act.result p
+    let P : ℕ → Type 0 = λ k. Acts g.L.Line.service c.in_ok-end.end (request_event k c.args.request.now) s (result_and c.act.result (Ok c.act.new.answer)) c.act.new.self in
+    acted g.L.Line.service (Ask c.args.node c.args.channel c.args.request.now) c.args.node event c.in_ok-end.end s c.act.new.self (result_and c.act.result (Ok c.act.new.answer)) p
     (fault_at c.args.node c.in_ok-end.end s p (λ n. on_channel c.args.channel s n (refused (event_fault event n.node))) (c.in_ok-end.ensures.0)
     ∙ channel_at c.args.node c.in_ok-end.end s p c.args.channel (refused (event_fault event p.node.node)) ch.0)
     refl (λ a w. w) (subst P ch.1 c.act.ensures)

@@ -1,4 +1,5 @@
-use Rattle.std.proofs.Common.{◌<◌, sym, ◌∙◌, refl, arith}
+use Rattle.std.proofs.Common.{Ok, ◌<◌, sym, ◌∙◌, refl, arith}
+use Rattle.std.specs.Result.{result_and}
 use Rattle.net_events.specs.NodeEvents as node_event
 use Rattle.net_events.specs.declared.event.Event.TheVariants.{AtTerminal}
 use Rattle.net_nodes.proofs.Happening.{acted, can_act, pad_at, terminal_there}
@@ -16,6 +17,6 @@ returns g c =
     let p = c.in_ok-end.ensures in
     let less : c.args.terminal < c.in-Some.terminals = omega (arith, c.if-terminal-from.false) in
     acted g.L.Line.service (AtTerminal c.args.node c.args.terminal c.args.event) c.args.node (node_event.AtTerminal c.args.terminal c.args.event) c.in_ok-end.end
-    c.args.self.now c.act.new.self c.act.result p
+    c.args.self.now c.act.new.self (result_and c.act.result (Ok c.act.new.answer)) p
     (terminal_there c.args.node c.args.terminal c.in-Some.terminals c.args.self.now (sym c.terminals_at.ensures ∙ c.in-Some.is) less)
     refl (λ a w. w) c.act.ensures

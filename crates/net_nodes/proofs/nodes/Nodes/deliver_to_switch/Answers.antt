@@ -24,10 +24,10 @@ returns-in_default g c =
       ap (λ o. where_there_is (is_some o)) here,
       inl (record {
         nothing = record {
-          frames = c.bare_answer.ensures.frames;
-          notes = c.bare_answer.ensures.notes;
-          text = c.bare_answer.ensures.text;
-          answered = c.bare_answer.ensures.outcome;
+          frames = c.make_switch_room.ensures.frames;
+          notes = c.make_switch_room.ensures.notes;
+          text = c.make_switch_room.ensures.text;
+          answered = refl;
           lost = record {
             line_is = _;
             line_there = here;
@@ -40,8 +40,8 @@ returns-in_default g c =
       }),
     )
 
-pub switch_acts-requires : goal.switch_acts-requires
-switch_acts-requires g c =
+pub switch_acts-requires-clause-can : goal.switch_acts-requires-clause-can
+switch_acts-requires-clause-can g c =
     let o = c.requires.switch in
     let st = subst IsStanding (sym c.self.view_is) c.requires.standing in
     let node_there = ap (λ (s : Network). slice_get s.nodes c.args.place) c.self.view_is ∙ o.node_there in
@@ -51,8 +51,8 @@ switch_acts-requires g c =
       switch = o.node;
       there = node_there;
       has_line = has;
-      can_put = can_switch (Hears c.args.own c.as_slice.result.now) c.args.place _ o.node _ c.in_ok-puts.puts.items _ st node_there (length_set c.self.inside.lines.items c.args.line _) has
-          (c.in_ok-puts.ensures o.node o.node_there);
+      can_put = can_switch (Hears c.args.own c.as_slice.result.now) c.args.place _ o.node _ c.make_switch_room.new.answer.frames.items _ st node_there (length_set c.self.inside.lines.items c.args.line _) has
+          (c.in_ok-make_switch_room.ensures.room o.node o.node_there);
     })
 
 pub returns : goal.returns
@@ -65,7 +65,7 @@ returns g c =
     let h : c.args.line < length lines = within lines c.args.line o.line_is (ap (λ (s : Network). slice_get s.lines c.args.line) c.self.view_is ∙ o.line_there) in
     let here = there lines c.args.line _ c.index_mut.result.now h c.index_mut.ensures.value ∙ ap Some (sym c.behind-self.view_is) in
     rw (← c.self.view_is)
-    (heard L c.args.place c.args.line c.args.own c.as_slice.result.now o.node _ (g.L.Line.flights c.take.new.self) _ c.switch_acts.result c.switch_acts.new.self st node_there o.own_line here
+    (heard L c.args.place c.args.line c.args.own c.as_slice.result.now o.node _ (g.L.Line.flights c.take.new.self) _ c.switch_acts.new.answer c.switch_acts.new.self st node_there o.own_line here
     (λ f. (sym (c.in-Some.ensures.taken f) ∙ ap Some (sym c.as_slice.ensures.value), c.in-Some.ensures.others f))
     c.frame_heard-event.ensures.octets
     _ c.frame_heard-event.ensures.event (c.switch_acts.ensures o.node node_there))

@@ -1,5 +1,6 @@
-use Rattle.std.proofs.Common.{◌<◌, length, set, Some, slice_get, refl, sym, ap, ◌∙◌, inl, subst}
+use Rattle.std.proofs.Common.{Ok, ◌<◌, length, set, Some, slice_get, refl, sym, ap, ◌∙◌, inl, subst}
 use Rattle.std.specs.Prelude.{is_some}
+use Rattle.std.specs.Result.{result_and}
 use Rattle.call_records.specs.RegisterView.{register_of}
 use Rattle.net_events.specs.NodeEvents.{Hears}
 use Rattle.net_events.specs.Network.{NetLine}
@@ -23,10 +24,10 @@ returns-in_default g c =
       ap (λ o. where_there_is (is_some o)) here,
       inl (record {
         nothing = record {
-          frames = c.answer.ensures.frames ∙ c.in_ok-room.ensures.empty.frames;
-          notes = c.answer.ensures.notes ∙ c.in_ok-room.ensures.empty.notes;
-          text = c.answer.ensures.text ∙ c.in_ok-room.ensures.empty.text;
-          answered = c.answer.ensures.outcome;
+          frames = c.in_ok-make_room.ensures.empty.frames;
+          notes = c.in_ok-make_room.ensures.empty.notes;
+          text = c.in_ok-make_room.ensures.empty.text;
+          answered = refl;
           lost = record {
             line_is = _;
             line_there = here;
@@ -48,8 +49,8 @@ serve_at-requires g c =
     let here = there lines c.args.line _ c.index_mut-net_line.result.now h c.index_mut-net_line.ensures.value ∙ ap Some (sym c.net_line.view_is) in
     let e = hears_there c.args.line (hearer c.args.direction) c.hearer.result c.hearer.ensures _ _ st here in
     can_serve end (Hears c.as_slice.result.now) c.self.inside.nodes.items _ e.node e.node_there tt e.quiet c.self.inside.register st.registered _
-    (g.L.Line.flights c.take.new.self) c.open.new.self c.in_ok-room.room
-    refl c.open.ensures.same c.open.ensures.at c.open.ensures.book c.in_ok-open.ensures.room c.in_ok-open.ensures.pairs c.in_ok-room.ensures.empty tt
+    (g.L.Line.flights c.take.new.self) c.open.new.self c.make_room.new.answer
+    refl c.open.ensures.same c.open.ensures.at c.open.ensures.book c.in_ok-open.ensures.room c.in_ok-open.ensures.pairs c.in_ok-make_room.ensures.empty tt
 
 pub returns : goal.returns
 returns g c =
@@ -63,11 +64,11 @@ returns g c =
     let e = hears_there c.args.line (hearer c.args.direction) c.hearer.result c.hearer.ensures _ _ st here in
     let w = c.serve_at.ensures e.node (ap (λ i. slice_get c.self.inside.nodes.items i) (same_place c.hearer.result _ (g.L.Line.flights c.take.new.self)) ∙ e.node_there) in
     rw (← c.self.view_is)
-    (delivered L c.args.line c.args.direction end refl c.hearer.ensures c.as_slice.result.now _ _ here c.serve_at.result _
-    (acts_anew L end event _ _ e.node (g.L.Line.flights c.take.new.self) c.serve_at.result c.serve_at.new.nodes.items
+    (delivered L c.args.line c.args.direction end refl c.hearer.ensures c.as_slice.result.now _ _ here (result_and c.serve_at.result (Ok c.serve_at.new.answer)) _
+    (acts_anew L end event _ _ e.node (g.L.Line.flights c.take.new.self) (result_and c.serve_at.result (Ok c.serve_at.new.answer)) c.serve_at.new.nodes.items
     c.serve_at.new.net_line (register_of c.serve_at.new.register) here e.node_there tt
     (λ f. left_hears c.args.direction c.hearer.result c.hearer.ensures _ _ _ c.as_slice.result.now c.as_slice.ensures.value (c.in-Some.ensures.taken f) (c.in-Some.ensures.others f))
     refl
-    (turned_from L end event e.node c.serve_at.result c.self.inside.nodes.items _ _ _ (register_of c.self.inside.register) c.serve_at.new.nodes.items
+    (turned_from L end event e.node (result_and c.serve_at.result (Ok c.serve_at.new.answer)) c.self.inside.nodes.items _ _ _ (register_of c.self.inside.register) c.serve_at.new.nodes.items
     c.serve_at.new.net_line (register_of c.serve_at.new.register) refl c.open.ensures.same w)
     ))

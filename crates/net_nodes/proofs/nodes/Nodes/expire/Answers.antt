@@ -1,5 +1,6 @@
-use Rattle.std.proofs.Common.{refl, sym, ap, ◌∙◌, inl}
+use Rattle.std.proofs.Common.{Ok, refl, sym, ap, ◌∙◌, inl}
 use Rattle.std.proofs.lemmas.Bool.{eq-eqb}
+use Rattle.std.specs.Result.{result_and}
 use Rattle.net_events.specs.NodeEvents.{Expires}
 use Rattle.net_events.specs.declared.event.Event.TheVariants.{Expire}
 use Rattle.net_nodes.specs.Faults.{where_there_is, stands_at}
@@ -16,12 +17,12 @@ act-requires-clause-can g c =
 pub returns : goal.returns
 returns g c =
     let p = c.in_ok-end.ensures in
-    acted g.L.Line.service (Expire c.args.node c.args.line c.args.timer) c.args.node (Expires c.args.timer) c.in_ok-end.end c.args.self.now c.act.new.self c.act.result p
+    acted g.L.Line.service (Expire c.args.node c.args.line c.args.timer) c.args.node (Expires c.args.timer) c.in_ok-end.end c.args.self.now c.act.new.self (result_and c.act.result (Ok c.act.new.answer)) p
     (ap (λ o. where_there_is (stands_at c.args.line o)) p.node_there ∙ ap where_there_is (eq-eqb p.node.line c.args.line (p.node_line ∙ c.if-end-line.false)))
     refl (λ a w. inl w) c.act.ensures
 
-pub switch_acts-requires : goal.switch_acts-requires
-switch_acts-requires g c =
+pub switch_acts-requires-clause-can : goal.switch_acts-requires-clause-can
+switch_acts-requires-clause-can g c =
     let s = c.args.self.now in
     let o = own_line_found c.args.line c.args.node c.in-Some.own s (sym c.own_line.ensures ∙ c.in-Some.is) in
     let has = within o.0.lines c.in-Some.own c.args.line o.2 in
@@ -29,7 +30,7 @@ switch_acts-requires g c =
       switch = o.0;
       there = o.1;
       has_line = has;
-      can_put = can_switch (switch_event.Expires c.in-Some.own c.args.timer) c.args.node s o.0 s.lines c.in_ok-puts.puts.items _ c.requires o.1 refl has (c.in_ok-puts.ensures o.0 o.1);
+      can_put = can_switch (switch_event.Expires c.in-Some.own c.args.timer) c.args.node s o.0 s.lines c.make_switch_room.new.answer.frames.items _ c.requires o.1 refl has (c.in_ok-make_switch_room.ensures.room o.0 o.1);
     }
 
 pub returns-in-Some : goal.returns-in-Some
@@ -37,4 +38,4 @@ returns-in-Some g c =
     let s = c.args.self.now in
     let is = sym c.own_line.ensures ∙ c.in-Some.is in
     let o = own_line_found c.args.line c.args.node c.in-Some.own s is in
-    expired g.L.Line.service c.args.node c.args.line c.in-Some.own c.args.timer o.0 s c.switch_acts.result c.switch_acts.new.self o.1 o.2 is (c.switch_acts.ensures o.0 o.1)
+    expired g.L.Line.service c.args.node c.args.line c.in-Some.own c.args.timer o.0 s c.switch_acts.new.answer c.switch_acts.new.self o.1 o.2 is (c.switch_acts.ensures o.0 o.1)

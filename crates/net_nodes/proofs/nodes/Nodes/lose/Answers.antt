@@ -12,10 +12,10 @@ returns g c =
     rw (← c.self.view_is) (
       ap (λ o. where_there_is (is_some o)) here,
       record {
-        frames = c.bare_answer.ensures.frames;
-        notes = c.bare_answer.ensures.notes;
-        text = c.bare_answer.ensures.text;
-        answered = c.bare_answer.ensures.outcome;
+        frames = c.make_bare.ensures.frames;
+        notes = c.make_bare.ensures.notes;
+        text = c.make_bare.ensures.text;
+        answered = c.make_bare.ensures.outcome;
         lost = record {
           line_is = _;
           line_there = here;

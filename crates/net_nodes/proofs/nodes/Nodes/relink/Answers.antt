@@ -1,4 +1,5 @@
-use Rattle.std.proofs.Common.{◌<◌, length, ap, arith}
+use Rattle.std.proofs.Common.{Ok, ◌<◌, length, ap, arith}
+use Rattle.std.specs.Result.{result_and}
 use Rattle.net_events.specs.Network.{Network}
 use Rattle.net_nodes.proofs.Places.{at_index}
 use Rattle.net_nodes.proofs.Happening.{can_relink, relinked}
@@ -18,4 +19,4 @@ returns g c =
     let same = ap (λ (s : Network). s.lines) c.self.view_is in
     let h : c.args.line < length s.lines = (let count = ap length same in omega (arith, c.if-line-len.false, c.len.ensures, count)) in
     let l = at_index s.lines c.args.line h in
-    relinked g.L.Line.service c.args.line s c.act.new.self c.act.result c.requires l.0 l.1 c.act.ensures
+    relinked g.L.Line.service c.args.line s c.act.new.self (result_and c.act.result (Ok c.act.new.answer)) c.requires l.0 l.1 c.act.ensures

@@ -3,19 +3,19 @@ use Rattle.net_events.specs.AtSwitch.{Restarts}
 use Rattle.net_nodes.proofs.SwitchTurns.{switch_found, can_switch, restarted}
 use Rattle.net_nodes.proofs.nodes.Nodes.restart.Goals as goal
 
-pub switch_acts-requires : goal.switch_acts-requires
-switch_acts-requires g c =
+pub switch_acts-requires-clause-can : goal.switch_acts-requires-clause-can
+switch_acts-requires-clause-can g c =
     let s = c.args.self.now in
     let o = switch_found c.args.node s (sym c.if-is_switch.ensures) in
     record {
       switch = o.0;
       there = o.1;
       has_line = tt;
-      can_put = can_switch Restarts c.args.node s o.0 s.lines c.in_ok-puts.puts.items _ c.requires o.1 refl tt (c.in_ok-puts.ensures o.0 o.1);
+      can_put = can_switch Restarts c.args.node s o.0 s.lines c.make_switch_room.new.answer.frames.items _ c.requires o.1 refl tt (c.in_ok-make_switch_room.ensures.room o.0 o.1);
     }
 
 pub returns-then-is_switch : goal.returns-then-is_switch
 returns-then-is_switch g c =
     let s = c.args.self.now in
     let o = switch_found c.args.node s (sym c.if-is_switch.ensures) in
-    restarted g.L.Line.service c.args.node o.0 s c.switch_acts.result c.switch_acts.new.self o.1 (c.switch_acts.ensures o.0 o.1)
+    restarted g.L.Line.service c.args.node o.0 s c.switch_acts.new.answer c.switch_acts.new.self o.1 (c.switch_acts.ensures o.0 o.1)

@@ -9,7 +9,7 @@ use Rattle.net_nodes.proofs.nodes.Nodes.switch_acts.Goals as goal
 pub serve_switch-requires : goal.serve_switch-requires
 serve_switch-requires g c =
     let nodes = c.self.inside.nodes.items in
-    let can = subst (λ s. CanSwitch (switch_event_of c.args.event.now) c.args.place s c.args.puts.items (vec_capacity c.args.puts)) (sym c.self.view_is) c.requires in
+    let can = subst (λ s. CanSwitch (switch_event_of c.args.event.now) c.args.place s c.args.answer.now.frames.items (vec_capacity c.args.answer.now.frames)) (sym c.self.view_is) c.requires.can in
     record {
       switch = can.switch;
       is = found nodes c.args.place _ c.index_mut.result.now (Switching can.switch) (within nodes c.args.place (Switching can.switch) can.there) c.index_mut.ensures.value can.there;
@@ -28,7 +28,7 @@ returns g c =
       lines_put = w.lines_put;
       register_is = w.register_is;
       puts = w.puts_are;
-      notes = c.bare_answer-bare.ensures.notes;
-      text = c.bare_answer-bare.ensures.text;
-      outcome = c.bare_answer-bare.ensures.outcome ∙ c.outcome_of.ensures;
+      notes = c.requires.notes;
+      text = c.requires.text;
+      outcome = c.outcome_of.ensures;
     })

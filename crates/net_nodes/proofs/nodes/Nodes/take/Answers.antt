@@ -1,4 +1,5 @@
-use Rattle.std.proofs.Common.{ℕ, None, refl, ◌∙◌, subst}
+use Rattle.std.proofs.Common.{Ok, ℕ, None, refl, ◌∙◌, subst}
+use Rattle.std.specs.Result.{result_and}
 use Rattle.net_events.specs.NodeEvents.{Takes}
 use Rattle.net_events.specs.declared.event.Event.TheVariants.{Take}
 use Rattle.net_nodes.specs.Faults.{on_channel}
@@ -17,8 +18,8 @@ returns g c =
     let p = c.in_ok-end.ensures.1 in
     let s = c.args.self.now in
     let ch = c.in_ok-channel.ensures in
-    let P : ℕ → Type 0 = λ k. Acts g.L.Line.service c.in_ok-end.end (Takes k) s c.act.result c.act.new.self in
-    acted g.L.Line.service (Take c.args.node c.args.channel) c.args.node (Takes c.args.channel) c.in_ok-end.end s c.act.new.self c.act.result p
+    let P : ℕ → Type 0 = λ k. Acts g.L.Line.service c.in_ok-end.end (Takes k) s (result_and c.act.result (Ok c.act.new.answer)) c.act.new.self in
+    acted g.L.Line.service (Take c.args.node c.args.channel) c.args.node (Takes c.args.channel) c.in_ok-end.end s c.act.new.self (result_and c.act.result (Ok c.act.new.answer)) p
     (fault_at c.args.node c.in_ok-end.end s p (λ n. on_channel c.args.channel s n None) (c.in_ok-end.ensures.0)
     ∙ channel_at c.args.node c.in_ok-end.end s p c.args.channel None ch.0)
     refl (λ a w. w) (subst P ch.1 c.act.ensures)

@@ -34,12 +34,12 @@ returns g c = λ n there.
     elim c.match-served.branch [
       | in-Ok w ↦
           user_answered g.L.Line.service c.args.end (event_of c.args.event.now) n n c.args.nodes.now.items _ l c.args.register.now c.match-end.node
-          refl c.net_line.view_is place c.requires.opened c.requires.book c.serve_user-served.result c.match-served.result w.in-Ok.outcome c.serve_user-served.new.room w.answer.result
+          refl c.net_line.view_is place c.requires.opened c.requires.book c.serve_user-served.result c.match-served.result _ _ c.serve_user-served.new.answer
           c.serve_user-served.new.node (g.L.Line.flights c.serve_user-served.new.line) c.serve_user-served.new.book.book w.in-Ok.is w.result-is
-          (c.serve_user-served.ensures.answer n at) (c.serve_user-served.ensures.served n at) (c.serve_user-served.ensures.text n at) w.answer.ensures.frames w.answer.ensures.notes w.answer.ensures.text w.answer.ensures.outcome
+          (c.serve_user-served.ensures.answer n at) (c.serve_user-served.ensures.served n at) (c.serve_user-served.ensures.text n at)
       | in-Err w ↦
           user_refused g.L.Line.service c.args.end (event_of c.args.event.now) n n c.args.nodes.now.items _ l c.args.register.now c.match-end.node
-          refl c.net_line.view_is place c.requires.opened c.requires.book c.serve_user-served.result c.match-served.result w.in-Err.fault
+          refl c.net_line.view_is place c.requires.opened c.requires.book c.serve_user-served.result c.match-served.result w.in-Err.fault c.serve_user-served.new.answer
           c.serve_user-served.new.node (g.L.Line.flights c.serve_user-served.new.line) c.serve_user-served.new.book.book there w.in-Err.is w.result-is
           (c.serve_user-served.ensures.answer n at)
           (mapped_err c.serve_user-served.result (λ e. e ∙ at) c.serve_user-served.ensures.node)

@@ -1,0 +1,25 @@
+-- What an event is answered, and what it makes of the network.
+use Rattle.std.specs.Prelude.{◌≡◌, OnErr, Result, Ok, Err}
+use Rattle.std.specs.Borrow.{Bor}
+use Rattle.memory_line.specs.Lines.{LineService}
+use Rattle.net_events.specs.declared.answer.Answer.{Answer}
+use Rattle.net_events.specs.declared.event.Event.{Event}
+use Rattle.net_events.specs.declared.event.StepFault.{StepFault}
+use Rattle.net_events.specs.Network.{Network}
+use Rattle.net_nodes.specs.Happening.{Happens}
+use Rattle.switch_network_laws.specs.Promise.{NetworkPromise}
+use Rattle.line_sim.specs.Expiries.{FewerDue}
+
+-- the answer that is lent
+abbrev pub lent : Result (Bor Answer) StepFault → Result Answer StepFault
+lent (Ok answer) = Ok answer.now
+lent (Err fault) = Err fault
+
+-- the event is answered or refused so, which leaves this network: refused, it is as before; what is due comes to an end,
+-- on any line; and on faithful lines the promise holds
+pub record HasStepped (L : LineService) (e : Event) (s : Network) (r : Result Answer StepFault)
+    (t : Network) : Type 0 where
+  pub happens : Happens L e s r t
+  pub err : OnErr r (t ≡ s)
+  pub fewer_due : FewerDue e s r t
+  pub headline : L.faithful → NetworkPromise t
