@@ -26,7 +26,7 @@ returns-in_err-write_answer-in-Ok-clause-stops g c =
     let happens =
     happened g.L.Line.service c.args.event.now c.args.net.now c.step.follows.lender-at-none c.step.result c.step.follows.holds-at-none
     c.in-Ok.answer c.in-Ok.is in
-    rw (p.1, p.2) (writes_as (λ part told. untold (Ok c.in-Ok.answer.now) _ happens (answered c.in-Ok.answer.now) told)
+    rw (p.1, p.2) (writes_as (λ part told. untold (Ok c.in-Ok.answer.now) c.step.follows.lender-at-none happens (answered c.in-Ok.answer.now) told)
     c.in_err-write_answer-in-Ok.ensures.stops)
 
 pub returns-in_ok-write-in-Err : goal.returns-in_ok-write-in-Err
@@ -51,12 +51,12 @@ returns-in_err-write-in-Err-clause-stops g c =
     let happens =
     did_not_happen g.L.Line.service c.args.event.now c.args.net.now c.step.follows.lender-at-none c.step.result c.step.follows.holds-at-none
     c.in-Err.fault c.in-Err.is in
-    rw (p.1, p.2) (writes_as (λ part told. untold (Err c.in-Err.fault) _ happens other told)
+    rw (p.1, p.2) (writes_as (λ part told. untold (Err c.in-Err.fault) c.step.follows.lender-at-none happens other told)
     (rw c.refusal_text.ensures at c.in_err-write-in-Err.ensures.refused))
 
 pub returns-in-Err-OutOfMemory-clause-stops : goal.returns-in-Err-OutOfMemory-clause-stops
 returns-in-Err-OutOfMemory-clause-stops g c =
     let happens =
     did_not_happen g.L.Line.service c.args.event.now c.args.net.now c.step.follows.lender-at-none c.step.result c.step.follows.holds-at-none
-    c.in-Err-OutOfMemory.field-0 c.in-Err-OutOfMemory.is in
-    writes_nothing _ (unhandled _ refl (rw c.in-Err-OutOfMemory.field-0-is at happens))
+    OutOfMemory (c.in-Err-OutOfMemory.is ∙ ap Err c.in-Err-OutOfMemory.field-0-is) in
+    writes_nothing _ (unhandled c.step.follows.lender-at-none refl happens)
