@@ -106,18 +106,6 @@ pub part_for : {whole part : List ℕ} {fault : ProgFault} → fault ≡ fault_i
     → IsPartOf whole fault_is.OutOfMemory part → IsPartOf whole fault part
 part_for {whole} {part} is told = subst (λ f. IsPartOf whole f part) (sym is) told
 
--- the same of an element that may be copied out
-pub told_next_or : {X : Type 0} {fault : ProgFault} {part : List ℕ} (f : X → List ℕ) (xs : List X) (i : ℕ) (d : X)
-    → i < length xs → IsPartOf (f (get_or xs i d)) fault part
-    → IsPartOf (flat_map f xs) fault (flat_map f (take i xs) ++ part)
-told_next_or {X} {fault} {part} f xs i d within told =
-    let split : xs ≡ take i xs ++ (get_or xs i d ∷ drop (suc i) xs) =
-    sym (take-append-drop i xs) ∙ ap (λ ys. take i xs ++ ys) (drop-cons xs i d within) in
-    let whole : flat_map f xs ≡ flat_map f (take i xs) ++ (f (get_or xs i d) ++ flat_map f (drop (suc i) xs)) =
-    ap (flat_map f) split ∙ flat_map-append f (take i xs) (get_or xs i d ∷ drop (suc i) xs) in
-    let P : List ℕ → Type 0 = λ text. IsPartOf text fault (flat_map f (take i xs) ++ part) in
-    subst P (sym whole) (told_behind _ (told_before _ told))
-
 -- what is said of an error, or where there is none, says this too
 pub if_err_as : {T E : Type 0} (result : Result T E) {P Q : E → Type 0} → ((e : E) → P e → Q e) → IfErr result P → IfErr result Q
 if_err_as (Ok x) is said = tt

@@ -33,7 +33,7 @@ returns-in_err-text-2-clause-failed g c =
 pub returns-in_err-script-clause-failed : goal.returns-in_err-script-clause-failed
 returns-in_err-script-clause-failed g c =
     let p = err_from_is_err_and c.from_residual-in_err-script.result c.from_residual-in_err-script.ensures.1 in
-    rw (p.1, p.2) (bad_script c.in_ok-text_of.field-0.now c.in_ok-config.config _ tt tt tt c.in_err-script.ensures.fault refl)
+    rw (p.1, p.2) (bad_script c.in_ok-text_of.field-0.now c.in_ok-config.config c.as_slice-2.result.now tt tt tt c.in_err-script.ensures.fault refl)
 
 pub returns-clause-played : goal.returns-clause-played
 returns-clause-played g c =
@@ -42,7 +42,7 @@ returns-clause-played g c =
       is_net = tt;
       config = c.in_ok-config.config;
       network = tt;
-      text = _;
+      text = c.as_slice-2.result.now;
       is_text = tt;
       script = c.in_ok-script.script;
       read = c.in_ok-script.ensures.script;
@@ -51,5 +51,5 @@ returns-clause-played g c =
 
 pub returns-clause-failed : goal.returns-clause-failed
 returns-clause-failed g c =
-    if_err_as c.play_over.result (λ fault fails. unplayed c.in_ok-text_of.field-0.now c.in_ok-config.config _
+    if_err_as c.play_over.result (λ fault fails. unplayed c.in_ok-text_of.field-0.now c.in_ok-config.config c.as_slice-2.result.now
     c.in_ok-script.script tt tt tt c.in_ok-script.ensures.script fails) c.play_over.ensures.failed

@@ -3,7 +3,7 @@ use Rattle.std.specs.List.{flat_map}
 use Rattle.std.proofs.lemmas.Result.{err_from_is_err_and}
 use Rattle.line_nodes.specs.declared.note.HostNote.{HostNote}
 use Rattle.net_player.specs.Answers.{note_text}
-use Rattle.net_player.proofs.Parts.{told_next_or, told_some, writes_known, writes_behind}
+use Rattle.net_player.proofs.Parts.{told_next, told_some, writes_known, writes_behind}
 use Rattle.net_player.proofs.player.Player.write_notes.Goals as goal
 
 pub returns-in_err-text-clause-stops : goal.returns-in_err-text-clause-stops
@@ -19,5 +19,5 @@ returns-in_err-write-clause-stops g c =
     let at : ℕ = c.loop-note.note-index in
     let within : at < length notes = omega arith in
     rw (p.1, p.2) (writes_behind (flat_map line (take at notes))
-    (λ part told. told_next_or line notes at _ within told) c.loop-note.invariant
+    (λ part told. told_next line notes at c.note-item.result within c.note-item.is told) c.loop-note.invariant
     (rw (c.as_str.ensures.value, c.in_ok-text.ensures) at c.in_err-write.ensures.refused))
