@@ -24,5 +24,5 @@ returns-in_err-write-in-Err-clause-stops g c =
     other told) (rw c.refusal_text.ensures at c.in_err-write-in-Err.ensures.refused))
 
 pub returns-in-Err-OutOfMemory-clause-stops : goal.returns-in-Err-OutOfMemory-clause-stops
-returns-in-Err-OutOfMemory-clause-stops g c = 
+returns-in-Err-OutOfMemory-clause-stops g c =
     writes_nothing _ (unhandled _ refl (rw (c.in-Err-OutOfMemory.is, c.in-Err-OutOfMemory.field-0-is) at c.step.ensures.happens))
