@@ -12,9 +12,10 @@ pub loop-expiry-preserved : goal.loop-expiry-preserved
 loop-expiry-preserved g c =
     let due = sym c.next_due.ensures ∙ c.in-Some.is in
     writes_append _ _ _
-    (λ told first onward tells.
-    (expires_onward told first onward.0 due (record { arrived = _; tells = tells }),
-    stops_onward told first onward.1 due (record { arrived = _; tells = tells })))
+    (λ told first onward tells. (
+      expires_onward told first onward.0 due (record { arrived = _; tells = tells }),
+      stops_onward told first onward.1 due (record { arrived = _; tells = tells }),
+    ))
     c.loop-expiry.invariant c.in_ok-play_event.ensures.tells
 
 pub returns-in_err-play_event-clause-stops : goal.returns-in_err-play_event-clause-stops
