@@ -82,6 +82,17 @@ left_less (growth.Step step) k = omega arith
 left_less growth.Epoch k = omega arith
 left_less growth.Closed k = omega arith
 
+pub left_in_order : (g : Growth) (j k : ℕ) → j ≤ k → left g j ≤ left g k
+left_in_order (growth.Sent packet) j k h = omega arith
+left_in_order (growth.InterruptSent interrupt) j k h = omega arith
+left_in_order (growth.Taken packet) j k h = omega arith
+left_in_order (growth.InterruptTaken interrupt) j k h = omega arith
+left_in_order (growth.Covered count) j k h = h
+left_in_order (growth.Released count) j k h = h
+left_in_order (growth.Step step) j k h = omega arith
+left_in_order growth.Epoch j k h = omega arith
+left_in_order growth.Closed j k h = h
+
 -- what is written back has the places, and so have the others
 pub places_set : (k m n : ℕ) (rs : List Record) (new : Record) → HasPlaces k new → PlacesAt k m rs → PlacesAt k m (set rs n new)
 places_set k m n rs new h p r e = elim (get_set rs n new m r e) [

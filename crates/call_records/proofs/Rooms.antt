@@ -35,22 +35,24 @@ same_number m n e = cc
 fewer_calls : (k j : ℕ) (slots : List Slot) (rs : List Record) → j ≤ k → CallsHavePlaces k slots rs → CallsHavePlaces j slots rs
 fewer_calls k j slots rs h p channel number e = fewer_at k j number rs h (p channel number e)
 
-pub less_room : (a : Inside) (k : ℕ) → k ≤ a.room → HasRoom a → HasRoom (record a { room = k })
-less_room a k h p = record {
+pub fewer_places : (a : Inside) (room k : ℕ) → room ≤ k → k ≤ a.places → HasRoom a →
+    HasRoom (record a { room = room; places = k })
+fewer_places a room k less h p = record {
+  room = less;
   records = omega (arith, p.records);
   pairs = omega (arith, p.pairs);
   pair_room = p.pair_room;
-  dte = fewer_calls a.room k a.ends.dte.slots a.records.items h p.dte;
-  dce = fewer_calls a.room k a.ends.dce.slots a.records.items h p.dce;
+  dte = fewer_calls a.places k a.ends.dte.slots a.records.items h p.dte;
+  dce = fewer_calls a.places k a.ends.dce.slots a.records.items h p.dce;
 }
 
-has_places : (a : Inside) (role : Role) (channel n : ℕ) → HasRoom a → (nth_slot (side_of role (book_of a)).slots channel).present ≡ Some n → PlacesAt a.room n a.records.items
+has_places : (a : Inside) (role : Role) (channel n : ℕ) → HasRoom a → (nth_slot (side_of role (book_of a)).slots channel).present ≡ Some n → PlacesAt a.places n a.records.items
 has_places a Dte channel n p e = p.dte channel n e
 has_places a Dce channel n p e = p.dce channel n e
 
 -- the record of the present call on a channel has places
 pub present_has : (a : Inside) (role : Role) (channel n : ℕ) (side : Side) (slot : Slot) → side ≡ side_of role (book_of a) → slot ≡ nth_slot side.slots channel → slot.present ≡ Some n → HasRoom a
-    → PlacesAt a.room n a.records.items
+    → PlacesAt a.places n a.records.items
 present_has a role channel n side slot s t h p =
     has_places a role channel n p (ap (λ (x : Slot). x.present) (sym (t ∙ ap (λ (x : Side). nth_slot x.slots channel) s)) ∙ h)
 
@@ -66,18 +68,20 @@ same_places k slots old rs e p = let P : List Slot → Type 0 = λ l. CallsHaveP
 pub put_room : (a : Inside) (ends : Ends) (role : Role) (channel : ℕ) (slot : Slot)
     → book_with (map shown a.records.items) (map pair_of a.pairs.items) ends ≡ with_slot role channel slot (book_of a) → slot.present ≡ None → HasRoom a → HasRoom (record a { ends = ends })
 put_room a ends Dte channel slot e none p = record {
+  room = p.room;
   records = p.records;
   pairs = p.pairs;
   pair_room = p.pair_room;
-  dte = put_places a.room channel ends.dte.slots a.ends.dte.slots slot a.records.items (ap (λ (b : Book). b.dte.slots) e) none p.dte;
-  dce = same_places a.room ends.dce.slots a.ends.dce.slots a.records.items (ap (λ (b : Book). b.dce.slots) e) p.dce;
+  dte = put_places a.places channel ends.dte.slots a.ends.dte.slots slot a.records.items (ap (λ (b : Book). b.dte.slots) e) none p.dte;
+  dce = same_places a.places ends.dce.slots a.ends.dce.slots a.records.items (ap (λ (b : Book). b.dce.slots) e) p.dce;
 }
 put_room a ends Dce channel slot e none p = record {
+  room = p.room;
   records = p.records;
   pairs = p.pairs;
   pair_room = p.pair_room;
-  dte = same_places a.room ends.dte.slots a.ends.dte.slots a.records.items (ap (λ (b : Book). b.dte.slots) e) p.dte;
-  dce = put_places a.room channel ends.dce.slots a.ends.dce.slots slot a.records.items (ap (λ (b : Book). b.dce.slots) e) none p.dce;
+  dte = same_places a.places ends.dte.slots a.ends.dte.slots a.records.items (ap (λ (b : Book). b.dte.slots) e) p.dte;
+  dce = put_places a.places channel ends.dce.slots a.ends.dce.slots slot a.records.items (ap (λ (b : Book). b.dce.slots) e) none p.dce;
 }
 
 pub takes_interrupt : (s : BookState) (role : Role) (channel : ℕ) (t : Taken) (kept octets : List ℕ) → t ≡ Interrupt octets → kept ≡ octets

@@ -23,10 +23,12 @@ abbrev pub CallsHavePlaces : (room : ℕ) → List Slot → List Record → Type
 CallsHavePlaces room slots records = (channel number : ℕ) → (nth_slot slots channel).present ≡ Some number →
     PlacesAt room number records
 
--- the lists of records and pairs have the room, and so has every list of the record of each present call
+-- the lists of records and pairs have the places, and so has every list of the record of each present call; there is
+-- no room beyond them, but that pairs may have more
 pub record HasRoom (a : Inside) : Type 0 where
-  pub records : a.room ≤ vec_capacity a.records - vec_len a.records
-  pub pairs : a.room ≤ vec_capacity a.pairs - vec_len a.pairs
+  pub room : a.room ≤ a.places
+  pub records : a.places ≤ vec_capacity a.records - vec_len a.records
+  pub pairs : a.places ≤ vec_capacity a.pairs - vec_len a.pairs
   pub pair_room : a.pair_room ≤ vec_capacity a.pairs - vec_len a.pairs
-  pub dte : CallsHavePlaces a.room a.ends.dte.slots a.records.items
-  pub dce : CallsHavePlaces a.room a.ends.dce.slots a.records.items
+  pub dte : CallsHavePlaces a.places a.ends.dte.slots a.records.items
+  pub dce : CallsHavePlaces a.places a.ends.dce.slots a.records.items

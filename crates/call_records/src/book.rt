@@ -22,6 +22,10 @@ use packet_layer::{LayerNote, Taken, UserData};
 use std::alloc::{AllocError, Global};
 use std::marker::Model;
 
+/// How many places more than it is asked for `reserve` makes in each list, so that it need not look at all records of
+/// present calls again before they are used up.
+const AHEAD: usize = 24;
+
 /// The book of a line: the records of the calls' two ends, the pairs of them that make a call, and for each end,
 /// channel by channel, which records belong there. Only `new` and `reserve` take memory; what is written needs room
 /// that was reserved. A call that comes in leaves no room, but that for pairs stays: so it can be accepted at once. An
@@ -34,6 +38,8 @@ pub struct Book {
     ends: Ends,
     room: usize,
     pair_room: usize,
+    // So many places there are in every list in which there has to be room.
+    places: usize,
     // The records of the calls that ended since room was made last.
     over: Vec<usize>,
 }
@@ -99,6 +105,7 @@ impl Book {
             ends,
             room: 0,
             pair_room: 0,
+            places: 0,
             over: Vec::new(alloc),
         })
     }
@@ -112,25 +119,33 @@ impl Book {
         ensures err { OnErr result (self.new.room ≡ 0) }
         ensures no_pairs { OnErr result (self.new.pairs ≡ 0) }
     {
+        if count <= self.places && self.over.is_empty() {
+            self.room = count;
+            self.pair_room = count;
+            return Ok(());
+        }
         self.room = 0;
         self.pair_room = 0;
+        self.places = 0;
         give_back(self.alloc, &mut self.records, self.over.as_slice())?;
         self.over.clear();
         self.over.reserve(self.ends.channels())?;
-        self.records.reserve(count)?;
-        self.pairs.reserve(count)?;
+        let places = count.saturating_add(AHEAD);
+        self.records.reserve(places)?;
+        self.pairs.reserve(places)?;
         reserve_present(
             self.alloc,
             &mut self.records,
             self.ends.of(Role::Dte),
-            count,
+            places,
         )?;
         reserve_present(
             self.alloc,
             &mut self.records,
             self.ends.of(Role::Dce),
-            count,
+            places,
         )?;
+        self.places = places;
         self.room = count;
         self.pair_room = count;
         Ok(())
@@ -147,6 +162,7 @@ impl Book {
     {
         self.room = 0;
         self.pair_room = 0;
+        self.places = 0;
         std::mem::swap(&mut self.ends, ends);
     }
 
@@ -198,6 +214,7 @@ impl Book {
             .push_reserved(Record::new(self.alloc, number, node, own, far, None));
         self.ends.put(role, channel, slot);
         self.room = 0;
+        self.places = 0;
     }
 
     // A call comes in at an end: it is the one that the other end placed last on this channel.
@@ -226,6 +243,7 @@ impl Book {
         ));
         self.ends.put(role, channel, slot);
         self.room = 0;
+        self.places = 0;
     }
 
     /// An end accepts the call that came in (X.25 4.1.4): its record and that of the end that placed it are a pair.
@@ -244,6 +262,7 @@ impl Book {
         } = self.ends.of(role).slot(channel);
         self.room = self.room.saturating_sub(1);
         self.pair_room = self.pair_room.saturating_sub(1);
+        self.places = self.places.saturating_sub(1);
         let (Some(caller), Some(callee)) = (caller, present) else {
             return;
         };
@@ -413,6 +432,7 @@ impl Book {
     {
         let present = self.ends.of(role).slot(channel).present;
         self.room = growth.left(self.room);
+        self.places = growth.left(self.places);
         let Some(number) = present else {
             return;
         };

@@ -96,6 +96,9 @@ impl Register {
         ensures room { OnOk result (self.new.book.room ≡ count) }
         ensures pairs { OnOk result (self.new.book.pairs ≡ count) }
     {
+        if self.open == Some(line) {
+            return self.book.reserve(count);
+        }
         self.close();
         exchange(&mut self.book, &mut self.lines, line);
         self.open = Some(line);

@@ -22,6 +22,10 @@ empty_window size = record { oldest = 0; next = 0; top = 0; size = size }
 abbrev pub taken : Window → Window
 taken w = record w { next = w.next + 1; top = max w.top (w.next + 1) }
 
+-- all are sent that bring those unacknowledged to so many
+abbrev pub sent_up_to : Window → (count : ℕ) → Window
+sent_up_to w count = record w { next = count; top = max w.top count }
+
 -- the number lies in the window: from the oldest to one past the highest used
 pub record IsInWindow (modulus : ℕ) (w : Window) (number : ℕ) : Type 0 where
   pub below : number < modulus

@@ -1,5 +1,5 @@
 ghost use Rattle.std.specs.Prelude.{◌≡◌, ◌<◌, ◌≤◌, ◌+◌, ◌-◌, ◌%◌, ◌↔◌, max, IsTrue, IsErr, MatchResult, Ok, ℕ};
-ghost use Rattle.flow_window.specs.Window.{ahead, empty_window, taken, IsInWindow, acknowledged, gone_back};
+ghost use Rattle.flow_window.specs.Window.{ahead, empty_window, taken, sent_up_to, IsInWindow, acknowledged, gone_back};
 ghost use Rattle.flow_window.specs.Counts.{Names, Shows};
 
 use crate::modulus::Modulus;
@@ -70,6 +70,18 @@ impl<M: Modulus> SendWindow<M> {
         self.next += 1;
         self.top = self.top.max(self.next);
         number
+    }
+
+    /// The numbers from the next one on are sent, until so many from the oldest on are unacknowledged.
+    pub fn send_up_to(&mut self, count: u8)
+        requires more { self.old.next ≤ count }
+        requires room { count ≤ self.old.size }
+        ensures window { self.new ≡ sent_up_to self.old count }
+        ensures counts { (oldest next highest : ℕ) → Shows M.modulus self.old oldest next highest
+            → Shows M.modulus self.new oldest (oldest + count) (max highest (oldest + count)) }
+    {
+        self.next = count;
+        self.top = self.top.max(count);
     }
 
     /// Takes a received number, before which all is acknowledged, and answers how many newly are.

@@ -71,6 +71,24 @@ impl FrameBuf {
         self.len = 0;
     }
 
+    /// Takes over the octets of another buffer.
+    ///
+    /// Address and control octet go apart from the rest, as they were written: what was written a moment ago is read
+    /// sooner in the same pieces.
+    pub fn copy_from(&mut self, other: &FrameBuf)
+        ensures { self.new ≡ other.now }
+    {
+        self.clear();
+        match other.as_slice() {
+            [address, control, field @ ..] => {
+                self.push(*address);
+                self.push(*control);
+                self.extend(field);
+            }
+            octets => self.extend(octets),
+        }
+    }
+
     /// Appends an octet.
     pub fn push(&mut self, octet: u8)
         requires { length self.old < most_octets }

@@ -1,4 +1,4 @@
-ghost use Rattle.std.specs.Prelude.{◌≡◌, ◌==◌, IfOk, IfErr};
+ghost use Rattle.std.specs.Prelude.{◌≡◌, ◌==◌, ◌%◌, IfOk, IfErr};
 ghost use Rattle.frame_codec.specs.declared.fault.FrameFault.{FrameFault};
 ghost use Rattle.frame_codec.specs.Frame.{FrameValue};
 ghost use Rattle.frame_codec.specs.FrameForm.{FrameForm};
@@ -26,6 +26,7 @@ use link_timers::Role;
 ///
 /// Of several faults the first in the order of [`FrameFault`] is answered. The bits of a report that have no meaning
 /// are not looked at.
+#[inline(always)]
 pub fn read_frame(bytes: &[u8], at: Role) -> Result<Frame<'_>, FrameFault>
     // What is read is what the octets are a form of.
     ensures form { IfOk result (λ frame. FrameForm at bytes.now (value_of frame)) }
@@ -41,6 +42,7 @@ pub fn read_frame(bytes: &[u8], at: Role) -> Result<Frame<'_>, FrameFault>
     frame_in(bytes, at)
 }
 
+#[inline(always)]
 fn frame_in(bytes: &[u8], at: Role) -> Result<Frame<'_>, FrameFault>
     ensures { frame_read result ≡ reading at bytes.now }
 {
@@ -57,6 +59,7 @@ fn frame_in(bytes: &[u8], at: Role) -> Result<Frame<'_>, FrameFault>
 }
 
 // What follows the address octet.
+#[inline(always)]
 fn framed(response: bool, control: u8, field: &[u8]) -> Result<Frame<'_>, FrameFault>
     ensures { frame_read result ≡ with_head response (has_bit control 16) (content_read response control field.now) }
 {
@@ -68,11 +71,13 @@ fn framed(response: bool, control: u8, field: &[u8]) -> Result<Frame<'_>, FrameF
     })
 }
 
+#[inline(always)]
 fn kind_in(control: u8, response: bool, field: &[u8]) -> Result<FrameKind<'_>, FrameFault>
     ensures { kind_read result ≡ content_read response control field.now }
 {
     let nr = receive_number(control);
     match control % 16 {
+        low if low % 2 == 0 && !response => information_in(control, field),
         0x01 => bare_frame(FrameKind::Rr { nr }, field),
         0x05 => bare_frame(FrameKind::Rnr { nr }, field),
         0x09 => bare_frame(FrameKind::Rej { nr }, field),
@@ -81,12 +86,12 @@ fn kind_in(control: u8, response: bool, field: &[u8]) -> Result<FrameKind<'_>, F
     }
 }
 
-// What is a command alone.
+// What is a command alone and no I frame.
 fn command_in(control: u8, field: &[u8]) -> Result<FrameKind<'_>, FrameFault>
+    requires { control % 2 ≡ 1 }
     ensures { kind_read result ≡ command_read control field.now }
 {
     match control {
-        _ if control % 2 == 0 => information_in(control, field),
         0x2F | 0x3F => bare_frame(FrameKind::Sabm, field),
         0x43 | 0x53 => bare_frame(FrameKind::Disc, field),
         _ => Err(FrameFault::UnknownControl),
@@ -105,6 +110,7 @@ fn response_in(control: u8, field: &[u8]) -> Result<FrameKind<'_>, FrameFault>
     }
 }
 
+#[inline(always)]
 fn information_in(control: u8, field: &[u8]) -> Result<FrameKind<'_>, FrameFault>
     ensures { kind_read result ≡ information_read control field.now }
 {
@@ -119,6 +125,7 @@ fn information_in(control: u8, field: &[u8]) -> Result<FrameKind<'_>, FrameFault
 }
 
 // A frame that has no information field.
+#[inline(always)]
 fn bare_frame<'a>(kind: FrameKind<'a>, field: &[u8]) -> Result<FrameKind<'a>, FrameFault>
     ensures { kind_read result ≡ bare (content_of kind.entry) field.now }
 {

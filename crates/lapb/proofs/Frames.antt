@@ -2,7 +2,6 @@
 use Rattle.std.proofs.Common.{◌≡◌, ℕ, zero, suc, ◌+◌, ◌%◌, ◌<◌, List, [], ◌∷◌, ◌++◌, length, take, drop, map, refl, sym, ◌∙◌, ap, arith, add-one, max, Bool, true, false, length-drop}
 use Rattle.std.specs.Prelude.{Some, slice_get, nat_le, if◌then◌else◌}
 use Rattle.std.proofs.lemmas.Bool.{leb-true, leb-false}
-use Rattle.flow_window.specs.Window.{Window, taken}
 use Rattle.link_timers.specs.declared.role.Role.{Role}
 use Rattle.frame_codec.specs.Frame.{I}
 use Rattle.frame_codec.specs.Spelling.{spelling}
@@ -69,20 +68,6 @@ frames_alone first middle last frames once again =
       frames = (ap (λ (o : Out). o.frames)
           (sym again)) i;
     })
-
--- one number more is used
-pub one_more_used : (place : ℕ) (first middle last : Window) → middle ≡ record first {
-  next = place;
-  top = max
-      first.top place;
-} → last ≡ taken middle → last ≡ record first {
-  next = place + 1;
-  top = max first.top (place +
-      1);
-}
-one_more_used place first middle last once again =
-    let highest : max (max first.top place) (place + 1) ≡ max first.top (place + 1) = omega arith in
-    again ∙ ap taken once ∙ (λ i. record first { next = place + 1; top = highest i })
 
 max_by : (a b : ℕ) (test : Bool) → nat_le a b ≡ test → max a b ≡ (if test then b else a)
 max_by a b true e = let less = leb-true a b e in omega arith

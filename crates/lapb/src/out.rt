@@ -20,11 +20,11 @@ pub const MOST_FRAMES: usize = 9;
 #[derive(Drop)]
 pub struct LinkOut {
     places: [FrameBuf; MOST_FRAMES],
-    taken: usize,
-    end: usize,
     note: Note,
     accepted: bool,
     timer: Timing,
+    taken: usize,
+    end: usize,
 }
 
 impl Model for LinkOut {
@@ -56,11 +56,11 @@ impl LinkOut {
                 FrameBuf::new(),
                 FrameBuf::new(),
             ],
-            taken: 0,
-            end: 0,
             note: Note::Nothing,
             accepted: false,
             timer: Timing::Keep,
+            taken: 0,
+            end: 0,
         }
     }
 

@@ -18,7 +18,7 @@ pub(crate) struct Queue {
     places: [Option<BufNo>; PLACES],
     first: usize,
     spent: usize,
-    len: u8,
+    len: usize,
 }
 
 impl Model for Queue {
@@ -50,7 +50,7 @@ impl Queue {
         ensures value { result ≡ length self.now.packets }
         ensures fits { result ≤ 7 }
     {
-        self.len
+        self.len as u8
     }
 
     pub(crate) fn is_empty(&self) -> bool
@@ -67,7 +67,7 @@ impl Queue {
           held = self.old.held ++ b ∷ [];
         } }
     {
-        let place = (self.first + self.spent + usize::from(self.len)) % PLACES;
+        let place = (self.first + self.spent + self.len) % PLACES;
         self.places[place] = Some(b);
         self.len += 1;
     }
@@ -91,7 +91,8 @@ impl Queue {
         requires { count ≤ length self.old.packets }
         ensures { self.new ≡ record self.old { packets = drop count self.old.packets } }
     {
-        self.spent += usize::from(count);
+        let count = usize::from(count);
+        self.spent += count;
         self.len -= count;
     }
 
@@ -99,13 +100,27 @@ impl Queue {
     pub(crate) fn clear(&mut self)
         ensures { self.new ≡ record self.old { packets = [] } }
     {
-        self.spent += usize::from(self.len);
+        self.spent += self.len;
         self.len = 0;
     }
 
     /// Frees the buffers of the packets that were given up.
-    #[inline]
+    #[inline(always)]
     pub(crate) fn give_back(&mut self, pool: &mut Pool)
+        requires { Holds pool.old self.old.held }
+        ensures packets { self.new.packets ≡ self.old.packets }
+        ensures tight { length self.new.held ≡ length self.new.packets }
+        ensures fewer { length self.new.held ≤ length self.old.held }
+        ensures pool { Balances pool.old self.old.held pool.new self.new.held }
+    {
+        for _ in 0..self.spent {
+            self.free_first(pool);
+        }
+    }
+
+    /// The same, for a call that seldom finds one.
+    #[inline(always)]
+    pub(crate) fn give_back_any(&mut self, pool: &mut Pool)
         requires { Holds pool.old self.old.held }
         ensures packets { self.new.packets ≡ self.old.packets }
         ensures tight { length self.new.held ≡ length self.new.packets }
@@ -117,6 +132,7 @@ impl Queue {
         }
     }
 
+    #[cold]
     #[inline(never)]
     fn free_spent(&mut self, pool: &mut Pool)
         requires { Holds pool.old self.old.held }
@@ -125,9 +141,7 @@ impl Queue {
         ensures fewer { length self.new.held ≤ length self.old.held }
         ensures pool { Balances pool.old self.old.held pool.new self.new.held }
     {
-        for _ in 0..self.spent {
-            self.free_first(pool);
-        }
+        self.give_back(pool);
     }
 
     // Frees the buffer of the first packet, which was given up.

@@ -29,8 +29,6 @@ use Rattle.std.proofs.Common.{refl, sym, ap, ◌∙◌, arith, inl, inr, length-
 use Rattle.std.proofs.lemmas.List.{length-map, take_all}
 use Rattle.link_timers.specs.declared.timers.TimerId.TheVariants.{T1}
 use Rattle.link_timers.specs.Timers.{Places, left_of}
-use Rattle.flow_window.specs.Pool.{Pool, in_use, Holds, Balances}
-use Rattle.flow_window.proofs.Weights.{weight_ones}
 use Rattle.frame_codec.specs.Spelling.{spelling}
 use Rattle.lapb.specs.declared.note.Timing.{Timing as Change}
 use Rattle.lapb.specs.Held.{Link as Holder}
@@ -38,33 +36,14 @@ use Rattle.lapb.specs.Machine.{Octets, Link, Step, runs, timing, timing_after, o
 use Rattle.lapb.specs.Octets.{on_octets}
 use Rattle.lapb.specs.Out.{Out, with_frames, gathered}
 use Rattle.line_end.specs.declared.end.LineEnd.TheInside.{Inside}
-use Rattle.line_end.specs.End.{End, timed, runs_then, did, SendsUpTo}
-use Rattle.line_end.specs.EndView.{IsPooled, IsEnd}
+use Rattle.link_timers.specs.declared.role.Role.{Role}
+use Rattle.link_timers.specs.declared.role.Role.TheVariants.{Dte, Dce}
+use Rattle.flow_window.specs.Pool.{Buffer}
+use Rattle.line_end.specs.End.{End, timed, runs_then, did, made, SendsUpTo}
+use Rattle.line_end.specs.EndView.{IsEnd}
 use Rattle.line_end.proofs.Frames.{with_frames-fit}
 use Rattle.line_end.proofs.Steps.{Keeps, sends_on_t1}
 use Rattle.line_end.proofs.Timing.{timing_after-keep, runs_after, runs_after_expiry}
-
--- the pool after a call of the link that gives buffers back or takes one
-pub still_pooled : (before after : Pool) (old new : Holder) → IsPooled before old → new.link.k ≡ old.link.k →
-    Balances before old.held after new.held → length new.held ≡ length new.link.queue → IsPooled after new
-still_pooled before after old new is k change tight = record {
-  size = change.size ∙ is.size;
-  places = change.places ∙ is.places ∙ ap (λ n. n + 1) (sym k);
-  exact = λ w. let weights = change.weights w in let exact = is.exact w in omega (arith, weights, exact);
-  tight = tight;
-}
-
--- there is a buffer for one more packet
-pub has_room : (pool : Pool) (link : Holder) → IsPooled pool link → length link.link.queue ≤ link.link.k →
-    in_use pool < length pool.places
-has_room pool link is few =
-    let all = is.exact (λ _. 1) in
-    let ones = weight_ones link.held in
-    omega (arith, all, ones, is.tight, is.places, few)
-
--- what the link holds is in use
-pub holds : (pool : Pool) (link : Holder) → IsPooled pool link → Holds pool link.held
-holds pool link is w = let exact = is.exact w in omega (arith, exact)
 
 change-is : (l : Link) (step : Step) (before out : Out) → before.timer ≡ Change.Keep → out ≡ gathered before l step →
     out.timer ≡ timing l step
@@ -101,15 +80,15 @@ t1_expired-is l prior out before after told is then fired ran =
     runs_after_expiry l ran
 
 -- what always holds of an end holds after it
-pub still_end : (a : Inside) (link : Holder) (pool : Pool) (timers : Places) (out : Out) → IsEnd a →
-    Keeps a.link.link link.link → Balances a.pool a.link.held pool link.held →
-    length link.held ≡ length link.link.queue → is_some (left_of timers T1) ≡ runs link.link →
-    out.timer ≡ Change.Keep → IsEnd (record a { link = link; pool = pool; timers = timers; out = out })
-still_end a link pool timers out is keeps change tight t1 told = record {
+pub still_end : (a : Inside) (link : Holder) (timers : Places) (out : Out) → IsEnd a →
+    Keeps a.link.link link.link → length link.held ≡ length link.link.queue →
+    is_some (left_of timers T1) ≡ runs link.link → out.timer ≡ Change.Keep →
+    IsEnd (record a { link = link; timers = timers; out = out })
+still_end a link timers out is keeps tight t1 told = record {
   role = keeps.role ∙ is.role;
   k = omega (arith, keeps.k, is.k);
   queue = omega (arith, keeps.queue, is.queue, keeps.k);
-  pool = still_pooled a.pool pool a.link link is.pool keeps.k change tight;
+  tight = tight;
   t1 = t1;
   told = told;
 }
@@ -154,3 +133,12 @@ packet-is octets (Some packet) (Some x) long is some found =
 pub none_of : (accepted : Option Octets) → is_some accepted ≡ false → accepted ≡ None
 none_of None e = refl
 none_of (Some packet) e = absurd (cc)
+
+-- an end as it is made holds no packet
+pub made_queue : (role : Role) (k n2 : ℕ) → length (made role k n2 false).link.queue ≡ 0
+made_queue Dte k n2 = refl
+made_queue Dce k n2 = refl
+
+pub none_held : (bs : List Buffer) → length bs ≡ 0 → bs ≡ []
+none_held [] e = refl
+none_held (b ∷ bs) e = absurd (omega (arith, e))

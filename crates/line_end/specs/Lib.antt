@@ -1,3 +1,3 @@
 pub mod End
+pub mod Held
 pub mod EndView
-pub mod Params

@@ -1,6 +1,7 @@
 ghost use Rattle.std.specs.Prelude.{
   ◌≡◌,
   ◌≤◌,
+  ◌<◌,
   [],
   ◌∷◌,
   length,
@@ -16,13 +17,13 @@ ghost use Rattle.std.specs.Prelude.{
 };
 ghost use Rattle.std.specs.Bool.{OnTrue, OnFalse};
 ghost use Rattle.link_timers.specs.Timers.{left_of, due_timers, first_of};
+ghost use Rattle.flow_window.specs.Pool.{Holds, Balances, in_use};
 ghost use Rattle.frame_codec.specs.Spelling.{most_information};
 ghost use Rattle.lapb.specs.Machine as machine;
 ghost use Rattle.lapb.specs.Octets.{on_octets};
 ghost use Rattle.lapb.specs.Offers.{refusal};
 ghost use Rattle.lapb.specs.Unsent.{HasSentAll};
 ghost use Rattle.lapb.specs.Params.{AreParams};
-ghost use Rattle.line_end.specs.Params.{MadeNot};
 ghost use Rattle.line_end.specs.End.{
   timed,
   runs_then,
@@ -40,12 +41,10 @@ ghost use Rattle.line_end.specs.End.{
   SendsUpTo,
 };
 
-use crate::fault::MakeFault;
 use flow_window::pool::Pool;
-use frame_codec::{FrameBuf, MAX_INFORMATION};
-use lapb::{Link, LinkOut, LinkParams, MOST_FRAMES, Note, OfferFault, Phase, Timing};
+use frame_codec::FrameBuf;
+use lapb::{BadParams, Link, LinkOut, LinkParams, MOST_FRAMES, Note, OfferFault, Phase, Timing};
 use link_timers::{Role, TimerId, Timers};
-use std::alloc::Global;
 use std::marker::Model;
 
 /// How long T1 runs, in ticks of a twentieth of a second (X.25 2.4.8.1).
@@ -60,8 +59,8 @@ pub struct Received<'a> {
     pub packet: Option<&'a [u8]>,
 }
 
-/// The end of a line: the link (X.25 2.4), the pool in whose buffers its packets lie, the timers, and the frames that
-/// go out.
+/// The end of a line: the link (X.25 2.4), whose packets lie in buffers of a pool, the timers, and the frames that go
+/// out.
 ///
 /// A node calls it in this order in each of its events: `drop_frames`, what happens at this line (a frame, an expiry,
 /// a relink), an offer of each packet that may go, `settle`; then it takes the frames by `out`. Up to [`MOST_FRAMES`]
@@ -71,62 +70,66 @@ pub struct Received<'a> {
 pub struct LineEnd {
     role: Role,
     link: Link,
-    pool: Pool,
     timers: Timers,
     out: LinkOut,
 }
 
 impl Model for LineEnd {
-    ghost use Rattle.line_end.specs.End as end;
+    ghost use Rattle.line_end.specs.Held as held;
 
-    ghost Value = { end.End };
+    ghost Value = { held.LineEnd };
 
-    ghost use Rattle.line_end.specs.EndView.{end_of, IsEnd};
+    ghost use Rattle.line_end.specs.EndView.{holding, IsEnd};
 
-    ghost view = { end_of };
+    ghost view = { holding };
 
     ghost invariant = { IsEnd };
 }
 
 impl LineEnd {
     /// The end of this role of a line. Where the line stands the link is up; else it is started: a DTE sends SABM, a
-    /// DCE asks for it by DM (X.25 2.4.4.1). It takes all the memory that it ever uses.
+    /// DCE asks for it by DM (X.25 2.4.4.1).
     ///
-    /// `BadParams` comes where `k` is not from 1 to 7 or `n2` not from 1 to 20, and then `OutOfMemory` for want of
-    /// memory.
-    pub fn new(alloc: Global, role: Role, params: LinkParams) -> Result<LineEnd, MakeFault>
-        ensures { MatchResult result
-            (λ end. AreParams params.k params.n2 × (end ≡ made role params.k params.n2 params.standing))
-            (λ fault. MadeNot params.k params.n2 fault) }
+    /// `BadParams` comes where `k` is not from 1 to 7 or `n2` not from 1 to 20.
+    pub fn new(role: Role, params: LinkParams, pool: &mut Pool) -> Result<LineEnd, BadParams>
+        ensures end { MatchResult result
+            (λ end. AreParams params.k params.n2
+            × (end ≡ record { end = made role params.k params.n2 params.standing; held = [] }))
+            (λ _. AreParams params.k params.n2 → ⊥) }
+        ensures pool { Balances pool.old [] pool.new [] }
     {
         let mut end = LineEnd {
             role,
             link: Link::new(role, params)?,
-            pool: Pool::new(alloc, usize::from(params.k) + 1, MAX_INFORMATION)?,
             timers: Timers::new(),
             out: LinkOut::new(),
         };
         if !params.standing {
-            end.relink();
+            end.relink(pool);
         }
         Ok(end)
     }
 
     /// Begins an event of the node: drops the frames that were not taken, as lost.
     pub fn drop_frames(&mut self)
-        ensures { self.new ≡ without_frames self.old }
+        ensures { self.new ≡ record self.old { end = without_frames self.old.end } }
     {
         self.out.clear_frames();
     }
 
     /// Takes the octets of a received frame (X.25 2.4.4 to 2.4.7).
-    pub fn on_frame<'a>(&mut self, octets: &'a [u8]) -> Received<'a>
-        ensures end { self.new ≡ received self.old octets.now }
-        ensures frames { SendsUpTo 1 self.old (on_octets self.old.link octets.now) }
-        ensures note { result.note ≡ (on_octets self.old.link octets.now).note }
-        ensures packet { option_copied result.packet ≡ (on_octets self.old.link octets.now).accepted }
+    pub fn on_frame<'a>(&mut self, octets: &'a [u8], pool: &mut Pool) -> Received<'a>
+        requires { Holds pool.old self.old.held }
+        ensures end { self.new.end ≡ received self.old.end octets.now }
+        ensures frames { SendsUpTo 1 self.old.end (on_octets self.old.end.link octets.now) }
+        ensures note { result.note ≡ (on_octets self.old.end.link octets.now).note }
+        ensures packet { option_copied result.packet ≡ (on_octets self.old.end.link octets.now).accepted }
+        ensures pool { Balances pool.old self.old.held pool.new self.new.held }
+        ensures tight { length self.new.held ≡ length self.new.end.link.queue }
+        ensures most { length self.new.held ≤ self.new.end.link.k }
+        ensures k { self.new.end.link.k ≡ self.old.end.link.k }
     {
-        self.link.on_frame(octets, &mut self.out, &mut self.pool);
+        self.link.on_frame(octets, &mut self.out, pool);
         set_timer(&mut self.timers, self.out.take_timer());
         Received {
             note: self.out.note(),
@@ -140,13 +143,18 @@ impl LineEnd {
 
     /// Takes an expiry of a timer: what it tells of the link, or `None` where the timer does not run, which changes
     /// nothing.
-    pub fn on_timer(&mut self, id: TimerId) -> Option<Note>
-        ensures end { self.new ≡ after_timer self.old id }
-        ensures frames { SendsUpTo 1 self.old (machine.on_t1 self.old.link) }
-        ensures note { result ≡ timer_note self.old id }
+    pub fn on_timer(&mut self, id: TimerId, pool: &mut Pool) -> Option<Note>
+        requires { Holds pool.old self.old.held }
+        ensures end { self.new.end ≡ after_timer self.old.end id }
+        ensures frames { SendsUpTo 1 self.old.end (machine.on_t1 self.old.end.link) }
+        ensures note { result ≡ timer_note self.old.end id }
 
         // T1 runs exactly where the link needs it.
-        ensures t1 { is_some (left_of self.old.timers TimerId.T1) ≡ machine.runs self.old.link }
+        ensures t1 { is_some (left_of self.old.end.timers TimerId.T1) ≡ machine.runs self.old.end.link }
+        ensures pool { Balances pool.old self.old.held pool.new self.new.held }
+        ensures tight { length self.new.held ≡ length self.new.end.link.queue }
+        ensures most { length self.new.held ≤ self.new.end.link.k }
+        ensures k { self.new.end.link.k ≡ self.old.end.link.k }
     {
         if !self.timers.fire(id) {
             return None;
@@ -154,99 +162,123 @@ impl LineEnd {
         if id != TimerId::T1 {
             return Some(Note::Nothing);
         }
-        self.link.on_t1(&mut self.out, &mut self.pool);
+        self.link.on_t1(&mut self.out, pool);
         set_timer(&mut self.timers, self.out.take_timer());
         Some(self.out.note())
     }
 
     /// Gives the link up and sets it up again (X.25 2.4.4.1, 2.4.7). A DTE that is setting it up goes on.
-    pub fn relink(&mut self) -> Note
-        ensures end { self.new ≡ relinked self.old }
-        ensures frames { SendsUpTo 1 self.old (machine.relink self.old.link) }
-        ensures note { result ≡ (machine.relink self.old.link).note }
+    pub fn relink(&mut self, pool: &mut Pool) -> Note
+        requires { Holds pool.old self.old.held }
+        ensures end { self.new.end ≡ relinked self.old.end }
+        ensures frames { SendsUpTo 1 self.old.end (machine.relink self.old.end.link) }
+        ensures note { result ≡ (machine.relink self.old.end.link).note }
+        ensures pool { Balances pool.old self.old.held pool.new self.new.held }
+        ensures tight { length self.new.held ≡ length self.new.end.link.queue }
+        ensures most { length self.new.held ≤ self.new.end.link.k }
+        ensures k { self.new.end.link.k ≡ self.old.end.link.k }
     {
-        self.link.relink(&mut self.out, &mut self.pool);
+        self.link.relink(&mut self.out, pool);
         set_timer(&mut self.timers, self.out.take_timer());
         self.out.note()
     }
 
     /// Begins anew after a restart of the node, as on a line that does not stand. What went before is forgotten, also
     /// the frames that were not taken.
-    pub fn restart(&mut self)
-        ensures { self.new ≡ restarted self.old }
+    pub fn restart(&mut self, pool: &mut Pool)
+        requires { Holds pool.old self.old.held }
+        ensures end { self.new.end ≡ restarted self.old.end }
+        ensures pool { Balances pool.old self.old.held pool.new self.new.held }
+        ensures tight { length self.new.held ≡ length self.new.end.link.queue }
+        ensures most { length self.new.held ≤ self.new.end.link.k }
+        ensures k { self.new.end.link.k ≡ self.old.end.link.k }
     {
-        self.link.restart(&mut self.pool);
+        self.link.restart(pool);
         self.timers = Timers::new();
         self.out.clear_frames();
-        self.relink();
+        self.relink(pool);
     }
 
     /// Offers a packet that fits into an I frame to the link. It goes out in an I frame by a later `settle`.
     ///
     /// `Down` comes where the link is not up, `Full` where k packets are unacknowledged. A packet that is refused
     /// changes nothing.
-    pub fn offer(&mut self, packet: &[u8]) -> Result<(), OfferFault>
-        requires { length packet.now ≤ most_information }
-        ensures answer { MatchOption (refusal self.old.link) (IsOk result) (λ fault. result ≡ Err fault) }
-        ensures taken { is_ok result ≡ machine.can_offer self.old.link }
-        ensures end { self.new ≡ offered self.old packet.now }
+    pub fn offer(&mut self, packet: &[u8], pool: &mut Pool) -> Result<(), OfferFault>
+        requires packet { length packet.now ≤ most_information }
+        requires holds { Holds pool.old self.old.held }
+        requires size { pool.old.size ≡ most_information }
+        requires room { in_use pool.old < length pool.old.places }
+        ensures answer { MatchOption (refusal self.old.end.link) (IsOk result) (λ fault. result ≡ Err fault) }
+        ensures taken { is_ok result ≡ machine.can_offer self.old.end.link }
+        ensures end { self.new.end ≡ offered self.old.end packet.now }
+        ensures pool { Balances pool.old self.old.held pool.new self.new.held }
+        ensures tight { length self.new.held ≡ length self.new.end.link.queue }
+        ensures most { length self.new.held ≤ self.new.end.link.k }
+        ensures k { self.new.end.link.k ≡ self.old.end.link.k }
     {
-        self.link.offer(packet, &mut self.pool)
+        self.link.offer(packet, pool)
     }
 
     /// Ends an event of the node: the I frames that may go go out, in order; where none goes, RR if an acknowledgement
     /// is owed.
-    pub fn settle(&mut self)
-        ensures end { self.new ≡ settled self.old }
+    pub fn settle(&mut self, pool: &mut Pool)
+        requires holds { Holds pool.old self.old.held }
+        requires size { pool.old.size ≡ most_information }
+        ensures end { self.new.end ≡ settled self.old.end }
 
         // No packet that may go now stays unsent.
-        ensures all_sent { HasSentAll self.new.link }
-        ensures frames { SendsUpTo 7 self.old (machine.settle self.old.link) }
+        ensures all_sent { HasSentAll self.new.end.link }
+        ensures frames { SendsUpTo 7 self.old.end (machine.settle self.old.end.link) }
+
+        // The buffers stay.
+        ensures held { self.new.held ≡ self.old.held }
+        ensures pool { pool.new ≡ pool.old }
+        ensures most { length self.new.held ≤ self.new.end.link.k }
+        ensures k { self.new.end.link.k ≡ self.old.end.link.k }
     {
-        self.link.settle(&mut self.out, &mut self.pool);
+        self.link.settle(&mut self.out, pool);
         set_timer(&mut self.timers, self.out.take_timer());
     }
 
     /// Takes the next frame that goes out, if there is one. Where there is none `frame` stays.
     pub fn out(&mut self, frame: &mut FrameBuf) -> bool
-        ensures frame { OnTrue result (self.old.frames ≡ frame.new ∷ self.new.frames) }
-        ensures nothing { OnFalse result (self.old.frames ≡ []) }
+        ensures frame { OnTrue result (self.old.end.frames ≡ frame.new ∷ self.new.end.frames) }
+        ensures nothing { OnFalse result (self.old.end.frames ≡ []) }
         ensures same { OnFalse result (frame.new ≡ frame.old) }
-        ensures end { self.new ≡ without_first self.old }
+        ensures end { self.new ≡ record self.old { end = without_first self.old.end } }
     {
         let Some(first) = self.out.frames().first() else {
             return false;
         };
-        frame.clear();
-        frame.extend(first.as_slice());
+        frame.copy_from(first);
         self.out.drop_first();
         true
     }
 
     /// Lets ticks pass, each a twentieth of a second: each timer that runs has so many less, not below 0.
     pub fn elapse(&mut self, ticks: u16)
-        ensures { self.new ≡ elapsed self.old ticks }
+        ensures { self.new ≡ record self.old { end = elapsed self.old.end ticks } }
     {
         self.timers.elapse(ticks);
     }
 
     /// The first timer that runs with no tick left.
     pub fn due(&self) -> Option<TimerId>
-        ensures { result ≡ first_of (due_timers self.now.timers) }
+        ensures { result ≡ first_of (due_timers self.now.end.timers) }
     {
         self.timers.due()
     }
 
     /// The role of this end of the line.
     pub fn role(&self) -> Role
-        ensures { result ≡ self.now.link.role }
+        ensures { result ≡ self.now.end.link.role }
     {
         self.role
     }
 
     /// How many frames wait to be taken.
     pub fn waiting(&self) -> usize
-        ensures count { result ≡ length self.now.frames }
+        ensures count { result ≡ length self.now.end.frames }
         ensures most { result ≤ MOST_FRAMES }
     {
         self.out.frames().len()
@@ -254,29 +286,29 @@ impl LineEnd {
 
     /// Whether `offer` takes a packet: the link is up, and fewer than k packets are unacknowledged.
     pub fn has_room(&self) -> bool
-        ensures room { result ≡ machine.can_offer self.now.link }
-        ensures most { self.now.link.k ≤ 7 }
+        ensures room { result ≡ machine.can_offer self.now.end.link }
+        ensures most { self.now.end.link.k ≤ 7 }
     {
         self.link.can_offer()
     }
 
     /// Whether a timer runs, also with no tick left.
     pub fn is_running(&self, id: TimerId) -> bool
-        ensures { result ≡ is_some (left_of self.now.timers id) }
+        ensures { result ≡ is_some (left_of self.now.end.timers id) }
     {
         self.timers.is_running(id)
     }
 
     /// Whether the link is up.
     pub fn is_up(&self) -> bool
-        ensures { result ≡ machine.is_up self.now.link.phase }
+        ensures { result ≡ machine.is_up self.now.end.link.phase }
     {
         self.link.phase() == Phase::Up
     }
 
     /// Whether the link is up and has nothing to wait for or to tell.
     pub fn at_rest(&self) -> bool
-        ensures { result ≡ machine.at_rest self.now.link }
+        ensures { result ≡ machine.at_rest self.now.end.link }
     {
         self.link.at_rest()
     }

@@ -2,8 +2,6 @@
 #![tactic(auto)]
 
 mod end;
-mod fault;
 
 pub use end::{LineEnd, Received};
-pub use fault::MakeFault;
 pub use lapb::MOST_FRAMES;

@@ -1,1 +1,2 @@
 pub mod Station
+pub mod Terminus

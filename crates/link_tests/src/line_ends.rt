@@ -1,6 +1,7 @@
+use crate::fault::MakeFault;
+use crate::terminus::Terminus;
 use frame_codec::FrameBuf;
 use lapb::{LinkParams, Note, OfferFault};
-use line_end::{LineEnd, MakeFault};
 use link_timers::{Role, TimerId};
 use std::alloc::Global;
 use std::process::Abort;
@@ -11,15 +12,15 @@ const PARAMS: LinkParams = LinkParams {
     standing: false,
 };
 
-fn end(rt: &impl Abort, alloc: Global, role: Role, params: LinkParams) -> LineEnd {
-    match LineEnd::new(alloc, role, params) {
+fn end(rt: &impl Abort, alloc: Global, role: Role, params: LinkParams) -> Terminus {
+    match Terminus::new(alloc, role, params) {
         Ok(end) => end,
         Err(_) => panic!(rt; "the parameters are in range"),
     }
 }
 
 // Whether these frames and no others go out.
-fn sends(end: &mut LineEnd, expected: &[&[u8]]) -> bool {
+fn sends(end: &mut Terminus, expected: &[&[u8]]) -> bool {
     let mut frame = FrameBuf::new();
     let mut same = true;
     for octets in expected {
@@ -29,7 +30,7 @@ fn sends(end: &mut LineEnd, expected: &[&[u8]]) -> bool {
 }
 
 // Whether an end gives this note for a frame, accepts nothing, and sends these frames.
-fn takes(end: &mut LineEnd, octets: &[u8], note: Note, expected: &[&[u8]]) -> bool {
+fn takes(end: &mut Terminus, octets: &[u8], note: Note, expected: &[&[u8]]) -> bool {
     end.drop_frames();
     let received = end.on_frame(octets);
     let told = received.note == note && received.packet.is_none();
@@ -38,7 +39,7 @@ fn takes(end: &mut LineEnd, octets: &[u8], note: Note, expected: &[&[u8]]) -> bo
 }
 
 // Both ends after the set-up, with the poll answered.
-fn both_up(rt: &impl Abort, alloc: Global) -> (LineEnd, LineEnd) {
+fn both_up(rt: &impl Abort, alloc: Global) -> (Terminus, Terminus) {
     let mut dte = end(rt, alloc, Role::Dte, PARAMS);
     let mut dce = end(rt, alloc, Role::Dce, PARAMS);
     assert!(rt; sends(&mut dte, &[&[0x01, 0x3F]]));
@@ -54,13 +55,13 @@ fn both_up(rt: &impl Abort, alloc: Global) -> (LineEnd, LineEnd) {
 #[test]
 fn a_packet_crosses(rt: HostRuntime) {
     let (mut dte, mut dce) = both_up(&rt, rt.alloc());
-    assert!(rt; dte.is_up() && dte.at_rest() && dce.at_rest());
+    assert!(rt; dte.end().is_up() && dte.end().at_rest() && dce.end().at_rest());
     dte.drop_frames();
     assert_eq!(rt; dte.offer(b"HI"), Ok(()));
     assert_eq!(rt; dte.offer(b"HO"), Err(OfferFault::Full));
     dte.settle();
     assert!(rt; sends(&mut dte, &[&[0x01, 0x00, b'H', b'I']]));
-    assert!(rt; !dte.at_rest());
+    assert!(rt; !dte.end().at_rest());
     dce.drop_frames();
     match dce.on_frame(&[0x01, 0x00, b'H', b'I']).packet {
         Some(packet) => assert_eq!(rt; packet, &b"HI"[..]),
@@ -69,22 +70,22 @@ fn a_packet_crosses(rt: HostRuntime) {
     dce.settle();
     assert!(rt; sends(&mut dce, &[&[0x01, 0x21]]));
     assert!(rt; takes(&mut dte, &[0x01, 0x21], Note::Nothing, &[]));
-    assert!(rt; dte.at_rest());
+    assert!(rt; dte.end().at_rest());
 }
 
 #[test]
 fn timer_1_runs_for_three_seconds(rt: HostRuntime) {
     let mut dte = end(&rt, rt.alloc(), Role::Dte, PARAMS);
-    assert!(rt; dte.role() == Role::Dte && dte.waiting() == 1);
-    assert_eq!(rt; dte.due(), None);
+    assert!(rt; dte.end().role() == Role::Dte && dte.end().waiting() == 1);
+    assert_eq!(rt; dte.end().due(), None);
     dte.elapse(59);
-    assert_eq!(rt; dte.due(), None);
+    assert_eq!(rt; dte.end().due(), None);
     dte.elapse(1);
-    assert_eq!(rt; dte.due(), Some(TimerId::T1));
+    assert_eq!(rt; dte.end().due(), Some(TimerId::T1));
     dte.drop_frames();
     assert_eq!(rt; dte.on_timer(TimerId::T1), Some(Note::Nothing));
     assert!(rt; sends(&mut dte, &[&[0x01, 0x3F]]));
-    assert_eq!(rt; dte.due(), None);
+    assert_eq!(rt; dte.end().due(), None);
     assert_eq!(rt; dte.on_timer(TimerId::T20), None);
     let mut standing = end(
         &rt,
@@ -96,7 +97,7 @@ fn timer_1_runs_for_three_seconds(rt: HostRuntime) {
         },
     );
     assert_eq!(rt; standing.on_timer(TimerId::T1), None);
-    assert!(rt; standing.is_up() && sends(&mut standing, &[]));
+    assert!(rt; standing.end().is_up() && sends(&mut standing, &[]));
 }
 
 #[test]
@@ -109,9 +110,9 @@ fn sets_up_anew(rt: HostRuntime) {
     assert!(rt; sends(&mut dte, &[&[0x01, 0x2F]]));
     assert!(rt; takes(&mut dce, &[0x01, 0x2F], Note::Up, &[&[0x01, 0x63]]));
     dte.restart();
-    assert!(rt; !dte.is_up() && sends(&mut dte, &[&[0x01, 0x3F]]));
+    assert!(rt; !dte.end().is_up() && sends(&mut dte, &[&[0x01, 0x3F]]));
     dce.restart();
-    assert!(rt; !dce.is_up() && sends(&mut dce, &[&[0x01, 0x0F]]));
+    assert!(rt; !dce.end().is_up() && sends(&mut dce, &[&[0x01, 0x0F]]));
 }
 
 #[test]
@@ -120,7 +121,7 @@ fn refuses_parameters(rt: HostRuntime) {
         LinkParams { k: 8, ..PARAMS },
         LinkParams { n2: 0, ..PARAMS },
     ] {
-        match LineEnd::new(rt.alloc(), Role::Dce, params) {
+        match Terminus::new(rt.alloc(), Role::Dce, params) {
             Ok(_) => panic!(rt; "a parameter is out of its range"),
             Err(fault) => assert_eq!(rt; fault, MakeFault::BadParams),
         }

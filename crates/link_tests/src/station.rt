@@ -1,10 +1,10 @@
 ghost use Rattle.std.specs.Prelude.{◌≤◌, length};
 ghost use Rattle.frame_codec.specs.Spelling.{most_information};
 
+use crate::fault::MakeFault;
 use flow_window::pool::Pool;
 use frame_codec::MAX_INFORMATION;
 use lapb::{Link, LinkOut, LinkParams, OfferFault, Phase};
-use line_end::MakeFault;
 use link_timers::Role;
 use std::alloc::Global;
 use std::marker::Model;

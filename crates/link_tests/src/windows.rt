@@ -24,6 +24,14 @@ fn numbers_and_acknowledges(rt: HostRuntime) {
 }
 
 #[test]
+fn sends_up_to_a_count(rt: HostRuntime) {
+    let mut window = SendWindow::<Mod8>::new(7);
+    window.send_up_to(3);
+    assert_eq!(rt; (window.unacknowledged(), window.used()), (3, 3));
+    assert_eq!(rt; next_of(&mut window), Some(3));
+}
+
+#[test]
 fn goes_back(rt: HostRuntime) {
     let mut window = SendWindow::<Mod128>::new(3);
     assert_eq!(rt; next_of(&mut window), Some(0));

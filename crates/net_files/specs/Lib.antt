@@ -8,3 +8,6 @@ pub mod CommandForm
 pub mod Reading
 pub mod Answers
 pub mod Scripts
+pub mod Entries
+pub mod Networks
+pub mod DocumentAnswers

@@ -1,6 +1,7 @@
 //! Network files and scripts, read from their texts.
 #![tactic(auto)]
 
+mod entries;
 mod fault;
 mod keywords;
 mod network;

@@ -1,8 +1,17 @@
 //! The text of a network, in TOML.
-ghost use Rattle.std.specs.Prelude.{◌≡◌, ◌⊎◌, None, IsErrOf, true};
-ghost use Rattle.toml.specs.Parse.{parse_document};
+ghost use Rattle.std.specs.Prelude.{◌≡◌, ◌≢◌, ◌⊎◌, Some, None, IfOk, IsErrOf, true, string_bytes};
+ghost use Rattle.toml.specs.View.{view, table_view, items_view};
+ghost use Rattle.toml.specs.Data.{as_table};
+ghost use Rattle.net_config.specs.declared.config.NodeConfig.{NodeConfig};
+ghost use Rattle.net_config.specs.declared.config.LineConfig.{LineConfig};
+ghost use Rattle.net_config.specs.declared.config.RouteConfig.{RouteConfig};
 ghost use Rattle.net_files.specs.Marks.{begins_with_mark};
+ghost use Rattle.net_files.specs.Entries.{text_at, passing};
+ghost use Rattle.net_files.specs.Networks.{profile_word, kind_word, IsOfKind, IsPad, IsNode, is_address};
+ghost use Rattle.net_files.specs.Networks.{is_address_or_none, IsLine, IsRoute, TablesForm, IsNetwork, Spells};
+ghost use Rattle.net_files.specs.DocumentAnswers.{Finds, Makes};
 
+use crate::entries::{array, flag, has_only, name, number, text};
 use crate::fault::ProgFault;
 use crate::settings::read_settings;
 use net_config::{Config, LineConfig, NodeConfig, NodeKind, PadConfig, RouteConfig};
@@ -38,9 +47,8 @@ const BYTE_ORDER_MARK: &str = "\u{FEFF}";
 /// the wrong type, where a number is not 0 to 65,535, and where a name, address, kind, profile or list of parameters
 /// has another form. What the values mean is tested when the network is made.
 pub fn read_net(alloc: Global, text: &str) -> Result<Config, ProgFault>
+    ensures spelled { Makes (Spells text.now) result }
     ensures marked { begins_with_mark text.now ≡ true → IsErrOf result ProgFault.NetText }
-    ensures no_document { parse_document text.now ≡ None
-        → IsErrOf result ProgFault.NetText ⊎ IsErrOf result ProgFault.OutOfMemory }
 {
     if begins_with_mark(text) {
         return Err(ProgFault::NetText);
@@ -59,179 +67,172 @@ fn begins_with_mark(text: &str) -> bool
     text.starts_with(BYTE_ORDER_MARK)
 }
 
-fn read_document(alloc: Global, document: &Table) -> Result<Config, ProgFault> {
-    known_keys(document, &["node", "line", "route"])?;
-    let nodes = read_nodes(alloc, tables(document, "node")?)?;
-    let lines = read_lines(alloc, tables(document, "line")?)?;
-    let routes = read_routes(alloc, tables(document, "route")?)?;
+/// The network of a document.
+fn read_document(alloc: Global, document: &Table) -> Result<Config, ProgFault>
+    ensures { Makes (IsNetwork (table_view document.now)) result }
+{
+    if !has_only(document, &["node", "line", "route"]) {
+        return Err(ProgFault::NetText);
+    }
     Ok(Config {
-        nodes,
-        lines,
-        routes,
+        nodes: read_nodes(alloc, array(document, "node")?)?,
+        lines: read_lines(alloc, array(document, "line")?)?,
+        routes: read_routes(alloc, array(document, "route")?)?,
     })
 }
 
-fn read_nodes(alloc: Global, values: &[Value]) -> Result<Vec<NodeConfig>, ProgFault> {
+/// The nodes of the tables of an array.
+fn read_nodes(alloc: Global, tables: &[Value]) -> Result<Vec<NodeConfig>, ProgFault>
+    ensures { Makes (λ nodes. TablesForm NodeConfig IsNode (items_view tables.now) nodes.items) result }
+{
     let mut nodes = Vec::new(alloc);
-    for value in values {
+    for value in tables {
         nodes.push(read_node(alloc, table(value)?)?)?;
     }
     Ok(nodes)
 }
 
-fn read_lines(alloc: Global, values: &[Value]) -> Result<Vec<LineConfig>, ProgFault> {
+/// The lines of the tables of an array.
+fn read_lines(alloc: Global, tables: &[Value]) -> Result<Vec<LineConfig>, ProgFault>
+    ensures { Makes (λ lines. TablesForm LineConfig IsLine (items_view tables.now) lines.items) result }
+{
     let mut lines = Vec::new(alloc);
-    for value in values {
+    for value in tables {
         lines.push(read_line(alloc, table(value)?)?)?;
     }
     Ok(lines)
 }
 
-fn read_routes(alloc: Global, values: &[Value]) -> Result<Vec<RouteConfig>, ProgFault> {
+/// The routes of the tables of an array.
+fn read_routes(alloc: Global, tables: &[Value]) -> Result<Vec<RouteConfig>, ProgFault>
+    ensures { Makes (λ routes. TablesForm RouteConfig IsRoute (items_view tables.now) routes.items) result }
+{
     let mut routes = Vec::new(alloc);
-    for value in values {
+    for value in tables {
         routes.push(read_route(alloc, table(value)?)?)?;
     }
     Ok(routes)
 }
 
-fn read_node(alloc: Global, entry: &Table) -> Result<NodeConfig, ProgFault> {
-    let name = name(alloc, entry, "name")?;
-    let kind = match text(entry, "kind")? {
-        Some("pad") => NodeKind::Pad(read_pad(alloc, entry)?),
-        Some("host") => {
-            known_keys(entry, &["name", "kind"])?;
-            NodeKind::Host
-        }
-        Some("switch") => {
-            known_keys(entry, &["name", "kind"])?;
-            NodeKind::Switch
-        }
-        _ => return Err(ProgFault::NetText),
-    };
-    Ok(NodeConfig { name, kind })
+/// The table that a value is.
+fn table(value: &Value) -> Result<&Table, ProgFault>
+    ensures { Finds (λ entry. table_view entry.now) result (as_table (view value.now)) }
+{
+    value.as_table().ok_or(ProgFault::NetText)
 }
 
-fn read_pad(alloc: Global, entry: &Table) -> Result<PadConfig, ProgFault> {
-    known_keys(
-        entry,
-        &["name", "kind", "terminals", "profile", "set", "speed"],
-    )?;
-    let terminals = number(entry, "terminals", 1)?;
-    let profile = match text(entry, "profile")? {
-        None | Some("SIMPLE") => Profile::Simple,
-        Some("TRANSPARENT") => Profile::Transparent,
-        Some(_) => return Err(ProgFault::NetText),
-    };
-    let speed = number(entry, "speed", 14)?;
-    let settings = read_settings(alloc, text(entry, "set")?.unwrap_or(""))?;
-    Ok(PadConfig {
-        terminals,
-        profile,
-        speed,
-        settings,
+/// The node of a table.
+fn read_node(alloc: Global, entry: &Table) -> Result<NodeConfig, ProgFault>
+    ensures { Makes (IsNode (table_view entry.now)) result }
+{
+    Ok(NodeConfig {
+        name: name(alloc, entry, "name")?,
+        kind: read_kind(alloc, entry, text(entry, "kind", None)?)?,
     })
 }
 
-fn read_line(alloc: Global, entry: &Table) -> Result<LineConfig, ProgFault> {
-    known_keys(
+/// The kind of a node, which has this word, and what the node has beside.
+fn read_kind(alloc: Global, entry: &Table, word: &str) -> Result<NodeKind, ProgFault>
+    ensures { Makes (λ kind. (word.now ≡ kind_word kind) × IsOfKind (table_view entry.now) kind) result }
+{
+    match word {
+        "pad" => Ok(NodeKind::Pad(read_pad(alloc, entry)?)),
+        "host" if has_only(entry, &["name", "kind"]) => Ok(NodeKind::Host),
+        "switch" if has_only(entry, &["name", "kind"]) => Ok(NodeKind::Switch),
+        _ => Err(ProgFault::NetText),
+    }
+}
+
+/// What a PAD has beside its name and its kind.
+fn read_pad(alloc: Global, entry: &Table) -> Result<PadConfig, ProgFault>
+    ensures { Makes (IsPad (table_view entry.now)) result }
+{
+    if !has_only(
+        entry,
+        &["name", "kind", "terminals", "profile", "set", "speed"],
+    ) {
+        return Err(ProgFault::NetText);
+    }
+    Ok(PadConfig {
+        terminals: number(entry, "terminals", Some(1))?,
+        profile: read_profile(text(entry, "profile", Some("SIMPLE"))?)?,
+        speed: number(entry, "speed", Some(14))?,
+        settings: read_settings(alloc, text(entry, "set", Some(""))?)?,
+    })
+}
+
+/// The profile of this word.
+fn read_profile(word: &str) -> Result<Profile, ProgFault>
+    ensures { Makes (λ profile. word.now ≡ profile_word profile) result }
+{
+    match word {
+        "SIMPLE" => Ok(Profile::Simple),
+        "TRANSPARENT" => Ok(Profile::Transparent),
+        _ => Err(ProgFault::NetText),
+    }
+}
+
+/// The line of a table.
+fn read_line(alloc: Global, entry: &Table) -> Result<LineConfig, ProgFault>
+    ensures { Makes (IsLine (table_view entry.now)) result }
+{
+    if !has_only(
         entry,
         &[
             "dte", "dce", "address", "channels", "window", "k", "n2", "standing",
         ],
-    )?;
-    let address = text(entry, "address")?.unwrap_or("");
-    if !address.is_empty() && !is_address(address) {
+    ) {
         return Err(ProgFault::NetText);
     }
     Ok(LineConfig {
         dte: name(alloc, entry, "dte")?,
         dce: name(alloc, entry, "dce")?,
-        address: String::from_str(alloc, address)?,
-        channels: number(entry, "channels", 4)?,
-        window: number(entry, "window", 2)?,
-        k: number(entry, "k", 7)?,
-        n2: number(entry, "n2", 3)?,
-        standing: flag(entry, "standing")?,
+        address: read_address(alloc, text(entry, "address", Some(""))?)?,
+        channels: number(entry, "channels", Some(4))?,
+        window: number(entry, "window", Some(2))?,
+        k: number(entry, "k", Some(7))?,
+        n2: number(entry, "n2", Some(3))?,
+        standing: flag(entry, "standing", Some(false))?,
     })
 }
 
-fn read_route(alloc: Global, entry: &Table) -> Result<RouteConfig, ProgFault> {
-    known_keys(entry, &["switch", "prefix", "line"])?;
-    let prefix = text(entry, "prefix")?.ok_or(ProgFault::NetText)?;
-    if !is_address(prefix) || !entry.contains_key("line") {
+/// The route of a table.
+fn read_route(alloc: Global, entry: &Table) -> Result<RouteConfig, ProgFault>
+    ensures { Makes (IsRoute (table_view entry.now)) result }
+{
+    if !has_only(entry, &["switch", "prefix", "line"]) {
         return Err(ProgFault::NetText);
     }
     Ok(RouteConfig {
         switch: name(alloc, entry, "switch")?,
-        prefix: String::from_str(alloc, prefix)?,
-        line: number(entry, "line", 0)?,
+        prefix: read_prefix(alloc, text(entry, "prefix", None)?)?,
+        line: number(entry, "line", None)?,
     })
 }
 
-/// Whether each key of a table is one of these.
-fn known_keys(entry: &Table, known: &[&str]) -> Result<(), ProgFault> {
-    for key in entry.keys() {
-        if !(&*known).contains(&key.as_str()) {
-            return Err(ProgFault::NetText);
-        }
-    }
-    Ok(())
-}
-
-/// The values of an array, none where it is not there.
-fn tables<'a>(document: &'a Table, key: &str) -> Result<&'a [Value], ProgFault> {
-    match document.get(key) {
-        None => Ok(&[]),
-        Some(Value::Array(values)) => Ok(values.as_slice()),
-        Some(_) => Err(ProgFault::NetText),
-    }
-}
-
-fn table(value: &Value) -> Result<&Table, ProgFault> {
-    value.as_table().ok_or(ProgFault::NetText)
-}
-
-/// The text at a key, if it is there.
-fn text<'a>(entry: &'a Table, key: &str) -> Result<Option<&'a str>, ProgFault> {
-    match entry.get(key) {
-        None => Ok(None),
-        Some(Value::String(text)) => Ok(Some(text.as_str())),
-        Some(_) => Err(ProgFault::NetText),
-    }
-}
-
-/// The name at a key, of letters and digits.
-fn name(alloc: Global, entry: &Table, key: &str) -> Result<String, ProgFault> {
-    let name = text(entry, key)?.ok_or(ProgFault::NetText)?;
-    if name.is_empty() || !name.bytes().all(|octet| octet.is_ascii_alphanumeric()) {
+/// An address, or no text.
+fn read_address(alloc: Global, text: &str) -> Result<String, ProgFault>
+    ensures { Makes (λ address. passing is_address_or_none (Some text.now) ≡ Some (string_bytes address)) result }
+{
+    if !text.is_empty() && !is_address(text) {
         return Err(ProgFault::NetText);
     }
-    Ok(String::from_str(alloc, name)?)
+    Ok(String::from_str(alloc, text)?)
 }
 
-/// The number at a key, or the default.
-fn number(entry: &Table, key: &str, default: u16) -> Result<u16, ProgFault> {
-    match entry.get(key) {
-        None => Ok(default),
-        Some(Value::Integer(number)) => match u16::try_from(*number) {
-            Ok(number) => Ok(number),
-            Err(_) => Err(ProgFault::NetText),
-        },
-        Some(_) => Err(ProgFault::NetText),
+/// A prefix, which has the form of an address.
+fn read_prefix(alloc: Global, text: &str) -> Result<String, ProgFault>
+    ensures { Makes (λ prefix. passing is_address (Some text.now) ≡ Some (string_bytes prefix)) result }
+{
+    if !is_address(text) {
+        return Err(ProgFault::NetText);
     }
-}
-
-/// Whether `true` stands at a key.
-fn flag(entry: &Table, key: &str) -> Result<bool, ProgFault> {
-    match entry.get(key) {
-        None => Ok(false),
-        Some(Value::Boolean(flag)) => Ok(*flag),
-        Some(_) => Err(ProgFault::NetText),
-    }
+    Ok(String::from_str(alloc, text)?)
 }
 
 /// Whether a text is 1 to 15 digits.
-fn is_address(text: &str) -> bool {
+fn is_address(text: &str) -> bool
+    ensures { result ≡ is_address text.now }
+{
     Address::read(text.as_bytes()).is_ok()
 }

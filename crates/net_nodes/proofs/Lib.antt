@@ -1,6 +1,7 @@
 mod Places
 mod Serving
 mod Switching
+mod Waiting
 mod SwitchTurns
 mod Due
 mod Acting

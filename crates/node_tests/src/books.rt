@@ -2,9 +2,11 @@
 ghost use Rattle.std.specs.Prelude.{◌≤◌, length};
 
 use call_records::{Book, EditStep, Interrupt, Pair, Record};
+use frame_codec::FrameBuf;
 use link_timers::Role;
-use packet_codec::{Address, CallBuf, CallData, PacketBuf};
-use packet_layer::{Layer, LayerNote, LayerParams, MakeFault, Reason, Taken, UserData};
+use packet_codec::{Address, CallBuf, CallData};
+use packet_end::{EndFault, EndParams, PacketEnd};
+use packet_layer::{LayerNote, Reason, Request, Taken, UserData};
 use std::alloc::{AllocError, Global};
 use std::process::Abort;
 use std::test::Fail;
@@ -79,20 +81,30 @@ fn closed(channel: u8, reason: Reason) -> LayerNote {
 }
 
 // What the DCE takes of a call that stands, where the DTE sent a packet with M = 1 and D = 1 and an interrupt.
-fn taken_at_dce(alloc: Global) -> Result<(Option<Taken>, Option<Taken>), MakeFault> {
-    let params = LayerParams {
+fn taken_at_dce(alloc: Global) -> Result<(Option<Taken>, Option<Taken>), EndFault> {
+    let params = EndParams {
+        k: 7,
+        n2: 3,
         channels: 1,
         window: 2,
         standing: true,
     };
-    let mut dte = Layer::new(alloc, Role::Dte, params)?;
-    let mut dce = Layer::new(alloc, Role::Dce, params)?;
-    let _ = dte.send(1, b"AB", true, false, true);
-    let _ = dte.interrupt(1, &[7]);
-    let mut buf = PacketBuf::new();
+    let mut dte = PacketEnd::new(alloc, Role::Dte, params)?;
+    let mut dce = PacketEnd::new(alloc, Role::Dce, params)?;
+    let packet = Request::Send {
+        octets: b"AB",
+        more: true,
+        qualified: false,
+        delivery: true,
+    };
+    let _ = dte.ask(1, &packet);
+    let _ = dte.ask(1, &Request::Interrupt(&[7]));
+    dte.finish();
+    let mut frame = FrameBuf::new();
     for _ in 0..2 {
-        if dte.next_packet(&mut buf) {
-            dce.on_packet(buf.as_slice());
+        if dte.out(&mut frame) {
+            dce.begin();
+            dce.on_frame(frame.as_slice());
         }
     }
     let interrupt = dce.take(1);

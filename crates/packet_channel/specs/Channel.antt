@@ -1,6 +1,6 @@
 -- One logical channel: the state tables of call set-up, clearing and reset (X.25 tables C-1 to C-4, 4.1, 4.4.3), seen
 -- from one end: "own" is what this end began, "far" what the other end did.
-use Rattle.std.specs.Prelude.{ℕ, ◌+◌, Bool, true, false, if◌then◌else◌, not, ◌&&◌, ◌||◌, ◌==◌, nat_lt, nat_le, List}
+use Rattle.std.specs.Prelude.{ℕ, Bool, true, false, if◌then◌else◌, not, ◌&&◌, ◌||◌, ◌==◌, nat_lt, nat_le, List}
 use Rattle.std.specs.Prelude.{[], ◌∷◌, ◌++◌, length, Option, Some, None}
 use Rattle.link_timers.specs.declared.role.Role.{Role}
 use Rattle.link_timers.specs.declared.role.Role.TheVariants.{Dte, Dce}
@@ -302,16 +302,16 @@ has_flow ch = in_transfer ch.state && not ch.resetting
 
 -- ---- what a channel owes: a fifth control packet is one too many, and is not kept
 
-abbrev pub is_full : List Body → Bool
+abbrev pub is_full : {P : Type 0} → List P → Bool
 is_full owed = nat_le 4 (length owed)
 
-abbrev pub with_owed : List Body → Option Body → List Body
+abbrev pub with_owed : {P : Type 0} → List P → Option P → List P
 with_owed owed None = owed
-with_owed owed (Some b) = if is_full owed then owed else owed ++ b ∷ []
+with_owed owed (Some p) = if is_full owed then owed else owed ++ p ∷ []
 
-abbrev pub passes_limit : List Body → Option Body → Bool
+abbrev pub passes_limit : {P : Type 0} → List P → Option P → Bool
 passes_limit owed None = false
-passes_limit owed (Some b) = is_full owed
+passes_limit owed (Some p) = is_full owed
 
 abbrev pub owing : Step → Channel
 owing st = record st.channel { owed = with_owed st.channel.owed st.owes }

@@ -1,5 +1,5 @@
 -- Control packets that are owed, as the code has them.
-use Rattle.std.specs.Prelude.{List, [], ◌∷◌, map, Option, Some, None}
+use Rattle.std.specs.Prelude.{List, map, Option, Some, None}
 use Rattle.packet_channel.specs.Packets.{Body}
 use Rattle.packet_channel.specs.Octets.{parts_of}
 use Rattle.packet_channel.specs.declared.control.Control.{Control}
@@ -19,12 +19,3 @@ bodies_of packets = map control_body packets
 abbrev pub maybe_body : Option Control → Option Body
 maybe_body None = None
 maybe_body (Some packet) = Some (control_body packet)
-
--- the packet that is owed first, and those after it
-abbrev pub first_of : List Body → Option Body
-first_of [] = None
-first_of (b ∷ bs) = Some b
-
-abbrev pub rest_of : List Body → List Body
-rest_of [] = []
-rest_of (b ∷ bs) = bs

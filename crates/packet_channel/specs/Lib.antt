@@ -1,6 +1,7 @@
 pub mod Packets
 pub mod Traffic
 pub mod Channel
+pub mod Held
 pub mod Octets
 pub mod TakenView
 pub mod TrafficView

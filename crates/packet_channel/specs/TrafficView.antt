@@ -1,15 +1,16 @@
 -- What contracts see of the code's traffic, and what always holds of it.
-use Rattle.std.specs.Prelude.{◌≡◌, ◌+◌, ◌%◌, ◌<◌, ◌≤◌, length}
+use Rattle.std.specs.Prelude.{◌≡◌, ◌+◌, ◌++◌, ◌%◌, ◌<◌, ◌≤◌, length}
 use Rattle.packet_channel.specs.Traffic.{Traffic, distance}
+use Rattle.packet_channel.specs.Held as held
 use Rattle.packet_channel.specs.declared.traffic.Traffic.TheInside.{Inside}
 
 abbrev pub traffic_of : Inside → Traffic
 traffic_of a = record {
-  waiting = a.waiting.items;
+  waiting = a.waiting.packets;
   send_number = (a.send.oldest + a.send.next) % 8;
   covered = a.send.oldest;
   undelivered = a.undelivered;
-  arrived = a.arrived.items;
+  arrived = a.arrived.packets;
   receive_number = a.expected;
   released = a.released;
   untold = a.untold;
@@ -23,14 +24,19 @@ traffic_of a = record {
   confirmation_due = a.confirmation_due;
 }
 
--- both queues have 8 places; numbers are modulo 8 and none is sent again; what waits to be taken is not released
+abbrev pub holding : Inside → held.Traffic
+holding a = record { traffic = traffic_of a; held = a.waiting.held ++ a.arrived.held }
+
+-- each packet of both queues has its buffer; at most 8 wait to be sent; numbers are modulo 8 and none is sent again;
+-- what waits to be taken is not released
 pub record IsTraffic (a : Inside) : Type 0 where
-  pub waiting_places : a.waiting.capacity ≡ 8
-  pub arrived_places : a.arrived.capacity ≡ 8
+  pub waiting_held : length a.waiting.held ≡ length a.waiting.packets
+  pub arrived_held : length a.arrived.held ≡ length a.arrived.packets
+  pub waiting : length a.waiting.packets ≤ 8
   pub size : a.send.size ≡ 7
   pub oldest : a.send.oldest < 8
   pub next : a.send.next ≤ 7
   pub top : a.send.top ≡ a.send.next
   pub expected : a.expected < 8
   pub released : a.released < 8
-  pub arrived : length a.arrived.items ≤ distance a.released a.expected
+  pub arrived : length a.arrived.packets ≤ distance a.released a.expected

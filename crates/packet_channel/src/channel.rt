@@ -1,8 +1,11 @@
 //! One logical channel (X.25 4, tables C-1 to C-4).
 ghost use Rattle.std.specs.Bool.{OnFalse};
-ghost use Rattle.std.specs.Prelude.{◌≡◌, ◌<◌, ◌≤◌, IfOk, Some, is_some, ◌-◌, ◌==◌, ◌&&◌, not, true, length};
+ghost use Rattle.std.specs.Prelude.{◌≡◌, ◌<◌, ◌≤◌, ℕ, [], IfOk, Some, is_some, ◌-◌, ◌==◌, ◌&&◌, not, true, length};
 ghost use Rattle.std.specs.Prelude.{if◌then◌else◌};
+ghost use Rattle.flow_window.specs.Pool.{Holds, Balances, in_use};
 ghost use Rattle.packet_channel.specs.Channel as machine;
+ghost use Rattle.packet_channel.specs.ControlView.{control_body};
+ghost use Rattle.packet_channel.specs.Held.{Fits};
 ghost use Rattle.packet_channel.specs.StateView.{state_of};
 ghost use Rattle.packet_channel.specs.Octets.{body_of, parts_of, written, ReadsAs};
 ghost use Rattle.packet_channel.specs.Packets.{Body as body};
@@ -14,11 +17,13 @@ mod errors;
 mod receiving;
 mod requests;
 
-use crate::control::{Control, Owed};
+use crate::control::{Control, write_control};
 use crate::effect::{Effect, Outcome};
+use crate::owed::Owed;
 use crate::state::{CallState, End};
 use crate::taken::{Front, Taken};
 use crate::traffic::{SEND_QUEUE, Traffic};
+use flow_window::pool::Pool;
 use packet_codec::{CallBuf, Packet, PacketBuf, diagnostic};
 pub use requests::Request;
 use std::alloc::{AllocError, Global};
@@ -30,18 +35,18 @@ use std::marker::Model;
 pub struct Channel {
     state: CallState,
     resetting: bool,
-    owed: Owed,
+    owed: Owed<Control>,
     traffic: Traffic,
 }
 
 impl Model for Channel {
-    ghost use Rattle.packet_channel.specs.Channel as machine;
+    ghost use Rattle.packet_channel.specs.Held as held;
 
-    ghost Value = { machine.Channel };
+    ghost Value = { held.Channel };
 
-    ghost use Rattle.packet_channel.specs.ChannelView.{channel_of, IsChannel};
+    ghost use Rattle.packet_channel.specs.ChannelView.{holding, IsChannel};
 
-    ghost view = { channel_of };
+    ghost view = { holding };
 
     ghost invariant = { IsChannel };
 }
@@ -54,7 +59,7 @@ impl Channel {
 
     /// A channel without a call.
     pub fn new(alloc: Global) -> Result<Self, AllocError>
-        ensures { IfOk result (λ c. c ≡ machine.closed_channel) }
+        ensures { IfOk result (λ c. c ≡ record { channel = machine.closed_channel; held = [] }) }
     {
         let traffic = Traffic::new(alloc)?;
         Ok(Channel {
@@ -67,52 +72,57 @@ impl Channel {
 
     /// Enters the state of a call that stands.
     pub fn stand(&mut self)
-        ensures { self.new ≡ machine.entered machine.CallState.Transfer self.old }
+        ensures { self.new ≡ record self.old {
+          channel = machine.entered machine.CallState.Transfer self.old.channel;
+        } }
     {
         self.state = CallState::Transfer;
     }
 
-    /// Ends the call and drops all that is owed, as a restart does.
-    pub fn close(&mut self)
-        ensures { self.new ≡ machine.closed_channel }
+    /// Ends the call and drops all that is owed, as a restart does. All buffers go back.
+    pub fn close(&mut self, pool: &mut Pool)
+        requires { Holds pool.old self.old.held }
+        ensures channel { self.new ≡ record { channel = machine.closed_channel; held = [] } }
+        ensures pool { Balances pool.old self.old.held pool.new [] }
     {
         self.state = CallState::Ready;
         self.resetting = false;
         self.owed.clear();
-        self.traffic.clear();
+        self.traffic.clear(pool);
     }
 
     /// The state of the call.
     pub fn state(&self) -> CallState
-        ensures { state_of result ≡ self.now.state }
+        ensures { state_of result ≡ self.now.channel.state }
     {
         self.state
     }
 
     /// Whether a call may be placed: there is none, and nothing is owed.
     pub fn is_free(&self) -> bool
-        ensures { result ≡ machine.is_free self.now }
+        ensures { result ≡ machine.is_free self.now.channel }
     {
         self.state.is_ready() && self.owed.is_empty()
     }
 
     /// Whether the own reset waits for its confirmation.
     pub fn waits_for_reset(&self) -> bool
-        ensures { result ≡ (machine.in_transfer self.now.state && self.now.resetting) }
+        ensures { result ≡ (machine.in_transfer self.now.channel.state && self.now.channel.resetting) }
     {
         self.state.in_transfer() && self.resetting
     }
 
     /// Whether there is a call in which no reset is unconfirmed.
     pub(crate) fn has_flow(&self) -> bool
-        ensures { result ≡ machine.has_flow self.now }
+        ensures { result ≡ machine.has_flow self.now.channel }
     {
         self.state.in_transfer() && !self.resetting
     }
 
     /// Free places of the send queue.
     pub fn room(&self) -> u8
-        ensures { result ≡ (if machine.has_flow self.now then 8 - length self.now.traffic.waiting else 0) }
+        ensures { result ≡ (if machine.has_flow self.now.channel
+            then 8 - length self.now.channel.traffic.waiting else 0) }
     {
         if self.has_flow() {
             SEND_QUEUE as u8 - self.traffic.waiting()
@@ -123,118 +133,169 @@ impl Channel {
 
     /// Whether an interrupt may be sent: there is a call in which no reset is unconfirmed, and no interrupt is pending.
     pub fn may_interrupt(&self) -> bool
-        ensures { result ≡ (machine.has_flow self.now && not (traffic.interrupt_pending self.now.traffic)) }
+        ensures { result ≡ (machine.has_flow self.now.channel
+            && not (traffic.interrupt_pending self.now.channel.traffic)) }
     {
         self.has_flow() && !self.traffic.interrupt_pending()
     }
 
     /// What `take` would give.
-    pub fn front(&self) -> Option<Front>
-        ensures { result ≡ maybe_front (traffic.front self.now.traffic) }
+    pub fn front(&self, pool: &Pool) -> Option<Front>
+        requires { Holds pool.now self.now.held }
+        ensures { result ≡ maybe_front (traffic.front self.now.channel.traffic) }
     {
-        self.traffic.front()
+        self.traffic.front(pool)
     }
 
     /// Takes the interrupt that waits, or else the first packet.
-    pub fn take(&mut self) -> Option<Taken>
-        ensures taken { maybe_taken result ≡ traffic.front self.old.traffic }
+    pub fn take(&mut self, pool: &mut Pool) -> Option<Taken>
+        requires { Holds pool.old self.old.held }
+        ensures taken { maybe_taken result ≡ traffic.front self.old.channel.traffic }
         ensures channel { (role : Role)
-            → self.new ≡ machine.owing (machine.requested role self.old machine.Request.Taking) }
+            → self.new.channel ≡ machine.owing (machine.requested role self.old.channel machine.Request.Taking) }
+        ensures pool { Balances pool.old self.old.held pool.new self.new.held }
+        ensures fits { (window : ℕ) → Fits window self.old → Fits window self.new }
     {
         if !self.state.in_transfer() {
             return None;
         }
-        self.traffic.take()
+        self.traffic.take(pool)
     }
 
     /// Whether there is a call in which each packet with D = 1 is covered.
     pub fn is_confirmed(&self) -> bool
-        ensures { result ≡ (machine.in_transfer self.now.state && (self.now.traffic.undelivered == 0)) }
+        ensures { result ≡ (machine.in_transfer self.now.channel.state
+            && (self.now.channel.traffic.undelivered == 0)) }
     {
         self.state.in_transfer() && self.traffic.is_delivered()
     }
 
     /// Whether nothing is owed or to be told, and nothing waits to be sent or taken.
     pub fn is_at_rest(&self) -> bool
-        ensures { result ≡ machine.channel_rests self.now }
+        ensures { result ≡ machine.channel_rests self.now.channel }
     {
         self.owed.is_empty() && self.traffic.is_at_rest()
     }
 
     /// Writes the packet that goes to the link next, if there is one.
-    pub fn next_packet(&mut self, window: u8, channel: u8, buf: &mut PacketBuf) -> bool
+    pub fn next_packet(
+        &mut self,
+        window: u8,
+        channel: u8,
+        buf: &mut PacketBuf,
+        pool: &mut Pool,
+    ) -> bool
         requires window { window ≤ 7 }
         requires channel { 0 < channel }
-        ensures channel { self.new ≡ (machine.next_of window self.old).channel }
-        ensures said { result ≡ is_some (machine.next_of window self.old).body }
-        ensures octets { buf.new.items ≡ written channel (machine.next_of window self.old).body buf.old.items }
-        ensures reads_back { ReadsAs channel (machine.next_of window self.old).body buf.new.items }
+        requires holds { Holds pool.old self.old.held }
+        ensures channel { self.new.channel ≡ (machine.next_of window self.old.channel).channel }
+        ensures pool { Balances pool.old self.old.held pool.new self.new.held }
+        ensures fits { (most : ℕ) → Fits most self.old → Fits most self.new }
+        ensures said { result ≡ is_some (machine.next_of window self.old.channel).body }
+        ensures octets { buf.new.items ≡ written channel (machine.next_of window self.old.channel).body buf.old.items }
+        ensures reads_back { ReadsAs channel (machine.next_of window self.old.channel).body buf.new.items }
         ensures same { OnFalse result (self.new ≡ self.old) }
     {
-        if self.owed.next_packet(channel, buf) {
+        if let Some(control) = self.owed.take_first() {
+            write_control(channel, &control, buf);
             return true;
         }
         if !self.has_flow() {
             return false;
         }
-        self.traffic.next_packet(window, channel, buf)
+        self.traffic.next_packet(window, channel, buf, pool)
     }
 
     /// Takes a packet that the link brings.
-    pub fn take_packet(&mut self, end: End, packet: &Packet<'_>) -> Outcome
+    pub fn take_packet(&mut self, end: End, packet: &Packet<'_>, pool: &mut Pool) -> Outcome
         requires window { end.window ≤ 7 }
         requires fits { IsPacket (view packet.now) }
-        ensures channel { self.new ≡ machine.owing (machine.received end.role end.window end.channel self.old
+        requires holds { Holds pool.old self.old.held }
+        requires size { 128 ≤ pool.old.size }
+        requires room { in_use pool.old < length pool.old.places }
+        ensures channel { self.new.channel
+            ≡ machine.owing (machine.received end.role end.window end.channel self.old.channel
             (body_of (content_view packet.now.content))) }
-        ensures outcome { result ≡ outcome_of (machine.received end.role end.window end.channel self.old
+        ensures outcome { result ≡ outcome_of (machine.received end.role end.window end.channel self.old.channel
             (body_of (content_view packet.now.content))) }
+        ensures pool { Balances pool.old self.old.held pool.new self.new.held }
+        ensures fits { Fits end.window self.old → Fits end.window self.new }
     {
-        let effect = self.receive(end, packet);
+        let effect = self.receive(end, packet, pool);
         self.settle(effect)
     }
 
     /// Takes octets that are no packet.
-    pub fn take_unreadable(&mut self, end: End, unknown: bool) -> Outcome
-        ensures channel { self.new ≡ machine.owing (machine.unreadable end.role end.channel unknown self.old) }
-        ensures outcome { result ≡ outcome_of (machine.unreadable end.role end.channel unknown self.old) }
+    pub fn take_unreadable(&mut self, end: End, unknown: bool, pool: &mut Pool) -> Outcome
+        requires { Holds pool.old self.old.held }
+        ensures channel { self.new.channel
+            ≡ machine.owing (machine.unreadable end.role end.channel unknown self.old.channel) }
+        ensures outcome { result ≡ outcome_of (machine.unreadable end.role end.channel unknown self.old.channel) }
+        ensures pool { Balances pool.old self.old.held pool.new self.new.held }
+        ensures fits { (window : ℕ) → Fits window self.old → Fits window self.new }
     {
-        let effect = self.unreadable(end, unknown);
+        let effect = self.unreadable(end, unknown, pool);
         self.settle(effect)
     }
 
     /// Clears the call whose timer expired.
-    pub fn expire(&mut self, end: End) -> Outcome
-        ensures channel { self.new
-            ≡ machine.owing (machine.clear_error end.role end.channel no_information true self.old) }
-        ensures outcome { result ≡ outcome_of (machine.clear_error end.role end.channel no_information true self.old) }
+    pub fn expire(&mut self, end: End, pool: &mut Pool) -> Outcome
+        requires { Holds pool.old self.old.held }
+        ensures channel { self.new.channel
+            ≡ machine.owing (machine.clear_error end.role end.channel no_information true self.old.channel) }
+        ensures outcome { result
+            ≡ outcome_of (machine.clear_error end.role end.channel no_information true self.old.channel) }
+        ensures pool { Balances pool.old self.old.held pool.new self.new.held }
+        ensures fits { (window : ℕ) → Fits window self.old → Fits window self.new }
     {
-        let effect = self.clear_error(end, diagnostic::NO_INFORMATION, true);
+        let effect = self.clear_error(end, diagnostic::NO_INFORMATION, true, pool);
         self.settle(effect)
     }
 
     /// Places a call on a free channel, and answers whether one control packet too many is owed.
     pub fn place_call(&mut self, call: CallBuf) -> bool
-        requires { self.old.state ≡ machine.CallState.Ready }
-        ensures channel { self.new ≡ machine.owing (machine.placing (parts_of call) self.old) }
-        ensures passes { result ≡ machine.passes_limit self.old.owed (Some (body.Call (parts_of call))) }
+        requires { self.old.channel.state ≡ machine.CallState.Ready }
+        ensures channel { self.new ≡ record self.old {
+          channel = machine.owing (machine.placing (parts_of call) self.old.channel);
+        } }
+        ensures passes { result ≡ machine.passes_limit self.old.channel.owed (Some (body.Call (parts_of call))) }
     {
         self.state = CallState::OwnWaiting;
-        self.owed.owe(Some(Control::Call(call)))
+        self.owe(Control::Call(call))
+    }
+
+    // Owes a control packet more, and answers whether it is one too many.
+    #[tactic(auto, using(crate::proofs::Owing::map_with_owed, crate::proofs::Owing::map_passes))]
+    pub(crate) fn owe(&mut self, control: Control) -> bool
+        ensures channel { self.new ≡ record self.old {
+          channel = record self.old.channel {
+            owed = machine.with_owed self.old.channel.owed (Some (control_body control));
+          };
+        } }
+        ensures passes { result ≡ machine.passes_limit self.old.channel.owed (Some (control_body control)) }
+    {
+        self.owed.owe(control)
     }
 
     // Owes what a step owes.
     fn settle(&mut self, effect: Effect) -> Outcome
-        ensures channel { self.new ≡ record self.old { owed = machine.with_owed self.old.owed effect.owes } }
+        ensures channel { self.new ≡ record self.old {
+          channel = record self.old.channel { owed = machine.with_owed self.old.channel.owed effect.owes };
+        } }
         ensures outcome { result
-            ≡ record { relink = machine.passes_limit self.old.owed effect.owes; notes = effect.notes } }
+            ≡ record { relink = machine.passes_limit self.old.channel.owed effect.owes; notes = effect.notes } }
     {
         let Effect {
             owes,
             first,
             second,
         } = effect;
+        let relink = match owes {
+            Some(control) => self.owe(control),
+            None => false,
+        };
         Outcome {
-            relink: self.owed.owe(owes),
+            relink,
             first,
             second,
         }

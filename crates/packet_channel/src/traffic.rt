@@ -1,22 +1,23 @@
 //! Data transfer on a channel from one reset to the next (X.25 4.3, 4.4).
-ghost use Rattle.std.specs.Prelude.{◌≡◌, ◌<◌, ◌≤◌, IfOk, length, ◌==◌, if◌then◌else◌};
+ghost use Rattle.std.specs.Prelude.{◌≡◌, ◌<◌, ◌≤◌, ◌+◌, ℕ, [], IfOk, length, ◌==◌, if◌then◌else◌};
+ghost use Rattle.flow_window.specs.Pool.{Buffer, weight, Holds, Balances};
+ghost use Rattle.packet_channel.specs.Held.{datum_in};
 ghost use Rattle.packet_channel.specs.Traffic as machine;
 
 mod hearing;
 mod saying;
 
+use crate::kept::KeptPacket;
+use crate::queue::{PacketQueue, QUEUE_PLACES};
 use crate::taken::{Front, Taken};
-use crate::user_data::{InterruptData, UserData};
-use circular_buffer::HeapCircularBuffer;
+use crate::user_data::InterruptData;
+use flow_window::pool::Pool;
 use flow_window::{Mod8, SendWindow, Seq};
 use std::alloc::{AllocError, Global};
 use std::marker::Model;
 
 /// How many packets of a call may wait to be sent.
-pub const SEND_QUEUE: usize = 8;
-
-/// How many packets of a call may wait to be taken: no window is larger.
-const RECEIVE_QUEUE: usize = 8;
+pub const SEND_QUEUE: usize = QUEUE_PLACES;
 
 /// The most that may be unacknowledged by numbers modulo 8. The window of the line is no larger.
 const LARGEST_WINDOW: u8 = 7;
@@ -24,11 +25,11 @@ const LARGEST_WINDOW: u8 = 7;
 /// The queues, numbers, busy states and interrupts of a call since its last reset.
 #[derive(Drop)]
 pub(crate) struct Traffic {
-    waiting: HeapCircularBuffer<UserData>,
+    waiting: PacketQueue,
     send: SendWindow<Mod8>,
     // how many of the packets not yet covered have to be covered until all with D = 1 are
     undelivered: u8,
-    arrived: HeapCircularBuffer<UserData>,
+    arrived: PacketQueue,
     expected: Seq<Mod8>,
     released: Seq<Mod8>,
     // P(R) went on since the partner was told
@@ -44,13 +45,13 @@ pub(crate) struct Traffic {
 }
 
 impl Model for Traffic {
-    ghost use Rattle.packet_channel.specs.Traffic as machine;
+    ghost use Rattle.packet_channel.specs.Held as held;
 
-    ghost Value = { machine.Traffic };
+    ghost Value = { held.Traffic };
 
-    ghost use Rattle.packet_channel.specs.TrafficView.{traffic_of, IsTraffic};
+    ghost use Rattle.packet_channel.specs.TrafficView.{holding, IsTraffic};
 
-    ghost view = { traffic_of };
+    ghost view = { holding };
 
     ghost invariant = { IsTraffic };
 }
@@ -60,10 +61,10 @@ impl Traffic {
 
     /// As a call begins it.
     pub(crate) fn new(alloc: Global) -> Result<Self, AllocError>
-        ensures { IfOk result (λ t. t ≡ machine.fresh) }
+        ensures { IfOk result (λ t. t ≡ record { traffic = machine.fresh; held = [] }) }
     {
-        let waiting = HeapCircularBuffer::with_capacity(alloc, SEND_QUEUE)?;
-        let arrived = HeapCircularBuffer::with_capacity(alloc, RECEIVE_QUEUE)?;
+        let waiting = PacketQueue::new(alloc)?;
+        let arrived = PacketQueue::new(alloc)?;
         Ok(Traffic {
             waiting,
             send: SendWindow::new(LARGEST_WINDOW),
@@ -83,14 +84,17 @@ impl Traffic {
         })
     }
 
-    /// Begins anew, as a call or a reset does.
-    pub(crate) fn clear(&mut self)
-        ensures { self.new ≡ machine.fresh }
+    /// Begins anew, as a call or a reset does. The buffers of both queues go back.
+    #[tactic(auto, using(flow_window::proofs::Weights::weight_append))]
+    pub(crate) fn clear(&mut self, pool: &mut Pool)
+        requires { Holds pool.old self.old.held }
+        ensures traffic { self.new ≡ record { traffic = machine.fresh; held = [] } }
+        ensures pool { Balances pool.old self.old.held pool.new [] }
     {
-        self.waiting.clear();
+        self.waiting.clear(pool);
         self.send.clear();
         self.undelivered = 0;
-        self.arrived.clear();
+        self.arrived.clear(pool);
         self.expected = Seq::zero();
         self.released = Seq::zero();
         self.untold = false;
@@ -106,53 +110,57 @@ impl Traffic {
 
     /// How many packets wait to be sent.
     pub(crate) fn waiting(&self) -> u8
-        ensures value { result ≡ length self.now.waiting }
+        ensures value { result ≡ length self.now.traffic.waiting }
         ensures most { result ≤ 8 }
     {
         self.waiting.len() as u8
     }
 
     /// Puts a packet into the send queue.
-    pub(crate) fn queue(&mut self, packet: UserData)
-        requires { length self.old.waiting < 8 }
-        ensures { self.new ≡ machine.queue packet self.old }
+    #[tactic(auto, using(flow_window::proofs::Weights::weight_append))]
+    pub(crate) fn queue(&mut self, packet: KeptPacket)
+        requires { length self.old.traffic.waiting < 8 }
+        ensures traffic { self.new.traffic ≡ machine.queue (datum_in packet) self.old.traffic }
+        ensures held { (w : Buffer → ℕ) → weight w self.new.held ≡ weight w self.old.held + w packet.buffer }
+        ensures most { length self.new.held ≤ 8 + length self.new.traffic.arrived }
     {
         if packet.delivery() {
             self.undelivered = self.send.unacknowledged() + self.waiting.len() as u8 + 1;
         }
-        let _ = self.waiting.try_push_back(packet);
+        self.waiting.push(packet);
     }
 
     /// Whether an interrupt is to be sent, or is not confirmed.
     pub(crate) fn interrupt_pending(&self) -> bool
-        ensures { result ≡ machine.interrupt_pending self.now }
+        ensures { result ≡ machine.interrupt_pending self.now.traffic }
     {
         self.interrupt_waiting.is_some() || self.interrupt_unconfirmed
     }
 
     pub(crate) fn queue_interrupt(&mut self, interrupt: InterruptData)
-        ensures { self.new ≡ machine.queue_interrupt interrupt self.old }
+        ensures { self.new ≡ record self.old { traffic = machine.queue_interrupt interrupt self.old.traffic } }
     {
         self.interrupt_waiting = Some(interrupt);
     }
 
     /// Sets the state that RNR and RR tell.
     pub(crate) fn stop(&mut self, stopped: bool)
-        ensures { self.new ≡ machine.stopping stopped self.old }
+        ensures { self.new ≡ record self.old { traffic = machine.stopping stopped self.old.traffic } }
     {
         self.stopped = stopped;
     }
 
     /// What `take` would give.
-    pub(crate) fn front(&self) -> Option<Front>
-        ensures { result ≡ maybe_front (machine.front self.now) }
+    pub(crate) fn front(&self, pool: &Pool) -> Option<Front>
+        requires { Holds pool.now self.now.held }
+        ensures { result ≡ maybe_front (machine.front self.now.traffic) }
     {
         if self.interrupt_arrived.is_some() {
             return Some(Front::Interrupt);
         }
         let data = self.arrived.front()?;
         Some(Front::Data {
-            length: data.octets().len() as u8,
+            length: data.octets(pool).len() as u8,
             more: data.more(),
             qualified: data.qualified(),
             delivery: data.delivery(),
@@ -160,23 +168,29 @@ impl Traffic {
     }
 
     /// Takes the interrupt that waits, or else the first packet.
-    pub(crate) fn take(&mut self) -> Option<Taken>
-        ensures taken { maybe_taken result ≡ machine.front self.old }
-        ensures traffic { self.new ≡ machine.taking self.old }
+    pub(crate) fn take(&mut self, pool: &mut Pool) -> Option<Taken>
+        requires { Holds pool.old self.old.held }
+        ensures taken { maybe_taken result ≡ machine.front self.old.traffic }
+        ensures traffic { self.new.traffic ≡ machine.taking self.old.traffic }
+        ensures pool { Balances pool.old self.old.held pool.new self.new.held }
+        ensures most { length self.new.held ≤ 8 + length self.new.traffic.arrived }
     {
         if let Some(interrupt) = self.interrupt_arrived.take() {
             self.interrupt_taken = true;
             return Some(Taken::Interrupt(interrupt));
         }
-        let data = self.arrived.pop_front()?;
-        Some(Taken::Data(data))
+        let packet = self.arrived.pop()?;
+        Some(Taken::Data(packet.take_out(pool)))
     }
 
     /// Lets P(R) pass so many more of the packets that were taken. Nothing happens where fewer are taken and not
     /// released.
     pub(crate) fn release(&mut self, count: u8)
-        ensures { self.new
-            ≡ (if machine.may_release count self.old then machine.releasing count self.old else self.old) }
+        ensures { self.new ≡ record self.old {
+          traffic = if machine.may_release count self.old.traffic
+              then machine.releasing count self.old.traffic
+              else self.old.traffic;
+        } }
     {
         if usize::from(count) + self.arrived.len() <= usize::from(self.unreleased()) {
             self.released = self.released.after(count);
@@ -186,7 +200,7 @@ impl Traffic {
 
     /// How many packets came and are not released.
     pub(crate) fn unreleased(&self) -> u8
-        ensures value { result ≡ machine.unreleased self.now }
+        ensures value { result ≡ machine.unreleased self.now.traffic }
         ensures most { result < 8 }
     {
         self.expected.ahead_of(&self.released)
@@ -194,7 +208,11 @@ impl Traffic {
 
     /// Owes the confirmation of the interrupt that was taken. Nothing happens where none is.
     pub(crate) fn confirm_interrupt(&mut self)
-        ensures { self.new ≡ (if self.old.interrupt_taken then machine.confirming self.old else self.old) }
+        ensures { self.new ≡ record self.old {
+          traffic = if self.old.traffic.interrupt_taken
+              then machine.confirming self.old.traffic
+              else self.old.traffic;
+        } }
     {
         if self.interrupt_taken {
             self.interrupt_taken = false;
@@ -204,14 +222,14 @@ impl Traffic {
 
     /// Whether each packet with D = 1 is covered by a P(R).
     pub(crate) fn is_delivered(&self) -> bool
-        ensures { result ≡ (self.now.undelivered == 0) }
+        ensures { result ≡ (self.now.traffic.undelivered == 0) }
     {
         self.undelivered == 0
     }
 
     /// Whether nothing waits to be sent or taken, and nothing is to be told.
     pub(crate) fn is_at_rest(&self) -> bool
-        ensures { result ≡ machine.rests self.now }
+        ensures { result ≡ machine.rests self.now.traffic }
     {
         self.waiting.is_empty()
             && self.arrived.is_empty()

@@ -1,3 +1,4 @@
+pub mod Pools
 pub mod Offering
 pub mod Wanted
 pub mod Untouched

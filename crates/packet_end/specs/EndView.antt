@@ -4,8 +4,8 @@ use Rattle.packet_end.specs.Touched.{OthersAgree}
 use Rattle.packet_end.specs.declared.end.PacketEnd.TheInside.{Inside}
 
 abbrev pub end_of : Inside → PacketEnd
-end_of a = record { line = a.line; layer = a.layer; timers = a.timers; notes = a.notes }
+end_of a = record { line = a.stack.line; layer = a.stack.layer; timers = a.timers; notes = a.notes }
 
 -- the timers of the channels that no event touched run as the layer wants them to
 abbrev pub IsEnd : Inside → Type 0
-IsEnd a = OthersAgree a.layer a.timers a.touched
+IsEnd a = OthersAgree a.stack.layer a.timers a.touched

@@ -1,7 +1,5 @@
 -- The parameters of an end of a line.
 use Rattle.lapb.specs.Params as link
-use Rattle.line_end.specs.declared.fault.MakeFault.{MakeFault as LineFault}
-use Rattle.line_end.specs.declared.fault.MakeFault.TheVariants as line
 use Rattle.packet_layer.specs.Params as layer
 use Rattle.packet_layer.specs.declared.fault.MakeFault.{MakeFault}
 use Rattle.packet_layer.specs.declared.fault.MakeFault.TheVariants as layer_fault
@@ -21,8 +19,3 @@ MadeNot p OutOfMemory = AreParams p
 abbrev pub end_fault : MakeFault → EndFault
 end_fault layer_fault.BadParams = BadConfig
 end_fault layer_fault.OutOfMemory = OutOfMemory
-
--- a fault of the line is one of the end
-abbrev pub line_fault : LineFault → EndFault
-line_fault line.BadParams = BadConfig
-line_fault line.OutOfMemory = OutOfMemory

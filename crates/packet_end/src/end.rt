@@ -14,13 +14,14 @@ mod offering;
 use crate::fault::EndFault;
 use crate::notes::{MOST_NOTES, NoteQueue};
 use crate::params::EndParams;
+use crate::stack::Stack;
 use crate::timing::bring_into_line;
 use crate::touched::Touched;
 use frame_codec::FrameBuf;
-use lapb::{LinkParams, Note};
-use line_end::{LineEnd, MOST_FRAMES};
+use lapb::Note;
+use line_end::MOST_FRAMES;
 use link_timers::{Role, TimerId, Timers};
-use packet_layer::{Layer, LayerNote, LayerParams};
+use packet_layer::LayerNote;
 use std::alloc::Global;
 use std::marker::Model;
 
@@ -32,8 +33,7 @@ use std::marker::Model;
 /// by `finish`. Then the frames are taken by `out` and the notes by `notes`.
 #[derive(Drop)]
 pub struct PacketEnd {
-    line: LineEnd,
-    layer: Layer,
+    stack: Stack,
     timers: Timers,
     notes: NoteQueue,
     touched: Touched,
@@ -63,28 +63,8 @@ impl PacketEnd {
             (λ end. AreParams params × (end ≡ made role params))
             (λ fault. MadeNot params fault) }
     {
-        let EndParams {
-            k,
-            n2,
-            channels,
-            window,
-            standing,
-        } = params;
-        let link = LinkParams { k, n2, standing };
-        link.check()?;
-        let layer = Layer::new(
-            alloc,
-            role,
-            LayerParams {
-                channels,
-                window,
-                standing,
-            },
-        )?;
-        let line = LineEnd::new(alloc, role, link)?;
         Ok(PacketEnd {
-            line,
-            layer,
+            stack: Stack::new(alloc, role, params)?,
             timers: Timers::new(),
             notes: NoteQueue::new(alloc)?,
             touched: Touched::Everything,
@@ -95,7 +75,7 @@ impl PacketEnd {
     pub fn begin(&mut self)
         ensures { self.new ≡ begun self.old }
     {
-        self.line.drop_frames();
+        self.stack.drop_frames();
         self.notes.clear();
     }
 
@@ -105,11 +85,11 @@ impl PacketEnd {
         ensures end { self.new ≡ received self.old octets.now }
         ensures notes { length self.new.notes ≤ 64 }
     {
-        let received = self.line.on_frame(octets);
+        let received = self.stack.on_frame(octets);
         self.heed(received.note);
         if let Some(packet) = received.packet {
             self.touched.insert_named(packet);
-            self.layer.on_packet(packet);
+            self.stack.on_packet(packet);
             self.gather();
         }
     }
@@ -119,7 +99,7 @@ impl PacketEnd {
         ensures { result ≡ runs_at self.now id }
     {
         match id {
-            TimerId::T1 => self.line.is_running(id),
+            TimerId::T1 => self.stack.line().is_running(id),
             _ => self.timers.is_running(id),
         }
     }
@@ -131,12 +111,12 @@ impl PacketEnd {
         ensures notes { length self.new.notes ≤ 64 }
     {
         if let TimerId::T1 = id {
-            if let Some(note) = self.line.on_timer(id) {
+            if let Some(note) = self.stack.on_line_timer(id) {
                 self.heed(note);
             }
         } else if self.timers.fire(id) {
             self.touched = Touched::Everything;
-            self.layer.on_timer(id);
+            self.stack.on_layer_timer(id);
             self.gather();
         }
     }
@@ -147,8 +127,8 @@ impl PacketEnd {
         ensures end { self.new ≡ relinked self.old }
         ensures notes { length self.new.notes ≤ length self.old.notes + 32 }
     {
-        self.line.relink();
-        self.layer.link_down();
+        self.stack.relink();
+        self.stack.link_down();
         self.timers = Timers::new();
         self.touched = Touched::Everything;
         self.gather();
@@ -158,7 +138,7 @@ impl PacketEnd {
     pub fn must_relink(&self) -> bool
         ensures { result ≡ self.now.layer.relink }
     {
-        self.layer.must_relink()
+        self.stack.layer().must_relink()
     }
 
     /// Does so where the packet layer asks for it.
@@ -167,7 +147,7 @@ impl PacketEnd {
         ensures end { self.new ≡ relinked_if_due self.old }
         ensures notes { length self.new.notes ≤ length self.old.notes + 32 }
     {
-        if self.layer.must_relink() {
+        if self.stack.layer().must_relink() {
             self.relink();
         }
     }
@@ -178,8 +158,8 @@ impl PacketEnd {
         ensures { self.new ≡ restarted self.old }
     {
         self.notes.clear();
-        self.line.restart();
-        self.layer.link_down();
+        self.stack.restart();
+        self.stack.link_down();
         self.timers = Timers::new();
         self.touched = Touched::Everything;
         self.gather();
@@ -194,9 +174,9 @@ impl PacketEnd {
         ensures all_sent { HasSentAll self.new.line.link }
         ensures timers { TimersAgree self.new.layer self.new.timers }
     {
-        bring_into_line(&mut self.timers, &self.layer, self.touched);
+        bring_into_line(&mut self.timers, self.stack.layer(), self.touched);
         self.touched = Touched::Nothing;
-        self.line.settle();
+        self.stack.settle();
     }
 
     /// Ends an event of a node with one line: a relink where it is due, all packets that may go, and `settle`.
@@ -219,7 +199,7 @@ impl PacketEnd {
         ensures same { OnFalse result (frame.new ≡ frame.old) }
         ensures end { self.new ≡ without_first_frame self.old }
     {
-        self.line.out(frame)
+        self.stack.out(frame)
     }
 
     /// Takes the next note, if there is one.
@@ -234,7 +214,7 @@ impl PacketEnd {
     pub fn elapse(&mut self, ticks: u16)
         ensures { self.new ≡ elapsed self.old ticks }
     {
-        self.line.elapse(ticks);
+        self.stack.elapse(ticks);
         self.timers.elapse(ticks);
     }
 
@@ -242,7 +222,7 @@ impl PacketEnd {
     pub fn due(&self) -> Option<TimerId>
         ensures { result ≡ due self.now }
     {
-        match self.line.due() {
+        match self.stack.line().due() {
             Some(id) => Some(id),
             None => self.timers.due(),
         }
@@ -253,7 +233,7 @@ impl PacketEnd {
         ensures count { result ≡ length self.now.line.frames }
         ensures most { result ≤ MOST_FRAMES }
     {
-        self.line.waiting()
+        self.stack.line().waiting()
     }
 
     /// How many notes wait to be taken, at most [`MOST_NOTES`].
@@ -269,14 +249,14 @@ impl PacketEnd {
     pub fn is_at_rest(&self) -> bool
         ensures { result ≡ at_rest self.now }
     {
-        self.line.at_rest() && self.layer.is_at_rest()
+        self.stack.line().at_rest() && self.stack.layer().is_at_rest()
     }
 
     /// The role of this end of the line.
     pub fn role(&self) -> Role
         ensures { result ≡ self.now.line.link.role }
     {
-        self.line.role()
+        self.stack.line().role()
     }
 
     // What a note of the link is for the packet layer.
@@ -287,8 +267,8 @@ impl PacketEnd {
     {
         match note {
             Note::Nothing => return,
-            Note::Up => self.layer.link_up(),
-            Note::Down => self.layer.link_down(),
+            Note::Up => self.stack.link_up(),
+            Note::Down => self.stack.link_down(),
         }
         self.timers = Timers::new();
         self.touched = Touched::Everything;
@@ -301,8 +281,8 @@ impl PacketEnd {
         ensures end { self.new ≡ gathered self.old }
         ensures notes { length self.new.notes ≤ length self.old.notes + 32 }
     {
-        for _ in 0..self.layer.unread_notes() {
-            if let Some(note) = self.layer.notes() {
+        for _ in 0..self.stack.layer().unread_notes() {
+            if let Some(note) = self.stack.notes() {
                 self.notes.add(note);
             }
         }

@@ -27,20 +27,6 @@ impl From<BadParams> for EndFault {
     }
 }
 
-impl From<line_end::MakeFault> for EndFault {
-    ghost use Rattle.std.specs.Prelude.{◌≡◌};
-    ghost use Rattle.packet_end.specs.Params.{line_fault};
-
-    ghost from_gives = { λ fault made. made ≡ line_fault fault };
-
-    fn from(fault: line_end::MakeFault) -> Self {
-        match fault {
-            line_end::MakeFault::BadParams => EndFault::BadConfig,
-            line_end::MakeFault::OutOfMemory => EndFault::OutOfMemory,
-        }
-    }
-}
-
 impl From<MakeFault> for EndFault {
     ghost use Rattle.std.specs.Prelude.{◌≡◌};
     ghost use Rattle.packet_end.specs.Params.{end_fault};

@@ -7,6 +7,7 @@ mod end;
 mod fault;
 mod notes;
 mod params;
+mod stack;
 mod timing;
 mod touched;
 

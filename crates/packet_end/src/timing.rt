@@ -17,9 +17,9 @@ const PACKET_TICKS: u16 = 3600;
 /// are touched.
 #[tactic(auto, using(crate::proofs::Untouched::one_agrees))]
 pub(crate) fn bring_into_line(timers: &mut Timers, layer: &Layer, touched: Touched)
-    requires { OthersAgree layer.now timers.old touched }
-    ensures places { timers.new ≡ brought layer.now timers.old }
-    ensures agree { TimersAgree layer.now timers.new }
+    requires { OthersAgree layer.now.layer timers.old touched }
+    ensures places { timers.new ≡ brought layer.now.layer timers.old }
+    ensures agree { TimersAgree layer.now.layer timers.new }
 {
     match touched {
         Touched::Nothing => {}
@@ -32,8 +32,8 @@ pub(crate) fn bring_into_line(timers: &mut Timers, layer: &Layer, touched: Touch
 
 #[tactic(auto, unfolding(crate::specs::Timing::brought))]
 fn bring_all(timers: &mut Timers, layer: &Layer)
-    ensures places { timers.new ≡ brought layer.now timers.old }
-    ensures agree { TimersAgree layer.now timers.new }
+    ensures places { timers.new ≡ brought layer.now.layer timers.old }
+    ensures agree { TimersAgree layer.now.layer timers.new }
 {
     bring_one(timers, layer, TimerId::T10);
     bring_one(timers, layer, TimerId::T20);
@@ -47,11 +47,11 @@ fn bring_all(timers: &mut Timers, layer: &Layer)
 fn bring_channel(timers: &mut Timers, layer: &Layer, channel: u8)
     requires least { 1 ≤ channel }
     requires most { channel ≤ 32 }
-    ensures places { timers.new ≡ brought_channel layer.now channel timers.old }
+    ensures places { timers.new ≡ brought_channel layer.now.layer channel timers.old }
     ensures own { (id : TimerName) → IsPacketTimer id → channel_number id ≡ channel →
-        RunsAsWanted layer.now timers.new id }
-    ensures kept { (id : TimerName) → IsTimer id → RunsAsWanted layer.now timers.old id →
-        RunsAsWanted layer.now timers.new id }
+        RunsAsWanted layer.now.layer timers.new id }
+    ensures kept { (id : TimerName) → IsTimer id → RunsAsWanted layer.now.layer timers.old id →
+        RunsAsWanted layer.now.layer timers.new id }
 {
     bring_one(timers, layer, TimerId::T11(channel));
     bring_one(timers, layer, TimerId::T12(channel));
@@ -64,10 +64,10 @@ fn bring_channel(timers: &mut Timers, layer: &Layer, channel: u8)
 #[tactic(auto, using(crate::proofs::Wanted::kept))]
 fn bring_one(timers: &mut Timers, layer: &Layer, id: TimerId)
     requires { IsTimer id }
-    ensures places { timers.new ≡ brought_one layer.now id timers.old }
-    ensures own { RunsAsWanted layer.now timers.new id }
-    ensures kept { (other : TimerName) → IsTimer other → RunsAsWanted layer.now timers.old other →
-        RunsAsWanted layer.now timers.new other }
+    ensures places { timers.new ≡ brought_one layer.now.layer id timers.old }
+    ensures own { RunsAsWanted layer.now.layer timers.new id }
+    ensures kept { (other : TimerName) → IsTimer other → RunsAsWanted layer.now.layer timers.old other →
+        RunsAsWanted layer.now.layer timers.new other }
 {
     if !layer.runs(id) {
         timers.stop(id);

@@ -1,4 +1,7 @@
 pub mod Places
+pub mod Placed
 pub mod FreeChannels
 pub mod Closed
 pub mod Serving
+pub mod Silence
+pub mod Round

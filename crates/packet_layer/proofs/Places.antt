@@ -1,17 +1,21 @@
 -- Channels by their places: what a step of the channel at a place makes of the layer.
-use Rattle.std.proofs.Common.{◌≡◌, ℕ, zero, suc, ◌+◌, ◌<◌, Bool, true, List, [], ◌∷◌, ◌++◌, length, set, get_or, refl, sym, ap, ◌∙◌, arith}
+use Rattle.std.proofs.Common.{◌≡◌, ℕ, zero, suc, ◌+◌, ◌<◌, Bool, true, false, List, [], ◌∷◌, ◌++◌, length, set, get_or, refl, sym, ap, ◌∙◌, arith}
 use Rattle.std.specs.Prelude.{Option, Some, None, slice_get, ◌&&◌, ◌==◌}
 use Rattle.std.proofs.lemmas.List.{append-nil}
 use Rattle.link_timers.specs.declared.role.Role.{Role}
 use Rattle.packet_channel.specs.Packets.{Body, CallParts, Call}
+use Rattle.packet_channel.specs.Traffic.{front}
 use Rattle.packet_channel.specs.Channel.CallState.{Ready, OwnWaiting, FarWaiting, Transfer, Collision, OwnClear}
-use Rattle.packet_channel.specs.Channel.{CallState, Channel, Step, Request, Refusal, unless, refusal, requested, carried_out, received}
+use Rattle.packet_channel.specs.Channel.{CallState, Channel, Step, Request, Refusal, unless, refusal, requested, carried_out, received, unreadable, clear_error}
 use Rattle.packet_channel.specs.Channel.Request.{Accept, Clearing, Resetting, Sending, Interrupting, Stopping, Taking, Releasing, Confirming}
 use Rattle.packet_layer.specs.Layer as machine
 use Rattle.packet_channel.specs.Effects.{Outcome, outcome_of}
 use Rattle.packet_layer.specs.Layer.Phase.{PacketReady}
 use Rattle.packet_layer.specs.Layer.{Layer, Phase, on_channel, is_ready, is_free, free_channel, placing, nth_channel, channel_of, on_found, owing, passes_limit, set_if}
 use Rattle.packet_channel.specs.Answers.{CarriedOut, Refused}
+use Rattle.packet_channel.specs.Octets.{unreadable_as}
+use Rattle.packet_codec.specs.Diagnostic.{no_information}
+use Rattle.packet_layer.specs.Events.{after_hearing}
 use Rattle.packet_channel.specs.declared.fault.ChannelFault.{ChannelFault}
 
 pub channel_at : (chs : List Channel) (c place : ℕ) → place + 1 ≡ c → nth_channel chs c ≡ slice_get chs place
@@ -132,3 +136,28 @@ call_done l place ch new parts relink ready free h e p =
     sym (call_given l parts (place + 1) ready free
     ∙ step_at l (place + 1) place ch (λ x. placing parts x) refl h
     ∙ step_done l place ch (placing parts ch) new relink refl refl e p)
+
+-- what comes to a channel, from the link or by its timer
+step_taken : (l : Layer) (c place : ℕ) (ch new : Channel) (o : Outcome) (f : Channel → Step) → place + 1 ≡ c → slice_get l.channels place ≡ Some ch → new ≡ owing (f ch) → o ≡ outcome_of (f ch) → record l { channels = set l.channels place new; relink = set_if o.relink l.relink; notes = l.notes ++ o.notes } ≡ on_found l c f (channel_of l c)
+step_taken l c place ch new o f e h is_new is_outcome = rw (is_new, is_outcome) (sym (step_at l c place ch f e h))
+
+-- octets that are no packet come on a channel
+pub unreadable_taken : (l : Layer) (unknown : Bool) (c place : ℕ) (ch new : Channel) (o : Outcome) (role : Role) (channel : ℕ) → l.phase ≡ PacketReady → place + 1 ≡ c → slice_get l.channels place ≡ Some ch → role ≡ l.role → channel ≡ place + 1 → new ≡ owing (unreadable role channel unknown ch) → o ≡ outcome_of (unreadable role channel unknown ch) → record l { channels = set l.channels place new; relink = set_if o.relink l.relink; notes = l.notes ++ o.notes } ≡ after_hearing l (unreadable_as unknown (Some c))
+unreadable_taken l unknown c place ch new o role channel ready e h same_role same_channel is_new is_outcome =
+    let as_end : unreadable role channel unknown ch ≡ unreadable l.role c unknown ch = ap (λ (r : Role). unreadable r channel unknown ch) same_role ∙ ap (λ (n : ℕ). unreadable l.role n unknown ch) (same_channel ∙ e) in
+    step_taken l c place ch new o (λ x. unreadable l.role c unknown x) e h (is_new ∙ ap owing as_end) (is_outcome ∙ ap outcome_of as_end)
+    ∙ ap (λ (p : Phase). on_channel p l c (λ x. unreadable l.role c unknown x)) (sym ready)
+    ∙ heard_of_kind unknown
+  where
+    heard_of_kind : (b : Bool) → on_channel l.phase l c (λ x. unreadable l.role c b x) ≡ after_hearing l (unreadable_as b (Some c))
+    heard_of_kind true = refl
+    heard_of_kind false = refl
+
+-- a timer of a call or a reset expires
+pub expiry_taken : (l : Layer) (c place : ℕ) (ch new : Channel) (o : Outcome) (role : Role) (channel : ℕ) → place + 1 ≡ c → slice_get l.channels place ≡ Some ch → role ≡ l.role → channel ≡ place + 1 → new ≡ owing (clear_error role channel no_information true ch) → o ≡ outcome_of (clear_error role channel no_information true ch) → record l { channels = set l.channels place new; relink = set_if o.relink l.relink; notes = l.notes ++ o.notes } ≡ machine.expired l (machine.Timer.CallTimer c)
+expiry_taken l c place ch new o role channel e h same_role same_channel is_new is_outcome =
+    let as_end : clear_error role channel no_information true ch ≡ clear_error l.role c no_information true ch = ap (λ (r : Role). clear_error r channel no_information true ch) same_role ∙ ap (λ (n : ℕ). clear_error l.role n no_information true ch) (same_channel ∙ e) in
+    step_taken l c place ch new o (λ x. clear_error l.role c no_information true x) e h (is_new ∙ ap owing as_end) (is_outcome ∙ ap outcome_of as_end)
+
+pub front_there : (l : Layer) (c place : ℕ) (ch : Channel) → place + 1 ≡ c → slice_get l.channels place ≡ Some ch → machine.front_on l c ≡ front ch.traffic
+front_there l c place ch e h = rw (channel_at l.channels c place e, h) refl

@@ -29,7 +29,7 @@ found_stops : (l : Layer) (c : ℕ) (found : Option Channel) (others : Next) →
 found_stops l c None others h = absurd (cc)
 found_stops l c (Some ch) others h = body_stops l c (next_of l.window ch).channel (next_of l.window ch).body others h
 
-goes_on_from : (m : ℕ) (k : ℕ) (l : Layer) (c : ℕ) → m ≡ suc k → is_some (serve 1 l c).packet ≡ false → serve m l c ≡ serve k l (next_number l c)
+pub goes_on_from : (m : ℕ) (k : ℕ) (l : Layer) (c : ℕ) → m ≡ suc k → is_some (serve 1 l c).packet ≡ false → serve m l c ≡ serve k l (next_number l c)
 goes_on_from zero k l c e h = absurd (omega arith)
 goes_on_from (suc m) k l c e h = let same : m ≡ k = omega arith in found_goes_on l c (channel_of l c) (serve m l (next_number l c)) h ∙ ap (λ n. serve n l (next_number l c)) same
 
@@ -37,7 +37,7 @@ goes_on_from (suc m) k l c e h = let same : m ≡ k = omega arith in found_goes_
 pub goes_on : (count i : ℕ) (l : Layer) (c : ℕ) → i < count → is_some (serve 1 l c).packet ≡ false → serve (count - (i + 1)) l (next_number l c) ≡ serve (count - i) l c
 goes_on count i l c h silent = sym (goes_on_from (count - i) (count - (i + 1)) l c (omega arith) silent)
 
-stops_from : (m : ℕ) (l : Layer) (c : ℕ) → 0 < m → is_some (serve 1 l c).packet ≡ true → serve m l c ≡ serve 1 l c
+pub stops_from : (m : ℕ) (l : Layer) (c : ℕ) → 0 < m → is_some (serve 1 l c).packet ≡ true → serve m l c ≡ serve 1 l c
 stops_from zero l c h says = absurd (omega arith)
 stops_from (suc m) l c h says = found_stops l c (channel_of l c) (serve m l (next_number l c)) says
 

@@ -7,9 +7,11 @@ pub use Rattle.packet_channel.specs.ControlView
 pub use Rattle.packet_channel.specs.NoteView
 pub use Rattle.packet_channel.specs.Effects
 pub mod Layer
+pub mod Held
 pub mod RequestView
 pub mod Params
 pub mod RestartView
+pub mod Silence
 pub mod LayerView
 pub mod Events
 pub mod TimerView

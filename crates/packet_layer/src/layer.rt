@@ -1,7 +1,8 @@
 //! The packet layer of one line (X.25 3 to 5).
-ghost use Rattle.std.specs.Prelude.{◌≡◌, ◌<◌, ◌≤◌, ◌+◌, ◌++◌, MatchResult, MatchOption, IfOk, None, false, Bool, []};
+ghost use Rattle.std.specs.Prelude.{◌≡◌, ◌<◌, ◌≤◌, ◌+◌, ◌++◌, MatchResult, MatchOption, IfOk, Some, None, false, Bool, ℕ, []};
 ghost use Rattle.std.specs.Prelude.{length, drop, replicate, slice_get};
 ghost use Rattle.packet_channel.specs.Channel.{Channel as ChannelValue, closed_channel};
+ghost use Rattle.flow_window.specs.Pool.{Buffer, weight};
 ghost use Rattle.packet_layer.specs.Layer as machine;
 ghost use Rattle.packet_layer.specs.Params.{AreParams, MadeNot};
 
@@ -16,9 +17,10 @@ mod timers;
 use crate::fault::MakeFault;
 use crate::notes::Notes;
 use crate::params::LayerParams;
-use crate::restart::{OwedRestarts, Phase};
+use crate::restart::{Phase, RestartPacket};
 use link_timers::Role;
-use packet_channel::{Channel, End, LayerNote, Outcome};
+use number_set::NumberSet;
+use packet_channel::{Channel, End, LayerNote, Outcome, Owed};
 use std::alloc::{AllocError, Global};
 use std::marker::Model;
 
@@ -28,27 +30,30 @@ pub struct Layer {
     role: Role,
     window: u8,
     channels: Vec<Channel>,
+    /// The places of the channels that may have something for the link. The others have nothing.
+    to_serve: NumberSet,
     phase: Phase,
-    owed: OwedRestarts,
+    owed: Owed<RestartPacket>,
     served_last: u8,
     relink: bool,
     notes: Notes,
 }
 
 impl Model for Layer {
-    ghost use Rattle.packet_layer.specs.Layer as machine;
+    ghost use Rattle.packet_layer.specs.Held as held;
 
-    ghost Value = { machine.Layer };
+    ghost Value = { held.Layer };
 
-    ghost use Rattle.packet_layer.specs.LayerView.{layer_of, IsLayer};
+    ghost use Rattle.packet_layer.specs.LayerView.{holding, IsLayer};
 
-    ghost view = { layer_of };
+    ghost view = { holding };
 
     ghost invariant = { IsLayer };
 }
 
 fn closed_channels(alloc: Global, count: u8) -> Result<Vec<Channel>, AllocError>
-    ensures { IfOk result (λ channels. channels.items ≡ replicate count closed_channel) }
+    ensures { IfOk result (λ channels. channels.items
+        ≡ replicate count (record { channel = closed_channel; held = [] })) }
 {
     let mut channels = Vec::new(alloc);
     for _ in 0..count {
@@ -68,7 +73,10 @@ impl Layer {
     pub fn new(alloc: Global, role: Role, params: LayerParams) -> Result<Layer, MakeFault>
         ensures { MatchResult result
             (λ layer. AreParams params.channels params.window
-            × (layer ≡ machine.made role params.channels params.window params.standing))
+            × (layer ≡ record {
+              layer = machine.made role params.channels params.window params.standing;
+              held = [];
+            }))
             (λ fault. MadeNot params.channels params.window fault) }
     {
         params.check()?;
@@ -87,12 +95,13 @@ impl Layer {
             role,
             window,
             channels,
+            to_serve: NumberSet::new(),
             phase: if standing {
                 Phase::PacketReady
             } else {
                 Phase::NoSession
             },
-            owed: OwedRestarts::new(),
+            owed: Owed::new(),
             served_last: 0,
             relink: false,
             notes,
@@ -102,15 +111,17 @@ impl Layer {
     /// Takes the first note that is not read, if any. Notes that are not read are dropped by the next `link_up`,
     /// `link_down`, `on_packet` or `on_timer`.
     pub fn notes(&mut self) -> Option<LayerNote>
-        ensures value { maybe_note result ≡ slice_get self.old.notes 0 }
-        ensures layer { self.new ≡ record self.old { notes = drop 1 self.old.notes } }
+        ensures value { maybe_note result ≡ slice_get self.old.layer.notes 0 }
+        ensures layer { self.new ≡ record self.old {
+          layer = record self.old.layer { notes = drop 1 self.old.layer.notes };
+        } }
     {
         self.notes.take()
     }
 
     /// How many notes are not read.
     pub fn unread_notes(&self) -> usize
-        ensures count { result ≡ length self.now.notes }
+        ensures count { result ≡ length self.now.layer.notes }
         ensures most { result ≤ 32 }
     {
         self.notes.len()
@@ -118,8 +129,8 @@ impl Layer {
 
     // The place of a channel among those of the line.
     fn place(&self, channel: u16) -> Option<usize>
-        ensures { MatchOption result (machine.channel_of self.now channel ≡ None)
-            (λ place. (place + 1 ≡ channel) × (place < length self.now.channels)) }
+        ensures { MatchOption result (machine.channel_of self.now.layer channel ≡ None)
+            (λ place. (place + 1 ≡ channel) × (place < length self.now.layer.channels)) }
     {
         let place = usize::from(channel).checked_sub(1)?;
         if place < self.channels.len() {
@@ -129,25 +140,36 @@ impl Layer {
         }
     }
 
-    // The place of a channel of the line, where the restart procedure is done.
-    fn ready_place(&self, channel: u16) -> Option<usize>
+    // The channel of this number, if it is one of the line.
+    fn channel(&self, number: u16) -> Option<&Channel>
+        ensures found { MatchOption result (machine.channel_of self.now.layer number ≡ None)
+            (λ channel. machine.channel_of self.now.layer number ≡ Some channel.now.channel) }
+        ensures held { MatchOption result (Unit {0})
+            (λ channel. (w : Buffer → ℕ) → weight w channel.now.held ≤ weight w self.now.held) }
+    {
+        let place = self.place(number)?;
+        Some(&self.channels[place])
+    }
+
+    // The channel of this number, where the restart procedure is done.
+    fn ready_channel(&self, number: u16) -> Option<&Channel>
         ensures { MatchOption result
             ((test : ChannelValue → Bool)
-            → machine.runs_at test self.now.phase (machine.channel_of self.now channel) ≡ false)
-            (λ place. (self.now.phase ≡ machine.Phase.PacketReady) × (place + 1 ≡ channel)
-            × (place < length self.now.channels)) }
+            → machine.runs_at test self.now.layer.phase (machine.channel_of self.now.layer number) ≡ false)
+            (λ channel. (self.now.layer.phase ≡ machine.Phase.PacketReady)
+            × (machine.channel_of self.now.layer number ≡ Some channel.now.channel)) }
     {
         match self.phase {
-            Phase::PacketReady => self.place(channel),
+            Phase::PacketReady => self.channel(number),
             Phase::NoSession | Phase::OwnRestart => None,
         }
     }
 
     // The end at which the channel with this place is seen.
     fn end(&self, place: usize) -> End
-        requires { place < length self.now.channels }
-        ensures role { result.role ≡ self.now.role }
-        ensures window { result.window ≡ self.now.window }
+        requires { place < length self.now.layer.channels }
+        ensures role { result.role ≡ self.now.layer.role }
+        ensures window { result.window ≡ self.now.layer.window }
         ensures most { result.window ≤ 7 }
         ensures channel { result.channel ≡ place + 1 }
     {
@@ -160,10 +182,12 @@ impl Layer {
 
     // Keeps what a step of a channel tells.
     fn report(&mut self, outcome: Outcome)
-        requires { self.old.notes ≡ [] }
+        requires { self.old.layer.notes ≡ [] }
         ensures { self.new ≡ record self.old {
-          relink = machine.set_if outcome.relink self.old.relink;
-          notes = self.old.notes ++ outcome.notes;
+          layer = record self.old.layer {
+            relink = machine.set_if outcome.relink self.old.layer.relink;
+            notes = self.old.layer.notes ++ outcome.notes;
+          };
         } }
     {
         let Outcome {

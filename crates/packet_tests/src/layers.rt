@@ -1,8 +1,9 @@
 //! Worked examples: two packet layers on one line, by the octets of their packets.
 
+use crate::station::Station;
 use crate::steps::{Step, Told, Turn, first_misfit};
 use link_timers::{Role, TimerId};
-use packet_layer::{CallFault, ChannelFault, Front, Layer, LayerParams, MakeFault, Reason};
+use packet_layer::{CallFault, ChannelFault, Front, LayerParams, MakeFault, Reason};
 use std::alloc::Global;
 use std::test::Fail;
 
@@ -23,9 +24,9 @@ fn params(channels: u8, window: u8, standing: bool) -> LayerParams {
 }
 
 // A DTE and a DCE, standing with a call on channel 1 or without a session.
-fn layers(alloc: Global, channels: u8, standing: bool) -> Result<(Layer, Layer), MakeFault> {
-    let dte = Layer::new(alloc, Role::Dte, params(channels, 2, standing))?;
-    let dce = Layer::new(alloc, Role::Dce, params(channels, 2, standing))?;
+fn layers(alloc: Global, channels: u8, standing: bool) -> Result<(Station, Station), MakeFault> {
+    let dte = Station::new(alloc, Role::Dte, params(channels, 2, standing))?;
+    let dce = Station::new(alloc, Role::Dce, params(channels, 2, standing))?;
     Ok((dte, dce))
 }
 
@@ -46,7 +47,7 @@ fn parameters_have_ranges(rt: HostRuntime) {
         params(0, 2, false),
         params(33, 2, false),
     ] {
-        match Layer::new(alloc, Role::Dte, bad) {
+        match Station::new(alloc, Role::Dte, bad) {
             Ok(_) => assert!(rt; false, "{bad:?}"),
             Err(fault) => assert_eq!(rt; fault, MakeFault::BadParams),
         }

@@ -9,5 +9,6 @@ mod layers;
 mod packets;
 #[cfg(test)]
 mod resets;
+mod station;
 #[cfg(test)]
 mod steps;

@@ -1,8 +1,9 @@
 //! Steps of two packet layers on one line, each with the answer that it must give.
 
+use crate::station::Station;
 use link_timers::TimerId;
 use packet_codec::{Address, CallData, PacketBuf};
-use packet_layer::{CallFault, ChannelFault, Front, Layer, LayerNote, Reason, Taken};
+use packet_layer::{CallFault, ChannelFault, Front, LayerNote, Reason, Taken};
 
 /// What is done or looked at at a packet layer. A call goes to address 2001, with no user data.
 #[derive(Clone, Copy)]
@@ -60,7 +61,11 @@ pub(crate) enum Turn<'a> {
 }
 
 /// The number of the first turn that does not fit, if any.
-pub(crate) fn first_misfit(dte: &mut Layer, dce: &mut Layer, turns: &[Turn<'_>]) -> Option<usize> {
+pub(crate) fn first_misfit(
+    dte: &mut Station,
+    dce: &mut Station,
+    turns: &[Turn<'_>],
+) -> Option<usize> {
     for (number, turn) in turns.iter().enumerate() {
         if !fits(dte, dce, turn) {
             return Some(number);
@@ -69,7 +74,7 @@ pub(crate) fn first_misfit(dte: &mut Layer, dce: &mut Layer, turns: &[Turn<'_>])
     None
 }
 
-fn fits(dte: &mut Layer, dce: &mut Layer, turn: &Turn<'_>) -> bool {
+fn fits(dte: &mut Station, dce: &mut Station, turn: &Turn<'_>) -> bool {
     match turn {
         Turn::Dte(step) => step_fits(dte, step),
         Turn::Dce(step) => step_fits(dce, step),
@@ -78,7 +83,7 @@ fn fits(dte: &mut Layer, dce: &mut Layer, turn: &Turn<'_>) -> bool {
     }
 }
 
-fn delivers(from: &mut Layer, to: &mut Layer, octets: &[u8]) -> bool {
+fn delivers(from: &mut Station, to: &mut Station, octets: &[u8]) -> bool {
     let mut buf = PacketBuf::new();
     if !from.next_packet(&mut buf) {
         return false;
@@ -87,40 +92,40 @@ fn delivers(from: &mut Layer, to: &mut Layer, octets: &[u8]) -> bool {
     buf.as_slice() == octets
 }
 
-fn step_fits(layer: &mut Layer, step: &Step<'_>) -> bool {
+fn step_fits(station: &mut Station, step: &Step<'_>) -> bool {
     match step {
         Step::LinkUp => {
-            layer.link_up();
+            station.link_up();
             true
         }
         Step::LinkDown => {
-            layer.link_down();
+            station.link_down();
             true
         }
         Step::Expire(timer) => {
-            layer.on_timer(*timer);
+            station.on_timer(*timer);
             true
         }
         Step::Hear(octets) => {
-            layer.on_packet(octets);
+            station.on_packet(octets);
             true
         }
-        Step::Say(octets) => says(layer, octets),
-        Step::SayNothing => !layer.next_packet(&mut PacketBuf::new()),
-        Step::Note(told) => is_told(layer.notes(), *told),
-        Step::NoNote => layer.notes().is_none(),
-        Step::Take(channel, octets) => takes(layer, *channel, *octets),
-        _ => answer_fits(layer, step),
+        Step::Say(octets) => says(station, octets),
+        Step::SayNothing => !station.next_packet(&mut PacketBuf::new()),
+        Step::Note(told) => is_told(station.notes(), *told),
+        Step::NoNote => station.notes().is_none(),
+        Step::Take(channel, octets) => takes(station, *channel, *octets),
+        _ => answer_fits(station, step),
     }
 }
 
-fn says(layer: &mut Layer, octets: &[u8]) -> bool {
+fn says(station: &mut Station, octets: &[u8]) -> bool {
     let mut buf = PacketBuf::new();
-    layer.next_packet(&mut buf) && buf.as_slice() == octets
+    station.next_packet(&mut buf) && buf.as_slice() == octets
 }
 
-fn takes(layer: &mut Layer, channel: u8, octets: Option<&[u8]>) -> bool {
-    match (layer.take(channel), octets) {
+fn takes(station: &mut Station, channel: u8, octets: Option<&[u8]>) -> bool {
+    match (station.take(channel), octets) {
         (Some(Taken::Data(data)), Some(octets)) => data.octets() == octets,
         (Some(Taken::Interrupt(data)), Some(octets)) => data.octets() == octets,
         (None, None) => true,
@@ -129,40 +134,36 @@ fn takes(layer: &mut Layer, channel: u8, octets: Option<&[u8]>) -> bool {
 }
 
 // What a user asks, and what he may look at.
-fn answer_fits(layer: &mut Layer, step: &Step<'_>) -> bool {
+fn answer_fits(station: &mut Station, step: &Step<'_>) -> bool {
     match step {
-        Step::Call(answer) => call_2001(layer) == *answer,
-        Step::Accept(channel, answer) => layer.accept(*channel) == *answer,
-        Step::Clear(channel) => layer.clear(*channel, 0, 0).is_ok(),
-        Step::Reset(channel, answer) => layer.reset(*channel, 0, 0) == *answer,
-        Step::Send(channel, octets, answer) => {
-            layer.send(*channel, octets, false, false, false) == *answer
-        }
-        Step::SendToConfirm(channel, octets) => {
-            layer.send(*channel, octets, false, false, true).is_ok()
-        }
-        Step::Interrupt(channel, octets, answer) => layer.interrupt(*channel, octets) == *answer,
-        Step::Stop(channel) => layer.stop(*channel).is_ok(),
-        Step::Go(channel, answer) => layer.go(*channel) == *answer,
+        Step::Call(answer) => call_2001(station) == *answer,
+        Step::Accept(channel, answer) => station.accept(*channel) == *answer,
+        Step::Clear(channel) => station.clear(*channel).is_ok(),
+        Step::Reset(channel, answer) => station.reset(*channel) == *answer,
+        Step::Send(channel, octets, answer) => { station.send(*channel, octets, false) == *answer }
+        Step::SendToConfirm(channel, octets) => { station.send(*channel, octets, true).is_ok() }
+        Step::Interrupt(channel, octets, answer) => station.interrupt(*channel, octets) == *answer,
+        Step::Stop(channel) => station.stop(*channel).is_ok(),
+        Step::Go(channel, answer) => station.go(*channel) == *answer,
         Step::Release(channel) => {
-            layer.release(*channel, 1);
+            station.release(*channel, 1);
             true
         }
         Step::ConfirmInterrupt(channel) => {
-            layer.confirm_interrupt(*channel);
+            station.confirm_interrupt(*channel);
             true
         }
-        Step::Runs(timer, answer) => layer.runs(*timer) == *answer,
-        Step::MustRelink(answer) => layer.must_relink() == *answer,
-        Step::Room(channel, answer) => layer.room(*channel) == *answer,
-        Step::Confirmed(channel, answer) => layer.confirmed(*channel) == *answer,
-        Step::Front(channel, answer) => layer.front(*channel) == Some(*answer),
+        Step::Runs(timer, answer) => station.layer().runs(*timer) == *answer,
+        Step::MustRelink(answer) => station.layer().must_relink() == *answer,
+        Step::Room(channel, answer) => station.layer().room(*channel) == *answer,
+        Step::Confirmed(channel, answer) => station.layer().confirmed(*channel) == *answer,
+        Step::Front(channel, answer) => station.front(*channel) == Some(*answer),
         _ => false,
     }
 }
 
-fn call_2001(layer: &mut Layer) -> Result<u8, CallFault> {
-    layer.call(&CallData {
+fn call_2001(station: &mut Station) -> Result<u8, CallFault> {
+    station.call(&CallData {
         called: Address::new(&[2, 0, 0, 1]),
         calling: None,
         facilities: &[],

@@ -8,12 +8,12 @@ use Rattle.std.proofs.lemmas.Bool.{eq-eqb, ne_eqb, cases_eq, ltb-true, lt-ltb, o
 use Rattle.std.proofs.lemmas.Option.{none-some, same_Some}
 use Rattle.packet_end.specs.Timing.{TimersAgree}
 use Rattle.packet_end.specs.PacketEnd.{begun, settled, all_offered}
-use Rattle.line_set.specs.declared.LineSet.{LineSet}
-use Rattle.line_set.specs.LineSet.{has}
+use Rattle.number_set.specs.declared.NumberSet.{NumberSet}
+use Rattle.number_set.specs.NumberSet.{has}
 use Rattle.switch_lines.specs.Lines.{SwitchLine}
-use Rattle.switch_lines.specs.Switch.{with_end, may_offer, offering_from, raised, to_relink}
+use Rattle.switch_lines.specs.Switch.{with_end, may_offer, offering_from, raised, to_relink, frames_on}
 use Rattle.switch_lines.specs.Touched.{AreThere, IsSettled, IsTaken, NothingElseIsLeft, changed_in, offering_in}
-use Rattle.switch_lines.specs.Touched.{first_to_relink}
+use Rattle.switch_lines.specs.Touched.{first_to_relink, HasAllFrames}
 use Rattle.switch_lines.proofs.Changing.{there}
 use Rattle.switch_lines.proofs.Ending.{written, offer_none}
 use Rattle.switch_lines.proofs.Places.{decided}
@@ -26,11 +26,11 @@ Lines = List SwitchLine
 
 -- ---- one line changes
 
-there_set : (s : LineSet) (xs : Lines) (n : ℕ) (y : SwitchLine) → AreThere s xs → AreThere s (set xs n y)
+there_set : (s : NumberSet) (xs : Lines) (n : ℕ) (y : SwitchLine) → AreThere s xs → AreThere s (set xs n y)
 there_set s xs n y h m is = let count = count_written xs n y in let within = h m is in omega (arith, count, within)
 
 -- the line is touched
-pub line_touched : (s t u : LineSet) (xs : Lines) (n : ℕ) (y : SwitchLine) → n < length xs →
+pub line_touched : (s t u : NumberSet) (xs : Lines) (n : ℕ) (y : SwitchLine) → n < length xs →
     ((m : ℕ) → has t m ≡ (has s m || m == n)) →
     NothingElseIsLeft s u xs → NothingElseIsLeft t u (set xs n y)
 line_touched s t u xs n y within touches h =
@@ -58,7 +58,7 @@ line_touched s t u xs n y within touches h =
         or_no false = refl
 
 -- it changes in nothing that is left to do
-pub line_stays : (s u : LineSet) (xs : Lines) (n : ℕ) (x y : SwitchLine) → n < length xs → x ≡ get_or xs n x →
+pub line_stays : (s u : NumberSet) (xs : Lines) (n : ℕ) (x y : SwitchLine) → n < length xs → x ≡ get_or xs n x →
     (IsSettled x → IsSettled y) → (IsTaken x → IsTaken y) →
     NothingElseIsLeft s u xs → NothingElseIsLeft s u (set xs n y)
 line_stays s u xs n x y within is settles takes h = record {
@@ -85,7 +85,7 @@ line_stays s u xs n x y within is settles takes h = record {
     taken_at m l out taken found (inr apart) = h.taken m l out taken (sym (written_other xs n m y apart) ∙ found)
 
 -- only its joins change
-pub joins_change : (s u : LineSet) (xs : Lines) (n : ℕ) (x y : SwitchLine) → n < length xs → x ≡ get_or xs n x →
+pub joins_change : (s u : NumberSet) (xs : Lines) (n : ℕ) (x y : SwitchLine) → n < length xs → x ≡ get_or xs n x →
     y.end ≡ x.end →
     NothingElseIsLeft s u xs → NothingElseIsLeft s u (set xs n y)
 joins_change s u xs n x y within is same h =
@@ -107,10 +107,10 @@ pub count_map : (f : SwitchLine → SwitchLine) (xs : Lines) → length (map f x
 count_map f [] = refl
 count_map f (x ∷ xs) = ap suc (count_map f xs)
 
-there_map : (s : LineSet) (f : SwitchLine → SwitchLine) (xs : Lines) → AreThere s xs → AreThere s (map f xs)
+there_map : (s : NumberSet) (f : SwitchLine → SwitchLine) (xs : Lines) → AreThere s xs → AreThere s (map f xs)
 there_map s f xs h m is = let count = count_map f xs in let within = h m is in omega (arith, count, within)
 
-pub all_stay : (s u : LineSet) (xs : Lines) (f : SwitchLine → SwitchLine) →
+pub all_stay : (s u : NumberSet) (xs : Lines) (f : SwitchLine → SwitchLine) →
     ((l : SwitchLine) → IsSettled l → IsSettled (f l)) → ((l : SwitchLine) → IsTaken l → IsTaken (f l)) →
     NothingElseIsLeft s u xs → NothingElseIsLeft s u (map f xs)
 all_stay s u xs f settles takes h = record {
@@ -128,7 +128,7 @@ found_within (x ∷ xs) zero l e = omega arith
 found_within (x ∷ xs) (suc n) l e = let more = found_within xs n l e in omega (arith, more)
 
 -- each of them is touched
-pub all_touched : (s u : LineSet) (xs : Lines) → ((n : ℕ) → has s n ≡ nat_lt n (length xs)) → AreThere u xs →
+pub all_touched : (s u : NumberSet) (xs : Lines) → ((n : ℕ) → has s n ≡ nat_lt n (length xs)) → AreThere u xs →
     NothingElseIsLeft s u xs
 all_touched s u xs all untaken = record {
   touched_there = λ n is. ltb-true n (length xs) (sym (all n) ∙ is);
@@ -142,7 +142,7 @@ all_touched s u xs all untaken = record {
 
 -- ---- an event begins
 
-pub begun_all : (s u v w : LineSet) (xs ys : Lines) → ((n : ℕ) → has w n ≡ (has s n || has u n)) →
+pub begun_all : (s u v w : NumberSet) (xs ys : Lines) → ((n : ℕ) → has w n ≡ (has s n || has u n)) →
     ((n : ℕ) → has v n ≡ false) → ys ≡ changed_in w (with_end begun) 0 xs →
     NothingElseIsLeft s u xs → (ys ≡ map (with_end begun) xs) × NothingElseIsLeft s v ys
 begun_all s u v w xs ys both none is h = (all, subst (λ (zs : Lines). NothingElseIsLeft s v zs) (sym all) after)
@@ -174,15 +174,15 @@ begun_all s u v w xs ys both none is h = (all, subst (λ (zs : Lines). NothingEl
 
 -- ---- touched lines alone change
 
-there_in : (s t : LineSet) (f : SwitchLine → SwitchLine) (xs : Lines) → AreThere s xs → AreThere s (changed_in t f 0 xs)
+there_in : (s t : NumberSet) (f : SwitchLine → SwitchLine) (xs : Lines) → AreThere s xs → AreThere s (changed_in t f 0 xs)
 there_in s t f xs h m is = let count = same_count t f 0 xs in let within = h m is in omega (arith, count, within)
 
-same_line : (t : LineSet) (f : SwitchLine → SwitchLine) (xs : Lines) (m : ℕ) (l : SwitchLine) → has t m ≡ false →
+same_line : (t : NumberSet) (f : SwitchLine → SwitchLine) (xs : Lines) (m : ℕ) (l : SwitchLine) → has t m ≡ false →
     slice_get (changed_in t f 0 xs) m ≡ Some l → slice_get xs m ≡ Some l
 same_line t f xs m l out found = let here : 0 + m ≡ m = omega arith in
     sym (others_same t f 0 m xs (ap (λ n. has t n) here ∙ out)) ∙ found
 
-pub touched_change : (s u v : LineSet) (f : SwitchLine → SwitchLine) (xs ys : Lines) → ys ≡ changed_in s f 0 xs →
+pub touched_change : (s u v : NumberSet) (f : SwitchLine → SwitchLine) (xs ys : Lines) → ys ≡ changed_in s f 0 xs →
     AreThere v xs → ((n : ℕ) → has v n ≡ false → has u n ≡ false) →
     NothingElseIsLeft s u xs → NothingElseIsLeft s v ys
 touched_change s u v f xs ys is within more h =
@@ -214,13 +214,13 @@ none_asks (x ∷ xs) zero l e found = ap (λ (k : SwitchLine). k.end.layer.relin
     ∙ (no_raise x.end.layer.relink (to_relink xs) e).0
 none_asks (x ∷ xs) (suc n) l e found = none_asks xs n l (no_raise x.end.layer.relink (to_relink xs) e).1 found
 
-pub settled_all : (s u : LineSet) (xs ys : Lines) → ys ≡ changed_in s (with_end settled) 0 xs → NothingElseIsLeft s u xs
+pub settled_all : (s u : NumberSet) (xs ys : Lines) → ys ≡ changed_in s (with_end settled) 0 xs → NothingElseIsLeft s u xs
     → ys ≡ map (with_end settled) xs
 settled_all s u xs ys is h =
     is ∙ all_are_changed s (with_end settled) 0 xs (λ i l out found. let here : i ≡ 0 + i = omega arith in
     stays_settled l (h.settled i l (ap (λ n. has s n) here ∙ out) found))
 
-pub none_left : (s t u v : LineSet) (xs ys : Lines) → ys ≡ changed_in s (with_end settled) 0 xs →
+pub none_left : (s t u v : NumberSet) (xs ys : Lines) → ys ≡ changed_in s (with_end settled) 0 xs →
     ((n : ℕ) → has t n ≡ false) → ((n : ℕ) → has v n ≡ (has u n || has s n)) →
     ((n : ℕ) (l : SwitchLine) → has s n ≡ true → slice_get ys n ≡ Some l → TimersAgree l.end.layer l.end.timers) →
     list_any may_offer xs ≡ false → to_relink xs ≡ None →
@@ -271,14 +271,14 @@ pub written_back : (P : Lines → Type 0) (len : ℕ) (xs ys : Lines) → length
     P (take len (ys ++ drop (length ys) xs))
 written_back P len xs ys same within h = subst P (sym (written len xs ys same within)) h
 
-pub same_size : (s : LineSet) (f : SwitchLine → SwitchLine) (xs ys : Lines) → ys ≡ changed_in s f 0 xs →
+pub same_size : (s : NumberSet) (f : SwitchLine → SwitchLine) (xs ys : Lines) → ys ≡ changed_in s f 0 xs →
     length ys ≡ length xs
 same_size s f xs ys is = ap (λ (zs : Lines). length zs) is ∙ same_count s f 0 xs
 
-pub touched_are_there : (s u : LineSet) (xs ys : Lines) → ys ≡ xs → NothingElseIsLeft s u xs → AreThere s ys
+pub touched_are_there : (s u : NumberSet) (xs ys : Lines) → ys ≡ xs → NothingElseIsLeft s u xs → AreThere s ys
 touched_are_there s u xs ys is h = subst (λ (zs : Lines). AreThere s zs) (sym is) h.touched_there
 
-pub both_are_there : (s t u : LineSet) (xs ys : Lines) → ys ≡ xs → ((n : ℕ) → has u n ≡ (has s n || has t n)) →
+pub both_are_there : (s t u : NumberSet) (xs ys : Lines) → ys ≡ xs → ((n : ℕ) → has u n ≡ (has s n || has t n)) →
     AreThere s xs → AreThere t xs → AreThere u ys
 both_are_there s t u xs ys is both first second = subst (λ (zs : Lines). AreThere u zs) (sym is)
     (λ n has_it. by_set n (sym (both n) ∙ has_it) (decided (has s n)))
@@ -287,16 +287,27 @@ both_are_there s t u xs ys is both first second = subst (λ (zs : Lines). AreThe
     by_set n either (inl a) = first n a
     by_set n either (inr b) = second n (sym (ap (λ (c : Bool). c || has t n) b) ∙ either)
 
-pub in_neither : (s t u : LineSet) → ((n : ℕ) → has u n ≡ (has s n || has t n)) → (n : ℕ) → has u n ≡ false →
+pub in_neither : (s t u : NumberSet) → ((n : ℕ) → has u n ≡ (has s n || has t n)) → (n : ℕ) → has u n ≡ false →
     has s n ≡ false
 in_neither s t u both n out = (or_parts (has s n) (has t n) (sym (both n) ∙ out)).0
 
+-- no frame waits on a line of neither set
+pub no_frames : (s t u : NumberSet) (xs : Lines) → ((n : ℕ) → has u n ≡ (has s n || has t n)) → NothingElseIsLeft s t xs
+    → HasAllFrames u xs
+no_frames s t u xs both h n out = by (slice_get xs n) refl
+  where
+    by : (o : Option SwitchLine) → slice_get xs n ≡ o → frames_on o ≡ []
+    by None found = refl
+    by (Some l) found =
+        let neither = or_parts (has s n) (has t n) (sym (both n) ∙ out) in
+        (h.taken n l neither.0 neither.1 found).frames
+
 -- what is offered, and which link has to be set up anew
-pub offering_all : (s u : LineSet) (xs : Lines) → NothingElseIsLeft s u xs → offering_in s 0 xs ≡ offering_from 0 xs
+pub offering_all : (s u : NumberSet) (xs : Lines) → NothingElseIsLeft s u xs → offering_in s 0 xs ≡ offering_from 0 xs
 offering_all s u xs h = all_offering_in s 0 xs (λ i l out found. let here : i ≡ 0 + i = omega arith in
     (h.settled i l (ap (λ n. has s n) here ∙ out) found).offered)
 
-pub offered_all : (s u : LineSet) (xs : Lines) → NothingElseIsLeft s u xs →
+pub offered_all : (s u : NumberSet) (xs : Lines) → NothingElseIsLeft s u xs →
     changed_in s (with_end all_offered) 0 xs ≡ map (with_end all_offered) xs
 offered_all s u xs h =
     all_are_changed s (with_end all_offered) 0 xs (λ i l out found.
@@ -304,7 +315,7 @@ offered_all s u xs h =
     let none = offer_none l.end (h.settled i l (ap (λ n. has s n) here ∙ out) found).offered in
     λ k. record l { end = none k })
 
-pub relink_of_all : (s u : LineSet) (xs : Lines) → NothingElseIsLeft s u xs → first_to_relink s 0 xs ≡ to_relink xs
+pub relink_of_all : (s u : NumberSet) (xs : Lines) → NothingElseIsLeft s u xs → first_to_relink s 0 xs ≡ to_relink xs
 relink_of_all s u xs h = all_asking s xs (λ i l out found. (h.settled i l out found).no_relink)
 
 few_taken : {X Y : Type 0} (f : X → Y) (k : ℕ) (xs : List X) → length (map f (take k xs)) ≤ length xs

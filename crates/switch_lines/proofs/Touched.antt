@@ -6,8 +6,8 @@ use Rattle.std.specs.Prelude.{◌⊎◌, Option, Some, None, slice_get}
 use Rattle.std.proofs.lemmas.Bool.{eq-eqb, ne_eqb, cases_eq, cases_lt}
 use Rattle.std.proofs.lemmas.Option.{none-some, same_Some}
 use Rattle.packet_end.specs.Timing.{TimersAgree}
-use Rattle.line_set.specs.declared.LineSet.{LineSet}
-use Rattle.line_set.specs.LineSet.{has, IsFirstOf}
+use Rattle.number_set.specs.declared.NumberSet.{NumberSet}
+use Rattle.number_set.specs.NumberSet.{has, IsFirstOf}
 use Rattle.switch_lines.specs.Lines.{SwitchLine, changed}
 use Rattle.switch_lines.specs.Switch.{may_offer, raised, to_relink, offering_from}
 use Rattle.switch_lines.specs.Touched.{AreThere, changed_in, offering_in, first_to_relink}
@@ -15,7 +15,7 @@ use Rattle.switch_lines.proofs.Changing.{changed_here, there}
 
 -- ---- one line is taken out of a set
 
-is_out : (s rest : LineSet) (line : ℕ) → IsFirstOf s line rest → has rest line ≡ false
+is_out : (s rest : NumberSet) (line : ℕ) → IsFirstOf s line rest → has rest line ≡ false
 is_out s rest line first = first.others line ∙ ap (λ (b : Bool). has s line && not b) (eq-eqb line line refl)
     ∙ and_no (has s line)
   where
@@ -27,7 +27,7 @@ and_yes : (b : Bool) → (b && true) ≡ b
 and_yes true = refl
 and_yes false = refl
 
-is_same : (s rest : LineSet) (line n : ℕ) → IsFirstOf s line rest → (n ≡ line → ⊥) → has rest n ≡ has s n
+is_same : (s rest : NumberSet) (line n : ℕ) → IsFirstOf s line rest → (n ≡ line → ⊥) → has rest n ≡ has s n
 is_same s rest line n first apart = first.others n ∙ ap (λ (b : Bool). has s n && not b) (ne_eqb n line apart)
     ∙ and_yes (has s n)
 
@@ -35,21 +35,21 @@ and_left_true : (a b : Bool) → (a && b) ≡ true → a ≡ true
 and_left_true true b e = refl
 and_left_true false b e = e
 
-pub there_still : (s rest : LineSet) (line : ℕ) (xs : List SwitchLine) → IsFirstOf s line rest → AreThere s xs →
+pub there_still : (s rest : NumberSet) (line : ℕ) (xs : List SwitchLine) → IsFirstOf s line rest → AreThere s xs →
     AreThere rest xs
 there_still s rest line xs first there n h = there n (and_left_true (has s n) (not (n == line)) (sym (first.others n)
     ∙ h))
 
 -- ---- lines that are changed
 
-same_beyond : {X : Type 0} (s rest : LineSet) (line : ℕ) → IsFirstOf s line rest → (f : X → X) (k : ℕ) (xs : List X) →
+same_beyond : {X : Type 0} (s rest : NumberSet) (line : ℕ) → IsFirstOf s line rest → (f : X → X) (k : ℕ) (xs : List X) →
     line < k → changed_in rest f k xs ≡ changed_in s f k xs
 same_beyond s rest line first f k [] beyond = refl
 same_beyond s rest line first f k (x ∷ xs) beyond =
     ap₂ (λ (b : Bool) ys. (if b then f x else x) ∷ ys) (is_same s rest line k first (λ e. omega (arith, e)))
     (same_beyond s rest line first f (suc k) xs (omega arith))
 
-pub one_changed : {X : Type 0} (s rest : LineSet) (line : ℕ) → IsFirstOf s line rest →
+pub one_changed : {X : Type 0} (s rest : NumberSet) (line : ℕ) → IsFirstOf s line rest →
     (f : X → X) (k i : ℕ) (xs : List X) → k + i ≡ line →
     changed_in rest f k (changed i f xs) ≡ changed_in s f k xs
 one_changed s rest line first f k i [] at = refl
@@ -62,14 +62,14 @@ one_changed s rest line first f k (suc i) (x ∷ xs) at =
     ap₂ (λ (b : Bool) ys. (if b then f x else x) ∷ ys) (is_same s rest line k first (λ e. omega (arith, e)))
     (one_changed s rest line first f (suc k) i xs (omega arith))
 
-pub none_changed : {X : Type 0} (s : LineSet) (f : X → X) (k : ℕ) (xs : List X) → ((n : ℕ) → has s n ≡ false) →
+pub none_changed : {X : Type 0} (s : NumberSet) (f : X → X) (k : ℕ) (xs : List X) → ((n : ℕ) → has s n ≡ false) →
     changed_in s f k xs ≡ xs
 none_changed s f k [] none = refl
 none_changed s f k (x ∷ xs) none = ap₂ (λ (b : Bool) ys. (if b then f x else x) ∷ ys) (none k)
     (none_changed s f (suc k) xs none)
 
 -- where the others stay as they are, all are changed
-pub all_are_changed : {X : Type 0} (s : LineSet) (f : X → X) (k : ℕ) (xs : List X) →
+pub all_are_changed : {X : Type 0} (s : NumberSet) (f : X → X) (k : ℕ) (xs : List X) →
     ((i : ℕ) (x : X) → has s (k + i) ≡ false → slice_get xs i ≡ Some x → f x ≡ x) → changed_in s f k xs ≡ map f xs
 all_are_changed s f k [] stays = refl
 all_are_changed s f k (x ∷ xs) stays =
@@ -82,11 +82,11 @@ all_are_changed s f k (x ∷ xs) stays =
     by_test true e = refl
     by_test false e = sym (e refl)
 
-pub same_count : {X : Type 0} (s : LineSet) (f : X → X) (k : ℕ) (xs : List X) → length (changed_in s f k xs) ≡ length xs
+pub same_count : {X : Type 0} (s : NumberSet) (f : X → X) (k : ℕ) (xs : List X) → length (changed_in s f k xs) ≡ length xs
 same_count s f k [] = refl
 same_count s f k (x ∷ xs) = ap suc (same_count s f (suc k) xs)
 
-pub others_same : {X : Type 0} (s : LineSet) (f : X → X) (k i : ℕ) (xs : List X) → has s (k + i) ≡ false →
+pub others_same : {X : Type 0} (s : NumberSet) (f : X → X) (k i : ℕ) (xs : List X) → has s (k + i) ≡ false →
     slice_get (changed_in s f k xs) i ≡ slice_get xs i
 others_same s f k i [] out = refl
 others_same s f k zero (x ∷ xs) out =
@@ -101,7 +101,7 @@ others_same s f k (suc i) (x ∷ xs) out =
 abbrev pub shown : Bool → ℕ → List ℕ
 shown b n = if b then n ∷ [] else []
 
-offering_beyond : (s rest : LineSet) (line : ℕ) → IsFirstOf s line rest → (k : ℕ) (ls : List SwitchLine) → line < k →
+offering_beyond : (s rest : NumberSet) (line : ℕ) → IsFirstOf s line rest → (k : ℕ) (ls : List SwitchLine) → line < k →
     offering_in rest k ls ≡ offering_in s k ls
 offering_beyond s rest line first k [] beyond = refl
 offering_beyond s rest line first k (l ∷ ls) beyond =
@@ -109,7 +109,7 @@ offering_beyond s rest line first k (l ∷ ls) beyond =
     (offering_beyond s rest line first (suc k) ls (omega arith))
 
 -- the first line of a set is the first that may be among them
-pub one_offering : (s rest : LineSet) (line : ℕ) → IsFirstOf s line rest →
+pub one_offering : (s rest : NumberSet) (line : ℕ) → IsFirstOf s line rest →
     (f : SwitchLine → SwitchLine) (k i : ℕ) (ls : List SwitchLine) (l : SwitchLine) → k + i ≡ line →
     slice_get ls i ≡ Some l →
     shown (may_offer l) line ++ offering_in rest k (changed i f ls) ≡ offering_in s k ls
@@ -135,14 +135,14 @@ one_offering s rest line first f k (suc i) (x ∷ xs) l at is =
     ∙ (one_offering s rest line first f (suc k) i xs l (omega arith) is
     ∙ sym (ap (λ (b : Bool). if b && may_offer x then k ∷ offering_in s (suc k) xs else offering_in s (suc k) xs) out))
 
-pub none_offering_in : (s : LineSet) (k : ℕ) (ls : List SwitchLine) → ((n : ℕ) → has s n ≡ false) →
+pub none_offering_in : (s : NumberSet) (k : ℕ) (ls : List SwitchLine) → ((n : ℕ) → has s n ≡ false) →
     offering_in s k ls ≡ []
 none_offering_in s k [] none = refl
 none_offering_in s k (l ∷ ls) none =
     ap (λ (b : Bool). if b && may_offer l then k ∷ offering_in s (suc k) ls else offering_in s (suc k) ls) (none k)
     ∙ none_offering_in s (suc k) ls none
 
-pub all_offering_in : (s : LineSet) (k : ℕ) (ls : List SwitchLine) → ((i : ℕ) (l : SwitchLine) → has s (k + i) ≡ false →
+pub all_offering_in : (s : NumberSet) (k : ℕ) (ls : List SwitchLine) → ((i : ℕ) (l : SwitchLine) → has s (k + i) ≡ false →
     slice_get ls i ≡ Some l → may_offer l ≡ false) → offering_in s k ls ≡ offering_from k ls
 all_offering_in s k [] others = refl
 all_offering_in s k (l ∷ ls) others =
@@ -158,14 +158,14 @@ all_offering_in s k (l ∷ ls) others =
 
 -- ---- which line asks for a new link
 
-asking_beyond : (s rest : LineSet) (line : ℕ) → IsFirstOf s line rest → (k : ℕ) (ls : List SwitchLine) → line < k →
+asking_beyond : (s rest : NumberSet) (line : ℕ) → IsFirstOf s line rest → (k : ℕ) (ls : List SwitchLine) → line < k →
     first_to_relink rest k ls ≡ first_to_relink s k ls
 asking_beyond s rest line first k [] beyond = refl
 asking_beyond s rest line first k (l ∷ ls) beyond =
     ap₂ (λ (b : Bool) (o : Option ℕ). if b && l.end.layer.relink then Some k else o)
     (is_same s rest line k first (λ e. omega (arith, e))) (asking_beyond s rest line first (suc k) ls (omega arith))
 
-pub not_asking : (s rest : LineSet) (line : ℕ) → IsFirstOf s line rest →
+pub not_asking : (s rest : NumberSet) (line : ℕ) → IsFirstOf s line rest →
     (k i : ℕ) (ls : List SwitchLine) (l : SwitchLine) → k + i ≡ line → slice_get ls i ≡ Some l →
     l.end.layer.relink ≡ false →
     first_to_relink rest k ls ≡ first_to_relink s k ls
@@ -186,7 +186,7 @@ not_asking s rest line first k (suc i) (x ∷ xs) l at is asks =
     (is_same s rest line k first (λ e. omega (arith, e)))
     (not_asking s rest line first (suc k) i xs l (omega arith) is asks)
 
-pub asking : (s rest : LineSet) (line : ℕ) → IsFirstOf s line rest → (k i : ℕ) (ls : List SwitchLine) (l : SwitchLine) →
+pub asking : (s rest : NumberSet) (line : ℕ) → IsFirstOf s line rest → (k i : ℕ) (ls : List SwitchLine) (l : SwitchLine) →
     k + i ≡ line → slice_get ls i ≡ Some l → l.end.layer.relink ≡ true →
     first_to_relink s k ls ≡ Some line
 asking s rest line first k i [] l at is asks = absurd (none-some l is)
@@ -200,7 +200,7 @@ asking s rest line first k (suc i) (x ∷ xs) l at is asks =
     (first.first k (omega arith))
     ∙ asking s rest line first (suc k) i xs l (omega arith) is asks
 
-pub none_asking : (s : LineSet) (k : ℕ) (ls : List SwitchLine) → ((n : ℕ) → has s n ≡ false) →
+pub none_asking : (s : NumberSet) (k : ℕ) (ls : List SwitchLine) → ((n : ℕ) → has s n ≡ false) →
     first_to_relink s k ls ≡ None
 none_asking s k [] none = refl
 none_asking s k (l ∷ ls) none =
@@ -216,7 +216,7 @@ unfolding further
 one_further k None = refl
 one_further k (Some n) = let e : suc k + n ≡ k + suc n = omega arith in ap Some e
 
-asking_further : (s : LineSet) (k : ℕ) (ls : List SwitchLine) → ((i : ℕ) (l : SwitchLine) → has s (k + i) ≡ false →
+asking_further : (s : NumberSet) (k : ℕ) (ls : List SwitchLine) → ((i : ℕ) (l : SwitchLine) → has s (k + i) ≡ false →
     slice_get ls i ≡ Some l → l.end.layer.relink ≡ false) →
     first_to_relink s k ls ≡ further k (to_relink ls)
 unfolding further
@@ -243,7 +243,7 @@ unfolding further
 no_further None = refl
 no_further (Some n) = let e : 0 + n ≡ n = omega arith in ap Some e
 
-pub all_asking : (s : LineSet) (ls : List SwitchLine) → ((i : ℕ) (l : SwitchLine) → has s i ≡ false →
+pub all_asking : (s : NumberSet) (ls : List SwitchLine) → ((i : ℕ) (l : SwitchLine) → has s i ≡ false →
     slice_get ls i ≡ Some l → l.end.layer.relink ≡ false) → first_to_relink s 0 ls ≡ to_relink ls
 all_asking s ls others =
     asking_further s 0 ls (λ i l out is. let e : i ≡ 0 + i = omega arith in others i l (ap (λ n. has s n) e ∙ out) is)
@@ -251,7 +251,7 @@ all_asking s ls others =
 
 -- ---- as the code does it, line by line
 
-pub line_changed : (s rest : LineSet) (line : ℕ) (f : SwitchLine → SwitchLine) (xs : List SwitchLine)
+pub line_changed : (s rest : NumberSet) (line : ℕ) (f : SwitchLine → SwitchLine) (xs : List SwitchLine)
     (old new : SwitchLine) → IsFirstOf s line rest → AreThere s xs → old ≡ get_or xs line old →
     new ≡ f (get_or xs line old) →
     changed_in rest f 0 (set xs line new) ≡ changed_in s f 0 xs
@@ -264,13 +264,13 @@ count_written [] n x = refl
 count_written (y ∷ ys) zero x = refl
 count_written (y ∷ ys) (suc n) x = ap suc (count_written ys n x)
 
-pub there_written : (s rest : LineSet) (line : ℕ) (xs : List SwitchLine) (new : SwitchLine) → IsFirstOf s line rest →
+pub there_written : (s rest : NumberSet) (line : ℕ) (xs : List SwitchLine) (new : SwitchLine) → IsFirstOf s line rest →
     AreThere s xs → AreThere rest (set xs line new)
 there_written s rest line xs new first within n is =
     let count = count_written xs line new in let inside = there_still s rest line xs first within n is in
     omega (arith, count, inside)
 
-abbrev AgreeBut : (all s : LineSet) → List SwitchLine → Type 0
+abbrev AgreeBut : (all s : NumberSet) → List SwitchLine → Type 0
 AgreeBut all s xs = (n : ℕ) (x : SwitchLine) → has all n ≡ true → has s n ≡ false → slice_get xs n ≡ Some x →
     TimersAgree x.end.layer x.end.timers
 
@@ -287,7 +287,7 @@ written_other (y ∷ ys) zero (suc m) new apart = refl
 written_other (y ∷ ys) (suc n) zero new apart = refl
 written_other (y ∷ ys) (suc n) (suc m) new apart = written_other ys n m new (λ e. apart (ap suc e))
 
-pub timers_written : (all s rest : LineSet) (line : ℕ) (xs : List SwitchLine) (new : SwitchLine) → IsFirstOf s line rest
+pub timers_written : (all s rest : NumberSet) (line : ℕ) (xs : List SwitchLine) (new : SwitchLine) → IsFirstOf s line rest
     → AgreeBut all s xs → TimersAgree new.end.layer new.end.timers → AgreeBut all rest (set xs line new)
 timers_written all s rest line xs new first before agrees n x in_all out found = go (cases_eq n line)
   where
@@ -306,7 +306,7 @@ one_joined : (xs : List ℕ) (x : ℕ) (ys : List ℕ) → (xs ++ x ∷ []) ++ y
 one_joined [] x ys = refl
 one_joined (z ∷ zs) x ys = ap (λ (ws : List ℕ). z ∷ ws) (one_joined zs x ys)
 
-offer_written : (s rest : LineSet) (line : ℕ) (f : SwitchLine → SwitchLine) (xs : List SwitchLine)
+offer_written : (s rest : NumberSet) (line : ℕ) (f : SwitchLine → SwitchLine) (xs : List SwitchLine)
     (old new : SwitchLine) (took : Bool) → IsFirstOf s line rest → AreThere s xs →
     old ≡ get_or xs line old → new ≡ f (get_or xs line old) → took ≡ may_offer (get_or xs line old) →
     shown took line ++ offering_in rest 0 (set xs line new) ≡ offering_in s 0 xs
@@ -316,7 +316,7 @@ offer_written s rest line f xs old new took first within is done offers =
     (changed_here f xs line old new inside is (done ∙ ap f (sym is)))
     ∙ one_offering s rest line first f 0 line xs (get_or xs line old) (omega arith) (found_at xs line old inside)
 
-pub offer_some : (items : List ℕ) (s rest : LineSet) (line : ℕ) (f : SwitchLine →
+pub offer_some : (items : List ℕ) (s rest : NumberSet) (line : ℕ) (f : SwitchLine →
     SwitchLine) (xs : List SwitchLine) (old new : SwitchLine) (took : Bool) → IsFirstOf s line rest → AreThere s xs →
     old ≡ get_or xs line old → new ≡ f (get_or xs line old) → took ≡ may_offer (get_or xs line old) → took ≡ true →
     (items ++ line ∷ []) ++ offering_in rest 0 (set xs line new) ≡ items ++ offering_in s 0 xs
@@ -325,7 +325,7 @@ offer_some items s rest line f xs old new took first within is done offers some 
     ∙ ap (λ (ns : List ℕ). items ++ ns) (ap (λ (b : Bool). shown b line ++ offering_in rest 0 (set xs line new))
     (sym some) ∙ offer_written s rest line f xs old new took first within is done offers)
 
-pub offer_none : (items : List ℕ) (s rest : LineSet) (line : ℕ) (f : SwitchLine →
+pub offer_none : (items : List ℕ) (s rest : NumberSet) (line : ℕ) (f : SwitchLine →
     SwitchLine) (xs : List SwitchLine) (old new : SwitchLine) (took : Bool) → IsFirstOf s line rest → AreThere s xs →
     old ≡ get_or xs line old → new ≡ f (get_or xs line old) → took ≡ may_offer (get_or xs line old) → took ≡ false →
     items ++ offering_in rest 0 (set xs line new) ≡ items ++ offering_in s 0 xs
@@ -334,7 +334,7 @@ offer_none items s rest line f xs old new took first within is done offers none 
     (sym none) ∙ offer_written s rest line f xs old new took first within is done offers)
 
 -- each line that is in the list is behind those that were there before
-pub room_some : (s rest : LineSet) (line len count : ℕ) → IsFirstOf s line rest → ((n : ℕ) → n < len → has s n ≡ false)
+pub room_some : (s rest : NumberSet) (line len count : ℕ) → IsFirstOf s line rest → ((n : ℕ) → n < len → has s n ≡ false)
     → count ≡ len + 1 → (n : ℕ) → n < count → has rest n ≡ false
 room_some s rest line len count first room is n less = by_place (cases_eq n line) (cases_lt line len)
   where
@@ -344,11 +344,11 @@ room_some s rest line len count first room is n less = by_place (cases_eq n line
     by_place (inr apart) (inr behind) = is_same s rest line n first apart
         ∙ first.first n (omega (arith, apart, less, is))
 
-pub room_none : (s rest : LineSet) (line len : ℕ) → IsFirstOf s line rest → ((n : ℕ) → n < len → has s n ≡ false) →
+pub room_none : (s rest : NumberSet) (line len : ℕ) → IsFirstOf s line rest → ((n : ℕ) → n < len → has s n ≡ false) →
     (n : ℕ) → n < len → has rest n ≡ false
 room_none s rest line len first room n less = first.others n ∙ ap (λ (b : Bool). b && not (n == line)) (room n less)
 
-pub few : (s rest : LineSet) (line len : ℕ) → IsFirstOf s line rest → ((n : ℕ) → n < len → has s n ≡ false) → len ≤ line
+pub few : (s rest : NumberSet) (line len : ℕ) → IsFirstOf s line rest → ((n : ℕ) → n < len → has s n ≡ false) → len ≤ line
 few s rest line len first room = by_place (cases_lt line len)
   where
     by_place : (line < len) ⊎ (len ≤ line) → len ≤ line
@@ -358,14 +358,14 @@ few s rest line len first room = by_place (cases_lt line len)
 pub count_kept : (xs : List SwitchLine) (n most : ℕ) (x : SwitchLine) → length xs ≤ most → length (set xs n x) ≤ most
 count_kept xs n most x within = let count = count_written xs n x in omega (arith, count)
 
-pub asks_not : (s rest : LineSet) (line : ℕ) (xs : List SwitchLine) (old : SwitchLine) (asks : Bool) →
+pub asks_not : (s rest : NumberSet) (line : ℕ) (xs : List SwitchLine) (old : SwitchLine) (asks : Bool) →
     IsFirstOf s line rest → AreThere s xs → asks ≡ (get_or xs line old).end.layer.relink → asks ≡ false →
     first_to_relink rest 0 xs ≡ first_to_relink s 0 xs
 asks_not s rest line xs old asks first within is none =
     not_asking s rest line first 0 line xs (get_or xs line old) (omega arith)
     (found_at xs line old (within line first.there)) (sym is ∙ none)
 
-pub asks : (s rest : LineSet) (line : ℕ) (xs : List SwitchLine) (old : SwitchLine) (asks : Bool) → IsFirstOf s line rest
+pub asks : (s rest : NumberSet) (line : ℕ) (xs : List SwitchLine) (old : SwitchLine) (asks : Bool) → IsFirstOf s line rest
     → AreThere s xs → asks ≡ (get_or xs line old).end.layer.relink → asks ≡ true →
     first_to_relink s 0 xs ≡ Some line
 asks s rest line xs old b first within is some =

@@ -7,10 +7,10 @@ use Rattle.link_timers.specs.Timers.{left_of}
 use Rattle.lapb.specs.Machine.{settle, runs}
 use Rattle.line_end.specs.End.{End}
 use Rattle.packet_end.specs.Timing.{TimersAgree}
-use Rattle.line_set.specs.LineSet.{has}
-use Rattle.line_set.specs.declared.LineSet.{LineSet}
+use Rattle.number_set.specs.NumberSet.{has}
+use Rattle.number_set.specs.declared.NumberSet.{NumberSet}
 use Rattle.switch_lines.specs.Lines.{SwitchLine}
-use Rattle.switch_lines.specs.Switch.{may_offer}
+use Rattle.switch_lines.specs.Switch.{may_offer, frames_on}
 
 -- the link has nothing to send, and T1 does not run where the link does not want it to
 pub record HasNothingToSend (e : End) : Type 0 where
@@ -31,11 +31,15 @@ pub record IsTaken (l : SwitchLine) : Type 0 where
   pub frames : l.end.line.frames ≡ []
   pub notes : l.end.notes ≡ []
 
-abbrev pub AreThere : LineSet → List SwitchLine → Type 0
+abbrev pub AreThere : NumberSet → List SwitchLine → Type 0
 AreThere s ls = (n : ℕ) → has s n ≡ true → n < length ls
 
+-- no frame waits on a line that is not in the set
+abbrev pub HasAllFrames : NumberSet → List SwitchLine → Type 0
+HasAllFrames s ls = (n : ℕ) → has s n ≡ false → frames_on (slice_get ls n) ≡ []
+
 -- the lines that are not touched are settled, and the frames of those that are not untaken either were taken
-pub record NothingElseIsLeft (touched untaken : LineSet) (ls : List SwitchLine) : Type 0 where
+pub record NothingElseIsLeft (touched untaken : NumberSet) (ls : List SwitchLine) : Type 0 where
   pub touched_there : AreThere touched ls
   pub untaken_there : AreThere untaken ls
   pub settled : (n : ℕ) (l : SwitchLine) → has touched n ≡ false → slice_get ls n ≡ Some l → IsSettled l
@@ -45,16 +49,16 @@ pub record NothingElseIsLeft (touched untaken : LineSet) (ls : List SwitchLine) 
 -- ---- the same of some lines alone, from line n on
 
 -- they are changed
-abbrev pub changed_in : {X : Type 0} → LineSet → (X → X) → (line : ℕ) → List X → List X
+abbrev pub changed_in : {X : Type 0} → NumberSet → (X → X) → (line : ℕ) → List X → List X
 changed_in s f n [] = []
 changed_in s f n (x ∷ xs) = (if has s n then f x else x) ∷ changed_in s f (suc n) xs
 
 -- those of them whose links take a packet
-abbrev pub offering_in : LineSet → (line : ℕ) → List SwitchLine → List ℕ
+abbrev pub offering_in : NumberSet → (line : ℕ) → List SwitchLine → List ℕ
 offering_in s n [] = []
 offering_in s n (l ∷ ls) = if has s n && may_offer l then n ∷ offering_in s (suc n) ls else offering_in s (suc n) ls
 
 -- the first of them whose packet layer asks for a link that is set up anew
-abbrev pub first_to_relink : LineSet → (line : ℕ) → List SwitchLine → Option ℕ
+abbrev pub first_to_relink : NumberSet → (line : ℕ) → List SwitchLine → Option ℕ
 first_to_relink s n [] = None
 first_to_relink s n (l ∷ ls) = if has s n && l.end.layer.relink then Some n else first_to_relink s (suc n) ls

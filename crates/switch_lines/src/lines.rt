@@ -13,6 +13,7 @@ ghost use Rattle.switch_lines.specs.Making.{IsConfig, made_line};
 ghost use Rattle.switch_lines.specs.Lines.{joined_at, with_joined, ask, front_at, changed};
 ghost use Rattle.switch_lines.specs.Switch.{timer_runs, due_on, frames_on, with_end, line_rests};
 ghost use Rattle.switch_lines.specs.OfLine.{kept_at, freed_at, is_taken};
+ghost use Rattle.switch_lines.specs.Touched.{AreThere, HasAllFrames};
 
 mod calling;
 mod finishing;
@@ -27,8 +28,8 @@ use crate::place::{Joined, Place};
 use arrayvec::ArrayVec;
 use frame_codec::FrameBuf;
 use line_end::MOST_FRAMES;
-use line_set::LineSet;
 use link_timers::TimerId;
+use number_set::NumberSet;
 use packet_end::EndFault;
 use packet_layer::{Front, Request, Taken};
 use std::alloc::{AllocError, Global};
@@ -42,9 +43,9 @@ type LineList = ArrayVec<usize, 65>;
 pub struct Lines {
     lines: Vec<SwitchLine>,
     /// Those on which something happened since they were settled. On the others nothing is left to do.
-    touched: LineSet,
+    touched: NumberSet,
     /// Those on which frames of the last event may be left, beside these.
-    untaken: LineSet,
+    untaken: NumberSet,
 }
 
 impl Model for Lines {
@@ -74,11 +75,11 @@ impl Lines {
                 Err(failed) => return Err(AllocError::from(failed).into()),
             }
         }
-        let touched = LineSet::first(made.len());
+        let touched = NumberSet::first(made.len());
         Ok(Lines {
             lines: made,
             touched,
-            untaken: LineSet::new(),
+            untaken: NumberSet::new(),
         })
     }
 
@@ -133,6 +134,14 @@ impl Lines {
         ensures most { result ≤ MOST_FRAMES }
     {
         self.lines[line].waiting_frames()
+    }
+
+    /// Lines on which frames may wait to go out: on all others none does.
+    pub fn with_frames(&self) -> NumberSet
+        ensures there { AreThere result self.now }
+        ensures others { HasAllFrames result self.now }
+    {
+        self.touched.with(self.untaken)
     }
 
     /// The channel that a channel is joined to, if it is.

@@ -4,7 +4,7 @@ use address_routes::{LineNo, Routes};
 use arrayvec::ArrayVec;
 use frame_codec::FrameBuf;
 use lapb::LinkParams;
-use line_end::LineEnd;
+use link_tests::Terminus;
 use link_timers::{Role, TimerId};
 use packet_codec::{Address, PacketBuf};
 use packet_end::EndParams;
@@ -48,7 +48,7 @@ pub(crate) enum Step<'a> {
 // The DTE's link of a line, the frames that come to it, and the packets that came.
 #[derive(Drop)]
 struct Partner {
-    end: LineEnd,
+    end: Terminus,
     coming: ArrayVec<FrameBuf, 16>,
     heard: ArrayVec<PacketBuf, 16>,
 }
@@ -117,7 +117,7 @@ impl Example {
                 standing: false,
             };
             let partner = Partner {
-                end: LineEnd::new(alloc, Role::Dte, params).expect(rt, "a link"),
+                end: Terminus::new(alloc, Role::Dte, params).expect(rt, "a link"),
                 coming: ArrayVec::new(),
                 heard: ArrayVec::new(),
             };

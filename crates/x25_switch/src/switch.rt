@@ -7,10 +7,12 @@ ghost use Rattle.switch_lines.specs.Making.{made, IsConfig, MadeNot};
 ghost use Rattle.switch_lines.specs.NewJoins.{new_joins};
 ghost use Rattle.switch_lines.specs.Switch.{on_frame, on_timer, timer_runs, restart, elapse};
 ghost use Rattle.switch_lines.specs.Switch.{without_frame, frames_on, due_on, switch_rests};
+ghost use Rattle.switch_lines.specs.Touched.{AreThere, HasAllFrames};
 
 use address_routes::Routes;
 use frame_codec::FrameBuf;
 use link_timers::TimerId;
+use number_set::NumberSet;
 use packet_end::EndFault;
 use std::alloc::Global;
 use std::marker::Model;
@@ -129,6 +131,14 @@ impl Switch {
         ensures most { result ≤ MOST_FRAMES }
     {
         self.lines.waiting_frames(line)
+    }
+
+    /// Lines on which frames may wait to go out: on all others none does.
+    pub fn with_frames(&self) -> NumberSet
+        ensures there { AreThere result self.now.lines }
+        ensures others { HasAllFrames result self.now.lines }
+    {
+        self.lines.with_frames()
     }
 
     /// Lets ticks pass, each a twentieth of a second: each timer that runs has so many less, not below 0.

@@ -1,5 +1,4 @@
-ghost use Rattle.std.specs.Prelude.{◌≡◌, ◌≤◌, ◌++◌, length, drop, Some, None, IfOk};
-ghost use Rattle.flow_window.specs.Slot.{octets_in};
+ghost use Rattle.std.specs.Prelude.{◌≡◌, ◌≤◌, ◌++◌, length, drop, Some, None, is_some, true, IfOk};
 
 use std::alloc::{AllocError, Global};
 use std::marker::Model;
@@ -47,16 +46,13 @@ impl Slot {
         self.used = true;
     }
 
-    /// What it holds.
+    /// What it holds, while it is in use.
     pub(crate) fn as_slice(&self) -> &[u8]
-        ensures value { result.now ≡ octets_in self.now.content }
+        requires { is_some self.now.content ≡ true }
+        ensures value { self.now.content ≡ Some result.now }
         ensures fits { length result.now ≤ self.now.size }
     {
-        if self.used {
-            &self.octets[..self.len]
-        } else {
-            &[]
-        }
+        &self.octets[..self.len]
     }
 
     pub(crate) fn empty(&mut self)

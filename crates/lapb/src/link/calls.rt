@@ -199,7 +199,20 @@ impl Link {
         ensures named { (s : Session) → Agrees self.old.link s
             → Agrees (machine.offer self.old.link packet.now) (after_offer self.old.link packet.now s) }
     {
-        self.queue.give_back(pool);
+        let room = self.room();
+        self.queue.give_back_any(pool);
+        room?;
+        let Some(b) = pool.put(packet) else {
+            unreachable!();
+        };
+        self.queue.push(b);
+        Ok(())
+    }
+
+    // Why a packet is not taken, if it is not.
+    fn room(&self) -> Result<(), OfferFault>
+        ensures { MatchOption (refusal self.now.link) (IsOk result) (λ fault. result ≡ Err fault) }
+    {
         match self.phase {
             Phase::Up => {}
             Phase::Down | Phase::SettingUp | Phase::Rejecting => return Err(OfferFault::Down),
@@ -207,10 +220,6 @@ impl Link {
         if self.queue.len() >= self.window.size() {
             return Err(OfferFault::Full);
         }
-        let Some(b) = pool.put(packet) else {
-            unreachable!();
-        };
-        self.queue.push(b);
         Ok(())
     }
 
@@ -228,10 +237,10 @@ impl Link {
     pub fn runs(&self) -> bool
         ensures { result ≡ machine.runs self.now.link }
     {
-        match self.phase {
-            Phase::Down => self.repeats,
-            Phase::Up => self.window.used() > 0 || self.polling || self.busy,
-            Phase::SettingUp | Phase::Rejecting => true,
+        if self.phase == Phase::Up {
+            self.window.used() > 0 || self.polling || self.busy
+        } else {
+            self.phase != Phase::Down || self.repeats
         }
     }
 

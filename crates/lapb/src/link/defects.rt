@@ -31,12 +31,38 @@ impl Link {
         ensures out { out.new ≡ with_step out.old self.old.link.role (on_octets self.old.link bytes.now) }
         ensures anew { result ≡ (on_octets self.old.link bytes.now).anew }
     {
+        if self.phase == Phase::Up {
+            self.read_octets(bytes, out)
+        } else {
+            self.take_outside(bytes, out)
+        }
+    }
+
+    // Few frames come where the link is not up. What they need stays out of the way of all others.
+    #[cold]
+    #[inline(never)]
+    fn take_outside(&mut self, bytes: &[u8], out: &mut LinkOut) -> bool
+        ensures link { self.new ≡ record self.old { link = (on_octets self.old.link bytes.now).link } }
+        ensures out { out.new ≡ with_step out.old self.old.link.role (on_octets self.old.link bytes.now) }
+        ensures anew { result ≡ (on_octets self.old.link bytes.now).anew }
+    {
+        self.read_octets(bytes, out)
+    }
+
+    #[inline(always)]
+    fn read_octets(&mut self, bytes: &[u8], out: &mut LinkOut) -> bool
+        ensures link { self.new ≡ record self.old { link = (on_octets self.old.link bytes.now).link } }
+        ensures out { out.new ≡ with_step out.old self.old.link.role (on_octets self.old.link bytes.now) }
+        ensures anew { result ≡ (on_octets self.old.link bytes.now).anew }
+    {
         match read_frame(bytes, self.role) {
             Ok(frame) => self.take_frame(&frame, out),
             Err(fault) => self.take_fault(fault, bytes, out),
         }
     }
 
+    #[cold]
+    #[inline(never)]
     fn take_fault(&mut self, fault: FrameFault, bytes: &[u8], out: &mut LinkOut) -> bool
         requires { length bytes.now < 2 → fault ≡ FrameFault.TooShort }
         ensures link { self.new ≡ record self.old { link = (on_fault self.old.link fault bytes.now).link } }

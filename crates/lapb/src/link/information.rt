@@ -1,10 +1,10 @@
 //! The information transfer phase (X.25 2.4.5): received I and supervisory frames.
-ghost use Rattle.std.specs.Prelude.{◌≡◌, ◌<◌, ◌+◌, ◌*◌, true, false, MatchOption};
+ghost use Rattle.std.specs.Prelude.{◌≡◌, ◌<◌, ◌+◌, ◌*◌, true, false, map, MatchOption};
 ghost use Rattle.frame_codec.specs.Frame as spec;
 ghost use Rattle.frame_codec.specs.Views.{content_of};
-ghost use Rattle.frame_codec.specs.Spelling.{HasNumbers, bit_of};
+ghost use Rattle.frame_codec.specs.Spelling.{HasNumbers, bit_of, spelling};
 ghost use Rattle.lapb.specs.Machine as machine;
-ghost use Rattle.lapb.specs.Out.{with_step, answered, number_rejected, supervisory_taken};
+ghost use Rattle.lapb.specs.Out.{with_step, with_frames, answered, number_rejected, supervisory_taken};
 
 use crate::link::Link;
 use crate::link::setting::Reason;
@@ -51,18 +51,20 @@ impl Link {
             (machine.on_supervisory self.old.link busy back is_response pf) }
     {
         self.busy = busy;
-        if back || is_response && pf {
+        let ends_poll = is_response && pf;
+        if back || ends_poll {
             let oldest = self.window.oldest();
             self.window.go_back(oldest);
         }
-        if is_response && pf {
+        if ends_poll {
             self.polling = false;
             self.polls = 0;
         }
-        if pf && !is_response {
+        let polls = pf && !is_response;
+        if polls {
             self.owed = false;
         }
-        self.answer(pf && !is_response, out);
+        self.answer(polls, out);
     }
 
     // RR as a response with F = 1, if it is due.
@@ -71,9 +73,21 @@ impl Link {
     {
         out.tell(Note::Nothing);
         if due {
-            let nr = self.receive.expected();
-            self.put(&response(FrameKind::Rr { nr }, true), out);
+            self.put_ready(out);
         }
+    }
+
+    // RR as a response with F = 1.
+    #[cold]
+    #[inline(never)]
+    fn put_ready(&self, out: &mut LinkOut)
+        ensures { out.new ≡ record out.old {
+          frames = with_frames out.old.frames
+              (map (spelling self.now.link.role) (machine.answers true self.now.link.expected));
+        } }
+    {
+        let nr = self.receive.expected();
+        self.put(&response(FrameKind::Rr { nr }, true), out);
     }
 
     // An I frame in sequence is accepted.
@@ -93,6 +107,8 @@ impl Link {
     }
 
     // An I frame out of sequence is discarded, and the first such one answered by REJ.
+    #[cold]
+    #[inline(never)]
     fn discard(&mut self, pf: bool, out: &mut LinkOut)
         ensures link { self.new ≡ record self.old { link = (machine.discard self.old.link pf).link } }
         ensures out { out.new ≡ with_step out.old self.old.link.role (machine.discard self.old.link pf) }
@@ -124,6 +140,8 @@ impl Link {
     }
 
     // N(R) of no number from V(A) to V(M).
+    #[cold]
+    #[inline(never)]
     fn reject_number(&mut self, control: u8, is_response: bool, pf: bool, out: &mut LinkOut) -> bool
         ensures link { self.new ≡ record self.old {
           link = (number_rejected self.old.link control is_response pf).link;
@@ -142,6 +160,7 @@ impl Link {
         self.reject(report, pf && !is_response, out)
     }
 
+    #[inline(always)]
     fn take_information(
         &mut self,
         ns: u8,
@@ -194,6 +213,7 @@ impl Link {
         newly > 0
     }
 
+    #[inline(always)]
     pub(crate) fn in_up(&mut self, frame: &Frame<'_>, out: &mut LinkOut) -> bool
         requires { HasNumbers (content_of frame.now.kind) }
         ensures link { self.new ≡ record self.old {

@@ -15,6 +15,7 @@ use link_timers::Role;
 
 impl Link {
     // A frame that could be read. A DCE takes a SABM in any phase.
+    #[inline(always)]
     pub(crate) fn take_frame(&mut self, frame: &Frame<'_>, out: &mut LinkOut) -> bool
         requires { HasNumbers (content_of frame.now.kind) }
         ensures link { self.new ≡ record self.old {
@@ -38,6 +39,7 @@ impl Link {
         }
     }
 
+    #[inline(always)]
     fn in_phase(&mut self, frame: &Frame<'_>, out: &mut LinkOut) -> bool
         requires { HasNumbers (content_of frame.now.kind) }
         ensures link { self.new ≡ record self.old {

@@ -34,48 +34,66 @@ impl Link {
         // For every session that agrees with the link.
         ensures named { Keeps self.old.link (machine.settle self.old.link) }
     {
-        let ran = self.runs();
-        self.send(out, pool);
-        out.end(ran, self.runs());
-    }
-
-    fn send(&mut self, out: &mut LinkOut, pool: &Pool)
-        requires holds { Holds pool.now self.old.held }
-        requires size { pool.now.size ≡ most_information }
-        ensures link { self.new ≡ record self.old { link = (machine.settle self.old.link).link } }
-        ensures out { out.new ≡ record out.old {
-          frames = with_frames out.old.frames (map (spelling self.old.link.role)
-              (machine.settle self.old.link).frames);
-        } }
-    {
         match self.phase {
-            Phase::Up => self.send_up(out, pool),
-            Phase::Down | Phase::SettingUp | Phase::Rejecting => {}
+            Phase::Up => self.settle_up(out, pool),
+            Phase::Down | Phase::SettingUp | Phase::Rejecting => self.stay(out),
         }
     }
 
-    fn send_up(&mut self, out: &mut LinkOut, pool: &Pool)
+    // T1 goes on as it is.
+    fn stay(&self, out: &mut LinkOut)
+        ensures { out.new ≡ gathered out.old self.now.link (machine.still self.now.link) }
+    {
+        let runs = self.runs();
+        out.end(runs, runs);
+    }
+
+    fn settle_up(&mut self, out: &mut LinkOut, pool: &Pool)
         requires holds { Holds pool.now self.old.held }
         requires size { pool.now.size ≡ most_information }
         ensures link { self.new ≡ record self.old {
           link = (machine.send_all self.old.link (machine.sendable
               self.old.link)).link;
         } }
-        ensures out { out.new ≡ record out.old {
-          frames = with_frames out.old.frames
-              (map (spelling self.old.link.role) (machine.send_all self.old.link (machine.sendable
-              self.old.link)).frames);
-        } }
+        ensures out { out.new ≡ gathered out.old self.old.link (machine.send_all self.old.link (machine.sendable
+            self.old.link)) }
     {
         if self.heard
             && !self.polling
             && !self.busy
             && self.window.unacknowledged() < self.queue.len()
         {
-            self.send_packets(out, pool);
+            self.end_by_packets(out, pool);
         } else {
-            self.send_acknowledgement(out);
+            self.end_by_acknowledgement(out);
         }
+    }
+
+    // The packets take more registers than all else, so they are sent apart.
+    #[inline(never)]
+    fn end_by_packets(&mut self, out: &mut LinkOut, pool: &Pool)
+        requires holds { Holds pool.now self.old.held }
+        requires size { pool.now.size ≡ most_information }
+        requires unsent { self.old.link.next < length self.old.link.queue }
+        ensures link { self.new ≡ record self.old {
+          link = (machine.send_all self.old.link (drop self.old.link.next
+              self.old.link.queue)).link;
+        } }
+        ensures out { out.new ≡ gathered out.old self.old.link (machine.send_all self.old.link (drop
+            self.old.link.next self.old.link.queue)) }
+    {
+        let ran = self.runs();
+        self.send_packets(out, pool);
+        out.end(ran, self.runs());
+    }
+
+    fn end_by_acknowledgement(&mut self, out: &mut LinkOut)
+        ensures link { self.new ≡ record self.old { link = (machine.send_all self.old.link []).link } }
+        ensures out { out.new ≡ gathered out.old self.old.link (machine.send_all self.old.link []) }
+    {
+        self.send_acknowledgement(out);
+        let runs = self.runs();
+        out.end(runs, runs);
     }
 
     // RR, if an acknowledgement is owed.
@@ -139,8 +157,8 @@ fn send_from(
           queue.now.packets)));
     } }
 {
+    let mut ns = window.next_number();
     for place in window.unacknowledged()..queue.len() {
-        let ns = window.take_number();
         let information = queue.packet(place, pool);
         out.put(
             role,
@@ -154,5 +172,7 @@ fn send_from(
                 pf: false,
             },
         );
+        ns = (ns + 1) % 8;
     }
+    window.send_up_to(queue.len());
 }

@@ -65,6 +65,8 @@ impl Link {
     }
 
     // A set-up act of a DTE; the SABMs of an act carry one P, those of the next the other.
+    #[cold]
+    #[inline(never)]
     pub(crate) fn set_up(&mut self, out: &mut LinkOut) -> bool
         ensures link { self.new ≡ record self.old { link = (machine.set_up self.old.link).link } }
         ensures out { out.new ≡ with_step out.old self.old.link.role (machine.set_up self.old.link) }
@@ -78,6 +80,8 @@ impl Link {
     }
 
     // A DCE asks to be set up.
+    #[cold]
+    #[inline(never)]
     pub(crate) fn disconnect(&mut self, out: &mut LinkOut) -> bool
         ensures link { self.new ≡ record self.old { link = (machine.disconnect self.old.link).link } }
         ensures out { out.new ≡ with_step out.old self.old.link.role (machine.disconnect self.old.link) }
@@ -103,6 +107,8 @@ impl Link {
     }
 
     // A DCE takes a SABM; it sends no I frame before it hears the DTE.
+    #[cold]
+    #[inline(never)]
     pub(crate) fn take_sabm(&mut self, pf: bool, out: &mut LinkOut) -> bool
         ensures link { self.new ≡ record self.old { link = (machine.take_sabm self.old.link pf).link } }
         ensures out { out.new ≡ with_step out.old self.old.link.role (machine.take_sabm self.old.link pf) }
@@ -115,6 +121,8 @@ impl Link {
     }
 
     // A DTE takes the UA of its act, and polls.
+    #[cold]
+    #[inline(never)]
     pub(crate) fn come_up(&mut self, out: &mut LinkOut) -> bool
         ensures link { self.new ≡ record self.old { link = (machine.come_up self.old.link).link } }
         ensures out { out.new ≡ with_step out.old self.old.link.role (machine.come_up self.old.link) }
@@ -130,6 +138,8 @@ impl Link {
     }
 
     // DISC is answered by UA.
+    #[cold]
+    #[inline(never)]
     pub(crate) fn take_disc(&mut self, pf: bool, out: &mut LinkOut) -> bool
         ensures link { self.new ≡ record self.old { link = (machine.take_disc self.old.link pf).link } }
         ensures out { out.new ≡ with_step out.old self.old.link.role (machine.take_disc self.old.link pf) }
@@ -142,6 +152,8 @@ impl Link {
     }
 
     // A frame cannot be taken: a DTE sets the link up again, a DCE reports the frame by FRMR.
+    #[cold]
+    #[inline(never)]
     pub(crate) fn reject(&mut self, report: Rejection, pf: bool, out: &mut LinkOut) -> bool
         requires { IsReport report }
         ensures link { self.new ≡ record self.old {

@@ -1,5 +1,5 @@
 //! What happens at a switch: it is called, its frames go onto its lines, and the call that it joined is handed on.
-ghost use Rattle.std.specs.Prelude.{◌≡◌, [], Some, OnOk, length, slice_get, vec_capacity};
+ghost use Rattle.std.specs.Prelude.{◌≡◌, [], Some, OnOk, true, false, length, slice_get, vec_capacity};
 ghost use Rattle.std.specs.Option.{option_to_list};
 ghost use Rattle.call_records.specs.RegisterView.{register_of};
 ghost use Rattle.net_events.specs.AtSwitch.{all_handed, switch_drained};
@@ -8,7 +8,7 @@ ghost use Rattle.net_events.specs.Network as network;
 ghost use Rattle.net_turns.specs.Sends.{all_puts};
 ghost use Rattle.net_nodes.specs.Places.{is_switch_at};
 ghost use Rattle.net_nodes.specs.Steps.{switch_outcome};
-ghost use Rattle.net_nodes.specs.Switching.{HasRoom, CanPut, LinesPut, cleared, is_anew, CanServeSwitch, SwitchServed};
+ghost use Rattle.net_nodes.specs.Switching.{HasRoom, CanPut, LinesPut, is_anew, CanServeSwitch, SwitchServed};
 ghost use Rattle.net_nodes.specs.Switching.{CanSwitch, SwitchActed};
 
 use crate::nodes::node::{NetNode, NodeKind, network_line};
@@ -36,12 +36,45 @@ fn hand_on(register: &mut Register, lines: &[usize], joined: Option<NewJoin>)
     }
 }
 
-/// Empties a line where the switch begins anew.
-fn clear<L: Line>(line: &mut L, anew: bool)
-    ensures { L.service.faithful → L.flights line.new ≡ cleared anew (L.flights line.old) }
+/// Empties the lines of a switch that begins anew, puts all frames that wait there on them, line by line, and lists
+/// them.
+fn put_anew<L: Line>(
+    switch: &mut Switch,
+    own: &[usize],
+    lines: &mut Vec<NetLine<L>>,
+    puts: &mut Vec<Put>,
+)
+    requires { CanPut own.now switch.old.lines lines.old.items puts.old.items (vec_capacity puts.old) }
+    ensures switch { switch.new ≡ switch_drained switch.old }
+    ensures puts { puts.new.items ≡ all_puts own.now switch.old.lines }
+    ensures lines { LinesPut L.service true own.now switch.old lines.old.items lines.new.items }
 {
-    if anew {
-        line.empty();
+    for at in 0..own.len() {
+        let number = network_line(own, at);
+        let net_line = &mut lines[number];
+        net_line.line.empty();
+        put_switch_frames(switch, at, number, &mut net_line.line, puts);
+    }
+}
+
+/// Puts all frames that wait at a switch on its lines, line by line, and lists them. The lines on which none waits are
+/// not looked at.
+fn put_waiting<L: Line>(
+    switch: &mut Switch,
+    own: &[usize],
+    lines: &mut Vec<NetLine<L>>,
+    puts: &mut Vec<Put>,
+)
+    requires { CanPut own.now switch.old.lines lines.old.items puts.old.items (vec_capacity puts.old) }
+    ensures switch { switch.new ≡ switch_drained switch.old }
+    ensures puts { puts.new.items ≡ all_puts own.now switch.old.lines }
+    ensures lines { LinesPut L.service false own.now switch.old lines.old.items lines.new.items }
+{
+    let mut waiting = switch.with_frames();
+    while let Some(at) = waiting.take_first() {
+        let number = network_line(own, at);
+        let net_line = &mut lines[number];
+        put_switch_frames(switch, at, number, &mut net_line.line, puts);
     }
 }
 
@@ -59,11 +92,10 @@ pub(super) fn put_lines<L: Line>(
     ensures puts { puts.new.items ≡ all_puts own.now switch.old.lines }
     ensures lines { LinesPut L.service anew own.now switch.old lines.old.items lines.new.items }
 {
-    for at in 0..own.len() {
-        let number = network_line(own, at);
-        let net_line = &mut lines[number];
-        clear(&mut net_line.line, anew);
-        put_switch_frames(switch, at, number, &mut net_line.line, puts);
+    if anew {
+        put_anew(switch, own, lines, puts);
+    } else {
+        put_waiting(switch, own, lines, puts);
     }
 }
 

@@ -1,9 +1,11 @@
 //! Packets from the link, by the state of the call (X.25 tables C-3 and C-4).
-ghost use Rattle.std.specs.Prelude.{◌≡◌, ◌≤◌, true, false};
+ghost use Rattle.std.specs.Prelude.{◌≡◌, ◌≤◌, ◌<◌, ℕ, [], length, true, false};
+ghost use Rattle.flow_window.specs.Pool.{Holds, Balances, in_use};
 ghost use Rattle.packet_codec.specs.Packet.{IsPacket};
 ghost use Rattle.packet_codec.specs.View.{view, content_view};
 ghost use Rattle.packet_channel.specs.Packets.{Body as body};
 ghost use Rattle.packet_channel.specs.Channel as machine;
+ghost use Rattle.packet_channel.specs.Held.{Fits};
 ghost use Rattle.packet_channel.specs.Octets.{body_of};
 ghost use Rattle.packet_channel.specs.HeardView.{heard_of};
 ghost use Rattle.packet_channel.specs.Effects.{effect_of};
@@ -14,37 +16,46 @@ use crate::effect::Effect;
 use crate::heard::Heard;
 use crate::note::{LayerNote, Reason};
 use crate::state::{CallState, End};
+use flow_window::pool::Pool;
 use link_timers::Role;
 use packet_codec::{CallBuf, Content, Packet, clear_cause, diagnostic};
 
 impl Channel {
     /// Takes a packet of the channel.
-    pub(crate) fn receive(&mut self, end: End, packet: &Packet<'_>) -> Effect
+    pub(crate) fn receive(&mut self, end: End, packet: &Packet<'_>, pool: &mut Pool) -> Effect
         requires window { end.window ≤ 7 }
         requires fits { IsPacket (view packet.now) }
-        ensures channel { self.new ≡ (machine.received end.role end.window end.channel self.old
+        requires holds { Holds pool.old self.old.held }
+        requires size { 128 ≤ pool.old.size }
+        requires room { in_use pool.old < length pool.old.places }
+        ensures channel { self.new.channel ≡ (machine.received end.role end.window end.channel self.old.channel
             (body_of (content_view packet.now.content))).channel }
-        ensures effect { result ≡ effect_of (machine.received end.role end.window end.channel self.old
+        ensures effect { result ≡ effect_of (machine.received end.role end.window end.channel self.old.channel
             (body_of (content_view packet.now.content))) }
+        ensures pool { Balances pool.old self.old.held pool.new self.new.held }
+        ensures fits { Fits end.window self.old → Fits end.window self.new }
     {
         match self.state {
-            CallState::Ready => self.in_ready(end, packet),
-            CallState::OwnWaiting => self.in_own_waiting(end, packet),
-            CallState::FarWaiting => self.in_far_waiting(end, packet),
-            CallState::Transfer if self.resetting => self.in_own_reset(end, packet),
-            CallState::Transfer => self.in_flow_ready(end, packet),
-            CallState::Collision => self.in_collision(end, packet),
+            CallState::Ready => self.in_ready(end, packet, pool),
+            CallState::OwnWaiting => self.in_own_waiting(end, packet, pool),
+            CallState::FarWaiting => self.in_far_waiting(end, packet, pool),
+            CallState::Transfer if self.resetting => self.in_own_reset(end, packet, pool),
+            CallState::Transfer => self.in_flow_ready(end, packet, pool),
+            CallState::Collision => self.in_collision(end, packet, pool),
             CallState::OwnClear => self.in_own_clear(packet),
         }
     }
 
-    fn in_ready(&mut self, end: End, packet: &Packet<'_>) -> Effect
-        requires state { self.old.state ≡ machine.CallState.Ready }
+    fn in_ready(&mut self, end: End, packet: &Packet<'_>, pool: &mut Pool) -> Effect
+        requires state { self.old.channel.state ≡ machine.CallState.Ready }
         requires fits { IsPacket (view packet.now) }
-        ensures channel { self.new ≡ (machine.in_ready end.role end.channel self.old
+        requires holds { Holds pool.old self.old.held }
+        ensures channel { self.new.channel ≡ (machine.in_ready end.role end.channel self.old.channel
             (body_of (content_view packet.now.content))).channel }
-        ensures effect { result ≡ effect_of (machine.in_ready end.role end.channel self.old
+        ensures effect { result ≡ effect_of (machine.in_ready end.role end.channel self.old.channel
             (body_of (content_view packet.now.content))) }
+        ensures pool { Balances pool.old self.old.held pool.new self.new.held }
+        ensures fits { (window : ℕ) → Fits window self.old → Fits window self.new }
     {
         match &packet.content {
             Content::CallRequest(call) => {
@@ -52,18 +63,21 @@ impl Channel {
                 Effect::noting(LayerNote::Incoming(end.channel, CallBuf::new(call)))
             }
             Content::ClearRequest { .. } => Effect::owing(Control::ClearConfirmation),
-            _ => self.clear_error(end, diagnostic::NOT_ALLOWED_IN_P1, false),
+            _ => self.clear_error(end, diagnostic::NOT_ALLOWED_IN_P1, false, pool),
         }
     }
 
     // In a call collision the DCE's own call is cancelled.
-    fn in_own_waiting(&mut self, end: End, packet: &Packet<'_>) -> Effect
-        requires state { self.old.state ≡ machine.CallState.OwnWaiting }
+    fn in_own_waiting(&mut self, end: End, packet: &Packet<'_>, pool: &mut Pool) -> Effect
+        requires state { self.old.channel.state ≡ machine.CallState.OwnWaiting }
         requires fits { IsPacket (view packet.now) }
-        ensures channel { self.new ≡ (machine.in_own_waiting end.role end.channel self.old
+        requires holds { Holds pool.old self.old.held }
+        ensures channel { self.new.channel ≡ (machine.in_own_waiting end.role end.channel self.old.channel
             (body_of (content_view packet.now.content))).channel }
-        ensures effect { result ≡ effect_of (machine.in_own_waiting end.role end.channel self.old
+        ensures effect { result ≡ effect_of (machine.in_own_waiting end.role end.channel self.old.channel
             (body_of (content_view packet.now.content))) }
+        ensures pool { Balances pool.old self.old.held pool.new self.new.held }
+        ensures fits { (window : ℕ) → Fits window self.old → Fits window self.new }
     {
         match &packet.content {
             Content::CallAccepted => {
@@ -87,29 +101,37 @@ impl Channel {
                 }
             }
             Content::ClearRequest { cause, diagnostic } => {
-                self.far_cleared(end, *cause, *diagnostic)
+                self.far_cleared(end, *cause, *diagnostic, pool)
             }
-            _ => self.not_allowed(end),
+            _ => self.not_allowed(end, pool),
         }
     }
 
-    fn in_far_waiting(&mut self, end: End, packet: &Packet<'_>) -> Effect
-        ensures channel { self.new ≡ (machine.in_far_waiting end.role end.channel self.old
+    fn in_far_waiting(&mut self, end: End, packet: &Packet<'_>, pool: &mut Pool) -> Effect
+        requires holds { Holds pool.old self.old.held }
+        ensures channel { self.new.channel ≡ (machine.in_far_waiting end.role end.channel self.old.channel
             (body_of (content_view packet.now.content))).channel }
-        ensures effect { result ≡ effect_of (machine.in_far_waiting end.role end.channel self.old
+        ensures effect { result ≡ effect_of (machine.in_far_waiting end.role end.channel self.old.channel
             (body_of (content_view packet.now.content))) }
+        ensures pool { Balances pool.old self.old.held pool.new self.new.held }
+        ensures fits { (window : ℕ) → Fits window self.old → Fits window self.new }
     {
         match packet.content {
-            Content::ClearRequest { cause, diagnostic } => self.far_cleared(end, cause, diagnostic),
-            _ => self.not_allowed(end),
+            Content::ClearRequest { cause, diagnostic } => self.far_cleared(
+                end, cause, diagnostic, pool,
+            ),
+            _ => self.not_allowed(end, pool),
         }
     }
 
-    fn in_collision(&mut self, end: End, packet: &Packet<'_>) -> Effect
-        ensures channel { self.new ≡ (machine.in_collision end.role end.channel self.old
+    fn in_collision(&mut self, end: End, packet: &Packet<'_>, pool: &mut Pool) -> Effect
+        requires holds { Holds pool.old self.old.held }
+        ensures channel { self.new.channel ≡ (machine.in_collision end.role end.channel self.old.channel
             (body_of (content_view packet.now.content))).channel }
-        ensures effect { result ≡ effect_of (machine.in_collision end.role end.channel self.old
+        ensures effect { result ≡ effect_of (machine.in_collision end.role end.channel self.old.channel
             (body_of (content_view packet.now.content))) }
+        ensures pool { Balances pool.old self.old.held pool.new self.new.held }
+        ensures fits { (window : ℕ) → Fits window self.old → Fits window self.new }
     {
         match packet.content {
             Content::CallAccepted => match end.role {
@@ -117,19 +139,22 @@ impl Channel {
                     self.state = CallState::Transfer;
                     Effect::noting(LayerNote::Connected(end.channel))
                 }
-                Role::Dce => self.not_allowed(end),
+                Role::Dce => self.not_allowed(end, pool),
             },
-            Content::ClearRequest { cause, diagnostic } => self.far_cleared(end, cause, diagnostic),
-            _ => self.not_allowed(end),
+            Content::ClearRequest { cause, diagnostic } => self.far_cleared(
+                end, cause, diagnostic, pool,
+            ),
+            _ => self.not_allowed(end, pool),
         }
     }
 
     fn in_own_clear(&mut self, packet: &Packet<'_>) -> Effect
-        requires { self.old.state ≡ machine.CallState.OwnClear }
-        ensures channel { self.new
-            ≡ (machine.in_own_clear self.old (body_of (content_view packet.now.content))).channel }
+        requires { self.old.channel.state ≡ machine.CallState.OwnClear }
+        ensures channel { self.new ≡ record self.old {
+          channel = (machine.in_own_clear self.old.channel (body_of (content_view packet.now.content))).channel;
+        } }
         ensures effect { result
-            ≡ effect_of (machine.in_own_clear self.old (body_of (content_view packet.now.content))) }
+            ≡ effect_of (machine.in_own_clear self.old.channel (body_of (content_view packet.now.content))) }
     {
         match packet.content {
             Content::ClearRequest { .. } | Content::ClearConfirmation => {
@@ -140,15 +165,20 @@ impl Channel {
         }
     }
 
-    fn in_own_reset(&mut self, end: End, packet: &Packet<'_>) -> Effect
-        requires { self.old.state ≡ machine.CallState.Transfer }
-        ensures channel { self.new ≡ (machine.in_own_reset end.role end.channel self.old
+    fn in_own_reset(&mut self, end: End, packet: &Packet<'_>, pool: &mut Pool) -> Effect
+        requires state { self.old.channel.state ≡ machine.CallState.Transfer }
+        requires holds { Holds pool.old self.old.held }
+        ensures channel { self.new.channel ≡ (machine.in_own_reset end.role end.channel self.old.channel
             (body_of (content_view packet.now.content))).channel }
-        ensures effect { result ≡ effect_of (machine.in_own_reset end.role end.channel self.old
+        ensures effect { result ≡ effect_of (machine.in_own_reset end.role end.channel self.old.channel
             (body_of (content_view packet.now.content))) }
+        ensures pool { Balances pool.old self.old.held pool.new self.new.held }
+        ensures fits { (window : ℕ) → Fits window self.old → Fits window self.new }
     {
         match packet.content {
-            Content::ClearRequest { cause, diagnostic } => self.far_cleared(end, cause, diagnostic),
+            Content::ClearRequest { cause, diagnostic } => self.far_cleared(
+                end, cause, diagnostic, pool,
+            ),
             Content::ResetRequest { .. } | Content::ResetConfirmation => {
                 self.resetting = false;
                 Effect::nothing()
@@ -158,56 +188,71 @@ impl Channel {
             | Content::ReceiveNotReady(_)
             | Content::Interrupt(_)
             | Content::InterruptConfirmation => Effect::nothing(),
-            _ => self.not_allowed(end),
+            _ => self.not_allowed(end, pool),
         }
     }
 
-    fn in_flow_ready(&mut self, end: End, packet: &Packet<'_>) -> Effect
+    fn in_flow_ready(&mut self, end: End, packet: &Packet<'_>, pool: &mut Pool) -> Effect
         requires window { end.window ≤ 7 }
         requires fits { IsPacket (view packet.now) }
-        requires state { self.old.state ≡ machine.CallState.Transfer }
-        ensures channel { self.new ≡ (machine.in_flow_ready end.role end.window end.channel self.old
+        requires state { self.old.channel.state ≡ machine.CallState.Transfer }
+        requires holds { Holds pool.old self.old.held }
+        requires size { 128 ≤ pool.old.size }
+        requires room { in_use pool.old < length pool.old.places }
+        ensures channel { self.new.channel ≡ (machine.in_flow_ready end.role end.window end.channel self.old.channel
             (body_of (content_view packet.now.content))).channel }
-        ensures effect { result ≡ effect_of (machine.in_flow_ready end.role end.window end.channel self.old
+        ensures effect { result ≡ effect_of (machine.in_flow_ready end.role end.window end.channel self.old.channel
             (body_of (content_view packet.now.content))) }
+        ensures pool { Balances pool.old self.old.held pool.new self.new.held }
+        ensures fits { Fits end.window self.old → Fits end.window self.new }
     {
         match packet.content {
-            Content::ClearRequest { cause, diagnostic } => self.far_cleared(end, cause, diagnostic),
-            Content::ResetRequest { cause, diagnostic } => self.far_reset(end, cause, diagnostic),
-            Content::ResetConfirmation => self.reset_error(end, diagnostic::NOT_ALLOWED_IN_D1),
+            Content::ClearRequest { cause, diagnostic } => self.far_cleared(
+                end, cause, diagnostic, pool,
+            ),
+            Content::ResetRequest { cause, diagnostic } => self.far_reset(
+                end, cause, diagnostic, pool,
+            ),
+            Content::ResetConfirmation => self.reset_error(
+                end,
+                diagnostic::NOT_ALLOWED_IN_D1,
+                pool,
+            ),
             Content::Data(packet) => {
-                let heard = self.traffic.hear_data(end.window, &packet);
-                self.after_heard(end, heard)
+                let heard = self.traffic.hear_data(end.window, &packet, pool);
+                self.after_heard(end, heard, pool)
             }
             Content::ReceiveReady(receive) => {
                 let heard = self.traffic.hear_ready(receive, false);
-                self.after_heard(end, heard)
+                self.after_heard(end, heard, pool)
             }
             Content::ReceiveNotReady(receive) => {
                 let heard = self.traffic.hear_ready(receive, true);
-                self.after_heard(end, heard)
+                self.after_heard(end, heard, pool)
             }
             Content::Interrupt(octets) => {
                 let heard = self.traffic.hear_interrupt(octets);
-                self.after_heard(end, heard)
+                self.after_heard(end, heard, pool)
             }
             Content::InterruptConfirmation => {
                 let heard = self.traffic.hear_interrupt_confirmation();
-                self.after_heard(end, heard)
+                self.after_heard(end, heard, pool)
             }
-            _ => self.not_allowed(end),
+            _ => self.not_allowed(end, pool),
         }
     }
 
     // The far end resets the call.
-    fn far_reset(&mut self, end: End, cause: u8, diagnostic: u8) -> Effect
-        requires { self.old.state ≡ machine.CallState.Transfer }
-        ensures channel { self.new ≡ machine.renewed false self.old }
+    fn far_reset(&mut self, end: End, cause: u8, diagnostic: u8, pool: &mut Pool) -> Effect
+        requires state { self.old.channel.state ≡ machine.CallState.Transfer }
+        requires holds { Holds pool.old self.old.held }
+        ensures channel { self.new ≡ record { channel = machine.renewed false self.old.channel; held = [] } }
         ensures effect { result
-            ≡ effect_of (machine.in_flow_ready end.role end.window end.channel self.old (body.Reset cause diagnostic)) }
+            ≡ effect_of (machine.in_flow_ready end.role end.window end.channel self.old.channel (body.Reset cause diagnostic)) }
+        ensures pool { Balances pool.old self.old.held pool.new [] }
     {
         self.resetting = false;
-        self.traffic.clear();
+        self.traffic.clear(pool);
         Effect::both(
             Control::ResetConfirmation,
             LayerNote::Reset {
@@ -220,12 +265,15 @@ impl Channel {
     }
 
     // What a packet of data transfer does besides what it does to the traffic.
-    fn after_heard(&mut self, end: End, heard: Heard) -> Effect
-        requires { machine.in_transfer self.old.state ≡ true }
-        ensures channel { self.new
-            ≡ (machine.after_heard end.role end.channel self.old (heard_of heard self.old.traffic)).channel }
+    fn after_heard(&mut self, end: End, heard: Heard, pool: &mut Pool) -> Effect
+        requires transfer { machine.in_transfer self.old.channel.state ≡ true }
+        requires holds { Holds pool.old self.old.held }
+        ensures channel { self.new.channel
+            ≡ (machine.after_heard end.role end.channel self.old.channel (heard_of heard self.old.channel.traffic)).channel }
         ensures effect { result
-            ≡ effect_of (machine.after_heard end.role end.channel self.old (heard_of heard self.old.traffic)) }
+            ≡ effect_of (machine.after_heard end.role end.channel self.old.channel (heard_of heard self.old.channel.traffic)) }
+        ensures pool { Balances pool.old self.old.held pool.new self.new.held }
+        ensures fits { (window : ℕ) → Fits window self.old → Fits window self.new }
     {
         match heard {
             Heard::Keeps(0) => Effect::nothing(),
@@ -234,7 +282,7 @@ impl Channel {
                 count,
             }),
             Heard::Confirms => Effect::noting(LayerNote::InterruptConfirmed(end.channel)),
-            Heard::Wrong(diagnostic) => self.reset_error(end, diagnostic),
+            Heard::Wrong(diagnostic) => self.reset_error(end, diagnostic, pool),
         }
     }
 }

@@ -1,15 +1,20 @@
 //! What the user asks of a channel (X.25 4.1 to 4.4).
+ghost use Rattle.std.specs.Prelude.{◌≡◌, ◌≤◌, ◌<◌, ℕ, length};
+ghost use Rattle.flow_window.specs.Pool.{Holds, Balances, in_use};
 ghost use Rattle.link_timers.specs.declared.role.Role.{Role as RoleValue};
 ghost use Rattle.packet_channel.specs.Channel as machine;
 ghost use Rattle.packet_channel.specs.Answers.{Answers};
+ghost use Rattle.packet_channel.specs.Held.{Fits};
 ghost use Rattle.packet_channel.specs.RequestView.{request_of};
 
 use crate::channel::Channel;
 use crate::control::Control;
 use crate::fault::ChannelFault;
+use crate::kept::KeptPacket;
 use crate::state::CallState;
 use crate::traffic::SEND_QUEUE;
-use crate::user_data::{InterruptData, UserData};
+use crate::user_data::InterruptData;
+use flow_window::pool::Pool;
 use link_timers::Role;
 use packet_codec::{MAX_INTERRUPT, MAX_USER_DATA};
 
@@ -57,19 +62,29 @@ pub enum Request<'a> {
 
 impl Channel {
     /// Does what is asked, if it is not refused, and answers whether one control packet too many is owed.
-    pub fn request(&mut self, role: Role, request: &Request<'_>) -> Result<bool, ChannelFault>
-        ensures { Answers role self.old (request_of request.now) result self.new }
+    pub fn request(
+        &mut self,
+        role: Role,
+        request: &Request<'_>,
+        pool: &mut Pool,
+    ) -> Result<bool, ChannelFault>
+        requires holds { Holds pool.old self.old.held }
+        requires size { 128 ≤ pool.old.size }
+        requires room { in_use pool.old < length pool.old.places }
+        ensures answer { Answers role self.old.channel (request_of request.now) result self.new.channel }
+        ensures pool { Balances pool.old self.old.held pool.new self.new.held }
+        ensures fits { (window : ℕ) → Fits window self.old → Fits window self.new }
     {
         match request {
             Request::Accept => self.accept(role),
-            Request::Clear { cause, diagnostic } => self.clear(*cause, *diagnostic),
-            Request::Reset { cause, diagnostic } => self.reset(*cause, *diagnostic),
+            Request::Clear { cause, diagnostic } => self.clear(*cause, *diagnostic, pool),
+            Request::Reset { cause, diagnostic } => self.reset(*cause, *diagnostic, pool),
             Request::Send {
                 octets,
                 more,
                 qualified,
                 delivery,
-            } => self.send(octets, *more, *qualified, *delivery),
+            } => self.send(octets, *more, *qualified, *delivery, pool),
             Request::Interrupt(octets) => self.interrupt(octets),
             Request::Stop(stopped) => self.stop(*stopped),
             Request::Release(count) => self.release(*count),
@@ -78,29 +93,37 @@ impl Channel {
     }
 
     fn accept(&mut self, role: Role) -> Result<bool, ChannelFault>
-        ensures { Answers role self.old machine.Request.Accept result self.new }
+        ensures answer { Answers role self.old.channel machine.Request.Accept result self.new.channel }
+        ensures held { self.new.held ≡ self.old.held }
+        ensures arrived { self.new.channel.traffic.arrived ≡ self.old.channel.traffic.arrived }
     {
         if !self.state.may_accept(role) {
             return Err(ChannelFault::NoCall);
         }
         self.state = CallState::Transfer;
-        Ok(self.owed.owe(Some(Control::Accepted)))
+        Ok(self.owe(Control::Accepted))
     }
 
-    fn clear(&mut self, cause: u8, diagnostic: u8) -> Result<bool, ChannelFault>
-        ensures { (role : RoleValue)
-            → Answers role self.old (machine.Request.Clearing cause diagnostic) result self.new }
+    fn clear(&mut self, cause: u8, diagnostic: u8, pool: &mut Pool) -> Result<bool, ChannelFault>
+        requires { Holds pool.old self.old.held }
+        ensures answer { (role : RoleValue)
+            → Answers role self.old.channel (machine.Request.Clearing cause diagnostic) result self.new.channel }
+        ensures pool { Balances pool.old self.old.held pool.new self.new.held }
+        ensures fits { (window : ℕ) → Fits window self.old → Fits window self.new }
     {
         if !self.state.has_call() {
             return Err(ChannelFault::NoCall);
         }
-        self.end_call(CallState::OwnClear);
-        Ok(self.owed.owe(Some(Control::Clear { cause, diagnostic })))
+        self.end_call(CallState::OwnClear, pool);
+        Ok(self.owe(Control::Clear { cause, diagnostic }))
     }
 
-    fn reset(&mut self, cause: u8, diagnostic: u8) -> Result<bool, ChannelFault>
-        ensures { (role : RoleValue)
-            → Answers role self.old (machine.Request.Resetting cause diagnostic) result self.new }
+    fn reset(&mut self, cause: u8, diagnostic: u8, pool: &mut Pool) -> Result<bool, ChannelFault>
+        requires { Holds pool.old self.old.held }
+        ensures answer { (role : RoleValue)
+            → Answers role self.old.channel (machine.Request.Resetting cause diagnostic) result self.new.channel }
+        ensures pool { Balances pool.old self.old.held pool.new self.new.held }
+        ensures fits { (window : ℕ) → Fits window self.old → Fits window self.new }
     {
         if !self.state.in_transfer() {
             return Err(ChannelFault::NoCall);
@@ -109,8 +132,8 @@ impl Channel {
             return Err(ChannelFault::Resetting);
         }
         self.resetting = true;
-        self.traffic.clear();
-        Ok(self.owed.owe(Some(Control::Reset { cause, diagnostic })))
+        self.traffic.clear(pool);
+        Ok(self.owe(Control::Reset { cause, diagnostic }))
     }
 
     fn send(
@@ -119,11 +142,16 @@ impl Channel {
         more: bool,
         qualified: bool,
         delivery: bool,
+        pool: &mut Pool,
     ) -> Result<bool, ChannelFault>
-        ensures { (role : RoleValue)
-            → Answers role self.old
+        requires size { 128 ≤ pool.old.size }
+        requires room { in_use pool.old < length pool.old.places }
+        ensures answer { (role : RoleValue)
+            → Answers role self.old.channel
             (machine.Request.Sending
-            (record { octets = octets.now; more = more; qualified = qualified; delivery = delivery })) result self.new }
+            (record { octets = octets.now; more = more; qualified = qualified; delivery = delivery })) result self.new.channel }
+        ensures pool { Balances pool.old self.old.held pool.new self.new.held }
+        ensures fits { (window : ℕ) → Fits window self.old → Fits window self.new }
     {
         if !self.state.in_transfer() {
             return Err(ChannelFault::NoCall);
@@ -137,13 +165,18 @@ impl Channel {
         if octets.len() > MAX_USER_DATA {
             return Err(ChannelFault::TooLong);
         }
+        let Some(buffer) = pool.put(octets) else {
+            unreachable!();
+        };
         self.traffic
-            .queue(UserData::new(octets, more, qualified, delivery));
+            .queue(KeptPacket::new(buffer, more, qualified, delivery));
         Ok(false)
     }
 
     fn interrupt(&mut self, octets: &[u8]) -> Result<bool, ChannelFault>
-        ensures { (role : RoleValue) → Answers role self.old (machine.Request.Interrupting octets.now) result self.new }
+        ensures answer { (role : RoleValue) → Answers role self.old.channel (machine.Request.Interrupting octets.now) result self.new.channel }
+        ensures held { self.new.held ≡ self.old.held }
+        ensures arrived { self.new.channel.traffic.arrived ≡ self.old.channel.traffic.arrived }
     {
         if !self.state.in_transfer() {
             return Err(ChannelFault::NoCall);
@@ -162,7 +195,9 @@ impl Channel {
     }
 
     fn stop(&mut self, stopped: bool) -> Result<bool, ChannelFault>
-        ensures { (role : RoleValue) → Answers role self.old (machine.Request.Stopping stopped) result self.new }
+        ensures answer { (role : RoleValue) → Answers role self.old.channel (machine.Request.Stopping stopped) result self.new.channel }
+        ensures held { self.new.held ≡ self.old.held }
+        ensures arrived { self.new.channel.traffic.arrived ≡ self.old.channel.traffic.arrived }
     {
         if !self.state.in_transfer() {
             return Err(ChannelFault::NoCall);
@@ -172,7 +207,9 @@ impl Channel {
     }
 
     fn release(&mut self, count: u8) -> Result<bool, ChannelFault>
-        ensures { (role : RoleValue) → Answers role self.old (machine.Request.Releasing count) result self.new }
+        ensures answer { (role : RoleValue) → Answers role self.old.channel (machine.Request.Releasing count) result self.new.channel }
+        ensures held { self.new.held ≡ self.old.held }
+        ensures arrived { self.new.channel.traffic.arrived ≡ self.old.channel.traffic.arrived }
     {
         if !self.state.in_transfer() {
             return Err(ChannelFault::NoCall);
@@ -182,7 +219,9 @@ impl Channel {
     }
 
     fn confirm_interrupt(&mut self) -> Result<bool, ChannelFault>
-        ensures { (role : RoleValue) → Answers role self.old machine.Request.Confirming result self.new }
+        ensures answer { (role : RoleValue) → Answers role self.old.channel machine.Request.Confirming result self.new.channel }
+        ensures held { self.new.held ≡ self.old.held }
+        ensures arrived { self.new.channel.traffic.arrived ≡ self.old.channel.traffic.arrived }
     {
         if !self.state.in_transfer() {
             return Err(ChannelFault::NoCall);

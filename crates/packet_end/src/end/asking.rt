@@ -28,7 +28,7 @@ impl PacketEnd {
             (λ fault. machine.call_refusal self.old.layer self.old.layer.phase ≡ Some (call_refusal_of fault)) }
         ensures end { self.new ≡ called self.old (parts_of (call_view call.now)) }
     {
-        let channel = self.layer.call(call)?;
+        let channel = self.stack.call(call)?;
         self.touched.insert(channel);
         Ok(channel)
     }
@@ -45,7 +45,7 @@ impl PacketEnd {
         if changes_call(request) {
             self.touched.insert(channel);
         }
-        self.layer.ask(channel, request)
+        self.stack.ask(channel, request)
     }
 
     /// Takes what comes next on the channel, if anything: an interrupt before all packets.
@@ -53,14 +53,14 @@ impl PacketEnd {
         ensures taken { maybe_taken result ≡ machine.front_on self.old.layer channel }
         ensures end { self.new ≡ asked self.old channel ask.Taking }
     {
-        self.layer.take(channel)
+        self.stack.take(channel)
     }
 
     /// Whether a call came in on the channel and is not answered: it can be accepted.
     pub fn can_accept(&self, channel: u8) -> bool
         ensures { result ≡ machine.can_accept self.now.layer channel }
     {
-        self.layer.can_accept(channel)
+        self.stack.layer().can_accept(channel)
     }
 
     /// Whether data may be queued on the channel, however much waits there: `NoCall` comes where no call is in data
@@ -70,7 +70,7 @@ impl PacketEnd {
             (λ _. machine.flow_refusal self.now.layer channel ≡ None)
             (λ fault. machine.flow_refusal self.now.layer channel ≡ Some (refusal_of fault)) }
     {
-        self.layer.may_send(channel)
+        self.stack.layer().may_send(channel)
     }
 
     /// How many packets the channel takes to be sent, 0 to 8: none where the first would be refused by `NoCall` or
@@ -78,14 +78,14 @@ impl PacketEnd {
     pub fn room(&self, channel: u8) -> u8
         ensures { result ≡ machine.room self.now.layer channel }
     {
-        self.layer.room(channel)
+        self.stack.layer().room(channel)
     }
 
     /// Whether the channel takes an interrupt of 1 to 32 octets to be sent.
     pub fn may_interrupt(&self, channel: u8) -> bool
         ensures { result ≡ may_interrupt self.now.layer channel }
     {
-        self.layer.may_interrupt(channel)
+        self.stack.layer().may_interrupt(channel)
     }
 
     /// What `take` would give on the channel, if anything: an interrupt, or a Data packet of so many octets with M, Q
@@ -93,7 +93,7 @@ impl PacketEnd {
     pub fn front(&self, channel: u8) -> Option<Front>
         ensures { result ≡ maybe_front (machine.front_on self.now.layer channel) }
     {
-        self.layer.front(channel)
+        self.stack.front(channel)
     }
 
     /// Whether the channel has a call in which no packet of the present epoch that asks for delivery confirmation (D =
@@ -101,7 +101,7 @@ impl PacketEnd {
     pub fn confirmed(&self, channel: u8) -> bool
         ensures { result ≡ machine.confirmed self.now.layer channel }
     {
-        self.layer.confirmed(channel)
+        self.stack.layer().confirmed(channel)
     }
 }
 

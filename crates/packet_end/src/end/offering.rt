@@ -22,10 +22,9 @@ impl PacketEnd {
     {
         let mut packet = PacketBuf::new();
         for count in 0..MOST_PACKETS {
-            if !self.line.has_room() || !self.layer.next_packet(&mut packet) {
+            if !self.stack.line().has_room() || !self.stack.offer_next(&mut packet) {
                 return count > 0;
             }
-            let _ = self.line.offer(packet.as_slice());
         }
         true
     }

@@ -1,5 +1,7 @@
 //! What a user asks of the calls of a line (X.25 4.1 to 4.4).
-ghost use Rattle.std.specs.Prelude.{◌≡◌, ◌<◌, ◌+◌, true, false, Some, None, MatchResult, MatchOption};
+ghost use Rattle.std.specs.Prelude.{◌≤◌, ◌≡◌, ◌<◌, ◌+◌, true, false, Some, None, MatchResult, MatchOption};
+ghost use Rattle.flow_window.specs.Pool.{Holds, Balances};
+ghost use Rattle.packet_layer.specs.Held.{HasRoom, most_held, plain};
 ghost use Rattle.packet_codec.specs.Packet.{IsCallValue};
 ghost use Rattle.packet_codec.specs.View.{call_view};
 ghost use Rattle.packet_channel.specs.Channel.{Request as asked};
@@ -12,13 +14,15 @@ ghost use Rattle.packet_layer.specs.Free.{IsFreeAt};
 use crate::fault::CallFault;
 use crate::layer::Layer;
 use crate::restart::Phase;
+use flow_window::pool::Pool;
 use link_timers::Role;
 use packet_channel::{Channel, ChannelFault, Request, Taken};
 use packet_codec::{CallBuf, CallData};
 
 fn lowest_free(channels: &[Channel]) -> Option<usize>
-    ensures { MatchOption result (machine.lowest_free channels.now ≡ None)
-        (λ place. (machine.lowest_free channels.now ≡ Some (place + 1)) × IsFreeAt channels.now place) }
+    ensures { MatchOption result (machine.lowest_free (plain channels.now) ≡ None)
+        (λ place. (machine.lowest_free (plain channels.now) ≡ Some (place + 1))
+        × IsFreeAt (plain channels.now) place) }
 {
     for (place, channel) in channels.iter().enumerate() {
         if channel.is_free() {
@@ -29,8 +33,9 @@ fn lowest_free(channels: &[Channel]) -> Option<usize>
 }
 
 fn highest_free(channels: &[Channel]) -> Option<usize>
-    ensures { MatchOption result (machine.highest_free channels.now ≡ None)
-        (λ place. (machine.highest_free channels.now ≡ Some (place + 1)) × IsFreeAt channels.now place) }
+    ensures { MatchOption result (machine.highest_free (plain channels.now) ≡ None)
+        (λ place. (machine.highest_free (plain channels.now) ≡ Some (place + 1))
+        × IsFreeAt (plain channels.now) place) }
 {
     let mut found = None;
     for (place, channel) in channels.iter().enumerate() {
@@ -50,9 +55,12 @@ impl Layer {
     pub fn call(&mut self, call: &CallData<'_>) -> Result<u8, CallFault>
         requires { IsCallValue (call_view call.now) }
         ensures answer { MatchResult result
-            (λ channel. machine.channel_given self.old self.old.phase ≡ Some channel)
-            (λ fault. machine.call_refusal self.old self.old.phase ≡ Some (call_refusal_of fault)) }
-        ensures layer { self.new ≡ machine.call self.old (parts_of (call_view call.now)) }
+            (λ channel. machine.channel_given self.old.layer self.old.layer.phase ≡ Some channel)
+            (λ fault. machine.call_refusal self.old.layer self.old.layer.phase ≡ Some (call_refusal_of fault)) }
+        ensures layer { self.new ≡ record self.old {
+          layer = machine.call self.old.layer (parts_of (call_view call.now));
+        } }
+        ensures most { most_held self.new.layer ≡ most_held self.old.layer }
     {
         let Phase::PacketReady = self.phase else {
             return Err(CallFault::NotReady);
@@ -61,6 +69,7 @@ impl Layer {
             return Err(CallFault::NoChannel);
         };
         let call = CallBuf::new(call);
+        self.to_serve.insert(place);
         let channel = &mut self.channels[place];
         if channel.place_call(call) {
             self.relink = true;
@@ -69,9 +78,9 @@ impl Layer {
     }
 
     fn free_place(&self) -> Option<usize>
-        ensures { MatchOption result (machine.free_channel self.now.role self.now.channels ≡ None)
-            (λ place. (machine.free_channel self.now.role self.now.channels ≡ Some (place + 1))
-            × IsFreeAt self.now.channels place) }
+        ensures { MatchOption result (machine.free_channel self.now.layer.role self.now.layer.channels ≡ None)
+            (λ place. (machine.free_channel self.now.layer.role self.now.layer.channels ≡ Some (place + 1))
+            × IsFreeAt self.now.layer.channels place) }
     {
         match self.role {
             Role::Dte => highest_free(self.channels.as_slice()),
@@ -81,18 +90,29 @@ impl Layer {
 
     /// Asks something of the call on the channel: [`Request`] has each refusal. A channel that the line does not have
     /// has no call. What is refused changes nothing.
-    pub fn ask(&mut self, channel: u8, request: &Request<'_>) -> Result<(), ChannelFault>
+    pub fn ask(
+        &mut self,
+        channel: u8,
+        request: &Request<'_>,
+        pool: &mut Pool,
+    ) -> Result<(), ChannelFault>
+        requires holds { Holds pool.old self.old.held }
+        requires size { 128 ≤ pool.old.size }
+        requires room { HasRoom pool.old self.old.held (most_held self.old.layer + 1) }
         ensures answer { MatchResult result
-            (λ _. machine.request_refusal self.old channel (request_of request.now) ≡ None)
-            (λ fault. machine.request_refusal self.old channel (request_of request.now) ≡ Some (refusal_of fault)) }
-        ensures layer { self.new ≡ machine.request self.old channel (request_of request.now) }
+            (λ _. machine.request_refusal self.old.layer channel (request_of request.now) ≡ None)
+            (λ fault. machine.request_refusal self.old.layer channel (request_of request.now) ≡ Some (refusal_of fault)) }
+        ensures layer { self.new.layer ≡ machine.request self.old.layer channel (request_of request.now) }
+        ensures pool { Balances pool.old self.old.held pool.new self.new.held }
+        ensures most { most_held self.new.layer ≡ most_held self.old.layer }
     {
         let Some(place) = self.place(u16::from(channel)) else {
             return Err(ChannelFault::NoCall);
         };
         let role = self.role;
+        self.to_serve.insert(place);
         let channel = &mut self.channels[place];
-        match channel.request(role, request) {
+        match channel.request(role, request, pool) {
             Ok(relink) => {
                 if relink {
                     self.relink = true;
@@ -106,40 +126,67 @@ impl Layer {
     /// Accepts the call that came in on the channel (X.25 4.1.4).
     ///
     /// `NoCall` comes where none waits for it: no call came in, or a DTE's own call collided with it.
-    pub fn accept(&mut self, channel: u8) -> Result<(), ChannelFault>
+    pub fn accept(&mut self, channel: u8, pool: &mut Pool) -> Result<(), ChannelFault>
+        requires holds { Holds pool.old self.old.held }
+        requires size { 128 ≤ pool.old.size }
+        requires room { HasRoom pool.old self.old.held (most_held self.old.layer + 1) }
         ensures answer { MatchResult result
-            (λ _. machine.request_refusal self.old channel asked.Accept ≡ None)
-            (λ fault. machine.request_refusal self.old channel asked.Accept ≡ Some (refusal_of fault)) }
-        ensures layer { self.new ≡ machine.request self.old channel asked.Accept }
+            (λ _. machine.request_refusal self.old.layer channel asked.Accept ≡ None)
+            (λ fault. machine.request_refusal self.old.layer channel asked.Accept ≡ Some (refusal_of fault)) }
+        ensures layer { self.new.layer ≡ machine.request self.old.layer channel asked.Accept }
+        ensures pool { Balances pool.old self.old.held pool.new self.new.held }
+        ensures most { most_held self.new.layer ≡ most_held self.old.layer }
     {
-        self.ask(channel, &Request::Accept)
+        self.ask(channel, &Request::Accept, pool)
     }
 
     /// Clears the call on the channel, also one that is being set up, with a cause and a diagnostic (X.25 4.1.7).
     ///
     /// `NoCall` comes where there is none.
-    pub fn clear(&mut self, channel: u8, cause: u8, diagnostic: u8) -> Result<(), ChannelFault>
+    pub fn clear(
+        &mut self,
+        channel: u8,
+        cause: u8,
+        diagnostic: u8,
+        pool: &mut Pool,
+    ) -> Result<(), ChannelFault>
+        requires holds { Holds pool.old self.old.held }
+        requires size { 128 ≤ pool.old.size }
+        requires room { HasRoom pool.old self.old.held (most_held self.old.layer + 1) }
         ensures answer { MatchResult result
-            (λ _. machine.request_refusal self.old channel (asked.Clearing cause diagnostic) ≡ None)
-            (λ fault. machine.request_refusal self.old channel (asked.Clearing cause diagnostic)
+            (λ _. machine.request_refusal self.old.layer channel (asked.Clearing cause diagnostic) ≡ None)
+            (λ fault. machine.request_refusal self.old.layer channel (asked.Clearing cause diagnostic)
             ≡ Some (refusal_of fault)) }
-        ensures layer { self.new ≡ machine.request self.old channel (asked.Clearing cause diagnostic) }
+        ensures layer { self.new.layer ≡ machine.request self.old.layer channel (asked.Clearing cause diagnostic) }
+        ensures pool { Balances pool.old self.old.held pool.new self.new.held }
+        ensures most { most_held self.new.layer ≡ most_held self.old.layer }
     {
-        self.ask(channel, &Request::Clear { cause, diagnostic })
+        self.ask(channel, &Request::Clear { cause, diagnostic }, pool)
     }
 
     /// Resets the call on the channel with a cause and a diagnostic: what waits in both directions is dropped (X.25
     /// 4.4.3).
     ///
     /// `NoCall` comes where no call is in data transfer, `Resetting` while the last own reset is not confirmed.
-    pub fn reset(&mut self, channel: u8, cause: u8, diagnostic: u8) -> Result<(), ChannelFault>
+    pub fn reset(
+        &mut self,
+        channel: u8,
+        cause: u8,
+        diagnostic: u8,
+        pool: &mut Pool,
+    ) -> Result<(), ChannelFault>
+        requires holds { Holds pool.old self.old.held }
+        requires size { 128 ≤ pool.old.size }
+        requires room { HasRoom pool.old self.old.held (most_held self.old.layer + 1) }
         ensures answer { MatchResult result
-            (λ _. machine.request_refusal self.old channel (asked.Resetting cause diagnostic) ≡ None)
-            (λ fault. machine.request_refusal self.old channel (asked.Resetting cause diagnostic)
+            (λ _. machine.request_refusal self.old.layer channel (asked.Resetting cause diagnostic) ≡ None)
+            (λ fault. machine.request_refusal self.old.layer channel (asked.Resetting cause diagnostic)
             ≡ Some (refusal_of fault)) }
-        ensures layer { self.new ≡ machine.request self.old channel (asked.Resetting cause diagnostic) }
+        ensures layer { self.new.layer ≡ machine.request self.old.layer channel (asked.Resetting cause diagnostic) }
+        ensures pool { Balances pool.old self.old.held pool.new self.new.held }
+        ensures most { most_held self.new.layer ≡ most_held self.old.layer }
     {
-        self.ask(channel, &Request::Reset { cause, diagnostic })
+        self.ask(channel, &Request::Reset { cause, diagnostic }, pool)
     }
 
     /// Puts a Data packet with its bits M, Q and D into the send queue of the channel (X.25 4.3).
@@ -154,15 +201,21 @@ impl Layer {
         more: bool,
         qualified: bool,
         delivery: bool,
+        pool: &mut Pool,
     ) -> Result<(), ChannelFault>
+        requires holds { Holds pool.old self.old.held }
+        requires size { 128 ≤ pool.old.size }
+        requires room { HasRoom pool.old self.old.held (most_held self.old.layer + 1) }
         ensures answer { let asks = asked.Sending
             (record { octets = octets.now; more = more; qualified = qualified; delivery = delivery }) in
             MatchResult result
-            (λ _. machine.request_refusal self.old channel asks ≡ None)
-            (λ fault. machine.request_refusal self.old channel asks ≡ Some (refusal_of fault)) }
-        ensures layer { self.new
-            ≡ machine.request self.old channel
+            (λ _. machine.request_refusal self.old.layer channel asks ≡ None)
+            (λ fault. machine.request_refusal self.old.layer channel asks ≡ Some (refusal_of fault)) }
+        ensures layer { self.new.layer
+            ≡ machine.request self.old.layer channel
             (asked.Sending (record { octets = octets.now; more = more; qualified = qualified; delivery = delivery })) }
+        ensures pool { Balances pool.old self.old.held pool.new self.new.held }
+        ensures most { most_held self.new.layer ≡ most_held self.old.layer }
     {
         self.ask(
             channel,
@@ -172,6 +225,7 @@ impl Layer {
                 qualified,
                 delivery,
             },
+            pool,
         )
     }
 
@@ -179,63 +233,97 @@ impl Layer {
     ///
     /// `NoCall` comes where no call is in data transfer, then `Resetting` while the own reset is not confirmed,
     /// `TooLong` for no octets or more than 32, `InterruptPending` while the last interrupt is not confirmed.
-    pub fn interrupt(&mut self, channel: u8, octets: &[u8]) -> Result<(), ChannelFault>
+    pub fn interrupt(
+        &mut self,
+        channel: u8,
+        octets: &[u8],
+        pool: &mut Pool,
+    ) -> Result<(), ChannelFault>
+        requires holds { Holds pool.old self.old.held }
+        requires size { 128 ≤ pool.old.size }
+        requires room { HasRoom pool.old self.old.held (most_held self.old.layer + 1) }
         ensures answer { MatchResult result
-            (λ _. machine.request_refusal self.old channel (asked.Interrupting octets.now) ≡ None)
-            (λ fault. machine.request_refusal self.old channel (asked.Interrupting octets.now)
+            (λ _. machine.request_refusal self.old.layer channel (asked.Interrupting octets.now) ≡ None)
+            (λ fault. machine.request_refusal self.old.layer channel (asked.Interrupting octets.now)
             ≡ Some (refusal_of fault)) }
-        ensures layer { self.new ≡ machine.request self.old channel (asked.Interrupting octets.now) }
+        ensures layer { self.new.layer ≡ machine.request self.old.layer channel (asked.Interrupting octets.now) }
+        ensures pool { Balances pool.old self.old.held pool.new self.new.held }
+        ensures most { most_held self.new.layer ≡ most_held self.old.layer }
     {
-        self.ask(channel, &Request::Interrupt(octets))
+        self.ask(channel, &Request::Interrupt(octets), pool)
     }
 
     /// Asks the far end by RNR to send no more data on the channel (X.25 4.4.1.5).
     ///
     /// `NoCall` comes where no call is in data transfer.
-    pub fn stop(&mut self, channel: u8) -> Result<(), ChannelFault>
+    pub fn stop(&mut self, channel: u8, pool: &mut Pool) -> Result<(), ChannelFault>
+        requires holds { Holds pool.old self.old.held }
+        requires size { 128 ≤ pool.old.size }
+        requires room { HasRoom pool.old self.old.held (most_held self.old.layer + 1) }
         ensures answer { MatchResult result
-            (λ _. machine.request_refusal self.old channel (asked.Stopping true) ≡ None)
-            (λ fault. machine.request_refusal self.old channel (asked.Stopping true) ≡ Some (refusal_of fault)) }
-        ensures layer { self.new ≡ machine.request self.old channel (asked.Stopping true) }
+            (λ _. machine.request_refusal self.old.layer channel (asked.Stopping true) ≡ None)
+            (λ fault. machine.request_refusal self.old.layer channel (asked.Stopping true) ≡ Some (refusal_of fault)) }
+        ensures layer { self.new.layer ≡ machine.request self.old.layer channel (asked.Stopping true) }
+        ensures pool { Balances pool.old self.old.held pool.new self.new.held }
+        ensures most { most_held self.new.layer ≡ most_held self.old.layer }
     {
-        self.ask(channel, &Request::Stop(true))
+        self.ask(channel, &Request::Stop(true), pool)
     }
 
     /// Ends by RR what `stop` asked (X.25 4.4.1.4).
     ///
     /// `NoCall` comes where no call is in data transfer.
-    pub fn go(&mut self, channel: u8) -> Result<(), ChannelFault>
+    pub fn go(&mut self, channel: u8, pool: &mut Pool) -> Result<(), ChannelFault>
+        requires holds { Holds pool.old self.old.held }
+        requires size { 128 ≤ pool.old.size }
+        requires room { HasRoom pool.old self.old.held (most_held self.old.layer + 1) }
         ensures answer { MatchResult result
-            (λ _. machine.request_refusal self.old channel (asked.Stopping false) ≡ None)
-            (λ fault. machine.request_refusal self.old channel (asked.Stopping false) ≡ Some (refusal_of fault)) }
-        ensures layer { self.new ≡ machine.request self.old channel (asked.Stopping false) }
+            (λ _. machine.request_refusal self.old.layer channel (asked.Stopping false) ≡ None)
+            (λ fault. machine.request_refusal self.old.layer channel (asked.Stopping false) ≡ Some (refusal_of fault)) }
+        ensures layer { self.new.layer ≡ machine.request self.old.layer channel (asked.Stopping false) }
+        ensures pool { Balances pool.old self.old.held pool.new self.new.held }
+        ensures most { most_held self.new.layer ≡ most_held self.old.layer }
     {
-        self.ask(channel, &Request::Stop(false))
+        self.ask(channel, &Request::Stop(false), pool)
     }
 
     /// Takes what comes next on the channel, if anything: an interrupt before all packets.
-    pub fn take(&mut self, channel: u8) -> Option<Taken>
-        ensures taken { maybe_taken result ≡ machine.front_on self.old channel }
-        ensures layer { self.new ≡ machine.request self.old channel asked.Taking }
+    pub fn take(&mut self, channel: u8, pool: &mut Pool) -> Option<Taken>
+        requires holds { Holds pool.old self.old.held }
+        ensures taken { maybe_taken result ≡ machine.front_on self.old.layer channel }
+        ensures layer { self.new.layer ≡ machine.request self.old.layer channel asked.Taking }
+        ensures pool { Balances pool.old self.old.held pool.new self.new.held }
+        ensures most { most_held self.new.layer ≡ most_held self.old.layer }
     {
         let place = self.place(u16::from(channel))?;
+        self.to_serve.insert(place);
         let channel = &mut self.channels[place];
-        channel.take()
+        channel.take(pool)
     }
 
     /// Lets P(R) pass `count` more of the packets that were taken on the channel (X.25 4.4.1.3). Nothing happens
     /// where fewer are taken and not released.
-    pub fn release(&mut self, channel: u8, count: u8)
-        ensures { self.new ≡ machine.request self.old channel (asked.Releasing count) }
+    pub fn release(&mut self, channel: u8, count: u8, pool: &mut Pool)
+        requires holds { Holds pool.old self.old.held }
+        requires size { 128 ≤ pool.old.size }
+        requires room { HasRoom pool.old self.old.held (most_held self.old.layer + 1) }
+        ensures layer { self.new.layer ≡ machine.request self.old.layer channel (asked.Releasing count) }
+        ensures pool { Balances pool.old self.old.held pool.new self.new.held }
+        ensures most { most_held self.new.layer ≡ most_held self.old.layer }
     {
-        let _ = self.ask(channel, &Request::Release(count));
+        let _ = self.ask(channel, &Request::Release(count), pool);
     }
 
     /// Owes the confirmation of the interrupt that was taken on the channel (X.25 4.3.7). Nothing happens where none is
     /// unconfirmed.
-    pub fn confirm_interrupt(&mut self, channel: u8)
-        ensures { self.new ≡ machine.request self.old channel asked.Confirming }
+    pub fn confirm_interrupt(&mut self, channel: u8, pool: &mut Pool)
+        requires holds { Holds pool.old self.old.held }
+        requires size { 128 ≤ pool.old.size }
+        requires room { HasRoom pool.old self.old.held (most_held self.old.layer + 1) }
+        ensures layer { self.new.layer ≡ machine.request self.old.layer channel asked.Confirming }
+        ensures pool { Balances pool.old self.old.held pool.new self.new.held }
+        ensures most { most_held self.new.layer ≡ most_held self.old.layer }
     {
-        let _ = self.ask(channel, &Request::ConfirmInterrupt);
+        let _ = self.ask(channel, &Request::ConfirmInterrupt, pool);
     }
 }

@@ -1,5 +1,7 @@
 //! Packets from the link (X.25 5, tables C-1 to C-4).
-ghost use Rattle.std.specs.Prelude.{◌≡◌, []};
+ghost use Rattle.std.specs.Prelude.{◌≤◌, ◌+◌, ◌≡◌, []};
+ghost use Rattle.flow_window.specs.Pool.{Holds, Balances};
+ghost use Rattle.packet_layer.specs.Held.{HasRoom, most_held};
 ghost use Rattle.packet_codec.specs.Packet.{IsPacket};
 ghost use Rattle.packet_codec.specs.Reading.{named_channel};
 ghost use Rattle.packet_codec.specs.View.{view, content_view};
@@ -10,6 +12,7 @@ ghost use Rattle.packet_layer.specs.Events.{on_octets, after_hearing};
 
 use crate::layer::Layer;
 use crate::restart::{Phase, RestartPacket};
+use flow_window::pool::Pool;
 use packet_channel::{Reason, error_cause};
 use packet_codec::{
     Content, Numbering, Packet, PacketFault, diagnostic, logical_channel, read_packet,
@@ -21,46 +24,59 @@ impl Layer {
     ///
     /// Fewer than three octets, octets of another format and packets of channels beyond the line's are ignored.
     /// Octets of another kind that are no packet count as a packet that the state of their channel does not allow.
-    pub fn on_packet(&mut self, octets: &[u8])
-        ensures { self.new ≡ on_octets self.old octets.now }
+    pub fn on_packet(&mut self, octets: &[u8], pool: &mut Pool)
+        requires holds { Holds pool.old self.old.held }
+        requires size { 128 ≤ pool.old.size }
+        requires room { HasRoom pool.old self.old.held (most_held self.old.layer + 1) }
+        ensures layer { self.new.layer ≡ on_octets self.old.layer octets.now }
+        ensures pool { Balances pool.old self.old.held pool.new self.new.held }
+        ensures most { most_held self.new.layer ≡ most_held self.old.layer }
     {
         self.notes.clear();
         match read_packet(octets, Numbering::Modulo8) {
-            Ok(packet) => self.take_packet(&packet),
+            Ok(packet) => self.take_packet(&packet, pool),
             Err(PacketFault::TooShort | PacketFault::BadFormatId) => {}
-            Err(PacketFault::UnknownType) => self.take_unreadable(octets, true),
+            Err(PacketFault::UnknownType) => self.take_unreadable(octets, true, pool),
             Err(PacketFault::BadLength | PacketFault::BadAddress | PacketFault::DataTooLong) => {
-                self.take_unreadable(octets, false);
+                self.take_unreadable(octets, false, pool);
             }
         }
     }
 
-    fn take_packet(&mut self, packet: &Packet<'_>)
-        requires read { self.old.notes ≡ [] }
+    fn take_packet(&mut self, packet: &Packet<'_>, pool: &mut Pool)
+        requires read { self.old.layer.notes ≡ [] }
         requires fits { IsPacket (view packet.now) }
-        ensures { self.new ≡ machine.packet_in self.old
+        requires holds { Holds pool.old self.old.held }
+        requires size { 128 ≤ pool.old.size }
+        requires room { HasRoom pool.old self.old.held (most_held self.old.layer + 1) }
+        ensures layer { self.new.layer ≡ machine.packet_in self.old.layer
             (record { channel = packet.now.channel; body = body_of (content_view packet.now.content) }) }
+        ensures pool { Balances pool.old self.old.held pool.new self.new.held }
+        ensures most { most_held self.new.layer ≡ most_held self.old.layer }
     {
         if packet.channel == 0 {
-            self.take_restart(packet);
+            self.take_restart(packet, pool);
         } else {
-            self.take_on_channel(packet);
+            self.take_on_channel(packet, pool);
         }
     }
 
-    fn take_restart(&mut self, packet: &Packet<'_>)
-        requires { self.old.notes ≡ [] }
-        ensures { self.new ≡ machine.restart_packet self.old.phase
-            (body_of (content_view packet.now.content)) self.old }
+    fn take_restart(&mut self, packet: &Packet<'_>, pool: &mut Pool)
+        requires read { self.old.layer.notes ≡ [] }
+        requires holds { Holds pool.old self.old.held }
+        ensures layer { self.new.layer ≡ machine.restart_packet self.old.layer.phase
+            (body_of (content_view packet.now.content)) self.old.layer }
+        ensures pool { Balances pool.old self.old.held pool.new self.new.held }
+        ensures most { most_held self.new.layer ≡ most_held self.old.layer }
     {
         match (self.phase, &packet.content) {
             (Phase::PacketReady, Content::RestartRequest { .. }) => {
-                self.close_all(Reason::FarRestart);
+                self.close_all(Reason::FarRestart, pool);
                 self.served_last = 0;
                 self.owe_restart(RestartPacket::Confirmation);
             }
             (Phase::PacketReady, Content::RestartConfirmation) => {
-                self.close_all(Reason::LocalFault);
+                self.close_all(Reason::LocalFault, pool);
                 let cause = error_cause(self.role, restart_cause::LOCAL_PROCEDURE_ERROR);
                 self.restart(cause, diagnostic::NOT_ALLOWED_IN_R1);
             }
@@ -72,12 +88,17 @@ impl Layer {
         }
     }
 
-    fn take_on_channel(&mut self, packet: &Packet<'_>)
-        requires read { self.old.notes ≡ [] }
+    fn take_on_channel(&mut self, packet: &Packet<'_>, pool: &mut Pool)
+        requires read { self.old.layer.notes ≡ [] }
         requires fits { IsPacket (view packet.now) }
-        ensures { self.new ≡ machine.on_channel self.old.phase self.old packet.now.channel
-            (λ ch. received self.old.role self.old.window packet.now.channel ch
+        requires holds { Holds pool.old self.old.held }
+        requires size { 128 ≤ pool.old.size }
+        requires room { HasRoom pool.old self.old.held (most_held self.old.layer + 1) }
+        ensures layer { self.new.layer ≡ machine.on_channel self.old.layer.phase self.old.layer packet.now.channel
+            (λ ch. received self.old.layer.role self.old.layer.window packet.now.channel ch
             (body_of (content_view packet.now.content))) }
+        ensures pool { Balances pool.old self.old.held pool.new self.new.held }
+        ensures most { most_held self.new.layer ≡ most_held self.old.layer }
     {
         let Phase::PacketReady = self.phase else {
             return;
@@ -86,14 +107,18 @@ impl Layer {
             return;
         };
         let end = self.end(place);
+        self.to_serve.insert(place);
         let channel = &mut self.channels[place];
-        let outcome = channel.take_packet(end, packet);
+        let outcome = channel.take_packet(end, packet, pool);
         self.report(outcome);
     }
 
-    fn take_unreadable(&mut self, octets: &[u8], unknown: bool)
-        requires { self.old.notes ≡ [] }
-        ensures { self.new ≡ after_hearing self.old (unreadable_as unknown (named_channel octets.now)) }
+    fn take_unreadable(&mut self, octets: &[u8], unknown: bool, pool: &mut Pool)
+        requires read { self.old.layer.notes ≡ [] }
+        requires holds { Holds pool.old self.old.held }
+        ensures layer { self.new.layer ≡ after_hearing self.old.layer (unreadable_as unknown (named_channel octets.now)) }
+        ensures pool { Balances pool.old self.old.held pool.new self.new.held }
+        ensures most { most_held self.new.layer ≡ most_held self.old.layer }
     {
         let Phase::PacketReady = self.phase else {
             return;
@@ -105,8 +130,9 @@ impl Layer {
             return;
         };
         let end = self.end(place);
+        self.to_serve.insert(place);
         let channel = &mut self.channels[place];
-        let outcome = channel.take_unreadable(end, unknown);
+        let outcome = channel.take_unreadable(end, unknown, pool);
         self.report(outcome);
     }
 }

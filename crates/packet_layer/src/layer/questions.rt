@@ -1,5 +1,6 @@
 //! What a user may ask of a layer without changing anything.
 ghost use Rattle.std.specs.Prelude.{◌≡◌, Some, None, MatchResult};
+ghost use Rattle.flow_window.specs.Pool.{Holds};
 ghost use Rattle.std.specs.List.{list_all};
 ghost use Rattle.packet_layer.specs.Layer as machine;
 ghost use Rattle.packet_layer.specs.Interrupting.{may_interrupt};
@@ -7,15 +8,16 @@ ghost use Rattle.packet_layer.specs.RequestView.{refusal_of};
 ghost use Rattle.packet_channel.specs.TakenView.{maybe_front};
 
 use crate::layer::Layer;
-use packet_channel::{ChannelFault, Front};
+use flow_window::pool::Pool;
+use packet_channel::{Channel, ChannelFault, Front};
 
 impl Layer {
     /// Whether `accept` takes a call on the channel: one came in and is not answered.
     pub fn can_accept(&self, channel: u8) -> bool
-        ensures { result ≡ machine.can_accept self.now channel }
+        ensures { result ≡ machine.can_accept self.now.layer channel }
     {
-        match self.place(u16::from(channel)) {
-            Some(place) => self.channels[place].state().may_accept(self.role),
+        match self.channel(u16::from(channel)) {
+            Some(channel) => channel.state().may_accept(self.role),
             None => false,
         }
     }
@@ -24,13 +26,12 @@ impl Layer {
     /// transfer, then `Resetting` while the own reset is not confirmed.
     pub fn may_send(&self, channel: u8) -> Result<(), ChannelFault>
         ensures { MatchResult result
-            (λ _. machine.flow_refusal self.now channel ≡ None)
-            (λ fault. machine.flow_refusal self.now channel ≡ Some (refusal_of fault)) }
+            (λ _. machine.flow_refusal self.now.layer channel ≡ None)
+            (λ fault. machine.flow_refusal self.now.layer channel ≡ Some (refusal_of fault)) }
     {
-        let Some(place) = self.place(u16::from(channel)) else {
+        let Some(channel) = self.channel(u16::from(channel)) else {
             return Err(ChannelFault::NoCall);
         };
-        let channel = &self.channels[place];
         if !channel.state().in_transfer() {
             return Err(ChannelFault::NoCall);
         }
@@ -42,10 +43,10 @@ impl Layer {
 
     /// How many packets `send` would take on the channel, 0 to 8: none where it would answer `NoCall` or `Resetting`.
     pub fn room(&self, channel: u8) -> u8
-        ensures { result ≡ machine.room self.now channel }
+        ensures { result ≡ machine.room self.now.layer channel }
     {
-        match self.place(u16::from(channel)) {
-            Some(place) => self.channels[place].room(),
+        match self.channel(u16::from(channel)) {
+            Some(channel) => channel.room(),
             None => 0,
         }
     }
@@ -53,51 +54,53 @@ impl Layer {
     /// Whether `interrupt` takes 1 to 32 octets on the channel: it has a call without an unconfirmed own reset, and no
     /// interrupt of it is unconfirmed.
     pub fn may_interrupt(&self, channel: u8) -> bool
-        ensures { result ≡ may_interrupt self.now channel }
+        ensures { result ≡ may_interrupt self.now.layer channel }
     {
-        match self.place(u16::from(channel)) {
-            Some(place) => self.channels[place].may_interrupt(),
+        match self.channel(u16::from(channel)) {
+            Some(channel) => channel.may_interrupt(),
             None => false,
         }
     }
 
     /// What `take` would give on the channel, if anything: an interrupt, or a Data packet of so many octets with M, Q
     /// and D.
-    pub fn front(&self, channel: u8) -> Option<Front>
-        ensures { result ≡ maybe_front (machine.front_on self.now channel) }
+    pub fn front(&self, channel: u8, pool: &Pool) -> Option<Front>
+        requires { Holds pool.now self.now.held }
+        ensures { result ≡ maybe_front (machine.front_on self.now.layer channel) }
     {
-        let place = self.place(u16::from(channel))?;
-        self.channels[place].front()
+        let channel = self.channel(u16::from(channel))?;
+        channel.front(pool)
     }
 
     /// Whether a call stands on the channel in which every packet with D = 1 since the last reset was covered (X.25
     /// 4.3.3).
     pub fn confirmed(&self, channel: u8) -> bool
-        ensures { result ≡ machine.confirmed self.now channel }
+        ensures { result ≡ machine.confirmed self.now.layer channel }
     {
-        match self.place(u16::from(channel)) {
-            Some(place) => self.channels[place].is_confirmed(),
+        match self.channel(u16::from(channel)) {
+            Some(channel) => channel.is_confirmed(),
             None => false,
         }
     }
 
     /// Whether the link has to be set up anew: from when a rule asks for it until `link_down` or `link_up`.
     pub fn must_relink(&self) -> bool
-        ensures { result ≡ self.now.relink }
+        ensures { result ≡ self.now.layer.relink }
     {
         self.relink
     }
 
     /// Whether no packet is owed and nothing waits to be sent or taken, on any channel.
     pub fn is_at_rest(&self) -> bool
-        ensures { result ≡ machine.at_rest self.now }
+        ensures { result ≡ machine.at_rest self.now.layer }
     {
-        self.owed.is_empty() && self.channels_rest()
+        self.owed.is_empty() && rest(self.channels.as_slice())
     }
+}
 
-    fn channels_rest(&self) -> bool
-        ensures { result ≡ list_all machine.channel_rests self.now.channels }
-    {
-        self.channels.iter().all(|channel| channel.is_at_rest())
-    }
+// Whether nothing is owed and nothing waits on any of these channels.
+fn rest(channels: &[Channel]) -> bool
+    ensures { result ≡ list_all (λ c. machine.channel_rests c.channel) channels.now }
+{
+    channels.iter().all(|channel| channel.is_at_rest())
 }

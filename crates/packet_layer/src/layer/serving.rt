@@ -1,10 +1,13 @@
 //! What goes to the link.
-ghost use Rattle.std.specs.Prelude.{◌≡◌, ◌<◌, length, is_some};
+ghost use Rattle.std.specs.Prelude.{◌≡◌, ◌<◌, ◌≤◌, ◌+◌, ◌-◌, length, is_some};
+ghost use Rattle.flow_window.specs.Pool.{Holds, Balances};
+ghost use Rattle.packet_layer.specs.Held.{most_held};
 ghost use Rattle.packet_layer.specs.Layer as machine;
 ghost use Rattle.packet_layer.specs.Events.{written_packet, ReadsBack, IsHeard};
 
 use crate::layer::Layer;
-use crate::restart::Phase;
+use crate::restart::{Phase, write_restart};
+use flow_window::pool::Pool;
 use packet_codec::PacketBuf;
 
 impl Layer {
@@ -12,77 +15,112 @@ impl Layer {
     /// first, and then what the channels have, round from the one after that which was served last. Of a channel go
     /// the control packets that it owes, the interrupt confirmation, the interrupt, data within the window, and RR or
     /// RNR where the partner does not know the present P(R) or whether this end is stopped.
-    pub fn next_packet(&mut self, buf: &mut PacketBuf) -> bool
-        ensures layer { self.new ≡ (machine.next_packet self.old).layer }
-        ensures said { result ≡ is_some (machine.next_packet self.old).packet }
-        ensures octets { buf.new.items ≡ written_packet (machine.next_packet self.old).packet buf.old.items }
+    pub fn next_packet(&mut self, buf: &mut PacketBuf, pool: &mut Pool) -> bool
+        requires holds { Holds pool.old self.old.held }
+        ensures layer { self.new.layer ≡ (machine.next_packet self.old.layer).layer }
+        ensures said { result ≡ is_some (machine.next_packet self.old.layer).packet }
+        ensures octets { buf.new.items ≡ written_packet (machine.next_packet self.old.layer).packet buf.old.items }
         // The far end hears that packet in them.
-        ensures heard { IsHeard (machine.next_packet self.old).packet buf.new.items }
+        ensures heard { IsHeard (machine.next_packet self.old.layer).packet buf.new.items }
+        ensures pool { Balances pool.old self.old.held pool.new self.new.held }
+        ensures most { most_held self.new.layer ≡ most_held self.old.layer }
+        ensures few { length self.new.held ≤ most_held self.new.layer }
     {
         if matches!(self.phase, Phase::NoSession) || self.relink {
             return false;
         }
-        if self.owed.next_packet(buf) {
+        if let Some(packet) = self.owed.take_first() {
+            write_restart(packet, buf);
             return true;
         }
-        self.serve(buf)
+        self.serve(buf, pool)
     }
 
     // The first channel that has anything, round.
-    fn serve(&mut self, buf: &mut PacketBuf) -> bool
-        ensures layer { self.new
-            ≡ (machine.serve (length self.old.channels) self.old
-            (machine.next_number self.old self.old.served_last)).layer }
+    fn serve(&mut self, buf: &mut PacketBuf, pool: &mut Pool) -> bool
+        requires few { length self.old.held ≤ most_held self.old.layer }
+        requires holds { Holds pool.old self.old.held }
+        ensures layer { self.new.layer
+            ≡ (machine.serve (length self.old.layer.channels) self.old.layer
+            (machine.next_number self.old.layer self.old.layer.served_last)).layer }
         ensures said { result
-            ≡ is_some (machine.serve (length self.old.channels) self.old
-            (machine.next_number self.old self.old.served_last)).packet }
+            ≡ is_some (machine.serve (length self.old.layer.channels) self.old.layer
+            (machine.next_number self.old.layer self.old.layer.served_last)).packet }
         ensures octets { buf.new.items
-            ≡ written_packet (machine.serve (length self.old.channels) self.old
-            (machine.next_number self.old self.old.served_last)).packet buf.old.items }
+            ≡ written_packet (machine.serve (length self.old.layer.channels) self.old.layer
+            (machine.next_number self.old.layer self.old.layer.served_last)).packet buf.old.items }
         ensures reads_back { ReadsBack
-            (machine.serve (length self.old.channels) self.old
-            (machine.next_number self.old self.old.served_last)).packet buf.new.items }
+            (machine.serve (length self.old.layer.channels) self.old.layer
+            (machine.next_number self.old.layer self.old.layer.served_last)).packet buf.new.items }
+        ensures pool { Balances pool.old self.old.held pool.new self.new.held }
+        ensures most { most_held self.new.layer ≡ most_held self.old.layer }
+        ensures few { length self.new.held ≤ most_held self.new.layer }
     {
+        let next = self.next_place();
         let count = self.channels.len();
-        let mut number = self.next_number(self.served_last);
-        for _ in 0..count {
-            if self.serve_channel(number, buf) {
+        self.serve_between(next, count, buf, pool) || self.serve_between(0, next, buf, pool)
+    }
+
+    // The place of the channel after that which was served last, round.
+    fn next_place(&self) -> usize
+        ensures place { result + 1 ≡ machine.next_number self.now.layer self.now.layer.served_last }
+        ensures most { result ≤ length self.now.layer.channels }
+    {
+        let next = usize::from(self.served_last);
+        if next < self.channels.len() { next } else { 0 }
+    }
+
+    // The first of the channels from one place up to another that has anything.
+    fn serve_between(
+        &mut self,
+        first: usize,
+        end: usize,
+        buf: &mut PacketBuf,
+        pool: &mut Pool,
+    ) -> bool
+        requires order { first ≤ end }
+        requires within { end ≤ length self.old.layer.channels }
+        requires few { length self.old.held ≤ most_held self.old.layer }
+        requires holds { Holds pool.old self.old.held }
+        ensures layer { self.new.layer ≡ (machine.serve (end - first) self.old.layer (first + 1)).layer }
+        ensures said { result ≡ is_some (machine.serve (end - first) self.old.layer (first + 1)).packet }
+        ensures octets { buf.new.items
+            ≡ written_packet (machine.serve (end - first) self.old.layer (first + 1)).packet buf.old.items }
+        ensures reads_back { ReadsBack (machine.serve (end - first) self.old.layer (first + 1)).packet buf.new.items }
+        ensures pool { Balances pool.old self.old.held pool.new self.new.held }
+        ensures most { most_held self.new.layer ≡ most_held self.old.layer }
+        ensures few { length self.new.held ≤ most_held self.new.layer }
+    {
+        let mut places = self.to_serve.between(first, end);
+        while let Some(place) = places.take_first() {
+            if self.serve_channel(place, buf, pool) {
                 return true;
             }
-            number = self.next_number(number);
         }
         false
     }
 
-    // The number of the next channel, round.
-    fn next_number(&self, number: u8) -> u8
-        ensures value { result ≡ machine.next_number self.now number }
-        ensures least { 0 < result }
+    // What one channel has. Where that is nothing, the channel need not be served again.
+    fn serve_channel(&mut self, place: usize, buf: &mut PacketBuf, pool: &mut Pool) -> bool
+        requires place { place < length self.old.layer.channels }
+        requires holds { Holds pool.old self.old.held }
+        ensures layer { self.new.layer ≡ (machine.serve 1 self.old.layer (place + 1)).layer }
+        ensures said { result ≡ is_some (machine.serve 1 self.old.layer (place + 1)).packet }
+        ensures octets { buf.new.items ≡ written_packet (machine.serve 1 self.old.layer (place + 1)).packet buf.old.items }
+        ensures reads_back { ReadsBack (machine.serve 1 self.old.layer (place + 1)).packet buf.new.items }
+        ensures pool { Balances pool.old self.old.held pool.new self.new.held }
+        ensures most { most_held self.new.layer ≡ most_held self.old.layer }
+        ensures few { length self.new.held ≤ most_held self.new.layer }
     {
-        if self.channels.len() <= usize::from(number) {
-            1
-        } else {
-            number + 1
-        }
-    }
-
-    // What one channel has.
-    fn serve_channel(&mut self, number: u8, buf: &mut PacketBuf) -> bool
-        requires { 0 < number }
-        ensures layer { self.new ≡ (machine.serve 1 self.old number).layer }
-        ensures said { result ≡ is_some (machine.serve 1 self.old number).packet }
-        ensures octets { buf.new.items ≡ written_packet (machine.serve 1 self.old number).packet buf.old.items }
-        ensures reads_back { ReadsBack (machine.serve 1 self.old number).packet buf.new.items }
-    {
-        let Some(place) = self.place(u16::from(number)) else {
-            return false;
-        };
         let window = self.window;
+        let number = place as u8 + 1;
         let channel = &mut self.channels[place];
-        if !channel.next_packet(window, number, buf) {
-            return false;
+        if channel.next_packet(window, number, buf, pool) {
+            self.served_last = number;
+            true
+        } else {
+            self.to_serve.remove(place);
+            false
         }
-        self.served_last = number;
-        true
     }
 }

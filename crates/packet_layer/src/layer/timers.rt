@@ -1,11 +1,14 @@
 //! The timers of a packet layer (X.25 annex D).
 ghost use Rattle.std.specs.Prelude.{◌≡◌, []};
+ghost use Rattle.flow_window.specs.Pool.{Holds, Balances};
+ghost use Rattle.packet_layer.specs.Held.{most_held};
 ghost use Rattle.packet_layer.specs.Layer as machine;
 ghost use Rattle.packet_layer.specs.Events.{timer_named, runs_named, on_named};
 ghost use Rattle.packet_layer.specs.TimerView.{maybe_timer, timer_of};
 
 use crate::layer::Layer;
 use crate::restart::Phase;
+use flow_window::pool::Pool;
 use link_timers::{Role, TimerId};
 use packet_channel::{Reason, error_cause};
 use packet_codec::{diagnostic, restart_cause};
@@ -43,7 +46,7 @@ impl Layer {
     /// T21 or T11 while its call is not answered, T22 or T12 while its reset and T23 or T13 while its clear is not
     /// confirmed. No other timer is one of the layer's.
     pub fn runs(&self, id: TimerId) -> bool
-        ensures { result ≡ runs_named self.now (timer_named self.now.role id) }
+        ensures { result ≡ runs_named self.now.layer (timer_named self.now.layer.role id) }
     {
         match own_timer(self.role, id) {
             Some(timer) => self.runs_own(timer),
@@ -52,20 +55,20 @@ impl Layer {
     }
 
     fn runs_own(&self, timer: Timer) -> bool
-        ensures { result ≡ machine.runs self.now (timer_of timer) }
+        ensures { result ≡ machine.runs self.now.layer (timer_of timer) }
     {
         match timer {
             Timer::Restart => matches!(self.phase, Phase::OwnRestart),
-            Timer::Call(channel) => match self.ready_place(u16::from(channel)) {
-                Some(place) => self.channels[place].state().waits_for_call(self.role),
+            Timer::Call(channel) => match self.ready_channel(u16::from(channel)) {
+                Some(channel) => channel.state().waits_for_call(self.role),
                 None => false,
             },
-            Timer::Reset(channel) => match self.ready_place(u16::from(channel)) {
-                Some(place) => self.channels[place].waits_for_reset(),
+            Timer::Reset(channel) => match self.ready_channel(u16::from(channel)) {
+                Some(channel) => channel.waits_for_reset(),
                 None => false,
             },
-            Timer::Clear(channel) => match self.ready_place(u16::from(channel)) {
-                Some(place) => self.channels[place].state().waits_for_clear(),
+            Timer::Clear(channel) => match self.ready_channel(u16::from(channel)) {
+                Some(channel) => channel.state().waits_for_clear(),
                 None => false,
             },
         }
@@ -73,43 +76,53 @@ impl Layer {
 
     /// Takes an expiry of a timer: that of a call or a reset clears the call, that of a clear restarts the packet
     /// layer, and that of a restart asks for a relink. Where the timer does not run nothing happens.
-    pub fn on_timer(&mut self, id: TimerId)
-        ensures { self.new ≡ on_named self.old (timer_named self.old.role id) }
+    pub fn on_timer(&mut self, id: TimerId, pool: &mut Pool)
+        requires holds { Holds pool.old self.old.held }
+        ensures layer { self.new.layer ≡ on_named self.old.layer (timer_named self.old.layer.role id) }
+        ensures pool { Balances pool.old self.old.held pool.new self.new.held }
+        ensures most { most_held self.new.layer ≡ most_held self.old.layer }
     {
         let Some(timer) = own_timer(self.role, id) else {
             return;
         };
         if self.runs_own(timer) {
             self.notes.clear();
-            self.expire(timer);
+            self.expire(timer, pool);
         }
     }
 
-    fn expire(&mut self, timer: Timer)
-        requires { self.old.notes ≡ [] }
-        ensures { self.new ≡ machine.expired self.old (timer_of timer) }
+    fn expire(&mut self, timer: Timer, pool: &mut Pool)
+        requires read { self.old.layer.notes ≡ [] }
+        requires holds { Holds pool.old self.old.held }
+        ensures layer { self.new.layer ≡ machine.expired self.old.layer (timer_of timer) }
+        ensures pool { Balances pool.old self.old.held pool.new self.new.held }
+        ensures most { most_held self.new.layer ≡ most_held self.old.layer }
     {
         match timer {
             Timer::Restart => self.relink = true,
-            Timer::Call(channel) | Timer::Reset(channel) => self.clear_expired(channel),
+            Timer::Call(channel) | Timer::Reset(channel) => self.clear_expired(channel, pool),
             Timer::Clear(_) => {
-                self.close_all(Reason::LocalFault);
+                self.close_all(Reason::LocalFault, pool);
                 let cause = error_cause(self.role, restart_cause::LOCAL_PROCEDURE_ERROR);
                 self.restart(cause, diagnostic::NO_INFORMATION);
             }
         }
     }
 
-    fn clear_expired(&mut self, channel: u8)
-        requires { self.old.notes ≡ [] }
-        ensures { self.new ≡ machine.expired self.old (machine.Timer.CallTimer channel) }
+    fn clear_expired(&mut self, channel: u8, pool: &mut Pool)
+        requires read { self.old.layer.notes ≡ [] }
+        requires holds { Holds pool.old self.old.held }
+        ensures layer { self.new.layer ≡ machine.expired self.old.layer (machine.Timer.CallTimer channel) }
+        ensures pool { Balances pool.old self.old.held pool.new self.new.held }
+        ensures most { most_held self.new.layer ≡ most_held self.old.layer }
     {
         let Some(place) = self.place(u16::from(channel)) else {
             return;
         };
         let end = self.end(place);
+        self.to_serve.insert(place);
         let channel = &mut self.channels[place];
-        let outcome = channel.expire(end);
+        let outcome = channel.expire(end, pool);
         self.report(outcome);
     }
 }

@@ -14,8 +14,8 @@ use crate::lines::{LineList, Lines};
 use crate::place::NewJoin;
 use address_routes::Routes;
 use arrayvec::ArrayVec;
-use line_set::LineSet;
 use link_timers::TimerId;
+use number_set::NumberSet;
 
 /// The most packets that a link has unacknowledged.
 const MOST_PACKETS: usize = 7;
@@ -26,7 +26,7 @@ impl Lines {
         ensures { self.new ≡ all_begun self.old }
     {
         begin_lines(&mut self.lines, self.touched.with(self.untaken));
-        self.untaken = LineSet::new();
+        self.untaken = NumberSet::new();
     }
 
     /// Takes the octets of a frame on a line, and heeds what it tells. Answers the first call that is joined then, if
@@ -87,7 +87,7 @@ impl Lines {
         settle_lines(&mut self.lines, self.touched);
         self.untaken = self.untaken.with(self.touched);
         if all_offered {
-            self.touched = LineSet::new();
+            self.touched = NumberSet::new();
         }
     }
 
@@ -149,7 +149,7 @@ impl Lines {
         for line in self.lines.iter_mut() {
             line.restart();
         }
-        self.touched = LineSet::first(self.lines.len());
+        self.touched = NumberSet::first(self.lines.len());
     }
 
     /// Lets ticks pass on all lines.

@@ -2,7 +2,7 @@
 ghost use Rattle.std.specs.Prelude.{◌≡◌, ℕ, ◌<◌, ◌≤◌, true, Some, length, slice_get};
 ghost use Rattle.packet_end.specs.PacketEnd as end;
 ghost use Rattle.packet_end.specs.Timing.{TimersAgree};
-ghost use Rattle.line_set.specs.LineSet.{has};
+ghost use Rattle.number_set.specs.NumberSet.{has};
 ghost use Rattle.switch_lines.specs.Lines.{SwitchLine as Line};
 ghost use Rattle.switch_lines.specs.Switch.{with_end};
 ghost use Rattle.switch_lines.specs.Touched.{AreThere, changed_in, offering_in, first_to_relink};
@@ -10,10 +10,10 @@ ghost use Rattle.switch_lines.specs.Touched.{AreThere, changed_in, offering_in, 
 use crate::line::SwitchLine;
 use crate::lines::LineList;
 use arrayvec::ArrayVec;
-use line_set::LineSet;
+use number_set::NumberSet;
 
 // Begins an event on these lines.
-pub(super) fn begin_lines(lines: &mut [SwitchLine], mut which: LineSet)
+pub(super) fn begin_lines(lines: &mut [SwitchLine], mut which: NumberSet)
     requires { AreThere which lines.old }
     ensures { lines.new ≡ changed_in which (with_end end.begun) 0 lines.old }
 {
@@ -23,7 +23,7 @@ pub(super) fn begin_lines(lines: &mut [SwitchLine], mut which: LineSet)
 }
 
 // Ends an event on these lines.
-pub(super) fn settle_lines(lines: &mut [SwitchLine], mut which: LineSet)
+pub(super) fn settle_lines(lines: &mut [SwitchLine], mut which: NumberSet)
     requires { AreThere which lines.old }
     ensures lines { lines.new ≡ changed_in which (with_end end.settled) 0 lines.old }
     ensures timers { (n : ℕ) → (l : Line) → has which n ≡ true → slice_get lines.new n ≡ Some l →
@@ -35,7 +35,7 @@ pub(super) fn settle_lines(lines: &mut [SwitchLine], mut which: LineSet)
 }
 
 // Offers packets to the links of these lines, in order, and answers which of them took one.
-pub(super) fn offer_lines(lines: &mut [SwitchLine], mut which: LineSet) -> LineList
+pub(super) fn offer_lines(lines: &mut [SwitchLine], mut which: NumberSet) -> LineList
     requires there { AreThere which lines.old }
     requires most { length lines.old ≤ 64 }
     ensures offering { result.items ≡ offering_in which 0 lines.old }
@@ -51,7 +51,7 @@ pub(super) fn offer_lines(lines: &mut [SwitchLine], mut which: LineSet) -> LineL
 }
 
 // The first of these lines whose packet layer asks for a link that is set up anew.
-pub(super) fn first_to_relink(lines: &[SwitchLine], mut which: LineSet) -> Option<usize>
+pub(super) fn first_to_relink(lines: &[SwitchLine], mut which: NumberSet) -> Option<usize>
     requires { AreThere which lines.now }
     ensures { result ≡ first_to_relink which 0 lines.now }
 {

@@ -7,7 +7,7 @@ use Rattle.packet_end.proofs.timing.bring_all.Goals as goal
 
 pub loop-place-preserved : goal.loop-place-preserved
 loop-place-preserved c =
-    let l = c.args.layer.now in
+    let l = c.args.layer.now.layer in
     record {
       places =
           c.bring_channel.ensures.places
@@ -22,7 +22,7 @@ loop-place-preserved c =
 pub returns-clause-places : goal.returns-clause-places
 unfolding brought
 returns-clause-places c =
-    let l = c.args.layer.now in
+    let l = c.args.layer.now.layer in
     let all : c.loop-place.place ≡ 32 = omega (arith, c.loop-place-test.false, c.loop-place.auto.place-end) in
     c.loop-place.invariant.places
     ∙ ap (λ (count : ℕ). brought_channels l count (brought_one l T20 (brought_one l T10 c.args.timers.now))) all

@@ -6,6 +6,6 @@ use Rattle.packet_end.proofs.timing.bring_all.Given as goal
 
 abbrev pub invariant-loop-place : goal.invariant-loop-place
 invariant-loop-place l = record {
-  places : l.timers ≡ brought_channels l.layer l.place (brought_one l.layer T20 (brought_one l.layer T10 l.fn.timers));
-  agree : (id : TimerId) → IsPacketTimer id → channel_number id ≤ l.place → RunsAsWanted l.layer l.timers id;
+  places : l.timers ≡ brought_channels l.layer.layer l.place (brought_one l.layer.layer T20 (brought_one l.layer.layer T10 l.fn.timers));
+  agree : (id : TimerId) → IsPacketTimer id → channel_number id ≤ l.place → RunsAsWanted l.layer.layer l.timers id;
 }

@@ -6,12 +6,12 @@ use Rattle.packet_end.proofs.timing.bring_into_line.Goals as goal
 
 pub returns-in-Nothing-clause-places : goal.returns-in-Nothing-clause-places
 returns-in-Nothing-clause-places c =
-    let agree : OthersAgree c.args.layer.now c.args.timers.now Nothing = rw c.in-Nothing.is at c.requires in
-    sym (nothing_touched c.args.layer.now c.args.timers.now agree)
+    let agree : OthersAgree c.args.layer.now.layer c.args.timers.now Nothing = rw c.in-Nothing.is at c.requires in
+    sym (nothing_touched c.args.layer.now.layer c.args.timers.now agree)
 
 pub returns-in-Channel-clause-places : goal.returns-in-Channel-clause-places
 returns-in-Channel-clause-places c =
-    let agree : OthersAgree c.args.layer.now c.args.timers.now (Channel c.in-Channel.channel) =
+    let agree : OthersAgree c.args.layer.now.layer c.args.timers.now (Channel c.in-Channel.channel) =
     rw c.in-Channel.is at c.requires in
-    one_touched c.args.layer.now c.in-Channel.channel c.args.timers.now c.bring_channel.new.timers agree
+    one_touched c.args.layer.now.layer c.in-Channel.channel c.args.timers.now c.bring_channel.new.timers agree
     c.bring_channel.ensures.places c.bring_channel.ensures.kept c.if-channel-ge1.true c.if-channel-le-MOST_CHANNELS.true

@@ -7,6 +7,8 @@ use Rattle.call_records.proofs.register.Register.open.Goals as goal
 pub returns-clause-same : goal.returns-clause-same
 returns-clause-same c =
     let s = c.close.new.self in
-    ap (λ (b : Book). register_with (Some c.args.line) b (lines_of c.exchange.new.lines.items)) c.reserve.ensures.same
-    ∙ opened c.args.line s.book.book c.exchange.new.book.book (lines_of s.lines.items) (lines_of c.exchange.new.lines.items) c.exchange.ensures.book c.exchange.ensures.lines
-    ∙ ap (λ (o : Option ℕ). register_with o s.book.book (lines_of s.lines.items)) (sym c.close.ensures.closed) ∙ c.close.ensures.same
+    ap (λ (b : Book). register_with (Some c.args.line) b (lines_of c.exchange.new.lines.items)) c.reserve-2.ensures.same
+    ∙ opened c.args.line s.book.book c.exchange.new.book.book (lines_of s.lines.items)
+    (lines_of c.exchange.new.lines.items) c.exchange.ensures.book c.exchange.ensures.lines
+    ∙ ap (λ (o : Option ℕ). register_with o s.book.book (lines_of s.lines.items)) (sym c.close.ensures.closed)
+    ∙ c.close.ensures.same

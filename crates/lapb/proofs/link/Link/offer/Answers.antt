@@ -6,17 +6,17 @@ use Rattle.lapb.proofs.link.Link.offer.Goals as goal
 
 pub unreachable-requires : goal.unreachable-requires
 unreachable-requires c =
-    let room = room_after c.args.pool.now c.give_back.new.pool c.self.inside.queue.held c.give_back.new.self.held
-    c.give_back.ensures.pool c.give_back.ensures.fewer c.requires.room in
+    let room = room_after c.args.pool.now c.give_back_any.new.pool c.self.inside.queue.held c.give_back_any.new.self.held
+    c.give_back_any.ensures.pool c.give_back_any.ensures.fewer c.requires.room in
     omega (arith, room, c.in_default.ensures.full)
 
 pub returns-clause-pool : goal.returns-clause-pool
 returns-clause-pool c =
-    let before = c.give_back.new.self.held in
+    let before = c.give_back_any.new.self.held in
     let size = ap (λ (p : Pool). p.size) c.in-Some.ensures.put.2 in
-    let put = balances_put c.give_back.new.pool c.put.new.self before c.in-Some.b size c.in-Some.ensures.full
+    let put = balances_put c.give_back_any.new.pool c.put.new.self before c.in-Some.b size c.in-Some.ensures.full
     c.in-Some.ensures.weights in
     let held : c.push.new.self.held ≡ before ++ c.in-Some.b ∷ [] = ap (λ (q : Queue). q.held) c.push.ensures in
     let old = ap (λ (l : Link). l.held) c.self.view_is in
-    rw (held, ← old) (balances_then c.args.pool.now c.give_back.new.pool c.put.new.self c.self.inside.queue.held before
-    (before ++ c.in-Some.b ∷ []) c.give_back.ensures.pool put)
+    rw (held, ← old) (balances_then c.args.pool.now c.give_back_any.new.pool c.put.new.self c.self.inside.queue.held before
+    (before ++ c.in-Some.b ∷ []) c.give_back_any.ensures.pool put)

@@ -1,4 +1,4 @@
-use Rattle.std.proofs.Common.{◌≡◌, ◌+◌, max, map, drop}
+use Rattle.std.proofs.Common.{◌≡◌, ◌+◌, ◌%◌, map, drop}
 use Rattle.frame_codec.specs.Spelling.{spelling}
 use Rattle.lapb.specs.Machine.{numbered}
 use Rattle.lapb.specs.Out.{with_frames}
@@ -6,7 +6,7 @@ use Rattle.lapb.proofs.link.sending.send_from.Given as goal
 
 abbrev pub invariant-loop-place : goal.invariant-loop-place
 invariant-loop-place l = record {
-  window : l.window ≡ record l.fn.window { next = l.place; top = max l.fn.window.top l.place };
+  number : l.ns ≡ (l.fn.window.oldest + l.place) % 8;
   others : l.out ≡ record l.fn.out { frames = l.out.frames };
   frames : with_frames l.out.frames (map (spelling l.role) (numbered (l.fn.window.oldest + l.place) l.nr (drop
       l.place l.queue.packets)))

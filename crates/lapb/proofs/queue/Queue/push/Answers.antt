@@ -11,11 +11,11 @@ invariant_of-self c =
     let long = around_length a.places a.first count c.self.invariant.taken in
     let same = ap (λ (q : Queue). length q.held) c.self.view_is in
     let few : count < 7 = omega (arith, long, same, c.requires) in
-    let at : (a.first + count) % 8 ≡ (a.first + a.spent + c.from.result) % 8 = omega (arith, c.from.ensures) in
+    let at : (a.first + count) % 8 ≡ (a.first + a.spent + a.len) % 8 = omega arith in
     let next : count + 1 ≡ a.spent + (a.len + 1) = omega arith in
     let taken = taken_push a.places a.first count c.args.b (omega arith) (omega (arith, few)) c.self.invariant.taken in
     record {
-      taken = subst (AreTaken (slice_set a.places ((a.first + a.spent + c.from.result) % 8) (Some c.args.b)) a.first)
+      taken = subst (AreTaken (slice_set a.places ((a.first + a.spent + a.len) % 8) (Some c.args.b)) a.first)
           next
           (subst (λ j. AreTaken (slice_set a.places j (Some c.args.b)) a.first (count + 1)) at taken);
       first = c.self.invariant.first;
@@ -27,7 +27,7 @@ returns c =
     let a = c.self.inside in
     let count = a.spent + a.len in
     let long = around_length a.places a.first count c.self.invariant.taken in
-    let at : (a.first + a.spent + c.from.result) % 8 ≡ (a.first + count) % 8 = omega (arith, c.from.ensures) in
+    let at : (a.first + a.spent + a.len) % 8 ≡ (a.first + count) % 8 = omega arith in
     let next : a.spent + (a.len + 1) ≡ count + 1 = omega arith in
     let pushed = ap (λ j. around (slice_set a.places j (Some c.args.b)) a.first (a.spent + (a.len + 1))) at
     ∙ ap (around (slice_set a.places ((a.first + count) % 8) (Some c.args.b)) a.first) next

@@ -1,16 +1,17 @@
 use Rattle.lapb.specs.declared.note.Timing.{Timing}
 use Rattle.line_end.specs.End.{runs_then, timed}
 use Rattle.std.proofs.Common.{refl}
-use Rattle.std.proofs.Common.{◌≡◌, ap, ◌∙◌, sym}
+use Rattle.std.proofs.Common.{◌≡◌, ap, ◌∙◌, sym, arith}
 use Rattle.std.specs.Prelude.{is_some}
 use Rattle.std.specs.Option.{option_copied}
 use Rattle.lapb.specs.Octets.{on_octets}
 use Rattle.link_timers.specs.declared.timers.TimerId.TheVariants.{T1}
 use Rattle.link_timers.specs.Timers.{left_of}
 use Rattle.lapb.specs.Out.{Out}
-use Rattle.line_end.specs.End.{End, received}
+use Rattle.line_end.specs.Held.{LineEnd}
+use Rattle.line_end.specs.End.{received}
 use Rattle.line_end.specs.EndView.{end_of}
-use Rattle.line_end.proofs.Steps.{sends_on_octets}
+use Rattle.line_end.proofs.Steps.{Keeps, sends_on_octets}
 use Rattle.line_end.proofs.Calls.{did-is, t1-is, still_end, accepted_long, packet-is, none_of, sends_up_to}
 use Rattle.line_end.proofs.end.LineEnd.on_frame.Goals as goal
 use Rattle.line_end.proofs.end.LineEnd.on_frame.Goals.{then-accepted, else-accepted}
@@ -18,9 +19,9 @@ use Rattle.line_end.proofs.end.LineEnd.on_frame.Goals.{then-accepted, else-accep
 pub invariant_of-self : goal.invariant_of-self
 invariant_of-self c =
     let step = on_octets c.self.inside.link.link c.args.octets.now in
-    still_end c.self.inside c.on_frame.new.self c.on_frame.new.pool c.set_timer.new.timers c.take_timer.new.self
+    still_end c.self.inside c.on_frame.new.self c.set_timer.new.timers c.take_timer.new.self
     c.self.invariant
-    (rw c.on_frame.ensures.link (sends_on_octets c.self.inside.link.link c.args.octets.now).keeps) c.on_frame.ensures.pool c.on_frame.ensures.tight
+    (rw c.on_frame.ensures.link (sends_on_octets c.self.inside.link.link c.args.octets.now).keeps) c.on_frame.ensures.tight
     (rw c.on_frame.ensures.link (t1-is c.self.inside.link.link step c.self.inside.out c.on_frame.new.out _ _ c.self.invariant.told c.on_frame.ensures.out (c.set_timer.ensures.t1 ∙ ap (λ (change : Timing). runs_then change (is_some (left_of c.self.inside.timers T1))) c.take_timer.ensures.timer) c.self.invariant.t1)) (ap (λ (o : Out). o.timer) c.take_timer.ensures.out)
 
 pub returns-clause-end : goal.returns-clause-end
@@ -34,7 +35,7 @@ returns-clause-end c =
     ∙ did-is (end_of c.self.inside) step c.self.inside.out c.on_frame.new.out c.set_timer.new.timers
     c.self.invariant.told refl c.on_frame.ensures.out
     (c.set_timer.ensures.timers ∙ ap (λ (change : Timing). timed change c.self.inside.timers) c.take_timer.ensures.timer)
-    ∙ ap (λ (e : End). received e c.args.octets.now) c.self.view_is
+    ∙ ap (λ (e : LineEnd). received e.end c.args.octets.now) c.self.view_is
 
 pub returns-clause-packet : goal.returns-clause-packet
 returns-clause-packet c =
@@ -51,7 +52,19 @@ returns-clause-packet c =
       | else-accepted w ↦ ap option_copied w.result-is ∙
           sym (none_of step.accepted (sym accepted ∙ w.if-accepted.false))
     ] in
-    packet ∙ ap (λ (e : End). (on_octets e.link c.args.octets.now).accepted) c.self.view_is
+    packet ∙ ap (λ (e : LineEnd). (on_octets e.end.link c.args.octets.now).accepted) c.self.view_is
 
 pub returns-clause-frames : goal.returns-clause-frames
-returns-clause-frames c = sends_up_to 1 c.args.self.now _ (sends_on_octets c.args.self.now.link c.args.octets.now).few
+returns-clause-frames c = sends_up_to 1 c.args.self.now.end _ (sends_on_octets c.args.self.now.end.link c.args.octets.now).few
+
+pub returns-clause-most : goal.returns-clause-most
+returns-clause-most c =
+    let keeps : Keeps c.self.inside.link.link c.on_frame.new.self.link =
+    rw c.on_frame.ensures.link (sends_on_octets c.self.inside.link.link c.args.octets.now).keeps in
+    omega (arith, keeps.queue, c.self.invariant.queue, keeps.k, c.on_frame.ensures.tight)
+
+pub returns-clause-k : goal.returns-clause-k
+returns-clause-k c =
+    let keeps : Keeps c.self.inside.link.link c.on_frame.new.self.link =
+    rw c.on_frame.ensures.link (sends_on_octets c.self.inside.link.link c.args.octets.now).keeps in
+    keeps.k ∙ ap (λ (e : LineEnd). e.end.link.k) c.self.view_is

@@ -20,17 +20,17 @@ invariant_of-self-2 c =
     c.if-not-fire.false in
     let fired : is_some (left_of c.fire.new.self T1) ≡ false =
     ap (λ (id : TimerId). is_some (left_of c.fire.new.self id)) (sym is_t1) ∙ ap is_some c.fire.ensures.left in
-    still_end c.self.inside c.on_t1.new.self c.on_t1.new.pool c.set_timer.new.timers c.take_timer.new.self
+    still_end c.self.inside c.on_t1.new.self c.set_timer.new.timers c.take_timer.new.self
     c.self.invariant
-    (rw c.on_t1.ensures.link (sends_on_t1 c.self.inside.link.link).keeps) c.on_t1.ensures.pool c.on_t1.ensures.tight
+    (rw c.on_t1.ensures.link (sends_on_t1 c.self.inside.link.link).keeps) c.on_t1.ensures.tight
     (rw c.on_t1.ensures.link (t1_expired-is c.self.inside.link.link c.self.inside.out c.on_t1.new.out _ _ c.self.invariant.told c.on_t1.ensures.out (c.set_timer.ensures.t1 ∙ ap (λ (change : Timing). runs_then change (is_some (left_of c.fire.new.self T1))) c.take_timer.ensures.timer) fired
     (sym c.self.invariant.t1 ∙ ran))) (ap (λ (o : Out). o.timer) c.take_timer.ensures.out)
 
 pub returns-then-not-fire-clause-frames : goal.returns-then-not-fire-clause-frames
-returns-then-not-fire-clause-frames c = expiry_sends c.args.self.now
+returns-then-not-fire-clause-frames c = expiry_sends c.args.self.now.end
 
 pub returns-then-ne-clause-frames : goal.returns-then-ne-clause-frames
-returns-then-ne-clause-frames c = expiry_sends c.args.self.now
+returns-then-ne-clause-frames c = expiry_sends c.args.self.now.end
 
 pub returns-clause-frames : goal.returns-clause-frames
-returns-clause-frames c = expiry_sends c.args.self.now
+returns-clause-frames c = expiry_sends c.args.self.now.end

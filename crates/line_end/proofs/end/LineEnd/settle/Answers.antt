@@ -3,11 +3,11 @@ use Rattle.line_end.specs.End.{runs_then, timed}
 use Rattle.std.proofs.Common.{refl}
 use Rattle.std.specs.Prelude.{is_some}
 use Rattle.std.proofs.Common.{◌≤◌, length, sym, ap, ◌∙◌, arith}
-use Rattle.flow_window.proofs.Weights.{balances_same}
 use Rattle.lapb.specs.Machine as machine
 use Rattle.link_timers.specs.declared.timers.TimerId.TheVariants.{T1}
 use Rattle.link_timers.specs.Timers.{left_of}
 use Rattle.lapb.specs.Out.{Out}
+use Rattle.line_end.specs.Held.{LineEnd}
 use Rattle.line_end.specs.End.{settled}
 use Rattle.line_end.specs.EndView.{end_of}
 use Rattle.line_end.proofs.Steps.{settles}
@@ -17,10 +17,9 @@ use Rattle.line_end.proofs.end.LineEnd.settle.Goals as goal
 pub invariant_of-self : goal.invariant_of-self
 invariant_of-self c =
     let step = machine.settle c.self.inside.link.link in
-    still_end c.self.inside c.settle.new.self c.settle.new.pool c.set_timer.new.timers c.take_timer.new.self
+    still_end c.self.inside c.settle.new.self c.set_timer.new.timers c.take_timer.new.self
     c.self.invariant
-    (rw c.settle.ensures.link (settles c.self.inside.link.link).keeps) (rw (c.settle.ensures.pool, c.settle.ensures.link) (balances_same c.self.inside.pool c.self.inside.link.held))
-    (rw c.settle.ensures.link (c.self.invariant.pool.tight ∙ ap length (sym (settles c.self.inside.link.link).packets)))
+    (rw c.settle.ensures.link (settles c.self.inside.link.link).keeps) (rw c.settle.ensures.link (c.self.invariant.tight ∙ ap length (sym (settles c.self.inside.link.link).packets)))
     (rw c.settle.ensures.link (t1-is c.self.inside.link.link step c.self.inside.out c.settle.new.out _ _ c.self.invariant.told c.settle.ensures.out (c.set_timer.ensures.t1 ∙ ap (λ (change : Timing). runs_then change (is_some (left_of c.self.inside.timers T1))) c.take_timer.ensures.timer) c.self.invariant.t1)) (ap (λ (o : Out). o.timer) c.take_timer.ensures.out)
 
 pub returns-clause-end : goal.returns-clause-end
@@ -34,7 +33,7 @@ returns-clause-end c =
     ∙ did-is (end_of c.self.inside) step c.self.inside.out c.settle.new.out c.set_timer.new.timers
     c.self.invariant.told refl c.settle.ensures.out
     (c.set_timer.ensures.timers ∙ ap (λ (change : Timing). timed change c.self.inside.timers) c.take_timer.ensures.timer)
-    ∙ ap settled c.self.view_is
+    ∙ ap (λ (e : LineEnd). settled e.end) c.self.view_is
 
 pub returns-clause-frames : goal.returns-clause-frames
 returns-clause-frames c =

@@ -1,4 +1,4 @@
-use Rattle.line_end.proofs.Calls.{has_room}
+use Rattle.link_tests.proofs.Stations.{has_room}
 use Rattle.link_tests.proofs.station.Station.offer.Goals as goal
 
 pub offer-requires-clause-room : goal.offer-requires-clause-room

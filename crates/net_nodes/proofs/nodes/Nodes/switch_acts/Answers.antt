@@ -30,5 +30,5 @@ returns g c =
       puts = w.puts_are;
       notes = c.requires.notes;
       text = c.requires.text;
-      outcome = c.outcome_of.ensures;
+      outcome = c.outcome_of-answer.ensures;
     })

@@ -8,14 +8,14 @@ pub invariant_of-self : goal.invariant_of-self
 invariant_of-self c =
     let e = c.self.inside in
     let asks = request_of c.args.request.now in
-    rw c.ask.ensures.layer
+    rw c.ask.ensures.stack
     (elim c.if-changes_call.branch [
       | then-changes_call w ↦
           rw w.self-inside-is
-          (others_agree e.layer _ e.timers e.touched w.insert.new.self c.self.invariant
-          (λ n out. let apart = w.insert.ensures n out in (apart.0, request_apart e.layer c.args.channel n asks apart.1)))
+          (others_agree e.stack.layer _ e.timers e.touched w.insert.new.self c.self.invariant
+          (λ n out. let apart = w.insert.ensures n out in (apart.0, request_apart e.stack.layer c.args.channel n asks apart.1)))
       | else-changes_call w ↦
           rw w.self-inside-is
-          (others_agree e.layer _ e.timers e.touched e.touched c.self.invariant
-          (λ n out. (out, request_alike e.layer c.args.channel n asks (sym c.changes_call.ensures ∙ w.if-changes_call.false))))
+          (others_agree e.stack.layer _ e.timers e.touched e.touched c.self.invariant
+          (λ n out. (out, request_alike e.stack.layer c.args.channel n asks (sym c.changes_call.ensures ∙ w.if-changes_call.false))))
     ])

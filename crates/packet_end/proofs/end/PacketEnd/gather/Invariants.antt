@@ -7,11 +7,11 @@ abbrev pub invariant-loop : goal.invariant-loop
 invariant-loop l = record {
   end : l.end ≡ length l.fn.self.layer.notes;
   most : l.end ≤ 32;
-  left : length l.self-inside.layer.notes + l.counter ≡ l.end;
+  left : length l.self-inside.stack.layer.notes + l.counter ≡ l.end;
   taken : length l.self-inside.notes ≤ length l.fn.self.notes + l.counter;
-  notes : l.self-inside.notes ++ l.self-inside.layer.notes ≡ l.fn.self.notes ++ l.fn.self.layer.notes;
-  layer : unread l.self-inside.layer ≡ unread l.fn.self.layer;
-  line : l.self-inside.line ≡ l.fn.self.line;
+  notes : l.self-inside.notes ++ l.self-inside.stack.layer.notes ≡ l.fn.self.notes ++ l.fn.self.layer.notes;
+  layer : unread l.self-inside.stack.layer ≡ unread l.fn.self.layer;
+  line : l.self-inside.stack.line ≡ l.fn.self.line;
   timers : l.self-inside.timers ≡ l.fn.self.timers;
-  agree : OthersAgree l.self-inside.layer l.self-inside.timers l.self-inside.touched;
+  agree : OthersAgree l.self-inside.stack.layer l.self-inside.timers l.self-inside.touched;
 }

@@ -9,10 +9,10 @@ use Rattle.packet_end.proofs.end.PacketEnd.offer_packets.Given as goal
 abbrev pub invariant-loop-count : goal.invariant-loop-count
 invariant-loop-count l = record {
   left : offered (7 - l.count) (end_of l.self-inside) ≡ all_offered l.fn.self;
-  queued : l.count ≤ length l.self-inside.line.link.queue;
+  queued : l.count ≤ length l.self-inside.stack.line.link.queue;
   notes : l.self-inside.notes ≡ l.fn.self.notes;
   begins : l.count ≡ 0 → end_of l.self-inside ≡ l.fn.self;
   some : 1 ≤ l.count → may_offer l.fn.self ≡ true;
-  most : 1 ≤ l.count → l.self-inside.line.link.k ≤ 7;
-  agree : OthersAgree l.self-inside.layer l.self-inside.timers l.self-inside.touched;
+  most : 1 ≤ l.count → l.self-inside.stack.line.link.k ≤ 7;
+  agree : OthersAgree l.self-inside.stack.layer l.self-inside.timers l.self-inside.touched;
 }

@@ -6,6 +6,6 @@ use Rattle.packet_end.proofs.end.PacketEnd.take.Goals as goal
 pub invariant_of-self : goal.invariant_of-self
 invariant_of-self c =
     let e = c.self.inside in
-    rw c.take.ensures.layer
-    (others_agree e.layer _ e.timers e.touched e.touched c.self.invariant
-    (λ n out. (out, request_alike e.layer c.args.channel n Taking refl)))
+    rw c.take.ensures.stack
+    (others_agree e.stack.layer _ e.timers e.touched e.touched c.self.invariant
+    (λ n out. (out, request_alike e.stack.layer c.args.channel n Taking refl)))

@@ -1,34 +1,63 @@
-use Rattle.std.proofs.Common.{◌≡◌, ◌∙◌, ◌+◌, ap, sym, subst, Some, ◌<◌, length}
+use Rattle.std.proofs.Common.{◌≡◌, ◌∙◌, ◌+◌, ap, sym, subst, Some, ◌<◌, length, set, arith, length-set}
 use Rattle.std.specs.Prelude.{slice_get, Bool}
-use Rattle.packet_layer.specs.Layer.{Layer, free_channel, owing, placing}
+use Rattle.packet_channel.specs.Held.{Channel as Holder}
+use Rattle.packet_layer.specs.Layer as machine
+use Rattle.packet_layer.specs.Layer.{free_channel, owing, placing, set_if}
+use Rattle.packet_layer.specs.Held.{Layer as Held, plain, buffers}
 use Rattle.packet_layer.specs.LayerView.{layer_of}
+use Rattle.packet_layer.proofs.Placed.{placed, fits_after, fits_kept, borrowed, plain_at, plain_set, buffers_same}
 use Rattle.packet_codec.specs.Packet.{CallValue}
 use Rattle.packet_codec.specs.View.{call_view}
 use Rattle.packet_channel.specs.Octets.{parts_of}
 use Rattle.packet_layer.specs.RestartView.{phase_of}
-use Rattle.packet_layer.proofs.Places.{item_at, kept, call_done, free_ready}
+use Rattle.packet_layer.proofs.Places.{kept, call_done, free_ready}
+use Rattle.std.specs.Prelude.{true}
+use Rattle.packet_layer.proofs.Silence.{layer_touched}
 use Rattle.packet_layer.proofs.layer.Layer.call.Goals as goal
 use Rattle.packet_layer.proofs.layer.Layer.call.Goals.{then-place_call, else-place_call}
 
 pub place_call-requires : goal.place_call-requires
 place_call-requires c =
-    let l = layer_of c.self.inside in
-    let ch = c.index_mut-channel.result.now in
-    let within : c.in-Some.place < length l.channels = subst (λ (x : Layer). c.in-Some.place < length x.channels) (sym c.self.view_is) c.in-Some.ensures.1.there in
-    let found : slice_get l.channels c.in-Some.place ≡ Some ch = item_at l.channels c.in-Some.place ch within c.index_mut-channel.ensures.value in
-    free_ready ch (c.in-Some.ensures.1.free ch (subst (λ (x : Layer). slice_get x.channels c.in-Some.place ≡ Some ch) c.self.view_is found))
+    let a = c.self.inside in
+    let l = layer_of a in
+    let held = c.index_mut-channel.result.now in
+    let ch = held.channel in
+    let within : c.in-Some.place < length l.channels = subst (λ (x : Held). c.in-Some.place < length x.layer.channels) (sym c.self.view_is) c.in-Some.ensures.1.there in
+    let there = borrowed a.channels.items c.in-Some.place held within c.index_mut-channel.ensures.value in
+    let found : slice_get l.channels c.in-Some.place ≡ Some ch = plain_at a.channels.items c.in-Some.place held there in
+    free_ready ch (c.in-Some.ensures.1.free ch (subst (λ (x : Held). slice_get x.layer.channels c.in-Some.place ≡ Some ch) c.self.view_is found))
 
 pub returns-clause-layer : goal.returns-clause-layer
 returns-clause-layer c =
-    let l = layer_of c.self.inside in
-    let ch = c.index_mut-channel.result.now in
-    let within : c.in-Some.place < length l.channels = subst (λ (x : Layer). c.in-Some.place < length x.channels) (sym c.self.view_is) c.in-Some.ensures.1.there in
-    let found : slice_get l.channels c.in-Some.place ≡ Some ch = item_at l.channels c.in-Some.place ch within c.index_mut-channel.ensures.value in
+    let a = c.self.inside in
+    let l = layer_of a in
+    let held = c.index_mut-channel.result.now in
+    let ch = held.channel in
+    let within : c.in-Some.place < length l.channels = subst (λ (x : Held). c.in-Some.place < length x.layer.channels) (sym c.self.view_is) c.in-Some.ensures.1.there in
+    let there = borrowed a.channels.items c.in-Some.place held within c.index_mut-channel.ensures.value in
+    let found : slice_get l.channels c.in-Some.place ≡ Some ch = plain_at a.channels.items c.in-Some.place held there in
     let parts = parts_of (call_view c.args.call.now) in
-    let free : free_channel l.role l.channels ≡ Some (c.in-Some.place + 1) = subst (λ (x : Layer). free_channel x.role x.channels ≡ Some (c.in-Some.place + 1)) (sym c.self.view_is) c.in-Some.ensures.0 in
-    let placed : c.place_call.new.self ≡ owing (placing parts ch) = c.place_call.ensures.channel ∙ ap (λ (v : CallValue). owing (placing (parts_of v) ch)) c.new-call.ensures in
-    let done : kept l c.in-Some.place c.place_call.new.self c.place_call.result ≡ Rattle.packet_layer.specs.Layer.call c.args.self.now parts = rw (← c.self.view_is) (call_done l c.in-Some.place ch c.place_call.new.self parts c.place_call.result (ap phase_of c.in-PacketReady.is) free found placed c.place_call.ensures.passes) in
+    let free : free_channel l.role l.channels ≡ Some (c.in-Some.place + 1) = subst (λ (x : Held). free_channel x.layer.role x.layer.channels ≡ Some (c.in-Some.place + 1)) (sym c.self.view_is) c.in-Some.ensures.0 in
+    let new = c.place_call.new.self in
+    let placed : new.channel ≡ owing (placing parts ch) = ap (λ (x : Holder). x.channel) c.place_call.ensures.channel ∙ ap (λ (v : CallValue). owing (placing (parts_of v) ch)) c.new-call.ensures in
+    let done : kept l c.in-Some.place new.channel c.place_call.result ≡ machine.call c.args.self.now.layer parts = rw (← c.self.view_is) (call_done l c.in-Some.place ch new.channel parts c.place_call.result (ap phase_of c.in-PacketReady.is) free found placed c.place_call.ensures.passes) in
+    let same : buffers (set a.channels.items c.in-Some.place new) ≡ c.args.self.now.held = buffers_same a.channels.items c.in-Some.place held new there (ap (λ (x : Holder). x.held) c.place_call.ensures.channel) ∙ ap (λ (x : Held). x.held) c.self.view_is in
+    let after : record l { channels = plain (set a.channels.items c.in-Some.place new); relink = set_if c.place_call.result l.relink } ≡ machine.call c.args.self.now.layer parts = ap (λ chs. record l { channels = chs; relink = set_if c.place_call.result l.relink }) (plain_set a.channels.items c.in-Some.place new) ∙ done in
     elim c.if-place_call.branch [
-      | then-place_call w ↦ w.self-is ∙ ap (λ (b : Bool). kept l c.in-Some.place c.place_call.new.self b) (sym w.if-place_call.true) ∙ done
-      | else-place_call w ↦ w.self-is ∙ ap (λ (b : Bool). kept l c.in-Some.place c.place_call.new.self b) (sym w.if-place_call.false) ∙ done
+      | then-place_call w ↦ w.self-is ∙ λ i. record { layer = (ap (λ (b : Bool). record l { channels = plain (set a.channels.items c.in-Some.place new); relink = set_if b l.relink }) (sym w.if-place_call.true) ∙ after) i; held = same i }
+      | else-place_call w ↦ w.self-is ∙ λ i. record { layer = (ap (λ (b : Bool). record l { channels = plain (set a.channels.items c.in-Some.place new); relink = set_if b l.relink }) (sym w.if-place_call.false) ∙ after) i; held = same i }
     ]
+
+pub invariant_of-self : goal.invariant_of-self
+invariant_of-self c =
+    let a = c.self.inside in
+    let held = c.index_mut-channel.result.now in
+    let there = placed a c.args.self.now c.in-Some.place held c.self.view_is c.in-Some.ensures.1.there c.index_mut-channel.ensures.value in
+    layer_touched a c.insert.new.self c.in-Some.place held c.place_call.new.self true c.self.invariant c.insert.ensures there (fits_kept a.window held c.place_call.new.self _ c.place_call.ensures.channel)
+
+pub invariant_of-self-else-place_call : goal.invariant_of-self-else-place_call
+invariant_of-self-else-place_call c =
+    let a = c.self.inside in
+    let held = c.index_mut-channel.result.now in
+    let there = placed a c.args.self.now c.in-Some.place held c.self.view_is c.in-Some.ensures.1.there c.index_mut-channel.ensures.value in
+    layer_touched a c.insert.new.self c.in-Some.place held c.place_call.new.self c.self.inside.relink c.self.invariant c.insert.ensures there (fits_kept a.window held c.place_call.new.self _ c.place_call.ensures.channel)

@@ -1,14 +1,49 @@
-use Rattle.std.proofs.Common.{◌≡◌, ◌∙◌, sym, subst, Some, ◌<◌, length}
+use Rattle.std.proofs.Common.{◌≡◌, ◌∙◌, ap, sym, subst, Some, ◌<◌, length, arith, length-set}
 use Rattle.std.specs.Prelude.{slice_get}
-use Rattle.packet_layer.specs.Layer.{Layer}
+use Rattle.packet_layer.specs.Held.{Layer as Held}
 use Rattle.packet_layer.specs.LayerView.{layer_of}
-use Rattle.packet_layer.proofs.Places.{item_at, taking_done}
+use Rattle.packet_layer.proofs.Placed.{placed, own_held, own_balance, fits_after, borrowed, plain_at, plain_set}
+use Rattle.packet_layer.proofs.Places.{taking_done, front_there}
+use Rattle.packet_layer.proofs.Silence.{layer_touched}
 use Rattle.packet_layer.proofs.layer.Layer.take.Goals as goal
 
 pub returns-clause-layer : goal.returns-clause-layer
 returns-clause-layer c =
+    let a = c.self.inside in
+    let l = layer_of a in
+    let held = c.index_mut-channel.result.now in
+    let ch = held.channel in
+    let within : c.in_ok-place.place < length l.channels = subst (λ (x : Held). c.in_ok-place.place < length x.layer.channels) (sym c.self.view_is) c.in_ok-place.ensures.1 in
+    let there = borrowed a.channels.items c.in_ok-place.place held within c.index_mut-channel.ensures.value in
+    let found : slice_get l.channels c.in_ok-place.place ≡ Some ch = plain_at a.channels.items c.in_ok-place.place held there in
+    rw (← c.self.view_is) (ap (λ chs. record l { channels = chs }) (plain_set a.channels.items c.in_ok-place.place c.take.new.self) ∙ taking_done l c.args.channel c.in_ok-place.place ch c.take.new.self.channel (c.in_ok-place.ensures.0 ∙ c.from.ensures) found (c.take.ensures.channel c.self.inside.role))
+
+pub take-requires : goal.take-requires
+take-requires c =
+    let a = c.self.inside in
+    let held = c.index_mut-channel.result.now in
+    let there = placed a c.args.self.now c.in_ok-place.place held c.self.view_is c.in_ok-place.ensures.1 c.index_mut-channel.ensures.value in
+    own_held a c.args.self.now c.args.pool.now c.in_ok-place.place held c.self.view_is c.requires.holds there
+
+pub returns-clause-pool : goal.returns-clause-pool
+returns-clause-pool c =
+    let a = c.self.inside in
+    let held = c.index_mut-channel.result.now in
+    let there = placed a c.args.self.now c.in_ok-place.place held c.self.view_is c.in_ok-place.ensures.1 c.index_mut-channel.ensures.value in
+    own_balance a c.args.self.now c.args.pool.now c.take.new.pool c.in_ok-place.place held c.take.new.self c.self.view_is there
+    c.take.ensures.pool
+
+pub returns-clause-taken : goal.returns-clause-taken
+returns-clause-taken c =
     let l = layer_of c.self.inside in
-    let ch = c.index_mut-channel.result.now in
-    let within : c.in_ok-place.place < length l.channels = subst (λ (x : Layer). c.in_ok-place.place < length x.channels) (sym c.self.view_is) c.in_ok-place.ensures.1 in
-    let found : slice_get l.channels c.in_ok-place.place ≡ Some ch = item_at l.channels c.in_ok-place.place ch within c.index_mut-channel.ensures.value in
-    rw (← c.self.view_is) (taking_done l c.args.channel c.in_ok-place.place ch c.take.new.self (c.in_ok-place.ensures.0 ∙ c.from.ensures) found (c.take.ensures.channel c.self.inside.role))
+    let held = c.index_mut-channel.result.now in
+    let there = placed c.self.inside c.args.self.now c.in_ok-place.place held c.self.view_is c.in_ok-place.ensures.1 c.index_mut-channel.ensures.value in
+    let found = plain_at c.self.inside.channels.items c.in_ok-place.place held there in
+    rw (← c.self.view_is) (c.take.ensures.taken ∙ sym (front_there l c.args.channel c.in_ok-place.place held.channel (c.in_ok-place.ensures.0 ∙ c.from.ensures) found))
+
+pub invariant_of-self : goal.invariant_of-self
+invariant_of-self c =
+    let a = c.self.inside in
+    let held = c.index_mut-channel.result.now in
+    let there = placed a c.args.self.now c.in_ok-place.place held c.self.view_is c.in_ok-place.ensures.1 c.index_mut-channel.ensures.value in
+    layer_touched a c.insert.new.self c.in_ok-place.place held c.take.new.self c.self.inside.relink c.self.invariant c.insert.ensures there (c.take.ensures.fits a.window)

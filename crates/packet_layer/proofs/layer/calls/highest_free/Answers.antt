@@ -3,7 +3,9 @@ use Rattle.std.specs.Prelude.{slice_get, true, MatchOption}
 use Rattle.packet_channel.specs.Channel.{Channel}
 use Rattle.packet_layer.specs.Layer.{is_free, highest_free}
 use Rattle.packet_layer.specs.Free.{IsFreeAt}
+use Rattle.packet_layer.specs.Held.{plain}
 use Rattle.packet_layer.proofs.Places.{at_place}
+use Rattle.packet_layer.proofs.Placed.{plain_at, plain_length}
 use Rattle.packet_layer.proofs.FreeChannels.{highest_found, highest_goes_on}
 use Rattle.packet_layer.proofs.layer.calls.highest_free.Goals as goal
 use Rattle.packet_layer.proofs.layer.calls.highest_free.Goals.{then-is_free, else-is_free}
@@ -21,11 +23,13 @@ now_found chs i ch within found free = (highest_found chs i ch found free, recor
 
 pub loop-place-preserved : goal.loop-place-preserved
 loop-place-preserved c =
-    let chs = c.args.channels.now in
+    let chs = plain c.args.channels.now in
     let i = c.loop-place.place in
-    let ch = c.index-channels-place.result in
-    let found : slice_get chs i ≡ Some ch = at_place chs i ch (omega arith) c.index-channels-place.is in
+    let held = c.index-channels-place.result in
+    let ch = held.channel in
+    let long = plain_length c.args.channels.now in
+    let found : slice_get chs i ≡ Some ch = plain_at c.args.channels.now i held (at_place c.args.channels.now i held (omega arith) c.index-channels-place.is) in
     elim c.if-is_free.branch [
-      | then-is_free w ↦ subst (λ (o : Option ℕ). Found chs (i + 1) o) (sym w.found-is) (now_found chs i ch (omega arith) found (sym c.is_free.ensures ∙ w.if-is_free.true))
+      | then-is_free w ↦ subst (λ (o : Option ℕ). Found chs (i + 1) o) (sym w.found-is) (now_found chs i ch (omega (arith, long)) found (sym c.is_free.ensures ∙ w.if-is_free.true))
       | else-is_free w ↦ subst (λ (o : Option ℕ). Found chs (i + 1) o) (sym w.found-is) (same_found chs i (i + 1) c.loop-place.found (highest_goes_on chs i ch found (sym c.is_free.ensures ∙ w.if-is_free.false)) c.loop-place.invariant)
     ]

@@ -2,7 +2,7 @@
 use Rattle.std.proofs.Common.{◌≡◌, ℕ, ◌<◌, ◌≤◌, ◌++◌, false, length}
 use Rattle.arrayvec.specs.ArrayVec.{array_vec_len}
 use Rattle.packet_end.specs.PacketEnd.{all_offered}
-use Rattle.line_set.specs.LineSet.{has}
+use Rattle.number_set.specs.NumberSet.{has}
 use Rattle.switch_lines.specs.Switch.{with_end}
 use Rattle.switch_lines.specs.Touched.{AreThere, changed_in, offering_in}
 use Rattle.switch_lines.proofs.lines.touched.offer_lines.Given as goal

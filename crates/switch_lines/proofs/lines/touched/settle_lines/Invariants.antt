@@ -5,7 +5,7 @@ use Rattle.std.proofs.Common.{◌≡◌, ℕ, true, false}
 use Rattle.std.specs.Prelude.{slice_get, Some}
 use Rattle.packet_end.specs.Timing.{TimersAgree}
 use Rattle.packet_end.specs.PacketEnd.{settled}
-use Rattle.line_set.specs.LineSet.{has}
+use Rattle.number_set.specs.NumberSet.{has}
 use Rattle.switch_lines.specs.Lines.{SwitchLine}
 use Rattle.switch_lines.specs.Switch.{with_end}
 use Rattle.switch_lines.specs.Touched.{AreThere, changed_in}

@@ -1,6 +1,0 @@
-use Rattle.line_end.proofs.Calls.{has_room}
-use Rattle.line_end.proofs.end.LineEnd.offer.Goals as goal
-
-pub offer-requires-clause-room : goal.offer-requires-clause-room
-offer-requires-clause-room c =
-    has_room c.self.inside.pool c.self.inside.link c.self.invariant.pool c.self.invariant.queue

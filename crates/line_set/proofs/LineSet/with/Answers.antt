@@ -1,5 +1,0 @@
-use Rattle.line_set.proofs.Bits.{bits_of_both}
-use Rattle.line_set.proofs.LineSet.with.Goals as goal
-
-pub returns : goal.returns
-returns c = λ n. bits_of_both c.args.self.bits c.args.other.bits n

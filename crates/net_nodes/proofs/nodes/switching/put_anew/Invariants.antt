@@ -1,0 +1,13 @@
+-- The first own lines are drained, and their frames are put and listed.
+use Rattle.std.proofs.Common.{true, ◌≡◌, ◌≤◌, ◌*◌, vec_len, vec_capacity}
+use Rattle.net_nodes.proofs.Switching.{drained_to, puts_to, PutTo}
+use Rattle.net_nodes.proofs.nodes.switching.put_anew.Given as goal
+
+abbrev pub invariant-loop-at : goal.invariant-loop-at
+invariant-loop-at g l = record {
+  switch_is : l.switch ≡ record l.initial.switch { lines = drained_to l.at l.initial.switch.lines };
+  puts_are : l.puts.items ≡ puts_to l.at l.own l.initial.switch.lines;
+  places : vec_len l.puts ≤ 9 * l.at;
+  capacity : vec_capacity l.puts ≡ vec_capacity l.initial.puts;
+  lines_put : PutTo g.L.Line.service true l.own l.initial.switch l.at l.initial.lines.items l.lines.items;
+}

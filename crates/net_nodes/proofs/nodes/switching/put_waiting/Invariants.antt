@@ -1,0 +1,13 @@
+-- The own lines before one of them are drained, and their frames are put and listed.
+use Rattle.std.proofs.Common.{ℕ, ◌≡◌, length, vec_len, vec_capacity}
+use Rattle.net_nodes.proofs.Waiting.{PutBefore}
+use Rattle.net_nodes.proofs.nodes.switching.put_waiting.Given as goal
+
+abbrev pub invariant-loop-at : goal.invariant-loop-at
+invariant-loop-at g l = record {
+  put : (at : ℕ) × PutBefore g.L.Line.service l.own l.initial.switch l.switch l.waiting l.puts.items (vec_len l.puts) l.initial.lines.items l.lines.items at;
+  capacity : vec_capacity l.puts ≡ vec_capacity l.initial.puts;
+}
+
+abbrev pub decreases-loop-at : goal.decreases-loop-at
+decreases-loop-at g l = l.waiting.bits

@@ -1,0 +1,3 @@
+pub mod Queues
+pub mod Fitting
+pub mod Owing

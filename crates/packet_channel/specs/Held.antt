@@ -1,0 +1,43 @@
+-- What lies in the buffers of a pool: packets, queues of packets, and the buffers that a channel holds by them.
+use Rattle.std.specs.Prelude.{ℕ, ◌+◌, ◌≤◌, Bool, List, map, length}
+use Rattle.flow_window.specs.Pool.{Buffer}
+use Rattle.packet_channel.specs.Packets.{Datum}
+use Rattle.packet_channel.specs.Traffic as machine
+use Rattle.packet_channel.specs.Channel as channel
+
+-- a packet in a buffer
+pub record Kept : Type 0 where
+  pub buffer : Buffer
+  pub more : Bool
+  pub qualified : Bool
+  pub delivery : Bool
+
+abbrev pub datum_in : Kept → Datum
+datum_in p = record { octets = p.buffer.octets; more = p.more; qualified = p.qualified; delivery = p.delivery }
+
+abbrev pub contents : List Kept → List Datum
+contents ps = map datum_in ps
+
+abbrev pub buffers : List Kept → List Buffer
+buffers ps = map (λ p. p.buffer) ps
+
+-- packets in order, and the buffers that they lie in
+pub record Queue : Type 0 where
+  pub packets : List Datum
+  pub held : List Buffer
+
+-- the traffic of a call, and the buffers that its two queues hold
+pub record Traffic : Type 0 where
+  pub traffic : machine.Traffic
+  pub held : List Buffer
+
+-- a channel, and the buffers that it holds
+pub record Channel : Type 0 where
+  pub channel : channel.Channel
+  pub held : List Buffer
+
+-- no more packets wait to be taken than the window has room for, and no more buffers are held than that and the send
+-- queue have room for
+pub record Fits (window : ℕ) (c : Channel) : Type 0 where
+  pub arrived : length c.channel.traffic.arrived ≤ window
+  pub held : length c.held ≤ window + 8

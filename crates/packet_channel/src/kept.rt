@@ -1,0 +1,103 @@
+//! A packet that lies in a buffer of a pool.
+ghost use Rattle.std.specs.Prelude.{◌≡◌, ◌≤◌, [], ◌∷◌, length};
+ghost use Rattle.flow_window.specs.Pool.{IsIn, Balances};
+ghost use Rattle.packet_channel.specs.Held.{datum_in};
+
+use crate::user_data::UserData;
+use flow_window::pool::{BufNo, Pool};
+use std::marker::Model;
+
+/// The user data of a Data packet, at most 128 octets in a buffer, with the bits M, Q and D (X.25 4.3).
+#[derive(Drop)]
+pub(crate) struct KeptPacket {
+    buffer: BufNo,
+    more: bool,
+    qualified: bool,
+    delivery: bool,
+}
+
+impl Model for KeptPacket {
+    ghost use Rattle.std.specs.Prelude.{◌≤◌, length};
+    ghost use Rattle.packet_channel.specs.Held.{Kept};
+
+    ghost Value = { Kept };
+
+    ghost view = { λ p. record {
+      buffer = p.buffer;
+      more = p.more;
+      qualified = p.qualified;
+      delivery = p.delivery;
+    } };
+
+    ghost invariant = { λ p. length p.buffer.octets ≤ 128 };
+}
+
+impl KeptPacket {
+    /// The packet that lies in the buffer.
+    pub(crate) fn new(buffer: BufNo, more: bool, qualified: bool, delivery: bool) -> Self
+        requires { length buffer.octets ≤ 128 }
+        ensures { result ≡ record { buffer = buffer; more = more; qualified = qualified; delivery = delivery } }
+    {
+        KeptPacket {
+            buffer,
+            more,
+            qualified,
+            delivery,
+        }
+    }
+
+    /// The octets.
+    pub(crate) fn octets<'a>(&self, pool: &'a Pool) -> &'a [u8]
+        requires { IsIn self.now.buffer pool.now }
+        ensures value { result.now ≡ self.now.buffer.octets }
+        ensures fits { length result.now ≤ 128 }
+    {
+        pool.octets(&self.buffer)
+    }
+
+    /// The M bit.
+    pub(crate) fn more(&self) -> bool
+        ensures { result ≡ self.now.more }
+    {
+        self.more
+    }
+
+    /// The Q bit.
+    pub(crate) fn qualified(&self) -> bool
+        ensures { result ≡ self.now.qualified }
+    {
+        self.qualified
+    }
+
+    /// The D bit.
+    pub(crate) fn delivery(&self) -> bool
+        ensures { result ≡ self.now.delivery }
+    {
+        self.delivery
+    }
+
+    /// Copies the packet out, and gives its buffer back.
+    pub(crate) fn take_out(self, pool: &mut Pool) -> UserData
+        requires { IsIn self.buffer pool.old }
+        ensures value { result ≡ datum_in self }
+        ensures pool { Balances pool.old (self.buffer ∷ []) pool.new [] }
+    {
+        let KeptPacket {
+            buffer,
+            more,
+            qualified,
+            delivery,
+        } = self;
+        let data = UserData::new(pool.octets(&buffer), more, qualified, delivery);
+        pool.free(buffer);
+        data
+    }
+
+    /// Gives the buffer back.
+    pub(crate) fn give_back(self, pool: &mut Pool)
+        requires { IsIn self.buffer pool.old }
+        ensures { Balances pool.old (self.buffer ∷ []) pool.new [] }
+    {
+        pool.free(self.buffer);
+    }
+}

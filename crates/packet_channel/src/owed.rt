@@ -1,0 +1,70 @@
+//! Packets that are owed to the link.
+ghost use Rattle.std.specs.Prelude.{◌≡◌, ◌==◌, [], ◌∷◌, Some, MatchOption, length};
+ghost use Rattle.packet_channel.specs.Channel.{with_owed, passes_limit};
+
+use arrayvec::ArrayVec;
+use std::marker::Model;
+
+/// How many control packets may be owed on a channel, and how many restart packets.
+const MOST_OWED: usize = 4;
+
+/// The packets of one kind that are owed to the link, in order.
+#[derive(Drop)]
+pub struct Owed<P> {
+    packets: ArrayVec<P, MOST_OWED>,
+}
+
+impl<P> Model for Owed<P> {
+    ghost use Rattle.std.specs.Prelude.{List};
+
+    ghost Value = { List P };
+
+    ghost view = { λ o. o.packets.items };
+}
+
+impl<P: Default + Drop> Owed<P> {
+    pub fn new() -> Self
+        ensures { result ≡ [] }
+    {
+        Owed {
+            packets: ArrayVec::new(),
+        }
+    }
+
+    pub fn is_empty(&self) -> bool
+        ensures { result ≡ (length self.now == 0) }
+    {
+        self.packets.is_empty()
+    }
+
+    pub fn clear(&mut self)
+        ensures { self.new ≡ [] }
+    {
+        self.packets.clear();
+    }
+
+    /// Owes a packet more, and answers whether it is one too many. That one is not kept.
+    pub fn owe(&mut self, packet: P) -> bool
+        ensures owed { self.new ≡ with_owed self.old (Some packet) }
+        ensures passes { result ≡ passes_limit self.old (Some packet) }
+    {
+        if self.packets.is_full() {
+            return true;
+        }
+        self.packets.push(packet);
+        false
+    }
+
+    /// Takes the first packet out, if there is one.
+    pub fn take_first(&mut self) -> Option<P>
+        ensures { MatchOption result
+            ((self.old ≡ []) × (self.new ≡ []))
+            (λ packet. self.old ≡ packet ∷ self.new) }
+    {
+        if self.packets.is_empty() {
+            None
+        } else {
+            Some(self.packets.remove(0))
+        }
+    }
+}

@@ -1,0 +1,164 @@
+-- Channels with their buffers: what one of them, by its place, is to all.
+use Rattle.std.proofs.Common.{◌≡◌, ℕ, zero, suc, ◌+◌, ◌*◌, ◌<◌, ◌≤◌, List, [], ◌∷◌, ◌++◌, length, map, set, get_or, Some, refl, ap, ◌∙◌, sym, subst, arith}
+use Rattle.std.specs.Prelude.{slice_get}
+use Rattle.std.proofs.lemmas.Option.{same_Some, none-some}
+use Rattle.std.proofs.lemmas.List.{length-map, map-set}
+use Rattle.flow_window.specs.Pool.{Pool, Buffer, weight, pooled, in_use, Holds, Balances}
+use Rattle.flow_window.proofs.Weights.{weight_append, weight_ones}
+use Rattle.packet_channel.specs.Packets.{CallParts}
+use Rattle.packet_channel.specs.Channel.{Channel, owing, placing}
+use Rattle.packet_channel.specs.Held.{Channel as Holder, Fits}
+use Rattle.packet_layer.specs.declared.layer.Layer.TheInside.{Inside}
+use Rattle.packet_layer.specs.Held.{Layer as Held, plain, buffers, AllFit, HasRoom, most_held}
+use Rattle.packet_layer.specs.LayerView.{holding, IsLayer}
+use Rattle.packet_layer.proofs.Places.{at_place}
+
+pub plain_length : (cs : List Holder) → length (plain cs) ≡ length cs
+plain_length cs = length-map cs (λ (c : Holder). c.channel)
+
+pub plain_at : (cs : List Holder) (i : ℕ) (c : Holder) → slice_get cs i ≡ Some c → slice_get (plain cs) i ≡ Some c.channel
+plain_at [] i c e = absurd (none-some c e)
+plain_at (x ∷ xs) zero c e = ap (λ (x : Holder). Some x.channel) (same_Some x c e)
+plain_at (x ∷ xs) (suc i) c e = plain_at xs i c e
+
+pub plain_set : (cs : List Holder) (i : ℕ) (c : Holder) → plain (set cs i c) ≡ set (plain cs) i c.channel
+plain_set cs i c = map-set (λ (c : Holder). c.channel) cs i c
+
+-- a channel that the code borrows
+pub borrowed : (cs : List Holder) (i : ℕ) (c : Holder) → i < length (plain cs) → c ≡ get_or cs i c →
+    slice_get cs i ≡ Some c
+borrowed cs i c within e = let long = plain_length cs in at_place cs i c (omega (arith, within, long)) e
+
+-- ---- buffers
+
+pub buffers_set : (w : Buffer → ℕ) (cs : List Holder) (i : ℕ) (old new : Holder) → slice_get cs i ≡ Some old →
+    weight w (buffers (set cs i new)) + weight w old.held ≡ weight w (buffers cs) + weight w new.held
+buffers_set w [] i old new e = absurd (none-some old e)
+buffers_set w (x ∷ xs) zero old new e =
+    let same = ap (λ (c : Holder). weight w c.held) (same_Some x old e) in
+    let before = weight_append w x.held (buffers xs) in
+    let after = weight_append w new.held (buffers xs) in
+    omega (arith, same, before, after)
+buffers_set w (x ∷ xs) (suc i) old new e =
+    let rest = buffers_set w xs i old new e in
+    let before = weight_append w x.held (buffers xs) in
+    let after = weight_append w x.held (buffers (set xs i new)) in
+    omega (arith, rest, before, after)
+
+pub buffers_there : (w : Buffer → ℕ) (cs : List Holder) (i : ℕ) (c : Holder) → slice_get cs i ≡ Some c →
+    weight w c.held ≤ weight w (buffers cs)
+buffers_there w [] i c e = absurd (none-some c e)
+buffers_there w (x ∷ xs) zero c e =
+    let same = ap (λ (c : Holder). weight w c.held) (same_Some x c e) in
+    let all = weight_append w x.held (buffers xs) in
+    omega (arith, same, all)
+buffers_there w (x ∷ xs) (suc i) c e =
+    let rest = buffers_there w xs i c e in
+    let all = weight_append w x.held (buffers xs) in
+    omega (arith, rest, all)
+
+-- what a channel holds is in use
+pub holds_at : (pool : Pool) (cs : List Holder) (i : ℕ) (c : Holder) → Holds pool (buffers cs) →
+    slice_get cs i ≡ Some c → Holds pool c.held
+holds_at pool cs i c all e w =
+    let there = buffers_there w cs i c e in
+    let within = all w in
+    omega (arith, there, within)
+
+-- a channel gives buffers back or takes some
+pub balances_at : (before after : Pool) (cs : List Holder) (i : ℕ) (old new : Holder) → slice_get cs i ≡ Some old →
+    Balances before old.held after new.held → Balances before (buffers cs) after (buffers (set cs i new))
+balances_at before after cs i old new e change = record {
+  size = change.size;
+  places = change.places;
+  weights = λ w.
+      let own = change.weights w in
+      let all = buffers_set w cs i old new e in
+      omega (arith, own, all);
+}
+
+-- it holds what it held
+pub buffers_same : (cs : List Holder) (i : ℕ) (old new : Holder) → slice_get cs i ≡ Some old → new.held ≡ old.held →
+    buffers (set cs i new) ≡ buffers cs
+buffers_same [] i old new e same = refl
+buffers_same (x ∷ xs) zero old new e same =
+    ap (λ bs. bs ++ buffers xs) (same ∙ ap (λ (c : Holder). c.held) (sym (same_Some x old e)))
+buffers_same (x ∷ xs) (suc i) old new e same = ap (λ bs. x.held ++ bs) (buffers_same xs i old new e same)
+
+-- ---- how many
+
+pub fits_at : (window : ℕ) (cs : List Holder) (i : ℕ) (c : Holder) → AllFit window cs → slice_get cs i ≡ Some c →
+    Fits window c
+fits_at window [] i c all e = absurd (none-some c e)
+fits_at window (x ∷ xs) zero c all e =
+    let same = same_Some x c e in
+    record {
+      arrived = omega (arith, all.0.arrived, ap (λ (c : Holder). length c.channel.traffic.arrived) same);
+      held = omega (arith, all.0.held, ap (λ (c : Holder). length c.held) same);
+    }
+fits_at window (x ∷ xs) (suc i) c all e = fits_at window xs i c all.1 e
+
+pub fits_set : (window : ℕ) (cs : List Holder) (i : ℕ) (new : Holder) → AllFit window cs → Fits window new →
+    AllFit window (set cs i new)
+fits_set window [] i new all fits = tt
+fits_set window (x ∷ xs) zero new all fits = (fits, all.1)
+fits_set window (x ∷ xs) (suc i) new all fits = (all.0, fits_set window xs i new all.1 fits)
+
+pub few : (window : ℕ) (cs : List Holder) → AllFit window cs →
+    length (buffers cs) ≤ length (plain cs) * (window + 8)
+few window [] all = omega arith
+few window (c ∷ cs) all =
+    let rest = few window cs all.1 in
+    let ones = weight_append (λ _. 1) c.held (buffers cs) in
+    let own = weight_ones c.held in
+    let others = weight_ones (buffers cs) in
+    let together = weight_ones (c.held ++ buffers cs) in
+    omega (arith, rest, ones, own, others, together, all.0.held)
+
+-- there is a buffer for one packet more
+pub room_for_one : (pool : Pool) (window : ℕ) (cs : List Holder) → AllFit window cs →
+    HasRoom pool (buffers cs) (length (plain cs) * (window + 8) + 1) → in_use pool < length pool.places
+room_for_one pool window cs all room = let most = few window cs all in omega (arith, most, room)
+
+-- ---- a step of the channel at a place
+
+pub placed : (a : Inside) (x : Held) (i : ℕ) (c : Holder) → holding a ≡ x → i < length x.layer.channels →
+    c ≡ get_or a.channels.items i c → slice_get a.channels.items i ≡ Some c
+placed a x i c view within e =
+    let same = ap (λ (x : Held). length x.layer.channels) view in
+    borrowed a.channels.items i c (omega (arith, same, within)) e
+
+pub own_held : (a : Inside) (x : Held) (pool : Pool) (i : ℕ) (c : Holder) → holding a ≡ x → Holds pool x.held →
+    slice_get a.channels.items i ≡ Some c → Holds pool c.held
+own_held a x pool i c view all e =
+    holds_at pool a.channels.items i c (subst (λ (x : Held). Holds pool x.held) (sym view) all) e
+
+pub own_room : (a : Inside) (x : Held) (pool : Pool) → IsLayer a → holding a ≡ x →
+    HasRoom pool x.held (most_held x.layer + 1) → in_use pool < length pool.places
+own_room a x pool is view room =
+    room_for_one pool a.window a.channels.items is.fits
+    (subst (λ (x : Held). HasRoom pool x.held (most_held x.layer + 1)) (sym view) room)
+
+pub own_balance : (a : Inside) (x : Held) (before after : Pool) (i : ℕ) (old new : Holder) → holding a ≡ x →
+    slice_get a.channels.items i ≡ Some old → Balances before old.held after new.held →
+    Balances before x.held after (buffers (set a.channels.items i new))
+own_balance a x before after i old new view e change =
+    subst (λ (x : Held). Balances before x.held after (buffers (set a.channels.items i new))) view
+    (balances_at before after a.channels.items i old new e change)
+
+pub fits_after : (window : ℕ) (cs : List Holder) (i : ℕ) (old new : Holder) → AllFit window cs →
+    slice_get cs i ≡ Some old → (Fits window old → Fits window new) → AllFit window (set cs i new)
+fits_after window cs i old new all e fits = fits_set window cs i new all (fits (fits_at window cs i old all e))
+
+pub rw_fits : (window other : ℕ) (old new : Holder) → other ≡ window → (Fits other old → Fits other new) →
+    Fits window old → Fits window new
+rw_fits window other old new e fits = subst (λ (n : ℕ). Fits n old → Fits n new) e fits
+
+-- a call that is placed takes no buffer
+pub fits_kept : (window : ℕ) (old new : Holder) (parts : CallParts) →
+    new ≡ record old { channel = owing (placing parts old.channel) } → Fits window old → Fits window new
+fits_kept window old new parts e fits = rw e (record { arrived = fits.arrived; held = fits.held })
+
+pub own_few : (a : Inside) (x : Held) → IsLayer a → holding a ≡ x → length x.held ≤ most_held x.layer
+own_few a x is view =
+    subst (λ (x : Held). length x.held ≤ most_held x.layer) view (few a.window a.channels.items is.fits)

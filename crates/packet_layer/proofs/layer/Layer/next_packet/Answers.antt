@@ -1,0 +1,15 @@
+use Rattle.packet_layer.proofs.Placed.{own_few, few}
+use Rattle.packet_layer.proofs.layer.Layer.next_packet.Goals as goal
+
+pub returns-then-matches-clause-few : goal.returns-then-matches-clause-few
+returns-then-matches-clause-few c = own_few c.self.inside c.args.self.now c.self.invariant c.self.view_is
+
+pub returns-in-Some-clause-few : goal.returns-in-Some-clause-few
+returns-in-Some-clause-few c =
+    few c.self.inside.window c.self.inside.channels.items c.self.invariant.fits
+
+pub returns-clause-few : goal.returns-clause-few
+returns-clause-few c = c.serve.ensures.few
+
+pub serve-requires-clause-few : goal.serve-requires-clause-few
+serve-requires-clause-few c = few c.self.inside.window c.self.inside.channels.items c.self.invariant.fits

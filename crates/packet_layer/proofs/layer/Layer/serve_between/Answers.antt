@@ -1,0 +1,140 @@
+use Rattle.std.proofs.Common.{◌≡◌, ◌∙◌, ◌+◌, ◌-◌, refl, ap, sym, subst, List, ℕ}
+use Rattle.std.specs.Prelude.{is_some, true, false, None}
+use Rattle.packet_layer.specs.Layer.{Layer, Next, serve}
+use Rattle.packet_layer.specs.Events.{written_packet, ReadsBack}
+use Rattle.packet_layer.specs.LayerView.{layer_of}
+use Rattle.packet_layer.proofs.Serving.{silent_same}
+use Rattle.packet_layer.proofs.Round.{ArePassed, none_passed, one_passed, serves_first, serves_none}
+use Rattle.flow_window.proofs.Weights.{balances_same, balances_then, holds_after}
+use Rattle.packet_layer.specs.Held.{Layer as Held}
+use Rattle.packet_layer.proofs.layer.Layer.serve_between.Goals as goal
+
+pub returns-then-serve_channel-clause-layer : goal.returns-then-serve_channel-clause-layer
+returns-then-serve_channel-clause-layer c =
+    let old = c.args.self.now.layer in
+    let place = c.in-Some.place in
+    let same = c.loop-place.invariant.same in
+    let says : is_some (serve 1 old (place + 1)).packet ≡ true =
+    sym (c.if-serve_channel.ensures.said ∙ ap (λ (x : Layer). is_some (serve 1 x (place + 1)).packet) same) in
+    let first : serve (c.args.end - c.args.first) old (c.args.first + 1) ≡ serve 1 old (place + 1) =
+    serves_first old c.args.first c.args.end place c.loop-place.places c.take_first.new.self c.requires.within
+    c.loop-place.invariant.passed c.in-Some.ensures.first says in
+    c.serve_channel.ensures.layer
+    ∙ ap (λ (x : Layer). (serve 1 x (place + 1)).layer) same
+    ∙ ap (λ (n : Next). n.layer) (sym first)
+
+pub returns-then-serve_channel-clause-said : goal.returns-then-serve_channel-clause-said
+returns-then-serve_channel-clause-said c =
+    let old = c.args.self.now.layer in
+    let place = c.in-Some.place in
+    let same = c.loop-place.invariant.same in
+    let says : is_some (serve 1 old (place + 1)).packet ≡ true =
+    sym (c.if-serve_channel.ensures.said ∙ ap (λ (x : Layer). is_some (serve 1 x (place + 1)).packet) same) in
+    let first : serve (c.args.end - c.args.first) old (c.args.first + 1) ≡ serve 1 old (place + 1) =
+    serves_first old c.args.first c.args.end place c.loop-place.places c.take_first.new.self c.requires.within
+    c.loop-place.invariant.passed c.in-Some.ensures.first says in
+    sym says ∙ ap (λ (n : Next). is_some n.packet) (sym first)
+
+pub returns-then-serve_channel-clause-octets : goal.returns-then-serve_channel-clause-octets
+returns-then-serve_channel-clause-octets c =
+    let old = c.args.self.now.layer in
+    let place = c.in-Some.place in
+    let same = c.loop-place.invariant.same in
+    let says : is_some (serve 1 old (place + 1)).packet ≡ true =
+    sym (c.if-serve_channel.ensures.said ∙ ap (λ (x : Layer). is_some (serve 1 x (place + 1)).packet) same) in
+    let first : serve (c.args.end - c.args.first) old (c.args.first + 1) ≡ serve 1 old (place + 1) =
+    serves_first old c.args.first c.args.end place c.loop-place.places c.take_first.new.self c.requires.within
+    c.loop-place.invariant.passed c.in-Some.ensures.first says in
+    c.serve_channel.ensures.octets
+    ∙ ap (λ (x : Layer). written_packet (serve 1 x (place + 1)).packet c.loop-place.buf.items) same
+    ∙ ap (λ (n : Next). written_packet n.packet c.loop-place.buf.items) (sym first)
+    ∙ ap (λ (xs : List ℕ). written_packet (serve (c.args.end - c.args.first) old (c.args.first + 1)).packet xs)
+    c.loop-place.invariant.octets
+
+pub returns-then-serve_channel-clause-reads_back : goal.returns-then-serve_channel-clause-reads_back
+returns-then-serve_channel-clause-reads_back c =
+    let old = c.args.self.now.layer in
+    let place = c.in-Some.place in
+    let same = c.loop-place.invariant.same in
+    let says : is_some (serve 1 old (place + 1)).packet ≡ true =
+    sym (c.if-serve_channel.ensures.said ∙ ap (λ (x : Layer). is_some (serve 1 x (place + 1)).packet) same) in
+    let first : serve (c.args.end - c.args.first) old (c.args.first + 1) ≡ serve 1 old (place + 1) =
+    serves_first old c.args.first c.args.end place c.loop-place.places c.take_first.new.self c.requires.within
+    c.loop-place.invariant.passed c.in-Some.ensures.first says in
+    subst (λ (n : Next). ReadsBack n.packet c.serve_channel.new.buf.items) (sym first)
+    (subst (λ (x : Layer). ReadsBack (serve 1 x (place + 1)).packet c.serve_channel.new.buf.items) same
+    c.serve_channel.ensures.reads_back)
+
+pub returns-clause-layer : goal.returns-clause-layer
+returns-clause-layer c =
+    let old = c.args.self.now.layer in
+    let none : serve (c.args.end - c.args.first) old (c.args.first + 1) ≡ record { layer = old; packet = None } =
+    serves_none old c.args.first c.args.end c.loop-place.places c.requires.order c.requires.within
+    c.loop-place.invariant.passed c.in_default.ensures.first in
+    c.loop-place.invariant.same ∙ ap (λ (n : Next). n.layer) (sym none)
+
+pub returns-clause-said : goal.returns-clause-said
+returns-clause-said c =
+    let old = c.args.self.now.layer in
+    let none : serve (c.args.end - c.args.first) old (c.args.first + 1) ≡ record { layer = old; packet = None } =
+    serves_none old c.args.first c.args.end c.loop-place.places c.requires.order c.requires.within
+    c.loop-place.invariant.passed c.in_default.ensures.first in
+    ap (λ (n : Next). is_some n.packet) (sym none)
+
+pub returns-clause-octets : goal.returns-clause-octets
+returns-clause-octets c =
+    let old = c.args.self.now.layer in
+    let none : serve (c.args.end - c.args.first) old (c.args.first + 1) ≡ record { layer = old; packet = None } =
+    serves_none old c.args.first c.args.end c.loop-place.places c.requires.order c.requires.within
+    c.loop-place.invariant.passed c.in_default.ensures.first in
+    c.loop-place.invariant.octets ∙ ap (λ (n : Next). written_packet n.packet c.args.buf.now.items) (sym none)
+
+pub returns-clause-reads_back : goal.returns-clause-reads_back
+returns-clause-reads_back c =
+    let old = c.args.self.now.layer in
+    let none : serve (c.args.end - c.args.first) old (c.args.first + 1) ≡ record { layer = old; packet = None } =
+    serves_none old c.args.first c.args.end c.loop-place.places c.requires.order c.requires.within
+    c.loop-place.invariant.passed c.in_default.ensures.first in
+    subst (λ (n : Next). ReadsBack n.packet c.loop-place.buf.items) (sym none) tt
+
+pub loop-place-init : goal.loop-place-init
+loop-place-init c = record {
+  same = refl;
+  pool = balances_same c.args.pool.now c.args.self.now.held;
+  few = c.requires.few;
+  octets = refl;
+  passed = subst (λ (x : Held). ArePassed x.layer c.args.first c.args.end c.between-places.result) c.self.view_is
+      (none_passed (layer_of c.self.inside) c.args.first c.args.end c.self.inside.to_serve c.between-places.result
+      c.self.invariant.others c.between-places.ensures);
+}
+
+pub loop-place-preserved : goal.loop-place-preserved
+loop-place-preserved c =
+    let old = c.args.self.now.layer in
+    let place = c.in-Some.place in
+    let same = c.loop-place.invariant.same in
+    let silent : is_some (serve 1 old (place + 1)).packet ≡ false =
+    sym (c.if-serve_channel.ensures.said ∙ ap (λ (x : Layer). is_some (serve 1 x (place + 1)).packet) same) in
+    let nothing = silent_same old (place + 1) silent in
+    record {
+      same = c.serve_channel.ensures.layer ∙ ap (λ (x : Layer). (serve 1 x (place + 1)).layer) same
+          ∙ ap (λ (n : Next). n.layer) nothing;
+      pool = balances_then c.args.pool.now c.loop-place.pool c.serve_channel.new.pool c.args.self.now.held
+          c.loop-place.self.held c.serve_channel.new.self.held c.loop-place.invariant.pool c.serve_channel.ensures.pool;
+      few = c.serve_channel.ensures.few;
+      octets = c.serve_channel.ensures.octets
+          ∙ ap (λ (x : Layer). written_packet (serve 1 x (place + 1)).packet c.loop-place.buf.items) same
+          ∙ ap (λ (n : Next). written_packet n.packet c.loop-place.buf.items) nothing ∙ c.loop-place.invariant.octets;
+      passed = one_passed old c.args.first c.args.end place c.loop-place.places c.take_first.new.self
+          c.loop-place.invariant.passed c.in-Some.ensures.first silent;
+    }
+
+pub serve_channel-requires-clause-holds : goal.serve_channel-requires-clause-holds
+serve_channel-requires-clause-holds c =
+    holds_after c.args.pool.now c.loop-place.pool c.args.self.now.held c.loop-place.self.held c.requires.holds
+    c.loop-place.invariant.pool
+
+pub returns-then-serve_channel-clause-pool : goal.returns-then-serve_channel-clause-pool
+returns-then-serve_channel-clause-pool c =
+    balances_then c.args.pool.now c.loop-place.pool c.serve_channel.new.pool c.args.self.now.held c.loop-place.self.held
+    c.serve_channel.new.self.held c.loop-place.invariant.pool c.serve_channel.ensures.pool

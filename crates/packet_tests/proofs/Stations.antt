@@ -1,0 +1,32 @@
+-- The pool of a layer has room.
+use Rattle.std.proofs.Common.{◌≡◌, ℕ, zero, suc, ◌+◌, ◌*◌, Bool, true, false, length, refl, ap, arith}
+use Rattle.std.specs.Prelude.{replicate}
+use Rattle.link_timers.specs.declared.role.Role.{Role}
+use Rattle.flow_window.proofs.Weights.{weight_ones}
+use Rattle.packet_layer.specs.Channel.{closed_channel}
+use Rattle.packet_layer.specs.Held.{most_held, HasRoom}
+use Rattle.packet_layer.specs.Layer as machine
+use Rattle.packet_layer.specs.Layer.{standing_channels}
+use Rattle.packet_tests.specs.declared.station.Station.TheInside.{Inside}
+use Rattle.packet_tests.specs.Station.{IsStation}
+
+-- there is room for all that the layer may hold, and one packet more
+pub has_room : (a : Inside) → IsStation a → HasRoom a.pool a.layer.held (most_held a.layer.layer + 1)
+has_room a is =
+    let exact = is.exact (λ _. 1) in
+    let own = weight_ones a.layer.held in
+    omega (arith, exact, own, is.places)
+
+made_length : (standing : Bool) (n : ℕ) → length (standing_channels standing (replicate n closed_channel)) ≡ n
+made_length true zero = refl
+made_length true (suc n) = ap (λ m. suc m) (made_length false n)
+made_length false zero = refl
+made_length false (suc n) = ap (λ m. suc m) (made_length false n)
+
+pub made_most : (role : Role) (channels window : ℕ) (standing : Bool) →
+    most_held (machine.made role channels window standing) ≡ channels * (window + 8)
+made_most role channels window standing = ap (λ n. n * (window + 8)) (made_length standing channels)
+
+pub replicated : {X : Type 0} (n : ℕ) (x : X) → length (replicate n x) ≡ n
+replicated zero x = refl
+replicated (suc n) x = ap (λ m. suc m) (replicated n x)

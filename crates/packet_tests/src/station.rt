@@ -1,0 +1,128 @@
+//! A packet layer with a pool of its own.
+ghost use Rattle.packet_codec.specs.Packet.{IsCallValue};
+ghost use Rattle.packet_codec.specs.View.{call_view};
+
+use flow_window::pool::Pool;
+use link_timers::{Role, TimerId};
+use packet_codec::{CallData, MAX_USER_DATA, PacketBuf};
+use packet_layer::{
+    CallFault, ChannelFault, Front, Layer, LayerNote, LayerParams, MakeFault, SEND_QUEUE, Taken,
+};
+use std::alloc::Global;
+use std::marker::Model;
+
+#[derive(Drop)]
+pub(crate) struct Station {
+    layer: Layer,
+    pool: Pool,
+}
+
+impl Model for Station {
+    ghost use Rattle.packet_layer.specs.Layer as machine;
+
+    ghost Value = { machine.Layer };
+
+    ghost use Rattle.packet_tests.specs.Station.{layer_of, IsStation};
+
+    ghost view = { layer_of };
+
+    ghost invariant = { IsStation };
+}
+
+impl Station {
+    pub(crate) fn new(alloc: Global, role: Role, params: LayerParams) -> Result<Self, MakeFault> {
+        let layer = Layer::new(alloc, role, params)?;
+        let LayerParams {
+            channels,
+            window,
+            ..
+        } = params;
+        let buffers = usize::from(channels) * (usize::from(window) + SEND_QUEUE) + 1;
+        let pool = Pool::new(alloc, buffers, MAX_USER_DATA)?;
+        Ok(Station { layer, pool })
+    }
+
+    pub(crate) fn layer(&self) -> &Layer {
+        &self.layer
+    }
+
+    pub(crate) fn link_up(&mut self) {
+        self.layer.link_up(&mut self.pool);
+    }
+
+    pub(crate) fn link_down(&mut self) {
+        self.layer.link_down(&mut self.pool);
+    }
+
+    pub(crate) fn on_timer(&mut self, id: TimerId) {
+        self.layer.on_timer(id, &mut self.pool);
+    }
+
+    pub(crate) fn on_packet(&mut self, octets: &[u8]) {
+        self.layer.on_packet(octets, &mut self.pool);
+    }
+
+    pub(crate) fn next_packet(&mut self, buf: &mut PacketBuf) -> bool {
+        self.layer.next_packet(buf, &mut self.pool)
+    }
+
+    pub(crate) fn notes(&mut self) -> Option<LayerNote> {
+        self.layer.notes()
+    }
+
+    pub(crate) fn call(&mut self, call: &CallData<'_>) -> Result<u8, CallFault>
+        requires { IsCallValue (call_view call.now) }
+    {
+        self.layer.call(call)
+    }
+
+    pub(crate) fn accept(&mut self, channel: u8) -> Result<(), ChannelFault> {
+        self.layer.accept(channel, &mut self.pool)
+    }
+
+    pub(crate) fn clear(&mut self, channel: u8) -> Result<(), ChannelFault> {
+        self.layer.clear(channel, 0, 0, &mut self.pool)
+    }
+
+    pub(crate) fn reset(&mut self, channel: u8) -> Result<(), ChannelFault> {
+        self.layer.reset(channel, 0, 0, &mut self.pool)
+    }
+
+    pub(crate) fn send(
+        &mut self,
+        channel: u8,
+        octets: &[u8],
+        delivery: bool,
+    ) -> Result<(), ChannelFault> {
+        self.layer
+            .send(channel, octets, false, false, delivery, &mut self.pool)
+    }
+
+    pub(crate) fn interrupt(&mut self, channel: u8, octets: &[u8]) -> Result<(), ChannelFault> {
+        self.layer.interrupt(channel, octets, &mut self.pool)
+    }
+
+    pub(crate) fn stop(&mut self, channel: u8) -> Result<(), ChannelFault> {
+        self.layer.stop(channel, &mut self.pool)
+    }
+
+    pub(crate) fn go(&mut self, channel: u8) -> Result<(), ChannelFault> {
+        self.layer.go(channel, &mut self.pool)
+    }
+
+    pub(crate) fn release(&mut self, channel: u8, count: u8) {
+        self.layer.release(channel, count, &mut self.pool);
+    }
+
+    pub(crate) fn confirm_interrupt(&mut self, channel: u8) {
+        self.layer.confirm_interrupt(channel, &mut self.pool);
+    }
+
+    pub(crate) fn take(&mut self, channel: u8) -> Option<Taken> {
+        self.layer.take(channel, &mut self.pool)
+    }
+
+    pub(crate) fn front(&self, channel: u8) -> Option<Front> {
+        self.layer.front(channel, &self.pool)
+    }
+}
