@@ -18,7 +18,8 @@ use Rattle.net_files.specs.declared.script.Script.{Script}
 use Rattle.net_files.specs.Scripts.{Names}
 use Rattle.net_player.specs.Answers.{answer_text}
 use Rattle.net_player.specs.InTurn.{InTurn, StopsInTurn}
-use Rattle.net_player.specs.Playing.{TellsEvent, Flowing, Delivers, deliveries_from, Passes, Played, DoesCommand, end_line}
+use Rattle.net_player.specs.Playing.{TellsEvent, Flowing, Delivers, deliveries_from, Passes, Played}
+use Rattle.net_player.specs.Playing.{DoesCommand, end_line}
 
 -- a script stops for want of memory, or where its text cannot be written
 abbrev pub IsPlayFault : ProgFault → Type 0

@@ -1,5 +1,6 @@
 //! The program.
-ghost use Rattle.std.specs.Prelude.{◌≡◌, ◌≢◌, ◌≤◌, ◌⊎◌, ⊤, [], Ok, true, false, OnOk, IfOk, IfErr, IsOk, IsErr, IfSome, MatchResult, IsUtf8, length, map, string_bytes, codes, ◌∷◌, ◌++◌, decimal};
+ghost use Rattle.std.specs.Prelude.{◌≡◌, ◌≢◌, ◌≤◌, ◌⊎◌, [], Ok, true, false, OnOk, IfOk, IfErr, IsOk, IsErr};
+ghost use Rattle.std.specs.Prelude.{MatchResult, IsUtf8, length, map, string_bytes};
 ghost use Rattle.std.specs.IoError.{error_kind};
 ghost use Rattle.std.specs.Io.KnownBytes.{Appends};
 ghost use Rattle.net_player.specs.InTurn.{Writes};
