@@ -1,5 +1,5 @@
 -- Deliveries in a flow, and passes over the lines.
-use Rattle.std.proofs.Common.{Bool, ◌≡◌, ℕ, zero, suc, ◌+◌, ◌-◌, ◌<◌, List, [], ◌∷◌, ◌++◌, true, false, Option, refl, sym, ap, subst, append_assoc, arith}
+use Rattle.std.proofs.Common.{Bool, ◌≡◌, ℕ, zero, suc, ◌+◌, ◌-◌, ◌<◌, List, [], ◌∷◌, ◌++◌, true, false, Option, refl, sym, ap, ◌∙◌, subst, append_assoc, arith}
 use Rattle.memory_line.specs.declared.line.Direction.TheVariants.{FromDte, FromDce}
 use Rattle.memory_line.specs.Lines.{LineService}
 use Rattle.net_events.specs.declared.event.Event.{Event}
@@ -10,7 +10,13 @@ use Rattle.net_player.specs.InTurn.{InTurn, Writes}
 use Rattle.net_player.specs.Playing.{Tells, Flowing, Delivers, deliveries_from, Passes, Flows}
 use Rattle.net_player.specs.Playing.Delivers.{at_limit, arrives, finds_none}
 use Rattle.net_player.specs.Playing.Flows.{again}
+use Rattle.net_player.specs.InTurn.{StopsInTurn}
+use Rattle.net_player.specs.InTurn.StopsInTurn.{here, later}
+use Rattle.net_player.specs.Stopping.{DeliveryStops, PassStops, FlowStops}
+use Rattle.net_player.specs.Stopping.FlowStops.{behind}
+use Rattle.net_files.specs.declared.fault.ProgFault.{ProgFault}
 use Rattle.net_player.proofs.Turns.{in_turn_append, in_turn_one, writes_append}
+use Rattle.net_player.proofs.Parts.{stops_behind}
 
 -- no more may be delivered
 pub delivers_at_limit : {L : LineService} {names : Names} {traces : Bool} {e : Event} {s : Network} (left : ℕ) → left ≡ 0
@@ -86,3 +92,74 @@ pub flow_onward : {L : LineService} {names : Names} {traces : Bool} {lines : ℕ
     → Flows L names traces lines start ((told ++ first) ++ rest) t
 flow_onward told first onward passed fewer rest t flows =
     rw (append_assoc told first rest) (onward (first ++ rest) t (again passed fewer flows))
+
+-- ---- deliveries that stop
+
+-- the deliveries on some lines, and those on the others
+deliveries_split : (from some more : ℕ)
+    → deliveries_from from (some + more) ≡ deliveries_from from some ++ deliveries_from (from + some) more
+deliveries_split from zero more =
+    let none : 0 + more ≡ more = omega arith in
+    let same : from + 0 ≡ from = omega arith in
+    rw (none, same) refl
+deliveries_split from (suc some) more =
+    let next : suc some + more ≡ suc (some + more) = omega arith in
+    let along : from + suc some ≡ (from + 1) + some = omega arith in
+    rw (next, along) (ap (λ es. Deliver from FromDte ∷ Deliver from FromDce ∷ es) (deliveries_split (from + 1) some more))
+
+-- those up to a line, and from it on
+deliveries_at : (line lines : ℕ) → line < lines
+    → deliveries_from 0 lines
+    ≡ deliveries_from 0 line ++ (Deliver line FromDte ∷ Deliver line FromDce ∷ deliveries_from (line + 1) (lines - suc line))
+deliveries_at line lines within =
+    let whole : lines ≡ line + suc (lines - suc line) = omega arith in
+    let here_is : 0 + line ≡ line = omega arith in
+    ap (deliveries_from 0) whole
+    ∙ rw here_is at (deliveries_split 0 line (suc (lines - suc line)))
+
+-- a pass stops at the first delivery on a line
+pub pass_stops_first : {L : LineService} {names : Names} {traces : Bool} {fault : ProgFault} {s m : Flowing} (line lines : ℕ)
+    (first part : List ℕ) → line < lines → Passes L names traces line s first m
+    → DeliveryStops L names traces fault (Deliver line FromDte) m part
+    → PassStops L names traces lines fault s (first ++ part)
+pass_stops_first {L} {names} {traces} {fault} {s} line lines first part within passes stops =
+    let P : List Event → Type 0 =
+    λ es. StopsInTurn Event Flowing (Delivers L names traces) (DeliveryStops L names traces fault) es s (first ++ part) in
+    subst P (sym (deliveries_at line lines within)) (stops_behind passes _ part (here stops))
+
+-- or at the second
+pass_stops_second : {L : LineService} {names : Names} {traces : Bool} {fault : ProgFault} {s n : Flowing}
+    (line lines : ℕ) (first part : List ℕ) → line < lines
+    → InTurn Event Flowing (Delivers L names traces) (deliveries_from 0 line ++ (Deliver line FromDte ∷ [])) s first n
+    → DeliveryStops L names traces fault (Deliver line FromDce) n part
+    → PassStops L names traces lines fault s (first ++ part)
+pass_stops_second {L} {names} {traces} {fault} {s} line lines first part within done stops =
+    let others : List Event = deliveries_from (line + 1) (lines - suc line) in
+    let P : List Event → Type 0 =
+    λ es. StopsInTurn Event Flowing (Delivers L names traces) (DeliveryStops L names traces fault) es s (first ++ part) in
+    let split =
+    deliveries_at line lines within
+    ∙ sym (append_assoc (deliveries_from 0 line) (Deliver line FromDte ∷ []) (Deliver line FromDce ∷ others)) in
+    subst P (sym split) (stops_behind done _ part (here stops))
+
+pub second_stops : {L : LineService} {names : Names} {traces : Bool} {fault : ProgFault} {s m n : Flowing}
+    (line lines : ℕ) (a b c d : Option (List ℕ)) → line < lines
+    → Writes a b (λ text. Passes L names traces line s text m)
+    → Writes b c (λ text. Delivers L names traces (Deliver line FromDte) m text n)
+    → Writes c d (DeliveryStops L names traces fault (Deliver line FromDce) n)
+    → Writes a d (PassStops L names traces lines fault s)
+second_stops {L} {names} {traces} {fault} {s} {m} {n} line lines a b c d within passed delivered stops =
+    let done : List Event = deliveries_from 0 line ++ (Deliver line FromDte ∷ []) in
+    let both : Writes a c (λ text. InTurn Event Flowing (Delivers L names traces) done s text n) =
+    writes_append a b c (λ x y p q. in_turn_append p _ _ _ (in_turn_one q)) passed delivered in
+    writes_append a c d (λ first part p q. pass_stops_second line lines first part within p q) both stops
+
+-- what a pass writes, and what the passes after it write until one stops, is what the flow from before it writes
+pub flow_stops_onward : {L : LineService} {names : Names} {traces : Bool} {lines : ℕ} {start s m : Flowing} (told first : List ℕ)
+    → ((fault : ProgFault) (part : List ℕ) → FlowStops L names traces lines fault s part
+    → FlowStops L names traces lines fault start (told ++ part))
+    → Passes L names traces lines s first m → m.left < s.left
+    → (fault : ProgFault) (part : List ℕ) → FlowStops L names traces lines fault m part
+    → FlowStops L names traces lines fault start ((told ++ first) ++ part)
+flow_stops_onward told first onward passed fewer fault part stops =
+    rw (append_assoc told first part) (onward fault (first ++ part) (behind passed fewer stops))

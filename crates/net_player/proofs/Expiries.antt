@@ -8,6 +8,9 @@ use Rattle.line_sim.specs.Due.{net_due}
 use Rattle.net_files.specs.Scripts.{Names}
 use Rattle.net_player.specs.Playing.{TellsEvent, Expires, Ticks}
 use Rattle.net_player.specs.Playing.Expires.{none, next}
+use Rattle.net_player.specs.Stopping.{StopsAt, ExpiryStops}
+use Rattle.net_player.specs.Stopping.ExpiryStops.{behind}
+use Rattle.net_files.specs.declared.fault.ProgFault.{ProgFault}
 
 -- what expiries wrote, and what those to come will write, is what all write
 abbrev pub Onward : (L : LineService) → Names → Bool → (start s : Network) → List ℕ → Type 0
@@ -34,3 +37,23 @@ pub ticks_then : {L : LineService} {names : Names} {traces : Bool} {elapsed t : 
 ticks_then {L} {names} {traces} {elapsed} {t} {text} ticks s goes_by expires =
     let P : Network → Type 0 = λ n. Expires L names traces n text t in
     subst P goes_by expires
+
+-- what expiries wrote, and what others write until one of them stops, is what all write until then
+abbrev pub StopsOnward : (L : LineService) → Names → Bool → (start s : Network) → List ℕ → Type 0
+StopsOnward L names traces start s told = (fault : ProgFault) (part : List ℕ)
+    → ExpiryStops L names traces fault s part → ExpiryStops L names traces fault start (told ++ part)
+
+-- one more expires
+pub stops_onward : {L : LineService} {names : Names} {traces : Bool} {start s m : Network} {expiry : Event} (told first : List ℕ)
+    → StopsOnward L names traces start s told → net_due s ≡ Some expiry → TellsEvent L names traces expiry s first m
+    → StopsOnward L names traces start m (told ++ first)
+stops_onward told first onward due tells fault part stops =
+    rw (append_assoc told first part) (onward fault (first ++ part) (behind due tells stops))
+
+-- all this happened behind the ticks
+pub ticks_then_stop : {L : LineService} {names : Names} {traces : Bool} {fault : ProgFault} {elapsed : Network} {part : List ℕ}
+    (ticks : ℕ) (s : Network) → elapsed ≡ all_elapsed ticks s → ExpiryStops L names traces fault elapsed part
+    → ExpiryStops L names traces fault (all_elapsed ticks s) part
+ticks_then_stop {L} {names} {traces} {fault} {elapsed} {part} ticks s goes_by stops =
+    let P : Network → Type 0 = λ n. ExpiryStops L names traces fault n part in
+    subst P goes_by stops

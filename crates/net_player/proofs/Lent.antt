@@ -42,3 +42,10 @@ module _ (L : LineService) (e : Event) (s t : Network) (r : Result (Bor Answer) 
   pub fewer_answered : (a : Bor Answer) → r ≡ Ok a → net_due s ≡ Some e → all_due t.nodes < all_due s.nodes
   fewer_answered a is due =
       w.fewer_due due (λ wants. absurd (let same : ◌≡◌ {A = Result Answer StepFault} (Ok a.now) (Err OutOfMemory) = ap lent (sym is) ∙ wants in cc))
+
+  -- what happened, and what did not
+  pub happened : (a : Bor Answer) → r ≡ Ok a → Rattle.line_sim.specs.Happening.Happens L e s (Ok a.now) t
+  happened a is = subst (λ (x : Result (Bor Answer) StepFault). Rattle.line_sim.specs.Happening.Happens L e s (lent x) t) is w.happens
+
+  pub did_not_happen : (fault : StepFault) → r ≡ Err fault → Rattle.line_sim.specs.Happening.Happens L e s (Err fault) t
+  did_not_happen fault is = subst (λ (x : Result (Bor Answer) StepFault). Rattle.line_sim.specs.Happening.Happens L e s (lent x) t) is w.happens

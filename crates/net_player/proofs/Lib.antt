@@ -1,4 +1,7 @@
 pub mod Turns
 mod Lent
+pub mod Parts
 pub mod Deliveries
 pub mod Expiries
+pub mod WholeRead
+pub mod Failing

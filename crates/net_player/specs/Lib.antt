@@ -1,3 +1,5 @@
 pub mod Answers
 pub mod InTurn
 pub mod Playing
+pub mod Stopping
+pub mod Programs

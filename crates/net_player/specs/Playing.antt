@@ -1,14 +1,9 @@
 -- What a script makes of a network, and what is printed.
 use Rattle.std.specs.declared.alloc.Global.{Global}
-use Rattle.std.specs.Prelude.{Vec, ◌≡◌, ◌≢◌, ◌⊎◌, ℕ, zero, suc, ◌+◌, ◌<◌, Bool, true, false, List, [], ◌∷◌, ◌++◌}
+use Rattle.std.specs.Prelude.{Vec, ◌≡◌, ◌≢◌, ℕ, zero, suc, ◌+◌, ◌<◌, Bool, true, false, List, [], ◌∷◌, ◌++◌}
 use Rattle.std.specs.Prelude.{Option, Some, None, Result, Ok, Err, codes}
 use Rattle.memory_line.specs.declared.line.Direction.TheVariants.{FromDte, FromDce}
-use Rattle.command_words.specs.declared.invocation.Mode.{Mode}
-use Rattle.command_words.specs.declared.invocation.Mode.TheVariants.{Sim, Run}
-use Rattle.command_words.specs.declared.invocation.Invocation.{Invocation}
-use Rattle.command_words.specs.Invocations.{Asks}
-use Rattle.udp_line.specs.Sockets.{socket_service}
-use Rattle.memory_line.specs.Lines.{LineService, memory_service}
+use Rattle.memory_line.specs.Lines.{LineService}
 use Rattle.net_events.specs.declared.event.Event.{Event}
 use Rattle.net_events.specs.declared.event.Event.TheVariants.{Deliver}
 use Rattle.net_events.specs.declared.answer.Outcome.{Outcome}
@@ -16,19 +11,16 @@ use Rattle.net_events.specs.declared.answer.Outcome.TheVariants.{Delivered}
 use Rattle.net_events.specs.declared.answer.Answer.{Answer}
 use Rattle.net_events.specs.declared.event.StepFault.{StepFault}
 use Rattle.net_events.specs.declared.event.StepFault.TheVariants.{OutOfMemory}
-use Rattle.net_config.specs.declared.config.Config.{Config}
-use Rattle.line_sim.specs.Runs.{IsMadeBy}
 use Rattle.line_sim.specs.Network.{Network, all_elapsed}
 use Rattle.line_sim.specs.Questions.{net_rests}
 use Rattle.line_sim.specs.Due.{net_due}
 use Rattle.line_sim.specs.Happening.{Happens}
-use Rattle.net_files.specs.declared.fault.ProgFault.{ProgFault}
 use Rattle.net_files.specs.declared.script.Command.{Command}
 use Rattle.net_files.specs.declared.script.Command.TheVariants.{Events, Flow, Tick, Trace}
 use Rattle.net_files.specs.declared.script.Script.{Script}
 use Rattle.net_files.specs.Scripts.{Names}
 use Rattle.net_player.specs.Answers.{answer_text}
-use Rattle.net_player.specs.InTurn.{InTurn, Writes}
+use Rattle.net_player.specs.InTurn.{InTurn}
 
 -- whether a frame arrived
 abbrev pub has_arrived : Outcome → Bool
@@ -122,10 +114,6 @@ pub data DoesCommand (L : LineService) (names : Names) (lines : ℕ) : Command �
       → DoesCommand L names lines (Trace after) (record { net = s; traces = before }) []
       (record { net = s; traces = after })
 
--- a script stops for want of memory, or where its text cannot be written
-abbrev pub IsPlayFault : ProgFault → Type 0
-IsPlayFault fault = (fault ≡ ProgFault.OutOfMemory) ⊎ (fault ≡ ProgFault.Write)
-
 -- the last line
 abbrev pub end_line : (at_rest : Bool) → List ℕ
 end_line true = codes "end rest" ++ 10 ∷ []
@@ -141,29 +129,3 @@ pub record Plays (L : LineService) (script : Script) (s : Network) (text : List 
       (record { net = s; traces = false }) told (record { net = t; traces = traces })
   pub rest : at_rest ≡ net_rests t
   pub whole : text ≡ told ++ end_line at_rest
-
--- a network was made on lines of this service, a script played on it, and its text written behind what was known to be
--- written
-pub record PlaysOn (L : LineService) (before after : Option (List ℕ)) : Type 0 where
-  pub config : Config
-  pub start : Network
-  pub made : IsMadeBy L config start
-  pub script : Script
-  pub ended : Network
-  pub writes : Writes before after (λ text. Plays L script start text ended)
-
--- the lines of a mode
-abbrev pub lines_of : Mode → LineService
-lines_of Sim = memory_service
-lines_of Run = socket_service
-
--- those that command words ask for: lines in memory where there are no words
-abbrev pub lines_asked : Option Invocation → LineService
-lines_asked None = memory_service
-lines_asked (Some invocation) = lines_of invocation.mode
-
--- this was over the lines that the words ask for
-pub record PlaysAsked (words : List (List ℕ)) (before after : Option (List ℕ)) : Type 0 where
-  pub asked : Option Invocation
-  pub asks : Asks words asked
-  pub plays : PlaysOn (lines_asked asked) before after

@@ -2,6 +2,7 @@
 #![tactic(auto)]
 
 mod answer;
+mod output;
 mod player;
 mod program;
 
@@ -10,4 +11,4 @@ pub use line_sim::{
     Pair, Record, RunFault, SentEpoch, StepFault, TakenEpoch, TerminalEvent, run,
 };
 pub use player::play;
-pub use program::{perform, refuse_words};
+pub use program::{finish, perform, refuse_words};

@@ -4,16 +4,18 @@ ghost use Rattle.std.specs.Io.KnownBytes.{Appends};
 ghost use Rattle.std.specs.List.{flat_map};
 ghost use Rattle.net_player.specs.Answers.{frame_text, note_text, frames_text, answer_text};
 ghost use Rattle.net_events.specs.declared.event.Event.{Event};
-ghost use Rattle.line_sim.specs.Network.{Network};
+ghost use Rattle.line_sim.specs.Network.{Network, all_elapsed};
 ghost use Rattle.line_sim.specs.DueCount.{all_due};
 ghost use Rattle.line_sim.specs.Due.{net_due};
-ghost use Rattle.net_player.specs.InTurn.{InTurn, Writes};
+ghost use Rattle.net_player.specs.InTurn.{InTurn, StopsInTurn, Writes};
 ghost use Rattle.net_player.specs.Playing.{has_arrived, Tells, TellsEvent, Delivers, Passes, Flows};
 ghost use Rattle.net_player.specs.Playing.{Ticks};
-ghost use Rattle.net_player.specs.Playing.{DoesCommand, Plays, end_line, IsPlayFault};
-ghost use Rattle.net_files.specs.declared.fault.ProgFault.{ProgFault};
+ghost use Rattle.net_player.specs.Playing.{DoesCommand, Plays, end_line};
+ghost use Rattle.net_player.specs.Stopping.{IsPlayFault, IsPartOf, StopsAt, DeliveryStops, PassStops, FlowStops};
+ghost use Rattle.net_player.specs.Stopping.{ExpiryStops, CommandStops, PlayStops};
 
 use crate::answer::{frame_text, note_text, outcome_text, refusal_text};
+use crate::output::write;
 use line_nodes::HostNote;
 use line_sim::{Answer, Direction, Event, Line, Net, Outcome, Put, StepFault};
 use net_files::{Command, ProgFault, Script};
@@ -25,8 +27,8 @@ const FLOW_LIMIT: u32 = 100_000;
 
 /// Plays a script on a network, and prints the answer to each event, and at the end whether the network is at rest.
 ///
-/// `OutOfMemory` comes where memory is wanted and `Write` where the output cannot be written; what was done and printed
-/// until then stays.
+/// `OutOfMemory` comes where memory is wanted and `Write` where the output refuses a part of a text; what was done and
+/// printed until then stays.
 pub fn play<L: Line, W: Write>(
     alloc: Global,
     net: &mut Net<L>,
@@ -35,6 +37,8 @@ pub fn play<L: Line, W: Write>(
 ) -> Result<(), ProgFault>
     ensures writes { OnOk result (Writes (W.contents out.old) (W.contents out.new)
         (λ text. Plays L.service script.now net.old text net.new)) }
+    ensures stops { IfErr result (λ fault. Writes (W.contents out.old) (W.contents out.new)
+        (PlayStops L.service script.now fault net.old)) }
     ensures faults { IfErr result IsPlayFault }
 {
     let mut player = Player {
@@ -78,6 +82,9 @@ impl Player<'_> {
         ensures writes { IfOk result (λ after. Writes (W.contents out.old) (W.contents out.new)
             (λ text. DoesCommand L.service self.now.names.now self.now.lines command.now
             (record { net = net.old; traces = self.now.traces }) text (record { net = net.new; traces = after }))) }
+        ensures stops { IfErr result (λ fault. Writes (W.contents out.old) (W.contents out.new)
+            (CommandStops L.service self.now.names.now self.now.lines fault command.now
+            (record { net = net.old; traces = self.now.traces }))) }
         ensures faults { IfErr result IsPlayFault }
     {
         match command {
@@ -106,6 +113,9 @@ impl Player<'_> {
         ensures writes { OnOk result (Writes (W.contents out.old) (W.contents out.new)
             (λ text. InTurn Event Network (TellsEvent L.service self.now.names.now self.now.traces) events.now
             net.old text net.new)) }
+        ensures stops { IfErr result (λ fault. Writes (W.contents out.old) (W.contents out.new)
+            (StopsInTurn Event Network (TellsEvent L.service self.now.names.now self.now.traces)
+            (StopsAt L.service self.now.names.now self.now.traces fault) events.now net.old)) }
         ensures faults { IfErr result IsPlayFault }
     {
         for event in events {
@@ -119,6 +129,9 @@ impl Player<'_> {
         ensures writes { OnOk result (Writes (W.contents out.old) (W.contents out.new)
             (λ text. Flows L.service self.now.names.now self.now.traces self.now.lines
             (record { left = 100000; net = net.old }) text net.new)) }
+        ensures stops { IfErr result (λ fault. Writes (W.contents out.old) (W.contents out.new)
+            (FlowStops L.service self.now.names.now self.now.traces self.now.lines fault
+            (record { left = 100000; net = net.old }))) }
         ensures faults { IfErr result IsPlayFault }
     {
         let mut left = FLOW_LIMIT;
@@ -142,6 +155,9 @@ impl Player<'_> {
             (λ text. Passes L.service self.now.names.now self.now.traces self.now.lines
             (record { left = left; net = net.old }) text (record { left = still_left; net = net.new }))) }
         ensures at_most { IfOk result (λ still_left. still_left ≤ left) }
+        ensures stops { IfErr result (λ fault. Writes (W.contents out.old) (W.contents out.new)
+            (PassStops L.service self.now.names.now self.now.traces self.now.lines fault
+            (record { left = left; net = net.old }))) }
         ensures faults { IfErr result IsPlayFault }
     {
         let mut still_left = left;
@@ -172,6 +188,9 @@ impl Player<'_> {
             (λ text. Delivers L.service self.now.names.now self.now.traces delivery.now
             (record { left = left; net = net.old }) text (record { left = still_left; net = net.new }))) }
         ensures at_most { IfOk result (λ still_left. still_left ≤ left) }
+        ensures stops { IfErr result (λ fault. Writes (W.contents out.old) (W.contents out.new)
+            (DeliveryStops L.service self.now.names.now self.now.traces fault delivery.now
+            (record { left = left; net = net.old }))) }
         ensures faults { IfErr result IsPlayFault }
     {
         if left == 0 {
@@ -193,6 +212,8 @@ impl Player<'_> {
     ) -> Result<(), ProgFault>
         ensures writes { OnOk result (Writes (W.contents out.old) (W.contents out.new)
             (λ text. Ticks L.service self.now.names.now self.now.traces ticks net.old text net.new)) }
+        ensures stops { IfErr result (λ fault. Writes (W.contents out.old) (W.contents out.new)
+            (ExpiryStops L.service self.now.names.now self.now.traces fault (all_elapsed ticks net.old))) }
         ensures faults { IfErr result IsPlayFault }
     {
         net.elapse(ticks);
@@ -213,6 +234,8 @@ impl Player<'_> {
             (λ text. Tells L.service self.now.names.now self.now.traces arrived event.now net.old text net.new)) }
         ensures fewer_due { OnOk result
             (net_due net.old ≡ Some event.now → all_due net.new.nodes < all_due net.old.nodes) }
+        ensures stops { IfErr result (λ fault. Writes (W.contents out.old) (W.contents out.new)
+            (StopsAt L.service self.now.names.now self.now.traces fault event.now net.old)) }
         ensures faults { IfErr result IsPlayFault }
     {
         match net.step(event) {
@@ -237,6 +260,8 @@ impl Player<'_> {
     ) -> Result<(), ProgFault>
         ensures writes { OnOk result (Appends (W.contents out.old) (W.contents out.new)
             (answer_text self.now.names.now self.now.traces event.now (Ok answer.now))) }
+        ensures stops { IfErr result (λ fault. Writes (W.contents out.old) (W.contents out.new)
+            (IsPartOf (answer_text self.now.names.now self.now.traces event.now (Ok answer.now)) fault)) }
         ensures faults { IfErr result IsPlayFault }
     {
         self.write_traced(answer.frames.as_slice(), out)?;
@@ -251,6 +276,8 @@ impl Player<'_> {
     fn write_traced<W: Write>(&self, puts: &[Put], out: &mut W) -> Result<(), ProgFault>
         ensures writes { OnOk result (Appends (W.contents out.old) (W.contents out.new)
             (frames_text self.now.traces puts.now)) }
+        ensures stops { IfErr result (λ fault. Writes (W.contents out.old) (W.contents out.new)
+            (IsPartOf (frames_text self.now.traces puts.now) fault)) }
         ensures faults { IfErr result IsPlayFault }
     {
         if !self.traces {
@@ -263,6 +290,8 @@ impl Player<'_> {
     fn write_notes<W: Write>(&self, notes: &[HostNote], out: &mut W) -> Result<(), ProgFault>
         ensures writes { OnOk result (Appends (W.contents out.old) (W.contents out.new)
             (flat_map (note_text self.now.names.now) notes.now)) }
+        ensures stops { IfErr result (λ fault. Writes (W.contents out.old) (W.contents out.new)
+            (IsPartOf (flat_map (note_text self.now.names.now) notes.now) fault)) }
         ensures faults { IfErr result IsPlayFault }
     {
         for note in notes {
@@ -276,6 +305,8 @@ impl Player<'_> {
 /// Prints the frames that were put.
 fn write_frames<W: Write>(alloc: Global, puts: &[Put], out: &mut W) -> Result<(), ProgFault>
     ensures writes { OnOk result (Appends (W.contents out.old) (W.contents out.new) (flat_map frame_text puts.now)) }
+    ensures stops { IfErr result (λ fault. Writes (W.contents out.old) (W.contents out.new)
+        (IsPartOf (flat_map frame_text puts.now) fault)) }
     ensures faults { IfErr result IsPlayFault }
 {
     for put in puts {
@@ -290,14 +321,4 @@ fn has_arrived(outcome: &Outcome) -> bool
     ensures { result ≡ has_arrived outcome.now }
 {
     matches!(outcome, Outcome::Delivered(true))
-}
-
-fn write<W: Write>(out: &mut W, text: &str) -> Result<(), ProgFault>
-    ensures writes { OnOk result (Appends (W.contents out.old) (W.contents out.new) text.now) }
-    ensures fault { IfErr result (λ fault. fault ≡ ProgFault.Write) }
-{
-    match out.write_all(text.as_bytes()) {
-        Ok(()) => Ok(()),
-        Err(_) => Err(ProgFault::Write),
-    }
 }

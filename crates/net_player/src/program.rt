@@ -1,16 +1,23 @@
 //! The program.
-ghost use Rattle.std.specs.Prelude.{◌≡◌, ◌≢◌, ◌≤◌, ◌⊎◌, [], Ok, true, false, OnOk, IfOk, length, map, string_bytes};
-ghost use Rattle.memory_line.specs.Lines.{memory_service};
-ghost use Rattle.udp_line.specs.Sockets.{socket_service};
-ghost use Rattle.net_player.specs.Playing.{PlaysOn, PlaysAsked, lines_of};
+ghost use Rattle.std.specs.Prelude.{◌≡◌, ◌≢◌, ◌≤◌, ◌⊎◌, [], Ok, true, false, OnOk, IfOk, IfErr, IsOk, IsErr};
+ghost use Rattle.std.specs.Prelude.{MatchResult, IsUtf8, length, map, string_bytes};
+ghost use Rattle.std.specs.IoError.{error_kind};
+ghost use Rattle.std.specs.Io.KnownBytes.{Appends};
+ghost use Rattle.net_player.specs.InTurn.{Writes};
+ghost use Rattle.net_player.specs.Stopping.{IsPartOf};
+ghost use Rattle.net_player.specs.Programs.{PlaysOn, PlayFails, IsFirst, IsLeftOf, IsOfFile, PlaysTexts, TextsFail};
+ghost use Rattle.net_player.specs.Programs.{Performs, Fails, AskNothing, IsReadFault, fault_line, bad_words};
+ghost use Rattle.net_player.specs.Programs.{IsFrontOf, making_fault};
 
+use crate::output::write;
 use crate::player::play;
 use command_words::{Invocation, Mode, WordsFault, read_words};
-use line_sim::{Config, Net};
+use itoa::Buffer;
+use line_sim::{Config, MakeFault, Net};
 use net_files::{FIRST, ProgFault, Script, read_net, read_script};
 use std::alloc::Global;
 use std::fs::{File, Files};
-use std::io::{Read, Write};
+use std::io::{ErrorKind, Read, Write};
 use std::net::UdpSocket;
 use std::{io, net, str};
 use udp_line::{SocketFault, UdpLine};
@@ -41,12 +48,15 @@ pub fn perform<S: Files + net::Net, R: Read, W: Write, E: Write>(
     err: &mut E,
 ) -> u8
     ensures status { result ≤ BAD_WORDS }
+    ensures done { result ≡ DONE → Performs (map (λ word. string_bytes word) words.now) (R.remaining input.old)
+        (W.contents out.old) (W.contents out.new) }
+    ensures fault { result ≡ FAULT → (fault : ProgFault)
+        × Fails (map (λ word. string_bytes word) words.now) (R.remaining input.old) (W.contents out.old)
+        (W.contents out.new) fault × Writes (E.contents err.old) (E.contents err.new) (IsFrontOf (fault_line fault)) }
+    ensures bad_words { result ≡ BAD_WORDS → AskNothing (map (λ word. string_bytes word) words.now)
+        × (W.contents out.new ≡ W.contents out.old)
+        × Writes (E.contents err.old) (E.contents err.new) (IsFrontOf bad_words) }
     ensures no_words { words.now ≡ [] → result ≢ BAD_WORDS }
-    ensures done { result ≡ DONE
-        → PlaysAsked (map (λ word. string_bytes word) words.now) (W.contents out.old) (W.contents out.new) }
-    ensures first { words.now ≡ [] → result ≡ DONE
-        → PlaysOn memory_service (W.contents out.old) (W.contents out.new) }
-    ensures bad_words { result ≡ BAD_WORDS → W.contents out.new ≡ W.contents out.old }
 {
     match run(system, alloc, words, input, out) {
         Ok(true) => DONE,
@@ -63,11 +73,12 @@ fn run<S: Files + net::Net, R: Read, W: Write>(
     input: &mut R,
     out: &mut W,
 ) -> Result<bool, ProgFault>
-    ensures played { result ≡ Ok true
-        → PlaysAsked (map (λ word. string_bytes word) words.now) (W.contents out.old) (W.contents out.new) }
-    ensures first { words.now ≡ [] → result ≡ Ok true
-        → PlaysOn memory_service (W.contents out.old) (W.contents out.new) }
-    ensures bad_words { result ≡ Ok false → W.contents out.new ≡ W.contents out.old }
+    ensures played { result ≡ Ok true → Performs (map (λ word. string_bytes word) words.now) (R.remaining input.old)
+        (W.contents out.old) (W.contents out.new) }
+    ensures failed { IfErr result (Fails (map (λ word. string_bytes word) words.now) (R.remaining input.old)
+        (W.contents out.old) (W.contents out.new)) }
+    ensures nothing { result ≡ Ok false → AskNothing (map (λ word. string_bytes word) words.now)
+        × (W.contents out.new ≡ W.contents out.old) }
     ensures no_words { words.now ≡ [] → result ≢ Ok false }
 {
     match read_words(alloc, words) {
@@ -84,33 +95,84 @@ fn run<S: Files + net::Net, R: Read, W: Write>(
     }
 }
 
-/// What the program does where it cannot read its command words: want of memory is a fault, and all else is bad words.
+/// What the program does where it cannot read its command words or has no room for its output: want of memory is a
+/// fault, and all else is bad words.
 pub fn refuse_words<E: Write>(error: &io::Error, err: &mut E) -> u8
-    ensures { (result ≡ FAULT) ⊎ (result ≡ BAD_WORDS) }
+    ensures memory { error_kind error.now ≡ ErrorKind.OutOfMemory → result ≡ FAULT }
+    ensures others { error_kind error.now ≢ ErrorKind.OutOfMemory → result ≡ BAD_WORDS }
 {
     match error.kind() {
-        io::ErrorKind::OutOfMemory => tell_fault(ProgFault::OutOfMemory, err),
+        ErrorKind::OutOfMemory => tell_fault(ProgFault::OutOfMemory, err),
         _ => tell_bad_words(err),
     }
 }
 
-fn tell_fault<E: Write>(fault: ProgFault, err: &mut E) -> u8
-    ensures { result ≡ FAULT }
+/// The status to end with once the output was flushed: where this failed behind a run that went to its end, that of the
+/// fault `Write`, which is told on `err`; else that of the run.
+pub fn finish<E: Write>(status: u8, flushed: &io::Result<()>, err: &mut E) -> u8
+    ensures flushed { IsOk flushed.now → result ≡ status }
+    ensures refused { IsErr flushed.now → status ≡ DONE → (result ≡ FAULT)
+        × Writes (E.contents err.old) (E.contents err.new) (IsFrontOf (fault_line ProgFault.Write)) }
+    ensures ended { status ≢ DONE → result ≡ status }
 {
-    let _ = writeln!(err, "{fault}");
+    match flushed {
+        Err(_) if status == DONE => tell_fault(ProgFault::Write, err),
+        _ => status,
+    }
+}
+
+fn tell_fault<E: Write>(fault: ProgFault, err: &mut E) -> u8
+    ensures status { result ≡ FAULT }
+    ensures told { Writes (E.contents err.old) (E.contents err.new) (IsFrontOf (fault_line fault)) }
+{
+    let _ = write_fault(fault, err);
     FAULT
 }
 
 fn tell_bad_words<E: Write>(err: &mut E) -> u8
-    ensures { result ≡ BAD_WORDS }
+    ensures status { result ≡ BAD_WORDS }
+    ensures told { Writes (E.contents err.old) (E.contents err.new) (IsFrontOf bad_words) }
 {
-    let _ = writeln!(err, "bad words");
+    let _ = write(err, "bad words\n");
     BAD_WORDS
+}
+
+/// Writes the line of a fault.
+fn write_fault<E: Write>(fault: ProgFault, err: &mut E) -> Result<(), ProgFault>
+    ensures writes { OnOk result (Appends (E.contents err.old) (E.contents err.new) (fault_line fault)) }
+    ensures refused { IfErr result (λ refused. Writes (E.contents err.old) (E.contents err.new)
+        (IsPartOf (fault_line fault) refused)) }
+{
+    match fault {
+        ProgFault::NetText => write(err, "fault 1\n"),
+        ProgFault::Script(line) => write_script_fault(line, err),
+        ProgFault::BadConfig => write(err, "fault 3\n"),
+        ProgFault::OutOfMemory => write(err, "fault 4\n"),
+        ProgFault::Write => write(err, "fault 5\n"),
+        ProgFault::Socket => write(err, "fault 6\n"),
+        ProgFault::File => write(err, "fault 7\n"),
+    }
+}
+
+/// Writes the line of a script's fault, with the number of the script's line.
+fn write_script_fault<E: Write>(line: usize, err: &mut E) -> Result<(), ProgFault>
+    ensures writes { OnOk result (Appends (E.contents err.old) (E.contents err.new)
+        (fault_line (ProgFault.Script line))) }
+    ensures refused { IfErr result (λ refused. Writes (E.contents err.old) (E.contents err.new)
+        (IsPartOf (fault_line (ProgFault.Script line)) refused)) }
+{
+    let mut digits = Buffer::new();
+    write(err, "fault 2 line ")?;
+    write(err, digits.format(line))?;
+    write(err, "\n")
 }
 
 /// Plays the script that the input has on the built-in network.
 fn play_first<R: Read, W: Write>(alloc: Global, input: &mut R, out: &mut W) -> Result<(), ProgFault>
-    ensures { OnOk result (PlaysOn memory_service (W.contents out.old) (W.contents out.new)) }
+    ensures played { OnOk result (PlaysTexts Mode.Sim IsFirst (IsLeftOf (R.remaining input.old))
+        (W.contents out.old) (W.contents out.new)) }
+    ensures failed { IfErr result (TextsFail Mode.Sim IsFirst (IsLeftOf (R.remaining input.old))
+        (W.contents out.old) (W.contents out.new)) }
 {
     let config = read_net(alloc, FIRST)?;
     let text = read_all(alloc, input)?;
@@ -125,15 +187,35 @@ fn play_files<S: Files + net::Net, W: Write>(
     invocation: &Invocation<'_>,
     out: &mut W,
 ) -> Result<(), ProgFault>
-    ensures { OnOk result (PlaysOn (lines_of invocation.now.mode) (W.contents out.old) (W.contents out.new)) }
+    ensures played { OnOk result (PlaysTexts invocation.now.mode IsOfFile IsOfFile
+        (W.contents out.old) (W.contents out.new)) }
+    ensures failed { IfErr result (TextsFail invocation.now.mode IsOfFile IsOfFile
+        (W.contents out.old) (W.contents out.new)) }
 {
     let text = read_file(system, alloc, invocation.net)?;
     let config = read_net(alloc, text_of(text.as_slice())?)?;
     let text = read_file(system, alloc, invocation.script)?;
     let script = read_script(alloc, text.as_slice(), &config)?;
-    match invocation.mode {
-        Mode::Sim => play_in_memory(alloc, &config, &script, out),
-        Mode::Run => play_over_sockets(system, alloc, &config, &script, out),
+    play_over(system, alloc, invocation.mode, &config, &script, out)
+}
+
+/// Plays a script on a network, over the lines of a mode.
+fn play_over<N: net::Net, W: Write>(
+    system: &N,
+    alloc: Global,
+    mode: Mode,
+    config: &Config,
+    script: &Script,
+    out: &mut W,
+) -> Result<(), ProgFault>
+    ensures played { OnOk result (PlaysOn mode config.now script.now
+        (W.contents out.old) (W.contents out.new)) }
+    ensures failed { IfErr result (PlayFails mode config.now script.now
+        (W.contents out.old) (W.contents out.new)) }
+{
+    match mode {
+        Mode::Sim => play_in_memory(alloc, config, script, out),
+        Mode::Run => play_over_sockets(system, alloc, config, script, out),
     }
 }
 
@@ -144,11 +226,15 @@ fn play_in_memory<W: Write>(
     script: &Script,
     out: &mut W,
 ) -> Result<(), ProgFault>
-    ensures { OnOk result (PlaysOn memory_service (W.contents out.old) (W.contents out.new)) }
+    ensures played { OnOk result (PlaysOn Mode.Sim config.now script.now
+        (W.contents out.old) (W.contents out.new)) }
+    ensures failed { IfErr result (PlayFails Mode.Sim config.now script.now
+        (W.contents out.old) (W.contents out.new)) }
 {
-    let mut net = Net::on_memory_lines(alloc, config)?;
-    play(alloc, &mut net, script, out)?;
-    Ok(())
+    match Net::on_memory_lines(alloc, config) {
+        Ok(mut net) => play(alloc, &mut net, script, out),
+        Err(fault) => Err(making_fault(fault)),
+    }
 }
 
 /// Plays a script on a network over pairs of sockets.
@@ -159,12 +245,26 @@ fn play_over_sockets<N: net::Net, W: Write>(
     script: &Script,
     out: &mut W,
 ) -> Result<(), ProgFault>
-    ensures { OnOk result (PlaysOn socket_service (W.contents out.old) (W.contents out.new)) }
+    ensures played { OnOk result (PlaysOn Mode.Run config.now script.now
+        (W.contents out.old) (W.contents out.new)) }
+    ensures failed { IfErr result (PlayFails Mode.Run config.now script.now
+        (W.contents out.old) (W.contents out.new)) }
 {
     let lines = socket_lines(system, alloc, config.lines.len())?;
-    let mut net = Net::new(alloc, config, lines)?;
-    play(alloc, &mut net, script, out)?;
-    Ok(())
+    match Net::new(alloc, config, lines) {
+        Ok(mut net) => play(alloc, &mut net, script, out),
+        Err(fault) => Err(making_fault(fault)),
+    }
+}
+
+/// Why the network is not made.
+fn making_fault(fault: MakeFault) -> ProgFault
+    ensures { result ≡ making_fault fault }
+{
+    match fault {
+        MakeFault::BadConfig => ProgFault::BadConfig,
+        MakeFault::OutOfMemory => ProgFault::OutOfMemory,
+    }
 }
 
 /// So many lines over pairs of sockets.
@@ -173,7 +273,8 @@ fn socket_lines<N: net::Net>(
     alloc: Global,
     count: usize,
 ) -> Result<Vec<UdpLine<UdpSocket>>, ProgFault>
-    ensures { IfOk result (λ lines. length lines.items ≡ count) }
+    ensures lines { IfOk result (λ lines. length lines.items ≡ count) }
+    ensures faults { IfErr result (λ fault. (fault ≡ ProgFault.OutOfMemory) ⊎ (fault ≡ ProgFault.Socket)) }
 {
     let mut lines = Vec::new(alloc);
     for _ in 0..count {
@@ -187,12 +288,20 @@ fn socket_lines<N: net::Net>(
 }
 
 /// Octets that have to be text, as a network file's have.
-fn text_of(octets: &[u8]) -> Result<&str, ProgFault> {
-    str::from_utf8(octets).map_err(|_| ProgFault::NetText)
+fn text_of(octets: &[u8]) -> Result<&str, ProgFault>
+    ensures { MatchResult result (λ text. text.now ≡ octets.entry.now)
+        (λ fault. (fault ≡ ProgFault.NetText) × ¬ IsUtf8 octets.entry.now) }
+{
+    match str::from_utf8(octets) {
+        Ok(text) => Ok(text),
+        Err(_) => Err(ProgFault::NetText),
+    }
 }
 
 /// Reads the file of this name.
-fn read_file<F: Files>(files: &F, alloc: Global, name: &str) -> Result<Vec<u8>, ProgFault> {
+fn read_file<F: Files>(files: &F, alloc: Global, name: &str) -> Result<Vec<u8>, ProgFault>
+    ensures { IfErr result IsReadFault }
+{
     match File::open(files, name) {
         Ok(mut file) => read_all(alloc, &mut file),
         Err(error) => Err(reading_fault(&error)),
@@ -200,9 +309,12 @@ fn read_file<F: Files>(files: &F, alloc: Global, name: &str) -> Result<Vec<u8>, 
 }
 
 /// Reads all that a reader has, of at most 1,048,576 octets.
-fn read_all<R: Read>(alloc: Global, input: &mut R) -> Result<Vec<u8>, ProgFault> {
+fn read_all<R: Read>(alloc: Global, input: &mut R) -> Result<Vec<u8>, ProgFault>
+    ensures left { IfOk result (λ text. IsLeftOf (R.remaining input.old) text.items) }
+    ensures faults { IfErr result IsReadFault }
+{
     let mut text = Vec::new(alloc);
-    match input.by_ref().take(TEXT_OCTETS + 1).read_to_end(&mut text) {
+    match input.take(TEXT_OCTETS + 1).read_to_end(&mut text) {
         Ok(count) if count as u64 <= TEXT_OCTETS => Ok(text),
         Ok(_) => Err(ProgFault::File),
         Err(error) => Err(reading_fault(&error)),
@@ -210,9 +322,11 @@ fn read_all<R: Read>(alloc: Global, input: &mut R) -> Result<Vec<u8>, ProgFault>
 }
 
 /// Why nothing is read of a file or of the input.
-fn reading_fault(error: &io::Error) -> ProgFault {
+fn reading_fault(error: &io::Error) -> ProgFault
+    ensures { IsReadFault result }
+{
     match error.kind() {
-        io::ErrorKind::OutOfMemory => ProgFault::OutOfMemory,
+        ErrorKind::OutOfMemory => ProgFault::OutOfMemory,
         _ => ProgFault::File,
     }
 }

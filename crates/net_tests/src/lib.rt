@@ -10,6 +10,8 @@ mod files;
 #[cfg(test)]
 mod networks;
 #[cfg(test)]
+mod output;
+#[cfg(test)]
 mod programs;
 #[cfg(test)]
 mod switched;

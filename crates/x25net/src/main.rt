@@ -1,26 +1,34 @@
 //! An X.25 network of PADs, hosts and switches, driven by a script.
 #![tactic(auto)]
 
-use net_player::{perform, refuse_words};
+use net_player::{finish, perform, refuse_words};
+use std::io::{BufWriter, Stderr, Write};
 use std::process::ExitCode;
 use std::{env, io};
 
 fn main(rt: HostRuntime) -> ExitCode {
     let mut err = rt.stderr();
-    let words = match read_arguments(&rt) {
-        Ok(words) => words,
-        Err(error) => return ExitCode::from(refuse_words(&error, &mut err)),
+    let status = match run(&rt, &mut err) {
+        Ok(status) => status,
+        Err(error) => refuse_words(&error, &mut err),
     };
-    let mut out = io::writer(&rt);
+    ExitCode::from(status)
+}
+
+/// Runs the program on its command words, and gives the status to end with. Its output is written as many whole lines
+/// at a time as the buffer has room for.
+fn run(rt: &HostRuntime, err: &mut Stderr) -> io::Result<u8> {
+    let words = read_arguments(rt)?;
+    let mut out = BufWriter::new(rt.alloc(), io::writer(rt))?;
     let status = perform(
-        &rt,
+        rt,
         rt.alloc(),
         words.as_slice(),
         &mut rt.reader(),
         &mut out,
-        &mut err,
+        err,
     );
-    ExitCode::from(status)
+    Ok(finish(status, &out.flush(), err))
 }
 
 /// The command words, without the program's name.

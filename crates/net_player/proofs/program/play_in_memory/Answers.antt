@@ -1,11 +1,13 @@
+use Rattle.net_player.specs.Programs.PlayFails.{stopped}
+use Rattle.net_player.proofs.Parts.{if_err_as}
+use Rattle.net_player.proofs.Failing.{made_fails}
 use Rattle.net_player.proofs.program.play_in_memory.Goals as goal
 
-pub returns : goal.returns
-returns g c = record {
-  config = _;
-  start = _;
-  made = c.in_ok-net.ensures.ok;
-  script = _;
-  ended = _;
-  writes = c.in_ok-play.ensures.writes;
-}
+pub returns-in-Ok-clause-failed : goal.returns-in-Ok-clause-failed
+returns-in-Ok-clause-failed g c =
+    if_err_as c.play.result (λ fault stops. stopped _ c.in-Ok.ensures.ok stops) c.play.ensures.stops
+
+pub returns-in-Err-clause-failed : goal.returns-in-Err-clause-failed
+returns-in-Err-clause-failed g c =
+    rw c.making_fault.ensures
+    (made_fails _ c.in-Err.fault c.on_memory_lines.result c.on_memory_lines.ensures.served c.in-Err.is)

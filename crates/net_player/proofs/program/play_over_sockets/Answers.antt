@@ -1,11 +1,23 @@
+use Rattle.std.proofs.Common.{refl, inl, inr}
+use Rattle.std.proofs.lemmas.Result.{err_from_is_err_and}
+use Rattle.net_player.specs.Programs.PlayFails.{no_memory, no_socket, stopped}
+use Rattle.net_player.proofs.Parts.{if_err_as}
+use Rattle.net_player.proofs.Failing.{made_fails}
 use Rattle.net_player.proofs.program.play_over_sockets.Goals as goal
 
-pub returns : goal.returns
-returns g c = record {
-  config = _;
-  start = _;
-  made = c.in_ok-net.ensures.ok;
-  script = _;
-  ended = _;
-  writes = c.in_ok-play.ensures.writes;
-}
+pub returns-in_err-lines-clause-failed : goal.returns-in_err-lines-clause-failed
+returns-in_err-lines-clause-failed g c =
+    let p = err_from_is_err_and c.from_residual.result c.from_residual.ensures.1 in
+    rw (p.1, p.2) (elim c.in_err-lines.ensures.faults [
+      | inl is ↦ rw is (no_memory refl)
+      | inr is ↦ rw is (no_socket refl refl)
+    ])
+
+pub returns-in-Ok-clause-failed : goal.returns-in-Ok-clause-failed
+returns-in-Ok-clause-failed g c =
+    if_err_as c.play.result (λ fault stops. stopped _ c.in-Ok.ensures.ok stops) c.play.ensures.stops
+
+pub returns-in-Err-clause-failed : goal.returns-in-Err-clause-failed
+returns-in-Err-clause-failed g c =
+    rw c.making_fault.ensures
+    (made_fails _ c.in-Err.fault c.new.result c.new.ensures.served c.in-Err.is)

@@ -1,7 +1,8 @@
-use Rattle.std.proofs.Common.{arith, ◌≤◌}
+use Rattle.std.proofs.Common.{arith, ◌≤◌, ◌<◌, ℕ, List}
 use Rattle.net_player.specs.InTurn.InTurn.{nothing}
-use Rattle.net_player.proofs.Turns.{writes_nothing}
-use Rattle.net_player.proofs.Deliveries.{pass_more}
+use Rattle.net_player.proofs.Turns.{writes_nothing, writes_append}
+use Rattle.std.proofs.lemmas.Result.{err_from_is_err_and}
+use Rattle.net_player.proofs.Deliveries.{pass_more, pass_stops_first, second_stops}
 use Rattle.net_player.proofs.player.Player.pass.Goals as goal
 
 pub loop-line-init : goal.loop-line-init
@@ -16,3 +17,17 @@ loop-line-preserved g c =
           c.in_ok-still_left-2.ensures.delivers,
       omega arith,
     )
+
+pub returns-in_err-still_left-clause-stops : goal.returns-in_err-still_left-clause-stops
+returns-in_err-still_left-clause-stops g c =
+    let p = err_from_is_err_and c.from_residual.result c.from_residual.ensures.1 in
+    let within : c.loop-line.line < c.args.self.now.lines = omega arith in
+    rw (p.1, p.2) (writes_append _ _ _ (λ first part passes stops. pass_stops_first c.loop-line.line _ first part within passes stops)
+    c.loop-line.invariant.0 c.in_err-still_left.ensures.stops)
+
+pub returns-in_err-still_left-2-clause-stops : goal.returns-in_err-still_left-2-clause-stops
+returns-in_err-still_left-2-clause-stops g c =
+    let p = err_from_is_err_and c.from_residual-in_err-still_left-2.result c.from_residual-in_err-still_left-2.ensures.1 in
+    let within : c.loop-line.line < c.args.self.now.lines = omega arith in
+    rw (p.1, p.2) (second_stops c.loop-line.line _ _ _ _ _ within c.loop-line.invariant.0
+    c.in_ok-still_left.ensures.delivers c.in_err-still_left-2.ensures.stops)

@@ -1,4 +1,6 @@
 use Rattle.net_player.specs.Playing.DoesCommand.{events, flow, tick, trace}
+use Rattle.std.proofs.lemmas.Result.{err_from_is_err_and}
+use Rattle.net_player.specs.Stopping.CommandStops.{in_events, in_flow, in_ticks}
 use Rattle.net_player.proofs.Turns.{writes_as, writes_nothing}
 use Rattle.net_player.proofs.player.Player.play_command.Goals as goal
 
@@ -14,3 +16,19 @@ returns-in_ok-tick-in-Tick-clause-writes g c = rw c.in-Tick.is (writes_as (λ te
 
 pub returns-in-Trace-clause-writes : goal.returns-in-Trace-clause-writes
 returns-in-Trace-clause-writes g c = rw c.in-Trace.is (writes_nothing _ trace)
+
+pub returns-in_err-play_events-in-Events-clause-stops : goal.returns-in_err-play_events-in-Events-clause-stops
+returns-in_err-play_events-in-Events-clause-stops g c =
+    let p = err_from_is_err_and c.from_residual.result c.from_residual.ensures.1 in
+    rw (p.1, p.2, c.in-Events.is)
+    (writes_as (λ part stops. in_events stops) (rw c.as_slice.ensures.value at c.in_err-play_events-in-Events.ensures.stops))
+
+pub returns-in_err-flow-in-Flow-clause-stops : goal.returns-in_err-flow-in-Flow-clause-stops
+returns-in_err-flow-in-Flow-clause-stops g c =
+    let p = err_from_is_err_and c.from_residual-in_err-flow-in-Flow.result c.from_residual-in_err-flow-in-Flow.ensures.1 in
+    rw (p.1, p.2, c.in-Flow.is) (writes_as (λ part stops. in_flow stops) c.in_err-flow-in-Flow.ensures.stops)
+
+pub returns-in_err-tick-in-Tick-clause-stops : goal.returns-in_err-tick-in-Tick-clause-stops
+returns-in_err-tick-in-Tick-clause-stops g c =
+    let p = err_from_is_err_and c.from_residual-in_err-tick-in-Tick.result c.from_residual-in_err-tick-in-Tick.ensures.1 in
+    rw (p.1, p.2, c.in-Tick.is) (writes_as (λ part stops. in_ticks stops) c.in_err-tick-in-Tick.ensures.stops)

@@ -1,0 +1,116 @@
+-- Things of which one stops, and parts of texts.
+use Rattle.std.proofs.Common.{◌≡◌, ◌≢◌, ℕ, suc, ◌+◌, ◌<◌, List, [], ◌∷◌, ◌++◌, length, take, drop, get_or, Option, sym, ap, ◌∙◌, subst, append_assoc, take-append-drop, drop-cons, refl}
+use Rattle.std.proofs.Common.{Result, Ok, Err, IfErr, OnOk}
+use Rattle.std.proofs.lemmas.List.{append-nil}
+use Rattle.std.proofs.lemmas.Grind.{flat_map-append}
+use Rattle.std.specs.List.{flat_map}
+use Rattle.std.specs.Io.KnownBytes.{Appends}
+use Rattle.std.proofs.KnownBytes.{Appends-nil, Appends-trans}
+use Rattle.net_files.specs.declared.fault.ProgFault.{ProgFault}
+use Rattle.net_files.specs.declared.fault.ProgFault.TheVariants as fault_is
+use Rattle.net_player.specs.InTurn.{InTurn, StopsInTurn, Writes}
+use Rattle.net_player.specs.InTurn.InTurn.{nothing, then}
+use Rattle.net_player.specs.InTurn.StopsInTurn.{here, later}
+use Rattle.net_player.specs.Stopping.{IsPartOf}
+
+-- some are done, and then one stops
+pub stops_behind : {X S : Type 0} {Does : X → S → List ℕ → S → Type 0} {Stops : X → S → List ℕ → Type 0}
+    {xs : List X} {s mid : S} {first : List ℕ}
+    → InTurn X S Does xs s first mid → (ys : List X) (part : List ℕ) → StopsInTurn X S Does Stops ys mid part
+    → StopsInTurn X S Does Stops (xs ++ ys) s (first ++ part)
+stops_behind nothing ys part stops = stops
+stops_behind (then {first = a} {rest = b} does more) ys part stops =
+    rw (append_assoc a b part) (later does (stops_behind more ys part stops))
+
+-- a list up to an element, and from it on
+pub split_at : {X : Type 0} (xs : List X) (i : ℕ) (x : X) → i < length xs → x ≡ get_or xs i x
+    → xs ≡ take i xs ++ (x ∷ drop (suc i) xs)
+split_at xs i x within there =
+    sym (take-append-drop i xs)
+    ∙ ap (λ ys. take i xs ++ ys) (drop-cons xs i x within ∙ ap (λ y. y ∷ drop (suc i) xs) (sym there))
+
+-- the next of a list stops
+pub stops_next : {X S : Type 0} {Does : X → S → List ℕ → S → Type 0} {Stops : X → S → List ℕ → Type 0}
+    {s mid : S} {first : List ℕ} (part : List ℕ) (xs : List X) (i : ℕ) (x : X) → i < length xs → x ≡ get_or xs i x
+    → InTurn X S Does (take i xs) s first mid → Stops x mid part
+    → StopsInTurn X S Does Stops xs s (first ++ part)
+stops_next {X} {S} {Does} {Stops} {s} {mid} {first} part xs i x within there done stops =
+    let P : List X → Type 0 = λ ys. StopsInTurn X S Does Stops ys s (first ++ part) in
+    subst P (sym (split_at xs i x within there)) (stops_behind done _ part (here stops))
+
+-- a text was written, and a part of another one
+pub told_behind : {fault : ProgFault} {part whole : List ℕ} (first : List ℕ) → IsPartOf whole fault part
+    → IsPartOf (first ++ whole) fault (first ++ part)
+told_behind {fault} {part} {whole} first told = record {
+  rest = told.rest;
+  front = ap (λ w. first ++ w) told.front ∙ sym (append_assoc first part told.rest);
+  refused = told.refused;
+}
+
+front_empty : (xs ys : List ℕ) → xs ++ ys ≡ [] → xs ≡ []
+front_empty [] ys none = refl
+front_empty (x ∷ xs) ys none = absurd (cc none)
+
+-- a part of a text was written, of which others follow
+pub told_before : {fault : ProgFault} {part whole : List ℕ} (more : List ℕ) → IsPartOf whole fault part
+    → IsPartOf (whole ++ more) fault part
+told_before {fault} {part} {whole} more told = record {
+  rest = told.rest ++ more;
+  front = ap (λ w. w ++ more) told.front ∙ append_assoc part told.rest more;
+  refused = λ is empty. told.refused is (front_empty told.rest more empty);
+}
+
+not_write : fault_is.OutOfMemory ≢ fault_is.Write
+not_write same = cc same
+
+-- the front of a text was written, and then memory was wanted
+pub told_front : (part rest : List ℕ) → IsPartOf (part ++ rest) fault_is.OutOfMemory part
+told_front part rest = record { rest = rest; front = refl; refused = λ is empty. not_write is }
+
+-- the texts of some of a list were written, and a part of that of the next
+pub told_next : {X : Type 0} {fault : ProgFault} {part : List ℕ} (f : X → List ℕ) (xs : List X) (i : ℕ) (x : X)
+    → i < length xs → x ≡ get_or xs i x → IsPartOf (f x) fault part
+    → IsPartOf (flat_map f xs) fault (flat_map f (take i xs) ++ part)
+told_next {X} {fault} {part} f xs i x within there told =
+    let whole : flat_map f xs ≡ flat_map f (take i xs) ++ (f x ++ flat_map f (drop (suc i) xs)) =
+    ap (flat_map f) (split_at xs i x within there) ∙ flat_map-append f (take i xs) (x ∷ drop (suc i) xs) in
+    let P : List ℕ → Type 0 = λ text. IsPartOf text fault (flat_map f (take i xs) ++ part) in
+    subst P (sym whole) (told_behind _ (told_before _ told))
+
+-- the texts of some of a list were written, and then memory was wanted
+pub told_some : {X : Type 0} (f : X → List ℕ) (xs : List X) (i : ℕ)
+    → IsPartOf (flat_map f xs) fault_is.OutOfMemory (flat_map f (take i xs))
+told_some {X} f xs i =
+    let whole : flat_map f xs ≡ flat_map f (take i xs) ++ flat_map f (drop i xs) =
+    ap (flat_map f) (sym (take-append-drop i xs)) ∙ flat_map-append f (take i xs) (drop i xs) in
+    let P : List ℕ → Type 0 = λ text. IsPartOf text fault_is.OutOfMemory (flat_map f (take i xs)) in
+    subst P (sym whole) (told_front _ _)
+
+-- a text is known to be written, and it is of this kind
+pub writes_known : {Whole : List ℕ → Type 0} {a b : Option (List ℕ)} (text : List ℕ)
+    → Whole text → Appends a b text → Writes a b Whole
+writes_known text kind appended = record { text = text; appended = appended; kind = kind }
+
+-- a text was written behind a known one
+pub writes_behind : {Rest Whole : List ℕ → Type 0} {a b c : Option (List ℕ)} (first : List ℕ)
+    → ((rest : List ℕ) → Rest rest → Whole (first ++ rest))
+    → Appends a b first → Writes b c Rest → Writes a c Whole
+writes_behind {Rest} {Whole} {a} {b} {c} first whole appended rest = record {
+  text = first ++ rest.text;
+  appended = Appends-trans a b c first rest.text appended rest.appended;
+  kind = whole rest.text rest.kind;
+}
+
+-- the fault that came is known
+pub part_for : {whole part : List ℕ} {fault : ProgFault} → fault ≡ fault_is.OutOfMemory
+    → IsPartOf whole fault_is.OutOfMemory part → IsPartOf whole fault part
+part_for {whole} {part} is told = subst (λ f. IsPartOf whole f part) (sym is) told
+
+-- what is said of an error, or where there is none, says this too
+pub if_err_as : {T E : Type 0} (result : Result T E) {P Q : E → Type 0} → ((e : E) → P e → Q e) → IfErr result P → IfErr result Q
+if_err_as (Ok x) is said = tt
+if_err_as (Err e) is said = is e said
+
+pub on_ok_as : {T E : Type 0} (result : Result T E) {P Q : Type 0} → (P → Q) → OnOk result P → OnOk result Q
+on_ok_as (Ok x) is said = is said
+on_ok_as (Err e) is said = tt

@@ -1,0 +1,41 @@
+use Rattle.std.proofs.Common.{◌≡◌, ℕ, List, ◌++◌, string_bytes}
+use Rattle.std.specs.List.{flat_map}
+use Rattle.std.proofs.lemmas.Result.{err_from_is_err_and}
+use Rattle.std.proofs.KnownBytes.{Appends-trans}
+use Rattle.net_player.specs.Answers.{frames_text, note_text}
+use Rattle.net_player.proofs.Turns.{writes_as}
+use Rattle.net_player.proofs.Parts.{told_before, told_behind, told_front, writes_known, writes_behind}
+use Rattle.net_player.proofs.player.Player.write_answer.Goals as goal
+
+pub returns-in_err-write_traced-clause-stops : goal.returns-in_err-write_traced-clause-stops
+returns-in_err-write_traced-clause-stops g c =
+    let p = err_from_is_err_and c.from_residual.result c.from_residual.ensures.1 in
+    rw (p.1, p.2) (writes_as (λ part told. told_before _ told) (rw c.as_slice.ensures.value at c.in_err-write_traced.ensures.stops))
+
+pub returns-in_err-write_notes-clause-stops : goal.returns-in_err-write_notes-clause-stops
+returns-in_err-write_notes-clause-stops g c =
+    let p = err_from_is_err_and c.from_residual-in_err-write_notes.result c.from_residual-in_err-write_notes.ensures.1 in
+    let frames : List ℕ = frames_text c.args.self.now.traces c.args.answer.now.frames.items in
+    rw (p.1, p.2) (writes_behind frames (λ part told. told_behind frames (told_before _ told))
+    (rw c.as_slice.ensures.value at c.in_ok-write_traced.ensures.writes)
+    (rw c.as_slice-2.ensures.value at c.in_err-write_notes.ensures.stops))
+
+pub returns-in_err-text-clause-stops : goal.returns-in_err-text-clause-stops
+returns-in_err-text-clause-stops g c =
+    let p = err_from_is_err_and c.from_residual-in_err-text.result c.from_residual-in_err-text.ensures.1 in
+    let frames : List ℕ = frames_text c.args.self.now.traces c.args.answer.now.frames.items in
+    let notes : List ℕ = flat_map (note_text c.args.self.now.names.now) c.args.answer.now.notes.items in
+    rw (p.1, p.2) (writes_known (frames ++ notes) (told_behind frames (told_front notes _)) (Appends-trans _ _ _ frames notes
+    (rw c.as_slice.ensures.value at c.in_ok-write_traced.ensures.writes)
+    (rw c.as_slice-2.ensures.value at c.in_ok-write_notes.ensures.writes)))
+
+pub returns-in_err-write-clause-stops : goal.returns-in_err-write-clause-stops
+returns-in_err-write-clause-stops g c =
+    let p = err_from_is_err_and c.from_residual-in_err-write.result c.from_residual-in_err-write.ensures.1 in
+    let frames : List ℕ = frames_text c.args.self.now.traces c.args.answer.now.frames.items in
+    let notes : List ℕ = flat_map (note_text c.args.self.now.names.now) c.args.answer.now.notes.items in
+    rw (p.1, p.2) (writes_behind frames (λ part told. told_behind frames told)
+    (rw c.as_slice.ensures.value at c.in_ok-write_traced.ensures.writes)
+    (writes_behind notes (λ part told. told_behind notes told)
+    (rw c.as_slice-2.ensures.value at c.in_ok-write_notes.ensures.writes)
+    (rw (c.as_str.ensures.value, c.in_ok-text.ensures) at c.in_err-write.ensures.refused)))
