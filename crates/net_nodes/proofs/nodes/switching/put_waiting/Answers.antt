@@ -77,7 +77,7 @@ loop-at-preserved g c =
             c.put_switch_frames.ensures.most
             (put_one L false own s n c.network_line-number.result c.args.lines.now.items c.loop-at.lines.items _ _ _ (g.L.Line.flights c.put_switch_frames.new.line)
             c.requires.apart w.lines_put here line_there (λ f. refl)
-            (λ f. subst (λ fs. ArePut L FromDce fs _ (g.L.Line.flights c.put_switch_frames.new.line)) waits (c.put_switch_frames.ensures.line f))
+            (λ f. subst (λ fs. ArePut L FromDce fs (g.L.Line.flights c.net_line.inside.line) (g.L.Line.flights c.put_switch_frames.new.line)) waits (c.put_switch_frames.ensures.line f))
             refl),
       );
       capacity = c.put_switch_frames.ensures.capacity ∙ c.loop-at.invariant.capacity;
