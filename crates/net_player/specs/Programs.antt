@@ -39,7 +39,7 @@ pub record PlaysOn (mode : Mode) (config : Config) (script : Script) (before aft
   pub writes : Writes before after (λ text. Plays (lines_of mode) script start text ended)
 
 -- or it was not: memory was wanted, a socket was not had or the configuration is not served, before anything was
--- written; or the play stopped for a fault of its own, and what was told until then was written
+-- written; or the play stopped, with a fault of its own, and what was told until then was written
 pub data PlayFails (mode : Mode) (config : Config) (script : Script) (before after : Option (List ℕ))
     : ProgFault → Type 0 where
   no_memory : after ≡ before → PlayFails mode config script before after fault_is.OutOfMemory
