@@ -111,6 +111,12 @@ pub if_err_as : {T E : Type 0} (result : Result T E) {P Q : E → Type 0} → ((
 if_err_as (Ok x) is said = tt
 if_err_as (Err e) is said = is e said
 
+-- two things that are said of an error say a third
+pub if_err_and : {T E : Type 0} (result : Result T E) {P Q R : E → Type 0} → ((e : E) → P e → Q e → R e)
+    → IfErr result P → IfErr result Q → IfErr result R
+if_err_and (Ok x) is one other = tt
+if_err_and (Err e) is one other = is e one other
+
 pub on_ok_as : {T E : Type 0} (result : Result T E) {P Q : Type 0} → (P → Q) → OnOk result P → OnOk result Q
 on_ok_as (Ok x) is said = is said
 on_ok_as (Err e) is said = tt

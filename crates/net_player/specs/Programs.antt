@@ -21,7 +21,7 @@ use Rattle.net_files.specs.Networks.{Spells}
 use Rattle.net_files.specs.Scripts.{IsScript, IsScriptFault}
 use Rattle.net_player.specs.InTurn.{Writes}
 use Rattle.net_player.specs.Playing.{Plays}
-use Rattle.net_player.specs.Stopping.{PlayStops}
+use Rattle.net_player.specs.Stopping.{IsPlayFault, PlayStops}
 
 -- ---- a script on a network
 
@@ -39,14 +39,15 @@ pub record PlaysOn (mode : Mode) (config : Config) (script : Script) (before aft
   pub writes : Writes before after (λ text. Plays (lines_of mode) script start text ended)
 
 -- or it was not: memory was wanted, a socket was not had or the configuration is not served, before anything was
--- written; or the play stopped, and what was told until then was written
+-- written; or the play stopped, with a fault of its own, and what was told until then was written
 pub data PlayFails (mode : Mode) (config : Config) (script : Script) (before after : Option (List ℕ))
     : ProgFault → Type 0 where
   no_memory : after ≡ before → PlayFails mode config script before after fault_is.OutOfMemory
   no_socket : mode ≡ Run → after ≡ before → PlayFails mode config script before after fault_is.Socket
   unserved : is_served config ≡ false → after ≡ before → PlayFails mode config script before after fault_is.BadConfig
   stopped : {fault : ProgFault} (start : Network)
-      → IsMadeBy (lines_of mode) config start → Writes before after (PlayStops (lines_of mode) script fault start)
+      → IsPlayFault fault → IsMadeBy (lines_of mode) config start
+      → Writes before after (PlayStops (lines_of mode) script fault start)
       → PlayFails mode config script before after fault
 
 -- why a network is not made
@@ -146,6 +147,6 @@ fault_line fault_is.File = codes "fault 7" ++ 10 ∷ []
 abbrev pub bad_words : List ℕ
 bad_words = codes "bad words" ++ 10 ∷ []
 
--- the text begins so
+-- a part is a front of the whole, perhaps nothing
 abbrev pub IsFrontOf : (whole part : List ℕ) → Type 0
 IsFrontOf whole part = (rest : List ℕ) × (whole ≡ part ++ rest)

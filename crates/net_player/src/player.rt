@@ -27,8 +27,9 @@ const FLOW_LIMIT: u32 = 100_000;
 
 /// Plays a script on a network, and prints the answer to each event, and at the end whether the network is at rest.
 ///
-/// `OutOfMemory` comes where memory is wanted and `Write` where the output refuses a part of a text; what was done and
-/// printed until then stays.
+/// It stops early with `OutOfMemory` where memory is wanted and with `Write` where the output refuses a part of a text.
+/// What it printed then is the text of the events before, and a front of that of the next. Of the network nothing is
+/// said then.
 pub fn play<L: Line, W: Write>(
     alloc: Global,
     net: &mut Net<L>,

@@ -49,7 +49,7 @@ pub fn perform<S: Files + net::Net, R: Read, W: Write, E: Write>(
 ) -> u8
     ensures status { result ≤ BAD_WORDS }
     ensures done { result ≡ DONE → Performs (map (λ word. string_bytes word) words.now) (R.remaining input.old)
-        (W.contents out.old) (W.contents out.new) }
+        (W.contents out.old) (W.contents out.new) × (E.contents err.new ≡ E.contents err.old) }
     ensures fault { result ≡ FAULT → (fault : ProgFault)
         × Fails (map (λ word. string_bytes word) words.now) (R.remaining input.old) (W.contents out.old)
         (W.contents out.new) fault × Writes (E.contents err.old) (E.contents err.new) (IsFrontOf (fault_line fault)) }
@@ -96,10 +96,12 @@ fn run<S: Files + net::Net, R: Read, W: Write>(
 }
 
 /// What the program does where it cannot read its command words or has no room for its output: want of memory is a
-/// fault, and all else is bad words.
+/// fault, and all else is bad words; either is told on `err`.
 pub fn refuse_words<E: Write>(error: &io::Error, err: &mut E) -> u8
-    ensures memory { error_kind error.now ≡ ErrorKind.OutOfMemory → result ≡ FAULT }
-    ensures others { error_kind error.now ≢ ErrorKind.OutOfMemory → result ≡ BAD_WORDS }
+    ensures memory { error_kind error.now ≡ ErrorKind.OutOfMemory → (result ≡ FAULT)
+        × Writes (E.contents err.old) (E.contents err.new) (IsFrontOf (fault_line ProgFault.OutOfMemory)) }
+    ensures others { error_kind error.now ≢ ErrorKind.OutOfMemory → (result ≡ BAD_WORDS)
+        × Writes (E.contents err.old) (E.contents err.new) (IsFrontOf bad_words) }
 {
     match error.kind() {
         ErrorKind::OutOfMemory => tell_fault(ProgFault::OutOfMemory, err),
@@ -108,12 +110,12 @@ pub fn refuse_words<E: Write>(error: &io::Error, err: &mut E) -> u8
 }
 
 /// The status to end with once the output was flushed: where this failed behind a run that went to its end, that of the
-/// fault `Write`, which is told on `err`; else that of the run.
+/// fault `Write`, which is told on `err`; else that of the run, and nothing is told.
 pub fn finish<E: Write>(status: u8, flushed: &io::Result<()>, err: &mut E) -> u8
-    ensures flushed { IsOk flushed.now → result ≡ status }
+    ensures flushed { IsOk flushed.now → (result ≡ status) × (E.contents err.new ≡ E.contents err.old) }
     ensures refused { IsErr flushed.now → status ≡ DONE → (result ≡ FAULT)
         × Writes (E.contents err.old) (E.contents err.new) (IsFrontOf (fault_line ProgFault.Write)) }
-    ensures ended { status ≢ DONE → result ≡ status }
+    ensures ended { status ≢ DONE → (result ≡ status) × (E.contents err.new ≡ E.contents err.old) }
 {
     match flushed {
         Err(_) if status == DONE => tell_fault(ProgFault::Write, err),

@@ -1,11 +1,12 @@
 use Rattle.net_player.specs.Programs.PlayFails.{stopped}
-use Rattle.net_player.proofs.Parts.{if_err_as}
+use Rattle.net_player.proofs.Parts.{if_err_and}
 use Rattle.net_player.proofs.Failing.{made_fails}
 use Rattle.net_player.proofs.program.play_in_memory.Goals as goal
 
 pub returns-in-Ok-clause-failed : goal.returns-in-Ok-clause-failed
 returns-in-Ok-clause-failed g c =
-    if_err_as c.play.result (λ fault stops. stopped _ c.in-Ok.ensures.ok stops) c.play.ensures.stops
+    if_err_and c.play.result (λ fault is stops. stopped _ is c.in-Ok.ensures.ok stops) c.play.ensures.faults
+    c.play.ensures.stops
 
 pub returns-in-Err-clause-failed : goal.returns-in-Err-clause-failed
 returns-in-Err-clause-failed g c =
