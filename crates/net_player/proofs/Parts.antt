@@ -1,6 +1,6 @@
 -- Things of which one stops, and parts of texts.
 use Rattle.std.proofs.Common.{◌≡◌, ◌≢◌, ℕ, suc, ◌+◌, ◌<◌, List, [], ◌∷◌, ◌++◌, length, take, drop, get_or, Option, sym, ap, ◌∙◌, subst, append_assoc, take-append-drop, drop-cons, refl}
-use Rattle.std.proofs.Common.{Result, Ok, Err, IfErr, OnOk}
+use Rattle.std.proofs.Common.{Result, Ok, Err, IfErr, IfOk, OnOk}
 use Rattle.std.proofs.lemmas.List.{append-nil}
 use Rattle.std.proofs.lemmas.Grind.{flat_map-append}
 use Rattle.std.specs.List.{flat_map}
@@ -116,6 +116,10 @@ pub if_err_and : {T E : Type 0} (result : Result T E) {P Q R : E → Type 0} →
     → IfErr result P → IfErr result Q → IfErr result R
 if_err_and (Ok x) is one other = tt
 if_err_and (Err e) is one other = is e one other
+
+pub if_ok_as : {T E : Type 0} (result : Result T E) {P Q : T → Type 0} → ((x : T) → P x → Q x) → IfOk result P → IfOk result Q
+if_ok_as (Ok x) is said = is x said
+if_ok_as (Err e) is said = tt
 
 pub on_ok_as : {T E : Type 0} (result : Result T E) {P Q : Type 0} → (P → Q) → OnOk result P → OnOk result Q
 on_ok_as (Ok x) is said = is said

@@ -1,5 +1,5 @@
 -- What the program does on its words and its input.
-use Rattle.std.specs.Prelude.{◌≡◌, ◌⊎◌, ⊤, ℕ, false, List, [], ◌∷◌, ◌++◌, Option, Some, None}
+use Rattle.std.specs.Prelude.{◌≡◌, ◌≤◌, ◌<◌, ◌⊎◌, ℕ, false, List, length, [], ◌∷◌, ◌++◌, Option, Some, None}
 use Rattle.std.specs.Prelude.{IfSome, IsUtf8, codes, decimal}
 use Rattle.memory_line.specs.Lines.{LineService, memory_service}
 use Rattle.udp_line.specs.Sockets.{socket_service}
@@ -38,12 +38,13 @@ pub record PlaysOn (mode : Mode) (config : Config) (script : Script) (before aft
   pub ended : Network
   pub writes : Writes before after (λ text. Plays (lines_of mode) script start text ended)
 
--- or it was not: memory was wanted, a socket was not had or the configuration is not served, before anything was
--- written; or the play stopped, with a fault of its own, and what was told until then was written
+-- or it was not: memory was wanted, a socket was not had for a line or the configuration is not served, before
+-- anything was written; or the play stopped, with a fault of its own, and what was told until then was written
 pub data PlayFails (mode : Mode) (config : Config) (script : Script) (before after : Option (List ℕ))
     : ProgFault → Type 0 where
   no_memory : after ≡ before → PlayFails mode config script before after fault_is.OutOfMemory
-  no_socket : mode ≡ Run → after ≡ before → PlayFails mode config script before after fault_is.Socket
+  no_socket : mode ≡ Run → 0 < length config.lines.items → after ≡ before
+      → PlayFails mode config script before after fault_is.Socket
   unserved : is_served config ≡ false → after ≡ before → PlayFails mode config script before after fault_is.BadConfig
   stopped : {fault : ProgFault} (start : Network)
       → IsPlayFault fault → IsMadeBy (lines_of mode) config start
@@ -61,13 +62,17 @@ making_fault make_fault_is.OutOfMemory = fault_is.OutOfMemory
 abbrev pub IsFirst : List ℕ → Type 0
 IsFirst text = text ≡ FIRST.now
 
+-- a text that is read has at most so many octets
+abbrev pub IsOfSize : List ℕ → Type 0
+IsOfSize text = length text ≤ 1048576
+
 -- what a reader had left, where it says what that is
 abbrev pub IsLeftOf : Option (List ℕ) → List ℕ → Type 0
-IsLeftOf left text = IfSome left (λ octets. text ≡ octets)
+IsLeftOf left text = IsOfSize text × IfSome left (λ octets. text ≡ octets)
 
--- what a file has: no contract knows it
+-- what a file has, of which no contract knows more
 abbrev pub IsOfFile : List ℕ → Type 0
-IsOfFile text = ⊤
+IsOfFile text = IsOfSize text
 
 -- a network and a script were read, each of a text of its kind, and the script was played on the network
 pub record PlaysTexts (mode : Mode) (IsNet IsText : List ℕ → Type 0) (before after : Option (List ℕ)) : Type 0 where

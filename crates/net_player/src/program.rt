@@ -1,5 +1,5 @@
 //! The program.
-ghost use Rattle.std.specs.Prelude.{◌≡◌, ◌≢◌, ◌≤◌, ◌⊎◌, [], Ok, true, false, OnOk, IfOk, IfErr, IsOk, IsErr};
+ghost use Rattle.std.specs.Prelude.{◌≡◌, ◌≢◌, ◌≤◌, ◌<◌, ◌⊎◌, [], Ok, true, false, OnOk, IfOk, IfErr, IsOk, IsErr};
 ghost use Rattle.std.specs.Prelude.{MatchResult, IsUtf8, length, map, string_bytes};
 ghost use Rattle.std.specs.IoError.{error_kind};
 ghost use Rattle.std.specs.Io.KnownBytes.{Appends};
@@ -276,7 +276,8 @@ fn socket_lines<N: net::Net>(
     count: usize,
 ) -> Result<Vec<UdpLine<UdpSocket>>, ProgFault>
     ensures lines { IfOk result (λ lines. length lines.items ≡ count) }
-    ensures faults { IfErr result (λ fault. (fault ≡ ProgFault.OutOfMemory) ⊎ (fault ≡ ProgFault.Socket)) }
+    ensures faults { IfErr result (λ fault. (fault ≡ ProgFault.OutOfMemory)
+        ⊎ ((fault ≡ ProgFault.Socket) × (0 < count))) }
 {
     let mut lines = Vec::new(alloc);
     for _ in 0..count {
@@ -300,9 +301,10 @@ fn text_of(octets: &[u8]) -> Result<&str, ProgFault>
     }
 }
 
-/// Reads the file of this name.
+/// Reads the file of this name, of at most 1,048,576 octets.
 fn read_file<F: Files>(files: &F, alloc: Global, name: &str) -> Result<Vec<u8>, ProgFault>
-    ensures { IfErr result IsReadFault }
+    ensures size { IfOk result (λ text. IsOfFile text.items) }
+    ensures faults { IfErr result IsReadFault }
 {
     match File::open(files, name) {
         Ok(mut file) => read_all(alloc, &mut file),

@@ -1,4 +1,4 @@
-use Rattle.std.proofs.Common.{refl, inl, inr}
+use Rattle.std.proofs.Common.{refl, inl, inr, arith}
 use Rattle.std.proofs.lemmas.Result.{err_from_is_err_and}
 use Rattle.net_player.specs.Programs.PlayFails.{no_memory, no_socket, stopped}
 use Rattle.net_player.proofs.Parts.{if_err_and}
@@ -10,7 +10,7 @@ returns-in_err-lines-clause-failed g c =
     let p = err_from_is_err_and c.from_residual.result c.from_residual.ensures.1 in
     rw (p.1, p.2) (elim c.in_err-lines.ensures.faults [
       | inl is ↦ rw is (no_memory refl)
-      | inr is ↦ rw is (no_socket refl refl)
+      | inr is ↦ rw is.0 (no_socket refl (omega (arith, is.1, c.len.ensures, c.args.config.now.lines.ok.0)) refl)
     ])
 
 pub returns-in-Ok-clause-failed : goal.returns-in-Ok-clause-failed
