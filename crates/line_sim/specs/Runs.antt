@@ -5,7 +5,7 @@ use Rattle.net_events.specs.Network.{Network}
 use Rattle.net_events.specs.Opening.{IsMade}
 use Rattle.net_config.specs.declared.config.Config.{Config}
 use Rattle.net_config.specs.declared.fault.MakeFault.TheVariants.{BadConfig, OutOfMemory}
-use Rattle.net_config.specs.Plan.{plan_of}
+use Rattle.net_plans.specs.Plan.{plan_of}
 use Rattle.net_config.specs.Served.{is_served}
 use Rattle.net_events.specs.declared.event.Event.{Event}
 use Rattle.net_events.specs.declared.event.StepFault.{StepFault}

@@ -16,9 +16,10 @@ ghost use Rattle.line_sim.specs.Runs.{IsMadeBy};
 
 use call_records::{Pair, Record};
 use memory_line::Line;
-use net_config::{Config, MakeFault, plan_of};
+use net_config::{Config, MakeFault};
 use net_events::{Answer, Event, Outcome, StepFault};
 use net_nodes::Nodes;
+use net_plans::plan_of;
 use std::alloc::Global;
 use std::marker::Model;
 

@@ -1,4 +1,1 @@
 pub mod Served
-pub mod Plan
-pub mod PlanView
-pub mod PlannedView

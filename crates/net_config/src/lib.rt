@@ -1,14 +1,10 @@
-//! How a network is configured, whether it is served, and what it is made with.
+//! How a network is configured, and whether it is served.
 #![tactic(auto)]
 
 mod config;
 mod fault;
-mod parts;
-mod plan;
 mod served;
 
 pub use config::{Config, LineConfig, NodeConfig, NodeKind, PadConfig, RouteConfig, Setting};
 pub use fault::MakeFault;
-pub use parts::{NewKind, NewLine, NewNode, NewRoute, NewSwitch};
-pub use plan::{NetPlan, Planned, PlannedKind, plan_of};
-pub use served::is_served;
+pub use served::{has_dte, has_end, is_named, is_route_of, is_served};

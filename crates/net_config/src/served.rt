@@ -19,21 +19,21 @@ fn is_from(least: u16, most: u16, value: u16) -> bool
 }
 
 /// Whether a node has the name.
-pub(crate) fn is_named(name: &str, node: &NodeConfig) -> bool
+pub fn is_named(name: &str, node: &NodeConfig) -> bool
     ensures { result ≡ is_named name.now node.now }
 {
     node.name.as_str() == name
 }
 
 /// Whether the node of this name is the line's DTE.
-pub(crate) fn has_dte(name: &str, line: &LineConfig) -> bool
+pub fn has_dte(name: &str, line: &LineConfig) -> bool
     ensures { result ≡ has_dte name.now line.now }
 {
     line.dte.as_str() == name
 }
 
 /// Whether the node of this name is at an end of the line.
-pub(crate) fn has_end(name: &str, line: &LineConfig) -> bool
+pub fn has_end(name: &str, line: &LineConfig) -> bool
     ensures { result ≡ has_end name.now line.now }
 {
     has_dte(name, line) || line.dce.as_str() == name
@@ -123,7 +123,7 @@ fn count_routes(routes: &[RouteConfig], name: &str) -> usize
 }
 
 /// Whether the route is one of the switch of this name.
-pub(crate) fn is_route_of(name: &str, route: &RouteConfig) -> bool
+pub fn is_route_of(name: &str, route: &RouteConfig) -> bool
     ensures { result ≡ is_route_of name.now route.now }
 {
     route.switch.as_str() == name

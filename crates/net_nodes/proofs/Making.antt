@@ -6,7 +6,7 @@ use Rattle.std.proofs.lemmas.Bool.{cases_eq, lt-ltb, ltb-true, ltb-false}
 use Rattle.packet_end.specs.declared.params.EndParams.{EndParams}
 use Rattle.book_laws.proofs.Basics.{set_here, set_elsewhere, length_set, length_pushed, get_before, get_last}
 use Rattle.call_records.specs.Register.{Register, with_line, with_lines, with_free_line, with_standing_call}
-use Rattle.net_config.specs.Plan.{StandsAlone}
+use Rattle.net_plans.specs.Plan.{StandsAlone}
 use Rattle.line_nodes.specs.Node.{NodeState}
 use Rattle.line_nodes.specs.Node.{frames_of}
 use Rattle.memory_line.specs.declared.line.Direction.TheVariants.{FromDte}

@@ -12,13 +12,13 @@ ghost use Rattle.net_events.specs.Network as network;
 ghost use Rattle.net_events.specs.Opening.{IsPlan, IsMade, IsNewDte, PlannedUser, line_plan, new_node, own_configs};
 ghost use Rattle.link_timers.specs.declared.role.Role.TheVariants as role_is;
 ghost use Rattle.net_config.specs.declared.fault.MakeFault.TheVariants as make_fault_is;
-ghost use Rattle.net_config.specs.Plan.{StandsAlone};
+ghost use Rattle.net_plans.specs.Plan.{StandsAlone};
 ghost use Rattle.net_nodes.specs.Making.{AreNew, HaveBegun, HasEnds, PutsFirst, Begins, BeginsAtSwitch};
 ghost use Rattle.net_nodes.specs.Making.{waiting_switch, IsNewNode, IsOfPlan, CanMakeLines, CanBegin, SwitchBegins};
 ghost use Rattle.net_nodes.specs.Making.{IsMadeOf, AreFree, stands};
 ghost use Rattle.net_nodes.specs.NodeView.{kind_of};
 ghost use Rattle.net_nodes.specs.Places.{user_of};
-ghost use Rattle.net_config.specs.PlanView.{add_route, routes_value};
+ghost use Rattle.net_plans.specs.PlanView.{add_route, routes_value};
 ghost use Rattle.std.specs.List.{position};
 
 use crate::nodes::node::{NetNode, NodeKind, network_line};
@@ -30,10 +30,9 @@ use line_end::MOST_FRAMES;
 use line_nodes::Node;
 use link_timers::Role;
 use memory_line::{Direction, Line};
-use net_config::{
-    MakeFault, NetPlan, NewKind, NewLine, NewNode, NewRoute, NewSwitch, Planned, PlannedKind,
-};
+use net_config::MakeFault;
 use net_events::Put;
+use net_plans::{NetPlan, NewKind, NewLine, NewNode, NewRoute, NewSwitch, Planned, PlannedKind};
 use net_turns::put_frames;
 use packet_end::{EndFault, EndParams};
 use packet_host::{Host, HostConfig};

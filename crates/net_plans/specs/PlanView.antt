@@ -4,10 +4,10 @@ use Rattle.std.specs.List.{fold}
 use Rattle.std.specs.FinMap.{empty}
 use Rattle.address_routes.specs.Routes.{RouteMap}
 use Rattle.net_events.specs.Opening.{NewDte, NewPad, NewHost}
-use Rattle.net_config.specs.Plan.{added}
-use Rattle.net_config.specs.declared.parts.NewKind.{NewKind}
-use Rattle.net_config.specs.declared.parts.NewKind.TheVariants as kind_is
-use Rattle.net_config.specs.declared.parts.NewRoute.{NewRoute}
+use Rattle.net_plans.specs.Plan.{added}
+use Rattle.net_plans.specs.declared.parts.NewKind.{NewKind}
+use Rattle.net_plans.specs.declared.parts.NewKind.TheVariants as kind_is
+use Rattle.net_plans.specs.declared.parts.NewRoute.{NewRoute}
 
 abbrev pub kind_value : NewKind → NewDte
 kind_value (kind_is.Pad params terminals) = NewPad params terminals

@@ -2,9 +2,9 @@ use Rattle.std.proofs.Common.{rules, ◌≡◌, ◌++◌, ◌∷◌, [], refl, s
 use Rattle.std.specs.Prelude.{slice_get}
 use Rattle.std.proofs.lemmas.Option.{slice_get_read}
 use Rattle.std.proofs.lemmas.List.{map_more}
-use Rattle.net_config.specs.Plan.{new_line}
-use Rattle.net_config.proofs.Naming.{served_line}
-use Rattle.net_config.proofs.plan.new_lines.Goals as goal
+use Rattle.net_plans.specs.Plan.{new_line}
+use Rattle.net_plans.proofs.Naming.{served_line}
+use Rattle.net_plans.proofs.plan.new_lines.Goals as goal
 
 pub new_line-requires : goal.new_line-requires
 new_line-requires c =

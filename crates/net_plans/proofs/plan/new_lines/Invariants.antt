@@ -1,6 +1,6 @@
 use Rattle.std.proofs.Common.{◌≡◌, map, take}
-use Rattle.net_config.specs.Plan.{new_line}
-use Rattle.net_config.proofs.plan.new_lines.Given as goal
+use Rattle.net_plans.specs.Plan.{new_line}
+use Rattle.net_plans.proofs.plan.new_lines.Given as goal
 
 abbrev pub invariant-loop-line : goal.invariant-loop-line
 invariant-loop-line l =

@@ -15,18 +15,18 @@ use Rattle.net_events.specs.Opening.{IsNewDte, IsDcePlan, IsLinePlan, IsUserPlan
 use Rattle.net_config.specs.Served.{same_text, is_named, has_dte, has_end, is_switch, has_users, is_pad, is_dte_named}
 use Rattle.net_config.specs.Served.{is_dce_named, is_switch_named, is_pad_named, is_at_switch, is_address, may_stand}
 use Rattle.net_config.specs.Served.{is_served, is_from, is_kind_served}
-use Rattle.net_config.specs.Plan.{place_of, role_of, initial_params, new_user, lines_from, new_switch, planned_as, planned_node}
-use Rattle.net_config.specs.Plan.{digits_in, new_line, plan_of, StandsAlone, PlanLaw}
+use Rattle.net_plans.specs.Plan.{place_of, role_of, initial_params, new_user, lines_from, new_switch, planned_as, planned_node}
+use Rattle.net_plans.specs.Plan.{digits_in, new_line, plan_of, StandsAlone, PlanLaw}
 use Rattle.net_config.specs.declared.config.Config.{Config}
 use Rattle.net_config.specs.declared.config.NodeConfig.{NodeConfig}
 use Rattle.net_config.specs.declared.config.NodeKind.{NodeKind}
 use Rattle.net_config.specs.declared.config.NodeKind.TheVariants as node_kind
 use Rattle.net_config.specs.declared.config.PadConfig.{PadConfig}
 use Rattle.net_config.specs.declared.config.LineConfig.{LineConfig}
-use Rattle.net_config.proofs.Counting.{any_there, one_there, place_is, same_place}
-use Rattle.net_config.proofs.Naming.{same_so, so_same, LineIsServed, within_params, served_node, served_line, one_line}
-use Rattle.net_config.proofs.Naming.{some_lines, one_switch, from_so, node_place, line_place}
-use Rattle.net_config.proofs.Own.{Ends, line_ends, lines_count, lines_apart, line_found}
+use Rattle.net_plans.proofs.Counting.{any_there, one_there, place_is, same_place}
+use Rattle.net_plans.proofs.Naming.{same_so, so_same, LineIsServed, within_params, served_node, served_line, one_line}
+use Rattle.net_plans.proofs.Naming.{some_lines, one_switch, from_so, node_place, line_place}
+use Rattle.net_plans.proofs.Own.{Ends, line_ends, lines_count, lines_apart, line_found}
 
 -- ---- elements of a list that was mapped
 

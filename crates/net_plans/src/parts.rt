@@ -48,7 +48,7 @@ pub struct NewLine {
 
 impl Model for NewNode {
     ghost use Rattle.net_events.specs.Opening as opening;
-    ghost use Rattle.net_config.specs.PlanView.{kind_value};
+    ghost use Rattle.net_plans.specs.PlanView.{kind_value};
 
     ghost Value = { opening.NewNode };
 
@@ -56,7 +56,7 @@ impl Model for NewNode {
 }
 
 impl Model for NewSwitch {
-    ghost use Rattle.net_config.specs.PlanView.{routes_value};
+    ghost use Rattle.net_plans.specs.PlanView.{routes_value};
     ghost use Rattle.std.specs.FinMap as map;
     ghost use Rattle.address_routes.specs.Routes.{by_digits};
     ghost use Rattle.std.specs.Coded.{codes, coded_list, coded_ℕ};

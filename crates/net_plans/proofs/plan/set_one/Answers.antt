@@ -1,6 +1,6 @@
 use Rattle.x3_params.specs.Values.{fault_of}
-use Rattle.net_config.proofs.Answering.{set_by}
-use Rattle.net_config.proofs.plan.set_one.Goals as goal
+use Rattle.net_plans.proofs.Answering.{set_by}
+use Rattle.net_plans.proofs.plan.set_one.Goals as goal
 
 pub returns : goal.returns
 returns c =

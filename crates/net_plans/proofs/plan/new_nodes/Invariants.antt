@@ -1,6 +1,6 @@
 use Rattle.std.proofs.Common.{◌≡◌, map, take}
-use Rattle.net_config.specs.Plan.{planned_node}
-use Rattle.net_config.proofs.plan.new_nodes.Given as goal
+use Rattle.net_plans.specs.Plan.{planned_node}
+use Rattle.net_plans.proofs.plan.new_nodes.Given as goal
 
 abbrev pub invariant-loop-node : goal.invariant-loop-node
 invariant-loop-node l =

@@ -6,21 +6,22 @@ ghost use Rattle.net_config.specs.Served.{is_kind_served, is_pad_served, is_with
 ghost use Rattle.std.specs.List.{list_any, position};
 ghost use Rattle.packet_codec.specs.Digits.{digits_or_none};
 ghost use Rattle.packet_codec.specs.Address.{address_of};
-ghost use Rattle.net_config.specs.Plan.{set_one, initial_params, role_of, new_user, lines_from, is_line, own_number};
-ghost use Rattle.net_config.specs.Plan.{with_prefix, new_routes, new_switch, planned_node};
-ghost use Rattle.net_config.specs.Plan.{digits_in, new_line, plan_of, StandsAlone};
-ghost use Rattle.net_config.specs.PlanView.{kind_value, routes_value};
-ghost use Rattle.net_config.specs.PlannedView.{planned_value};
+ghost use Rattle.net_plans.specs.Plan.{set_one, initial_params, role_of, new_user, lines_from, is_line, own_number};
+ghost use Rattle.net_plans.specs.Plan.{with_prefix, new_routes, new_switch, planned_node};
+ghost use Rattle.net_plans.specs.Plan.{digits_in, new_line, plan_of, StandsAlone};
+ghost use Rattle.net_plans.specs.PlanView.{kind_value, routes_value};
+ghost use Rattle.net_plans.specs.PlannedView.{planned_value};
 ghost use Rattle.net_events.specs.Opening.{IsPlan};
 ghost use Rattle.net_config.specs.declared.fault.MakeFault.TheVariants as fault_is;
-ghost use Rattle.net_config.specs.declared.plan.PlannedKind.TheVariants as planned_is;
+ghost use Rattle.net_plans.specs.declared.plan.PlannedKind.TheVariants as planned_is;
 
-use crate::config::{Config, LineConfig, NodeConfig, NodeKind, PadConfig, RouteConfig, Setting};
-use crate::fault::MakeFault;
 use crate::parts::{NewKind, NewLine, NewNode, NewRoute, NewSwitch};
-use crate::served::{has_dte, has_end, is_named, is_route_of, is_served};
 use address_routes::LineNo;
 use link_timers::Role;
+use net_config::{
+    Config, LineConfig, MakeFault, NodeConfig, NodeKind, PadConfig, RouteConfig, Setting, has_dte,
+    has_end, is_named, is_route_of, is_served,
+};
 use packet_codec::Address;
 use packet_end::EndParams;
 use std::alloc::Global;
@@ -52,7 +53,7 @@ impl Model for Planned {
     ghost use Rattle.address_routes.specs.Routes.{by_digits};
     ghost use Rattle.std.specs.Coded.{codes, coded_list, coded_ℕ};
     ghost use Rattle.net_events.specs.Opening as opening;
-    ghost use Rattle.net_config.specs.PlannedView.{planned_value};
+    ghost use Rattle.net_plans.specs.PlannedView.{planned_value};
 
     ghost Value = { opening.Planned };
 

@@ -8,13 +8,13 @@ use Rattle.packet_end.specs.Params.{AreParams}
 use Rattle.net_config.specs.Served.{is_from, same_text, is_named, has_end, exactly_one, is_kind_served, most_lines}
 use Rattle.net_config.specs.Served.{is_switch, has_users, is_dte_named, is_dce_named, is_within, joins_nodes, has_own_address}
 use Rattle.net_config.specs.Served.{may_stand, is_node_served, is_line_served, is_route_served, is_served}
-use Rattle.net_config.specs.Plan.{place_of, end_params}
+use Rattle.net_plans.specs.Plan.{place_of, end_params}
 use Rattle.net_config.specs.declared.config.Config.{Config}
 use Rattle.net_config.specs.declared.config.NodeConfig.{NodeConfig}
 use Rattle.net_config.specs.declared.config.NodeKind.{NodeKind}
 use Rattle.net_config.specs.declared.config.NodeKind.TheVariants as node_kind
 use Rattle.net_config.specs.declared.config.LineConfig.{LineConfig}
-use Rattle.net_config.proofs.Counting.{all_at, place_is}
+use Rattle.net_plans.proofs.Counting.{all_at, place_is}
 
 pub same_so : (a b : List ℕ) → same_text a b ≡ true → a ≡ b
 same_so a b = (bytes_decides a b).0

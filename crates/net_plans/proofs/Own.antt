@@ -5,7 +5,7 @@ use Rattle.std.specs.List.{filter}
 use Rattle.std.proofs.lemmas.Option.{none-some, same_Some}
 use Rattle.std.proofs.lemmas.Bool.{cases_Bool}
 use Rattle.net_config.specs.Served.{has_end}
-use Rattle.net_config.specs.Plan.{lines_from}
+use Rattle.net_plans.specs.Plan.{lines_from}
 use Rattle.net_config.specs.declared.config.LineConfig.{LineConfig}
 
 -- ---- one more line

@@ -1,9 +1,9 @@
 use Rattle.std.proofs.Common.{◌≡◌, ◌++◌, ◌∷◌, ◌+◌, [], length, take, sym, ap, ◌∙◌, arith}
 use Rattle.std.proofs.lemmas.List.{take_more, length-take-le}
-use Rattle.net_config.specs.Plan.{lines_from}
-use Rattle.net_config.proofs.Own.{lines_more, lines_same}
-use Rattle.net_config.proofs.plan.lines_at.Goals as goal
-use Rattle.net_config.proofs.plan.lines_at.Goals.{then-has_end+in_ok-push, else-has_end}
+use Rattle.net_plans.specs.Plan.{lines_from}
+use Rattle.net_plans.proofs.Own.{lines_more, lines_same}
+use Rattle.net_plans.proofs.plan.lines_at.Goals as goal
+use Rattle.net_plans.proofs.plan.lines_at.Goals.{then-has_end+in_ok-push, else-has_end}
 
 pub loop-number-preserved : goal.loop-number-preserved
 loop-number-preserved c =

@@ -1,9 +1,9 @@
 use Rattle.std.proofs.Common.{get_or, sym, ap, ◌∙◌}
 use Rattle.std.proofs.lemmas.List.Sums.{fold_more}
 use Rattle.x3_params.specs.Table.{profile_values}
-use Rattle.net_config.specs.Plan.{set_one}
+use Rattle.net_plans.specs.Plan.{set_one}
 use Rattle.net_config.specs.declared.config.Setting.{Setting}
-use Rattle.net_config.proofs.plan.initial_params.Goals as goal
+use Rattle.net_plans.proofs.plan.initial_params.Goals as goal
 
 no_setting : Setting
 no_setting = record { number = 0; value = 0 }

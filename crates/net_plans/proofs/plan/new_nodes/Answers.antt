@@ -1,9 +1,9 @@
 use Rattle.std.proofs.Common.{refl, sym, ap, ◌∙◌}
 use Rattle.std.specs.Prelude.{slice_get}
 use Rattle.std.proofs.lemmas.Option.{slice_get_read}
-use Rattle.net_config.proofs.Naming.{served_node}
-use Rattle.net_config.proofs.Planning.{most_lines}
-use Rattle.net_config.proofs.plan.new_nodes.Goals as goal
+use Rattle.net_plans.proofs.Naming.{served_node}
+use Rattle.net_plans.proofs.Planning.{most_lines}
+use Rattle.net_plans.proofs.plan.new_nodes.Goals as goal
 
 pub planned_node-requires-clause-kind : goal.planned_node-requires-clause-kind
 planned_node-requires-clause-kind c =

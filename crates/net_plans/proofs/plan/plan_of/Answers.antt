@@ -1,10 +1,10 @@
 use Rattle.std.proofs.Common.{rules, ◌≡◌, true, sym, subst}
 use Rattle.net_events.specs.Opening.{IsPlan}
 use Rattle.net_config.specs.Served.{is_served}
-use Rattle.net_config.specs.Plan.{StandsAlone}
-use Rattle.net_config.proofs.Answering.{on_ok, if_ok, if_err, no_memory}
-use Rattle.net_config.proofs.Planning.{plan_law}
-use Rattle.net_config.proofs.plan.plan_of.Goals as goal
+use Rattle.net_plans.specs.Plan.{StandsAlone}
+use Rattle.net_plans.proofs.Answering.{on_ok, if_ok, if_err, no_memory}
+use Rattle.net_plans.proofs.Planning.{plan_law}
+use Rattle.net_plans.proofs.plan.plan_of.Goals as goal
 
 pub returns : goal.returns
 returns c =

@@ -1,0 +1,8 @@
+//! What a network that is served is made with.
+#![tactic(auto)]
+
+mod parts;
+mod plan;
+
+pub use parts::{NewKind, NewLine, NewNode, NewRoute, NewSwitch};
+pub use plan::{NetPlan, Planned, PlannedKind, plan_of};
