@@ -1,6 +1,6 @@
 //! Lines: each hands over whole frames or nothing, for each direction in order.
 ghost use Rattle.std.specs.Prelude.{◌≡◌, ◌≢◌, ◌+◌, ◌<◌, ◌≤◌, ◌↔◌, [], ◌∷◌, ◌++◌, length, slice_get, IsTrue};
-ghost use Rattle.std.specs.Prelude.{IfOk, replicate};
+ghost use Rattle.std.specs.Prelude.{IfOk, replicate, true};
 ghost use Rattle.memory_line.specs.Lines.{Flights, LineService, memory_service, no_flights, flying, with_flying};
 ghost use Rattle.memory_line.specs.Lines.{without_first, IsPut};
 
@@ -42,6 +42,14 @@ pub trait Line: Drop {
     /// Whether a frame is in flight in this direction, as far as the line knows.
     fn in_flight(&self, direction: Direction) -> bool
         ensures { IsTrue result ↔ (flying direction (flights self.now) ≢ []) };
+
+    /// Whether it is certain that no frame is in flight in this direction, so that none need be taken. A line that does
+    /// not know says no.
+    fn is_certainly_empty(&self, _direction: Direction) -> bool
+        ensures { service.faithful → result ≡ true → flying _direction (flights self.now) ≡ [] }
+    {
+        false
+    }
 }
 
 /// A line in memory, which holds 64 frames for each direction: a frame put beyond these is lost. It is faithful.
@@ -117,6 +125,15 @@ impl Line for MemLine {
         match direction {
             Direction::FromDte => !self.from_dte.is_empty(),
             Direction::FromDce => !self.from_dce.is_empty(),
+        }
+    }
+
+    fn is_certainly_empty(&self, direction: Direction) -> bool
+        ensures { IsTrue result ↔ (flying direction self.now ≡ []) }
+    {
+        match direction {
+            Direction::FromDte => self.from_dte.is_empty(),
+            Direction::FromDce => self.from_dce.is_empty(),
         }
     }
 }

@@ -1,6 +1,6 @@
 -- What an event at a node is to the network.
 use Rattle.std.proofs.Common.{◌≡◌, ℕ, ◌<◌, Bool, true, false, List, length, Option, Some, None, Result, Ok, Err, refl, sym, ap, ◌∙◌, subst, arith, inl, inr}
-use Rattle.std.specs.Prelude.{slice_get, ◌⊎◌, if◌then◌else◌, is_some, not}
+use Rattle.std.specs.Prelude.{slice_get, ◌⊎◌, if◌then◌else◌, is_some, not, [], ◌∷◌, set, drop, zero, suc}
 use Rattle.std.proofs.lemmas.Option.{same_Some}
 use Rattle.std.proofs.lemmas.Bool.{lt-ltb}
 use Rattle.link_timers.specs.declared.role.Role.{Role}
@@ -10,7 +10,9 @@ use Rattle.net_turns.specs.Quiet.{IsQuiet}
 use Rattle.line_nodes.specs.Node.{NodeState, Pad, Host, is_pad}
 use Rattle.line_nodes.specs.Terminals.{HasTerminal}
 use Rattle.line_nodes.specs.declared.fault.NodeFault.{NodeFault}
-use Rattle.memory_line.specs.Lines.{LineService}
+use Rattle.memory_line.specs.declared.line.Direction.TheVariants.{FromDte, FromDce}
+use Rattle.memory_line.specs.Lines.{LineService, Flights, flying, without_first}
+use Rattle.net_events.specs.declared.answer.Outcome.TheVariants.{Delivered}
 use Rattle.net_events.specs.NodeEvents.{NodeEvent, IsFor, Hears, Relinks, Restarts}
 use Rattle.net_events.specs.Network.{PlacedNode, User, NetLine, Network, place_at}
 use Rattle.net_events.specs.declared.answer.Answer as answered
@@ -189,3 +191,35 @@ pub began_anew : (L : LineService) (place : ℕ) (end : LineEnd) (s : Network) (
 began_anew L place end s r t p w =
     let Q : Result answered.Answer StepFault → Type 0 = λ x. Happens L (Restart place) s x t in
     subst Q (sym w.1) (ap (λ o. where_there_is (is_some o)) p.node_there, inl (own_node L place end Restarts s w.0 t p w.2))
+
+set_kept : {X : Type 0} (xs : List X) (n : ℕ) (x : X) → slice_get xs n ≡ Some x → set xs n x ≡ xs
+set_kept [] n x h = refl
+set_kept (y ∷ ys) zero x h = ap (λ z. z ∷ ys) (sym (same_Some y x h))
+set_kept (y ∷ ys) (suc n) x h = ap (λ zs. y ∷ zs) (set_kept ys n x h)
+
+-- nothing is in flight, and nothing changes
+pub nothing_arrives : (L : LineService) (line : ℕ) (d : Direction) (s : Network) (l : NetLine) → slice_get s.lines line ≡ Some l → (L.faithful → flying d l.flights ≡ [])
+    → (a : answered.Answer) → a.frames.items ≡ [] → a.notes.items ≡ [] → a.text.items ≡ [] → a.outcome ≡ Delivered false → Happens L (Deliver line d) s (Ok a) s
+nothing_arrives L line d s l there empty a frames notes text outcome = (
+    ap (λ o. where_there_is (is_some o)) there,
+    inl (record {
+      nothing = record {
+        frames = frames;
+        notes = notes;
+        text = text;
+        answered = outcome;
+        lost = record {
+          line_is = l;
+          line_there = there;
+          flights = l.flights;
+          rest = λ f. stays d l.flights (empty f);
+          others = ap (λ lines. record s { lines = lines }) (sym (set_kept s.lines line l there));
+        };
+      };
+      none = λ f. ap (λ (frames : List (List ℕ)). slice_get frames 0) (empty f);
+    }),
+  )
+  where
+    stays : (d : Direction) (f : Flights) → flying d f ≡ [] → f ≡ without_first d f
+    stays FromDte f none = λ i. record f { from_dte = (none ∙ sym (ap (drop 1) none)) i }
+    stays FromDce f none = λ i. record f { from_dce = (none ∙ sym (ap (drop 1) none)) i }

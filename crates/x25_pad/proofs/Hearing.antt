@@ -1,17 +1,78 @@
--- Terminals that learn what became of their calls, one note after the other.
-use Rattle.std.proofs.Common.{◌≡◌, ℕ, ◌+◌, ◌<◌, List, [], length, take, get_or, refl}
-use Rattle.std.proofs.lemmas.List.Sums.{fold_more}
-use Rattle.x25_pad.specs.Pad.{one_learnt, all_heard}
+-- What the packet layer tells, one note after the other.
+use Rattle.std.proofs.Common.{◌≡◌, ℕ, List, ◌∷◌, [], ◌++◌, Option, Some, drop, slice_get, refl, sym, ap}
+use Rattle.std.proofs.Common.{◌∙◌, append_assoc, arith, length}
+use Rattle.std.proofs.lemmas.List.{append-nil}
+use Rattle.std.proofs.lemmas.List.Sums.{fold-append}
+use Rattle.packet_layer.specs.Packets.{Note}
+use Rattle.packet_layer.specs.Packets.Note.{Incoming, Connected, Closed, WasReset, InterruptConfirmed, Covered}
+use Rattle.packet_end.specs.PacketEnd.{without_first_note}
+use Rattle.x25_pad.specs.Line.{learnt_of, all_learnt, last_incoming}
+use Rattle.x25_pad.specs.Notes.{PadNote, Told, all_told}
+use Rattle.x25_pad.specs.Pad.{PadState, one_learnt, all_heard, told}
 use Rattle.x25_pad.specs.Ports.{PortState}
-use Rattle.x25_pad.specs.declared.call.CallNote.{CallNote}
 
--- one note more
-pub heard_more : (notes : List CallNote) (ports : List PortState) (i : ℕ) (d : CallNote) → i < length notes →
-    all_heard (take (i + 1) notes) ports ≡ one_learnt (all_heard (take i notes) ports) (get_or notes i d)
+-- the first note, and then the others
+first_is : (notes : List Note) (note : Note) → slice_get notes 0 ≡ Some note → note ∷ drop 1 notes ≡ notes
+first_is [] note is = absurd (cc)
+first_is (first ∷ rest) note is = cc
+
+heard_first : (note : Note) (rest : List Note) (ports : List PortState) →
+    all_heard (all_learnt rest) (all_heard (learnt_of note) ports) ≡ all_heard (all_learnt (note ∷ rest)) ports
 unfolding all_heard
-heard_more notes ports i d lt = fold_more one_learnt ports notes i d lt
+heard_first note rest ports = sym (fold-append one_learnt ports (learnt_of note) (all_learnt rest))
+
+told_cons : (p : PadState) (note : Note) (rest : List Note) →
+    told (record {
+      line = record { end = record p.line.end { notes = rest }; notes = p.line.notes ++ Told note ∷ [] };
+      ports = all_heard (learnt_of note) p.ports;
+    })
+    ≡ told (record p { line = record p.line { end = record p.line.end { notes = note ∷ rest } } })
+told_cons p note rest = λ i. record {
+  line = record {
+    end = record p.line.end { notes = [] };
+    notes = append_assoc {A = PadNote} p.line.notes (Told note ∷ []) (all_told rest) i;
+  };
+  ports = heard_first note rest p.ports i;
+}
+
+pub told_first : (p : PadState) (note : Note) → slice_get p.line.end.notes 0 ≡ Some note →
+    told (record {
+      line = record { end = without_first_note p.line.end; notes = p.line.notes ++ Told note ∷ [] };
+      ports = all_heard (learnt_of note) p.ports;
+    })
+    ≡ told p
+told_first p note is =
+    told_cons p note (drop 1 p.line.end.notes)
+    ∙ ap (λ notes. told (record p { line = record p.line { end = record p.line.end { notes = notes } } }))
+    (first_is p.line.end.notes note is)
+
+last_cons : (before : Option ℕ) (note : Note) (rest : List Note) →
+    last_incoming (last_incoming before (note ∷ [])) rest ≡ last_incoming before (note ∷ rest)
+last_cons before (Incoming channel parts) rest = refl
+last_cons before (Connected channel) rest = refl
+last_cons before (Closed channel cause diagnostic reason) rest = refl
+last_cons before (WasReset channel cause diagnostic reason) rest = refl
+last_cons before (InterruptConfirmed channel) rest = refl
+last_cons before (Covered channel count) rest = refl
+
+pub last_first : (before : Option ℕ) (notes : List Note) (note : Note) → slice_get notes 0 ≡ Some note →
+    last_incoming (last_incoming before (note ∷ [])) (drop 1 notes) ≡ last_incoming before notes
+last_first before notes note is =
+    last_cons before note (drop 1 notes) ∙ ap (last_incoming before) (first_is notes note is)
 
 -- no notes
-pub heard_none : (ports : List PortState) → all_heard [] ports ≡ ports
+none_heard : (ports : List PortState) → all_heard [] ports ≡ ports
 unfolding all_heard
-heard_none ports = refl
+none_heard ports = refl
+
+told_empty : (p : PadState) (notes : List Note) → length notes ≡ 0 →
+    told (record p { line = record p.line { end = record p.line.end { notes = notes } } })
+    ≡ record p { line = record p.line { end = record p.line.end { notes = notes } } }
+told_empty p [] none = λ i. record {
+  line = record { end = record p.line.end { notes = [] }; notes = append-nil p.line.notes i };
+  ports = none_heard p.ports i;
+}
+told_empty p (note ∷ rest) none = absurd (omega (arith, none))
+
+pub told_none : (p : PadState) → length p.line.end.notes ≡ 0 → told p ≡ p
+told_none p none = told_empty p p.line.end.notes none

@@ -1,5 +1,5 @@
 -- A PAD at the DTE's end of a line, with its terminals at their ports: what each event makes of it.
-use Rattle.std.specs.Prelude.{ℕ, Bool, true, false, if◌then◌else◌, List, [], ◌∷◌, map, fold, slice_get, slice_set}
+use Rattle.std.specs.Prelude.{ℕ, Bool, true, false, if◌then◌else◌, List, [], map, fold, slice_get, slice_set}
 use Rattle.std.specs.Prelude.{position, drop, is_some, is_none, Option, Some, None}
 use Rattle.std.specs.Option.{option_map_or}
 use Rattle.link_timers.specs.declared.timers.TimerId.{TimerId}

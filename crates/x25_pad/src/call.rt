@@ -19,12 +19,6 @@ pub(crate) enum CallNote {
     InterruptConfirmed(u8),
 }
 
-impl Default for CallNote {
-    fn default() -> CallNote {
-        CallNote::Connected(0)
-    }
-}
-
 impl CallNote {
     /// The channel.
     pub(crate) fn channel(self) -> u8

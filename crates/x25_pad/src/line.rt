@@ -1,19 +1,18 @@
 //! The PAD's end of its line with its notes, and what a PAD asks of the calls there.
-ghost use Rattle.std.specs.Prelude.{◌≡◌, ◌≤◌, ◌<◌, ◌+◌, ◌++◌, [], None, Some, length, MatchResult};
+ghost use Rattle.std.specs.Prelude.{◌≡◌, ◌≤◌, ◌<◌, ◌+◌, Some, length, MatchResult};
 ghost use Rattle.packet_layer.specs.Layer as machine;
-ghost use Rattle.packet_layer.specs.NoteView.{note_of};
 ghost use Rattle.packet_layer.specs.RequestView.{request_of, call_refusal_of};
 ghost use Rattle.packet_layer.specs.TakenView.{taken_of, maybe_taken};
 ghost use Rattle.packet_end.specs.PacketEnd as end;
 ghost use Rattle.x25_pad.specs.NoteView.{pad_note_of};
 ghost use Rattle.x25_pad.specs.Line as spec;
 
-use crate::call::{Call, CallNote};
+use crate::call::Call;
 use crate::note::{MOST_NOTES, PadNote, PadNotes};
 use arrayvec::ArrayVec;
 use packet_codec::{Address, CallData};
 use packet_end::PacketEnd;
-use packet_layer::{CallFault, ChannelFault, InterruptData, LayerNote, Request, Taken, UserData};
+use packet_layer::{CallFault, ChannelFault, InterruptData, Request, Taken, UserData};
 use pad_terminal::CallCondition;
 
 /// The user data of an interrupt.
@@ -22,21 +21,11 @@ const INTERRUPT_OCTET: u8 = 1;
 /// The protocol with which the user data of a call begin (X.29 4.2).
 const PROTOCOL: [u8; 4] = [1, 0, 0, 0];
 
-/// The most notes that are gathered at once.
-const MOST_LEARNT: usize = packet_end::MOST_NOTES;
-
 /// The PAD's end of its line, and what the PAD notes.
 #[derive(Drop)]
 pub(crate) struct PadLine {
     pub(crate) end: PacketEnd,
     pub(crate) notes: PadNotes,
-}
-
-/// What the packet layer told: the last call that came in, and what the terminals learn of theirs.
-#[derive(Drop)]
-pub(crate) struct Gathered {
-    pub(crate) incoming: Option<u8>,
-    pub(crate) learnt: ArrayVec<CallNote, MOST_LEARNT>,
 }
 
 impl PadLine {
@@ -186,26 +175,6 @@ impl PadLine {
     {
         matches!(self.end.may_send(channel), Err(ChannelFault::Resetting))
     }
-
-    /// Takes over what the packet layer told.
-    pub(crate) fn gather(&mut self) -> Gathered
-        requires few { length self.old.end.notes ≤ MOST_LEARNT }
-        requires room { length self.old.notes + length self.old.end.notes ≤ MOST_NOTES }
-        ensures line { self.new ≡ spec.gathered self.old }
-        ensures incoming { result.incoming ≡ spec.last_incoming None self.old.end.notes }
-        ensures learnt { result.learnt.items ≡ spec.all_learnt self.old.end.notes }
-    {
-        let mut incoming = None;
-        let mut learnt = ArrayVec::new();
-        while let Some(note) = self.end.notes() {
-            match &note {
-                LayerNote::Incoming(channel, _) => incoming = Some(*channel),
-                other => learn(other, &mut learnt),
-            }
-            self.notes.add(PadNote::Told(note));
-        }
-        Gathered { incoming, learnt }
-    }
 }
 
 fn copy_of(taken: &Taken) -> Taken
@@ -219,24 +188,5 @@ fn copy_of(taken: &Taken) -> Taken
             data.qualified(),
             data.delivery(),
         )),
-    }
-}
-
-// Adds what a terminal learns of a note, if it learns anything.
-fn learn(note: &LayerNote, learnt: &mut ArrayVec<CallNote, MOST_LEARNT>)
-    requires { length learnt.old.items < MOST_LEARNT }
-    ensures learnt { learnt.new.items ≡ learnt.old.items ++ spec.learnt_of (note_of note.now) }
-    ensures room { length learnt.new.items ≤ length learnt.old.items + 1 }
-{
-    match note {
-        LayerNote::Connected(channel) => learnt.push(CallNote::Connected(*channel)),
-        LayerNote::Closed { channel, cause, .. } => {
-            learnt.push(CallNote::Cleared(*channel, *cause));
-        }
-        LayerNote::Reset { channel, cause, .. } => learnt.push(CallNote::Reset(*channel, *cause)),
-        LayerNote::InterruptConfirmed(channel) => {
-            learnt.push(CallNote::InterruptConfirmed(*channel));
-        }
-        LayerNote::Incoming(_, _) | LayerNote::Covered { .. } => {}
     }
 }

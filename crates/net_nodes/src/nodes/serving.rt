@@ -50,6 +50,10 @@ impl<L: Line> Nodes<L> {
         if line >= self.lines.len() {
             return Err(StepFault::NoSuchNode);
         }
+        if self.lines[line].line.is_certainly_empty(direction) {
+            make_bare(answer, Outcome::Delivered(false));
+            return Ok(());
+        }
         let dce = self.lines[line].dce;
         match direction {
             Direction::FromDte => match self.own_line(line, dce) {

@@ -1,12 +1,16 @@
 //! What the packet layer tells, and the end of an event.
-ghost use Rattle.std.specs.Prelude.{◌≡◌, ◌≤◌, ◌+◌, ◌<◌, [], None, length};
+ghost use Rattle.std.specs.Prelude.{◌≡◌, ◌≤◌, ◌+◌, ◌<◌, [], ◌∷◌, None, length, drop};
+ghost use Rattle.packet_layer.specs.NoteView.{note_of};
 ghost use Rattle.packet_end.specs.PacketEnd as end;
 ghost use Rattle.packet_end.specs.Timing.{TimersAgree};
 ghost use Rattle.x25_pad.specs.Line as line;
 ghost use Rattle.x25_pad.specs.Pad as spec;
 
 use crate::call::CallNote;
+use crate::note::{MOST_NOTES, PadNote};
 use crate::pad::Pad;
+use crate::port::Port;
+use packet_layer::LayerNote;
 
 impl Pad {
     // Begins an event: what was not taken of the last one is dropped.
@@ -48,41 +52,34 @@ impl Pad {
     // Takes over what the packet layer told. The terminals learn what became of their calls; the last call that came in
     // is the result.
     fn hear(&mut self) -> Option<u8>
-        requires few { length self.old.line.end.notes ≤ 96 }
-        requires room { length self.old.line.notes + length self.old.line.end.notes ≤ 104 }
+        requires room { length self.old.line.notes + length self.old.line.end.notes ≤ MOST_NOTES }
         ensures pad { self.new ≡ spec.told self.old }
         ensures incoming { result ≡ line.last_incoming None self.old.line.end.notes }
     {
-        let gathered = self.line.gather();
-        self.learn_all(gathered.learnt.as_slice());
-        gathered.incoming
-    }
-
-    #[tactic(auto, using(crate::proofs::Hearing::heard_more, crate::proofs::Hearing::heard_none))]
-    fn learn_all(&mut self, notes: &[CallNote])
-        ensures { self.new ≡ record self.old { ports = spec.all_heard notes.now self.old.ports } }
-    {
-        for note in notes {
-            self.learn(*note);
+        let mut incoming = None;
+        for _ in 0..self.line.end.waiting_notes() {
+            incoming = self.hear_note(incoming);
         }
+        incoming
     }
 
-    // The terminal whose call is on the channel, if there is one, learns what became of it.
-    fn learn(&mut self, note: CallNote)
-        ensures { self.new ≡ record self.old { ports = spec.one_learnt self.old.ports note } }
+    // Takes over the first note of the packet layer, if there is one. The channel is that of the last call that came in.
+    #[tactic(auto, using(crate::proofs::Hearing::told_first, crate::proofs::Hearing::last_first))]
+    fn hear_note(&mut self, incoming: Option<u8>) -> Option<u8>
+        requires room { length self.old.line.notes + length self.old.line.end.notes ≤ MOST_NOTES }
+        ensures pad { spec.told self.new ≡ spec.told self.old }
+        ensures incoming { line.last_incoming result self.new.line.end.notes
+            ≡ line.last_incoming incoming self.old.line.end.notes }
+        ensures rest { self.new.line.end.notes ≡ drop 1 self.old.line.end.notes }
+        ensures room { length self.new.line.notes + length self.new.line.end.notes ≤ MOST_NOTES }
     {
-        let Some(number) = self.holder(note.channel()) else {
-            return;
+        let Some(note) = self.line.end.notes() else {
+            return incoming;
         };
-        if let Some(port) = self.ports.get_mut(number) {
-            port.learn(note);
-        }
-    }
-
-    fn holder(&self, channel: u8) -> Option<usize>
-        ensures { result ≡ spec.holder channel self.now.ports }
-    {
-        self.ports.iter().position(|port| port.has_channel(channel))
+        let last = last_call(incoming, &note);
+        tell(&mut self.ports, &note);
+        self.line.notes.add(PadNote::Told(note));
+        last
     }
 
     fn first_free(&self) -> Option<usize>
@@ -118,4 +115,52 @@ impl Pad {
             port.settle(&self.line);
         }
     }
+}
+
+// The channel of the call that came in last, where this note is told after others.
+fn last_call(before: Option<u8>, note: &LayerNote) -> Option<u8>
+    ensures { result ≡ line.last_incoming before (note_of note.now ∷ []) }
+{
+    match note {
+        LayerNote::Incoming(channel, _) => Some(*channel),
+        _ => before,
+    }
+}
+
+// The terminal whose call a note is of, if there is one, learns what became of it.
+#[tactic(auto, unfolding(crate::specs::Pad::all_heard))]
+fn tell(ports: &mut Vec<Port>, note: &LayerNote)
+    ensures ports { ports.new.items ≡ spec.all_heard (line.learnt_of (note_of note.now)) ports.old.items }
+    ensures count { length ports.new.items ≡ length ports.old.items }
+{
+    match note {
+        LayerNote::Connected(channel) => learn(ports, CallNote::Connected(*channel)),
+        LayerNote::Closed { channel, cause, .. } => {
+            learn(ports, CallNote::Cleared(*channel, *cause));
+        }
+        LayerNote::Reset { channel, cause, .. } => learn(ports, CallNote::Reset(*channel, *cause)),
+        LayerNote::InterruptConfirmed(channel) => {
+            learn(ports, CallNote::InterruptConfirmed(*channel));
+        }
+        LayerNote::Incoming(_, _) | LayerNote::Covered { .. } => {}
+    }
+}
+
+// The terminal whose call is on the channel, if there is one, learns what became of it.
+fn learn(ports: &mut Vec<Port>, note: CallNote)
+    ensures ports { ports.new.items ≡ spec.one_learnt ports.old.items note }
+    ensures count { length ports.new.items ≡ length ports.old.items }
+{
+    let Some(number) = holder(ports.as_slice(), note.channel()) else {
+        return;
+    };
+    if let Some(port) = ports.get_mut(number) {
+        port.learn(note);
+    }
+}
+
+fn holder(ports: &[Port], channel: u8) -> Option<usize>
+    ensures { result ≡ spec.holder channel ports.now }
+{
+    ports.iter().position(|port| port.has_channel(channel))
 }

@@ -41,3 +41,12 @@ deliver_to_user-requires-in-FromDce g c =
       stands = c.requires.dtes c.args.line c.index.result.now here;
       registered = registered_at c.args.line c.index.result.now s c.requires here;
     })
+
+pub returns : goal.returns
+returns g c =
+    let lines = c.self.inside.lines.items in
+    let s = c.args.self.now in
+    let h : c.args.line < length lines = omega (arith, c.if-line-len.false, c.len.ensures) in
+    let here = ap (λ (s : Network). slice_get s.lines c.args.line) (sym c.self.view_is) ∙ there lines c.args.line _ c.index.result.now h c.index.ensures in
+    nothing_arrives g.L.Line.service c.args.line c.args.direction s c.index.result.now here (λ f. c.is_certainly_empty.ensures f c.if.true) c.make_bare.new.answer
+    c.make_bare.ensures.frames c.make_bare.ensures.notes c.make_bare.ensures.text c.make_bare.ensures.outcome

@@ -1,0 +1,11 @@
+-- One note is told.
+use Rattle.std.proofs.Common.{sym}
+use Rattle.packet_layer.specs.NoteView.{note_of}
+use Rattle.x25_pad.specs.PadView.{pad_of}
+use Rattle.x25_pad.proofs.Hearing.{told_first}
+use Rattle.x25_pad.proofs.pad.Pad.hear_note.Goals as goal
+
+pub returns-clause-pad : goal.returns-clause-pad
+returns-clause-pad c =
+    rw (← c.self.view_is, c.notes.ensures.end, c.add.ensures, c.tell.ensures.ports)
+    (told_first (pad_of c.self.inside) (note_of c.in-Some.note) (sym c.in-Some.ensures.note))
