@@ -31,8 +31,8 @@ pub data IsPlacedAt : Plan → (caller : RecordValue) → (first line : ℕ) →
       → IsPlacedAt plan caller first line role
 
 -- the caller's record was made first; the callee's own address is the one that was called, and the far one is the
--- caller's own, which is that of its line, or on a line without an address the one that the caller gave; the callee is a
--- user at an end of a line at whose other end the call was placed
+-- caller's own, which is that of its line, or on a line without an address the one that the caller gave; the callee is
+-- a user at an end of a line at whose other end the call was placed
 pub record PathIsRight (plan : Plan) (caller callee : RecordValue) : Type 0 where
   pub order : caller.number < callee.number
   pub own : callee.own ≡ caller.far

@@ -14,8 +14,8 @@ use Rattle.line_record_laws.specs.Kept.{Setting, IsSetting, Kept, beginning, end
 
 -- ---- the present record of a channel
 
--- in data transfer, what its end sent in the last epoch and no P(R) covered is in flight or waits to be sent, and what came
--- and is not released was taken or waits to be taken
+-- in data transfer, what its end sent in the last epoch and no P(R) covered is in flight or waits to be sent, and what
+-- came and is not released was taken or waits to be taken
 pub record ShowsCounts (l : Layer) (channel : ℕ) (r : RecordValue) : Type 0 where
   pub covered : (ch : Channel) → channel_of l channel ≡ Some ch → in_transfer ch.state ≡ true
       → r.sent.covered + (in_flight ch.traffic + length ch.traffic.waiting) ≡ length r.sent.packets
@@ -29,8 +29,8 @@ ShownLaw = (s : Setting) (b : Book) (l : Line) (role : Role) (channel number : �
 
 -- ---- all records
 
--- some moves that the links allow lead, from the making of a line on, to this layer at the end of a role, once its notes
--- are read, and the record has the epochs that the layer counted in them
+-- some moves that the links allow lead, from the making of a line on, to this layer at the end of a role, once its
+-- notes are read, and the record has the epochs that the layer counted in them
 pub record HasItsEpochs (role : Role) (l : Layer) (r : RecordValue) : Type 0 where
   pub setting : Setting
   pub is_setting : IsSetting setting

@@ -48,8 +48,8 @@ pub fn line_record_law()
     // Where an end says that delivery is confirmed, each packet with D = 1 of the last epoch is covered.
     ensures confirmed { ConfirmedLaw }
 
-    // What a present record counts agrees with the numbers of its channel; and each record, open or closed, has the epochs
-    // that the packet layer of its end counted.
+    // What a present record counts agrees with the numbers of its channel; and each record, open or closed, has the
+    // epochs that the packet layer of its end counted.
     ensures shown { ShownLaw }
     ensures counts { CountsLaw }
 {}

@@ -15,8 +15,8 @@ abbrev pub lent : Result (Bor Answer) StepFault → Result Answer StepFault
 lent (Ok answer) = Ok answer.now
 lent (Err fault) = Err fault
 
--- the event is answered or refused so, which leaves this network: refused, it is as before; what is due comes to an end,
--- on any line; and on faithful lines the promise holds
+-- the event is answered or refused so, which leaves this network: refused, it is as before; what is due comes to an
+-- end, on any line; and on faithful lines the promise holds
 pub record HasStepped (L : LineService) (e : Event) (s : Network) (r : Result Answer StepFault)
     (t : Network) : Type 0 where
   pub happens : Happens L e s r t

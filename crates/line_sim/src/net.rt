@@ -96,8 +96,8 @@ impl<L: Line> Net<L> {
     }
 
     /// Whether nothing is in flight, unacknowledged, owed, or waits to be sent, carried on or taken. What waits at a
-    /// terminal does not count; what is in flight is what the lines say. Then, on faithful lines, nothing is missing: of
-    /// each call that is open at both ends each end took all that the other one sent since the last reset.
+    /// terminal does not count; what is in flight is what the lines say. Then, on faithful lines, nothing is missing:
+    /// of each call that is open at both ends each end took all that the other one sent since the last reset.
     pub fn at_rest(&self) -> bool
         ensures exact { result ≡ net_rests self.now }
         ensures nothing_missing { L.service.faithful → result ≡ true → MissesNothing self.now }
@@ -105,8 +105,8 @@ impl<L: Line> Net<L> {
         self.nodes.is_at_rest()
     }
 
-    /// Whether the host of this place has a call on the channel in which each packet with D = 1 since the last reset was
-    /// covered (X.25 4.3.3). At another node it is not so. On faithful lines the record of that call has them all as
+    /// Whether the host of this place has a call on the channel in which each packet with D = 1 since the last reset
+    /// was covered (X.25 4.3.3). At another node it is not so. On faithful lines the record of that call has them all as
     /// covered, and the other end of the call took all that was sent up to the last of them.
     pub fn confirmed(&self, node: usize, channel: u16) -> bool
         ensures exact { result ≡ net_confirmed node channel self.now }

@@ -1,5 +1,6 @@
 //! Sets of places of timers.
-ghost use Rattle.std.specs.Prelude.{◌≡◌, ◌≢◌, ℕ, ◌<◌, true, false, ◌&&◌, ◌||◌, not, ◌==◌, MatchOption, sum, slice_index};
+ghost use Rattle.std.specs.Prelude.{◌≡◌, ◌≢◌, ℕ, ◌<◌, true, false, ◌&&◌, ◌||◌, not, ◌==◌, MatchOption, sum};
+ghost use Rattle.std.specs.Prelude.{slice_index};
 ghost use Rattle.link_timers.specs.PlaceSet.{has, IsFirstOf, IsFirstWord};
 
 const WORDS: usize = 4;

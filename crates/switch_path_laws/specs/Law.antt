@@ -1,5 +1,6 @@
 -- What the register of a network with one switch, or with none, has, whatever happens.
-use Rattle.std.specs.Prelude.{◌≡◌, ℕ, Bool, ◌==◌, if◌then◌else◌, List, [], ◌++◌, length, map, set, slice_get, Some, true}
+use Rattle.std.specs.Prelude.{◌≡◌, ℕ, Bool, ◌==◌, if◌then◌else◌, List, [], ◌++◌, length, map, set, slice_get}
+use Rattle.std.specs.Prelude.{Some, true}
 use Rattle.link_timers.specs.declared.role.Role.{Role}
 use Rattle.link_timers.specs.declared.role.Role.TheVariants.{Dte}
 use Rattle.link_timers.specs.declared.timers.TimerId.{TimerId}
@@ -181,8 +182,9 @@ PromiseLaw = (plan : Plan) (at : List ℕ) (s : Switch) (h : Histories) (cs : Li
 
 -- ---- calls that were placed
 
--- at an end with a user, where the line's book has the present call as the last one placed there and in a pair, so it is
--- in the register: also of a call that was placed through the switch, since this accepts it where it was accepted beyond
+-- at an end with a user, where the line's book has the present call as the last one placed there and in a pair, so it
+-- is in the register: also of a call that was placed through the switch, since this accepts it where it was accepted
+-- beyond
 abbrev pub PlacedLaw : Type 0
 PlacedLaw = (plan : Plan) (at : List ℕ) (s : Switch) (h : Histories) (cs : List JoinedCall) (books : List Book)
     (w : World) (traces : List (List Origin)) → IsNetwork plan at s h cs books w traces → (line : ℕ) (b : Book)

@@ -106,7 +106,8 @@ impl Layer {
         requires holds { Holds pool.old self.old.held }
         ensures layer { self.new.layer ≡ (machine.serve 1 self.old.layer (place + 1)).layer }
         ensures said { result ≡ is_some (machine.serve 1 self.old.layer (place + 1)).packet }
-        ensures octets { buf.new.items ≡ written_packet (machine.serve 1 self.old.layer (place + 1)).packet buf.old.items }
+        ensures octets { buf.new.items
+            ≡ written_packet (machine.serve 1 self.old.layer (place + 1)).packet buf.old.items }
         ensures reads_back { ReadsBack (machine.serve 1 self.old.layer (place + 1)).packet buf.new.items }
         ensures pool { Balances pool.old self.old.held pool.new self.new.held }
         ensures most { most_held self.new.layer ≡ most_held self.old.layer }
