@@ -201,24 +201,24 @@ set_kept (y ∷ ys) (suc n) x h = ap (λ zs. y ∷ zs) (set_kept ys n x h)
 pub nothing_arrives : (L : LineService) (line : ℕ) (d : Direction) (s : Network) (l : NetLine) → slice_get s.lines line ≡ Some l → (L.faithful → flying d l.flights ≡ [])
     → (a : answered.Answer) → a.frames.items ≡ [] → a.notes.items ≡ [] → a.text.items ≡ [] → a.outcome ≡ Delivered false → Happens L (Deliver line d) s (Ok a) s
 nothing_arrives L line d s l there empty a frames notes text outcome = (
-    ap (λ o. where_there_is (is_some o)) there,
-    inl (record {
-      nothing = record {
-        frames = frames;
-        notes = notes;
-        text = text;
-        answered = outcome;
-        lost = record {
-          line_is = l;
-          line_there = there;
-          flights = l.flights;
-          rest = λ f. stays d l.flights (empty f);
-          others = ap (λ lines. record s { lines = lines }) (sym (set_kept s.lines line l there));
-        };
+  ap (λ o. where_there_is (is_some o)) there,
+  inl (record {
+    nothing = record {
+      frames = frames;
+      notes = notes;
+      text = text;
+      answered = outcome;
+      lost = record {
+        line_is = l;
+        line_there = there;
+        flights = l.flights;
+        rest = λ f. stays d l.flights (empty f);
+        others = ap (λ lines. record s { lines = lines }) (sym (set_kept s.lines line l there));
       };
-      none = λ f. ap (λ (frames : List (List ℕ)). slice_get frames 0) (empty f);
-    }),
-  )
+    };
+    none = λ f. ap (λ (frames : List (List ℕ)). slice_get frames 0) (empty f);
+  }),
+)
   where
     stays : (d : Direction) (f : Flights) → flying d f ≡ [] → f ≡ without_first d f
     stays FromDte f none = λ i. record f { from_dte = (none ∙ sym (ap (drop 1) none)) i }

@@ -50,11 +50,12 @@ impl<L: Line> Nodes<L> {
         if line >= self.lines.len() {
             return Err(StepFault::NoSuchNode);
         }
-        if self.lines[line].line.is_certainly_empty(direction) {
+        let net_line = &self.lines[line];
+        if net_line.line.is_certainly_empty(direction) {
             make_bare(answer, Outcome::Delivered(false));
             return Ok(());
         }
-        let dce = self.lines[line].dce;
+        let dce = net_line.dce;
         match direction {
             Direction::FromDte => match self.own_line(line, dce) {
                 Some(own) => self.deliver_to_switch(line, dce, own, answer),

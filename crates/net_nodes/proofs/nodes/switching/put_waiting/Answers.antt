@@ -1,4 +1,4 @@
-use Rattle.std.proofs.Common.{◌≡◌, ◌<◌, ◌+◌, suc, ℕ, false, length, slice_get, Some, refl, sym, ap, ◌∙◌, subst, arith}
+use Rattle.std.proofs.Common.{◌≡◌, ◌<◌, suc, false, length, slice_get, Some, refl, sym, ap, ◌∙◌, subst, arith}
 use Rattle.std.specs.Prelude.{unwrap_or, ◌++◌}
 use Rattle.memory_line.specs.declared.line.Direction.TheVariants.{FromDce}
 use Rattle.memory_line.specs.Lines.{ArePut}
@@ -7,9 +7,8 @@ use Rattle.switch_lines.specs.Switch.{Switch, frames_on}
 use Rattle.net_events.specs.AtSwitch.{waiting_on, line_drained}
 use Rattle.net_turns.specs.Sends.{puts_on}
 use Rattle.net_nodes.proofs.Places.{there, at_index}
-use Rattle.net_nodes.proofs.Switching.{drained_to, drained_more, waits_still, drained_all, length_drained, puts_to, puts_more, puts_all, put_one, put_all}
-use Rattle.net_nodes.proofs.Waiting.{PutBefore, none_put, pass_to, pass_all, put_at}
-use Rattle.net_nodes.proofs.nodes.switching.put_waiting.Given.{Over}
+use Rattle.net_nodes.proofs.Switching.{drained_more, waits_still, drained_all, length_drained, puts_more, puts_all, put_one, put_all}
+use Rattle.net_nodes.proofs.Waiting.{none_put, pass_to, pass_all, put_at}
 use Rattle.net_nodes.proofs.nodes.switching.put_waiting.Goals as goal
 
 pub loop-at-init : goal.loop-at-init

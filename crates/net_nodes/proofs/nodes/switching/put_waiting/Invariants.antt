@@ -1,5 +1,5 @@
 -- The own lines before one of them are drained, and their frames are put and listed.
-use Rattle.std.proofs.Common.{ℕ, ◌≡◌, length, vec_len, vec_capacity}
+use Rattle.std.proofs.Common.{ℕ, ◌≡◌, vec_len, vec_capacity}
 use Rattle.net_nodes.proofs.Waiting.{PutBefore}
 use Rattle.net_nodes.proofs.nodes.switching.put_waiting.Given as goal
 
