@@ -1,21 +1,17 @@
 -- What an event leaves, by what happened.
-use Rattle.std.proofs.Common.{◌≡◌, ◌≢◌, false, Result, Ok, Err}
+use Rattle.std.proofs.Common.{◌≡◌, Result, Ok, Err}
 use Rattle.std.specs.Prelude.{OnErr}
 use Rattle.memory_line.specs.Lines.{LineService}
 use Rattle.net_events.specs.declared.answer.Answer.{Answer}
 use Rattle.net_events.specs.declared.event.Event.{Event}
 use Rattle.net_events.specs.declared.event.StepFault.{StepFault}
-use Rattle.net_events.specs.declared.event.StepFault.TheVariants.{OutOfMemory}
 use Rattle.net_events.specs.Network.{Network}
-use Rattle.net_nodes.specs.Faults.{step_fault, takes_memory}
-use Rattle.net_nodes.specs.Happening.{Happens, IsRefusedSo}
+use Rattle.net_nodes.specs.Happening.{Happens}
 use Rattle.switch_network_laws.proofs.PromiseAny.{promise_any}
 use Rattle.line_sim.specs.Between.{IsBetweenEvents}
 use Rattle.line_sim.specs.Stepping.{HasStepped}
 use Rattle.line_sim.proofs.Events.{happens}
 use Rattle.line_sim.proofs.FewerDue.{fewer_due}
-use Rattle.line_sim.proofs.Refusals.{refusals}
-use Rattle.line_sim.proofs.RunsMore.{has-memory}
 
 unchanged : (L : LineService) (e : Event) (s : Network) (r : Result Answer StepFault) (t : Network) → Happens L e s r t
     → OnErr r (t ≡ s)
