@@ -90,6 +90,8 @@ impl FrameBuf {
     }
 }
 
+// In line it takes registers from all that stands around it.
+#[inline(never)]
 fn write_at(place: &mut [u8], start: usize, octets: &[u8])
     requires { start + length octets.now ≤ length place.old }
     ensures { place.new ≡ take start place.old ++ octets.now ++ drop (start + length octets.now) place.old }

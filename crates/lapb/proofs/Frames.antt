@@ -1,12 +1,15 @@
 -- At most nine frames are kept, and the packets that may go are sent in order.
 use Rattle.std.proofs.Common.{◌≡◌, ℕ, zero, suc, ◌+◌, ◌%◌, ◌<◌, List, [], ◌∷◌, ◌++◌, length, take, drop, map, refl, sym, ◌∙◌, ap, arith, add-one, max, Bool, true, false, length-drop}
-use Rattle.std.specs.Prelude.{Some, slice_get, nat_le, if◌then◌else◌}
+use Rattle.std.specs.Prelude.{Some, slice_get, nat_le, nat_lt, ◌||◌, if◌then◌else◌}
 use Rattle.std.proofs.lemmas.Bool.{leb-true, leb-false}
+use Rattle.std.proofs.lemmas.Bool.Decides.{nat_tests}
 use Rattle.link_timers.specs.declared.role.Role.{Role}
 use Rattle.frame_codec.specs.Frame.{I}
 use Rattle.frame_codec.specs.Spelling.{spelling}
-use Rattle.lapb.specs.Machine.{Octets, Link, command, numbered, send_all}
-use Rattle.lapb.specs.Out.{Out, with_frames}
+use Rattle.lapb.specs.declared.note.Note.{Note}
+use Rattle.lapb.specs.declared.phase.Phase.{Phase}
+use Rattle.lapb.specs.Machine.{Octets, Link, command, numbered, send_all, runs, runs_in, timing_after}
+use Rattle.lapb.specs.Out.{Out, with_frames, timing_by, gathered}
 
 pub take_full : {X : Type 0} (n : ℕ) (xs ys : List X) → length xs ≡ n → take n (xs ++ ys) ≡ xs
 take_full zero [] ys e = refl
@@ -105,3 +108,57 @@ sent_frames l some = go (drop l.next l.queue) (omega (arith, length-drop l.next 
         numbered (l.oldest + l.next) l.expected packets ≡ (send_all l packets).frames
     go [] none = absurd (omega arith)
     go (packet ∷ packets) _ = refl
+
+up_runs : (phase : Phase) (l : Link) → phase ≡ Phase.Up → runs_in phase l ≡ (nat_lt 0 l.top || l.polling || l.busy)
+up_runs Phase.Up l up = refl
+up_runs Phase.Down l up = absurd (cc)
+up_runs Phase.SettingUp l up = absurd (cc)
+up_runs Phase.Rejecting l up = absurd (cc)
+
+neither : (a b c : Bool) → b ≡ false → c ≡ false → (a || b || c) ≡ a
+neither true b c b_is c_is = refl
+neither false false false b_is c_is = refl
+neither false true c b_is c_is = absurd (cc)
+neither false false true b_is c_is = absurd (cc)
+
+some_sent : (top count : ℕ) (test : Bool) → nat_le top count ≡ test → 0 < count →
+    nat_lt 0 (if test then count else top) ≡ true
+some_sent top count true e some = grind (arith, nat_tests)
+some_sent top count false e some = grind (arith, nat_tests)
+
+first : (a b c : Bool) → a ≡ true → (a || b || c) ≡ true
+first true b c a_is = refl
+first false b c a_is = absurd (cc)
+
+-- where packets are sent T1 runs then, and it ran before where some were unacknowledged
+pub sent_by : (l : Link) (out : Out) → l.phase ≡ Phase.Up → l.polling ≡ false → l.busy ≡ false →
+    l.next < length l.queue → record out {
+      frames = with_frames out.frames (map (spelling l.role) (send_all l (drop l.next l.queue)).frames);
+      note = Note.Nothing;
+      accepted = false;
+      timer = timing_after out.timer (timing_by (nat_lt 0 l.top) true false);
+    } ≡ gathered out l (send_all l (drop l.next l.queue))
+sent_by l out up polling busy some = go (drop l.next l.queue) (omega (arith, length-drop l.next l.queue))
+  where
+    ran : nat_lt 0 l.top ≡ runs l
+    ran = sym (up_runs l.phase l up ∙ neither (nat_lt 0 l.top) l.polling l.busy polling busy)
+
+    go : (packets : List Octets) → 0 < length packets → record out {
+      frames = with_frames out.frames (map (spelling l.role) (send_all l packets).frames);
+      note = Note.Nothing;
+      accepted = false;
+      timer = timing_after out.timer (timing_by (nat_lt 0 l.top) true false);
+    } ≡ gathered out l (send_all l packets)
+    go [] none = absurd (omega arith)
+    go (packet ∷ packets) _ =
+        let after = (send_all l (packet ∷ packets)).link in
+        let runs_then : true ≡ runs after =
+        sym (up_runs l.phase after up
+        ∙ first (nat_lt 0 after.top) after.polling after.busy
+        (some_sent l.top (length l.queue) (nat_le l.top (length l.queue)) refl (omega arith))) in
+        λ i. record out {
+          frames = with_frames out.frames (map (spelling l.role) (send_all l (packet ∷ packets)).frames);
+          note = Note.Nothing;
+          accepted = false;
+          timer = timing_after out.timer (timing_by (ran i) (runs_then i) false);
+        }

@@ -62,6 +62,8 @@ impl Slot {
     }
 }
 
+// In line it takes registers from all that stands around it.
+#[inline(never)]
 fn write_front(place: &mut [u8], octets: &[u8])
     requires { length octets.now ≤ length place.old }
     ensures { place.new ≡ octets.now ++ drop (length octets.now) place.old }

@@ -1,5 +1,5 @@
 //! The calls of a link that take frames, packets and expiries.
-ghost use Rattle.std.specs.Prelude.{◌≡◌, false, ◌≤◌, ◌<◌, length, drop, Some, IsOk, MatchOption, Err};
+ghost use Rattle.std.specs.Prelude.{◌≡◌, ◌≢◌, false, ◌≤◌, ◌<◌, length, drop, Some, IsOk, MatchOption, Err};
 ghost use Rattle.flow_window.specs.Pool.{Holds, Balances, in_use};
 ghost use Rattle.frame_codec.specs.Spelling.{most_information};
 ghost use Rattle.lapb.specs.Machine as machine;
@@ -84,9 +84,8 @@ impl Link {
         ensures packet { (packet : machine.Octets) → (on_octets self.old.link bytes.now).accepted ≡ Some packet
             → packet ≡ drop 2 bytes.now }
     {
-        let ran = self.runs();
-        let anew = self.take_octets(bytes, out);
-        self.finish(ran, anew, out, pool);
+        self.take_octets(bytes, out);
+        self.give_back(pool);
     }
 
     /// Takes an expiry of T1 (X.25 2.4.8.1). Where T1 does not run nothing happens.
@@ -120,6 +119,17 @@ impl Link {
         } }
     {
         out.set_timer(ran, self.runs(), anew);
+        self.give_back(pool);
+    }
+
+    // The buffers of the packets that a rule gave up go back.
+    #[inline]
+    fn give_back(&mut self, pool: &mut Pool)
+        requires { Holds pool.old self.old.held }
+        ensures link { self.new.link ≡ self.old.link }
+        ensures pool { Balances pool.old self.old.held pool.new self.new.held }
+        ensures tight { length self.new.held ≡ length self.new.link.queue }
+    {
         self.queue.give_back(pool);
     }
 
@@ -240,8 +250,18 @@ impl Link {
         if self.phase == Phase::Up {
             self.window.used() > 0 || self.polling || self.busy
         } else {
-            self.phase != Phase::Down || self.repeats
+            self.runs_outside()
         }
+    }
+
+    // Whether T1 is to run where the link is not up.
+    #[cold]
+    #[inline(never)]
+    fn runs_outside(&self) -> bool
+        requires { self.now.link.phase ≢ Phase.Up }
+        ensures { result ≡ machine.runs self.now.link }
+    {
+        self.phase != Phase::Down || self.repeats
     }
 
     /// Where the link stands.

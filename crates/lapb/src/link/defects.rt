@@ -1,18 +1,18 @@
 //! Octets that are no frame (X.25 2.4.6, 2.4.7.3).
 ghost use Rattle.std.specs.Prelude.{◌≡◌, ◌<◌, length, true};
 ghost use Rattle.link_timers.specs.Role.{other_of};
-ghost use Rattle.frame_codec.specs.Spelling.{address_of};
-ghost use Rattle.frame_codec.specs.Views.{report_of};
+ghost use Rattle.frame_codec.specs.Spelling.{address_of, HasNumbers};
+ghost use Rattle.frame_codec.specs.Views.{content_of, report_of, value_of};
 ghost use Rattle.lapb.specs.Machine as machine;
 ghost use Rattle.lapb.specs.Octets.{on_fault, on_octets};
 ghost use Rattle.lapb.specs.Defects.{defect_of};
-ghost use Rattle.lapb.specs.Out.{with_step};
+ghost use Rattle.lapb.specs.Out.{gathered, with_step};
 
 use crate::link::Link;
 use crate::link::setting::Reason;
 use crate::out::LinkOut;
 use crate::phase::Phase;
-use frame_codec::{FrameFault, Rejection, read_frame};
+use frame_codec::{Frame, FrameFault, FrameKind, Rejection, read_frame};
 use link_timers::Role;
 
 /// Why a frame of this line could not be read.
@@ -26,43 +26,80 @@ pub(crate) enum Defect {
 impl Link {
     ghost use Rattle.lapb.specs.LinkView.{IsReport};
 
-    pub(crate) fn take_octets(&mut self, bytes: &[u8], out: &mut LinkOut) -> bool
+    // Takes octets, and says what becomes of T1.
+    pub(crate) fn take_octets(&mut self, bytes: &[u8], out: &mut LinkOut)
         ensures link { self.new ≡ record self.old { link = (on_octets self.old.link bytes.now).link } }
-        ensures out { out.new ≡ with_step out.old self.old.link.role (on_octets self.old.link bytes.now) }
-        ensures anew { result ≡ (on_octets self.old.link bytes.now).anew }
+        ensures out { out.new ≡ gathered out.old self.old.link (on_octets self.old.link bytes.now) }
     {
         if self.phase == Phase::Up {
-            self.read_octets(bytes, out)
+            self.read_octets(bytes, out);
         } else {
-            self.take_outside(bytes, out)
+            self.take_outside(bytes, out);
         }
     }
 
     // Few frames come where the link is not up. What they need stays out of the way of all others.
     #[cold]
     #[inline(never)]
-    fn take_outside(&mut self, bytes: &[u8], out: &mut LinkOut) -> bool
+    fn take_outside(&mut self, bytes: &[u8], out: &mut LinkOut)
         ensures link { self.new ≡ record self.old { link = (on_octets self.old.link bytes.now).link } }
-        ensures out { out.new ≡ with_step out.old self.old.link.role (on_octets self.old.link bytes.now) }
-        ensures anew { result ≡ (on_octets self.old.link bytes.now).anew }
+        ensures out { out.new ≡ gathered out.old self.old.link (on_octets self.old.link bytes.now) }
     {
-        self.read_octets(bytes, out)
+        self.read_octets(bytes, out);
     }
 
     #[inline(always)]
-    fn read_octets(&mut self, bytes: &[u8], out: &mut LinkOut) -> bool
+    fn read_octets(&mut self, bytes: &[u8], out: &mut LinkOut)
         ensures link { self.new ≡ record self.old { link = (on_octets self.old.link bytes.now).link } }
-        ensures out { out.new ≡ with_step out.old self.old.link.role (on_octets self.old.link bytes.now) }
-        ensures anew { result ≡ (on_octets self.old.link bytes.now).anew }
+        ensures out { out.new ≡ gathered out.old self.old.link (on_octets self.old.link bytes.now) }
     {
         match read_frame(bytes, self.role) {
-            Ok(frame) => self.take_frame(&frame, out),
-            Err(fault) => self.take_fault(fault, bytes, out),
+            Ok(frame) => self.end_frame(&frame, out),
+            Err(fault) => self.end_fault(fault, bytes, out),
+        }
+    }
+
+    // After an I frame T1 runs only where it ran before or starts anew, so that it is not asked whether it ran.
+    #[inline(always)]
+    fn end_frame(&mut self, frame: &Frame<'_>, out: &mut LinkOut)
+        requires { HasNumbers (content_of frame.now.kind) }
+        ensures link { self.new ≡ record self.old {
+          link = (machine.on_frame self.old.link (value_of frame.now)).link;
+        } }
+        ensures out { out.new ≡ gathered out.old self.old.link (machine.on_frame self.old.link (value_of frame.now)) }
+    {
+        match frame.kind {
+            FrameKind::I { .. } => {
+                let anew = self.take_frame(frame, out);
+                out.set_timer(true, self.runs(), anew);
+            }
+            FrameKind::Rr { .. }
+            | FrameKind::Rnr { .. }
+            | FrameKind::Rej { .. }
+            | FrameKind::Sabm
+            | FrameKind::Disc
+            | FrameKind::Dm
+            | FrameKind::Ua
+            | FrameKind::Frmr(_) => {
+                let ran = self.runs();
+                let anew = self.take_frame(frame, out);
+                out.set_timer(ran, self.runs(), anew);
+            }
         }
     }
 
     #[cold]
     #[inline(never)]
+    fn end_fault(&mut self, fault: FrameFault, bytes: &[u8], out: &mut LinkOut)
+        requires { length bytes.now < 2 → fault ≡ FrameFault.TooShort }
+        ensures link { self.new ≡ record self.old { link = (on_fault self.old.link fault bytes.now).link } }
+        ensures out { out.new ≡ gathered out.old self.old.link (on_fault self.old.link fault bytes.now) }
+    {
+        let ran = self.runs();
+        let anew = self.take_fault(fault, bytes, out);
+        out.set_timer(ran, self.runs(), anew);
+    }
+
     fn take_fault(&mut self, fault: FrameFault, bytes: &[u8], out: &mut LinkOut) -> bool
         requires { length bytes.now < 2 → fault ≡ FrameFault.TooShort }
         ensures link { self.new ≡ record self.old { link = (on_fault self.old.link fault bytes.now).link } }

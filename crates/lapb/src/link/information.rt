@@ -71,10 +71,10 @@ impl Link {
     fn answer(&self, due: bool, out: &mut LinkOut)
         ensures { out.new ≡ answered out.old self.now.link.role due self.now.link.expected }
     {
-        out.tell(Note::Nothing);
         if due {
             self.put_ready(out);
         }
+        out.tell(Note::Nothing);
     }
 
     // RR as a response with F = 1.

@@ -1,5 +1,5 @@
 //! What a link sends at the end of a node's event (X.25 2.4.5.1, 2.4.5.2.2).
-ghost use Rattle.std.specs.Prelude.{◌≡◌, ◌<◌, ◌≤◌, ◌+◌, [], ◌∷◌, drop, length, map, max};
+ghost use Rattle.std.specs.Prelude.{◌≡◌, ◌<◌, ◌≤◌, ◌+◌, [], ◌∷◌, drop, length, map, max, false};
 ghost use Rattle.flow_window.specs.Pool.{Holds};
 ghost use Rattle.frame_codec.specs.Spelling.{spelling, most_information};
 ghost use Rattle.lapb.specs.Machine as machine;
@@ -34,13 +34,16 @@ impl Link {
         // For every session that agrees with the link.
         ensures named { Keeps self.old.link (machine.settle self.old.link) }
     {
-        match self.phase {
-            Phase::Up => self.settle_up(out, pool),
-            Phase::Down | Phase::SettingUp | Phase::Rejecting => self.stay(out),
+        if self.phase == Phase::Up {
+            self.settle_up(out, pool);
+        } else {
+            self.stay(out);
         }
     }
 
     // T1 goes on as it is.
+    #[cold]
+    #[inline(never)]
     fn stay(&self, out: &mut LinkOut)
         ensures { out.new ≡ gathered out.old self.now.link (machine.still self.now.link) }
     {
@@ -49,6 +52,7 @@ impl Link {
     }
 
     fn settle_up(&mut self, out: &mut LinkOut, pool: &Pool)
+        requires up { self.old.link.phase ≡ Phase.Up }
         requires holds { Holds pool.now self.old.held }
         requires size { pool.now.size ≡ most_information }
         ensures link { self.new ≡ record self.old {
@@ -69,9 +73,12 @@ impl Link {
         }
     }
 
-    // The packets take more registers than all else, so they are sent apart.
+    // The packets take more registers than all else, so they are sent apart. T1 runs then.
     #[inline(never)]
     fn end_by_packets(&mut self, out: &mut LinkOut, pool: &Pool)
+        requires up { self.old.link.phase ≡ Phase.Up }
+        requires polling { self.old.link.polling ≡ false }
+        requires busy { self.old.link.busy ≡ false }
         requires holds { Holds pool.now self.old.held }
         requires size { pool.now.size ≡ most_information }
         requires unsent { self.old.link.next < length self.old.link.queue }
@@ -82,11 +89,12 @@ impl Link {
         ensures out { out.new ≡ gathered out.old self.old.link (machine.send_all self.old.link (drop
             self.old.link.next self.old.link.queue)) }
     {
-        let ran = self.runs();
+        let ran = self.window.used() > 0;
         self.send_packets(out, pool);
-        out.end(ran, self.runs());
+        out.end(ran, true);
     }
 
+    #[inline(never)]
     fn end_by_acknowledgement(&mut self, out: &mut LinkOut)
         ensures link { self.new ≡ record self.old { link = (machine.send_all self.old.link []).link } }
         ensures out { out.new ≡ gathered out.old self.old.link (machine.send_all self.old.link []) }
