@@ -4,3 +4,4 @@ pub mod Rooms
 pub mod Coming
 pub mod Ending
 pub mod Opening
+pub mod Written

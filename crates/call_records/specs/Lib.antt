@@ -1,3 +1,4 @@
+pub mod Packets
 pub mod Records
 pub mod Book
 pub mod Room

@@ -1,9 +1,10 @@
 -- What the code's records show, and what room they have.
-use Rattle.std.specs.Prelude.{◌≡◌, ℕ, ◌-◌, ◌≤◌, List, map, slice_get, Some, vec_len, vec_capacity}
+use Rattle.std.specs.Prelude.{◌≡◌, ℕ, ◌-◌, ◌*◌, ◌≤◌, List, length, map, slice_get, Some, vec_len, vec_capacity}
 use Rattle.epochs.specs.Epoch.{SentEpoch as Sent, TakenEpoch as Taken}
 use Rattle.pad_editing.specs.Edited.{Step, key, idle}
 use Rattle.call_records.specs.Records.{RecordValue, PairValue, with_step, with_sent, with_interrupt_sent, with_taken}
 use Rattle.call_records.specs.Records.{with_interrupt_taken, with_released, with_covered, with_epoch, with_closed}
+use Rattle.call_records.specs.Packets.{data_packet_of}
 use Rattle.call_records.specs.declared.record.SentEpoch.{SentEpoch}
 use Rattle.call_records.specs.declared.record.TakenEpoch.{TakenEpoch}
 use Rattle.call_records.specs.declared.record.EditStep.{EditStep}
@@ -14,10 +15,10 @@ use Rattle.call_records.specs.declared.record.Growth.{Growth}
 use Rattle.call_records.specs.declared.record.Growth.TheVariants as growth
 
 abbrev pub sent_of : SentEpoch → Sent
-sent_of e = record { packets = e.packets.items; interrupts = e.interrupts.items; covered = e.covered }
+sent_of e = record { packets = e.packets.packets; interrupts = e.interrupts.items; covered = e.covered }
 
 abbrev pub taken_of : TakenEpoch → Taken
-taken_of e = record { packets = e.packets.items; interrupts = e.interrupts.items; released = e.released }
+taken_of e = record { packets = e.packets.packets; interrupts = e.interrupts.items; released = e.released }
 
 abbrev pub step_of : EditStep → Step
 step_of (edit_step.Key octet params) = key octet params
@@ -41,13 +42,13 @@ shown r = record {
 abbrev pub pair_of : Pair → PairValue
 pair_of p = record { caller = p.caller; callee = p.callee }
 
--- every list of a record has so many spare places
+-- every list of a record has so many spare places, where a packet takes at most 132 octets
 pub record HasPlaces (room : ℕ) (r : Record) : Type 0 where
   pub sent_before : room ≤ vec_capacity r.sent_before - vec_len r.sent_before
-  pub sent_packets : room ≤ vec_capacity r.sent.packets - vec_len r.sent.packets
+  pub sent_packets : 132 * room ≤ r.sent.packets.spare
   pub sent_interrupts : room ≤ vec_capacity r.sent.interrupts - vec_len r.sent.interrupts
   pub taken_before : room ≤ vec_capacity r.taken_before - vec_len r.taken_before
-  pub taken_packets : room ≤ vec_capacity r.taken.packets - vec_len r.taken.packets
+  pub taken_packets : 132 * room ≤ r.taken.packets.spare
   pub taken_interrupts : room ≤ vec_capacity r.taken.interrupts - vec_len r.taken.interrupts
   pub steps : room ≤ vec_capacity r.steps - vec_len r.steps
 
@@ -58,15 +59,21 @@ PlacesAt room number records = (r : Record) → slice_get records number ≡ Som
 -- ---- how a record grows by a write
 
 abbrev pub grown : Growth → RecordValue → RecordValue
-grown (growth.Sent packet) r = with_sent packet r
+grown (growth.Sent packet) r = with_sent (data_packet_of packet) r
 grown (growth.InterruptSent interrupt) r = with_interrupt_sent interrupt r
-grown (growth.Taken packet) r = with_taken packet r
+grown (growth.Taken packet) r = with_taken (data_packet_of packet) r
 grown (growth.InterruptTaken interrupt) r = with_interrupt_taken interrupt r
 grown (growth.Covered count) r = with_covered count r
 grown (growth.Released count) r = with_released count r
 grown (growth.Step step) r = with_step (step_of step) r
 grown growth.Epoch r = with_epoch r
 grown growth.Closed r = with_closed r
+
+-- a packet has at most 128 octets
+abbrev pub Fits : Growth → Type 0
+Fits (growth.Sent packet) = length packet.octets.now ≤ 128
+Fits (growth.Taken packet) = length packet.octets.now ≤ 128
+Fits _ = Unit {0}
 
 -- how much room a write needs, and how much it leaves
 abbrev pub needed : Growth → ℕ

@@ -11,14 +11,15 @@ ghost use Rattle.call_records.specs.Records.{changed_at};
 ghost use Rattle.call_records.specs.Closing.{all_closed};
 ghost use Rattle.call_records.specs.Room.{opens, room_after};
 ghost use Rattle.call_records.specs.BookView.{CallsHavePlaces};
-ghost use Rattle.call_records.specs.RecordView.{shown, pair_of, step_of, grown, needed, left, PlacesAt};
+ghost use Rattle.call_records.specs.RecordView.{shown, pair_of, step_of, grown, needed, left, Fits, PlacesAt};
 
 use crate::ends::{Ends, Side, Slot};
 use crate::interrupt::Interrupt;
+use crate::packets::Packet;
 use crate::record::{EditStep, Growth, Pair, Record};
 use link_timers::Role;
 use packet_codec::{Address, CallBuf, CallData};
-use packet_layer::{LayerNote, Taken, UserData};
+use packet_layer::{LayerNote, Taken};
 use std::alloc::{AllocError, Global};
 use std::marker::Model;
 
@@ -336,7 +337,12 @@ impl Book {
           room = self.old.room - 1;
         } }
     {
-        let packet = UserData::new(octets, more, qualified, delivery);
+        let packet = Packet {
+            octets,
+            more,
+            qualified,
+            delivery,
+        };
         self.grow(role, channel, Growth::Sent(packet));
     }
 
@@ -366,12 +372,12 @@ impl Book {
                 self.grow(role, channel, Growth::InterruptTaken(interrupt));
             }
             Taken::Data(data) => {
-                let packet = UserData::new(
-                    data.octets(),
-                    data.more(),
-                    data.qualified(),
-                    data.delivery(),
-                );
+                let packet = Packet {
+                    octets: data.octets(),
+                    more: data.more(),
+                    qualified: data.qualified(),
+                    delivery: data.delivery(),
+                };
                 self.grow(role, channel, Growth::Taken(packet));
             }
         }
@@ -423,11 +429,12 @@ impl Book {
     }
 
     // The record of the present call on a channel grows by a write.
-    fn grow(&mut self, role: Role, channel: u8, growth: Growth)
-        requires { needed growth ≤ self.old.room }
+    fn grow(&mut self, role: Role, channel: u8, growth: Growth<'_>)
+        requires room { needed growth ≤ self.old.room }
+        requires fits { Fits growth }
         ensures { self.new ≡ record self.old {
-          book = changed role channel (grown growth) self.old.book;
-          room = left growth self.old.room;
+          book = changed role channel (grown growth.entry) self.old.book;
+          room = left growth.entry self.old.room;
         } }
     {
         let present = self.ends.of(role).slot(channel).present;
@@ -458,13 +465,14 @@ fn recorded(address: &Address) -> Option<Address>
 }
 
 // The record of this number grows by a write, if there is one.
-fn grow_at(records: &mut Vec<Record>, number: usize, alloc: Global, growth: Growth)
-    requires { PlacesAt (needed growth) number records.old.items }
-    ensures shown { map shown records.new.items ≡ changed_at number (grown growth) (map shown records.old.items) }
+fn grow_at(records: &mut Vec<Record>, number: usize, alloc: Global, growth: Growth<'_>)
+    requires places { PlacesAt (needed growth) number records.old.items }
+    requires fits { Fits growth }
+    ensures shown { map shown records.new.items ≡ changed_at number (grown growth.entry) (map shown records.old.items) }
     ensures len { vec_len records.new ≡ vec_len records.old }
     ensures capacity { vec_capacity records.new ≡ vec_capacity records.old }
     ensures room { (room other : ℕ) → PlacesAt room number records.old.items → PlacesAt room other records.old.items →
-        PlacesAt (left growth room) other records.new.items }
+        PlacesAt (left growth.entry room) other records.new.items }
 {
     if number < records.len() {
         let record = &mut records[number];

@@ -2,11 +2,12 @@
 ghost use Rattle.std.specs.Prelude.{◌≡◌, ◌≤◌, ℕ, OnOk, map};
 ghost use Rattle.epochs.specs.Epoch.{nothing_sent, nothing_taken};
 ghost use Rattle.call_records.specs.Records.{new_record, counted as counted_of, with_epoch};
-ghost use Rattle.call_records.specs.RecordView.{shown, sent_of, taken_of, grown, needed, left, HasPlaces};
+ghost use Rattle.call_records.specs.RecordView.{shown, sent_of, taken_of, grown, needed, left, Fits, HasPlaces};
 
 use crate::interrupt::Interrupt;
+use crate::packets::{Packet, Packets};
+use crate::spare::give_back;
 use packet_codec::Address;
-use packet_layer::UserData;
 use std::alloc::{AllocError, Global};
 use std::mem;
 use x3_params::Params;
@@ -15,7 +16,7 @@ use x3_params::Params;
 /// of the packets a received P(R) covered.
 #[derive(Drop)]
 pub struct SentEpoch {
-    pub packets: Vec<UserData>,
+    pub packets: Packets,
     pub interrupts: Vec<Interrupt>,
     pub covered: usize,
 }
@@ -23,7 +24,7 @@ pub struct SentEpoch {
 /// What an end took in an epoch of its call: the packets and the interrupts, and how many of the packets were released.
 #[derive(Drop)]
 pub struct TakenEpoch {
-    pub packets: Vec<UserData>,
+    pub packets: Packets,
     pub interrupts: Vec<Interrupt>,
     pub released: usize,
 }
@@ -74,13 +75,13 @@ pub struct Pair {
 
 /// What a write adds to a record.
 #[derive(Drop)]
-pub(crate) enum Growth {
+pub(crate) enum Growth<'a> {
     /// A packet that was accepted to be sent.
-    Sent(UserData),
+    Sent(Packet<'a>),
     /// An interrupt that was accepted to be sent.
     InterruptSent(Interrupt),
     /// A packet that was taken.
-    Taken(UserData),
+    Taken(Packet<'a>),
     /// An interrupt that was taken.
     InterruptTaken(Interrupt),
     /// So many more of the packets sent are covered.
@@ -95,7 +96,7 @@ pub(crate) enum Growth {
     Closed,
 }
 
-impl Growth {
+impl Growth<'_> {
     /// The room that it leaves.
     pub(crate) fn left(&self, room: usize) -> usize
         requires { needed self.now ≤ room }
@@ -119,7 +120,7 @@ impl SentEpoch {
         ensures { sent_of result ≡ nothing_sent }
     {
         SentEpoch {
-            packets: Vec::new(alloc),
+            packets: Packets::new(alloc),
             interrupts: Vec::new(alloc),
             covered: 0,
         }
@@ -129,7 +130,7 @@ impl SentEpoch {
     fn give_back(&mut self, alloc: Global) -> Result<(), AllocError>
         ensures { sent_of self.new ≡ sent_of self.old }
     {
-        give_back(alloc, &mut self.packets)?;
+        self.packets.give_back(alloc)?;
         give_back(alloc, &mut self.interrupts)
     }
 }
@@ -140,7 +141,7 @@ impl TakenEpoch {
         ensures { taken_of result ≡ nothing_taken }
     {
         TakenEpoch {
-            packets: Vec::new(alloc),
+            packets: Packets::new(alloc),
             interrupts: Vec::new(alloc),
             released: 0,
         }
@@ -150,7 +151,7 @@ impl TakenEpoch {
     fn give_back(&mut self, alloc: Global) -> Result<(), AllocError>
         ensures { taken_of self.new ≡ taken_of self.old }
     {
-        give_back(alloc, &mut self.packets)?;
+        self.packets.give_back(alloc)?;
         give_back(alloc, &mut self.interrupts)
     }
 }
@@ -199,15 +200,16 @@ impl Record {
     }
 
     /// Grows by a write.
-    pub(crate) fn grow(&mut self, alloc: Global, growth: Growth)
-        requires { HasPlaces (needed growth) self.old }
-        ensures shown { shown self.new ≡ grown growth (shown self.old) }
-        ensures room { (room : ℕ) → HasPlaces room self.old → HasPlaces (left growth room) self.new }
+    pub(crate) fn grow(&mut self, alloc: Global, growth: Growth<'_>)
+        requires places { HasPlaces (needed growth) self.old }
+        requires fits { Fits growth }
+        ensures shown { shown self.new ≡ grown growth.entry (shown self.old) }
+        ensures room { (room : ℕ) → HasPlaces room self.old → HasPlaces (left growth.entry room) self.new }
     {
         match growth {
-            Growth::Sent(packet) => self.sent.packets.push_reserved(packet),
+            Growth::Sent(packet) => self.sent.packets.push(packet),
             Growth::InterruptSent(interrupt) => self.sent.interrupts.push_reserved(interrupt),
-            Growth::Taken(packet) => self.taken.packets.push_reserved(packet),
+            Growth::Taken(packet) => self.taken.packets.push(packet),
             Growth::InterruptTaken(interrupt) => self.taken.interrupts.push_reserved(interrupt),
             Growth::Covered(count) => {
                 self.sent.covered = counted(self.sent.packets.len(), self.sent.covered, count);
@@ -252,18 +254,6 @@ fn counted(all: usize, count: usize, more: usize) -> usize
         Some(sum) if sum <= all => sum,
         _ => count,
     }
-}
-
-// Moves a list into a block of its own size, and gives back the one in which it was. Without the memory it stays there.
-fn give_back<T: Drop>(alloc: Global, list: &mut Vec<T>) -> Result<(), AllocError>
-    ensures { list.new.items ≡ list.old.items }
-{
-    if list.len() < list.capacity() {
-        let mut fitting = Vec::with_capacity(alloc, list.len())?;
-        fitting.append(list)?;
-        *list = fitting;
-    }
-    Ok(())
 }
 
 // The last of these epochs gives back what room there is beyond what was sent in it.

@@ -3,7 +3,7 @@ pub mod Spelling
 pub mod Only
 pub mod ScriptLines
 pub mod Found
-pub mod Keys
+pub mod TableKeys
 pub mod Tables
 pub mod Pairs
 pub mod Documents

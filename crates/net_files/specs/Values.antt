@@ -1,12 +1,14 @@
 -- What commands say, as plain values: the lists in them are lists of octets.
-use Rattle.std.specs.Prelude.{ℕ, Bool, List, map}
+use Rattle.std.specs.Prelude.{ℕ, Bool, List, [], ◌∷◌, map}
 use Rattle.link_timers.specs.declared.timers.TimerId.{TimerId}
 use Rattle.memory_line.specs.declared.line.Direction.{Direction}
 use Rattle.packet_host.specs.declared.request.HostRequest.{HostRequest}
 use Rattle.packet_host.specs.declared.request.HostRequest.TheVariants as host
 use Rattle.line_nodes.specs.declared.terminal.TerminalEvent.{TerminalEvent}
+use Rattle.line_nodes.specs.declared.terminal.TerminalEvent.TheVariants.{Key}
 use Rattle.net_events.specs.declared.event.Event.{Event}
 use Rattle.net_events.specs.declared.event.Event.TheVariants as event
+use Rattle.net_files.specs.declared.script.Keys.{Keys}
 use Rattle.net_files.specs.declared.script.Command.{Command}
 use Rattle.net_files.specs.declared.script.Command.TheVariants as command
 
@@ -63,8 +65,13 @@ event_value (event.Expire node line timer) = Expire node line timer
 event_value (event.Relink line) = Relink line
 event_value (event.Restart node) = Restart node
 
+-- a key for each octet
+abbrev pub key_values : Keys → List EventValue
+key_values keys = map (λ octet. AtTerminal keys.node keys.terminal (Key octet)) keys.octets.items
+
 abbrev pub command_value : Command → CommandValue
-command_value (command.Events events) = Events (map event_value events.items)
+command_value (command.Keys keys) = Events (key_values keys.value)
+command_value (command.Event e) = Events (event_value e.value ∷ [])
 command_value command.Flow = Flow
 command_value (command.Tick ticks) = Tick ticks
 command_value (command.Trace traces) = Trace traces

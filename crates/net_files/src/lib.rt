@@ -11,4 +11,4 @@ mod words;
 
 pub use fault::ProgFault;
 pub use network::{FIRST, read_net};
-pub use script::{Command, Script, read_script};
+pub use script::{Command, Keys, Script, read_script};

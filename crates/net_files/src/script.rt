@@ -28,14 +28,24 @@ use std::alloc::{AllocError, Global};
 /// What a line of a script asks for.
 #[derive(Debug, Drop)]
 pub enum Command {
-    /// These events, one after the other.
-    Events(Vec<Event>),
+    /// These keys are typed.
+    Keys(Box<Keys>),
+    /// This event happens.
+    Event(Box<Event>),
     /// Frames are delivered, pass after pass over the lines, until a pass brings none.
     Flow,
     /// So many ticks go by, and then each timer that is due expires.
     Tick(u16),
     /// From here on each frame that is put is printed, or none is.
     Trace(bool),
+}
+
+/// Keys that are typed at a terminal of a PAD, one after the other.
+#[derive(Debug, Drop)]
+pub struct Keys {
+    pub node: usize,
+    pub terminal: u16,
+    pub octets: Vec<u8>,
 }
 
 /// A script, read for a network: the names of the network's nodes, how many lines it has, and the commands.
@@ -123,7 +133,7 @@ fn read_line(alloc: Global, line: &[u8], names: &[String]) -> Result<Command, Li
         CommandWord::Trace => read_trace(words),
         CommandWord::Event(word) => {
             let event = read_event(alloc, word, words, names)?;
-            Ok(Command::Events(vec![in alloc; event]?))
+            Ok(Command::Event(Box::new(alloc, event)?))
         }
     }
 }
@@ -135,30 +145,13 @@ fn read_keys(alloc: Global, words: Words<'_>, names: &[String]) -> Result<Comman
     let mut words = words;
     let node = words.node(names)?;
     let terminal = words.number()?;
-    let text = read_text(alloc, words.text())?;
-    let events = key_events(alloc, node, terminal, text.as_slice())?;
-    Ok(Command::Events(events))
-}
-
-/// A key for each of some octets.
-fn key_events(
-    alloc: Global,
-    node: usize,
-    terminal: u16,
-    octets: &[u8],
-) -> Result<Vec<Event>, AllocError>
-    ensures { IfOk result (λ events. map event_value events.items
-        ≡ map (λ octet. event.AtTerminal node terminal (TerminalEvent.Key octet)) octets.now) }
-{
-    let mut events = Vec::new(alloc);
-    for octet in octets {
-        events.push(Event::AtTerminal {
-            node,
-            terminal,
-            event: TerminalEvent::Key(*octet),
-        })?;
-    }
-    Ok(events)
+    let octets = read_text(alloc, words.text())?;
+    let keys = Keys {
+        node,
+        terminal,
+        octets,
+    };
+    Ok(Command::Keys(Box::new(alloc, keys)?))
 }
 
 /// `flow`.

@@ -11,7 +11,7 @@ use Rattle.net_player.specs.Playing.{Tells, Flowing, Delivers, deliveries_from, 
 use Rattle.net_player.specs.Playing.Delivers.{at_limit, arrives, finds_none}
 use Rattle.net_player.specs.Playing.Flows.{again}
 use Rattle.net_player.specs.InTurn.{StopsInTurn}
-use Rattle.net_player.specs.InTurn.StopsInTurn.{here, later}
+use Rattle.net_player.specs.InTurn.StopsInTurn.{here}
 use Rattle.net_player.specs.Stopping.{DeliveryStops, PassStops, FlowStops}
 use Rattle.net_player.specs.Stopping.FlowStops.{behind}
 use Rattle.net_files.specs.declared.fault.ProgFault.{ProgFault}

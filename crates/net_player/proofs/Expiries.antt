@@ -8,7 +8,7 @@ use Rattle.line_sim.specs.Due.{net_due}
 use Rattle.net_files.specs.Scripts.{Names}
 use Rattle.net_player.specs.Playing.{TellsEvent, Expires, Ticks}
 use Rattle.net_player.specs.Playing.Expires.{none, next}
-use Rattle.net_player.specs.Stopping.{StopsAt, ExpiryStops}
+use Rattle.net_player.specs.Stopping.{ExpiryStops}
 use Rattle.net_player.specs.Stopping.ExpiryStops.{behind}
 use Rattle.net_files.specs.declared.fault.ProgFault.{ProgFault}
 

@@ -1,5 +1,5 @@
 -- Why a network is not made, and what follows of it.
-use Rattle.std.proofs.Common.{◌≡◌, ℕ, Bool, true, false, List, Option, Result, Ok, Err, IsOkUnless, refl, sym, subst}
+use Rattle.std.proofs.Common.{◌≡◌, ℕ, Bool, true, false, List, Option, Result, Err, IsOkUnless, refl, subst}
 use Rattle.command_words.specs.declared.invocation.Mode.{Mode}
 use Rattle.net_config.specs.declared.config.Config.{Config}
 use Rattle.net_config.specs.declared.fault.MakeFault.{MakeFault}

@@ -5,3 +5,4 @@ pub mod Deliveries
 pub mod Expiries
 pub mod WholeRead
 pub mod Failing
+pub mod Typing

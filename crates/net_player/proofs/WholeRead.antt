@@ -1,5 +1,5 @@
 -- What was read of a reader that gave less than it might.
-use Rattle.std.proofs.Common.{◌≡◌, ℕ, ◌<◌, ◌≤◌, List, [], ◌++◌, length, take, take_all, Option, None, Some, IfSome, option_map, ◌∙◌, arith, ap, subst, length-take, min}
+use Rattle.std.proofs.Common.{◌≡◌, ℕ, ◌<◌, ◌≤◌, List, length, take, take_all, Option, None, Some, IfSome, option_map, ◌∙◌, arith, length-take}
 
 -- the front of the octets was read, which is shorter than it might be: it is the whole
 pub read_whole : (known : Option (List ℕ)) (octets : List ℕ) (limit : ℕ)

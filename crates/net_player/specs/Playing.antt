@@ -1,11 +1,12 @@
 -- What a script makes of a network, and what is printed.
 use Rattle.std.specs.declared.alloc.Global.{Global}
-use Rattle.std.specs.Prelude.{Vec, ◌≡◌, ◌≢◌, ℕ, zero, suc, ◌+◌, ◌<◌, Bool, true, false, List, [], ◌∷◌, ◌++◌}
-use Rattle.std.specs.Prelude.{Option, Some, None, Result, Ok, Err, codes}
+use Rattle.std.specs.Prelude.{Box, ◌≡◌, ◌≢◌, ℕ, zero, suc, ◌+◌, ◌<◌, Bool, true, false, List, [], ◌∷◌, ◌++◌, map}
+use Rattle.std.specs.Prelude.{Some, None, Result, Ok, Err, codes}
 use Rattle.memory_line.specs.declared.line.Direction.TheVariants.{FromDte, FromDce}
 use Rattle.memory_line.specs.Lines.{LineService}
+use Rattle.line_nodes.specs.declared.terminal.TerminalEvent.TheVariants.{Key}
 use Rattle.net_events.specs.declared.event.Event.{Event}
-use Rattle.net_events.specs.declared.event.Event.TheVariants.{Deliver}
+use Rattle.net_events.specs.declared.event.Event.TheVariants.{AtTerminal, Deliver}
 use Rattle.net_events.specs.declared.answer.Outcome.{Outcome}
 use Rattle.net_events.specs.declared.answer.Outcome.TheVariants.{Delivered}
 use Rattle.net_events.specs.declared.answer.Answer.{Answer}
@@ -16,7 +17,8 @@ use Rattle.line_sim.specs.Questions.{net_rests}
 use Rattle.line_sim.specs.Due.{net_due}
 use Rattle.line_sim.specs.Happening.{Happens}
 use Rattle.net_files.specs.declared.script.Command.{Command}
-use Rattle.net_files.specs.declared.script.Command.TheVariants.{Events, Flow, Tick, Trace}
+use Rattle.net_files.specs.declared.script.Command.TheVariants as command
+use Rattle.net_files.specs.declared.script.Keys.{Keys}
 use Rattle.net_files.specs.declared.script.Script.{Script}
 use Rattle.net_files.specs.Scripts.{Names}
 use Rattle.net_player.specs.Answers.{answer_text}
@@ -96,22 +98,34 @@ pub record Played : Type 0 where
   pub net : Network
   pub traces : Bool
 
--- what a command does: its events happen in order, at most 100,000 frames flow, time goes by, or frames are traced from
--- here on, or not
+-- the events of keys, one for each octet
+abbrev pub key_event : Keys → (octet : ℕ) → Event
+key_event keys octet = AtTerminal keys.node keys.terminal (Key octet)
+
+abbrev pub key_events : Keys → List Event
+key_events keys = map (key_event keys) keys.octets.items
+
+-- what a command does: its keys are typed in order, its event happens, at most 100,000 frames flow, time goes by, or
+-- frames are traced from here on, or not
 pub data DoesCommand (L : LineService) (names : Names) (lines : ℕ) : Command → Played → List ℕ → Played → Type 0 where
-  events : {events : Vec Event Global} {traces : Bool} {s t : Network} {text : List ℕ}
-      → InTurn Event Network (TellsEvent L names traces) events.items s text t
-      → DoesCommand L names lines (Events events) (record { net = s; traces = traces }) text
+  keys : {keys : Box Keys Global} {traces : Bool} {s t : Network} {text : List ℕ}
+      → InTurn Event Network (TellsEvent L names traces) (key_events keys.value) s text t
+      → DoesCommand L names lines (command.Keys keys) (record { net = s; traces = traces }) text
+      (record { net = t; traces = traces })
+  event : {e : Box Event Global} {traces : Bool} {s t : Network} {text : List ℕ}
+      → TellsEvent L names traces e.value s text t
+      → DoesCommand L names lines (command.Event e) (record { net = s; traces = traces }) text
       (record { net = t; traces = traces })
   flow : {traces : Bool} {s t : Network} {text : List ℕ}
       → Flows L names traces lines (record { left = 100000; net = s }) text t
-      → DoesCommand L names lines Flow (record { net = s; traces = traces }) text (record { net = t; traces = traces })
+      → DoesCommand L names lines command.Flow (record { net = s; traces = traces }) text
+      (record { net = t; traces = traces })
   tick : {ticks : ℕ} {traces : Bool} {s t : Network} {text : List ℕ}
       → Ticks L names traces ticks s text t
-      → DoesCommand L names lines (Tick ticks) (record { net = s; traces = traces }) text
+      → DoesCommand L names lines (command.Tick ticks) (record { net = s; traces = traces }) text
       (record { net = t; traces = traces })
   trace : {before after : Bool} {s : Network}
-      → DoesCommand L names lines (Trace after) (record { net = s; traces = before }) []
+      → DoesCommand L names lines (command.Trace after) (record { net = s; traces = before }) []
       (record { net = s; traces = after })
 
 -- the last line

@@ -1,6 +1,6 @@
 -- Where a script stops before its end: memory is wanted, or the output refuses a text.
 use Rattle.std.specs.declared.alloc.Global.{Global}
-use Rattle.std.specs.Prelude.{Vec, ◌≡◌, ◌≢◌, ◌⊎◌, ℕ, ◌<◌, Bool, false, List, [], ◌++◌, Some, Result, Err}
+use Rattle.std.specs.Prelude.{Box, ◌≡◌, ◌≢◌, ◌⊎◌, ℕ, ◌<◌, Bool, false, List, [], ◌++◌, Some, Result, Err}
 use Rattle.memory_line.specs.Lines.{LineService}
 use Rattle.net_events.specs.declared.event.Event.{Event}
 use Rattle.net_events.specs.declared.answer.Answer.{Answer}
@@ -13,12 +13,13 @@ use Rattle.line_sim.specs.Happening.{Happens}
 use Rattle.net_files.specs.declared.fault.ProgFault.{ProgFault}
 use Rattle.net_files.specs.declared.fault.ProgFault.TheVariants.{OutOfMemory, Write}
 use Rattle.net_files.specs.declared.script.Command.{Command}
-use Rattle.net_files.specs.declared.script.Command.TheVariants.{Events, Flow, Tick}
+use Rattle.net_files.specs.declared.script.Command.TheVariants as command
+use Rattle.net_files.specs.declared.script.Keys.{Keys}
 use Rattle.net_files.specs.declared.script.Script.{Script}
 use Rattle.net_files.specs.Scripts.{Names}
 use Rattle.net_player.specs.Answers.{answer_text}
 use Rattle.net_player.specs.InTurn.{InTurn, StopsInTurn}
-use Rattle.net_player.specs.Playing.{TellsEvent, Flowing, Delivers, deliveries_from, Passes, Played}
+use Rattle.net_player.specs.Playing.{key_events, TellsEvent, Flowing, Delivers, deliveries_from, Passes, Played}
 use Rattle.net_player.specs.Playing.{DoesCommand, end_line}
 
 -- a script stops for want of memory, or where its text cannot be written
@@ -71,18 +72,22 @@ pub data ExpiryStops (L : LineService) (names : Names) (traces : Bool) (fault : 
       → net_due s ≡ Some expiry → TellsEvent L names traces expiry s first mid
       → ExpiryStops L names traces fault mid part → ExpiryStops L names traces fault s (first ++ part)
 
--- a command that stops: at one of its events, in its flow, or at what is due after its ticks
+-- a command that stops: at one of its keys, at its event, in its flow, or at what is due after its ticks
 pub data CommandStops (L : LineService) (names : Names) (lines : ℕ) (fault : ProgFault)
     : Command → Played → List ℕ → Type 0 where
-  in_events : {events : Vec Event Global} {s : Played} {part : List ℕ}
-      → StopsInTurn Event Network (TellsEvent L names s.traces) (StopsAt L names s.traces fault) events.items s.net part
-      → CommandStops L names lines fault (Events events) s part
+  in_keys : {keys : Box Keys Global} {s : Played} {part : List ℕ}
+      → StopsInTurn Event Network (TellsEvent L names s.traces) (StopsAt L names s.traces fault) (key_events keys.value)
+      s.net part
+      → CommandStops L names lines fault (command.Keys keys) s part
+  at_event : {e : Box Event Global} {s : Played} {part : List ℕ}
+      → StopsAt L names s.traces fault e.value s.net part
+      → CommandStops L names lines fault (command.Event e) s part
   in_flow : {s : Played} {part : List ℕ}
       → FlowStops L names s.traces lines fault (record { left = 100000; net = s.net }) part
-      → CommandStops L names lines fault Flow s part
+      → CommandStops L names lines fault command.Flow s part
   in_ticks : {ticks : ℕ} {s : Played} {part : List ℕ}
       → ExpiryStops L names s.traces fault (all_elapsed ticks s.net) part
-      → CommandStops L names lines fault (Tick ticks) s part
+      → CommandStops L names lines fault (command.Tick ticks) s part
 
 -- the play of a script that stops: in one of its commands, or at the last line
 pub data PlayStops (L : LineService) (script : Script) (fault : ProgFault) (s : Network) : List ℕ → Type 0 where

@@ -8,7 +8,7 @@ ghost use Rattle.line_sim.specs.Network.{Network, all_elapsed};
 ghost use Rattle.line_sim.specs.DueCount.{all_due};
 ghost use Rattle.line_sim.specs.Due.{net_due};
 ghost use Rattle.net_player.specs.InTurn.{InTurn, StopsInTurn, Writes};
-ghost use Rattle.net_player.specs.Playing.{has_arrived, Tells, TellsEvent, Delivers, Passes, Flows};
+ghost use Rattle.net_player.specs.Playing.{has_arrived, key_events, Tells, TellsEvent, Delivers, Passes, Flows};
 ghost use Rattle.net_player.specs.Playing.{Ticks};
 ghost use Rattle.net_player.specs.Playing.{DoesCommand, Plays, end_line};
 ghost use Rattle.net_player.specs.Stopping.{IsPlayFault, IsPartOf, StopsAt, DeliveryStops, PassStops, FlowStops};
@@ -16,9 +16,9 @@ ghost use Rattle.net_player.specs.Stopping.{ExpiryStops, CommandStops, PlayStops
 
 use crate::answer::{frame_text, note_text, outcome_text, refusal_text};
 use crate::output::write;
-use line_nodes::HostNote;
+use line_nodes::{HostNote, TerminalEvent};
 use line_sim::{Answer, Direction, Event, Line, Net, Outcome, Put, StepFault};
-use net_files::{Command, ProgFault, Script};
+use net_files::{Command, Keys, ProgFault, Script};
 use std::alloc::Global;
 use std::io::Write;
 
@@ -89,8 +89,12 @@ impl Player<'_> {
         ensures faults { IfErr result IsPlayFault }
     {
         match command {
-            Command::Events(events) => {
-                self.play_events(net, events.as_slice(), out)?;
+            Command::Keys(keys) => {
+                self.play_keys(net, keys, out)?;
+                Ok(self.traces)
+            }
+            Command::Event(event) => {
+                self.play_event(net, event, out)?;
                 Ok(self.traces)
             }
             Command::Flow => {
@@ -105,22 +109,28 @@ impl Player<'_> {
         }
     }
 
-    fn play_events<L: Line, W: Write>(
+    /// Types keys, one after the other.
+    fn play_keys<L: Line, W: Write>(
         &self,
         net: &mut Net<L>,
-        events: &[Event],
+        keys: &Keys,
         out: &mut W,
     ) -> Result<(), ProgFault>
         ensures writes { OnOk result (Writes (W.contents out.old) (W.contents out.new)
-            (λ text. InTurn Event Network (TellsEvent L.service self.now.names.now self.now.traces) events.now
+            (λ text. InTurn Event Network (TellsEvent L.service self.now.names.now self.now.traces) (key_events keys.now)
             net.old text net.new)) }
         ensures stops { IfErr result (λ fault. Writes (W.contents out.old) (W.contents out.new)
             (StopsInTurn Event Network (TellsEvent L.service self.now.names.now self.now.traces)
-            (StopsAt L.service self.now.names.now self.now.traces fault) events.now net.old)) }
+            (StopsAt L.service self.now.names.now self.now.traces fault) (key_events keys.now) net.old)) }
         ensures faults { IfErr result IsPlayFault }
     {
-        for event in events {
-            self.play_event(net, event, out)?;
+        for octet in &keys.octets {
+            let key = Event::AtTerminal {
+                node: keys.node,
+                terminal: keys.terminal,
+                event: TerminalEvent::Key(*octet),
+            };
+            self.play_event(net, &key, out)?;
         }
         Ok(())
     }

@@ -374,7 +374,7 @@ fn is_address(address: Option<Address>, digits: &[u8]) -> bool {
 fn has_sent(epoch: &SentEpoch, messages: &[&[u8]], covered: usize) -> bool {
     let mut same = epoch.packets.len() == messages.len() && epoch.covered == covered;
     for (packet, octets) in epoch.packets.iter().zip(messages) {
-        same = same && packet.octets() == *octets;
+        same = same && packet.octets == *octets;
     }
     same
 }
@@ -382,7 +382,7 @@ fn has_sent(epoch: &SentEpoch, messages: &[&[u8]], covered: usize) -> bool {
 fn has_taken(epoch: &TakenEpoch, messages: &[&[u8]], released: usize) -> bool {
     let mut same = epoch.packets.len() == messages.len() && epoch.released == released;
     for (packet, octets) in epoch.packets.iter().zip(messages) {
-        same = same && packet.octets() == *octets;
+        same = same && packet.octets == *octets;
     }
     same
 }

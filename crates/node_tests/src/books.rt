@@ -1,7 +1,7 @@
 //! Little books, write by write.
 ghost use Rattle.std.specs.Prelude.{◌≤◌, length};
 
-use call_records::{Book, EditStep, Interrupt, Pair, Record};
+use call_records::{Book, EditStep, Interrupt, Packets, Pair, Record};
 use frame_codec::FrameBuf;
 use link_timers::Role;
 use packet_codec::{Address, CallBuf, CallData};
@@ -144,13 +144,13 @@ fn has_pair(book: &Book, caller: usize, callee: usize) -> bool {
 }
 
 // Whether these are packets with M = 1 and D = 1 and the octets, one packet each.
-fn are_packets(packets: &[UserData], each: &[&[u8]]) -> bool {
+fn are_packets(packets: &Packets, each: &[&[u8]]) -> bool {
     if packets.len() != each.len() {
         return false;
     }
     for (packet, octets) in packets.iter().zip(each) {
-        let bits = (packet.more(), packet.qualified(), packet.delivery());
-        if packet.octets() != *octets || bits != (true, false, true) {
+        let bits = (packet.more, packet.qualified, packet.delivery);
+        if packet.octets != *octets || bits != (true, false, true) {
             return false;
         }
     }
@@ -260,15 +260,10 @@ fn all_is_written(
         assert!(rt; false, "a standing call has two records");
         return Ok(());
     };
-    assert!(rt;
-        are_packets(
-            dte.sent.packets.as_slice(),
-            &[b"AB".as_slice(), b"C".as_slice()]
-        )
-    );
+    assert!(rt; are_packets(&dte.sent.packets, &[b"AB".as_slice(), b"C".as_slice()]));
     assert!(rt; is_one_interrupt(dte.sent.interrupts.as_slice(), &[7]) && dte.sent.covered == 1);
     assert!(rt; dte.taken.packets.is_empty() && dte.taken.interrupts.is_empty());
-    assert!(rt; are_packets(dce.taken.packets.as_slice(), &[b"AB".as_slice()]));
+    assert!(rt; are_packets(&dce.taken.packets, &[b"AB".as_slice()]));
     assert!(rt; is_one_interrupt(dce.taken.interrupts.as_slice(), &[7]) && dce.taken.released == 1);
     assert!(rt; dce.sent.packets.is_empty() && dce.sent.interrupts.is_empty());
     book.release(Role::Dce, 1, 5);
@@ -309,7 +304,7 @@ fn epochs_open(rt: &impl Abort, book: &mut Book) -> Result<(), Fail> {
     assert!(rt; dce.sent_before.len() == 1);
     match dte.sent_before.as_slice() {
         [epoch] => assert!(rt;
-            are_packets(epoch.packets.as_slice(), &[b"AB".as_slice()]) && epoch.covered == 1
+            are_packets(&epoch.packets, &[b"AB".as_slice()]) && epoch.covered == 1
         ),
         _ => assert!(rt; false, "one epoch is over"),
     }

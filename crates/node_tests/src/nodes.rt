@@ -1,5 +1,5 @@
 //! Worked examples: the nodes of a line on which a call stands, with its book.
-use call_records::Book;
+use call_records::{Book, Packet};
 use frame_codec::FrameBuf;
 use line_nodes::{Node, NodeFault, write_request, write_taken};
 use link_timers::Role;
@@ -71,13 +71,13 @@ fn asks(
     }
 }
 
-fn is_packet(packet: Option<&UserData>, octets: &[u8], more: bool, delivery: bool) -> bool {
+fn is_packet(packet: Option<Packet<'_>>, octets: &[u8], more: bool, delivery: bool) -> bool {
     match packet {
         Some(packet) => {
-            packet.octets() == octets
-                && packet.more() == more
-                && !packet.qualified()
-                && packet.delivery() == delivery
+            packet.octets == octets
+                && packet.more == more
+                && !packet.qualified
+                && packet.delivery == delivery
         }
         None => false,
     }
@@ -112,8 +112,8 @@ fn writes_what_is_said(
         panic!(rt; "a record");
     };
     assert_eq!(rt; record.sent.packets.len(), 2);
-    assert!(rt; is_packet(record.sent.packets.get(0), &[b'A'; 128], true, false));
-    assert!(rt; is_packet(record.sent.packets.get(1), b"AA", false, true));
+    assert!(rt; is_packet(record.sent.packets.iter().next(), &[b'A'; 128], true, false));
+    assert!(rt; is_packet(record.sent.packets.iter().nth(1), b"AA", false, true));
     Ok(())
 }
 
@@ -171,7 +171,7 @@ fn what_a_host_takes_is_written(rt: HostRuntime) -> Result<(), Fail> {
     let Some(record) = book.records().get(1) else {
         panic!(rt; "a record");
     };
-    assert!(rt; is_packet(record.taken.packets.get(0), b"HI", false, false));
+    assert!(rt; is_packet(record.taken.packets.iter().next(), b"HI", false, false));
     assert_eq!(rt; record.taken.released, 1);
     Ok(())
 }

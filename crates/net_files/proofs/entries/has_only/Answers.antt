@@ -1,5 +1,5 @@
 use Rattle.std.proofs.Common.{map, ◌∙◌}
-use Rattle.net_files.proofs.Keys.{only_of_keys}
+use Rattle.net_files.proofs.TableKeys.{only_of_keys}
 use Rattle.net_files.proofs.entries.has_only.Goals as goal
 
 pub returns : goal.returns

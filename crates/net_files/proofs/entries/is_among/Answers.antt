@@ -1,6 +1,6 @@
 use Rattle.std.proofs.Common.{◌∙◌}
 use Rattle.std.specs.Prelude.{bytes_eq}
-use Rattle.net_files.proofs.Keys.{any_of_refs}
+use Rattle.net_files.proofs.TableKeys.{any_of_refs}
 use Rattle.net_files.proofs.entries.is_among.Goals as goal
 
 pub returns : goal.returns

@@ -1,4 +1,4 @@
-use Rattle.std.proofs.Common.{◌≡◌, ℕ, ◌<◌, List, take, length, get_or, string_bytes, arith}
+use Rattle.std.proofs.Common.{ℕ, ◌<◌, List, take, length, arith}
 use Rattle.std.specs.List.{flat_map}
 use Rattle.std.proofs.lemmas.Result.{err_from_is_err_and}
 use Rattle.net_events.specs.declared.answer.Put.{Put}

@@ -1,4 +1,4 @@
-use Rattle.std.proofs.Common.{rules, ◌≡◌, IfSome, ℕ, ◌+◌, ◌<◌, length, arith, ap, vec_len}
+use Rattle.std.proofs.Common.{◌≡◌, ◌+◌, ◌<◌, length, arith, ap, vec_len}
 use Rattle.net_player.proofs.WholeRead.{read_whole}
 use Rattle.net_player.proofs.program.read_all.Goals as goal
 

@@ -21,8 +21,11 @@ grow_at-requires c =
     let p = c.self.invariant in
     let here = present_has a c.args.role c.args.channel c.in-Some.number c.of.result.now c.slot.result
     (c.of.ensures _ _) c.slot.ensures (ap (λ (s : Slot). s.present) (sym c.present.view_is) ∙ c.in-Some.is) p in
-    let room = subst P (sym c.self.view_is) c.requires in
-    fewer_at a.places (needed c.args.growth) c.in-Some.number a.records.items (omega (arith, room, p.room)) here
+    let room = subst P (sym c.self.view_is) c.requires.room in
+    record {
+      places = fewer_at a.places (needed c.args.growth) c.in-Some.number a.records.items (omega (arith, room, p.room)) here;
+      fits = c.requires.fits;
+    }
 
 pub invariant_of-self-2 : goal.invariant_of-self-2
 invariant_of-self-2 c =

@@ -1,4 +1,5 @@
 use Rattle.std.proofs.Common.{◌∙◌, refl}
+use Rattle.call_records.specs.Packets.{data_packet_of}
 use Rattle.call_records.proofs.Rooms.{takes_interrupt, takes_packet}
 use Rattle.call_records.proofs.book.Book.take.Goals as goal
 
@@ -9,5 +10,11 @@ returns-in-Interrupt c =
 pub returns-in-Data : goal.returns-in-Data
 returns-in-Data c =
     let d = c.in-Data.data in
-    c.grow-in-Data.ensures ∙ takes_packet c.args.self.now c.args.role c.args.channel c.args.taken.now c.new-packet.result d c.in-Data.is
-    (rw (c.new-packet.ensures, c.octets-in-Data.ensures.value, c.more.ensures, c.qualified.ensures, c.delivery.ensures) refl)
+    let kept = data_packet_of (record {
+      octets = c.octets-in-Data.result;
+      more = c.more.result;
+      qualified = c.qualified.result;
+      delivery = c.delivery.result;
+    }) in
+    c.grow-in-Data.ensures ∙ takes_packet c.args.self.now c.args.role c.args.channel c.args.taken.now kept d c.in-Data.is
+    (rw (c.octets-in-Data.ensures.value, c.more.ensures, c.qualified.ensures, c.delivery.ensures) refl)

@@ -1,4 +1,4 @@
-use Rattle.std.proofs.Common.{arith, ◌≤◌, ◌<◌, ℕ, List}
+use Rattle.std.proofs.Common.{arith, ◌≤◌, ◌<◌}
 use Rattle.net_player.specs.InTurn.InTurn.{nothing}
 use Rattle.net_player.proofs.Turns.{writes_nothing, writes_append}
 use Rattle.std.proofs.lemmas.Result.{err_from_is_err_and}

@@ -1,12 +1,17 @@
-use Rattle.net_player.specs.Playing.DoesCommand.{events, flow, tick, trace}
+use Rattle.net_player.specs.Playing.DoesCommand.{keys, event, flow, tick, trace}
 use Rattle.std.proofs.lemmas.Result.{err_from_is_err_and}
-use Rattle.net_player.specs.Stopping.CommandStops.{in_events, in_flow, in_ticks}
+use Rattle.net_player.specs.Stopping.CommandStops.{in_keys, at_event, in_flow, in_ticks}
 use Rattle.net_player.proofs.Turns.{writes_as, writes_nothing}
 use Rattle.net_player.proofs.player.Player.play_command.Goals as goal
 
-pub returns-in_ok-play_events-in-Events-clause-writes : goal.returns-in_ok-play_events-in-Events-clause-writes
-returns-in_ok-play_events-in-Events-clause-writes g c =
-    rw c.in-Events.is (writes_as (λ text does. events does) (rw c.as_slice.ensures.value at c.in_ok-play_events-in-Events.ensures.writes))
+pub returns-in_ok-play_keys-in-Keys-clause-writes : goal.returns-in_ok-play_keys-in-Keys-clause-writes
+returns-in_ok-play_keys-in-Keys-clause-writes g c =
+    rw c.in-Keys.is (writes_as (λ text does. keys does) (rw c.deref.ensures at c.in_ok-play_keys-in-Keys.ensures.writes))
+
+pub returns-in_ok-play_event-in-Event-clause-writes : goal.returns-in_ok-play_event-in-Event-clause-writes
+returns-in_ok-play_event-in-Event-clause-writes g c =
+    rw c.in-Event.is (writes_as (λ text does. event (record { arrived = _; tells = does }))
+    (rw c.deref-in-Event.ensures at c.in_ok-play_event-in-Event.ensures.tells))
 
 pub returns-in_ok-flow-in-Flow-clause-writes : goal.returns-in_ok-flow-in-Flow-clause-writes
 returns-in_ok-flow-in-Flow-clause-writes g c = rw c.in-Flow.is (writes_as (λ text does. flow does) c.in_ok-flow-in-Flow.ensures.writes)
@@ -17,11 +22,15 @@ returns-in_ok-tick-in-Tick-clause-writes g c = rw c.in-Tick.is (writes_as (λ te
 pub returns-in-Trace-clause-writes : goal.returns-in-Trace-clause-writes
 returns-in-Trace-clause-writes g c = rw c.in-Trace.is (writes_nothing _ trace)
 
-pub returns-in_err-play_events-in-Events-clause-stops : goal.returns-in_err-play_events-in-Events-clause-stops
-returns-in_err-play_events-in-Events-clause-stops g c =
+pub returns-in_err-play_keys-in-Keys-clause-stops : goal.returns-in_err-play_keys-in-Keys-clause-stops
+returns-in_err-play_keys-in-Keys-clause-stops g c =
     let p = err_from_is_err_and c.from_residual.result c.from_residual.ensures.1 in
-    rw (p.1, p.2, c.in-Events.is)
-    (writes_as (λ part stops. in_events stops) (rw c.as_slice.ensures.value at c.in_err-play_events-in-Events.ensures.stops))
+    rw (p.1, p.2, c.in-Keys.is) (writes_as (λ part stops. in_keys stops) (rw c.deref.ensures at c.in_err-play_keys-in-Keys.ensures.stops))
+
+pub returns-in_err-play_event-in-Event-clause-stops : goal.returns-in_err-play_event-in-Event-clause-stops
+returns-in_err-play_event-in-Event-clause-stops g c =
+    let p = err_from_is_err_and c.from_residual-in_err-play_event-in-Event.result c.from_residual-in_err-play_event-in-Event.ensures.1 in
+    rw (p.1, p.2, c.in-Event.is) (writes_as (λ part stops. at_event stops) (rw c.deref-in-Event.ensures at c.in_err-play_event-in-Event.ensures.stops))
 
 pub returns-in_err-flow-in-Flow-clause-stops : goal.returns-in_err-flow-in-Flow-clause-stops
 returns-in_err-flow-in-Flow-clause-stops g c =

@@ -1,0 +1,162 @@
+//! What a record keeps of the Data packets that passed on a call.
+ghost use Rattle.std.specs.Prelude.{◌≡◌, ◌≤◌, ◌==◌, ◌+◌, ◌-◌, ◌*◌, [], ◌∷◌, ◌++◌, OnOk, length};
+ghost use Rattle.call_records.specs.Packets.{data_packet_of};
+
+use crate::spare::give_back;
+use packet_codec::MAX_USER_DATA;
+use std::alloc::{AllocError, Global};
+use std::marker::Model;
+
+/// The most octets that a packet takes, as it is written.
+const MOST_WRITTEN: usize = MAX_USER_DATA + 4;
+
+/// A Data packet that passed on a call: at most 128 octets, and the bits M, Q and D (X.25 4.3).
+#[derive(Clone, Copy, Debug, PartialEq, Eq)]
+pub struct Packet<'a> {
+    pub octets: &'a [u8],
+    pub more: bool,
+    pub qualified: bool,
+    pub delivery: bool,
+}
+
+/// Data packets in order, one written behind the other: of each its length and its bits M, Q and D, an octet each, and
+/// then its octets.
+#[derive(Drop)]
+pub struct Packets {
+    written: Vec<u8>,
+    count: usize,
+}
+
+impl Model for Packets {
+    ghost use Rattle.call_records.specs.Packets.{PacketsState};
+
+    ghost Value = { PacketsState };
+
+    ghost use Rattle.std.specs.Prelude.{◌-◌, vec_len, vec_capacity};
+    ghost use Rattle.call_records.specs.Packets.{read_packets, AreWritten};
+
+    ghost view = { λ p. record {
+      packets = read_packets p.count p.written.items;
+      spare = vec_capacity p.written - vec_len p.written;
+    } };
+
+    ghost invariant = { λ p. AreWritten p.count p.written.items };
+}
+
+impl Packets {
+    /// No packets.
+    pub(crate) fn new(alloc: Global) -> Self
+        ensures { result.packets ≡ [] }
+    {
+        Packets {
+            written: Vec::new(alloc),
+            count: 0,
+        }
+    }
+
+    /// How many packets there are.
+    pub fn len(&self) -> usize
+        ensures { result ≡ length self.now.packets }
+    {
+        self.count
+    }
+
+    /// Whether there are none.
+    pub fn is_empty(&self) -> bool
+        ensures { result ≡ (length self.now.packets == 0) }
+    {
+        self.count == 0
+    }
+
+    /// The packets, one after the other.
+    pub fn iter(&self) -> PacketsIter<'_>
+        ensures { result ≡ self.now.packets }
+    {
+        PacketsIter {
+            written: self.written.as_slice(),
+            count: self.count,
+        }
+    }
+
+    /// Makes room for so many packets more.
+    pub(crate) fn reserve(&mut self, count: usize) -> Result<(), AllocError>
+        ensures same { self.new.packets ≡ self.old.packets }
+        ensures ok { OnOk result (132 * count ≤ self.new.spare) }
+    {
+        let Some(octets) = count.checked_mul(MOST_WRITTEN) else {
+            return Err(AllocError);
+        };
+        self.written.reserve(octets)
+    }
+
+    /// Adds a packet at the end.
+    pub(crate) fn push(&mut self, packet: Packet<'_>)
+        requires fits { length packet.octets.now ≤ 128 }
+        requires spare { length packet.octets.now + 4 ≤ self.old.spare }
+        ensures packets { self.new.packets ≡ self.old.packets ++ data_packet_of packet.entry ∷ [] }
+        ensures spare { self.old.spare ≤ self.new.spare + (length packet.entry.octets.now + 4) }
+    {
+        let head = [
+            packet.octets.len() as u8,
+            u8::from(packet.more),
+            u8::from(packet.qualified),
+            u8::from(packet.delivery),
+        ];
+        let _ = self.written.extend_from_slice(&head);
+        let _ = self.written.extend_from_slice(packet.octets);
+        self.count += 1;
+    }
+
+    /// Gives back what room there is beyond what the packets take, as far as there is memory for it.
+    pub(crate) fn give_back(&mut self, alloc: Global) -> Result<(), AllocError>
+        ensures { self.new.packets ≡ self.old.packets }
+    {
+        give_back(alloc, &mut self.written)
+    }
+}
+
+/// Goes over packets.
+#[derive(Drop)]
+pub struct PacketsIter<'a> {
+    written: &'a [u8],
+    count: usize,
+}
+
+impl<'a> Model for PacketsIter<'a> {
+    ghost use Rattle.std.specs.Prelude.{List};
+    ghost use Rattle.epochs.specs.Item.{DataPacket};
+
+    ghost Value = { List DataPacket };
+
+    ghost use Rattle.call_records.specs.Packets.{read_packets, AreWritten};
+
+    ghost view = { λ i. read_packets i.count i.written.now };
+
+    ghost invariant = { λ i. AreWritten i.count i.written.now };
+}
+
+impl<'a> Iterator for PacketsIter<'a> {
+    type Item = Packet<'a>;
+
+    ghost use Rattle.std.specs.Iterator.{YieldsFirstBy, item_count};
+    ghost use Rattle.call_records.specs.Packets.{data_packet_of};
+
+    ghost next_gives = { YieldsFirstBy data_packet_of (λ packets. packets) };
+
+    ghost remaining = { item_count (λ packets. packets) };
+
+    fn next(&mut self) -> Option<Packet<'a>> {
+        let [length, more, qualified, delivery, rest @ ..] = self.written else {
+            return None;
+        };
+        let (octets, others) = rest.split_at(usize::from(*length));
+        self.written = others;
+        self.count -= 1;
+        Some(Packet {
+            octets,
+            more: *more != 0,
+            qualified: *qualified != 0,
+            delivery: *delivery != 0,
+        })
+    }
+}

@@ -1,0 +1,36 @@
+use Rattle.std.proofs.Common.{arith, length, ◌<◌, ◌≡◌, ℕ, get_or}
+use Rattle.std.proofs.lemmas.Result.{err_from_is_err_and}
+use Rattle.net_player.specs.InTurn.InTurn.{nothing}
+use Rattle.net_player.specs.Playing.{key_event, key_events}
+use Rattle.net_player.proofs.Turns.{in_turn_next, writes_nothing, writes_append}
+use Rattle.net_player.proofs.Parts.{stops_next}
+use Rattle.net_player.proofs.Typing.{key_within, key_there, own_or}
+use Rattle.net_player.proofs.player.Player.play_keys.Goals as goal
+
+pub loop-octet-init : goal.loop-octet-init
+loop-octet-init g c = writes_nothing _ nothing
+
+pub loop-octet-preserved : goal.loop-octet-preserved
+loop-octet-preserved g c =
+    let keys = c.args.keys.now in
+    let at : ℕ = c.loop-octet.octet-index in
+    let octet : ℕ = get_or keys.octets.items at 0 in
+    let among : at < length keys.octets.items = omega arith in
+    let within : at < length (key_events keys) = key_within keys at among in
+    let there : key_event keys octet ≡ get_or (key_events keys) at (key_event keys octet) = key_there keys at octet among (own_or keys.octets.items at 0 among) in
+    writes_append _ _ _ (λ a b done tells.
+    in_turn_next (key_events keys) at (key_event keys octet) within there done (record { arrived = _; tells = tells }))
+    c.loop-octet.invariant (rw c.deref-octet-items.ensures.value at c.in_ok-play_event.ensures.tells)
+
+pub returns-in_err-play_event-clause-stops : goal.returns-in_err-play_event-clause-stops
+returns-in_err-play_event-clause-stops g c =
+    let p = err_from_is_err_and c.from_residual.result c.from_residual.ensures.1 in
+    let keys = c.args.keys.now in
+    let at : ℕ = c.loop-octet.octet-index in
+    let octet : ℕ = get_or keys.octets.items at 0 in
+    let among : at < length keys.octets.items = omega arith in
+    let within : at < length (key_events keys) = key_within keys at among in
+    let there : key_event keys octet ≡ get_or (key_events keys) at (key_event keys octet) = key_there keys at octet among (own_or keys.octets.items at 0 among) in
+    rw (p.1, p.2) (writes_append _ _ _
+    (λ told part done stops. stops_next part (key_events keys) at (key_event keys octet) within there done stops)
+    c.loop-octet.invariant (rw c.deref-octet-items.ensures.value at c.in_err-play_event.ensures.stops))
