@@ -252,23 +252,8 @@ impl LineEnd {
         };
         frame.clear();
         frame.extend(first.as_slice());
-        self.drop_first();
-        true
-    }
-
-    /// The frames that go out, in order; `drop_first` takes the first one away.
-    pub fn frames(&self) -> &[FrameBuf]
-        ensures value { result.now ≡ self.now.end.frames }
-        ensures most { length result.now ≤ MOST_FRAMES }
-    {
-        self.out.frames()
-    }
-
-    /// Takes the first frame away, if there is one.
-    pub fn drop_first(&mut self)
-        ensures { self.new ≡ record self.old { end = without_first self.old.end } }
-    {
         self.out.drop_first();
+        true
     }
 
     /// Lets ticks pass, each a twentieth of a second: each timer that runs has so many less, not below 0.

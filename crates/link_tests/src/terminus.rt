@@ -78,10 +78,6 @@ impl Terminus {
         self.end.out(frame)
     }
 
-    pub fn drop_first(&mut self) {
-        self.end.drop_first();
-    }
-
     pub fn elapse(&mut self, ticks: u16) {
         self.end.elapse(ticks);
     }
