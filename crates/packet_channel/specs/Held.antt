@@ -1,6 +1,6 @@
 -- What lies in the buffers of a pool: packets, queues of packets, and the buffers that a channel holds by them.
-use Rattle.std.specs.Prelude.{ℕ, ◌+◌, ◌≤◌, Bool, List, map, length}
-use Rattle.flow_window.specs.Pool.{Buffer}
+use Rattle.std.specs.Prelude.{◌≡◌, ℕ, ◌+◌, ◌≤◌, Bool, List, map, length}
+use Rattle.flow_window.specs.Pool.{Buffer, weight}
 use Rattle.packet_channel.specs.Packets.{Datum}
 use Rattle.packet_channel.specs.Traffic as machine
 use Rattle.packet_channel.specs.Channel as channel
@@ -41,3 +41,13 @@ pub record Channel : Type 0 where
 pub record Fits (window : ℕ) (c : Channel) : Type 0 where
   pub arrived : length c.channel.traffic.arrived ≤ window
   pub held : length c.held ≤ window + 8
+
+-- ---- buffers that change hands
+
+-- of what was held these buffers are handed out, and the others are held still
+abbrev pub Loses : (held handed_out holds : List Buffer) → Type 0
+Loses held handed_out holds = (w : Buffer → ℕ) → weight w held ≡ weight w holds + weight w handed_out
+
+-- a buffer that is handed in is held too, or it is handed back
+abbrev pub Takes : (held : List Buffer) → Buffer → (handed_back holds : List Buffer) → Type 0
+Takes held b handed_back holds = (w : Buffer → ℕ) → weight w holds + weight w handed_back ≡ weight w held + w b

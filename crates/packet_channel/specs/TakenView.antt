@@ -1,8 +1,12 @@
 -- What is taken, as the code has it.
-use Rattle.std.specs.Prelude.{Option, Some, None, length}
+use Rattle.std.specs.Prelude.{List, [], ◌∷◌, Option, Some, None, length}
+use Rattle.flow_window.specs.Pool.{Buffer}
+use Rattle.packet_channel.specs.Held.{datum_in}
 use Rattle.packet_channel.specs.Traffic as spec
 use Rattle.packet_channel.specs.declared.taken.Taken.{Taken}
 use Rattle.packet_channel.specs.declared.taken.Taken.TheVariants.{Interrupt, «Data»}
+use Rattle.packet_channel.specs.declared.taken.TakenBuf.{TakenBuf}
+use Rattle.packet_channel.specs.declared.taken.TakenBuf.TheVariants as in_buffer
 use Rattle.packet_channel.specs.declared.taken.Front.{Front}
 use Rattle.packet_channel.specs.declared.taken.Front.TheVariants as front
 
@@ -13,6 +17,24 @@ taken_of («Data» d) = spec.Taken.TakenPacket d
 abbrev pub maybe_taken : Option Taken → Option spec.Taken
 maybe_taken (Some x) = Some (taken_of x)
 maybe_taken None = None
+
+-- a packet that is still in its buffer
+abbrev pub taken_in : TakenBuf → spec.Taken
+taken_in (in_buffer.Interrupt octets) = spec.Taken.TakenInterrupt octets
+taken_in (in_buffer.«Data» p) = spec.Taken.TakenPacket (datum_in p)
+
+abbrev pub maybe_taken_in : Option TakenBuf → Option spec.Taken
+maybe_taken_in (Some x) = Some (taken_in x)
+maybe_taken_in None = None
+
+-- its buffer
+abbrev pub buffers_in : TakenBuf → List Buffer
+buffers_in (in_buffer.Interrupt octets) = []
+buffers_in (in_buffer.«Data» p) = p.buffer ∷ []
+
+abbrev pub maybe_buffers_in : Option TakenBuf → List Buffer
+maybe_buffers_in (Some x) = buffers_in x
+maybe_buffers_in None = []
 
 -- what is told of it before it is taken
 abbrev pub shown_front : spec.Taken → Front

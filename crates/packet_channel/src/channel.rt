@@ -5,7 +5,7 @@ ghost use Rattle.std.specs.Prelude.{if◌then◌else◌};
 ghost use Rattle.flow_window.specs.Pool.{Holds, Balances, in_use};
 ghost use Rattle.packet_channel.specs.Channel as machine;
 ghost use Rattle.packet_channel.specs.ControlView.{control_body};
-ghost use Rattle.packet_channel.specs.Held.{Fits};
+ghost use Rattle.packet_channel.specs.Held.{Fits, Loses};
 ghost use Rattle.packet_channel.specs.StateView.{state_of};
 ghost use Rattle.packet_channel.specs.Octets.{body_of, parts_of, written, ReadsAs};
 ghost use Rattle.packet_channel.specs.Packets.{Body as body};
@@ -21,7 +21,7 @@ use crate::control::{Control, write_control};
 use crate::effect::{Effect, Outcome};
 use crate::owed::Owed;
 use crate::state::{CallState, End};
-use crate::taken::{Front, Taken};
+use crate::taken::{Front, TakenBuf};
 use crate::traffic::{SEND_QUEUE, Traffic};
 use flow_window::pool::Pool;
 use packet_codec::{CallBuf, Packet, PacketBuf, diagnostic};
@@ -54,7 +54,7 @@ impl Model for Channel {
 impl Channel {
     ghost use Rattle.link_timers.specs.declared.role.Role.{Role};
     ghost use Rattle.packet_channel.specs.Traffic as traffic;
-    ghost use Rattle.packet_channel.specs.TakenView.{maybe_taken, maybe_front};
+    ghost use Rattle.packet_channel.specs.TakenView.{maybe_taken_in, maybe_buffers_in, maybe_front};
     ghost use Rattle.packet_channel.specs.Effects.{outcome_of};
 
     /// A channel without a call.
@@ -147,19 +147,18 @@ impl Channel {
         self.traffic.front(pool)
     }
 
-    /// Takes the interrupt that waits, or else the first packet.
-    pub fn take(&mut self, pool: &mut Pool) -> Option<Taken>
-        requires { Holds pool.old self.old.held }
-        ensures taken { maybe_taken result ≡ traffic.front self.old.channel.traffic }
+    /// Takes the interrupt that waits, or else the first packet in its buffer.
+    pub fn take_buf(&mut self) -> Option<TakenBuf>
+        ensures taken { maybe_taken_in result ≡ traffic.front self.old.channel.traffic }
         ensures channel { (role : Role)
             → self.new.channel ≡ machine.owing (machine.requested role self.old.channel machine.Request.Taking) }
-        ensures pool { Balances pool.old self.old.held pool.new self.new.held }
+        ensures held { Loses self.old.held (maybe_buffers_in result) self.new.held }
         ensures fits { (window : ℕ) → Fits window self.old → Fits window self.new }
     {
         if !self.state.in_transfer() {
             return None;
         }
-        self.traffic.take(pool)
+        self.traffic.take_buf()
     }
 
     /// Whether there is a call in which each packet with D = 1 is covered.

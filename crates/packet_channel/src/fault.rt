@@ -1,3 +1,6 @@
+//! Why a request on a channel is refused.
+
+use flow_window::pool::BufNo;
 use thiserror::Error;
 
 /// Why a request on a channel was refused, in the order in which the faults are tested.
@@ -18,4 +21,11 @@ pub enum ChannelFault {
     /// An interrupt is not yet confirmed.
     #[error("interrupt pending")]
     InterruptPending,
+}
+
+/// A buffer that is not taken to be sent, and why.
+#[derive(Drop)]
+pub struct RefusedBuf {
+    pub fault: ChannelFault,
+    pub buffer: BufNo,
 }

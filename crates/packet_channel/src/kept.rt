@@ -9,7 +9,7 @@ use std::marker::Model;
 
 /// The user data of a Data packet, at most 128 octets in a buffer, with the bits M, Q and D (X.25 4.3).
 #[derive(Drop)]
-pub(crate) struct KeptPacket {
+pub struct KeptPacket {
     buffer: BufNo,
     more: bool,
     qualified: bool,
@@ -47,7 +47,7 @@ impl KeptPacket {
     }
 
     /// The octets.
-    pub(crate) fn octets<'a>(&self, pool: &'a Pool) -> &'a [u8]
+    pub fn octets<'a>(&self, pool: &'a Pool) -> &'a [u8]
         requires { IsIn self.now.buffer pool.now }
         ensures value { result.now ≡ self.now.buffer.octets }
         ensures fits { length result.now ≤ 128 }
@@ -55,25 +55,32 @@ impl KeptPacket {
         pool.octets(&self.buffer)
     }
 
-    /// The M bit.
-    pub(crate) fn more(&self) -> bool
+    /// The M bit: the message goes on in the next packet (X.25 4.3.4).
+    pub fn more(&self) -> bool
         ensures { result ≡ self.now.more }
     {
         self.more
     }
 
-    /// The Q bit.
-    pub(crate) fn qualified(&self) -> bool
+    /// The Q bit: the octets are for the PAD or its partner, and not for its user (X.25 4.3.6).
+    pub fn qualified(&self) -> bool
         ensures { result ≡ self.now.qualified }
     {
         self.qualified
     }
 
-    /// The D bit.
-    pub(crate) fn delivery(&self) -> bool
+    /// The D bit: the receiver's user confirms the packet (X.25 4.3.3).
+    pub fn delivery(&self) -> bool
         ensures { result ≡ self.now.delivery }
     {
         self.delivery
+    }
+
+    /// The number of the buffer.
+    pub fn into_buffer(self) -> BufNo
+        ensures { result ≡ self.buffer }
+    {
+        self.buffer
     }
 
     /// Copies the packet out, and gives its buffer back.

@@ -18,10 +18,11 @@ mod user_data;
 
 pub use channel::{Channel, Request};
 pub use effect::Outcome;
-pub use fault::ChannelFault;
+pub use fault::{ChannelFault, RefusedBuf};
+pub use kept::KeptPacket;
 pub use note::{LayerNote, Reason};
 pub use owed::Owed;
 pub use state::{CallState, End, error_cause};
-pub use taken::{Front, Taken};
+pub use taken::{Front, Taken, TakenBuf};
 pub use traffic::SEND_QUEUE;
 pub use user_data::{InterruptData, UserData};

@@ -1,7 +1,7 @@
 //! Data transfer on a channel from one reset to the next (X.25 4.3, 4.4).
 ghost use Rattle.std.specs.Prelude.{◌≡◌, ◌<◌, ◌≤◌, ◌+◌, ℕ, [], IfOk, length, ◌==◌, if◌then◌else◌};
 ghost use Rattle.flow_window.specs.Pool.{Buffer, weight, Holds, Balances};
-ghost use Rattle.packet_channel.specs.Held.{datum_in};
+ghost use Rattle.packet_channel.specs.Held.{datum_in, Loses};
 ghost use Rattle.packet_channel.specs.Traffic as machine;
 
 mod hearing;
@@ -9,7 +9,7 @@ mod saying;
 
 use crate::kept::KeptPacket;
 use crate::queue::{PacketQueue, QUEUE_PLACES};
-use crate::taken::{Front, Taken};
+use crate::taken::{Front, TakenBuf};
 use crate::user_data::InterruptData;
 use flow_window::pool::Pool;
 use flow_window::{Mod8, SendWindow, Seq};
@@ -57,7 +57,7 @@ impl Model for Traffic {
 }
 
 impl Traffic {
-    ghost use Rattle.packet_channel.specs.TakenView.{maybe_taken, maybe_front};
+    ghost use Rattle.packet_channel.specs.TakenView.{maybe_taken_in, maybe_buffers_in, maybe_front};
 
     /// As a call begins it.
     pub(crate) fn new(alloc: Global) -> Result<Self, AllocError>
@@ -167,20 +167,19 @@ impl Traffic {
         })
     }
 
-    /// Takes the interrupt that waits, or else the first packet.
-    pub(crate) fn take(&mut self, pool: &mut Pool) -> Option<Taken>
-        requires { Holds pool.old self.old.held }
-        ensures taken { maybe_taken result ≡ machine.front self.old.traffic }
+    /// Takes the interrupt that waits, or else the first packet in its buffer.
+    pub(crate) fn take_buf(&mut self) -> Option<TakenBuf>
+        ensures taken { maybe_taken_in result ≡ machine.front self.old.traffic }
         ensures traffic { self.new.traffic ≡ machine.taking self.old.traffic }
-        ensures pool { Balances pool.old self.old.held pool.new self.new.held }
+        ensures held { Loses self.old.held (maybe_buffers_in result) self.new.held }
         ensures most { length self.new.held ≤ 8 + length self.new.traffic.arrived }
     {
         if let Some(interrupt) = self.interrupt_arrived.take() {
             self.interrupt_taken = true;
-            return Some(Taken::Interrupt(interrupt));
+            return Some(TakenBuf::Interrupt(interrupt));
         }
         let packet = self.arrived.pop()?;
-        Some(Taken::Data(packet.take_out(pool)))
+        Some(TakenBuf::Data(packet))
     }
 
     /// Lets P(R) pass so many more of the packets that were taken. Nothing happens where fewer are taken and not

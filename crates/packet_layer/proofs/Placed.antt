@@ -7,7 +7,7 @@ use Rattle.flow_window.specs.Pool.{Pool, Buffer, weight, pooled, in_use, Holds, 
 use Rattle.flow_window.proofs.Weights.{weight_append, weight_ones}
 use Rattle.packet_channel.specs.Packets.{CallParts}
 use Rattle.packet_channel.specs.Channel.{Channel, owing, placing}
-use Rattle.packet_channel.specs.Held.{Channel as Holder, Fits}
+use Rattle.packet_channel.specs.Held.{Channel as Holder, Fits, Loses, Takes}
 use Rattle.packet_layer.specs.declared.layer.Layer.TheInside.{Inside}
 use Rattle.packet_layer.specs.Held.{Layer as Held, plain, buffers, AllFit, HasRoom, most_held}
 use Rattle.packet_layer.specs.LayerView.{holding, IsLayer}
@@ -162,3 +162,29 @@ fits_kept window old new parts e fits = rw e (record { arrived = fits.arrived; h
 pub own_few : (a : Inside) (x : Held) → IsLayer a → holding a ≡ x → length x.held ≤ most_held x.layer
 own_few a x is view =
     subst (λ (x : Held). length x.held ≤ most_held x.layer) view (few a.window a.channels.items is.fits)
+
+-- also where the channel at a place changed
+pub few_after : (window : ℕ) (cs : List Holder) (i : ℕ) (old new : Holder) → AllFit window cs →
+    slice_get cs i ≡ Some old → (Fits window old → Fits window new) →
+    length (buffers (set cs i new)) ≤ length (plain (set cs i new)) * (window + 8)
+few_after window cs i old new all e fits = few window (set cs i new) (fits_after window cs i old new all e fits)
+
+-- ---- a buffer is handed out or in
+
+pub own_loss : (a : Inside) (x : Held) (given : List Buffer) (i : ℕ) (old new : Holder) → holding a ≡ x →
+    slice_get a.channels.items i ≡ Some old → Loses old.held given new.held →
+    Loses x.held given (buffers (set a.channels.items i new))
+own_loss a x given i old new view e change w =
+    let all = buffers_set w a.channels.items i old new e in
+    let own = change w in
+    let before = ap (λ (x : Held). weight w x.held) view in
+    omega (arith, all, own, before)
+
+pub own_gain : (a : Inside) (x : Held) (b : Buffer) (back : List Buffer) (i : ℕ) (old new : Holder) →
+    holding a ≡ x → slice_get a.channels.items i ≡ Some old → Takes old.held b back new.held →
+    Takes x.held b back (buffers (set a.channels.items i new))
+own_gain a x b back i old new view e change w =
+    let all = buffers_set w a.channels.items i old new e in
+    let own = change w in
+    let before = ap (λ (x : Held). weight w x.held) view in
+    omega (arith, all, own, before)

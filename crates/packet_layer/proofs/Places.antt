@@ -1,6 +1,6 @@
 -- Channels by their places: what a step of the channel at a place makes of the layer.
 use Rattle.std.proofs.Common.{◌≡◌, ℕ, zero, suc, ◌+◌, ◌<◌, Bool, true, false, List, [], ◌∷◌, ◌++◌, length, set, get_or, refl, sym, ap, ◌∙◌, arith}
-use Rattle.std.specs.Prelude.{Option, Some, None, slice_get, ◌&&◌, ◌==◌}
+use Rattle.std.specs.Prelude.{Option, Some, None, Result, Ok, Err, MatchResult, slice_get, ◌&&◌, ◌==◌}
 use Rattle.std.proofs.lemmas.List.{append-nil}
 use Rattle.link_timers.specs.declared.role.Role.{Role}
 use Rattle.packet_channel.specs.Packets.{Body, CallParts, Call}
@@ -12,11 +12,14 @@ use Rattle.packet_layer.specs.Layer as machine
 use Rattle.packet_channel.specs.Effects.{Outcome, outcome_of}
 use Rattle.packet_layer.specs.Layer.Phase.{PacketReady}
 use Rattle.packet_layer.specs.Layer.{Layer, Phase, on_channel, is_ready, is_free, free_channel, placing, nth_channel, channel_of, on_found, owing, passes_limit, set_if}
-use Rattle.packet_channel.specs.Answers.{CarriedOut, Refused}
+use Rattle.packet_channel.specs.Answers.{CarriedOut, Refused, BufAnswers, sending}
+use Rattle.packet_channel.specs.Held.{Kept}
+use Rattle.packet_channel.specs.RequestView.{refusal_of}
 use Rattle.packet_channel.specs.Octets.{unreadable_as}
 use Rattle.packet_codec.specs.Diagnostic.{no_information}
 use Rattle.packet_layer.specs.Events.{after_hearing}
 use Rattle.packet_channel.specs.declared.fault.ChannelFault.{ChannelFault}
+use Rattle.packet_channel.specs.declared.fault.RefusedBuf.{RefusedBuf}
 
 pub channel_at : (chs : List Channel) (c place : ℕ) → place + 1 ≡ c → nth_channel chs c ≡ slice_get chs place
 channel_at chs zero place e = absurd (omega arith)
@@ -161,3 +164,24 @@ expiry_taken l c place ch new o role channel e h same_role same_channel is_new i
 
 pub front_there : (l : Layer) (c place : ℕ) (ch : Channel) → place + 1 ≡ c → slice_get l.channels place ≡ Some ch → machine.front_on l c ≡ front ch.traffic
 front_there l c place ch e h = rw (channel_at l.channels c place e, h) refl
+
+-- ---- a packet is sent in its buffer
+
+pub sent : (l : Layer) (c place : ℕ) (ch new : Channel) (p : Kept) (result : Result Unit RefusedBuf) → place + 1 ≡ c →
+    slice_get l.channels place ≡ Some ch → BufAnswers l.role ch p result new →
+    record l { channels = set l.channels place new } ≡ machine.request l c (sending p)
+sent l c place ch new p (Ok _) e found done = request_done l c place ch new (sending p) false e found done
+sent l c place ch new p (Err given) e found done =
+    request_refused l c place ch new (sending p) given.fault e found done.refused
+
+pub sent_answer : (l : Layer) (c place : ℕ) (ch new : Channel) (p : Kept) (result : Result Unit RefusedBuf) →
+    place + 1 ≡ c → slice_get l.channels place ≡ Some ch → BufAnswers l.role ch p result new →
+    MatchResult result (λ _. machine.request_refusal l c (sending p) ≡ None)
+    (λ given. machine.request_refusal l c (sending p) ≡ Some (refusal_of given.fault))
+sent_answer l c place ch new p (Ok _) e found done = refused_at l c place ch (sending p) e found ∙ done.allowed
+sent_answer l c place ch new p (Err given) e found done = refused_at l c place ch (sending p) e found ∙ done.refused.first
+
+pub sent_back : (role : Role) (ch new : Channel) (p : Kept) (result : Result Unit RefusedBuf) →
+    BufAnswers role ch p result new → MatchResult result (λ _. Unit {0}) (λ given. given.buffer ≡ p.buffer)
+sent_back role ch new p (Ok _) done = tt
+sent_back role ch new p (Err given) done = done.back

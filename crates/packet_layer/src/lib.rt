@@ -11,6 +11,7 @@ mod restart;
 pub use fault::{CallFault, MakeFault};
 pub use layer::Layer;
 pub use packet_channel::{
-    ChannelFault, Front, InterruptData, LayerNote, Reason, Request, SEND_QUEUE, Taken, UserData,
+    ChannelFault, Front, InterruptData, KeptPacket, LayerNote, Reason, RefusedBuf, Request,
+    SEND_QUEUE, Taken, TakenBuf, UserData,
 };
 pub use params::{LayerParams, MOST_CHANNELS};

@@ -224,6 +224,27 @@ fn delivery_is_confirmed_by_the_release(rt: HostRuntime) -> Result<(), Fail> {
 }
 
 #[test]
+fn a_packet_moves_in_its_buffer(rt: HostRuntime) -> Result<(), Fail> {
+    let (mut dte, mut dce) = layers(rt.alloc(), 4, true)?;
+    let turns = [
+        Turn::Dte(Step::Relay(1, 1, None)),
+        Turn::Dce(Step::SendToConfirm(1, b"HI")),
+        Turn::ToDte(&[0x50, 0x01, 0x00, 0x48, 0x49]),
+        Turn::Dte(Step::Relay(1, 1, Some(Ok(())))),
+        Turn::Dte(Step::Take(1, None)),
+        Turn::ToDce(&[0x50, 0x01, 0x00, 0x48, 0x49]),
+        Turn::Dce(Step::Take(1, Some(b"HI"))),
+        Turn::Dce(Step::Send(1, b"X", Ok(()))),
+        Turn::ToDte(&[0x10, 0x01, 0x02, 0x58]),
+        Turn::Dte(Step::Relay(1, 2, Some(Err(ChannelFault::NoCall)))),
+        Turn::Dte(Step::Relay(1, 1, None)),
+        Turn::Dte(Step::SayNothing),
+    ];
+    assert_eq!(rt; first_misfit(&mut dte, &mut dce, &turns), None);
+    Ok(())
+}
+
+#[test]
 fn interrupts_are_confirmed(rt: HostRuntime) -> Result<(), Fail> {
     let (mut dte, mut dce) = layers(rt.alloc(), 4, true)?;
     let turns = [

@@ -6,7 +6,8 @@ use flow_window::pool::Pool;
 use link_timers::{Role, TimerId};
 use packet_codec::{CallData, MAX_USER_DATA, PacketBuf};
 use packet_layer::{
-    CallFault, ChannelFault, Front, Layer, LayerNote, LayerParams, MakeFault, SEND_QUEUE, Taken,
+    CallFault, ChannelFault, Front, Layer, LayerNote, LayerParams, MakeFault, RefusedBuf,
+    SEND_QUEUE, Taken, TakenBuf,
 };
 use std::alloc::Global;
 use std::marker::Model;
@@ -120,6 +121,23 @@ impl Station {
 
     pub(crate) fn take(&mut self, channel: u8) -> Option<Taken> {
         self.layer.take(channel, &mut self.pool)
+    }
+
+    /// The packet that waits on one channel goes in its buffer to another; where it is refused there it is given up.
+    pub(crate) fn relay(&mut self, from: u8, to: u8) -> Option<Result<(), ChannelFault>> {
+        let TakenBuf::Data(packet) = self.layer.take_buf(from)? else {
+            return None;
+        };
+        let (more, qualified, delivery) = (packet.more(), packet.qualified(), packet.delivery());
+        let buffer = packet.into_buffer();
+        let sent = self
+            .layer
+            .send_buf(to, buffer, more, qualified, delivery, &self.pool);
+        if let Err(RefusedBuf { fault, buffer }) = sent {
+            self.pool.free(buffer);
+            return Some(Err(fault));
+        }
+        Some(Ok(()))
     }
 
     pub(crate) fn front(&self, channel: u8) -> Option<Front> {

@@ -31,6 +31,8 @@ pub(crate) enum Step<'a> {
     Front(u8, Front),
     /// A packet or an interrupt of these octets is taken, or nothing.
     Take(u8, Option<&'a [u8]>),
+    /// A packet is taken on the first channel, if one waits, and sent on the second one in its buffer.
+    Relay(u8, u8, Option<Result<(), ChannelFault>>),
     /// The octets come from the link.
     Hear(&'a [u8]),
     /// These octets go to the link next, and are lost there.
@@ -153,6 +155,7 @@ fn answer_fits(station: &mut Station, step: &Step<'_>) -> bool {
             station.confirm_interrupt(*channel);
             true
         }
+        Step::Relay(from, to, answer) => station.relay(*from, *to) == *answer,
         Step::Runs(timer, answer) => station.layer().runs(*timer) == *answer,
         Step::MustRelink(answer) => station.layer().must_relink() == *answer,
         Step::Room(channel, answer) => station.layer().room(*channel) == *answer,

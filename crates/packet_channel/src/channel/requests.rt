@@ -1,20 +1,21 @@
 //! What the user asks of a channel (X.25 4.1 to 4.4).
-ghost use Rattle.std.specs.Prelude.{◌≡◌, ◌≤◌, ◌<◌, ℕ, length};
-ghost use Rattle.flow_window.specs.Pool.{Holds, Balances, in_use};
+ghost use Rattle.std.specs.Prelude.{◌≡◌, ◌≤◌, ◌<◌, ℕ, length, true, Some, None, MatchResult, IfOk};
+ghost use Rattle.flow_window.specs.Pool.{IsIn, Holds, Balances, in_use};
 ghost use Rattle.link_timers.specs.declared.role.Role.{Role as RoleValue};
 ghost use Rattle.packet_channel.specs.Channel as machine;
-ghost use Rattle.packet_channel.specs.Answers.{Answers};
-ghost use Rattle.packet_channel.specs.Held.{Fits};
-ghost use Rattle.packet_channel.specs.RequestView.{request_of};
+ghost use Rattle.packet_channel.specs.Answers.{Answers, BufAnswers, handed_back};
+ghost use Rattle.packet_channel.specs.Held.{Fits, Takes};
+ghost use Rattle.packet_channel.specs.Packets.{Datum};
+ghost use Rattle.packet_channel.specs.RequestView.{request_of, refusal_of};
 
 use crate::channel::Channel;
 use crate::control::Control;
-use crate::fault::ChannelFault;
+use crate::fault::{ChannelFault, RefusedBuf};
 use crate::kept::KeptPacket;
 use crate::state::CallState;
 use crate::traffic::SEND_QUEUE;
 use crate::user_data::InterruptData;
-use flow_window::pool::Pool;
+use flow_window::pool::{BufNo, Pool};
 use link_timers::Role;
 use packet_codec::{MAX_INTERRUPT, MAX_USER_DATA};
 
@@ -154,6 +155,50 @@ impl Channel {
         ensures pool { Balances pool.old self.old.held pool.new self.new.held }
         ensures fits { (window : ℕ) → Fits window self.old → Fits window self.new }
     {
+        self.check_send(octets)?;
+        let Some(buffer) = pool.put(octets) else {
+            unreachable!();
+        };
+        self.traffic
+            .queue(KeptPacket::new(buffer, more, qualified, delivery));
+        Ok(false)
+    }
+
+    /// Puts a Data packet that lies in a buffer into the send queue, as `Request::Send` does with octets: the faults
+    /// are the same, and with them the buffer comes back.
+    pub fn send_buf(
+        &mut self,
+        buffer: BufNo,
+        more: bool,
+        qualified: bool,
+        delivery: bool,
+        pool: &Pool,
+    ) -> Result<(), RefusedBuf>
+        requires { IsIn buffer pool.now }
+        ensures answer { (role : RoleValue)
+            → BufAnswers role self.old.channel
+            (record { buffer = buffer; more = more; qualified = qualified; delivery = delivery }) result
+            self.new.channel }
+        ensures held { Takes self.old.held buffer (handed_back result) self.new.held }
+        ensures fits { (window : ℕ) → Fits window self.old → Fits window self.new }
+    {
+        if let Err(fault) = self.check_send(pool.octets(&buffer)) {
+            return Err(RefusedBuf { fault, buffer });
+        }
+        let packet = KeptPacket::new(buffer, more, qualified, delivery);
+        self.traffic.queue(packet);
+        Ok(())
+    }
+
+    // Whether a Data packet of these octets may go into the send queue.
+    fn check_send(&self, octets: &[u8]) -> Result<(), ChannelFault>
+        ensures answer { (role : RoleValue) (d : Datum) → d.octets ≡ octets.now → MatchResult result
+            (λ _. machine.refusal role self.now.channel (machine.Request.Sending d) ≡ None)
+            (λ fault. machine.refusal role self.now.channel (machine.Request.Sending d) ≡ Some (refusal_of fault)) }
+        ensures fits { IfOk result (λ _. (machine.in_transfer self.now.channel.state ≡ true)
+            × (length self.now.channel.traffic.waiting < 8)
+            × (length octets.now ≤ 128)) }
+    {
         if !self.state.in_transfer() {
             return Err(ChannelFault::NoCall);
         }
@@ -166,12 +211,7 @@ impl Channel {
         if octets.len() > MAX_USER_DATA {
             return Err(ChannelFault::TooLong);
         }
-        let Some(buffer) = pool.put(octets) else {
-            unreachable!();
-        };
-        self.traffic
-            .queue(KeptPacket::new(buffer, more, qualified, delivery));
-        Ok(false)
+        Ok(())
     }
 
     fn interrupt(&mut self, octets: &[u8]) -> Result<bool, ChannelFault>

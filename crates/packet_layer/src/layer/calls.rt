@@ -1,6 +1,8 @@
 //! What a user asks of the calls of a line (X.25 4.1 to 4.4).
-ghost use Rattle.std.specs.Prelude.{◌≤◌, ◌≡◌, ◌<◌, ◌+◌, true, false, Some, None, MatchResult, MatchOption};
-ghost use Rattle.flow_window.specs.Pool.{Holds, Balances};
+ghost use Rattle.std.specs.Prelude.{◌≤◌, ◌≡◌, ◌<◌, ◌+◌, true, false, Some, None, MatchResult, MatchOption, length};
+ghost use Rattle.flow_window.specs.Pool.{IsIn, Holds, Balances};
+ghost use Rattle.packet_channel.specs.Answers.{handed_back};
+ghost use Rattle.packet_channel.specs.Held.{Loses, Takes};
 ghost use Rattle.packet_layer.specs.Held.{HasRoom, most_held, plain};
 ghost use Rattle.packet_codec.specs.Packet.{IsCallValue};
 ghost use Rattle.packet_codec.specs.View.{call_view};
@@ -8,15 +10,15 @@ ghost use Rattle.packet_channel.specs.Channel.{Request as asked};
 ghost use Rattle.packet_layer.specs.Layer as machine;
 ghost use Rattle.packet_channel.specs.Octets.{parts_of};
 ghost use Rattle.packet_layer.specs.RequestView.{request_of, refusal_of, call_refusal_of};
-ghost use Rattle.packet_channel.specs.TakenView.{maybe_taken};
+ghost use Rattle.packet_channel.specs.TakenView.{maybe_taken, maybe_taken_in, maybe_buffers_in};
 ghost use Rattle.packet_layer.specs.Free.{IsFreeAt};
 
 use crate::fault::CallFault;
 use crate::layer::Layer;
 use crate::restart::Phase;
-use flow_window::pool::Pool;
+use flow_window::pool::{BufNo, Pool};
 use link_timers::Role;
-use packet_channel::{Channel, ChannelFault, Request, Taken};
+use packet_channel::{Channel, ChannelFault, RefusedBuf, Request, Taken, TakenBuf};
 use packet_codec::{CallBuf, CallData};
 
 fn lowest_free(channels: &[Channel]) -> Option<usize>
@@ -90,6 +92,7 @@ impl Layer {
 
     /// Asks something of the call on the channel: [`Request`] has each refusal. A channel that the line does not have
     /// has no call. What is refused changes nothing.
+    #[tactic(auto, using(crate::proofs::Placed::own_few))]
     pub fn ask(
         &mut self,
         channel: u8,
@@ -106,6 +109,7 @@ impl Layer {
         ensures layer { self.new.layer ≡ machine.request self.old.layer channel (request_of request.now) }
         ensures pool { Balances pool.old self.old.held pool.new self.new.held }
         ensures most { most_held self.new.layer ≡ most_held self.old.layer }
+        ensures few { length self.new.held ≤ most_held self.new.layer }
     {
         let Some(place) = self.place(u16::from(channel)) else {
             return Err(ChannelFault::NoCall);
@@ -230,6 +234,42 @@ impl Layer {
         )
     }
 
+    /// Puts a Data packet into the send queue as `send` does, with octets that lie in a buffer in use. The faults are
+    /// those of `send`, and with a fault the number of the buffer comes back.
+    #[tactic(auto, using(crate::proofs::Placed::own_few))]
+    pub fn send_buf(
+        &mut self,
+        channel: u8,
+        buffer: BufNo,
+        more: bool,
+        qualified: bool,
+        delivery: bool,
+        pool: &Pool,
+    ) -> Result<(), RefusedBuf>
+        requires { IsIn buffer pool.now }
+        ensures answer { let asks = asked.Sending
+            (record { octets = buffer.octets; more = more; qualified = qualified; delivery = delivery }) in
+            MatchResult result
+            (λ _. machine.request_refusal self.old.layer channel asks ≡ None)
+            (λ refused. machine.request_refusal self.old.layer channel asks ≡ Some (refusal_of refused.fault)) }
+        ensures back { MatchResult result (λ _. Unit {0}) (λ refused. refused.buffer ≡ buffer) }
+        ensures layer { self.new.layer
+            ≡ machine.request self.old.layer channel
+            (asked.Sending
+            (record { octets = buffer.octets; more = more; qualified = qualified; delivery = delivery })) }
+        ensures held { Takes self.old.held buffer (handed_back result) self.new.held }
+        ensures most { most_held self.new.layer ≡ most_held self.old.layer }
+        ensures few { length self.new.held ≤ most_held self.new.layer }
+    {
+        let Some(place) = self.place(u16::from(channel)) else {
+            let fault = ChannelFault::NoCall;
+            return Err(RefusedBuf { fault, buffer });
+        };
+        self.to_serve.insert(place);
+        let channel = &mut self.channels[place];
+        channel.send_buf(buffer, more, qualified, delivery, pool)
+    }
+
     /// Sends an interrupt of 1 to 32 octets on the channel (X.25 4.3.7).
     ///
     /// `NoCall` comes where no call is in data transfer, then `Resetting` while the own reset is not confirmed,
@@ -295,11 +335,26 @@ impl Layer {
         ensures layer { self.new.layer ≡ machine.request self.old.layer channel asked.Taking }
         ensures pool { Balances pool.old self.old.held pool.new self.new.held }
         ensures most { most_held self.new.layer ≡ most_held self.old.layer }
+        ensures few { length self.new.held ≤ most_held self.new.layer }
+    {
+        let taken = self.take_buf(channel)?;
+        Some(taken.take_out(pool))
+    }
+
+    /// Takes what comes next on the channel as `take` does, but a packet stays in its buffer, whose number is handed
+    /// out with M, Q and D.
+    #[tactic(auto, using(crate::proofs::Placed::own_few))]
+    pub fn take_buf(&mut self, channel: u8) -> Option<TakenBuf>
+        ensures taken { maybe_taken_in result ≡ machine.front_on self.old.layer channel }
+        ensures layer { self.new.layer ≡ machine.request self.old.layer channel asked.Taking }
+        ensures held { Loses self.old.held (maybe_buffers_in result) self.new.held }
+        ensures most { most_held self.new.layer ≡ most_held self.old.layer }
+        ensures few { length self.new.held ≤ most_held self.new.layer }
     {
         let place = self.place(u16::from(channel))?;
         self.to_serve.insert(place);
         let channel = &mut self.channels[place];
-        channel.take(pool)
+        channel.take_buf()
     }
 
     /// Lets P(R) pass `count` more of the packets that were taken on the channel (X.25 4.4.1.3). Nothing happens

@@ -1,5 +1,5 @@
 //! Packets from the link (X.25 5, tables C-1 to C-4).
-ghost use Rattle.std.specs.Prelude.{◌≤◌, ◌+◌, ◌≡◌, []};
+ghost use Rattle.std.specs.Prelude.{◌≤◌, ◌+◌, ◌≡◌, [], length};
 ghost use Rattle.flow_window.specs.Pool.{Holds, Balances};
 ghost use Rattle.packet_layer.specs.Held.{HasRoom, most_held};
 ghost use Rattle.packet_codec.specs.Packet.{IsPacket};
@@ -24,6 +24,7 @@ impl Layer {
     ///
     /// Fewer than three octets, octets of another format and packets of channels beyond the line's are ignored.
     /// Octets of another kind that are no packet count as a packet that the state of their channel does not allow.
+    #[tactic(auto, using(crate::proofs::Placed::own_few, crate::proofs::Placed::few))]
     pub fn on_packet(&mut self, octets: &[u8], pool: &mut Pool)
         requires holds { Holds pool.old self.old.held }
         requires size { 128 ≤ pool.old.size }
@@ -31,6 +32,7 @@ impl Layer {
         ensures layer { self.new.layer ≡ on_octets self.old.layer octets.now }
         ensures pool { Balances pool.old self.old.held pool.new self.new.held }
         ensures most { most_held self.new.layer ≡ most_held self.old.layer }
+        ensures few { length self.new.held ≤ most_held self.new.layer }
     {
         self.notes.clear();
         match read_packet(octets, Numbering::Modulo8) {
@@ -53,6 +55,7 @@ impl Layer {
             (record { channel = packet.now.channel; body = body_of (content_view packet.now.content) }) }
         ensures pool { Balances pool.old self.old.held pool.new self.new.held }
         ensures most { most_held self.new.layer ≡ most_held self.old.layer }
+        ensures few { length self.new.held ≤ most_held self.new.layer }
     {
         if packet.channel == 0 {
             self.take_restart(packet, pool);
@@ -61,6 +64,7 @@ impl Layer {
         }
     }
 
+    #[tactic(auto, using(crate::proofs::Placed::own_few, crate::proofs::Placed::few))]
     fn take_restart(&mut self, packet: &Packet<'_>, pool: &mut Pool)
         requires read { self.old.layer.notes ≡ [] }
         requires holds { Holds pool.old self.old.held }
@@ -68,6 +72,7 @@ impl Layer {
             (body_of (content_view packet.now.content)) self.old.layer }
         ensures pool { Balances pool.old self.old.held pool.new self.new.held }
         ensures most { most_held self.new.layer ≡ most_held self.old.layer }
+        ensures few { length self.new.held ≤ most_held self.new.layer }
     {
         match (self.phase, &packet.content) {
             (Phase::PacketReady, Content::RestartRequest { .. }) => {
@@ -88,6 +93,7 @@ impl Layer {
         }
     }
 
+    #[tactic(auto, using(crate::proofs::Placed::own_few, crate::proofs::Placed::few))]
     fn take_on_channel(&mut self, packet: &Packet<'_>, pool: &mut Pool)
         requires read { self.old.layer.notes ≡ [] }
         requires fits { IsPacket (view packet.now) }
@@ -99,6 +105,7 @@ impl Layer {
             (body_of (content_view packet.now.content))) }
         ensures pool { Balances pool.old self.old.held pool.new self.new.held }
         ensures most { most_held self.new.layer ≡ most_held self.old.layer }
+        ensures few { length self.new.held ≤ most_held self.new.layer }
     {
         let Phase::PacketReady = self.phase else {
             return;
@@ -113,6 +120,7 @@ impl Layer {
         self.report(outcome);
     }
 
+    #[tactic(auto, using(crate::proofs::Placed::own_few, crate::proofs::Placed::few))]
     fn take_unreadable(&mut self, octets: &[u8], unknown: bool, pool: &mut Pool)
         requires read { self.old.layer.notes ≡ [] }
         requires holds { Holds pool.old self.old.held }
@@ -120,6 +128,7 @@ impl Layer {
             ≡ after_hearing self.old.layer (unreadable_as unknown (named_channel octets.now)) }
         ensures pool { Balances pool.old self.old.held pool.new self.new.held }
         ensures most { most_held self.new.layer ≡ most_held self.old.layer }
+        ensures few { length self.new.held ≤ most_held self.new.layer }
     {
         let Phase::PacketReady = self.phase else {
             return;

@@ -1,5 +1,5 @@
 //! The sessions of the link, and the restart procedure (X.25 3).
-ghost use Rattle.std.specs.Prelude.{◌≡◌, [], Some};
+ghost use Rattle.std.specs.Prelude.{◌≡◌, [], Some, ◌≤◌, length};
 ghost use Rattle.flow_window.specs.Pool.{Holds, Balances};
 ghost use Rattle.packet_layer.specs.Held.{most_held};
 ghost use Rattle.packet_layer.specs.Layer as machine;
@@ -23,6 +23,7 @@ impl Layer {
         ensures layer { self.new.layer ≡ machine.link_up self.old.layer }
         ensures pool { Balances pool.old self.old.held pool.new self.new.held }
         ensures most { most_held self.new.layer ≡ most_held self.old.layer }
+        ensures few { length self.new.held ≤ most_held self.new.layer }
     {
         self.notes.clear();
         self.close_all(Reason::LinkLost, pool);
@@ -42,6 +43,7 @@ impl Layer {
         ensures layer { self.new.layer ≡ machine.link_down self.old.layer }
         ensures pool { Balances pool.old self.old.held pool.new self.new.held }
         ensures most { most_held self.new.layer ≡ most_held self.old.layer }
+        ensures few { length self.new.held ≤ most_held self.new.layer }
     {
         self.notes.clear();
         self.close_all(Reason::LinkLost, pool);
@@ -56,6 +58,7 @@ impl Layer {
         ensures layer { self.new.layer ≡ machine.all_closed (reason_of reason) self.old.layer }
         ensures pool { Balances pool.old self.old.held pool.new self.new.held }
         ensures most { most_held self.new.layer ≡ most_held self.old.layer }
+        ensures few { length self.new.held ≤ most_held self.new.layer }
     {
         close_channels(&mut self.channels, &mut self.notes, reason, pool);
         self.to_serve = NumberSet::new();

@@ -1,5 +1,5 @@
 //! The timers of a packet layer (X.25 annex D).
-ghost use Rattle.std.specs.Prelude.{◌≡◌, []};
+ghost use Rattle.std.specs.Prelude.{◌≡◌, [], ◌≤◌, length};
 ghost use Rattle.flow_window.specs.Pool.{Holds, Balances};
 ghost use Rattle.packet_layer.specs.Held.{most_held};
 ghost use Rattle.packet_layer.specs.Layer as machine;
@@ -76,11 +76,13 @@ impl Layer {
 
     /// Takes an expiry of a timer: that of a call or a reset clears the call, that of a clear restarts the packet
     /// layer, and that of a restart asks for a relink. Where the timer does not run nothing happens.
+    #[tactic(auto, using(crate::proofs::Placed::own_few, crate::proofs::Placed::few))]
     pub fn on_timer(&mut self, id: TimerId, pool: &mut Pool)
         requires holds { Holds pool.old self.old.held }
         ensures layer { self.new.layer ≡ on_named self.old.layer (timer_named self.old.layer.role id) }
         ensures pool { Balances pool.old self.old.held pool.new self.new.held }
         ensures most { most_held self.new.layer ≡ most_held self.old.layer }
+        ensures few { length self.new.held ≤ most_held self.new.layer }
     {
         let Some(timer) = own_timer(self.role, id) else {
             return;
@@ -91,12 +93,14 @@ impl Layer {
         }
     }
 
+    #[tactic(auto, using(crate::proofs::Placed::own_few, crate::proofs::Placed::few))]
     fn expire(&mut self, timer: Timer, pool: &mut Pool)
         requires read { self.old.layer.notes ≡ [] }
         requires holds { Holds pool.old self.old.held }
         ensures layer { self.new.layer ≡ machine.expired self.old.layer (timer_of timer) }
         ensures pool { Balances pool.old self.old.held pool.new self.new.held }
         ensures most { most_held self.new.layer ≡ most_held self.old.layer }
+        ensures few { length self.new.held ≤ most_held self.new.layer }
     {
         match timer {
             Timer::Restart => self.relink = true,
@@ -109,12 +113,14 @@ impl Layer {
         }
     }
 
+    #[tactic(auto, using(crate::proofs::Placed::own_few, crate::proofs::Placed::few))]
     fn clear_expired(&mut self, channel: u8, pool: &mut Pool)
         requires read { self.old.layer.notes ≡ [] }
         requires holds { Holds pool.old self.old.held }
         ensures layer { self.new.layer ≡ machine.expired self.old.layer (machine.Timer.CallTimer channel) }
         ensures pool { Balances pool.old self.old.held pool.new self.new.held }
         ensures most { most_held self.new.layer ≡ most_held self.old.layer }
+        ensures few { length self.new.held ≤ most_held self.new.layer }
     {
         let Some(place) = self.place(u16::from(channel)) else {
             return;

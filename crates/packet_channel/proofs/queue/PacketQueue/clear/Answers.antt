@@ -1,7 +1,4 @@
-use Rattle.std.proofs.Common.{ap, ◌∙◌, sym, subst}
-use Rattle.flow_window.specs.Pool.{Buffer, Balances}
 use Rattle.flow_window.proofs.Weights.{held_in, holds_after, balances_same, balances_then}
-use Rattle.packet_channel.specs.Held.{Queue}
 use Rattle.packet_channel.proofs.Queues.{balances_first, fewer, none_first}
 use Rattle.packet_channel.proofs.queue.PacketQueue.clear.Goals as goal
 

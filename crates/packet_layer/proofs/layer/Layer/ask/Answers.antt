@@ -3,7 +3,7 @@ use Rattle.std.specs.Prelude.{slice_get, Bool, true, false}
 use Rattle.packet_layer.specs.Layer.{set_if}
 use Rattle.packet_layer.specs.Held.{Layer as Held}
 use Rattle.packet_layer.specs.LayerView.{layer_of}
-use Rattle.packet_layer.proofs.Placed.{placed, own_held, own_room, own_balance, fits_after, borrowed, plain_at, plain_set}
+use Rattle.packet_layer.proofs.Placed.{placed, own_held, own_room, own_balance, fits_after, borrowed, plain_at, plain_set, few_after}
 use Rattle.packet_layer.specs.RequestView.{request_of}
 use Rattle.packet_layer.proofs.Places.{kept, request_done, request_refused, refused_at}
 use Rattle.packet_layer.proofs.Silence.{layer_touched}
@@ -126,3 +126,24 @@ invariant_of-self-in-Err c =
     let held = c.index_mut-channel.result.now in
     let there = placed a c.args.self.now c.in-Some.place held c.self.view_is c.in-Some.ensures.1 c.index_mut-channel.ensures.value in
     layer_touched a c.insert.new.self c.in-Some.place held c.request.new.self c.self.inside.relink c.self.invariant c.insert.ensures there (c.request.ensures.fits a.window)
+
+pub returns-then-relink-clause-few : goal.returns-then-relink-clause-few
+returns-then-relink-clause-few c =
+    let a = c.self.inside in
+    let held = c.index_mut-channel.result.now in
+    let there = placed a c.args.self.now c.in-Some.place held c.self.view_is c.in-Some.ensures.1 c.index_mut-channel.ensures.value in
+    few_after a.window a.channels.items c.in-Some.place held c.request.new.self c.self.invariant.fits there (c.request.ensures.fits a.window)
+
+pub returns-else-relink-clause-few : goal.returns-else-relink-clause-few
+returns-else-relink-clause-few c =
+    let a = c.self.inside in
+    let held = c.index_mut-channel.result.now in
+    let there = placed a c.args.self.now c.in-Some.place held c.self.view_is c.in-Some.ensures.1 c.index_mut-channel.ensures.value in
+    few_after a.window a.channels.items c.in-Some.place held c.request.new.self c.self.invariant.fits there (c.request.ensures.fits a.window)
+
+pub returns-in-Err-clause-few : goal.returns-in-Err-clause-few
+returns-in-Err-clause-few c =
+    let a = c.self.inside in
+    let held = c.index_mut-channel.result.now in
+    let there = placed a c.args.self.now c.in-Some.place held c.self.view_is c.in-Some.ensures.1 c.index_mut-channel.ensures.value in
+    few_after a.window a.channels.items c.in-Some.place held c.request.new.self c.self.invariant.fits there (c.request.ensures.fits a.window)

@@ -7,7 +7,7 @@ use Rattle.packet_layer.specs.RestartView.{phase_of}
 use Rattle.packet_layer.specs.Events.{after_hearing}
 use Rattle.packet_channel.specs.Octets.{unreadable_as}
 use Rattle.packet_layer.proofs.Places.{unreadable_taken, expiry_taken}
-use Rattle.packet_layer.proofs.Placed.{placed, plain_at, plain_set, own_held, own_balance, fits_after}
+use Rattle.packet_layer.proofs.Placed.{placed, plain_at, plain_set, own_held, own_balance, fits_after, few_after}
 use Rattle.packet_layer.proofs.Silence.{layer_touched}
 use Rattle.packet_layer.proofs.layer.Layer.clear_expired.Goals as goal
 
@@ -44,3 +44,11 @@ invariant_of-self c =
     let held = c.index_mut-channel.result.now in
     let there = placed a c.args.self.now c.in-Some.place held c.self.view_is c.in-Some.ensures.1 c.index_mut-channel.ensures.value in
     layer_touched a c.insert.new.self c.in-Some.place held c.expire-outcome.new.self c.self.inside.relink c.self.invariant c.insert.ensures there (c.expire-outcome.ensures.fits a.window)
+
+pub returns-clause-few : goal.returns-clause-few
+returns-clause-few c =
+    let a = c.self.inside in
+    let held = c.index_mut-channel.result.now in
+    let there = placed a c.args.self.now c.in-Some.place held c.self.view_is c.in-Some.ensures.1 c.index_mut-channel.ensures.value in
+    rw c.report.ensures (few_after a.window a.channels.items c.in-Some.place held c.expire-outcome.new.self c.self.invariant.fits there
+    (c.expire-outcome.ensures.fits a.window))

@@ -51,3 +51,9 @@ returns-clause-pool c =
     subst (λ (bs : List Buffer). Balances c.args.pool.now c.args.self.now.held c.close_channels.new.pool bs) (sym none)
     (subst (λ (bs : List Buffer). Balances c.args.pool.now bs c.close_channels.new.pool []) before
     c.close_channels.ensures.pool)
+
+pub returns-clause-few : goal.returns-clause-few
+returns-clause-few c =
+    let written = written_closed c.self.inside.channels c.deref_mut.result.now c.close_channels.new.channels c.close_channels.ensures.channels c.deref_mut.ensures.value in
+    let none = ap (λ (cs : List Holder). length (buffers cs)) written ∙ ap length (none_held c.self.inside.channels.items) in
+    omega (arith, none)

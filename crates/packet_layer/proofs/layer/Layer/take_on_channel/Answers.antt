@@ -5,7 +5,7 @@ use Rattle.packet_layer.specs.Layer.{set_if}
 use Rattle.packet_channel.specs.Octets.{body_of}
 use Rattle.packet_layer.specs.Held.{Layer as Held}
 use Rattle.packet_layer.specs.LayerView.{layer_of}
-use Rattle.packet_layer.proofs.Placed.{placed, own_held, own_room, own_balance, fits_after, rw_fits, borrowed, plain_at, plain_set}
+use Rattle.packet_layer.proofs.Placed.{placed, own_held, own_room, own_balance, fits_after, rw_fits, borrowed, plain_at, plain_set, few_after}
 use Rattle.packet_layer.specs.RestartView.{phase_of}
 use Rattle.packet_layer.proofs.Places.{packet_taken}
 use Rattle.packet_layer.proofs.Silence.{layer_touched}
@@ -55,3 +55,11 @@ invariant_of-self c =
     let held = c.index_mut-channel.result.now in
     let there = placed a c.args.self.now c.in-Some.place held c.self.view_is c.in-Some.ensures.1 c.index_mut-channel.ensures.value in
     layer_touched a c.insert.new.self c.in-Some.place held c.take_packet-outcome.new.self c.self.inside.relink c.self.invariant c.insert.ensures there (rw_fits a.window c.end-end.result.window held c.take_packet-outcome.new.self (c.end-end.ensures.window ∙ ap (λ (x : Held). x.layer.window) (sym c.self.view_is)) c.take_packet-outcome.ensures.fits)
+
+pub returns-clause-few : goal.returns-clause-few
+returns-clause-few c =
+    let a = c.self.inside in
+    let held = c.index_mut-channel.result.now in
+    let there = placed a c.args.self.now c.in-Some.place held c.self.view_is c.in-Some.ensures.1 c.index_mut-channel.ensures.value in
+    rw c.report.ensures (few_after a.window a.channels.items c.in-Some.place held c.take_packet-outcome.new.self c.self.invariant.fits there
+    (rw_fits a.window c.end-end.result.window held c.take_packet-outcome.new.self (c.end-end.ensures.window ∙ ap (λ (x : Held). x.layer.window) (sym c.self.view_is)) c.take_packet-outcome.ensures.fits))

@@ -2,10 +2,10 @@ use Rattle.std.proofs.Common.{◌≡◌, ◌∙◌, ap, sym, subst, Some, ◌<�
 use Rattle.std.specs.Prelude.{slice_get}
 use Rattle.packet_layer.specs.Held.{Layer as Held}
 use Rattle.packet_layer.specs.LayerView.{layer_of}
-use Rattle.packet_layer.proofs.Placed.{placed, own_held, own_balance, fits_after, borrowed, plain_at, plain_set}
+use Rattle.packet_layer.proofs.Placed.{placed, own_loss, few_after, borrowed, plain_at, plain_set}
 use Rattle.packet_layer.proofs.Places.{taking_done, front_there}
 use Rattle.packet_layer.proofs.Silence.{layer_touched}
-use Rattle.packet_layer.proofs.layer.Layer.take.Goals as goal
+use Rattle.packet_layer.proofs.layer.Layer.take_buf.Goals as goal
 
 pub returns-clause-layer : goal.returns-clause-layer
 returns-clause-layer c =
@@ -16,22 +16,14 @@ returns-clause-layer c =
     let within : c.in_ok-place.place < length l.channels = subst (λ (x : Held). c.in_ok-place.place < length x.layer.channels) (sym c.self.view_is) c.in_ok-place.ensures.1 in
     let there = borrowed a.channels.items c.in_ok-place.place held within c.index_mut-channel.ensures.value in
     let found : slice_get l.channels c.in_ok-place.place ≡ Some ch = plain_at a.channels.items c.in_ok-place.place held there in
-    rw (← c.self.view_is) (ap (λ chs. record l { channels = chs }) (plain_set a.channels.items c.in_ok-place.place c.take.new.self) ∙ taking_done l c.args.channel c.in_ok-place.place ch c.take.new.self.channel (c.in_ok-place.ensures.0 ∙ c.from.ensures) found (c.take.ensures.channel c.self.inside.role))
+    rw (← c.self.view_is) (ap (λ chs. record l { channels = chs }) (plain_set a.channels.items c.in_ok-place.place c.take_buf.new.self) ∙ taking_done l c.args.channel c.in_ok-place.place ch c.take_buf.new.self.channel (c.in_ok-place.ensures.0 ∙ c.from.ensures) found (c.take_buf.ensures.channel c.self.inside.role))
 
-pub take-requires : goal.take-requires
-take-requires c =
+pub returns-clause-held : goal.returns-clause-held
+returns-clause-held c =
     let a = c.self.inside in
     let held = c.index_mut-channel.result.now in
     let there = placed a c.args.self.now c.in_ok-place.place held c.self.view_is c.in_ok-place.ensures.1 c.index_mut-channel.ensures.value in
-    own_held a c.args.self.now c.args.pool.now c.in_ok-place.place held c.self.view_is c.requires.holds there
-
-pub returns-clause-pool : goal.returns-clause-pool
-returns-clause-pool c =
-    let a = c.self.inside in
-    let held = c.index_mut-channel.result.now in
-    let there = placed a c.args.self.now c.in_ok-place.place held c.self.view_is c.in_ok-place.ensures.1 c.index_mut-channel.ensures.value in
-    own_balance a c.args.self.now c.args.pool.now c.take.new.pool c.in_ok-place.place held c.take.new.self c.self.view_is there
-    c.take.ensures.pool
+    own_loss a c.args.self.now _ c.in_ok-place.place held c.take_buf.new.self c.self.view_is there c.take_buf.ensures.held
 
 pub returns-clause-taken : goal.returns-clause-taken
 returns-clause-taken c =
@@ -39,11 +31,18 @@ returns-clause-taken c =
     let held = c.index_mut-channel.result.now in
     let there = placed c.self.inside c.args.self.now c.in_ok-place.place held c.self.view_is c.in_ok-place.ensures.1 c.index_mut-channel.ensures.value in
     let found = plain_at c.self.inside.channels.items c.in_ok-place.place held there in
-    rw (← c.self.view_is) (c.take.ensures.taken ∙ sym (front_there l c.args.channel c.in_ok-place.place held.channel (c.in_ok-place.ensures.0 ∙ c.from.ensures) found))
+    rw (← c.self.view_is) (c.take_buf.ensures.taken ∙ sym (front_there l c.args.channel c.in_ok-place.place held.channel (c.in_ok-place.ensures.0 ∙ c.from.ensures) found))
 
 pub invariant_of-self : goal.invariant_of-self
 invariant_of-self c =
     let a = c.self.inside in
     let held = c.index_mut-channel.result.now in
     let there = placed a c.args.self.now c.in_ok-place.place held c.self.view_is c.in_ok-place.ensures.1 c.index_mut-channel.ensures.value in
-    layer_touched a c.insert.new.self c.in_ok-place.place held c.take.new.self c.self.inside.relink c.self.invariant c.insert.ensures there (c.take.ensures.fits a.window)
+    layer_touched a c.insert.new.self c.in_ok-place.place held c.take_buf.new.self c.self.inside.relink c.self.invariant c.insert.ensures there (c.take_buf.ensures.fits a.window)
+
+pub returns-clause-few : goal.returns-clause-few
+returns-clause-few c =
+    let a = c.self.inside in
+    let held = c.index_mut-channel.result.now in
+    let there = placed a c.args.self.now c.in_ok-place.place held c.self.view_is c.in_ok-place.ensures.1 c.index_mut-channel.ensures.value in
+    few_after a.window a.channels.items c.in_ok-place.place held c.take_buf.new.self c.self.invariant.fits there (c.take_buf.ensures.fits a.window)
