@@ -78,7 +78,8 @@ impl KeptPacket {
 
     /// The number of the buffer.
     pub fn into_buffer(self) -> BufNo
-        ensures { result ≡ self.buffer }
+        ensures value { result ≡ self.buffer }
+        ensures fits { length self.buffer.octets ≤ 128 }
     {
         self.buffer
     }
