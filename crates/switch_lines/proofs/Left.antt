@@ -267,13 +267,13 @@ pub seen_at : (xs ms : Lines) (n : ℕ) (x : SwitchLine) → xs ≡ ms → n < l
 seen_at xs ms n x seen within is = sym (there xs n x within is) ∙ ap (λ (ls : Lines). slice_get ls n) seen
 
 -- the lines are written back
-pub written_back : (P : Lines → Type 0) (len : ℕ) (xs ys : Lines) → length ys ≡ length xs → length xs ≤ len → P ys →
+pub written_back : {X : Type 0} (P : List X → Type 0) (len : ℕ) (xs ys : List X) → length ys ≡ length xs → length xs ≤ len → P ys →
     P (take len (ys ++ drop (length ys) xs))
 written_back P len xs ys same within h = subst P (sym (written len xs ys same within)) h
 
-pub same_size : (s : NumberSet) (f : SwitchLine → SwitchLine) (xs ys : Lines) → ys ≡ changed_in s f 0 xs →
+pub same_size : {X : Type 0} (s : NumberSet) (f : X → X) (xs ys : List X) → ys ≡ changed_in s f 0 xs →
     length ys ≡ length xs
-same_size s f xs ys is = ap (λ (zs : Lines). length zs) is ∙ same_count s f 0 xs
+same_size s f xs ys is = ap (λ zs. length zs) is ∙ same_count s f 0 xs
 
 pub touched_are_there : (s u : NumberSet) (xs ys : Lines) → ys ≡ xs → NothingElseIsLeft s u xs → AreThere s ys
 touched_are_there s u xs ys is h = subst (λ (zs : Lines). AreThere s zs) (sym is) h.touched_there

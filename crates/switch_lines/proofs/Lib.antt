@@ -10,6 +10,7 @@ pub mod Telling
 pub mod Heeding
 pub mod Ending
 pub mod Making
+pub mod Pooled
 pub mod Settling
 pub mod Touched
 pub mod Relinking

@@ -1,5 +1,5 @@
 -- What waits on a leg is taken there and sent on the other leg, if that one takes it.
-use Rattle.std.proofs.Common.{◌≡◌, ℕ, zero, suc, ◌+◌, ◌-◌, ◌<◌, ◌≤◌, Bool, true, false, if◌then◌else◌, ◌&&◌, ◌||◌, ◌==◌, not, List, length, refl, sym, ap, ◌∙◌, arith, true≢false, Option, Some, None, is_some, option_map, nat_le, nat_lt}
+use Rattle.std.proofs.Common.{◌≡◌, ℕ, zero, suc, ◌+◌, ◌-◌, ◌<◌, ◌≤◌, Bool, true, false, if◌then◌else◌, ◌&&◌, ◌||◌, ◌==◌, not, List, [], ◌∷◌, length, refl, sym, ap, ◌∙◌, arith, true≢false, Option, Some, None, is_some, option_map, nat_le, nat_lt}
 use Rattle.std.specs.Prelude.{slice_get}
 use Rattle.std.proofs.lemmas.Option.{none-some, same_Some}
 use Rattle.std.proofs.lemmas.Bool.{ltb-true, ltb-false, le-leb, lt-leb, le-ltb}
@@ -14,9 +14,9 @@ use Rattle.packet_layer.specs.TakenView.{shown_front, maybe_front}
 use Rattle.packet_channel.specs.declared.taken.Front.{Front}
 use Rattle.packet_channel.specs.declared.taken.Front.TheVariants as front
 use Rattle.switch_lines.specs.Direction.{request_for, carried, carried_by}
-use Rattle.switch_lines.specs.Lines.{Place, Joined, SwitchLine, joined_at, ask, front_at, refusal_at, refusal_of_line}
+use Rattle.switch_lines.specs.Lines.{Place, Joined, SwitchLine, joined_at, ask, front_at, front_of_line, refusal_at, refusal_of_line}
 use Rattle.switch_lines.specs.Relay.{moved, moved_joined, moved_front, moved_unless, freed, with_kept, relayed}
-use Rattle.switch_lines.specs.OfLine.{is_taken, taken_on, freed_at, Fits, sent_on}
+use Rattle.switch_lines.specs.OfLine.{is_taken, taken_on, freed_at, Fits, sent_on, MovesFront}
 use Rattle.switch_lines.proofs.Places.{joined_asked, joined_here, kept_joined, freed_joined, freed_kept}
 
 -- ---- whether a packet or an interrupt is refused
@@ -191,6 +191,31 @@ moves ls p q f t joined shown h front fits =
 pub shown_taken : (o : Option Taken) (f : Front) → None ≡ o → Some f ≡ maybe_front o → ⊥
 shown_taken None f none shown = none-some f (sym shown)
 shown_taken (Some t) f none shown = none-some t none
+
+pub moves_front : (ls new : List SwitchLine) (p q : Place) (f : Front) (o : Option Taken) → o ≡ front_at ls p →
+    Some q ≡ option_map (λ j. j.other) (joined_at ls p) → Some f ≡ maybe_front (front_at ls p) → is_taken ls q f ≡ true →
+    MovesFront o p q ls new → freed_at p new ≡ moved p ls
+moves_front ls new p q f None at joined shown h moved_on = absurd (shown_taken (front_at ls p) f at shown)
+moves_front ls new p q f (Some t) at joined shown h moved_on =
+    ap (λ (xs : List SwitchLine). freed_at p xs) moved_on.0 ∙ moves ls p q f t joined shown h at moved_on.1
+
+front_within : (ls : List SwitchLine) (n c : ℕ) (f : Front) → Some f ≡ maybe_front (front_of_line (slice_get ls n) c) →
+    n < length ls
+front_within [] n c f shown = absurd (none-some f (sym shown))
+front_within (l ∷ ls) zero c f shown = omega arith
+front_within (l ∷ ls) (suc n) c f shown = let more = front_within ls n c f shown in omega (arith, more)
+
+pub front_there : (ls : List SwitchLine) (p : Place) (f : Front) → Some f ≡ maybe_front (front_at ls p) →
+    p.line < length ls
+front_there ls p f shown = front_within ls p.line p.channel f shown
+
+taken_within : (ls : List SwitchLine) (n c : ℕ) (f : Front) → taken_on (slice_get ls n) c f ≡ true → n < length ls
+taken_within [] n c f h = absurd (true≢false (sym h))
+taken_within (l ∷ ls) zero c f h = omega arith
+taken_within (l ∷ ls) (suc n) c f h = let more = taken_within ls n c f h in omega (arith, more)
+
+pub taken_there : (ls : List SwitchLine) (q : Place) (f : Front) → is_taken ls q f ≡ true → q.line < length ls
+taken_there ls q f h = taken_within ls q.line q.channel f h
 
 -- ---- several moves
 

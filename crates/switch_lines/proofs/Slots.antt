@@ -3,6 +3,7 @@ use Rattle.std.proofs.Common.{◌≡◌, ℕ, zero, suc, ◌+◌, ◌-◌, ◌<�
 use Rattle.std.specs.Prelude.{slice_get}
 use Rattle.switch_lines.specs.Direction.{Direction}
 use Rattle.switch_lines.specs.Lines.{Joined, SwitchLine, flat, nth_joined, with_nth_joined}
+use Rattle.switch_lines.specs.Pooled.{PooledLine, on_line}
 use Rattle.switch_lines.specs.OfLine.{joined_with, kept_on}
 
 pub slot_at : (js : List (Option Joined)) (c place : ℕ) → place + 1 ≡ c → nth_joined js c ≡ flat (slice_get js place)
@@ -80,3 +81,19 @@ pub found_joined : (l m : SwitchLine) (c place : ℕ) (o : Option Joined) → l 
 found_joined l m c place o e at within is =
     sym (get_place l.joined c place o at (subst (λ (x : SwitchLine). place < length x.joined) (sym e) within) is)
     ∙ ap (λ (x : SwitchLine). nth_joined x.joined c) e
+
+-- ---- with the buffers that the line holds
+
+pub changed_pooled : (f : Direction → Direction) (p q : PooledLine) (c place : ℕ) (old new : Option Joined) → p ≡ q →
+    place + 1 ≡ c → place < length q.line.joined → old ≡ get_or p.line.joined place old → new ≡ joined_with f old →
+    record p { line = record p.line { joined = set p.line.joined place new } } ≡ on_line (kept_on c f) q
+changed_pooled f p q c place old new e at within is done =
+    (λ i. record p {
+      line = changed_line f p.line p.line c place old new refl at
+          (subst (λ (x : PooledLine). place < length x.line.joined) (sym e) within) is done i;
+    })
+    ∙ ap (λ (x : PooledLine). on_line (kept_on c f) x) e
+
+pub unchanged_pooled : (f : Direction → Direction) (p : PooledLine) (c : ℕ) →
+    ((o : Option Joined) → with_nth_joined p.line.joined c o ≡ p.line.joined) → p ≡ on_line (kept_on c f) p
+unchanged_pooled f p c same = λ i. record p { line = unchanged_line f p.line c same i }

@@ -251,15 +251,14 @@ all_asking s ls others =
 
 -- ---- as the code does it, line by line
 
-pub line_changed : (s rest : NumberSet) (line : ℕ) (f : SwitchLine → SwitchLine) (xs : List SwitchLine)
-    (old new : SwitchLine) → IsFirstOf s line rest → AreThere s xs → old ≡ get_or xs line old →
-    new ≡ f (get_or xs line old) →
+pub line_changed : {X : Type 0} (s rest : NumberSet) (line : ℕ) (f : X → X) (xs : List X) (old new : X) →
+    IsFirstOf s line rest → line < length xs → old ≡ get_or xs line old → new ≡ f (get_or xs line old) →
     changed_in rest f 0 (set xs line new) ≡ changed_in s f 0 xs
 line_changed s rest line f xs old new first within is done =
-    ap (λ (ys : List SwitchLine). changed_in rest f 0 ys) (changed_here f xs line old new (within line first.there) is
-    (done ∙ ap f (sym is))) ∙ one_changed s rest line first f 0 line xs (omega arith)
+    ap (λ ys. changed_in rest f 0 ys) (changed_here f xs line old new within is (done ∙ ap f (sym is)))
+    ∙ one_changed s rest line first f 0 line xs (omega arith)
 
-pub count_written : (xs : List SwitchLine) (n : ℕ) (x : SwitchLine) → length (set xs n x) ≡ length xs
+pub count_written : {X : Type 0} (xs : List X) (n : ℕ) (x : X) → length (set xs n x) ≡ length xs
 count_written [] n x = refl
 count_written (y ∷ ys) zero x = refl
 count_written (y ∷ ys) (suc n) x = ap suc (count_written ys n x)
@@ -270,7 +269,7 @@ there_written s rest line xs new first within n is =
     let count = count_written xs line new in let inside = there_still s rest line xs first within n is in
     omega (arith, count, inside)
 
-abbrev AgreeBut : (all s : NumberSet) → List SwitchLine → Type 0
+abbrev pub AgreeBut : (all s : NumberSet) → List SwitchLine → Type 0
 AgreeBut all s xs = (n : ℕ) (x : SwitchLine) → has all n ≡ true → has s n ≡ false → slice_get xs n ≡ Some x →
     TimersAgree x.end.layer x.end.timers
 
@@ -355,7 +354,7 @@ few s rest line len first room = by_place (cases_lt line len)
     by_place (inl before) = absurd (true≢false (sym first.there ∙ room line before))
     by_place (inr behind) = behind
 
-pub count_kept : (xs : List SwitchLine) (n most : ℕ) (x : SwitchLine) → length xs ≤ most → length (set xs n x) ≤ most
+pub count_kept : {X : Type 0} (xs : List X) (n most : ℕ) (x : X) → length xs ≤ most → length (set xs n x) ≤ most
 count_kept xs n most x within = let count = count_written xs n x in omega (arith, count)
 
 pub asks_not : (s rest : NumberSet) (line : ℕ) (xs : List SwitchLine) (old : SwitchLine) (asks : Bool) →

@@ -1,6 +1,7 @@
 pub mod Direction
 pub mod Causes
 pub mod Lines
+pub mod Pooled
 pub mod Relay
 pub mod Switch
 pub mod NewJoins

@@ -1,8 +1,9 @@
 -- How a switch is made.
-use Rattle.std.specs.Prelude.{◌≡◌, ℕ, ◌≤◌, false, List, length, map, replicate, slice_get, Some, None}
+use Rattle.std.specs.Prelude.{◌≡◌, ℕ, ◌+◌, ◌≤◌, false, List, [], ◌∷◌, length, map, replicate, slice_get, Some, None}
 use Rattle.link_timers.specs.declared.role.Role.TheVariants.{Dce}
 use Rattle.packet_end.specs.Params.{AreParams}
 use Rattle.packet_end.specs.PacketEnd as end
+use Rattle.packet_end.specs.Pooled.{share_with}
 use Rattle.packet_end.specs.declared.fault.EndFault.{EndFault}
 use Rattle.packet_end.specs.declared.fault.EndFault.TheVariants.{BadConfig, OutOfMemory}
 use Rattle.address_routes.specs.Routes.{RouteMap}
@@ -28,6 +29,11 @@ MadeNot lines OutOfMemory = IsConfig lines
 -- a line without joins, of which the switch is the DCE
 abbrev pub made_line : LineConfig → SwitchLine
 made_line c = record { end = end.made Dce c.params; address = c.address; joined = replicate c.params.channels None }
+
+-- the shares that lines have of the switch's pool, together
+abbrev pub shares_with : List LineConfig → ℕ
+shares_with [] = 0
+shares_with (c ∷ cs) = share_with c.params + shares_with cs
 
 abbrev pub made : RouteMap → List LineConfig → Switch
 made routes lines = record { routes = routes; lines = map made_line lines }

@@ -8,7 +8,7 @@ use Rattle.packet_layer.specs.Interrupting.{may_interrupt}
 use Rattle.packet_layer.specs.Packets.{Note}
 use Rattle.packet_layer.specs.Traffic.{Taken}
 use Rattle.packet_layer.specs.Traffic.Taken.{TakenInterrupt, TakenPacket}
-use Rattle.packet_layer.specs.Channel.Request.{Releasing, Interrupting, Sending}
+use Rattle.packet_layer.specs.Channel.Request.{Releasing, Interrupting, Sending, Taking}
 use Rattle.packet_end.specs.PacketEnd.{asked}
 use Rattle.switch_lines.specs.Direction.{Direction, releasable, released, carried}
 use Rattle.switch_lines.specs.Lines.{Place, Joined, SwitchLine, nth_joined, with_nth_joined, changed, ask}
@@ -58,9 +58,17 @@ Fits (TakenInterrupt octets) = (1 ≤ length octets) × (length octets ≤ 32)
 Fits (TakenPacket d) = length d.octets ≤ 128
 
 -- it is asked of the other leg, and what may be released is
+abbrev pub passed_on : Taken → (p q : Place) → List SwitchLine → List SwitchLine
+passed_on (TakenInterrupt octets) p q ls = ask q (Interrupting octets) ls
+passed_on (TakenPacket d) p q ls = kept_at p (carried d.delivery) (ask q (Sending d) ls)
+
 abbrev pub sent_on : Taken → (p q : Place) → List SwitchLine → List SwitchLine
-sent_on (TakenInterrupt octets) p q ls = freed_at p (ask q (Interrupting octets) ls)
-sent_on (TakenPacket d) p q ls = freed_at p (kept_at p (carried d.delivery) (ask q (Sending d) ls))
+sent_on t p q ls = freed_at p (passed_on t p q ls)
+
+-- what waits first on a leg is taken there and asked of the other leg
+abbrev pub MovesFront : Option Taken → (p q : Place) → List SwitchLine → List SwitchLine → Type 0
+MovesFront None p q old new = Unit {0}
+MovesFront (Some t) p q old new = (new ≡ passed_on t p q (ask p Taking old)) × Fits t
 
 -- ---- the channels of a line, from this one on, so many
 

@@ -1,6 +1,9 @@
 //! A line of a switch: its end, and the channels of it that are joined.
-ghost use Rattle.std.specs.Prelude.{◌≡◌, ◌≤◌, ◌∷◌, [], Some, None, IfOk, MatchResult, length, replicate, slice_get};
+ghost use Rattle.std.specs.Prelude.{◌≡◌, ◌≤◌, ◌<◌, ◌∷◌, [], Some, None, IfOk, MatchResult, length, replicate};
+ghost use Rattle.std.specs.Prelude.{slice_get};
 ghost use Rattle.std.specs.Bool.{OnFalse, OnTrue};
+ghost use Rattle.flow_window.specs.Pool.{IsIn, Holds, Balances};
+ghost use Rattle.packet_channel.specs.Held.{Loses, datum_in};
 ghost use Rattle.packet_codec.specs.Packet.{IsCallValue};
 ghost use Rattle.packet_codec.specs.View.{call_view};
 ghost use Rattle.packet_layer.specs.Channel.{Request as ask};
@@ -9,24 +12,27 @@ ghost use Rattle.packet_layer.specs.Interrupting.{may_interrupt};
 ghost use Rattle.packet_layer.specs.NoteView.{maybe_note};
 ghost use Rattle.packet_layer.specs.Octets.{parts_of};
 ghost use Rattle.packet_layer.specs.RequestView.{request_of, call_refusal_of};
-ghost use Rattle.packet_layer.specs.TakenView.{maybe_taken, maybe_front};
+ghost use Rattle.packet_layer.specs.TakenView.{maybe_taken_in, maybe_buffers_in, maybe_front};
 ghost use Rattle.packet_end.specs.Params.{AreParams};
 ghost use Rattle.packet_end.specs.PacketEnd as end;
+ghost use Rattle.packet_end.specs.Pooled.{Serves, share_with};
 ghost use Rattle.packet_end.specs.Timing.{TimersAgree};
 ghost use Rattle.packet_end.specs.declared.fault.EndFault.TheVariants as fault_is;
 ghost use Rattle.switch_lines.specs.Making.{made_line};
+ghost use Rattle.switch_lines.specs.Pooled.{on_line};
 ghost use Rattle.switch_lines.specs.Switch.{with_end, quieted, may_offer, without_joins, line_rests};
 
 mod joins;
 
 use crate::config::LineConfig;
 use crate::place::JoinPlace;
+use flow_window::pool::Pool;
 use frame_codec::FrameBuf;
 use line_end::MOST_FRAMES;
 use link_timers::{Role, TimerId};
 use packet_codec::{Address, CallData};
-use packet_end::{EndFault, PacketEnd};
-use packet_layer::{CallFault, Front, LayerNote, Request, Taken};
+use packet_end::{EndFault, PooledEnd};
+use packet_layer::{CallFault, Front, KeptPacket, LayerNote, Request, TakenBuf};
 use std::alloc::{AllocError, Global};
 use std::marker::Model;
 
@@ -34,19 +40,19 @@ use std::marker::Model;
 /// channels what it is joined to, if it is.
 #[derive(Drop)]
 pub struct SwitchLine {
-    end: PacketEnd,
+    end: PooledEnd,
     address: Address,
     joined: Vec<JoinPlace>,
 }
 
 impl Model for SwitchLine {
-    ghost use Rattle.switch_lines.specs.Lines as lines;
+    ghost use Rattle.switch_lines.specs.Pooled.{PooledLine};
 
-    ghost Value = { lines.SwitchLine };
+    ghost Value = { PooledLine };
 
-    ghost use Rattle.switch_lines.specs.LineView.{line_of, IsLine};
+    ghost use Rattle.switch_lines.specs.LineView.{pooled_of, IsLine};
 
-    ghost view = { line_of };
+    ghost view = { pooled_of };
 
     ghost invariant = { IsLine };
 }
@@ -64,12 +70,18 @@ fn new_places(alloc: Global, count: u8) -> Result<Vec<JoinPlace>, AllocError>
 
 impl SwitchLine {
     /// The DCE's end of a line, without joins. `OutOfMemory` comes for want of memory.
-    #[tactic(auto, using(crate::proofs::Making::memory_alone))]
-    pub(crate) fn new(alloc: Global, config: LineConfig) -> Result<SwitchLine, EndFault>
+    pub(crate) fn new(
+        alloc: Global,
+        config: LineConfig,
+        pool: &mut Pool,
+    ) -> Result<SwitchLine, EndFault>
         requires { AreParams config.params }
-        ensures { MatchResult result (λ line. line ≡ made_line config) (λ fault. fault ≡ fault_is.OutOfMemory) }
+        ensures line { MatchResult result
+            (λ line. line ≡ record { line = made_line config; held = []; share = share_with config.params })
+            (λ fault. fault ≡ fault_is.OutOfMemory) }
+        ensures pool { Balances pool.old [] pool.new [] }
     {
-        let end = PacketEnd::new(alloc, Role::Dce, config.params)?;
+        let end = PooledEnd::new(alloc, Role::Dce, config.params, pool)?;
         let joined = new_places(alloc, config.params.channels)?;
         Ok(SwitchLine {
             end,
@@ -80,113 +92,153 @@ impl SwitchLine {
 
     /// How many channels have a place for a join, at most 32.
     pub(crate) fn channels(&self) -> u8
-        ensures { result ≡ length self.now.joined }
+        ensures { result ≡ length self.now.line.joined }
     {
         self.joined.len() as u8
     }
 
     /// The address that calls from the line get as their calling address.
     pub(crate) fn address(&self) -> Address
-        ensures { result ≡ self.now.address }
+        ensures { result ≡ self.now.line.address }
     {
         self.address
     }
 
     /// Begins an event.
     pub(crate) fn begin(&mut self)
-        ensures { self.new ≡ with_end end.begun self.old }
+        ensures { self.new ≡ on_line (with_end end.begun) self.old }
     {
         self.end.begin();
     }
 
     /// Takes the octets of a frame.
-    pub(crate) fn receive(&mut self, octets: &[u8])
-        requires { self.old.end.notes ≡ [] }
-        ensures line { self.new ≡ with_end (λ e. end.received (quieted e) octets.now) self.old }
-        ensures notes { length self.new.end.notes ≤ 64 }
+    pub(crate) fn receive(&mut self, octets: &[u8], pool: &mut Pool)
+        requires read { self.old.line.end.notes ≡ [] }
+        requires pool { Serves pool.old self.old.held self.old.share }
+        ensures line { self.new.line ≡ with_end (λ e. end.received (quieted e) octets.now) self.old.line }
+        ensures share { self.new.share ≡ self.old.share }
+        ensures notes { length self.new.line.end.notes ≤ 64 }
+        ensures pool { Balances pool.old self.old.held pool.new self.new.held }
+        ensures within { length self.new.held < self.new.share }
     {
-        self.end.on_frame(octets);
+        self.end.on_frame(octets, pool);
     }
 
     /// Whether a timer runs, also with no tick left.
     pub(crate) fn is_running(&self, id: TimerId) -> bool
-        ensures { result ≡ end.runs_at self.now.end id }
+        ensures { result ≡ end.runs_at self.now.line.end id }
     {
         self.end.is_running(id)
     }
 
     /// Takes an expiry of a timer.
-    pub(crate) fn expire(&mut self, id: TimerId)
-        requires { self.old.end.notes ≡ [] }
-        ensures line { self.new ≡ with_end (λ e. end.after_timer (quieted e) id) self.old }
-        ensures notes { length self.new.end.notes ≤ 64 }
+    pub(crate) fn expire(&mut self, id: TimerId, pool: &mut Pool)
+        requires read { self.old.line.end.notes ≡ [] }
+        requires pool { Serves pool.old self.old.held self.old.share }
+        ensures line { self.new.line ≡ with_end (λ e. end.after_timer (quieted e) id) self.old.line }
+        ensures share { self.new.share ≡ self.old.share }
+        ensures notes { length self.new.line.end.notes ≤ 64 }
+        ensures pool { Balances pool.old self.old.held pool.new self.new.held }
+        ensures within { length self.new.held < self.new.share }
     {
-        self.end.on_timer(id);
+        self.end.on_timer(id, pool);
     }
 
     /// Whether the link has to be set up anew.
     pub(crate) fn must_relink(&self) -> bool
-        ensures { result ≡ self.now.end.layer.relink }
+        ensures { result ≡ self.now.line.end.layer.relink }
     {
         self.end.must_relink()
     }
 
     /// Sets the link up anew.
-    pub(crate) fn relink(&mut self)
-        requires { self.old.end.notes ≡ [] }
-        ensures line { self.new ≡ with_end (λ e. end.relinked (quieted e)) self.old }
-        ensures notes { length self.new.end.notes ≤ 64 }
+    pub(crate) fn relink(&mut self, pool: &mut Pool)
+        requires read { self.old.line.end.notes ≡ [] }
+        requires pool { Serves pool.old self.old.held self.old.share }
+        ensures line { self.new.line ≡ with_end (λ e. end.relinked (quieted e)) self.old.line }
+        ensures share { self.new.share ≡ self.old.share }
+        ensures notes { length self.new.line.end.notes ≤ 64 }
+        ensures pool { Balances pool.old self.old.held pool.new self.new.held }
+        ensures within { length self.new.held < self.new.share }
     {
-        self.end.relink();
+        self.end.relink(pool);
     }
 
     /// How many notes wait to be taken.
     pub(crate) fn waiting_notes(&self) -> usize
-        ensures { result ≡ length self.now.end.notes }
+        ensures { result ≡ length self.now.line.end.notes }
     {
         self.end.waiting_notes()
     }
 
     /// Takes the next note, if there is one.
     pub(crate) fn next_note(&mut self) -> Option<LayerNote>
-        ensures note { maybe_note result ≡ slice_get self.old.end.notes 0 }
-        ensures line { self.new ≡ with_end end.without_first_note self.old }
+        ensures note { maybe_note result ≡ slice_get self.old.line.end.notes 0 }
+        ensures line { self.new ≡ on_line (with_end end.without_first_note) self.old }
     {
         self.end.notes()
     }
 
     /// Asks something of a call. What is refused changes nothing.
-    pub(crate) fn ask(&mut self, channel: u8, request: &Request<'_>)
-        ensures { self.new ≡ with_end (λ e. end.asked e channel (request_of request.now)) self.old }
+    pub(crate) fn ask(&mut self, channel: u8, request: &Request<'_>, pool: &mut Pool)
+        requires { Serves pool.old self.old.held self.old.share }
+        ensures line { self.new.line ≡ with_end (λ e. end.asked e channel (request_of request.now)) self.old.line }
+        ensures share { self.new.share ≡ self.old.share }
+        ensures pool { Balances pool.old self.old.held pool.new self.new.held }
+        ensures within { length self.new.held < self.new.share }
     {
-        let _ = self.end.ask(channel, request);
+        let _ = self.end.ask(channel, request, pool);
     }
 
-    /// Takes what comes next on a channel, if anything.
-    pub(crate) fn take(&mut self, channel: u8) -> Option<Taken>
-        ensures taken { maybe_taken result ≡ machine.front_on self.old.end.layer channel }
-        ensures line { self.new ≡ with_end (λ e. end.asked e channel ask.Taking) self.old }
+    /// Takes what comes next on a channel, if anything, with a packet in its buffer.
+    pub(crate) fn take_buf(&mut self, channel: u8) -> Option<TakenBuf>
+        ensures taken { maybe_taken_in result ≡ machine.front_on self.old.line.end.layer channel }
+        ensures line { self.new.line ≡ with_end (λ e. end.asked e channel ask.Taking) self.old.line }
+        ensures share { self.new.share ≡ self.old.share }
+        ensures held { Loses self.old.held (maybe_buffers_in result) self.new.held }
+        ensures within { length self.new.held < self.new.share }
     {
-        self.end.take(channel)
+        self.end.take_buf(channel)
+    }
+
+    /// Puts a packet that lies in a buffer into the send queue of a channel. Where it is refused its buffer goes back.
+    pub(crate) fn send_packet(&mut self, channel: u8, packet: KeptPacket, pool: &mut Pool)
+        requires { IsIn packet.buffer pool.old }
+        ensures line { self.new.line
+            ≡ with_end (λ e. end.asked e channel (ask.Sending (datum_in packet))) self.old.line }
+        ensures share { self.new.share ≡ self.old.share }
+        ensures fits { length packet.buffer.octets ≤ 128 }
+        ensures pool { Balances pool.old (packet.buffer ∷ self.old.held) pool.new self.new.held }
+        ensures within { length self.new.held < self.new.share }
+    {
+        let (more, qualified, delivery) = (packet.more(), packet.qualified(), packet.delivery());
+        let buffer = packet.into_buffer();
+        let sent = self
+            .end
+            .send_buf(channel, buffer, more, qualified, delivery, pool);
+        if let Err(refused) = sent {
+            pool.free(refused.buffer);
+        }
     }
 
     /// What `take` would give.
-    pub(crate) fn front(&self, channel: u8) -> Option<Front>
-        ensures { result ≡ maybe_front (machine.front_on self.now.end.layer channel) }
+    pub(crate) fn front(&self, channel: u8, pool: &Pool) -> Option<Front>
+        requires { Holds pool.now self.now.held }
+        ensures { result ≡ maybe_front (machine.front_on self.now.line.end.layer channel) }
     {
-        self.end.front(channel)
+        self.end.front(channel, pool)
     }
 
     /// How many packets a channel takes to be sent.
     pub(crate) fn room(&self, channel: u8) -> u8
-        ensures { result ≡ machine.room self.now.end.layer channel }
+        ensures { result ≡ machine.room self.now.line.end.layer channel }
     {
         self.end.room(channel)
     }
 
     /// Whether a channel takes an interrupt to be sent.
     pub(crate) fn may_interrupt(&self, channel: u8) -> bool
-        ensures { result ≡ may_interrupt self.now.end.layer channel }
+        ensures { result ≡ may_interrupt self.now.line.end.layer channel }
     {
         self.end.may_interrupt(channel)
     }
@@ -195,36 +247,46 @@ impl SwitchLine {
     pub(crate) fn call(&mut self, call: &CallData<'_>) -> Result<u8, CallFault>
         requires { IsCallValue (call_view call.now) }
         ensures answer { MatchResult result
-            (λ channel. machine.channel_given self.old.end.layer self.old.end.layer.phase ≡ Some channel)
-            (λ fault. machine.call_refusal self.old.end.layer self.old.end.layer.phase
+            (λ channel. machine.channel_given self.old.line.end.layer self.old.line.end.layer.phase ≡ Some channel)
+            (λ fault. machine.call_refusal self.old.line.end.layer self.old.line.end.layer.phase
             ≡ Some (call_refusal_of fault)) }
-        ensures line { self.new ≡ with_end (λ e. end.called e (parts_of (call_view call.now))) self.old }
+        ensures line { self.new ≡ on_line (with_end (λ e. end.called e (parts_of (call_view call.now)))) self.old }
     {
         self.end.call(call)
     }
 
     /// Offers packets to the link, and answers whether it took any.
     #[tactic(auto, using(crate::proofs::Unread::all_offered_read))]
-    pub(crate) fn offer(&mut self) -> bool
-        ensures offered { result ≡ may_offer self.old }
-        ensures line { self.new ≡ with_end end.all_offered self.old }
+    pub(crate) fn offer(&mut self, pool: &mut Pool) -> bool
+        requires { Serves pool.old self.old.held self.old.share }
+        ensures offered { result ≡ may_offer self.old.line }
+        ensures line { self.new.line ≡ with_end end.all_offered self.old.line }
+        ensures share { self.new.share ≡ self.old.share }
+        ensures pool { Balances pool.old self.old.held pool.new self.new.held }
+        ensures within { length self.new.held < self.new.share }
     {
-        self.end.offer_packets()
+        self.end.offer_packets(pool)
     }
 
     /// Ends an event.
-    pub(crate) fn settle(&mut self)
-        ensures line { self.new ≡ with_end end.settled self.old }
-        ensures timers { TimersAgree self.new.end.layer self.new.end.timers }
+    pub(crate) fn settle(&mut self, pool: &mut Pool)
+        requires { Serves pool.old self.old.held self.old.share }
+        ensures line { self.new ≡ on_line (with_end end.settled) self.old }
+        ensures timers { TimersAgree self.new.line.end.layer self.new.line.end.timers }
+        ensures pool { pool.new ≡ pool.old }
     {
-        self.end.settle();
+        self.end.settle(pool);
     }
 
     /// Begins anew: no link is up, and no call is left.
-    pub(crate) fn restart(&mut self)
-        ensures { self.new ≡ without_joins self.old }
+    pub(crate) fn restart(&mut self, pool: &mut Pool)
+        requires { Serves pool.old self.old.held self.old.share }
+        ensures line { self.new.line ≡ without_joins self.old.line }
+        ensures share { self.new.share ≡ self.old.share }
+        ensures pool { Balances pool.old self.old.held pool.new self.new.held }
+        ensures within { length self.new.held < self.new.share }
     {
-        self.end.restart();
+        self.end.restart(pool);
         for place in self.joined.iter_mut() {
             place.set(None);
         }
@@ -232,17 +294,17 @@ impl SwitchLine {
 
     /// Takes the next frame that goes out, if there is one.
     pub(crate) fn out(&mut self, frame: &mut FrameBuf) -> bool
-        ensures frame { OnTrue result (self.old.end.line.frames ≡ frame.new ∷ self.new.end.line.frames) }
-        ensures nothing { OnFalse result (self.old.end.line.frames ≡ []) }
+        ensures frame { OnTrue result (self.old.line.end.line.frames ≡ frame.new ∷ self.new.line.end.line.frames) }
+        ensures nothing { OnFalse result (self.old.line.end.line.frames ≡ []) }
         ensures same { OnFalse result (frame.new ≡ frame.old) }
-        ensures line { self.new ≡ with_end end.without_first_frame self.old }
+        ensures line { self.new ≡ on_line (with_end end.without_first_frame) self.old }
     {
         self.end.out(frame)
     }
 
     /// How many frames wait to be taken, at most [`MOST_FRAMES`].
     pub(crate) fn waiting_frames(&self) -> usize
-        ensures count { result ≡ length self.now.end.line.frames }
+        ensures count { result ≡ length self.now.line.end.line.frames }
         ensures most { result ≤ MOST_FRAMES }
     {
         self.end.waiting_frames()
@@ -250,21 +312,21 @@ impl SwitchLine {
 
     /// Lets ticks pass.
     pub(crate) fn elapse(&mut self, ticks: u16)
-        ensures { self.new ≡ with_end (λ e. end.elapsed e ticks) self.old }
+        ensures { self.new ≡ on_line (with_end (λ e. end.elapsed e ticks)) self.old }
     {
         self.end.elapse(ticks);
     }
 
     /// Whether the link is up with nothing unacknowledged, and no packet waits to be sent or taken.
     pub(crate) fn is_at_rest(&self) -> bool
-        ensures { result ≡ line_rests self.now }
+        ensures { result ≡ line_rests self.now.line }
     {
         self.end.is_at_rest()
     }
 
     /// The first timer that runs with no tick left.
     pub(crate) fn due(&self) -> Option<TimerId>
-        ensures { result ≡ end.due self.now.end }
+        ensures { result ≡ end.due self.now.line.end }
     {
         self.end.due()
     }

@@ -3,13 +3,12 @@ ghost use Rattle.std.specs.Prelude.{◌≡◌, ◌≤◌, ◌<◌, ◌∷◌, []
 ghost use Rattle.std.specs.List.{list_all};
 ghost use Rattle.std.specs.Option.{option_map};
 ghost use Rattle.std.specs.Bool.{OnTrue, OnFalse};
-ghost use Rattle.packet_layer.specs.Channel.{Request as ask_for};
 ghost use Rattle.packet_layer.specs.RequestView.{request_of};
-ghost use Rattle.packet_layer.specs.TakenView.{maybe_taken, maybe_front};
+ghost use Rattle.packet_layer.specs.TakenView.{maybe_front};
 ghost use Rattle.packet_end.specs.PacketEnd.{without_first_frame};
 ghost use Rattle.packet_end.specs.declared.fault.EndFault.TheVariants as fault_is;
 ghost use Rattle.switch_lines.specs.Direction.{new_direction, carried, covered_by};
-ghost use Rattle.switch_lines.specs.Making.{IsConfig, made_line};
+ghost use Rattle.switch_lines.specs.Making.{IsConfig, made_line, shares_with};
 ghost use Rattle.switch_lines.specs.Lines.{joined_at, with_joined, ask, front_at, changed};
 ghost use Rattle.switch_lines.specs.Switch.{timer_runs, due_on, frames_on, with_end, line_rests};
 ghost use Rattle.switch_lines.specs.OfLine.{kept_at, freed_at, is_taken};
@@ -26,12 +25,13 @@ use crate::config::LineConfig;
 use crate::line::SwitchLine;
 use crate::place::{Joined, Place};
 use arrayvec::ArrayVec;
-use frame_codec::FrameBuf;
+use flow_window::pool::Pool;
+use frame_codec::{FrameBuf, MAX_INFORMATION};
 use line_end::MOST_FRAMES;
 use link_timers::TimerId;
 use number_set::NumberSet;
 use packet_end::EndFault;
-use packet_layer::{Front, Request, Taken};
+use packet_layer::{Front, Request};
 use std::alloc::{AllocError, Global};
 use std::marker::Model;
 
@@ -42,6 +42,8 @@ type LineList = ArrayVec<usize, 65>;
 #[derive(Drop)]
 pub struct Lines {
     lines: Vec<SwitchLine>,
+    /// The packets of all lines lie here.
+    pool: Pool,
     /// Those on which something happened since they were settled. On the others nothing is left to do.
     touched: NumberSet,
     /// Those on which frames of the last event may be left, beside these.
@@ -61,15 +63,35 @@ impl Model for Lines {
     ghost invariant = { AreLines };
 }
 
+// How many buffers lines need together.
+fn buffers_for(lines: &[LineConfig]) -> usize
+    requires { IsConfig lines.now }
+    ensures { result ≡ shares_with lines.now }
+{
+    let mut total = 0;
+    for line in lines {
+        total += line.params.buffers();
+    }
+    total
+}
+
+// Whether all of these lines are at rest.
+fn rest(lines: &[SwitchLine]) -> bool
+    ensures { result ≡ list_all (λ p. line_rests p.line) lines.now }
+{
+    lines.iter().all(|line| line.is_at_rest())
+}
+
 impl Lines {
     /// The lines, each as `SwitchLine::new` makes it. `OutOfMemory` comes for want of memory.
     pub fn new(alloc: Global, lines: &[LineConfig]) -> Result<Lines, EndFault>
         requires { IsConfig lines.now }
         ensures { MatchResult result (λ made. made ≡ map made_line lines.now) (λ fault. fault ≡ fault_is.OutOfMemory) }
     {
+        let mut pool = Pool::new(alloc, buffers_for(lines), MAX_INFORMATION)?;
         let mut made = Vec::new(alloc);
         for line in lines {
-            let line = SwitchLine::new(alloc, *line)?;
+            let line = SwitchLine::new(alloc, *line, &mut pool)?;
             match made.push(line) {
                 Ok(()) => {}
                 Err(failed) => return Err(AllocError::from(failed).into()),
@@ -78,6 +100,7 @@ impl Lines {
         let touched = NumberSet::first(made.len());
         Ok(Lines {
             lines: made,
+            pool,
             touched,
             untaken: NumberSet::new(),
         })
@@ -112,7 +135,7 @@ impl Lines {
     pub fn is_at_rest(&self) -> bool
         ensures { result ≡ list_all line_rests self.now }
     {
-        self.lines.iter().all(|line| line.is_at_rest())
+        rest(&self.lines)
     }
 
     /// Takes the next frame that goes out on a line, if there is one.
@@ -166,7 +189,7 @@ impl Lines {
     {
         if place.line < self.lines.len() {
             self.touched.insert(place.line);
-            self.lines[place.line].ask(place.channel, request);
+            self.lines[place.line].ask(place.channel, request, &mut self.pool);
         }
     }
 
@@ -174,17 +197,8 @@ impl Lines {
     fn front(&self, place: Place) -> Option<Front>
         ensures { result ≡ maybe_front (front_at self.now place) }
     {
-        self.lines.get(place.line)?.front(place.channel)
-    }
-
-    // Takes what comes next on a channel, if anything.
-    fn take(&mut self, place: Place) -> Option<Taken>
-        ensures taken { maybe_taken result ≡ front_at self.old place }
-        ensures lines { self.new ≡ ask place ask_for.Taking self.old }
-    {
         if place.line < self.lines.len() {
-            self.touched.insert(place.line);
-            self.lines[place.line].take(place.channel)
+            self.lines[place.line].front(place.channel, &self.pool)
         } else {
             None
         }
@@ -236,7 +250,7 @@ impl Lines {
     {
         if place.line < self.lines.len() {
             self.touched.insert(place.line);
-            self.lines[place.line].release(place.channel);
+            self.lines[place.line].release(place.channel, &mut self.pool);
         }
     }
 }

@@ -2,17 +2,21 @@
 ghost use Rattle.std.specs.Prelude.{◌≡◌, ◌+◌, ◌<◌, None, Option, MatchOption, length};
 ghost use Rattle.std.specs.Option.{option_map};
 ghost use Rattle.switch_lines.specs.Direction.{new_direction, carried, covered_by, releasable, released};
+ghost use Rattle.flow_window.specs.Pool.{Balances};
+ghost use Rattle.packet_end.specs.Pooled.{Serves};
+ghost use Rattle.switch_lines.specs.Pooled.{on_line};
 ghost use Rattle.switch_lines.specs.Lines.{Joined as JoinedValue, nth_joined, with_nth_joined};
 ghost use Rattle.switch_lines.specs.OfLine.{kept_on, freed_on};
 
 use crate::line::SwitchLine;
 use crate::place::{Joined, Place};
+use flow_window::pool::Pool;
 use packet_layer::Request;
 
 impl SwitchLine {
     /// The channel that a channel is joined to, if it is.
     pub(crate) fn other(&self, channel: u8) -> Option<Place>
-        ensures { result ≡ option_map (λ j. j.other) (nth_joined self.now.joined channel) }
+        ensures { result ≡ option_map (λ j. j.other) (nth_joined self.now.line.joined channel) }
     {
         let place = self.place(channel)?;
         self.joined[place].other()
@@ -20,7 +24,8 @@ impl SwitchLine {
 
     /// Joins a channel, or ends its join.
     pub(crate) fn set_joined(&mut self, channel: u8, joined: Option<Joined>)
-        ensures { self.new ≡ record self.old { joined = with_nth_joined self.old.joined channel joined } }
+        ensures { self.new
+            ≡ on_line (λ l. record l { joined = with_nth_joined l.joined channel joined }) self.old }
     {
         if let Some(place) = self.place(channel) {
             self.joined[place].set(joined);
@@ -29,7 +34,7 @@ impl SwitchLine {
 
     /// A packet that was taken on a joined channel is sent on.
     pub(crate) fn carry(&mut self, channel: u8, delivery: bool)
-        ensures { self.new ≡ kept_on channel (carried delivery) self.old }
+        ensures { self.new ≡ on_line (kept_on channel (carried delivery)) self.old }
     {
         if let Some(place) = self.place(channel) {
             self.joined[place].carry(delivery);
@@ -38,7 +43,7 @@ impl SwitchLine {
 
     /// So many packets are covered of those that were sent on from a joined channel.
     pub(crate) fn cover(&mut self, channel: u8, count: u8)
-        ensures { self.new ≡ kept_on channel (covered_by count) self.old }
+        ensures { self.new ≡ on_line (kept_on channel (covered_by count)) self.old }
     {
         if let Some(place) = self.place(channel) {
             self.joined[place].cover(count);
@@ -47,7 +52,7 @@ impl SwitchLine {
 
     /// The direction from a channel begins anew, as after a reset.
     pub(crate) fn renew(&mut self, channel: u8)
-        ensures { self.new ≡ kept_on channel (λ _. new_direction) self.old }
+        ensures { self.new ≡ on_line (kept_on channel (λ _. new_direction)) self.old }
     {
         if let Some(place) = self.place(channel) {
             self.joined[place].renew();
@@ -55,19 +60,23 @@ impl SwitchLine {
     }
 
     /// Releases what may be released of the packets taken on a joined channel.
-    pub(crate) fn release(&mut self, channel: u8)
-        ensures { self.new ≡ freed_on channel self.old }
+    pub(crate) fn release(&mut self, channel: u8, pool: &mut Pool)
+        requires { Serves pool.old self.old.held self.old.share }
+        ensures line { self.new.line ≡ freed_on channel self.old.line }
+        ensures share { self.new.share ≡ self.old.share }
+        ensures pool { Balances pool.old self.old.held pool.new self.new.held }
+        ensures within { length self.new.held < self.new.share }
     {
         if let Some(count) = self.release_kept(channel) {
-            let _ = self.end.ask(channel, &Request::Release(count));
+            let _ = self.end.ask(channel, &Request::Release(count), pool);
         }
     }
 
     // How many packets may be released on a joined channel, which are then kept no longer.
     fn release_kept(&mut self, channel: u8) -> Option<u8>
         ensures count { result
-            ≡ option_map (λ j. releasable j.kept.held) (nth_joined self.old.joined channel) }
-        ensures line { self.new ≡ kept_on channel released self.old }
+            ≡ option_map (λ j. releasable j.kept.held) (nth_joined self.old.line.joined channel) }
+        ensures line { self.new ≡ on_line (kept_on channel released) self.old }
     {
         let place = self.place(channel)?;
         self.joined[place].release()
@@ -76,9 +85,9 @@ impl SwitchLine {
     // The place of a channel among those of the line.
     fn place(&self, channel: u8) -> Option<usize>
         ensures { MatchOption result
-            ((nth_joined self.now.joined channel ≡ None)
-            × ((o : Option JoinedValue) → with_nth_joined self.now.joined channel o ≡ self.now.joined))
-            (λ place. (place + 1 ≡ channel) × (place < length self.now.joined)) }
+            ((nth_joined self.now.line.joined channel ≡ None)
+            × ((o : Option JoinedValue) → with_nth_joined self.now.line.joined channel o ≡ self.now.line.joined))
+            (λ place. (place + 1 ≡ channel) × (place < length self.now.line.joined)) }
     {
         let place = usize::from(channel).checked_sub(1)?;
         if place < self.joined.len() {

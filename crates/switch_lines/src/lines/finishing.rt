@@ -9,7 +9,9 @@ ghost use Rattle.switch_lines.specs.Alone.{finished_alone, offered_alone};
 ghost use Rattle.switch_lines.specs.Switch.{acted, all_begun, all_relinked, relinks_of, to_relink, offering_from};
 ghost use Rattle.switch_lines.specs.Switch.{may_offer, with_end, without_joins};
 
-use crate::lines::touched::{begin_lines, first_to_relink, offer_lines, settle_lines};
+use crate::lines::touched::{
+    begin_lines, first_to_relink, offer_lines, restart_lines, settle_lines,
+};
 use crate::lines::{LineList, Lines};
 use crate::place::NewJoin;
 use address_routes::Routes;
@@ -38,7 +40,7 @@ impl Lines {
         ensures lines { self.new ≡ acted routes.now line (λ e. end.received e octets.now) self.old }
     {
         self.touched.insert(line);
-        self.lines[line].receive(octets);
+        self.lines[line].receive(octets, &mut self.pool);
         self.heed_line(routes, line)
     }
 
@@ -49,7 +51,7 @@ impl Lines {
         ensures { self.new ≡ acted routes.now line (λ e. end.after_timer e id) self.old }
     {
         self.touched.insert(line);
-        self.lines[line].expire(id);
+        self.lines[line].expire(id, &mut self.pool);
         let _ = self.heed_line(routes, line);
     }
 
@@ -60,7 +62,7 @@ impl Lines {
         ensures { self.new ≡ acted routes.now line end.relinked self.old }
     {
         self.touched.insert(line);
-        self.lines[line].relink();
+        self.lines[line].relink(&mut self.pool);
         let _ = self.heed_line(routes, line);
     }
 
@@ -84,7 +86,7 @@ impl Lines {
         requires relinked { to_relink self.old ≡ None }
         ensures { self.new ≡ map (with_end end.settled) self.old }
     {
-        settle_lines(&mut self.lines, self.touched);
+        settle_lines(&mut self.lines, self.touched, &mut self.pool);
         self.untaken = self.untaken.with(self.touched);
         if all_offered {
             self.touched = NumberSet::new();
@@ -139,16 +141,14 @@ impl Lines {
         ensures offering { result.items ≡ offering_from 0 self.old }
         ensures lines { self.new ≡ map (with_end end.all_offered) self.old }
     {
-        offer_lines(&mut self.lines, self.touched)
+        offer_lines(&mut self.lines, self.touched, &mut self.pool)
     }
 
     /// Begins anew on all lines.
     pub fn restart(&mut self)
         ensures { self.new ≡ map without_joins self.old }
     {
-        for line in self.lines.iter_mut() {
-            line.restart();
-        }
+        restart_lines(&mut self.lines, &mut self.pool);
         self.touched = NumberSet::first(self.lines.len());
     }
 

@@ -1,14 +1,13 @@
 //! The relay between the two legs of a join (X.25 4.3).
-ghost use Rattle.std.specs.Prelude.{◌≡◌, slice_get};
-ghost use Rattle.packet_layer.specs.TakenView.{taken_of};
-ghost use Rattle.switch_lines.specs.OfLine.{sent_on, Fits};
+ghost use Rattle.std.specs.Prelude.{◌≡◌, ◌<◌, length, slice_get};
+ghost use Rattle.switch_lines.specs.OfLine.{MovesFront};
 ghost use Rattle.switch_lines.specs.Alone.{relayed_alone};
-ghost use Rattle.switch_lines.specs.Lines.{joined_at};
+ghost use Rattle.switch_lines.specs.Lines.{joined_at, front_at};
 ghost use Rattle.switch_lines.specs.Relay.{moved, relayed, relayed_from, both_legs, legs_at, places_of};
 
 use crate::lines::Lines;
 use crate::place::Place;
-use packet_layer::{Request, Taken};
+use packet_layer::{Request, TakenBuf};
 
 /// The most that waits on a leg: seven packets and an interrupt.
 const MOST_WAITING: usize = 8;
@@ -27,32 +26,29 @@ impl Lines {
         if !self.may_take(other, front) {
             return;
         }
-        if let Some(taken) = self.take(place) {
-            self.send_on(place, other, taken);
-        }
+        self.move_front(place, other);
+        self.release(place);
     }
 
-    // What was taken on a joined channel goes to the other leg, and what may be released is.
-    fn send_on(&mut self, place: Place, other: Place, taken: Taken)
-        ensures lines { self.new ≡ sent_on (taken_of taken) place other self.old }
-        ensures fits { Fits (taken_of taken) }
+    // What waits first on a joined channel is taken there and goes to the other leg, a packet in its buffer.
+    fn move_front(&mut self, place: Place, other: Place)
+        requires there { place.line < length self.old }
+        requires other { other.line < length self.old }
+        ensures { MovesFront (front_at self.old place) place other self.old self.new }
     {
-        match taken {
-            Taken::Interrupt(interrupt) => {
+        self.touched.insert(place.line);
+        match self.lines[place.line].take_buf(place.channel) {
+            Some(TakenBuf::Interrupt(interrupt)) => {
                 self.ask(other, &Request::Interrupt(interrupt.octets()));
             }
-            Taken::Data(data) => {
-                let request = Request::Send {
-                    octets: data.octets(),
-                    more: data.more(),
-                    qualified: data.qualified(),
-                    delivery: data.delivery(),
-                };
-                self.ask(other, &request);
-                self.carry(place, data.delivery());
+            Some(TakenBuf::Data(packet)) => {
+                let delivery = packet.delivery();
+                self.touched.insert(other.line);
+                self.lines[other.line].send_packet(other.channel, packet, &mut self.pool);
+                self.carry(place, delivery);
             }
+            None => {}
         }
-        self.release(place);
     }
 
     // All that waits on a channel goes to the other leg of its join, as far as that one takes it.

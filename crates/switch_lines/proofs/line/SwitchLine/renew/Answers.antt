@@ -1,12 +1,12 @@
 use Rattle.switch_lines.specs.Direction.{new_direction}
-use Rattle.switch_lines.specs.LineView.{line_of}
-use Rattle.switch_lines.proofs.Slots.{changed_line, unchanged_line}
+use Rattle.switch_lines.specs.LineView.{pooled_of}
+use Rattle.switch_lines.proofs.Slots.{changed_pooled, unchanged_pooled}
 use Rattle.switch_lines.proofs.line.SwitchLine.renew.Goals as goal
 
 pub returns-in-Some : goal.returns-in-Some
 returns-in-Some c =
-    changed_line (λ _. new_direction) (line_of c.self.inside) c.args.self.now c.args.channel c.in-Some.place c.index_mut.result.now
+    changed_pooled (λ _. new_direction) (pooled_of c.self.inside) c.args.self.now c.args.channel c.in-Some.place c.index_mut.result.now
     c.renew.new.self c.self.view_is c.in-Some.ensures.0 c.in-Some.ensures.1 c.index_mut.ensures.value c.renew.ensures
 
 pub returns-in_default : goal.returns-in_default
-returns-in_default c = unchanged_line (λ _. new_direction) c.args.self.now c.args.channel c.in_default.ensures.1
+returns-in_default c = unchanged_pooled (λ _. new_direction) c.args.self.now c.args.channel c.in_default.ensures.1

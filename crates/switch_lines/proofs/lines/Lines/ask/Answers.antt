@@ -2,20 +2,19 @@ use Rattle.std.proofs.Common.{arith}
 use Rattle.packet_layer.specs.RequestView.{request_of}
 use Rattle.packet_end.specs.PacketEnd as end
 use Rattle.switch_lines.specs.Switch.{with_end}
-use Rattle.switch_lines.proofs.Changing.{changed_lines, unchanged_lines}
+use Rattle.switch_lines.proofs.Pooled.{one_changed, none_changed, one_touched, pooled_set, serves_one}
 use Rattle.switch_lines.proofs.Touched.{count_kept}
-use Rattle.switch_lines.proofs.Left.{line_touched}
 use Rattle.switch_lines.proofs.lines.Lines.ask.Goals as goal
 
 pub returns-then-place-len : goal.returns-then-place-len
 returns-then-place-len c =
-    changed_lines (with_end (λ e. end.asked e c.args.place.channel (request_of c.args.request.now)))
+    one_changed (with_end (λ e. end.asked e c.args.place.channel (request_of c.args.request.now)))
     c.self.inside.lines.items c.args.self.now c.args.place.line
-    c.index_mut.result.now c.ask.new.self c.self.view_is (omega arith) c.index_mut.ensures.value c.ask.ensures
+    c.index_mut.result.now c.ask.new.self c.self.view_is (omega arith) c.index_mut.ensures.value c.ask.ensures.line
 
 pub returns-else-place-len : goal.returns-else-place-len
 returns-else-place-len c =
-    unchanged_lines (with_end (λ e. end.asked e c.args.place.channel (request_of c.args.request.now)))
+    none_changed (with_end (λ e. end.asked e c.args.place.channel (request_of c.args.request.now)))
     c.self.inside.lines.items c.args.self.now c.args.place.line
     c.self.view_is (omega arith)
 
@@ -24,6 +23,14 @@ invariant_of-self c =
     let xs = c.self.inside.lines.items in
     record {
       most = count_kept xs c.args.place.line 64 c.ask.new.self c.self.invariant.most;
-      rest = line_touched c.self.inside.touched c.insert.new.self c.self.inside.untaken xs c.args.place.line
+      rest = one_touched c.self.inside.touched c.insert.new.self c.self.inside.untaken xs c.args.place.line
           c.ask.new.self (omega arith) c.insert.ensures c.self.invariant.rest;
+      pooled = pooled_set c.self.inside.pool c.ask.new.pool c.self.inside.lines.items c.args.place.line c.index_mut.result.now c.ask.new.self
+          c.self.invariant.pooled (omega arith) c.index_mut.ensures.value c.ask.ensures.pool c.ask.ensures.share
+          c.ask.ensures.within;
     }
+
+pub ask-requires : goal.ask-requires
+ask-requires c =
+    serves_one c.self.inside.pool c.self.inside.lines.items c.args.place.line c.index_mut.result.now c.self.invariant.pooled (omega arith)
+    c.index_mut.ensures.value

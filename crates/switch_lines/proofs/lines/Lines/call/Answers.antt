@@ -1,22 +1,22 @@
-use Rattle.std.proofs.Common.{arith}
+use Rattle.std.proofs.Common.{arith, ap}
 use Rattle.packet_codec.specs.View.{call_view}
 use Rattle.packet_layer.specs.Octets.{parts_of}
 use Rattle.packet_end.specs.PacketEnd as end
 use Rattle.switch_lines.specs.Switch.{with_end}
-use Rattle.switch_lines.proofs.Changing.{changed_lines, unchanged_lines}
+use Rattle.switch_lines.specs.Pooled.{PooledLine}
+use Rattle.switch_lines.proofs.Pooled.{one_changed, none_changed, one_touched, pooled_same}
 use Rattle.switch_lines.proofs.Touched.{count_kept}
-use Rattle.switch_lines.proofs.Left.{line_touched}
 use Rattle.switch_lines.proofs.lines.Lines.call.Goals as goal
 
 pub returns-clause-lines : goal.returns-clause-lines
 returns-clause-lines c =
-    changed_lines (with_end (λ e. end.called e (parts_of (call_view c.args.call.now)))) c.self.inside.lines.items
+    one_changed (with_end (λ e. end.called e (parts_of (call_view c.args.call.now)))) c.self.inside.lines.items
     c.args.self.now c.args.line
-    c.index_mut.result.now c.call.new.self c.self.view_is (omega arith) c.index_mut.ensures.value c.call.ensures.line
+    c.index_mut.result.now c.call.new.self c.self.view_is (omega arith) c.index_mut.ensures.value (ap (λ (p : PooledLine). p.line) c.call.ensures.line)
 
 pub returns-then-line-len-clause-lines : goal.returns-then-line-len-clause-lines
 returns-then-line-len-clause-lines c =
-    unchanged_lines (with_end (λ e. end.called e (parts_of (call_view c.args.call.now)))) c.self.inside.lines.items
+    none_changed (with_end (λ e. end.called e (parts_of (call_view c.args.call.now)))) c.self.inside.lines.items
     c.args.self.now c.args.line
     c.self.view_is (omega arith)
 
@@ -25,6 +25,8 @@ invariant_of-self c =
     let xs = c.self.inside.lines.items in
     record {
       most = count_kept xs c.args.line 64 c.call.new.self c.self.invariant.most;
-      rest = line_touched c.self.inside.touched c.insert.new.self c.self.inside.untaken xs c.args.line c.call.new.self
+      rest = one_touched c.self.inside.touched c.insert.new.self c.self.inside.untaken xs c.args.line c.call.new.self
           (omega arith) c.insert.ensures c.self.invariant.rest;
+      pooled = pooled_same c.self.inside.pool (with_end (λ e. end.called e (parts_of (call_view c.args.call.now)))) c.self.inside.lines.items c.args.line c.index_mut.result.now c.call.new.self
+          c.self.invariant.pooled (omega arith) c.index_mut.ensures.value c.call.ensures.line;
     }

@@ -1,21 +1,21 @@
 use Rattle.std.proofs.Common.{arith, ap}
 use Rattle.switch_lines.specs.Direction.{carried}
 use Rattle.switch_lines.specs.OfLine.{kept_on}
-use Rattle.switch_lines.proofs.Changing.{changed_lines, unchanged_lines}
 use Rattle.switch_lines.specs.Lines.{SwitchLine}
+use Rattle.switch_lines.specs.Pooled.{PooledLine}
+use Rattle.switch_lines.proofs.Pooled.{one_changed, none_changed, joins_of_one, pooled_same}
 use Rattle.switch_lines.proofs.Touched.{count_kept}
-use Rattle.switch_lines.proofs.Left.{joins_change}
 use Rattle.switch_lines.proofs.lines.Lines.carry.Goals as goal
 
 pub returns-then-place-len : goal.returns-then-place-len
 returns-then-place-len c =
-    changed_lines (kept_on c.args.place.channel (carried c.args.delivery)) c.self.inside.lines.items c.args.self.now
+    one_changed (kept_on c.args.place.channel (carried c.args.delivery)) c.self.inside.lines.items c.args.self.now
     c.args.place.line
-    c.index_mut.result.now c.carry.new.self c.self.view_is (omega arith) c.index_mut.ensures.value c.carry.ensures
+    c.index_mut.result.now c.carry.new.self c.self.view_is (omega arith) c.index_mut.ensures.value (ap (λ (p : PooledLine). p.line) c.carry.ensures)
 
 pub returns-else-place-len : goal.returns-else-place-len
 returns-else-place-len c =
-    unchanged_lines (kept_on c.args.place.channel (carried c.args.delivery)) c.self.inside.lines.items c.args.self.now
+    none_changed (kept_on c.args.place.channel (carried c.args.delivery)) c.self.inside.lines.items c.args.self.now
     c.args.place.line
     c.self.view_is (omega arith)
 
@@ -26,7 +26,9 @@ invariant_of-self c =
     let new = c.carry.new.self in
     record {
       most = count_kept xs n 64 new c.self.invariant.most;
-      rest = joins_change c.self.inside.touched c.self.inside.untaken xs n c.index_mut.result.now new (omega arith)
+      rest = joins_of_one c.self.inside.touched c.self.inside.untaken xs n c.index_mut.result.now new (omega arith)
           c.index_mut.ensures.value
-          (ap (λ (l : SwitchLine). l.end) c.carry.ensures) c.self.invariant.rest;
+          (ap (λ (p : PooledLine). p.line.end) c.carry.ensures) c.self.invariant.rest;
+      pooled = pooled_same c.self.inside.pool (kept_on c.args.place.channel (carried c.args.delivery)) c.self.inside.lines.items c.args.place.line c.index_mut.result.now c.carry.new.self
+          c.self.invariant.pooled (omega arith) c.index_mut.ensures.value c.carry.ensures;
     }

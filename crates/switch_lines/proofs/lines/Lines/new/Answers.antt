@@ -1,14 +1,40 @@
-use Rattle.std.proofs.Common.{◌≡◌, ◌∙◌, ap, length, nat_lt, true≢false, sym, arith}
+use Rattle.std.proofs.Common.{◌≡◌, ◌∙◌, [], ◌∷◌, ◌++◌, ap, ap₂, length, map, nat_lt, true≢false, subst, sym, arith}
+use Rattle.std.proofs.lemmas.List.{map_more}
 use Rattle.switch_lines.specs.Making.{made_line}
+use Rattle.switch_lines.specs.Pooled.{PooledLine, plain}
 use Rattle.switch_lines.proofs.Left.{all_touched, few_made}
+use Rattle.switch_lines.proofs.Making.{made_pooled, plain_made, pooled_made, all_taken}
+use Rattle.switch_lines.proofs.Pooled.{Pooled, plain_length}
 use Rattle.switch_lines.proofs.lines.Lines.new.Goals as goal
 
 pub invariant_of-result : goal.invariant_of-result
 invariant_of-result c =
     let ys = c.loop-line.made.items in
-    let count : c.len.result ≡ length ys = omega (arith, c.len.ensures, c.loop-line.made.ok) in
+    let i = c.loop-line.invariant in
+    let long = plain_length ys in
+    let count : c.len.result ≡ length (plain ys) = omega (arith, c.len.ensures, c.loop-line.made.ok, long) in
+    let whole = i.made ∙ ap (map made_pooled) (all_taken c.args.lines.now c.loop-line.line-index (omega (arith, c.loop-line-test.false))) in
     record {
-      most = few_made made_line c.loop-line.line-index 64 c.args.lines.now ys c.loop-line.invariant c.requires.most;
-      rest = all_touched c.first-touched.result c.new-2.result ys (λ n. c.first-touched.ensures n
+      most = few_made made_pooled c.loop-line.line-index 64 c.args.lines.now ys i.made c.requires.most;
+      rest = all_touched c.first-touched.result c.new-2.result (plain ys) (λ n. c.first-touched.ensures n
           ∙ ap (λ k. nat_lt n k) count) (λ n is. absurd (true≢false (sym is ∙ c.new-2.ensures n)));
+      pooled = pooled_made c.loop-line.pool c.args.lines.now ys whole i.size i.places i.none;
     }
+
+pub loop-line-preserved : goal.loop-line-preserved
+loop-line-preserved c =
+    let i = c.loop-line.invariant in
+    let change = c.in_ok-line.ensures.pool in
+    record {
+      made = c.in-Ok.ensures.items
+          ∙ ap₂ (λ xs x. xs ++ x ∷ []) i.made (c.in_ok-line.ensures.line ∙ ap made_pooled c.line-item.is)
+          ∙ sym (map_more made_pooled c.args.lines.now c.loop-line.line-index c.line-item.result (omega arith));
+      size = change.size ∙ i.size;
+      places = change.places ∙ i.places;
+      none = λ w. let weights = change.weights w in let none = i.none w in omega (arith, weights, none);
+    }
+
+pub returns : goal.returns
+returns c =
+    ap plain (c.loop-line.invariant.made ∙ ap (map made_pooled) (all_taken c.args.lines.now c.loop-line.line-index
+    (omega (arith, c.loop-line-test.false)))) ∙ plain_made c.args.lines.now

@@ -1,24 +1,24 @@
 use Rattle.std.proofs.Common.{arith, ◌∙◌, ap, sym, subst, drop, List, Option}
 use Rattle.packet_end.specs.PacketEnd.{without_first_note}
 use Rattle.switch_lines.specs.Switch.{with_end, notes_of}
-use Rattle.switch_lines.proofs.Changing.{changed_lines, unchanged_lines}
 use Rattle.std.specs.Prelude.{slice_get}
 use Rattle.packet_layer.specs.Packets.{Note}
 use Rattle.switch_lines.specs.Lines.{SwitchLine}
 use Rattle.switch_lines.specs.Touched.{IsSettled, IsTaken}
+use Rattle.switch_lines.specs.Pooled.{PooledLine}
+use Rattle.switch_lines.proofs.Pooled.{one_changed, none_changed, one_stays, one_seen, pooled_same}
 use Rattle.switch_lines.proofs.Touched.{count_kept}
-use Rattle.switch_lines.proofs.Left.{line_stays, seen_at}
 use Rattle.switch_lines.proofs.lines.Lines.next_note.Goals as goal
 
 pub returns-then-line-len-clause-lines : goal.returns-then-line-len-clause-lines
 returns-then-line-len-clause-lines c =
-    changed_lines (with_end without_first_note) c.self.inside.lines.items c.args.self.now c.args.line
+    one_changed (with_end without_first_note) c.self.inside.lines.items c.args.self.now c.args.line
     c.index_mut.result.now c.next_note.new.self c.self.view_is (omega arith) c.index_mut.ensures.value
-    c.next_note.ensures.line
+    (ap (λ (p : PooledLine). p.line) c.next_note.ensures.line)
 
 pub returns-else-line-len-clause-lines : goal.returns-else-line-len-clause-lines
 returns-else-line-len-clause-lines c =
-    unchanged_lines (with_end without_first_note) c.self.inside.lines.items c.args.self.now c.args.line c.self.view_is
+    none_changed (with_end without_first_note) c.self.inside.lines.items c.args.self.now c.args.line c.self.view_is
     (omega arith)
 
 pub invariant_of-self : goal.invariant_of-self
@@ -28,18 +28,20 @@ invariant_of-self c =
     let new = c.next_note.new.self in
     record {
       most = count_kept xs n 64 new c.self.invariant.most;
-      rest = line_stays c.self.inside.touched c.self.inside.untaken xs n c.index_mut.result.now new (omega arith)
+      rest = one_stays c.self.inside.touched c.self.inside.untaken xs n c.index_mut.result.now new (omega arith)
           c.index_mut.ensures.value
-          (λ h. subst (λ (l : SwitchLine). IsSettled l) (sym c.next_note.ensures.line)
+          (λ h. subst (λ (l : SwitchLine). IsSettled l) (sym (ap (λ (p : PooledLine). p.line) c.next_note.ensures.line))
           (record { timers = h.timers; sent = h.sent; offered = h.offered; no_relink = h.no_relink }))
-          (λ h. subst (λ (l : SwitchLine). IsTaken l) (sym c.next_note.ensures.line)
+          (λ h. subst (λ (l : SwitchLine). IsTaken l) (sym (ap (λ (p : PooledLine). p.line) c.next_note.ensures.line))
           (record { frames = h.frames; notes = ap (λ (notes : List Note). drop 1 notes) h.notes }))
           c.self.invariant.rest;
+      pooled = pooled_same c.self.inside.pool (with_end without_first_note) c.self.inside.lines.items c.args.line c.index_mut.result.now c.next_note.new.self
+          c.self.invariant.pooled (omega arith) c.index_mut.ensures.value c.next_note.ensures.line;
     }
 
 pub returns-then-line-len-clause-note : goal.returns-then-line-len-clause-note
 returns-then-line-len-clause-note c =
     c.next_note.ensures.note
     ∙ ap (λ (o : Option SwitchLine). slice_get (notes_of o) 0)
-    (seen_at c.self.inside.lines.items c.args.self.now c.args.line c.index_mut.result.now c.self.view_is (omega arith)
+    (one_seen c.self.inside.lines.items c.args.self.now c.args.line c.index_mut.result.now c.self.view_is (omega arith)
     c.index_mut.ensures.value)

@@ -1,20 +1,26 @@
-use Rattle.std.proofs.Common.{◌≤◌, ◌∙◌, ap, map, length, arith}
+use Rattle.std.proofs.Common.{◌≡◌, ◌≤◌, ◌∙◌, ap, map, length, subst, sym, arith}
 use Rattle.packet_end.specs.PacketEnd.{all_offered}
+use Rattle.switch_lines.specs.Pooled.{plain, ArePooled}
 use Rattle.switch_lines.specs.Switch.{with_end, offering_from}
 use Rattle.switch_lines.specs.Touched.{NothingElseIsLeft, changed_in, offering_in}
 use Rattle.switch_lines.proofs.Ending.{written}
 use Rattle.switch_lines.proofs.Left.{Lines, offering_all, offered_all, touched_change, touched_are_there, same_size}
 use Rattle.switch_lines.proofs.Left.{written_back}
+use Rattle.switch_lines.proofs.Pooled.{Pooled, plain_length, same_lines}
 use Rattle.switch_lines.proofs.lines.Lines.offer.Goals as goal
 
 pub offer_lines-requires-clause-there : goal.offer_lines-requires-clause-there
 offer_lines-requires-clause-there c =
-    touched_are_there c.self.inside.touched c.self.inside.untaken c.self.inside.lines.items c.deref_mut.result.now
-    c.deref_mut.ensures.value c.self.invariant.rest
+    touched_are_there c.self.inside.touched c.self.inside.untaken (plain c.self.inside.lines.items)
+    (plain c.deref_mut.result.now) (ap plain c.deref_mut.ensures.value) c.self.invariant.rest
 
 pub offer_lines-requires-clause-most : goal.offer_lines-requires-clause-most
 offer_lines-requires-clause-most c =
-    let same = ap (λ (zs : Lines). length zs) c.deref_mut.ensures.value in omega (arith, same, c.self.invariant.most)
+    let same = ap (λ (zs : Pooled). length zs) c.deref_mut.ensures.value in omega (arith, same, c.self.invariant.most)
+
+pub offer_lines-requires-clause-pool : goal.offer_lines-requires-clause-pool
+offer_lines-requires-clause-pool c =
+    subst (λ (zs : Pooled). ArePooled c.self.inside.pool zs) (sym c.deref_mut.ensures.value) c.self.invariant.pooled
 
 pub invariant_of-self : goal.invariant_of-self
 invariant_of-self c =
@@ -23,23 +29,25 @@ invariant_of-self c =
     let s = c.self.inside.touched in
     let u = c.self.inside.untaken in
     let i = c.self.invariant.rest in
-    let is = c.offer_lines.ensures.lines ∙ ap (λ (zs : Lines). changed_in s (with_end all_offered) 0 zs)
+    let is = c.offer_lines.ensures.lines ∙ ap (λ (zs : Pooled). changed_in s (with_end all_offered) 0 (plain zs))
     c.deref_mut.ensures.value in
-    let same = same_size s (with_end all_offered) xs ys is in
-    let after = touched_change s u u (with_end all_offered) xs ys is i.untaken_there (λ n out. out) i in
+    let same = same_lines xs ys (same_size s (with_end all_offered) (plain xs) (plain ys) is) in
+    let after = touched_change s u u (with_end all_offered) (plain xs) (plain ys) is i.untaken_there (λ n out. out) i in
     record {
-      most = written_back (λ (zs : Lines). length zs ≤ 64) c.self.inside.lines.len xs ys same (omega arith)
+      most = written_back (λ (zs : Pooled). length zs ≤ 64) c.self.inside.lines.len xs ys same (omega arith)
           (omega (arith, same, c.self.invariant.most));
-      rest = written_back (λ (zs : Lines). NothingElseIsLeft s u zs) c.self.inside.lines.len xs ys same (omega arith)
-          after;
+      rest = written_back (λ (zs : Pooled). NothingElseIsLeft s u (plain zs)) c.self.inside.lines.len xs ys same
+          (omega arith) after;
+      pooled = written_back (λ (zs : Pooled). ArePooled c.offer_lines.new.pool zs) c.self.inside.lines.len xs ys same
+          (omega arith) c.offer_lines.ensures.pool;
     }
 
 pub returns-clause-offering : goal.returns-clause-offering
 returns-clause-offering c =
     let s = c.self.inside.touched in
     c.offer_lines.ensures.offering
-    ∙ (ap (λ (zs : Lines). offering_in s 0 zs) c.deref_mut.ensures.value
-    ∙ (offering_all s c.self.inside.untaken c.self.inside.lines.items c.self.invariant.rest
+    ∙ (ap (λ (zs : Pooled). offering_in s 0 (plain zs)) c.deref_mut.ensures.value
+    ∙ (offering_all s c.self.inside.untaken (plain c.self.inside.lines.items) c.self.invariant.rest
     ∙ ap (λ (zs : Lines). offering_from 0 zs) c.self.view_is))
 
 pub returns-clause-lines : goal.returns-clause-lines
@@ -47,8 +55,9 @@ returns-clause-lines c =
     let xs = c.self.inside.lines.items in
     let ys = c.offer_lines.new.lines in
     let s = c.self.inside.touched in
-    let is = c.offer_lines.ensures.lines ∙ ap (λ (zs : Lines). changed_in s (with_end all_offered) 0 zs)
+    let is = c.offer_lines.ensures.lines ∙ ap (λ (zs : Pooled). changed_in s (with_end all_offered) 0 (plain zs))
     c.deref_mut.ensures.value in
-    written c.self.inside.lines.len xs ys (same_size s (with_end all_offered) xs ys is) (omega arith)
-    ∙ (is ∙ (offered_all s c.self.inside.untaken xs c.self.invariant.rest
+    let same = same_lines xs ys (same_size s (with_end all_offered) (plain xs) (plain ys) is) in
+    ap plain (written c.self.inside.lines.len xs ys same (omega arith))
+    ∙ (is ∙ (offered_all s c.self.inside.untaken (plain xs) c.self.invariant.rest
     ∙ ap (λ (zs : Lines). map (with_end all_offered) zs) c.self.view_is))

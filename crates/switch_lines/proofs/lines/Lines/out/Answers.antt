@@ -1,35 +1,37 @@
-use Rattle.std.proofs.Common.{◌≡◌, ◌<◌, ap, sym, subst, drop, arith, length, List}
+use Rattle.std.proofs.Common.{◌≡◌, ◌<◌, ap, sym, subst, drop, arith, length, List, [], ◌∷◌, Option, Some}
+use Rattle.std.specs.Bool.{OnTrue, OnFalse}
+use Rattle.std.specs.Prelude.{slice_get}
 use Rattle.lapb.specs.Machine.{Octets}
 use Rattle.packet_end.specs.PacketEnd.{without_first_frame}
 use Rattle.switch_lines.specs.Lines.{SwitchLine}
-use Rattle.switch_lines.specs.Switch.{with_end}
-use Rattle.switch_lines.proofs.Changing.{changed_lines}
+use Rattle.switch_lines.specs.Switch.{with_end, frames_on}
 use Rattle.switch_lines.specs.Touched.{IsSettled, IsTaken}
+use Rattle.switch_lines.specs.Pooled.{PooledLine}
+use Rattle.switch_lines.proofs.Pooled.{one_changed, one_seen, one_stays, one_written, plain_length, pooled_same}
 use Rattle.switch_lines.proofs.Touched.{count_kept}
-use Rattle.switch_lines.proofs.Left.{line_stays}
 use Rattle.switch_lines.proofs.lines.Lines.out.Goals as goal
 
 pub returns-clause-lines : goal.returns-clause-lines
 returns-clause-lines c =
-    let same : length c.self.inside.lines.items ≡ length c.args.self.now =
-    ap (λ (ls : List SwitchLine). length ls) c.self.view_is in
-    let within : c.args.line < length c.self.inside.lines.items = omega (arith, same, c.requires) in
-    changed_lines (with_end without_first_frame) c.self.inside.lines.items c.args.self.now c.args.line
+    let same = ap (λ (ls : List SwitchLine). length ls) c.self.view_is in
+    let long = plain_length c.self.inside.lines.items in
+    let within : c.args.line < length c.self.inside.lines.items = omega (arith, same, long, c.requires) in
+    one_changed (with_end without_first_frame) c.self.inside.lines.items c.args.self.now c.args.line
     c.index_mut.result.now
-    c.out.new.self c.self.view_is within c.index_mut.ensures.value c.out.ensures.line
+    c.out.new.self c.self.view_is within c.index_mut.ensures.value (ap (λ (p : PooledLine). p.line) c.out.ensures.line)
 
 pub invariant_of-self : goal.invariant_of-self
 invariant_of-self c =
-    let same : length c.self.inside.lines.items ≡ length c.args.self.now =
-    ap (λ (ls : List SwitchLine). length ls) c.self.view_is in
+    let same = ap (λ (ls : List SwitchLine). length ls) c.self.view_is in
+    let long = plain_length c.self.inside.lines.items in
     let xs = c.self.inside.lines.items in
     let n = c.args.line in
     let new = c.out.new.self in
     record {
       most = count_kept xs n 64 new c.self.invariant.most;
-      rest = line_stays c.self.inside.touched c.self.inside.untaken xs n c.index_mut.result.now new
-          (omega (arith, same, c.requires)) c.index_mut.ensures.value
-          (λ h. subst (λ (l : SwitchLine). IsSettled l) (sym c.out.ensures.line)
+      rest = one_stays c.self.inside.touched c.self.inside.untaken xs n c.index_mut.result.now new
+          (omega (arith, same, long, c.requires)) c.index_mut.ensures.value
+          (λ h. subst (λ (l : SwitchLine). IsSettled l) (sym (ap (λ (p : PooledLine). p.line) c.out.ensures.line))
           (record {
             timers = h.timers;
             sent = record {
@@ -41,7 +43,30 @@ invariant_of-self c =
             offered = h.offered;
             no_relink = h.no_relink;
           }))
-          (λ h. subst (λ (l : SwitchLine). IsTaken l) (sym c.out.ensures.line)
+          (λ h. subst (λ (l : SwitchLine). IsTaken l) (sym (ap (λ (p : PooledLine). p.line) c.out.ensures.line))
           (record { frames = ap (λ (frames : List Octets). drop 1 frames) h.frames; notes = h.notes }))
           c.self.invariant.rest;
+      pooled = pooled_same c.self.inside.pool (with_end without_first_frame) c.self.inside.lines.items c.args.line c.index_mut.result.now c.out.new.self
+          c.self.invariant.pooled (omega (arith, same, long, c.requires)) c.index_mut.ensures.value c.out.ensures.line;
     }
+
+pub returns-clause-frame : goal.returns-clause-frame
+returns-clause-frame c =
+    let same = ap (λ (ls : List SwitchLine). length ls) c.self.view_is in
+    let long = plain_length c.self.inside.lines.items in
+    let less : c.args.line < length c.self.inside.lines.items = omega (arith, same, long, c.requires) in
+    let seen = one_seen c.self.inside.lines.items c.args.self.now c.args.line c.index_mut.result.now c.self.view_is less
+    c.index_mut.ensures.value in
+    let there = one_written c.self.inside.lines.items c.args.line c.out.new.self less in
+    subst (λ (o : Option SwitchLine). OnTrue c.out.result
+    (frames_on (slice_get c.args.self.now c.args.line) ≡ c.out.new.frame ∷ frames_on o)) (sym there)
+    (subst (λ (o : Option SwitchLine). OnTrue c.out.result
+    (frames_on o ≡ c.out.new.frame ∷ frames_on (Some c.out.new.self.line))) seen c.out.ensures.frame)
+
+pub returns-clause-nothing : goal.returns-clause-nothing
+returns-clause-nothing c =
+    let same = ap (λ (ls : List SwitchLine). length ls) c.self.view_is in
+    let long = plain_length c.self.inside.lines.items in
+    subst (λ (o : Option SwitchLine). OnFalse c.out.result (frames_on o ≡ []))
+    (one_seen c.self.inside.lines.items c.args.self.now c.args.line c.index_mut.result.now c.self.view_is
+    (omega (arith, same, long, c.requires)) c.index_mut.ensures.value) c.out.ensures.nothing

@@ -1,43 +1,61 @@
-use Rattle.std.proofs.Common.{◌≡◌, ◌<◌, ◌∙◌, ap, arith, length, List}
+use Rattle.std.proofs.Common.{◌≡◌, ◌<◌, ◌∙◌, ap, arith, length, List, Option}
 use Rattle.packet_end.specs.PacketEnd as end
 use Rattle.switch_lines.specs.Lines.{SwitchLine}
 use Rattle.std.specs.Prelude.{slice_get}
 use Rattle.switch_lines.specs.NewJoins.{joins_heeded}
-use Rattle.switch_lines.specs.Switch.{notes_heeded, with_end, quieted}
-use Rattle.switch_lines.proofs.Changing.{changed_lines}
+use Rattle.switch_lines.specs.Switch.{notes_heeded, notes_of, with_end, quieted}
+use Rattle.switch_lines.proofs.Pooled.{one_changed, one_seen, one_touched, plain_length, pooled_set, serves_one}
 use Rattle.switch_lines.proofs.Touched.{count_kept}
-use Rattle.switch_lines.proofs.Left.{line_touched}
 use Rattle.switch_lines.proofs.lines.Lines.receive.Goals as goal
 
 pub returns-clause-lines : goal.returns-clause-lines
 returns-clause-lines c =
-    let same : length c.self.inside.lines.items ≡ length c.args.self.now =
-    ap (λ (ls : List SwitchLine). length ls) c.self.view_is in
-    let within : c.args.line < length c.self.inside.lines.items = omega (arith, same, c.requires.there) in
+    let same = ap (λ (ls : List SwitchLine). length ls) c.self.view_is in
+    let long = plain_length c.self.inside.lines.items in
+    let within : c.args.line < length c.self.inside.lines.items = omega (arith, same, long, c.requires.there) in
     c.heed_line.ensures.lines
     ∙ ap (λ (ls : List SwitchLine). notes_heeded c.args.routes.now c.args.line ls)
-    (changed_lines (with_end (λ e. end.received (quieted e) c.args.octets.now)) c.self.inside.lines.items
+    (one_changed (with_end (λ e. end.received (quieted e) c.args.octets.now)) c.self.inside.lines.items
     c.args.self.now c.args.line c.index_mut.result.now
     c.receive.new.self c.self.view_is within c.index_mut.ensures.value c.receive.ensures.line)
 
 pub returns-clause-join : goal.returns-clause-join
 returns-clause-join c =
-    let same : length c.self.inside.lines.items ≡ length c.args.self.now =
-    ap (λ (ls : List SwitchLine). length ls) c.self.view_is in
-    let within : c.args.line < length c.self.inside.lines.items = omega (arith, same, c.requires.there) in
+    let same = ap (λ (ls : List SwitchLine). length ls) c.self.view_is in
+    let long = plain_length c.self.inside.lines.items in
+    let within : c.args.line < length c.self.inside.lines.items = omega (arith, same, long, c.requires.there) in
     c.heed_line.ensures.join
     ∙ ap (λ (ls : List SwitchLine). slice_get (joins_heeded c.args.routes.now c.args.line ls) 0)
-    (changed_lines (with_end (λ e. end.received (quieted e) c.args.octets.now)) c.self.inside.lines.items
+    (one_changed (with_end (λ e. end.received (quieted e) c.args.octets.now)) c.self.inside.lines.items
     c.args.self.now c.args.line c.index_mut.result.now
     c.receive.new.self c.self.view_is within c.index_mut.ensures.value c.receive.ensures.line)
 
 pub invariant_of-self : goal.invariant_of-self
 invariant_of-self c =
-    let same : length c.self.inside.lines.items ≡ length c.args.self.now =
-    ap (λ (ls : List SwitchLine). length ls) c.self.view_is in
+    let same = ap (λ (ls : List SwitchLine). length ls) c.self.view_is in
+    let long = plain_length c.self.inside.lines.items in
     let xs = c.self.inside.lines.items in
     record {
       most = count_kept xs c.args.line 64 c.receive.new.self c.self.invariant.most;
-      rest = line_touched c.self.inside.touched c.insert.new.self c.self.inside.untaken xs c.args.line
-          c.receive.new.self (omega (arith, same, c.requires.there)) c.insert.ensures c.self.invariant.rest;
+      rest = one_touched c.self.inside.touched c.insert.new.self c.self.inside.untaken xs c.args.line
+          c.receive.new.self (omega (arith, same, long, c.requires.there)) c.insert.ensures c.self.invariant.rest;
+      pooled = pooled_set c.self.inside.pool c.receive.new.pool c.self.inside.lines.items c.args.line c.index_mut.result.now c.receive.new.self
+          c.self.invariant.pooled (omega (arith, same, long, c.requires.there)) c.index_mut.ensures.value c.receive.ensures.pool c.receive.ensures.share
+          c.receive.ensures.within;
     }
+
+pub receive-requires-clause-pool : goal.receive-requires-clause-pool
+receive-requires-clause-pool c =
+    let same = ap (λ (ls : List SwitchLine). length ls) c.self.view_is in
+    let long = plain_length c.self.inside.lines.items in
+    serves_one c.self.inside.pool c.self.inside.lines.items c.args.line c.index_mut.result.now c.self.invariant.pooled (omega (arith, same, long, c.requires.there))
+    c.index_mut.ensures.value
+
+pub receive-requires-clause-read : goal.receive-requires-clause-read
+receive-requires-clause-read c =
+    let same = ap (λ (ls : List SwitchLine). length ls) c.self.view_is in
+    let long = plain_length c.self.inside.lines.items in
+    ap (λ (o : Option SwitchLine). notes_of o)
+    (one_seen c.self.inside.lines.items c.args.self.now c.args.line c.index_mut.result.now c.self.view_is
+    (omega (arith, same, long, c.requires.there)) c.index_mut.ensures.value)
+    ∙ c.requires.read c.args.line

@@ -5,12 +5,14 @@ use Rattle.switch_lines.specs.Switch.{may_offer, offering_from}
 use Rattle.switch_lines.specs.Alone.{relayed_alone, offered_alone}
 use Rattle.switch_lines.proofs.Ending.{rounds_after, rounds_begin, relayed_same, one_round, last_round, none_offering}
 use Rattle.switch_lines.proofs.Ending.{offers_none, some_offering, none_of, some_of}
+use Rattle.switch_lines.proofs.Pooled.{plain_length}
 use Rattle.switch_lines.proofs.lines.Lines.relay_and_offer.Goals as goal
 
 pub loop-init : goal.loop-init
 loop-init c =
     let lines = c.deref.result.now in
     let seen = ap (λ (ls : List SwitchLine). length ls) c.self.view_is in
+    let long = plain_length c.self.inside.lines.items in
     let same = relayed_same lines c.relay_lines.new.self c.args.self.now c.relay_lines.ensures in
     let count : 7 * c.len-end.result ≡ 7 * length c.args.self.now = omega (arith, seen, same, c.len-end.ensures) in
     rounds_begin (7 * c.len-end.result) c.relay_lines.new.self c.args.self.now lines count c.relay_lines.ensures

@@ -1,14 +1,18 @@
-use Rattle.std.proofs.Common.{ap, ◌∙◌, sym, List}
-use Rattle.packet_layer.specs.TakenView.{taken_of}
-use Rattle.switch_lines.specs.Lines.{SwitchLine}
-use Rattle.switch_lines.specs.OfLine.{sent_on}
-use Rattle.switch_lines.proofs.Relaying.{moves}
+use Rattle.std.proofs.Common.{refl, ◌∙◌, sym}
+use Rattle.switch_lines.specs.Lines.{front_at}
+use Rattle.switch_lines.proofs.Relaying.{moves_front, front_there, taken_there}
 use Rattle.switch_lines.proofs.lines.Lines.relay_one.Goals as goal
 
-pub returns-in-Some-take : goal.returns-in-Some-take
-returns-in-Some-take c =
-    let t = taken_of c.in-Some-take.taken in
-    c.send_on.ensures.lines
-    ∙ ap (λ (ls : List SwitchLine). sent_on t c.args.place c.in-Some.other ls) c.take.ensures.lines
-    ∙ moves c.args.self.now c.args.place c.in-Some.other c.in-Some-front.front t c.in-Some.ensures c.in-Some-front.ensures
-    (sym c.may_take.ensures ∙ c.if-not-may_take.false) c.in-Some-take.ensures.taken c.send_on.ensures.fits
+pub move_front-requires-clause-there : goal.move_front-requires-clause-there
+move_front-requires-clause-there c =
+    front_there c.args.self.now c.args.place c.in-Some-front.front c.in-Some-front.ensures
+
+pub move_front-requires-clause-other : goal.move_front-requires-clause-other
+move_front-requires-clause-other c =
+    taken_there c.args.self.now c.in-Some.other c.in-Some-front.front (sym c.may_take.ensures ∙ c.if-not-may_take.false)
+
+pub returns : goal.returns
+returns c =
+    c.release.ensures ∙ moves_front c.args.self.now c.move_front.new.self c.args.place c.in-Some.other c.in-Some-front.front
+    (front_at c.args.self.now c.args.place) refl c.in-Some.ensures c.in-Some-front.ensures
+    (sym c.may_take.ensures ∙ c.if-not-may_take.false) c.move_front.ensures

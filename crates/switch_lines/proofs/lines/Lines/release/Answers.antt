@@ -1,18 +1,17 @@
 use Rattle.std.proofs.Common.{arith}
 use Rattle.switch_lines.specs.OfLine.{freed_on}
-use Rattle.switch_lines.proofs.Changing.{changed_lines, unchanged_lines}
+use Rattle.switch_lines.proofs.Pooled.{one_changed, none_changed, one_touched, pooled_set, serves_one}
 use Rattle.switch_lines.proofs.Touched.{count_kept}
-use Rattle.switch_lines.proofs.Left.{line_touched}
 use Rattle.switch_lines.proofs.lines.Lines.release.Goals as goal
 
 pub returns-then-place-len : goal.returns-then-place-len
 returns-then-place-len c =
-    changed_lines (freed_on c.args.place.channel) c.self.inside.lines.items c.args.self.now c.args.place.line
-    c.index_mut.result.now c.release.new.self c.self.view_is (omega arith) c.index_mut.ensures.value c.release.ensures
+    one_changed (freed_on c.args.place.channel) c.self.inside.lines.items c.args.self.now c.args.place.line
+    c.index_mut.result.now c.release.new.self c.self.view_is (omega arith) c.index_mut.ensures.value c.release.ensures.line
 
 pub returns-else-place-len : goal.returns-else-place-len
 returns-else-place-len c =
-    unchanged_lines (freed_on c.args.place.channel) c.self.inside.lines.items c.args.self.now c.args.place.line
+    none_changed (freed_on c.args.place.channel) c.self.inside.lines.items c.args.self.now c.args.place.line
     c.self.view_is (omega arith)
 
 pub invariant_of-self : goal.invariant_of-self
@@ -20,6 +19,14 @@ invariant_of-self c =
     let xs = c.self.inside.lines.items in
     record {
       most = count_kept xs c.args.place.line 64 c.release.new.self c.self.invariant.most;
-      rest = line_touched c.self.inside.touched c.insert.new.self c.self.inside.untaken xs c.args.place.line
+      rest = one_touched c.self.inside.touched c.insert.new.self c.self.inside.untaken xs c.args.place.line
           c.release.new.self (omega arith) c.insert.ensures c.self.invariant.rest;
+      pooled = pooled_set c.self.inside.pool c.release.new.pool c.self.inside.lines.items c.args.place.line c.index_mut.result.now c.release.new.self
+          c.self.invariant.pooled (omega arith) c.index_mut.ensures.value c.release.ensures.pool c.release.ensures.share
+          c.release.ensures.within;
     }
+
+pub release-requires : goal.release-requires
+release-requires c =
+    serves_one c.self.inside.pool c.self.inside.lines.items c.args.place.line c.index_mut.result.now c.self.invariant.pooled (omega arith)
+    c.index_mut.ensures.value

@@ -6,12 +6,13 @@ use Rattle.switch_lines.specs.Switch.{all_relinked, relinks_of, to_relink}
 use Rattle.switch_lines.proofs.Heeding.{acted_read}
 use Rattle.switch_lines.proofs.Ending.{relinks_no_more, relinks_one, first_there, listed_one, listed_no_more}
 use Rattle.switch_lines.proofs.Ending.{listed_all}
+use Rattle.switch_lines.proofs.Pooled.{plain_length}
 use Rattle.switch_lines.proofs.lines.Lines.relink_all.Goals as goal
 
 pub loop-init : goal.loop-init
 loop-init c =
     let same : length c.self.inside.lines.items ≡ length c.args.self.now =
-    ap (λ (ls : List SwitchLine). length ls) c.self.view_is in
+    sym (plain_length c.self.inside.lines.items) ∙ ap (λ (ls : List SwitchLine). length ls) c.self.view_is in
     let whole : c.len-end.result - 0 ≡ c.len-end.result = omega arith in
     record {
       end = omega (arith, same, c.len-end.ensures);

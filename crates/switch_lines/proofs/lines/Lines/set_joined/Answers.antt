@@ -1,20 +1,20 @@
 use Rattle.std.proofs.Common.{arith, ap}
 use Rattle.switch_lines.specs.Lines.{with_nth_joined, SwitchLine}
-use Rattle.switch_lines.proofs.Changing.{changed_lines, unchanged_lines}
+use Rattle.switch_lines.specs.Pooled.{PooledLine}
+use Rattle.switch_lines.proofs.Pooled.{one_changed, none_changed, joins_of_one, pooled_same}
 use Rattle.switch_lines.proofs.Touched.{count_kept}
-use Rattle.switch_lines.proofs.Left.{joins_change}
 use Rattle.switch_lines.proofs.lines.Lines.set_joined.Goals as goal
 
 pub returns-then-place-len : goal.returns-then-place-len
 returns-then-place-len c =
-    changed_lines (λ l. record l { joined = with_nth_joined l.joined c.args.place.channel c.args.joined })
+    one_changed (λ l. record l { joined = with_nth_joined l.joined c.args.place.channel c.args.joined })
     c.self.inside.lines.items c.args.self.now c.args.place.line
     c.index_mut.result.now c.set_joined.new.self c.self.view_is (omega arith) c.index_mut.ensures.value
-    c.set_joined.ensures
+    (ap (λ (p : PooledLine). p.line) c.set_joined.ensures)
 
 pub returns-else-place-len : goal.returns-else-place-len
 returns-else-place-len c =
-    unchanged_lines (λ l. record l { joined = with_nth_joined l.joined c.args.place.channel c.args.joined })
+    none_changed (λ l. record l { joined = with_nth_joined l.joined c.args.place.channel c.args.joined })
     c.self.inside.lines.items c.args.self.now c.args.place.line
     c.self.view_is (omega arith)
 
@@ -25,7 +25,9 @@ invariant_of-self c =
     let new = c.set_joined.new.self in
     record {
       most = count_kept xs n 64 new c.self.invariant.most;
-      rest = joins_change c.self.inside.touched c.self.inside.untaken xs n c.index_mut.result.now new (omega arith)
+      rest = joins_of_one c.self.inside.touched c.self.inside.untaken xs n c.index_mut.result.now new (omega arith)
           c.index_mut.ensures.value
-          (ap (λ (l : SwitchLine). l.end) c.set_joined.ensures) c.self.invariant.rest;
+          (ap (λ (p : PooledLine). p.line.end) c.set_joined.ensures) c.self.invariant.rest;
+      pooled = pooled_same c.self.inside.pool (λ l. record l { joined = with_nth_joined l.joined c.args.place.channel c.args.joined }) c.self.inside.lines.items c.args.place.line c.index_mut.result.now c.set_joined.new.self
+          c.self.invariant.pooled (omega arith) c.index_mut.ensures.value c.set_joined.ensures;
     }

@@ -1,0 +1,7 @@
+use Rattle.std.proofs.Common.{◌≡◌, ℕ, ◌+◌, ap, refl, subst, sym, arith}
+use Rattle.flow_window.specs.Pool.{Buffer, IsIn, weight}
+use Rattle.packet_channel.specs.Answers.{handed_back}
+use Rattle.switch_lines.proofs.line.SwitchLine.send_packet.Goals as goal
+
+pub send_buf-sent-requires : goal.send_buf-sent-requires
+send_buf-sent-requires c = subst (λ (b : Buffer). IsIn b c.args.pool.now) (sym c.into_buffer-buffer.ensures.value) c.requires

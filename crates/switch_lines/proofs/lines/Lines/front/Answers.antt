@@ -1,0 +1,26 @@
+use Rattle.std.proofs.Common.{ap, sym, arith, ◌∙◌}
+use Rattle.std.specs.Prelude.{Option}
+use Rattle.packet_layer.specs.TakenView.{maybe_front}
+use Rattle.switch_lines.specs.Lines.{SwitchLine, front_of_line}
+use Rattle.switch_lines.specs.Pooled.{plain}
+use Rattle.switch_lines.proofs.Changing.{not_there}
+use Rattle.switch_lines.proofs.Pooled.{one_seen, plain_length, serves_one}
+use Rattle.switch_lines.proofs.lines.Lines.front.Goals as goal
+
+pub front-requires : goal.front-requires
+front-requires c =
+    (serves_one c.self.inside.pool c.self.inside.lines.items c.args.place.line c.index.result.now c.self.invariant.pooled
+    (omega arith) c.index.ensures).holds
+
+pub returns-then-place-len : goal.returns-then-place-len
+returns-then-place-len c =
+    c.front.ensures
+    ∙ ap (λ (o : Option SwitchLine). maybe_front (front_of_line o c.args.place.channel))
+    (one_seen c.self.inside.lines.items c.args.self.now c.args.place.line c.index.result.now c.self.view_is (omega arith)
+    c.index.ensures)
+
+pub returns-else-place-len : goal.returns-else-place-len
+returns-else-place-len c =
+    let long = plain_length c.self.inside.lines.items in
+    rw (← c.self.view_is) (sym (ap (λ (o : Option SwitchLine). maybe_front (front_of_line o c.args.place.channel))
+    (not_there (plain c.self.inside.lines.items) c.args.place.line (omega (arith, long)))))

@@ -1,0 +1,159 @@
+use Rattle.std.proofs.Common.{◌≡◌, ◌≤◌, ◌<◌, ◌∙◌, ℕ, Bool, [], ◌∷◌, ap, ap₂, length, set, List, Option, Some, refl, sym, subst, arith}
+use Rattle.std.specs.Prelude.{◌+◌}
+use Rattle.flow_window.specs.Pool.{weight}
+use Rattle.packet_channel.specs.Held.{datum_in}
+use Rattle.packet_layer.specs.Channel.Request.{Taking, Sending, Interrupting}
+use Rattle.packet_layer.specs.TakenView.{taken_in, buffers_in}
+use Rattle.packet_layer.specs.Traffic.{Taken as TakenValue}
+use Rattle.packet_end.specs.PacketEnd.{asked}
+use Rattle.switch_lines.specs.Direction.{carried}
+use Rattle.switch_lines.specs.Lines.{SwitchLine, ask, front_of_line}
+use Rattle.switch_lines.specs.OfLine.{MovesFront, kept_at}
+use Rattle.switch_lines.specs.Pooled.{plain}
+use Rattle.switch_lines.specs.Switch.{with_end}
+use Rattle.switch_lines.proofs.Pooled.{one_changed, one_seen, one_touched, plain_length, handed_out, handed_in, none_in_hand, is_in_hand}
+use Rattle.switch_lines.proofs.Touched.{count_kept, count_written}
+use Rattle.switch_lines.proofs.lines.Lines.move_front.Goals as goal
+
+pub invariant_of-self : goal.invariant_of-self
+invariant_of-self c =
+    let same = ap (λ (ls : List SwitchLine). length ls) c.self.view_is in
+    let xs = c.self.inside.lines.items in
+    let long = plain_length xs in
+    let less : c.args.place.line < length xs = omega (arith, same, long, c.requires.there) in
+    let n = c.args.place.line in
+    let new = c.take_buf.new.self in
+    record {
+      most = count_kept xs n 64 new c.self.invariant.most;
+      rest = one_touched c.self.inside.touched c.insert.new.self c.self.inside.untaken xs n new less c.insert.ensures
+          c.self.invariant.rest;
+      pooled = none_in_hand c.self.inside.pool _ (handed_out c.self.inside.pool xs n c.index_mut.result.now new []
+          c.self.invariant.pooled less c.index_mut.ensures.value
+          (λ w. c.in-Some-Interrupt.ensures.held w
+          ∙ ap (λ x. weight w new.held + weight w (buffers_in x)) c.in-Some-Interrupt.field-0-is)
+          c.take_buf.ensures.share c.take_buf.ensures.within);
+    }
+
+pub invariant_of-self-in-None : goal.invariant_of-self-in-None
+invariant_of-self-in-None c =
+    let same = ap (λ (ls : List SwitchLine). length ls) c.self.view_is in
+    let xs = c.self.inside.lines.items in
+    let long = plain_length xs in
+    let less : c.args.place.line < length xs = omega (arith, same, long, c.requires.there) in
+    let n = c.args.place.line in
+    let new = c.take_buf.new.self in
+    record {
+      most = count_kept xs n 64 new c.self.invariant.most;
+      rest = one_touched c.self.inside.touched c.insert.new.self c.self.inside.untaken xs n new less c.insert.ensures
+          c.self.invariant.rest;
+      pooled = none_in_hand c.self.inside.pool _ (handed_out c.self.inside.pool xs n c.index_mut.result.now new []
+          c.self.invariant.pooled less c.index_mut.ensures.value c.in-None.ensures.held
+          c.take_buf.ensures.share c.take_buf.ensures.within);
+    }
+
+pub send_packet-requires : goal.send_packet-requires
+send_packet-requires c =
+    let same = ap (λ (ls : List SwitchLine). length ls) c.self.view_is in
+    let xs = c.self.inside.lines.items in
+    let long = plain_length xs in
+    let less : c.args.place.line < length xs = omega (arith, same, long, c.requires.there) in
+    let new = c.take_buf.new.self in
+    is_in_hand c.self.inside.pool _ c.in-Some-Data.packet.buffer
+    (handed_out c.self.inside.pool xs c.args.place.line c.index_mut.result.now new (c.in-Some-Data.packet.buffer ∷ [])
+    c.self.invariant.pooled less c.index_mut.ensures.value
+    (λ w. c.in-Some-Data.ensures.held w
+    ∙ ap (λ x. weight w new.held + weight w (buffers_in x)) c.in-Some-Data.field-0-is)
+    c.take_buf.ensures.share c.take_buf.ensures.within)
+
+pub invariant_of-self-in-Some-Data : goal.invariant_of-self-in-Some-Data
+invariant_of-self-in-Some-Data c =
+    let same = ap (λ (ls : List SwitchLine). length ls) c.self.view_is in
+    let xs = c.self.inside.lines.items in
+    let long = plain_length xs in
+    let less : c.args.place.line < length xs = omega (arith, same, long, c.requires.there) in
+    let n = c.args.place.line in
+    let m = c.args.other.line in
+    let new = c.take_buf.new.self in
+    let ys = set xs n new in
+    let kept = count_written xs n new in
+    let inside : c.args.other.line < length ys = omega (arith, same, long, kept, c.requires.other) in
+    record {
+      most = count_kept ys m 64 c.send_packet.new.self (count_kept xs n 64 new c.self.invariant.most);
+      rest = one_touched c.insert.new.self c.insert-in-Some-Data.new.self c.self.inside.untaken ys m c.send_packet.new.self inside
+          c.insert-in-Some-Data.ensures
+          (one_touched c.self.inside.touched c.insert.new.self c.self.inside.untaken xs n new less c.insert.ensures
+          c.self.invariant.rest);
+      pooled = handed_in c.self.inside.pool c.send_packet.new.pool ys m c.index_mut-in-Some-Data.result.now
+          c.send_packet.new.self c.in-Some-Data.packet.buffer
+          (handed_out c.self.inside.pool xs n c.index_mut.result.now new (c.in-Some-Data.packet.buffer ∷ [])
+          c.self.invariant.pooled less c.index_mut.ensures.value
+          (λ w. c.in-Some-Data.ensures.held w
+          ∙ ap (λ x. weight w new.held + weight w (buffers_in x)) c.in-Some-Data.field-0-is)
+          c.take_buf.ensures.share c.take_buf.ensures.within)
+          inside c.index_mut-in-Some-Data.ensures.value c.send_packet.ensures.pool c.send_packet.ensures.share
+          c.send_packet.ensures.within;
+    }
+
+pub returns-in-None : goal.returns-in-None
+returns-in-None c =
+    let same = ap (λ (ls : List SwitchLine). length ls) c.self.view_is in
+    let xs = c.self.inside.lines.items in
+    let long = plain_length xs in
+    let less : c.args.place.line < length xs = omega (arith, same, long, c.requires.there) in
+    let n = c.args.place.line in
+    let seen = one_seen xs c.args.self.now n c.index_mut.result.now c.self.view_is less c.index_mut.ensures.value in
+    let none = c.in-None.ensures.taken ∙ ap (λ (o : Option SwitchLine). front_of_line o c.args.place.channel) seen in
+    subst (λ (o : Option TakenValue). MovesFront o c.args.place c.args.other c.args.self.now (plain (set xs n c.take_buf.new.self)))
+    none tt
+
+pub returns-in-Some-Interrupt : goal.returns-in-Some-Interrupt
+returns-in-Some-Interrupt c =
+    let same = ap (λ (ls : List SwitchLine). length ls) c.self.view_is in
+    let xs = c.self.inside.lines.items in
+    let long = plain_length xs in
+    let less : c.args.place.line < length xs = omega (arith, same, long, c.requires.there) in
+    let n = c.args.place.line in
+    let q = c.args.other in
+    let new = c.take_buf.new.self in
+    let seen = one_seen xs c.args.self.now n c.index_mut.result.now c.self.view_is less c.index_mut.ensures.value in
+    let taken = one_changed (with_end (λ e. asked e c.args.place.channel Taking)) xs c.args.self.now n c.index_mut.result.now
+    new c.self.view_is less c.index_mut.ensures.value c.take_buf.ensures.line in
+    let i = c.in-Some-Interrupt.interrupt in
+    let front = ap (λ x. Some (taken_in x)) (sym c.in-Some-Interrupt.field-0-is) ∙ c.in-Some-Interrupt.ensures.taken
+    ∙ ap (λ (o : Option SwitchLine). front_of_line o c.args.place.channel) seen in
+    let asked_there = c.ask.ensures
+    ∙ ap (λ (o : List ℕ). ask q (Interrupting o) (plain (set xs n new))) c.octets.ensures.value
+    ∙ ap (λ (ls : List SwitchLine). ask q (Interrupting i) ls) taken in
+    subst (λ (o : Option TakenValue). MovesFront o c.args.place q c.args.self.now c.ask.new.self) front (
+      asked_there,
+      subst (λ (o : List ℕ). (1 ≤ length o) × (length o ≤ 32)) c.octets.ensures.value
+          (c.octets.ensures.least, c.octets.ensures.most),
+    )
+
+pub returns-in-Some-Data : goal.returns-in-Some-Data
+returns-in-Some-Data c =
+    let same = ap (λ (ls : List SwitchLine). length ls) c.self.view_is in
+    let xs = c.self.inside.lines.items in
+    let long = plain_length xs in
+    let less : c.args.place.line < length xs = omega (arith, same, long, c.requires.there) in
+    let n = c.args.place.line in
+    let q = c.args.other in
+    let new = c.take_buf.new.self in
+    let seen = one_seen xs c.args.self.now n c.index_mut.result.now c.self.view_is less c.index_mut.ensures.value in
+    let taken = one_changed (with_end (λ e. asked e c.args.place.channel Taking)) xs c.args.self.now n c.index_mut.result.now
+    new c.self.view_is less c.index_mut.ensures.value c.take_buf.ensures.line in
+    let p = c.in-Some-Data.packet in
+    let d = datum_in p in
+    let ys = set xs n new in
+    let kept = count_written xs n new in
+    let inside : c.args.other.line < length ys = omega (arith, same, long, kept, c.requires.other) in
+    let front = ap (λ x. Some (taken_in x)) (sym c.in-Some-Data.field-0-is) ∙ c.in-Some-Data.ensures.taken
+    ∙ ap (λ (o : Option SwitchLine). front_of_line o c.args.place.channel) seen in
+    let sent = one_changed (with_end (λ e. asked e q.channel (Sending d))) ys (plain ys) q.line
+    c.index_mut-in-Some-Data.result.now c.send_packet.new.self refl inside c.index_mut-in-Some-Data.ensures.value
+    c.send_packet.ensures.line in
+    let carried_on = c.carry.ensures
+    ∙ ap₂ (λ (b : Bool) (ls : List SwitchLine). kept_at c.args.place (carried b) ls) c.delivery-delivery.ensures
+    (sent ∙ ap (λ (ls : List SwitchLine). ask q (Sending d) ls) taken) in
+    subst (λ (o : Option TakenValue). MovesFront o c.args.place q c.args.self.now c.carry.new.self) front
+    (carried_on, c.send_packet.ensures.fits)
