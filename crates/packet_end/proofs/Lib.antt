@@ -3,3 +3,5 @@ pub mod Offering
 pub mod Wanted
 pub mod Untouched
 pub mod Waits
+pub mod Owned
+pub mod Lent

@@ -1,11 +1,15 @@
--- What contracts see of the code's end of a line with its packet layer, and what always holds of it.
+-- What contracts see of the code's end of a line with its pool, and what always holds of them.
+use Rattle.std.specs.Prelude.{◌≡◌, ℕ, length}
+use Rattle.flow_window.specs.Pool.{Buffer, weight, pooled}
+use Rattle.frame_codec.specs.Spelling.{most_information}
 use Rattle.packet_end.specs.PacketEnd.{PacketEnd}
-use Rattle.packet_end.specs.Touched.{OthersAgree}
 use Rattle.packet_end.specs.declared.end.PacketEnd.TheInside.{Inside}
 
 abbrev pub end_of : Inside → PacketEnd
-end_of a = record { line = a.stack.line; layer = a.stack.layer; timers = a.timers; notes = a.notes }
+end_of a = a.end.end
 
--- the timers of the channels that no event touched run as the layer wants them to
-abbrev pub IsEnd : Inside → Type 0
-IsEnd a = OthersAgree a.stack.layer a.timers a.touched
+-- the pool has the end's share of buffers, and those in use are the ones that the end holds
+pub record IsEnd (a : Inside) : Type 0 where
+  pub size : a.pool.size ≡ most_information
+  pub places : length a.pool.places ≡ a.end.share
+  pub exact : (w : Buffer → ℕ) → pooled w a.pool ≡ weight w a.end.held

@@ -1,9 +1,19 @@
--- What contracts see of the code's link and packet layer with their pool, and what always holds of them.
+-- What contracts see of the code's link and packet layer, and what always holds of them.
+use Rattle.std.specs.Prelude.{◌≤◌, ◌++◌, length}
+use Rattle.packet_layer.specs.Held.{most_held}
 use Rattle.packet_end.specs.declared.stack.Stack.TheInside.{Inside}
-use Rattle.packet_end.specs.Stack.{Stack, IsPooled}
+use Rattle.packet_end.specs.Pooled.{share_of}
+use Rattle.packet_end.specs.Stack.{Stack}
 
 abbrev pub stack_of : Inside → Stack
-stack_of a = record { line = a.line.end; layer = a.layer.layer }
+stack_of a = record {
+  line = a.line.end;
+  layer = a.layer.layer;
+  held = a.line.held ++ a.layer.held;
+  share = share_of a.line.end a.layer.layer;
+}
 
-abbrev pub IsStack : Inside → Type 0
-IsStack a = IsPooled a.pool a.line a.layer
+-- neither holds more than it may
+pub record IsStack (a : Inside) : Type 0 where
+  pub line : length a.line.held ≤ a.line.end.link.k
+  pub layer : length a.layer.held ≤ most_held a.layer.layer

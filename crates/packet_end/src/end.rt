@@ -1,48 +1,46 @@
 //! One end of a line with its packet layer.
-ghost use Rattle.std.specs.Prelude.{◌≡◌, ◌≤◌, ◌+◌, [], ◌∷◌, length, MatchResult, slice_get};
+ghost use Rattle.std.specs.Prelude.{◌≡◌, ◌≤◌, ◌+◌, ◌&&◌, [], ◌∷◌, length, is_some, MatchResult, slice_get};
 ghost use Rattle.std.specs.Bool.{OnTrue, OnFalse};
+ghost use Rattle.lapb.specs.Machine.{can_offer};
 ghost use Rattle.lapb.specs.Unsent.{HasSentAll};
+ghost use Rattle.packet_layer.specs.Layer.{next_packet};
 ghost use Rattle.packet_end.specs.Params.{AreParams, MadeNot};
 ghost use Rattle.packet_end.specs.Timing.{TimersAgree};
-ghost use Rattle.packet_end.specs.PacketEnd.{made, begun, gathered, heeded, received, runs_at, after_timer, relinked};
+ghost use Rattle.packet_end.specs.PacketEnd.{made, begun, received, runs_at, after_timer, relinked};
 ghost use Rattle.packet_end.specs.PacketEnd.{relinked_if_due, restarted, KeepsNothingBack, settled, finished};
+ghost use Rattle.packet_end.specs.PacketEnd.{all_offered, HasOfferedAll};
 ghost use Rattle.packet_end.specs.PacketEnd.{elapsed, due, at_rest, without_first_frame, without_first_note};
 
 mod asking;
-mod offering;
 
 use crate::fault::EndFault;
-use crate::notes::{MOST_NOTES, NoteQueue};
+use crate::notes::MOST_NOTES;
 use crate::params::EndParams;
-use crate::stack::Stack;
-use crate::timing::bring_into_line;
-use crate::touched::Touched;
-use frame_codec::FrameBuf;
-use lapb::Note;
+use crate::pooled::PooledEnd;
+use flow_window::pool::Pool;
+use frame_codec::{FrameBuf, MAX_INFORMATION};
 use line_end::MOST_FRAMES;
-use link_timers::{Role, TimerId, Timers};
+use link_timers::{Role, TimerId};
 use packet_layer::LayerNote;
 use std::alloc::Global;
 use std::marker::Model;
 
 /// One end of a line with its packet layer: the link with the frames that go out, the logical channels, the timers of
-/// both, and what is told of the calls.
+/// both, and what is told of the calls. Its packets lie in a pool of its own.
 ///
 /// An event of a node is, for each of its lines: `begin`, then what happens at this line (`on_frame`, `on_timer`,
 /// `relink` or what a user asks of a call), `relink_if_due`, `offer_packets` and `settle`; a node with one line ends it
 /// by `finish`. Then the frames are taken by `out` and the notes by `notes`.
 #[derive(Drop)]
 pub struct PacketEnd {
-    stack: Stack,
-    timers: Timers,
-    notes: NoteQueue,
-    touched: Touched,
+    end: PooledEnd,
+    pool: Pool,
 }
 
 impl Model for PacketEnd {
-    ghost use Rattle.packet_end.specs.PacketEnd as end;
+    ghost use Rattle.packet_end.specs.PacketEnd.{PacketEnd as EndValue};
 
-    ghost Value = { end.PacketEnd };
+    ghost Value = { EndValue };
 
     ghost use Rattle.packet_end.specs.EndView.{end_of, IsEnd};
 
@@ -63,20 +61,17 @@ impl PacketEnd {
             (λ end. AreParams params × (end ≡ made role params))
             (λ fault. MadeNot params fault) }
     {
-        Ok(PacketEnd {
-            stack: Stack::new(alloc, role, params)?,
-            timers: Timers::new(),
-            notes: NoteQueue::new(alloc)?,
-            touched: Touched::Everything,
-        })
+        params.check()?;
+        let mut pool = Pool::new(alloc, params.buffers(), MAX_INFORMATION)?;
+        let end = PooledEnd::new(alloc, role, params, &mut pool)?;
+        Ok(PacketEnd { end, pool })
     }
 
     /// Begins an event of the node: drops the frames, as lost, and the notes that were not taken.
     pub fn begin(&mut self)
         ensures { self.new ≡ begun self.old }
     {
-        self.stack.drop_frames();
-        self.notes.clear();
+        self.end.begin();
     }
 
     /// Takes the octets of a received frame, and hands what it tells to the packet layer (X.25 2.4, 3 to 5).
@@ -85,23 +80,14 @@ impl PacketEnd {
         ensures end { self.new ≡ received self.old octets.now }
         ensures notes { length self.new.notes ≤ 64 }
     {
-        let received = self.stack.on_frame(octets);
-        self.heed(received.note);
-        if let Some(packet) = received.packet {
-            self.touched.insert_named(packet);
-            self.stack.on_packet(packet);
-            self.gather();
-        }
+        self.end.on_frame(octets, &mut self.pool);
     }
 
     /// Whether a timer runs, also with no tick left.
     pub fn is_running(&self, id: TimerId) -> bool
         ensures { result ≡ runs_at self.now id }
     {
-        match id {
-            TimerId::T1 => self.stack.line().is_running(id),
-            _ => self.timers.is_running(id),
-        }
+        self.end.is_running(id)
     }
 
     /// Takes an expiry of a timer. Where the timer does not run nothing happens.
@@ -110,15 +96,7 @@ impl PacketEnd {
         ensures end { self.new ≡ after_timer self.old id }
         ensures notes { length self.new.notes ≤ 64 }
     {
-        if let TimerId::T1 = id {
-            if let Some(note) = self.stack.on_line_timer(id) {
-                self.heed(note);
-            }
-        } else if self.timers.fire(id) {
-            self.touched = Touched::Everything;
-            self.stack.on_layer_timer(id);
-            self.gather();
-        }
+        self.end.on_timer(id, &mut self.pool);
     }
 
     /// Gives the link up and sets it up again: all calls close.
@@ -127,18 +105,14 @@ impl PacketEnd {
         ensures end { self.new ≡ relinked self.old }
         ensures notes { length self.new.notes ≤ length self.old.notes + 32 }
     {
-        self.stack.relink();
-        self.stack.link_down();
-        self.timers = Timers::new();
-        self.touched = Touched::Everything;
-        self.gather();
+        self.end.relink(&mut self.pool);
     }
 
     /// Whether the packet layer asks for it.
     pub fn must_relink(&self) -> bool
         ensures { result ≡ self.now.layer.relink }
     {
-        self.stack.layer().must_relink()
+        self.end.must_relink()
     }
 
     /// Does so where the packet layer asks for it.
@@ -147,7 +121,7 @@ impl PacketEnd {
         ensures end { self.new ≡ relinked_if_due self.old }
         ensures notes { length self.new.notes ≤ length self.old.notes + 32 }
     {
-        if self.stack.layer().must_relink() {
+        if self.must_relink() {
             self.relink();
         }
     }
@@ -157,13 +131,7 @@ impl PacketEnd {
     pub fn restart(&mut self)
         ensures { self.new ≡ restarted self.old }
     {
-        self.notes.clear();
-        self.stack.restart();
-        self.stack.link_down();
-        self.timers = Timers::new();
-        self.touched = Touched::Everything;
-        self.gather();
-        self.notes.clear();
+        self.end.restart(&mut self.pool);
     }
 
     /// Ends an event: the timers run as the packet layer wants them, and the link sends what may go.
@@ -174,9 +142,19 @@ impl PacketEnd {
         ensures all_sent { HasSentAll self.new.line.link }
         ensures timers { TimersAgree self.new.layer self.new.timers }
     {
-        bring_into_line(&mut self.timers, self.stack.layer(), self.touched);
-        self.touched = Touched::Nothing;
-        self.stack.settle();
+        self.end.settle(&mut self.pool);
+    }
+
+    /// Offers packets to the link, as long as it takes one and the packet layer has one that may go, and answers
+    /// whether it took any.
+    pub fn offer_packets(&mut self) -> bool
+        ensures offered { result
+            ≡ (can_offer self.old.line.link && is_some (next_packet self.old.layer).packet) }
+        ensures end { self.new ≡ all_offered self.old }
+        ensures notes { self.new.notes ≡ self.old.notes }
+        ensures all_offered { HasOfferedAll self.new }
+    {
+        self.end.offer_packets(&mut self.pool)
     }
 
     /// Ends an event of a node with one line: a relink where it is due, all packets that may go, and `settle`.
@@ -199,7 +177,7 @@ impl PacketEnd {
         ensures same { OnFalse result (frame.new ≡ frame.old) }
         ensures end { self.new ≡ without_first_frame self.old }
     {
-        self.stack.out(frame)
+        self.end.out(frame)
     }
 
     /// Takes the next note, if there is one.
@@ -207,25 +185,21 @@ impl PacketEnd {
         ensures note { maybe_note result ≡ slice_get self.old.notes 0 }
         ensures end { self.new ≡ without_first_note self.old }
     {
-        self.notes.take()
+        self.end.notes()
     }
 
     /// Lets ticks pass, each a twentieth of a second: each timer that runs has so many less, not below 0.
     pub fn elapse(&mut self, ticks: u16)
         ensures { self.new ≡ elapsed self.old ticks }
     {
-        self.stack.elapse(ticks);
-        self.timers.elapse(ticks);
+        self.end.elapse(ticks);
     }
 
     /// The first timer that runs with no tick left, in the order of [`TimerId`] and then by number.
     pub fn due(&self) -> Option<TimerId>
         ensures { result ≡ due self.now }
     {
-        match self.stack.line().due() {
-            Some(id) => Some(id),
-            None => self.timers.due(),
-        }
+        self.end.due()
     }
 
     /// How many frames wait to be taken, at most [`MOST_FRAMES`].
@@ -233,7 +207,7 @@ impl PacketEnd {
         ensures count { result ≡ length self.now.line.frames }
         ensures most { result ≤ MOST_FRAMES }
     {
-        self.stack.line().waiting()
+        self.end.waiting_frames()
     }
 
     /// How many notes wait to be taken, at most [`MOST_NOTES`].
@@ -241,7 +215,7 @@ impl PacketEnd {
         ensures count { result ≡ length self.now.notes }
         ensures most { result ≤ MOST_NOTES }
     {
-        self.notes.len()
+        self.end.waiting_notes()
     }
 
     /// Whether the link is up with nothing unacknowledged and nothing to be said, no packet is owed, and nothing waits
@@ -249,42 +223,13 @@ impl PacketEnd {
     pub fn is_at_rest(&self) -> bool
         ensures { result ≡ at_rest self.now }
     {
-        self.stack.line().at_rest() && self.stack.layer().is_at_rest()
+        self.end.is_at_rest()
     }
 
     /// The role of this end of the line.
     pub fn role(&self) -> Role
         ensures { result ≡ self.now.line.link.role }
     {
-        self.stack.line().role()
-    }
-
-    // What a note of the link is for the packet layer.
-    fn heed(&mut self, note: Note)
-        requires { length self.old.notes ≤ 64 }
-        ensures end { self.new ≡ heeded note self.old }
-        ensures notes { length self.new.notes ≤ length self.old.notes + 32 }
-    {
-        match note {
-            Note::Nothing => return,
-            Note::Up => self.stack.link_up(),
-            Note::Down => self.stack.link_down(),
-        }
-        self.timers = Timers::new();
-        self.touched = Touched::Everything;
-        self.gather();
-    }
-
-    // Takes the notes of the packet layer over.
-    fn gather(&mut self)
-        requires { length self.old.notes ≤ 64 }
-        ensures end { self.new ≡ gathered self.old }
-        ensures notes { length self.new.notes ≤ length self.old.notes + 32 }
-    {
-        for _ in 0..self.stack.layer().unread_notes() {
-            if let Some(note) = self.stack.notes() {
-                self.notes.add(note);
-            }
-        }
+        self.end.role()
     }
 }

@@ -1,11 +1,12 @@
 //! The parameters of an end of a line.
 ghost use Rattle.std.specs.Prelude.{◌≡◌, MatchResult};
 ghost use Rattle.packet_end.specs.Params.{AreParams};
+ghost use Rattle.packet_end.specs.Pooled.{share_with};
 ghost use Rattle.packet_end.specs.declared.fault.EndFault.TheVariants as fault_is;
 
 use crate::fault::EndFault;
 use lapb::LinkParams;
-use packet_layer::LayerParams;
+use packet_layer::{LayerParams, SEND_QUEUE};
 
 /// How one end of a line is to be made.
 #[derive(Clone, Copy, Debug, PartialEq, Eq)]
@@ -42,5 +43,13 @@ impl EndParams {
         };
         layer.check()?;
         Ok(())
+    }
+    /// How many buffers the end needs of a pool: for the packets that the link may have unacknowledged, for both queues
+    /// of each channel, and one for the packet that goes from one to the other.
+    pub fn buffers(&self) -> usize
+        ensures { result ≡ share_with self.now }
+    {
+        let of_channel = usize::from(self.window) + SEND_QUEUE;
+        usize::from(self.k) + usize::from(self.channels) * of_channel + 1
     }
 }

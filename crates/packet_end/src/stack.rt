@@ -1,8 +1,8 @@
 //! The link and the packet layer of one line, whose packets lie in one pool.
-ghost use Rattle.std.specs.Prelude.{◌≡◌, ◌≤◌, [], ◌∷◌, length, MatchOption, MatchResult, Some, None, drop, is_some};
+ghost use Rattle.std.specs.Prelude.{◌≡◌, ◌<◌, [], ◌∷◌, length, MatchResult, Some, None, drop, is_some};
 ghost use Rattle.std.specs.Prelude.{option_copied, slice_get};
 ghost use Rattle.std.specs.Bool.{OnTrue, OnFalse};
-ghost use Rattle.lapb.specs.Machine as link;
+ghost use Rattle.flow_window.specs.Pool.{IsIn, Holds, Balances};
 ghost use Rattle.lapb.specs.Octets as link_octets;
 ghost use Rattle.lapb.specs.Unsent.{HasSentAll};
 ghost use Rattle.line_end.specs.End as line;
@@ -14,33 +14,33 @@ ghost use Rattle.packet_layer.specs.Layer as machine;
 ghost use Rattle.packet_layer.specs.NoteView.{maybe_note};
 ghost use Rattle.packet_layer.specs.Octets.{parts_of};
 ghost use Rattle.packet_layer.specs.RequestView.{request_of, refusal_of, call_refusal_of};
-ghost use Rattle.packet_layer.specs.TakenView.{maybe_taken, maybe_front};
-ghost use Rattle.packet_end.specs.Params.{AreParams, MadeNot};
+ghost use Rattle.packet_layer.specs.TakenView.{maybe_taken, maybe_taken_in, maybe_buffers_in, maybe_front};
+ghost use Rattle.packet_channel.specs.Answers.{handed_back};
+ghost use Rattle.packet_channel.specs.Held.{Loses, Takes};
+ghost use Rattle.packet_end.specs.Params.{AreParams};
+ghost use Rattle.packet_end.specs.Pooled.{Serves, share_with};
+ghost use Rattle.packet_end.specs.declared.fault.EndFault.TheVariants as fault_is;
 
 use crate::fault::EndFault;
 use crate::params::EndParams;
-use flow_window::pool::Pool;
-use frame_codec::{FrameBuf, MAX_INFORMATION};
+use flow_window::pool::{BufNo, Pool};
+use frame_codec::FrameBuf;
 use lapb::{LinkParams, Note};
 use line_end::{LineEnd, Received};
 use link_timers::{Role, TimerId};
 use packet_codec::{CallData, PacketBuf};
 use packet_layer::{
-    CallFault, ChannelFault, Front, Layer, LayerNote, LayerParams, Request, SEND_QUEUE, Taken,
+    CallFault, ChannelFault, Front, Layer, LayerNote, LayerParams, RefusedBuf, Request, Taken,
+    TakenBuf,
 };
 use std::alloc::Global;
 use std::marker::Model;
 
-/// The link of a line with its frames, the packet layer above it, and the pool in whose buffers the packets of both
-/// lie.
-///
-/// There are buffers for the packets that the link may have unacknowledged, for both queues of each channel, and one
-/// for the packet that goes from one to the other.
+/// The link of a line with its frames, and the packet layer above it. The packets of both lie in the same pool.
 #[derive(Drop)]
 pub(crate) struct Stack {
     line: LineEnd,
     layer: Layer,
-    pool: Pool,
 }
 
 impl Model for Stack {
@@ -56,14 +56,23 @@ impl Model for Stack {
 }
 
 impl Stack {
-    /// It takes all the memory that it ever uses.
-    pub(crate) fn new(alloc: Global, role: Role, params: EndParams) -> Result<Self, EndFault>
-        ensures { MatchResult result
-            (λ stack. AreParams params × (stack ≡ record {
+    /// It takes all the memory that it ever uses, but for the pool. `OutOfMemory` comes for want of memory.
+    pub(crate) fn new(
+        alloc: Global,
+        role: Role,
+        params: EndParams,
+        pool: &mut Pool,
+    ) -> Result<Self, EndFault>
+        requires { AreParams params }
+        ensures stack { MatchResult result
+            (λ stack. stack ≡ record {
               line = line.made role params.k params.n2 params.standing;
               layer = machine.made role params.channels params.window params.standing;
-            }))
-            (λ fault. MadeNot params fault) }
+              held = [];
+              share = share_with params;
+            })
+            (λ fault. fault ≡ fault_is.OutOfMemory) }
+        ensures pool { Balances pool.old [] pool.new [] }
     {
         let EndParams {
             k,
@@ -72,21 +81,14 @@ impl Stack {
             window,
             standing,
         } = params;
-        let link = LinkParams { k, n2, standing };
-        link.check()?;
-        let layer = Layer::new(
-            alloc,
-            role,
-            LayerParams {
-                channels,
-                window,
-                standing,
-            },
-        )?;
-        let queued = usize::from(channels) * (usize::from(window) + SEND_QUEUE);
-        let mut pool = Pool::new(alloc, usize::from(k) + queued + 1, MAX_INFORMATION)?;
-        let line = LineEnd::new(role, link, &mut pool)?;
-        Ok(Stack { line, layer, pool })
+        let layer = LayerParams {
+            channels,
+            window,
+            standing,
+        };
+        let layer = Layer::new(alloc, role, layer)?;
+        let line = LineEnd::new(role, LinkParams { k, n2, standing }, pool)?;
+        Ok(Stack { line, layer })
     }
 
     /// The link.
@@ -113,43 +115,69 @@ impl Stack {
     }
 
     /// The link takes the octets of a received frame.
-    pub(crate) fn on_frame<'a>(&mut self, octets: &'a [u8]) -> Received<'a>
-        ensures stack { self.new ≡ record self.old { line = line.received self.old.line octets.now } }
+    pub(crate) fn on_frame<'a>(&mut self, octets: &'a [u8], pool: &mut Pool) -> Received<'a>
+        requires { Serves pool.old self.old.held self.old.share }
+        ensures stack { self.new ≡ record self.old {
+          line = line.received self.old.line octets.now;
+          held = self.new.held;
+        } }
         ensures note { result.note ≡ (link_octets.on_octets self.old.line.link octets.now).note }
         ensures packet { option_copied result.packet
             ≡ (link_octets.on_octets self.old.line.link octets.now).accepted }
+        ensures pool { Balances pool.old self.old.held pool.new self.new.held }
+        ensures within { length self.new.held < self.new.share }
     {
-        self.line.on_frame(octets, &mut self.pool)
+        self.line.on_frame(octets, pool)
     }
 
     /// The link takes an expiry of a timer.
-    pub(crate) fn on_line_timer(&mut self, id: TimerId) -> Option<Note>
-        ensures stack { self.new ≡ record self.old { line = line.after_timer self.old.line id } }
+    pub(crate) fn on_line_timer(&mut self, id: TimerId, pool: &mut Pool) -> Option<Note>
+        requires { Serves pool.old self.old.held self.old.share }
+        ensures stack { self.new ≡ record self.old {
+          line = line.after_timer self.old.line id;
+          held = self.new.held;
+        } }
         ensures note { result ≡ line.timer_note self.old.line id }
+        ensures pool { Balances pool.old self.old.held pool.new self.new.held }
+        ensures within { length self.new.held < self.new.share }
     {
-        self.line.on_timer(id, &mut self.pool)
+        self.line.on_timer(id, pool)
     }
 
     /// The link is given up and set up again.
-    pub(crate) fn relink(&mut self)
-        ensures { self.new ≡ record self.old { line = line.relinked self.old.line } }
+    pub(crate) fn relink(&mut self, pool: &mut Pool)
+        requires { Serves pool.old self.old.held self.old.share }
+        ensures stack { self.new ≡ record self.old {
+          line = line.relinked self.old.line;
+          held = self.new.held;
+        } }
+        ensures pool { Balances pool.old self.old.held pool.new self.new.held }
+        ensures within { length self.new.held < self.new.share }
     {
-        self.line.relink(&mut self.pool);
+        self.line.relink(pool);
     }
 
     /// The link begins anew after a restart of the node.
-    pub(crate) fn restart(&mut self)
-        ensures { self.new ≡ record self.old { line = line.restarted self.old.line } }
+    pub(crate) fn restart(&mut self, pool: &mut Pool)
+        requires { Serves pool.old self.old.held self.old.share }
+        ensures stack { self.new ≡ record self.old {
+          line = line.restarted self.old.line;
+          held = self.new.held;
+        } }
+        ensures pool { Balances pool.old self.old.held pool.new self.new.held }
+        ensures within { length self.new.held < self.new.share }
     {
-        self.line.restart(&mut self.pool);
+        self.line.restart(pool);
     }
 
     /// The link sends what may go.
-    pub(crate) fn settle(&mut self)
+    pub(crate) fn settle(&mut self, pool: &mut Pool)
+        requires { Serves pool.old self.old.held self.old.share }
         ensures stack { self.new ≡ record self.old { line = line.settled self.old.line } }
         ensures all_sent { HasSentAll self.new.line.link }
+        ensures pool { pool.new ≡ pool.old }
     {
-        self.line.settle(&mut self.pool);
+        self.line.settle(pool);
     }
 
     /// Takes the next frame that goes out, if there is one. Where there is none `frame` stays.
@@ -172,33 +200,55 @@ impl Stack {
     // ---- the packet layer
 
     /// A session of the link begins.
-    pub(crate) fn link_up(&mut self)
-        ensures { self.new ≡ record self.old { layer = machine.link_up self.old.layer } }
+    pub(crate) fn link_up(&mut self, pool: &mut Pool)
+        requires { Serves pool.old self.old.held self.old.share }
+        ensures stack { self.new ≡ record self.old {
+          layer = machine.link_up self.old.layer;
+          held = self.new.held;
+        } }
+        ensures pool { Balances pool.old self.old.held pool.new self.new.held }
+        ensures within { length self.new.held < self.new.share }
     {
-        self.layer.link_up(&mut self.pool);
+        self.layer.link_up(pool);
     }
 
     /// The session of the link has ended.
-    pub(crate) fn link_down(&mut self)
-        ensures { self.new ≡ record self.old { layer = machine.link_down self.old.layer } }
+    pub(crate) fn link_down(&mut self, pool: &mut Pool)
+        requires { Serves pool.old self.old.held self.old.share }
+        ensures stack { self.new ≡ record self.old {
+          layer = machine.link_down self.old.layer;
+          held = self.new.held;
+        } }
+        ensures pool { Balances pool.old self.old.held pool.new self.new.held }
+        ensures within { length self.new.held < self.new.share }
     {
-        self.layer.link_down(&mut self.pool);
+        self.layer.link_down(pool);
     }
 
     /// The layer takes the octets of a packet.
-    pub(crate) fn on_packet(&mut self, octets: &[u8])
-        ensures { self.new ≡ record self.old { layer = on_octets self.old.layer octets.now } }
+    pub(crate) fn on_packet(&mut self, octets: &[u8], pool: &mut Pool)
+        requires { Serves pool.old self.old.held self.old.share }
+        ensures stack { self.new ≡ record self.old {
+          layer = on_octets self.old.layer octets.now;
+          held = self.new.held;
+        } }
+        ensures pool { Balances pool.old self.old.held pool.new self.new.held }
+        ensures within { length self.new.held < self.new.share }
     {
-        self.layer.on_packet(octets, &mut self.pool);
+        self.layer.on_packet(octets, pool);
     }
 
     /// The layer takes an expiry of a timer.
-    pub(crate) fn on_layer_timer(&mut self, id: TimerId)
-        ensures { self.new ≡ record self.old {
+    pub(crate) fn on_layer_timer(&mut self, id: TimerId, pool: &mut Pool)
+        requires { Serves pool.old self.old.held self.old.share }
+        ensures stack { self.new ≡ record self.old {
           layer = on_named self.old.layer (timer_named self.old.layer.role id);
+          held = self.new.held;
         } }
+        ensures pool { Balances pool.old self.old.held pool.new self.new.held }
+        ensures within { length self.new.held < self.new.share }
     {
-        self.layer.on_timer(id, &mut self.pool);
+        self.layer.on_timer(id, pool);
     }
 
     /// Takes the first note of the layer that is not read, if any.
@@ -225,48 +275,111 @@ impl Stack {
     }
 
     /// Asks something of the call on a channel.
-    pub(crate) fn ask(&mut self, channel: u8, request: &Request<'_>) -> Result<(), ChannelFault>
+    pub(crate) fn ask(
+        &mut self,
+        channel: u8,
+        request: &Request<'_>,
+        pool: &mut Pool,
+    ) -> Result<(), ChannelFault>
+        requires { Serves pool.old self.old.held self.old.share }
         ensures answer { MatchResult result
             (λ _. machine.request_refusal self.old.layer channel (request_of request.now) ≡ None)
             (λ fault. machine.request_refusal self.old.layer channel (request_of request.now)
             ≡ Some (refusal_of fault)) }
         ensures stack { self.new ≡ record self.old {
           layer = machine.request self.old.layer channel (request_of request.now);
+          held = self.new.held;
         } }
+        ensures pool { Balances pool.old self.old.held pool.new self.new.held }
+        ensures within { length self.new.held < self.new.share }
     {
-        self.layer.ask(channel, request, &mut self.pool)
+        self.layer.ask(channel, request, pool)
     }
 
     /// Takes what comes next on a channel.
-    pub(crate) fn take(&mut self, channel: u8) -> Option<Taken>
+    pub(crate) fn take(&mut self, channel: u8, pool: &mut Pool) -> Option<Taken>
+        requires { Serves pool.old self.old.held self.old.share }
         ensures taken { maybe_taken result ≡ machine.front_on self.old.layer channel }
-        ensures stack { self.new ≡ record self.old { layer = machine.request self.old.layer channel ask.Taking } }
+        ensures stack { self.new ≡ record self.old {
+          layer = machine.request self.old.layer channel ask.Taking;
+          held = self.new.held;
+        } }
+        ensures pool { Balances pool.old self.old.held pool.new self.new.held }
+        ensures within { length self.new.held < self.new.share }
     {
-        self.layer.take(channel, &mut self.pool)
+        self.layer.take(channel, pool)
+    }
+
+    /// Takes what comes next on a channel, with a packet in its buffer.
+    pub(crate) fn take_buf(&mut self, channel: u8) -> Option<TakenBuf>
+        ensures taken { maybe_taken_in result ≡ machine.front_on self.old.layer channel }
+        ensures stack { self.new ≡ record self.old {
+          layer = machine.request self.old.layer channel ask.Taking;
+          held = self.new.held;
+        } }
+        ensures held { Loses self.old.held (maybe_buffers_in result) self.new.held }
+        ensures within { length self.new.held < self.new.share }
+    {
+        self.layer.take_buf(channel)
+    }
+
+    /// Puts a packet that lies in a buffer into the send queue of a channel.
+    pub(crate) fn send_buf(
+        &mut self,
+        channel: u8,
+        buffer: BufNo,
+        more: bool,
+        qualified: bool,
+        delivery: bool,
+        pool: &Pool,
+    ) -> Result<(), RefusedBuf>
+        requires { IsIn buffer pool.now }
+        ensures answer { let asks = ask.Sending
+            (record { octets = buffer.octets; more = more; qualified = qualified; delivery = delivery }) in
+            MatchResult result
+            (λ _. machine.request_refusal self.old.layer channel asks ≡ None)
+            (λ refused. machine.request_refusal self.old.layer channel asks ≡ Some (refusal_of refused.fault)) }
+        ensures back { MatchResult result (λ _. Unit {0}) (λ refused. refused.buffer ≡ buffer) }
+        ensures stack { self.new ≡ record self.old {
+          layer = machine.request self.old.layer channel
+              (ask.Sending
+              (record { octets = buffer.octets; more = more; qualified = qualified; delivery = delivery }));
+          held = self.new.held;
+        } }
+        ensures held { Takes self.old.held buffer (handed_back result) self.new.held }
+        ensures within { length self.new.held < self.new.share }
+    {
+        self.layer
+            .send_buf(channel, buffer, more, qualified, delivery, pool)
     }
 
     /// What `take` would give.
-    pub(crate) fn front(&self, channel: u8) -> Option<Front>
+    pub(crate) fn front(&self, channel: u8, pool: &Pool) -> Option<Front>
+        requires { Holds pool.now self.now.held }
         ensures { result ≡ maybe_front (machine.front_on self.now.layer channel) }
     {
-        self.layer.front(channel, &self.pool)
+        self.layer.front(channel, pool)
     }
 
     // ---- from the layer to the link
 
     /// Offers the layer's next packet, if there is one, to the link, and answers whether there was one.
-    pub(crate) fn offer_next(&mut self, packet: &mut PacketBuf) -> bool
+    pub(crate) fn offer_next(&mut self, packet: &mut PacketBuf, pool: &mut Pool) -> bool
+        requires { Serves pool.old self.old.held self.old.share }
         ensures said { result ≡ is_some (machine.next_packet self.old.layer).packet }
         ensures layer { self.new.layer ≡ (machine.next_packet self.old.layer).layer }
         ensures offered { OnTrue result (self.new.line
             ≡ line.offered self.old.line
             (written_packet (machine.next_packet self.old.layer).packet packet.old.items)) }
         ensures same { OnFalse result (self.new.line ≡ self.old.line) }
+        ensures share { self.new.share ≡ self.old.share }
+        ensures pool { Balances pool.old self.old.held pool.new self.new.held }
+        ensures within { length self.new.held < self.new.share }
     {
-        if !self.layer.next_packet(packet, &mut self.pool) {
+        if !self.layer.next_packet(packet, pool) {
             return false;
         }
-        let _ = self.line.offer(packet.as_slice(), &mut self.pool);
+        let _ = self.line.offer(packet.as_slice(), pool);
         true
     }
 }

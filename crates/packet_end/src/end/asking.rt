@@ -9,7 +9,6 @@ ghost use Rattle.packet_layer.specs.Octets.{parts_of};
 ghost use Rattle.packet_layer.specs.RequestView.{request_of, refusal_of, call_refusal_of};
 ghost use Rattle.packet_layer.specs.TakenView.{maybe_taken, maybe_front};
 ghost use Rattle.packet_end.specs.PacketEnd.{asked, called};
-ghost use Rattle.packet_end.specs.Touched.{is_of_call};
 
 use crate::end::PacketEnd;
 use packet_codec::CallData;
@@ -28,9 +27,7 @@ impl PacketEnd {
             (λ fault. machine.call_refusal self.old.layer self.old.layer.phase ≡ Some (call_refusal_of fault)) }
         ensures end { self.new ≡ called self.old (parts_of (call_view call.now)) }
     {
-        let channel = self.stack.call(call)?;
-        self.touched.insert(channel);
-        Ok(channel)
+        self.end.call(call)
     }
 
     /// Asks something of the call on the channel: [`Request`] has each refusal. A channel that the line does not have
@@ -42,10 +39,7 @@ impl PacketEnd {
             ≡ Some (refusal_of fault)) }
         ensures end { self.new ≡ asked self.old channel (request_of request.now) }
     {
-        if changes_call(request) {
-            self.touched.insert(channel);
-        }
-        self.stack.ask(channel, request)
+        self.end.ask(channel, request, &mut self.pool)
     }
 
     /// Takes what comes next on the channel, if anything: an interrupt before all packets.
@@ -53,14 +47,14 @@ impl PacketEnd {
         ensures taken { maybe_taken result ≡ machine.front_on self.old.layer channel }
         ensures end { self.new ≡ asked self.old channel ask.Taking }
     {
-        self.stack.take(channel)
+        self.end.take(channel, &mut self.pool)
     }
 
     /// Whether a call came in on the channel and is not answered: it can be accepted.
     pub fn can_accept(&self, channel: u8) -> bool
         ensures { result ≡ machine.can_accept self.now.layer channel }
     {
-        self.stack.layer().can_accept(channel)
+        self.end.can_accept(channel)
     }
 
     /// Whether data may be queued on the channel, however much waits there: `NoCall` comes where no call is in data
@@ -70,7 +64,7 @@ impl PacketEnd {
             (λ _. machine.flow_refusal self.now.layer channel ≡ None)
             (λ fault. machine.flow_refusal self.now.layer channel ≡ Some (refusal_of fault)) }
     {
-        self.stack.layer().may_send(channel)
+        self.end.may_send(channel)
     }
 
     /// How many packets the channel takes to be sent, 0 to 8: none where the first would be refused by `NoCall` or
@@ -78,14 +72,14 @@ impl PacketEnd {
     pub fn room(&self, channel: u8) -> u8
         ensures { result ≡ machine.room self.now.layer channel }
     {
-        self.stack.layer().room(channel)
+        self.end.room(channel)
     }
 
     /// Whether the channel takes an interrupt of 1 to 32 octets to be sent.
     pub fn may_interrupt(&self, channel: u8) -> bool
         ensures { result ≡ may_interrupt self.now.layer channel }
     {
-        self.stack.layer().may_interrupt(channel)
+        self.end.may_interrupt(channel)
     }
 
     /// What `take` would give on the channel, if anything: an interrupt, or a Data packet of so many octets with M, Q
@@ -93,7 +87,7 @@ impl PacketEnd {
     pub fn front(&self, channel: u8) -> Option<Front>
         ensures { result ≡ maybe_front (machine.front_on self.now.layer channel) }
     {
-        self.stack.front(channel)
+        self.end.front(channel, &self.pool)
     }
 
     /// Whether the channel has a call in which no packet of the present epoch that asks for delivery confirmation (D =
@@ -101,16 +95,6 @@ impl PacketEnd {
     pub fn confirmed(&self, channel: u8) -> bool
         ensures { result ≡ machine.confirmed self.now.layer channel }
     {
-        self.stack.layer().confirmed(channel)
+        self.end.confirmed(channel)
     }
-}
-
-// Whether a request is of the call itself, so that an own call, reset or clear may begin or end.
-fn changes_call(request: &Request<'_>) -> bool
-    ensures { result ≡ is_of_call (request_of request.now) }
-{
-    matches!(
-        request,
-        Request::Accept | Request::Clear { .. } | Request::Reset { .. }
-    )
 }

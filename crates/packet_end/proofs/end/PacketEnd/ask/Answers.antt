@@ -1,21 +1,12 @@
-use Rattle.std.proofs.Common.{sym, ◌∙◌}
-use Rattle.packet_layer.specs.RequestView.{request_of}
-use Rattle.packet_end.proofs.Waits.{others_agree, request_alike, request_apart}
+use Rattle.std.proofs.Common.{ap}
+use Rattle.packet_end.specs.Pooled.{PooledEnd}
+use Rattle.packet_end.proofs.Owned.{serves, after}
 use Rattle.packet_end.proofs.end.PacketEnd.ask.Goals as goal
-use Rattle.packet_end.proofs.end.PacketEnd.ask.Goals.{then-changes_call, else-changes_call}
+
+pub ask-requires : goal.ask-requires
+ask-requires c = serves c.self.inside c.self.invariant
 
 pub invariant_of-self : goal.invariant_of-self
 invariant_of-self c =
-    let e = c.self.inside in
-    let asks = request_of c.args.request.now in
-    rw c.ask.ensures.stack
-    (elim c.if-changes_call.branch [
-      | then-changes_call w ↦
-          rw w.self-inside-is
-          (others_agree e.stack.layer _ e.timers e.touched w.insert.new.self c.self.invariant
-          (λ n out. let apart = w.insert.ensures n out in (apart.0, request_apart e.stack.layer c.args.channel n asks apart.1)))
-      | else-changes_call w ↦
-          rw w.self-inside-is
-          (others_agree e.stack.layer _ e.timers e.touched e.touched c.self.invariant
-          (λ n out. (out, request_alike e.stack.layer c.args.channel n asks (sym c.changes_call.ensures ∙ w.if-changes_call.false))))
-    ])
+    after c.self.inside c.ask.new.self c.ask.new.pool c.self.invariant c.ask.ensures.pool
+    (ap (λ (e : PooledEnd). e.share) c.ask.ensures.end)

@@ -1,9 +1,12 @@
-use Rattle.packet_end.proofs.Waits.{others_agree, octets_apart}
+use Rattle.std.proofs.Common.{ap}
+use Rattle.packet_end.specs.Pooled.{PooledEnd}
+use Rattle.packet_end.proofs.Owned.{serves, after}
 use Rattle.packet_end.proofs.end.PacketEnd.on_frame.Goals as goal
 
-pub invariant_of-self-in-Some : goal.invariant_of-self-in-Some
-invariant_of-self-in-Some c =
-    let e = c.self-in-Some.inside in
-    rw c.on_packet.ensures
-    (others_agree e.stack.layer _ e.timers e.touched c.insert_named.new.self c.self-in-Some.invariant
-    (λ n out. let apart = c.insert_named.ensures n out in (apart.0, octets_apart e.stack.layer c.in-Some.packet.now n apart.1)))
+pub on_frame-requires-clause-pool : goal.on_frame-requires-clause-pool
+on_frame-requires-clause-pool c = serves c.self.inside c.self.invariant
+
+pub invariant_of-self : goal.invariant_of-self
+invariant_of-self c =
+    after c.self.inside c.on_frame.new.self c.on_frame.new.pool c.self.invariant c.on_frame.ensures.pool
+    (ap (λ (e : PooledEnd). e.share) c.on_frame.ensures.end)

@@ -1,11 +1,12 @@
-use Rattle.std.proofs.Common.{refl}
-use Rattle.packet_layer.specs.Channel.Request.{Taking}
-use Rattle.packet_end.proofs.Waits.{others_agree, request_alike}
+use Rattle.std.proofs.Common.{ap}
+use Rattle.packet_end.specs.Pooled.{PooledEnd}
+use Rattle.packet_end.proofs.Owned.{serves, after}
 use Rattle.packet_end.proofs.end.PacketEnd.take.Goals as goal
+
+pub take-requires : goal.take-requires
+take-requires c = serves c.self.inside c.self.invariant
 
 pub invariant_of-self : goal.invariant_of-self
 invariant_of-self c =
-    let e = c.self.inside in
-    rw c.take.ensures.stack
-    (others_agree e.stack.layer _ e.timers e.touched e.touched c.self.invariant
-    (λ n out. (out, request_alike e.stack.layer c.args.channel n Taking refl)))
+    after c.self.inside c.take.new.self c.take.new.pool c.self.invariant c.take.ensures.pool
+    (ap (λ (e : PooledEnd). e.share) c.take.ensures.end)

@@ -1,7 +1,24 @@
-use Rattle.packet_end.proofs.Pools.{after_layer}
+use Rattle.packet_layer.specs.Layer as machine
+use Rattle.packet_layer.specs.Layer.{Layer}
+use Rattle.packet_end.proofs.Pools.{layer_holds, layer_stepped, layer_balanced, within}
 use Rattle.packet_end.proofs.stack.Stack.link_down.Goals as goal
 
-pub invariant_of-self : goal.invariant_of-self
-invariant_of-self c =
-    after_layer c.self.inside.pool c.link_down.new.pool c.self.inside.line c.self.inside.layer c.link_down.new.self c.self.invariant
-    c.link_down.ensures.pool c.link_down.ensures.most
+pub link_down-requires : goal.link_down-requires
+link_down-requires c = record {
+  holds = layer_holds c.self.inside c.args.self.now c.args.pool.now c.self.view_is c.requires;
+}
+
+pub returns-clause-stack : goal.returns-clause-stack
+returns-clause-stack c =
+    layer_stepped c.self.inside c.args.self.now c.link_down.new.self (λ (l : Layer). machine.link_down l) c.self.view_is
+    c.link_down.ensures.layer c.link_down.ensures.most
+
+pub returns-clause-pool : goal.returns-clause-pool
+returns-clause-pool c =
+    layer_balanced c.self.inside c.args.self.now c.args.pool.now c.link_down.new.pool c.link_down.new.self c.self.view_is
+    c.link_down.ensures.pool
+
+pub returns-clause-within : goal.returns-clause-within
+returns-clause-within c =
+    within (record { line = c.self.inside.line; layer = c.link_down.new.self })
+    (record { line = c.self.invariant.line; layer = c.link_down.ensures.few })

@@ -1,12 +1,12 @@
-use Rattle.flow_window.proofs.Weights.{balances_same}
-use Rattle.packet_end.proofs.Pools.{line_holds, after_line}
+use Rattle.line_end.specs.End as line
+use Rattle.line_end.specs.End.{End}
+use Rattle.packet_end.proofs.Pools.{line_holds, line_kept}
 use Rattle.packet_end.proofs.stack.Stack.settle.Goals as goal
 
 pub settle-requires-clause-holds : goal.settle-requires-clause-holds
-settle-requires-clause-holds c = line_holds c.self.inside.pool c.self.inside.line c.self.inside.layer c.self.invariant
+settle-requires-clause-holds c = line_holds c.self.inside c.args.self.now c.args.pool.now c.self.view_is c.requires
 
-pub invariant_of-self : goal.invariant_of-self
-invariant_of-self c =
-    after_line c.self.inside.pool c.settle.new.pool c.self.inside.line c.settle.new.self c.self.inside.layer c.self.invariant
-    (rw (c.settle.ensures.pool, c.settle.ensures.held) (balances_same c.self.inside.pool c.self.inside.line.held))
-    c.settle.ensures.most c.settle.ensures.k
+pub returns-clause-stack : goal.returns-clause-stack
+returns-clause-stack c =
+    line_kept c.self.inside c.args.self.now c.settle.new.self (λ (e : End). line.settled e) c.self.view_is
+    c.settle.ensures.end c.settle.ensures.k c.settle.ensures.held

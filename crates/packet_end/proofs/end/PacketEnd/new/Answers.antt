@@ -1,0 +1,20 @@
+use Rattle.std.proofs.Common.{◌∙◌, ap, sym, length, arith}
+use Rattle.flow_window.specs.Pool.{Pool, weight}
+use Rattle.packet_end.specs.Pooled.{PooledEnd}
+use Rattle.packet_end.proofs.Pools.{replicated}
+use Rattle.packet_end.proofs.end.PacketEnd.new.Goals as goal
+
+pub invariant_of-result : goal.invariant_of-result
+invariant_of-result c =
+    let end = c.in_ok-end.ensures.end in
+    let change = c.in_ok-end.ensures.pool in
+    record {
+      size = change.size ∙ ap (λ (x : Pool). x.size) c.in_ok-pool.ensures.map;
+      places = change.places ∙ ap (λ (x : Pool). length x.places) c.in_ok-pool.ensures.map ∙ replicated c.buffers.result _
+          ∙ c.buffers.ensures ∙ sym (ap (λ (x : PooledEnd). x.share) end);
+      exact = λ w.
+          let held = ap (λ (x : PooledEnd). weight w x.held) end in
+          let weights = change.weights w in
+          let begins = c.in_ok-pool.ensures.weights w in
+          omega (arith, held, weights, begins);
+    }

@@ -1,0 +1,15 @@
+use Rattle.std.proofs.Common.{refl, ap}
+use Rattle.packet_layer.specs.Channel.Request.{Taking}
+use Rattle.packet_end.specs.Stack.{Stack}
+use Rattle.packet_end.proofs.Waits.{others_agree, request_alike}
+use Rattle.packet_end.proofs.pooled.PooledEnd.take_buf.Goals as goal
+
+pub invariant_of-self : goal.invariant_of-self
+invariant_of-self c =
+    let e = c.self.inside in
+    record {
+      within = c.take_buf.ensures.within;
+      agree = rw (ap (λ (s : Stack). s.layer) c.take_buf.ensures.stack)
+          (others_agree e.stack.layer _ e.timers e.touched e.touched c.self.invariant.agree
+          (λ n out. (out, request_alike e.stack.layer c.args.channel n Taking refl)));
+    }

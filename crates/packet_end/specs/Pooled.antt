@@ -1,0 +1,30 @@
+-- An end of a line whose packets lie in a pool that it is lent.
+use Rattle.std.specs.Prelude.{◌≡◌, ℕ, ◌+◌, ◌*◌, List}
+use Rattle.flow_window.specs.Pool.{Pool, Buffer, Holds}
+use Rattle.frame_codec.specs.Spelling.{most_information}
+use Rattle.line_end.specs.End.{End}
+use Rattle.packet_layer.specs.Layer.{Layer}
+use Rattle.packet_layer.specs.Held.{most_held, HasRoom}
+use Rattle.packet_end.specs.PacketEnd.{PacketEnd}
+use Rattle.packet_end.specs.declared.params.EndParams.{EndParams}
+
+-- an end, the buffers that it holds, and its share of a pool
+pub record PooledEnd : Type 0 where
+  pub end : PacketEnd
+  pub held : List Buffer
+  pub share : ℕ
+
+-- the share of an end: buffers for the packets that the link may have unacknowledged, for both queues of each channel,
+-- and one for the packet that goes from one to the other
+abbrev pub share_of : End → Layer → ℕ
+share_of line layer = line.link.k + most_held layer + 1
+
+-- as it is made
+abbrev pub share_with : EndParams → ℕ
+share_with p = p.k + p.channels * (p.window + 8) + 1
+
+-- a pool has the buffers that are held, and beside what others hold of it there is room for the whole share
+pub record Serves (pool : Pool) (held : List Buffer) (share : ℕ) : Type 0 where
+  pub size : pool.size ≡ most_information
+  pub holds : Holds pool held
+  pub room : HasRoom pool held share
