@@ -1,6 +1,6 @@
 -- Lines in the pool that they share: what one of them, by its place, is to all.
 use Rattle.std.proofs.Common.{◌≡◌, ℕ, zero, suc, ◌+◌, ◌<◌, ◌≤◌, Bool, true, false, if◌then◌else◌, ◌||◌, ◌==◌, List, [], ◌∷◌, ◌++◌, map, length, set, get_or, refl, sym, ap, ap₂, subst, ◌∙◌, arith}
-use Rattle.std.specs.Prelude.{Option, Some, None, slice_get, ◌&&◌}
+use Rattle.std.specs.Prelude.{Some, slice_get, ◌&&◌}
 use Rattle.std.specs.List.{list_all}
 use Rattle.std.proofs.lemmas.Option.{same_Some, none-some}
 use Rattle.std.proofs.lemmas.List.{length-map, map-set}
@@ -375,16 +375,6 @@ handed_in before after ps n old new b hand less is change same fits =
     }
 
 -- ---- what is read of a line
-
-pub plain_at : (ps : Pooled) (n : ℕ) (p : PooledLine) → slice_get ps n ≡ Some p → slice_get (plain ps) n ≡ Some p.line
-plain_at [] n p e = absurd (none-some p e)
-plain_at (x ∷ xs) zero p e = ap (λ (p : PooledLine). Some p.line) (same_Some x p e)
-plain_at (x ∷ xs) (suc n) p e = plain_at xs n p e
-
-pub plain_nowhere : (ps : Pooled) (n : ℕ) → slice_get ps n ≡ None → slice_get (plain ps) n ≡ None
-plain_nowhere [] n e = refl
-plain_nowhere (x ∷ xs) zero e = absurd (none-some x (sym e))
-plain_nowhere (x ∷ xs) (suc n) e = plain_nowhere xs n e
 
 pub all_plain : (f : SwitchLine → Bool) (ps : Pooled) → list_all (λ p. f p.line) ps ≡ list_all f (plain ps)
 all_plain f [] = refl

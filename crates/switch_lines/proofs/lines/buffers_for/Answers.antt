@@ -1,5 +1,5 @@
 -- One line more.
-use Rattle.std.proofs.Common.{◌∙◌, ap, arith, length, take}
+use Rattle.std.proofs.Common.{◌∙◌, ap, arith}
 use Rattle.switch_lines.specs.Making.{shares_with}
 use Rattle.switch_lines.proofs.Making.{one_share, one_share_more, all_taken}
 use Rattle.switch_lines.proofs.lines.buffers_for.Goals as goal

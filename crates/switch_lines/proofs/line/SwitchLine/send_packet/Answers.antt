@@ -1,6 +1,5 @@
-use Rattle.std.proofs.Common.{◌≡◌, ℕ, ◌+◌, ap, refl, subst, sym, arith}
-use Rattle.flow_window.specs.Pool.{Buffer, IsIn, weight}
-use Rattle.packet_channel.specs.Answers.{handed_back}
+use Rattle.std.proofs.Common.{subst, sym}
+use Rattle.flow_window.specs.Pool.{Buffer, IsIn}
 use Rattle.switch_lines.proofs.line.SwitchLine.send_packet.Goals as goal
 
 pub send_buf-sent-requires : goal.send_buf-sent-requires

@@ -1,6 +1,5 @@
 use Rattle.std.proofs.Common.{◌≤◌, ◌∙◌, ap, map, length, arith}
 use Rattle.packet_end.specs.PacketEnd.{begun}
-use Rattle.switch_lines.specs.Lines.{SwitchLine}
 use Rattle.switch_lines.specs.Pooled.{plain, on_line, ArePooled}
 use Rattle.switch_lines.specs.Switch.{with_end}
 use Rattle.switch_lines.specs.Touched.{NothingElseIsLeft, changed_in}

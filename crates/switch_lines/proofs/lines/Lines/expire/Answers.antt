@@ -1,4 +1,4 @@
-use Rattle.std.proofs.Common.{◌≡◌, ◌<◌, ◌∙◌, ap, arith, length, List, Option}
+use Rattle.std.proofs.Common.{◌<◌, ◌∙◌, ap, arith, length, List, Option}
 use Rattle.packet_end.specs.PacketEnd as end
 use Rattle.switch_lines.specs.Lines.{SwitchLine}
 use Rattle.switch_lines.specs.Switch.{notes_heeded, notes_of, with_end, quieted}

@@ -1,4 +1,4 @@
-use Rattle.std.proofs.Common.{ap, sym, ◌∙◌}
+use Rattle.std.proofs.Common.{ap, ◌∙◌}
 use Rattle.std.specs.List.{list_all}
 use Rattle.switch_lines.specs.Pooled.{PooledLine}
 use Rattle.switch_lines.specs.Switch.{line_rests}

@@ -1,4 +1,4 @@
-use Rattle.std.proofs.Common.{◌≡◌, ◌≤◌, ◌<◌, ◌∙◌, ℕ, Bool, [], ◌∷◌, ap, ap₂, length, set, List, Option, Some, refl, sym, subst, arith}
+use Rattle.std.proofs.Common.{◌≤◌, ◌<◌, ◌∙◌, ℕ, Bool, [], ◌∷◌, ap, ap₂, length, set, List, Option, Some, refl, sym, subst, arith}
 use Rattle.std.specs.Prelude.{◌+◌}
 use Rattle.flow_window.specs.Pool.{weight}
 use Rattle.packet_channel.specs.Held.{datum_in}

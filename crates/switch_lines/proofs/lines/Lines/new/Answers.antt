@@ -1,10 +1,9 @@
-use Rattle.std.proofs.Common.{◌≡◌, ◌∙◌, [], ◌∷◌, ◌++◌, ap, ap₂, length, map, nat_lt, true≢false, subst, sym, arith}
+use Rattle.std.proofs.Common.{◌≡◌, ◌∙◌, [], ◌∷◌, ◌++◌, ap, ap₂, length, map, nat_lt, true≢false, sym, arith}
 use Rattle.std.proofs.lemmas.List.{map_more}
-use Rattle.switch_lines.specs.Making.{made_line}
-use Rattle.switch_lines.specs.Pooled.{PooledLine, plain}
+use Rattle.switch_lines.specs.Pooled.{plain}
 use Rattle.switch_lines.proofs.Left.{all_touched, few_made}
 use Rattle.switch_lines.proofs.Making.{made_pooled, plain_made, pooled_made, all_taken}
-use Rattle.switch_lines.proofs.Pooled.{Pooled, plain_length}
+use Rattle.switch_lines.proofs.Pooled.{plain_length}
 use Rattle.switch_lines.proofs.lines.Lines.new.Goals as goal
 
 pub invariant_of-result : goal.invariant_of-result

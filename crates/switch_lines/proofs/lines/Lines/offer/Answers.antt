@@ -1,4 +1,4 @@
-use Rattle.std.proofs.Common.{◌≡◌, ◌≤◌, ◌∙◌, ap, map, length, subst, sym, arith}
+use Rattle.std.proofs.Common.{◌≤◌, ◌∙◌, ap, map, length, subst, sym, arith}
 use Rattle.packet_end.specs.PacketEnd.{all_offered}
 use Rattle.switch_lines.specs.Pooled.{plain, ArePooled}
 use Rattle.switch_lines.specs.Switch.{with_end, offering_from}
@@ -6,7 +6,7 @@ use Rattle.switch_lines.specs.Touched.{NothingElseIsLeft, changed_in, offering_i
 use Rattle.switch_lines.proofs.Ending.{written}
 use Rattle.switch_lines.proofs.Left.{Lines, offering_all, offered_all, touched_change, touched_are_there, same_size}
 use Rattle.switch_lines.proofs.Left.{written_back}
-use Rattle.switch_lines.proofs.Pooled.{Pooled, plain_length, same_lines}
+use Rattle.switch_lines.proofs.Pooled.{Pooled, same_lines}
 use Rattle.switch_lines.proofs.lines.Lines.offer.Goals as goal
 
 pub offer_lines-requires-clause-there : goal.offer_lines-requires-clause-there

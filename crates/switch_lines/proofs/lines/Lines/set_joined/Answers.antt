@@ -1,5 +1,5 @@
 use Rattle.std.proofs.Common.{arith, ap}
-use Rattle.switch_lines.specs.Lines.{with_nth_joined, SwitchLine}
+use Rattle.switch_lines.specs.Lines.{with_nth_joined}
 use Rattle.switch_lines.specs.Pooled.{PooledLine}
 use Rattle.switch_lines.proofs.Pooled.{one_changed, none_changed, joins_of_one, pooled_same}
 use Rattle.switch_lines.proofs.Touched.{count_kept}

@@ -1,5 +1,5 @@
 -- One line more.
-use Rattle.std.proofs.Common.{◌≡◌, ◌∙◌, ◌<◌, ap, get_or, length, set, refl, sym, arith}
+use Rattle.std.proofs.Common.{◌∙◌, ◌<◌, ap, get_or, length, set, refl, sym, arith}
 use Rattle.std.proofs.lemmas.List.Edits.{map_over_more}
 use Rattle.switch_lines.specs.Lines.{SwitchLine}
 use Rattle.switch_lines.specs.Pooled.{PooledLine, plain}
