@@ -1,12 +1,12 @@
 //! The text of a network, in TOML.
-ghost use Rattle.std.specs.Prelude.{◌≡◌, ◌≢◌, ◌⊎◌, Some, None, IfOk, IsErrOf, true, string_bytes};
+ghost use Rattle.std.specs.Prelude.{◌≡◌, Some, None, IsErrOf, true, string_bytes};
 ghost use Rattle.toml.specs.View.{view, table_view, items_view};
 ghost use Rattle.toml.specs.Data.{as_table};
 ghost use Rattle.net_config.specs.declared.config.NodeConfig.{NodeConfig};
 ghost use Rattle.net_config.specs.declared.config.LineConfig.{LineConfig};
 ghost use Rattle.net_config.specs.declared.config.RouteConfig.{RouteConfig};
 ghost use Rattle.net_files.specs.Marks.{begins_with_mark};
-ghost use Rattle.net_files.specs.Entries.{text_at, passing};
+ghost use Rattle.net_files.specs.Entries.{passing};
 ghost use Rattle.net_files.specs.Networks.{profile_word, kind_word, IsOfKind, IsPad, IsNode, is_address};
 ghost use Rattle.net_files.specs.Networks.{is_address_or_none, IsLine, IsRoute, TablesForm, IsNetwork, Spells};
 ghost use Rattle.net_files.specs.DocumentAnswers.{Finds, Makes};

@@ -1,5 +1,5 @@
 //! Scripts: a text of one command a line, read for a network.
-ghost use Rattle.std.specs.Prelude.{◌≡◌, IfOk, IfErr, map, option_map, string_bytes};
+ghost use Rattle.std.specs.Prelude.{IfOk, IfErr, map, option_map, string_bytes};
 ghost use Rattle.net_files.specs.Values.{request_value, event_value, command_value};
 ghost use Rattle.net_files.specs.Values.{EventValue as event};
 ghost use Rattle.net_files.specs.Values.{CommandValue as command};

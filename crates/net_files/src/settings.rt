@@ -1,5 +1,5 @@
 //! Lists of parameters and values, as the command `SET` has them: `2:0,3:2` (X.28 3.3.2).
-ghost use Rattle.std.specs.Prelude.{◌≡◌, ◌≤◌, IfOk, IfErr, map, length};
+ghost use Rattle.std.specs.Prelude.{◌≡◌, IfOk, map};
 ghost use Rattle.net_files.specs.Networks.{SettingsForm, pair_of};
 ghost use Rattle.net_files.specs.DocumentAnswers.{Makes};
 

@@ -10,7 +10,7 @@ use Rattle.pad_terminal.specs.Terminal.{may_show}
 use Rattle.x25_pad.specs.Ports as port
 use Rattle.x25_pad.specs.Ports.{PortState, AtLine, has_channel, text_taken}
 use Rattle.x25_pad.specs.Pad as pad
-use Rattle.x25_pad.specs.Pad.{PadState, at_port, acted, changed_at, holder, print_taken, print_text, all_heard}
+use Rattle.x25_pad.specs.Pad.{PadState, acted, changed_at, holder, print_taken}
 use Rattle.x25_pad.specs.declared.call.Call.{Call}
 use Rattle.x25_pad.specs.declared.line.PadLine.{PadLine}
 use Rattle.x25_pad_laws.specs.Own.{OwnPacketLaw, OwnTextLaw, OthersStayLaw, LearnsOwnLaw}

@@ -16,7 +16,7 @@ use Rattle.call_records.specs.Book.{Book, all_told, told, closes, renews, covers
 use Rattle.pad_terminal.specs.Calls as calls
 use Rattle.x25_pad.specs.Line.{learnt_of, all_learnt, last_incoming}
 use Rattle.x25_pad.specs.Ports as port
-use Rattle.x25_pad.specs.Ports.{PortState, AtLine, has_channel, call_on}
+use Rattle.x25_pad.specs.Ports.{PortState, has_channel, call_on}
 use Rattle.x25_pad.specs.Pad.{changed_at, holder, one_learnt, all_heard}
 use Rattle.x25_pad.specs.declared.call.Call.{Call}
 use Rattle.x25_pad_laws.specs.Holds.{BookHolds, IsPort, IsOn, TextOf}
