@@ -106,8 +106,8 @@ impl<L: Line> Net<L> {
     }
 
     /// Whether the host of this place has a call on the channel in which each packet with D = 1 since the last reset
-    /// was covered (X.25 4.3.3). At another node it is not so. On faithful lines the record of that call has them all as
-    /// covered, and the other end of the call took all that was sent up to the last of them.
+    /// was covered (X.25 4.3.3). At another node it is not so. On faithful lines the record of that call has them all
+    /// as covered, and the other end of the call took all that was sent up to the last of them.
     pub fn confirmed(&self, node: usize, channel: u16) -> bool
         ensures exact { result ≡ net_confirmed node channel self.now }
         ensures delivered { L.service.faithful → result ≡ true → IsDelivered node channel self.now }

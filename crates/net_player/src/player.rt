@@ -117,8 +117,8 @@ impl Player<'_> {
         out: &mut W,
     ) -> Result<(), ProgFault>
         ensures writes { OnOk result (Writes (W.contents out.old) (W.contents out.new)
-            (λ text. InTurn Event Network (TellsEvent L.service self.now.names.now self.now.traces) (key_events keys.now)
-            net.old text net.new)) }
+            (λ text. InTurn Event Network (TellsEvent L.service self.now.names.now self.now.traces)
+            (key_events keys.now) net.old text net.new)) }
         ensures stops { IfErr result (λ fault. Writes (W.contents out.old) (W.contents out.new)
             (StopsInTurn Event Network (TellsEvent L.service self.now.names.now self.now.traces)
             (StopsAt L.service self.now.names.now self.now.traces fault) (key_events keys.now) net.old)) }

@@ -6,7 +6,7 @@ use frame_codec::FrameBuf;
 use link_timers::Role;
 use packet_codec::{Address, CallBuf, CallData};
 use packet_end::{EndFault, EndParams, PacketEnd};
-use packet_layer::{LayerNote, Reason, Request, Taken, UserData};
+use packet_layer::{LayerNote, Reason, Request, Taken};
 use std::alloc::{AllocError, Global};
 use std::process::Abort;
 use std::test::Fail;
