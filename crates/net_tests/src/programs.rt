@@ -330,122 +330,119 @@ fn lines_that_are_no_commands_are_refused(rt: HostRuntime) -> Result<(), Fail> {
 const COMMANDS: [(&[u8], &str); 35] = [
     (
         b"key host 65535 \\\\\\0d",
-        "Events([AtTerminal { node: 1, terminal: 65535, event: Key(92) }, AtTerminal { node: 1, terminal: 65535, event: Key(13) }])",
+        "Keys(Keys { node: 1, terminal: 65535, octets: [92, 13] })",
     ),
     (
         b"break pad 0",
-        "Events([AtTerminal { node: 0, terminal: 0, event: Break }])",
+        "Event(AtTerminal { node: 0, terminal: 0, event: Break })",
     ),
     (
         b"idle host 65535",
-        "Events([AtTerminal { node: 1, terminal: 65535, event: Idle }])",
+        "Event(AtTerminal { node: 1, terminal: 65535, event: Idle })",
     ),
     (
         b"print pad 0007",
-        "Events([AtTerminal { node: 0, terminal: 7, event: Print }])",
+        "Event(AtTerminal { node: 0, terminal: 7, event: Print })",
     ),
     (
         b"expire pad 0 Idle 15",
-        "Events([Expire { node: 0, line: 0, timer: Idle(15) }])",
+        "Event(Expire { node: 0, line: 0, timer: Idle(15) })",
     ),
     (
         b"expire host 1 Idle 65535",
-        "Events([Expire { node: 1, line: 1, timer: Idle(255) }])",
+        "Event(Expire { node: 1, line: 1, timer: Idle(255) })",
     ),
-    (b"take pad 00007", "Events([Take { node: 0, channel: 7 }])"),
+    (b"take pad 00007", "Event(Take { node: 0, channel: 7 })"),
     (
         b"deliver 65535 <",
-        "Events([Deliver { line: 65535, direction: FromDce }])",
+        "Event(Deliver { line: 65535, direction: FromDce })",
     ),
-    (
-        b"lose 0 >",
-        "Events([Lose { line: 0, direction: FromDte }])",
-    ),
-    (b"relink 3", "Events([Relink { line: 3 }])"),
-    (b"restart host", "Events([Restart { node: 1 }])"),
+    (b"lose 0 >", "Event(Lose { line: 0, direction: FromDte })"),
+    (b"relink 3", "Event(Relink { line: 3 })"),
+    (b"restart host", "Event(Restart { node: 1 })"),
     (b"flow", "Flow"),
     (b"trace on", "Trace(true)"),
     (b"trace off", "Trace(false)"),
     (b"tick 65535", "Tick(65535)"),
     (
         b"answer host 1",
-        "Events([Ask { node: 1, channel: 1, request: Answer }])",
+        "Event(Ask { node: 1, channel: 1, request: Answer })",
     ),
     (
         b"refuse pad 0",
-        "Events([Ask { node: 0, channel: 0, request: Refuse }])",
+        "Event(Ask { node: 0, channel: 0, request: Refuse })",
     ),
     (
         b"reset host 65535",
-        "Events([Ask { node: 1, channel: 65535, request: Reset }])",
+        "Event(Ask { node: 1, channel: 65535, request: Reset })",
     ),
     (
         b"clear host 2",
-        "Events([Ask { node: 1, channel: 2, request: Clear }])",
+        "Event(Ask { node: 1, channel: 2, request: Clear })",
     ),
     (
         b"stop host 3",
-        "Events([Ask { node: 1, channel: 3, request: Stop }])",
+        "Event(Ask { node: 1, channel: 3, request: Stop })",
     ),
     (
         b"go host 4",
-        "Events([Ask { node: 1, channel: 4, request: Go }])",
+        "Event(Ask { node: 1, channel: 4, request: Go })",
     ),
     (
         b"say host 1 - A b",
-        "Events([Ask { node: 1, channel: 1, request: Say { octets: [65, 32, 98], qualified: false, delivery: false } }])",
+        "Event(Ask { node: 1, channel: 1, request: Say { octets: [65, 32, 98], qualified: false, delivery: false } })",
     ),
     (
         b"say host 1 q \\00",
-        "Events([Ask { node: 1, channel: 1, request: Say { octets: [0], qualified: true, delivery: false } }])",
+        "Event(Ask { node: 1, channel: 1, request: Say { octets: [0], qualified: true, delivery: false } })",
     ),
     (
         b"say host 1 d ",
-        "Events([Ask { node: 1, channel: 1, request: Say { octets: [], qualified: false, delivery: true } }])",
+        "Event(Ask { node: 1, channel: 1, request: Say { octets: [], qualified: false, delivery: true } })",
     ),
     (
         b"say host 1 qd",
-        "Events([Ask { node: 1, channel: 1, request: Say { octets: [], qualified: true, delivery: true } }])",
+        "Event(Ask { node: 1, channel: 1, request: Say { octets: [], qualified: true, delivery: true } })",
     ),
     (
         b"int host 1 \\FF",
-        "Events([Ask { node: 1, channel: 1, request: Interrupt { octets: [255] } }])",
+        "Event(Ask { node: 1, channel: 1, request: Interrupt { octets: [255] } })",
     ),
     (
         b"expire pad 0 T1",
-        "Events([Expire { node: 0, line: 0, timer: T1 }])",
+        "Event(Expire { node: 0, line: 0, timer: T1 })",
     ),
     (
         b"expire host 1 T10",
-        "Events([Expire { node: 1, line: 1, timer: T10 }])",
+        "Event(Expire { node: 1, line: 1, timer: T10 })",
     ),
     (
         b"expire pad 0 T20",
-        "Events([Expire { node: 0, line: 0, timer: T20 }])",
+        "Event(Expire { node: 0, line: 0, timer: T20 })",
     ),
     (
         b"expire host 0 T11 1",
-        "Events([Expire { node: 1, line: 0, timer: T11(1) }])",
+        "Event(Expire { node: 1, line: 0, timer: T11(1) })",
     ),
     (
         b"expire host 0 T12 0",
-        "Events([Expire { node: 1, line: 0, timer: T12(0) }])",
+        "Event(Expire { node: 1, line: 0, timer: T12(0) })",
     ),
     (
         b"expire host 0 T13 32",
-        "Events([Expire { node: 1, line: 0, timer: T13(32) }])",
+        "Event(Expire { node: 1, line: 0, timer: T13(32) })",
     ),
     (
         b"expire host 0 T21 33",
-        "Events([Expire { node: 1, line: 0, timer: T21(33) }])",
+        "Event(Expire { node: 1, line: 0, timer: T21(33) })",
     ),
     (
         b"expire host 0 T22 255",
-        "Events([Expire { node: 1, line: 0, timer: T22(255) }])",
+        "Event(Expire { node: 1, line: 0, timer: T22(255) })",
     ),
     (
         b"expire pad 0 T23 300",
-        "Events([Expire { node: 0, line: 0, timer: T23(255) }])",
+        "Event(Expire { node: 0, line: 0, timer: T23(255) })",
     ),
 ];
 
@@ -469,17 +466,15 @@ fn lines_are_read(rt: HostRuntime) -> Result<(), Fail> {
 
 /// Whether a command is one call of a node, of this address and with so much user data.
 fn is_call(command: &Command, caller: usize, called: Address, octets: usize) -> bool {
-    let Command::Events(events) = command else {
+    let Command::Event(event) = command else {
         return false;
     };
-    match events.as_slice() {
-        [
-            Event::Call {
-                node,
-                address,
-                user_data,
-            },
-        ] => *node == caller && *address == called && user_data.len() == octets,
+    match &**event {
+        Event::Call {
+            node,
+            address,
+            user_data,
+        } => *node == caller && *address == called && user_data.len() == octets,
         _ => false,
     }
 }
