@@ -1,9 +1,9 @@
 //! A network of two lines that is served, and networks like it that are not; networks with a switch that are served,
 //! and such that are not.
 use net_config::{
-    Config, LineConfig, MakeFault, NetPlan, NodeConfig, NodeKind, PadConfig, PlannedKind,
-    RouteConfig, is_served, plan_of,
+    Config, LineConfig, MakeFault, NodeConfig, NodeKind, PadConfig, RouteConfig, is_served,
 };
+use net_plans::{NetPlan, PlannedKind, plan_of};
 use std::alloc::Global;
 use x3_params::Profile;
 
