@@ -1,6 +1,5 @@
 -- What a channel holds fits after a step.
-use Rattle.std.proofs.Common.{◌≡◌, ℕ, List, length, ap, arith}
-use Rattle.flow_window.specs.Pool.{Buffer}
+use Rattle.std.proofs.Common.{◌≡◌, ℕ, List}
 use Rattle.packet_channel.specs.Packets.{Body}
 use Rattle.packet_channel.specs.Held.{Channel, Fits}
 

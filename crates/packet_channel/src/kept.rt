@@ -47,7 +47,7 @@ impl KeptPacket {
     }
 
     /// The octets.
-    pub fn octets<'a>(&self, pool: &'a Pool) -> &'a [u8]
+    pub(crate) fn octets<'a>(&self, pool: &'a Pool) -> &'a [u8]
         requires { IsIn self.now.buffer pool.now }
         ensures value { result.now ≡ self.now.buffer.octets }
         ensures fits { length result.now ≤ 128 }

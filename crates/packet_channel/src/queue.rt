@@ -20,7 +20,7 @@ pub(crate) struct PacketQueue {
 }
 
 impl Model for PacketQueue {
-    ghost use Rattle.std.specs.Prelude.{◌≡◌, map};
+    ghost use Rattle.std.specs.Prelude.{◌≡◌};
     ghost use Rattle.packet_channel.specs.Held.{Queue, contents, buffers};
 
     ghost Value = { Queue };

@@ -6,7 +6,7 @@ use Rattle.lapb.specs.declared.phase.Phase.{Phase}
 use Rattle.lapb.specs.Machine.{Octets, Link, can_offer, is_up, settle_in, send_all, sendable, offer}
 use Rattle.packet_layer.specs.Packets.{Body, Packet}
 use Rattle.packet_layer.specs.Channel.{Channel}
-use Rattle.packet_layer.specs.Layer.{Layer, Next, ChannelNext, channel_of, next_of, next_number, packet_of, serve, serve_found, served, next_restart, next_in, next_packet}
+use Rattle.packet_layer.specs.Layer.{Layer, Next, channel_of, next_of, next_number, serve, serve_found, served, next_restart, next_in, next_packet}
 use Rattle.packet_layer.specs.Layer as machine
 use Rattle.packet_layer.specs.Events.{written_packet}
 use Rattle.packet_end.specs.PacketEnd.{PacketEnd, offered, with_next, settled, HasOfferedAll}

@@ -1,6 +1,6 @@
 -- An end of a line and the pool that it alone holds buffers of.
-use Rattle.std.proofs.Common.{◌≡◌, ℕ, List, [], length, ap, ◌∙◌, sym, arith}
-use Rattle.flow_window.specs.Pool.{Pool, Buffer, weight, pooled, Balances}
+use Rattle.std.proofs.Common.{◌≡◌, ◌∙◌, sym, arith}
+use Rattle.flow_window.specs.Pool.{Pool, Balances}
 use Rattle.flow_window.proofs.Weights.{weight_ones}
 use Rattle.packet_end.specs.EndView.{IsEnd}
 use Rattle.packet_end.specs.Pooled.{PooledEnd, Serves}

@@ -44,6 +44,7 @@ impl EndParams {
         layer.check()?;
         Ok(())
     }
+
     /// How many buffers the end needs of a pool: for the packets that the link may have unacknowledged, for both queues
     /// of each channel, and one for the packet that goes from one to the other.
     pub fn buffers(&self) -> usize

@@ -1,12 +1,12 @@
 -- Channels with their buffers: what one of them, by its place, is to all.
-use Rattle.std.proofs.Common.{◌≡◌, ℕ, zero, suc, ◌+◌, ◌*◌, ◌<◌, ◌≤◌, List, [], ◌∷◌, ◌++◌, length, map, set, get_or, Some, refl, ap, ◌∙◌, sym, subst, arith}
+use Rattle.std.proofs.Common.{◌≡◌, ℕ, zero, suc, ◌+◌, ◌*◌, ◌<◌, ◌≤◌, List, [], ◌∷◌, ◌++◌, length, set, get_or, Some, refl, ap, ◌∙◌, sym, subst, arith}
 use Rattle.std.specs.Prelude.{slice_get}
 use Rattle.std.proofs.lemmas.Option.{same_Some, none-some}
 use Rattle.std.proofs.lemmas.List.{length-map, map-set}
-use Rattle.flow_window.specs.Pool.{Pool, Buffer, weight, pooled, in_use, Holds, Balances}
+use Rattle.flow_window.specs.Pool.{Pool, Buffer, weight, in_use, Holds, Balances}
 use Rattle.flow_window.proofs.Weights.{weight_append, weight_ones}
 use Rattle.packet_channel.specs.Packets.{CallParts}
-use Rattle.packet_channel.specs.Channel.{Channel, owing, placing}
+use Rattle.packet_channel.specs.Channel.{owing, placing}
 use Rattle.packet_channel.specs.Held.{Channel as Holder, Fits, Loses, Takes}
 use Rattle.packet_layer.specs.declared.layer.Layer.TheInside.{Inside}
 use Rattle.packet_layer.specs.Held.{Layer as Held, plain, buffers, AllFit, HasRoom, most_held}

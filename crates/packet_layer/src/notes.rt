@@ -1,5 +1,5 @@
 //! The notes of a packet layer that are not yet read.
-ghost use Rattle.std.specs.Prelude.{◌≡◌, ◌<◌, ◌++◌, ◌∷◌, [], IfOk, length, drop, slice_get};
+ghost use Rattle.std.specs.Prelude.{◌≡◌, ◌<◌, ◌++◌, [], IfOk, length, drop, slice_get};
 
 use crate::params::MOST_CHANNELS;
 use circular_buffer::HeapCircularBuffer;
@@ -30,7 +30,7 @@ impl Model for Notes {
 }
 
 impl Notes {
-    ghost use Rattle.packet_channel.specs.NoteView.{note_of, maybe_note, listed};
+    ghost use Rattle.packet_channel.specs.NoteView.{maybe_note, listed};
 
     pub(crate) fn new(alloc: Global) -> Result<Self, AllocError>
         ensures { IfOk result (λ n. n ≡ []) }

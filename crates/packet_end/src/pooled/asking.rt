@@ -98,6 +98,11 @@ impl PooledEnd {
         pool: &Pool,
     ) -> Result<(), RefusedBuf>
         requires { IsIn buffer pool.now }
+        ensures answer { let asks = ask.Sending
+            (record { octets = buffer.octets; more = more; qualified = qualified; delivery = delivery }) in
+            MatchResult result
+            (λ _. machine.request_refusal self.old.end.layer channel asks ≡ None)
+            (λ refused. machine.request_refusal self.old.end.layer channel asks ≡ Some (refusal_of refused.fault)) }
         ensures back { MatchResult result (λ _. Unit {0}) (λ refused. refused.buffer ≡ buffer) }
         ensures end { self.new ≡ record self.old {
           end = asked self.old.end channel

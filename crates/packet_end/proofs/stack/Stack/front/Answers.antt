@@ -1,6 +1,3 @@
-use Rattle.std.proofs.Common.{sym, subst}
-use Rattle.flow_window.specs.Pool.{Buffer, weight, Holds}
-use Rattle.packet_end.specs.Stack.{Stack}
 use Rattle.packet_end.proofs.Pools.{layer_part}
 use Rattle.packet_end.proofs.stack.Stack.front.Goals as goal
 

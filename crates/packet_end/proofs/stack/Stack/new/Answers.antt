@@ -1,6 +1,5 @@
-use Rattle.std.proofs.Common.{◌≡◌, ◌+◌, ◌∙◌, ap, length, arith, List}
+use Rattle.std.proofs.Common.{◌+◌, ◌∙◌, ap, length, arith}
 use Rattle.std.specs.Prelude.{◌++◌}
-use Rattle.flow_window.proofs.Weights.{balances_same}
 use Rattle.line_end.specs.Held.{LineEnd}
 use Rattle.packet_layer.specs.Held.{Layer, most_held}
 use Rattle.packet_end.proofs.Pools.{made_k, made_most}

@@ -1,7 +1,7 @@
 use Rattle.std.proofs.Common.{◌++◌, ◌∙◌, ap, refl}
 use Rattle.std.specs.Prelude.{◌+◌}
 use Rattle.flow_window.proofs.Weights.{balances_then}
-use Rattle.packet_end.specs.Pooled.{Serves, share_of}
+use Rattle.packet_end.specs.Pooled.{share_of}
 use Rattle.packet_end.specs.Stack.{Stack}
 use Rattle.packet_end.specs.StackView.{stack_of}
 use Rattle.packet_end.specs.declared.stack.Stack.TheInside.{Inside}

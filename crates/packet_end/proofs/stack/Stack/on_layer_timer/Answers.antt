@@ -1,6 +1,5 @@
-use Rattle.packet_layer.specs.Layer as machine
 use Rattle.packet_layer.specs.Layer.{Layer}
-use Rattle.packet_layer.specs.Events.{on_octets, on_named, timer_named}
+use Rattle.packet_layer.specs.Events.{on_named, timer_named}
 use Rattle.packet_end.proofs.Pools.{layer_holds, layer_stepped, layer_balanced, within}
 use Rattle.packet_end.proofs.stack.Stack.on_layer_timer.Goals as goal
 

@@ -1,9 +1,9 @@
-use Rattle.std.proofs.Common.{◌≡◌, ◌∙◌, ap, sym, subst, Some, ◌<◌, length, arith, length-set}
+use Rattle.std.proofs.Common.{◌≡◌, ◌∙◌, ap, sym, subst, Some, ◌<◌, length}
 use Rattle.std.specs.Prelude.{slice_get, Bool, true, false}
 use Rattle.packet_layer.specs.Layer.{set_if}
 use Rattle.packet_layer.specs.Held.{Layer as Held}
 use Rattle.packet_layer.specs.LayerView.{layer_of}
-use Rattle.packet_layer.proofs.Placed.{placed, own_held, own_room, own_balance, fits_after, borrowed, plain_at, plain_set, few_after}
+use Rattle.packet_layer.proofs.Placed.{placed, own_held, own_room, own_balance, borrowed, plain_at, plain_set, few_after}
 use Rattle.packet_layer.specs.RequestView.{request_of}
 use Rattle.packet_layer.proofs.Places.{kept, request_done, request_refused, refused_at}
 use Rattle.packet_layer.proofs.Silence.{layer_touched}

@@ -1,11 +1,11 @@
-use Rattle.std.proofs.Common.{◌≡◌, ◌∙◌, ◌+◌, ap, sym, subst, Some, ◌<◌, length, set, arith, length-set}
+use Rattle.std.proofs.Common.{◌≡◌, ◌∙◌, ◌+◌, ap, sym, subst, Some, ◌<◌, length, set}
 use Rattle.std.specs.Prelude.{slice_get, Bool}
 use Rattle.packet_channel.specs.Held.{Channel as Holder}
 use Rattle.packet_layer.specs.Layer as machine
 use Rattle.packet_layer.specs.Layer.{free_channel, owing, placing, set_if}
 use Rattle.packet_layer.specs.Held.{Layer as Held, plain, buffers}
 use Rattle.packet_layer.specs.LayerView.{layer_of}
-use Rattle.packet_layer.proofs.Placed.{placed, fits_after, fits_kept, borrowed, plain_at, plain_set, buffers_same}
+use Rattle.packet_layer.proofs.Placed.{placed, fits_kept, borrowed, plain_at, plain_set, buffers_same}
 use Rattle.packet_codec.specs.Packet.{CallValue}
 use Rattle.packet_codec.specs.View.{call_view}
 use Rattle.packet_channel.specs.Octets.{parts_of}

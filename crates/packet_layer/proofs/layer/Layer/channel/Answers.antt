@@ -1,10 +1,9 @@
-use Rattle.std.proofs.Common.{ap, sym, ◌∙◌, subst, ◌≤◌}
+use Rattle.std.proofs.Common.{◌∙◌, subst, ◌≤◌}
 use Rattle.flow_window.specs.Pool.{weight}
 use Rattle.packet_layer.specs.Held.{Layer as Held}
 use Rattle.packet_layer.proofs.Places.{channel_at}
 use Rattle.packet_layer.proofs.Placed.{placed, plain_at, buffers_there}
 use Rattle.packet_layer.specs.LayerView.{layer_of}
-use Rattle.packet_layer.specs.Layer.{channel_of}
 use Rattle.packet_layer.proofs.layer.Layer.channel.Goals as goal
 
 pub returns-clause-found : goal.returns-clause-found

@@ -1,7 +1,6 @@
-use Rattle.std.proofs.Common.{◌≡◌, ap, sym, ◌∙◌, map, length, arith, subst, ◌++◌, [], List}
+use Rattle.std.proofs.Common.{◌≡◌, ap, sym, ◌∙◌, length, arith, subst, ◌++◌, [], List}
 use Rattle.std.proofs.lemmas.List.{length-map}
 use Rattle.flow_window.specs.Pool.{Buffer, Balances}
-use Rattle.packet_channel.specs.Channel.{closed_channel}
 use Rattle.packet_channel.specs.Held.{Channel as Holder}
 use Rattle.packet_channel.specs.NoteView.{reason_of}
 use Rattle.packet_channel.specs.Packets.{Note}

@@ -1,10 +1,9 @@
-use Rattle.std.proofs.Common.{◌≡◌, ◌∙◌, ap, sym, subst, Some, ◌<◌, length}
+use Rattle.std.proofs.Common.{◌≡◌, ◌∙◌, ap, Some}
 use Rattle.std.specs.Prelude.{slice_get}
 use Rattle.packet_channel.specs.Answers.{handed_back}
 use Rattle.packet_channel.specs.Held.{Kept}
-use Rattle.packet_layer.specs.Held.{Layer as Held}
 use Rattle.packet_layer.specs.LayerView.{layer_of}
-use Rattle.packet_layer.proofs.Placed.{placed, own_gain, few_after, borrowed, plain_at, plain_set}
+use Rattle.packet_layer.proofs.Placed.{placed, own_gain, few_after, plain_at, plain_set}
 use Rattle.packet_layer.proofs.Places.{sent, sent_answer, sent_back}
 use Rattle.packet_layer.proofs.Silence.{layer_touched}
 use Rattle.packet_layer.proofs.layer.Layer.send_buf.Goals as goal

@@ -1,4 +1,4 @@
-use Rattle.std.proofs.Common.{◌≡◌, ◌∙◌, ◌+◌, refl, ap, sym, subst, Some, ◌<◌, length, set}
+use Rattle.std.proofs.Common.{◌≡◌, ◌∙◌, ◌+◌, refl, ap, sym, subst, Some, set}
 use Rattle.std.specs.Prelude.{slice_get, is_some, true, false}
 use Rattle.packet_channel.specs.Held.{Channel as Holder}
 use Rattle.packet_layer.specs.Layer.{Next, next_of}

@@ -1,13 +1,12 @@
-use Rattle.std.proofs.Common.{ap, sym, ◌∙◌, ◌++◌, arith, length-set}
-use Rattle.packet_channel.specs.Held.{Channel as Holder}
+use Rattle.std.proofs.Common.{ap, sym, ◌∙◌, ◌++◌}
 use Rattle.packet_layer.specs.Held.{Layer as Held}
 use Rattle.packet_layer.specs.Layer.{set_if}
 use Rattle.packet_layer.specs.LayerView.{layer_of}
 use Rattle.packet_layer.specs.RestartView.{phase_of}
 use Rattle.packet_layer.specs.Events.{after_hearing}
 use Rattle.packet_channel.specs.Octets.{unreadable_as}
-use Rattle.packet_layer.proofs.Places.{unreadable_taken, expiry_taken}
-use Rattle.packet_layer.proofs.Placed.{placed, plain_at, plain_set, own_held, own_balance, fits_after, few_after}
+use Rattle.packet_layer.proofs.Places.{unreadable_taken}
+use Rattle.packet_layer.proofs.Placed.{placed, plain_at, plain_set, own_held, own_balance, few_after}
 use Rattle.packet_layer.proofs.Silence.{layer_touched}
 use Rattle.packet_layer.proofs.layer.Layer.take_unreadable.Goals as goal
 

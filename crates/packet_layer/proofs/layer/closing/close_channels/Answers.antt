@@ -1,4 +1,4 @@
-use Rattle.std.proofs.Common.{◌≡◌, ◌∙◌, ◌+◌, ◌++◌, ◌<◌, ◌≤◌, [], ◌∷◌, List, ap, sym, Some, length, drop, set, subst, arith}
+use Rattle.std.proofs.Common.{◌≡◌, ◌∙◌, ◌+◌, ◌++◌, ◌<◌, ◌≤◌, [], List, ap, sym, Some, length, drop, set, subst, arith}
 use Rattle.std.specs.Prelude.{slice_get}
 use Rattle.packet_channel.specs.Packets.{Note, Closed}
 use Rattle.flow_window.specs.Pool.{Holds, Balances}
