@@ -2,6 +2,7 @@
 use Rattle.std.proofs.Common.{◌≡◌, ℕ, zero, suc, ◌<◌, ◌≤◌, List, [], ◌∷◌, map, set, length, get_or, refl, sym, ap, subst, ◌∙◌, inl, inr, arith}
 use Rattle.std.specs.Prelude.{◌⊎◌, Some, slice_get}
 use Rattle.call_records.specs.Records.{RecordValue, changed_at}
+use Rattle.call_records.specs.Passed.{PassedState, HasSpare}
 use Rattle.call_records.specs.RecordView.{shown, HasPlaces, PlacesAt, left}
 use Rattle.call_records.specs.declared.record.Record.{Record}
 use Rattle.call_records.specs.declared.record.Growth.{Growth}
@@ -39,12 +40,6 @@ shown_same (x ∷ rs) zero r new h e =
     ap (λ (y : RecordValue). y ∷ map shown rs) (e ∙ ap shown same)
 shown_same (x ∷ rs) (suc n) r new h e = ap (λ (ys : List RecordValue). shown x ∷ ys) (shown_same rs n r new h e)
 
--- a change of one element that does not show
-pub map_same : {X Y : Type 0} (f : X → Y) (xs : List X) (n : ℕ) (x new : X) → slice_get xs n ≡ Some x → f new ≡ f x → map f (set xs n new) ≡ map f xs
-map_same f [] n x new h e = refl
-map_same f (y ∷ xs) zero x new h e = let same : x ≡ y = cc in ap (λ z. z ∷ map f xs) (e ∙ ap f same)
-map_same f (y ∷ xs) (suc n) x new h e = ap (λ zs. f y ∷ zs) (map_same f xs n x new h e)
-
 pub changed_none : (rs : List Record) (n : ℕ) (change : RecordValue → RecordValue) → length rs ≤ n → changed_at n change (map shown rs) ≡ map shown rs
 changed_none [] n change h = refl
 changed_none (x ∷ rs) zero change h = absurd (let no : ⊥ = omega arith in no)
@@ -57,14 +52,17 @@ none_at (y ∷ ys) (suc i) x h e = none_at ys i x (omega arith) e
 
 -- ---- room
 
-pub fewer : (k j : ℕ) (r : Record) → j ≤ k → HasPlaces k r → HasPlaces j r
+fewer_spare : (k j : ℕ) (p : PassedState) → j ≤ k → HasSpare k p → HasSpare j p
+fewer_spare k j p h has = record {
+  octets = omega (arith, has.octets);
+  interrupts = omega (arith, has.interrupts);
+  ends = omega (arith, has.ends);
+}
+
+fewer : (k j : ℕ) (r : Record) → j ≤ k → HasPlaces k r → HasPlaces j r
 fewer k j r h p = record {
-  sent_before = omega (arith, p.sent_before);
-  sent_packets = omega (arith, p.sent_packets);
-  sent_interrupts = omega (arith, p.sent_interrupts);
-  taken_before = omega (arith, p.taken_before);
-  taken_packets = omega (arith, p.taken_packets);
-  taken_interrupts = omega (arith, p.taken_interrupts);
+  sent = fewer_spare k j r.sent h p.sent;
+  taken = fewer_spare k j r.taken h p.taken;
   steps = omega (arith, p.steps);
 }
 

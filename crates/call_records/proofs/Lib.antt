@@ -5,3 +5,4 @@ pub mod Coming
 pub mod Ending
 pub mod Opening
 pub mod Written
+pub mod Cutting

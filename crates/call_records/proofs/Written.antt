@@ -1,11 +1,12 @@
 -- Packets that are written one behind the other, read and added.
-use Rattle.std.proofs.Common.{◌≡◌, ℕ, zero, suc, ◌+◌, ◌-◌, ◌≤◌, Bool, true, false, List, [], ◌∷◌, ◌++◌, length, take, drop, slice_index_or, refl, sym, ap, ◌∙◌, arith}
-use Rattle.std.specs.Prelude.{Result, Ok, Err, IsOk, is_ok, if◌then◌else◌}
+use Rattle.std.proofs.Common.{◌≡◌, ℕ, zero, suc, ◌+◌, ◌-◌, ◌≤◌, Bool, true, false, List, [], ◌∷◌, ◌++◌, length, take, drop, slice_index_or, refl, sym, ap, subst, ◌∙◌, arith}
+use Rattle.std.specs.Prelude.{Result, Ok, Err, IsOk, is_ok, if◌then◌else◌, Option, Some, None, MatchOption}
 use Rattle.std.specs.List.{flat_map}
 use mir.Val.{bool_byte}
-use Rattle.std.proofs.lemmas.List.{append_assoc, length_push, length-append, length-drop}
+use Rattle.std.proofs.lemmas.List.{append_assoc, length_push, length-append, length-take, drop-drop}
 use Rattle.epochs.specs.Item.{DataPacket}
-use Rattle.call_records.specs.Packets.{bit, is_set, written, read_packets, AreWritten}
+use Rattle.call_records.specs.Packets.{data_packet_of, bit, is_set, written, read_packets, AreWritten, AreThere}
+use Rattle.call_records.specs.declared.packets.Packet.{Packet}
 
 take_front : (xs ys : List ℕ) → take (length xs) (xs ++ ys) ≡ xs
 take_front [] ys = refl
@@ -74,12 +75,6 @@ count_fits n os w = omega (arith, few (read_packets n os), w.counted, ap (λ (xs
 
 -- ---- taken from the front
 
-pub whole_behind : (os : List ℕ) → take (length os - 4) (drop 4 os) ≡ drop 4 os
-whole_behind os = ap (λ k. take k (drop 4 os)) (sym (length-drop 4 os)) ∙ all_of (drop 4 os) where
-  all_of : (xs : List ℕ) → take (length xs) xs ≡ xs
-  all_of [] = refl
-  all_of (x ∷ xs) = ap (λ zs. x ∷ zs) (all_of xs)
-
 abbrev pub first_of : List ℕ → DataPacket
 first_of os = record {
   octets = take (slice_index_or os 0 0) (drop 4 os);
@@ -91,32 +86,69 @@ first_of os = record {
 abbrev pub behind : List ℕ → List ℕ
 behind os = drop (slice_index_or os 0 0) (drop 4 os)
 
-pub read_first : (n : ℕ) (os : List ℕ) → 4 ≤ length os → AreWritten n os → read_packets n os ≡ first_of os ∷ read_packets (n - 1) (behind os)
-read_first zero os h w = absurd (let no : ⊥ = omega (arith, h, ap (λ (xs : List ℕ). length xs) w.whole) in no)
-read_first (suc n) [] h w = absurd (let no : ⊥ = omega (arith, h) in no)
-read_first (suc n) (a ∷ []) h w = absurd (let no : ⊥ = omega (arith, h) in no)
-read_first (suc n) (a ∷ b ∷ []) h w = absurd (let no : ⊥ = omega (arith, h) in no)
-read_first (suc n) (a ∷ b ∷ c ∷ []) h w = absurd (let no : ⊥ = omega (arith, h) in no)
-read_first (suc n) (a ∷ b ∷ c ∷ d ∷ os) h w =
-    let less : suc n - 1 ≡ n = omega arith in
-    rw less refl
-
-head_of : List ℕ → ℕ
-head_of [] = 0
-head_of (x ∷ xs) = x
-
-pub written_behind : (n : ℕ) (os : List ℕ) → 4 ≤ length os → AreWritten n os → AreWritten (n - 1) (behind os)
-written_behind zero os h w = absurd (let no : ⊥ = omega (arith, h, ap (λ (xs : List ℕ). length xs) w.whole) in no)
-written_behind (suc n) [] h w = absurd (let no : ⊥ = omega (arith, h) in no)
-written_behind (suc n) (a ∷ []) h w = absurd (let no : ⊥ = omega (arith, h) in no)
-written_behind (suc n) (a ∷ b ∷ []) h w = absurd (let no : ⊥ = omega (arith, h) in no)
-written_behind (suc n) (a ∷ b ∷ c ∷ []) h w = absurd (let no : ⊥ = omega (arith, h) in no)
-written_behind (suc n) (a ∷ b ∷ c ∷ d ∷ os) h w =
+-- what is written behind the first of them
+written_behind : (n a b c d : ℕ) (os : List ℕ) → AreWritten (suc n) (a ∷ b ∷ c ∷ d ∷ os) → AreWritten n (drop a os)
+written_behind n a b c d os w =
     let rest = flat_map written (read_packets n (drop a os)) in
     let size : a ≡ length (take a os) = ap (λ xs. slice_index_or xs 0 0) w.whole in
     let tail : os ≡ take a os ++ rest = ap (λ (xs : List ℕ). drop 4 xs) w.whole in
-    let less : suc n - 1 ≡ n = omega arith in
-    rw less (record {
+    record {
       whole = ap (λ xs. drop a xs) tail ∙ ap (λ k. drop k (take a os ++ rest)) size ∙ drop_front (take a os) rest;
       counted = omega (arith, w.counted);
-    })
+    }
+
+-- what is written is there
+pub are_there : (n : ℕ) (os : List ℕ) → AreWritten n os → AreThere n os
+are_there zero os w = tt
+are_there (suc n) [] w = absurd (let no : ⊥ = omega (arith, w.counted) in no)
+are_there (suc n) (a ∷ []) w = absurd (let no : ⊥ = omega (arith, w.counted) in no)
+are_there (suc n) (a ∷ b ∷ []) w = absurd (let no : ⊥ = omega (arith, w.counted) in no)
+are_there (suc n) (a ∷ b ∷ c ∷ []) w = absurd (let no : ⊥ = omega (arith, w.counted) in no)
+are_there (suc n) (a ∷ b ∷ c ∷ d ∷ os) w =
+    let size : a ≡ length (take a os) = ap (λ xs. slice_index_or xs 0 0) w.whole in
+    let fits : a ≤ length os = omega (arith, size, length-take a os) in
+    (fits, are_there n (drop a os) (written_behind n a b c d os w))
+
+-- the first of them fits, is read, and those behind it are there
+pub first_there : (n : ℕ) (os : List ℕ) → 1 ≤ n → AreThere n os
+    → (slice_index_or os 0 0 ≤ length (drop 4 os)) × (read_packets n os ≡ first_of os ∷ read_packets (n - 1) (behind os)) × AreThere (n - 1) (behind os)
+first_there zero os h t = absurd (let no : ⊥ = omega (arith, h) in no)
+first_there (suc n) [] h t = absurd t
+first_there (suc n) (a ∷ []) h t = absurd t
+first_there (suc n) (a ∷ b ∷ []) h t = absurd t
+first_there (suc n) (a ∷ b ∷ c ∷ []) h t = absurd t
+first_there (suc n) (a ∷ b ∷ c ∷ d ∷ os) h t =
+    let less : n ≡ suc n - 1 = omega arith in
+    let P : ℕ → Type 0 = λ k. AreThere k (drop a os) in
+    (t.0, ap (λ k. first_of (a ∷ b ∷ c ∷ d ∷ os) ∷ read_packets k (drop a os)) less, subst P less t.1)
+
+-- ---- some of them
+
+pub read_count : (n : ℕ) (os : List ℕ) → AreThere n os → length (read_packets n os) ≡ n
+read_count zero os t = refl
+read_count (suc n) [] t = absurd t
+read_count (suc n) (a ∷ []) t = absurd t
+read_count (suc n) (a ∷ b ∷ []) t = absurd t
+read_count (suc n) (a ∷ b ∷ c ∷ []) t = absurd t
+read_count (suc n) (a ∷ b ∷ c ∷ d ∷ os) t = ap suc (read_count n (drop a os) t.1)
+
+-- the first k of them are there, and read
+pub fewer_there : (k n : ℕ) (os : List ℕ) → k ≤ n → AreThere n os → AreThere k os × (read_packets k os ≡ take k (read_packets n os))
+fewer_there zero n os h t = (tt, refl)
+fewer_there (suc k) zero os h t = absurd (let no : ⊥ = omega (arith, h) in no)
+fewer_there (suc k) (suc n) [] h t = absurd t
+fewer_there (suc k) (suc n) (a ∷ []) h t = absurd t
+fewer_there (suc k) (suc n) (a ∷ b ∷ []) h t = absurd t
+fewer_there (suc k) (suc n) (a ∷ b ∷ c ∷ []) h t = absurd t
+fewer_there (suc k) (suc n) (a ∷ b ∷ c ∷ d ∷ os) h t =
+    let rest = fewer_there k n (drop a os) (omega (arith, h)) t.1 in
+    ((t.0, rest.0), ap (λ (ps : List DataPacket). first_of (a ∷ b ∷ c ∷ d ∷ os) ∷ ps) rest.1)
+
+-- one more is left out at the front
+next_left : (old new : List DataPacket) (r : Option Packet) → MatchOption r ((old ≡ []) × (new ≡ [])) (λ p. old ≡ data_packet_of p ∷ new) → new ≡ drop 1 old
+next_left old new None e = e.1 ∙ sym (ap (λ (ps : List DataPacket). drop 1 ps) e.0)
+next_left old new (Some p) e = sym (ap (λ (ps : List DataPacket). drop 1 ps) e)
+
+pub left_next : (ps old new : List DataPacket) (i : ℕ) (r : Option Packet) → old ≡ drop i ps
+    → MatchOption r ((old ≡ []) × (new ≡ [])) (λ p. old ≡ data_packet_of p ∷ new) → new ≡ drop (i + 1) ps
+left_next ps old new i r e steps = next_left old new r steps ∙ ap (λ (xs : List DataPacket). drop 1 xs) e ∙ drop-drop 1 i ps

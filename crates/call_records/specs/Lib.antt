@@ -1,5 +1,8 @@
 pub mod Packets
 pub mod Records
+pub mod Passed
+pub mod EpochEnds
+pub mod PassedView
 pub mod Book
 pub mod Room
 pub mod Closing

@@ -1,5 +1,6 @@
 -- Packets as a record keeps them, written one behind the other.
-use Rattle.std.specs.Prelude.{◌≡◌, ℕ, zero, suc, ◌==◌, Bool, true, false, not, List, [], ◌∷◌, length, take, drop}
+use Rattle.std.specs.Prelude.{◌≡◌, ℕ, zero, suc, ◌≤◌, ◌==◌, Bool, true, false, not, List, [], ◌∷◌, length, take}
+use Rattle.std.specs.Prelude.{drop}
 use Rattle.std.specs.List.{flat_map}
 use Rattle.epochs.specs.Item.{DataPacket}
 use Rattle.call_records.specs.declared.packets.Packet.{Packet}
@@ -39,3 +40,10 @@ read_packets (suc count) _ = []
 pub record AreWritten (count : ℕ) (octets : List ℕ) : Type 0 where
   pub whole : octets ≡ flat_map written (read_packets count octets)
   pub counted : count ≡ length (read_packets count octets)
+
+-- so many packets are wholly there at the front, whatever is written behind them
+abbrev pub AreThere : ℕ → List ℕ → Type 0
+AreThere zero octets = Unit {0}
+AreThere (suc count) (len ∷ more ∷ qualified ∷ delivery ∷ octets) =
+    (len ≤ length octets) × AreThere count (drop len octets)
+AreThere (suc count) _ = ⊥

@@ -1,12 +1,11 @@
 -- What the code's records show, and what room they have.
-use Rattle.std.specs.Prelude.{◌≡◌, ℕ, ◌-◌, ◌*◌, ◌≤◌, List, length, map, slice_get, Some, vec_len, vec_capacity}
+use Rattle.std.specs.Prelude.{◌≡◌, ℕ, ◌-◌, ◌≤◌, List, length, map, slice_get, Some, vec_len, vec_capacity}
 use Rattle.epochs.specs.Epoch.{SentEpoch as Sent, TakenEpoch as Taken}
 use Rattle.pad_editing.specs.Edited.{Step, key, idle}
 use Rattle.call_records.specs.Records.{RecordValue, PairValue, with_step, with_sent, with_interrupt_sent, with_taken}
 use Rattle.call_records.specs.Records.{with_interrupt_taken, with_released, with_covered, with_epoch, with_closed}
 use Rattle.call_records.specs.Packets.{data_packet_of}
-use Rattle.call_records.specs.declared.record.SentEpoch.{SentEpoch}
-use Rattle.call_records.specs.declared.record.TakenEpoch.{TakenEpoch}
+use Rattle.call_records.specs.Passed.{Part, HasSpare}
 use Rattle.call_records.specs.declared.record.EditStep.{EditStep}
 use Rattle.call_records.specs.declared.record.EditStep.TheVariants as edit_step
 use Rattle.call_records.specs.declared.record.Record.{Record}
@@ -14,11 +13,12 @@ use Rattle.call_records.specs.declared.record.Pair.{Pair}
 use Rattle.call_records.specs.declared.record.Growth.{Growth}
 use Rattle.call_records.specs.declared.record.Growth.TheVariants as growth
 
-abbrev pub sent_of : SentEpoch → Sent
-sent_of e = record { packets = e.packets.packets; interrupts = e.interrupts.items; covered = e.covered }
+-- an epoch of what an end sent, and of what it took
+abbrev pub sent_of : Part → Sent
+sent_of p = record { packets = p.packets; interrupts = p.interrupts; covered = p.counted }
 
-abbrev pub taken_of : TakenEpoch → Taken
-taken_of e = record { packets = e.packets.packets; interrupts = e.interrupts.items; released = e.released }
+abbrev pub taken_of : Part → Taken
+taken_of p = record { packets = p.packets; interrupts = p.interrupts; released = p.counted }
 
 abbrev pub step_of : EditStep → Step
 step_of (edit_step.Key octet params) = key octet params
@@ -31,10 +31,10 @@ shown r = record {
   own = r.own;
   far = r.far;
   caller = r.caller;
-  sent_before = map sent_of r.sent_before.items;
-  sent = sent_of r.sent;
-  taken_before = map taken_of r.taken_before.items;
-  taken = taken_of r.taken;
+  sent_before = map sent_of r.sent.epochs.before;
+  sent = sent_of r.sent.epochs.last;
+  taken_before = map taken_of r.taken.epochs.before;
+  taken = taken_of r.taken.epochs.last;
   closed = r.closed;
   steps = map step_of r.steps.items;
 }
@@ -42,14 +42,10 @@ shown r = record {
 abbrev pub pair_of : Pair → PairValue
 pair_of p = record { caller = p.caller; callee = p.callee }
 
--- every list of a record has so many spare places, where a packet takes at most 132 octets
+-- every list of a record has so many spare places
 pub record HasPlaces (room : ℕ) (r : Record) : Type 0 where
-  pub sent_before : room ≤ vec_capacity r.sent_before - vec_len r.sent_before
-  pub sent_packets : 132 * room ≤ r.sent.packets.spare
-  pub sent_interrupts : room ≤ vec_capacity r.sent.interrupts - vec_len r.sent.interrupts
-  pub taken_before : room ≤ vec_capacity r.taken_before - vec_len r.taken_before
-  pub taken_packets : 132 * room ≤ r.taken.packets.spare
-  pub taken_interrupts : room ≤ vec_capacity r.taken.interrupts - vec_len r.taken.interrupts
+  pub sent : HasSpare room r.sent
+  pub taken : HasSpare room r.taken
   pub steps : room ≤ vec_capacity r.steps - vec_len r.steps
 
 -- the record of this number has them, if there is one

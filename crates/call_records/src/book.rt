@@ -29,8 +29,8 @@ const AHEAD: usize = 24;
 
 /// The book of a line: the records of the calls' two ends, the pairs of them that make a call, and for each end,
 /// channel by channel, which records belong there. Only `new` and `reserve` take memory; what is written needs room
-/// that was reserved. A call that comes in leaves no room, but that for pairs stays: so it can be accepted at once. An
-/// epoch that ends keeps no spare room, and neither does the record of a call that is over, once room is made again.
+/// that was reserved. A call that comes in leaves no room, but that for pairs stays: so it can be accepted at once. The
+/// record of a call that is over keeps no spare room, once room is made again.
 #[derive(Drop)]
 pub struct Book {
     alloc: Global,
@@ -134,18 +134,8 @@ impl Book {
         let places = count.saturating_add(AHEAD);
         self.records.reserve(places)?;
         self.pairs.reserve(places)?;
-        reserve_present(
-            self.alloc,
-            &mut self.records,
-            self.ends.of(Role::Dte),
-            places,
-        )?;
-        reserve_present(
-            self.alloc,
-            &mut self.records,
-            self.ends.of(Role::Dce),
-            places,
-        )?;
+        reserve_present(&mut self.records, self.ends.of(Role::Dte), places)?;
+        reserve_present(&mut self.records, self.ends.of(Role::Dce), places)?;
         self.places = places;
         self.room = count;
         self.pair_room = count;
@@ -310,8 +300,7 @@ impl Book {
         }
     }
 
-    /// The present call was reset (X.25 4.4.3): an epoch begins, sent and taken. No room is left, since the new epoch
-    /// has none.
+    /// The present call was reset (X.25 4.4.3): an epoch begins, sent and taken. No room is left then.
     pub fn renew(&mut self, role: Role, channel: u8)
         requires { 1 ≤ self.old.room }
         ensures { self.new ≡ record self.old { book = renews role channel self.old.book; room = 0 } }
@@ -443,7 +432,7 @@ impl Book {
         let Some(number) = present else {
             return;
         };
-        grow_at(&mut self.records, number, self.alloc, growth);
+        grow_at(&mut self.records, number, growth);
     }
 }
 
@@ -465,7 +454,7 @@ fn recorded(address: &Address) -> Option<Address>
 }
 
 // The record of this number grows by a write, if there is one.
-fn grow_at(records: &mut Vec<Record>, number: usize, alloc: Global, growth: Growth<'_>)
+fn grow_at(records: &mut Vec<Record>, number: usize, growth: Growth<'_>)
     requires places { PlacesAt (needed growth) number records.old.items }
     requires fits { Fits growth }
     ensures shown { map shown records.new.items ≡ changed_at number (grown growth.entry) (map shown records.old.items) }
@@ -476,17 +465,12 @@ fn grow_at(records: &mut Vec<Record>, number: usize, alloc: Global, growth: Grow
 {
     if number < records.len() {
         let record = &mut records[number];
-        record.grow(alloc, growth);
+        record.grow(growth);
     }
 }
 
 // Makes room in the record of this number, if there is one.
-fn reserve_at(
-    alloc: Global,
-    records: &mut Vec<Record>,
-    number: usize,
-    count: usize,
-) -> Result<(), AllocError>
+fn reserve_at(records: &mut Vec<Record>, number: usize, count: usize) -> Result<(), AllocError>
     ensures same { map shown records.new.items ≡ map shown records.old.items }
     ensures len { vec_len records.new ≡ vec_len records.old }
     ensures capacity { vec_capacity records.new ≡ vec_capacity records.old }
@@ -496,18 +480,13 @@ fn reserve_at(
 {
     if number < records.len() {
         let record = &mut records[number];
-        record.reserve(alloc, count)?;
+        record.reserve(count)?;
     }
     Ok(())
 }
 
 // Makes room in the records of the present calls of an end.
-fn reserve_present(
-    alloc: Global,
-    records: &mut Vec<Record>,
-    side: &Side,
-    count: usize,
-) -> Result<(), AllocError>
+fn reserve_present(records: &mut Vec<Record>, side: &Side, count: usize) -> Result<(), AllocError>
     ensures same { map shown records.new.items ≡ map shown records.old.items }
     ensures len { vec_len records.new ≡ vec_len records.old }
     ensures capacity { vec_capacity records.new ≡ vec_capacity records.old }
@@ -517,7 +496,7 @@ fn reserve_present(
 {
     for place in 0..side.channels() {
         if let Some(number) = side.slot(place + 1).present {
-            reserve_at(alloc, records, number, count)?;
+            reserve_at(records, number, count)?;
         }
     }
     Ok(())

@@ -5,12 +5,14 @@ mod book;
 mod ends;
 mod interrupt;
 mod packets;
+mod passed;
 mod record;
 mod register;
 mod spare;
 
 pub use book::Book;
 pub use interrupt::Interrupt;
-pub use packets::{Packet, Packets, PacketsIter};
-pub use record::{EditStep, Pair, Record, SentEpoch, TakenEpoch};
+pub use packets::{Packet, PacketsIter};
+pub use passed::{Epoch, Passed};
+pub use record::{EditStep, Pair, Record};
 pub use register::Register;

@@ -1,5 +1,5 @@
 //! What a record keeps of the Data packets that passed on a call.
-ghost use Rattle.std.specs.Prelude.{◌≡◌, ◌≤◌, ◌==◌, ◌+◌, ◌-◌, ◌*◌, [], ◌∷◌, ◌++◌, OnOk, length};
+ghost use Rattle.std.specs.Prelude.{◌≡◌, ◌≤◌, ◌==◌, ◌+◌, ◌-◌, ◌*◌, [], ◌∷◌, ◌++◌, OnOk, length, take, drop};
 ghost use Rattle.call_records.specs.Packets.{data_packet_of};
 
 use crate::spare::give_back;
@@ -22,7 +22,7 @@ pub struct Packet<'a> {
 /// Data packets in order, one written behind the other: of each its length and its bits M, Q and D, an octet each, and
 /// then its octets.
 #[derive(Drop)]
-pub struct Packets {
+pub(crate) struct Packets {
     written: Vec<u8>,
     count: usize,
 }
@@ -55,27 +55,34 @@ impl Packets {
     }
 
     /// How many packets there are.
-    pub fn len(&self) -> usize
+    pub(crate) fn len(&self) -> usize
         ensures { result ≡ length self.now.packets }
     {
         self.count
     }
 
-    /// Whether there are none.
-    pub fn is_empty(&self) -> bool
-        ensures { result ≡ (length self.now.packets == 0) }
-    {
-        self.count == 0
-    }
-
     /// The packets, one after the other.
-    pub fn iter(&self) -> PacketsIter<'_>
+    fn iter(&self) -> PacketsIter<'_>
         ensures { result ≡ self.now.packets }
     {
         PacketsIter {
             written: self.written.as_slice(),
             count: self.count,
         }
+    }
+
+    /// The packets from one place up to another.
+    pub(crate) fn between(&self, from: usize, to: usize) -> PacketsIter<'_>
+        requires order { from ≤ to }
+        requires end { to ≤ length self.now.packets }
+        ensures { result ≡ take (to - from) (drop from self.now.packets) }
+    {
+        let mut packets = self.iter();
+        for _ in 0..from {
+            let _ = packets.next();
+        }
+        packets.count = to - from;
+        packets
     }
 
     /// Makes room for so many packets more.
@@ -115,7 +122,7 @@ impl Packets {
     }
 }
 
-/// Goes over packets.
+/// Goes over packets, behind which others may be written.
 #[derive(Drop)]
 pub struct PacketsIter<'a> {
     written: &'a [u8],
@@ -128,11 +135,27 @@ impl<'a> Model for PacketsIter<'a> {
 
     ghost Value = { List DataPacket };
 
-    ghost use Rattle.call_records.specs.Packets.{read_packets, AreWritten};
+    ghost use Rattle.call_records.specs.Packets.{read_packets, AreThere};
 
     ghost view = { λ i. read_packets i.count i.written.now };
 
-    ghost invariant = { λ i. AreWritten i.count i.written.now };
+    ghost invariant = { λ i. AreThere i.count i.written.now };
+}
+
+impl PacketsIter<'_> {
+    /// How many packets are left.
+    pub fn len(&self) -> usize
+        ensures { result ≡ length self.now }
+    {
+        self.count
+    }
+
+    /// Whether none is left.
+    pub fn is_empty(&self) -> bool
+        ensures { result ≡ (length self.now == 0) }
+    {
+        self.len() == 0
+    }
 }
 
 impl<'a> Iterator for PacketsIter<'a> {
@@ -146,6 +169,9 @@ impl<'a> Iterator for PacketsIter<'a> {
     ghost remaining = { item_count (λ packets. packets) };
 
     fn next(&mut self) -> Option<Packet<'a>> {
+        if self.count == 0 {
+            return None;
+        }
         let [length, more, qualified, delivery, rest @ ..] = self.written else {
             return None;
         };

@@ -3,8 +3,8 @@ use crate::programs::played_on;
 use frame_codec::FrameBuf;
 use net_files::{FIRST, read_net};
 use net_player::{
-    Config, Direction, Event, Line, MakeFault, MemLine, Net, Pair, Record, RunFault, SentEpoch,
-    StepFault, TakenEpoch, TerminalEvent, run,
+    Config, Direction, Epoch, Event, Line, MakeFault, MemLine, Net, Pair, Record, RunFault,
+    StepFault, TerminalEvent, run,
 };
 use packet_codec::Address;
 use std::alloc::Global;
@@ -371,17 +371,15 @@ fn is_address(address: Option<Address>, digits: &[u8]) -> bool {
     }
 }
 
-fn has_sent(epoch: &SentEpoch, messages: &[&[u8]], covered: usize) -> bool {
-    let mut same = epoch.packets.len() == messages.len() && epoch.covered == covered;
-    for (packet, octets) in epoch.packets.iter().zip(messages) {
-        same = same && packet.octets == *octets;
-    }
-    same
-}
-
-fn has_taken(epoch: &TakenEpoch, messages: &[&[u8]], released: usize) -> bool {
-    let mut same = epoch.packets.len() == messages.len() && epoch.released == released;
-    for (packet, octets) in epoch.packets.iter().zip(messages) {
+/// Whether these messages passed in the epoch, a packet each, and so many of them count.
+fn has_passed(epoch: Epoch<'_>, messages: &[&[u8]], count: usize) -> bool {
+    let Epoch {
+        packets,
+        counted,
+        ..
+    } = epoch;
+    let mut same = packets.len() == messages.len() && counted == count;
+    for (packet, octets) in packets.zip(messages) {
         same = same && packet.octets == *octets;
     }
     same
@@ -391,9 +389,9 @@ fn is_kept(record: &Record, kept: &Kept) -> bool {
     record.node == kept.node
         && is_address(record.own, kept.own)
         && is_address(record.far, kept.far)
-        && (record.sent_before.len(), record.taken_before.len()) == kept.resets
-        && has_sent(&record.sent, kept.sent, kept.covered)
-        && has_taken(&record.taken, kept.taken, kept.released)
+        && (record.sent.ended(), record.taken.ended()) == kept.resets
+        && has_passed(record.sent.last(), kept.sent, kept.covered)
+        && has_passed(record.taken.last(), kept.taken, kept.released)
         && record.closed == kept.closed
         && record.steps.len() == kept.steps
 }

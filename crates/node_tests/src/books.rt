@@ -1,7 +1,7 @@
 //! Little books, write by write.
 ghost use Rattle.std.specs.Prelude.{◌≤◌, length};
 
-use call_records::{Book, EditStep, Interrupt, Packets, Pair, Record};
+use call_records::{Book, EditStep, Epoch, Interrupt, PacketsIter, Pair, Record};
 use frame_codec::FrameBuf;
 use link_timers::Role;
 use packet_codec::{Address, CallBuf, CallData};
@@ -18,6 +18,8 @@ const DTE_NODE: usize = 10;
 const DCE_NODE: usize = 20;
 
 const CALLED: [u8; 4] = [2, 0, 0, 1];
+
+const INTERRUPT: &[u8] = &[7];
 
 // A line of four channels.
 fn new_book(alloc: Global, standing: bool) -> Result<Book, AllocError> {
@@ -144,11 +146,11 @@ fn has_pair(book: &Book, caller: usize, callee: usize) -> bool {
 }
 
 // Whether these are packets with M = 1 and D = 1 and the octets, one packet each.
-fn are_packets(packets: &Packets, each: &[&[u8]]) -> bool {
+fn are_packets(packets: PacketsIter<'_>, each: &[&[u8]]) -> bool {
     if packets.len() != each.len() {
         return false;
     }
-    for (packet, octets) in packets.iter().zip(each) {
+    for (packet, octets) in packets.zip(each) {
         let bits = (packet.more, packet.qualified, packet.delivery);
         if packet.octets != *octets || bits != (true, false, true) {
             return false;
@@ -157,21 +159,31 @@ fn are_packets(packets: &Packets, each: &[&[u8]]) -> bool {
     true
 }
 
-fn is_one_interrupt(interrupts: &[Interrupt], octets: &[u8]) -> bool {
-    match interrupts {
-        [interrupt] => interrupt.octets() == octets,
-        _ => false,
+fn are_interrupts(interrupts: &[Interrupt], each: &[&[u8]]) -> bool {
+    if interrupts.len() != each.len() {
+        return false;
     }
+    for (interrupt, octets) in interrupts.iter().zip(each) {
+        if interrupt.octets() != *octets {
+            return false;
+        }
+    }
+    true
+}
+
+// Whether these packets and interrupts passed in the epoch, and so many of the packets count.
+fn has_passed(epoch: Epoch<'_>, each: &[&[u8]], each_interrupt: &[&[u8]], count: usize) -> bool {
+    let Epoch {
+        packets,
+        interrupts,
+        counted,
+    } = epoch;
+    are_packets(packets, each) && are_interrupts(interrupts, each_interrupt) && counted == count
 }
 
 // Whether the record has nothing in its last epochs.
 fn begins(record: &Record) -> bool {
-    record.sent.packets.is_empty()
-        && record.sent.interrupts.is_empty()
-        && record.sent.covered == 0
-        && record.taken.packets.is_empty()
-        && record.taken.interrupts.is_empty()
-        && record.taken.released == 0
+    has_passed(record.sent.last(), &[], &[], 0) && has_passed(record.taken.last(), &[], &[], 0)
 }
 
 fn a_call_comes_and_goes(rt: &impl Abort, book: &mut Book) -> Result<(), Fail> {
@@ -260,19 +272,18 @@ fn all_is_written(
         assert!(rt; false, "a standing call has two records");
         return Ok(());
     };
-    assert!(rt; are_packets(&dte.sent.packets, &[b"AB".as_slice(), b"C".as_slice()]));
-    assert!(rt; is_one_interrupt(dte.sent.interrupts.as_slice(), &[7]) && dte.sent.covered == 1);
-    assert!(rt; dte.taken.packets.is_empty() && dte.taken.interrupts.is_empty());
-    assert!(rt; are_packets(&dce.taken.packets, &[b"AB".as_slice()]));
-    assert!(rt; is_one_interrupt(dce.taken.interrupts.as_slice(), &[7]) && dce.taken.released == 1);
-    assert!(rt; dce.sent.packets.is_empty() && dce.sent.interrupts.is_empty());
+    let both = [b"AB".as_slice(), b"C".as_slice()];
+    assert!(rt; has_passed(dte.sent.last(), &both, &[INTERRUPT], 1));
+    assert!(rt; has_passed(dte.taken.last(), &[], &[], 0));
+    assert!(rt; has_passed(dce.taken.last(), &[b"AB".as_slice()], &[INTERRUPT], 1));
+    assert!(rt; has_passed(dce.sent.last(), &[], &[], 0));
     book.release(Role::Dce, 1, 5);
     book.cover(Role::Dte, 1, 5);
     let [dte, dce] = book.records() else {
         assert!(rt; false, "a standing call has two records");
         return Ok(());
     };
-    assert!(rt; dce.taken.released == 1 && dte.sent.covered == 1);
+    assert!(rt; dce.taken.last().counted == 1 && dte.sent.last().counted == 1);
     Ok(())
 }
 
@@ -300,13 +311,11 @@ fn epochs_open(rt: &impl Abort, book: &mut Book) -> Result<(), Fail> {
         return Ok(());
     };
     assert!(rt; begins(dte) && begins(dce));
-    assert!(rt; dte.taken_before.len() == 1 && dce.taken_before.len() == 1);
-    assert!(rt; dce.sent_before.len() == 1);
-    match dte.sent_before.as_slice() {
-        [epoch] => assert!(rt;
-            are_packets(&epoch.packets, &[b"AB".as_slice()]) && epoch.covered == 1
-        ),
-        _ => assert!(rt; false, "one epoch is over"),
+    assert!(rt; dte.taken.ended() == 1 && dce.taken.ended() == 1);
+    assert!(rt; dte.sent.ended() == 1 && dce.sent.ended() == 1);
+    match dte.sent.before(0) {
+        Some(epoch) => assert!(rt; has_passed(epoch, &[b"AB".as_slice()], &[], 1)),
+        None => assert!(rt; false, "one epoch is over"),
     }
     Ok(())
 }
@@ -315,6 +324,40 @@ fn epochs_open(rt: &impl Abort, book: &mut Book) -> Result<(), Fail> {
 fn a_reset_opens_an_epoch_at_each_end(rt: HostRuntime) -> Result<(), Fail> {
     let mut book = new_book(rt.alloc(), true)?;
     epochs_open(&rt, &mut book)
+}
+
+// What was sent in each of three epochs.
+fn epochs_stay_apart(rt: &impl Abort, book: &mut Book) -> Result<(), Fail> {
+    sends(book, Role::Dte, b"AB")?;
+    sends(book, Role::Dte, b"C")?;
+    book.cover(Role::Dte, 1, 1);
+    book.reserve(2)?;
+    book.interrupt(Role::Dte, 1, INTERRUPT);
+    book.renew(Role::Dte, 1);
+    sends(book, Role::Dte, b"D")?;
+    book.reserve(1)?;
+    book.renew(Role::Dte, 1);
+    sends(book, Role::Dte, b"EF")?;
+    let [dte, _] = book.records() else {
+        assert!(rt; false, "a standing call has two records");
+        return Ok(());
+    };
+    let (Some(first), Some(second)) = (dte.sent.before(0), dte.sent.before(1)) else {
+        assert!(rt; false, "two epochs are over");
+        return Ok(());
+    };
+    let both = [b"AB".as_slice(), b"C".as_slice()];
+    assert!(rt; has_passed(first, &both, &[INTERRUPT], 1));
+    assert!(rt; has_passed(second, &[b"D".as_slice()], &[], 0));
+    assert!(rt; has_passed(dte.sent.last(), &[b"EF".as_slice()], &[], 0));
+    assert!(rt; dte.sent.ended() == 2 && dte.sent.before(2).is_none());
+    Ok(())
+}
+
+#[test]
+fn each_epoch_is_read_by_itself(rt: HostRuntime) -> Result<(), Fail> {
+    let mut book = new_book(rt.alloc(), true)?;
+    epochs_stay_apart(&rt, &mut book)
 }
 
 fn an_end_closes_all(rt: &impl Abort, book: &mut Book) -> Result<(), Fail> {

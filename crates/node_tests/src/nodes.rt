@@ -111,9 +111,10 @@ fn writes_what_is_said(
     let Some(record) = book.records().get(1) else {
         panic!(rt; "a record");
     };
-    assert_eq!(rt; record.sent.packets.len(), 2);
-    assert!(rt; is_packet(record.sent.packets.iter().next(), &[b'A'; 128], true, false));
-    assert!(rt; is_packet(record.sent.packets.iter().nth(1), b"AA", false, true));
+    let mut sent = record.sent.last();
+    assert_eq!(rt; sent.packets.len(), 2);
+    assert!(rt; is_packet(sent.packets.next(), &[b'A'; 128], true, false));
+    assert!(rt; is_packet(sent.packets.next(), b"AA", false, true));
     Ok(())
 }
 
@@ -145,7 +146,7 @@ fn writes_what_is_asked(
     let Some(record) = book.records().get(1) else {
         panic!(rt; "a record");
     };
-    assert_eq!(rt; record.sent_before.len(), 1);
+    assert_eq!(rt; record.sent.ended(), 1);
     assert!(rt; !record.closed);
     for request in [&HostRequest::Answer, &HostRequest::Refuse] {
         assert_eq!(rt; asks(host, request, book)?, Err(ChannelFault::NoCall));
@@ -171,8 +172,9 @@ fn what_a_host_takes_is_written(rt: HostRuntime) -> Result<(), Fail> {
     let Some(record) = book.records().get(1) else {
         panic!(rt; "a record");
     };
-    assert!(rt; is_packet(record.taken.packets.iter().next(), b"HI", false, false));
-    assert_eq!(rt; record.taken.released, 1);
+    let mut taken = record.taken.last();
+    assert!(rt; is_packet(taken.packets.next(), b"HI", false, false));
+    assert_eq!(rt; taken.counted, 1);
     Ok(())
 }
 

@@ -93,11 +93,11 @@ fn each_note_is_written_at_its_record(rt: HostRuntime) -> Result<(), Fail> {
         assert!(rt; false, "a standing call has two records");
         return Ok(());
     };
-    assert!(rt; has_steps(pad) && pad.closed && pad.sent_before.len() == 1);
-    assert!(rt; far.steps.is_empty() && !far.closed && far.sent_before.is_empty());
-    match pad.sent_before.as_slice() {
-        [epoch] => assert!(rt; epoch.packets.len() == 1 && epoch.interrupts.len() == 1),
-        _ => assert!(rt; false, "the reset ended an epoch"),
+    assert!(rt; has_steps(pad) && pad.closed && pad.sent.ended() == 1);
+    assert!(rt; far.steps.is_empty() && !far.closed && far.sent.ended() == 0);
+    match pad.sent.before(0) {
+        Some(epoch) => assert!(rt; epoch.packets.len() == 1 && epoch.interrupts.len() == 1),
+        None => assert!(rt; false, "the reset ended an epoch"),
     }
     Ok(())
 }
@@ -144,8 +144,9 @@ fn what_a_terminal_types_is_written(rt: HostRuntime) -> Result<(), Fail> {
         return Ok(());
     };
     assert!(rt; pad.steps.len() == 3);
-    assert!(rt; pad.sent.packets.len() == 1);
-    match pad.sent.packets.iter().next() {
+    let mut sent = pad.sent.last();
+    assert!(rt; sent.packets.len() == 1);
+    match sent.packets.next() {
         Some(packet) => assert!(rt; packet.octets == b"HI\r".as_slice()),
         None => assert!(rt; false, "the block was sent"),
     }
