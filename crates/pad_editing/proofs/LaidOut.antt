@@ -1,7 +1,8 @@
 -- The layout of octets: one octet after another, and one NUL after another.
-use Rattle.std.proofs.Common.{◌≡◌, ℕ, ◌+◌, ◌<◌, ◌≤◌, Bool, List, [], ◌∷◌, ◌++◌, length, drop, replicate, get_or, refl, ap, sym, ◌∙◌, append_assoc, add-one, drop-cons}
+use Rattle.std.proofs.Common.{◌≡◌, ℕ, ◌+◌, ◌<◌, ◌≤◌, Bool, true, false, not, min, List, [], ◌∷◌, ◌++◌, length, drop, replicate, get_or, refl, ap, sym, ◌∙◌, append_assoc, add-one, drop-cons}
 use Rattle.std.proofs.lemmas.List.{replicate-append-replicate, drop_all, append-nil}
-use Rattle.pad_editing.specs.Shown.{Shown, shows, shown, shown_octet}
+use Rattle.std.proofs.lemmas.Bool.{and_parts, not-true}
+use Rattle.pad_editing.specs.Shown.{Shown, shows, shown, shown_octet, is_graphic, ends_line, is_plain, last_column}
 
 -- one NUL more
 pub padding_more : (xs : List ℕ) (o n : ℕ) → (xs ++ o ∷ replicate n 0) ++ 0 ∷ [] ≡ xs ++ o ∷ replicate (n + 1) 0
@@ -64,3 +65,12 @@ lays_out_all start out os echo p column i all le h =
       sym (append-nil out) ∙ sym (ap (λ (s : Shown). out ++ s.text) here) ∙ h.text,
       sym (ap (λ (s : Shown). s.column) here) ∙ h.column,
     )
+
+-- a graphic character that is not at the end of a line is shown as it stands, in the next column
+pub shown_plain : (o : ℕ) (p : List ℕ) (column : ℕ) → is_plain o p column ≡ true →
+    (echo : Bool) → shown (o ∷ []) echo p column ≡ shows (o ∷ []) (min (column + 1) last_column)
+unfolding shown
+shown_plain o p column plain echo =
+    let parts : (is_graphic o ≡ true) × (not (ends_line o p column) ≡ true) = and_parts _ _ plain in
+    let inside : ends_line o p column ≡ false = not-true _ parts.1 in
+    rw (inside, parts.0) refl

@@ -19,3 +19,7 @@ echo_of_editing None o held = o ∷ []
 
 unfoldable pub echo_of : List ℕ → ℕ → List ℕ → List ℕ
 echo_of p o held = if has_echo p then echo_of_editing (editing p o) o held else []
+
+-- of a key that is only added to the text
+abbrev pub echo_of_added : List ℕ → ℕ → List ℕ
+echo_of_added p o = if has_echo p then o ∷ [] else []

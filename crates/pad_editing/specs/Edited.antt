@@ -1,6 +1,6 @@
 -- How a PAD gathers what a terminal sends into blocks, and edits it on the way (X.3 3.3, 3.4, 3.13, 3.15 to 3.18).
-use Rattle.std.specs.Prelude.{ℕ, ◌-◌, not, ◌&&◌, ◌||◌, ◌==◌, nat_lt, List, [], ◌∷◌, ◌++◌, length, take, Option, Some}
-use Rattle.std.specs.Prelude.{None, if◌then◌else◌}
+use Rattle.std.specs.Prelude.{ℕ, ◌-◌, Bool, not, ◌&&◌, ◌||◌, ◌==◌, nat_lt, List, [], ◌∷◌, ◌++◌, length, take, Option}
+use Rattle.std.specs.Prelude.{Some, None, is_some, if◌then◌else◌}
 use Rattle.std.specs.Option.{option_to_list}
 use Rattle.x3_params.specs.Values.{value}
 use Rattle.x3_params.specs.Forwarding.{is_forwarding}
@@ -30,9 +30,13 @@ ends text rest = record { held = rest; block = Some text }
 abbrev pub limit : ℕ
 limit = 128
 
+-- a line feed follows the key, which is a carriage return
+abbrev pub inserts : List ℕ → ℕ → Bool
+inserts p o = (o == 0x0D) && inserts_line_feed p FromTerminal
+
 -- the line feed that follows a carriage return
 abbrev pub inserted : List ℕ → ℕ → List ℕ
-inserted p o = if (o == 0x0D) && inserts_line_feed p FromTerminal then 0x0A ∷ [] else []
+inserted p o = if inserts p o then 0x0A ∷ [] else []
 
 -- the text, where it ends with the key o and what that inserts
 abbrev pub after_text : List ℕ → ℕ → List ℕ → Effect
@@ -55,6 +59,10 @@ after_editing None p o held = after_typed p o (held ++ o ∷ [])
 
 unfoldable pub after_key : List ℕ → ℕ → List ℕ → Effect
 after_key p o held = after_editing (editing p o) p o held
+
+-- the key only adds its octet to the text: it edits nothing, no line feed follows it, and it ends no block
+abbrev pub only_adds : List ℕ → ℕ → List ℕ → Bool
+only_adds p o held = not (is_some (editing p o) || inserts p o || is_some (after_key p o held).block)
 
 -- text that is not edited goes when the terminal pauses
 unfoldable pub after_idle : List ℕ → List ℕ → Effect

@@ -1,6 +1,6 @@
 -- How octets are laid out for a terminal (X.3 3.9, 3.10, 3.13, 3.14), from column to column.
-use Rattle.std.specs.Prelude.{ℕ, ◌+◌, ◌-◌, Bool, true, false, ◌&&◌, ◌==◌, nat_lt, min, List, [], ◌∷◌, ◌++◌, replicate}
-use Rattle.std.specs.Prelude.{if◌then◌else◌}
+use Rattle.std.specs.Prelude.{ℕ, ◌+◌, ◌-◌, Bool, true, false, not, ◌&&◌, ◌==◌, nat_lt, min, List, [], ◌∷◌, ◌++◌}
+use Rattle.std.specs.Prelude.{replicate, if◌then◌else◌}
 use Rattle.x3_params.specs.Values.{value}
 use Rattle.x3_params.specs.Forwarding.{is_from}
 use Rattle.x3_params.specs.Settings.{inserts_line_feed}
@@ -33,6 +33,10 @@ line_feed p = 0x0A ∷ replicate (value p 14) 0
 -- a graphic character at the end of a line goes to a new one
 abbrev pub ends_line : ℕ → List ℕ → ℕ → Bool
 ends_line o p column = nat_lt 0 (value p 10) && is_graphic o && (column == value p 10)
+
+-- the octet is shown as it stands, in the next column
+abbrev pub is_plain : ℕ → List ℕ → ℕ → Bool
+is_plain o p column = is_graphic o && not (ends_line o p column)
 
 abbrev pub folded : ℕ → List ℕ → ℕ → Shown
 folded o p column =

@@ -1,4 +1,5 @@
-ghost use Rattle.std.specs.Prelude.{◌≡◌, ◌+◌, ◌*◌, ◌≤◌, ◌∷◌, ◌++◌, length, replicate, if◌then◌else◌, []};
+ghost use Rattle.std.specs.Prelude.{◌≡◌, ◌+◌, ◌*◌, ◌≤◌, ◌∷◌, ◌++◌, length, replicate, if◌then◌else◌, [], Bool, min};
+ghost use Rattle.std.specs.Bool.{OnTrue};
 ghost use Rattle.arrayvec.specs.ArrayVec.{array_vec_len};
 ghost use Rattle.x3_params.specs.Settings.{inserts_line_feed};
 ghost use Rattle.pad_editing.specs.Shown as spec;
@@ -36,6 +37,16 @@ impl Display {
         }
         at
     }
+
+    /// Whether an octet is shown as it stands, and takes the next column: it is a graphic character, and not at the end
+    /// of a line (X.3 3.10).
+    pub fn is_plain(octet: u8, params: &Params, column: u16) -> bool
+        ensures exact { result ≡ spec.is_plain octet params.now column }
+        ensures shown { OnTrue result ((echo : Bool) → spec.shown (octet ∷ []) echo params.now column
+            ≡ spec.shows (octet ∷ []) (min (column + 1) spec.last_column)) }
+    {
+        is_graphic(octet) && !ends_line(octet, params, column)
+    }
 }
 
 /// Lays one octet out.
@@ -60,12 +71,19 @@ fn show<const N: usize>(
     place(octet, echo, params, column, out)
 }
 
+/// Whether an octet is a graphic character.
+fn is_graphic(octet: u8) -> bool
+    ensures { result ≡ spec.is_graphic octet }
+{
+    0x20 <= octet && octet <= 0x7E
+}
+
 /// Whether an octet is a graphic character at the end of a line.
 fn ends_line(octet: u8, params: &Params, column: u16) -> bool
     ensures { result ≡ spec.ends_line octet params.now column }
 {
     let width = params.fold_column();
-    width > 0 && 0x20 <= octet && octet <= 0x7E && column == u16::from(width)
+    width > 0 && is_graphic(octet) && column == u16::from(width)
 }
 
 /// Shows the octet itself.

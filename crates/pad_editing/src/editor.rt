@@ -1,6 +1,7 @@
 ghost use Rattle.std.specs.Prelude.{◌≡◌, ◌+◌, ◌≤◌, ◌<◌, [], ◌∷◌, ◌++◌, length, is_some};
-ghost use Rattle.pad_editing.specs.Edited.{after_key, after_typed, after_idle, editing, inserted};
-ghost use Rattle.pad_editing.specs.Echoes.{echo_of};
+ghost use Rattle.std.specs.Bool.{OnTrue, OnFalse};
+ghost use Rattle.pad_editing.specs.Edited.{after_key, after_typed, after_idle, editing, inserts, inserted, only_adds, holds};
+ghost use Rattle.pad_editing.specs.Echoes.{echo_of, echo_of_added};
 
 use crate::block::{BLOCK_LIMIT, Block};
 use crate::echo::Echo;
@@ -86,6 +87,27 @@ impl Editor {
         KeyOut { echo, block }
     }
 
+    /// Takes a key as `key` does, where it only adds its octet to the text: it edits nothing, no line feed follows it,
+    /// and it ends no block (X.3 3.3, 3.13, 3.15). Whether it was such a key: any other changes nothing.
+    ///
+    /// The echo of such a key is its octet, where echo is on (X.3 3.2).
+    #[tactic(auto, unfolding(crate::specs::Edited::after_key, crate::specs::Echoes::echo_of))]
+    pub fn add(&mut self, octet: u8, params: &Params) -> bool
+        ensures exact { result ≡ only_adds params.now octet self.old }
+        ensures added { OnTrue result (after_key params.now octet self.old ≡ holds self.new) }
+        ensures echo { OnTrue result (echo_of params.now octet self.old ≡ echo_of_added params.now octet) }
+        ensures other { OnFalse result (self.new ≡ self.old) }
+    {
+        if function_of(octet, params).is_some()
+            || inserts(octet, params)
+            || self.ends_block(octet, params)
+        {
+            return false;
+        }
+        self.held.push(octet);
+        true
+    }
+
     /// Whether `key` would end a block.
     #[tactic(auto, unfolding(crate::specs::Edited::after_key))]
     pub fn forwards(&self, octet: u8, params: &Params) -> bool
@@ -94,9 +116,7 @@ impl Editor {
         if function_of(octet, params).is_some() {
             return false;
         }
-        let length = self.held.len() + 1;
-        let with_line_feed = length + insertion(octet, params).len();
-        params.is_forwarding(octet) || length == BLOCK_LIMIT || with_line_feed == BLOCK_LIMIT
+        self.ends_block(octet, params)
     }
 
     /// Takes the end of the idle time (X.3 3.4): the text, if any, is a block, where parameter 4 is not 0 and text is
@@ -111,6 +131,15 @@ impl Editor {
         } else {
             None
         }
+    }
+
+    /// Whether a key that edits nothing would end a block.
+    fn ends_block(&self, octet: u8, params: &Params) -> bool
+        ensures { result ≡ is_some (after_typed params.now octet (self.now ++ octet ∷ [])).block }
+    {
+        let length = self.held.len() + 1;
+        let with_line_feed = length + insertion(octet, params).len();
+        params.is_forwarding(octet) || length == BLOCK_LIMIT || with_line_feed == BLOCK_LIMIT
     }
 
     /// What the PAD echoes of a key, before it is taken.
@@ -139,16 +168,19 @@ fn function_of(octet: u8, params: &Params) -> Option<EditingFunction>
     }
 }
 
+/// Whether a line feed is inserted after an octet.
+fn inserts(octet: u8, params: &Params) -> bool
+    ensures { result ≡ inserts params.now octet }
+{
+    octet == CARRIAGE_RETURN && params.inserts_line_feed(LineFeedInsertion::FromTerminal)
+}
+
 /// What is inserted after an octet: a line feed or nothing.
 fn insertion(octet: u8, params: &Params) -> &'static [u8]
     ensures octets { result.now ≡ inserted params.now octet }
     ensures short { length result.now ≤ 1 }
 {
-    if octet == CARRIAGE_RETURN && params.inserts_line_feed(LineFeedInsertion::FromTerminal) {
-        b"\n"
-    } else {
-        b""
-    }
+    if inserts(octet, params) { b"\n" } else { b"" }
 }
 
 /// Adds octets at the end of a text.

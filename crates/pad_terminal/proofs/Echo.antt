@@ -44,15 +44,16 @@ echo_more os i p now next all less text column left =
     ∙ ap (λ (xs : List ℕ). output (newest xs) rest.column) (append_assoc now.text first.text rest.text)
     ∙ sym (ap (λ (s : Shown). output (newest (now.text ++ s.text)) s.column) here) ∙ left
 
+-- no octets
+pub echo_none : (p : List ℕ) (now : Output) → length now.text ≤ 1024 → with_echo [] p now ≡ now
+echo_none p now within =
+    let fits : length (now.text ++ []) - 1024 ≡ 0 = omega (arith, ap (λ (xs : List ℕ). length xs) (append-nil now.text)) in
+    ap (λ (s : Shown). output (newest (now.text ++ s.text)) s.column) (shown_none true p now.column)
+    ∙ ap (λ (n : ℕ). output (drop n (now.text ++ [])) now.column) fits
+    ∙ ap (λ (xs : List ℕ). output xs now.column) (append-nil now.text)
+
 -- all octets
 pub echo_all : (os : List ℕ) (i : ℕ) (p : List ℕ) (now all : Output) → length os ≤ i → length now.text ≤ 1024 →
     with_echo (drop i os) p now ≡ all → now ≡ all
 echo_all os i p now all over within left =
-    let none : drop i os ≡ [] = drop_all i os over in
-    let silent : shown (drop i os) true p now.column ≡ shows [] now.column =
-    ap (λ (xs : List ℕ). shown xs true p now.column) none ∙ shown_none true p now.column in
-    let fits : length (now.text ++ []) - 1024 ≡ 0 = omega (arith, ap (λ (xs : List ℕ). length xs) (append-nil now.text)) in
-    sym (ap (λ (s : Shown). output (newest (now.text ++ s.text)) s.column) silent
-    ∙ ap (λ (n : ℕ). output (drop n (now.text ++ [])) now.column) fits
-    ∙ ap (λ (xs : List ℕ). output xs now.column) (append-nil now.text))
-    ∙ left
+    sym (ap (λ (xs : List ℕ). with_echo xs p now) (drop_all i os over) ∙ echo_none p now within) ∙ left

@@ -1,6 +1,9 @@
 //! What waits to be shown at a terminal.
-ghost use Rattle.std.specs.Prelude.{◌≡◌, ◌≤◌, ◌+◌, ◌*◌, ◌∷◌, [], ◌++◌, length, IfOk};
+ghost use Rattle.std.specs.Prelude.{◌≡◌, ◌≤◌, ◌+◌, ◌*◌, ◌∷◌, [], ◌++◌, length, true, IfOk};
 ghost use Rattle.arrayvec.specs.ArrayVec.{array_vec_len};
+ghost use Rattle.circular_buffer.specs.Buffer.{buffer, keep_last};
+ghost use Rattle.pad_editing.specs.Echoes.{echo_of_added};
+ghost use Rattle.pad_editing.specs.Shown.{shown};
 ghost use Rattle.x28_commands.specs.Signals.{signal_text};
 
 use arrayvec::ArrayVec;
@@ -71,9 +74,17 @@ impl Output {
         ensures { self.new ≡ with_echo octets.now params.now self.old }
     {
         for octet in octets {
-            let mut shown = ArrayVec::<u8, OCTET_LIMIT>::new();
-            self.column = Display::text(&[*octet], true, params, self.column, &mut shown);
-            self.text.extend_from_slice(shown.as_slice());
+            self.column = echo_octet(*octet, params, self.column, &mut self.text);
+        }
+    }
+
+    /// Adds the echo of a key that is only added to the text, where echo is on (X.3 3.2).
+    pub(crate) fn echo_added(&mut self, octet: u8, params: &Params)
+        ensures { self.new ≡ with_echo (echo_of_added params.now octet) params.now self.old }
+    {
+        let column = self.column;
+        if params.has_echo() {
+            self.column = echo_octet(octet, params, column, &mut self.text);
         }
     }
 
@@ -136,4 +147,21 @@ impl Output {
             self.column = Display::text(octets, false, params, self.column, out);
         }
     }
+}
+
+/// Adds one octet that is echoed, laid out for a terminal that is at a column, to the text that waits, and gives the
+/// column that it is then at.
+fn echo_octet(octet: u8, params: &Params, column: u16, waiting: &mut HeapCircularBuffer<u8>) -> u16
+    ensures text { waiting.new ≡ buffer (keep_last waiting.old.capacity
+        (waiting.old.items ++ (shown (octet ∷ []) true params.now column).text)) waiting.old.capacity }
+    ensures column { result ≡ (shown (octet ∷ []) true params.now column).column }
+{
+    if Display::is_plain(octet, params, column) {
+        waiting.push_back(octet);
+        return column.saturating_add(1);
+    }
+    let mut laid_out = ArrayVec::<u8, OCTET_LIMIT>::new();
+    let next = Display::text(&[octet], true, params, column, &mut laid_out);
+    waiting.extend_from_slice(laid_out.as_slice());
+    next
 }

@@ -95,6 +95,27 @@ fn inserts_a_line_feed_where_it_fits(rt: HostRuntime) {
 }
 
 #[test]
+fn adds_a_key_that_does_no_more(rt: HostRuntime) {
+    let params = with(&rt, &[(3, 2), (13, 2), (15, 1)]);
+    let mut editor = Editor::new();
+    assert!(rt; editor.add(b'A', &params));
+    for octet in [127, 24, 18, b'\r'] {
+        assert!(rt; !editor.add(octet, &params), "octet {octet}");
+    }
+    assert_eq!(rt; editor.held(), b"A".as_slice());
+    for _ in 0..126 {
+        assert!(rt; editor.add(b'B', &params));
+    }
+    assert!(rt; !editor.add(b'B', &params));
+    assert_eq!(rt; editor.held().len(), 127);
+    let unedited = with(&rt, &[(13, 2)]);
+    editor.discard();
+    assert!(rt; editor.add(127, &unedited));
+    assert!(rt; !editor.add(b'\r', &unedited));
+    assert_eq!(rt; editor.held(), b"\x7F".as_slice());
+}
+
+#[test]
 fn forwards_at_the_end_of_the_idle_time(rt: HostRuntime) {
     let params = with(&rt, &[(4, 20)]);
     let mut editor = Editor::new();
@@ -114,6 +135,24 @@ fn shows(rt: &impl Abort, params: &Params, octets: &[u8; 5], text: &[u8], column
         column
     );
     assert_eq!(rt; out.as_slice(), text);
+}
+
+#[test]
+fn shows_a_graphic_character_as_it_stands(rt: HostRuntime) {
+    let params = with(&rt, &[(10, 4)]);
+    for (octet, column, plain) in [
+        (b' ', 3, true),
+        (b'~', 5, true),
+        (b'A', 4, false),
+        (0x1F, 0, false),
+        (0x7F, 0, false),
+    ] {
+        assert_eq!(rt;
+            Display::is_plain(octet, &params, column),
+            plain,
+            "octet {octet}"
+        );
+    }
 }
 
 #[test]

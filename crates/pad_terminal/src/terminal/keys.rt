@@ -102,6 +102,10 @@ impl Terminal {
         ensures answer { result ≡ (spec.after_edited
             (after_key self.old.settings.params octet self.old.held) octet queue_full self.old).answer }
     {
+        if self.editor.add(octet, &self.settings.params) {
+            self.output.echo_added(octet, &self.settings.params);
+            return InputAnswer::Edited(None);
+        }
         if queue_full && self.editor.forwards(octet, &self.settings.params) {
             self.stop_device();
             return InputAnswer::Dropped;
