@@ -21,8 +21,9 @@ pub fn write_notes(pad: &mut Pad, role: Role, book: &mut Book)
     ensures pad { pad.new ≡ without_notes pad.old }
     ensures book { book.new.book ≡ all_written role (writes_of pad.old.line.notes) book.old.book }
 {
-    while let Some(note) = pad.notes() {
-        write_note(book, role, &note);
+    while let Some(note) = pad.first_note() {
+        write_note(book, role, note);
+        pad.drop_note();
     }
 }
 

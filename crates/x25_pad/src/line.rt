@@ -164,9 +164,19 @@ impl PadLine {
             };
         };
         CallCondition {
-            queue_full: self.end.room(call.channel) == 0,
+            queue_full: self.is_full(Some(call)),
             reset_pending: self.is_resetting(call.channel),
             interrupt_pending: call.interrupt_pending,
+        }
+    }
+
+    /// Whether the send queue of a call takes no packet. Without a call it takes none.
+    pub(crate) fn is_full(&self, call: Option<Call>) -> bool
+        ensures { result ≡ (spec.condition call self.now).queue_full }
+    {
+        match call {
+            Some(call) => self.end.room(call.channel) == 0,
+            None => true,
         }
     }
 

@@ -1,5 +1,5 @@
 //! What a PAD notes of an event, in order.
-ghost use Rattle.std.specs.Prelude.{◌≡◌, ◌<◌, ◌++◌, [], ◌∷◌, IfOk, length, drop, slice_get};
+ghost use Rattle.std.specs.Prelude.{◌≡◌, ◌<◌, ◌++◌, [], ◌∷◌, IfOk, length, drop, slice_get, option_copied};
 ghost use Rattle.x25_pad.specs.NoteView.{pad_note_of, maybe_pad_note};
 
 use circular_buffer::HeapCircularBuffer;
@@ -96,6 +96,20 @@ impl PadNotes {
         ensures { self.new ≡ self.old ++ pad_note_of note ∷ [] }
     {
         let _ = self.notes.try_push_back(note);
+    }
+
+    /// The first note, if there is one.
+    pub(crate) fn first(&self) -> Option<&PadNote>
+        ensures { maybe_pad_note (option_copied result) ≡ slice_get self.now 0 }
+    {
+        self.notes.front()
+    }
+
+    /// Drops the first note, if there is one.
+    pub(crate) fn drop_first(&mut self)
+        ensures { self.new ≡ drop 1 self.old }
+    {
+        let _ = self.notes.pop_front();
     }
 
     /// Takes the first note, if there is one.

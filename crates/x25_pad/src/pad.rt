@@ -1,5 +1,6 @@
 //! The PAD and its terminals.
 ghost use Rattle.std.specs.Prelude.{◌≡◌, ◌≤◌, ◌-◌, ◌∷◌, None, IfOk, MatchResult, length, replicate, slice_get};
+ghost use Rattle.std.specs.Prelude.{option_copied};
 ghost use Rattle.x25_pad.specs.Ports.{new_port};
 ghost use Rattle.x25_pad.specs.Pad as spec;
 ghost use Rattle.x25_pad.specs.Making.{made, IsConfig, MadeNot};
@@ -27,8 +28,9 @@ const STANDING_CHANNEL: u8 = 1;
 
 /// A PAD at the DTE's end of a line, for up to 16 terminals.
 ///
-/// Each call that changes it is one event, whose notes are then taken by `notes` and whose frames by `out`, before the
-/// next one; after it they are gone, a frame as if the line had lost it.
+/// Each call that changes it is one event, whose notes are then taken by `notes`, or read by `first_note` and dropped
+/// by `drop_note`, and whose frames are taken by `out`, before the next one; after it they are gone, a frame as if the
+/// line had lost it.
 #[derive(Drop)]
 pub struct Pad {
     line: PadLine,
@@ -89,6 +91,20 @@ impl Pad {
         ensures pad { self.new ≡ spec.without_first_note self.old }
     {
         self.line.notes.take()
+    }
+
+    /// The next note of the event, if there is one. It stays where it is.
+    pub fn first_note(&self) -> Option<&PadNote>
+        ensures { maybe_pad_note (option_copied result) ≡ slice_get self.now.line.notes 0 }
+    {
+        self.line.notes.first()
+    }
+
+    /// Drops the next note of the event, if there is one.
+    pub fn drop_note(&mut self)
+        ensures { self.new ≡ spec.without_first_note self.old }
+    {
+        self.line.notes.drop_first();
     }
 }
 

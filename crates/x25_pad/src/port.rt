@@ -108,8 +108,7 @@ impl Port {
     pub(crate) fn settle(&mut self, line: &PadLine)
         ensures { self.new ≡ spec.settled line.now self.old }
     {
-        let condition = line.condition(self.call);
-        self.terminal.resume_device(condition.queue_full);
+        self.terminal.resume_device(line.is_full(self.call));
         self.idle_left = brought(self.terminal.idle_time(), self.idle_left);
     }
 

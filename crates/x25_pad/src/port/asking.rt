@@ -52,9 +52,9 @@ impl Port {
         ensures told { line.new.end.notes ≡ line.old.end.notes }
     {
         let params = self.terminal.params();
-        let condition = line.condition(self.call);
+        let queue_full = line.is_full(self.call);
         self.idle_left = None;
-        match self.terminal.on_idle(condition.queue_full) {
+        match self.terminal.on_idle(queue_full) {
             InputAnswer::Dropped => false,
             InputAnswer::Edited(block) => {
                 self.edit_by_pause(params, block, line);
