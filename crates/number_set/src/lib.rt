@@ -2,6 +2,7 @@
 #![tactic(auto)]
 
 ghost use Rattle.std.specs.Prelude.{◌≡◌, ℕ, ◌<◌, ◌≤◌, false, nat_lt, ◌||◌, ◌&&◌, not, ◌==◌, MatchOption};
+ghost use Rattle.std.specs.Bool.{OnTrue};
 ghost use Rattle.number_set.specs.NumberSet.{has, IsFirstOf};
 
 /// Numbers below 64, as of lines or of channels.
@@ -65,6 +66,14 @@ impl NumberSet {
         NumberSet {
             bits: self.bits & ((1 << end) - (1 << first)),
         }
+    }
+
+    /// Whether there is no number.
+    pub fn is_empty(self) -> bool
+        ensures exact { result ≡ (self.bits == 0) }
+        ensures none { OnTrue result ((n : ℕ) → has self n ≡ false) }
+    {
+        self.bits == 0
     }
 
     /// Takes the first number out, if there is one.

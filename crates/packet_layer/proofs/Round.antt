@@ -1,6 +1,6 @@
 -- The round over the channels: what is served where those of some run have nothing, and where the round ends and begins
 -- anew.
-use Rattle.std.proofs.Common.{◌≡◌, ℕ, zero, suc, ◌+◌, ◌-◌, ◌<◌, ◌≤◌, Bool, true, false, length, ◌⊎◌, inl, inr}
+use Rattle.std.proofs.Common.{◌≡◌, ℕ, zero, suc, ◌+◌, ◌-◌, ◌<◌, ◌≤◌, Bool, true, false, List, [], ◌∷◌, length, ◌⊎◌, inl, inr}
 use Rattle.std.proofs.Common.{refl, sym, ap, ap₂, ◌∙◌, arith}
 use Rattle.std.specs.Prelude.{Option, Some, None, is_some, if◌then◌else◌, nat_lt, not, ◌&&◌, ◌==◌}
 use Rattle.std.proofs.lemmas.Bool.{le-leb, lt-leb, cases_lt, ltb-true, ltb-false, lt-ltb, le-ltb}
@@ -8,8 +8,14 @@ use Rattle.number_set.specs.NumberSet.{has, IsFirstOf}
 use Rattle.number_set.specs.declared.NumberSet.{NumberSet}
 use Rattle.packet_channel.specs.Packets.{Body}
 use Rattle.packet_channel.specs.Channel.{Channel}
-use Rattle.packet_layer.specs.Layer.{Layer, Next, channel_of, next_of, next_number, serve, serve_found, served}
+use Rattle.packet_layer.specs.Layer.{Layer, Next, Phase, channel_of, next_of, next_number, serve, serve_found, served}
+use Rattle.packet_layer.specs.Layer.{next_restart, next_in, next_packet}
 use Rattle.packet_layer.specs.Silence.{OthersAreSilent}
+use Rattle.std.specs.Bool.{OnTrue}
+use Rattle.std.proofs.lemmas.List.{length-map}
+use Rattle.packet_layer.specs.LayerView.{IsLayer, layer_of}
+use Rattle.packet_layer.specs.RestartView.{restart_body}
+use Rattle.packet_layer.specs.declared.layer.Layer.TheInside.{Inside}
 use Rattle.packet_layer.proofs.Serving.{nothing, goes_on_from, stops_from}
 use Rattle.packet_layer.proofs.Silence.{silent_there, taken_out, equal}
 
@@ -231,3 +237,41 @@ or_else_second a b h = ap (λ (t : Bool). if t then a else b) h
 
 pub less_none : (n : ℕ) → n ≡ n - 0
 less_none n = omega arith
+
+-- ---- where the set is empty nothing goes to the link
+
+each_silent : (l : Layer) (s : NumberSet) (c : ℕ) → OthersAreSilent l.window s l.channels →
+    ((n : ℕ) → has s n ≡ false) → is_some (serve 1 l c).packet ≡ false
+each_silent l s zero others none = refl
+each_silent l s (suc p) others none =
+    let at : suc p ≡ p + 1 = omega arith in
+    ap (λ (n : ℕ). is_some (serve 1 l n).packet) at ∙ silent_there l s p others (none p)
+
+all_silent : (k : ℕ) (l : Layer) (s : NumberSet) (c : ℕ) → OthersAreSilent l.window s l.channels →
+    ((n : ℕ) → has s n ≡ false) → is_some (serve k l c).packet ≡ false
+all_silent zero l s c others none = refl
+all_silent (suc k) l s c others none =
+    ap (λ (n : Next). is_some n.packet) (goes_on_from (suc k) k l c refl (each_silent l s c others none))
+    ∙ all_silent k l s (next_number l c) others none
+
+none_owed : (l : Layer) (s : NumberSet) (owed : List Body) → length owed ≡ 0 → OthersAreSilent l.window s l.channels →
+    ((n : ℕ) → has s n ≡ false) → is_some (next_restart owed l).packet ≡ false
+none_owed l s [] none_left others none = all_silent (length l.channels) l s (next_number l l.served_last) others none
+none_owed l s (b ∷ bs) none_left others none = absurd (omega (arith, none_left))
+
+pub silent_layer : (l : Layer) (s : NumberSet) → length l.owed ≡ 0 → OthersAreSilent l.window s l.channels →
+    ((n : ℕ) → has s n ≡ false) → is_some (next_packet l).packet ≡ false
+silent_layer l s none_left others none = by_phase l.phase l.relink
+  where
+    by_phase : (phase : Phase) (relink : Bool) → is_some (next_in phase relink l).packet ≡ false
+    by_phase Phase.NoSession relink = refl
+    by_phase Phase.OwnRestart true = refl
+    by_phase Phase.OwnRestart false = none_owed l s l.owed none_left others none
+    by_phase Phase.PacketReady true = refl
+    by_phase Phase.PacketReady false = none_owed l s l.owed none_left others none
+
+pub silent_where_empty : (a : Inside) (empty : Bool) → IsLayer a → ((n : ℕ) → has a.to_serve n ≡ false) →
+    empty ≡ (length a.owed == 0) → OnTrue empty (is_some (next_packet (layer_of a)).packet ≡ false)
+silent_where_empty a true is none e =
+    silent_layer (layer_of a) a.to_serve (length-map a.owed restart_body ∙ equal (length a.owed) 0 (sym e)) is.others none
+silent_where_empty a false is none e = tt

@@ -26,6 +26,23 @@ impl PooledEnd {
         ensures pool { Balances pool.old self.old.held pool.new self.new.held }
         ensures within { length self.new.held < self.new.share }
     {
+        if self.stack.layer().is_certainly_silent() {
+            return false;
+        }
+        self.offer_waiting(pool)
+    }
+
+    // Offers the packets that the packet layer has.
+    fn offer_waiting(&mut self, pool: &mut Pool) -> bool
+        requires { Serves pool.old self.old.held self.old.share }
+        ensures offered { result
+            ≡ (can_offer self.old.end.line.link && is_some (next_packet self.old.end.layer).packet) }
+        ensures end { self.new ≡ record self.old { end = all_offered self.old.end; held = self.new.held } }
+        ensures notes { self.new.end.notes ≡ self.old.end.notes }
+        ensures all_offered { HasOfferedAll self.new.end }
+        ensures pool { Balances pool.old self.old.held pool.new self.new.held }
+        ensures within { length self.new.held < self.new.share }
+    {
         let mut packet = PacketBuf::new();
         for count in 0..MOST_PACKETS {
             if !self.stack.line().has_room() || !self.stack.offer_next(&mut packet, pool) {

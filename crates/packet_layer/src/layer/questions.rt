@@ -1,5 +1,6 @@
 //! What a user may ask of a layer without changing anything.
-ghost use Rattle.std.specs.Prelude.{◌≡◌, Some, None, MatchResult};
+ghost use Rattle.std.specs.Prelude.{◌≡◌, false, Some, None, is_some, MatchResult};
+ghost use Rattle.std.specs.Bool.{OnTrue};
 ghost use Rattle.flow_window.specs.Pool.{Holds};
 ghost use Rattle.std.specs.List.{list_all};
 ghost use Rattle.packet_layer.specs.Layer as machine;
@@ -12,6 +13,13 @@ use flow_window::pool::Pool;
 use packet_channel::{Channel, ChannelFault, Front};
 
 impl Layer {
+    /// Whether it is certain that no packet goes to the link next, so that none need be asked for.
+    pub fn is_certainly_silent(&self) -> bool
+        ensures { OnTrue result (is_some (machine.next_packet self.now.layer).packet ≡ false) }
+    {
+        self.to_serve.is_empty() && self.owed.is_empty()
+    }
+
     /// Whether `accept` takes a call on the channel: one came in and is not answered.
     pub fn can_accept(&self, channel: u8) -> bool
         ensures { result ≡ machine.can_accept self.now.layer channel }

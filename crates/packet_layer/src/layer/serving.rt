@@ -71,6 +71,7 @@ impl Layer {
     }
 
     // The first of the channels from one place up to another that has anything.
+    #[inline(always)]
     fn serve_between(
         &mut self,
         first: usize,
