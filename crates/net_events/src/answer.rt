@@ -2,11 +2,11 @@
 use frame_codec::FrameBuf;
 use line_nodes::HostNote;
 use memory_line::Direction;
-use packet_layer::Taken;
+use packet_layer::Front;
 use x25_pad::PadAnswer;
 
-/// What an event gave, besides frames.
-#[derive(Drop)]
+/// What an event gave, besides frames, notes and text.
+#[derive(Clone, Copy, Debug, PartialEq, Eq)]
 pub enum Outcome {
     /// Whether a frame arrived.
     Delivered(bool),
@@ -16,8 +16,8 @@ pub enum Outcome {
     Printed,
     /// A host's call was placed on this logical channel.
     Called { channel: u8 },
-    /// What a host took, if anything waited.
-    Took(Option<Taken>),
+    /// What a host took, if anything waited. Its octets are the text of the answer.
+    Took(Option<Front>),
     /// Nothing besides frames and notes.
     Done,
 }
@@ -30,8 +30,8 @@ pub struct Put {
     pub octets: FrameBuf,
 }
 
-/// The answer to an event: each frame that was put, in order, what a host noted, what a terminal shows, and the
-/// outcome.
+/// The answer to an event: each frame that was put, in order, what a host noted, what a terminal shows or the octets
+/// that a host took, and the outcome.
 #[derive(Drop)]
 pub struct Answer {
     pub frames: Vec<Put>,

@@ -57,7 +57,7 @@ places_more (Calls address user_data) few many more h = tt
 places_more (Asks channel r) few many more h = tt
 places_more (Refuses channel) few many more h = tt
 places_more (Says channel octets qualified delivery) few many more h = tt
-places_more (Takes channel) few many more h = tt
+places_more (Takes channel) few many more h = omega (arith, more, h)
 
 -- the register is opened at the line with room, and the frames in flight may have changed
 pub can_serve : (end : LineEnd) (event : NodeEvent) (nodes : List NetNode) (l : NetLine) (n : PlacedNode) → slice_get nodes (place_at end.role l) ≡ Some (User n) → IsFor event n.node → IsQuiet n.node

@@ -4,12 +4,11 @@ use Rattle.std.specs.Prelude.{Result, Ok, Err, string_bytes, codes, decimal, sli
 use Rattle.std.specs.Prelude.{nat_le, if◌then◌else◌}
 use Rattle.std.specs.Option.{option_map}
 use Rattle.std.specs.List.{flat_map}
-use Rattle.packet_layer.specs.Packets.{Datum}
 use Rattle.packet_layer.specs.declared.fault.CallFault.TheVariants.{NotReady, NoChannel}
 use Rattle.packet_channel.specs.declared.fault.ChannelFault.TheVariants.{NoCall, Resetting, QueueFull, TooLong}
 use Rattle.packet_channel.specs.declared.fault.ChannelFault.TheVariants.{InterruptPending}
-use Rattle.packet_channel.specs.declared.taken.Taken.{Taken}
-use Rattle.packet_channel.specs.declared.taken.Taken.TheVariants as taken
+use Rattle.packet_channel.specs.declared.taken.Front.{Front}
+use Rattle.packet_channel.specs.declared.taken.Front.TheVariants as front
 use Rattle.line_nodes.specs.declared.fault.NodeFault.{NodeFault}
 use Rattle.line_nodes.specs.declared.fault.NodeFault.TheVariants.{Call, Channel}
 use Rattle.line_nodes.specs.declared.note.HostNote.{HostNote}
@@ -50,17 +49,18 @@ letter_if letter true = letter ∷ []
 letter_if letter false = []
 
 -- the letters m, q and d of the bits that are set, or a dash where none is
-abbrev pub flags_of : Datum → List ℕ
-flags_of p =
-    if p.more then 109 ∷ letter_if 113 p.qualified ++ letter_if 100 p.delivery
-    else if p.qualified then 113 ∷ letter_if 100 p.delivery
-    else if p.delivery then 100 ∷ [] else 45 ∷ []
+abbrev pub flags_of : (more qualified delivery : Bool) → List ℕ
+flags_of more qualified delivery =
+    if more then 109 ∷ letter_if 113 qualified ++ letter_if 100 delivery
+    else if qualified then 113 ∷ letter_if 100 delivery
+    else if delivery then 100 ∷ [] else 45 ∷ []
 
--- what was taken, if anything
-abbrev pub taken_text : Option Taken → List ℕ
-taken_text None = codes "none"
-taken_text (Some (taken.Interrupt octets)) = codes "int " ++ quoted octets
-taken_text (Some (taken.«Data» p)) = codes "data " ++ (flags_of p ++ (32 ∷ quoted p.octets))
+-- what was taken, if anything, with these octets
+abbrev pub taken_text : Option Front → (octets : List ℕ) → List ℕ
+taken_text None octets = codes "none"
+taken_text (Some front.Interrupt) octets = codes "int " ++ quoted octets
+taken_text (Some (front.«Data» len more qualified delivery)) octets =
+    codes "data " ++ (flags_of more qualified delivery ++ (32 ∷ quoted octets))
 
 -- the name of the node at this place
 abbrev pub name_of : Names → ℕ → List ℕ
@@ -72,7 +72,7 @@ abbrev pub outcome_text : Names → Event → Outcome → (text : List ℕ) → 
 outcome_text names (event.Call node address user_data) (Called channel) text =
     name_of names node ++ (47 ∷ decimal channel ++ (codes " called" ++ 10 ∷ []))
 outcome_text names (event.Take node channel) (Took taken) text =
-    name_of names node ++ (47 ∷ decimal channel ++ (32 ∷ taken_text taken ++ 10 ∷ []))
+    name_of names node ++ (47 ∷ decimal channel ++ (32 ∷ taken_text taken text ++ 10 ∷ []))
 outcome_text names (event.AtTerminal node terminal what) Printed text =
     name_of names node ++ (46 ∷ decimal terminal ++ (32 ∷ quoted text ++ 10 ∷ []))
 outcome_text names (event.AtTerminal node terminal what) (Typed Dropped) text = codes "dropped" ++ 10 ∷ []

@@ -1,16 +1,32 @@
 //! The text of an answer: what is printed for an event.
-ghost use Rattle.std.specs.Prelude.{◌≡◌, ◌<◌, Some, IfOk, string_bytes, decimal};
+ghost use Rattle.std.specs.Prelude.{◌≡◌, ◌<◌, ℕ, List, [], Some, IfOk, string_bytes, decimal};
+ghost use Rattle.std.specs.Bool.{OnTrue};
 ghost use Rattle.std.specs.List.{flat_map};
 ghost use Rattle.std.specs.Fmt.{WritesOnOk};
+ghost use Rattle.net_files.specs.Scripts.{Names};
 ghost use Rattle.net_player.specs.Answers.{quoted, shown, hex_digit, flags_of, taken_text};
 ghost use Rattle.net_player.specs.Answers.{name_of, outcome_text, refusal_text, node_refusal_text, way_of, spaced};
 ghost use Rattle.net_player.specs.Answers.{frame_text, note_text, happening};
 
 use line_nodes::{HostNote, NodeFault, NoteKind};
 use line_sim::{Answer, Direction, Event, Outcome, PadAnswer, Put, StepFault};
-use packet_layer::{CallFault, ChannelFault, Taken, UserData};
+use packet_layer::{CallFault, ChannelFault, Front};
 use std::alloc::{AllocError, Global};
 use std::fmt;
+
+/// For how many octets a line of what was taken has room at first.
+const LINE_ROOM: usize = 64;
+
+/// Whether nothing is printed of an outcome: that of a delivery, and that of a key that was taken.
+pub(crate) fn prints_nothing(event: &Event, outcome: &Outcome) -> bool
+    ensures { (names : Names) → (text : List ℕ) → OnTrue result (outcome_text names event.now outcome.now text ≡ []) }
+{
+    match (event, outcome) {
+        (Event::Deliver { .. }, _) | (Event::AtTerminal { .. }, Outcome::Typed(PadAnswer::Taken)) =>
+            true,
+        _ => false,
+    }
+}
 
 /// The lines of an outcome, by the names of the network's nodes: none for a key that was taken, nor for a delivery.
 pub(crate) fn outcome_text(
@@ -27,10 +43,15 @@ pub(crate) fn outcome_text(
             let name = node_name(names, *node);
             format!(in alloc; "{name}/{channel} called\n")
         }
-        (Event::Take { node, channel }, Outcome::Took(taken)) => {
+        (Event::Take { node, channel }, Outcome::Took(front)) => {
             let name = node_name(names, *node);
-            let taken = Shown(taken);
-            format!(in alloc; "{name}/{channel} {taken}\n")
+            let taken = Shown {
+                front: *front,
+                octets: answer.text.as_slice(),
+            };
+            let mut line = String::with_capacity(alloc, LINE_ROOM)?;
+            write!(line, "{name}/{channel} {taken}\n")?;
+            Ok(line)
         }
         (Event::AtTerminal { node, terminal, .. }, Outcome::Printed) => {
             let name = node_name(names, *node);
@@ -182,21 +203,28 @@ fn node_name(names: &[String], node: usize) -> &str
 
 /// What was taken, if anything.
 #[derive(Clone, Copy)]
-struct Shown<'a>(&'a Option<Taken>);
+struct Shown<'a> {
+    front: Option<Front>,
+    octets: &'a [u8],
+}
 
 impl fmt::Display for Shown<'_> {
-    ghost output = { λ s. Some (taken_text s.0.now) };
+    ghost output = { λ s. Some (taken_text s.front s.octets.now) };
 
     fn fmt<W: fmt::Write>(&self, f: &mut fmt::Formatter<W>) -> fmt::Result {
-        match self.0 {
+        let octets = Quoted(self.octets);
+        match self.front {
             None => f.write_str("none"),
-            Some(Taken::Interrupt(interrupt)) => {
-                let octets = Quoted(interrupt.octets());
-                write!(f, "int {octets}")
-            }
-            Some(Taken::Data(packet)) => {
-                let flags = flags_of(packet);
-                let octets = Quoted(packet.octets());
+            Some(Front::Interrupt) => write!(f, "int {octets}"),
+            Some(
+                Front::Data {
+                    more,
+                    qualified,
+                    delivery,
+                    ..
+                },
+            ) => {
+                let flags = flags_of(more, qualified, delivery);
                 write!(f, "data {flags} {octets}")
             }
         }
@@ -204,10 +232,10 @@ impl fmt::Display for Shown<'_> {
 }
 
 /// The letters of the bits M, Q and D that are set, or a dash where none is.
-fn flags_of(packet: &UserData) -> &'static str
-    ensures { result.now ≡ flags_of packet.now }
+fn flags_of(more: bool, qualified: bool, delivery: bool) -> &'static str
+    ensures { result.now ≡ flags_of more qualified delivery }
 {
-    match (packet.more(), packet.qualified(), packet.delivery()) {
+    match (more, qualified, delivery) {
         (false, false, false) => "-",
         (false, false, true) => "d",
         (false, true, false) => "q",

@@ -7,8 +7,8 @@ mod player;
 mod program;
 
 pub use line_sim::{
-    Config, Direction, Event, Line, LineConfig, MakeFault, MemLine, Net, NodeConfig, NodeKind,
-    Pair, Record, RunFault, SentEpoch, StepFault, TakenEpoch, TerminalEvent, run,
+    Config, Direction, Epoch, Event, Line, LineConfig, MakeFault, MemLine, Net, NodeConfig,
+    NodeKind, Pair, Passed, Record, RunFault, StepFault, TerminalEvent, run,
 };
 pub use player::play;
 pub use program::{finish, perform, refuse_words};

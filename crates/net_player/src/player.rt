@@ -2,7 +2,7 @@
 ghost use Rattle.std.specs.Prelude.{◌≡◌, ◌≤◌, ◌<◌, Some, Ok, OnOk, IfOk, IfErr};
 ghost use Rattle.std.specs.Io.KnownBytes.{Appends};
 ghost use Rattle.std.specs.List.{flat_map};
-ghost use Rattle.net_player.specs.Answers.{frame_text, note_text, frames_text, answer_text};
+ghost use Rattle.net_player.specs.Answers.{frame_text, note_text, frames_text, answer_text, outcome_text};
 ghost use Rattle.net_events.specs.declared.event.Event.{Event};
 ghost use Rattle.line_sim.specs.Network.{Network, all_elapsed};
 ghost use Rattle.line_sim.specs.DueCount.{all_due};
@@ -14,7 +14,7 @@ ghost use Rattle.net_player.specs.Playing.{DoesCommand, Plays, end_line};
 ghost use Rattle.net_player.specs.Stopping.{IsPlayFault, IsPartOf, StopsAt, DeliveryStops, PassStops, FlowStops};
 ghost use Rattle.net_player.specs.Stopping.{ExpiryStops, CommandStops, PlayStops};
 
-use crate::answer::{frame_text, note_text, outcome_text, refusal_text};
+use crate::answer::{frame_text, note_text, outcome_text, prints_nothing, refusal_text};
 use crate::output::write;
 use line_nodes::{HostNote, TerminalEvent};
 use line_sim::{Answer, Direction, Event, Line, Net, Outcome, Put, StepFault};
@@ -277,9 +277,28 @@ impl Player<'_> {
     {
         self.write_traced(answer.frames.as_slice(), out)?;
         self.write_notes(answer.notes.as_slice(), out)?;
+        self.write_outcome(event, answer, out)
+    }
+
+    /// Prints the outcome, if it is one that is printed.
+    #[tactic(auto, using(crate::proofs::Turns::appends_nothing))]
+    fn write_outcome<W: Write>(
+        &self,
+        event: &Event,
+        answer: &Answer,
+        out: &mut W,
+    ) -> Result<(), ProgFault>
+        ensures writes { OnOk result (Appends (W.contents out.old) (W.contents out.new)
+            (outcome_text self.now.names.now event.now answer.now.outcome answer.now.text.items)) }
+        ensures stops { IfErr result (λ fault. Writes (W.contents out.old) (W.contents out.new)
+            (IsPartOf (outcome_text self.now.names.now event.now answer.now.outcome answer.now.text.items) fault)) }
+        ensures faults { IfErr result IsPlayFault }
+    {
+        if prints_nothing(event, &answer.outcome) {
+            return Ok(());
+        }
         let text = outcome_text(self.alloc, self.names, event, answer)?;
-        write(out, text.as_str())?;
-        Ok(())
+        write(out, text.as_str())
     }
 
     /// Prints the frames that were put, if they are traced.

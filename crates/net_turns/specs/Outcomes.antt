@@ -1,10 +1,11 @@
 -- What a node answers to an event, or with which fault it refuses it.
 use Rattle.std.specs.Prelude.{◌≡◌, ℕ, true, List, [], Option, Some, None, Result, MatchResult}
-use Rattle.packet_channel.specs.declared.taken.Taken as taken
 use Rattle.packet_channel.specs.declared.fault.ChannelFault.TheVariants as channel_fault
 use Rattle.packet_layer.specs.Channel.{Refusal}
 use Rattle.packet_layer.specs.Layer.{call_refusal, channel_given, request_refusal, front_on}
-use Rattle.packet_layer.specs.TakenView.{maybe_taken}
+use Rattle.packet_layer.specs.TakenView.{maybe_front}
+use Rattle.packet_layer.specs.Traffic.{Taken}
+use Rattle.packet_layer.specs.Traffic.Taken.{TakenInterrupt, TakenPacket}
 use Rattle.packet_layer.specs.declared.fault.CallFault.TheVariants as call_fault
 use Rattle.packet_host.specs.Host.{refuse_refusal}
 use Rattle.packet_host.specs.Saying.{say_refusal}
@@ -52,11 +53,11 @@ pub record CalledOn (n : NodeState) (o : Outcome) : Type 0 where
   pub given : channel_given (end_of n).layer (end_of n).layer.phase ≡ Some channel
   pub answered : o ≡ Called channel
 
--- what came next on the channel, if anything, was taken
-pub record TookFrom (channel : ℕ) (n : NodeState) (o : Outcome) : Type 0 where
-  pub shown : Option taken.Taken
-  pub front : maybe_taken shown ≡ front_on (end_of n).layer channel
-  pub answered : o ≡ Took shown
+-- the octets of what comes next on a channel, if anything does
+abbrev pub taken_octets : Option Taken → List ℕ
+taken_octets None = []
+taken_octets (Some (TakenInterrupt octets)) = octets
+taken_octets (Some (TakenPacket d)) = d.octets
 
 -- what a PAD answers to what happens at a terminal
 abbrev pub pad_outcome : (terminal : ℕ) → TerminalEvent → PadState → Outcome
@@ -74,12 +75,13 @@ text_at terminal event (Host e) = []
 
 abbrev pub text_of : NodeEvent → NodeState → List ℕ
 text_of (AtTerminal terminal event) n = text_at terminal event n
+text_of (Takes channel) n = taken_octets (front_on (end_of n).layer channel)
 text_of event n = []
 
 abbrev pub IsOutcome : NodeEvent → NodeState → Outcome → Type 0
 IsOutcome (Hears octets) n o = o ≡ Delivered true
 IsOutcome (Calls address user_data) n o = CalledOn n o
-IsOutcome (Takes channel) n o = TookFrom channel n o
+IsOutcome (Takes channel) n o = o ≡ Took (maybe_front (front_on (end_of n).layer channel))
 IsOutcome (AtTerminal terminal event) n o = AnsweredAt terminal event n o
 IsOutcome _ n o = o ≡ Done
 

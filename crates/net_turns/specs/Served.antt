@@ -14,7 +14,7 @@ use Rattle.memory_line.specs.Lines.{Flights, LineService}
 use Rattle.net_events.specs.OneLine.{direction_of}
 use Rattle.line_nodes.specs.declared.terminal.TerminalEvent.{TerminalEvent}
 use Rattle.line_nodes.specs.declared.terminal.TerminalEvent.TheVariants.{Print}
-use Rattle.net_events.specs.NodeEvents.{NodeEvent, AtTerminal, turn_of}
+use Rattle.net_events.specs.NodeEvents.{NodeEvent, Hears, Expires, Relinks, Restarts, Takes, AtTerminal, turn_of}
 use Rattle.net_events.specs.declared.answer.Answer.{Answer}
 use Rattle.net_events.specs.declared.answer.Put.{Put}
 use Rattle.net_turns.specs.declared.place.NetPlace.{NetPlace}
@@ -27,6 +27,15 @@ pub record IsCalled (event : NodeEvent) (role : Role) (old : NodeState) (before 
   pub reads_so : told role node book.book ≡ turn_of event role old before
   pub room_for : IsRoomFor node book.room book.pairs
   pub kind : is_pad node ≡ is_pad old
+
+-- the user of a host asks it
+abbrev pub IsAsked : NodeEvent → Type 0
+IsAsked (Hears octets) = ⊥
+IsAsked (Expires id) = ⊥
+IsAsked Relinks = ⊥
+IsAsked Restarts = ⊥
+IsAsked (AtTerminal terminal event) = ⊥
+IsAsked event = Unit {0}
 
 -- the turn of a node is taken: its frames are put, a host is told its notes, and the book is written
 pub record Served (L : LineService) (at : NetPlace) (turn : Turn) (before : Flights)
@@ -51,6 +60,7 @@ HasPlaces event places = Unit {0}
 
 abbrev pub EventHasPlaces : NodeEvent → (places : ℕ) → Type 0
 EventHasPlaces (AtTerminal terminal event) places = HasPlaces event places
+EventHasPlaces (Takes channel) places = 128 ≤ places
 EventHasPlaces event places = Unit {0}
 
 -- what was taken is written, and a packet is released at once

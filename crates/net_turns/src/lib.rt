@@ -12,5 +12,5 @@ mod switching;
 pub use place::NetPlace;
 pub use room::{make_bare, make_frame_room, make_room};
 pub use send::put_frames;
-pub use serving::{MOST_TEXT, MOST_WRITES, serve};
+pub use serving::{MOST_TAKEN, MOST_TEXT, MOST_WRITES, serve};
 pub use switching::{call_switch, put_switch_frames};

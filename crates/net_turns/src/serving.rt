@@ -1,11 +1,12 @@
 //! What an event does at one node, on its line and in the book: the node is called, the network writes what was asked
 //! and what the node noted, and the frames go onto the line.
-ghost use Rattle.std.specs.Prelude.{◌≡◌, ◌≤◌, ◌<◌, [], Ok, OnOk, OnErr, length, vec_capacity};
+ghost use Rattle.std.specs.Prelude.{◌≡◌, ◌≤◌, ◌<◌, [], Some, Ok, OnOk, OnErr, length, vec_capacity};
 ghost use Rattle.std.specs.Result.{result_and};
 ghost use Rattle.packet_layer.specs.Layer.{front_on};
-ghost use Rattle.packet_layer.specs.TakenView.{maybe_taken};
+ghost use Rattle.packet_layer.specs.TakenView.{taken_of, shown_front, maybe_front};
 ghost use Rattle.packet_host.specs.Host.{after_take};
 ghost use Rattle.x25_pad.specs.Pad.{print_text};
+ghost use Rattle.line_nodes.specs.Node.{Host as HostNode};
 ghost use Rattle.line_nodes.specs.NodeView.{node_of};
 ghost use Rattle.line_nodes.specs.Terminals.{after_terminal, text_shown};
 ghost use Rattle.line_nodes.specs.declared.terminal.TerminalEvent.TheVariants as terminal_event;
@@ -13,8 +14,9 @@ ghost use Rattle.node_laws.specs.Quiet.{IsQuiet};
 ghost use Rattle.net_events.specs.NodeEvents.{IsFor, turn_of};
 ghost use Rattle.net_events.specs.OneLine.{direction_of};
 ghost use Rattle.net_events.specs.EventView.{event_of};
-ghost use Rattle.net_turns.specs.Outcomes.{IsAnswered, pad_outcome, text_of};
-ghost use Rattle.net_turns.specs.Served.{IsCalled, Served, IsEmpty, HasPlaces, EventHasPlaces, taken_written};
+ghost use Rattle.net_turns.specs.Outcomes.{IsAnswered, pad_outcome, taken_octets, text_of};
+ghost use Rattle.net_turns.specs.Served.{IsAsked, IsCalled, Served, IsEmpty, HasPlaces, EventHasPlaces};
+ghost use Rattle.net_turns.specs.Served.{taken_written};
 
 use crate::place::NetPlace;
 use crate::send::put_frames;
@@ -24,8 +26,9 @@ use line_nodes::{Node, NodeFault, TerminalEvent, write_notes, write_request, wri
 use link_timers::Role;
 use memory_line::{Direction, Line};
 use net_events::{Answer, NodeEvent, Outcome};
+use packet_codec::MAX_USER_DATA;
 use packet_host::Host;
-use packet_layer::Taken;
+use packet_layer::{Front, Taken};
 use x25_pad::Pad;
 
 /// An event needs room in the book for no more writes than this: those of a message of eight packets.
@@ -33,6 +36,9 @@ pub const MOST_WRITES: usize = 8;
 
 /// A terminal shows no more octets at once than this.
 pub const MOST_TEXT: usize = 3200;
+
+/// A host takes no more octets at once than this.
+pub const MOST_TAKEN: usize = MAX_USER_DATA;
 
 /// The direction in which the end of a role sends.
 fn direction_of(role: Role) -> Direction
@@ -44,16 +50,54 @@ fn direction_of(role: Role) -> Direction
     }
 }
 
-/// Takes what comes next on a channel of a host, if anything, and writes it.
-fn take(host: &mut Host, role: Role, channel: u8, book: &mut Book) -> Option<Taken>
-    requires { 1 ≤ book.old.room }
-    ensures taken { maybe_taken result ≡ front_on host.old.layer channel }
+/// Takes what comes next on a channel of a host, if anything, writes it, and adds its octets to the text.
+fn take(
+    host: &mut Host,
+    role: Role,
+    channel: u8,
+    book: &mut Book,
+    text: &mut Vec<u8>,
+) -> Option<Front>
+    requires room { 1 ≤ book.old.room }
+    requires empty { text.old.items ≡ [] }
+    requires places { MOST_TAKEN ≤ vec_capacity text.old }
+    ensures taken { result ≡ maybe_front (front_on host.old.layer channel) }
     ensures host { host.new ≡ after_take host.old channel }
     ensures book { book.new.book ≡ taken_written (front_on host.old.layer channel) role channel book.old.book }
+    ensures text { text.new.items ≡ taken_octets (front_on host.old.layer channel) }
 {
     let taken = host.take(channel)?;
     write_taken(book, role, channel, &taken);
-    Some(taken)
+    let Ok(()) = text.extend_from_slice(octets_of(&taken)) else {
+        unreachable!()
+    };
+    Some(front_of(&taken))
+}
+
+/// The octets of what was taken.
+fn octets_of(taken: &Taken) -> &[u8]
+    ensures value { result.now ≡ taken_octets (Some (taken_of taken.now)) }
+    ensures most { length result.now ≤ MOST_TAKEN }
+{
+    match taken {
+        Taken::Interrupt(interrupt) => interrupt.octets(),
+        Taken::Data(packet) => packet.octets(),
+    }
+}
+
+/// What was taken, but for its octets.
+fn front_of(taken: &Taken) -> Front
+    ensures { result ≡ shown_front (taken_of taken.now) }
+{
+    match taken {
+        Taken::Interrupt(_) => Front::Interrupt,
+        Taken::Data(packet) => Front::Data {
+            length: packet.octets().len() as u8,
+            more: packet.more(),
+            qualified: packet.qualified(),
+            delivery: packet.delivery(),
+        },
+    }
 }
 
 /// Something happens at a terminal of a PAD: gives the outcome, and adds what the terminal shows to the text.
@@ -83,6 +127,7 @@ fn at_terminal(
 }
 
 /// Shows what waits at a terminal.
+#[inline(never)]
 fn show(pad: &mut Pad, terminal: u8, text: &mut Vec<u8>)
     requires there { terminal < length pad.old.ports }
     requires empty { text.old.items ≡ [] }
@@ -95,6 +140,53 @@ fn show(pad: &mut Pad, terminal: u8, text: &mut Vec<u8>)
     let Ok(()) = text.extend_from_slice(shown.as_slice()) else {
         unreachable!()
     };
+}
+
+/// Asks a host what its user asks, writes it, and gives the outcome. The octets of what is taken are added to the text.
+#[inline(never)]
+fn ask_host(
+    host: &mut Host,
+    role: Role,
+    event: &NodeEvent<'_>,
+    book: &mut Book,
+    text: &mut Vec<u8>,
+    outcome: &mut Outcome,
+) -> Result<(), NodeFault>
+    requires asked { IsAsked (event_of event.now) }
+    requires is_for { IsFor (event_of event.now) (HostNode host.old) }
+    requires room { MOST_WRITES ≤ book.old.room }
+    requires quiet { IsQuiet (HostNode host.old) }
+    requires text { (text.old.items ≡ []) × EventHasPlaces (event_of event.now) (vec_capacity text.old) }
+    ensures answer { IsAnswered (event_of event.now) (HostNode host.old) (result_and result (Ok outcome.new)) }
+    ensures text { OnOk result (text.new.items ≡ text_of (event_of event.now) (HostNode host.old)) }
+    ensures ok { OnOk result (IsCalled (event_of event.now) role (HostNode host.old) book.old.book
+        (HostNode host.new) book.new) }
+    ensures host { OnErr result (host.new ≡ host.old) }
+    ensures book { OnErr result (book.new ≡ book.old) }
+{
+    match event {
+        NodeEvent::Calls(address, user_data) => {
+            let channel = host.call(*address, user_data)?;
+            book.place(role, channel, address);
+            *outcome = Outcome::Called { channel };
+            Ok(())
+        }
+        NodeEvent::Asks(channel, request) => {
+            host.ask(*channel, request)?;
+            write_request(book, role, *channel, request);
+            *outcome = Outcome::Done;
+            Ok(())
+        }
+        NodeEvent::Takes(channel) => {
+            *outcome = Outcome::Took(take(host, role, *channel, book, text));
+            Ok(())
+        }
+        NodeEvent::Hears(_)
+        | NodeEvent::Expires(_)
+        | NodeEvent::Relinks
+        | NodeEvent::Restarts
+        | NodeEvent::AtTerminal(_, _) => unreachable!(),
+    }
 }
 
 /// Calls the node, writes what was asked of it, and gives the outcome. What a terminal shows is added to the text.
@@ -139,29 +231,8 @@ fn call_node(
             *outcome = Outcome::Done;
             Ok(())
         }
-        NodeEvent::Calls(address, user_data) => match node {
-            Node::Host(host) => {
-                let channel = host.call(*address, user_data)?;
-                book.place(role, channel, address);
-                *outcome = Outcome::Called { channel };
-                Ok(())
-            }
-            Node::Pad(_) => unreachable!(),
-        },
-        NodeEvent::Asks(channel, request) => match node {
-            Node::Host(host) => {
-                host.ask(*channel, request)?;
-                write_request(book, role, *channel, request);
-                *outcome = Outcome::Done;
-                Ok(())
-            }
-            Node::Pad(_) => unreachable!(),
-        },
-        NodeEvent::Takes(channel) => match node {
-            Node::Host(host) => {
-                *outcome = Outcome::Took(take(host, role, *channel, book));
-                Ok(())
-            }
+        NodeEvent::Calls(_, _) | NodeEvent::Asks(_, _) | NodeEvent::Takes(_) => match node {
+            Node::Host(host) => ask_host(host, role, event, book, text, outcome),
             Node::Pad(_) => unreachable!(),
         },
         NodeEvent::AtTerminal(terminal, event) => match node {

@@ -16,7 +16,7 @@ use line_nodes::{NodeFault, Place, TerminalEvent};
 use link_timers::Role;
 use memory_line::Line;
 use net_events::{Answer, NodeEvent, StepFault};
-use net_turns::{MOST_TEXT, MOST_WRITES, NetPlace, make_room, serve};
+use net_turns::{MOST_TAKEN, MOST_TEXT, MOST_WRITES, NetPlace, make_room, serve};
 
 /// Serves an event at a node with users.
 fn serve_user<L: Line>(
@@ -93,19 +93,19 @@ pub(super) fn serve_at<L: Line>(
     }
 }
 
-/// How many octets of text an event may show.
+/// How many octets of text an event may give.
 fn text_places(event: &NodeEvent<'_>) -> usize
     ensures { EventHasPlaces (event_of event.now) result }
 {
     match event {
         NodeEvent::AtTerminal(_, event) => terminal_places(*event),
+        NodeEvent::Takes(_) => MOST_TAKEN,
         NodeEvent::Hears(_)
         | NodeEvent::Expires(_)
         | NodeEvent::Relinks
         | NodeEvent::Restarts
         | NodeEvent::Calls(_, _)
-        | NodeEvent::Asks(_, _)
-        | NodeEvent::Takes(_) => 0,
+        | NodeEvent::Asks(_, _) => 0,
     }
 }
 

@@ -1,10 +1,9 @@
 use Rattle.std.proofs.Common.{ℕ, List, ◌++◌}
 use Rattle.std.specs.List.{flat_map}
 use Rattle.std.proofs.lemmas.Result.{err_from_is_err_and}
-use Rattle.std.proofs.KnownBytes.{Appends-trans}
 use Rattle.net_player.specs.Answers.{frames_text, note_text}
 use Rattle.net_player.proofs.Turns.{writes_as}
-use Rattle.net_player.proofs.Parts.{told_before, told_behind, told_front, writes_known, writes_behind}
+use Rattle.net_player.proofs.Parts.{told_before, told_behind, writes_behind, if_err_as}
 use Rattle.net_player.proofs.player.Player.write_answer.Goals as goal
 
 pub returns-in_err-write_traced-clause-stops : goal.returns-in_err-write_traced-clause-stops
@@ -20,22 +19,13 @@ returns-in_err-write_notes-clause-stops g c =
     (rw c.as_slice.ensures.value at c.in_ok-write_traced.ensures.writes)
     (rw c.as_slice-2.ensures.value at c.in_err-write_notes.ensures.stops))
 
-pub returns-in_err-text-clause-stops : goal.returns-in_err-text-clause-stops
-returns-in_err-text-clause-stops g c =
-    let p = err_from_is_err_and c.from_residual-in_err-text.result c.from_residual-in_err-text.ensures.1 in
+pub returns-clause-stops : goal.returns-clause-stops
+returns-clause-stops g c =
     let frames : List ℕ = frames_text c.args.self.now.traces c.args.answer.now.frames.items in
     let notes : List ℕ = flat_map (note_text c.args.self.now.names.now) c.args.answer.now.notes.items in
-    rw (p.1, p.2) (writes_known (frames ++ notes) (told_behind frames (told_front notes _)) (Appends-trans _ _ _ frames notes
-    (rw c.as_slice.ensures.value at c.in_ok-write_traced.ensures.writes)
-    (rw c.as_slice-2.ensures.value at c.in_ok-write_notes.ensures.writes)))
-
-pub returns-in_err-write-clause-stops : goal.returns-in_err-write-clause-stops
-returns-in_err-write-clause-stops g c =
-    let p = err_from_is_err_and c.from_residual-in_err-write.result c.from_residual-in_err-write.ensures.1 in
-    let frames : List ℕ = frames_text c.args.self.now.traces c.args.answer.now.frames.items in
-    let notes : List ℕ = flat_map (note_text c.args.self.now.names.now) c.args.answer.now.notes.items in
-    rw (p.1, p.2) (writes_behind frames (λ part told. told_behind frames told)
+    if_err_as c.write_outcome.result
+    (λ fault part. writes_behind frames (λ part told. told_behind frames told)
     (rw c.as_slice.ensures.value at c.in_ok-write_traced.ensures.writes)
     (writes_behind notes (λ part told. told_behind notes told)
-    (rw c.as_slice-2.ensures.value at c.in_ok-write_notes.ensures.writes)
-    (rw (c.as_str.ensures.value, c.in_ok-text.ensures) at c.in_err-write.ensures.refused)))
+    (rw c.as_slice-2.ensures.value at c.in_ok-write_notes.ensures.writes) part))
+    c.write_outcome.ensures.stops
