@@ -13,50 +13,68 @@ fn fault_of(line: &[u8]) -> Option<CommandFault> {
     }
 }
 
+/// Lines, each with its fault, or none.
+const LINES: [(&[u8], Option<CommandFault>); 12] = [
+    (b"SETT", Some(CommandFault::Unknown)),
+    (b"STAT 1", Some(CommandFault::Unknown)),
+    (b"SET 300:1", Some(CommandFault::BadNumber)),
+    (b"SET 2", Some(CommandFault::BadNumber)),
+    (b"SET", Some(CommandFault::BadNumber)),
+    (b"20X1", Some(CommandFault::BadAddress)),
+    (b"2001 D", Some(CommandFault::BadAddress)),
+    (b"2001D1234567890123", Some(CommandFault::TooLong)),
+    (&[b' '; 65], Some(CommandFault::TooLong)),
+    (&[b' '; 64], None),
+    (b"par?1,2,3,4,5,6,7,8,9,1,2,3,4,5,6,7,8,9", None),
+    (
+        b"par?1,2,3,4,5,6,7,8,9,1,2,3,4,5,6,7,8,9,1",
+        Some(CommandFault::TooLong),
+    ),
+];
+
 #[test]
 fn refuses_lines_by_their_first_fault(rt: HostRuntime) {
-    assert_eq!(rt; fault_of(b"SETT"), Some(CommandFault::Unknown));
-    assert_eq!(rt; fault_of(b"STAT 1"), Some(CommandFault::Unknown));
-    assert_eq!(rt; fault_of(b"SET 300:1"), Some(CommandFault::BadNumber));
-    assert_eq!(rt; fault_of(b"SET 2"), Some(CommandFault::BadNumber));
-    assert_eq!(rt; fault_of(b"SET"), Some(CommandFault::BadNumber));
-    assert_eq!(rt; fault_of(b"20X1"), Some(CommandFault::BadAddress));
-    assert_eq!(rt; fault_of(b"2001 D"), Some(CommandFault::BadAddress));
-    assert_eq!(rt;
-        fault_of(b"2001D1234567890123"),
-        Some(CommandFault::TooLong)
-    );
-    assert_eq!(rt; fault_of(&[b' '; 65]), Some(CommandFault::TooLong));
-    assert_eq!(rt; fault_of(&[b' '; 64]), None);
-    assert_eq!(rt; fault_of(b"par?1,2,3,4,5,6,7,8,9,1,2,3,4,5,6,7,8,9"), None);
-    assert_eq!(rt;
-        fault_of(b"par?1,2,3,4,5,6,7,8,9,1,2,3,4,5,6,7,8,9,1"),
-        Some(CommandFault::TooLong)
-    );
+    for (line, fault) in &LINES {
+        assert!(rt; fault_of(line) == *fault, "{line:?}");
+    }
+}
+
+/// Whether a line sets these parameters, each by its number and its value.
+fn sets(line: &[u8], wanted: &[(u8, u8)]) -> bool {
+    match read_command(line) {
+        Ok(Command::Set(pairs)) => pairs.as_slice() == wanted,
+        _ => false,
+    }
+}
+
+/// Whether a line asks for these parameters.
+fn asks_for(line: &[u8], wanted: &[u8]) -> bool {
+    match read_command(line) {
+        Ok(Command::Read(numbers)) => numbers.as_slice() == wanted,
+        _ => false,
+    }
+}
+
+/// Whether a line calls this address, with these user data.
+fn selects(line: &[u8], address: &[u8], user_data: &[u8]) -> bool {
+    match read_command(line) {
+        Ok(Command::Select(selection)) => {
+            selection.address.digits() == address && selection.user_data.as_slice() == user_data
+        }
+        _ => false,
+    }
 }
 
 #[test]
 fn reads_commands(rt: HostRuntime) {
-    match read_command(b"set 2:0,3:2") {
-        Ok(Command::Set(pairs)) => assert_eq!(rt; pairs.as_slice(), [(2, 0), (3, 2)].as_slice()),
-        _ => assert!(rt; false),
-    }
-    match read_command(b"  Par? 2,25 ") {
-        Ok(Command::Read(numbers)) => assert_eq!(rt; numbers.as_slice(), [2, 25].as_slice()),
-        _ => assert!(rt; false),
-    }
-    match read_command(b"2001Phi ") {
-        Ok(Command::Select(selection)) => {
-            assert_eq!(rt; selection.address.digits(), [2, 0, 0, 1].as_slice());
-            assert_eq!(rt; selection.user_data.as_slice(), b"hi ".as_slice());
-        }
-        _ => assert!(rt; false),
-    }
+    assert!(rt; sets(b"set 2:0,3:2", &[(2, 0), (3, 2)]));
+    assert!(rt; asks_for(b"  Par? 2,25 ", &[2, 25]));
+    assert!(rt; selects(b"2001Phi ", &[2, 0, 0, 1], b"hi "));
     assert!(rt; matches!(read_command(b""), Ok(Command::Empty)));
+    assert!(rt; matches!(read_command(b"PROF91"), Ok(Command::Profile(91))));
     assert!(rt; read_pairs(b"3:2,15:1").is_ok());
     assert!(rt; read_pairs(b"3:2, 15:1").is_err());
     assert!(rt; hides_echo(b" 2001P") && !hides_echo(b"2001D") && !hides_echo(b"P"));
-    assert!(rt; matches!(read_command(b"PROF91"), Ok(Command::Profile(91))));
 }
 
 /// Writes a signal, and looks at its text.
