@@ -4,16 +4,68 @@ use pad_editing::{Block, Display, Editor};
 use std::process::Abort;
 use x3_params::{Params, Profile};
 
-/// The values of `TRANSPARENT` with these in their place.
-fn with(rt: &impl Abort, changes: &[(u8, u8)]) -> Params {
-    let mut params = Params::profile(Profile::Transparent, 14);
-    for (number, value) in changes {
-        assert_eq!(rt; params.set(*number, *value), Ok(()));
-    }
-    params
+// Parameters, each by its number and its value.
+type Changes<'a> = &'a [(u8, u8)];
+
+// What is done at an editor, or looked at.
+#[derive(Clone, Copy)]
+enum Step<'a> {
+    // the parameters are those of `TRANSPARENT` with these in their place
+    With(Changes<'a>),
+    // a key is typed, with this echo and this block, which is empty for none
+    Type(u8, &'a [u8], &'a [u8]),
+    // the editor adds these keys to its text, and does no more
+    Add(&'a [u8]),
+    // it does not add any of these
+    NotAdd(&'a [u8]),
+    // the idle time ends, with this block
+    Idle(&'a [u8]),
+    // the text that is held, and how long it is
+    Held(&'a [u8]),
+    HeldLength(usize),
+    Discard,
 }
 
-/// A block's octets, or none.
+use Step::{Add, Discard, Held, HeldLength, Idle, NotAdd, Type, With};
+
+// Plays steps at an editor.
+fn play(rt: &impl Abort, steps: &[Step<'_>]) {
+    let mut params = Params::profile(Profile::Transparent, 14);
+    let mut editor = Editor::new();
+    for (place, step) in steps.iter().enumerate() {
+        assert!(rt; fits(&mut editor, &mut params, *step), "step {place}");
+    }
+}
+
+fn fits(editor: &mut Editor, params: &mut Params, step: Step<'_>) -> bool {
+    match step {
+        With(changes) => {
+            *params = Params::profile(Profile::Transparent, 14);
+            sets(params, changes)
+        }
+        Type(octet, echo, block) => types(editor, params, octet, echo, block),
+        Add(octets) => adds(editor, params, octets, true),
+        NotAdd(octets) => adds(editor, params, octets, false),
+        Idle(block) => octets_of(&editor.idle(params)) == block,
+        Held(text) => editor.held() == text,
+        HeldLength(length) => editor.held().len() == length,
+        Discard => {
+            editor.discard();
+            true
+        }
+    }
+}
+
+// Whether each of these parameters takes its value.
+fn sets(params: &mut Params, changes: Changes<'_>) -> bool {
+    let mut taken = true;
+    for (number, value) in changes {
+        taken = taken && params.set(*number, *value).is_ok();
+    }
+    taken
+}
+
+// A block's octets, or none.
 fn octets_of(block: &Option<Block>) -> &[u8] {
     match block {
         Some(block) => block.as_slice(),
@@ -21,149 +73,197 @@ fn octets_of(block: &Option<Block>) -> &[u8] {
     }
 }
 
-/// Types one key, and looks at its echo and its block, which is empty for none.
-fn types(
-    rt: &impl Abort,
-    editor: &mut Editor,
-    params: &Params,
-    octet: u8,
-    echo: &[u8],
-    block: &[u8],
-) {
+// Whether a key has this echo and this block, and is known to forward where there is a block.
+fn types(editor: &mut Editor, params: &Params, octet: u8, echo: &[u8], block: &[u8]) -> bool {
     let forwards = editor.forwards(octet, params);
     let out = editor.key(octet, params);
-    assert_eq!(rt; out.echo.as_slice(), echo);
-    assert_eq!(rt; octets_of(&out.block), block);
-    assert_eq!(rt; forwards, !block.is_empty());
+    out.echo.as_slice() == echo && octets_of(&out.block) == block && forwards == !block.is_empty()
+}
+
+// Whether each of these keys is added, or none of them is.
+fn adds(editor: &mut Editor, params: &Params, octets: &[u8], added: bool) -> bool {
+    let mut same = true;
+    for octet in octets {
+        same = same && editor.add(*octet, params) == added;
+    }
+    same
 }
 
 #[test]
 fn edits_a_text_and_echoes_it(rt: HostRuntime) {
-    let params = with(&rt, &[(2, 1), (3, 2), (15, 1), (16, 127)]);
-    let mut editor = Editor::new();
-    types(&rt, &mut editor, &params, 0x7F, b"", b"");
-    for octet in b"HEX" {
-        types(&rt, &mut editor, &params, *octet, &[*octet], b"");
-    }
-    types(&rt, &mut editor, &params, 0x7F, b"\x08 \x08", b"");
-    for octet in b"LLO" {
-        types(&rt, &mut editor, &params, *octet, &[*octet], b"");
-    }
-    types(&rt, &mut editor, &params, b'\r', b"\r", b"HELLO\r");
-    types(&rt, &mut editor, &params, 0x7F, b"", b"");
-    types(&rt, &mut editor, &params, b'A', b"A", b"");
-    types(&rt, &mut editor, &params, b'\r', b"\r", b"A\r");
+    const STEPS: &[Step] = &[
+        With(&[(2, 1), (3, 2), (15, 1), (16, 127)]),
+        Type(0x7F, b"", b""),
+        Type(b'H', b"H", b""),
+        Type(b'E', b"E", b""),
+        Type(b'X', b"X", b""),
+        Type(0x7F, b"\x08 \x08", b""),
+        Type(b'L', b"L", b""),
+        Type(b'L', b"L", b""),
+        Type(b'O', b"O", b""),
+        Type(b'\r', b"\r", b"HELLO\r"),
+        Type(0x7F, b"", b""),
+        Type(b'A', b"A", b""),
+        Type(b'\r', b"\r", b"A\r"),
+    ];
+    play(&rt, STEPS);
 }
 
 #[test]
 fn shows_and_deletes_a_line(rt: HostRuntime) {
-    let params = with(&rt, &[(2, 1), (15, 1)]);
+    const STEPS: &[Step] = &[
+        With(&[(2, 1), (15, 1)]),
+        Type(b'A', b"A", b""),
+        Type(b'B', b"B", b""),
+        Type(18, b"\r\nAB", b""),
+        Held(b"AB"),
+        Type(24, b"XXX\r\n", b""),
+        Held(b""),
+    ];
+    play(&rt, STEPS);
+}
+
+// Types so many letters and a carriage return with a line feed behind it: how the block of 128 octets ends, and what is
+// held then.
+fn ends_a_block(rt: &impl Abort, letters: usize, end: [u8; 2], held: &[u8]) {
+    let mut params = Params::profile(Profile::Transparent, 14);
+    assert!(rt; sets(&mut params, &[(3, 2), (13, 2), (15, 1)]));
     let mut editor = Editor::new();
-    types(&rt, &mut editor, &params, b'A', b"A", b"");
-    types(&rt, &mut editor, &params, b'B', b"B", b"");
-    types(&rt, &mut editor, &params, 18, b"\r\nAB", b"");
-    assert_eq!(rt; editor.held(), b"AB".as_slice());
-    types(&rt, &mut editor, &params, 24, b"XXX\r\n", b"");
-    assert_eq!(rt; editor.held(), b"".as_slice());
+    for _ in 0..letters {
+        assert!(rt; types(&mut editor, &params, b'A', b"", b""));
+    }
+    let mut block = [b'A'; 128];
+    block[126] = end[0];
+    block[127] = end[1];
+    assert!(rt; types(&mut editor, &params, b'\r', b"", &block));
+    assert!(rt; editor.held() == held);
 }
 
 #[test]
 fn inserts_a_line_feed_where_it_fits(rt: HostRuntime) {
-    let params = with(&rt, &[(3, 2), (13, 2), (15, 1)]);
-    let mut editor = Editor::new();
-    types(&rt, &mut editor, &params, b'A', b"", b"");
-    types(&rt, &mut editor, &params, b'\r', b"", b"A\r\n");
-    for letters in [126, 127] {
-        for _ in 0..letters {
-            types(&rt, &mut editor, &params, b'A', b"", b"");
-        }
-        let block = editor.key(b'\r', &params).block;
-        let octets = octets_of(&block);
-        assert_eq!(rt; octets.len(), 128);
-        assert_eq!(rt; octets[126], if letters == 126 { b'\r' } else { b'A' });
-        assert_eq!(rt; octets[127], if letters == 126 { b'\n' } else { b'\r' });
-        assert_eq!(rt;
-            editor.held(),
-            if letters == 126 {
-                b"".as_slice()
-            } else {
-                b"\n".as_slice()
-            }
-        );
-        editor.discard();
-    }
+    const STEPS: &[Step] = &[
+        With(&[(3, 2), (13, 2), (15, 1)]),
+        Type(b'A', b"", b""),
+        Type(b'\r', b"", b"A\r\n"),
+    ];
+    play(&rt, STEPS);
+    ends_a_block(&rt, 126, *b"\r\n", b"");
+    ends_a_block(&rt, 127, *b"A\r", b"\n");
 }
 
 #[test]
 fn adds_a_key_that_does_no_more(rt: HostRuntime) {
-    let params = with(&rt, &[(3, 2), (13, 2), (15, 1)]);
-    let mut editor = Editor::new();
-    assert!(rt; editor.add(b'A', &params));
-    for octet in [127, 24, 18, b'\r'] {
-        assert!(rt; !editor.add(octet, &params), "octet {octet}");
-    }
-    assert_eq!(rt; editor.held(), b"A".as_slice());
-    for _ in 0..126 {
-        assert!(rt; editor.add(b'B', &params));
-    }
-    assert!(rt; !editor.add(b'B', &params));
-    assert_eq!(rt; editor.held().len(), 127);
-    let unedited = with(&rt, &[(13, 2)]);
-    editor.discard();
-    assert!(rt; editor.add(127, &unedited));
-    assert!(rt; !editor.add(b'\r', &unedited));
-    assert_eq!(rt; editor.held(), b"\x7F".as_slice());
+    const STEPS: &[Step] = &[
+        With(&[(3, 2), (13, 2), (15, 1)]),
+        Add(b"A"),
+        NotAdd(&[127, 24, 18, b'\r']),
+        Held(b"A"),
+        Add(&[b'B'; 126]),
+        NotAdd(b"B"),
+        HeldLength(127),
+        With(&[(13, 2)]),
+        Discard,
+        Add(&[127]),
+        NotAdd(b"\r"),
+        Held(b"\x7F"),
+    ];
+    play(&rt, STEPS);
 }
 
 #[test]
 fn forwards_at_the_end_of_the_idle_time(rt: HostRuntime) {
-    let params = with(&rt, &[(4, 20)]);
-    let mut editor = Editor::new();
-    assert_eq!(rt; octets_of(&editor.idle(&params)), b"".as_slice());
-    types(&rt, &mut editor, &params, b'A', b"", b"");
-    let edited = with(&rt, &[(4, 20), (15, 1)]);
-    assert_eq!(rt; octets_of(&editor.idle(&edited)), b"".as_slice());
-    assert_eq!(rt; octets_of(&editor.idle(&params)), b"A".as_slice());
-    assert_eq!(rt; editor.held(), b"".as_slice());
-}
-
-/// Lays octets out as output from column 0, and looks at the text and the column.
-fn shows(rt: &impl Abort, params: &Params, octets: &[u8; 5], text: &[u8], column: u16) {
-    let mut out = ArrayVec::<u8, 85>::new();
-    assert_eq!(rt;
-        Display::text(octets.as_slice(), false, params, 0, &mut out),
-        column
-    );
-    assert_eq!(rt; out.as_slice(), text);
+    const STEPS: &[Step] = &[
+        With(&[(4, 20)]),
+        Idle(b""),
+        Type(b'A', b"", b""),
+        With(&[(4, 20), (15, 1)]),
+        Idle(b""),
+        With(&[(4, 20)]),
+        Idle(b"A"),
+        Held(b""),
+    ];
+    play(&rt, STEPS);
 }
 
 #[test]
 fn shows_a_graphic_character_as_it_stands(rt: HostRuntime) {
-    let params = with(&rt, &[(10, 4)]);
-    for (octet, column, plain) in [
+    const OCTETS: [(u8, u16, bool); 5] = [
         (b' ', 3, true),
         (b'~', 5, true),
         (b'A', 4, false),
         (0x1F, 0, false),
         (0x7F, 0, false),
-    ] {
-        assert_eq!(rt;
-            Display::is_plain(octet, &params, column),
-            plain,
+    ];
+    let mut params = Params::profile(Profile::Transparent, 14);
+    assert!(rt; sets(&mut params, &[(10, 4)]));
+    for (octet, column, plain) in OCTETS {
+        assert!(rt;
+            Display::is_plain(octet, &params, column) == plain,
             "octet {octet}"
         );
     }
 }
 
+// Octets as output or as an echo, laid out from a column: the text and the column behind it.
+struct Layout<'a> {
+    with: Changes<'a>,
+    octets: &'a [u8],
+    echo: bool,
+    from: u16,
+    text: &'a [u8],
+    to: u16,
+}
+
+fn is_laid_out(layout: &Layout<'_>) -> bool {
+    let mut params = Params::profile(Profile::Transparent, 14);
+    let mut out = ArrayVec::<u8, 85>::new();
+    sets(&mut params, layout.with)
+        && layout.octets.len() <= 5
+        && Display::text(layout.octets, layout.echo, &params, layout.from, &mut out) == layout.to
+        && out.as_slice() == layout.text
+}
+
+// A carriage return has two NULs behind it, and a line feed one.
+const PADDED: Changes<'static> = &[(9, 2), (13, 1), (14, 1)];
+
+const LAYOUTS: [Layout; 4] = [
+    Layout {
+        with: &[(10, 4)],
+        octets: b"ABCDE",
+        echo: false,
+        from: 0,
+        text: b"ABCD\r\nE",
+        to: 1,
+    },
+    Layout {
+        with: PADDED,
+        octets: b"AB\x08C\r",
+        echo: false,
+        from: 0,
+        text: b"AB\x08C\r\0\0\n\0",
+        to: 0,
+    },
+    Layout {
+        with: PADDED,
+        octets: b"\r",
+        echo: false,
+        from: 3,
+        text: b"\r\0\0\n\0",
+        to: 0,
+    },
+    Layout {
+        with: PADDED,
+        octets: b"\r",
+        echo: true,
+        from: 3,
+        text: b"\r\0\0",
+        to: 0,
+    },
+];
+
 #[test]
 fn lays_octets_out(rt: HostRuntime) {
-    shows(&rt, &with(&rt, &[(10, 4)]), b"ABCDE", b"ABCD\r\nE", 1);
-    let padded = with(&rt, &[(9, 2), (13, 1), (14, 1)]);
-    shows(&rt, &padded, b"AB\x08C\r", b"AB\x08C\r\0\0\n\0", 0);
-    let mut out = ArrayVec::<u8, 17>::new();
-    assert_eq!(rt; Display::text(b"\r", false, &padded, 3, &mut out), 0);
-    assert_eq!(rt; out.as_slice(), b"\r\0\0\n\0".as_slice());
-    out.clear();
-    assert_eq!(rt; Display::text(b"\r", true, &padded, 3, &mut out), 0);
-    assert_eq!(rt; out.as_slice(), b"\r\0\0".as_slice());
+    for (place, layout) in LAYOUTS.iter().enumerate() {
+        assert!(rt; is_laid_out(layout), "layout {place}");
+    }
 }

@@ -11,28 +11,47 @@ fn fault_of(octets: &[u8]) -> Option<MessageFault> {
 
 #[test]
 fn refuses_octets_by_their_first_fault(rt: HostRuntime) {
-    assert_eq!(rt; fault_of(b""), Some(MessageFault::Empty));
-    assert_eq!(rt; fault_of(b"\x07"), Some(MessageFault::UnknownCode));
-    assert_eq!(rt; fault_of(b"\x02\x02"), Some(MessageFault::OddLength));
-    assert_eq!(rt; fault_of(b"\x01\x02"), Some(MessageFault::OddLength));
-    assert_eq!(rt; fault_of(b"\x05"), Some(MessageFault::OddLength));
-    assert_eq!(rt; fault_of(&[2; 127]), None);
-    assert_eq!(rt; fault_of(&[2; 129]), Some(MessageFault::OddLength));
+    const FAULTS: [(&[u8], Option<MessageFault>); 7] = [
+        (b"", Some(MessageFault::Empty)),
+        (b"\x07", Some(MessageFault::UnknownCode)),
+        (b"\x02\x02", Some(MessageFault::OddLength)),
+        (b"\x01\x02", Some(MessageFault::OddLength)),
+        (b"\x05", Some(MessageFault::OddLength)),
+        (&[2; 127], None),
+        (&[2; 129], Some(MessageFault::OddLength)),
+    ];
+    for (octets, fault) in &FAULTS {
+        assert!(rt; fault_of(octets) == *fault, "{octets:?}");
+    }
+}
+
+/// Whether octets set these parameters, each by its number and its value.
+fn sets(octets: &[u8], wanted: &[(u8, u8)]) -> bool {
+    match read_message(octets) {
+        Ok(Message::Set(pairs)) => pairs.as_slice() == wanted,
+        _ => false,
+    }
+}
+
+/// Whether a message is written as these octets, whatever was written before.
+fn is_written(message: &Message, out: &mut MessageBuf, octets: &[u8]) -> bool {
+    write_message(message, out);
+    out.as_slice() == octets
 }
 
 #[test]
 fn reads_and_writes_messages(rt: HostRuntime) {
-    match read_message(b"\x02\x02\x00\x0B\x01") {
-        Ok(Message::Set(pairs)) => assert_eq!(rt; pairs.as_slice(), [(2, 0), (11, 1)].as_slice()),
-        _ => assert!(rt; false),
-    }
+    assert!(rt; sets(b"\x02\x02\x00\x0B\x01", &[(2, 0), (11, 1)]));
     let mut out = MessageBuf::new();
     let mut pairs = Pairs::new();
     pairs.push((0x8B, 3));
-    write_message(&Message::ParameterIndication(pairs), &mut out);
-    assert_eq!(rt; out.as_slice(), b"\x00\x8B\x03".as_slice());
-    write_message(&Message::Error(1, Some(7)), &mut out);
-    assert_eq!(rt; out.as_slice(), b"\x05\x01\x07".as_slice());
-    write_message(&Message::InvitationToClear, &mut out);
-    assert_eq!(rt; out.as_slice(), b"\x01".as_slice());
+    assert!(rt;
+        is_written(
+            &Message::ParameterIndication(pairs),
+            &mut out,
+            b"\x00\x8B\x03"
+        )
+    );
+    assert!(rt; is_written(&Message::Error(1, Some(7)), &mut out, b"\x05\x01\x07"));
+    assert!(rt; is_written(&Message::InvitationToClear, &mut out, b"\x01"));
 }

@@ -13,7 +13,7 @@ use x28_commands::Selection;
 use x29_messages::{Message, MessageBuf, write_message};
 
 // What a terminal asked of its PAD.
-#[derive(Clone, Copy, Debug, PartialEq, Eq)]
+#[derive(Clone, Copy)]
 pub(crate) enum Asked<'a> {
     Nothing,
     // a call of this address, with these user data
@@ -89,39 +89,40 @@ pub(crate) fn play(rt: &impl Abort, alloc: Global, standing: bool, steps: &[Step
         request: None,
     };
     for (place, step) in steps.iter().enumerate() {
-        play_step(rt, &mut tested, *step, place);
+        assert!(rt; fits(&mut tested, *step), "step {place}");
+        tested.terminal.resume_device(tested.call.queue_full);
     }
 }
 
-fn play_step(rt: &impl Abort, tested: &mut Tested, step: Step<'_>, place: usize) {
+// Whether a step gives its answer.
+fn fits(tested: &mut Tested, step: Step<'_>) -> bool {
     match step {
-        Step::Type(octets) => {
-            for octet in octets {
-                assert!(rt; press(tested, *octet), "step {place}");
-            }
+        Step::Type(octets) => types(tested, octets),
+        Step::Drops(octet) => !press(tested, octet),
+        Step::Idles => pause(tested),
+        Step::IdleDropped => !pause(tested),
+        Step::Breaks(octets) => breaks(tested, octets),
+        Step::BreakDropped => drops_a_break(tested),
+        Step::Message(octets, answer) => replies(&tested.terminal.on_message(octets), answer),
+        Step::Invited => clears(&tested.terminal.on_message(b"\x01")),
+        Step::Sends(octets) => sends(tested, octets),
+        Step::SendsNothing => tested.block.is_none(),
+        Step::Asks(asked) => asks(tested, asked),
+        Step::Prints(text) => prints(&mut tested.terminal, text),
+        Step::Shows(octets, text) => shows(&mut tested.terminal, octets, text),
+        Step::MayShow(may) => tested.terminal.may_show() == may,
+        Step::IdleTime(time) => tested.terminal.idle_time() == time,
+        Step::In(mode) => tested.terminal.mode() == mode,
+        _ => {
+            happens(tested, step);
+            true
         }
-        Step::Drops(octet) => assert!(rt; !press(tested, octet), "step {place}"),
-        Step::Idles => assert!(rt; pause(tested), "step {place}"),
-        Step::IdleDropped => assert!(rt; !pause(tested), "step {place}"),
-        Step::Breaks(octets) => assert!(rt; breaks(tested, octets), "step {place}"),
-        Step::BreakDropped => {
-            assert!(rt;
-                matches!(tested.terminal.on_break(tested.call), BreakAnswer::Dropped),
-                "step {place}"
-            );
-        }
-        Step::Message(octets, answer) => {
-            assert!(rt;
-                replies(&tested.terminal.on_message(octets), answer),
-                "step {place}"
-            );
-        }
-        Step::Invited => {
-            assert!(rt;
-                matches!(tested.terminal.on_message(b"\x01"), Reply::Clear),
-                "step {place}"
-            );
-        }
+    }
+}
+
+// What happens on the call, and what becomes of it.
+fn happens(tested: &mut Tested, step: Step<'_>) {
+    match step {
         Step::Connected => tested.terminal.on_connected(),
         Step::Cleared(cause) => tested.terminal.on_cleared(cause),
         Step::Reset(cause) => tested.terminal.on_reset(cause),
@@ -129,39 +130,17 @@ fn play_step(rt: &impl Abort, tested: &mut Tested, step: Step<'_>, place: usize)
         Step::QueueFull(full) => tested.call.queue_full = full,
         Step::ResetPending(pending) => tested.call.reset_pending = pending,
         Step::InterruptPending(pending) => tested.call.interrupt_pending = pending,
-        _ => look(rt, tested, step, place),
-    }
-    tested.terminal.resume_device(tested.call.queue_full);
-}
-
-fn look(rt: &impl Abort, tested: &mut Tested, step: Step<'_>, place: usize) {
-    match step {
-        Step::Sends(octets) => {
-            assert!(rt; is_block(&tested.block, octets), "step {place}");
-            tested.block = None;
-        }
-        Step::SendsNothing => assert!(rt; tested.block.is_none(), "step {place}"),
-        Step::Asks(asked) => {
-            assert!(rt; is_asked(&tested.request, asked), "step {place}");
-            tested.request = None;
-        }
-        Step::Prints(text) => {
-            let mut out = ArrayVec::<u8, TEXT_LIMIT>::new();
-            tested.terminal.print(&mut out);
-            assert_eq!(rt; out.as_slice(), text, "step {place}");
-        }
-        Step::Shows(octets, text) => {
-            let mut out = ArrayVec::<u8, 2176>::new();
-            if octets.len() <= 128 {
-                tested.terminal.display(octets, &mut out);
-            }
-            assert_eq!(rt; out.as_slice(), text, "step {place}");
-        }
-        Step::MayShow(may) => assert_eq!(rt; tested.terminal.may_show(), may, "step {place}"),
-        Step::IdleTime(time) => assert_eq!(rt; tested.terminal.idle_time(), time, "step {place}"),
-        Step::In(mode) => assert_eq!(rt; tested.terminal.mode(), mode, "step {place}"),
         _ => {}
     }
+}
+
+// Whether each of these keys was taken.
+fn types(tested: &mut Tested, octets: &[u8]) -> bool {
+    let mut taken = true;
+    for octet in octets {
+        taken = taken && press(tested, *octet);
+    }
+    taken
 }
 
 // Presses a key. Whether it was taken.
@@ -209,6 +188,42 @@ fn breaks(tested: &mut Tested, octets: &[u8]) -> bool {
             }
         }
     }
+}
+
+fn drops_a_break(tested: &mut Tested) -> bool {
+    matches!(tested.terminal.on_break(tested.call), BreakAnswer::Dropped)
+}
+
+// Whether the last block has these octets. It is looked at once.
+fn sends(tested: &mut Tested, octets: &[u8]) -> bool {
+    let same = is_block(&tested.block, octets);
+    tested.block = None;
+    same
+}
+
+// Whether the last key or break asked this. It is looked at once.
+fn asks(tested: &mut Tested, asked: Asked<'_>) -> bool {
+    let same = is_asked(&tested.request, asked);
+    tested.request = None;
+    same
+}
+
+fn prints(terminal: &mut Terminal, text: &[u8]) -> bool {
+    let mut out = ArrayVec::<u8, TEXT_LIMIT>::new();
+    terminal.print(&mut out);
+    out.as_slice() == text
+}
+
+fn shows(terminal: &mut Terminal, octets: &[u8], text: &[u8]) -> bool {
+    let mut out = ArrayVec::<u8, 2176>::new();
+    if octets.len() <= 128 {
+        terminal.display(octets, &mut out);
+    }
+    out.as_slice() == text
+}
+
+fn clears(reply: &Reply) -> bool {
+    matches!(reply, Reply::Clear)
 }
 
 // Whether a reply is the message of these octets, or nothing where there are none.
