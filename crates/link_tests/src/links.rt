@@ -1,8 +1,44 @@
+//! Two links by the octets of their frames.
 use crate::station::Station;
 use lapb::{Link, LinkOut, LinkParams, Note, OfferFault, Phase, Timing};
 use link_timers::Role;
 use std::alloc::Global;
 use std::process::Abort;
+
+// The frames that go out, and no others.
+type Frames<'a> = &'a [&'a [u8]];
+
+// What is done at a link, or looked at, with what must come of it.
+#[derive(Clone, Copy)]
+enum Act<'a> {
+    // it begins, and sends these frames
+    Start(Frames<'a>),
+    // it is set up anew, gives this note and sends these frames, and T1 starts
+    Relink(Note, Frames<'a>),
+    // the same when T1 expires
+    Expire(Note, Frames<'a>),
+    // it takes a frame without a packet to accept, gives this note and sends these frames
+    Take(&'a [u8], Note, Frames<'a>),
+    // it accepts the packet of a frame, and these frames are sent by then and by the end of the event
+    Accept(&'a [u8], Frames<'a>),
+    // the event ends, and these frames are sent
+    Settle(Frames<'a>),
+    // a packet of one octet is offered
+    Offer(u8, Result<(), OfferFault>),
+    In(Phase),
+    T1Runs,
+    Rests,
+}
+
+// An act at one of the two ends.
+#[derive(Clone, Copy)]
+enum Turn<'a> {
+    Dte(Act<'a>),
+    Dce(Act<'a>),
+}
+
+use Act::{Accept, Expire, In, Offer, Relink, Rests, Settle, Start, T1Runs, Take};
+use Turn::{Dce, Dte};
 
 fn link(rt: &impl Abort, alloc: Global, role: Role) -> Station {
     let params = LinkParams {
@@ -16,8 +52,74 @@ fn link(rt: &impl Abort, alloc: Global, role: Role) -> Station {
     }
 }
 
+// Plays turns at two links.
+fn play(rt: &impl Abort, alloc: Global, turns: &[Turn<'_>]) {
+    let mut dte = link(rt, alloc, Role::Dte);
+    let mut dce = link(rt, alloc, Role::Dce);
+    play_at(rt, &mut dte, &mut dce, turns);
+}
+
+// Plays turns at two links after the set-up, with the poll answered.
+fn play_up(rt: &impl Abort, alloc: Global, turns: &[Turn<'_>]) {
+    let mut dte = link(rt, alloc, Role::Dte);
+    let mut dce = link(rt, alloc, Role::Dce);
+    play_at(rt, &mut dte, &mut dce, SET_UP);
+    play_at(rt, &mut dte, &mut dce, turns);
+}
+
+fn play_at(rt: &impl Abort, dte: &mut Station, dce: &mut Station, turns: &[Turn<'_>]) {
+    for (place, turn) in turns.iter().enumerate() {
+        let fits = match turn {
+            Dte(act) => fits(dte, *act),
+            Dce(act) => fits(dce, *act),
+        };
+        assert!(rt; fits, "turn {place}");
+    }
+}
+
+fn fits(link: &mut Station, act: Act<'_>) -> bool {
+    let mut out = LinkOut::new();
+    match act {
+        Start(frames) => {
+            link.start(&mut out);
+            are_sent(&out, frames)
+        }
+        Relink(note, frames) => {
+            link.relink(&mut out);
+            is_begun(&out, note, frames)
+        }
+        Expire(note, frames) => {
+            link.on_t1(&mut out);
+            is_begun(&out, note, frames)
+        }
+        Take(octets, note, frames) => {
+            link.on_frame(octets, &mut out);
+            out.note() == note && !out.accepted() && are_sent(&out, frames)
+        }
+        Accept(octets, frames) => {
+            link.on_frame(octets, &mut out);
+            let accepted = out.accepted();
+            link.settle(&mut out);
+            accepted && are_sent(&out, frames)
+        }
+        Settle(frames) => {
+            link.settle(&mut out);
+            are_sent(&out, frames)
+        }
+        Offer(octet, answer) => link.offer(&[octet]) == answer,
+        In(phase) => link.phase() == phase,
+        T1Runs => link.runs(),
+        Rests => link.at_rest(),
+    }
+}
+
+// Whether this note is given, T1 starts, and these frames and no others are to be sent.
+fn is_begun(out: &LinkOut, note: Note, frames: Frames<'_>) -> bool {
+    out.note() == note && out.timer() == Timing::Start && are_sent(out, frames)
+}
+
 // Whether these frames and no others are to be sent.
-fn are_sent(out: &LinkOut, expected: &[&[u8]]) -> bool {
+fn are_sent(out: &LinkOut, expected: Frames<'_>) -> bool {
     let mut same = out.frames().len() == expected.len();
     for (frame, octets) in out.frames().iter().zip(expected) {
         same = same && frame.as_slice() == *octets;
@@ -25,79 +127,32 @@ fn are_sent(out: &LinkOut, expected: &[&[u8]]) -> bool {
     same
 }
 
-// Whether a link gives this note and sends these frames, and the end of the event sends no more, when it is set up
-// anew.
-fn relinks(link: &mut Station, note: Note, expected: &[&[u8]]) -> bool {
-    let mut out = LinkOut::new();
-    link.relink(&mut out);
-    out.note() == note && out.timer() == Timing::Start && are_sent(&out, expected)
-}
-
-// The same when T1 expires.
-fn expires(link: &mut Station, note: Note, expected: &[&[u8]]) -> bool {
-    let mut out = LinkOut::new();
-    link.on_t1(&mut out);
-    out.note() == note && out.timer() == Timing::Start && are_sent(&out, expected)
-}
-
-// The same when it takes a frame.
-fn takes(link: &mut Station, octets: &[u8], note: Note, expected: &[&[u8]]) -> bool {
-    let mut out = LinkOut::new();
-    link.on_frame(octets, &mut out);
-    out.note() == note && !out.accepted() && are_sent(&out, expected)
-}
-
-// Whether it accepts the packet of a frame, and these frames are sent by then and by the end of the event.
-fn accepts(link: &mut Station, octets: &[u8], expected: &[&[u8]]) -> bool {
-    let mut out = LinkOut::new();
-    link.on_frame(octets, &mut out);
-    let accepted = out.accepted();
-    link.settle(&mut out);
-    accepted && are_sent(&out, expected)
-}
-
-// Whether these frames are sent at the end of an event.
-fn settles(link: &mut Station, expected: &[&[u8]]) -> bool {
-    let mut out = LinkOut::new();
-    link.settle(&mut out);
-    are_sent(&out, expected)
-}
-
-// Offers a packet of one octet.
-fn offers(link: &mut Station, octet: u8) -> Result<(), OfferFault> {
-    link.offer(&[octet])
-}
-
-// Both ends after the set-up, with the poll answered.
-fn both_up(rt: &impl Abort, alloc: Global) -> (Station, Station) {
-    let mut dte = link(rt, alloc, Role::Dte);
-    let mut dce = link(rt, alloc, Role::Dce);
-    assert!(rt; relinks(&mut dte, Note::Nothing, &[&[0x01, 0x3F]]));
-    assert!(rt; takes(&mut dce, &[0x01, 0x3F], Note::Up, &[&[0x01, 0x73]]));
-    assert!(rt; takes(&mut dte, &[0x01, 0x73], Note::Up, &[&[0x01, 0x11]]));
-    assert!(rt; takes(&mut dce, &[0x01, 0x11], Note::Nothing, &[&[0x01, 0x11]]));
-    assert!(rt; takes(&mut dte, &[0x01, 0x11], Note::Nothing, &[]));
-    (dte, dce)
-}
+// Both ends come up, and the poll is answered.
+const SET_UP: &[Turn] = &[
+    Dte(Relink(Note::Nothing, &[&[0x01, 0x3F]])),
+    Dce(Take(&[0x01, 0x3F], Note::Up, &[&[0x01, 0x73]])),
+    Dte(Take(&[0x01, 0x73], Note::Up, &[&[0x01, 0x11]])),
+    Dce(Take(&[0x01, 0x11], Note::Nothing, &[&[0x01, 0x11]])),
+    Dte(Take(&[0x01, 0x11], Note::Nothing, &[])),
+];
 
 #[test]
 fn a_stale_acknowledgement_is_ignored(rt: HostRuntime) {
-    let mut dte = link(&rt, rt.alloc(), Role::Dte);
-    let mut dce = link(&rt, rt.alloc(), Role::Dce);
-    let mut out = LinkOut::new();
-    dte.start(&mut out);
-    assert!(rt; are_sent(&out, &[&[0x01, 0x3F]]));
-    assert!(rt; expires(&mut dte, Note::Nothing, &[&[0x01, 0x3F]]));
-    assert!(rt; takes(&mut dce, &[0x01, 0x3F], Note::Up, &[&[0x01, 0x73]]));
-    assert!(rt; takes(&mut dte, &[0x01, 0x73], Note::Up, &[&[0x01, 0x11]]));
-    assert!(rt; takes(&mut dce, &[0x01, 0x3F], Note::Up, &[&[0x01, 0x73]]));
-    assert!(rt; relinks(&mut dte, Note::Down, &[&[0x01, 0x2F]]));
-    assert!(rt; takes(&mut dte, &[0x01, 0x73], Note::Nothing, &[]));
-    assert_eq!(rt; dte.phase(), Phase::SettingUp);
-    assert!(rt; takes(&mut dce, &[0x01, 0x11], Note::Nothing, &[&[0x01, 0x11]]));
-    assert!(rt; takes(&mut dte, &[0x01, 0x11], Note::Nothing, &[]));
-    assert!(rt; takes(&mut dce, &[0x01, 0x2F], Note::Up, &[&[0x01, 0x63]]));
-    assert!(rt; takes(&mut dte, &[0x01, 0x63], Note::Up, &[&[0x01, 0x11]]));
+    const TURNS: &[Turn] = &[
+        Dte(Start(&[&[0x01, 0x3F]])),
+        Dte(Expire(Note::Nothing, &[&[0x01, 0x3F]])),
+        Dce(Take(&[0x01, 0x3F], Note::Up, &[&[0x01, 0x73]])),
+        Dte(Take(&[0x01, 0x73], Note::Up, &[&[0x01, 0x11]])),
+        Dce(Take(&[0x01, 0x3F], Note::Up, &[&[0x01, 0x73]])),
+        Dte(Relink(Note::Down, &[&[0x01, 0x2F]])),
+        Dte(Take(&[0x01, 0x73], Note::Nothing, &[])),
+        Dte(In(Phase::SettingUp)),
+        Dce(Take(&[0x01, 0x11], Note::Nothing, &[&[0x01, 0x11]])),
+        Dte(Take(&[0x01, 0x11], Note::Nothing, &[])),
+        Dce(Take(&[0x01, 0x2F], Note::Up, &[&[0x01, 0x63]])),
+        Dte(Take(&[0x01, 0x63], Note::Up, &[&[0x01, 0x11]])),
+    ];
+    play(&rt, rt.alloc(), TURNS);
 }
 
 // Takes all frames of one end at the other, and the end of the event there. The packet that is expected next there is
@@ -121,7 +176,7 @@ fn take_all(to: &mut Station, from: &mut LinkOut, out: &mut LinkOut, next: u8) -
 // Offers packets of one octet, from `next` to 7, as room allows: the next one.
 fn offer_all(link: &mut Station, next: u8) -> u8 {
     for number in next..8 {
-        if offers(link, number).is_err() {
+        if link.offer(&[number]).is_err() {
             return number;
         }
     }
@@ -145,124 +200,139 @@ fn cross(dte: &mut Station, dce: &mut Station) -> (u8, u8) {
 
 #[test]
 fn eight_packets_cross_after_a_repeated_set_up(rt: HostRuntime) {
+    const TURNS: &[Turn] = &[
+        Dte(Relink(Note::Nothing, &[&[0x01, 0x3F]])),
+        Dce(Take(&[0x01, 0x3F], Note::Up, &[&[0x01, 0x73]])),
+        Dte(Take(&[0x01, 0x73], Note::Up, &[&[0x01, 0x11]])),
+        Dce(Offer(9, Ok(()))),
+        Dce(Settle(&[])),
+        Dce(Take(&[0x01, 0x3F], Note::Up, &[&[0x01, 0x73]])),
+        Dce(Settle(&[])),
+        Dce(Take(&[0x01, 0x11], Note::Nothing, &[&[0x01, 0x11]])),
+        Dte(Take(&[0x01, 0x11], Note::Nothing, &[])),
+    ];
     let mut dte = link(&rt, rt.alloc(), Role::Dte);
     let mut dce = link(&rt, rt.alloc(), Role::Dce);
-    assert!(rt; relinks(&mut dte, Note::Nothing, &[&[0x01, 0x3F]]));
-    assert!(rt; takes(&mut dce, &[0x01, 0x3F], Note::Up, &[&[0x01, 0x73]]));
-    assert!(rt; takes(&mut dte, &[0x01, 0x73], Note::Up, &[&[0x01, 0x11]]));
-    assert_eq!(rt; offers(&mut dce, 9), Ok(()));
-    assert!(rt; settles(&mut dce, &[]));
-    assert!(rt; takes(&mut dce, &[0x01, 0x3F], Note::Up, &[&[0x01, 0x73]]));
-    assert!(rt; settles(&mut dce, &[]));
-    assert!(rt; takes(&mut dce, &[0x01, 0x11], Note::Nothing, &[&[0x01, 0x11]]));
-    assert!(rt; takes(&mut dte, &[0x01, 0x11], Note::Nothing, &[]));
-    assert_eq!(rt; cross(&mut dte, &mut dce), (8, 8));
-    assert!(rt; dte.at_rest() && dce.at_rest());
+    play_at(&rt, &mut dte, &mut dce, TURNS);
+    assert!(rt; cross(&mut dte, &mut dce) == (8, 8));
+    play_at(&rt, &mut dte, &mut dce, &[Dte(Rests), Dce(Rests)]);
 }
 
 #[test]
 fn the_window_is_seven(rt: HostRuntime) {
-    let (mut dte, mut dce) = both_up(&rt, rt.alloc());
-    for number in 0..7u8 {
-        assert_eq!(rt; offers(&mut dte, number), Ok(()));
-    }
-    assert_eq!(rt; offers(&mut dte, 7), Err(OfferFault::Full));
-    let frames: [&[u8]; 7] = [
-        &[0x01, 0x00, 0],
-        &[0x01, 0x02, 1],
-        &[0x01, 0x04, 2],
-        &[0x01, 0x06, 3],
-        &[0x01, 0x08, 4],
-        &[0x01, 0x0A, 5],
-        &[0x01, 0x0C, 6],
+    const TURNS: &[Turn] = &[
+        Dte(Offer(0, Ok(()))),
+        Dte(Offer(1, Ok(()))),
+        Dte(Offer(2, Ok(()))),
+        Dte(Offer(3, Ok(()))),
+        Dte(Offer(4, Ok(()))),
+        Dte(Offer(5, Ok(()))),
+        Dte(Offer(6, Ok(()))),
+        Dte(Offer(7, Err(OfferFault::Full))),
+        Dte(Settle(&[
+            &[0x01, 0x00, 0],
+            &[0x01, 0x02, 1],
+            &[0x01, 0x04, 2],
+            &[0x01, 0x06, 3],
+            &[0x01, 0x08, 4],
+            &[0x01, 0x0A, 5],
+            &[0x01, 0x0C, 6],
+        ])),
+        Dce(Accept(&[0x01, 0x00, 0], &[&[0x01, 0x21]])),
+        Dce(Accept(&[0x01, 0x02, 1], &[&[0x01, 0x41]])),
+        Dce(Accept(&[0x01, 0x04, 2], &[&[0x01, 0x61]])),
+        Dce(Accept(&[0x01, 0x06, 3], &[&[0x01, 0x81]])),
+        Dce(Accept(&[0x01, 0x08, 4], &[&[0x01, 0xA1]])),
+        Dce(Accept(&[0x01, 0x0A, 5], &[&[0x01, 0xC1]])),
+        Dce(Accept(&[0x01, 0x0C, 6], &[&[0x01, 0xE1]])),
+        Dte(Expire(Note::Nothing, &[&[0x01, 0x11]])),
+        Dce(Take(&[0x01, 0x11], Note::Nothing, &[&[0x01, 0xF1]])),
+        Dte(Take(&[0x01, 0xF1], Note::Nothing, &[])),
+        Dte(Offer(7, Ok(()))),
+        Dte(Offer(8, Ok(()))),
+        Dte(Settle(&[&[0x01, 0x0E, 7], &[0x01, 0x00, 8]])),
+        Dce(Accept(&[0x01, 0x0E, 7], &[&[0x01, 0x01]])),
+        Dce(Accept(&[0x01, 0x00, 8], &[&[0x01, 0x21]])),
     ];
-    assert!(rt; settles(&mut dte, &frames));
-    for (frame, answer) in frames
-        .iter()
-        .zip([0x21, 0x41, 0x61, 0x81, 0xA1, 0xC1, 0xE1].iter())
-    {
-        assert!(rt; accepts(&mut dce, frame, &[&[0x01, *answer]]));
-    }
-    assert!(rt; expires(&mut dte, Note::Nothing, &[&[0x01, 0x11]]));
-    assert!(rt; takes(&mut dce, &[0x01, 0x11], Note::Nothing, &[&[0x01, 0xF1]]));
-    assert!(rt; takes(&mut dte, &[0x01, 0xF1], Note::Nothing, &[]));
-    assert_eq!(rt; offers(&mut dte, 7), Ok(()));
-    assert_eq!(rt; offers(&mut dte, 8), Ok(()));
-    assert!(rt; settles(&mut dte, &[&[0x01, 0x0E, 7], &[0x01, 0x00, 8]]));
-    assert!(rt; accepts(&mut dce, &[0x01, 0x0E, 7], &[&[0x01, 0x01]]));
-    assert!(rt; accepts(&mut dce, &[0x01, 0x00, 8], &[&[0x01, 0x21]]));
+    play_up(&rt, rt.alloc(), TURNS);
 }
 
 #[test]
 fn a_lost_frame_is_sent_again(rt: HostRuntime) {
-    let (mut dte, mut dce) = both_up(&rt, rt.alloc());
-    for number in 0..3u8 {
-        assert_eq!(rt; offers(&mut dte, number), Ok(()));
-    }
-    let frames: [&[u8]; 3] = [&[0x01, 0x00, 0], &[0x01, 0x02, 1], &[0x01, 0x04, 2]];
-    assert!(rt; settles(&mut dte, &frames));
-    assert!(rt; takes(&mut dce, &[0x01, 0x02, 1], Note::Nothing, &[&[0x01, 0x09]]));
-    assert!(rt; takes(&mut dce, &[0x01, 0x04, 2], Note::Nothing, &[]));
-    assert!(rt; takes(&mut dte, &[0x01, 0x09], Note::Nothing, &[]));
-    assert!(rt; settles(&mut dte, &frames));
-    for (frame, answer) in frames.iter().zip([0x21, 0x41, 0x61].iter()) {
-        assert!(rt; accepts(&mut dce, frame, &[&[0x01, *answer]]));
-    }
+    const FRAMES: Frames<'static> = &[&[0x01, 0x00, 0], &[0x01, 0x02, 1], &[0x01, 0x04, 2]];
+    const TURNS: &[Turn] = &[
+        Dte(Offer(0, Ok(()))),
+        Dte(Offer(1, Ok(()))),
+        Dte(Offer(2, Ok(()))),
+        Dte(Settle(FRAMES)),
+        Dce(Take(&[0x01, 0x02, 1], Note::Nothing, &[&[0x01, 0x09]])),
+        Dce(Take(&[0x01, 0x04, 2], Note::Nothing, &[])),
+        Dte(Take(&[0x01, 0x09], Note::Nothing, &[])),
+        Dte(Settle(FRAMES)),
+        Dce(Accept(&[0x01, 0x00, 0], &[&[0x01, 0x21]])),
+        Dce(Accept(&[0x01, 0x02, 1], &[&[0x01, 0x41]])),
+        Dce(Accept(&[0x01, 0x04, 2], &[&[0x01, 0x61]])),
+    ];
+    play_up(&rt, rt.alloc(), TURNS);
 }
 
 #[test]
 fn a_silent_partner_ends_the_session(rt: HostRuntime) {
-    let (mut dte, _) = both_up(&rt, rt.alloc());
-    assert_eq!(rt; offers(&mut dte, 0), Ok(()));
-    assert!(rt; settles(&mut dte, &[&[0x01, 0x00, 0]]));
-    for _ in 0..3 {
-        assert!(rt; expires(&mut dte, Note::Nothing, &[&[0x01, 0x11]]));
-    }
-    assert!(rt; expires(&mut dte, Note::Down, &[&[0x01, 0x2F]]));
-    assert_eq!(rt; offers(&mut dte, 0), Err(OfferFault::Down));
+    const TURNS: &[Turn] = &[
+        Dte(Offer(0, Ok(()))),
+        Dte(Settle(&[&[0x01, 0x00, 0]])),
+        Dte(Expire(Note::Nothing, &[&[0x01, 0x11]])),
+        Dte(Expire(Note::Nothing, &[&[0x01, 0x11]])),
+        Dte(Expire(Note::Nothing, &[&[0x01, 0x11]])),
+        Dte(Expire(Note::Down, &[&[0x01, 0x2F]])),
+        Dte(Offer(0, Err(OfferFault::Down))),
+    ];
+    play_up(&rt, rt.alloc(), TURNS);
 }
 
 #[test]
 fn bad_frames_are_reported(rt: HostRuntime) {
-    let (_, mut dce) = both_up(&rt, rt.alloc());
-    assert!(rt; takes(&mut dce, &[0x01], Note::Nothing, &[]));
-    assert!(rt; takes(&mut dce, &[0x05, 0x00], Note::Nothing, &[]));
-    assert!(rt;
-        takes(
-            &mut dce,
+    const UNKNOWN_CONTROL: &[Turn] = &[
+        Dce(Take(&[0x01], Note::Nothing, &[])),
+        Dce(Take(&[0x05, 0x00], Note::Nothing, &[])),
+        Dce(Take(
             &[0x01, 0xFF],
             Note::Down,
-            &[&[0x01, 0x97, 0xFF, 0x00, 0x01]]
-        )
-    );
-    assert_eq!(rt; dce.phase(), Phase::Rejecting);
-    let (_, mut dce) = both_up(&rt, rt.alloc());
-    assert!(rt;
-        takes(
-            &mut dce,
+            &[&[0x01, 0x97, 0xFF, 0x00, 0x01]],
+        )),
+        Dce(In(Phase::Rejecting)),
+    ];
+    const BAD_NUMBER: &[Turn] = &[
+        Dce(Take(
             &[0x01, 0x21],
             Note::Down,
-            &[&[0x01, 0x87, 0x21, 0x00, 0x08]]
-        )
-    );
-    assert!(rt; dce.runs());
+            &[&[0x01, 0x87, 0x21, 0x00, 0x08]],
+        )),
+        Dce(T1Runs),
+    ];
+    play_up(&rt, rt.alloc(), UNKNOWN_CONTROL);
+    play_up(&rt, rt.alloc(), BAD_NUMBER);
 }
 
 #[test]
 fn parameters_have_ranges(rt: HostRuntime) {
-    for (k, n2, good) in [
+    const PARAMS: [(u8, u8, bool); 6] = [
         (7, 20, true),
         (8, 3, false),
         (0, 3, false),
         (7, 0, false),
         (7, 21, false),
         (1, 1, true),
-    ] {
+    ];
+    for (k, n2, good) in PARAMS {
         let params = LinkParams {
             k,
             n2,
             standing: true,
         };
-        assert_eq!(rt; Link::new(Role::Dce, params).is_ok(), good);
+        assert!(rt;
+            Link::new(Role::Dce, params).is_ok() == good,
+            "k {k}, n2 {n2}"
+        );
     }
 }

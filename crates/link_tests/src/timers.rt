@@ -1,33 +1,72 @@
 //! Timers by their ticks.
 use link_timers::{TimerId, Timers};
 
+// What is done with timers, or looked at, with its answer.
+#[derive(Clone, Copy)]
+enum Act<'a> {
+    Stop(TimerId),
+    // ticks pass, and these timers are due
+    Tick(u16, &'a [TimerId]),
+    Fire(TimerId, bool),
+    Runs(TimerId, bool),
+    Due(Option<TimerId>),
+}
+
+use Act::{Due, Fire, Runs, Stop, Tick};
+
+// The number of the first act that does not fit, if any.
+fn first_misfit(timers: &mut Timers, acts: &[Act<'_>]) -> Option<usize> {
+    for (place, act) in acts.iter().enumerate() {
+        if !fits(timers, *act) {
+            return Some(place);
+        }
+    }
+    None
+}
+
+fn fits(timers: &mut Timers, act: Act<'_>) -> bool {
+    match act {
+        Stop(id) => {
+            timers.stop(id);
+            true
+        }
+        Tick(ticks, due) => timers.tick(ticks).as_slice() == due,
+        Fire(id, fired) => timers.fire(id) == fired,
+        Runs(id, runs) => timers.is_running(id) == runs,
+        Due(id) => timers.due() == id,
+    }
+}
+
 #[test]
 fn ticks_and_fires(rt: HostRuntime) {
+    const FIRST: &[Act] = &[
+        Tick(2, &[TimerId::T13(4)]),
+        Runs(TimerId::T13(4), true),
+        Fire(TimerId::T13(4), true),
+        Fire(TimerId::T13(4), false),
+    ];
+    const SECOND: &[Act] = &[
+        Tick(9, &[TimerId::T1, TimerId::Idle(15)]),
+        Due(Some(TimerId::T1)),
+        Stop(TimerId::T1),
+        Due(Some(TimerId::Idle(15))),
+        Runs(TimerId::T11(0), false),
+        Fire(TimerId::T23(33), false),
+        Stop(TimerId::Idle(16)),
+        Tick(0, &[TimerId::Idle(15)]),
+    ];
     let mut timers = Timers::new();
-    assert_eq!(rt; timers.due(), None);
+    assert!(rt; timers.due().is_none());
     timers.start(TimerId::T1, 3);
     timers.start(TimerId::T13(4), 2);
-    assert_eq!(rt; timers.tick(2).as_slice(), &[TimerId::T13(4)][..]);
-    assert!(rt; timers.is_running(TimerId::T13(4)));
-    assert!(rt; timers.fire(TimerId::T13(4)));
-    assert!(rt; !timers.fire(TimerId::T13(4)));
+    assert_eq!(rt; first_misfit(&mut timers, FIRST), None);
     timers.start(TimerId::Idle(15), 1);
-    assert_eq!(rt;
-        timers.tick(9).as_slice(),
-        &[TimerId::T1, TimerId::Idle(15)][..]
-    );
-    assert_eq!(rt; timers.due(), Some(TimerId::T1));
-    timers.stop(TimerId::T1);
-    assert_eq!(rt; timers.due(), Some(TimerId::Idle(15)));
-    assert!(rt; !timers.is_running(TimerId::T11(0)));
-    assert!(rt; !timers.fire(TimerId::T23(33)));
-    timers.stop(TimerId::Idle(16));
-    assert_eq!(rt; timers.tick(0).as_slice(), &[TimerId::Idle(15)][..]);
+    assert_eq!(rt; first_misfit(&mut timers, SECOND), None);
 }
 
 #[test]
 fn keeps_the_order(rt: HostRuntime) {
-    let order = [
+    const ORDER: &[TimerId] = &[
         TimerId::T1,
         TimerId::T10,
         TimerId::T20,
@@ -54,5 +93,5 @@ fn keeps_the_order(rt: HostRuntime) {
     timers.start(TimerId::T10, 65535);
     timers.start(TimerId::T1, 5);
     timers.start(TimerId::Idle(0), 5);
-    assert_eq!(rt; timers.tick(65535).as_slice(), &order[..]);
+    assert!(rt; timers.tick(65535).as_slice() == ORDER);
 }

@@ -1,5 +1,47 @@
 //! Numbers of windows.
 use flow_window::{Mod8, Mod128, Modulus, Offer, OutOfWindow, RecvWindow, SendWindow};
+use std::process::Abort;
+
+// What is done at a window that sends, or looked at, with its answer.
+#[derive(Clone, Copy)]
+enum Act {
+    // the next number, if there is room for it
+    Next(Option<u8>),
+    // an acknowledgement, and how many numbers it covers
+    Ack(u8, Result<u8, OutOfWindow>),
+    GoBack(u8),
+    Clear,
+    // how many numbers are not acknowledged, and how many were used
+    Counts(u8, u8),
+    Size(u8),
+    // the oldest number and the next one
+    Numbers(u8, u8),
+}
+
+use Act::{Ack, Clear, Counts, GoBack, Next, Numbers, Size};
+
+fn play<M: Modulus>(rt: &impl Abort, window: &mut SendWindow<M>, acts: &[Act]) {
+    for (place, act) in acts.iter().enumerate() {
+        assert!(rt; fits(window, *act), "act {place}");
+    }
+}
+
+fn fits<M: Modulus>(window: &mut SendWindow<M>, act: Act) -> bool {
+    match act {
+        Next(number) => next_of(window) == number,
+        Ack(number, answer) => window.ack(number) == answer,
+        GoBack(number) => goes_back(window, number),
+        Clear => {
+            window.clear();
+            true
+        }
+        Counts(unacknowledged, used) => {
+            window.unacknowledged() == unacknowledged && window.used() == used
+        }
+        Size(size) => window.size() == size,
+        Numbers(oldest, next) => window.oldest() == oldest && window.next_number() == next,
+    }
+}
 
 fn next_of<M: Modulus>(window: &mut SendWindow<M>) -> Option<u8> {
     if window.room() {
@@ -9,57 +51,68 @@ fn next_of<M: Modulus>(window: &mut SendWindow<M>) -> Option<u8> {
     }
 }
 
+fn goes_back<M: Modulus>(window: &mut SendWindow<M>, number: u8) -> bool {
+    let there = window.contains(number);
+    if there {
+        window.go_back(number);
+    }
+    there
+}
+
 #[test]
 fn numbers_and_acknowledges(rt: HostRuntime) {
-    let mut window = SendWindow::<Mod8>::new(7);
-    for number in 0..7u8 {
-        assert_eq!(rt; next_of(&mut window), Some(number));
-    }
-    assert_eq!(rt; next_of(&mut window), None);
-    assert_eq!(rt; window.ack(7), Ok(7));
-    assert_eq!(rt; next_of(&mut window), Some(7));
-    assert_eq!(rt; next_of(&mut window), Some(0));
-    assert_eq!(rt; window.ack(2), Err(OutOfWindow));
-    assert_eq!(rt; window.ack(1), Ok(2));
+    const ACTS: &[Act] = &[
+        Next(Some(0)),
+        Next(Some(1)),
+        Next(Some(2)),
+        Next(Some(3)),
+        Next(Some(4)),
+        Next(Some(5)),
+        Next(Some(6)),
+        Next(None),
+        Ack(7, Ok(7)),
+        Next(Some(7)),
+        Next(Some(0)),
+        Ack(2, Err(OutOfWindow)),
+        Ack(1, Ok(2)),
+    ];
+    play(&rt, &mut SendWindow::<Mod8>::new(7), ACTS);
 }
 
 #[test]
 fn sends_up_to_a_count(rt: HostRuntime) {
     let mut window = SendWindow::<Mod8>::new(7);
     window.send_up_to(3);
-    assert_eq!(rt; (window.unacknowledged(), window.used()), (3, 3));
-    assert_eq!(rt; next_of(&mut window), Some(3));
+    play(&rt, &mut window, &[Counts(3, 3), Next(Some(3))]);
 }
 
 #[test]
-fn goes_back(rt: HostRuntime) {
-    let mut window = SendWindow::<Mod128>::new(3);
-    assert_eq!(rt; next_of(&mut window), Some(0));
-    assert_eq!(rt; next_of(&mut window), Some(1));
-    assert_eq!(rt; window.ack(128), Err(OutOfWindow));
-    if window.contains(1) {
-        window.go_back(1);
-    }
-    assert_eq!(rt; (window.oldest(), window.next_number()), (0, 1));
-    assert_eq!(rt;
-        (window.unacknowledged(), window.used(), window.size()),
-        (1, 2, 3)
-    );
-    assert_eq!(rt; window.ack(2), Ok(2));
-    assert_eq!(rt; next_of(&mut window), Some(2));
-    window.clear();
-    assert_eq!(rt; next_of(&mut window), Some(0));
+fn goes_back_to_a_number(rt: HostRuntime) {
+    const ACTS: &[Act] = &[
+        Next(Some(0)),
+        Next(Some(1)),
+        Ack(128, Err(OutOfWindow)),
+        GoBack(1),
+        Numbers(0, 1),
+        Counts(1, 2),
+        Size(3),
+        Ack(2, Ok(2)),
+        Next(Some(2)),
+        Clear,
+        Next(Some(0)),
+    ];
+    play(&rt, &mut SendWindow::<Mod128>::new(3), ACTS);
 }
 
 #[test]
 fn accepts_the_expected_number_alone(rt: HostRuntime) {
     let mut window = RecvWindow::<Mod8>::new();
     for number in 0..8u8 {
-        assert_eq!(rt; window.offer(number), Offer::InOrder);
+        assert!(rt; window.offer(number) == Offer::InOrder);
     }
-    assert_eq!(rt; window.expected(), 0);
-    assert_eq!(rt; window.offer(1), Offer::OutOfOrder);
-    assert_eq!(rt; window.offer(0), Offer::InOrder);
+    assert!(rt; window.expected() == 0);
+    assert!(rt; window.offer(1) == Offer::OutOfOrder);
+    assert!(rt; window.offer(0) == Offer::InOrder);
     window.clear();
-    assert_eq!(rt; window.expected(), 0);
+    assert!(rt; window.expected() == 0);
 }
