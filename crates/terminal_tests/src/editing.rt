@@ -14,6 +14,8 @@ enum Step<'a> {
     With(Changes<'a>),
     // a key is typed, with this echo and this block, which is empty for none
     Type(u8, &'a [u8], &'a [u8]),
+    // the letter A is typed so often, without an echo and without a block
+    TypeLetters(usize),
     // the editor adds these keys to its text, and does no more
     Add(&'a [u8]),
     // it does not add any of these
@@ -26,14 +28,24 @@ enum Step<'a> {
     Discard,
 }
 
-use Step::{Add, Discard, Held, HeldLength, Idle, NotAdd, Type, With};
+use Step::{Add, Discard, Held, HeldLength, Idle, NotAdd, Type, TypeLetters, With};
 
-// Plays steps at an editor.
-fn play(rt: &impl Abort, steps: &[Step<'_>]) {
+// A rule, and steps by which it is seen.
+struct Example<'a> {
+    rule: &'a str,
+    steps: &'a [Step<'a>],
+}
+
+// Plays the steps of an example at an editor.
+fn play(rt: &impl Abort, example: &Example<'_>) {
     let mut params = Params::profile(Profile::Transparent, 14);
     let mut editor = Editor::new();
-    for (place, step) in steps.iter().enumerate() {
-        assert!(rt; fits(&mut editor, &mut params, *step), "step {place}");
+    let rule = example.rule;
+    for (place, step) in example.steps.iter().enumerate() {
+        assert!(rt;
+            fits(&mut editor, &mut params, *step),
+            "{rule}: step {place}"
+        );
     }
 }
 
@@ -44,6 +56,7 @@ fn fits(editor: &mut Editor, params: &mut Params, step: Step<'_>) -> bool {
             sets(params, changes)
         }
         Type(octet, echo, block) => types(editor, params, octet, echo, block),
+        TypeLetters(count) => types_letters(editor, params, count),
         Add(octets) => adds(editor, params, octets, true),
         NotAdd(octets) => adds(editor, params, octets, false),
         Idle(block) => octets_of(&editor.idle(params)) == block,
@@ -80,6 +93,14 @@ fn types(editor: &mut Editor, params: &Params, octet: u8, echo: &[u8], block: &[
     out.echo.as_slice() == echo && octets_of(&out.block) == block && forwards == !block.is_empty()
 }
 
+fn types_letters(editor: &mut Editor, params: &Params, count: usize) -> bool {
+    let mut same = true;
+    for _ in 0..count {
+        same = same && types(editor, params, b'A', b"", b"");
+    }
+    same
+}
+
 // Whether each of these keys is added, or none of them is.
 fn adds(editor: &mut Editor, params: &Params, octets: &[u8], added: bool) -> bool {
     let mut same = true;
@@ -89,100 +110,98 @@ fn adds(editor: &mut Editor, params: &Params, octets: &[u8], added: bool) -> boo
     same
 }
 
-#[test]
-fn edits_a_text_and_echoes_it(rt: HostRuntime) {
-    const STEPS: &[Step] = &[
-        With(&[(2, 1), (3, 2), (15, 1), (16, 127)]),
-        Type(0x7F, b"", b""),
-        Type(b'H', b"H", b""),
-        Type(b'E', b"E", b""),
-        Type(b'X', b"X", b""),
-        Type(0x7F, b"\x08 \x08", b""),
-        Type(b'L', b"L", b""),
-        Type(b'L', b"L", b""),
-        Type(b'O', b"O", b""),
-        Type(b'\r', b"\r", b"HELLO\r"),
-        Type(0x7F, b"", b""),
-        Type(b'A', b"A", b""),
-        Type(b'\r', b"\r", b"A\r"),
-    ];
-    play(&rt, STEPS);
-}
+// Blocks of 128 octets, with a line feed behind the carriage return and without one.
+const FULL: &[u8] = b"AAAAAAAAAAAAAAAAAAAAAAAAAAAAAAAAAAAAAAAAAAAAAAAAAAAAAAAAAAAAAAA\
+    AAAAAAAAAAAAAAAAAAAAAAAAAAAAAAAAAAAAAAAAAAAAAAAAAAAAAAAAAAAAAAA\r\n";
+
+const FULL_WITHOUT_LINE_FEED: &[u8] =
+    b"AAAAAAAAAAAAAAAAAAAAAAAAAAAAAAAAAAAAAAAAAAAAAAAAAAAAAAAAAAAAAAA\
+    AAAAAAAAAAAAAAAAAAAAAAAAAAAAAAAAAAAAAAAAAAAAAAAAAAAAAAAAAAAAAAAA\r";
+
+// What an editor must do, rule by rule.
+const EXAMPLES: &[Example] = &[
+    Example {
+        rule: "edits a text and echoes it",
+        steps: &[
+            With(&[(2, 1), (3, 2), (15, 1), (16, 127)]),
+            Type(0x7F, b"", b""),
+            Type(b'H', b"H", b""),
+            Type(b'E', b"E", b""),
+            Type(b'X', b"X", b""),
+            Type(0x7F, b"\x08 \x08", b""),
+            Type(b'L', b"L", b""),
+            Type(b'L', b"L", b""),
+            Type(b'O', b"O", b""),
+            Type(b'\r', b"\r", b"HELLO\r"),
+            Type(0x7F, b"", b""),
+            Type(b'A', b"A", b""),
+            Type(b'\r', b"\r", b"A\r"),
+        ],
+    },
+    Example {
+        rule: "shows and deletes a line",
+        steps: &[
+            With(&[(2, 1), (15, 1)]),
+            Type(b'A', b"A", b""),
+            Type(b'B', b"B", b""),
+            Type(18, b"\r\nAB", b""),
+            Held(b"AB"),
+            Type(24, b"XXX\r\n", b""),
+            Held(b""),
+        ],
+    },
+    Example {
+        rule: "inserts a line feed where it fits",
+        steps: &[
+            With(&[(3, 2), (13, 2), (15, 1)]),
+            Type(b'A', b"", b""),
+            Type(b'\r', b"", b"A\r\n"),
+            TypeLetters(126),
+            Type(b'\r', b"", FULL),
+            Held(b""),
+            Discard,
+            TypeLetters(127),
+            Type(b'\r', b"", FULL_WITHOUT_LINE_FEED),
+            Held(b"\n"),
+        ],
+    },
+    Example {
+        rule: "adds a key that does no more",
+        steps: &[
+            With(&[(3, 2), (13, 2), (15, 1)]),
+            Add(b"A"),
+            NotAdd(&[127, 24, 18, b'\r']),
+            Held(b"A"),
+            Add(&[b'B'; 126]),
+            NotAdd(b"B"),
+            HeldLength(127),
+            With(&[(13, 2)]),
+            Discard,
+            Add(&[127]),
+            NotAdd(b"\r"),
+            Held(b"\x7F"),
+        ],
+    },
+    Example {
+        rule: "forwards at the end of the idle time",
+        steps: &[
+            With(&[(4, 20)]),
+            Idle(b""),
+            Type(b'A', b"", b""),
+            With(&[(4, 20), (15, 1)]),
+            Idle(b""),
+            With(&[(4, 20)]),
+            Idle(b"A"),
+            Held(b""),
+        ],
+    },
+];
 
 #[test]
-fn shows_and_deletes_a_line(rt: HostRuntime) {
-    const STEPS: &[Step] = &[
-        With(&[(2, 1), (15, 1)]),
-        Type(b'A', b"A", b""),
-        Type(b'B', b"B", b""),
-        Type(18, b"\r\nAB", b""),
-        Held(b"AB"),
-        Type(24, b"XXX\r\n", b""),
-        Held(b""),
-    ];
-    play(&rt, STEPS);
-}
-
-// Types so many letters and a carriage return with a line feed behind it: how the block of 128 octets ends, and what is
-// held then.
-fn ends_a_block(rt: &impl Abort, letters: usize, end: [u8; 2], held: &[u8]) {
-    let mut params = Params::profile(Profile::Transparent, 14);
-    assert!(rt; sets(&mut params, &[(3, 2), (13, 2), (15, 1)]));
-    let mut editor = Editor::new();
-    for _ in 0..letters {
-        assert!(rt; types(&mut editor, &params, b'A', b"", b""));
+fn editors_do_what_the_rules_say(rt: HostRuntime) {
+    for example in EXAMPLES {
+        play(&rt, example);
     }
-    let mut block = [b'A'; 128];
-    block[126] = end[0];
-    block[127] = end[1];
-    assert!(rt; types(&mut editor, &params, b'\r', b"", &block));
-    assert!(rt; editor.held() == held);
-}
-
-#[test]
-fn inserts_a_line_feed_where_it_fits(rt: HostRuntime) {
-    const STEPS: &[Step] = &[
-        With(&[(3, 2), (13, 2), (15, 1)]),
-        Type(b'A', b"", b""),
-        Type(b'\r', b"", b"A\r\n"),
-    ];
-    play(&rt, STEPS);
-    ends_a_block(&rt, 126, *b"\r\n", b"");
-    ends_a_block(&rt, 127, *b"A\r", b"\n");
-}
-
-#[test]
-fn adds_a_key_that_does_no_more(rt: HostRuntime) {
-    const STEPS: &[Step] = &[
-        With(&[(3, 2), (13, 2), (15, 1)]),
-        Add(b"A"),
-        NotAdd(&[127, 24, 18, b'\r']),
-        Held(b"A"),
-        Add(&[b'B'; 126]),
-        NotAdd(b"B"),
-        HeldLength(127),
-        With(&[(13, 2)]),
-        Discard,
-        Add(&[127]),
-        NotAdd(b"\r"),
-        Held(b"\x7F"),
-    ];
-    play(&rt, STEPS);
-}
-
-#[test]
-fn forwards_at_the_end_of_the_idle_time(rt: HostRuntime) {
-    const STEPS: &[Step] = &[
-        With(&[(4, 20)]),
-        Idle(b""),
-        Type(b'A', b"", b""),
-        With(&[(4, 20), (15, 1)]),
-        Idle(b""),
-        With(&[(4, 20)]),
-        Idle(b"A"),
-        Held(b""),
-    ];
-    play(&rt, STEPS);
 }
 
 #[test]

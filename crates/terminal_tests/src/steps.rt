@@ -62,6 +62,14 @@ pub(crate) enum Step<'a> {
     Restart,
 }
 
+// A rule, and steps by which it is seen at a terminal, on a call that stands or without one.
+#[derive(Drop)]
+pub(crate) struct Example<'a> {
+    pub(crate) rule: &'a str,
+    pub(crate) standing: bool,
+    pub(crate) steps: &'a [Step<'a>],
+}
+
 // A terminal with what its PAD knows of the call, the last block, and what was asked last.
 #[derive(Drop)]
 struct Tested {
@@ -71,13 +79,10 @@ struct Tested {
     request: Option<Request>,
 }
 
-// Plays steps at a terminal of the profile SIMPLE, on a call that stands or without one.
-pub(crate) fn play(rt: &impl Abort, alloc: Global, standing: bool, steps: &[Step<'_>]) {
-    let made = Terminal::new(alloc, Params::profile(Profile::Simple, 14), standing);
-    let Ok(terminal) = made else {
-        assert!(rt; false, "there is memory");
-        return;
-    };
+// Plays the steps of an example at a terminal of the profile SIMPLE.
+pub(crate) fn play(rt: &impl Abort, alloc: Global, example: &Example<'_>) {
+    let params = Params::profile(Profile::Simple, 14);
+    let terminal = Terminal::new(alloc, params, example.standing).expect(rt, "a terminal");
     let mut tested = Tested {
         terminal,
         call: CallCondition {
@@ -88,8 +93,9 @@ pub(crate) fn play(rt: &impl Abort, alloc: Global, standing: bool, steps: &[Step
         block: None,
         request: None,
     };
-    for (place, step) in steps.iter().enumerate() {
-        assert!(rt; fits(&mut tested, *step), "step {place}");
+    let rule = example.rule;
+    for (place, step) in example.steps.iter().enumerate() {
+        assert!(rt; fits(&mut tested, *step), "{rule}: step {place}");
         tested.terminal.resume_device(tested.call.queue_full);
     }
 }

@@ -1,6 +1,6 @@
 //! Commands, keys, breaks and messages at a terminal, and what it shows.
 
-use crate::steps::{Asked, Step, play};
+use crate::steps::{Asked, Example, Step, play};
 use Step::{
     Asks, BreakDropped, Breaks, Cleared, Connected, Drops, IdleDropped, IdleTime, Idles, In,
     InterruptPending, Invited, MayShow, Message, Prints, QueueFull, Reset, ResetPending, Restart,
@@ -17,359 +17,368 @@ const ALL_PAIRS: [u8; 37] = [
     15, 0, 16, 127, 17, 24, 18, 18,
 ];
 
-#[test]
-fn dials_and_types(rt: HostRuntime) {
-    const STEPS: &[Step] = &[
-        Type(b"2001\r"),
-        Asks(Asked::Call(&[2, 0, 0, 1], b"")),
-        In(Mode::CallSetUp),
-        Connected,
-        Prints(b"2001\r\r\nCOM\r\n"),
-        Type(b"HELLO\r"),
-        Sends(b"HELLO\r"),
-        Prints(b"HELLO\r"),
-        MayShow(true),
-        Shows(b"HI\r", b"HI\r"),
-        Cleared(9),
-        Prints(b"\r\nCLR DER\r\n"),
-        In(Mode::Free),
-        MayShow(false),
-    ];
-    play(&rt, rt.alloc(), false, STEPS);
-}
+// What a terminal must do, rule by rule.
+const EXAMPLES: &[Example] = &[
+    Example {
+        rule: "dials and types",
+        standing: false,
+        steps: &[
+            Type(b"2001\r"),
+            Asks(Asked::Call(&[2, 0, 0, 1], b"")),
+            In(Mode::CallSetUp),
+            Connected,
+            Prints(b"2001\r\r\nCOM\r\n"),
+            Type(b"HELLO\r"),
+            Sends(b"HELLO\r"),
+            Prints(b"HELLO\r"),
+            MayShow(true),
+            Shows(b"HI\r", b"HI\r"),
+            Cleared(9),
+            Prints(b"\r\nCLR DER\r\n"),
+            In(Mode::Free),
+            MayShow(false),
+        ],
+    },
+    Example {
+        rule: "says why a call was reset or cleared",
+        standing: false,
+        steps: &[
+            Connected,
+            Reset(0),
+            Reset(3),
+            Reset(5),
+            Reset(7),
+            Reset(9),
+            Prints(
+                b"\r\nCOM\r\n\r\nRESET DTE\r\n\r\nRESET RPE\r\n\r\nRESET ERR\r\n\r\nRESET NC\r\n\r\nRESET ERR\r\n",
+            ),
+            Cleared(3),
+            Type(b"2001\r"),
+            Cleared(11),
+            Type(b"2001\r"),
+            Cleared(17),
+            Type(b"2001\r"),
+            Cleared(19),
+            Prints(
+                b"\r\nCLR INV\r\n2001\r\r\nCLR NA\r\n2001\r\r\nCLR RPE\r\n2001\r\r\nCLR ERR\r\n",
+            ),
+            Connected,
+            Cleared(5),
+            Connected,
+            Cleared(128),
+            Connected,
+            Cleared(7),
+            Prints(
+                b"\r\nCOM\r\n\r\nCLR NC\r\n\r\nCOM\r\n\r\nCLR DTE\r\n\r\nCOM\r\n\r\nCLR ERR\r\n",
+            ),
+        ],
+    },
+    Example {
+        rule: "places no call that is refused",
+        standing: false,
+        steps: &[
+            Type(b"3000Dhi\r"),
+            Asks(Asked::Call(&[3, 0, 0, 0], b"hi")),
+            Type(b"STAT\r"),
+            Type(b"2001\r"),
+            Asks(Asked::Nothing),
+            Cleared(13),
+            Prints(b"3000Dhi\rSTAT\r\r\nENGAGED\r\n2001\r\r\nERR\r\n\r\nCLR NP\r\n"),
+            Type(b"stat\r"),
+            Prints(b"stat\r\r\nFREE\r\n"),
+            Type(b"2001\rCLR\r"),
+            Asks(Asked::Clear),
+            In(Mode::Free),
+            Prints(b"2001\rCLR\r\r\nCLR CONF\r\n"),
+            Type(b"CLR+INT+RESET+SETT+"),
+            Prints(b"CLR+\r\nERR\r\nINT+\r\nERR\r\nRESET+\r\nERR\r\nSETT+\r\nERR\r\n"),
+        ],
+    },
+    Example {
+        rule: "hides user data",
+        standing: false,
+        steps: &[
+            Type(b"20Pab\x7Fc\x18"),
+            Type(b"20Pac\r"),
+            Asks(Asked::Call(&[2, 0], b"ac")),
+            Prints(b"20P20P"),
+        ],
+    },
+    Example {
+        rule: "edits a command line",
+        standing: false,
+        steps: &[
+            Type(b"\x7F\x18SEX\x7FT 2:0\x12\r"),
+            Prints(b"SEX\x08 \x08T 2:0\r\nSET 2:0\r\r\n"),
+            Type(b"SET 2:1\r"),
+            Prints(b"\r\n"),
+            Type(b"XY\x18STAT\r"),
+            Prints(b"XYXXX\r\nSTAT\r\r\nFREE\r\n"),
+        ],
+    },
+    Example {
+        rule: "holds 65 octets of a command line",
+        standing: false,
+        steps: &[
+            Type(b"                                                            STATXY\x7F\r"),
+            Prints(
+                b"                                                            STATX\x08 \x08\r\r\nFREE\r\n",
+            ),
+            Type(b"                                                            STATX\r"),
+            Prints(
+                b"                                                            STATX\r\r\nERR\r\n",
+            ),
+        ],
+    },
+    Example {
+        rule: "sets and reads parameters",
+        standing: false,
+        steps: &[
+            Type(b"SET 2:0,25:1,2:7,11:3\r"),
+            Prints(b"SET 2:0,25:1,2:7,11:3\r\r\nPAR 25:INV,2:INV,11:INV\r\n"),
+            Type(b"SET? 3:2,11:3\r"),
+            Prints(b"\r\nPAR 3:2,11:INV\r\n"),
+            Type(b"PAR? 2,25\r"),
+            Prints(b"\r\nPAR 2:0,25:INV\r\n"),
+            Type(b"PROF 90\r"),
+            Type(b"PAR?\r"),
+            Prints(ALL_VALUES),
+            Type(b"PROF 9\rSET 6:0\rSTAT\r"),
+            Prints(b"PROF 9\r\r\nERR\r\nSET 6:0\rSTAT\r"),
+            Restart,
+            Type(b"PAR?6\r"),
+            Prints(b"PAR?6\r\r\nPAR 6:1\r\n"),
+        ],
+    },
+    Example {
+        rule: "comes to the command state and back",
+        standing: true,
+        steps: &[
+            Type(b"A\x10"),
+            In(Mode::CommandState),
+            Prints(b"A"),
+            MayShow(false),
+            Type(b"SET 6:5\r"),
+            In(Mode::DataTransfer),
+            Prints(b"SET 6:5\r\r\n"),
+            Type(b"\x10"),
+            Prints(b"\r\n*"),
+            Type(b"WHAT\r"),
+            In(Mode::CommandState),
+            Prints(b"WHAT\r\r\nERR\r\n"),
+            Type(b"2001\r"),
+            In(Mode::CommandState),
+            Type(b"\r"),
+            In(Mode::DataTransfer),
+            Prints(b"2001\r\r\nERR\r\n\r"),
+            // the text that was held is still there
+            Type(b"B\r"),
+            Sends(b"AB\r"),
+            Cleared(0),
+            Prints(b"B\r\r\nCLR DTE\r\n\r\n*"),
+        ],
+    },
+    Example {
+        rule: "interrupts and resets by command",
+        standing: true,
+        steps: &[
+            Type(b"\x10INT\r"),
+            Asks(Asked::Interrupt),
+            InterruptPending(true),
+            Type(b"\x10INT\r"),
+            Asks(Asked::Nothing),
+            Prints(b"INT\r\r\nINT\r\r\nERR\r\n"),
+            Type(b"RESET\r"),
+            Asks(Asked::Reset),
+            ResetPending(true),
+            InterruptPending(false),
+            Type(b"\x10RESET\r"),
+            Asks(Asked::Nothing),
+            Type(b"INT\r"),
+            Asks(Asked::Nothing),
+            Type(b"CLR\r"),
+            Asks(Asked::Clear),
+            Prints(b"RESET\r\r\nRESET\r\r\nERR\r\nINT\r\r\nERR\r\nCLR\r\r\nCLR CONF\r\n"),
+        ],
+    },
+    Example {
+        rule: "holds text over a reset and drops it at the end of the call",
+        standing: true,
+        steps: &[
+            Type(b"AB"),
+            Reset(3),
+            Type(b"C\r"),
+            Sends(b"ABC\r"),
+            Prints(b"AB\r\nRESET RPE\r\nC\r"),
+            Type(b"OLD"),
+            Cleared(9),
+            Connected,
+            Type(b"NEW\r"),
+            Sends(b"NEW\r"),
+        ],
+    },
+    Example {
+        rule: "stops and goes on both ways",
+        standing: true,
+        steps: &[
+            Type(b"\x13"),
+            MayShow(false),
+            Reset(0),
+            MayShow(false),
+            Type(b"\x11"),
+            MayShow(true),
+            Type(b"\x13\x10SET 12:0,12:1\r"),
+            MayShow(true),
+            Prints(b"\r\nRESET DTE\r\nSET 12:0,12:1\r\r\n"),
+            QueueFull(true),
+            Type(b"AB"),
+            Drops(b'\r'),
+            Drops(b'\r'),
+            Prints(b"AB\x13"),
+            QueueFull(false),
+            Prints(b"\x11"),
+            Type(b"\r"),
+            Sends(b"AB\r"),
+            Prints(b"\r"),
+            QueueFull(true),
+            Drops(b'\r'),
+            Cleared(1),
+            Prints(b"\x13\r\nCLR OCC\r\n\x11"),
+        ],
+    },
+    Example {
+        rule: "takes stop, go and escape as data where parameters say so",
+        standing: true,
+        steps: &[
+            Message(b"\x02\x0C\x00\x01\x00\x05\x00", b""),
+            // none of these is honoured, and all are data
+            Type(b"\x13\x10\x11"),
+            Sends(b"\x11"),
+            MayShow(true),
+            QueueFull(true),
+            Drops(b'\r'),
+            Prints(b"\x13\x10\x11"),
+        ],
+    },
+    Example {
+        rule: "answers messages",
+        standing: true,
+        steps: &[
+            Message(b"\x02\x02\x00\x0B\x01", b"\x00\x8B\x03"),
+            Type(b"A"),
+            Prints(b""),
+            Message(b"\x02\x82\x01", b""),
+            Message(b"\x04\x02\x00\x99\x00", b"\x00\x02\x01\x99\x01"),
+            Message(b"\x06\x09\x07\x09\x08", b"\x00\x09\x07\x89\x02"),
+            Message(b"\x02", b""),
+            Message(b"\x04", &ALL_PAIRS),
+            Message(b"\x07", b"\x05\x01\x07"),
+            Message(b"\x02\x02", b"\x05\x02\x02"),
+            Message(b"", b"\x05\x00"),
+            Message(b"\x00\x02\x01", b""),
+            Message(b"\x03", b""),
+            Message(b"\x05\x00", b""),
+            Message(b"\x02\x06\x05", b""),
+            Invited,
+            In(Mode::Free),
+            Prints(b"\r\nCLR PAD\r\n\r\n*"),
+        ],
+    },
+    Example {
+        rule: "breaks as parameter 7 says",
+        standing: true,
+        steps: &[
+            Message(b"\x02\x07\x15", b""),
+            Breaks(b"\x03\x08\x01"),
+            Asks(Asked::Interrupt),
+            Shows(b"LOST", b""),
+            Message(b"\x02\x08\x00", b""),
+            Shows(b"SEEN", b"SEEN"),
+            InterruptPending(true),
+            Breaks(b"\x03\x08\x01"),
+            Asks(Asked::Nothing),
+            QueueFull(true),
+            BreakDropped,
+            QueueFull(false),
+            Message(b"\x02\x07\x0F\x06\x05\x08\x00", b""),
+            Breaks(b""),
+            Asks(Asked::Reset),
+            In(Mode::CommandState),
+            Prints(b"\r\n*"),
+            ResetPending(true),
+            QueueFull(true),
+            Breaks(b""),
+            Asks(Asked::Nothing),
+            Prints(b""),
+            Shows(b"SEEN", b"SEEN"),
+        ],
+    },
+    Example {
+        rule: "breaks before the call is connected",
+        standing: false,
+        steps: &[
+            Type(b"SET 7:31\r2001\r"),
+            Breaks(b""),
+            Asks(Asked::Nothing),
+            In(Mode::CallSetUp),
+            Connected,
+            Shows(b"SEEN", b"SEEN"),
+        ],
+    },
+    Example {
+        rule: "forwards when the terminal pauses",
+        standing: true,
+        steps: &[
+            Type(b"\x10PROF 91\r"),
+            IdleTime(None),
+            Idles,
+            SendsNothing,
+            Type(b"AB"),
+            IdleTime(Some(20)),
+            QueueFull(true),
+            IdleDropped,
+            IdleTime(Some(20)),
+            QueueFull(false),
+            Idles,
+            Sends(b"AB"),
+            IdleTime(None),
+        ],
+    },
+    Example {
+        rule: "drops a half typed command when a call comes in",
+        standing: false,
+        steps: &[
+            Type(b"STA"),
+            Connected,
+            Type(b"\x10T\r"),
+            Prints(b"STA\r\nCOM\r\nT\r\r\nERR\r\n"),
+        ],
+    },
+];
 
 #[test]
-fn says_why_a_call_was_reset_or_cleared(rt: HostRuntime) {
-    const STEPS: &[Step] = &[
-        Connected,
-        Reset(0),
-        Reset(3),
-        Reset(5),
-        Reset(7),
-        Reset(9),
-        Prints(
-            b"\r\nCOM\r\n\r\nRESET DTE\r\n\r\nRESET RPE\r\n\r\nRESET ERR\r\n\r\nRESET NC\r\n\r\nRESET ERR\r\n",
-        ),
-        Cleared(3),
-        Type(b"2001\r"),
-        Cleared(11),
-        Type(b"2001\r"),
-        Cleared(17),
-        Type(b"2001\r"),
-        Cleared(19),
-        Prints(b"\r\nCLR INV\r\n2001\r\r\nCLR NA\r\n2001\r\r\nCLR RPE\r\n2001\r\r\nCLR ERR\r\n"),
-        Connected,
-        Cleared(5),
-        Connected,
-        Cleared(128),
-        Connected,
-        Cleared(7),
-        Prints(b"\r\nCOM\r\n\r\nCLR NC\r\n\r\nCOM\r\n\r\nCLR DTE\r\n\r\nCOM\r\n\r\nCLR ERR\r\n"),
-    ];
-    play(&rt, rt.alloc(), false, STEPS);
-}
-
-#[test]
-fn places_no_call_that_is_refused(rt: HostRuntime) {
-    const STEPS: &[Step] = &[
-        Type(b"3000Dhi\r"),
-        Asks(Asked::Call(&[3, 0, 0, 0], b"hi")),
-        Type(b"STAT\r"),
-        Type(b"2001\r"),
-        Asks(Asked::Nothing),
-        Cleared(13),
-        Prints(b"3000Dhi\rSTAT\r\r\nENGAGED\r\n2001\r\r\nERR\r\n\r\nCLR NP\r\n"),
-        Type(b"stat\r"),
-        Prints(b"stat\r\r\nFREE\r\n"),
-        Type(b"2001\rCLR\r"),
-        Asks(Asked::Clear),
-        In(Mode::Free),
-        Prints(b"2001\rCLR\r\r\nCLR CONF\r\n"),
-        Type(b"CLR+INT+RESET+SETT+"),
-        Prints(b"CLR+\r\nERR\r\nINT+\r\nERR\r\nRESET+\r\nERR\r\nSETT+\r\nERR\r\n"),
-    ];
-    play(&rt, rt.alloc(), false, STEPS);
-}
-
-#[test]
-fn hides_user_data(rt: HostRuntime) {
-    const STEPS: &[Step] = &[
-        Type(b"20Pab\x7Fc\x18"),
-        Type(b"20Pac\r"),
-        Asks(Asked::Call(&[2, 0], b"ac")),
-        Prints(b"20P20P"),
-    ];
-    play(&rt, rt.alloc(), false, STEPS);
-}
-
-#[test]
-fn edits_a_command_line(rt: HostRuntime) {
-    const STEPS: &[Step] = &[
-        Type(b"\x7F\x18SEX\x7FT 2:0\x12\r"),
-        Prints(b"SEX\x08 \x08T 2:0\r\nSET 2:0\r\r\n"),
-        Type(b"SET 2:1\r"),
-        Prints(b"\r\n"),
-        Type(b"XY\x18STAT\r"),
-        Prints(b"XYXXX\r\nSTAT\r\r\nFREE\r\n"),
-    ];
-    play(&rt, rt.alloc(), false, STEPS);
-}
-
-#[test]
-fn holds_65_octets_of_a_command_line(rt: HostRuntime) {
-    const STEPS: &[Step] = &[
-        Type(b"                                                            STATXY\x7F\r"),
-        Prints(
-            b"                                                            STATX\x08 \x08\r\r\nFREE\r\n",
-        ),
-        Type(b"                                                            STATX\r"),
-        Prints(b"                                                            STATX\r\r\nERR\r\n"),
-    ];
-    play(&rt, rt.alloc(), false, STEPS);
-}
-
-#[test]
-fn sets_and_reads_parameters(rt: HostRuntime) {
-    const STEPS: &[Step] = &[
-        Type(b"SET 2:0,25:1,2:7,11:3\r"),
-        Prints(b"SET 2:0,25:1,2:7,11:3\r\r\nPAR 25:INV,2:INV,11:INV\r\n"),
-        Type(b"SET? 3:2,11:3\r"),
-        Prints(b"\r\nPAR 3:2,11:INV\r\n"),
-        Type(b"PAR? 2,25\r"),
-        Prints(b"\r\nPAR 2:0,25:INV\r\n"),
-        Type(b"PROF 90\r"),
-        Type(b"PAR?\r"),
-        Prints(ALL_VALUES),
-        Type(b"PROF 9\rSET 6:0\rSTAT\r"),
-        Prints(b"PROF 9\r\r\nERR\r\nSET 6:0\rSTAT\r"),
-        Restart,
-        Type(b"PAR?6\r"),
-        Prints(b"PAR?6\r\r\nPAR 6:1\r\n"),
-    ];
-    play(&rt, rt.alloc(), false, STEPS);
-}
-
-#[test]
-fn comes_to_the_command_state_and_back(rt: HostRuntime) {
-    const STEPS: &[Step] = &[
-        Type(b"A\x10"),
-        In(Mode::CommandState),
-        Prints(b"A"),
-        MayShow(false),
-        Type(b"SET 6:5\r"),
-        In(Mode::DataTransfer),
-        Prints(b"SET 6:5\r\r\n"),
-        Type(b"\x10"),
-        Prints(b"\r\n*"),
-        Type(b"WHAT\r"),
-        In(Mode::CommandState),
-        Prints(b"WHAT\r\r\nERR\r\n"),
-        Type(b"2001\r"),
-        In(Mode::CommandState),
-        Type(b"\r"),
-        In(Mode::DataTransfer),
-        Prints(b"2001\r\r\nERR\r\n\r"),
-        // the text that was held is still there
-        Type(b"B\r"),
-        Sends(b"AB\r"),
-        Cleared(0),
-        Prints(b"B\r\r\nCLR DTE\r\n\r\n*"),
-    ];
-    play(&rt, rt.alloc(), true, STEPS);
-}
-
-#[test]
-fn interrupts_and_resets_by_command(rt: HostRuntime) {
-    const STEPS: &[Step] = &[
-        Type(b"\x10INT\r"),
-        Asks(Asked::Interrupt),
-        InterruptPending(true),
-        Type(b"\x10INT\r"),
-        Asks(Asked::Nothing),
-        Prints(b"INT\r\r\nINT\r\r\nERR\r\n"),
-        Type(b"RESET\r"),
-        Asks(Asked::Reset),
-        ResetPending(true),
-        InterruptPending(false),
-        Type(b"\x10RESET\r"),
-        Asks(Asked::Nothing),
-        Type(b"INT\r"),
-        Asks(Asked::Nothing),
-        Type(b"CLR\r"),
-        Asks(Asked::Clear),
-        Prints(b"RESET\r\r\nRESET\r\r\nERR\r\nINT\r\r\nERR\r\nCLR\r\r\nCLR CONF\r\n"),
-    ];
-    play(&rt, rt.alloc(), true, STEPS);
-}
-
-#[test]
-fn holds_text_over_a_reset_and_drops_it_at_the_end_of_the_call(rt: HostRuntime) {
-    const STEPS: &[Step] = &[
-        Type(b"AB"),
-        Reset(3),
-        Type(b"C\r"),
-        Sends(b"ABC\r"),
-        Prints(b"AB\r\nRESET RPE\r\nC\r"),
-        Type(b"OLD"),
-        Cleared(9),
-        Connected,
-        Type(b"NEW\r"),
-        Sends(b"NEW\r"),
-    ];
-    play(&rt, rt.alloc(), true, STEPS);
-}
-
-#[test]
-fn stops_and_goes_on_both_ways(rt: HostRuntime) {
-    const STEPS: &[Step] = &[
-        Type(b"\x13"),
-        MayShow(false),
-        Reset(0),
-        MayShow(false),
-        Type(b"\x11"),
-        MayShow(true),
-        Type(b"\x13\x10SET 12:0,12:1\r"),
-        MayShow(true),
-        Prints(b"\r\nRESET DTE\r\nSET 12:0,12:1\r\r\n"),
-        QueueFull(true),
-        Type(b"AB"),
-        Drops(b'\r'),
-        Drops(b'\r'),
-        Prints(b"AB\x13"),
-        QueueFull(false),
-        Prints(b"\x11"),
-        Type(b"\r"),
-        Sends(b"AB\r"),
-        Prints(b"\r"),
-        QueueFull(true),
-        Drops(b'\r'),
-        Cleared(1),
-        Prints(b"\x13\r\nCLR OCC\r\n\x11"),
-    ];
-    play(&rt, rt.alloc(), true, STEPS);
-    const MORE: &[Step] = &[
-        Message(b"\x02\x0C\x00\x01\x00\x05\x00", b""),
-        // none of these is honoured, and all are data
-        Type(b"\x13\x10\x11"),
-        Sends(b"\x11"),
-        MayShow(true),
-        QueueFull(true),
-        Drops(b'\r'),
-        Prints(b"\x13\x10\x11"),
-    ];
-    play(&rt, rt.alloc(), true, MORE);
-}
-
-#[test]
-fn answers_messages(rt: HostRuntime) {
-    const STEPS: &[Step] = &[
-        Message(b"\x02\x02\x00\x0B\x01", b"\x00\x8B\x03"),
-        Type(b"A"),
-        Prints(b""),
-        Message(b"\x02\x82\x01", b""),
-        Message(b"\x04\x02\x00\x99\x00", b"\x00\x02\x01\x99\x01"),
-        Message(b"\x06\x09\x07\x09\x08", b"\x00\x09\x07\x89\x02"),
-        Message(b"\x02", b""),
-        Message(b"\x04", &ALL_PAIRS),
-        Message(b"\x07", b"\x05\x01\x07"),
-        Message(b"\x02\x02", b"\x05\x02\x02"),
-        Message(b"", b"\x05\x00"),
-        Message(b"\x00\x02\x01", b""),
-        Message(b"\x03", b""),
-        Message(b"\x05\x00", b""),
-        Message(b"\x02\x06\x05", b""),
-        Invited,
-        In(Mode::Free),
-        Prints(b"\r\nCLR PAD\r\n\r\n*"),
-    ];
-    play(&rt, rt.alloc(), true, STEPS);
-}
-
-#[test]
-fn breaks_as_parameter_7_says(rt: HostRuntime) {
-    const STEPS: &[Step] = &[
-        Message(b"\x02\x07\x15", b""),
-        Breaks(b"\x03\x08\x01"),
-        Asks(Asked::Interrupt),
-        Shows(b"LOST", b""),
-        Message(b"\x02\x08\x00", b""),
-        Shows(b"SEEN", b"SEEN"),
-        InterruptPending(true),
-        Breaks(b"\x03\x08\x01"),
-        Asks(Asked::Nothing),
-        QueueFull(true),
-        BreakDropped,
-        QueueFull(false),
-        Message(b"\x02\x07\x0F\x06\x05\x08\x00", b""),
-        Breaks(b""),
-        Asks(Asked::Reset),
-        In(Mode::CommandState),
-        Prints(b"\r\n*"),
-        ResetPending(true),
-        QueueFull(true),
-        Breaks(b""),
-        Asks(Asked::Nothing),
-        Prints(b""),
-        Shows(b"SEEN", b"SEEN"),
-    ];
-    play(&rt, rt.alloc(), true, STEPS);
-    const MORE: &[Step] = &[
-        Type(b"SET 7:31\r2001\r"),
-        Breaks(b""),
-        Asks(Asked::Nothing),
-        In(Mode::CallSetUp),
-        Connected,
-        Shows(b"SEEN", b"SEEN"),
-    ];
-    play(&rt, rt.alloc(), false, MORE);
-}
-
-#[test]
-fn forwards_when_the_terminal_pauses(rt: HostRuntime) {
-    const STEPS: &[Step] = &[
-        Type(b"\x10PROF 91\r"),
-        IdleTime(None),
-        Idles,
-        SendsNothing,
-        Type(b"AB"),
-        IdleTime(Some(20)),
-        QueueFull(true),
-        IdleDropped,
-        IdleTime(Some(20)),
-        QueueFull(false),
-        Idles,
-        Sends(b"AB"),
-        IdleTime(None),
-    ];
-    play(&rt, rt.alloc(), true, STEPS);
-}
-
-#[test]
-fn drops_a_half_typed_command_when_a_call_comes_in(rt: HostRuntime) {
-    const STEPS: &[Step] = &[
-        Type(b"STA"),
-        Connected,
-        Type(b"\x10T\r"),
-        Prints(b"STA\r\nCOM\r\nT\r\r\nERR\r\n"),
-    ];
-    play(&rt, rt.alloc(), false, STEPS);
+fn terminals_do_what_the_rules_say(rt: HostRuntime) {
+    for example in EXAMPLES {
+        play(&rt, rt.alloc(), example);
+    }
 }
 
 #[test]
 fn keeps_the_newest_text(rt: HostRuntime) {
     let mut newest = [b'a'; 1024];
     newest[1023] = b'z';
-    play(
-        &rt,
-        rt.alloc(),
-        true,
-        &[
-            Type(b"first"),
-            Type(&newest),
-            Prints(&newest),
-            Type(b"last"),
-            Restart,
-            Prints(b""),
-        ],
-    );
+    let steps = [
+        Type(b"first"),
+        Type(&newest),
+        Prints(&newest),
+        Type(b"last"),
+        Restart,
+        Prints(b""),
+    ];
+    let example = Example {
+        rule: "keeps the newest text",
+        standing: true,
+        steps: &steps,
+    };
+    play(&rt, rt.alloc(), &example);
 }
