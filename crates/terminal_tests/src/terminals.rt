@@ -17,8 +17,8 @@ const ALL_PAIRS: [u8; 37] = [
     15, 0, 16, 127, 17, 24, 18, 18,
 ];
 
-// What a terminal must do, rule by rule.
-const EXAMPLES: &[Example] = &[
+// Calls that are dialled, reset, cleared or refused.
+const CALLS: &[Example] = &[
     Example {
         rule: "dials and types",
         standing: false,
@@ -104,6 +104,17 @@ const EXAMPLES: &[Example] = &[
             Prints(b"20P20P"),
         ],
     },
+];
+
+#[test]
+fn terminals_call(rt: HostRuntime) {
+    for example in CALLS {
+        play(&rt, rt.alloc(), example);
+    }
+}
+
+// Commands that are typed, and the command state.
+const COMMANDS: &[Example] = &[
     Example {
         rule: "edits a command line",
         standing: false,
@@ -201,6 +212,17 @@ const EXAMPLES: &[Example] = &[
             Prints(b"RESET\r\r\nRESET\r\r\nERR\r\nINT\r\r\nERR\r\nCLR\r\r\nCLR CONF\r\n"),
         ],
     },
+];
+
+#[test]
+fn terminals_are_given_commands(rt: HostRuntime) {
+    for example in COMMANDS {
+        play(&rt, rt.alloc(), example);
+    }
+}
+
+// Text that is held, and flow that stops.
+const FLOW: &[Example] = &[
     Example {
         rule: "holds text over a reset and drops it at the end of the call",
         standing: true,
@@ -260,6 +282,17 @@ const EXAMPLES: &[Example] = &[
             Prints(b"\x13\x10\x11"),
         ],
     },
+];
+
+#[test]
+fn terminals_hold_text(rt: HostRuntime) {
+    for example in FLOW {
+        play(&rt, rt.alloc(), example);
+    }
+}
+
+// Messages and breaks.
+const MESSAGES: &[Example] = &[
     Example {
         rule: "answers messages",
         standing: true,
@@ -325,6 +358,17 @@ const EXAMPLES: &[Example] = &[
             Shows(b"SEEN", b"SEEN"),
         ],
     },
+];
+
+#[test]
+fn terminals_answer_messages_and_break(rt: HostRuntime) {
+    for example in MESSAGES {
+        play(&rt, rt.alloc(), example);
+    }
+}
+
+// Text and commands that wait.
+const IDLE: &[Example] = &[
     Example {
         rule: "forwards when the terminal pauses",
         standing: true,
@@ -357,8 +401,8 @@ const EXAMPLES: &[Example] = &[
 ];
 
 #[test]
-fn terminals_do_what_the_rules_say(rt: HostRuntime) {
-    for example in EXAMPLES {
+fn terminals_wait(rt: HostRuntime) {
+    for example in IDLE {
         play(&rt, rt.alloc(), example);
     }
 }
