@@ -1,6 +1,4 @@
-use crate::playing::played;
-use std::str::from_utf8;
-use std::test::Fail;
+use crate::playing::prints;
 
 /// Two hosts on a line.
 const PAIR: &str = r#"
@@ -64,13 +62,13 @@ const PLAYED: [(&str, &str, &str); 7] = [
 ];
 
 #[test]
-fn hosts_call_each_other(rt: HostRuntime) -> Result<(), Fail> {
-    for (more, script, printed) in PLAYED {
-        let network = format!(in rt.alloc(); "{PAIR}{more}")?;
-        let out = played(rt.alloc(), network.as_str(), script.as_bytes())?;
-        assert_eq!(rt; from_utf8(out.as_slice())?, printed);
+fn hosts_call_each_other(rt: HostRuntime) {
+    for (more, script, printed) in &PLAYED {
+        assert!(rt;
+            prints(rt.alloc(), (PAIR, more), ("", script), ("", printed)),
+            "{script}"
+        );
     }
-    Ok(())
 }
 
 /// A call from a to b on channel 4.
@@ -124,12 +122,9 @@ const IN_A_CALL: [(&str, &str); 8] = [
 ];
 
 #[test]
-fn hosts_use_a_call(rt: HostRuntime) -> Result<(), Fail> {
-    for (script, printed) in IN_A_CALL {
-        let whole = format!(in rt.alloc(); "{CALL}{script}")?;
-        let out = played(rt.alloc(), PAIR, whole.as_bytes())?;
-        let expected = format!(in rt.alloc(); "{CALLED}{printed}")?;
-        assert_eq!(rt; from_utf8(out.as_slice())?, expected.as_str());
+fn hosts_use_a_call(rt: HostRuntime) {
+    for (script, printed) in &IN_A_CALL {
+        let as_expected = prints(rt.alloc(), (PAIR, ""), (CALL, script), (CALLED, printed));
+        assert!(rt; as_expected, "{script}");
     }
-    Ok(())
 }

@@ -1,7 +1,5 @@
 //! Terminals that call through a switch, with the octets of the lines.
-use crate::playing::played;
-use std::str::from_utf8;
-use std::test::Fail;
+use crate::playing::prints;
 
 /// A PAD of two terminals and a host at a switch.
 const SMALL: &str = r#"
@@ -371,11 +369,11 @@ end rest
 ];
 
 #[test]
-fn terminals_call_through_a_switch(rt: HostRuntime) -> Result<(), Fail> {
-    for (line, script, printed) in SESSIONS {
-        let network = format!(in rt.alloc(); "{SMALL}{line}")?;
-        let out = played(rt.alloc(), network.as_str(), script.as_bytes())?;
-        assert_eq!(rt; from_utf8(out.as_slice())?, printed);
+fn terminals_call_through_a_switch(rt: HostRuntime) {
+    for (line, script, printed) in &SESSIONS {
+        assert!(rt;
+            prints(rt.alloc(), (SMALL, line), ("", script), ("", printed)),
+            "{script}"
+        );
     }
-    Ok(())
 }
