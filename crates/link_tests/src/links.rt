@@ -324,14 +324,14 @@ fn parameters_have_ranges(rt: HostRuntime) {
         (7, 21, false),
         (1, 1, true),
     ];
-    for (k, n2, good) in PARAMS {
+    for (k, n2, good) in &PARAMS {
         let params = LinkParams {
-            k,
-            n2,
+            k: *k,
+            n2: *n2,
             standing: true,
         };
         assert!(rt;
-            Link::new(Role::Dce, params).is_ok() == good,
+            Link::new(Role::Dce, params).is_ok() == *good,
             "k {k}, n2 {n2}"
         );
     }

@@ -4,53 +4,75 @@ use call_states::{CallEvent, CallNote, CallState, CallStep, UserAct};
 use link_timers::Role;
 use packet_codec::PacketType;
 
-#[test]
-fn a_call_from_ready_to_ready(rt: HostRuntime) {
-    let call = CallState::step(Role::Dte, CallState::Ready, CallEvent::User(UserAct::Call));
-    let called = CallStep {
-        state: CallState::DteWaiting,
-        owed: Some(PacketType::CallRequest),
-        note: CallNote::Nothing,
-        error: None,
-    };
-    assert!(rt; call == called);
-    let connected = CallStep {
-        state: CallState::DataTransfer,
-        owed: None,
-        note: CallNote::Connected,
-        error: None,
-    };
-    let accepted = CallEvent::Received(PacketType::CallAccepted);
-    assert!(rt; CallState::step(Role::Dte, CallState::DteWaiting, accepted) == connected);
-    let cleared = CallStep {
-        state: CallState::Ready,
-        owed: Some(PacketType::ClearConfirmation),
-        note: CallNote::Cleared,
-        error: None,
-    };
-    let clear = CallEvent::Received(PacketType::ClearRequest);
-    assert!(rt; CallState::step(Role::Dte, CallState::DataTransfer, clear) == cleared);
-}
+// A role, a state and an event, and what comes of them.
+type Row = (Role, CallState, CallEvent, CallStep);
 
 #[test]
-fn procedure_errors(rt: HostRuntime) {
-    // A Call in data transfer at a DCE, and Data without a call.
-    let in_call = CallStep {
-        state: CallState::DceClear,
-        owed: Some(PacketType::ClearRequest),
-        note: CallNote::Cleared,
-        error: Some(0x17),
-    };
-    let call = CallEvent::Received(PacketType::CallRequest);
-    assert!(rt; CallState::step(Role::Dce, CallState::DataTransfer, call) == in_call);
-    let without_call = CallStep {
-        state: CallState::DceClear,
-        owed: Some(PacketType::ClearRequest),
-        note: CallNote::Nothing,
-        error: Some(0x14),
-    };
-    let data = CallEvent::Received(PacketType::Data);
-    assert!(rt; CallState::step(Role::Dce, CallState::Ready, data) == without_call);
+fn steps_are_those_of_the_table(rt: HostRuntime) {
+    // From ready to ready: a call, its acceptance and a clear.
+    const CALL: Row = (
+        Role::Dte,
+        CallState::Ready,
+        CallEvent::User(UserAct::Call),
+        CallStep {
+            state: CallState::DteWaiting,
+            owed: Some(PacketType::CallRequest),
+            note: CallNote::Nothing,
+            error: None,
+        },
+    );
+    const ACCEPTED: Row = (
+        Role::Dte,
+        CallState::DteWaiting,
+        CallEvent::Received(PacketType::CallAccepted),
+        CallStep {
+            state: CallState::DataTransfer,
+            owed: None,
+            note: CallNote::Connected,
+            error: None,
+        },
+    );
+    const CLEARED: Row = (
+        Role::Dte,
+        CallState::DataTransfer,
+        CallEvent::Received(PacketType::ClearRequest),
+        CallStep {
+            state: CallState::Ready,
+            owed: Some(PacketType::ClearConfirmation),
+            note: CallNote::Cleared,
+            error: None,
+        },
+    );
+    // Procedure errors: a Call in data transfer at a DCE, and Data without a call.
+    const CALL_IN_A_CALL: Row = (
+        Role::Dce,
+        CallState::DataTransfer,
+        CallEvent::Received(PacketType::CallRequest),
+        CallStep {
+            state: CallState::DceClear,
+            owed: Some(PacketType::ClearRequest),
+            note: CallNote::Cleared,
+            error: Some(0x17),
+        },
+    );
+    const DATA_WITHOUT_A_CALL: Row = (
+        Role::Dce,
+        CallState::Ready,
+        CallEvent::Received(PacketType::Data),
+        CallStep {
+            state: CallState::DceClear,
+            owed: Some(PacketType::ClearRequest),
+            note: CallNote::Nothing,
+            error: Some(0x14),
+        },
+    );
+    const ROWS: [Row; 5] = [CALL, ACCEPTED, CLEARED, CALL_IN_A_CALL, DATA_WITHOUT_A_CALL];
+    for (role, state, event, step) in &ROWS {
+        assert!(rt;
+            CallState::step(*role, *state, *event) == *step,
+            "{state:?}, {event:?}"
+        );
+    }
 }
 
 #[test]
@@ -58,7 +80,7 @@ fn acts_of_the_user(rt: HostRuntime) {
     assert!(rt; CallState::DceWaiting.allows(Role::Dte, UserAct::Accept));
     assert!(rt; !CallState::CallCollision.allows(Role::Dte, UserAct::Accept));
     assert!(rt; CallState::CallCollision.allows(Role::Dce, UserAct::Accept));
-    assert_eq!(rt; CallState::own_clear(Role::Dte).number(), 6);
-    assert_eq!(rt; CallState::own_waiting(Role::Dce).number(), 3);
-    assert_eq!(rt; CallState::far_waiting(Role::Dce).number(), 2);
+    assert!(rt; CallState::own_clear(Role::Dte).number() == 6);
+    assert!(rt; CallState::own_waiting(Role::Dce).number() == 3);
+    assert!(rt; CallState::far_waiting(Role::Dce).number() == 2);
 }

@@ -8,48 +8,42 @@ use reset_restart::{
 
 #[test]
 fn resets(rt: HostRuntime) {
-    let user = ResetState::step(
-        Role::Dte,
-        ResetState::FlowControlReady,
-        ResetEvent::UserReset,
-    );
-    let begun = ResetStep {
+    const BEGUN: ResetStep = ResetStep {
         state: ResetState::DteReset,
         owed: Some(PacketType::ResetRequest),
         note: ResetNote::Nothing,
         error: None,
     };
-    assert!(rt; user == begun);
+    let ready = ResetState::FlowControlReady;
+    assert!(rt; ResetState::step(Role::Dte, ready, ResetEvent::UserReset) == BEGUN);
     // A Reset Confirmation of no reset, at a DCE.
     let confirmation = ResetEvent::Received(PacketType::ResetConfirmation);
-    let wrong = ResetState::step(Role::Dce, ResetState::FlowControlReady, confirmation);
     let error = ResetStep {
         state: ResetState::own(Role::Dce),
         owed: Some(PacketType::ResetRequest),
         note: ResetNote::Reset,
         error: Some(0x1b),
     };
-    assert!(rt; wrong == error);
+    assert!(rt; ResetState::step(Role::Dce, ready, confirmation) == error);
 }
 
 #[test]
 fn restarts(rt: HostRuntime) {
-    let ready = RestartState::PacketLayerReady;
-    let restarted = RestartState::step(Role::Dte, ready, PacketType::RestartRequest);
-    let closed = RestartStep {
+    const CLOSED: RestartStep = RestartStep {
         state: RestartState::PacketLayerReady,
         owed: Some(PacketType::RestartConfirmation),
         note: RestartNote::CallsClosed,
         error: None,
     };
-    assert!(rt; restarted == closed);
+    let ready = RestartState::PacketLayerReady;
+    assert!(rt; RestartState::step(Role::Dte, ready, PacketType::RestartRequest) == CLOSED);
     // A Restart Confirmation of no restart, at a DCE.
-    let wrong = RestartState::step(Role::Dce, ready, PacketType::RestartConfirmation);
     let error = RestartStep {
         state: RestartState::own(Role::Dce),
         owed: Some(PacketType::RestartRequest),
         note: RestartNote::CallsClosed,
         error: Some(0x11),
     };
-    assert!(rt; wrong == error);
+    let confirmation = PacketType::RestartConfirmation;
+    assert!(rt; RestartState::step(Role::Dce, ready, confirmation) == error);
 }

@@ -215,9 +215,9 @@ fn shows_a_graphic_character_as_it_stands(rt: HostRuntime) {
     ];
     let mut params = Params::profile(Profile::Transparent, 14);
     assert!(rt; sets(&mut params, &[(10, 4)]));
-    for (octet, column, plain) in OCTETS {
+    for (octet, column, plain) in &OCTETS {
         assert!(rt;
-            Display::is_plain(octet, &params, column) == plain,
+            Display::is_plain(*octet, &params, *column) == *plain,
             "octet {octet}"
         );
     }

@@ -17,7 +17,7 @@ fn refusals_come_in_order(rt: HostRuntime) {
             "parameter {number}"
         );
     }
-    for (number, value) in VALUES {
-        assert!(rt; params.get(number) == value, "parameter {number}");
+    for (number, value) in &VALUES {
+        assert!(rt; params.get(*number) == *value, "parameter {number}");
     }
 }
