@@ -1,8 +1,8 @@
 //! A call that comes from a partner of another make, which gives its address.
-use net_files::{read_net, read_script};
-use net_player::{Net, play};
+use crate::programs::prints_on;
+use net_files::read_net;
+use net_player::Net;
 use std::io;
-use std::test::Fail;
 use udp_line::{Datagrams, UdpLine};
 
 /// A PAD and a host on a line of two channels, on the first of which a call stands.
@@ -52,8 +52,9 @@ impl Datagrams for Partner {
 }
 
 #[test]
-fn a_host_is_told_who_calls(rt: HostRuntime) -> Result<(), Fail> {
-    let config = read_net(rt.alloc(), STANDING)?;
+fn a_host_is_told_who_calls(rt: HostRuntime) {
+    const PRINTED: &[u8] = b"host/2 incoming 1001\nend rest\n";
+    let config = read_net(rt.alloc(), STANDING).expect(&rt, "a network");
     let dte = Partner {
         datagram: CALL,
         before: u32::MAX,
@@ -62,15 +63,10 @@ fn a_host_is_told_who_calls(rt: HostRuntime) -> Result<(), Fail> {
         datagram: CALL,
         before: 1,
     };
-    let lines = vec![in rt.alloc(); UdpLine::over(rt.alloc(), dte, dce)?]?;
+    let line = UdpLine::over(rt.alloc(), dte, dce).expect(&rt, "a line");
+    let mut lines = Vec::new(rt.alloc());
+    lines.push(line).expect(&rt, "a list of lines");
     assert!(rt; lines.len() == config.lines.len());
-    let mut net = Net::new(rt.alloc(), &config, lines)?;
-    let script = read_script(rt.alloc(), b"deliver 0 >\n", &config)?;
-    let mut out = Vec::new(rt.alloc());
-    play(rt.alloc(), &mut net, &script, &mut out)?;
-    assert_eq!(rt;
-        out.as_slice(),
-        b"host/2 incoming 1001\nend rest\n".as_slice()
-    );
-    Ok(())
+    let mut net = Net::new(rt.alloc(), &config, lines).expect(&rt, "a network");
+    assert!(rt; prints_on(rt.alloc(), &mut net, &config, b"deliver 0 >\n", PRINTED));
 }

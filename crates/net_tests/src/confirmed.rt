@@ -1,11 +1,9 @@
 //! Delivery that is confirmed from end to end, through a switch.
-use crate::programs::played_on;
+use crate::programs::prints_on;
 use crate::switched::SWITCHED;
 use net_files::read_net;
-use net_player::Net;
+use net_player::{Config, MemLine, Net};
 use std::alloc::Global;
-use std::str::from_utf8;
-use std::test::Fail;
 
 /// A PAD and a host at a switch.
 const PAD_AND_HOST: &str = r#"
@@ -148,23 +146,31 @@ const RESET: [Step; 7] = [
 ];
 
 /// Whether in each step, one after the other, this is printed, and then delivery is confirmed at either end or not.
-fn fits(alloc: Global, network: &str, steps: &[Step]) -> Result<bool, Fail> {
-    let config = read_net(alloc, network)?;
-    let mut net = Net::on_memory_lines(alloc, &config)?;
-    for (script, printed, confirmed) in steps {
-        let out = played_on(alloc, &mut net, &config, script.as_bytes())?;
-        let is_confirmed = [net.confirmed(0, 4), net.confirmed(1, 1)];
-        if from_utf8(out.as_slice())? != *printed || is_confirmed != *confirmed {
-            return Ok(false);
-        }
+fn fits(alloc: Global, network: &str, steps: &[Step]) -> bool {
+    match read_net(alloc, network) {
+        Ok(config) => match Net::on_memory_lines(alloc, &config) {
+            Ok(mut net) => all_fit(alloc, &mut net, &config, steps),
+            Err(_) => false,
+        },
+        Err(_) => false,
     }
-    Ok(true)
+}
+
+fn all_fit(alloc: Global, net: &mut Net<MemLine>, config: &Config, steps: &[Step]) -> bool {
+    let mut same = true;
+    for step in steps {
+        let (script, printed, [first, second]) = *step;
+        same = same
+            && prints_on(alloc, net, config, script.as_bytes(), printed.as_bytes())
+            && net.confirmed(0, 4) == first
+            && net.confirmed(1, 1) == second;
+    }
+    same
 }
 
 #[test]
-fn delivery_is_confirmed_through_a_switch(rt: HostRuntime) -> Result<(), Fail> {
-    assert!(rt; fits(rt.alloc(), SWITCHED, &TAKEN)?);
-    assert!(rt; fits(rt.alloc(), PAD_AND_HOST, &PRINTED)?);
-    assert!(rt; fits(rt.alloc(), SWITCHED, &RESET)?);
-    Ok(())
+fn delivery_is_confirmed_through_a_switch(rt: HostRuntime) {
+    assert!(rt; fits(rt.alloc(), SWITCHED, &TAKEN));
+    assert!(rt; fits(rt.alloc(), PAD_AND_HOST, &PRINTED));
+    assert!(rt; fits(rt.alloc(), SWITCHED, &RESET));
 }

@@ -1,7 +1,7 @@
 //! The program on files: networks and scripts that are read whole, over memory and over sockets.
-use crate::programs::{ends, words_of};
+use crate::output::long;
+use crate::programs::ends;
 use std::fs;
-use std::test::Fail;
 
 /// A PAD and a host at a switch.
 const NETWORK: &str = r#"
@@ -75,27 +75,18 @@ end rest
 "#;
 
 #[test]
-fn files_are_played_over_memory_and_over_sockets(rt: HostRuntime) -> Result<(), Fail> {
-    fs::write(&rt, "played_net", NETWORK)?;
-    fs::write(&rt, "played_script", SCRIPT)?;
-    for line in [
+fn files_are_played_over_memory_and_over_sockets(rt: HostRuntime) {
+    fs::write(&rt, "played_net", NETWORK).expect(&rt, "a file");
+    fs::write(&rt, "played_script", SCRIPT).expect(&rt, "a file");
+    const WORDS: [&str; 3] = [
         "sim --net played_net --script played_script",
         "sim --script played_script --net played_net",
         "run --net played_net --script played_script",
-    ] {
-        let words = words_of(rt.alloc(), line)?;
+    ];
+    for line in &WORDS {
         let mut nothing: &[u8] = b"";
-        ends(
-            &rt,
-            rt.alloc(),
-            words.as_slice(),
-            &mut nothing,
-            0,
-            PRINTED,
-            b"",
-        );
+        ends(&rt, rt.alloc(), line, &mut nothing, 0, PRINTED, b"");
     }
-    Ok(())
 }
 
 /// Words, with the files of this test, and what is told of the first fault.
@@ -119,49 +110,43 @@ const FAULTS: [(&str, &[u8]); 7] = [
 ];
 
 #[test]
-fn the_first_fault_of_the_files_is_told(rt: HostRuntime) -> Result<(), Fail> {
-    fs::write(&rt, "good_net", NETWORK)?;
-    fs::write(&rt, "bad_net", "node = 1\n")?;
-    fs::write(
-        &rt,
-        "unmade_net",
-        "[[node]]\nname = \"host\"\nkind = \"host\"\n",
-    )?;
-    fs::write(&rt, "good_script", "flow\n")?;
-    fs::write(&rt, "bad_script", "take host 1\njump host\nhop\n")?;
-    for (line, told) in FAULTS {
-        let words = words_of(rt.alloc(), line)?;
-        let mut flow: &[u8] = b"flow";
-        ends(&rt, rt.alloc(), words.as_slice(), &mut flow, 1, b"", told);
+fn the_first_fault_of_the_files_is_told(rt: HostRuntime) {
+    const FILES: [(&str, &str); 5] = [
+        ("good_net", NETWORK),
+        ("bad_net", "node = 1\n"),
+        ("unmade_net", "[[node]]\nname = \"host\"\nkind = \"host\"\n"),
+        ("good_script", "flow\n"),
+        ("bad_script", "take host 1\njump host\nhop\n"),
+    ];
+    for (name, text) in &FILES {
+        fs::write(&rt, *name, *text).expect(&rt, "a file");
     }
-    Ok(())
+    for (line, told) in &FAULTS {
+        let mut flow: &[u8] = b"flow";
+        ends(&rt, rt.alloc(), line, &mut flow, 1, b"", told);
+    }
 }
 
 /// How many lines a long script has before its last ones.
 const LINES: usize = 1_100;
 
 #[test]
-fn a_long_script_is_played_to_its_end(rt: HostRuntime) -> Result<(), Fail> {
-    let mut script = Vec::new(rt.alloc());
-    let mut printed = Vec::new(rt.alloc());
-    for _ in 0..LINES {
-        script.extend_from_slice(b"take host 1\n")?;
-        printed.extend_from_slice(b"host/1 none\n")?;
-    }
-    script.extend_from_slice(b"key pad 0 LAST\\0D\nflow\ntake host 1\nflow\n")?;
-    printed.extend_from_slice(b"host/1 data - \"LAST\\0D\"\nend rest\n")?;
+fn a_long_script_is_played_to_its_end(rt: HostRuntime) {
+    const LAST: &[u8] = b"key pad 0 LAST\\0D\nflow\ntake host 1\nflow\n";
+    const LAST_PRINTED: &[u8] = b"host/1 data - \"LAST\\0D\"\nend rest\n";
+    let mut script = long(rt.alloc(), LINES, b"take host 1\n", LAST).expect(&rt, "a script");
+    let printed = long(rt.alloc(), LINES, b"host/1 none\n", LAST_PRINTED).expect(&rt, "a text");
     let mut input = script.as_slice();
-    ends(&rt, rt.alloc(), &[], &mut input, 0, printed.as_slice(), b"");
-    script.extend_from_slice(b"jump\n")?;
+    ends(&rt, rt.alloc(), "", &mut input, 0, printed.as_slice(), b"");
+    script.extend_from_slice(b"jump\n").expect(&rt, "a script");
     let mut input = script.as_slice();
     ends(
         &rt,
         rt.alloc(),
-        &[],
+        "",
         &mut input,
         1,
         b"",
         b"fault 2 line 1105\n",
     );
-    Ok(())
 }

@@ -1,5 +1,5 @@
 //! What networks keep of their calls, and a line in memory.
-use crate::programs::played_on;
+use crate::programs::{played_on, prints_on};
 use frame_codec::FrameBuf;
 use net_files::{FIRST, read_net};
 use net_player::{
@@ -8,7 +8,6 @@ use net_player::{
 };
 use packet_codec::Address;
 use std::alloc::Global;
-use std::test::Fail;
 
 /// Two hosts on one line of four channels.
 const PAIR: &str = r#"
@@ -134,7 +133,6 @@ pub(crate) const FRESH: Kept = Kept {
 };
 
 /// What is played on a network, what is printed for it, and what the network's pairs and records then are.
-#[derive(Clone, Copy)]
 pub(crate) struct Case {
     pub(crate) network: &'static str,
     pub(crate) script: &'static [u8],
@@ -409,25 +407,32 @@ fn are_kept(records: &[Record], expected: &[Kept]) -> bool {
 }
 
 /// Whether this is printed for the script of a case, and these are the pairs and records then.
-pub(crate) fn goes_so(alloc: Global, case: &Case) -> Result<bool, Fail> {
-    let config = read_net(alloc, case.network)?;
-    let mut net = Net::on_memory_lines(alloc, &config)?;
-    let printed = played_on(alloc, &mut net, &config, case.script)?;
-    Ok(
-        printed.as_slice() == case.printed.as_bytes()
-            && net.pairs() == case.pairs
-            && are_kept(net.records(), case.records),
-    )
+pub(crate) fn goes_so(alloc: Global, case: &Case) -> bool {
+    match read_net(alloc, case.network) {
+        Ok(config) => match Net::on_memory_lines(alloc, &config) {
+            Ok(mut net) => goes_so_on(alloc, &mut net, &config, case),
+            Err(_) => false,
+        },
+        Err(_) => false,
+    }
+}
+
+fn goes_so_on(alloc: Global, net: &mut Net<MemLine>, config: &Config, case: &Case) -> bool {
+    prints_on(alloc, net, config, case.script, case.printed.as_bytes())
+        && are_pairs(net.pairs(), case.pairs)
+        && are_kept(net.records(), case.records)
+}
+
+fn are_pairs(pairs: &[Pair], expected: &[Pair]) -> bool {
+    pairs == expected
 }
 
 #[test]
-fn networks_keep_records_and_pairs(rt: HostRuntime) -> Result<(), Fail> {
+fn networks_keep_records_and_pairs(rt: HostRuntime) {
     for case in &CASES {
-        let as_expected = goes_so(rt.alloc(), case)?;
         let printed = case.printed;
-        assert!(rt; as_expected, "{printed}");
+        assert!(rt; goes_so(rt.alloc(), case), "{printed}");
     }
-    Ok(())
 }
 
 /// What is played, and at which nodes the call on channel 4 is then confirmed: the first, the second, one that there is
@@ -441,22 +446,20 @@ const CONFIRMED: [(&[u8], [bool; 3]); 3] = [
     (b"take b 4\nflow\n", [true, true, false]),
 ];
 
+fn are_confirmed(net: &Net<MemLine>, [first, second, none]: [bool; 3]) -> bool {
+    net.confirmed(0, 4) == first && net.confirmed(1, 4) == second && net.confirmed(2, 4) == none
+}
+
 #[test]
-fn delivery_is_confirmed(rt: HostRuntime) -> Result<(), Fail> {
-    let config = read_net(rt.alloc(), PAIR)?;
-    let mut net = Net::on_memory_lines(rt.alloc(), &config)?;
-    for (script, [first, second, none]) in CONFIRMED {
-        let _ = played_on(rt.alloc(), &mut net, &config, script)?;
-        assert!(rt;
-            (
-                net.confirmed(0, 4),
-                net.confirmed(1, 4),
-                net.confirmed(2, 4)
-            ) == (first, second, none)
-        );
+fn delivery_is_confirmed(rt: HostRuntime) {
+    let config = read_net(rt.alloc(), PAIR).expect(&rt, "a network");
+    let mut net = Net::on_memory_lines(rt.alloc(), &config).expect(&rt, "a network");
+    for case in &CONFIRMED {
+        let (script, confirmed) = *case;
+        assert!(rt; played_on(rt.alloc(), &mut net, &config, script).is_ok());
+        assert!(rt; are_confirmed(&net, confirmed));
     }
     assert!(rt; !net.confirmed(0, 3));
-    Ok(())
 }
 
 /// CR at terminal 0 of a node.
@@ -496,21 +499,23 @@ const CROSSED: [Kept; 2] = [
 ];
 
 #[test]
-fn events_run_in_order(rt: HostRuntime) -> Result<(), Fail> {
-    let config = read_net(rt.alloc(), FIRST)?;
+fn events_run_in_order(rt: HostRuntime) {
+    let config = read_net(rt.alloc(), FIRST).expect(&rt, "a network");
     let events = [key(0), key(2), take(1, 2), deliver(), take(1, 1)];
-    let mut net = run(rt.alloc(), &config, &events)?;
+    let mut net = run(rt.alloc(), &config, &events).expect(&rt, "a network");
     assert!(rt; !net.at_rest() && are_kept(net.records(), &CROSSED));
-    assert_eq!(rt; net.step(&key(2)).err(), Some(StepFault::NoSuchNode));
-    Ok(())
+    assert!(rt; matches!(net.step(&key(2)), Err(StepFault::NoSuchNode)));
 }
 
 #[test]
-fn seventeen_terminals_are_refused(rt: HostRuntime) -> Result<(), Fail> {
-    let config = read_net(rt.alloc(), CROWDED)?;
-    let bad = RunFault::Made(MakeFault::BadConfig);
-    assert_eq!(rt; run(rt.alloc(), &config, &[]).err(), Some(bad));
-    Ok(())
+fn seventeen_terminals_are_refused(rt: HostRuntime) {
+    let config = read_net(rt.alloc(), CROWDED).expect(&rt, "a network");
+    assert!(rt;
+        matches!(
+            run(rt.alloc(), &config, &[]),
+            Err(RunFault::Made(MakeFault::BadConfig))
+        )
+    );
 }
 
 /// What is done with a line: a frame of this octet alone is put, or comes where one does, or all frames are lost.
@@ -556,10 +561,9 @@ fn does(line: &mut MemLine, step: LineStep) -> bool {
 }
 
 #[test]
-fn a_line_keeps_frames_in_order(rt: HostRuntime) -> Result<(), Fail> {
-    let mut line = MemLine::new(rt.alloc())?;
-    for step in LINE_STEPS {
-        assert!(rt; does(&mut line, step));
+fn a_line_keeps_frames_in_order(rt: HostRuntime) {
+    let mut line = MemLine::new(rt.alloc()).expect(&rt, "a line");
+    for step in &LINE_STEPS {
+        assert!(rt; does(&mut line, *step));
     }
-    Ok(())
 }

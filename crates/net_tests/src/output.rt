@@ -1,8 +1,8 @@
 //! What the program prints through a buffer: whole lines at a time, and a flush whose failure is a fault.
 use net_player::{finish, perform};
+use std::alloc::{AllocError, Global};
 use std::io;
 use std::io::{BufWriter, Write};
-use std::test::Fail;
 
 /// A writer that keeps its text, and counts the writes that do not end with a line.
 #[derive(Drop)]
@@ -30,45 +30,57 @@ impl Write for Kept {
 /// How many lines a script has, each with a line of twelve octets for its answer.
 const LINES: usize = 400;
 
-#[test]
-fn lines_are_written_whole(rt: HostRuntime) -> Result<(), Fail> {
-    let mut script = Vec::new(rt.alloc());
-    let mut printed = Vec::new(rt.alloc());
-    for _ in 0..LINES {
-        script.extend_from_slice(b"take host 1\n")?;
-        printed.extend_from_slice(b"host/1 none\n")?;
+/// So many times a line, and another text behind that.
+pub(crate) fn long(
+    alloc: Global,
+    lines: usize,
+    line: &[u8],
+    last: &[u8],
+) -> Result<Vec<u8>, AllocError> {
+    let mut text = Vec::new(alloc);
+    for _ in 0..lines {
+        text.extend_from_slice(line)?;
     }
-    printed.extend_from_slice(b"end rest\n")?;
+    text.extend_from_slice(last)?;
+    Ok(text)
+}
+
+#[test]
+fn lines_are_written_whole(rt: HostRuntime) {
+    let script = long(rt.alloc(), LINES, b"take host 1\n", b"").expect(&rt, "a script");
+    let printed = long(rt.alloc(), LINES, b"host/1 none\n", b"end rest\n").expect(&rt, "a text");
     let kept = Kept {
         text: Vec::new(rt.alloc()),
         writes: 0,
         cut: 0,
     };
-    let mut out = BufWriter::with_capacity(rt.alloc(), 1_000, kept)?;
+    let mut out = BufWriter::with_capacity(rt.alloc(), 1_000, kept).expect(&rt, "a buffer");
     let mut err = Vec::new(rt.alloc());
     let mut input = script.as_slice();
     let status = perform(&rt, rt.alloc(), &[], &mut input, &mut out, &mut err);
     let status = finish(status, &out.flush(), &mut err);
-    assert_eq!(rt; status, 0);
-    assert!(rt; err.is_empty());
+    assert!(rt; status == 0 && err.is_empty());
     let kept = out.get_ref();
     assert!(rt; kept.text.as_slice() == printed.as_slice());
     assert!(rt; kept.cut == 0 && kept.writes <= 6);
-    Ok(())
+}
+
+/// Whether of a flush that fails this is told, and the status is so, and of one that does not it stays as it was.
+fn ends_so(alloc: Global, status: u8, ended: u8, told: &[u8]) -> bool {
+    let refused = Err(io::Error::from(io::ErrorKind::BrokenPipe));
+    let mut err = Vec::new(alloc);
+    finish(status, &refused, &mut err) == ended
+        && err.as_slice() == told
+        && finish(status, &Ok(()), &mut err) == status
 }
 
 #[test]
-fn a_flush_that_fails_is_a_fault(rt: HostRuntime) -> Result<(), Fail> {
-    let refused = Err(io::Error::from(io::ErrorKind::BrokenPipe));
-    for (status, ended, told) in [
-        (0, 1, b"fault 5\n".as_slice()),
-        (1, 1, b"".as_slice()),
-        (2, 2, b"".as_slice()),
-    ] {
-        let mut err = Vec::new(rt.alloc());
-        assert_eq!(rt; finish(status, &refused, &mut err), ended);
-        assert_eq!(rt; err.as_slice(), told);
-        assert_eq!(rt; finish(status, &Ok(()), &mut err), status);
+fn a_flush_that_fails_is_a_fault(rt: HostRuntime) {
+    const ENDS: [(u8, u8, &[u8]); 3] = [(0, 1, b"fault 5\n"), (1, 1, b""), (2, 2, b"")];
+    for (status, ended, told) in &ENDS {
+        assert!(rt;
+            ends_so(rt.alloc(), *status, *ended, told),
+            "status {status}"
+        );
     }
-    Ok(())
 }

@@ -1,13 +1,12 @@
-use net_files::{Command, FIRST, ProgFault, read_net, read_script};
+use net_files::{Command, FIRST, ProgFault, Script, read_net, read_script};
 use net_player::{
-    Config, Event, LineConfig, MakeFault, MemLine, Net, NodeConfig, NodeKind, perform, play,
+    Config, Event, Line, LineConfig, MakeFault, Net, NodeConfig, NodeKind, perform, play,
 };
 use packet_codec::Address;
 use std::alloc::{AllocError, Global};
 use std::fs::Files;
 use std::io::{Read, Write};
 use std::process::Abort;
-use std::test::Fail;
 use std::{io, net};
 use udp_line::UdpLine;
 use x3_params::Profile;
@@ -110,101 +109,134 @@ dte = "pad"
 dce = "host"
 "#;
 
-/// Plays a script on a network of this text, and gives what is printed.
-pub(crate) fn played(alloc: Global, network: &str, script: &[u8]) -> Result<Vec<u8>, Fail> {
-    let config = read_net(alloc, network)?;
-    let mut net = Net::on_memory_lines(alloc, &config)?;
-    played_on(alloc, &mut net, &config, script)
+/// A text in two parts.
+pub(crate) fn joined(alloc: Global, first: &str, second: &str) -> Result<String, AllocError> {
+    let mut text = first.to_string(alloc)?;
+    text.push_str(second)?;
+    Ok(text)
+}
+
+/// Whether this is printed for a script on a network of this text.
+pub(crate) fn prints(alloc: Global, network: &str, script: &[u8], printed: &[u8]) -> bool {
+    match read_net(alloc, network) {
+        Ok(config) => match Net::on_memory_lines(alloc, &config) {
+            Ok(mut net) => prints_on(alloc, &mut net, &config, script, printed),
+            Err(_) => false,
+        },
+        Err(_) => false,
+    }
+}
+
+/// Whether this is printed for a script on a network of this configuration.
+pub(crate) fn prints_on<L: Line>(
+    alloc: Global,
+    net: &mut Net<L>,
+    config: &Config,
+    script: &[u8],
+    printed: &[u8],
+) -> bool {
+    match played_on(alloc, net, config, script) {
+        Ok(out) => out.as_slice() == printed,
+        Err(_) => false,
+    }
 }
 
 /// Plays a script on a network of this configuration, and gives what is printed.
-pub(crate) fn played_on(
+pub(crate) fn played_on<L: Line>(
     alloc: Global,
-    net: &mut Net<MemLine>,
+    net: &mut Net<L>,
     config: &Config,
     script: &[u8],
-) -> Result<Vec<u8>, Fail> {
+) -> Result<Vec<u8>, ProgFault> {
     let script = read_script(alloc, script, config)?;
     let mut out = Vec::new(alloc);
     play(alloc, net, &script, &mut out)?;
     Ok(out)
 }
 
-/// The program on these words and this input ends with the status, what it prints and what it tells.
+/// The program on the words of a line and this input ends with the status, what it prints and what it tells.
 pub(crate) fn ends<F: Files + net::Net + Abort, R: Read>(
     rt: &F,
     alloc: Global,
-    words: &[String],
+    line: &str,
     input: &mut R,
     status: u8,
     printed: &[u8],
     told: &[u8],
 ) {
+    let words = words_of(alloc, line).expect(rt, "words");
     let mut out = Vec::new(alloc);
     let mut err = Vec::new(alloc);
-    let ended = perform(rt, alloc, words, input, &mut out, &mut err);
-    assert!(rt; ended == status, "{printed:?}");
-    assert_eq!(rt; out.as_slice(), printed);
-    assert_eq!(rt; err.as_slice(), told);
+    let ended = perform(rt, alloc, words.as_slice(), input, &mut out, &mut err);
+    let fits = ended == status && out.as_slice() == printed && err.as_slice() == told;
+    assert!(rt; fits, "{line} {printed:?} {told:?}");
 }
 
-#[test]
-fn a_link_is_set_up_and_begins_with_restarts(rt: HostRuntime) -> Result<(), Fail> {
-    let printed = played(rt.alloc(), DIRECT, b"trace on\nflow\n")?;
-    let expected: &[u8] =
-        b"0 < 01 73\n0 > 01 11\n0 < 01 11\n0 < 03 00 10 00 FB 07 00\n0 > 01 00 10 00 FB 00 00\n0 < 01 21\n0 > 03 21\nend rest\n";
-    assert_eq!(rt; printed.as_slice(), expected);
-    Ok(())
-}
-
-#[test]
-fn a_line_over_sockets_plays_what_one_in_memory_does(rt: HostRuntime) -> Result<(), Fail> {
-    let config = read_net(rt.alloc(), FIRST)?;
-    let script: &[u8] = b"key pad 0 HEX\\7FLLO\\0D\nflow\ntake host 1\nflow\n";
-    let script = read_script(rt.alloc(), script, &config)?;
-    let lines = vec![in rt.alloc(); UdpLine::pair(&rt, rt.alloc())?]?;
-    assert!(rt; lines.len() == config.lines.len());
-    let mut net = Net::new(rt.alloc(), &config, lines)?;
-    let mut out = Vec::new(rt.alloc());
-    play(rt.alloc(), &mut net, &script, &mut out)?;
-    let expected: &[u8] = b"host/1 data - \"HELLO\\0D\"\nend rest\n";
-    assert_eq!(rt; out.as_slice(), expected);
-    Ok(())
-}
-
-#[test]
-fn a_link_window_of_eight_is_refused(rt: HostRuntime) -> Result<(), Fail> {
-    let text = format!(in rt.alloc(); "{DIRECT}k = 8\n")?;
-    let config = read_net(rt.alloc(), text.as_str())?;
-    let fault = Net::on_memory_lines(rt.alloc(), &config).err();
-    assert_eq!(rt; fault, Some(MakeFault::BadConfig));
-    Ok(())
-}
-
-#[test]
-fn a_lost_link_closes_the_call(rt: HostRuntime) -> Result<(), Fail> {
-    let printed = played(
-        rt.alloc(),
-        FIRST,
-        b"key pad 0 OLD\\0D\nrelink 0\nflow\nkey pad 0 NEW\\0D\ntake host 1\nrestart host\nflow\n",
-    )?;
-    let expected: &[u8] = b"host/1 cleared 9 0\nhost/1 none\nend rest\n";
-    assert_eq!(rt; printed.as_slice(), expected);
-    Ok(())
-}
-
-#[test]
-fn scripts_are_played(rt: HostRuntime) -> Result<(), Fail> {
-    for (script, printed, told) in PLAYED {
-        let status = if told.is_empty() { 0 } else { 1 };
-        let mut input = script;
-        ends(&rt, rt.alloc(), &[], &mut input, status, printed, told);
+/// The words of a line.
+fn words_of(alloc: Global, line: &str) -> Result<Vec<String>, AllocError> {
+    let mut words = Vec::new(alloc);
+    for word in line.split_whitespace() {
+        words.push(word.to_string(alloc)?)?;
     }
-    Ok(())
+    Ok(words)
+}
+
+#[test]
+fn a_link_is_set_up_and_begins_with_restarts(rt: HostRuntime) {
+    const PRINTED: &[u8] =
+        b"0 < 01 73\n0 > 01 11\n0 < 01 11\n0 < 03 00 10 00 FB 07 00\n0 > 01 00 10 00 FB 00 00\n0 < 01 21\n0 > 03 21\nend rest\n";
+    assert!(rt; prints(rt.alloc(), DIRECT, b"trace on\nflow\n", PRINTED));
+}
+
+#[test]
+fn a_line_over_sockets_plays_what_one_in_memory_does(rt: HostRuntime) {
+    const SCRIPT: &[u8] = b"key pad 0 HEX\\7FLLO\\0D\nflow\ntake host 1\nflow\n";
+    const PRINTED: &[u8] = b"host/1 data - \"HELLO\\0D\"\nend rest\n";
+    let config = read_net(rt.alloc(), FIRST).expect(&rt, "a network");
+    let mut lines = Vec::new(rt.alloc());
+    let line = UdpLine::pair(&rt, rt.alloc()).expect(&rt, "a line");
+    lines.push(line).expect(&rt, "a list of lines");
+    assert!(rt; lines.len() == config.lines.len());
+    let mut net = Net::new(rt.alloc(), &config, lines).expect(&rt, "a network");
+    assert!(rt; prints_on(rt.alloc(), &mut net, &config, SCRIPT, PRINTED));
+}
+
+/// Why a network of a text is not made, where it is spelled as one.
+fn make_fault_of(alloc: Global, text: &str) -> Option<MakeFault> {
+    match read_net(alloc, text) {
+        Ok(config) => match Net::on_memory_lines(alloc, &config) {
+            Ok(_) => None,
+            Err(fault) => Some(fault),
+        },
+        Err(_) => None,
+    }
+}
+
+#[test]
+fn a_link_window_of_eight_is_refused(rt: HostRuntime) {
+    let text = joined(rt.alloc(), DIRECT, "k = 8\n").expect(&rt, "a text");
+    assert!(rt; make_fault_of(rt.alloc(), text.as_str()) == Some(MakeFault::BadConfig));
+}
+
+#[test]
+fn a_lost_link_closes_the_call(rt: HostRuntime) {
+    const SCRIPT: &[u8] =
+        b"key pad 0 OLD\\0D\nrelink 0\nflow\nkey pad 0 NEW\\0D\ntake host 1\nrestart host\nflow\n";
+    const PRINTED: &[u8] = b"host/1 cleared 9 0\nhost/1 none\nend rest\n";
+    assert!(rt; prints(rt.alloc(), FIRST, SCRIPT, PRINTED));
+}
+
+#[test]
+fn scripts_are_played(rt: HostRuntime) {
+    for (script, printed, told) in &PLAYED {
+        let status = if told.is_empty() { 0 } else { 1 };
+        let mut input = *script;
+        ends(&rt, rt.alloc(), "", &mut input, status, printed, told);
+    }
 }
 
 /// Lines that are no commands.
-const NO_COMMANDS: [&[u8]; 35] = [
+const NO_COMMANDS: &[&[u8]] = &[
     b"FLOW",
     b" ",
     b" flow",
@@ -243,7 +275,7 @@ const NO_COMMANDS: [&[u8]; 35] = [
 ];
 
 /// Lines with the words of hosts that are no commands.
-const NO_HOST_COMMANDS: [&[u8]; 42] = [
+const NO_HOST_COMMANDS: &[&[u8]] = &[
     b"call",
     b"call host",
     b"call host ",
@@ -289,7 +321,7 @@ const NO_HOST_COMMANDS: [&[u8]; 42] = [
 ];
 
 /// Lines with the words of terminals that are no commands.
-const NO_TERMINAL_COMMANDS: [&[u8]; 16] = [
+const NO_TERMINAL_COMMANDS: &[&[u8]] = &[
     b"break",
     b"break pad",
     b"break pod 0",
@@ -309,21 +341,22 @@ const NO_TERMINAL_COMMANDS: [&[u8]; 16] = [
 ];
 
 #[test]
-fn lines_that_are_no_commands_are_refused(rt: HostRuntime) -> Result<(), Fail> {
-    let config = read_net(rt.alloc(), FIRST)?;
-    for line in NO_COMMANDS {
-        let fault = read_script(rt.alloc(), line, &config).err();
-        assert_eq!(rt; fault, Some(ProgFault::Script(1)), "{line:?}");
+fn lines_that_are_no_commands_are_refused(rt: HostRuntime) {
+    let config = read_net(rt.alloc(), FIRST).expect(&rt, "a network");
+    are_refused(&rt, rt.alloc(), NO_COMMANDS, &config);
+    are_refused(&rt, rt.alloc(), NO_HOST_COMMANDS, &config);
+    are_refused(&rt, rt.alloc(), NO_TERMINAL_COMMANDS, &config);
+}
+
+fn are_refused(rt: &impl Abort, alloc: Global, lines: &[&[u8]], config: &Config) {
+    for line in lines {
+        assert!(rt; is_refused(alloc, line, config), "{line:?}");
     }
-    for line in NO_HOST_COMMANDS {
-        let fault = read_script(rt.alloc(), line, &config).err();
-        assert_eq!(rt; fault, Some(ProgFault::Script(1)), "{line:?}");
-    }
-    for line in NO_TERMINAL_COMMANDS {
-        let fault = read_script(rt.alloc(), line, &config).err();
-        assert_eq!(rt; fault, Some(ProgFault::Script(1)), "{line:?}");
-    }
-    Ok(())
+}
+
+/// Whether a line, the first of a script, is no command.
+fn is_refused(alloc: Global, line: &[u8], config: &Config) -> bool {
+    matches!(read_script(alloc, line, config), Err(ProgFault::Script(1)))
 }
 
 /// Lines, and the commands that they are.
@@ -446,22 +479,29 @@ const COMMANDS: [(&[u8], &str); 35] = [
     ),
 ];
 
-/// How the commands of a script are shown.
-fn shown(alloc: Global, text: &[u8], config: &Config) -> Result<String, Fail> {
-    let script = read_script(alloc, text, config)?;
-    let commands = script.commands.as_slice();
-    Ok(format!(in alloc; "{commands:?}")?)
+/// Whether the commands of a script are shown so.
+fn is_shown(alloc: Global, text: &[u8], config: &Config, expected: &str) -> bool {
+    match read_script(alloc, text, config) {
+        Ok(script) => {
+            let commands = script.commands.as_slice();
+            match (
+                format!(in alloc; "{commands:?}"),
+                format!(in alloc; "[{expected}]"),
+            ) {
+                (Ok(shown), Ok(expected)) => shown.as_str() == expected.as_str(),
+                _ => false,
+            }
+        }
+        Err(_) => false,
+    }
 }
 
 #[test]
-fn lines_are_read(rt: HostRuntime) -> Result<(), Fail> {
-    let config = read_net(rt.alloc(), FIRST)?;
-    for (line, expected) in COMMANDS {
-        let shown = shown(rt.alloc(), line, &config)?;
-        let expected = format!(in rt.alloc(); "[{expected}]")?;
-        assert_eq!(rt; shown.as_str(), expected.as_str());
+fn lines_are_read(rt: HostRuntime) {
+    let config = read_net(rt.alloc(), FIRST).expect(&rt, "a network");
+    for (line, expected) in &COMMANDS {
+        assert!(rt; is_shown(rt.alloc(), line, &config, expected), "{expected}");
     }
-    Ok(())
 }
 
 /// Whether a command is one call of a node, of this address and with so much user data.
@@ -479,35 +519,44 @@ fn is_call(command: &Command, caller: usize, called: Address, octets: usize) -> 
     }
 }
 
-#[test]
-fn calls_are_read(rt: HostRuntime) -> Result<(), Fail> {
-    let config = read_net(rt.alloc(), FIRST)?;
-    let text = b"call pad 123456789012345\ncall host 2001 \\00 23456789012345";
-    let script = read_script(rt.alloc(), text, &config)?;
-    let long = Address::read(b"123456789012345")?;
-    let short = Address::read(b"2001")?;
-    assert!(rt;
-        match script.commands.as_slice() {
-            [first, second] => is_call(first, 0, long, 0) && is_call(second, 1, short, 16),
-            _ => false,
+/// Whether the commands are two calls, one of the longest address and one with the most user data.
+fn are_calls(commands: &[Command]) -> bool {
+    match (
+        commands,
+        Address::read(b"123456789012345"),
+        Address::read(b"2001"),
+    ) {
+        ([first, second], Ok(long), Ok(short)) => {
+            is_call(first, 0, long, 0) && is_call(second, 1, short, 16)
         }
-    );
-    Ok(())
+        _ => false,
+    }
 }
 
 #[test]
-fn scripts_are_read(rt: HostRuntime) -> Result<(), Fail> {
-    let config = read_net(rt.alloc(), FIRST)?;
-    let text = b"\ndeliver 65535 <\nflow\nkey host 65535 A\n\ntake pad 00007";
-    let script = read_script(rt.alloc(), text, &config)?;
-    assert!(rt; script.lines == 1 && script.commands.len() == 4);
-    assert!(rt;
-        match script.names.as_slice() {
+fn calls_are_read(rt: HostRuntime) {
+    const TEXT: &[u8] = b"call pad 123456789012345\ncall host 2001 \\00 23456789012345";
+    let config = read_net(rt.alloc(), FIRST).expect(&rt, "a network");
+    let script = read_script(rt.alloc(), TEXT, &config).expect(&rt, "a script");
+    assert!(rt; are_calls(script.commands.as_slice()));
+}
+
+/// Whether a script is one of four commands on a network of a PAD and a host with one line.
+fn is_first_script(script: &Script) -> bool {
+    script.lines == 1
+        && script.commands.len() == 4
+        && match script.names.as_slice() {
             [pad, host] => pad.as_str() == "pad" && host.as_str() == "host",
             _ => false,
         }
-    );
-    Ok(())
+}
+
+#[test]
+fn scripts_are_read(rt: HostRuntime) {
+    const TEXT: &[u8] = b"\ndeliver 65535 <\nflow\nkey host 65535 A\n\ntake pad 00007";
+    let config = read_net(rt.alloc(), FIRST).expect(&rt, "a network");
+    let script = read_script(rt.alloc(), TEXT, &config).expect(&rt, "a script");
+    assert!(rt; is_first_script(&script));
 }
 
 const NODES: &str =
@@ -575,29 +624,40 @@ const NETWORKS: [&str; 8] = [
     "[[route]]\nswitch = \"a\"\nprefix = \"0\"\nline = 65535",
 ];
 
+/// Why a text is no network, or nothing where it is one.
+fn fault_of(alloc: Global, text: &str) -> Option<ProgFault> {
+    match read_net(alloc, text) {
+        Ok(_) => None,
+        Err(fault) => Some(fault),
+    }
+}
+
+/// The same of a text behind the list of nodes.
+fn fault_behind_nodes(alloc: Global, text: &str) -> Option<ProgFault> {
+    match format!(in alloc; "{NODES}{text}\n") {
+        Ok(text) => fault_of(alloc, text.as_str()),
+        Err(_) => Some(ProgFault::OutOfMemory),
+    }
+}
+
 #[test]
-fn networks_are_read(rt: HostRuntime) -> Result<(), Fail> {
-    for text in ["[node]", "node = 1", "node = [1]", "line = {}", "=", "a"] {
-        assert_eq!(rt;
-            read_net(rt.alloc(), text).err(),
-            Some(ProgFault::NetText),
+fn networks_are_read(rt: HostRuntime) {
+    const NO_TABLES: [&str; 6] = ["[node]", "node = 1", "node = [1]", "line = {}", "=", "a"];
+    for text in &NO_TABLES {
+        assert!(rt;
+            fault_of(rt.alloc(), text) == Some(ProgFault::NetText),
             "{text}"
         );
     }
-    for text in NO_NETWORKS {
-        let whole = format!(in rt.alloc(); "{NODES}{text}\n")?;
-        assert_eq!(rt;
-            read_net(rt.alloc(), whole.as_str()).err(),
-            Some(ProgFault::NetText),
-            "{text}"
-        );
+    for text in &NO_NETWORKS {
+        let fault = fault_behind_nodes(rt.alloc(), text);
+        assert!(rt; fault == Some(ProgFault::NetText), "{text}");
     }
-    for text in NETWORKS {
-        let whole = format!(in rt.alloc(); "{NODES}{text}\n")?;
-        assert_eq!(rt; read_net(rt.alloc(), whole.as_str()).err(), None, "{text}");
+    for text in &NETWORKS {
+        assert!(rt; fault_behind_nodes(rt.alloc(), text).is_none(), "{text}");
     }
-    assert_eq!(rt; read_net(rt.alloc(), "node = []")?.nodes.len(), 0);
-    Ok(())
+    let empty = read_net(rt.alloc(), "node = []").expect(&rt, "a network");
+    assert!(rt; empty.nodes.len() == 0);
 }
 
 /// Whether the first node is a PAD of one terminal with two parameters set.
@@ -620,18 +680,19 @@ fn is_first_line(line: &LineConfig) -> bool {
         && (line.channels, line.window, line.k, line.n2, line.standing) == (1, 2, 7, 3, true)
 }
 
-#[test]
-fn the_first_network_is_read(rt: HostRuntime) -> Result<(), Fail> {
-    let config = read_net(rt.alloc(), FIRST)?;
-    assert!(rt; config.nodes.len() == 2 && config.routes.is_empty());
-    assert!(rt; config.nodes.first().is_some_and(is_first_pad));
-    assert!(rt;
-        match config.lines.as_slice() {
-            [line] => is_first_line(line),
+/// Whether a network has a PAD as the first of two nodes, one line and no routes.
+fn is_first(config: &Config) -> bool {
+    config.routes.is_empty()
+        && match (config.nodes.as_slice(), config.lines.as_slice()) {
+            ([pad, _], [line]) => is_first_pad(pad) && is_first_line(line),
             _ => false,
         }
-    );
-    Ok(())
+}
+
+#[test]
+fn the_first_network_is_read(rt: HostRuntime) {
+    let config = read_net(rt.alloc(), FIRST).expect(&rt, "a network");
+    assert!(rt; is_first(&config));
 }
 
 /// A reader and writer that fails.
@@ -654,54 +715,19 @@ impl Write for Broken {
     }
 }
 
-/// The words of a line.
-pub(crate) fn words_of(alloc: Global, line: &str) -> Result<Vec<String>, AllocError> {
-    let mut words = Vec::new(alloc);
-    for word in line.split_whitespace() {
-        words.push(word.to_string(alloc)?)?;
-    }
-    Ok(words)
-}
-
 #[test]
-fn faults_are_told(rt: HostRuntime) -> Result<(), Fail> {
-    let words = words_of(rt.alloc(), "dance")?;
+fn faults_are_told(rt: HostRuntime) {
+    const RUN: &str = "run --net nowhere/net --script nowhere/script";
+    const SIM: &str = "sim --net nowhere/net --script nowhere/script";
     let mut flow: &[u8] = b"flow";
-    ends(
-        &rt,
-        rt.alloc(),
-        words.as_slice(),
-        &mut flow,
-        2,
-        b"",
-        b"bad words\n",
-    );
-    let words = words_of(rt.alloc(), "run --net nowhere/net --script nowhere/script")?;
-    ends(
-        &rt,
-        rt.alloc(),
-        words.as_slice(),
-        &mut flow,
-        1,
-        b"",
-        b"fault 7\n",
-    );
-    let words = words_of(rt.alloc(), "sim --net nowhere/net --script nowhere/script")?;
-    ends(
-        &rt,
-        rt.alloc(),
-        words.as_slice(),
-        &mut flow,
-        1,
-        b"",
-        b"fault 7\n",
-    );
-    ends(&rt, rt.alloc(), &[], &mut Broken, 1, b"", b"fault 7\n");
+    ends(&rt, rt.alloc(), "dance", &mut flow, 2, b"", b"bad words\n");
+    ends(&rt, rt.alloc(), RUN, &mut flow, 1, b"", b"fault 7\n");
+    ends(&rt, rt.alloc(), SIM, &mut flow, 1, b"", b"fault 7\n");
+    ends(&rt, rt.alloc(), "", &mut Broken, 1, b"", b"fault 7\n");
     let mut long = io::repeat(b'\n').take(1_048_577);
-    ends(&rt, rt.alloc(), &[], &mut long, 1, b"", b"fault 7\n");
+    ends(&rt, rt.alloc(), "", &mut long, 1, b"", b"fault 7\n");
     let mut full = io::repeat(b'\n').take(1_048_576);
-    ends(&rt, rt.alloc(), &[], &mut full, 0, b"end rest\n", b"");
-    Ok(())
+    ends(&rt, rt.alloc(), "", &mut full, 0, b"end rest\n", b"");
 }
 
 #[test]
@@ -709,6 +735,5 @@ fn output_that_cannot_be_written_is_a_fault(rt: HostRuntime) {
     let mut flow: &[u8] = b"flow";
     let mut err = Vec::new(rt.alloc());
     let status = perform(&rt, rt.alloc(), &[], &mut flow, &mut Broken, &mut err);
-    assert_eq!(rt; status, 1);
-    assert_eq!(rt; err.as_slice(), b"fault 5\n".as_slice());
+    assert!(rt; status == 1 && err.as_slice() == b"fault 5\n".as_slice());
 }

@@ -1,9 +1,8 @@
 //! Calls through a switch.
 use crate::networks::{Case, FIRST_PAIR, FRESH, Kept, goes_so};
-use crate::programs::played;
+use crate::programs::{joined, prints};
 use net_player::Pair;
-use std::str::from_utf8;
-use std::test::Fail;
+use std::alloc::Global;
 
 /// Two hosts at a switch, of which the second has one channel.
 pub(crate) const SWITCHED: &str = r#"
@@ -147,13 +146,11 @@ const CASES: [Case; 4] = [
 ];
 
 #[test]
-fn calls_through_a_switch_keep_records_and_pairs(rt: HostRuntime) -> Result<(), Fail> {
+fn calls_through_a_switch_keep_records_and_pairs(rt: HostRuntime) {
     for case in &CASES {
-        let as_expected = goes_so(rt.alloc(), case)?;
         let printed = case.printed;
-        assert!(rt; as_expected, "{printed}");
+        assert!(rt; goes_so(rt.alloc(), case), "{printed}");
     }
-    Ok(())
 }
 
 /// What is played with a call of the first host to the second, and what is printed for it.
@@ -175,17 +172,23 @@ const IN_A_CALL: [(&str, &str); 3] = [
     ),
 ];
 
-#[test]
-fn hosts_use_a_call_through_a_switch(rt: HostRuntime) -> Result<(), Fail> {
-    for (script, printed) in IN_A_CALL {
-        let whole = format!(in rt.alloc();
-            "flow\ncall h1 2001\nflow\nanswer h2 1\nflow\n{script}"
-        )?;
-        let out = played(rt.alloc(), SWITCHED, whole.as_bytes())?;
-        let expected = format!(in rt.alloc();
-            "h1/4 called\nh2/1 incoming 1001\nh1/4 connected\n{printed}"
-        )?;
-        assert_eq!(rt; from_utf8(out.as_slice())?, expected.as_str());
+/// The call of the first host to the second, and what is printed for it.
+const CALL: &str = "flow\ncall h1 2001\nflow\nanswer h2 1\nflow\n";
+
+const CALLED: &str = "h1/4 called\nh2/1 incoming 1001\nh1/4 connected\n";
+
+fn prints_in_a_call(alloc: Global, script: &str, printed: &str) -> bool {
+    match (joined(alloc, CALL, script), joined(alloc, CALLED, printed)) {
+        (Ok(script), Ok(printed)) => {
+            prints(alloc, SWITCHED, script.as_bytes(), printed.as_bytes())
+        }
+        _ => false,
     }
-    Ok(())
+}
+
+#[test]
+fn hosts_use_a_call_through_a_switch(rt: HostRuntime) {
+    for (script, printed) in &IN_A_CALL {
+        assert!(rt; prints_in_a_call(rt.alloc(), script, printed), "{script}");
+    }
 }
