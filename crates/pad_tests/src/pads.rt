@@ -1,6 +1,6 @@
 //! Calls of terminals through a PAD.
 
-use crate::steps::{Step, play};
+use crate::steps::{Example, Step, play};
 use Step::{
     BreakDropped, Breaks, Drops, Due, Elapse, Expires, FarAccepts, FarCalls, FarClears, FarHears,
     FarInterrupted, FarIsTold, FarResets, FarSends, FarTakes, FarTakesNothing, FarTells, Flow,
@@ -8,13 +8,12 @@ use Step::{
 };
 use link_timers::TimerId;
 
-#[test]
-fn dials_types_and_is_cleared(rt: HostRuntime) {
-    play(
-        &rt,
-        rt.alloc(),
-        false,
-        &[
+// Calls of both sides.
+const CALLS: &[Example] = &[
+    Example {
+        rule: "dials types and is cleared",
+        standing: false,
+        steps: &[
             Type(0, b"2001\r"),
             // the restart of the packet layer is not done
             Prints(0, b"2001\r\r\nCLR DER\r\n"),
@@ -40,16 +39,11 @@ fn dials_types_and_is_cleared(rt: HostRuntime) {
             Prints(1, b""),
             Rests(true),
         ],
-    );
-}
-
-#[test]
-fn has_a_channel_for_each_call(rt: HostRuntime) {
-    play(
-        &rt,
-        rt.alloc(),
-        false,
-        &[
+    },
+    Example {
+        rule: "has a channel for each call",
+        standing: false,
+        steps: &[
             Flow,
             Type(0, b"1\r"),
             Type(1, b"2\r"),
@@ -77,16 +71,11 @@ fn has_a_channel_for_each_call(rt: HostRuntime) {
             Flow,
             FarHears(1),
         ],
-    );
-}
-
-#[test]
-fn finds_no_channel(rt: HostRuntime) {
-    play(
-        &rt,
-        rt.alloc(),
-        false,
-        &[
+    },
+    Example {
+        rule: "finds no channel",
+        standing: false,
+        steps: &[
             Flow,
             Type(0, b"1\r"),
             FarCalls,
@@ -102,16 +91,22 @@ fn finds_no_channel(rt: HostRuntime) {
             Flow,
             Prints(0, b"1\r\r\nCLR ERR\r\n"),
         ],
-    );
-}
+    },
+];
 
 #[test]
-fn answers_messages_of_the_far_end(rt: HostRuntime) {
-    play(
-        &rt,
-        rt.alloc(),
-        true,
-        &[
+fn pads_have_calls(rt: HostRuntime) {
+    for example in CALLS {
+        play(&rt, rt.alloc(), example);
+    }
+}
+
+// Messages, breaks and resets.
+const MESSAGES: &[Example] = &[
+    Example {
+        rule: "answers messages of the far end",
+        standing: true,
+        steps: &[
             Flow,
             FarTells(1, b"\x02\x02\x00\x0B\x01"),
             Flow,
@@ -129,16 +124,11 @@ fn answers_messages_of_the_far_end(rt: HostRuntime) {
             Flow,
             Rests(true),
         ],
-    );
-}
-
-#[test]
-fn breaks(rt: HostRuntime) {
-    play(
-        &rt,
-        rt.alloc(),
-        true,
-        &[
+    },
+    Example {
+        rule: "breaks",
+        standing: true,
+        steps: &[
             Type(0, b"\x10SET 7:21\r"),
             Prints(0, b"SET 7:21\r\r\n"),
             Breaks(0),
@@ -158,16 +148,11 @@ fn breaks(rt: HostRuntime) {
             Flow,
             FarInterrupted(1, b"\x01"),
         ],
-    );
-}
-
-#[test]
-fn resets_and_keeps_held_text(rt: HostRuntime) {
-    play(
-        &rt,
-        rt.alloc(),
-        true,
-        &[
+    },
+    Example {
+        rule: "resets and keeps held text",
+        standing: true,
+        steps: &[
             Type(0, b"AB"),
             Type(0, b"\x10RESET\r"),
             // the own reset is not confirmed
@@ -184,16 +169,22 @@ fn resets_and_keeps_held_text(rt: HostRuntime) {
             Flow,
             Prints(0, b"C\r\r\nRESET DTE\r\n"),
         ],
-    );
-}
+    },
+];
 
 #[test]
-fn drops_keys_while_the_queue_is_full(rt: HostRuntime) {
-    play(
-        &rt,
-        rt.alloc(),
-        true,
-        &[
+fn pads_answer_the_far_end(rt: HostRuntime) {
+    for example in MESSAGES {
+        play(&rt, rt.alloc(), example);
+    }
+}
+
+// What is held, and lines that are lost.
+const FLOW: &[Example] = &[
+    Example {
+        rule: "drops keys while the queue is full",
+        standing: true,
+        steps: &[
             Type(0, b"1\r2\r3\r4\r5\r6\r7\r8\r9\r0\r"),
             Prints(0, b"1\r2\r3\r4\r5\r6\r7\r8\r9\r0\r"),
             Type(0, b"A"),
@@ -212,16 +203,11 @@ fn drops_keys_while_the_queue_is_full(rt: HostRuntime) {
             Flow,
             FarTakes(1, b"3\r"),
         ],
-    );
-}
-
-#[test]
-fn stops_its_output(rt: HostRuntime) {
-    play(
-        &rt,
-        rt.alloc(),
-        true,
-        &[
+    },
+    Example {
+        rule: "stops its output",
+        standing: true,
+        steps: &[
             FarSends(1, b"ONE"),
             FarSends(1, b"TWO"),
             Flow,
@@ -234,16 +220,11 @@ fn stops_its_output(rt: HostRuntime) {
             Type(0, b"\r"),
             Prints(0, b"\rTWO"),
         ],
-    );
-}
-
-#[test]
-fn forwards_after_the_idle_time(rt: HostRuntime) {
-    play(
-        &rt,
-        rt.alloc(),
-        true,
-        &[
+    },
+    Example {
+        rule: "forwards after the idle time",
+        standing: true,
+        steps: &[
             Type(0, b"\x10PROF 91\r"),
             Expires(TimerId::Idle(0), false),
             Idles(0),
@@ -262,16 +243,11 @@ fn forwards_after_the_idle_time(rt: HostRuntime) {
             Flow,
             FarTakes(1, b"ABC"),
         ],
-    );
-}
-
-#[test]
-fn loses_the_line_and_begins_anew(rt: HostRuntime) {
-    play(
-        &rt,
-        rt.alloc(),
-        true,
-        &[
+    },
+    Example {
+        rule: "loses the line and begins anew",
+        standing: true,
+        steps: &[
             Type(0, b"OLD\r"),
             Relink,
             Prints(0, b"OLD\r\r\nCLR DER\r\n"),
@@ -281,5 +257,12 @@ fn loses_the_line_and_begins_anew(rt: HostRuntime) {
             Type(1, b"PAR?2\r"),
             Prints(1, b"PAR?2\r\r\nPAR 2:1\r\n"),
         ],
-    );
+    },
+];
+
+#[test]
+fn pads_hold_text(rt: HostRuntime) {
+    for example in FLOW {
+        play(&rt, rt.alloc(), example);
+    }
 }

@@ -59,108 +59,97 @@ struct Bench {
     incoming: u8,
 }
 
-// Plays steps at a PAD of two terminals, on a line of two channels.
-pub(crate) fn play(rt: &impl Abort, alloc: Global, standing: bool, steps: &[Step<'_>]) {
+// A rule, and steps by which it is seen at a PAD, with a call that stands on the first channel or without one.
+pub(crate) struct Example<'a> {
+    pub(crate) rule: &'a str,
+    pub(crate) standing: bool,
+    pub(crate) steps: &'a [Step<'a>],
+}
+
+// Plays the steps of an example at a PAD of two terminals, on a line of two channels.
+pub(crate) fn play(rt: &impl Abort, alloc: Global, example: &Example<'_>) {
     let line = EndParams {
         k: 7,
         n2: 3,
         channels: 2,
         window: 2,
-        standing,
+        standing: example.standing,
     };
     let config = PadConfig {
         line,
         params: Params::profile(Profile::Simple, 14),
         terminals: 2,
     };
-    let (Ok(pad), Ok(far)) = (
-        Pad::new(alloc, config),
-        PacketEnd::new(alloc, Role::Dce, line),
-    ) else {
-        assert!(rt; false, "there is memory");
-        return;
-    };
     let mut bench = Bench {
-        pad,
-        far,
+        pad: Pad::new(alloc, config).expect(rt, "a PAD"),
+        far: PacketEnd::new(alloc, Role::Dce, line).expect(rt, "a far end"),
         sent: Frames::new(),
         answered: Frames::new(),
         incoming: 0,
     };
-    collect(&mut bench);
-    for (place, step) in steps.iter().enumerate() {
-        play_step(rt, &mut bench, *step, place);
+    play_at(rt, &mut bench, example);
+}
+
+fn play_at(rt: &impl Abort, bench: &mut Bench, example: &Example<'_>) {
+    let rule = example.rule;
+    collect(bench);
+    for (place, step) in example.steps.iter().enumerate() {
+        assert!(rt; fits(bench, *step), "{rule}: step {place}");
+        collect(bench);
     }
 }
 
-fn play_step(rt: &impl Abort, bench: &mut Bench, step: Step<'_>, place: usize) {
+// Whether a step gives its answer.
+fn fits(bench: &mut Bench, step: Step<'_>) -> bool {
     match step {
-        Step::Type(terminal, octets) => {
-            for octet in octets {
-                assert!(rt; press(bench, terminal, *octet), "step {place}");
-            }
+        Step::Type(terminal, octets) => types(bench, terminal, octets),
+        Step::Drops(terminal, octet) => !press(bench, terminal, octet),
+        Step::Breaks(terminal) => breaks(bench, terminal),
+        Step::BreakDropped(terminal) => !breaks(bench, terminal),
+        Step::Idles(terminal) => pause(bench, terminal),
+        Step::Prints(terminal, text) => prints(bench, terminal, text),
+        Step::Expires(id, ran) => bench.pad.on_timer(id) == ran,
+        Step::Due(id) => bench.pad.due() == id,
+        Step::Rests(rests) => bench.pad.is_at_rest() == rests,
+        Step::FarHears(channel) => bench.incoming == channel,
+        Step::FarTakes(channel, octets) => far_takes(bench, channel, octets, false),
+        Step::FarIsTold(channel, octets) => far_takes(bench, channel, octets, true),
+        Step::FarInterrupted(channel, octets) => far_interrupted(bench, channel, octets),
+        Step::FarTakesNothing(channel) => bench.far.front(channel).is_none(),
+        _ => {
+            happens(bench, step);
+            true
         }
-        Step::Drops(terminal, octet) => assert!(rt; !press(bench, terminal, octet), "step {place}"),
-        Step::Breaks(terminal) => assert!(rt; breaks(bench, terminal), "step {place}"),
-        Step::BreakDropped(terminal) => assert!(rt; !breaks(bench, terminal), "step {place}"),
-        Step::Idles(terminal) => assert!(rt; pause(bench, terminal), "step {place}"),
-        Step::Prints(terminal, text) => assert!(rt; prints(bench, terminal, text), "step {place}"),
+    }
+}
+
+// What happens without an answer.
+fn happens(bench: &mut Bench, step: Step<'_>) {
+    match step {
         Step::Flow => flow(bench),
-        Step::Expires(id, ran) => assert_eq!(rt; bench.pad.on_timer(id), ran, "step {place}"),
         Step::Elapse(ticks) => bench.pad.elapse(ticks),
-        Step::Due(id) => assert_eq!(rt; bench.pad.due(), id, "step {place}"),
         Step::Relink => bench.pad.relink(),
         Step::Restart => bench.pad.restart(),
-        Step::Rests(rests) => assert_eq!(rt; bench.pad.is_at_rest(), rests, "step {place}"),
-        _ => play_far(rt, bench, step, place),
-    }
-    collect(bench);
-}
-
-fn play_far(rt: &impl Abort, bench: &mut Bench, step: Step<'_>, place: usize) {
-    match step {
-        Step::FarHears(channel) => assert_eq!(rt; bench.incoming, channel, "step {place}"),
         Step::FarAccepts(channel) => far_asks(bench, channel, &Request::Accept),
-        Step::FarClears(channel, cause) => {
-            far_asks(
-                bench,
-                channel,
-                &Request::Clear {
-                    cause,
-                    diagnostic: 0,
-                },
-            );
-        }
-        Step::FarResets(channel) => {
-            far_asks(
-                bench,
-                channel,
-                &Request::Reset {
-                    cause: 0,
-                    diagnostic: 0,
-                },
-            );
-        }
+        Step::FarClears(channel, cause) => far_clears(bench, channel, cause),
+        Step::FarResets(channel) => far_resets(bench, channel),
         Step::FarSends(channel, octets) => far_sends(bench, channel, octets, false),
         Step::FarTells(channel, octets) => far_sends(bench, channel, octets, true),
         Step::FarCalls => far_calls(bench),
-        Step::FarTakes(channel, octets) => {
-            assert!(rt; far_takes(bench, channel, octets, false), "step {place}");
-        }
-        Step::FarIsTold(channel, octets) => {
-            assert!(rt; far_takes(bench, channel, octets, true), "step {place}");
-        }
-        Step::FarInterrupted(channel, octets) => {
-            assert!(rt; far_interrupted(bench, channel, octets), "step {place}");
-        }
-        Step::FarTakesNothing(channel) => {
-            assert!(rt; bench.far.front(channel).is_none(), "step {place}");
-        }
         _ => {}
     }
 }
 
 // ---- the terminals
+
+// Whether each of these keys is taken.
+fn types(bench: &mut Bench, terminal: u8, octets: &[u8]) -> bool {
+    let mut taken = true;
+    for octet in octets {
+        taken = taken && press(bench, terminal, *octet);
+    }
+    taken
+}
 
 fn press(bench: &mut Bench, terminal: u8, octet: u8) -> bool {
     let taken = terminal < bench.pad.terminals()
@@ -236,6 +225,22 @@ fn far_asks(bench: &mut Bench, channel: u8, request: &Request<'_>) {
     bench.far.begin();
     let _ = bench.far.ask(channel, request);
     end_far_event(bench);
+}
+
+fn far_clears(bench: &mut Bench, channel: u8, cause: u8) {
+    let request = Request::Clear {
+        cause,
+        diagnostic: 0,
+    };
+    far_asks(bench, channel, &request);
+}
+
+fn far_resets(bench: &mut Bench, channel: u8) {
+    let request = Request::Reset {
+        cause: 0,
+        diagnostic: 0,
+    };
+    far_asks(bench, channel, &request);
 }
 
 fn far_sends(bench: &mut Bench, channel: u8, octets: &[u8], qualified: bool) {
