@@ -8,7 +8,6 @@ use packet_host::{Host, HostConfig, HostRequest};
 use packet_layer::{CallFault, ChannelFault, Taken, UserData};
 use std::alloc::{AllocError, Global};
 use std::process::Abort;
-use std::test::Fail;
 use x3_params::{Params, Profile};
 use x25_pad::{Pad, PadConfig};
 
@@ -71,6 +70,23 @@ fn asks(
     }
 }
 
+// A host is asked to say so many octets `A` with D = 1.
+fn says(
+    alloc: Global,
+    host: &mut Host,
+    book: &mut Book,
+    length: usize,
+) -> Result<Result<(), ChannelFault>, AllocError> {
+    let mut octets = Vec::new(alloc);
+    octets.resize(length, b'A')?;
+    let message = HostRequest::Say {
+        octets,
+        qualified: false,
+        delivery: true,
+    };
+    asks(host, &message, book)
+}
+
 fn is_packet(packet: Option<Packet<'_>>, octets: &[u8], more: bool, delivery: bool) -> bool {
     match packet {
         Some(packet) => {
@@ -83,133 +99,176 @@ fn is_packet(packet: Option<Packet<'_>>, octets: &[u8], more: bool, delivery: bo
     }
 }
 
-fn is_closed(book: &Book, number: usize) -> bool {
-    match book.records().get(number) {
-        Some(record) => record.closed,
+// Whether the second record has what was said: two packets, the first one full.
+fn has_two_packets(book: &Book) -> bool {
+    match book.records().get(1) {
+        Some(record) => {
+            let mut packets = record.sent.last().packets;
+            packets.len() == 2
+                && is_packet(packets.next(), &[b'A'; 128], true, false)
+                && is_packet(packets.next(), b"AA", false, true)
+        }
         None => false,
     }
 }
 
-fn writes_what_is_said(
-    rt: &impl Abort,
-    alloc: Global,
-    host: &mut Host,
-    book: &mut Book,
-) -> Result<(), Fail> {
-    let message = HostRequest::Say {
-        octets: Vec::from_array(alloc, [b'A'; 130])?,
-        qualified: false,
-        delivery: true,
-    };
-    assert_eq!(rt; asks(host, &message, book)?, Ok(()));
-    let long = HostRequest::Say {
-        octets: Vec::from_array(alloc, [b'A'; 1025])?,
-        qualified: false,
-        delivery: true,
-    };
-    assert_eq!(rt; asks(host, &long, book)?, Err(ChannelFault::TooLong));
-    let Some(record) = book.records().get(1) else {
-        panic!(rt; "a record");
-    };
-    let mut sent = record.sent.last();
-    assert_eq!(rt; sent.packets.len(), 2);
-    assert!(rt; is_packet(sent.packets.next(), &[b'A'; 128], true, false));
-    assert!(rt; is_packet(sent.packets.next(), b"AA", false, true));
-    Ok(())
+// Whether what is said is written: a message in two packets, and none that is too long.
+fn writes_what_is_said(alloc: Global, host: &mut Host, book: &mut Book) -> bool {
+    says(alloc, host, book, 130) == Ok(Ok(()))
+        && says(alloc, host, book, 1025) == Ok(Err(ChannelFault::TooLong))
+        && has_two_packets(book)
 }
 
 #[test]
-fn what_a_host_says_is_written(rt: HostRuntime) -> Result<(), Fail> {
-    let mut book = new_book(rt.alloc())?;
+fn what_a_host_says_is_written(rt: HostRuntime) {
+    let mut book = new_book(rt.alloc()).expect(&rt, "a book");
     let mut host = new_host(&rt, rt.alloc());
-    writes_what_is_said(&rt, rt.alloc(), &mut host, &mut book)
+    assert!(rt; writes_what_is_said(rt.alloc(), &mut host, &mut book));
 }
 
-fn writes_what_is_asked(
-    rt: &impl Abort,
-    alloc: Global,
-    host: &mut Host,
-    book: &mut Book,
-) -> Result<(), Fail> {
-    let interrupt = HostRequest::Interrupt {
-        octets: Vec::from_array(alloc, [7, 8])?,
-    };
-    for request in [
-        &HostRequest::Stop,
-        &HostRequest::Go,
-        &interrupt,
-        &HostRequest::Reset,
-    ] {
-        assert_eq!(rt; asks(host, request, book)?, Ok(()));
+// Whether the second record is of a call that is closed or not, with one epoch behind it.
+fn has_one_epoch(book: &Book, closed: bool) -> bool {
+    match book.records().get(1) {
+        Some(record) => record.closed == closed && record.sent.ended() == 1,
+        None => false,
     }
-    assert_eq!(rt; asks(host, &interrupt, book)?, Err(ChannelFault::Resetting));
-    let Some(record) = book.records().get(1) else {
-        panic!(rt; "a record");
-    };
-    assert_eq!(rt; record.sent.ended(), 1);
-    assert!(rt; !record.closed);
-    for request in [&HostRequest::Answer, &HostRequest::Refuse] {
-        assert_eq!(rt; asks(host, request, book)?, Err(ChannelFault::NoCall));
+}
+
+// What a host is asked, as a constant has it: an interrupt has the octets 7 and 8.
+#[derive(Clone, Copy)]
+enum Asked {
+    Answer,
+    Refuse,
+    Clear,
+    Reset,
+    Interrupt,
+    Stop,
+    Go,
+}
+
+fn request_of(alloc: Global, asked: Asked) -> Option<HostRequest> {
+    match asked {
+        Asked::Answer => Some(HostRequest::Answer),
+        Asked::Refuse => Some(HostRequest::Refuse),
+        Asked::Clear => Some(HostRequest::Clear),
+        Asked::Reset => Some(HostRequest::Reset),
+        Asked::Stop => Some(HostRequest::Stop),
+        Asked::Go => Some(HostRequest::Go),
+        Asked::Interrupt => match Vec::from_array(alloc, [7, 8]) {
+            Ok(octets) => Some(HostRequest::Interrupt { octets }),
+            Err(_) => None,
+        },
     }
-    assert_eq!(rt; asks(host, &HostRequest::Clear, book)?, Ok(()));
-    assert!(rt; is_closed(book, 1));
-    Ok(())
+}
+
+// Something that is asked, and the answer.
+type Question = (Asked, Result<(), ChannelFault>);
+
+fn is_answered(alloc: Global, host: &mut Host, book: &mut Book, question: &Question) -> bool {
+    let (asked, answer) = question;
+    match request_of(alloc, *asked) {
+        Some(request) => asks(host, &request, book) == Ok(*answer),
+        None => false,
+    }
+}
+
+fn are_answered(alloc: Global, host: &mut Host, book: &mut Book, questions: &[Question]) -> bool {
+    let mut same = true;
+    for question in questions {
+        same = same && is_answered(alloc, host, book, question);
+    }
+    same
+}
+
+// Whether what is asked is written: a reset ends an epoch, and a clear the call.
+fn writes_what_is_asked(alloc: Global, host: &mut Host, book: &mut Book) -> bool {
+    const BEFORE: &[Question] = &[
+        (Asked::Stop, Ok(())),
+        (Asked::Go, Ok(())),
+        (Asked::Interrupt, Ok(())),
+        (Asked::Reset, Ok(())),
+        (Asked::Interrupt, Err(ChannelFault::Resetting)),
+    ];
+    const BEHIND: &[Question] = &[
+        (Asked::Answer, Err(ChannelFault::NoCall)),
+        (Asked::Refuse, Err(ChannelFault::NoCall)),
+        (Asked::Clear, Ok(())),
+    ];
+    are_answered(alloc, host, book, BEFORE)
+        && has_one_epoch(book, false)
+        && are_answered(alloc, host, book, BEHIND)
+        && has_one_epoch(book, true)
 }
 
 #[test]
-fn what_a_host_asks_is_written(rt: HostRuntime) -> Result<(), Fail> {
-    let mut book = new_book(rt.alloc())?;
+fn what_a_host_asks_is_written(rt: HostRuntime) {
+    let mut book = new_book(rt.alloc()).expect(&rt, "a book");
     let mut host = new_host(&rt, rt.alloc());
-    writes_what_is_asked(&rt, rt.alloc(), &mut host, &mut book)
+    assert!(rt; writes_what_is_asked(rt.alloc(), &mut host, &mut book));
+}
+
+// Whether a host's packet `HI` is written as taken.
+fn writes_what_is_taken(book: &mut Book) -> bool {
+    match book.reserve(1) {
+        Ok(()) => {
+            let packet = UserData::new(b"HI", false, false, false);
+            write_taken(book, Role::Dce, 1, &Taken::Data(packet));
+            has_taken(book)
+        }
+        Err(_) => false,
+    }
+}
+
+fn has_taken(book: &Book) -> bool {
+    match book.records().get(1) {
+        Some(record) => {
+            let mut taken = record.taken.last();
+            is_packet(taken.packets.next(), b"HI", false, false) && taken.counted == 1
+        }
+        None => false,
+    }
 }
 
 #[test]
-fn what_a_host_takes_is_written(rt: HostRuntime) -> Result<(), Fail> {
-    let mut book = new_book(rt.alloc())?;
-    book.reserve(1)?;
-    let packet = UserData::new(b"HI", false, false, false);
-    write_taken(&mut book, Role::Dce, 1, &Taken::Data(packet));
-    let Some(record) = book.records().get(1) else {
-        panic!(rt; "a record");
-    };
-    let mut taken = record.taken.last();
-    assert!(rt; is_packet(taken.packets.next(), b"HI", false, false));
-    assert_eq!(rt; taken.counted, 1);
-    Ok(())
+fn what_a_host_takes_is_written(rt: HostRuntime) {
+    let mut book = new_book(rt.alloc()).expect(&rt, "a book");
+    assert!(rt; writes_what_is_taken(&mut book));
 }
 
-fn begin_anew(rt: &impl Abort, host: &mut Node, pad: &mut Node) {
-    assert!(rt; pad.is_pad() && !host.is_pad());
-    assert!(rt; pad.is_at_rest() && host.is_at_rest());
-    assert!(rt; host.confirmed(1) && !pad.confirmed(1));
-    host.restart();
-    assert!(rt; !host.confirmed(1));
-    pad.restart();
-    assert_eq!(rt; pad.waiting_frames(), 1);
+// Whether a node stands, and has no call after a restart, which sets the link up anew.
+fn begins_anew(node: &mut Node, is_pad: bool, confirmed: bool) -> bool {
+    let stood = node.is_pad() == is_pad && node.is_at_rest() && node.confirmed(1) == confirmed;
+    node.restart();
+    stood && !node.confirmed(1) && sets_up(node)
+}
+
+// Whether a node sends one frame, and waits for an answer to it.
+fn sets_up(node: &mut Node) -> bool {
+    let waiting = node.waiting_frames();
     let mut frame = FrameBuf::new();
-    assert!(rt; pad.out(&mut frame) && !pad.out(&mut frame));
-    pad.elapse(60);
-    assert!(rt; pad.due().is_some());
+    let one = node.out(&mut frame) && !node.out(&mut frame);
+    node.elapse(60);
+    waiting == 1 && one && node.due().is_some()
 }
 
 #[test]
-fn a_restart_ends_the_calls(rt: HostRuntime) {
+fn a_restart_ends_the_call_of_a_host(rt: HostRuntime) {
     let mut host = Node::Host(new_host(&rt, rt.alloc()));
-    let mut pad = Node::Pad(new_pad(&rt, rt.alloc()));
-    begin_anew(&rt, &mut host, &mut pad);
+    assert!(rt; begins_anew(&mut host, false, true));
 }
 
 #[test]
-fn a_fault_has_the_words_of_its_cause(rt: HostRuntime) -> Result<(), Fail> {
-    let fault = NodeFault::from(ChannelFault::QueueFull);
-    assert_eq!(rt;
-        format!(in rt.alloc(); "{fault}")?.as_str(),
-        "send queue full"
-    );
-    let fault = NodeFault::from(CallFault::NoChannel);
-    assert_eq!(rt;
-        format!(in rt.alloc(); "{fault}")?.as_str(),
-        "no free channel"
-    );
-    Ok(())
+fn a_restart_ends_the_call_of_a_pad(rt: HostRuntime) {
+    let mut pad = Node::Pad(new_pad(&rt, rt.alloc()));
+    assert!(rt; begins_anew(&mut pad, true, false));
+}
+
+#[test]
+fn a_fault_has_the_words_of_its_cause(rt: HostRuntime) {
+    let full = NodeFault::from(ChannelFault::QueueFull);
+    let full = format!(in rt.alloc(); "{full}").expect(&rt, "a text");
+    assert!(rt; full.as_str() == "send queue full");
+    let narrow = NodeFault::from(CallFault::NoChannel);
+    let narrow = format!(in rt.alloc(); "{narrow}").expect(&rt, "a text");
+    assert!(rt; narrow.as_str() == "no free channel");
 }
