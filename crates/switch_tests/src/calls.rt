@@ -1,6 +1,6 @@
 //! Calls through a switch.
 
-use crate::steps::{Example, Step};
+use crate::steps::{Bench, Step};
 use Step::{
     Due, Elapse, Expires, Flow, Frame, Hears, HearsNothing, Joined, Joins, JoinsNothing, Restart,
     Rests, Send, Sent,
@@ -14,7 +14,7 @@ const RESTART_BY_DTE: &[u8] = &[0x10, 0x00, 0xfb, 0x00, 0x00];
 const RESTART_BY_DCE: &[u8] = &[0x10, 0x00, 0xfb, 0x07, 0x00];
 
 // The links and the packet layers of lines 0 and 1 come up, and those of line 2.
-const BEGINNING: [Step<'static>; 8] = [
+const BEGINNING: &[Step] = &[
     Flow,
     Hears(0, RESTART_BY_DCE),
     Hears(1, RESTART_BY_DCE),
@@ -26,7 +26,7 @@ const BEGINNING: [Step<'static>; 8] = [
 ];
 
 // A call from channel 4 of line 0 to the address 2, which is accepted.
-const CALL: [Step<'static>; 10] = [
+const CALL: &[Step] = &[
     Send(0, &[0x10, 0x04, 0x0b, 0x01, 0x20, 0x00]),
     Flow,
     Hears(1, &[0x10, 0x01, 0x0b, 0x11, 0x21, 0x00]),
@@ -39,25 +39,49 @@ const CALL: [Step<'static>; 10] = [
     JoinsNothing,
 ];
 
-fn after_beginning(rt: &impl Abort, alloc: Global, steps: &[Step<'_>]) {
-    let mut example = Example::new(rt, alloc, 7);
-    example.plays(rt, &BEGINNING);
-    example.plays(rt, steps);
+// How a switch begins.
+#[derive(Clone, Copy)]
+enum Beginning {
+    // no link is up
+    Down,
+    // the packet layers of all lines are up
+    Up,
+    // and there is a call
+    InACall,
 }
 
-fn in_a_call(rt: &impl Abort, alloc: Global, steps: &[Step<'_>]) {
-    let mut example = Example::new(rt, alloc, 7);
-    example.plays(rt, &BEGINNING);
-    example.plays(rt, &CALL);
-    example.plays(rt, steps);
+// A rule, and steps by which it is seen at a switch whose line 0 has this k.
+struct Example<'a> {
+    rule: &'a str,
+    k: u8,
+    begins: Beginning,
+    steps: &'a [Step<'a>],
 }
 
-#[test]
-fn calls_are_cleared_in_order_of_causes(rt: HostRuntime) {
-    after_beginning(
-        &rt,
-        rt.alloc(),
-        &[
+fn play(rt: &impl Abort, alloc: Global, example: &Example<'_>) {
+    let mut bench = new_bench(rt, alloc, example.k, example.begins);
+    let rule = example.rule;
+    assert!(rt; bench.fits(example.steps), "{rule}");
+}
+
+fn new_bench(rt: &impl Abort, alloc: Global, k: u8, begins: Beginning) -> Bench {
+    let mut bench = Bench::new(rt, alloc, k);
+    let begun = match begins {
+        Beginning::Down => true,
+        Beginning::Up => bench.fits(BEGINNING),
+        Beginning::InACall => bench.fits(BEGINNING) && bench.fits(CALL),
+    };
+    assert!(rt; begun, "the beginning");
+    bench
+}
+
+// Calls that are cleared, by their causes.
+const CAUSES: &[Example] = &[
+    Example {
+        rule: "calls are cleared in order of causes",
+        k: 7,
+        begins: Beginning::Up,
+        steps: &[
             // a facility, and no route
             Send(0, &[0x10, 0x04, 0x0b, 0x01, 0x30, 0x02, 0x01, 0x01]),
             Flow,
@@ -73,15 +97,12 @@ fn calls_are_cleared_in_order_of_causes(rt: HostRuntime) {
             Hears(1, &[0x10, 0x04, 0x17]),
             JoinsNothing,
         ],
-    );
-}
-
-#[test]
-fn calls_to_a_line_that_is_down_are_cleared(rt: HostRuntime) {
-    let mut example = Example::new(&rt, rt.alloc(), 7);
-    example.plays(
-        &rt,
-        &[
+    },
+    Example {
+        rule: "calls to a line that is down are cleared",
+        k: 7,
+        begins: Beginning::Down,
+        steps: &[
             Flow,
             Hears(0, RESTART_BY_DCE),
             Send(0, RESTART_BY_DTE),
@@ -89,38 +110,45 @@ fn calls_to_a_line_that_is_down_are_cleared(rt: HostRuntime) {
             Flow,
             Hears(0, &[0x10, 0x04, 0x13, 0x09, 0x00]),
         ],
-    );
-}
-
-#[test]
-fn no_channel_is_left_for_a_fifth_call(rt: HostRuntime) {
-    let call = &[0x10, 0x04, 0x0b, 0x01, 0x20, 0x00];
-    after_beginning(
-        &rt,
-        rt.alloc(),
-        &[
+    },
+    Example {
+        rule: "no channel is left for a fifth call",
+        k: 7,
+        begins: Beginning::Up,
+        steps: &[
             Send(0, &[0x10, 0x01, 0x0b, 0x01, 0x20, 0x00]),
             Send(0, &[0x10, 0x02, 0x0b, 0x01, 0x20, 0x00]),
             Send(0, &[0x10, 0x03, 0x0b, 0x01, 0x20, 0x00]),
             Send(2, &[0x10, 0x01, 0x0b, 0x01, 0x20, 0x00]),
             Flow,
-            Send(0, call),
+            Send(0, &[0x10, 0x04, 0x0b, 0x01, 0x20, 0x00]),
             Flow,
             Hears(0, &[0x10, 0x04, 0x13, 0x01, 0x00]),
             Joined(2, 1, Some((1, 2))),
         ],
-    );
-}
+    },
+];
 
 #[test]
-fn a_switch_rests_when_all_is_carried_on(rt: HostRuntime) {
-    let mut example = Example::new(&rt, rt.alloc(), 7);
-    example.plays(&rt, &[Rests(false)]);
-    example.plays(&rt, &BEGINNING);
-    example.plays(&rt, &CALL);
-    example.plays(
-        &rt,
-        &[
+fn switches_clear_calls(rt: HostRuntime) {
+    for example in CAUSES {
+        play(&rt, rt.alloc(), example);
+    }
+}
+
+// What a switch carries on.
+const DATA: &[Example] = &[
+    Example {
+        rule: "a switch does not rest before its lines are up",
+        k: 7,
+        begins: Beginning::Down,
+        steps: &[Rests(false)],
+    },
+    Example {
+        rule: "a switch rests when all is carried on",
+        k: 7,
+        begins: Beginning::InACall,
+        steps: &[
             Rests(true),
             // the far leg is stopped, so a packet waits there
             Send(1, &[0x10, 0x01, 0x05]),
@@ -135,15 +163,12 @@ fn a_switch_rests_when_all_is_carried_on(rt: HostRuntime) {
             Hears(1, &[0x10, 0x01, 0x00, 0x41]),
             Rests(true),
         ],
-    );
-}
-
-#[test]
-fn packets_keep_their_bits_and_wait_for_delivery(rt: HostRuntime) {
-    in_a_call(
-        &rt,
-        rt.alloc(),
-        &[
+    },
+    Example {
+        rule: "packets keep their bits and wait for delivery",
+        k: 7,
+        begins: Beginning::InACall,
+        steps: &[
             // with D
             Send(0, &[0x50, 0x04, 0x00, 0x41]),
             Flow,
@@ -165,15 +190,12 @@ fn packets_keep_their_bits_and_wait_for_delivery(rt: HostRuntime) {
             Hears(1, &[0x10, 0x01, 0x21]),
             HearsNothing(1),
         ],
-    );
-}
-
-#[test]
-fn interrupts_are_confirmed_from_the_far_leg(rt: HostRuntime) {
-    in_a_call(
-        &rt,
-        rt.alloc(),
-        &[
+    },
+    Example {
+        rule: "interrupts are confirmed from the far leg",
+        k: 7,
+        begins: Beginning::InACall,
+        steps: &[
             Send(0, &[0x10, 0x04, 0x23, 0x01]),
             Flow,
             Hears(1, &[0x10, 0x01, 0x23, 0x01]),
@@ -182,15 +204,23 @@ fn interrupts_are_confirmed_from_the_far_leg(rt: HostRuntime) {
             Flow,
             Hears(0, &[0x10, 0x04, 0x27]),
         ],
-    );
-}
+    },
+];
 
 #[test]
-fn resets_and_clears_go_on(rt: HostRuntime) {
-    in_a_call(
-        &rt,
-        rt.alloc(),
-        &[
+fn switches_carry_on(rt: HostRuntime) {
+    for example in DATA {
+        play(&rt, rt.alloc(), example);
+    }
+}
+
+// Resets and clears.
+const RESETS: &[Example] = &[
+    Example {
+        rule: "resets and clears go on",
+        k: 7,
+        begins: Beginning::InACall,
+        steps: &[
             Send(0, &[0x10, 0x04, 0x1b, 0x00, 0x07]),
             Flow,
             Hears(0, &[0x10, 0x04, 0x1f]),
@@ -208,15 +238,12 @@ fn resets_and_clears_go_on(rt: HostRuntime) {
             Joined(0, 4, None),
             Joined(1, 1, None),
         ],
-    );
-}
-
-#[test]
-fn resets_cross(rt: HostRuntime) {
-    in_a_call(
-        &rt,
-        rt.alloc(),
-        &[
+    },
+    Example {
+        rule: "resets cross",
+        k: 7,
+        begins: Beginning::InACall,
+        steps: &[
             Send(0, &[0x10, 0x04, 0x1b, 0x00, 0x00]),
             Send(1, &[0x10, 0x01, 0x1b, 0x00, 0x00]),
             Flow,
@@ -228,39 +255,110 @@ fn resets_cross(rt: HostRuntime) {
             Flow,
             Hears(1, &[0x10, 0x01, 0x00, 0x41]),
         ],
-    );
+    },
+];
+
+#[test]
+fn switches_carry_resets_on(rt: HostRuntime) {
+    for example in RESETS {
+        play(&rt, rt.alloc(), example);
+    }
+}
+
+// Links and calls that end.
+const ENDS: &[Example] = &[
+    Example {
+        rule: "a fifth packet owed sets the link up anew",
+        k: 1,
+        begins: Beginning::Up,
+        steps: &[
+            Send(1, &[0x10, 0x04, 0x0b, 0x01, 0x40, 0x00]),
+            Flow,
+            Hears(2, &[0x10, 0x01, 0x0b, 0x11, 0x42, 0x00]),
+            Send(2, &[0x10, 0x01, 0x0f]),
+            Flow,
+            Hears(1, &[0x10, 0x04, 0x0f]),
+            Frame(&[0x01, 0x22, 0x10, 0x03, 0x13, 0x00, 0x00]),
+            Sent(&[0x03, 0x42, 0x10, 0x03, 0x17]),
+            Frame(&[0x01, 0x24, 0x10, 0x03, 0x13, 0x00, 0x00]),
+            Sent(&[0x01, 0x61]),
+            Frame(&[0x01, 0x26, 0x10, 0x03, 0x13, 0x00, 0x00]),
+            Sent(&[0x01, 0x81]),
+            Frame(&[0x01, 0x28, 0x10, 0x03, 0x13, 0x00, 0x00]),
+            Sent(&[0x01, 0xa1]),
+            Frame(&[0x01, 0x2a, 0x10, 0x03, 0x13, 0x00, 0x00]),
+            Sent(&[0x01, 0xc1]),
+            Frame(&[0x01, 0x2c, 0x10, 0x03, 0x13, 0x00, 0x00]),
+            Sent(&[0x01, 0x0f]),
+            // the call of two other lines stays
+            Joined(1, 4, Some((2, 1))),
+            Joined(2, 1, Some((1, 4))),
+            HearsNothing(1),
+            HearsNothing(2),
+        ],
+    },
+    Example {
+        rule: "an expiry clears both legs",
+        k: 7,
+        begins: Beginning::Up,
+        steps: &[
+            Send(0, &[0x10, 0x04, 0x0b, 0x01, 0x20, 0x00]),
+            Flow,
+            Hears(1, &[0x10, 0x01, 0x0b, 0x11, 0x21, 0x00]),
+            Expires(1, TimerId::T11(2), false),
+            Due(1, None),
+            Elapse(3600),
+            Due(1, Some(TimerId::T11(1))),
+            Expires(1, TimerId::T11(1), true),
+            Flow,
+            Hears(1, &[0x10, 0x01, 0x13, 0x13, 0x00]),
+            Hears(0, &[0x10, 0x04, 0x13, 0x11, 0x00]),
+            Joined(0, 4, None),
+        ],
+    },
+    Example {
+        rule: "a restart leaves no call",
+        k: 7,
+        begins: Beginning::InACall,
+        steps: &[Restart, Joined(0, 4, None), Joined(1, 1, None)],
+    },
+];
+
+#[test]
+fn switches_end_calls(rt: HostRuntime) {
+    for example in ENDS {
+        play(&rt, rt.alloc(), example);
+    }
 }
 
 // What is sent on line 0 in a call, and what then goes to lines 0 and 1.
-#[derive(Clone, Copy)]
 struct Row<'a> {
     packets: &'a [&'a [u8]],
     near: &'a [&'a [u8]],
     far: &'a [&'a [u8]],
 }
 
-fn row_holds(rt: &impl Abort, alloc: Global, row: Row<'_>) {
-    let mut example = Example::new(rt, alloc, 7);
-    example.plays(rt, &BEGINNING);
-    example.plays(rt, &CALL);
+fn row_holds(rt: &impl Abort, alloc: Global, row: &Row<'_>) {
+    let mut bench = new_bench(rt, alloc, 7, Beginning::InACall);
+    let mut fits = true;
     for packet in row.packets {
-        example.plays(rt, &[Send(0, packet)]);
+        fits = fits && bench.fits(&[Send(0, packet)]);
     }
-    example.plays(rt, &[Flow]);
+    fits = fits && bench.fits(&[Flow]);
     for packet in row.near {
-        example.plays(rt, &[Hears(0, packet)]);
+        fits = fits && bench.fits(&[Hears(0, packet)]);
     }
     for packet in row.far {
-        example.plays(rt, &[Hears(1, packet)]);
+        fits = fits && bench.fits(&[Hears(1, packet)]);
     }
-    example.plays(rt, &[HearsNothing(0), HearsNothing(1)]);
+    assert!(rt; fits && bench.fits(&[HearsNothing(0), HearsNothing(1)]));
 }
 
 const RESET: &[u8] = &[0x10, 0x01, 0x1b, 0x03, 0x00];
 
 const CLEAR: &[u8] = &[0x10, 0x01, 0x13, 0x11, 0x00];
 
-const ROWS: [Row<'static>; 11] = [
+const ROWS: [Row; 11] = [
     Row {
         packets: &[&[0x10, 0x04, 0x02, 0x41]],
         near: &[&[0x10, 0x04, 0x1b, 0x05, 0x01]],
@@ -320,72 +418,7 @@ const ROWS: [Row<'static>; 11] = [
 
 #[test]
 fn errors_of_one_leg_go_on(rt: HostRuntime) {
-    for row in ROWS {
+    for row in &ROWS {
         row_holds(&rt, rt.alloc(), row);
     }
-}
-
-#[test]
-fn a_fifth_packet_owed_sets_the_link_up_anew(rt: HostRuntime) {
-    let mut example = Example::new(&rt, rt.alloc(), 1);
-    example.plays(&rt, &BEGINNING);
-    example.plays(
-        &rt,
-        &[
-            Send(1, &[0x10, 0x04, 0x0b, 0x01, 0x40, 0x00]),
-            Flow,
-            Hears(2, &[0x10, 0x01, 0x0b, 0x11, 0x42, 0x00]),
-            Send(2, &[0x10, 0x01, 0x0f]),
-            Flow,
-            Hears(1, &[0x10, 0x04, 0x0f]),
-            Frame(&[0x01, 0x22, 0x10, 0x03, 0x13, 0x00, 0x00]),
-            Sent(&[0x03, 0x42, 0x10, 0x03, 0x17]),
-            Frame(&[0x01, 0x24, 0x10, 0x03, 0x13, 0x00, 0x00]),
-            Sent(&[0x01, 0x61]),
-            Frame(&[0x01, 0x26, 0x10, 0x03, 0x13, 0x00, 0x00]),
-            Sent(&[0x01, 0x81]),
-            Frame(&[0x01, 0x28, 0x10, 0x03, 0x13, 0x00, 0x00]),
-            Sent(&[0x01, 0xa1]),
-            Frame(&[0x01, 0x2a, 0x10, 0x03, 0x13, 0x00, 0x00]),
-            Sent(&[0x01, 0xc1]),
-            Frame(&[0x01, 0x2c, 0x10, 0x03, 0x13, 0x00, 0x00]),
-            Sent(&[0x01, 0x0f]),
-            // the call of two other lines stays
-            Joined(1, 4, Some((2, 1))),
-            Joined(2, 1, Some((1, 4))),
-            HearsNothing(1),
-            HearsNothing(2),
-        ],
-    );
-}
-
-#[test]
-fn an_expiry_clears_both_legs(rt: HostRuntime) {
-    after_beginning(
-        &rt,
-        rt.alloc(),
-        &[
-            Send(0, &[0x10, 0x04, 0x0b, 0x01, 0x20, 0x00]),
-            Flow,
-            Hears(1, &[0x10, 0x01, 0x0b, 0x11, 0x21, 0x00]),
-            Expires(1, TimerId::T11(2), false),
-            Due(1, None),
-            Elapse(3600),
-            Due(1, Some(TimerId::T11(1))),
-            Expires(1, TimerId::T11(1), true),
-            Flow,
-            Hears(1, &[0x10, 0x01, 0x13, 0x13, 0x00]),
-            Hears(0, &[0x10, 0x04, 0x13, 0x11, 0x00]),
-            Joined(0, 4, None),
-        ],
-    );
-}
-
-#[test]
-fn a_restart_leaves_no_call(rt: HostRuntime) {
-    in_a_call(
-        &rt,
-        rt.alloc(),
-        &[Restart, Joined(0, 4, None), Joined(1, 1, None)],
-    );
 }

@@ -2,7 +2,6 @@
 use address_routes::{LineNo, RouteFault, Routes};
 use packet_codec::Address;
 use std::process::Abort;
-use std::test::Fail;
 
 fn add(routes: &mut Routes, prefix: &[u8], line: u16) -> Option<RouteFault> {
     match Address::read(prefix) {
@@ -58,35 +57,48 @@ const THREE_ROUTES: [Lookup; 5] = [
     },
 ];
 
+const LONG_ROUTE: Lookup = Lookup {
+    address: b"300000000000000",
+    line: Some(LineNo(4)),
+    looks: 16,
+};
+
+const LAST_OF_256: Lookup = Lookup {
+    address: b"25512",
+    line: Some(LineNo(255)),
+    looks: 4,
+};
+
 fn look_up(rt: &impl Abort, routes: &Routes, lookups: &[Lookup]) {
     for lookup in lookups {
         assert!(rt; lookup.fits(routes));
     }
 }
 
-#[test]
-fn the_longest_prefix_is_taken(rt: HostRuntime) -> Result<(), Fail> {
-    let mut routes = Routes::new(rt.alloc())?;
-    assert_eq!(&rt; add(&mut routes, b"2", 1), None);
-    assert_eq!(&rt; add(&mut routes, b"20", 2), None);
-    assert_eq!(&rt; add(&mut routes, b"2001", 3), None);
-    look_up(&rt, &routes, &THREE_ROUTES);
-    assert_eq!(&rt; add(&mut routes, b"20", 4), Some(RouteFault::Duplicate));
-    look_up(&rt, &routes, &THREE_ROUTES);
-    match add(&mut routes, b"300000000000000", 4) {
-        None => assert!(&rt;
-            Lookup {
-                address: b"300000000000000",
-                line: Some(LineNo(4)),
-                looks: 16
-            }
-            .fits(&routes)
-        ),
-        Some(_) => look_up(&rt, &routes, &THREE_ROUTES),
+// Adds routes with two prefixes of a third, and looks at what is found by then, after an addition that is refused and
+// after a long one.
+fn three_routes(rt: &impl Abort, routes: &mut Routes) {
+    assert!(rt; add(routes, b"2", 1).is_none());
+    assert!(rt; add(routes, b"20", 2).is_none());
+    assert!(rt; add(routes, b"2001", 3).is_none());
+    look_up(rt, routes, &THREE_ROUTES);
+    assert!(rt; add(routes, b"20", 4) == Some(RouteFault::Duplicate));
+    look_up(rt, routes, &THREE_ROUTES);
+    match add(routes, b"300000000000000", 4) {
+        None => look_up(rt, routes, &[LONG_ROUTE]),
+        Some(_) => look_up(rt, routes, &THREE_ROUTES),
     }
-    Ok(())
 }
 
+#[test]
+fn the_longest_prefix_is_taken(rt: HostRuntime) {
+    match Routes::new(rt.alloc()) {
+        Ok(mut routes) => three_routes(&rt, &mut routes),
+        Err(_) => panic!(&rt; "there is memory"),
+    }
+}
+
+// Adds all routes that there is room for.
 fn fill(rt: &impl Abort, routes: &mut Routes) {
     for number in 0..256u16 {
         let digits = [
@@ -96,21 +108,15 @@ fn fill(rt: &impl Abort, routes: &mut Routes) {
         ];
         assert!(rt; routes.add(&Address::new(&digits), LineNo(number)).is_ok());
     }
-    assert_eq!(rt; add(routes, b"9", 0), Some(RouteFault::Full));
-    assert_eq!(rt; add(routes, b"255", 0), Some(RouteFault::Duplicate));
-    assert!(rt;
-        Lookup {
-            address: b"25512",
-            line: Some(LineNo(255)),
-            looks: 4
-        }
-        .fits(routes)
-    );
+    assert!(rt; add(routes, b"9", 0) == Some(RouteFault::Full));
+    assert!(rt; add(routes, b"255", 0) == Some(RouteFault::Duplicate));
+    look_up(rt, routes, &[LAST_OF_256]);
 }
 
 #[test]
-fn routes_are_at_most_256(rt: HostRuntime) -> Result<(), Fail> {
-    let mut routes = Routes::new(rt.alloc())?;
-    fill(&rt, &mut routes);
-    Ok(())
+fn routes_are_at_most_256(rt: HostRuntime) {
+    match Routes::new(rt.alloc()) {
+        Ok(mut routes) => fill(&rt, &mut routes),
+        Err(_) => panic!(&rt; "there is memory"),
+    }
 }

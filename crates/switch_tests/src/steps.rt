@@ -12,8 +12,8 @@ use std::alloc::Global;
 use std::process::Abort;
 use x25_switch::{LineConfig, NewJoin, Place, Switch, SwitchConfig};
 
-/// A step of an example.
-#[derive(Clone, Copy, Debug)]
+/// A step.
+#[derive(Clone, Copy)]
 pub(crate) enum Step<'a> {
     /// The partner on a line hands a packet to its link.
     Send(usize, &'a [u8]),
@@ -55,7 +55,7 @@ struct Partner {
 
 /// A switch of three lines with their partners.
 #[derive(Drop)]
-pub(crate) struct Example {
+pub(crate) struct Bench {
     switch: Switch,
     partners: Vec<Partner>,
     /// The last call that a frame joined, if no step has taken it.
@@ -86,9 +86,9 @@ fn place((line, channel): (usize, u8)) -> Place {
     Place { line, channel }
 }
 
-impl Example {
+impl Bench {
     /// A new switch, whose line 0 has this k.
-    pub(crate) fn new(rt: &impl Abort, alloc: Global, k: u8) -> Example {
+    pub(crate) fn new(rt: &impl Abort, alloc: Global, k: u8) -> Bench {
         let mut routes = Routes::new(alloc).expect(rt, "routes");
         routes
             .add(&number(b"1"), LineNo(0))
@@ -123,13 +123,13 @@ impl Example {
             };
             partners.push(partner).expect(rt, "a partner");
         }
-        let mut example = Example {
+        let mut bench = Bench {
             switch,
             partners,
             joined: None,
         };
-        example.collect();
-        example
+        bench.collect();
+        bench
     }
 
     // Takes the frames that the switch sends.
@@ -184,11 +184,13 @@ impl Example {
         }
     }
 
-    /// Does these steps.
-    pub(crate) fn plays(&mut self, rt: &impl Abort, steps: &[Step<'_>]) {
-        for (place, step) in steps.iter().enumerate() {
-            assert!(rt; self.takes(*step), "step {place}: {step:?}");
+    /// Does these steps. Whether each is as an example says.
+    pub(crate) fn fits(&mut self, steps: &[Step<'_>]) -> bool {
+        let mut fits = true;
+        for step in steps {
+            fits = fits && self.takes(*step);
         }
+        fits
     }
 
     // Does a step, and answers whether it is as the example says.
