@@ -1,5 +1,5 @@
 //! What a capture is, by octets that Wireshark read, and lines that are none of a trace.
-use std::test::Fail;
+use std::alloc::Global;
 use trace_capture::{TraceFault, capture};
 
 /// The head of each capture.
@@ -10,25 +10,50 @@ const HEAD: &[u8] =
 const PACKET: &[u8] =
     b"\x06\0\0\0\x48\0\0\0\0\0\0\0\0\0\0\0\0\0\0\0\x16\0\0\0\x16\0\0\0\0\x0C\0\x04lapb\0\x23\0\x04\0\0\0\x01\0\0\0\0\x01\x73\0\0\x01\0\x06\0line 0\0\0\0\0\0\0\x48\0\0\0";
 
+/// Whether a text's capture is the head and this packet.
+fn is_captured(alloc: Global, text: &[u8], packet: &[u8]) -> bool {
+    match capture(alloc, text) {
+        Ok(made) => {
+            let octets = made.as_slice();
+            octets.get(..HEAD.len()) == Some(HEAD) && octets.get(HEAD.len()..) == Some(packet)
+        }
+        Err(_) => false,
+    }
+}
+
+/// The fault of a text, or none.
+fn fault_of(alloc: Global, text: &str) -> Option<TraceFault> {
+    match capture(alloc, text.as_bytes()) {
+        Ok(_) => None,
+        Err(fault) => Some(fault),
+    }
+}
+
 #[test]
-fn captures_the_frames_of_a_trace(rt: HostRuntime) -> Result<(), Fail> {
-    let made = capture(rt.alloc(), b"host/1 incoming\n0 < 01 73\nend rest\n")?;
-    assert_eq!(rt; &made.as_slice()[..HEAD.len()], HEAD);
-    assert_eq!(rt; &made.as_slice()[HEAD.len()..], PACKET);
-    Ok(())
+fn captures_the_frames_of_a_trace(rt: HostRuntime) {
+    assert!(rt;
+        is_captured(
+            rt.alloc(),
+            b"host/1 incoming\n0 < 01 73\nend rest\n",
+            PACKET
+        )
+    );
 }
 
 #[test]
 fn tells_the_line_that_is_no_frame(rt: HostRuntime) {
-    for (text, line) in [
+    const TEXTS: [(&str, u32); 6] = [
         ("0 < 01 73\n0 - 01", 2),
         ("0 > 01 7", 1),
         ("0 > 01 7f", 1),
         ("\n0 >01", 2),
         ("123456 > 01", 1),
         ("0 ", 1),
-    ] {
-        let fault = capture(rt.alloc(), text.as_bytes()).err();
-        assert_eq!(rt; fault, Some(TraceFault::Line(line)), "at {text}");
+    ];
+    for (text, line) in &TEXTS {
+        assert!(rt;
+            fault_of(rt.alloc(), text) == Some(TraceFault::Line(*line)),
+            "at {text}"
+        );
     }
 }

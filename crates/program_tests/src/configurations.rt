@@ -7,99 +7,123 @@ use net_plans::{NetPlan, PlannedKind, plan_of};
 use std::alloc::Global;
 use x3_params::Profile;
 
-fn node(alloc: Global, name: &str, kind: NodeKind) -> Result<NodeConfig, MakeFault> {
-    Ok(NodeConfig {
-        name: name.to_string(alloc)?,
-        kind,
-    })
+fn empty(alloc: Global) -> Config {
+    Config {
+        nodes: Vec::new(alloc),
+        lines: Vec::new(alloc),
+        routes: Vec::new(alloc),
+    }
 }
 
-fn line(alloc: Global, dte: &str, dce: &str, channels: u16) -> Result<LineConfig, MakeFault> {
-    Ok(LineConfig {
+fn add_node(
+    alloc: Global,
+    config: &mut Config,
+    name: &str,
+    kind: NodeKind,
+) -> Result<(), MakeFault> {
+    let name = name.to_string(alloc)?;
+    config.nodes.push(NodeConfig { name, kind })?;
+    Ok(())
+}
+
+fn add_pad(alloc: Global, config: &mut Config) -> Result<(), MakeFault> {
+    let pad = PadConfig {
+        terminals: 2,
+        profile: Profile::Simple,
+        speed: 14,
+        settings: Vec::new(alloc),
+    };
+    add_node(alloc, config, "pad", NodeKind::Pad(pad))
+}
+
+/// A line between nodes of these names, from a DTE of this address.
+fn add_line(
+    alloc: Global,
+    config: &mut Config,
+    (dte, dce): (&str, &str),
+    address: &str,
+    channels: u16,
+) -> Result<(), MakeFault> {
+    config.lines.push(LineConfig {
         dte: dte.to_string(alloc)?,
         dce: dce.to_string(alloc)?,
-        address: String::new(alloc),
+        address: address.to_string(alloc)?,
         channels,
         window: 2,
         k: 7,
         n2: 3,
         standing: false,
-    })
+    })?;
+    Ok(())
 }
 
-fn pad(alloc: Global) -> NodeKind {
-    NodeKind::Pad(PadConfig {
-        terminals: 2,
-        profile: Profile::Simple,
-        speed: 14,
-        settings: Vec::new(alloc),
-    })
+fn add_route(
+    alloc: Global,
+    config: &mut Config,
+    switch: &str,
+    prefix: &str,
+    line: u16,
+) -> Result<(), MakeFault> {
+    config.routes.push(RouteConfig {
+        switch: switch.to_string(alloc)?,
+        prefix: prefix.to_string(alloc)?,
+        line,
+    })?;
+    Ok(())
 }
 
 /// A PAD and a host on one line, a host and the node of the last name on the other.
-fn two_lines(alloc: Global, last: &str, dce: &str, channels: u16) -> Result<Config, MakeFault> {
-    let mut nodes = Vec::new(alloc);
-    nodes.push(node(alloc, "pad", pad(alloc))?)?;
-    nodes.push(node(alloc, "h1", NodeKind::Host)?)?;
-    nodes.push(node(alloc, "h2", NodeKind::Host)?)?;
-    nodes.push(node(alloc, last, NodeKind::Host)?)?;
-    let mut lines = Vec::new(alloc);
-    lines.push(line(alloc, "pad", "h1", channels)?)?;
-    lines.push(line(alloc, "h2", dce, 1)?)?;
-    Ok(Config {
-        nodes,
-        lines,
-        routes: Vec::new(alloc),
-    })
+fn add_two_lines(
+    alloc: Global,
+    config: &mut Config,
+    last: &str,
+    dce: &str,
+    channels: u16,
+) -> Result<(), MakeFault> {
+    add_pad(alloc, config)?;
+    add_node(alloc, config, "h1", NodeKind::Host)?;
+    add_node(alloc, config, "h2", NodeKind::Host)?;
+    add_node(alloc, config, last, NodeKind::Host)?;
+    add_line(alloc, config, ("pad", "h1"), "", channels)?;
+    add_line(alloc, config, ("h2", dce), "", 1)
 }
 
-fn planned(alloc: Global, last: &str, dce: &str, channels: u16) -> Result<NetPlan, MakeFault> {
-    let config = two_lines(alloc, last, dce, channels)?;
-    plan_of(alloc, &config)
+/// How many nodes and lines are planned of it.
+fn planned(
+    alloc: Global,
+    last: &str,
+    dce: &str,
+    channels: u16,
+) -> Result<(usize, usize), MakeFault> {
+    let mut config = empty(alloc);
+    add_two_lines(alloc, &mut config, last, dce, channels)?;
+    let plan = plan_of(alloc, &config)?;
+    Ok((plan.nodes.len(), plan.lines.len()))
 }
 
 #[test]
 fn two_lines_are_planned(rt: HostRuntime) {
-    match planned(rt.alloc(), "h3", "h3", 32) {
-        Ok(plan) => {
-            assert_eq!(rt; plan.nodes.len(), 4);
-            assert_eq!(rt; plan.lines.len(), 2);
-        }
-        Err(_) => panic!(rt; "two lines are served"),
-    }
+    assert!(rt; matches!(planned(rt.alloc(), "h3", "h3", 32), Ok((4, 2))));
 }
 
 #[test]
 fn others_are_refused(rt: HostRuntime) {
-    let cases = [
+    const CASES: [(&str, &str, u16); 5] = [
         ("h2", "h2", 32),
         ("h3", "pad", 32),
         ("h3", "h1", 32),
         ("h3", "h4", 32),
         ("h3", "h3", 33),
     ];
-    for (last, dce, channels) in cases {
-        let plan = planned(rt.alloc(), last, dce, channels);
+    for (last, dce, channels) in &CASES {
         assert!(rt;
-            matches!(plan, Err(MakeFault::BadConfig)),
+            matches!(
+                planned(rt.alloc(), last, dce, *channels),
+                Err(MakeFault::BadConfig)
+            ),
             "{last} {dce} {channels}"
         );
     }
-}
-
-/// A line from a DTE of this address.
-fn line_from(alloc: Global, dte: &str, dce: &str, address: &str) -> Result<LineConfig, MakeFault> {
-    let mut line = line(alloc, dte, dce, 4)?;
-    line.address = address.to_string(alloc)?;
-    Ok(line)
-}
-
-fn route(alloc: Global, switch: &str, prefix: &str, line: u16) -> Result<RouteConfig, MakeFault> {
-    Ok(RouteConfig {
-        switch: switch.to_string(alloc)?,
-        prefix: prefix.to_string(alloc)?,
-        line,
-    })
 }
 
 /// What is said of a network with a PAD and a host at a switch: the host's address and the node at the other end of its
@@ -109,23 +133,15 @@ type AtSwitch = (&'static str, &'static str, &'static str, &'static str, u16);
 /// One that is right.
 const SMALL: AtSwitch = ("2001", "sw", "sw", "2001", 1);
 
-fn at_switch(alloc: Global, case: AtSwitch) -> Result<Config, MakeFault> {
+fn add_switch(alloc: Global, config: &mut Config, case: AtSwitch) -> Result<(), MakeFault> {
     let (address, dce, switch, prefix, number) = case;
-    let mut nodes = Vec::new(alloc);
-    nodes.push(node(alloc, "pad", pad(alloc))?)?;
-    nodes.push(node(alloc, "sw", NodeKind::Switch)?)?;
-    nodes.push(node(alloc, "host", NodeKind::Host)?)?;
-    let mut lines = Vec::new(alloc);
-    lines.push(line_from(alloc, "pad", "sw", "1001")?)?;
-    lines.push(line_from(alloc, "host", dce, address)?)?;
-    let mut routes = Vec::new(alloc);
-    routes.push(route(alloc, "sw", "1001", 0)?)?;
-    routes.push(route(alloc, switch, prefix, number)?)?;
-    Ok(Config {
-        nodes,
-        lines,
-        routes,
-    })
+    add_pad(alloc, config)?;
+    add_node(alloc, config, "sw", NodeKind::Switch)?;
+    add_node(alloc, config, "host", NodeKind::Host)?;
+    add_line(alloc, config, ("pad", "sw"), "1001", 4)?;
+    add_line(alloc, config, ("host", dce), address, 4)?;
+    add_route(alloc, config, "sw", "1001", 0)?;
+    add_route(alloc, config, switch, prefix, number)
 }
 
 /// Networks with a switch, and which are right.
@@ -144,30 +160,35 @@ const AT_SWITCH: [(AtSwitch, bool); 12] = [
     (("2001", "sw", "sw", "2001", 2), false),
 ];
 
+/// Whether the network of a case is made, and is right or not.
+fn is_judged(alloc: Global, case: AtSwitch, right: bool) -> bool {
+    let mut config = empty(alloc);
+    add_switch(alloc, &mut config, case).is_ok() && is_served(&config) == right
+}
+
 #[test]
-fn networks_with_a_switch_are_judged(rt: HostRuntime) -> Result<(), MakeFault> {
-    for (case, right) in AT_SWITCH {
-        let config = at_switch(rt.alloc(), case)?;
-        let (address, _, switch, prefix, line) = case;
-        assert!(rt;
-            is_served(&config) == right,
-            "{address} {switch} {prefix} {line}"
-        );
+fn networks_with_a_switch_are_judged(rt: HostRuntime) {
+    for (place, (case, right)) in AT_SWITCH.iter().enumerate() {
+        assert!(rt; is_judged(rt.alloc(), *case, *right), "network {place}");
     }
-    Ok(())
+}
+
+/// Whether three nodes are planned, the second one as a switch with two lines and two routes.
+fn has_a_switch(plan: &NetPlan) -> bool {
+    match plan.nodes.as_slice() {
+        [_, node, _] => match &node.kind {
+            PlannedKind::User(_) => false,
+            PlannedKind::Switch(switch) => switch.lines.len() == 2 && switch.routes.len() == 2,
+        },
+        _ => false,
+    }
 }
 
 #[test]
 fn a_network_with_a_switch_is_planned(rt: HostRuntime) -> Result<(), MakeFault> {
-    let config = at_switch(rt.alloc(), SMALL)?;
+    let mut config = empty(rt.alloc());
+    add_switch(rt.alloc(), &mut config, SMALL)?;
     let plan = plan_of(rt.alloc(), &config)?;
-    assert_eq!(rt; plan.nodes.len(), 3);
-    match &plan.nodes[1].kind {
-        PlannedKind::User(_) => panic!(rt; "the node is a switch"),
-        PlannedKind::Switch(switch) => {
-            assert_eq!(rt; switch.lines.len(), 2);
-            assert_eq!(rt; switch.routes.len(), 2);
-        }
-    }
+    assert!(rt; has_a_switch(&plan));
     Ok(())
 }

@@ -1,6 +1,7 @@
 //! What no clause says of a line over sockets: which datagrams are frames, and that a pair carries them.
 use frame_codec::FrameBuf;
 use memory_line::{Direction, Line};
+use std::alloc::Global;
 use std::io;
 use std::test::Fail;
 use udp_line::{Datagrams, UdpLine};
@@ -36,60 +37,73 @@ fn frame_of(octets: &[u8; 2]) -> FrameBuf {
     frame
 }
 
+/// Whether of a partner's one datagram of so many octets a frame of this length is taken, and then nothing.
+fn takes(alloc: Global, octets: Option<usize>, taken: Option<usize>) -> bool {
+    let dte = Partner { octets: None };
+    let dce = Partner { octets };
+    match UdpLine::over(alloc, dte, dce) {
+        Ok(mut line) => {
+            line.put(Direction::FromDte, frame_of(b"AB"));
+            let length = match line.take(Direction::FromDte) {
+                Some(frame) => Some(frame.len()),
+                None => None,
+            };
+            length == taken && line.take(Direction::FromDte).is_none()
+        }
+        Err(_) => false,
+    }
+}
+
 #[test]
-fn takes_datagrams_that_are_frames(rt: HostRuntime) -> Result<(), Fail> {
-    for (octets, taken) in [
+fn takes_datagrams_that_are_frames(rt: HostRuntime) {
+    const DATAGRAMS: [(Option<usize>, Option<usize>); 6] = [
         (None, None),
         (Some(0), None),
         (Some(1), Some(1)),
         (Some(147), Some(147)),
         (Some(148), None),
         (Some(1_000), None),
-    ] {
-        let dte = Partner { octets: None };
-        let dce = Partner { octets };
-        let mut line = UdpLine::over(rt.alloc(), dte, dce)?;
-        line.put(Direction::FromDte, frame_of(b"AB"));
-        let frame = line.take(Direction::FromDte);
-        assert_eq!(rt;
-            frame.as_ref().map(|frame| frame.len()),
-            taken,
-            "at {octets:?}"
-        );
-        assert!(rt; line.take(Direction::FromDte).is_none(), "after {octets:?}");
+    ];
+    for (octets, taken) in &DATAGRAMS {
+        assert!(rt; takes(rt.alloc(), *octets, *taken), "at {octets:?}");
     }
-    Ok(())
 }
 
-#[test]
-fn carries_frames_in_order(rt: HostRuntime) -> Result<(), Fail> {
-    let mut line = UdpLine::pair(&rt, rt.alloc())?;
+/// Whether a line tells of no frame on its way, and a frame of these octets comes.
+fn comes<L: Line>(line: &mut L, direction: Direction, octets: &[u8]) -> bool {
+    !line.in_flight(direction)
+        && match line.take(direction) {
+            Some(frame) => frame.as_slice() == octets,
+            None => false,
+        }
+}
+
+/// Whether nothing comes.
+fn is_empty<L: Line>(line: &mut L) -> bool {
+    line.take(Direction::FromDte).is_none() && line.take(Direction::FromDce).is_none()
+}
+
+fn carries<L: Line>(line: &mut L) -> bool {
     line.put(Direction::FromDte, frame_of(b"AB"));
     line.put(Direction::FromDte, frame_of(b"CD"));
     line.put(Direction::FromDce, frame_of(b"EF"));
-    for (direction, octets) in [
-        (Direction::FromDte, b"AB"),
-        (Direction::FromDce, b"EF"),
-        (Direction::FromDte, b"CD"),
-    ] {
-        assert!(rt; !line.in_flight(direction));
-        let Some(frame) = line.take(direction) else {
-            panic!(rt; "no frame came");
-        };
-        assert_eq!(rt; frame.as_slice(), octets.as_slice());
-    }
-    assert!(rt; line.take(Direction::FromDte).is_none());
-    assert!(rt; line.take(Direction::FromDce).is_none());
-    Ok(())
+    comes(line, Direction::FromDte, b"AB")
+        && comes(line, Direction::FromDce, b"EF")
+        && comes(line, Direction::FromDte, b"CD")
+        && is_empty(line)
 }
 
-#[test]
-fn loses_what_is_in_flight(rt: HostRuntime) -> Result<(), Fail> {
-    let mut line = UdpLine::pair(&rt, rt.alloc())?;
+fn loses<L: Line>(line: &mut L) -> bool {
     line.put(Direction::FromDte, frame_of(b"AB"));
     line.put(Direction::FromDce, frame_of(b"CD"));
     line.empty();
-    assert!(rt; line.take(Direction::FromDte).is_none());
-    assert!(rt; line.take(Direction::FromDce).is_none());
+    is_empty(line)
+}
+
+#[test]
+fn carries_frames_in_order_and_loses_what_is_in_flight(rt: HostRuntime) -> Result<(), Fail> {
+    let mut line = UdpLine::pair(&rt, rt.alloc())?;
+    assert!(rt; carries(&mut line));
+    assert!(rt; loses(&mut line));
     Ok(())
 }

@@ -13,24 +13,24 @@ fn words_of(alloc: Global, line: &str) -> Result<Vec<String>, AllocError> {
 
 /// Whether a line is read as this mode with a network file `n` and a script file `s`.
 fn asks_for(alloc: Global, line: &str, mode: Mode) -> bool {
-    let Ok(words) = words_of(alloc, line) else {
-        return false;
-    };
-    match read_words(alloc, words.as_slice()) {
-        Ok(Some(found)) => found.mode == mode && found.net == "n" && found.script == "s",
-        _ => false,
+    match words_of(alloc, line) {
+        Ok(words) => match read_words(alloc, words.as_slice()) {
+            Ok(Some(found)) => found.mode == mode && found.net == "n" && found.script == "s",
+            _ => false,
+        },
+        Err(_) => false,
     }
 }
 
 /// Whether a line is refused.
 fn is_bad(alloc: Global, line: &str) -> bool {
-    let Ok(words) = words_of(alloc, line) else {
-        return false;
-    };
-    matches!(
-        read_words(alloc, words.as_slice()),
-        Err(WordsFault::BadWords)
-    )
+    match words_of(alloc, line) {
+        Ok(words) => matches!(
+            read_words(alloc, words.as_slice()),
+            Err(WordsFault::BadWords)
+        ),
+        Err(_) => false,
+    }
 }
 
 #[test]
@@ -43,8 +43,7 @@ fn words_name_the_mode_and_both_files(rt: HostRuntime) {
 
 #[test]
 fn other_words_are_refused(rt: HostRuntime) {
-    let alloc = rt.alloc();
-    let lines = [
+    const LINES: [&str; 13] = [
         "dance",
         "--help",
         "help",
@@ -59,7 +58,7 @@ fn other_words_are_refused(rt: HostRuntime) {
         "sim --net n --script s more",
         "sim --net n --script",
     ];
-    for line in lines {
-        assert!(rt; is_bad(alloc, line));
+    for line in &LINES {
+        assert!(rt; is_bad(rt.alloc(), line), "{line}");
     }
 }
