@@ -57,9 +57,12 @@ fn play(rt: &impl Abort, alloc: Global, example: &Example<'_>) {
     let mut dte = Station::new(alloc, Role::Dte, params).expect(rt, "a DTE");
     let mut dce = Station::new(alloc, Role::Dce, params).expect(rt, "a DCE");
     let rule = example.rule;
-    let fits = begin(&mut dte, &mut dce, example.begins)
-        && first_misfit(&mut dte, &mut dce, example.turns).is_none();
-    assert!(rt; fits, "{rule}");
+    assert!(rt; holds(&mut dte, &mut dce, example), "{rule}");
+}
+
+// Whether the turns of an example fit.
+fn holds(dte: &mut Station, dce: &mut Station, example: &Example<'_>) -> bool {
+    begin(dte, dce, example.begins) && first_misfit(dte, dce, example.turns).is_none()
 }
 
 // Whether the turns by which two layers begin fit.

@@ -93,9 +93,13 @@ pub(crate) fn play(rt: &impl Abort, alloc: Global, example: &Example<'_>) {
         block: None,
         request: None,
     };
+    play_at(rt, &mut tested, example);
+}
+
+fn play_at(rt: &impl Abort, tested: &mut Tested, example: &Example<'_>) {
     let rule = example.rule;
     for (place, step) in example.steps.iter().enumerate() {
-        assert!(rt; fits(&mut tested, *step), "{rule}: step {place}");
+        assert!(rt; fits(tested, *step), "{rule}: step {place}");
         tested.terminal.resume_device(tested.call.queue_full);
     }
 }
