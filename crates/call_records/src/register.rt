@@ -51,9 +51,9 @@ impl Register {
               standing = true;
             } ∷ [])) }
     {
-        let book = Book::new(alloc, dte_node, dce_node, channels, true)?;
         let mut lines = Vec::new(alloc);
         lines.push(Ends::new(alloc, 0, 0, None, 0)?)?;
+        let book = Book::new(alloc, dte_node, dce_node, channels, true)?;
         Ok(Register {
             book,
             open: Some(0),
