@@ -1,5 +1,5 @@
 /// What a packet of data transfer was (X.25 4.3, 4.4).
-#[derive(Clone, Copy, Debug, PartialEq, Eq)]
+#[derive(Clone, Copy)]
 pub(crate) enum Heard {
     /// It is kept, and its P(R) newly covers so many packets.
     Keeps(u8),
