@@ -9,7 +9,7 @@ use Rattle.packet_layer.specs.Channel.{Channel}
 use Rattle.packet_layer.specs.Layer.{Layer, Next, channel_of, next_of, next_number, serve, serve_found, served, next_restart, next_in, next_packet}
 use Rattle.packet_layer.specs.Layer as machine
 use Rattle.packet_layer.specs.Events.{written_packet}
-use Rattle.packet_end.specs.PacketEnd.{PacketEnd, offered, with_next, settled, HasOfferedAll}
+use Rattle.packet_end.specs.PacketEnd.{PacketEnd, offered, all_offered, with_next, settled, HasOfferedAll}
 
 -- ---- a layer that has no packet stays as it is
 
@@ -80,6 +80,34 @@ pub one_offered : (most count : ℕ) (e : PacketEnd) → count < most → can_of
     is_some (next_packet e.layer).packet ≡ true →
     offered (most - (count + 1)) (with_next e (next_packet e.layer)) ≡ offered (most - count) e
 one_offered most count e within room says = sym (one_more (most - count) (most - (count + 1)) e (omega arith) room says)
+
+-- ---- what is left of the packets that are offered at most, once so many were
+
+pub left_after : (count : ℕ) → PacketEnd → PacketEnd
+left_after count e = offered (7 - count) e
+
+pub left_at_first : (e : PacketEnd) → left_after 0 e ≡ all_offered e
+unfolding left_after all_offered
+left_at_first e = refl
+
+pub left_one : (count : ℕ) (e : PacketEnd) → count < 7 → can_offer e.line.link ≡ true → is_some (next_packet e.layer).packet ≡ true →
+    left_after (count + 1) (with_next e (next_packet e.layer)) ≡ left_after count e
+unfolding left_after
+left_one count e h room says = one_offered 7 count e h room says
+
+pub left_no_room : (count : ℕ) (e : PacketEnd) → can_offer e.line.link ≡ false → left_after count e ≡ e
+unfolding left_after
+left_no_room count e room = no_room (7 - count) e room
+
+pub left_no_packet : (count : ℕ) (e : PacketEnd) → is_some (next_packet e.layer).packet ≡ false → left_after count e ≡ e
+unfolding left_after
+left_no_packet count e silent = no_packet (7 - count) e silent
+
+pub left_over : (count : ℕ) (e : PacketEnd) → 7 ≤ count → left_after count e ≡ e
+unfolding left_after
+left_over count e over =
+    let none : 7 - count ≡ 0 = omega (arith, over) in
+    ap (λ n. offered n e) none
 
 -- ---- nothing is kept back
 

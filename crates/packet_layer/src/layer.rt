@@ -85,8 +85,8 @@ impl Layer {
             window,
             standing,
         } = params;
-        let mut channels = closed_channels(alloc, channels)?;
         let notes = Notes::new(alloc)?;
+        let mut channels = closed_channels(alloc, channels)?;
         if standing {
             let first = &mut channels[0];
             first.stand();

@@ -6,7 +6,7 @@ ghost use Rattle.packet_layer.specs.RestartView.{restart_body};
 use packet_codec::{Content, Packet, PacketBuf, write_packet};
 
 /// Where the restart procedure stands (X.25 table C-1).
-#[derive(Clone, Copy, Debug, PartialEq, Eq)]
+#[derive(Clone, Copy)]
 pub(crate) enum Phase {
     /// The link has no session.
     NoSession,

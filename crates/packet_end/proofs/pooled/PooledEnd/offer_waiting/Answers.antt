@@ -1,4 +1,4 @@
-use Rattle.std.proofs.Common.{rules, [], ◌≡◌, ◌∙◌, ◌+◌, ◌-◌, ◌≤◌, ap, sym, subst, arith, inl}
+use Rattle.std.proofs.Common.{[], ◌≡◌, ◌∙◌, ◌+◌, ◌≤◌, ap, sym, subst, arith, inl}
 use Rattle.std.specs.Prelude.{is_some, true, false}
 use Rattle.line_end.specs.End as line
 use Rattle.line_end.specs.End.{End}
@@ -6,17 +6,30 @@ use Rattle.lapb.specs.Machine.{can_offer}
 use Rattle.packet_layer.specs.Layer.{Layer, next_packet}
 use Rattle.packet_layer.specs.Events.{written_packet}
 use Rattle.packet_end.specs.PooledView.{end_of}
-use Rattle.packet_end.specs.PacketEnd.{offered, all_offered, with_next}
-use Rattle.flow_window.proofs.Weights.{balances_then}
+use Rattle.packet_end.specs.Pooled.{PooledEnd}
+use Rattle.packet_end.specs.PacketEnd.{all_offered, with_next}
+use Rattle.flow_window.specs.Pool.{Balances}
+use Rattle.flow_window.proofs.Weights.{balances_same, balances_then}
 use Rattle.packet_end.proofs.Pools.{serves_after}
-use Rattle.packet_end.proofs.Offering.{next_none, written_same, no_room, no_packet, one_offered, takes_none, longer, silent_all_offered, may_room, may_silent, may_both, may_before, may_counted}
+use Rattle.packet_end.proofs.Offering.{next_none, written_same, left_after, left_at_first, left_one, left_no_room, left_no_packet, left_over, takes_none, longer, silent_all_offered, may_room, may_silent, may_both, may_before, may_counted}
 use Rattle.packet_end.proofs.Waits.{others_agree, next_alike}
 use Rattle.packet_end.proofs.pooled.PooledEnd.offer_waiting.Goals as goal
 use Rattle.packet_end.proofs.pooled.PooledEnd.offer_waiting.Goals.{then-not-has_room-via-then-not-has_room, then-not-has_room-via-else-not-has_room+then-not-offer_next}
 
 pub loop-count-init : goal.loop-count-init
-unfolding all_offered
-loop-count-init c = search rules
+loop-count-init c = record {
+  left = left_at_first (end_of c.self.inside) ∙ ap (λ (p : PooledEnd). all_offered p.end) c.self.view_is;
+  queued = omega arith;
+  notes = ap (λ (p : PooledEnd). p.end.notes) c.self.view_is;
+  begins = λ _. ap (λ (p : PooledEnd). p.end) c.self.view_is;
+  some = λ count. absurd (omega (arith, count));
+  most = λ count. absurd (omega (arith, count));
+  pool = subst (λ (p : PooledEnd). Balances c.args.pool.now p.held c.args.pool.now c.self.inside.stack.held) c.self.view_is
+      (balances_same c.args.pool.now c.self.inside.stack.held);
+  share = ap (λ (p : PooledEnd). p.share) c.self.view_is;
+  within = c.self.invariant.within;
+  agree = c.self.invariant.agree;
+}
 
 pub loop-count-preserved : goal.loop-count-preserved
 loop-count-preserved c =
@@ -29,7 +42,7 @@ loop-count-preserved c =
     ≡ with_next e (next_packet e.layer) =
     λ i. record { line = end i; layer = c.offer_next.ensures.layer i; timers = e.timers; notes = e.notes } in
     record {
-      left = ap (offered (7 - (c.loop-count.count + 1))) same ∙ one_offered 7 c.loop-count.count e c.loop-count-test.true room says ∙ c.loop-count.invariant.left;
+      left = ap (left_after (c.loop-count.count + 1)) same ∙ left_one c.loop-count.count e c.loop-count-test.true room says ∙ c.loop-count.invariant.left;
       queued = rw end (longer e.line.link (written_packet (next_packet e.layer).packet []) c.loop-count.count room c.loop-count.invariant.queued);
       notes = c.loop-count.invariant.notes;
       begins = λ none. absurd (omega (arith, none));
@@ -70,14 +83,14 @@ returns-then-not-has_room-clause-end c =
     let e = end_of c.loop-count.self-inside in
     elim c.then-not-has_room.branch [
       | then-not-has_room-via-then-not-has_room w ↦
-          let end = sym (no_room (7 - c.loop-count.count) e (sym (c.has_room.ensures.room ∙ ap (λ (x : End). can_offer x.link) c.line.ensures) ∙ w.if-not-has_room.true)) ∙ c.loop-count.invariant.left in
+          let end = sym (left_no_room c.loop-count.count e (sym (c.has_room.ensures.room ∙ ap (λ (x : End). can_offer x.link) c.line.ensures) ∙ w.if-not-has_room.true)) ∙ c.loop-count.invariant.left in
           rw w.self-is (λ i. record { end = end i; held = c.loop-count.self-inside.stack.held; share = c.loop-count.invariant.share i })
       | then-not-has_room-via-else-not-has_room+then-not-offer_next w ↦
           let silent : is_some (next_packet e.layer).packet ≡ false = sym w.offer_next.ensures.said ∙ w.if-not-offer_next.true in
           let layer : w.offer_next.new.self.layer ≡ e.layer = w.offer_next.ensures.layer ∙ next_none e.layer silent in
           let same : (record { line = w.offer_next.new.self.line; layer = w.offer_next.new.self.layer; timers = e.timers; notes = e.notes }) ≡ e =
           (λ i. record { line = w.if-not-offer_next.ensures.same i; layer = layer i; timers = e.timers; notes = e.notes }) in
-          let end = same ∙ sym (no_packet (7 - c.loop-count.count) e silent) ∙ c.loop-count.invariant.left in
+          let end = same ∙ sym (left_no_packet c.loop-count.count e silent) ∙ c.loop-count.invariant.left in
           let share = w.offer_next.ensures.share ∙ c.loop-count.invariant.share in
           rw w.self-is (λ i. record { end = end i; held = w.offer_next.new.self.held; share = share i })
     ]
@@ -114,8 +127,7 @@ returns-clause-offered c = sym (c.loop-count.invariant.some (omega (arith, c.loo
 
 pub returns-clause-end : goal.returns-clause-end
 returns-clause-end c =
-    let over : 7 - c.loop-count.count ≡ 0 = omega (arith, c.loop-count-test.false) in
-    let end = ap (λ n. offered n (end_of c.loop-count.self-inside)) (sym over) ∙ c.loop-count.invariant.left in
+    let end = sym (left_over c.loop-count.count (end_of c.loop-count.self-inside) c.loop-count-test.false) ∙ c.loop-count.invariant.left in
     λ i. record { end = end i; held = c.loop-count.self-inside.stack.held; share = c.loop-count.invariant.share i }
 
 pub returns-clause-all_offered : goal.returns-clause-all_offered

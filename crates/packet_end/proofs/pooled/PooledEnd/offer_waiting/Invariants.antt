@@ -1,15 +1,15 @@
-use Rattle.std.proofs.Common.{◌≡◌, ◌-◌, ◌≤◌, ◌<◌, true, length}
+use Rattle.std.proofs.Common.{◌≡◌, ◌≤◌, ◌<◌, true, length}
 use Rattle.flow_window.specs.Pool.{Balances}
-use Rattle.packet_end.specs.PacketEnd.{offered, all_offered}
+use Rattle.packet_end.specs.PacketEnd.{all_offered}
 use Rattle.packet_end.specs.PooledView.{end_of}
-use Rattle.packet_end.proofs.Offering.{may_offer}
+use Rattle.packet_end.proofs.Offering.{left_after, may_offer}
 use Rattle.packet_end.specs.Touched.{OthersAgree}
 use Rattle.packet_end.proofs.pooled.PooledEnd.offer_waiting.Given as goal
 
 -- what is left to offer makes the same end as all did at the beginning, and each packet that was offered is queued
 abbrev pub invariant-loop-count : goal.invariant-loop-count
 invariant-loop-count l = record {
-  left : offered (7 - l.count) (end_of l.self-inside) ≡ all_offered l.fn.self.end;
+  left : left_after l.count (end_of l.self-inside) ≡ all_offered l.fn.self.end;
   queued : l.count ≤ length l.self-inside.stack.line.link.queue;
   notes : l.self-inside.notes ≡ l.fn.self.end.notes;
   begins : l.count ≡ 0 → end_of l.self-inside ≡ l.fn.self.end;
