@@ -1,6 +1,9 @@
 use Rattle.std.proofs.Common.{◌≡◌, ◌∙◌, [], ◌∷◌, ◌++◌, ap, ap₂, length, map, nat_lt, true≢false, sym, arith}
 use Rattle.std.proofs.lemmas.List.{map_more}
+use Rattle.flow_window.specs.Pool.{Pool}
+use Rattle.packet_end.proofs.Pools.{replicated}
 use Rattle.switch_lines.specs.Pooled.{plain}
+use Rattle.switch_lines.proofs.Changing.{there}
 use Rattle.switch_lines.proofs.Left.{all_touched, few_made}
 use Rattle.switch_lines.proofs.Making.{made_pooled, plain_made, pooled_made, all_taken}
 use Rattle.switch_lines.proofs.Pooled.{plain_length}
@@ -19,6 +22,19 @@ invariant_of-result c =
           ∙ ap (λ k. nat_lt n k) count) (λ n is. absurd (true≢false (sym is ∙ c.new-2.ensures n)));
       pooled = pooled_made c.loop-line.pool c.args.lines.now ys whole i.size i.places i.none;
     }
+
+pub loop-line-init : goal.loop-line-init
+loop-line-init c = record {
+  made = c.new-made.ensures.items;
+  size = ap (λ (x : Pool). x.size) c.in_ok-pool.ensures.map;
+  places = ap (λ (x : Pool). length x.places) c.in_ok-pool.ensures.map ∙ replicated c.buffers_for.result _ ∙ c.buffers_for.ensures;
+  none = c.in_ok-pool.ensures.weights;
+}
+
+pub new-requires-in-loop-line : goal.new-requires-in-loop-line
+new-requires-in-loop-line c =
+    (c.requires.each c.loop-line.line-index c.line-item.result
+    (there c.args.lines.now c.loop-line.line-index c.line-item.result (omega arith) c.line-item.is)).params
 
 pub loop-line-preserved : goal.loop-line-preserved
 loop-line-preserved c =
