@@ -3,7 +3,7 @@ ghost use Rattle.std.specs.Prelude.{◌≡◌};
 ghost use Rattle.x25_pad.specs.Ports.{channel_of};
 
 /// The call of a terminal, connected or being set up.
-#[derive(Clone, Copy, Debug, PartialEq, Eq)]
+#[derive(Clone, Copy)]
 pub(crate) struct Call {
     pub(crate) channel: u8,
     /// An interrupt was sent and is not confirmed.
@@ -11,7 +11,7 @@ pub(crate) struct Call {
 }
 
 /// What a terminal learns of the call on a channel.
-#[derive(Clone, Copy, Debug, PartialEq, Eq)]
+#[derive(Clone, Copy)]
 pub(crate) enum CallNote {
     Connected(u8),
     Cleared(u8, u8),

@@ -63,17 +63,16 @@ impl Pad {
         if config.terminals == 0 || config.terminals > MOST_TERMINALS {
             return Err(EndFault::BadConfig);
         }
-        let end = PacketEnd::new(alloc, Role::Dte, config.line)?;
+        config.line.check()?;
         let standing = if config.line.standing {
             Some(STANDING_CHANNEL)
         } else {
             None
         };
         let ports = new_ports(alloc, config.params, standing, config.terminals)?;
-        let line = PadLine {
-            end,
-            notes: PadNotes::new(alloc)?,
-        };
+        let notes = PadNotes::new(alloc)?;
+        let end = PacketEnd::new(alloc, Role::Dte, config.line)?;
+        let line = PadLine { end, notes };
         Ok(Pad { line, ports })
     }
 
