@@ -2,3 +2,4 @@ pub mod Placing
 pub mod Hearing
 pub mod Making
 pub mod Blocks
+pub mod Acting

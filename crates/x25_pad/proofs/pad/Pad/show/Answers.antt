@@ -1,0 +1,18 @@
+-- What printing does at a port.
+use Rattle.std.proofs.Common.{None, ◌∙◌}
+use Rattle.x25_pad.specs.Ports as port
+use Rattle.x25_pad.specs.PadView.{pad_of}
+use Rattle.x25_pad.proofs.Acting.{acts_at, seen_at}
+use Rattle.x25_pad.proofs.pad.Pad.show.Goals as goal
+
+pub returns-clause-pad : goal.returns-clause-pad
+returns-clause-pad g c =
+    acts_at port.after_print (pad_of c.self.inside) c.args.self.now c.args.terminal c.from.result c.index_mut.result.now
+    c.print.new.self c.print.new.line c.self.view_is c.from.ensures c.requires.there c.index_mut.ensures.value
+    c.print.ensures.port c.print.ensures.line
+
+pub returns-clause-taken : goal.returns-clause-taken
+returns-clause-taken g c =
+    c.print.ensures.taken
+    ∙ seen_at port.taken_of None (pad_of c.self.inside) c.args.self.now c.args.terminal c.from.result
+    c.index_mut.result.now c.self.view_is c.from.ensures c.requires.there c.index_mut.ensures.value
