@@ -153,9 +153,9 @@ fn new_switch(alloc: Global, plan: &NetPlan, switch: &NewSwitch) -> Result<NodeK
     ensures ok { IfOk result (λ kind. kind_of kind ≡ network.Switching (waiting_switch switch.now plan.now.lines)) }
     ensures err { IfErr result (λ fault. fault ≡ make_fault_is.OutOfMemory) }
 {
+    let own = switch.lines.clone()?;
     let configs = own_configs(alloc, &switch.lines, plan)?;
     let routes = new_routes(alloc, &switch.routes)?;
-    let own = switch.lines.clone()?;
     let config = SwitchConfig {
         lines: &configs,
         routes,
@@ -384,9 +384,9 @@ impl<L: Line> Nodes<L> {
         ensures err { IfErr result (λ fault. fault ≡ make_fault_is.OutOfMemory) }
     {
         let mut nodes = new_nodes(alloc, plan)?;
-        let register = new_register(alloc, plan)?;
         let mut lines = begin_lines(alloc, plan, &mut nodes, lines)?;
         begin_switches(alloc, plan, &mut nodes, &mut lines)?;
+        let register = new_register(alloc, plan)?;
         Ok(Nodes {
             nodes,
             lines,
