@@ -15,7 +15,7 @@ const ALL_NUMBERS: [u8; 18] = [
 ];
 
 /// A parameter's number, and the value in force or why the parameter was refused.
-#[derive(Clone, Copy, Debug, PartialEq, Eq)]
+#[derive(Clone, Copy)]
 pub(crate) struct Setting {
     pub(crate) number: u8,
     pub(crate) outcome: Result<u8, ParamFault>,
