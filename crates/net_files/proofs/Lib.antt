@@ -7,3 +7,4 @@ pub mod TableKeys
 pub mod Tables
 pub mod Pairs
 pub mod Documents
+pub mod Kept

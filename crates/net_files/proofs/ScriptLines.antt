@@ -7,7 +7,7 @@ use Rattle.net_files.specs.Cuts.{before, behind, before_place, behind_place}
 use Rattle.net_files.specs.Words.{Left}
 use Rattle.net_files.specs.Values.{CommandValue}
 use Rattle.net_files.specs.CommandForm.{CommandForm}
-use Rattle.net_files.specs.Reading.{command_of, commands_of, added}
+use Rattle.net_files.specs.Reading.{command_of, commands_of, added, added_one}
 use Rattle.net_files.specs.Scripts.{LinesForm, IsFirstBad, lines_of}
 use Rattle.net_files.specs.Scripts.LinesForm.{none, skipped, spelled}
 use Rattle.net_files.proofs.Found.{command_found}
@@ -134,3 +134,13 @@ bad_line names lines number text commands is h =
     go : (o : Option (List CommandValue)) → added commands o ≡ None → o ≡ None
     go None g = refl
     go (Some more) g = cc
+
+-- the command of a line that is not empty, behind others
+pub added_line : (names : List (List ℕ)) (line : List ℕ) (commands : List CommandValue) → line ≢ []
+    → added commands (commands_of names line) ≡ added_one commands (command_of names line)
+added_line names [] commands some = absurd (some refl)
+added_line names (octet ∷ line) commands some = go (command_of names (octet ∷ line))
+  where
+    go : (o : Option CommandValue) → added commands (option_map (λ c. c ∷ []) o) ≡ added_one commands o
+    go None = refl
+    go (Some value) = refl

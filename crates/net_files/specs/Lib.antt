@@ -3,6 +3,7 @@ pub mod Digits
 pub mod Marks
 pub mod Texts
 pub mod Words
+pub mod Commands
 pub mod Values
 pub mod CommandForm
 pub mod Reading

@@ -205,3 +205,6 @@ commands_of names (octet ∷ line) = option_map (λ c. c ∷ []) (command_of nam
 -- behind others
 abbrev pub added : List CommandValue → Option (List CommandValue) → Option (List CommandValue)
 added commands more = option_map (λ others. commands ++ others) more
+
+abbrev pub added_one : List CommandValue → Option CommandValue → Option (List CommandValue)
+added_one commands one = option_map (λ c. commands ++ c ∷ []) one

@@ -1,13 +1,13 @@
 -- What a script that was read has, and why one is not read.
 use Rattle.std.specs.Prelude.{◌≡◌, ◌≢◌, ◌==◌, ℕ, ◌+◌, ◌⊎◌, List, [], ◌∷◌, take, map, slice_get, Some}
-use Rattle.std.specs.Prelude.{Vec, String, string_bytes, vec_len, Result, Ok, Err}
+use Rattle.std.specs.Prelude.{String, string_bytes, vec_len, Result, Ok, Err}
 use Rattle.std.specs.List.{slice_split}
 use Rattle.std.specs.declared.alloc.Global.{Global}
 use Rattle.net_config.specs.declared.config.Config.{Config}
 use Rattle.net_config.specs.declared.config.NodeConfig.{NodeConfig}
 use Rattle.net_files.specs.declared.fault.ProgFault.{ProgFault}
 use Rattle.net_files.specs.declared.fault.ProgFault.TheVariants as fault_is
-use Rattle.net_files.specs.declared.script.Command.{Command}
+use Rattle.net_files.specs.Commands.{CommandView}
 use Rattle.net_files.specs.declared.script.Script.{Script}
 use Rattle.net_files.specs.Values.{CommandValue, command_value}
 use Rattle.net_files.specs.CommandForm.{CommandForm}
@@ -43,7 +43,7 @@ pub record IsScript (config : Config) (text : List ℕ) (script : Script) : Type
   pub names : AreNamesOf config.nodes.items script.names.items
   pub lines : script.lines ≡ vec_len config.lines
   pub commands :
-      LinesForm (map node_name config.nodes.items) (lines_of text) (map command_value script.commands.items)
+      LinesForm (map node_name config.nodes.items) (lines_of text) (map command_value script.commands)
 
 -- the line of this number, counted from 1, is the first that is not empty and spells no command
 pub record IsFirstBad (names : List (List ℕ)) (lines : List (List ℕ)) (number : ℕ) : Type 0 where
@@ -63,8 +63,8 @@ AreLinesFault names lines fault =
     ⊎ ((number : ℕ) × (fault ≡ fault_is.Script number) × IsFirstBad names lines number)
 
 -- the commands that the lines spell, or their fault
-abbrev pub AreRead : (names lines : List (List ℕ)) → Result (Vec Command Global) ProgFault → Type 0
-AreRead names lines (Ok commands) = LinesForm names lines (map command_value commands.items)
+abbrev pub AreRead : (names lines : List (List ℕ)) → Result (List CommandView) ProgFault → Type 0
+AreRead names lines (Ok commands) = LinesForm names lines (map command_value commands)
 AreRead names lines (Err fault) = AreLinesFault names lines fault
 
 abbrev pub IsScriptFault : Config → List ℕ → ProgFault → Type 0

@@ -8,9 +8,8 @@ use Rattle.line_nodes.specs.declared.terminal.TerminalEvent.{TerminalEvent}
 use Rattle.line_nodes.specs.declared.terminal.TerminalEvent.TheVariants.{Key}
 use Rattle.net_events.specs.declared.event.Event.{Event}
 use Rattle.net_events.specs.declared.event.Event.TheVariants as event
-use Rattle.net_files.specs.declared.script.Keys.{Keys}
-use Rattle.net_files.specs.declared.script.Command.{Command}
-use Rattle.net_files.specs.declared.script.Command.TheVariants as command
+use Rattle.net_files.specs.Commands.{CommandView}
+use Rattle.net_files.specs.Commands.{CommandView as command}
 
 -- what is asked of a call
 pub data RequestValue : Type 0 where
@@ -66,12 +65,12 @@ event_value (event.Relink line) = Relink line
 event_value (event.Restart node) = Restart node
 
 -- a key for each octet
-abbrev pub key_values : Keys → List EventValue
-key_values keys = map (λ octet. AtTerminal keys.node keys.terminal (Key octet)) keys.octets.items
+abbrev pub key_values : (node terminal : ℕ) → (octets : List ℕ) → List EventValue
+key_values node terminal octets = map (λ octet. AtTerminal node terminal (Key octet)) octets
 
-abbrev pub command_value : Command → CommandValue
-command_value (command.Keys keys) = Events (key_values keys.value)
-command_value (command.Event e) = Events (event_value e.value ∷ [])
+abbrev pub command_value : CommandView → CommandValue
+command_value (command.Keys node terminal octets) = Events (key_values node terminal octets)
+command_value (command.Event e) = Events (event_value e ∷ [])
 command_value command.Flow = Flow
 command_value (command.Tick ticks) = Tick ticks
 command_value (command.Trace traces) = Trace traces

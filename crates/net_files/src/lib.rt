@@ -1,6 +1,7 @@
 //! Network files and scripts, read from their texts.
 #![tactic(auto)]
 
+mod commands;
 mod entries;
 mod fault;
 mod keywords;
@@ -9,6 +10,7 @@ mod script;
 mod settings;
 mod words;
 
+pub use commands::{Command, Commands, CommandsIter, Keys};
 pub use fault::ProgFault;
 pub use network::{FIRST, read_net};
-pub use script::{Command, Keys, Script, read_script};
+pub use script::{Script, read_script};

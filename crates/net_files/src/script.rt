@@ -2,14 +2,14 @@
 ghost use Rattle.std.specs.Prelude.{IfOk, IfErr, map, option_map, string_bytes};
 ghost use Rattle.net_files.specs.Values.{request_value, event_value, command_value};
 ghost use Rattle.net_files.specs.Values.{EventValue as event};
-ghost use Rattle.net_files.specs.Values.{CommandValue as command};
 ghost use Rattle.net_files.specs.Reading.{keys_of, at_terminal_of, call_of, take_of, directed_of, timer_of, expiry_of};
 ghost use Rattle.net_files.specs.Reading.{switch_of, say_of, request_of, ask_of, event_of, command_of, commands_of};
-ghost use Rattle.net_files.specs.Reading.{added};
+ghost use Rattle.net_files.specs.Reading.{added, added_one, command_from};
 ghost use Rattle.net_files.specs.Words.{next_word, named, number_at, node_at, last, ended};
 ghost use Rattle.net_files.specs.Answers.{Gives, GivesOrWants, left_of};
 ghost use Rattle.net_files.specs.Scripts.{AreNamesOf, AreRead, IsScript, IsScriptFault, lines_of};
 
+use crate::commands::Commands;
 use crate::fault::ProgFault;
 use crate::keywords::{
     CommandWord, EventWord, RequestWord, direction_of, flags_of, lone_timer, numbered_timer,
@@ -25,35 +25,12 @@ use net_events::Event;
 use packet_host::HostRequest;
 use std::alloc::{AllocError, Global};
 
-/// What a line of a script asks for.
-#[derive(Debug, Drop)]
-pub enum Command {
-    /// These keys are typed.
-    Keys(Box<Keys>),
-    /// This event happens.
-    Event(Box<Event>),
-    /// Frames are delivered, pass after pass over the lines, until a pass brings none.
-    Flow,
-    /// So many ticks go by, and then each timer that is due expires.
-    Tick(u16),
-    /// From here on each frame that is put is printed, or none is.
-    Trace(bool),
-}
-
-/// Keys that are typed at a terminal of a PAD, one after the other.
-#[derive(Debug, Drop)]
-pub struct Keys {
-    pub node: usize,
-    pub terminal: u16,
-    pub octets: Vec<u8>,
-}
-
 /// A script, read for a network: the names of the network's nodes, how many lines it has, and the commands.
 #[derive(Drop)]
 pub struct Script {
     pub names: Vec<String>,
     pub lines: usize,
-    pub commands: Vec<Command>,
+    pub commands: Commands,
 }
 
 /// Reads a script for a network: a command a line, of words that one space parts. Empty lines are skipped.
@@ -87,10 +64,10 @@ fn names_of(alloc: Global, config: &Config) -> Result<Vec<String>, AllocError>
 }
 
 /// The commands of the lines of a text.
-fn read_lines(alloc: Global, text: &[u8], names: &[String]) -> Result<Vec<Command>, ProgFault>
+fn read_lines(alloc: Global, text: &[u8], names: &[String]) -> Result<Commands, ProgFault>
     ensures { AreRead (map string_bytes names.now) (lines_of text.now) result }
 {
-    let mut commands = Vec::new(alloc);
+    let mut commands = Commands::new(alloc);
     let mut rest = Some(text);
     let mut number = 0usize;
     while let Some(lines) = rest {
@@ -106,76 +83,101 @@ fn read_lines(alloc: Global, text: &[u8], names: &[String]) -> Result<Vec<Comman
 }
 
 /// Adds the command of a line to others, or none where the line is empty.
+#[tactic(auto, using(crate::proofs::ScriptLines::added_line))]
 fn add_command(
     alloc: Global,
     line: &[u8],
     names: &[String],
-    commands: &mut Vec<Command>,
+    commands: &mut Commands,
 ) -> Result<(), LineFault>
-    ensures { GivesOrWants (λ _. map command_value commands.new.items) result
-        (added (map command_value commands.old.items) (commands_of (map string_bytes names.now) line.now)) }
+    ensures { GivesOrWants (λ _. map command_value commands.new) result
+        (added (map command_value commands.old) (commands_of (map string_bytes names.now) line.now)) }
 {
-    if !line.is_empty() {
-        commands.push(read_line(alloc, line, names)?)?;
+    if line.is_empty() {
+        return Ok(());
     }
-    Ok(())
+    add_line(alloc, line, names, commands)
 }
 
-/// The command of a line.
-fn read_line(alloc: Global, line: &[u8], names: &[String]) -> Result<Command, LineFault>
-    ensures { GivesOrWants command_value result (command_of (map string_bytes names.now) line.now) }
+/// Adds the command of a line that is not empty to others.
+fn add_line(
+    alloc: Global,
+    line: &[u8],
+    names: &[String],
+    commands: &mut Commands,
+) -> Result<(), LineFault>
+    ensures { GivesOrWants (λ _. map command_value commands.new) result
+        (added_one (map command_value commands.old) (command_of (map string_bytes names.now) line.now)) }
 {
     let mut words = Words::new(line);
-    match words.command_word()? {
-        CommandWord::Key => read_keys(alloc, words, names),
-        CommandWord::Flow => read_flow(words),
-        CommandWord::Tick => read_tick(words),
-        CommandWord::Trace => read_trace(words),
+    let word = words.command_word()?;
+    add_from(alloc, word, words, names, commands)
+}
+
+/// Adds the command of a line, behind its first word, to others.
+fn add_from(
+    alloc: Global,
+    word: CommandWord,
+    words: Words<'_>,
+    names: &[String],
+    commands: &mut Commands,
+) -> Result<(), LineFault>
+    ensures { GivesOrWants (λ _. map command_value commands.new) result
+        (added_one (map command_value commands.old)
+        (command_from (map string_bytes names.now) word (left_of words.entry))) }
+{
+    match word {
+        CommandWord::Key => add_keys(alloc, words, names, commands),
+        CommandWord::Flow => {
+            words.end()?;
+            Ok(commands.add_flow()?)
+        }
+        CommandWord::Tick => {
+            let ticks = read_tick(words)?;
+            Ok(commands.add_tick(ticks)?)
+        }
+        CommandWord::Trace => {
+            let traces = read_trace(words)?;
+            Ok(commands.add_trace(traces)?)
+        }
         CommandWord::Event(word) => {
             let event = read_event(alloc, word, words, names)?;
-            Ok(Command::Event(Box::new(alloc, event)?))
+            Ok(commands.add_event(event)?)
         }
     }
 }
 
 /// `key NODE TERM TEXT`: a key for each octet of the text.
-fn read_keys(alloc: Global, words: Words<'_>, names: &[String]) -> Result<Command, LineFault>
-    ensures { GivesOrWants command_value result (keys_of (map string_bytes names.now) (left_of words.entry)) }
+fn add_keys(
+    alloc: Global,
+    words: Words<'_>,
+    names: &[String],
+    commands: &mut Commands,
+) -> Result<(), LineFault>
+    ensures { GivesOrWants (λ _. map command_value commands.new) result
+        (added_one (map command_value commands.old) (keys_of (map string_bytes names.now) (left_of words.entry))) }
 {
     let mut words = words;
     let node = words.node(names)?;
     let terminal = words.number()?;
-    let octets = read_text(alloc, words.text())?;
-    let keys = Keys {
-        node,
-        terminal,
-        octets,
-    };
-    Ok(Command::Keys(Box::new(alloc, keys)?))
+    let keys = read_text(alloc, words.text())?;
+    commands.add_keys(node, terminal, keys.as_slice())?;
+    Ok(())
 }
 
-/// `flow`.
-fn read_flow(words: Words<'_>) -> Result<Command, LineFault>
-    ensures { Gives command_value result (ended (left_of words.entry) command.Flow) }
-{
-    words.end()?;
-    Ok(Command::Flow)
-}
-
-/// `tick N`.
-fn read_tick(words: Words<'_>) -> Result<Command, LineFault>
-    ensures { Gives command_value result (option_map command.Tick (last (number_at (left_of words.entry)))) }
+/// `tick N`: how many.
+fn read_tick(words: Words<'_>) -> Result<u16, LineFault>
+    ensures { Gives (λ ticks. ticks) result (last (number_at (left_of words.entry))) }
 {
     let mut words = words;
     let ticks = words.number()?;
     words.end()?;
-    Ok(Command::Tick(ticks))
+    Ok(ticks)
 }
 
-/// `trace on` or `trace off`.
-fn read_trace(words: Words<'_>) -> Result<Command, LineFault>
-    ensures { Gives command_value result
-        (option_map command.Trace (last (named switch_of (next_word (left_of words.entry))))) }
+/// `trace on` or `trace off`: which.
+fn read_trace(words: Words<'_>) -> Result<bool, LineFault>
+    ensures { Gives (λ traces. traces) result (last (named switch_of (next_word (left_of words.entry)))) }
 {
     let mut words = words;
     let word = words.next_word()?;
@@ -183,7 +185,7 @@ fn read_trace(words: Words<'_>) -> Result<Command, LineFault>
         return Err(LineFault::NotACommand);
     };
     words.end()?;
-    Ok(Command::Trace(traces))
+    Ok(traces)
 }
 
 /// What follows the name of an event.

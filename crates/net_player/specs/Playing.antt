@@ -1,6 +1,5 @@
 -- What a script makes of a network, and what is printed.
-use Rattle.std.specs.declared.alloc.Global.{Global}
-use Rattle.std.specs.Prelude.{Box, ◌≡◌, ◌≢◌, ℕ, zero, suc, ◌+◌, ◌<◌, Bool, true, false, List, [], ◌∷◌, ◌++◌, map}
+use Rattle.std.specs.Prelude.{◌≡◌, ◌≢◌, ℕ, zero, suc, ◌+◌, ◌<◌, Bool, true, false, List, [], ◌∷◌, ◌++◌, map}
 use Rattle.std.specs.Prelude.{Some, None, Result, Ok, Err, codes}
 use Rattle.memory_line.specs.declared.line.Direction.TheVariants.{FromDte, FromDce}
 use Rattle.memory_line.specs.Lines.{LineService}
@@ -16,9 +15,8 @@ use Rattle.line_sim.specs.Network.{Network, all_elapsed}
 use Rattle.line_sim.specs.Questions.{net_rests}
 use Rattle.line_sim.specs.Due.{net_due}
 use Rattle.line_sim.specs.Happening.{Happens}
-use Rattle.net_files.specs.declared.script.Command.{Command}
-use Rattle.net_files.specs.declared.script.Command.TheVariants as command
-use Rattle.net_files.specs.declared.script.Keys.{Keys}
+use Rattle.net_files.specs.Commands.{CommandView}
+use Rattle.net_files.specs.Commands.{CommandView as command}
 use Rattle.net_files.specs.declared.script.Script.{Script}
 use Rattle.net_files.specs.Scripts.{Names}
 use Rattle.net_player.specs.Answers.{answer_text}
@@ -99,21 +97,21 @@ pub record Played : Type 0 where
   pub traces : Bool
 
 -- the events of keys, one for each octet
-abbrev pub key_event : Keys → (octet : ℕ) → Event
-key_event keys octet = AtTerminal keys.node keys.terminal (Key octet)
+abbrev pub key_event : (node terminal octet : ℕ) → Event
+key_event node terminal octet = AtTerminal node terminal (Key octet)
 
-abbrev pub key_events : Keys → List Event
-key_events keys = map (key_event keys) keys.octets.items
+abbrev pub key_events : (node terminal : ℕ) → (octets : List ℕ) → List Event
+key_events node terminal octets = map (key_event node terminal) octets
 
 -- what a command does: its keys are typed in order, its event happens, at most 100,000 frames flow, time goes by, or
 -- frames are traced from here on, or not
-pub data DoesCommand (L : LineService) (names : Names) (lines : ℕ) : Command → Played → List ℕ → Played → Type 0 where
-  keys : {keys : Box Keys Global} {traces : Bool} {s t : Network} {text : List ℕ}
-      → InTurn Event Network (TellsEvent L names traces) (key_events keys.value) s text t
-      → DoesCommand L names lines (command.Keys keys) (record { net = s; traces = traces }) text
+pub data DoesCommand (L : LineService) (names : Names) (lines : ℕ) : CommandView → Played → List ℕ → Played → Type 0 where
+  keys : {node terminal : ℕ} {octets : List ℕ} {traces : Bool} {s t : Network} {text : List ℕ}
+      → InTurn Event Network (TellsEvent L names traces) (key_events node terminal octets) s text t
+      → DoesCommand L names lines (command.Keys node terminal octets) (record { net = s; traces = traces }) text
       (record { net = t; traces = traces })
-  event : {e : Box Event Global} {traces : Bool} {s t : Network} {text : List ℕ}
-      → TellsEvent L names traces e.value s text t
+  event : {e : Event} {traces : Bool} {s t : Network} {text : List ℕ}
+      → TellsEvent L names traces e s text t
       → DoesCommand L names lines (command.Event e) (record { net = s; traces = traces }) text
       (record { net = t; traces = traces })
   flow : {traces : Bool} {s t : Network} {text : List ℕ}
@@ -139,7 +137,7 @@ pub record Plays (L : LineService) (script : Script) (s : Network) (text : List 
   pub at_rest : Bool
   pub traces : Bool
   pub commands :
-      InTurn Command Played (DoesCommand L script.names.items script.lines) script.commands.items
+      InTurn CommandView Played (DoesCommand L script.names.items script.lines) script.commands
       (record { net = s; traces = false }) told (record { net = t; traces = traces })
   pub rest : at_rest ≡ net_rests t
   pub whole : text ≡ told ++ end_line at_rest

@@ -1,6 +1,5 @@
 -- Where a script stops before its end: memory is wanted, or the output refuses a text.
-use Rattle.std.specs.declared.alloc.Global.{Global}
-use Rattle.std.specs.Prelude.{Box, ◌≡◌, ◌≢◌, ◌⊎◌, ℕ, ◌<◌, Bool, false, List, [], ◌++◌, Some, Result, Err}
+use Rattle.std.specs.Prelude.{◌≡◌, ◌≢◌, ◌⊎◌, ℕ, ◌<◌, Bool, false, List, [], ◌++◌, Some, Result, Err}
 use Rattle.memory_line.specs.Lines.{LineService}
 use Rattle.net_events.specs.declared.event.Event.{Event}
 use Rattle.net_events.specs.declared.answer.Answer.{Answer}
@@ -12,9 +11,8 @@ use Rattle.line_sim.specs.Due.{net_due}
 use Rattle.line_sim.specs.Happening.{Happens}
 use Rattle.net_files.specs.declared.fault.ProgFault.{ProgFault}
 use Rattle.net_files.specs.declared.fault.ProgFault.TheVariants.{OutOfMemory, Write}
-use Rattle.net_files.specs.declared.script.Command.{Command}
-use Rattle.net_files.specs.declared.script.Command.TheVariants as command
-use Rattle.net_files.specs.declared.script.Keys.{Keys}
+use Rattle.net_files.specs.Commands.{CommandView}
+use Rattle.net_files.specs.Commands.{CommandView as command}
 use Rattle.net_files.specs.declared.script.Script.{Script}
 use Rattle.net_files.specs.Scripts.{Names}
 use Rattle.net_player.specs.Answers.{answer_text}
@@ -74,13 +72,13 @@ pub data ExpiryStops (L : LineService) (names : Names) (traces : Bool) (fault : 
 
 -- a command that stops: at one of its keys, at its event, in its flow, or at what is due after its ticks
 pub data CommandStops (L : LineService) (names : Names) (lines : ℕ) (fault : ProgFault)
-    : Command → Played → List ℕ → Type 0 where
-  in_keys : {keys : Box Keys Global} {s : Played} {part : List ℕ}
-      → StopsInTurn Event Network (TellsEvent L names s.traces) (StopsAt L names s.traces fault) (key_events keys.value)
-      s.net part
-      → CommandStops L names lines fault (command.Keys keys) s part
-  at_event : {e : Box Event Global} {s : Played} {part : List ℕ}
-      → StopsAt L names s.traces fault e.value s.net part
+    : CommandView → Played → List ℕ → Type 0 where
+  in_keys : {node terminal : ℕ} {octets : List ℕ} {s : Played} {part : List ℕ}
+      → StopsInTurn Event Network (TellsEvent L names s.traces) (StopsAt L names s.traces fault)
+      (key_events node terminal octets) s.net part
+      → CommandStops L names lines fault (command.Keys node terminal octets) s part
+  at_event : {e : Event} {s : Played} {part : List ℕ}
+      → StopsAt L names s.traces fault e s.net part
       → CommandStops L names lines fault (command.Event e) s part
   in_flow : {s : Played} {part : List ℕ}
       → FlowStops L names s.traces lines fault (record { left = 100000; net = s.net }) part
@@ -92,11 +90,11 @@ pub data CommandStops (L : LineService) (names : Names) (lines : ℕ) (fault : P
 -- the play of a script that stops: in one of its commands, or at the last line
 pub data PlayStops (L : LineService) (script : Script) (fault : ProgFault) (s : Network) : List ℕ → Type 0 where
   in_command : {part : List ℕ}
-      → StopsInTurn Command Played (DoesCommand L script.names.items script.lines)
-      (CommandStops L script.names.items script.lines fault) script.commands.items
+      → StopsInTurn CommandView Played (DoesCommand L script.names.items script.lines)
+      (CommandStops L script.names.items script.lines fault) script.commands
       (record { net = s; traces = false }) part
       → PlayStops L script fault s part
   at_the_end : {t : Network} {traces : Bool} {told part : List ℕ}
-      → InTurn Command Played (DoesCommand L script.names.items script.lines) script.commands.items
+      → InTurn CommandView Played (DoesCommand L script.names.items script.lines) script.commands
       (record { net = s; traces = false }) told (record { net = t; traces = traces })
       → fault ≡ Write → IsPartOf (end_line (net_rests t)) fault part → PlayStops L script fault s (told ++ part)

@@ -1,5 +1,5 @@
 //! The text of an answer: what is printed for an event.
-ghost use Rattle.std.specs.Prelude.{◌≡◌, ◌<◌, ℕ, List, [], Some, IfOk, string_bytes, decimal};
+ghost use Rattle.std.specs.Prelude.{◌≡◌, ◌<◌, ◌++◌, ◌∷◌, ℕ, List, [], Some, IfOk, OnOk, string_bytes, decimal};
 ghost use Rattle.std.specs.Bool.{OnTrue};
 ghost use Rattle.std.specs.List.{flat_map};
 ghost use Rattle.std.specs.Fmt.{WritesOnOk};
@@ -8,13 +8,14 @@ ghost use Rattle.net_player.specs.Answers.{quoted, shown, hex_digit, flags_of, t
 ghost use Rattle.net_player.specs.Answers.{name_of, outcome_text, refusal_text, node_refusal_text, way_of, spaced};
 ghost use Rattle.net_player.specs.Answers.{frame_text, note_text, happening};
 
+use itoa::Buffer;
 use line_nodes::{HostNote, NodeFault, NoteKind};
 use line_sim::{Answer, Direction, Event, Outcome, PadAnswer, Put, StepFault};
 use packet_layer::{CallFault, ChannelFault, Front};
 use std::alloc::{AllocError, Global};
 use std::fmt;
 
-/// For how many octets a line of what was taken has room at first.
+/// For how many octets the line of an outcome has room at first.
 const LINE_ROOM: usize = 64;
 
 /// Whether nothing is printed of an outcome: that of a delivery, and that of a key that was taken.
@@ -28,40 +29,115 @@ pub(crate) fn prints_nothing(event: &Event, outcome: &Outcome) -> bool
     }
 }
 
-/// The lines of an outcome, by the names of the network's nodes: none for a key that was taken, nor for a delivery.
-pub(crate) fn outcome_text(
+/// The line of an outcome, by the names of the network's nodes: none for a key that was taken, nor for a delivery.
+pub(crate) fn outcome_line(
     alloc: Global,
     names: &[String],
     event: &Event,
     answer: &Answer,
-) -> Result<String, AllocError>
-    ensures { IfOk result (λ text. string_bytes text ≡ outcome_text names.now event.now answer.now.outcome
+) -> Result<Vec<u8>, AllocError>
+    ensures { IfOk result (λ line. line.items ≡ outcome_text names.now event.now answer.now.outcome
         answer.now.text.items) }
+{
+    let mut line = Vec::with_capacity(alloc, LINE_ROOM)?;
+    add_outcome(&mut line, names, event, answer)?;
+    Ok(line)
+}
+
+/// Adds the line of an outcome.
+fn add_outcome(
+    line: &mut Vec<u8>,
+    names: &[String],
+    event: &Event,
+    answer: &Answer,
+) -> Result<(), AllocError>
+    ensures { OnOk result (line.new.items ≡ line.old.items
+        ++ outcome_text names.now event.now answer.now.outcome answer.now.text.items) }
 {
     match (event, &answer.outcome) {
         (Event::Call { node, .. }, Outcome::Called { channel }) => {
-            let name = node_name(names, *node);
-            format!(in alloc; "{name}/{channel} called\n")
+            add_place(line, node_name(names, *node), b'/', u16::from(*channel))?;
+            line.extend_from_slice(b" called\n")
         }
         (Event::Take { node, channel }, Outcome::Took(front)) => {
-            let name = node_name(names, *node);
-            let taken = Shown {
-                front: *front,
-                octets: answer.text.as_slice(),
-            };
-            let mut line = String::with_capacity(alloc, LINE_ROOM)?;
-            write!(line, "{name}/{channel} {taken}\n")?;
-            Ok(line)
+            add_place(line, node_name(names, *node), b'/', *channel)?;
+            add_taken(line, *front, answer.text.as_slice())
         }
         (Event::AtTerminal { node, terminal, .. }, Outcome::Printed) => {
-            let name = node_name(names, *node);
-            let text = Quoted(answer.text.as_slice());
-            format!(in alloc; "{name}.{terminal} {text}\n")
+            add_place(line, node_name(names, *node), b'.', *terminal)?;
+            add_quoted(line, b" ", answer.text.as_slice())
         }
         (Event::AtTerminal { .. }, Outcome::Typed(PadAnswer::Dropped)) => {
-            String::from_str(alloc, "dropped\n")
+            line.extend_from_slice(b"dropped\n")
         }
-        _ => Ok(String::new(alloc)),
+        _ => Ok(()),
+    }
+}
+
+/// Adds a node with one of its channels or terminals.
+fn add_place(line: &mut Vec<u8>, node: &str, sign: u8, number: u16) -> Result<(), AllocError>
+    ensures { OnOk result (line.new.items ≡ line.old.items ++ (node.now ++ sign ∷ decimal number)) }
+{
+    let mut digits = Buffer::new();
+    line.extend_from_slice(node.as_bytes())?;
+    line.extend_from_slice(&[sign])?;
+    line.extend_from_slice(digits.format(number).as_bytes())
+}
+
+/// Adds what was taken, if anything, behind a space, and ends the line.
+fn add_taken(line: &mut Vec<u8>, front: Option<Front>, octets: &[u8]) -> Result<(), AllocError>
+    ensures { OnOk result (line.new.items ≡ line.old.items ++ (32 ∷ taken_text front octets.now ++ 10 ∷ [])) }
+{
+    match front {
+        None => line.extend_from_slice(b" none\n"),
+        Some(Front::Interrupt) => add_quoted(line, b" int ", octets),
+        Some(
+            Front::Data {
+                more,
+                qualified,
+                delivery,
+                ..
+            },
+        ) => {
+            line.extend_from_slice(b" data ")?;
+            line.extend_from_slice(flags_of(more, qualified, delivery).as_bytes())?;
+            add_quoted(line, b" ", octets)
+        }
+    }
+}
+
+/// Adds octets between quotes, behind others, and ends the line.
+fn add_quoted(line: &mut Vec<u8>, before: &[u8], octets: &[u8]) -> Result<(), AllocError>
+    ensures { OnOk result (line.new.items ≡ line.old.items ++ (before.now ++ (quoted octets.now ++ 10 ∷ []))) }
+{
+    line.extend_from_slice(before)?;
+    line.extend_from_slice(b"\"")?;
+    add_octets(line, octets)?;
+    line.extend_from_slice(b"\"\n")
+}
+
+/// Adds octets as they stand between quotes.
+fn add_octets(line: &mut Vec<u8>, octets: &[u8]) -> Result<(), AllocError>
+    ensures { OnOk result (line.new.items ≡ line.old.items ++ flat_map shown octets.now) }
+{
+    for octet in octets {
+        add_octet(line, *octet)?;
+    }
+    Ok(())
+}
+
+/// Adds an octet as it stands between quotes: a printable character stands for itself, a backslash is doubled, and any
+/// other octet is a backslash and its two hexadecimal digits.
+fn add_octet(line: &mut Vec<u8>, octet: u8) -> Result<(), AllocError>
+    ensures { OnOk result (line.new.items ≡ line.old.items ++ shown octet) }
+{
+    match octet {
+        b'\\' => line.extend_from_slice(b"\\\\"),
+        0x20..=0x7E => {
+            line.push(octet)?;
+            Ok(())
+        }
+        _ => line.extend_from_slice(&[b'\\', hex_digit(octet / 16), hex_digit(octet % 16)]),
     }
 }
 
@@ -159,8 +235,8 @@ fn write_hex<W: fmt::Write>(f: &mut fmt::Formatter<W>, octet: u8) -> fmt::Result
     ensures { WritesOnOk W.write_str_gives f.old result (spaced octet) f.new }
 {
     f.write_char(' ')?;
-    f.write_char(hex_digit(octet / 16))?;
-    f.write_char(hex_digit(octet % 16))
+    f.write_char(char::from(hex_digit(octet / 16)))?;
+    f.write_char(char::from(hex_digit(octet % 16)))
 }
 
 /// The line of a refusal: its number and name.
@@ -201,36 +277,6 @@ fn node_name(names: &[String], node: usize) -> &str
     }
 }
 
-/// What was taken, if anything.
-#[derive(Clone, Copy)]
-struct Shown<'a> {
-    front: Option<Front>,
-    octets: &'a [u8],
-}
-
-impl fmt::Display for Shown<'_> {
-    ghost output = { λ s. Some (taken_text s.front s.octets.now) };
-
-    fn fmt<W: fmt::Write>(&self, f: &mut fmt::Formatter<W>) -> fmt::Result {
-        let octets = Quoted(self.octets);
-        match self.front {
-            None => f.write_str("none"),
-            Some(Front::Interrupt) => write!(f, "int {octets}"),
-            Some(
-                Front::Data {
-                    more,
-                    qualified,
-                    delivery,
-                    ..
-                },
-            ) => {
-                let flags = flags_of(more, qualified, delivery);
-                write!(f, "data {flags} {octets}")
-            }
-        }
-    }
-}
-
 /// The letters of the bits M, Q and D that are set, or a dash where none is.
 fn flags_of(more: bool, qualified: bool, delivery: bool) -> &'static str
     ensures { result.now ≡ flags_of more qualified delivery }
@@ -247,55 +293,14 @@ fn flags_of(more: bool, qualified: bool, delivery: bool) -> &'static str
     }
 }
 
-/// Octets between quotes: a printable character stands for itself, a backslash is doubled, and any other octet is a
-/// backslash and its two hexadecimal digits.
-#[derive(Clone, Copy)]
-struct Quoted<'a>(&'a [u8]);
-
-impl fmt::Display for Quoted<'_> {
-    ghost output = { λ q. Some (quoted q.0.now) };
-
-    fn fmt<W: fmt::Write>(&self, f: &mut fmt::Formatter<W>) -> fmt::Result {
-        f.write_char('"')?;
-        write_octets(f, self.0)?;
-        f.write_char('"')
-    }
-}
-
-/// Writes octets as they stand between quotes.
-fn write_octets<W: fmt::Write>(f: &mut fmt::Formatter<W>, octets: &[u8]) -> fmt::Result
-    ensures { WritesOnOk W.write_str_gives f.old result (flat_map shown octets.now) f.new }
-{
-    for octet in octets {
-        write_octet(f, *octet)?;
-    }
-    Ok(())
-}
-
-/// Writes an octet as it stands between quotes.
-fn write_octet<W: fmt::Write>(f: &mut fmt::Formatter<W>, octet: u8) -> fmt::Result
-    ensures { WritesOnOk W.write_str_gives f.old result (shown octet) f.new }
-{
-    match octet {
-        b'\\' => f.write_str("\\\\"),
-        0x20..=0x7E => f.write_char(char::from(octet)),
-        _ => {
-            f.write_char('\\')?;
-            f.write_char(hex_digit(octet / 16))?;
-            f.write_char(hex_digit(octet % 16))
-        }
-    }
-}
-
 /// The hexadecimal digit of a number below 16.
-fn hex_digit(number: u8) -> char
+fn hex_digit(number: u8) -> u8
     requires { number < 16 }
     ensures { result ≡ hex_digit number }
 {
-    let digit = if number < 10 {
+    if number < 10 {
         b'0' + number
     } else {
         b'A' - 10 + number
-    };
-    char::from(digit)
+    }
 }

@@ -16,7 +16,17 @@ pub(crate) fn write<W: Write>(out: &mut W, text: &str) -> Result<(), ProgFault>
         (IsPartOf text.now fault)) }
     ensures fault { IfErr result (λ fault. fault ≡ ProgFault.Write) }
 {
-    let mut rest = text.as_bytes();
+    write_octets(out, text.as_bytes())
+}
+
+/// Writes octets, as `write` does a text.
+pub(crate) fn write_octets<W: Write>(out: &mut W, octets: &[u8]) -> Result<(), ProgFault>
+    ensures writes { OnOk result (Appends (W.contents out.old) (W.contents out.new) octets.now) }
+    ensures refused { IfErr result (λ fault. Writes (W.contents out.old) (W.contents out.new)
+        (IsPartOf octets.now fault)) }
+    ensures fault { IfErr result (λ fault. fault ≡ ProgFault.Write) }
+{
+    let mut rest = octets;
     while !rest.is_empty() {
         match write_some(out, rest) {
             Ok(0) | Err(_) => return Err(ProgFault::Write),

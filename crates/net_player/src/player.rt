@@ -1,5 +1,6 @@
 //! The player: does what a script says, and prints the answers.
-ghost use Rattle.std.specs.Prelude.{◌≡◌, ◌≤◌, ◌<◌, Some, Ok, OnOk, IfOk, IfErr};
+ghost use Rattle.std.specs.Prelude.{◌≡◌, ◌≤◌, ◌<◌, [], Some, Ok, OnOk, IfOk, IfErr};
+ghost use Rattle.std.specs.Bool.{OnTrue};
 ghost use Rattle.std.specs.Io.KnownBytes.{Appends};
 ghost use Rattle.std.specs.List.{flat_map};
 ghost use Rattle.net_player.specs.Answers.{frame_text, note_text, frames_text, answer_text, outcome_text};
@@ -11,11 +12,12 @@ ghost use Rattle.net_player.specs.InTurn.{InTurn, StopsInTurn, Writes};
 ghost use Rattle.net_player.specs.Playing.{has_arrived, key_events, Tells, TellsEvent, Delivers, Passes, Flows};
 ghost use Rattle.net_player.specs.Playing.{Ticks};
 ghost use Rattle.net_player.specs.Playing.{DoesCommand, Plays, end_line};
+ghost use Rattle.net_files.specs.Commands.{view_of};
 ghost use Rattle.net_player.specs.Stopping.{IsPlayFault, IsPartOf, StopsAt, DeliveryStops, PassStops, FlowStops};
 ghost use Rattle.net_player.specs.Stopping.{ExpiryStops, CommandStops, PlayStops};
 
-use crate::answer::{frame_text, note_text, outcome_text, prints_nothing, refusal_text};
-use crate::output::write;
+use crate::answer::{frame_text, note_text, outcome_line, prints_nothing, refusal_text};
+use crate::output::{write, write_octets};
 use line_nodes::{HostNote, TerminalEvent};
 use line_sim::{Answer, Direction, Event, Line, Net, Outcome, Put, StepFault};
 use net_files::{Command, Keys, ProgFault, Script};
@@ -48,8 +50,8 @@ pub fn play<L: Line, W: Write>(
         lines: script.lines,
         traces: false,
     };
-    for command in &script.commands {
-        player.traces = player.play_command(net, command, out)?;
+    for command in script.commands.iter() {
+        player.traces = player.play_command(net, &command, out)?;
     }
     write(out, end_line(net.at_rest()))?;
     Ok(())
@@ -77,20 +79,20 @@ impl Player<'_> {
     fn play_command<L: Line, W: Write>(
         &self,
         net: &mut Net<L>,
-        command: &Command,
+        command: &Command<'_>,
         out: &mut W,
     ) -> Result<bool, ProgFault>
         ensures writes { IfOk result (λ after. Writes (W.contents out.old) (W.contents out.new)
-            (λ text. DoesCommand L.service self.now.names.now self.now.lines command.now
+            (λ text. DoesCommand L.service self.now.names.now self.now.lines (view_of command.now)
             (record { net = net.old; traces = self.now.traces }) text (record { net = net.new; traces = after }))) }
         ensures stops { IfErr result (λ fault. Writes (W.contents out.old) (W.contents out.new)
-            (CommandStops L.service self.now.names.now self.now.lines fault command.now
+            (CommandStops L.service self.now.names.now self.now.lines fault (view_of command.now)
             (record { net = net.old; traces = self.now.traces }))) }
         ensures faults { IfErr result IsPlayFault }
     {
         match command {
             Command::Keys(keys) => {
-                self.play_keys(net, keys, out)?;
+                self.play_keys(net, *keys, out)?;
                 Ok(self.traces)
             }
             Command::Event(event) => {
@@ -113,18 +115,18 @@ impl Player<'_> {
     fn play_keys<L: Line, W: Write>(
         &self,
         net: &mut Net<L>,
-        keys: &Keys,
+        keys: Keys<'_>,
         out: &mut W,
     ) -> Result<(), ProgFault>
         ensures writes { OnOk result (Writes (W.contents out.old) (W.contents out.new)
             (λ text. InTurn Event Network (TellsEvent L.service self.now.names.now self.now.traces)
-            (key_events keys.now) net.old text net.new)) }
+            (key_events keys.entry.node keys.entry.terminal keys.entry.octets.now) net.old text net.new)) }
         ensures stops { IfErr result (λ fault. Writes (W.contents out.old) (W.contents out.new)
             (StopsInTurn Event Network (TellsEvent L.service self.now.names.now self.now.traces)
-            (StopsAt L.service self.now.names.now self.now.traces fault) (key_events keys.now) net.old)) }
+            (StopsAt L.service self.now.names.now self.now.traces fault) (key_events keys.entry.node keys.entry.terminal keys.entry.octets.now) net.old)) }
         ensures faults { IfErr result IsPlayFault }
     {
-        for octet in &keys.octets {
+        for octet in keys.octets {
             let key = Event::AtTerminal {
                 node: keys.node,
                 terminal: keys.terminal,
@@ -262,8 +264,36 @@ impl Player<'_> {
         }
     }
 
-    /// Prints an answer: the frames, if they are traced, what a host noted, and the outcome.
+    /// Whether nothing is printed of an answer, as mostly.
+    fn is_silent(&self, event: &Event, answer: &Answer) -> bool
+        ensures { OnTrue result (answer_text self.now.names.now self.now.traces event.now (Ok answer.now) ≡ []) }
+    {
+        !self.traces && answer.notes.is_empty() && prints_nothing(event, &answer.outcome)
+    }
+
+    /// Prints an answer.
+    #[tactic(auto, using(crate::proofs::Turns::appends_nothing))]
     fn write_answer<W: Write>(
+        &self,
+        event: &Event,
+        answer: &Answer,
+        out: &mut W,
+    ) -> Result<(), ProgFault>
+        ensures writes { OnOk result (Appends (W.contents out.old) (W.contents out.new)
+            (answer_text self.now.names.now self.now.traces event.now (Ok answer.now))) }
+        ensures stops { IfErr result (λ fault. Writes (W.contents out.old) (W.contents out.new)
+            (IsPartOf (answer_text self.now.names.now self.now.traces event.now (Ok answer.now)) fault)) }
+        ensures faults { IfErr result IsPlayFault }
+    {
+        if self.is_silent(event, answer) {
+            return Ok(());
+        }
+        self.write_lines(event, answer, out)
+    }
+
+    /// Prints the lines of an answer: the frames, if they are traced, what a host noted, and the outcome.
+    #[inline(never)]
+    fn write_lines<W: Write>(
         &self,
         event: &Event,
         answer: &Answer,
@@ -280,8 +310,7 @@ impl Player<'_> {
         self.write_outcome(event, answer, out)
     }
 
-    /// Prints the outcome, if it is one that is printed.
-    #[tactic(auto, using(crate::proofs::Turns::appends_nothing))]
+    /// Prints the outcome.
     fn write_outcome<W: Write>(
         &self,
         event: &Event,
@@ -294,11 +323,8 @@ impl Player<'_> {
             (IsPartOf (outcome_text self.now.names.now event.now answer.now.outcome answer.now.text.items) fault)) }
         ensures faults { IfErr result IsPlayFault }
     {
-        if prints_nothing(event, &answer.outcome) {
-            return Ok(());
-        }
-        let text = outcome_text(self.alloc, self.names, event, answer)?;
-        write(out, text.as_str())
+        let line = outcome_line(self.alloc, self.names, event, answer)?;
+        write_octets(out, line.as_slice())
     }
 
     /// Prints the frames that were put, if they are traced.

@@ -2,7 +2,7 @@
 use Rattle.std.specs.Prelude.{ℕ, Bool, true, false, ◌&&◌, ◌||◌, not, ◌==◌, if◌then◌else◌, List, [], ◌∷◌, Option}
 use Rattle.std.specs.Prelude.{Some, None, is_some}
 use Rattle.x3_params.specs.Settings.{recall_character, has_flow_control, has_device_control}
-use Rattle.pad_editing.specs.Edited.{Effect, after_key, after_idle}
+use Rattle.pad_editing.specs.Edited.{Effect, after_key, after_idle, only_adds}
 use Rattle.pad_editing.specs.Echoes.{echo_of}
 use Rattle.pad_terminal.specs.Output.{with_octets, with_echo}
 use Rattle.pad_terminal.specs.CommandLine.{LineKey, is_echoed}
@@ -78,6 +78,13 @@ after_data_key o queue_full t =
     else if is_recall (recall_character t.settings.params) o
     then record { terminal = prompted CommandState t; answer = Taken None }
     else after_edited (after_key t.settings.params o t.held) o queue_full t
+
+-- the key is one of data transfer that is only added to the text
+abbrev pub only_adds_key : ℕ → TerminalState → Bool
+only_adds_key o t =
+    is_data_transfer t.mode
+    && (not (is_flow_control t.settings.params o)
+    && (not (is_recall (recall_character t.settings.params) o) && only_adds t.settings.params o t.held))
 
 abbrev pub after_octet : ℕ → CallCondition → TerminalState → Input
 after_octet o call t =

@@ -180,6 +180,13 @@ impl Terminal {
         self.output.signal(signal, &self.settings.params);
     }
 
+    /// Whether it was told to stop by DC3 and not yet to go on (X.3 3.5).
+    pub fn is_stopped(&self) -> bool
+        ensures { result ≡ self.now.device_stopped }
+    {
+        self.device_stopped
+    }
+
     /// Ends an event: a terminal that was told to stop by DC3 is told by DC1 to go on, where the send queue has room or
     /// there is no call (X.3 3.5).
     pub fn resume_device(&mut self, queue_full: bool)

@@ -108,7 +108,9 @@ impl Port {
     pub(crate) fn settle(&mut self, line: &PadLine)
         ensures { self.new ≡ spec.settled line.now self.old }
     {
-        self.terminal.resume_device(line.is_full(self.call));
+        if self.terminal.is_stopped() {
+            self.terminal.resume_device(line.is_full(self.call));
+        }
         self.idle_left = brought(self.terminal.idle_time(), self.idle_left);
     }
 

@@ -1,9 +1,12 @@
 //! What a terminal does with keys and idle times.
-ghost use Rattle.std.specs.Prelude.{◌≡◌};
+ghost use Rattle.std.specs.Prelude.{◌≡◌, None};
+ghost use Rattle.std.specs.Bool.{OnTrue, OnFalse};
 ghost use Rattle.pad_terminal.specs.Keys as spec;
 ghost use Rattle.pad_terminal.specs.CommandLine as line;
 ghost use Rattle.pad_terminal.specs.Calls.{prompted};
 ghost use Rattle.pad_editing.specs.Edited.{after_key};
+ghost use Rattle.pad_terminal.specs.declared.answers.CallCondition.{CallCondition};
+ghost use Rattle.pad_terminal.specs.declared.answers.InputAnswer.TheVariants.{Edited};
 
 use crate::answers::{CallCondition, InputAnswer};
 use crate::command_line::CommandLine;
@@ -44,6 +47,25 @@ impl Terminal {
             return InputAnswer::Dropped;
         }
         InputAnswer::Edited(self.editor.idle(&self.settings.params))
+    }
+
+    /// Takes a key as `on_key` does, where it is only added to the text that is held, whatever the condition of the call
+    /// (X.3 3.3). Whether it was such a key: any other changes nothing.
+    pub fn add_key(&mut self, octet: u8) -> bool
+        ensures exact { result ≡ spec.only_adds_key octet self.old }
+        ensures added { OnTrue result ((call : CallCondition) → spec.after_octet octet call self.old
+            ≡ record { terminal = self.new; answer = Edited None }) }
+        ensures other { OnFalse result (self.new ≡ self.old) }
+    {
+        if !self.mode.is_data_transfer()
+            || is_flow_control(&self.settings.params, octet)
+            || is_recall(self.settings.params.recall_character(), octet)
+            || !self.editor.add(octet, &self.settings.params)
+        {
+            return false;
+        }
+        self.output.echo_added(octet, &self.settings.params);
+        true
     }
 
     // A key of the command line.
@@ -102,10 +124,6 @@ impl Terminal {
         ensures answer { result ≡ (spec.after_edited
             (after_key self.old.settings.params octet self.old.held) octet queue_full self.old).answer }
     {
-        if self.editor.add(octet, &self.settings.params) {
-            self.output.echo_added(octet, &self.settings.params);
-            return InputAnswer::Edited(None);
-        }
         if queue_full && self.editor.forwards(octet, &self.settings.params) {
             self.stop_device();
             return InputAnswer::Dropped;

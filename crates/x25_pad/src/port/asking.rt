@@ -1,5 +1,5 @@
 //! What a terminal asks of the line.
-ghost use Rattle.std.specs.Prelude.{◌≡◌, ◌≤◌, ◌+◌, length};
+ghost use Rattle.std.specs.Prelude.{◌≡◌, ◌≤◌, ◌<◌, ◌+◌, false, None, length};
 ghost use Rattle.pad_editing.specs.Edited.Step.{key, idle};
 ghost use Rattle.x25_pad.specs.Ports as spec;
 
@@ -26,12 +26,34 @@ impl Port {
         ensures told { line.new.end.notes ≡ line.old.end.notes }
     {
         let params = self.terminal.params();
-        let condition = line.condition(self.call);
         self.idle_left = None;
+        if self.terminal.add_key(octet) {
+            self.note_key(octet, params, line);
+            return true;
+        }
+        self.press_other(octet, params, line)
+    }
+
+    // Takes a key that is not only added to the text.
+    fn press_other(&mut self, octet: u8, params: Params, line: &mut PadLine) -> bool
+        requires notes { length line.old.notes + 2 ≤ MOST_NOTES }
+        requires params { params ≡ self.old.terminal.settings.params }
+        requires idle { self.old.idle_left ≡ None }
+        ensures port { self.new ≡ (spec.after_key octet (record { port = self.old; line = line.old })).port }
+        ensures line { line.new ≡ (spec.after_key octet (record { port = self.old; line = line.old })).line }
+        ensures taken { result ≡ spec.is_taken
+            (spec.key_input octet (record { port = self.old; line = line.old })).answer }
+        ensures room { length line.new.notes ≤ length line.old.notes + 2 }
+        ensures told { line.new.end.notes ≡ line.old.end.notes }
+    {
+        let condition = line.condition(self.call);
         match self.terminal.on_key(octet, condition) {
             InputAnswer::Dropped => false,
             InputAnswer::Edited(block) => {
-                self.edit_by_key(octet, params, block, line);
+                self.note_key(octet, params, line);
+                if let Some(block) = &block {
+                    self.send_block(block, line);
+                }
                 true
             }
             InputAnswer::Taken(request) => {
@@ -57,7 +79,10 @@ impl Port {
         match self.terminal.on_idle(queue_full) {
             InputAnswer::Dropped => false,
             InputAnswer::Edited(block) => {
-                self.edit_by_pause(params, block, line);
+                self.note_pause(params, line);
+                if let Some(block) = &block {
+                    self.send_block(block, line);
+                }
                 true
             }
             InputAnswer::Taken(request) => {
@@ -93,46 +118,53 @@ impl Port {
         }
     }
 
-    // A key has edited the text: its step is noted, and the block that it ended is sent.
-    fn edit_by_key(&mut self, octet: u8, params: Params, block: Option<Block>, line: &mut PadLine)
-        requires { length line.old.notes + 2 ≤ MOST_NOTES }
-        ensures port { self.new ≡ self.old }
-        ensures line { line.new ≡ (spec.on_call (spec.edits (key octet params) block) self.old.call
-            (record { port = self.old; line = line.old })).line }
-        ensures room { length line.new.notes ≤ length line.old.notes + 2 }
+    // A key has edited the text: its step is noted.
+    fn note_key(&self, octet: u8, params: Params, line: &mut PadLine)
+        requires { length line.old.notes < MOST_NOTES }
+        ensures line { line.new ≡ (spec.on_call (spec.edits (key octet params) None) self.now.call
+            (record { port = self.now; line = line.old })).line }
+        ensures room { length line.new.notes ≤ length line.old.notes + 1 }
         ensures told { line.new.end.notes ≡ line.old.end.notes }
     {
         let Some(call) = self.call else {
             return;
         };
-        let channel = call.channel;
         line.notes.add(PadNote::Edited {
-            channel,
+            channel: call.channel,
             octet,
             params,
         });
-        if let Some(block) = block {
-            line.send(channel, block.as_slice(), false);
-        }
     }
 
-    // The end of the idle time has ended a block: the step is noted, and the block is sent.
-    fn edit_by_pause(&mut self, params: Params, block: Option<Block>, line: &mut PadLine)
-        requires { length line.old.notes + 2 ≤ MOST_NOTES }
-        ensures port { self.new ≡ self.old }
-        ensures line { line.new ≡ (spec.on_call (spec.edits (idle params) block) self.old.call
-            (record { port = self.old; line = line.old })).line }
-        ensures room { length line.new.notes ≤ length line.old.notes + 2 }
+    // Sends the block that was ended.
+    fn send_block(&self, block: &Block, line: &mut PadLine)
+        requires { length line.old.notes < MOST_NOTES }
+        ensures line { line.new ≡ (spec.on_call (spec.sends block.now false) self.now.call
+            (record { port = self.now; line = line.old })).line }
+        ensures room { length line.new.notes ≤ length line.old.notes + 1 }
         ensures told { line.new.end.notes ≡ line.old.end.notes }
     {
         let Some(call) = self.call else {
             return;
         };
-        let channel = call.channel;
-        line.notes.add(PadNote::Paused { channel, params });
-        if let Some(block) = block {
-            line.send(channel, block.as_slice(), false);
-        }
+        line.send(call.channel, block.as_slice(), false);
+    }
+
+    // The end of the idle time has edited the text: its step is noted.
+    fn note_pause(&self, params: Params, line: &mut PadLine)
+        requires { length line.old.notes < MOST_NOTES }
+        ensures line { line.new ≡ (spec.on_call (spec.edits (idle params) None) self.now.call
+            (record { port = self.now; line = line.old })).line }
+        ensures room { length line.new.notes ≤ length line.old.notes + 1 }
+        ensures told { line.new.end.notes ≡ line.old.end.notes }
+    {
+        let Some(call) = self.call else {
+            return;
+        };
+        line.notes.add(PadNote::Paused {
+            channel: call.channel,
+            params,
+        });
     }
 
     // Does what the terminal asks for, if anything.

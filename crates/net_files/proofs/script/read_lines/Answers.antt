@@ -9,7 +9,7 @@ use Rattle.net_files.proofs.script.read_lines.Goals as goal
 pub loop-rest-init : goal.loop-rest-init
 loop-rest-init c = record {
   counted = omega arith;
-  read = record { front = rw c.new-commands.ensures.items none; rest = refl };
+  read = record { front = rw c.new-commands.ensures none; rest = refl };
 }
 
 pub loop-rest-preserved : goal.loop-rest-preserved
@@ -19,7 +19,7 @@ loop-rest-preserved c =
       counted = omega (arith, counted, c.cut.ensures.shorter);
       read = rw c.cut.ensures.behind
           (read_on (map string_bytes c.args.names.now) (lines_of c.args.text.now) c.loop-rest.number c.in-Some.lines.now
-          (map command_value c.loop-rest.commands.items) (map command_value c.add_command.new.commands.items)
+          (map command_value c.loop-rest.commands) (map command_value c.add_command.new.commands)
           (rw c.in-Some.is at c.loop-rest.invariant.read) (rw c.cut.ensures.before at c.in-Ok.ensures));
     }
 
@@ -30,11 +30,11 @@ returns-in-Err-NotACommand c =
       c.loop-rest.number + 1,
       refl,
       bad_line (map string_bytes c.args.names.now) (lines_of c.args.text.now) c.loop-rest.number c.in-Some.lines.now
-          (map command_value c.loop-rest.commands.items) (rw c.in-Some.is at c.loop-rest.invariant.read)
+          (map command_value c.loop-rest.commands) (rw c.in-Some.is at c.loop-rest.invariant.read)
           (refused c.in-Err-NotACommand.field-0-is),
     )
 
 pub returns : goal.returns
 returns c =
     read_all (map string_bytes c.args.names.now) (lines_of c.args.text.now) c.loop-rest.number
-    (map command_value c.loop-rest.commands.items) (rw c.in_default.is at c.loop-rest.invariant.read)
+    (map command_value c.loop-rest.commands) (rw c.in_default.is at c.loop-rest.invariant.read)

@@ -11,7 +11,7 @@ abbrev pub invariant-loop-rest : goal.invariant-loop-rest
 invariant-loop-rest l = record {
   counted : l.number + length_left (option_map (λ s. s.now) l.rest) ≤ length l.text + 1;
   read : IsReadTo (map string_bytes l.names) (lines_of l.text) l.number (option_map (λ s. s.now) l.rest)
-      (map command_value l.commands.items);
+      (map command_value l.commands);
 }
 
 -- what is left gets shorter

@@ -6,12 +6,11 @@ use Rattle.net_player.proofs.player.Player.play_command.Goals as goal
 
 pub returns-in_ok-play_keys-in-Keys-clause-writes : goal.returns-in_ok-play_keys-in-Keys-clause-writes
 returns-in_ok-play_keys-in-Keys-clause-writes g c =
-    rw c.in-Keys.is (writes_as (λ text does. keys does) (rw c.deref.ensures at c.in_ok-play_keys-in-Keys.ensures.writes))
+    rw c.in-Keys.is (writes_as (λ text does. keys does) c.in_ok-play_keys-in-Keys.ensures.writes)
 
 pub returns-in_ok-play_event-in-Event-clause-writes : goal.returns-in_ok-play_event-in-Event-clause-writes
 returns-in_ok-play_event-in-Event-clause-writes g c =
-    rw c.in-Event.is (writes_as (λ text does. event (record { arrived = _; tells = does }))
-    (rw c.deref-in-Event.ensures at c.in_ok-play_event-in-Event.ensures.tells))
+    rw c.in-Event.is (writes_as (λ text does. event (record { arrived = _; tells = does })) c.in_ok-play_event-in-Event.ensures.tells)
 
 pub returns-in_ok-flow-in-Flow-clause-writes : goal.returns-in_ok-flow-in-Flow-clause-writes
 returns-in_ok-flow-in-Flow-clause-writes g c = rw c.in-Flow.is (writes_as (λ text does. flow does) c.in_ok-flow-in-Flow.ensures.writes)
@@ -25,12 +24,12 @@ returns-in-Trace-clause-writes g c = rw c.in-Trace.is (writes_nothing _ trace)
 pub returns-in_err-play_keys-in-Keys-clause-stops : goal.returns-in_err-play_keys-in-Keys-clause-stops
 returns-in_err-play_keys-in-Keys-clause-stops g c =
     let p = err_from_is_err_and c.from_residual.result c.from_residual.ensures.1 in
-    rw (p.1, p.2, c.in-Keys.is) (writes_as (λ part stops. in_keys stops) (rw c.deref.ensures at c.in_err-play_keys-in-Keys.ensures.stops))
+    rw (p.1, p.2, c.in-Keys.is) (writes_as (λ part stops. in_keys stops) c.in_err-play_keys-in-Keys.ensures.stops)
 
 pub returns-in_err-play_event-in-Event-clause-stops : goal.returns-in_err-play_event-in-Event-clause-stops
 returns-in_err-play_event-in-Event-clause-stops g c =
     let p = err_from_is_err_and c.from_residual-in_err-play_event-in-Event.result c.from_residual-in_err-play_event-in-Event.ensures.1 in
-    rw (p.1, p.2, c.in-Event.is) (writes_as (λ part stops. at_event stops) (rw c.deref-in-Event.ensures at c.in_err-play_event-in-Event.ensures.stops))
+    rw (p.1, p.2, c.in-Event.is) (writes_as (λ part stops. at_event stops) c.in_err-play_event-in-Event.ensures.stops)
 
 pub returns-in_err-flow-in-Flow-clause-stops : goal.returns-in_err-flow-in-Flow-clause-stops
 returns-in_err-flow-in-Flow-clause-stops g c =

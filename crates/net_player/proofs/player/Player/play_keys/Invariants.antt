@@ -9,4 +9,4 @@ use Rattle.net_player.proofs.player.Player.play_keys.Given as goal
 abbrev pub invariant-loop-octet : goal.invariant-loop-octet
 invariant-loop-octet g l = Writes (g.W.Write.contents l.initial.out) (g.W.Write.contents l.out)
     (λ (text : List ℕ). InTurn Event Network (TellsEvent g.L.Line.service l.self.names.now l.self.traces)
-    (take l.octet-index (key_events l.keys)) l.initial.net text l.net)
+    (take l.octet-index (key_events l.keys.node l.keys.terminal l.keys.octets.now)) l.initial.net text l.net)

@@ -4,7 +4,7 @@ use Rattle.net_player.proofs.Parts.{told_front, writes_known}
 use Rattle.net_player.proofs.Turns.{appends_nothing}
 use Rattle.net_player.proofs.player.Player.write_outcome.Goals as goal
 
-pub returns-in_err-text-clause-stops : goal.returns-in_err-text-clause-stops
-returns-in_err-text-clause-stops g c =
+pub returns-in_err-line-clause-stops : goal.returns-in_err-line-clause-stops
+returns-in_err-line-clause-stops g c =
     let p = err_from_is_err_and c.from_residual.result c.from_residual.ensures.1 in
     rw (p.1, p.2) (writes_known [] (told_front [] _) (appends_nothing _))
