@@ -479,20 +479,23 @@ const COMMANDS: [(&[u8], &str); 35] = [
     ),
 ];
 
-/// Whether the commands of a script are shown so.
+/// Whether a text is one command, which is shown so.
 fn is_shown(alloc: Global, text: &[u8], config: &Config, expected: &str) -> bool {
     match read_script(alloc, text, config) {
-        Ok(script) => {
-            let commands = script.commands.as_slice();
-            match (
-                format!(in alloc; "{commands:?}"),
-                format!(in alloc; "[{expected}]"),
-            ) {
-                (Ok(shown), Ok(expected)) => shown.as_str() == expected.as_str(),
-                _ => false,
-            }
-        }
+        Ok(script) => is_only_command(alloc, &script, expected),
         Err(_) => false,
+    }
+}
+
+/// Whether a script has one command, which is shown so.
+fn is_only_command(alloc: Global, script: &Script, expected: &str) -> bool {
+    let mut commands = script.commands.iter();
+    match (commands.next(), commands.next()) {
+        (Some(command), None) => match format!(in alloc; "{command:?}") {
+            Ok(shown) => shown.as_str() == expected,
+            Err(_) => false,
+        },
+        _ => false,
     }
 }
 
@@ -505,11 +508,11 @@ fn lines_are_read(rt: HostRuntime) {
 }
 
 /// Whether a command is one call of a node, of this address and with so much user data.
-fn is_call(command: &Command, caller: usize, called: Address, octets: usize) -> bool {
+fn is_call(command: &Command<'_>, caller: usize, called: Address, octets: usize) -> bool {
     let Command::Event(event) = command else {
         return false;
     };
-    match &**event {
+    match *event {
         Event::Call {
             node,
             address,
@@ -519,16 +522,18 @@ fn is_call(command: &Command, caller: usize, called: Address, octets: usize) -> 
     }
 }
 
-/// Whether the commands are two calls, one of the longest address and one with the most user data.
-fn are_calls(commands: &[Command]) -> bool {
-    match (
-        commands,
-        Address::read(b"123456789012345"),
-        Address::read(b"2001"),
-    ) {
-        ([first, second], Ok(long), Ok(short)) => {
-            is_call(first, 0, long, 0) && is_call(second, 1, short, 16)
-        }
+/// Whether the commands of a script are two calls, one of the longest address and one with the most user data.
+fn are_calls(script: &Script) -> bool {
+    let mut commands = script.commands.iter();
+    match (commands.next(), commands.next(), commands.next()) {
+        (Some(first), Some(second), None) => are_long_calls(&first, &second),
+        _ => false,
+    }
+}
+
+fn are_long_calls(first: &Command<'_>, second: &Command<'_>) -> bool {
+    match (Address::read(b"123456789012345"), Address::read(b"2001")) {
+        (Ok(long), Ok(short)) => is_call(first, 0, long, 0) && is_call(second, 1, short, 16),
         _ => false,
     }
 }
@@ -538,7 +543,7 @@ fn calls_are_read(rt: HostRuntime) {
     const TEXT: &[u8] = b"call pad 123456789012345\ncall host 2001 \\00 23456789012345";
     let config = read_net(rt.alloc(), FIRST).expect(&rt, "a network");
     let script = read_script(rt.alloc(), TEXT, &config).expect(&rt, "a script");
-    assert!(rt; are_calls(script.commands.as_slice()));
+    assert!(rt; are_calls(&script));
 }
 
 /// Whether a script is one of four commands on a network of a PAD and a host with one line.

@@ -109,7 +109,8 @@ impl PadNotes {
     pub(crate) fn drop_first(&mut self)
         ensures { self.new ≡ drop 1 self.old }
     {
-        self.notes.truncate_front(self.notes.len().saturating_sub(1));
+        self.notes
+            .truncate_front(self.notes.len().saturating_sub(1));
     }
 
     /// Takes the first note, if there is one.
