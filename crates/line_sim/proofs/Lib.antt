@@ -6,4 +6,5 @@ mod Refusals
 mod RunsMore
 mod Stepped
 mod Resting
+mod Empties
 mod Receipts

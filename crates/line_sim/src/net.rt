@@ -1,5 +1,6 @@
 //! The network, and what it promises.
 ghost use Rattle.std.specs.Prelude.{◌≡◌, ◌≢◌, true, false, map, Err, IsOkUnless, IfOk, vec_len};
+ghost use Rattle.std.specs.Bool.{OnTrue};
 ghost use Rattle.call_records.specs.RecordView.{shown, pair_of};
 ghost use Rattle.net_events.specs.Network.{all_elapsed};
 ghost use Rattle.switch_network_laws.specs.Promise.{NetworkPromise};
@@ -15,7 +16,7 @@ ghost use Rattle.net_nodes.specs.Questions.{net_confirmed, net_rests};
 ghost use Rattle.line_sim.specs.Runs.{IsMadeBy};
 
 use call_records::{Pair, Record};
-use memory_line::Line;
+use memory_line::{Direction, Line};
 use net_config::{Config, MakeFault};
 use net_events::{Answer, Event, Outcome, StepFault};
 use net_nodes::Nodes;
@@ -63,7 +64,7 @@ impl<L: Line> Net<L> {
     ghost use Rattle.std.specs.Borrow.{sem};
     ghost use Rattle.std.specs.Io.BufRead.{Rests};
     ghost use Rattle.line_sim.specs.contracts.net.Net.{the_row};
-    ghost use Rattle.line_sim.specs.Stepping.{lent, HasStepped};
+    ghost use Rattle.line_sim.specs.Stepping.{lent, FindsNoFrame, HasStepped};
 
     /// Makes a network on these lines, each of which is emptied first; where no call stands both ends of a line send a
     /// frame to begin with. It is refused where the configuration is outside its limits or of a kind that is not
@@ -130,6 +131,14 @@ impl<L: Line> Net<L> {
         ensures { result ≡ net_due self.now }
     {
         self.nodes.next_due()
+    }
+
+    /// Whether it is certain that a delivery on the line in this direction finds no frame: it would change nothing, and
+    /// tell nothing. A line that does not know says no, and so does one that is not there.
+    pub fn finds_none(&self, line: usize, direction: Direction) -> bool
+        ensures { OnTrue result (FindsNoFrame L.service line direction self.now) }
+    {
+        self.nodes.finds_none(line, direction)
     }
 
     /// Handles an event, and lends the answer, which stands in the network until the next event. Refusals come in the

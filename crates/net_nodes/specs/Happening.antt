@@ -1,10 +1,13 @@
 -- What an event does, refused or not.
-use Rattle.std.specs.Prelude.{◌≡◌, ◌⊎◌, Option, Some, None, Result, Ok, Err, IsOkUnless}
+use Rattle.std.specs.Prelude.{◌≡◌, ◌⊎◌, ℕ, false, [], Option, Some, None, Result, Ok, Err, IsOkUnless}
+use Rattle.memory_line.specs.declared.line.Direction.{Direction}
 use Rattle.memory_line.specs.Lines.{LineService}
 use Rattle.net_events.specs.declared.event.Event.{Event}
+use Rattle.net_events.specs.declared.event.Event.TheVariants.{Deliver}
 use Rattle.net_events.specs.declared.event.StepFault.{StepFault}
 use Rattle.net_events.specs.declared.event.StepFault.TheVariants.{OutOfMemory, Refused}
 use Rattle.net_events.specs.declared.answer.Answer.{Answer}
+use Rattle.net_events.specs.declared.answer.Outcome.TheVariants.{Delivered}
 use Rattle.net_events.specs.Network.{Network}
 use Rattle.net_nodes.specs.Faults.{step_fault, MayWant}
 use Rattle.net_nodes.specs.Steps.{StepOf}
@@ -21,3 +24,14 @@ abbrev pub IsRefusedSo : Option StepFault → Result Answer StepFault → Type 0
 IsRefusedSo None r = IsOkUnless r OutOfMemory
 IsRefusedSo (Some (Refused fault)) r = (r ≡ Err (Refused fault)) ⊎ (r ≡ Err OutOfMemory)
 IsRefusedSo (Some fault) r = r ≡ Err fault
+
+-- an answer that says that no frame arrived, and nothing besides
+pub record SaysNoneArrived (a : Answer) : Type 0 where
+  pub frames : a.frames.items ≡ []
+  pub notes : a.notes.items ≡ []
+  pub text : a.text.items ≡ []
+  pub outcome : a.outcome ≡ Delivered false
+
+-- a delivery on a line in a direction is answered so, and changes nothing
+abbrev pub FindsNone : (L : LineService) → (line : ℕ) → Direction → Network → Type 0
+FindsNone L line d s = (a : Answer) → SaysNoneArrived a → Happens L (Deliver line d) s (Ok a) s

@@ -1,13 +1,16 @@
 -- Deliveries in a flow, and passes over the lines.
-use Rattle.std.proofs.Common.{Bool, ◌≡◌, ℕ, zero, suc, ◌+◌, ◌-◌, ◌<◌, List, [], ◌∷◌, ◌++◌, true, false, Option, refl, sym, ap, ◌∙◌, subst, append_assoc, arith}
+use Rattle.std.proofs.Common.{Bool, ◌≡◌, ℕ, zero, suc, ◌+◌, ◌-◌, ◌<◌, List, [], ◌∷◌, ◌++◌, true, false, Option, Ok, refl, sym, ap, ◌∙◌, subst, append_assoc, arith}
+use Rattle.memory_line.specs.declared.line.Direction.{Direction}
 use Rattle.memory_line.specs.declared.line.Direction.TheVariants.{FromDte, FromDce}
 use Rattle.memory_line.specs.Lines.{LineService}
 use Rattle.net_events.specs.declared.event.Event.{Event}
 use Rattle.net_events.specs.declared.event.Event.TheVariants.{Deliver}
 use Rattle.line_sim.specs.Network.{Network}
+use Rattle.line_sim.specs.Stepping.{FindsNoFrame}
 use Rattle.net_files.specs.Scripts.{Names}
 use Rattle.net_player.specs.InTurn.{InTurn, Writes}
-use Rattle.net_player.specs.Playing.{Tells, Flowing, Delivers, deliveries_from, Passes, Flows}
+use Rattle.net_player.specs.Answers.{frames_text}
+use Rattle.net_player.specs.Playing.{Tells, Flowing, Delivers, has_arrived, deliveries_from, Passes, Flows}
 use Rattle.net_player.specs.Playing.Delivers.{at_limit, arrives, finds_none}
 use Rattle.net_player.specs.Playing.Flows.{again}
 use Rattle.net_player.specs.InTurn.{StopsInTurn}
@@ -42,6 +45,21 @@ pub delivers_none : {L : LineService} {names : Names} {traces : Bool} {e : Event
     → Delivers L names traces e (record { left = left; net = s }) text (record { left = left; net = t })
 delivers_none zero some tells = absurd (omega arith)
 delivers_none (suc n) some tells = finds_none tells
+
+-- it is known that there is none
+pub no_frames : (names : Names) (traces : Bool) → frames_text traces [] ≡ []
+no_frames names true = refl
+no_frames names false = refl
+
+pub none_found : {L : LineService} {names : Names} {traces : Bool} {line : ℕ} {d : Direction} {s : Network}
+    → FindsNoFrame L line d s → Tells L names traces false (Deliver line d) s [] s
+none_found {L} {names} {traces} {line} {d} {s} found = record {
+  answer = Ok found.answer;
+  happens = found.happens;
+  had_memory = λ memory. absurd (cc);
+  told = rw (found.says.frames, found.says.notes, no_frames names traces) refl;
+  came = sym (ap has_arrived found.says.outcome);
+}
 
 -- the deliveries on one line
 abbrev pub deliveries_on : ℕ → List Event

@@ -5,6 +5,7 @@ ghost use Rattle.std.specs.Io.KnownBytes.{Appends};
 ghost use Rattle.std.specs.List.{flat_map};
 ghost use Rattle.net_player.specs.Answers.{frame_text, note_text, frames_text, answer_text, outcome_text};
 ghost use Rattle.net_events.specs.declared.event.Event.{Event};
+ghost use Rattle.net_events.specs.declared.event.Event.TheVariants.{Deliver};
 ghost use Rattle.line_sim.specs.Network.{Network, all_elapsed};
 ghost use Rattle.line_sim.specs.DueCount.{all_due};
 ghost use Rattle.line_sim.specs.Due.{net_due};
@@ -175,16 +176,8 @@ impl Player<'_> {
     {
         let mut still_left = left;
         for line in 0..self.lines {
-            let from_dte = Event::Deliver {
-                line,
-                direction: Direction::FromDte,
-            };
-            still_left = self.deliver(net, &from_dte, still_left, out)?;
-            let from_dce = Event::Deliver {
-                line,
-                direction: Direction::FromDce,
-            };
-            still_left = self.deliver(net, &from_dce, still_left, out)?;
+            still_left = self.deliver(net, line, Direction::FromDte, still_left, out)?;
+            still_left = self.deliver(net, line, Direction::FromDce, still_left, out)?;
         }
         Ok(still_left)
     }
@@ -193,23 +186,28 @@ impl Player<'_> {
     fn deliver<L: Line, W: Write>(
         &self,
         net: &mut Net<L>,
-        delivery: &Event,
+        line: usize,
+        direction: Direction,
         left: u32,
         out: &mut W,
     ) -> Result<u32, ProgFault>
         ensures delivers { IfOk result (λ still_left. Writes (W.contents out.old) (W.contents out.new)
-            (λ text. Delivers L.service self.now.names.now self.now.traces delivery.now
+            (λ text. Delivers L.service self.now.names.now self.now.traces (Deliver line direction)
             (record { left = left; net = net.old }) text (record { left = still_left; net = net.new }))) }
         ensures at_most { IfOk result (λ still_left. still_left ≤ left) }
         ensures stops { IfErr result (λ fault. Writes (W.contents out.old) (W.contents out.new)
-            (DeliveryStops L.service self.now.names.now self.now.traces fault delivery.now
+            (DeliveryStops L.service self.now.names.now self.now.traces fault (Deliver line direction)
             (record { left = left; net = net.old }))) }
         ensures faults { IfErr result IsPlayFault }
     {
         if left == 0 {
             return Ok(0);
         }
-        if self.play_event(net, delivery, out)? {
+        if net.finds_none(line, direction) {
+            return Ok(left);
+        }
+        let delivery = Event::Deliver { line, direction };
+        if self.play_event(net, &delivery, out)? {
             Ok(left - 1)
         } else {
             Ok(left)

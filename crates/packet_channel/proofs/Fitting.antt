@@ -1,12 +1,6 @@
 -- What a channel holds fits after a step.
-use Rattle.std.proofs.Common.{◌≡◌, ℕ, List}
-use Rattle.packet_channel.specs.Packets.{Body}
+use Rattle.std.proofs.Common.{◌≡◌, ℕ}
 use Rattle.packet_channel.specs.Held.{Channel, Fits}
-
--- what is owed takes no buffer
-pub fits_owed : (window : ℕ) (old new : Channel) (owed : List Body) →
-    new ≡ record old { channel = record old.channel { owed = owed } } → Fits window old → Fits window new
-fits_owed window old new owed e fits = rw e (record { arrived = fits.arrived; held = fits.held })
 
 -- the same is held, and as many packets wait to be taken
 pub fits_same : (window : ℕ) (old new : Channel) → new.held ≡ old.held →

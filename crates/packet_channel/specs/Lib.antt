@@ -9,8 +9,7 @@ pub mod HeardView
 pub mod ControlView
 pub mod NoteView
 pub mod StateView
-pub mod Effects
-pub mod EffectView
+pub mod Done
 pub mod ChannelView
 pub mod RequestView
 pub mod Answers

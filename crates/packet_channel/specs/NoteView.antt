@@ -1,5 +1,5 @@
 -- Notes, as the code has them.
-use Rattle.std.specs.Prelude.{List, [], ◌∷◌, map, Option, Some, None}
+use Rattle.std.specs.Prelude.{List, map, Option, Some, None}
 use Rattle.packet_channel.specs.Packets as spec
 use Rattle.packet_channel.specs.Octets.{parts_of}
 use Rattle.packet_channel.specs.declared.note.Reason.{Reason}
@@ -28,7 +28,3 @@ notes_of notes = map note_of notes
 abbrev pub maybe_note : Option LayerNote → Option spec.Note
 maybe_note None = None
 maybe_note (Some n) = Some (note_of n)
-
-abbrev pub listed : Option LayerNote → List spec.Note
-listed None = []
-listed (Some n) = note_of n ∷ []

@@ -2,15 +2,14 @@
 ghost use Rattle.std.specs.Bool.{OnFalse};
 ghost use Rattle.std.specs.Prelude.{◌≡◌, ◌<◌, ◌≤◌, ℕ, [], IfOk, Some, is_some, ◌-◌, ◌==◌, ◌&&◌, not, true, length};
 ghost use Rattle.std.specs.Prelude.{if◌then◌else◌};
-ghost use Rattle.flow_window.specs.Pool.{Holds, Balances, in_use};
+ghost use Rattle.flow_window.specs.Pool.{Holds, Balances};
 ghost use Rattle.packet_channel.specs.Channel as machine;
 ghost use Rattle.packet_channel.specs.ControlView.{control_body};
+ghost use Rattle.packet_channel.specs.Done.{IsDone};
 ghost use Rattle.packet_channel.specs.Held.{Fits, Loses};
 ghost use Rattle.packet_channel.specs.StateView.{state_of};
-ghost use Rattle.packet_channel.specs.Octets.{body_of, parts_of, written, ReadsAs};
+ghost use Rattle.packet_channel.specs.Octets.{parts_of, written, ReadsAs};
 ghost use Rattle.packet_channel.specs.Packets.{Body as body};
-ghost use Rattle.packet_codec.specs.Packet.{IsPacket};
-ghost use Rattle.packet_codec.specs.View.{view, content_view};
 ghost use Rattle.packet_codec.specs.Diagnostic.{no_information};
 
 mod errors;
@@ -18,13 +17,13 @@ mod receiving;
 mod requests;
 
 use crate::control::{Control, write_control};
-use crate::effect::{Effect, Outcome};
+use crate::notes::Notes;
 use crate::owed::Owed;
 use crate::state::{CallState, End};
 use crate::taken::{Front, TakenBuf};
 use crate::traffic::{SEND_QUEUE, Traffic};
 use flow_window::pool::Pool;
-use packet_codec::{CallBuf, Packet, PacketBuf, diagnostic};
+use packet_codec::{CallBuf, PacketBuf, diagnostic};
 pub use requests::Request;
 use std::alloc::{AllocError, Global};
 use std::marker::Model;
@@ -55,7 +54,6 @@ impl Channel {
     ghost use Rattle.link_timers.specs.declared.role.Role.{Role};
     ghost use Rattle.packet_channel.specs.Traffic as traffic;
     ghost use Rattle.packet_channel.specs.TakenView.{maybe_taken_in, maybe_buffers_in, maybe_front};
-    ghost use Rattle.packet_channel.specs.Effects.{outcome_of};
 
     /// A channel without a call.
     pub fn new(alloc: Global) -> Result<Self, AllocError>
@@ -205,50 +203,16 @@ impl Channel {
         self.traffic.next_packet(window, channel, buf, pool)
     }
 
-    /// Takes a packet that the link brings.
-    pub fn take_packet(&mut self, end: End, packet: &Packet<'_>, pool: &mut Pool) -> Outcome
-        requires window { end.window ≤ 7 }
-        requires fits { IsPacket (view packet.now) }
+    /// Clears the call whose timer expired, and answers whether one control packet too many is owed.
+    pub fn expire(&mut self, end: End, pool: &mut Pool, notes: &mut Notes) -> bool
         requires holds { Holds pool.old self.old.held }
-        requires size { 128 ≤ pool.old.size }
-        requires room { in_use pool.old < length pool.old.places }
-        ensures channel { self.new.channel
-            ≡ machine.owing (machine.received end.role end.window end.channel self.old.channel
-            (body_of (content_view packet.now.content))) }
-        ensures outcome { result ≡ outcome_of (machine.received end.role end.window end.channel self.old.channel
-            (body_of (content_view packet.now.content))) }
-        ensures pool { Balances pool.old self.old.held pool.new self.new.held }
-        ensures fits { Fits end.window self.old → Fits end.window self.new }
-    {
-        let effect = self.receive(end, packet, pool);
-        self.settle(effect)
-    }
-
-    /// Takes octets that are no packet.
-    pub fn take_unreadable(&mut self, end: End, unknown: bool, pool: &mut Pool) -> Outcome
-        requires { Holds pool.old self.old.held }
-        ensures channel { self.new.channel
-            ≡ machine.owing (machine.unreadable end.role end.channel unknown self.old.channel) }
-        ensures outcome { result ≡ outcome_of (machine.unreadable end.role end.channel unknown self.old.channel) }
+        requires read { notes.old ≡ [] }
+        ensures done { IsDone (machine.clear_error end.role end.channel no_information true self.old.channel)
+            self.new.channel result notes.new }
         ensures pool { Balances pool.old self.old.held pool.new self.new.held }
         ensures fits { (window : ℕ) → Fits window self.old → Fits window self.new }
     {
-        let effect = self.unreadable(end, unknown, pool);
-        self.settle(effect)
-    }
-
-    /// Clears the call whose timer expired.
-    pub fn expire(&mut self, end: End, pool: &mut Pool) -> Outcome
-        requires { Holds pool.old self.old.held }
-        ensures channel { self.new.channel
-            ≡ machine.owing (machine.clear_error end.role end.channel no_information true self.old.channel) }
-        ensures outcome { result
-            ≡ outcome_of (machine.clear_error end.role end.channel no_information true self.old.channel) }
-        ensures pool { Balances pool.old self.old.held pool.new self.new.held }
-        ensures fits { (window : ℕ) → Fits window self.old → Fits window self.new }
-    {
-        let effect = self.clear_error(end, diagnostic::NO_INFORMATION, true, pool);
-        self.settle(effect)
+        self.clear_error(end, diagnostic::NO_INFORMATION, true, pool, notes)
     }
 
     /// Places a call on a free channel, and answers whether one control packet too many is owed.
@@ -274,29 +238,5 @@ impl Channel {
         ensures passes { result ≡ machine.passes_limit self.old.channel.owed (Some (control_body control)) }
     {
         self.owed.owe(control)
-    }
-
-    // Owes what a step owes.
-    fn settle(&mut self, effect: Effect) -> Outcome
-        ensures channel { self.new ≡ record self.old {
-          channel = record self.old.channel { owed = machine.with_owed self.old.channel.owed effect.owes };
-        } }
-        ensures outcome { result
-            ≡ record { relink = machine.passes_limit self.old.channel.owed effect.owes; notes = effect.notes } }
-    {
-        let Effect {
-            owes,
-            first,
-            second,
-        } = effect;
-        let relink = match owes {
-            Some(control) => self.owe(control),
-            None => false,
-        };
-        Outcome {
-            relink,
-            first,
-            second,
-        }
     }
 }

@@ -4,11 +4,11 @@
 
 mod channel;
 mod control;
-mod effect;
 mod fault;
 mod heard;
 mod kept;
 mod note;
+mod notes;
 mod owed;
 mod queue;
 mod state;
@@ -17,12 +17,12 @@ mod traffic;
 mod user_data;
 
 pub use channel::{Channel, Request};
-pub use effect::Outcome;
 pub use fault::{ChannelFault, RefusedBuf};
 pub use kept::KeptPacket;
 pub use note::{LayerNote, Reason};
+pub use notes::Notes;
 pub use owed::Owed;
-pub use state::{CallState, End, error_cause};
+pub use state::{CallState, End, MOST_CHANNELS, error_cause};
 pub use taken::{Front, Taken, TakenBuf};
 pub use traffic::SEND_QUEUE;
 pub use user_data::{InterruptData, UserData};

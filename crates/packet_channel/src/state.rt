@@ -123,6 +123,9 @@ impl CallState {
     }
 }
 
+/// The most logical channels of a line.
+pub const MOST_CHANNELS: u8 = 32;
+
 /// The end of a line at which a channel is seen: its role, the window of the line, at most 7, and the channel's number.
 #[derive(Clone, Copy)]
 pub struct End {

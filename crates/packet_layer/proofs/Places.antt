@@ -1,15 +1,15 @@
 -- Channels by their places: what a step of the channel at a place makes of the layer.
-use Rattle.std.proofs.Common.{◌≡◌, ℕ, zero, suc, ◌+◌, ◌<◌, Bool, true, false, List, [], ◌∷◌, ◌++◌, length, set, get_or, refl, sym, ap, ◌∙◌, arith}
+use Rattle.std.proofs.Common.{◌≡◌, ℕ, zero, suc, ◌+◌, ◌<◌, Bool, true, false, List, [], ◌∷◌, ◌++◌, length, set, get_or, refl, sym, ap, subst, ◌∙◌, arith}
 use Rattle.std.specs.Prelude.{Option, Some, None, Result, Ok, Err, MatchResult, slice_get, ◌&&◌, ◌==◌}
 use Rattle.std.proofs.lemmas.List.{append-nil}
 use Rattle.link_timers.specs.declared.role.Role.{Role}
-use Rattle.packet_channel.specs.Packets.{Body, CallParts, Call}
+use Rattle.packet_channel.specs.Packets.{Body, CallParts, Call, Note}
 use Rattle.packet_channel.specs.Traffic.{front}
 use Rattle.packet_channel.specs.Channel.CallState.{Ready, OwnWaiting, FarWaiting, Transfer, Collision, OwnClear}
 use Rattle.packet_channel.specs.Channel.{CallState, Channel, Step, Request, Refusal, unless, refusal, requested, carried_out, received, unreadable, clear_error}
 use Rattle.packet_channel.specs.Channel.Request.{Accept, Clearing, Resetting, Sending, Interrupting, Stopping, Taking, Releasing, Confirming}
 use Rattle.packet_layer.specs.Layer as machine
-use Rattle.packet_channel.specs.Effects.{Outcome, outcome_of}
+use Rattle.packet_channel.specs.Done.{IsDone}
 use Rattle.packet_layer.specs.Layer.Phase.{PacketReady}
 use Rattle.packet_layer.specs.Layer.{Layer, Phase, on_channel, is_ready, is_free, free_channel, placing, nth_channel, channel_of, on_found, owing, passes_limit, set_if}
 use Rattle.packet_channel.specs.Answers.{CarriedOut, Refused, BufAnswers, sending}
@@ -88,15 +88,34 @@ at_place [] i x h e = absurd (omega arith)
 at_place (y ∷ ys) zero x h e = ap Some (sym e)
 at_place (y ∷ ys) (suc i) x h e = at_place ys i x (omega arith) e
 
+-- what comes to a channel, from the link or by its timer
+step_taken : (l : Layer) (c place : ℕ) (ch new : Channel) (relink : Bool) (notes : List Note) (f : Channel → Step) →
+    place + 1 ≡ c → slice_get l.channels place ≡ Some ch → l.notes ≡ [] → IsDone (f ch) new relink notes →
+    record l { channels = set l.channels place new; relink = set_if relink l.relink; notes = notes }
+    ≡ on_found l c f (channel_of l c)
+step_taken l c place ch new relink notes f e h unread done =
+    rw (done.channel_is, done.relink_is)
+    (ap (λ (ns : List Note). record l {
+      channels = set l.channels place (owing (f ch));
+      relink = set_if (passes_limit (f ch).channel.owed (f ch).owes) l.relink;
+      notes = ns;
+    }) (done.notes_are ∙ ap (λ (ns : List Note). ns ++ (f ch).notes) (sym unread))
+    ∙ sym (step_at l c place ch f e h))
+
 -- a packet that comes on a channel
-pub packet_taken : (l : Layer) (c place : ℕ) (ch new : Channel) (b : Body) (o : Outcome) (role : Role) (window channel : ℕ) → l.phase ≡ PacketReady → place + 1 ≡ c → slice_get l.channels place ≡ Some ch → role ≡ l.role → window ≡ l.window → channel ≡ place + 1 → new ≡ owing (received role window channel ch b) → o ≡ outcome_of (received role window channel ch b) → record l { channels = set l.channels place new; relink = set_if o.relink l.relink; notes = l.notes ++ o.notes } ≡ on_channel l.phase l c (λ x. received l.role l.window c x b)
-packet_taken l c place ch new b o role window channel ready e h same_role same_window same_channel is_new is_outcome =
-    let as_end : received role window channel ch b ≡ received l.role l.window c ch b = ap (λ (r : Role). received r window channel ch b) same_role ∙ ap (λ (w : ℕ). received l.role w channel ch b) same_window ∙ ap (λ (n : ℕ). received l.role l.window n ch b) (same_channel ∙ e) in
-    let channel_is : new ≡ owing (received l.role l.window c ch b) = is_new ∙ ap owing as_end in
-    let outcome_is : o ≡ outcome_of (received l.role l.window c ch b) = is_outcome ∙ ap outcome_of as_end in
-    ap (λ (x : Channel). record l { channels = set l.channels place x; relink = set_if o.relink l.relink; notes = l.notes ++ o.notes }) channel_is
-    ∙ ap (λ (x : Outcome). record l { channels = set l.channels place (owing (received l.role l.window c ch b)); relink = set_if x.relink l.relink; notes = l.notes ++ x.notes }) outcome_is
-    ∙ sym (step_at l c place ch (λ x. received l.role l.window c x b) e h)
+pub packet_taken : (l : Layer) (c place : ℕ) (ch new : Channel) (b : Body) (relink : Bool) (notes : List Note)
+    (role : Role) (window channel : ℕ) → l.phase ≡ PacketReady → place + 1 ≡ c → slice_get l.channels place ≡ Some ch →
+    l.notes ≡ [] → role ≡ l.role → window ≡ l.window → channel ≡ place + 1 →
+    IsDone (received role window channel ch b) new relink notes →
+    record l { channels = set l.channels place new; relink = set_if relink l.relink; notes = notes }
+    ≡ on_channel l.phase l c (λ x. received l.role l.window c x b)
+packet_taken l c place ch new b relink notes role window channel ready e h unread same_role same_window same_channel done =
+    let as_end : received role window channel ch b ≡ received l.role l.window c ch b =
+    ap (λ (r : Role). received r window channel ch b) same_role
+    ∙ ap (λ (w : ℕ). received l.role w channel ch b) same_window
+    ∙ ap (λ (n : ℕ). received l.role l.window n ch b) (same_channel ∙ e) in
+    step_taken l c place ch new relink notes (λ x. received l.role l.window c x b) e h unread
+    (subst (λ (st : Step). IsDone st new relink notes) as_end done)
     ∙ ap (λ (p : Phase). on_channel p l c (λ x. received l.role l.window c x b)) (sym ready)
 
 -- a channel that is left as it is
@@ -140,15 +159,18 @@ call_done l place ch new parts relink ready free h e p =
     ∙ step_at l (place + 1) place ch (λ x. placing parts x) refl h
     ∙ step_done l place ch (placing parts ch) new relink refl refl e p)
 
--- what comes to a channel, from the link or by its timer
-step_taken : (l : Layer) (c place : ℕ) (ch new : Channel) (o : Outcome) (f : Channel → Step) → place + 1 ≡ c → slice_get l.channels place ≡ Some ch → new ≡ owing (f ch) → o ≡ outcome_of (f ch) → record l { channels = set l.channels place new; relink = set_if o.relink l.relink; notes = l.notes ++ o.notes } ≡ on_found l c f (channel_of l c)
-step_taken l c place ch new o f e h is_new is_outcome = rw (is_new, is_outcome) (sym (step_at l c place ch f e h))
-
 -- octets that are no packet come on a channel
-pub unreadable_taken : (l : Layer) (unknown : Bool) (c place : ℕ) (ch new : Channel) (o : Outcome) (role : Role) (channel : ℕ) → l.phase ≡ PacketReady → place + 1 ≡ c → slice_get l.channels place ≡ Some ch → role ≡ l.role → channel ≡ place + 1 → new ≡ owing (unreadable role channel unknown ch) → o ≡ outcome_of (unreadable role channel unknown ch) → record l { channels = set l.channels place new; relink = set_if o.relink l.relink; notes = l.notes ++ o.notes } ≡ after_hearing l (unreadable_as unknown (Some c))
-unreadable_taken l unknown c place ch new o role channel ready e h same_role same_channel is_new is_outcome =
-    let as_end : unreadable role channel unknown ch ≡ unreadable l.role c unknown ch = ap (λ (r : Role). unreadable r channel unknown ch) same_role ∙ ap (λ (n : ℕ). unreadable l.role n unknown ch) (same_channel ∙ e) in
-    step_taken l c place ch new o (λ x. unreadable l.role c unknown x) e h (is_new ∙ ap owing as_end) (is_outcome ∙ ap outcome_of as_end)
+pub unreadable_taken : (l : Layer) (unknown : Bool) (c place : ℕ) (ch new : Channel) (relink : Bool) (notes : List Note)
+    (role : Role) (channel : ℕ) → l.phase ≡ PacketReady → place + 1 ≡ c → slice_get l.channels place ≡ Some ch →
+    l.notes ≡ [] → role ≡ l.role → channel ≡ place + 1 → IsDone (unreadable role channel unknown ch) new relink notes →
+    record l { channels = set l.channels place new; relink = set_if relink l.relink; notes = notes }
+    ≡ after_hearing l (unreadable_as unknown (Some c))
+unreadable_taken l unknown c place ch new relink notes role channel ready e h unread same_role same_channel done =
+    let as_end : unreadable role channel unknown ch ≡ unreadable l.role c unknown ch =
+    ap (λ (r : Role). unreadable r channel unknown ch) same_role
+    ∙ ap (λ (n : ℕ). unreadable l.role n unknown ch) (same_channel ∙ e) in
+    step_taken l c place ch new relink notes (λ x. unreadable l.role c unknown x) e h unread
+    (subst (λ (st : Step). IsDone st new relink notes) as_end done)
     ∙ ap (λ (p : Phase). on_channel p l c (λ x. unreadable l.role c unknown x)) (sym ready)
     ∙ heard_of_kind unknown
   where
@@ -157,10 +179,17 @@ unreadable_taken l unknown c place ch new o role channel ready e h same_role sam
     heard_of_kind false = refl
 
 -- a timer of a call or a reset expires
-pub expiry_taken : (l : Layer) (c place : ℕ) (ch new : Channel) (o : Outcome) (role : Role) (channel : ℕ) → place + 1 ≡ c → slice_get l.channels place ≡ Some ch → role ≡ l.role → channel ≡ place + 1 → new ≡ owing (clear_error role channel no_information true ch) → o ≡ outcome_of (clear_error role channel no_information true ch) → record l { channels = set l.channels place new; relink = set_if o.relink l.relink; notes = l.notes ++ o.notes } ≡ machine.expired l (machine.Timer.CallTimer c)
-expiry_taken l c place ch new o role channel e h same_role same_channel is_new is_outcome =
-    let as_end : clear_error role channel no_information true ch ≡ clear_error l.role c no_information true ch = ap (λ (r : Role). clear_error r channel no_information true ch) same_role ∙ ap (λ (n : ℕ). clear_error l.role n no_information true ch) (same_channel ∙ e) in
-    step_taken l c place ch new o (λ x. clear_error l.role c no_information true x) e h (is_new ∙ ap owing as_end) (is_outcome ∙ ap outcome_of as_end)
+pub expiry_taken : (l : Layer) (c place : ℕ) (ch new : Channel) (relink : Bool) (notes : List Note) (role : Role)
+    (channel : ℕ) → place + 1 ≡ c → slice_get l.channels place ≡ Some ch → l.notes ≡ [] → role ≡ l.role →
+    channel ≡ place + 1 → IsDone (clear_error role channel no_information true ch) new relink notes →
+    record l { channels = set l.channels place new; relink = set_if relink l.relink; notes = notes }
+    ≡ machine.expired l (machine.Timer.CallTimer c)
+expiry_taken l c place ch new relink notes role channel e h unread same_role same_channel done =
+    let as_end : clear_error role channel no_information true ch ≡ clear_error l.role c no_information true ch =
+    ap (λ (r : Role). clear_error r channel no_information true ch) same_role
+    ∙ ap (λ (n : ℕ). clear_error l.role n no_information true ch) (same_channel ∙ e) in
+    step_taken l c place ch new relink notes (λ x. clear_error l.role c no_information true x) e h unread
+    (subst (λ (st : Step). IsDone st new relink notes) as_end done)
 
 pub front_there : (l : Layer) (c place : ℕ) (ch : Channel) → place + 1 ≡ c → slice_get l.channels place ≡ Some ch → machine.front_on l c ≡ front ch.traffic
 front_there l c place ch e h = rw (channel_at l.channels c place e, h) refl

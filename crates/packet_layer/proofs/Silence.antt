@@ -8,7 +8,9 @@ use Rattle.std.proofs.lemmas.List.{length-set}
 use Rattle.std.proofs.lemmas.Bool.{eq-eqb, ne_eqb, cases_eq}
 use Rattle.number_set.specs.NumberSet.{has}
 use Rattle.number_set.specs.declared.NumberSet.{NumberSet}
-use Rattle.packet_channel.specs.Channel.{Channel, closed_channel, entered, next_of}
+use Rattle.packet_channel.specs.Packets.{Note}
+use Rattle.packet_channel.specs.Channel.{Channel, Step, closed_channel, entered, next_of}
+use Rattle.packet_channel.specs.Done.{IsDone}
 use Rattle.packet_channel.specs.Channel.CallState.{Transfer}
 use Rattle.packet_channel.specs.Held.{Channel as Holder, Fits}
 use Rattle.packet_layer.specs.Held.{plain, AllFit}
@@ -59,6 +61,22 @@ layer_touched a new place old ch relink is puts_in there fits = record {
   notes = is.notes;
   fits = fits_after a.window a.channels.items place old ch is.fits there fits;
 }
+
+-- also where the step of its channel notes something
+pub layer_stepped : (a : Inside) (new : NumberSet) (place : ℕ) (old ch : Holder) (st : Step) (relink : Bool)
+    (notes : List Note) → IsLayer a → ((n : ℕ) → has new n ≡ (has a.to_serve n || n == place)) →
+    slice_get a.channels.items place ≡ Some old → (Fits a.window old → Fits a.window ch) →
+    IsDone st ch.channel relink notes →
+    IsLayer (record a { channels = with_item a.channels place ch; to_serve = new; notes = notes })
+layer_stepped a new place old ch st relink notes is puts_in there fits done =
+    let touched = layer_touched a new place old ch a.relink is puts_in there fits in
+    record {
+      window = touched.window;
+      channels = touched.channels;
+      others = touched.others;
+      notes = let few = done.few in omega (arith, few);
+      fits = touched.fits;
+    }
 
 -- one that has something is in the set
 pub spoke : (window : ℕ) (s : NumberSet) (chs : List Channel) (place : ℕ) (old new : Channel) →

@@ -5,7 +5,6 @@ pub use Rattle.packet_channel.specs.Octets
 pub use Rattle.packet_channel.specs.TakenView
 pub use Rattle.packet_channel.specs.ControlView
 pub use Rattle.packet_channel.specs.NoteView
-pub use Rattle.packet_channel.specs.Effects
 pub mod Layer
 pub mod Held
 pub mod RequestView

@@ -1,5 +1,5 @@
 //! The packet layer of one line (X.25 3 to 5).
-ghost use Rattle.std.specs.Prelude.{◌≡◌, ◌<◌, ◌≤◌, ◌+◌, ◌++◌, MatchResult, MatchOption, IfOk, Some, None, false, Bool};
+ghost use Rattle.std.specs.Prelude.{◌≡◌, ◌<◌, ◌≤◌, ◌+◌, MatchResult, MatchOption, IfOk, Some, None, false, Bool};
 ghost use Rattle.std.specs.Prelude.{ℕ, [], length, drop, replicate, slice_get};
 ghost use Rattle.packet_channel.specs.Channel.{Channel as ChannelValue, closed_channel};
 ghost use Rattle.flow_window.specs.Pool.{Buffer, weight};
@@ -15,12 +15,11 @@ mod sessions;
 mod timers;
 
 use crate::fault::MakeFault;
-use crate::notes::Notes;
 use crate::params::LayerParams;
 use crate::restart::{Phase, RestartPacket};
 use link_timers::Role;
 use number_set::NumberSet;
-use packet_channel::{Channel, End, LayerNote, Outcome, Owed};
+use packet_channel::{Channel, End, LayerNote, Notes, Owed};
 use std::alloc::{AllocError, Global};
 use std::marker::Model;
 
@@ -180,25 +179,14 @@ impl Layer {
         }
     }
 
-    // Keeps what a step of a channel tells.
-    fn report(&mut self, outcome: Outcome)
-        requires { self.old.layer.notes ≡ [] }
+    // Asks for a relink where a step of a channel does.
+    fn relink_if(&mut self, asked: bool)
         ensures { self.new ≡ record self.old {
-          layer = record self.old.layer {
-            relink = machine.set_if outcome.relink self.old.layer.relink;
-            notes = self.old.layer.notes ++ outcome.notes;
-          };
+          layer = record self.old.layer { relink = machine.set_if asked self.old.layer.relink };
         } }
     {
-        let Outcome {
-            relink,
-            first,
-            second,
-        } = outcome;
-        if relink {
+        if asked {
             self.relink = true;
         }
-        self.notes.add(first);
-        self.notes.add(second);
     }
 }

@@ -4,14 +4,13 @@
 
 mod fault;
 mod layer;
-mod notes;
 mod params;
 mod restart;
 
 pub use fault::{CallFault, MakeFault};
 pub use layer::Layer;
 pub use packet_channel::{
-    ChannelFault, Front, InterruptData, KeptPacket, LayerNote, Reason, RefusedBuf, Request,
-    SEND_QUEUE, Taken, TakenBuf, UserData,
+    ChannelFault, Front, InterruptData, KeptPacket, LayerNote, MOST_CHANNELS, Reason, RefusedBuf,
+    Request, SEND_QUEUE, Taken, TakenBuf, UserData,
 };
-pub use params::{LayerParams, MOST_CHANNELS};
+pub use params::LayerParams;

@@ -3,9 +3,7 @@ ghost use Rattle.packet_layer.specs.Params.{AreParams};
 ghost use Rattle.packet_layer.specs.declared.fault.MakeFault.TheVariants as make_fault;
 
 use crate::fault::MakeFault;
-
-/// The most logical channels of a line.
-pub const MOST_CHANNELS: u8 = 32;
+use packet_channel::MOST_CHANNELS;
 
 /// The largest window with numbers modulo 8.
 pub const LARGEST_WINDOW: u8 = 7;

@@ -4,12 +4,12 @@ ghost use Rattle.flow_window.specs.Pool.{Holds, Balances};
 ghost use Rattle.packet_channel.specs.Channel as machine;
 ghost use Rattle.packet_channel.specs.Held.{Fits};
 ghost use Rattle.packet_channel.specs.StateView.{state_of};
-ghost use Rattle.packet_channel.specs.Effects.{effect_of};
+ghost use Rattle.packet_channel.specs.Done.{IsDone};
 
 use crate::channel::Channel;
 use crate::control::Control;
-use crate::effect::Effect;
 use crate::note::{LayerNote, Reason};
+use crate::notes::Notes;
 use crate::state::{CallState, End, error_cause};
 use flow_window::pool::Pool;
 use packet_codec::{clear_cause, diagnostic, reset_cause};
@@ -38,21 +38,21 @@ impl Channel {
         self.traffic.clear(pool);
     }
 
-    /// Clears the call for a fault that was found here.
+    /// Clears the call for a fault that was found here. As each step does, it answers whether one control packet too
+    /// many is owed.
     pub(crate) fn clear_error(
         &mut self,
         end: End,
         diagnostic: u8,
         had_call: bool,
         pool: &mut Pool,
-    ) -> Effect
-        requires { Holds pool.old self.old.held }
-        ensures channel { self.new ≡ record {
-          channel = (machine.clear_error end.role end.channel diagnostic had_call self.old.channel).channel;
-          held = [];
-        } }
-        ensures effect { result
-            ≡ effect_of (machine.clear_error end.role end.channel diagnostic had_call self.old.channel) }
+        notes: &mut Notes,
+    ) -> bool
+        requires holds { Holds pool.old self.old.held }
+        requires read { notes.old ≡ [] }
+        ensures done { IsDone (machine.clear_error end.role end.channel diagnostic had_call self.old.channel)
+            self.new.channel result notes.new }
+        ensures held { self.new.held ≡ [] }
         ensures pool { Balances pool.old self.old.held pool.new [] }
     {
         self.end_call(CallState::OwnClear, pool);
@@ -61,58 +61,64 @@ impl Channel {
             diagnostic,
         };
         if !had_call {
-            return Effect::owing(clear);
+            return self.owe(clear);
         }
-        Effect::both(
-            clear,
-            LayerNote::Closed {
-                channel: end.channel,
-                cause: clear_cause::LOCAL_PROCEDURE_ERROR,
-                diagnostic,
-                reason: Reason::LocalFault,
-            },
-        )
+        notes.add(LayerNote::Closed {
+            channel: end.channel,
+            cause: clear_cause::LOCAL_PROCEDURE_ERROR,
+            diagnostic,
+            reason: Reason::LocalFault,
+        });
+        self.owe(clear)
     }
 
     /// Resets the call for a fault that was found here.
-    pub(crate) fn reset_error(&mut self, end: End, diagnostic: u8, pool: &mut Pool) -> Effect
+    pub(crate) fn reset_error(
+        &mut self,
+        end: End,
+        diagnostic: u8,
+        pool: &mut Pool,
+        notes: &mut Notes,
+    ) -> bool
         requires transfer { machine.in_transfer self.old.channel.state ≡ true }
         requires holds { Holds pool.old self.old.held }
-        ensures channel { self.new ≡ record {
-          channel = (machine.reset_error end.role end.channel diagnostic self.old.channel).channel;
-          held = [];
-        } }
-        ensures effect { result ≡ effect_of (machine.reset_error end.role end.channel diagnostic self.old.channel) }
+        requires read { notes.old ≡ [] }
+        ensures done { IsDone (machine.reset_error end.role end.channel diagnostic self.old.channel) self.new.channel
+            result notes.new }
+        ensures held { self.new.held ≡ [] }
         ensures pool { Balances pool.old self.old.held pool.new [] }
     {
         self.resetting = true;
         self.traffic.clear(pool);
-        Effect::both(
-            Control::Reset {
-                cause: error_cause(end.role, reset_cause::LOCAL_PROCEDURE_ERROR),
-                diagnostic,
-            },
-            LayerNote::Reset {
-                channel: end.channel,
-                cause: reset_cause::LOCAL_PROCEDURE_ERROR,
-                diagnostic,
-                reason: Reason::LocalFault,
-            },
-        )
+        notes.add(LayerNote::Reset {
+            channel: end.channel,
+            cause: reset_cause::LOCAL_PROCEDURE_ERROR,
+            diagnostic,
+            reason: Reason::LocalFault,
+        });
+        self.owe(Control::Reset {
+            cause: error_cause(end.role, reset_cause::LOCAL_PROCEDURE_ERROR),
+            diagnostic,
+        })
     }
 
     /// Clears the call for a packet that has no place in its state.
-    pub(crate) fn not_allowed(&mut self, end: End, pool: &mut Pool) -> Effect
-        requires { Holds pool.old self.old.held }
-        ensures channel { self.new ≡ record {
-          channel = (machine.not_allowed end.role end.channel self.old.channel).channel;
-          held = [];
-        } }
-        ensures effect { result ≡ effect_of (machine.not_allowed end.role end.channel self.old.channel) }
+    pub(crate) fn not_allowed(&mut self, end: End, pool: &mut Pool, notes: &mut Notes) -> bool
+        requires holds { Holds pool.old self.old.held }
+        requires read { notes.old ≡ [] }
+        ensures done { IsDone (machine.not_allowed end.role end.channel self.old.channel) self.new.channel result
+            notes.new }
+        ensures held { self.new.held ≡ [] }
         ensures pool { Balances pool.old self.old.held pool.new [] }
     {
         let number = self.state.number(end.role);
-        self.clear_error(end, diagnostic::NOT_ALLOWED_IN_P + number, true, pool)
+        self.clear_error(
+            end,
+            diagnostic::NOT_ALLOWED_IN_P + number,
+            true,
+            pool,
+            notes,
+        )
     }
 
     /// The far end clears the call.
@@ -122,53 +128,58 @@ impl Channel {
         cause: u8,
         diagnostic: u8,
         pool: &mut Pool,
-    ) -> Effect
-        requires { Holds pool.old self.old.held }
-        ensures channel { self.new ≡ record {
-          channel = (machine.far_cleared end.channel cause diagnostic self.old.channel).channel;
-          held = [];
-        } }
-        ensures effect { result ≡ effect_of (machine.far_cleared end.channel cause diagnostic self.old.channel) }
+        notes: &mut Notes,
+    ) -> bool
+        requires holds { Holds pool.old self.old.held }
+        requires read { notes.old ≡ [] }
+        ensures done { IsDone (machine.far_cleared end.channel cause diagnostic self.old.channel) self.new.channel
+            result notes.new }
+        ensures held { self.new.held ≡ [] }
         ensures pool { Balances pool.old self.old.held pool.new [] }
     {
         self.end_call(CallState::Ready, pool);
-        Effect::both(
-            Control::ClearConfirmation,
-            LayerNote::Closed {
-                channel: end.channel,
-                cause,
-                diagnostic,
-                reason: Reason::FarEnd,
-            },
-        )
+        notes.add(LayerNote::Closed {
+            channel: end.channel,
+            cause,
+            diagnostic,
+            reason: Reason::FarEnd,
+        });
+        self.owe(Control::ClearConfirmation)
     }
 
-    /// A packet of the channel that cannot be read counts as one that the state does not allow; where its fault is
-    /// not an unknown type, with diagnostic 0.
-    pub(crate) fn unreadable(&mut self, end: End, unknown: bool, pool: &mut Pool) -> Effect
-        requires { Holds pool.old self.old.held }
-        ensures channel { self.new.channel
-            ≡ (machine.unreadable end.role end.channel unknown self.old.channel).channel }
-        ensures effect { result ≡ effect_of (machine.unreadable end.role end.channel unknown self.old.channel) }
+    /// Takes octets that are no packet: they count as a packet that the state does not allow; where their fault is
+    /// not an unknown type, with diagnostic 0. Answers whether one control packet too many is owed.
+    pub fn take_unreadable(
+        &mut self,
+        end: End,
+        unknown: bool,
+        pool: &mut Pool,
+        notes: &mut Notes,
+    ) -> bool
+        requires holds { Holds pool.old self.old.held }
+        requires read { notes.old ≡ [] }
+        ensures done { IsDone (machine.unreadable end.role end.channel unknown self.old.channel) self.new.channel
+            result notes.new }
         ensures pool { Balances pool.old self.old.held pool.new self.new.held }
         ensures fits { (window : ℕ) → Fits window self.old → Fits window self.new }
     {
         let number = self.state.number(end.role);
         let in_state = diagnostic_if(unknown, diagnostic::NOT_ALLOWED_IN_P + number);
         match self.state {
-            CallState::Ready => self.clear_error(end, in_state, false, pool),
-            CallState::OwnClear => Effect::nothing(),
+            CallState::Ready => self.clear_error(end, in_state, false, pool, notes),
+            CallState::OwnClear => false,
             CallState::Transfer if !self.resetting => {
                 self.reset_error(
                     end,
                     diagnostic_if(unknown, diagnostic::NOT_ALLOWED_IN_D1),
                     pool,
+                    notes,
                 )
             }
             CallState::Transfer
             | CallState::OwnWaiting
             | CallState::FarWaiting
-            | CallState::Collision => self.clear_error(end, in_state, true, pool),
+            | CallState::Collision => self.clear_error(end, in_state, true, pool, notes),
         }
     }
 }

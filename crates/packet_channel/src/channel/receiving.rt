@@ -8,128 +8,158 @@ ghost use Rattle.packet_channel.specs.Channel as machine;
 ghost use Rattle.packet_channel.specs.Held.{Fits};
 ghost use Rattle.packet_channel.specs.Octets.{body_of};
 ghost use Rattle.packet_channel.specs.HeardView.{heard_of};
-ghost use Rattle.packet_channel.specs.Effects.{effect_of};
+ghost use Rattle.packet_channel.specs.Done.{IsDone};
 
 use crate::channel::Channel;
 use crate::control::Control;
-use crate::effect::Effect;
 use crate::heard::Heard;
 use crate::note::{LayerNote, Reason};
+use crate::notes::Notes;
 use crate::state::{CallState, End};
 use flow_window::pool::Pool;
 use link_timers::Role;
 use packet_codec::{CallBuf, Content, Packet, clear_cause, diagnostic};
 
 impl Channel {
-    /// Takes a packet of the channel.
-    pub(crate) fn receive(&mut self, end: End, packet: &Packet<'_>, pool: &mut Pool) -> Effect
+    /// Takes a packet that the link brings, and answers whether one control packet too many is owed.
+    pub fn take_packet(
+        &mut self,
+        end: End,
+        packet: &Packet<'_>,
+        pool: &mut Pool,
+        notes: &mut Notes,
+    ) -> bool
         requires window { end.window ≤ 7 }
         requires fits { IsPacket (view packet.now) }
         requires holds { Holds pool.old self.old.held }
+        requires read { notes.old ≡ [] }
         requires size { 128 ≤ pool.old.size }
         requires room { in_use pool.old < length pool.old.places }
-        ensures channel { self.new.channel ≡ (machine.received end.role end.window end.channel self.old.channel
-            (body_of (content_view packet.now.content))).channel }
-        ensures effect { result ≡ effect_of (machine.received end.role end.window end.channel self.old.channel
-            (body_of (content_view packet.now.content))) }
+        ensures done { IsDone (machine.received end.role end.window end.channel self.old.channel
+            (body_of (content_view packet.now.content))) self.new.channel result notes.new }
         ensures pool { Balances pool.old self.old.held pool.new self.new.held }
         ensures fits { Fits end.window self.old → Fits end.window self.new }
     {
         match self.state {
-            CallState::Ready => self.in_ready(end, packet, pool),
-            CallState::OwnWaiting => self.in_own_waiting(end, packet, pool),
-            CallState::FarWaiting => self.in_far_waiting(end, packet, pool),
-            CallState::Transfer if self.resetting => self.in_own_reset(end, packet, pool),
-            CallState::Transfer => self.in_flow_ready(end, packet, pool),
-            CallState::Collision => self.in_collision(end, packet, pool),
-            CallState::OwnClear => self.in_own_clear(packet),
+            CallState::Ready => self.in_ready(end, packet, pool, notes),
+            CallState::OwnWaiting => self.in_own_waiting(end, packet, pool, notes),
+            CallState::FarWaiting => self.in_far_waiting(end, packet, pool, notes),
+            CallState::Transfer if self.resetting => self.in_own_reset(end, packet, pool, notes),
+            CallState::Transfer => self.in_flow_ready(end, packet, pool, notes),
+            CallState::Collision => self.in_collision(end, packet, pool, notes),
+            CallState::OwnClear => {
+                self.in_own_clear(packet);
+                false
+            }
         }
     }
 
-    fn in_ready(&mut self, end: End, packet: &Packet<'_>, pool: &mut Pool) -> Effect
+    fn in_ready(
+        &mut self,
+        end: End,
+        packet: &Packet<'_>,
+        pool: &mut Pool,
+        notes: &mut Notes,
+    ) -> bool
         requires state { self.old.channel.state ≡ machine.CallState.Ready }
         requires fits { IsPacket (view packet.now) }
         requires holds { Holds pool.old self.old.held }
-        ensures channel { self.new.channel ≡ (machine.in_ready end.role end.channel self.old.channel
-            (body_of (content_view packet.now.content))).channel }
-        ensures effect { result ≡ effect_of (machine.in_ready end.role end.channel self.old.channel
-            (body_of (content_view packet.now.content))) }
+        requires read { notes.old ≡ [] }
+        ensures done { IsDone (machine.in_ready end.role end.channel self.old.channel
+            (body_of (content_view packet.now.content))) self.new.channel result notes.new }
         ensures pool { Balances pool.old self.old.held pool.new self.new.held }
         ensures fits { (window : ℕ) → Fits window self.old → Fits window self.new }
     {
         match &packet.content {
             Content::CallRequest(call) => {
                 self.state = CallState::FarWaiting;
-                Effect::noting(LayerNote::Incoming(end.channel, CallBuf::new(call)))
+                notes.add(LayerNote::Incoming(end.channel, CallBuf::new(call)));
+                false
             }
-            Content::ClearRequest { .. } => Effect::owing(Control::ClearConfirmation),
-            _ => self.clear_error(end, diagnostic::NOT_ALLOWED_IN_P1, false, pool),
+            Content::ClearRequest { .. } => self.owe(Control::ClearConfirmation),
+            _ => self.clear_error(end, diagnostic::NOT_ALLOWED_IN_P1, false, pool, notes),
         }
     }
 
     // In a call collision the DCE's own call is cancelled.
-    fn in_own_waiting(&mut self, end: End, packet: &Packet<'_>, pool: &mut Pool) -> Effect
+    fn in_own_waiting(
+        &mut self,
+        end: End,
+        packet: &Packet<'_>,
+        pool: &mut Pool,
+        notes: &mut Notes,
+    ) -> bool
         requires state { self.old.channel.state ≡ machine.CallState.OwnWaiting }
         requires fits { IsPacket (view packet.now) }
         requires holds { Holds pool.old self.old.held }
-        ensures channel { self.new.channel ≡ (machine.in_own_waiting end.role end.channel self.old.channel
-            (body_of (content_view packet.now.content))).channel }
-        ensures effect { result ≡ effect_of (machine.in_own_waiting end.role end.channel self.old.channel
-            (body_of (content_view packet.now.content))) }
+        requires read { notes.old ≡ [] }
+        ensures done { IsDone (machine.in_own_waiting end.role end.channel self.old.channel
+            (body_of (content_view packet.now.content))) self.new.channel result notes.new }
         ensures pool { Balances pool.old self.old.held pool.new self.new.held }
         ensures fits { (window : ℕ) → Fits window self.old → Fits window self.new }
     {
         match &packet.content {
             Content::CallAccepted => {
                 self.state = CallState::Transfer;
-                Effect::noting(LayerNote::Connected(end.channel))
+                notes.add(LayerNote::Connected(end.channel));
+                false
             }
             Content::CallRequest(call) => {
                 self.state = CallState::Collision;
                 match end.role {
-                    Role::Dte => Effect::nothing(),
-                    Role::Dce => Effect {
-                        owes: None,
-                        first: Some(LayerNote::Closed {
+                    Role::Dte => false,
+                    Role::Dce => {
+                        notes.add(LayerNote::Closed {
                             channel: end.channel,
                             cause: clear_cause::NUMBER_BUSY,
                             diagnostic: diagnostic::NO_INFORMATION,
                             reason: Reason::Cancelled,
-                        }),
-                        second: Some(LayerNote::Incoming(end.channel, CallBuf::new(call))),
-                    },
+                        });
+                        notes.add(LayerNote::Incoming(end.channel, CallBuf::new(call)));
+                        false
+                    }
                 }
             }
             Content::ClearRequest { cause, diagnostic } => {
-                self.far_cleared(end, *cause, *diagnostic, pool)
+                self.far_cleared(end, *cause, *diagnostic, pool, notes)
             }
-            _ => self.not_allowed(end, pool),
+            _ => self.not_allowed(end, pool, notes),
         }
     }
 
-    fn in_far_waiting(&mut self, end: End, packet: &Packet<'_>, pool: &mut Pool) -> Effect
+    fn in_far_waiting(
+        &mut self,
+        end: End,
+        packet: &Packet<'_>,
+        pool: &mut Pool,
+        notes: &mut Notes,
+    ) -> bool
         requires holds { Holds pool.old self.old.held }
-        ensures channel { self.new.channel ≡ (machine.in_far_waiting end.role end.channel self.old.channel
-            (body_of (content_view packet.now.content))).channel }
-        ensures effect { result ≡ effect_of (machine.in_far_waiting end.role end.channel self.old.channel
-            (body_of (content_view packet.now.content))) }
+        requires read { notes.old ≡ [] }
+        ensures done { IsDone (machine.in_far_waiting end.role end.channel self.old.channel
+            (body_of (content_view packet.now.content))) self.new.channel result notes.new }
         ensures pool { Balances pool.old self.old.held pool.new self.new.held }
         ensures fits { (window : ℕ) → Fits window self.old → Fits window self.new }
     {
         match packet.content {
             Content::ClearRequest { cause, diagnostic } => self.far_cleared(
-                end, cause, diagnostic, pool,
+                end, cause, diagnostic, pool, notes,
             ),
-            _ => self.not_allowed(end, pool),
+            _ => self.not_allowed(end, pool, notes),
         }
     }
 
-    fn in_collision(&mut self, end: End, packet: &Packet<'_>, pool: &mut Pool) -> Effect
+    fn in_collision(
+        &mut self,
+        end: End,
+        packet: &Packet<'_>,
+        pool: &mut Pool,
+        notes: &mut Notes,
+    ) -> bool
         requires holds { Holds pool.old self.old.held }
-        ensures channel { self.new.channel ≡ (machine.in_collision end.role end.channel self.old.channel
-            (body_of (content_view packet.now.content))).channel }
-        ensures effect { result ≡ effect_of (machine.in_collision end.role end.channel self.old.channel
-            (body_of (content_view packet.now.content))) }
+        requires read { notes.old ≡ [] }
+        ensures done { IsDone (machine.in_collision end.role end.channel self.old.channel
+            (body_of (content_view packet.now.content))) self.new.channel result notes.new }
         ensures pool { Balances pool.old self.old.held pool.new self.new.held }
         ensures fits { (window : ℕ) → Fits window self.old → Fits window self.new }
     {
@@ -137,155 +167,174 @@ impl Channel {
             Content::CallAccepted => match end.role {
                 Role::Dte => {
                     self.state = CallState::Transfer;
-                    Effect::noting(LayerNote::Connected(end.channel))
+                    notes.add(LayerNote::Connected(end.channel));
+                    false
                 }
-                Role::Dce => self.not_allowed(end, pool),
+                Role::Dce => self.not_allowed(end, pool, notes),
             },
             Content::ClearRequest { cause, diagnostic } => self.far_cleared(
-                end, cause, diagnostic, pool,
+                end, cause, diagnostic, pool, notes,
             ),
-            _ => self.not_allowed(end, pool),
+            _ => self.not_allowed(end, pool, notes),
         }
     }
 
-    fn in_own_clear(&mut self, packet: &Packet<'_>) -> Effect
+    // Nothing is owed or noted.
+    fn in_own_clear(&mut self, packet: &Packet<'_>)
         requires { self.old.channel.state ≡ machine.CallState.OwnClear }
-        ensures channel { self.new ≡ record self.old {
-          channel = (machine.in_own_clear self.old.channel (body_of (content_view packet.now.content))).channel;
-        } }
-        ensures effect { result
-            ≡ effect_of (machine.in_own_clear self.old.channel (body_of (content_view packet.now.content))) }
+        ensures done { IsDone (machine.in_own_clear self.old.channel (body_of (content_view packet.now.content)))
+            self.new.channel false [] }
+        ensures held { self.new.held ≡ self.old.held }
+        ensures arrived { self.new.channel.traffic.arrived ≡ self.old.channel.traffic.arrived }
     {
         match packet.content {
             Content::ClearRequest { .. } | Content::ClearConfirmation => {
                 self.state = CallState::Ready;
-                Effect::nothing()
             }
-            _ => Effect::nothing(),
+            _ => {}
         }
     }
 
-    fn in_own_reset(&mut self, end: End, packet: &Packet<'_>, pool: &mut Pool) -> Effect
+    fn in_own_reset(
+        &mut self,
+        end: End,
+        packet: &Packet<'_>,
+        pool: &mut Pool,
+        notes: &mut Notes,
+    ) -> bool
         requires state { self.old.channel.state ≡ machine.CallState.Transfer }
         requires holds { Holds pool.old self.old.held }
-        ensures channel { self.new.channel ≡ (machine.in_own_reset end.role end.channel self.old.channel
-            (body_of (content_view packet.now.content))).channel }
-        ensures effect { result ≡ effect_of (machine.in_own_reset end.role end.channel self.old.channel
-            (body_of (content_view packet.now.content))) }
+        requires read { notes.old ≡ [] }
+        ensures done { IsDone (machine.in_own_reset end.role end.channel self.old.channel
+            (body_of (content_view packet.now.content))) self.new.channel result notes.new }
         ensures pool { Balances pool.old self.old.held pool.new self.new.held }
         ensures fits { (window : ℕ) → Fits window self.old → Fits window self.new }
     {
         match packet.content {
             Content::ClearRequest { cause, diagnostic } => self.far_cleared(
-                end, cause, diagnostic, pool,
+                end, cause, diagnostic, pool, notes,
             ),
             Content::ResetRequest { .. } | Content::ResetConfirmation => {
                 self.resetting = false;
-                Effect::nothing()
+                false
             }
             Content::Data(_)
             | Content::ReceiveReady(_)
             | Content::ReceiveNotReady(_)
             | Content::Interrupt(_)
-            | Content::InterruptConfirmation => Effect::nothing(),
-            _ => self.not_allowed(end, pool),
+            | Content::InterruptConfirmation => false,
+            _ => self.not_allowed(end, pool, notes),
         }
     }
 
-    fn in_flow_ready(&mut self, end: End, packet: &Packet<'_>, pool: &mut Pool) -> Effect
+    fn in_flow_ready(
+        &mut self,
+        end: End,
+        packet: &Packet<'_>,
+        pool: &mut Pool,
+        notes: &mut Notes,
+    ) -> bool
         requires window { end.window ≤ 7 }
         requires fits { IsPacket (view packet.now) }
         requires state { self.old.channel.state ≡ machine.CallState.Transfer }
         requires holds { Holds pool.old self.old.held }
+        requires read { notes.old ≡ [] }
         requires size { 128 ≤ pool.old.size }
         requires room { in_use pool.old < length pool.old.places }
-        ensures channel { self.new.channel ≡ (machine.in_flow_ready end.role end.window end.channel self.old.channel
-            (body_of (content_view packet.now.content))).channel }
-        ensures effect { result ≡ effect_of (machine.in_flow_ready end.role end.window end.channel self.old.channel
-            (body_of (content_view packet.now.content))) }
+        ensures done { IsDone (machine.in_flow_ready end.role end.window end.channel self.old.channel
+            (body_of (content_view packet.now.content))) self.new.channel result notes.new }
         ensures pool { Balances pool.old self.old.held pool.new self.new.held }
         ensures fits { Fits end.window self.old → Fits end.window self.new }
     {
         match packet.content {
             Content::ClearRequest { cause, diagnostic } => self.far_cleared(
-                end, cause, diagnostic, pool,
+                end, cause, diagnostic, pool, notes,
             ),
             Content::ResetRequest { cause, diagnostic } => self.far_reset(
-                end, cause, diagnostic, pool,
+                end, cause, diagnostic, pool, notes,
             ),
             Content::ResetConfirmation => self.reset_error(
                 end,
                 diagnostic::NOT_ALLOWED_IN_D1,
                 pool,
+                notes,
             ),
             Content::Data(packet) => {
                 let heard = self.traffic.hear_data(end.window, &packet, pool);
-                self.after_heard(end, heard, pool)
+                self.after_heard(end, heard, pool, notes)
             }
             Content::ReceiveReady(receive) => {
                 let heard = self.traffic.hear_ready(receive, false);
-                self.after_heard(end, heard, pool)
+                self.after_heard(end, heard, pool, notes)
             }
             Content::ReceiveNotReady(receive) => {
                 let heard = self.traffic.hear_ready(receive, true);
-                self.after_heard(end, heard, pool)
+                self.after_heard(end, heard, pool, notes)
             }
             Content::Interrupt(octets) => {
                 let heard = self.traffic.hear_interrupt(octets);
-                self.after_heard(end, heard, pool)
+                self.after_heard(end, heard, pool, notes)
             }
             Content::InterruptConfirmation => {
                 let heard = self.traffic.hear_interrupt_confirmation();
-                self.after_heard(end, heard, pool)
+                self.after_heard(end, heard, pool, notes)
             }
-            _ => self.not_allowed(end, pool),
+            _ => self.not_allowed(end, pool, notes),
         }
     }
 
     // The far end resets the call.
-    fn far_reset(&mut self, end: End, cause: u8, diagnostic: u8, pool: &mut Pool) -> Effect
+    fn far_reset(
+        &mut self,
+        end: End,
+        cause: u8,
+        diagnostic: u8,
+        pool: &mut Pool,
+        notes: &mut Notes,
+    ) -> bool
         requires state { self.old.channel.state ≡ machine.CallState.Transfer }
         requires holds { Holds pool.old self.old.held }
-        ensures channel { self.new ≡ record { channel = machine.renewed false self.old.channel; held = [] } }
-        ensures effect { result
-            ≡ effect_of (machine.in_flow_ready end.role end.window end.channel self.old.channel
-            (body.Reset cause diagnostic)) }
+        requires read { notes.old ≡ [] }
+        ensures done { IsDone (machine.in_flow_ready end.role end.window end.channel self.old.channel
+            (body.Reset cause diagnostic)) self.new.channel result notes.new }
+        ensures held { self.new.held ≡ [] }
         ensures pool { Balances pool.old self.old.held pool.new [] }
     {
         self.resetting = false;
         self.traffic.clear(pool);
-        Effect::both(
-            Control::ResetConfirmation,
-            LayerNote::Reset {
-                channel: end.channel,
-                cause,
-                diagnostic,
-                reason: Reason::FarEnd,
-            },
-        )
+        notes.add(LayerNote::Reset {
+            channel: end.channel,
+            cause,
+            diagnostic,
+            reason: Reason::FarEnd,
+        });
+        self.owe(Control::ResetConfirmation)
     }
 
     // What a packet of data transfer does besides what it does to the traffic.
-    fn after_heard(&mut self, end: End, heard: Heard, pool: &mut Pool) -> Effect
+    fn after_heard(&mut self, end: End, heard: Heard, pool: &mut Pool, notes: &mut Notes) -> bool
         requires transfer { machine.in_transfer self.old.channel.state ≡ true }
         requires holds { Holds pool.old self.old.held }
-        ensures channel { self.new.channel
-            ≡ (machine.after_heard end.role end.channel self.old.channel
-            (heard_of heard self.old.channel.traffic)).channel }
-        ensures effect { result
-            ≡ effect_of (machine.after_heard end.role end.channel self.old.channel
-            (heard_of heard self.old.channel.traffic)) }
+        requires read { notes.old ≡ [] }
+        ensures done { IsDone (machine.after_heard end.role end.channel self.old.channel
+            (heard_of heard self.old.channel.traffic)) self.new.channel result notes.new }
         ensures pool { Balances pool.old self.old.held pool.new self.new.held }
         ensures fits { (window : ℕ) → Fits window self.old → Fits window self.new }
     {
         match heard {
-            Heard::Keeps(0) => Effect::nothing(),
-            Heard::Keeps(count) => Effect::noting(LayerNote::Covered {
-                channel: end.channel,
-                count,
-            }),
-            Heard::Confirms => Effect::noting(LayerNote::InterruptConfirmed(end.channel)),
-            Heard::Wrong(diagnostic) => self.reset_error(end, diagnostic, pool),
+            Heard::Keeps(0) => false,
+            Heard::Keeps(count) => {
+                notes.add(LayerNote::Covered {
+                    channel: end.channel,
+                    count,
+                });
+                false
+            }
+            Heard::Confirms => {
+                notes.add(LayerNote::InterruptConfirmed(end.channel));
+                false
+            }
+            Heard::Wrong(diagnostic) => self.reset_error(end, diagnostic, pool, notes),
         }
     }
 }

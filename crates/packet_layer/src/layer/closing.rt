@@ -6,9 +6,8 @@ ghost use Rattle.packet_channel.specs.Channel.{closed_channel};
 ghost use Rattle.packet_layer.specs.Layer.{closing_notes};
 ghost use Rattle.packet_channel.specs.NoteView.{reason_of};
 
-use crate::notes::Notes;
 use flow_window::pool::Pool;
-use packet_channel::{Channel, LayerNote, Reason};
+use packet_channel::{Channel, LayerNote, Notes, Reason};
 use packet_codec::{clear_cause, diagnostic};
 
 /// Closes all channels, and notes each call that there was, in rising order of channels.
@@ -29,12 +28,12 @@ pub(crate) fn close_channels(
     for place in 0..channels.len() {
         let channel = &mut channels[place];
         if channel.state().has_call() {
-            notes.add(Some(LayerNote::Closed {
+            notes.add(LayerNote::Closed {
                 channel: place as u8 + 1,
                 cause: clear_cause::OUT_OF_ORDER,
                 diagnostic: diagnostic::NO_INFORMATION,
                 reason,
-            }));
+            });
         }
         channel.close(pool);
     }

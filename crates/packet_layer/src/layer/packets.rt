@@ -116,8 +116,8 @@ impl Layer {
         let end = self.end(place);
         self.to_serve.insert(place);
         let channel = &mut self.channels[place];
-        let outcome = channel.take_packet(end, packet, pool);
-        self.report(outcome);
+        let relink = channel.take_packet(end, packet, pool, &mut self.notes);
+        self.relink_if(relink);
     }
 
     #[tactic(auto, using(crate::proofs::Placed::own_few, crate::proofs::Placed::few))]
@@ -142,7 +142,7 @@ impl Layer {
         let end = self.end(place);
         self.to_serve.insert(place);
         let channel = &mut self.channels[place];
-        let outcome = channel.take_unreadable(end, unknown, pool);
-        self.report(outcome);
+        let relink = channel.take_unreadable(end, unknown, pool, &mut self.notes);
+        self.relink_if(relink);
     }
 }

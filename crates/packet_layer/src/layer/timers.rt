@@ -128,7 +128,7 @@ impl Layer {
         let end = self.end(place);
         self.to_serve.insert(place);
         let channel = &mut self.channels[place];
-        let outcome = channel.expire(end, pool);
-        self.report(outcome);
+        let relink = channel.expire(end, pool, &mut self.notes);
+        self.relink_if(relink);
     }
 }

@@ -1,4 +1,4 @@
-use Rattle.std.proofs.Common.{ap, sym, ◌∙◌, ◌++◌}
+use Rattle.std.proofs.Common.{ap, sym, ◌∙◌}
 use Rattle.packet_layer.specs.Held.{Layer as Held}
 use Rattle.packet_layer.specs.Layer.{set_if}
 use Rattle.packet_layer.specs.LayerView.{layer_of}
@@ -7,11 +7,11 @@ use Rattle.packet_layer.specs.Events.{after_hearing}
 use Rattle.packet_channel.specs.Octets.{unreadable_as}
 use Rattle.packet_layer.proofs.Places.{unreadable_taken}
 use Rattle.packet_layer.proofs.Placed.{placed, plain_at, plain_set, own_held, own_balance, few_after}
-use Rattle.packet_layer.proofs.Silence.{layer_touched}
+use Rattle.packet_layer.proofs.Silence.{layer_stepped}
 use Rattle.packet_layer.proofs.layer.Layer.take_unreadable.Goals as goal
 
-pub take_unreadable-outcome-requires : goal.take_unreadable-outcome-requires
-take_unreadable-outcome-requires c =
+pub take_unreadable-relink-requires-clause-holds : goal.take_unreadable-relink-requires-clause-holds
+take_unreadable-relink-requires-clause-holds c =
     let a = c.self.inside in
     let held = c.index_mut-channel.result.now in
     let there = placed a c.args.self.now c.in-Some-place.place held c.self.view_is c.in-Some-place.ensures.1 c.index_mut-channel.ensures.value in
@@ -22,8 +22,8 @@ returns-clause-pool c =
     let a = c.self.inside in
     let held = c.index_mut-channel.result.now in
     let there = placed a c.args.self.now c.in-Some-place.place held c.self.view_is c.in-Some-place.ensures.1 c.index_mut-channel.ensures.value in
-    rw c.report.ensures (own_balance a c.args.self.now c.args.pool.now c.take_unreadable-outcome.new.pool c.in-Some-place.place held c.take_unreadable-outcome.new.self c.self.view_is there
-    c.take_unreadable-outcome.ensures.pool)
+    rw c.relink_if.ensures (own_balance a c.args.self.now c.args.pool.now c.take_unreadable-relink.new.pool c.in-Some-place.place held c.take_unreadable-relink.new.self c.self.view_is there
+    c.take_unreadable-relink.ensures.pool)
 
 pub returns-clause-layer : goal.returns-clause-layer
 returns-clause-layer c =
@@ -32,10 +32,10 @@ returns-clause-layer c =
     let there = placed a c.args.self.now c.in-Some-place.place held c.self.view_is c.in-Some-place.ensures.1 c.index_mut-channel.ensures.value in
     let l = layer_of a in
     let found = plain_at a.channels.items c.in-Some-place.place held there in
-    ap (λ (x : Held). x.layer) c.report.ensures
-    ∙ (rw (← c.self.view_is) (ap (λ chs. record l { channels = chs; relink = set_if c.take_unreadable-outcome.result.relink l.relink; notes = l.notes ++ c.take_unreadable-outcome.result.notes }) (plain_set a.channels.items c.in-Some-place.place c.take_unreadable-outcome.new.self)
-    ∙ unreadable_taken l c.args.unknown c.in-Some.channel c.in-Some-place.place held.channel c.take_unreadable-outcome.new.self.channel c.take_unreadable-outcome.result c.end-end.result.role c.end-end.result.channel (ap phase_of c.in-PacketReady.is) c.in-Some-place.ensures.0 found
-    (c.end-end.ensures.role ∙ ap (λ (x : Held). x.layer.role) (sym c.self.view_is)) c.end-end.ensures.channel c.take_unreadable-outcome.ensures.channel c.take_unreadable-outcome.ensures.outcome
+    ap (λ (x : Held). x.layer) c.relink_if.ensures
+    ∙ (rw (← c.self.view_is) (ap (λ chs. record l { channels = chs; relink = set_if c.take_unreadable-relink.result l.relink; notes = c.take_unreadable-relink.new.notes }) (plain_set a.channels.items c.in-Some-place.place c.take_unreadable-relink.new.self)
+    ∙ unreadable_taken l c.args.unknown c.in-Some.channel c.in-Some-place.place held.channel c.take_unreadable-relink.new.self.channel c.take_unreadable-relink.result c.take_unreadable-relink.new.notes c.end-end.result.role c.end-end.result.channel (ap phase_of c.in-PacketReady.is) c.in-Some-place.ensures.0 found (ap (λ (x : Held). x.layer.notes) c.self.view_is ∙ c.requires.read)
+    (c.end-end.ensures.role ∙ ap (λ (x : Held). x.layer.role) (sym c.self.view_is)) c.end-end.ensures.channel c.take_unreadable-relink.ensures.done
     ∙ ap (λ named. after_hearing l (unreadable_as c.args.unknown named)) c.in-Some.ensures))
 
 pub invariant_of-self : goal.invariant_of-self
@@ -43,12 +43,12 @@ invariant_of-self c =
     let a = c.self.inside in
     let held = c.index_mut-channel.result.now in
     let there = placed a c.args.self.now c.in-Some-place.place held c.self.view_is c.in-Some-place.ensures.1 c.index_mut-channel.ensures.value in
-    layer_touched a c.insert.new.self c.in-Some-place.place held c.take_unreadable-outcome.new.self c.self.inside.relink c.self.invariant c.insert.ensures there (c.take_unreadable-outcome.ensures.fits a.window)
+    layer_stepped a c.insert.new.self c.in-Some-place.place held c.take_unreadable-relink.new.self _ c.take_unreadable-relink.result c.take_unreadable-relink.new.notes c.self.invariant c.insert.ensures there (c.take_unreadable-relink.ensures.fits a.window) c.take_unreadable-relink.ensures.done
 
 pub returns-clause-few : goal.returns-clause-few
 returns-clause-few c =
     let a = c.self.inside in
     let held = c.index_mut-channel.result.now in
     let there = placed a c.args.self.now c.in-Some-place.place held c.self.view_is c.in-Some-place.ensures.1 c.index_mut-channel.ensures.value in
-    rw c.report.ensures (few_after a.window a.channels.items c.in-Some-place.place held c.take_unreadable-outcome.new.self c.self.invariant.fits there
-    (c.take_unreadable-outcome.ensures.fits a.window))
+    rw c.relink_if.ensures (few_after a.window a.channels.items c.in-Some-place.place held c.take_unreadable-relink.new.self c.self.invariant.fits there
+    (c.take_unreadable-relink.ensures.fits a.window))

@@ -1,4 +1,4 @@
-use Rattle.packet_channel.proofs.channel.Channel.receive.Goals as goal
+use Rattle.packet_channel.proofs.channel.Channel.take_packet.Goals as goal
 
 pub returns-in-Ready-clause-fits : goal.returns-in-Ready-clause-fits
 returns-in-Ready-clause-fits c = c.in_ready.ensures.fits c.args.end.window

@@ -1,9 +1,9 @@
 //! The notes of a packet layer that are not yet read.
-ghost use Rattle.std.specs.Prelude.{◌≡◌, ◌<◌, ◌++◌, [], IfOk, length, drop, slice_get};
+ghost use Rattle.std.specs.Prelude.{◌≡◌, ◌<◌, ◌++◌, [], ◌∷◌, IfOk, length, drop, slice_get};
 
-use crate::params::MOST_CHANNELS;
+use crate::note::LayerNote;
+use crate::state::MOST_CHANNELS;
 use circular_buffer::HeapCircularBuffer;
-use packet_channel::LayerNote;
 use std::alloc::{AllocError, Global};
 use std::marker::Model;
 
@@ -12,7 +12,7 @@ const MOST_NOTES: usize = MOST_CHANNELS as usize + 1;
 
 /// The notes that are not yet read, in order.
 #[derive(Drop)]
-pub(crate) struct Notes {
+pub struct Notes {
     notes: HeapCircularBuffer<LayerNote>,
 }
 
@@ -30,39 +30,40 @@ impl Model for Notes {
 }
 
 impl Notes {
-    ghost use Rattle.packet_channel.specs.NoteView.{maybe_note, listed};
+    ghost use Rattle.packet_channel.specs.NoteView.{note_of, maybe_note};
 
-    pub(crate) fn new(alloc: Global) -> Result<Self, AllocError>
+    /// No notes, with room for those of one event.
+    pub fn new(alloc: Global) -> Result<Self, AllocError>
         ensures { IfOk result (λ n. n ≡ []) }
     {
         let notes = HeapCircularBuffer::with_capacity(alloc, MOST_NOTES)?;
         Ok(Notes { notes })
     }
 
-    pub(crate) fn clear(&mut self)
+    /// Drops all notes.
+    pub fn clear(&mut self)
         ensures { self.new ≡ [] }
     {
         self.notes.clear();
     }
 
-    pub(crate) fn len(&self) -> usize
+    /// How many notes are not yet read.
+    pub fn len(&self) -> usize
         ensures { result ≡ length self.now }
     {
         self.notes.len()
     }
 
-    /// Adds a note, if there is one.
-    pub(crate) fn add(&mut self, note: Option<LayerNote>)
+    /// Adds a note.
+    pub fn add(&mut self, note: LayerNote)
         requires { length self.old < 33 }
-        ensures { self.new ≡ self.old ++ listed note }
+        ensures { self.new ≡ self.old ++ note_of note ∷ [] }
     {
-        if let Some(note) = note {
-            let _ = self.notes.try_push_back(note);
-        }
+        let _ = self.notes.try_push_back(note);
     }
 
     /// Takes the first note, if there is one.
-    pub(crate) fn take(&mut self) -> Option<LayerNote>
+    pub fn take(&mut self) -> Option<LayerNote>
         ensures value { maybe_note result ≡ slice_get self.old 0 }
         ensures rest { self.new ≡ drop 1 self.old }
     {
