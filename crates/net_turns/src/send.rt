@@ -2,6 +2,7 @@
 ghost use Rattle.std.specs.Prelude.{◌≡◌, ◌≤◌, [], vec_capacity};
 ghost use Rattle.line_nodes.specs.Node.{drained, frames_of};
 ghost use Rattle.line_nodes.specs.NodeView.{node_of};
+ghost use Rattle.memory_line.specs.Lines.{IsPut};
 ghost use Rattle.net_turns.specs.Sends.{Sends};
 
 use frame_codec::FrameBuf;
@@ -10,12 +11,14 @@ use line_nodes::Node;
 use memory_line::{Direction, Line};
 use net_events::Put;
 
-pub(crate) fn copy_of(frame: &FrameBuf) -> FrameBuf
-    ensures { result ≡ frame.now }
+/// Puts a copy of a frame on a line.
+pub(crate) fn put_copy<L: Line>(line: &mut L, direction: Direction, frame: &FrameBuf)
+    ensures { L.service.faithful
+        → IsPut L.service direction frame.now (L.flights line.old) (L.flights line.new) }
 {
     let mut copy = FrameBuf::new();
     copy.extend(frame.as_slice());
-    copy
+    line.put(direction, copy);
 }
 
 /// Puts all frames that wait at a node on its line, which is that of this number, and lists them.
@@ -33,13 +36,13 @@ pub fn put_frames<L: Line>(
         (L.flights line.new) }
 {
     for _ in 0..node.waiting_frames() {
-        let mut frame = FrameBuf::new();
-        node.out(&mut frame);
-        line.put(direction, copy_of(&frame));
-        puts.push_reserved(Put {
+        let mut put = Put {
             line: number,
             direction,
-            octets: frame,
-        });
+            octets: FrameBuf::new(),
+        };
+        node.out(&mut put.octets);
+        put_copy(line, direction, &put.octets);
+        puts.push_reserved(put);
     }
 }

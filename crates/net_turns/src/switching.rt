@@ -8,7 +8,7 @@ ghost use Rattle.net_events.specs.AtSwitch.{HasOwnLine, switched, joins_of, wait
 ghost use Rattle.net_events.specs.EventView.{switch_event_of};
 ghost use Rattle.net_turns.specs.Sends.{puts_on};
 
-use crate::send::copy_of;
+use crate::send::put_copy;
 use frame_codec::FrameBuf;
 use line_end::MOST_FRAMES;
 use memory_line::{Direction, Line};
@@ -52,13 +52,13 @@ pub fn put_switch_frames<L: Line>(
         → ArePut L.service FromDce (waiting_on own switch.old) (L.flights line.old) (L.flights line.new) }
 {
     for _ in 0..switch.waiting_frames(own) {
-        let mut frame = FrameBuf::new();
-        switch.out(own, &mut frame);
-        line.put(Direction::FromDce, copy_of(&frame));
-        puts.push_reserved(Put {
+        let mut put = Put {
             line: number,
             direction: Direction::FromDce,
-            octets: frame,
-        });
+            octets: FrameBuf::new(),
+        };
+        switch.out(own, &mut put.octets);
+        put_copy(line, Direction::FromDce, &put.octets);
+        puts.push_reserved(put);
     }
 }

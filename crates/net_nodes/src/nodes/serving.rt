@@ -79,7 +79,8 @@ impl<L: Line> Nodes<L> {
         make_room(answer, 0)?;
         self.register.open(line, MOST_WRITES)?;
         let net_line = &mut self.lines[line];
-        let Some(frame) = net_line.line.take(direction) else {
+        let taken = net_line.line.take(direction);
+        let Some(frame) = &taken else {
             answer.outcome = Outcome::Delivered(false);
             return Ok(());
         };
@@ -106,7 +107,8 @@ impl<L: Line> Nodes<L> {
             (result_and result (Ok answer.new)) self.new }
     {
         self.make_switch_room(place, answer)?;
-        let Some(frame) = self.lines[line].line.take(Direction::FromDte) else {
+        let taken = self.lines[line].line.take(Direction::FromDte);
+        let Some(frame) = &taken else {
             answer.outcome = Outcome::Delivered(false);
             return Ok(());
         };

@@ -1,7 +1,6 @@
-use Rattle.std.proofs.Common.{◌≡◌, ◌<◌, ℕ, [], List, length, refl, ap, subst, arith}
+use Rattle.std.proofs.Common.{◌≡◌, ◌<◌, [], length, refl, ap, arith}
 use Rattle.line_nodes.specs.Node.{frames_of}
 use Rattle.line_nodes.specs.NodeView.{node_of}
-use Rattle.memory_line.specs.Lines.{IsPut}
 use Rattle.net_turns.proofs.Sending.{putting-more, putting-ends, frames-kept, frames-end, given, none-left}
 use Rattle.net_turns.proofs.send.put_frames.Goals as goal
 
@@ -13,7 +12,7 @@ loop-preserved g c =
       putting =
           putting-more _ _ _ _ _ c.loop.puts.items _ _ c.out.new.frame (frames_of (node_of c.out.new.self)) _ _ (record { line = c.args.number; direction = c.args.direction; octets = c.out.new.frame }) c.loop.invariant.putting
           first c.push_reserved.ensures.items (record { on = refl; to = refl; as_octets = refl })
-          (λ f. let P : List ℕ → Type 0 = λ o. IsPut g.L.Line.service c.args.direction o (g.L.Line.flights c.loop.line) (g.L.Line.flights c.put.new.self) in subst P c.copy_of.ensures (c.put.ensures f));
+          (λ f. c.put_copy.ensures f);
       node_is = frames-kept (node_of c.args.node.now) (node_of c.loop.node) (node_of c.out.new.self) c.loop.invariant.node_is c.out.ensures.node;
       left = (let l = ap length first in omega (arith, l, c.loop.invariant.left));
       most = c.loop.invariant.most;

@@ -31,12 +31,12 @@ returns-in_default g c =
           lost = record {
             line_is = _;
             line_there = here;
-            flights = g.L.Line.flights c.take.new.self;
-            rest = c.in_default.ensures.others;
+            flights = g.L.Line.flights c.take-taken.new.self;
+            rest = c.take-taken.ensures.others;
             others = refl;
           };
         };
-        none = λ f. sym (c.in_default.ensures.taken f);
+        none = λ f. sym (c.take-taken.ensures.taken f) ∙ c.in_default.is;
       }),
     )
 
@@ -65,7 +65,7 @@ returns g c =
     let h : c.args.line < length lines = within lines c.args.line o.line_is (ap (λ (s : Network). slice_get s.lines c.args.line) c.self.view_is ∙ o.line_there) in
     let here = there lines c.args.line _ c.index_mut.result.now h c.index_mut.ensures.value ∙ ap Some (sym c.behind-self.view_is) in
     rw (← c.self.view_is)
-    (heard L c.args.place c.args.line c.args.own c.as_slice.result.now o.node _ (g.L.Line.flights c.take.new.self) _ c.switch_acts.new.answer c.switch_acts.new.self st node_there o.own_line here
-    (λ f. (sym (c.in-Some.ensures.taken f) ∙ ap Some (sym c.as_slice.ensures.value), c.in-Some.ensures.others f))
+    (heard L c.args.place c.args.line c.args.own c.as_slice.result.now o.node _ (g.L.Line.flights c.take-taken.new.self) _ c.switch_acts.new.answer c.switch_acts.new.self st node_there o.own_line here
+    (λ f. (sym (sym c.in-Some.is ∙ c.take-taken.ensures.taken f) ∙ ap Some (sym c.as_slice.ensures.value), c.take-taken.ensures.others f))
     c.frame_heard-event.ensures.octets
     _ c.frame_heard-event.ensures.event (c.switch_acts.ensures o.node node_there))
