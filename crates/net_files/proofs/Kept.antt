@@ -1,14 +1,15 @@
 -- The commands of a script as they are kept: read back, one more, and those behind the first.
-use Rattle.std.proofs.Common.{◌≡◌, ℕ, suc, ◌≤◌, Bool, List, [], ◌∷◌, ◌++◌, length, take, drop, map, refl, sym, ap, ◌∙◌, subst, arith}
+use Rattle.std.proofs.Common.{◌≡◌, ℕ, suc, ◌-◌, ◌≤◌, Bool, List, [], ◌∷◌, ◌++◌, Option, Some, None, option_map, length, take, drop, map, refl, sym, ap, ◌∙◌, subst, arith}
 use Rattle.std.specs.List.{flat_map}
 use Rattle.std.proofs.lemmas.Grind.{flat_map-append}
-use Rattle.std.proofs.lemmas.List.{append-nil, length-take}
+use Rattle.std.proofs.lemmas.List.{append-nil, length-append, length-take}
+use Rattle.std.proofs.lemmas.Option.{same_Some}
 use Rattle.net_events.specs.declared.event.Event.{Event as NetEvent}
 use Rattle.net_files.specs.declared.commands.Entry.{Entry}
 use Rattle.net_files.specs.declared.commands.Entry.TheVariants as entry
 use Rattle.net_files.specs.Commands.{CommandView, Keys, Event, Flow, Tick, Trace, read_commands, entry_of, events_of, octets_of, AreKept}
 
-take_front : (xs ys : List ℕ) → take (length xs) (xs ++ ys) ≡ xs
+pub take_front : (xs ys : List ℕ) → take (length xs) (xs ++ ys) ≡ xs
 take_front [] ys = refl
 take_front (x ∷ xs) ys = ap (λ zs. x ∷ zs) (take_front xs ys)
 
@@ -152,6 +153,21 @@ with_keys es vs os node terminal octets kept =
     let P : List NetEvent → Type 0 = λ xs. AreKept (es ++ entry_of c ∷ []) xs (os ++ octets)
     × (read_commands (es ++ entry_of c ∷ []) xs (os ++ octets) ≡ read_commands es vs os ++ c ∷ []) in
     subst P (append-nil vs) (kept_more es vs os c kept, read_more es vs os c kept)
+
+-- keys that a text spells
+pub with_spelled : (es : List Entry) (vs : List NetEvent) (os : List ℕ) (node terminal count : ℕ) (new : List ℕ)
+    (spelled : Option (List ℕ)) → AreKept es vs os → option_map (λ more. os ++ more) spelled ≡ Some new
+    → count ≡ length new - length os
+    → AreKept (es ++ entry.Keys node terminal count ∷ []) vs new
+    × (option_map (λ octets. read_commands es vs os ++ Keys node terminal octets ∷ []) spelled
+    ≡ Some (read_commands (es ++ entry.Keys node terminal count ∷ []) vs new))
+with_spelled es vs os node terminal count new None kept h many = cc
+with_spelled es vs os node terminal count new (Some octets) kept h many =
+    let same : os ++ octets ≡ new = same_Some _ _ h in
+    let n : count ≡ length octets =
+    omega (arith, many, ap (λ (xs : List ℕ). length xs) same, length-append os octets) in
+    let all = with_keys es vs os node terminal octets kept in
+    rw (← same, n) (all.0, ap Some (sym all.1))
 
 pub with_event : (es : List Entry) (vs : List NetEvent) (os : List ℕ) (e : NetEvent) → AreKept es vs os
     → AreKept (es ++ entry.Event ∷ []) (vs ++ e ∷ []) os

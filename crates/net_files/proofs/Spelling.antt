@@ -102,18 +102,18 @@ front_more : (front : List ℕ) (octet : ℕ) (rest : Option (List ℕ)) → wit
 front_more front octet None = refl
 front_more front octet (Some octets) = ap Some (append_assoc front (octet ∷ []) octets)
 
-pub goes_on : (front all text rest : List ℕ) (octet : ℕ) → octet_at text ≡ Some (octet, rest) → with_front front (octets_of text) ≡ octets_of all
-    → with_front (front ++ octet ∷ []) (octets_of rest) ≡ octets_of all
+pub goes_on : (front : List ℕ) (all : Option (List ℕ)) (text rest : List ℕ) (octet : ℕ) → octet_at text ≡ Some (octet, rest) → with_front front (octets_of text) ≡ all
+    → with_front (front ++ octet ∷ []) (octets_of rest) ≡ all
 goes_on front all text rest octet is so_far =
     front_more front octet (octets_of rest) ∙ ap (with_front front) (sym (octets_step text octet rest is)) ∙ so_far
 
-pub ends : (front all text : List ℕ) → (length text == 0) ≡ true → with_front front (octets_of text) ≡ octets_of all → octets_of all ≡ Some front
+pub ends : (front : List ℕ) (all : Option (List ℕ)) (text : List ℕ) → (length text == 0) ≡ true → with_front front (octets_of text) ≡ all → all ≡ Some front
 unfolding octets_from
 ends front all [] none so_far = sym so_far ∙ ap Some (append-nil front)
 ends front all (x ∷ xs) none so_far = let zero : suc (length xs) ≡ 0 = eqb-true _ _ none in absurd (omega arith)
 
-pub fails : (front all text : List ℕ) → (length text == 0) ≡ false → octet_at text ≡ None → with_front front (octets_of text) ≡ octets_of all
-    → octets_of all ≡ None
+pub fails : (front : List ℕ) (all : Option (List ℕ)) (text : List ℕ) → (length text == 0) ≡ false → octet_at text ≡ None → with_front front (octets_of text) ≡ all
+    → all ≡ None
 fails front all text some none so_far = sym so_far ∙ ap (with_front front) (octets_none text some none)
 
 -- ---- what is spelled is read

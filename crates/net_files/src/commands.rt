@@ -1,8 +1,11 @@
 //! The commands of a script, in order.
-ghost use Rattle.std.specs.Prelude.{◌≡◌, ◌==◌, ◌++◌, [], ◌∷◌, OnOk, length};
+ghost use Rattle.std.specs.Prelude.{◌≡◌, ◌==◌, ◌++◌, [], ◌∷◌, OnOk, length, option_map};
 ghost use Rattle.net_files.specs.Commands.{Keys as KeysView, Event as EventView, Flow as FlowView};
 ghost use Rattle.net_files.specs.Commands.{Tick as TickView, Trace as TraceView};
+ghost use Rattle.net_files.specs.Answers.{GivesOrWants};
+ghost use Rattle.net_files.specs.Texts.{octets_of};
 
+use crate::words::{LineFault, add_text};
 use net_events::Event;
 use std::alloc::{AllocError, Global};
 use std::marker::Model;
@@ -101,21 +104,26 @@ impl Commands {
         }
     }
 
-    /// Adds keys that are typed at a terminal.
+    /// Adds the keys that a text spells, which are typed at a terminal. `NotACommand` where it spells none.
     pub(crate) fn add_keys(
         &mut self,
         node: usize,
         terminal: u16,
-        octets: &[u8],
-    ) -> Result<(), AllocError>
-        ensures { OnOk result (self.new ≡ self.old ++ KeysView node terminal octets.now ∷ []) }
+        text: &[u8],
+    ) -> Result<(), LineFault>
+        ensures { GivesOrWants (λ _. self.new) result
+            (option_map (λ octets. self.old ++ KeysView node terminal octets ∷ []) (octets_of text.now)) }
     {
         self.entries.reserve(1)?;
-        self.octets.extend_from_slice(octets)?;
+        let before = self.octets.len();
+        if let Err(fault) = add_text(&mut self.octets, text) {
+            self.octets.truncate(before);
+            return Err(fault);
+        }
         self.entries.push_reserved(Entry::Keys {
             node,
             terminal,
-            count: octets.len(),
+            count: self.octets.len() - before,
         });
         Ok(())
     }

@@ -127,7 +127,7 @@ fn add_from(
         (command_from (map string_bytes names.now) word (left_of words.entry))) }
 {
     match word {
-        CommandWord::Key => add_keys(alloc, words, names, commands),
+        CommandWord::Key => add_keys(words, names, commands),
         CommandWord::Flow => {
             words.end()?;
             Ok(commands.add_flow()?)
@@ -148,21 +148,14 @@ fn add_from(
 }
 
 /// `key NODE TERM TEXT`: a key for each octet of the text.
-fn add_keys(
-    alloc: Global,
-    words: Words<'_>,
-    names: &[String],
-    commands: &mut Commands,
-) -> Result<(), LineFault>
+fn add_keys(words: Words<'_>, names: &[String], commands: &mut Commands) -> Result<(), LineFault>
     ensures { GivesOrWants (λ _. map command_value commands.new) result
         (added_one (map command_value commands.old) (keys_of (map string_bytes names.now) (left_of words.entry))) }
 {
     let mut words = words;
     let node = words.node(names)?;
     let terminal = words.number()?;
-    let keys = read_text(alloc, words.text())?;
-    commands.add_keys(node, terminal, keys.as_slice())?;
-    Ok(())
+    commands.add_keys(node, terminal, words.text())
 }
 
 /// `tick N`: how many.

@@ -1,5 +1,6 @@
 //! The words of a line of a script.
-ghost use Rattle.std.specs.Prelude.{◌≡◌, ◌<◌, ◌≤◌, ◌==◌, [], ◌∷◌, Some, IfOk, IfErr, length, map, position};
+ghost use Rattle.std.specs.Prelude.{◌≡◌, ◌<◌, ◌≤◌, ◌==◌, ℕ, List, [], ◌∷◌, ◌++◌, Some, IfOk, IfErr, length, map};
+ghost use Rattle.std.specs.Prelude.{position};
 ghost use Rattle.std.specs.Prelude.{bytes_eq, min, option_map, string_bytes, IsTrue};
 ghost use Rattle.std.specs.List.{list_all};
 ghost use Rattle.std.specs.Char.{is_ascii_digit};
@@ -202,13 +203,23 @@ pub(crate) fn read_text(alloc: Global, text: &[u8]) -> Result<Vec<u8>, LineFault
     ensures { GivesOrWants (λ octets. octets.items) result (octets_of text.now) }
 {
     let mut octets = Vec::new(alloc);
+    add_text(&mut octets, text)?;
+    Ok(octets)
+}
+
+/// Reads a text, and adds the octets that it spells to others. Where it spells none, some may have been added.
+pub(crate) fn add_text(octets: &mut Vec<u8>, text: &[u8]) -> Result<(), LineFault>
+    ensures read { GivesOrWants (λ _. octets.new.items) result
+        (option_map (λ more. octets.old.items ++ more) (octets_of text.now)) }
+    ensures behind { (more : List ℕ) × (octets.new.items ≡ octets.old.items ++ more) }
+{
     let mut rest = text;
     while !rest.is_empty() {
         let (octet, others) = read_octet(rest)?;
         octets.push(octet)?;
         rest = others;
     }
-    Ok(octets)
+    Ok(())
 }
 
 /// Reads the octet that a text begins with, and gives what stands behind it.

@@ -1,0 +1,15 @@
+use Rattle.std.proofs.Common.{◌≡◌, ℕ, List, ◌++◌, length}
+use Rattle.net_files.specs.Texts.{octets_of}
+use Rattle.net_files.proofs.Spelling.{with_front}
+use Rattle.net_files.proofs.words.add_text.Given as goal
+
+-- the octets so far, and then those that the rest spells, are those before and then those that the text spells
+abbrev pub invariant-loop-rest : goal.invariant-loop-rest
+invariant-loop-rest l = record {
+  spelled : with_front l.octets.items (octets_of l.rest) ≡ with_front l.initial.octets.items (octets_of l.text);
+  behind : (more : List ℕ) × (l.octets.items ≡ l.initial.octets.items ++ more);
+}
+
+-- what is left gets shorter
+abbrev pub decreases-loop-rest : goal.decreases-loop-rest
+decreases-loop-rest l = length l.rest
