@@ -5,7 +5,7 @@ ghost use Rattle.net_files.specs.Values.{EventValue as event};
 ghost use Rattle.net_files.specs.Reading.{keys_of, at_terminal_of, call_of, take_of, directed_of, timer_of, expiry_of};
 ghost use Rattle.net_files.specs.Reading.{switch_of, say_of, request_of, ask_of, event_of, command_of, commands_of};
 ghost use Rattle.net_files.specs.Reading.{added, added_one, command_from};
-ghost use Rattle.net_files.specs.Words.{next_word, named, number_at, node_at, last, ended};
+ghost use Rattle.net_files.specs.Words.{next_word, named, number_at, node_at, last};
 ghost use Rattle.net_files.specs.Answers.{Gives, GivesOrWants, left_of};
 ghost use Rattle.net_files.specs.Scripts.{AreNamesOf, AreRead, IsScript, IsScriptFault, lines_of};
 
