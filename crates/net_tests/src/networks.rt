@@ -462,6 +462,31 @@ fn delivery_is_confirmed(rt: HostRuntime) {
     assert!(rt; !net.confirmed(0, 3));
 }
 
+/// What is played, and whether a delivery from the DTE, and from the DCE, then finds none: both send a frame as the line is
+/// made, and a Call Request goes at once.
+const FOUND: [(&[u8], [bool; 2]); 3] = [
+    (b"", [false, false]),
+    (b"flow\n", [true, true]),
+    (b"call a 2001\n", [false, true]),
+];
+
+fn find_none(net: &Net<MemLine>, [from_dte, from_dce]: [bool; 2]) -> bool {
+    net.finds_none(0, Direction::FromDte) == from_dte
+        && net.finds_none(0, Direction::FromDce) == from_dce
+}
+
+#[test]
+fn a_line_in_memory_tells_of_deliveries_that_find_none(rt: HostRuntime) {
+    let config = read_net(rt.alloc(), PAIR).expect(&rt, "a network");
+    let mut net = Net::on_memory_lines(rt.alloc(), &config).expect(&rt, "a network");
+    for case in &FOUND {
+        let (script, found) = *case;
+        assert!(rt; played_on(rt.alloc(), &mut net, &config, script).is_ok());
+        assert!(rt; find_none(&net, found));
+    }
+    assert!(rt; !net.finds_none(1, Direction::FromDte));
+}
+
 /// CR at terminal 0 of a node.
 fn key(node: usize) -> Event {
     Event::AtTerminal {
