@@ -124,7 +124,8 @@ impl Player<'_> {
             (key_events keys.entry.node keys.entry.terminal keys.entry.octets.now) net.old text net.new)) }
         ensures stops { IfErr result (λ fault. Writes (W.contents out.old) (W.contents out.new)
             (StopsInTurn Event Network (TellsEvent L.service self.now.names.now self.now.traces)
-            (StopsAt L.service self.now.names.now self.now.traces fault) (key_events keys.entry.node keys.entry.terminal keys.entry.octets.now) net.old)) }
+            (StopsAt L.service self.now.names.now self.now.traces fault)
+            (key_events keys.entry.node keys.entry.terminal keys.entry.octets.now) net.old)) }
         ensures faults { IfErr result IsPlayFault }
     {
         for octet in keys.octets {

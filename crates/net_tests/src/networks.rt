@@ -462,8 +462,8 @@ fn delivery_is_confirmed(rt: HostRuntime) {
     assert!(rt; !net.confirmed(0, 3));
 }
 
-/// What is played, and whether a delivery from the DTE, and from the DCE, then finds none: both send a frame as the line is
-/// made, and a Call Request goes at once.
+/// What is played, and whether a delivery from the DTE, and from the DCE, then finds none: both send a frame as the
+/// line is made, and a Call Request goes at once.
 const FOUND: [(&[u8], [bool; 2]); 3] = [
     (b"", [false, false]),
     (b"flow\n", [true, true]),
