@@ -207,6 +207,29 @@ impl Player<'_> {
         if net.finds_none(line, direction) {
             return Ok(left);
         }
+        self.deliver_first(net, line, direction, left, out)
+    }
+
+    /// Delivers the first frame, if there is one, where one may still be delivered.
+    #[inline(never)]
+    fn deliver_first<L: Line, W: Write>(
+        &self,
+        net: &mut Net<L>,
+        line: usize,
+        direction: Direction,
+        left: u32,
+        out: &mut W,
+    ) -> Result<u32, ProgFault>
+        requires { 0 < left }
+        ensures delivers { IfOk result (λ still_left. Writes (W.contents out.old) (W.contents out.new)
+            (λ text. Delivers L.service self.now.names.now self.now.traces (Deliver line direction)
+            (record { left = left; net = net.old }) text (record { left = still_left; net = net.new }))) }
+        ensures at_most { IfOk result (λ still_left. still_left ≤ left) }
+        ensures stops { IfErr result (λ fault. Writes (W.contents out.old) (W.contents out.new)
+            (DeliveryStops L.service self.now.names.now self.now.traces fault (Deliver line direction)
+            (record { left = left; net = net.old }))) }
+        ensures faults { IfErr result IsPlayFault }
+    {
         let delivery = Event::Deliver { line, direction };
         if self.play_event(net, &delivery, out)? {
             Ok(left - 1)

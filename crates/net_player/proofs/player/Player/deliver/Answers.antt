@@ -1,7 +1,7 @@
 use Rattle.std.proofs.Common.{◌<◌, arith}
 use Rattle.std.proofs.lemmas.Bool.{OnTrue_at}
-use Rattle.net_player.proofs.Turns.{writes_nothing, writes_as}
-use Rattle.net_player.proofs.Deliveries.{delivers_at_limit, delivers_one, delivers_none, none_found}
+use Rattle.net_player.proofs.Turns.{writes_nothing}
+use Rattle.net_player.proofs.Deliveries.{delivers_at_limit, delivers_none, none_found}
 use Rattle.net_player.proofs.player.Player.deliver.Goals as goal
 
 pub returns-then-left-eq0-clause-delivers : goal.returns-then-left-eq0-clause-delivers
@@ -11,13 +11,3 @@ pub returns-then-finds_none-clause-delivers : goal.returns-then-finds_none-claus
 returns-then-finds_none-clause-delivers g c =
     let some : 0 < c.args.left = omega arith in
     writes_nothing _ (delivers_none c.args.left some (none_found (OnTrue_at c.if-finds_none.true c.finds_none.ensures)))
-
-pub returns-then-branch-clause-delivers : goal.returns-then-branch-clause-delivers
-returns-then-branch-clause-delivers g c =
-    let some : 0 < c.args.left = omega arith in
-    writes_as (λ text tells. delivers_one c.args.left some tells) (rw c.if-branch.true at c.in_ok-play_event.ensures.tells)
-
-pub returns-clause-delivers : goal.returns-clause-delivers
-returns-clause-delivers g c =
-    let some : 0 < c.args.left = omega arith in
-    writes_as (λ text tells. delivers_none c.args.left some tells) (rw c.if-branch.false at c.in_ok-play_event.ensures.tells)
