@@ -1,6 +1,8 @@
 //! Lines: each hands over whole frames or nothing, for each direction in order.
 ghost use Rattle.std.specs.Prelude.{◌≡◌, ◌≢◌, ◌+◌, ◌<◌, ◌≤◌, ◌↔◌, [], ◌∷◌, ◌++◌, length, slice_get, IsTrue};
-ghost use Rattle.std.specs.Prelude.{IfOk, replicate, true};
+ghost use Rattle.std.specs.Prelude.{IfOk, replicate, true, Some, None, drop};
+ghost use Rattle.std.specs.Bool.{OnTrue, OnFalse};
+ghost use Rattle.circular_buffer.specs.Buffer.{buffer};
 ghost use Rattle.memory_line.specs.Lines.{Flights, LineService, memory_service, no_flights, flying, with_flying};
 ghost use Rattle.memory_line.specs.Lines.{without_first, IsPut};
 
@@ -27,12 +29,15 @@ pub trait Line: Drop {
     ghost service: { LineService };
 
     /// Sends a frame: it comes behind those in flight, or is lost where the line may lose it.
-    fn put(&mut self, direction: Direction, frame: FrameBuf)
-        ensures { service.faithful → IsPut service direction frame (flights self.old) (flights self.new) };
+    fn put(&mut self, direction: Direction, frame: &FrameBuf)
+        ensures { service.faithful → IsPut service direction frame.now (flights self.old) (flights self.new) };
 
-    /// Takes the first frame in flight, if there is one.
-    fn take(&mut self, direction: Direction) -> Option<FrameBuf>
-        ensures taken { service.faithful → result ≡ slice_get (flying direction (flights self.old)) 0 }
+    /// Takes the first frame in flight, if there is one. Where there is none `frame` stays.
+    fn take(&mut self, direction: Direction, frame: &mut FrameBuf) -> bool
+        ensures taken { service.faithful
+            → OnTrue result (slice_get (flying direction (flights self.old)) 0 ≡ Some frame.new) }
+        ensures none { service.faithful → OnFalse result (slice_get (flying direction (flights self.old)) 0 ≡ None) }
+        ensures same { OnFalse result (frame.new ≡ frame.old) }
         ensures others { service.faithful → flights self.new ≡ without_first direction (flights self.old) };
 
     /// Loses all frames in flight, in both directions.
@@ -86,29 +91,33 @@ impl Line for MemLine {
 
     ghost service = { memory_service };
 
-    fn put(&mut self, direction: Direction, frame: FrameBuf)
-        ensures puts { IsPut memory_service direction frame self.old self.new }
+    fn put(&mut self, direction: Direction, frame: &FrameBuf)
+        ensures puts { IsPut memory_service direction frame.now self.old self.new }
         ensures room { length (flying direction self.old) < 64
-            → self.new ≡ with_flying direction (flying direction self.old ++ frame ∷ []) self.old }
+            → self.new ≡ with_flying direction (flying direction self.old ++ frame.now ∷ []) self.old }
         ensures beyond { 64 ≤ length (flying direction self.old) → self.new ≡ self.old }
     {
+        let mut copy = FrameBuf::new();
+        copy.extend(frame.as_slice());
         match direction {
             Direction::FromDte => {
-                let _ = self.from_dte.try_push_back(frame);
+                let _ = self.from_dte.try_push_back(copy);
             }
             Direction::FromDce => {
-                let _ = self.from_dce.try_push_back(frame);
+                let _ = self.from_dce.try_push_back(copy);
             }
         }
     }
 
-    fn take(&mut self, direction: Direction) -> Option<FrameBuf>
-        ensures taken { result ≡ slice_get (flying direction self.old) 0 }
+    fn take(&mut self, direction: Direction, frame: &mut FrameBuf) -> bool
+        ensures taken { OnTrue result (slice_get (flying direction self.old) 0 ≡ Some frame.new) }
+        ensures none { OnFalse result (slice_get (flying direction self.old) 0 ≡ None) }
+        ensures same { OnFalse result (frame.new ≡ frame.old) }
         ensures others { self.new ≡ without_first direction self.old }
     {
         match direction {
-            Direction::FromDte => self.from_dte.pop_front(),
-            Direction::FromDce => self.from_dce.pop_front(),
+            Direction::FromDte => take_first(&mut self.from_dte, frame),
+            Direction::FromDce => take_first(&mut self.from_dce, frame),
         }
     }
 
@@ -136,6 +145,22 @@ impl Line for MemLine {
             Direction::FromDce => self.from_dce.is_empty(),
         }
     }
+}
+
+/// Takes the first of some frames, if there is one.
+fn take_first(frames: &mut HeapCircularBuffer<FrameBuf>, frame: &mut FrameBuf) -> bool
+    ensures taken { OnTrue result (slice_get frames.old.items 0 ≡ Some frame.new) }
+    ensures none { OnFalse result (slice_get frames.old.items 0 ≡ None) }
+    ensures same { OnFalse result (frame.new ≡ frame.old) }
+    ensures others { frames.new ≡ buffer (drop 1 frames.old.items) frames.old.capacity }
+{
+    let Some(first) = frames.front() else {
+        return false;
+    };
+    frame.clear();
+    frame.extend(first.as_slice());
+    let _ = frames.pop_front();
+    true
 }
 
 /// Makes `n` empty lines in memory.

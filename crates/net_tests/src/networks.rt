@@ -570,14 +570,16 @@ fn does(line: &mut MemLine, step: LineStep) -> bool {
         Put(direction, octet) => {
             let mut frame = FrameBuf::new();
             frame.push(octet);
-            line.put(direction, frame);
+            line.put(direction, &frame);
             line.in_flight(direction)
         }
-        Comes(direction, None) => !line.in_flight(direction) && line.take(direction).is_none(),
-        Comes(direction, Some(octet)) => match line.take(direction) {
-            Some(frame) => frame.as_slice() == [octet].as_slice(),
-            None => false,
-        },
+        Comes(direction, None) => {
+            !line.in_flight(direction) && !line.take(direction, &mut FrameBuf::new())
+        }
+        Comes(direction, Some(octet)) => {
+            let mut frame = FrameBuf::new();
+            line.take(direction, &mut frame) && frame.as_slice() == [octet].as_slice()
+        }
         Empty => {
             line.empty();
             true

@@ -2,7 +2,6 @@
 ghost use Rattle.std.specs.Prelude.{◌≡◌, ◌≤◌, [], vec_capacity};
 ghost use Rattle.line_nodes.specs.Node.{drained, frames_of};
 ghost use Rattle.line_nodes.specs.NodeView.{node_of};
-ghost use Rattle.memory_line.specs.Lines.{IsPut};
 ghost use Rattle.net_turns.specs.Sends.{Sends};
 
 use frame_codec::FrameBuf;
@@ -10,16 +9,6 @@ use line_end::MOST_FRAMES;
 use line_nodes::Node;
 use memory_line::{Direction, Line};
 use net_events::Put;
-
-/// Puts a copy of a frame on a line.
-pub(crate) fn put_copy<L: Line>(line: &mut L, direction: Direction, frame: &FrameBuf)
-    ensures { L.service.faithful
-        → IsPut L.service direction frame.now (L.flights line.old) (L.flights line.new) }
-{
-    let mut copy = FrameBuf::new();
-    copy.extend(frame.as_slice());
-    line.put(direction, copy);
-}
 
 /// Puts all frames that wait at a node on its line, which is that of this number, and lists them.
 pub fn put_frames<L: Line>(
@@ -42,7 +31,7 @@ pub fn put_frames<L: Line>(
             octets: FrameBuf::new(),
         };
         node.out(&mut put.octets);
-        put_copy(line, direction, &put.octets);
+        line.put(direction, &put.octets);
         puts.push_reserved(put);
     }
 }

@@ -8,7 +8,6 @@ ghost use Rattle.net_events.specs.AtSwitch.{HasOwnLine, switched, joins_of, wait
 ghost use Rattle.net_events.specs.EventView.{switch_event_of};
 ghost use Rattle.net_turns.specs.Sends.{puts_on};
 
-use crate::send::put_copy;
 use frame_codec::FrameBuf;
 use line_end::MOST_FRAMES;
 use memory_line::{Direction, Line};
@@ -58,7 +57,7 @@ pub fn put_switch_frames<L: Line>(
             octets: FrameBuf::new(),
         };
         switch.out(own, &mut put.octets);
-        put_copy(line, Direction::FromDce, &put.octets);
+        line.put(Direction::FromDce, &put.octets);
         puts.push_reserved(put);
     }
 }

@@ -43,12 +43,14 @@ fn takes(alloc: Global, octets: Option<usize>, taken: Option<usize>) -> bool {
     let dce = Partner { octets };
     match UdpLine::over(alloc, dte, dce) {
         Ok(mut line) => {
-            line.put(Direction::FromDte, frame_of(b"AB"));
-            let length = match line.take(Direction::FromDte) {
-                Some(frame) => Some(frame.len()),
-                None => None,
+            line.put(Direction::FromDte, &frame_of(b"AB"));
+            let mut frame = FrameBuf::new();
+            let length = if line.take(Direction::FromDte, &mut frame) {
+                Some(frame.len())
+            } else {
+                None
             };
-            length == taken && line.take(Direction::FromDte).is_none()
+            length == taken && !line.take(Direction::FromDte, &mut frame)
         }
         Err(_) => false,
     }
@@ -71,22 +73,20 @@ fn takes_datagrams_that_are_frames(rt: HostRuntime) {
 
 /// Whether a line tells of no frame on its way, and a frame of these octets comes.
 fn comes<L: Line>(line: &mut L, direction: Direction, octets: &[u8]) -> bool {
-    !line.in_flight(direction)
-        && match line.take(direction) {
-            Some(frame) => frame.as_slice() == octets,
-            None => false,
-        }
+    let mut frame = FrameBuf::new();
+    !line.in_flight(direction) && line.take(direction, &mut frame) && frame.as_slice() == octets
 }
 
 /// Whether nothing comes.
 fn is_empty<L: Line>(line: &mut L) -> bool {
-    line.take(Direction::FromDte).is_none() && line.take(Direction::FromDce).is_none()
+    let mut frame = FrameBuf::new();
+    !line.take(Direction::FromDte, &mut frame) && !line.take(Direction::FromDce, &mut frame)
 }
 
 fn carries<L: Line>(line: &mut L) -> bool {
-    line.put(Direction::FromDte, frame_of(b"AB"));
-    line.put(Direction::FromDte, frame_of(b"CD"));
-    line.put(Direction::FromDce, frame_of(b"EF"));
+    line.put(Direction::FromDte, &frame_of(b"AB"));
+    line.put(Direction::FromDte, &frame_of(b"CD"));
+    line.put(Direction::FromDce, &frame_of(b"EF"));
     comes(line, Direction::FromDte, b"AB")
         && comes(line, Direction::FromDce, b"EF")
         && comes(line, Direction::FromDte, b"CD")
@@ -94,8 +94,8 @@ fn carries<L: Line>(line: &mut L) -> bool {
 }
 
 fn loses<L: Line>(line: &mut L) -> bool {
-    line.put(Direction::FromDte, frame_of(b"AB"));
-    line.put(Direction::FromDce, frame_of(b"CD"));
+    line.put(Direction::FromDte, &frame_of(b"AB"));
+    line.put(Direction::FromDce, &frame_of(b"CD"));
     line.empty();
     is_empty(line)
 }

@@ -1,5 +1,6 @@
 //! The line.
 ghost use Rattle.std.specs.Prelude.{◌≡◌, ◌≤◌, ◌<◌, false, length, IfSome, IfOk, IfErr};
+ghost use Rattle.std.specs.Bool.{OnFalse};
 ghost use Rattle.memory_line.specs.Lines.{no_flights};
 ghost use Rattle.udp_line.specs.Sockets.{socket_service};
 
@@ -79,18 +80,22 @@ impl<D: Datagrams> Line for UdpLine<D> {
 
     ghost service = { socket_service };
 
-    fn put(&mut self, direction: Direction, frame: FrameBuf) {
+    fn put(&mut self, direction: Direction, frame: &FrameBuf) {
         let _ = self.sender(direction).send(frame.as_slice());
     }
 
-    fn take(&mut self, direction: Direction) -> Option<FrameBuf> {
-        let count = self.receive(direction)?;
+    fn take(&mut self, direction: Direction, frame: &mut FrameBuf) -> bool
+        ensures same { OnFalse result (frame.new ≡ frame.old) }
+    {
+        let Some(count) = self.receive(direction) else {
+            return false;
+        };
         if count == 0 || count > MAX_FRAME {
-            return None;
+            return false;
         }
-        let mut frame = FrameBuf::new();
+        frame.clear();
         frame.extend(&self.received.as_slice()[..count]);
-        Some(frame)
+        true
     }
 
     fn empty(&mut self) {

@@ -12,6 +12,7 @@ ghost use Rattle.net_nodes.specs.Steps.{hearer};
 
 use crate::nodes::turn::serve_at;
 use crate::nodes::{LineEnd, Nodes};
+use frame_codec::FrameBuf;
 use link_timers::{Role, TimerId};
 use memory_line::{Direction, Line};
 use net_events::{Answer, NodeEvent, Outcome, StepFault, SwitchEvent};
@@ -79,11 +80,11 @@ impl<L: Line> Nodes<L> {
         make_room(answer, 0)?;
         self.register.open(line, MOST_WRITES)?;
         let net_line = &mut self.lines[line];
-        let taken = net_line.line.take(direction);
-        let Some(frame) = &taken else {
+        let mut frame = FrameBuf::new();
+        if !net_line.line.take(direction, &mut frame) {
             answer.outcome = Outcome::Delivered(false);
             return Ok(());
-        };
+        }
         let end = LineEnd {
             line,
             role: hearer(direction),
@@ -107,11 +108,11 @@ impl<L: Line> Nodes<L> {
             (result_and result (Ok answer.new)) self.new }
     {
         self.make_switch_room(place, answer)?;
-        let taken = self.lines[line].line.take(Direction::FromDte);
-        let Some(frame) = &taken else {
+        let mut frame = FrameBuf::new();
+        if !self.lines[line].line.take(Direction::FromDte, &mut frame) {
             answer.outcome = Outcome::Delivered(false);
             return Ok(());
-        };
+        }
         let event = frame_heard(own, frame.as_slice());
         self.switch_acts(place, &event, answer);
         Ok(())
@@ -130,7 +131,7 @@ impl<L: Line> Nodes<L> {
         if line >= self.lines.len() {
             return Err(StepFault::NoSuchNode);
         }
-        let _ = self.lines[line].line.take(direction);
+        let _ = self.lines[line].line.take(direction, &mut FrameBuf::new());
         make_bare(answer, Outcome::Done);
         Ok(())
     }

@@ -12,7 +12,7 @@ loop-preserved g c =
       putting =
           putting-more _ _ _ _ _ c.loop.puts.items _ _ c.out.new.frame (frames_of (node_of c.out.new.self)) _ _ (record { line = c.args.number; direction = c.args.direction; octets = c.out.new.frame }) c.loop.invariant.putting
           first c.push_reserved.ensures.items (record { on = refl; to = refl; as_octets = refl })
-          (λ f. c.put_copy.ensures f);
+          (λ f. c.put.ensures f);
       node_is = frames-kept (node_of c.args.node.now) (node_of c.loop.node) (node_of c.out.new.self) c.loop.invariant.node_is c.out.ensures.node;
       left = (let l = ap length first in omega (arith, l, c.loop.invariant.left));
       most = c.loop.invariant.most;

@@ -26,7 +26,7 @@ loop-preserved g c =
       putting =
           putting_more g.L.Line.service c.args.number _ _ c.args.puts.now.items c.loop.puts.items _ _ c.out.new.frame (waiting_on c.args.own c.out.new.self) _ _ c.loop.invariant.putting
           first c.push_reserved.ensures.items
-          (λ f. c.put_copy.ensures f);
+          (λ f. c.put.ensures f);
       switch_is = left_less c.args.own c.args.switch.now c.loop.switch c.out.new.self c.requires.there c.loop.invariant.switch_is c.out.ensures.switch;
       there = (let same : length c.out.new.self.lines ≡ length c.loop.switch.lines = ap (λ (s : Switch). length s.lines) c.out.ensures.switch ∙ length_changed c.args.own (with_end without_first_frame) c.loop.switch.lines in omega (arith, same, c.loop.invariant.there));
       left = (let l = ap length first in omega (arith, l, c.loop.invariant.left));

@@ -1,5 +1,6 @@
 use Rattle.std.proofs.Common.{◌<◌, length, Some, slice_get, refl, sym, ap, ◌∙◌, inl, subst, arith}
 use Rattle.std.specs.Prelude.{is_some}
+use Rattle.std.proofs.lemmas.Bool.{OnTrue_at, OnFalse_at}
 use Rattle.book_laws.proofs.Basics.{length_set}
 use Rattle.net_events.specs.AtSwitch.{Hears, HasOwnLine}
 use Rattle.net_events.specs.Network.{Network}
@@ -15,8 +16,8 @@ index_mut-requires g c =
     let h = within lines c.args.line c.requires.switch.line_is (ap (λ (s : Network). slice_get s.lines c.args.line) c.self.view_is ∙ c.requires.switch.line_there) in
     omega (arith, h)
 
-pub returns-in_default : goal.returns-in_default
-returns-in_default g c =
+pub returns-then-not-take : goal.returns-then-not-take
+returns-then-not-take g c =
     let lines = c.self.inside.lines.items in
     let h : c.args.line < length lines = within lines c.args.line c.requires.switch.line_is (ap (λ (s : Network). slice_get s.lines c.args.line) c.self.view_is ∙ c.requires.switch.line_there) in
     let here = there lines c.args.line _ c.index_mut.result.now h c.index_mut.ensures.value ∙ ap Some (sym c.behind-self.view_is) in
@@ -31,12 +32,12 @@ returns-in_default g c =
           lost = record {
             line_is = _;
             line_there = here;
-            flights = g.L.Line.flights c.take-taken.new.self;
-            rest = c.take-taken.ensures.others;
+            flights = g.L.Line.flights c.take.new.self;
+            rest = c.take.ensures.others;
             others = refl;
           };
         };
-        none = λ f. sym (c.take-taken.ensures.taken f) ∙ c.in_default.is;
+        none = λ f. OnFalse_at c.if-not-take.true (c.take.ensures.none f);
       }),
     )
 
@@ -65,7 +66,7 @@ returns g c =
     let h : c.args.line < length lines = within lines c.args.line o.line_is (ap (λ (s : Network). slice_get s.lines c.args.line) c.self.view_is ∙ o.line_there) in
     let here = there lines c.args.line _ c.index_mut.result.now h c.index_mut.ensures.value ∙ ap Some (sym c.behind-self.view_is) in
     rw (← c.self.view_is)
-    (heard L c.args.place c.args.line c.args.own c.as_slice.result.now o.node _ (g.L.Line.flights c.take-taken.new.self) _ c.switch_acts.new.answer c.switch_acts.new.self st node_there o.own_line here
-    (λ f. (sym (sym c.in-Some.is ∙ c.take-taken.ensures.taken f) ∙ ap Some (sym c.as_slice.ensures.value), c.take-taken.ensures.others f))
+    (heard L c.args.place c.args.line c.args.own c.as_slice.result.now o.node _ (g.L.Line.flights c.take.new.self) _ c.switch_acts.new.answer c.switch_acts.new.self st node_there o.own_line here
+    (λ f. (OnTrue_at c.if-not-take.false (c.take.ensures.taken f) ∙ ap Some (sym c.as_slice.ensures.value), c.take.ensures.others f))
     c.frame_heard-event.ensures.octets
     _ c.frame_heard-event.ensures.event (c.switch_acts.ensures o.node node_there))
