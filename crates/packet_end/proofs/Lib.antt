@@ -5,3 +5,4 @@ pub mod Untouched
 pub mod Waits
 pub mod Owned
 pub mod Lent
+pub mod Ended

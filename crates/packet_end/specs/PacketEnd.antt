@@ -19,7 +19,7 @@ use Rattle.packet_layer.specs.Channel.{Request}
 use Rattle.packet_layer.specs.Layer.{Layer, Next, unread, next_packet}
 use Rattle.packet_layer.specs.Layer as machine
 use Rattle.packet_layer.specs.Events.{on_octets, on_named, timer_named, written_packet}
-use Rattle.packet_end.specs.Timing.{brought}
+use Rattle.packet_end.specs.Timing.{brought, TimersAgree}
 use Rattle.packet_end.specs.declared.params.EndParams.{EndParams}
 
 -- the link with T1 and the frames that go out; the layer; its timers; the notes of the event, in order
@@ -135,6 +135,17 @@ settled e = record e { timers = brought e.layer e.timers; line = line.settled e.
 -- the end of an event of a node with one line
 unfoldable pub finished : PacketEnd → PacketEnd
 finished e = settled (all_offered (relinked_if_due e))
+
+-- a link that settles again stays as it is, whatever frames of it were taken
+abbrev pub SettlesOnce : End → Type 0
+SettlesOnce e = (frames : List Octets) → line.settled (record e { frames = frames }) ≡ record e { frames = frames }
+
+-- where an event ended and nothing happened since, to end one again changes nothing
+pub record IsFinished (e : PacketEnd) : Type 0 where
+  pub none_due : e.layer.relink ≡ false
+  pub kept : KeepsNothingBack e
+  pub timers : TimersAgree e.layer e.timers
+  pub settled : SettlesOnce e.line
 
 -- ---- the user's calls
 

@@ -8,7 +8,7 @@ ghost use Rattle.packet_end.specs.Params.{AreParams, MadeNot};
 ghost use Rattle.packet_end.specs.Timing.{TimersAgree};
 ghost use Rattle.packet_end.specs.PacketEnd.{made, begun, received, runs_at, after_timer, relinked};
 ghost use Rattle.packet_end.specs.PacketEnd.{relinked_if_due, restarted, KeepsNothingBack, settled, finished};
-ghost use Rattle.packet_end.specs.PacketEnd.{all_offered, HasOfferedAll};
+ghost use Rattle.packet_end.specs.PacketEnd.{all_offered, HasOfferedAll, SettlesOnce};
 ghost use Rattle.packet_end.specs.PacketEnd.{elapsed, due, at_rest, without_first_frame, without_first_note};
 
 mod asking;
@@ -35,6 +35,8 @@ use std::marker::Model;
 pub struct PacketEnd {
     end: PooledEnd,
     pool: Pool,
+    /// Whether an event ended here and nothing happened since.
+    is_finished: bool,
 }
 
 impl Model for PacketEnd {
@@ -64,7 +66,11 @@ impl PacketEnd {
         params.check()?;
         let mut pool = Pool::new(alloc, params.buffers(), MAX_INFORMATION)?;
         let end = PooledEnd::new(alloc, role, params, &mut pool)?;
-        Ok(PacketEnd { end, pool })
+        Ok(PacketEnd {
+            end,
+            pool,
+            is_finished: false,
+        })
     }
 
     /// Begins an event of the node: drops the frames, as lost, and the notes that were not taken.
@@ -80,6 +86,7 @@ impl PacketEnd {
         ensures end { self.new ≡ received self.old octets.now }
         ensures notes { length self.new.notes ≤ 64 }
     {
+        self.is_finished = false;
         self.end.on_frame(octets, &mut self.pool);
     }
 
@@ -96,6 +103,7 @@ impl PacketEnd {
         ensures end { self.new ≡ after_timer self.old id }
         ensures notes { length self.new.notes ≤ 64 }
     {
+        self.is_finished = false;
         self.end.on_timer(id, &mut self.pool);
     }
 
@@ -105,6 +113,7 @@ impl PacketEnd {
         ensures end { self.new ≡ relinked self.old }
         ensures notes { length self.new.notes ≤ length self.old.notes + 32 }
     {
+        self.is_finished = false;
         self.end.relink(&mut self.pool);
     }
 
@@ -131,6 +140,7 @@ impl PacketEnd {
     pub fn restart(&mut self)
         ensures { self.new ≡ restarted self.old }
     {
+        self.is_finished = false;
         self.end.restart(&mut self.pool);
     }
 
@@ -142,6 +152,7 @@ impl PacketEnd {
         ensures all_sent { HasSentAll self.new.line.link }
         ensures timers { TimersAgree self.new.layer self.new.timers }
     {
+        self.is_finished = false;
         self.end.settle(&mut self.pool);
     }
 
@@ -154,6 +165,7 @@ impl PacketEnd {
         ensures notes { self.new.notes ≡ self.old.notes }
         ensures all_offered { HasOfferedAll self.new }
     {
+        self.is_finished = false;
         self.end.offer_packets(&mut self.pool)
     }
 
@@ -164,6 +176,22 @@ impl PacketEnd {
         ensures notes { length self.new.notes ≤ length self.old.notes + 32 }
         ensures nothing_kept_back { KeepsNothingBack self.new }
         ensures timers { TimersAgree self.new.layer self.new.timers }
+    {
+        if self.is_finished {
+            return;
+        }
+        self.finish_anew();
+        self.is_finished = !self.must_relink();
+    }
+
+    // The same where something happened since an event ended.
+    fn finish_anew(&mut self)
+        requires { length self.old.notes ≤ 64 }
+        ensures end { self.new ≡ finished self.old }
+        ensures notes { length self.new.notes ≤ length self.old.notes + 32 }
+        ensures nothing_kept_back { KeepsNothingBack self.new }
+        ensures timers { TimersAgree self.new.layer self.new.timers }
+        ensures line { SettlesOnce self.new.line }
     {
         self.relink_if_due();
         let _ = self.offer_packets();
@@ -192,6 +220,7 @@ impl PacketEnd {
     pub fn elapse(&mut self, ticks: u16)
         ensures { self.new ≡ elapsed self.old ticks }
     {
+        self.is_finished = false;
         self.end.elapse(ticks);
     }
 

@@ -27,6 +27,7 @@ impl PacketEnd {
             (λ fault. machine.call_refusal self.old.layer self.old.layer.phase ≡ Some (call_refusal_of fault)) }
         ensures end { self.new ≡ called self.old (parts_of (call_view call.now)) }
     {
+        self.is_finished = false;
         self.end.call(call)
     }
 
@@ -39,6 +40,7 @@ impl PacketEnd {
             ≡ Some (refusal_of fault)) }
         ensures end { self.new ≡ asked self.old channel (request_of request.now) }
     {
+        self.is_finished = false;
         self.end.ask(channel, request, &mut self.pool)
     }
 
@@ -47,6 +49,7 @@ impl PacketEnd {
         ensures taken { maybe_taken result ≡ machine.front_on self.old.layer channel }
         ensures end { self.new ≡ asked self.old channel ask.Taking }
     {
+        self.is_finished = false;
         self.end.take(channel, &mut self.pool)
     }
 

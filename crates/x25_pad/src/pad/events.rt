@@ -49,9 +49,22 @@ impl Pad {
         self.settle();
     }
 
-    // Takes over what the packet layer told. The terminals learn what became of their calls; the last call that came in
-    // is the result.
+    // Takes over what the packet layer told, if anything. The terminals learn what became of their calls; the last call
+    // that came in is the result.
+    #[tactic(auto, using(crate::proofs::Hearing::told_none))]
     fn hear(&mut self) -> Option<u8>
+        requires room { length self.old.line.notes + length self.old.line.end.notes ≤ MOST_NOTES }
+        ensures pad { self.new ≡ spec.told self.old }
+        ensures incoming { result ≡ line.last_incoming None self.old.line.end.notes }
+    {
+        if self.line.end.waiting_notes() == 0 {
+            return None;
+        }
+        self.hear_notes()
+    }
+
+    #[inline(never)]
+    fn hear_notes(&mut self) -> Option<u8>
         requires room { length self.old.line.notes + length self.old.line.end.notes ≤ MOST_NOTES }
         ensures pad { self.new ≡ spec.told self.old }
         ensures incoming { result ≡ line.last_incoming None self.old.line.end.notes }

@@ -1,7 +1,7 @@
 -- All notes are told.
 use Rattle.std.proofs.Common.{◌≡◌, length, sym, ◌∙◌, arith}
 use Rattle.x25_pad.proofs.Hearing.{told_none}
-use Rattle.x25_pad.proofs.pad.Pad.hear.Goals as goal
+use Rattle.x25_pad.proofs.pad.Pad.hear_notes.Goals as goal
 
 pub returns-clause-pad : goal.returns-clause-pad
 returns-clause-pad c =

@@ -2,7 +2,7 @@
 use Rattle.std.proofs.Common.{◌≡◌, ◌≤◌, ◌+◌, None, length}
 use Rattle.x25_pad.specs.Line.{last_incoming}
 use Rattle.x25_pad.specs.Pad.{told}
-use Rattle.x25_pad.proofs.pad.Pad.hear.Given as goal
+use Rattle.x25_pad.proofs.pad.Pad.hear_notes.Given as goal
 
 abbrev pub invariant-loop : goal.invariant-loop
 invariant-loop l = record {

@@ -1,0 +1,129 @@
+-- An end at which an event ended stays as it is when one ends again.
+use Rattle.std.proofs.Common.{◌≡◌, ◌∙◌, refl, sym, ap, ℕ, Bool, true, false, List, [], ◌∷◌, length, drop, inl, inr, arith, subst}
+use Rattle.std.proofs.Common.{set-set}
+use Rattle.std.specs.Prelude.{Option, Some, None, is_some, not, ◌&&◌, ◌||◌, cond, if◌then◌else◌}
+use Rattle.link_timers.specs.declared.timers.TimerId.TheVariants.{T1}
+use Rattle.link_timers.specs.Timers.{Places, place_of, stopped}
+use Rattle.lapb.specs.declared.note.Timing.{Timing}
+use Rattle.lapb.specs.declared.phase.Phase.{Phase}
+use Rattle.lapb.specs.Machine.{Octets, Link, runs, sendable, send_all, settle_in}
+use Rattle.line_end.specs.End.{End, did, timed}
+use Rattle.line_end.specs.End as line
+use Rattle.packet_layer.specs.Packets.{Note, Packet}
+use Rattle.packet_layer.specs.Layer.{next_packet}
+use Rattle.packet_end.specs.Timing.{brought}
+use Rattle.packet_end.specs.PacketEnd.{PacketEnd, SettlesOnce, IsFinished, KeepsNothingBack, HasOfferedAll}
+use Rattle.packet_end.specs.PacketEnd.{relinked, relinked_if_due, all_offered, settled, finished}
+use Rattle.packet_end.proofs.Offering.{no_room, no_packet}
+use Rattle.packet_end.proofs.Untouched.{nothing_touched}
+
+-- ---- the link settles once
+
+timed_once : (runs_now : Bool) (first : Timing) (timers : Places) →
+    timed (if runs_now then (if false || not runs_now then Timing.Start else Timing.Keep) else Timing.Stop)
+    (timed (if runs_now then first else Timing.Stop) timers) ≡ timed (if runs_now then first else Timing.Stop) timers
+timed_once true first timers = refl
+timed_once false first timers = set-set timers (place_of T1) None None
+
+all_sent : (may : Bool) (packets : List Octets) → (if may then drop (length packets) packets else []) ≡ []
+all_sent false packets = refl
+all_sent true packets = drop_all packets
+  where
+    drop_all : (xs : List Octets) → drop (length xs) xs ≡ []
+    drop_all [] = refl
+    drop_all (x ∷ xs) = drop_all xs
+
+sent_once : (l : End) (frames : List Octets) (packets : List Octets) → sendable l.link ≡ packets →
+    did (record (did l (send_all l.link packets)) { frames = frames })
+    (send_all (send_all l.link packets).link (sendable (send_all l.link packets).link))
+    ≡ record (did l (send_all l.link packets)) { frames = frames }
+sent_once l frames [] none =
+    ap (λ (more : List Octets). did (record (did l (send_all l.link [])) { frames = frames })
+    (send_all (send_all l.link []).link more)) none
+    ∙ ap (λ (t : Places). record { link = (send_all l.link []).link; timers = t; frames = frames })
+    (timed_once (runs (send_all l.link []).link)
+    (if false || not (runs l.link) then Timing.Start else Timing.Keep) l.timers)
+sent_once l frames (packet ∷ packets) some =
+    ap (λ (more : List Octets). did (record (did l (send_all l.link (packet ∷ packets))) { frames = frames })
+    (send_all (send_all l.link (packet ∷ packets)).link more))
+    (all_sent (l.link.heard && not l.link.polling && not l.link.busy) l.link.queue)
+    ∙ ap (λ (t : Places). record { link = (send_all l.link (packet ∷ packets)).link; timers = t; frames = frames })
+    (timed_once (runs (send_all l.link (packet ∷ packets)).link)
+    (if false || not (runs l.link) then Timing.Start else Timing.Keep) l.timers)
+
+abbrev timing_of : Bool → Timing
+timing_of runs_now = if runs_now then (if false || not runs_now then Timing.Start else Timing.Keep) else Timing.Stop
+
+abbrev with_timers : End → Places → List Octets → End
+with_timers l timers frames = record { link = l.link; timers = timers; frames = frames }
+
+still_once : (l : End) (frames : List Octets) →
+    with_timers l (timed (timing_of (runs l.link)) (timed (timing_of (runs l.link)) l.timers)) frames
+    ≡ with_timers l (timed (timing_of (runs l.link)) l.timers) frames
+still_once l frames =
+    ap (λ (t : Places). with_timers l t frames)
+    (timed_once (runs l.link) (if false || not (runs l.link) then Timing.Start else Timing.Keep) l.timers)
+
+once_in : (phase : Phase) (l : End) (frames : List Octets) →
+    did (record (did l (settle_in phase l.link)) { frames = frames }) (settle_in phase (settle_in phase l.link).link)
+    ≡ record (did l (settle_in phase l.link)) { frames = frames }
+once_in Phase.Down l frames = still_once l frames
+once_in Phase.SettingUp l frames = still_once l frames
+once_in Phase.Rejecting l frames = still_once l frames
+once_in Phase.Up l frames = sent_once l frames (sendable l.link) refl
+
+sent_in_phase : (l : Link) (packets : List Octets) → (send_all l packets).link.phase ≡ l.phase
+sent_in_phase l [] = refl
+sent_in_phase l (packet ∷ packets) = refl
+
+phase_stays : (phase : Phase) (l : Link) → (settle_in phase l).link.phase ≡ l.phase
+phase_stays Phase.Down l = refl
+phase_stays Phase.SettingUp l = refl
+phase_stays Phase.Rejecting l = refl
+phase_stays Phase.Up l = sent_in_phase l (sendable l)
+
+pub settled_once : (l : End) → SettlesOnce (line.settled l)
+settled_once l frames =
+    ap (λ (phase : Phase). did (record (line.settled l) { frames = frames }) (settle_in phase (line.settled l).link))
+    (phase_stays l.link.phase l.link)
+    ∙ once_in l.link.phase l frames
+
+-- ---- frames and notes are taken
+
+pub taken_from : (e : PacketEnd) (frames : List Octets) (notes : List Note) → IsFinished e →
+    IsFinished (record e { line = record e.line { frames = frames }; notes = notes })
+taken_from e frames notes is = record {
+  none_due = is.none_due;
+  kept = record { offered = is.kept.offered; sent = is.kept.sent };
+  timers = is.timers;
+  settled = is.settled;
+}
+
+-- ---- an event ends again
+
+offers_none : (e : PacketEnd) → HasOfferedAll e → all_offered e ≡ e
+unfolding all_offered
+offers_none e (inl room) = no_room 7 e room
+offers_none e (inr silent) = no_packet 7 e (ap (λ (packet : Option Packet). is_some packet) silent)
+
+settles_none : (e : PacketEnd) → IsFinished e → settled e ≡ e
+settles_none e is =
+    ap (λ (t : Places). record e { timers = t; line = line.settled e.line })
+    (nothing_touched e.layer e.timers (λ id is_id none. is.timers id is_id))
+    ∙ ap (λ (l : End). record e { line = l }) (is.settled e.line.frames)
+
+pub finished_once : (e : PacketEnd) → IsFinished e → finished e ≡ e
+unfolding finished
+finished_once e is =
+    ap (λ (x : PacketEnd). settled (all_offered x)) (ap (λ (b : Bool). cond b (relinked e) e) is.none_due)
+    ∙ ap (λ (x : PacketEnd). settled x) (offers_none e is.kept.offered)
+    ∙ settles_none e is
+
+-- the link has settled
+pub settles_once : (offered now : PacketEnd) → now ≡ settled offered → SettlesOnce now.line
+settles_once offered now same =
+    subst (λ (e : PacketEnd). SettlesOnce e.line) (sym same) (settled_once offered.line)
+
+pub none_due : (due : Bool) → not due ≡ true → due ≡ false
+none_due true says = absurd (cc)
+none_due false says = refl

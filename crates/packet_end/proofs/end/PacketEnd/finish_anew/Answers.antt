@@ -1,0 +1,20 @@
+use Rattle.std.proofs.Common.{◌∙◌, ap}
+use Rattle.packet_end.specs.PacketEnd.{PacketEnd, settled, all_offered, finished}
+use Rattle.packet_end.proofs.Offering.{settled_all_offered}
+use Rattle.packet_end.proofs.Ended.{settles_once}
+use Rattle.packet_end.proofs.end.PacketEnd.finish_anew.Goals as goal
+
+pub returns-clause-end : goal.returns-clause-end
+unfolding finished
+returns-clause-end c =
+    c.settle.ensures.end
+    ∙ ap (λ (e : PacketEnd). settled e) (c.offer_packets.ensures.end ∙ ap (λ (e : PacketEnd). all_offered e) c.relink_if_due.ensures.end)
+
+pub returns-clause-nothing_kept_back : goal.returns-clause-nothing_kept_back
+returns-clause-nothing_kept_back c = record {
+  offered = rw c.settle.ensures.end (settled_all_offered c.offer_packets.new.self c.offer_packets.ensures.all_offered);
+  sent = c.settle.ensures.all_sent;
+}
+
+pub returns-clause-line : goal.returns-clause-line
+returns-clause-line c = settles_once c.offer_packets.new.self c.settle.new.self c.settle.ensures.end
