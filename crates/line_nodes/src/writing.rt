@@ -73,7 +73,11 @@ pub fn write_notes(node: &mut Node, at: Place, book: &mut Book, notes: &mut Vec<
 {
     match node {
         Node::Pad(pad) => pad_records::write_notes(pad, at.role, book),
-        Node::Host(host) => write_host_notes(host, at, book, notes),
+        Node::Host(host) => {
+            if host.waiting_notes() > 0 {
+                write_host_notes(host, at, book, notes);
+            }
+        }
     }
 }
 
@@ -100,6 +104,7 @@ fn write_message(
 }
 
 // Reads the notes of a host, writes them, and lists those that its user is told.
+#[inline(never)]
 fn write_host_notes(host: &mut Host, at: Place, book: &mut Book, notes: &mut Vec<HostNote>)
     requires opening { opening_notes host.old.notes ≤ 1 }
     requires room { opening_notes host.old.notes ≤ book.old.room }
