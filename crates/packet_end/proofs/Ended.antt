@@ -1,75 +1,69 @@
 -- An end at which an event ended stays as it is when one ends again.
-use Rattle.std.proofs.Common.{◌≡◌, ◌∙◌, refl, sym, ap, ℕ, Bool, true, false, List, [], ◌∷◌, length, drop, inl, inr, arith, subst}
+use Rattle.std.proofs.Common.{◌≡◌, ◌∙◌, refl, sym, ap, subst, Bool, true, false, List, [], ◌∷◌, length, drop, inl, inr}
 use Rattle.std.proofs.Common.{set-set}
-use Rattle.std.specs.Prelude.{Option, Some, None, is_some, not, ◌&&◌, ◌||◌, cond, if◌then◌else◌}
+use Rattle.std.specs.Prelude.{Option, None, is_some, not, ◌&&◌, ◌||◌, cond, if◌then◌else◌}
 use Rattle.link_timers.specs.declared.timers.TimerId.TheVariants.{T1}
-use Rattle.link_timers.specs.Timers.{Places, place_of, stopped}
+use Rattle.link_timers.specs.Timers.{Places, place_of}
 use Rattle.lapb.specs.declared.note.Timing.{Timing}
 use Rattle.lapb.specs.declared.phase.Phase.{Phase}
 use Rattle.lapb.specs.Machine.{Octets, Link, runs, sendable, send_all, settle_in}
 use Rattle.line_end.specs.End.{End, did, timed}
 use Rattle.line_end.specs.End as line
 use Rattle.packet_layer.specs.Packets.{Note, Packet}
-use Rattle.packet_layer.specs.Layer.{next_packet}
-use Rattle.packet_end.specs.Timing.{brought}
-use Rattle.packet_end.specs.PacketEnd.{PacketEnd, SettlesOnce, IsFinished, KeepsNothingBack, HasOfferedAll}
-use Rattle.packet_end.specs.PacketEnd.{relinked, relinked_if_due, all_offered, settled, finished}
+use Rattle.packet_end.specs.PacketEnd.{PacketEnd, SettlesOnce, IsFinished, HasOfferedAll}
+use Rattle.packet_end.specs.PacketEnd.{relinked, all_offered, settled, finished}
 use Rattle.packet_end.proofs.Offering.{no_room, no_packet}
 use Rattle.packet_end.proofs.Untouched.{nothing_touched}
 
 -- ---- the link settles once
 
-timed_once : (runs_now : Bool) (first : Timing) (timers : Places) →
-    timed (if runs_now then (if false || not runs_now then Timing.Start else Timing.Keep) else Timing.Stop)
-    (timed (if runs_now then first else Timing.Stop) timers) ≡ timed (if runs_now then first else Timing.Stop) timers
-timed_once true first timers = refl
-timed_once false first timers = set-set timers (place_of T1) None None
+-- what a step that starts nothing anew makes of T1, which ran before or not and is to run now or not
+abbrev timing_of : (ran runs_now : Bool) → Timing
+timing_of ran runs_now = if runs_now then (if false || not ran then Timing.Start else Timing.Keep) else Timing.Stop
+
+timed_once : (ran runs_now : Bool) (timers : Places) →
+    timed (timing_of runs_now runs_now) (timed (timing_of ran runs_now) timers) ≡ timed (timing_of ran runs_now) timers
+timed_once ran true timers = refl
+timed_once ran false timers = set-set timers (place_of T1) None None
+
+drop_all : (xs : List Octets) → drop (length xs) xs ≡ []
+drop_all [] = refl
+drop_all (x ∷ xs) = drop_all xs
 
 all_sent : (may : Bool) (packets : List Octets) → (if may then drop (length packets) packets else []) ≡ []
 all_sent false packets = refl
 all_sent true packets = drop_all packets
-  where
-    drop_all : (xs : List Octets) → drop (length xs) xs ≡ []
-    drop_all [] = refl
-    drop_all (x ∷ xs) = drop_all xs
 
-sent_once : (l : End) (frames : List Octets) (packets : List Octets) → sendable l.link ≡ packets →
+abbrev with_timers : Link → List Octets → Places → End
+with_timers link frames timers = record { link = link; timers = timers; frames = frames }
+
+-- an end with a link, whose T1 was timed as it is to run, is timed once
+once : (l : End) (link : Link) (frames : List Octets) →
+    with_timers link frames (timed (timing_of (runs link) (runs link))
+    (timed (timing_of (runs l.link) (runs link)) l.timers))
+    ≡ with_timers link frames (timed (timing_of (runs l.link) (runs link)) l.timers)
+once l link frames = ap (with_timers link frames) (timed_once (runs l.link) (runs link) l.timers)
+
+sent_once : (l : End) (frames packets : List Octets) → sendable l.link ≡ packets →
     did (record (did l (send_all l.link packets)) { frames = frames })
     (send_all (send_all l.link packets).link (sendable (send_all l.link packets).link))
     ≡ record (did l (send_all l.link packets)) { frames = frames }
 sent_once l frames [] none =
     ap (λ (more : List Octets). did (record (did l (send_all l.link [])) { frames = frames })
     (send_all (send_all l.link []).link more)) none
-    ∙ ap (λ (t : Places). record { link = (send_all l.link []).link; timers = t; frames = frames })
-    (timed_once (runs (send_all l.link []).link)
-    (if false || not (runs l.link) then Timing.Start else Timing.Keep) l.timers)
+    ∙ once l (send_all l.link []).link frames
 sent_once l frames (packet ∷ packets) some =
     ap (λ (more : List Octets). did (record (did l (send_all l.link (packet ∷ packets))) { frames = frames })
     (send_all (send_all l.link (packet ∷ packets)).link more))
     (all_sent (l.link.heard && not l.link.polling && not l.link.busy) l.link.queue)
-    ∙ ap (λ (t : Places). record { link = (send_all l.link (packet ∷ packets)).link; timers = t; frames = frames })
-    (timed_once (runs (send_all l.link (packet ∷ packets)).link)
-    (if false || not (runs l.link) then Timing.Start else Timing.Keep) l.timers)
-
-abbrev timing_of : Bool → Timing
-timing_of runs_now = if runs_now then (if false || not runs_now then Timing.Start else Timing.Keep) else Timing.Stop
-
-abbrev with_timers : End → Places → List Octets → End
-with_timers l timers frames = record { link = l.link; timers = timers; frames = frames }
-
-still_once : (l : End) (frames : List Octets) →
-    with_timers l (timed (timing_of (runs l.link)) (timed (timing_of (runs l.link)) l.timers)) frames
-    ≡ with_timers l (timed (timing_of (runs l.link)) l.timers) frames
-still_once l frames =
-    ap (λ (t : Places). with_timers l t frames)
-    (timed_once (runs l.link) (if false || not (runs l.link) then Timing.Start else Timing.Keep) l.timers)
+    ∙ once l (send_all l.link (packet ∷ packets)).link frames
 
 once_in : (phase : Phase) (l : End) (frames : List Octets) →
     did (record (did l (settle_in phase l.link)) { frames = frames }) (settle_in phase (settle_in phase l.link).link)
     ≡ record (did l (settle_in phase l.link)) { frames = frames }
-once_in Phase.Down l frames = still_once l frames
-once_in Phase.SettingUp l frames = still_once l frames
-once_in Phase.Rejecting l frames = still_once l frames
+once_in Phase.Down l frames = once l l.link frames
+once_in Phase.SettingUp l frames = once l l.link frames
+once_in Phase.Rejecting l frames = once l l.link frames
 once_in Phase.Up l frames = sent_once l frames (sendable l.link) refl
 
 sent_in_phase : (l : Link) (packets : List Octets) → (send_all l packets).link.phase ≡ l.phase
