@@ -4,7 +4,7 @@ ghost use Rattle.packet_codec.specs.Reading.{named_channel};
 ghost use Rattle.packet_end.specs.Touched.{has, NamesAnother};
 
 use packet_codec::logical_channel;
-use packet_layer::{MOST_CHANNELS, Request};
+use packet_layer::MOST_CHANNELS;
 
 /// The channels on which a timer may run that is not to run, or may not run though it is to; all of them where the
 /// restart procedure went on, whose timers count as those of channel 0.
