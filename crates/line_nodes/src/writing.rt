@@ -63,6 +63,7 @@ pub fn write_taken(book: &mut Book, role: Role, channel: u8, taken: &Taken)
 
 /// Reads the notes of an event at a node, and writes them. `notes` lists those that the user of a host is told, in
 /// order; it is empty before, with [`MOST_NOTES`] places.
+#[inline(always)]
 pub fn write_notes(node: &mut Node, at: Place, book: &mut Book, notes: &mut Vec<HostNote>)
     requires room { IsRoomFor (node_of node.old) book.old.room book.old.pairs }
     requires empty { notes.old.items ≡ [] }

@@ -11,6 +11,7 @@ use memory_line::{Direction, Line};
 use net_events::Put;
 
 /// Puts all frames that wait at a node on its line, which is that of this number, and lists them.
+#[inline(always)]
 pub fn put_frames<L: Line>(
     node: &mut Node,
     number: usize,

@@ -101,6 +101,7 @@ fn front_of(taken: &Taken) -> Front
 }
 
 /// Something happens at a terminal of a PAD: gives the outcome, and adds what the terminal shows to the text.
+#[inline(always)]
 fn at_terminal(
     pad: &mut Pad,
     terminal: u8,
@@ -190,6 +191,7 @@ fn ask_host(
 }
 
 /// Calls the node, writes what was asked of it, and gives the outcome. What a terminal shows is added to the text.
+#[inline(always)]
 fn call_node(
     node: &mut Node,
     role: Role,
@@ -247,6 +249,7 @@ fn call_node(
 
 /// Serves an event at a node, where a host is asked and a PAD has the terminal, and writes the answer. What the node
 /// refuses changes nothing.
+#[inline(always)]
 pub fn serve<L: Line>(
     node: &mut Node,
     at: NetPlace,

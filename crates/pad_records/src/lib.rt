@@ -16,6 +16,7 @@ use x25_pad::{Pad, PadNote};
 
 /// Reads the notes of an event at a PAD, and writes them in order into the book, at the PAD's end of the line. The book
 /// has room for them.
+#[inline(always)]
 pub fn write_notes(pad: &mut Pad, role: Role, book: &mut Book)
     requires { HaveRoom pad.old.line.notes book.old.room book.old.pairs }
     ensures pad { pad.new ≡ without_notes pad.old }
@@ -28,6 +29,7 @@ pub fn write_notes(pad: &mut Pad, role: Role, book: &mut Book)
 }
 
 /// Writes a note of a PAD into the book, at the PAD's end of the line. The book has room for it.
+#[inline(always)]
 pub fn write_note(book: &mut Book, role: Role, note: &PadNote)
     requires { HasRoom (pad_note_of note.now) book.old.room book.old.pairs }
     ensures { book.new ≡ written role (pad_note_of note.now) book.old }

@@ -19,6 +19,7 @@ use net_events::{Answer, NodeEvent, StepFault};
 use net_turns::{MOST_TAKEN, MOST_TEXT, MOST_WRITES, NetPlace, make_room, serve};
 
 /// Serves an event at a node with users.
+#[inline(always)]
 fn serve_user<L: Line>(
     node: &mut NetNode,
     at: NetPlace,
@@ -51,6 +52,7 @@ fn serve_user<L: Line>(
 }
 
 /// Serves an event at the node at an end of a line, at which the register is open, and writes the answer.
+#[inline(always)]
 pub(super) fn serve_at<L: Line>(
     nodes: &mut Vec<NetNode>,
     net_line: &mut NetLine<L>,
