@@ -61,6 +61,12 @@ none_found {L} {names} {traces} {line} {d} {s} found = record {
   came = sym (ap has_arrived found.says.outcome);
 }
 
+pub delivers_nothing : {L : LineService} {names : Names} {traces : Bool} {line : ℕ} {d : Direction} {s : Network} (left : ℕ)
+    → FindsNoFrame L line d s
+    → Delivers L names traces (Deliver line d) (record { left = left; net = s }) [] (record { left = left; net = s })
+delivers_nothing zero found = at_limit
+delivers_nothing (suc n) found = finds_none (none_found found)
+
 -- the deliveries on one line
 abbrev pub deliveries_on : ℕ → List Event
 deliveries_on line = Deliver line FromDte ∷ Deliver line FromDce ∷ []

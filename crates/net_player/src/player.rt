@@ -9,6 +9,8 @@ ghost use Rattle.net_events.specs.declared.event.Event.TheVariants.{Deliver};
 ghost use Rattle.line_sim.specs.Network.{Network, all_elapsed};
 ghost use Rattle.line_sim.specs.DueCount.{all_due};
 ghost use Rattle.line_sim.specs.Due.{net_due};
+ghost use Rattle.line_sim.specs.Stepping.{FindsNoFrame};
+ghost use Rattle.memory_line.specs.declared.line.Direction.TheVariants.{FromDte, FromDce};
 ghost use Rattle.net_player.specs.InTurn.{InTurn, StopsInTurn, Writes};
 ghost use Rattle.net_player.specs.Playing.{has_arrived, key_events, Tells, TellsEvent, Delivers, Passes, Flows};
 ghost use Rattle.net_player.specs.Playing.{Ticks};
@@ -177,6 +179,9 @@ impl Player<'_> {
     {
         let mut still_left = left;
         for line in 0..self.lines {
+            if is_empty(net, line) {
+                continue;
+            }
             still_left = self.deliver(net, line, Direction::FromDte, still_left, out)?;
             still_left = self.deliver(net, line, Direction::FromDce, still_left, out)?;
         }
@@ -378,6 +383,14 @@ impl Player<'_> {
         }
         Ok(())
     }
+}
+
+/// Whether it is certain that a delivery on a line finds no frame, in either direction.
+fn is_empty<L: Line>(net: &Net<L>, line: usize) -> bool
+    ensures from_dte { OnTrue result (FindsNoFrame L.service line FromDte net.now) }
+    ensures from_dce { OnTrue result (FindsNoFrame L.service line FromDce net.now) }
+{
+    net.finds_none(line, Direction::FromDte) && net.finds_none(line, Direction::FromDce)
 }
 
 /// Prints the frames that were put.

@@ -1,12 +1,21 @@
 use Rattle.std.proofs.Common.{arith, ◌≤◌, ◌<◌}
 use Rattle.net_player.specs.InTurn.InTurn.{nothing}
 use Rattle.net_player.proofs.Turns.{writes_nothing, writes_append}
+use Rattle.std.proofs.lemmas.Bool.{OnTrue_at}
 use Rattle.std.proofs.lemmas.Result.{err_from_is_err_and}
-use Rattle.net_player.proofs.Deliveries.{pass_more, pass_stops_first, second_stops}
+use Rattle.net_player.proofs.Deliveries.{delivers_nothing, pass_more, pass_stops_first, second_stops}
 use Rattle.net_player.proofs.player.Player.pass.Goals as goal
 
 pub loop-line-init : goal.loop-line-init
 loop-line-init g c = (writes_nothing _ nothing, omega arith)
+
+pub loop-line-preserved-then-is_empty : goal.loop-line-preserved-then-is_empty
+loop-line-preserved-then-is_empty g c = (
+  pass_more _ _ _ _ _ c.loop-line.invariant.0
+      (writes_nothing _ (delivers_nothing c.loop-line.still_left (OnTrue_at c.if-is_empty.true c.is_empty.ensures.from_dte)))
+      (writes_nothing _ (delivers_nothing c.loop-line.still_left (OnTrue_at c.if-is_empty.true c.is_empty.ensures.from_dce))),
+  c.loop-line.invariant.1,
+)
 
 pub loop-line-preserved : goal.loop-line-preserved
 loop-line-preserved g c =
