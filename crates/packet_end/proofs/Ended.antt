@@ -1,15 +1,15 @@
 -- An end at which an event ended stays as it is when one ends again.
 use Rattle.std.proofs.Common.{◌≡◌, ◌∙◌, refl, sym, ap, subst, Bool, true, false, List, [], ◌∷◌, length, drop, inl, inr}
 use Rattle.std.proofs.Common.{set-set}
-use Rattle.std.specs.Prelude.{Option, None, is_some, not, ◌&&◌, ◌||◌, cond, if◌then◌else◌}
+use Rattle.std.specs.Prelude.{Option, None, is_some, not, ◌&&◌, cond, if◌then◌else◌}
 use Rattle.link_timers.specs.declared.timers.TimerId.TheVariants.{T1}
 use Rattle.link_timers.specs.Timers.{Places, place_of}
-use Rattle.lapb.specs.declared.note.Timing.{Timing}
 use Rattle.lapb.specs.declared.phase.Phase.{Phase}
 use Rattle.lapb.specs.Machine.{Octets, Link, runs, sendable, send_all, settle_in}
+use Rattle.lapb.specs.Out.{timing_by}
 use Rattle.line_end.specs.End.{End, did, timed}
 use Rattle.line_end.specs.End as line
-use Rattle.packet_layer.specs.Packets.{Note, Packet}
+use Rattle.packet_layer.specs.Packets.{Packet}
 use Rattle.packet_end.specs.PacketEnd.{PacketEnd, SettlesOnce, IsFinished, HasOfferedAll}
 use Rattle.packet_end.specs.PacketEnd.{relinked, all_offered, settled, finished}
 use Rattle.packet_end.proofs.Offering.{no_room, no_packet}
@@ -17,12 +17,9 @@ use Rattle.packet_end.proofs.Untouched.{nothing_touched}
 
 -- ---- the link settles once
 
--- what a step that starts nothing anew makes of T1, which ran before or not and is to run now or not
-abbrev timing_of : (ran runs_now : Bool) → Timing
-timing_of ran runs_now = if runs_now then (if false || not ran then Timing.Start else Timing.Keep) else Timing.Stop
-
+-- steps that start nothing anew, one after the other
 timed_once : (ran runs_now : Bool) (timers : Places) →
-    timed (timing_of runs_now runs_now) (timed (timing_of ran runs_now) timers) ≡ timed (timing_of ran runs_now) timers
+    timed (timing_by runs_now runs_now false) (timed (timing_by ran runs_now false) timers) ≡ timed (timing_by ran runs_now false) timers
 timed_once ran true timers = refl
 timed_once ran false timers = set-set timers (place_of T1) None None
 
@@ -39,9 +36,9 @@ with_timers link frames timers = record { link = link; timers = timers; frames =
 
 -- an end with a link, whose T1 was timed as it is to run, is timed once
 once : (l : End) (link : Link) (frames : List Octets) →
-    with_timers link frames (timed (timing_of (runs link) (runs link))
-    (timed (timing_of (runs l.link) (runs link)) l.timers))
-    ≡ with_timers link frames (timed (timing_of (runs l.link) (runs link)) l.timers)
+    with_timers link frames (timed (timing_by (runs link) (runs link) false)
+    (timed (timing_by (runs l.link) (runs link) false) l.timers))
+    ≡ with_timers link frames (timed (timing_by (runs l.link) (runs link) false) l.timers)
 once l link frames = ap (with_timers link frames) (timed_once (runs l.link) (runs link) l.timers)
 
 sent_once : (l : End) (frames packets : List Octets) → sendable l.link ≡ packets →
@@ -76,22 +73,11 @@ phase_stays Phase.SettingUp l = refl
 phase_stays Phase.Rejecting l = refl
 phase_stays Phase.Up l = sent_in_phase l (sendable l)
 
-pub settled_once : (l : End) → SettlesOnce (line.settled l)
+settled_once : (l : End) → SettlesOnce (line.settled l)
 settled_once l frames =
     ap (λ (phase : Phase). did (record (line.settled l) { frames = frames }) (settle_in phase (line.settled l).link))
     (phase_stays l.link.phase l.link)
     ∙ once_in l.link.phase l frames
-
--- ---- frames and notes are taken
-
-pub taken_from : (e : PacketEnd) (frames : List Octets) (notes : List Note) → IsFinished e →
-    IsFinished (record e { line = record e.line { frames = frames }; notes = notes })
-taken_from e frames notes is = record {
-  none_due = is.none_due;
-  kept = record { offered = is.kept.offered; sent = is.kept.sent };
-  timers = is.timers;
-  settled = is.settled;
-}
 
 -- ---- an event ends again
 
@@ -117,7 +103,3 @@ finished_once e is =
 pub settles_once : (offered now : PacketEnd) → now ≡ settled offered → SettlesOnce now.line
 settles_once offered now same =
     subst (λ (e : PacketEnd). SettlesOnce e.line) (sym same) (settled_once offered.line)
-
-pub none_due : (due : Bool) → not due ≡ true → due ≡ false
-none_due true says = absurd (cc)
-none_due false says = refl
