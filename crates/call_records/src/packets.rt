@@ -11,7 +11,7 @@ use std::marker::Model;
 const MOST_WRITTEN: usize = MAX_USER_DATA + 4;
 
 /// A Data packet that passed on a call: at most 128 octets, and the bits M, Q and D (X.25 4.3).
-#[derive(Clone, Copy, Debug, PartialEq, Eq)]
+#[derive(Clone, Copy, PartialEq, Eq)]
 pub struct Packet<'a> {
     pub octets: &'a [u8],
     pub more: bool,

@@ -45,7 +45,7 @@ pub struct Record {
 }
 
 /// A call: the numbers of the records of the end that called and of the end that was called.
-#[derive(Clone, Copy, Debug, PartialEq, Eq)]
+#[derive(Clone, Copy, PartialEq, Eq)]
 pub struct Pair {
     pub caller: usize,
     pub callee: usize,

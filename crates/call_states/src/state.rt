@@ -7,7 +7,7 @@ ghost use Rattle.call_states.specs.Places.Place.{OwnWaiting, FarWaiting, OwnClea
 use link_timers::Role;
 
 /// The state of a call on a logical channel (X.25 4.1).
-#[derive(Clone, Copy, Debug, PartialEq, Eq)]
+#[derive(Clone, Copy, PartialEq, Eq)]
 pub enum CallState {
     /// p1: ready, no call.
     Ready,

@@ -10,7 +10,7 @@ use link_timers::Role;
 use packet_codec::{PacketType, diagnostic};
 
 /// What the user of this end does.
-#[derive(Clone, Copy, Debug, PartialEq, Eq)]
+#[derive(Clone, Copy, PartialEq, Eq)]
 pub enum UserAct {
     /// Calls.
     Call,
@@ -21,7 +21,7 @@ pub enum UserAct {
 }
 
 /// What happens to a call.
-#[derive(Clone, Copy, Debug, PartialEq, Eq)]
+#[derive(Clone, Copy, PartialEq, Eq)]
 pub enum CallEvent {
     /// The user of this end acts.
     User(UserAct),
@@ -32,7 +32,7 @@ pub enum CallEvent {
 }
 
 /// What a step tells the user of this end.
-#[derive(Clone, Copy, Debug, PartialEq, Eq)]
+#[derive(Clone, Copy, PartialEq, Eq)]
 pub enum CallNote {
     /// Nothing.
     Nothing,
@@ -51,7 +51,7 @@ pub enum CallNote {
 }
 
 /// What an event makes of a call.
-#[derive(Clone, Copy, Debug, PartialEq, Eq)]
+#[derive(Clone, Copy, PartialEq, Eq)]
 pub struct CallStep {
     /// The new state.
     pub state: CallState,

@@ -20,7 +20,7 @@ pub trait Modulus {
 }
 
 /// Numbers from 0 to 7.
-#[derive(Clone, Copy, Debug, PartialEq, Eq)]
+#[derive(Clone, Copy, PartialEq, Eq)]
 pub struct Mod8;
 
 impl Modulus for Mod8 {
@@ -36,7 +36,7 @@ impl Modulus for Mod8 {
 }
 
 /// Numbers from 0 to 127.
-#[derive(Clone, Copy, Debug, PartialEq, Eq)]
+#[derive(Clone, Copy, PartialEq, Eq)]
 pub struct Mod128;
 
 impl Modulus for Mod128 {

@@ -6,7 +6,7 @@ use crate::seq::Seq;
 use std::marker::Model;
 
 /// Whether a received number is the expected one.
-#[derive(Clone, Copy, Debug, PartialEq, Eq)]
+#[derive(Clone, Copy, PartialEq, Eq)]
 pub enum Offer {
     InOrder,
     OutOfOrder,

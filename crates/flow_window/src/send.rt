@@ -7,7 +7,7 @@ use crate::seq::Seq;
 use std::marker::Model;
 
 /// A received number names no count from the oldest unacknowledged one to one past the highest used.
-#[derive(Clone, Copy, Debug, PartialEq, Eq)]
+#[derive(Clone, Copy, PartialEq, Eq)]
 pub struct OutOfWindow;
 
 /// What a sender knows of its numbers: which one is the oldest that is not acknowledged, V(A), which one it sends next,

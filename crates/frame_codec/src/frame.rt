@@ -1,5 +1,5 @@
 /// What a Frame Reject tells of the frame that its sender rejected (ISO 7776 5.2).
-#[derive(Clone, Copy, Debug, PartialEq, Eq)]
+#[derive(Clone, Copy, PartialEq, Eq)]
 pub struct Rejection {
     /// The control octet of the rejected frame.
     pub control: u8,
@@ -20,7 +20,7 @@ pub struct Rejection {
 }
 
 /// The kinds of frame, with their sequence numbers, which are modulo 8 (ISO 7776 table 1).
-#[derive(Clone, Copy, Debug, PartialEq, Eq)]
+#[derive(Clone, Copy, PartialEq, Eq)]
 pub enum FrameKind<'a> {
     /// Information: carries one packet.
     I {
@@ -53,7 +53,7 @@ pub enum FrameKind<'a> {
 }
 
 /// A frame, without its address octet, which says no more than `response` and who sends it.
-#[derive(Clone, Copy, Debug, PartialEq, Eq)]
+#[derive(Clone, Copy, PartialEq, Eq)]
 pub struct Frame<'a> {
     pub kind: FrameKind<'a>,
     /// Whether it is a response. Else it is a command.

@@ -13,6 +13,3 @@ pub use fault::FrameFault;
 pub use frame::{Frame, FrameKind, Rejection};
 pub use reading::read_frame;
 pub use writing::write_frame;
-
-#[cfg(test)]
-mod tests;

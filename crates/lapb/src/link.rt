@@ -30,7 +30,7 @@ const NO_REPORT: Rejection = Rejection {
 };
 
 /// How a link is to be made.
-#[derive(Clone, Copy, Debug, PartialEq, Eq)]
+#[derive(Clone, Copy, PartialEq, Eq)]
 pub struct LinkParams {
     /// How many packets may be unacknowledged, from 1 to 7 (X.25 2.4.8.6).
     pub k: u8,

@@ -1,5 +1,5 @@
 /// What a call tells the packet layer of the link.
-#[derive(Clone, Copy, Debug, PartialEq, Eq)]
+#[derive(Clone, Copy, PartialEq, Eq)]
 pub enum Note {
     /// The link stands where it stood.
     Nothing,
@@ -10,7 +10,7 @@ pub enum Note {
 }
 
 /// What becomes of T1 (X.25 2.4.8.1).
-#[derive(Clone, Copy, Debug, PartialEq, Eq)]
+#[derive(Clone, Copy, PartialEq, Eq)]
 pub enum Timing {
     /// It goes on as it is, running or not.
     Keep,

@@ -1,5 +1,5 @@
 /// Where a link stands (X.25 2.4.4).
-#[derive(Clone, Copy, Debug, PartialEq, Eq)]
+#[derive(Clone, Copy, PartialEq, Eq)]
 pub enum Phase {
     /// The disconnected phase: no packet can be offered.
     Down,

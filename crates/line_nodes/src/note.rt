@@ -8,7 +8,7 @@ use packet_codec::{Address, CallBuf};
 use packet_layer::LayerNote;
 
 /// A change of a call that the host's user did not make.
-#[derive(Clone, Copy, Debug, PartialEq, Eq)]
+#[derive(Clone, Copy, PartialEq, Eq)]
 pub struct HostNote {
     /// The number of the host.
     pub node: usize,
@@ -18,7 +18,7 @@ pub struct HostNote {
 }
 
 /// What changed.
-#[derive(Clone, Copy, Debug, PartialEq, Eq)]
+#[derive(Clone, Copy, PartialEq, Eq)]
 pub enum NoteKind {
     /// A call came in, with the address that it gives as the calling one, if it gives one (X.25 4.1.3).
     Incoming { calling: Option<Address> },

@@ -1,7 +1,9 @@
-//! Worked examples of the link and of the end of a line, by the octets of their frames.
+//! Worked examples of frames, of the link and of the end of a line, by the octets of their frames.
 #![tactic(auto)]
 
 mod fault;
+#[cfg(test)]
+mod frames;
 #[cfg(test)]
 mod line_ends;
 #[cfg(test)]

@@ -2,7 +2,7 @@ ghost use Rattle.std.specs.Prelude.{◌≡◌};
 ghost use Rattle.link_timers.specs.Role.{other_of};
 
 /// The role of an end of a line. A line has one end of each role (X.25 1; ISO 7776 3).
-#[derive(Clone, Copy, Debug, PartialEq, Eq)]
+#[derive(Clone, Copy, PartialEq, Eq)]
 pub enum Role {
     /// The data terminal equipment: it sets the link up.
     Dte,

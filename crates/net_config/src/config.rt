@@ -2,7 +2,7 @@
 use x3_params::Profile;
 
 /// A network. What it says is checked when the network is made.
-#[derive(Debug, Drop)]
+#[derive(Drop)]
 pub struct Config {
     pub nodes: Vec<NodeConfig>,
     pub lines: Vec<LineConfig>,
@@ -10,14 +10,14 @@ pub struct Config {
 }
 
 /// A node: its name, of letters and digits, and its kind.
-#[derive(Debug, Drop)]
+#[derive(Drop)]
 pub struct NodeConfig {
     pub name: String,
     pub kind: NodeKind,
 }
 
 /// The kind of a node.
-#[derive(Debug, Drop)]
+#[derive(Drop)]
 pub enum NodeKind {
     Pad(PadConfig),
     Host,
@@ -26,7 +26,7 @@ pub enum NodeKind {
 
 /// A PAD: how many terminals it has, from which profile and speed their parameters start, and which of these are set to
 /// other values, in order.
-#[derive(Debug, Drop)]
+#[derive(Drop)]
 pub struct PadConfig {
     pub terminals: u16,
     pub profile: Profile,
@@ -35,7 +35,7 @@ pub struct PadConfig {
 }
 
 /// A parameter and its value.
-#[derive(Clone, Copy, Debug, PartialEq, Eq)]
+#[derive(Clone, Copy, PartialEq, Eq)]
 pub struct Setting {
     pub number: u8,
     pub value: u8,
@@ -43,7 +43,7 @@ pub struct Setting {
 
 /// A line: the names of the nodes at its ends, the DTE's address (its digits, none where it is empty), how many logical
 /// channels it has, the window size, the link's k and n2, and whether a call stands on it from the making.
-#[derive(Debug, Drop)]
+#[derive(Drop)]
 pub struct LineConfig {
     pub dte: String,
     pub dce: String,
@@ -56,7 +56,7 @@ pub struct LineConfig {
 }
 
 /// A route of a switch: the digits that an address begins with, and the line that leads there.
-#[derive(Debug, Drop)]
+#[derive(Drop)]
 pub struct RouteConfig {
     pub switch: String,
     pub prefix: String,

@@ -6,7 +6,7 @@ use packet_layer::Front;
 use x25_pad::PadAnswer;
 
 /// What an event gave, besides frames, notes and text.
-#[derive(Clone, Copy, Debug, PartialEq, Eq)]
+#[derive(Clone, Copy, PartialEq, Eq)]
 pub enum Outcome {
     /// Whether a frame arrived.
     Delivered(bool),

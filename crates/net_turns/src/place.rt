@@ -2,7 +2,7 @@
 use line_nodes::Place;
 
 /// Where a node stands: its line, the end of the line that it is, and its number in the network.
-#[derive(Clone, Copy, Debug, PartialEq, Eq)]
+#[derive(Clone, Copy, PartialEq, Eq)]
 pub struct NetPlace {
     pub line: usize,
     pub place: Place,

@@ -580,9 +580,6 @@ fn configurations_have_ranges(rt: HostRuntime) {
             ..good
         },
     ] {
-        assert!(rt;
-            fault_of(rt.alloc(), line) == Some(EndFault::BadConfig),
-            "{line:?}"
-        );
+        assert!(rt; fault_of(rt.alloc(), line) == Some(EndFault::BadConfig));
     }
 }

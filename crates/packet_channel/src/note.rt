@@ -3,7 +3,7 @@
 use packet_codec::CallBuf;
 
 /// Why a call ended or was reset.
-#[derive(Clone, Copy, Debug, PartialEq, Eq)]
+#[derive(Clone, Copy, PartialEq, Eq)]
 pub enum Reason {
     /// The far end cleared or reset it.
     FarEnd,

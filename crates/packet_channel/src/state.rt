@@ -7,7 +7,7 @@ use link_timers::Role;
 use packet_codec::clear_cause;
 
 /// The states p1 to p7 of a channel. "Own" is what this end began, "far" what the other end did.
-#[derive(Clone, Copy, Debug, PartialEq, Eq)]
+#[derive(Clone, Copy, PartialEq, Eq)]
 pub enum CallState {
     /// p1.
     Ready,

@@ -36,7 +36,7 @@ impl TakenBuf {
 }
 
 /// What `take` would give: an interrupt, or a Data packet of so many octets with its bits M, Q and D.
-#[derive(Clone, Copy, Debug, PartialEq, Eq)]
+#[derive(Clone, Copy, PartialEq, Eq)]
 pub enum Front {
     Interrupt,
     Data {

@@ -10,7 +10,7 @@ use arrayvec::ArrayVec;
 use std::marker::Model;
 
 /// The call block of a Call, kept in place.
-#[derive(Debug, Drop)]
+#[derive(Drop)]
 pub struct CallBuf {
     called: Address,
     calling: Option<Address>,

@@ -23,14 +23,14 @@ pub const MAX_CALL_USER_DATA: usize = 16;
 pub type PacketBuf = ArrayVec<u8, MAX_PACKET>;
 
 /// How packets are numbered (X.25 4.4.1).
-#[derive(Clone, Copy, Debug, PartialEq, Eq)]
+#[derive(Clone, Copy, PartialEq, Eq)]
 pub enum Numbering {
     /// P(S) and P(R) are counted modulo 8.
     Modulo8,
 }
 
 /// A packet of the packet layer: its logical channel, 0 to 4,095, and what it says.
-#[derive(Clone, Copy, Debug, PartialEq, Eq)]
+#[derive(Clone, Copy, PartialEq, Eq)]
 pub struct Packet<'a> {
     /// The logical channel: 0 for the Restart packets.
     pub channel: u16,
@@ -39,7 +39,7 @@ pub struct Packet<'a> {
 }
 
 /// What a packet says, by its type (X.25 5).
-#[derive(Clone, Copy, Debug, PartialEq, Eq)]
+#[derive(Clone, Copy, PartialEq, Eq)]
 pub enum Content<'a> {
     /// Call Request and Incoming Call.
     CallRequest(CallData<'a>),
@@ -70,7 +70,7 @@ pub enum Content<'a> {
 }
 
 /// The call block of a Call Request and an Incoming Call (X.25 5.2.1).
-#[derive(Clone, Copy, Debug, PartialEq, Eq)]
+#[derive(Clone, Copy, PartialEq, Eq)]
 pub struct CallData<'a> {
     /// The address that is called.
     pub called: Address,
@@ -83,7 +83,7 @@ pub struct CallData<'a> {
 }
 
 /// A Data packet (X.25 5.3.1).
-#[derive(Clone, Copy, Debug, PartialEq, Eq)]
+#[derive(Clone, Copy, PartialEq, Eq)]
 pub struct DataPacket<'a> {
     /// The Q bit: the octets are for the PAD or its partner, and not for its user.
     pub qualified: bool,

@@ -4,7 +4,7 @@ ghost use Rattle.std.specs.Prelude.{◌≡◌};
 ghost use Rattle.packet_codec.specs.Reading.{admits, code_type, is_on_channel, type_of};
 
 /// The type of a packet (X.25 5.1). A request has the same octets as the indication that goes the other way.
-#[derive(Clone, Copy, Debug, PartialEq, Eq)]
+#[derive(Clone, Copy, PartialEq, Eq)]
 pub enum PacketType {
     /// Call Request and Incoming Call.
     CallRequest,

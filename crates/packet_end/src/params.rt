@@ -9,7 +9,7 @@ use lapb::LinkParams;
 use packet_layer::{LayerParams, SEND_QUEUE};
 
 /// How one end of a line is to be made.
-#[derive(Clone, Copy, Debug, PartialEq, Eq)]
+#[derive(Clone, Copy, PartialEq, Eq)]
 pub struct EndParams {
     /// How many packets the link may have unacknowledged, from 1 to 7 (X.25 2.4.8.6, parameter k).
     pub k: u8,

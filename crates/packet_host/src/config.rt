@@ -4,7 +4,7 @@ use link_timers::Role;
 use packet_end::EndParams;
 
 /// How a host is to be made.
-#[derive(Clone, Copy, Debug, PartialEq, Eq)]
+#[derive(Clone, Copy, PartialEq, Eq)]
 pub struct HostConfig {
     /// Which end of its line the host is.
     pub role: Role,

@@ -9,7 +9,7 @@ use packet_channel::MOST_CHANNELS;
 pub const LARGEST_WINDOW: u8 = 7;
 
 /// How the packet layer of a line is to be made.
-#[derive(Clone, Copy, Debug, PartialEq, Eq)]
+#[derive(Clone, Copy, PartialEq, Eq)]
 pub struct LayerParams {
     /// How many logical channels the line has, from 1 to 32: they are numbered from 1.
     pub channels: u8,

@@ -73,10 +73,7 @@ const ROWS: [Row; 5] = [CALL, ACCEPTED, CLEARED, CALL_IN_A_CALL, DATA_WITHOUT_A_
 #[test]
 fn steps_are_those_of_the_table(rt: HostRuntime) {
     for (role, state, event, step) in &ROWS {
-        assert!(rt;
-            CallState::step(*role, *state, *event) == *step,
-            "{state:?}, {event:?}"
-        );
+        assert!(rt; CallState::step(*role, *state, *event) == *step);
     }
 }
 

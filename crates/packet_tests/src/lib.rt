@@ -9,6 +9,7 @@ mod layers;
 mod packets;
 #[cfg(test)]
 mod resets;
+#[cfg(test)]
 mod station;
 #[cfg(test)]
 mod steps;

@@ -5,7 +5,7 @@ use x28_commands::Selection;
 use x29_messages::Message;
 
 /// What a terminal must know of its call when it takes a key or a break.
-#[derive(Clone, Copy, Debug, PartialEq, Eq)]
+#[derive(Clone, Copy, PartialEq, Eq)]
 pub struct CallCondition {
     /// The send queue takes no packet, as is so while a reset that the PAD began is not confirmed.
     pub queue_full: bool,

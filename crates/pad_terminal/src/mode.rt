@@ -1,5 +1,5 @@
 /// What a terminal's keys and its call are at (X.28 3.1).
-#[derive(Clone, Copy, Debug, PartialEq, Eq)]
+#[derive(Clone, Copy, PartialEq, Eq)]
 pub enum Mode {
     /// There is no call. Keys go to the command line.
     Free,

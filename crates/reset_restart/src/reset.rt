@@ -8,7 +8,7 @@ use link_timers::Role;
 use packet_codec::{PacketType, diagnostic};
 
 /// The state of a channel in data transfer (X.25 4.4.3).
-#[derive(Clone, Copy, Debug, PartialEq, Eq)]
+#[derive(Clone, Copy, PartialEq, Eq)]
 pub enum ResetState {
     /// d1: flow control ready.
     FlowControlReady,
@@ -19,7 +19,7 @@ pub enum ResetState {
 }
 
 /// What happens to a channel in data transfer.
-#[derive(Clone, Copy, Debug, PartialEq, Eq)]
+#[derive(Clone, Copy, PartialEq, Eq)]
 pub enum ResetEvent {
     /// The user of this end resets.
     UserReset,
@@ -30,7 +30,7 @@ pub enum ResetEvent {
 }
 
 /// What a step tells the user of this end.
-#[derive(Clone, Copy, Debug, PartialEq, Eq)]
+#[derive(Clone, Copy, PartialEq, Eq)]
 pub enum ResetNote {
     /// Nothing.
     Nothing,
@@ -41,7 +41,7 @@ pub enum ResetNote {
 }
 
 /// What an event makes of a channel in data transfer.
-#[derive(Clone, Copy, Debug, PartialEq, Eq)]
+#[derive(Clone, Copy, PartialEq, Eq)]
 pub struct ResetStep {
     /// The new state.
     pub state: ResetState,

@@ -8,7 +8,7 @@ use link_timers::Role;
 use packet_codec::{PacketType, diagnostic};
 
 /// The state of a line's packet layer (X.25 3).
-#[derive(Clone, Copy, Debug, PartialEq, Eq)]
+#[derive(Clone, Copy, PartialEq, Eq)]
 pub enum RestartState {
     /// r1: packet layer ready.
     PacketLayerReady,
@@ -19,7 +19,7 @@ pub enum RestartState {
 }
 
 /// What a step tells the users of this end.
-#[derive(Clone, Copy, Debug, PartialEq, Eq)]
+#[derive(Clone, Copy, PartialEq, Eq)]
 pub enum RestartNote {
     /// Nothing.
     Nothing,
@@ -30,7 +30,7 @@ pub enum RestartNote {
 }
 
 /// What a received packet makes of a line's packet layer.
-#[derive(Clone, Copy, Debug, PartialEq, Eq)]
+#[derive(Clone, Copy, PartialEq, Eq)]
 pub struct RestartStep {
     /// The new state.
     pub state: RestartState,

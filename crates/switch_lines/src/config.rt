@@ -11,7 +11,7 @@ use packet_end::{EndFault, EndParams};
 pub const MOST_LINES: usize = 64;
 
 /// How a line of a switch is to be made.
-#[derive(Clone, Copy, Debug, PartialEq, Eq)]
+#[derive(Clone, Copy, PartialEq, Eq)]
 pub struct LineConfig {
     /// The parameters of the line, which does not stand.
     pub params: EndParams,

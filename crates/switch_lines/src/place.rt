@@ -8,14 +8,14 @@ use crate::direction::Direction;
 use std::marker::Model;
 
 /// A logical channel of a line of a switch. Lines are numbered from 0, channels from 1.
-#[derive(Clone, Copy, Debug, PartialEq, Eq)]
+#[derive(Clone, Copy, PartialEq, Eq)]
 pub struct Place {
     pub line: usize,
     pub channel: u8,
 }
 
 /// A call that was joined: the channel on which it came in, and the one on which it goes on.
-#[derive(Clone, Copy, Debug, PartialEq, Eq)]
+#[derive(Clone, Copy, PartialEq, Eq)]
 pub struct NewJoin {
     pub came_in: Place,
     pub placed: Place,

@@ -20,7 +20,7 @@ pub struct TracedFrame<'a> {
 }
 
 /// A line that begins as that of a frame, with a number and a space, and does not go on so.
-#[derive(Clone, Copy, Debug, PartialEq, Eq, Drop)]
+#[derive(Clone, Copy, PartialEq, Eq, Drop)]
 pub struct NotAFrame;
 
 /// Reads a line of a trace: the frame that it has, and none where it is of something else, as it begins with no number

@@ -1,7 +1,7 @@
 //! Whether a PAD took what happened at a terminal.
 
 /// Whether a PAD took a key, a break or the end of an idle time.
-#[derive(Clone, Copy, Debug, PartialEq, Eq)]
+#[derive(Clone, Copy, PartialEq, Eq)]
 pub enum PadAnswer {
     /// It was taken.
     Taken,

@@ -6,7 +6,7 @@ ghost use Rattle.x28_commands.specs.Words.{run};
 ghost use Rattle.x28_commands.specs.Keywords.{keyword_length, keyword_named, spells};
 
 /// The first word of a command.
-#[derive(Clone, Copy, Debug, PartialEq, Eq)]
+#[derive(Clone, Copy, PartialEq, Eq)]
 pub enum Keyword {
     Status,
     Clear,

@@ -1,5 +1,5 @@
 /// What a character does to a text that is edited (X.3 3.16 to 3.18).
-#[derive(Clone, Copy, Debug, PartialEq, Eq)]
+#[derive(Clone, Copy, PartialEq, Eq)]
 pub enum EditingFunction {
     /// Takes the last octet away.
     CharacterDelete,

@@ -7,7 +7,7 @@ use crate::editing::EditingFunction;
 use crate::params::Params;
 
 /// What the PAD does at a break (X.3 3.7).
-#[derive(Clone, Copy, Debug, PartialEq, Eq)]
+#[derive(Clone, Copy, PartialEq, Eq)]
 pub enum BreakAction {
     /// Sends an interrupt.
     Interrupt,
@@ -22,7 +22,7 @@ pub enum BreakAction {
 }
 
 /// Where a line feed is inserted after a carriage return (X.3 3.13).
-#[derive(Clone, Copy, Debug, PartialEq, Eq)]
+#[derive(Clone, Copy, PartialEq, Eq)]
 pub enum LineFeedInsertion {
     /// In what is sent to the terminal.
     ToTerminal,

@@ -1,4 +1,5 @@
-use super::*;
+//! Frames of the link layer, by their octets.
+use frame_codec::{Frame, FrameBuf, FrameFault, FrameKind, Rejection, read_frame, write_frame};
 use link_timers::Role;
 
 fn command(kind: FrameKind<'static>, pf: bool) -> Frame<'static> {
@@ -63,7 +64,7 @@ fn reads_and_writes_unnumbered_frames(rt: HostRuntime) {
         ),
     ];
     for (octets, at, frame) in table {
-        assert_eq!(rt; read_frame(octets, at), Ok(frame));
+        assert!(rt; read_frame(octets, at) == Ok(frame));
         assert!(rt; is_written_back(octets, at));
     }
 }
@@ -100,13 +101,13 @@ fn reads_and_writes_numbered_frames(rt: HostRuntime) {
         ),
     ];
     for (octets, at, frame) in table {
-        assert_eq!(rt; read_frame(octets, at), Ok(frame));
+        assert!(rt; read_frame(octets, at) == Ok(frame));
         assert!(rt; is_written_back(octets, at));
     }
 }
 
 // Whether the frame that the octets spell is written with the same octets.
-#[tactic(auto, using(crate::proofs::Grammar::form_spelt))]
+#[tactic(auto, using(frame_codec::proofs::Grammar::form_spelt))]
 fn is_written_back(octets: &[u8], at: Role) -> bool {
     match read_frame(octets, at) {
         Ok(frame) => {
@@ -144,14 +145,11 @@ fn refuses(rt: HostRuntime) {
         (&[0x01, 0x2F, 0x00], Role::Dce, FrameFault::InfoNotAllowed),
     ];
     for (octets, at, fault) in table {
-        assert_eq!(rt; read_frame(octets, at), Err(fault));
+        assert!(rt; read_frame(octets, at) == Err(fault));
     }
     let mut octets = [0u8; 148];
     octets[0] = 0x01;
-    assert_eq!(rt;
-        read_frame(&octets, Role::Dce),
-        Err(FrameFault::InfoTooLong)
-    );
+    assert!(rt; read_frame(&octets, Role::Dce) == Err(FrameFault::InfoTooLong));
     assert!(rt; is_written_back(&octets[..147], Role::Dce));
 }
 
@@ -159,5 +157,5 @@ fn refuses(rt: HostRuntime) {
 fn looks_at_no_spare_bit(rt: HostRuntime) {
     let spare = read_frame(&[0x03, 0x87, 0x21, 0x7B, 0xFF], Role::Dce);
     let none = read_frame(&[0x03, 0x87, 0x21, 0x7A, 0x0F], Role::Dce);
-    assert_eq!(rt; spare, none);
+    assert!(rt; spare == none);
 }
