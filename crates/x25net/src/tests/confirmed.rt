@@ -1,6 +1,6 @@
 //! Delivery that is confirmed from end to end, through a switch.
-use crate::programs::prints_on;
-use crate::switched::SWITCHED;
+use crate::tests::programs::prints_on;
+use crate::tests::switched::SWITCHED;
 use net_files::read_net;
 use net_player::{Config, MemLine, Net};
 use std::alloc::Global;

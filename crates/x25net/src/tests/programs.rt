@@ -94,8 +94,8 @@ const PLAYED: [Run; 25] = [
     ),
 ];
 
-/// A PAD and a host on a line on which no call stands.
-const DIRECT: &str = r#"
+/// A PAD and a host on a line whose link has a window of eight.
+const WINDOW_OF_EIGHT: &str = r#"
 [[node]]
 name = "pad"
 kind = "pad"
@@ -107,25 +107,8 @@ kind = "host"
 [[line]]
 dte = "pad"
 dce = "host"
+k = 8
 "#;
-
-/// A text in two parts.
-pub(crate) fn joined(alloc: Global, first: &str, second: &str) -> Result<String, AllocError> {
-    let mut text = first.to_string(alloc)?;
-    text.push_str(second)?;
-    Ok(text)
-}
-
-/// Whether this is printed for a script on a network of this text.
-pub(crate) fn prints(alloc: Global, network: &str, script: &[u8], printed: &[u8]) -> bool {
-    match read_net(alloc, network) {
-        Ok(config) => match Net::on_memory_lines(alloc, &config) {
-            Ok(mut net) => prints_on(alloc, &mut net, &config, script, printed),
-            Err(_) => false,
-        },
-        Err(_) => false,
-    }
-}
 
 /// Whether this is printed for a script on a network of this configuration.
 pub(crate) fn prints_on<L: Line>(
@@ -182,13 +165,6 @@ fn words_of(alloc: Global, line: &str) -> Result<Vec<String>, AllocError> {
 }
 
 #[test]
-fn a_link_is_set_up_and_begins_with_restarts(rt: HostRuntime) {
-    const PRINTED: &[u8] =
-        b"0 < 01 73\n0 > 01 11\n0 < 01 11\n0 < 03 00 10 00 FB 07 00\n0 > 01 00 10 00 FB 00 00\n0 < 01 21\n0 > 03 21\nend rest\n";
-    assert!(rt; prints(rt.alloc(), DIRECT, b"trace on\nflow\n", PRINTED));
-}
-
-#[test]
 fn a_line_over_sockets_plays_what_one_in_memory_does(rt: HostRuntime) {
     const SCRIPT: &[u8] = b"key pad 0 HEX\\7FLLO\\0D\nflow\ntake host 1\nflow\n";
     const PRINTED: &[u8] = b"host/1 data - \"HELLO\\0D\"\nend rest\n";
@@ -214,16 +190,7 @@ fn make_fault_of(alloc: Global, text: &str) -> Option<MakeFault> {
 
 #[test]
 fn a_link_window_of_eight_is_refused(rt: HostRuntime) {
-    let text = joined(rt.alloc(), DIRECT, "k = 8\n").expect(&rt, "a text");
-    assert!(rt; make_fault_of(rt.alloc(), text.as_str()) == Some(MakeFault::BadConfig));
-}
-
-#[test]
-fn a_lost_link_closes_the_call(rt: HostRuntime) {
-    const SCRIPT: &[u8] =
-        b"key pad 0 OLD\\0D\nrelink 0\nflow\nkey pad 0 NEW\\0D\ntake host 1\nrestart host\nflow\n";
-    const PRINTED: &[u8] = b"host/1 cleared 9 0\nhost/1 none\nend rest\n";
-    assert!(rt; prints(rt.alloc(), FIRST, SCRIPT, PRINTED));
+    assert!(rt; make_fault_of(rt.alloc(), WINDOW_OF_EIGHT) == Some(MakeFault::BadConfig));
 }
 
 #[test]

@@ -1,6 +1,6 @@
 //! The program on files: networks and scripts that are read whole, over memory and over sockets.
-use crate::output::long;
-use crate::programs::ends;
+use crate::tests::output::long;
+use crate::tests::programs::ends;
 use std::fs;
 
 /// A PAD and a host at a switch.

@@ -1,8 +1,6 @@
 //! Calls through a switch.
-use crate::networks::{Case, FIRST_PAIR, FRESH, Kept, goes_so};
-use crate::programs::{joined, prints};
+use crate::tests::networks::{Case, FIRST_PAIR, FRESH, Kept, goes_so};
 use net_player::Pair;
-use std::alloc::Global;
 
 /// Two hosts at a switch, of which the second has one channel.
 pub(crate) const SWITCHED: &str = r#"
@@ -150,45 +148,5 @@ fn calls_through_a_switch_keep_records_and_pairs(rt: HostRuntime) {
     for case in &CASES {
         let printed = case.printed;
         assert!(rt; goes_so(rt.alloc(), case), "{printed}");
-    }
-}
-
-/// What is played with a call of the first host to the second, and what is printed for it.
-const IN_A_CALL: [(&str, &str); 3] = [
-    // A lost packet comes again by T1, and goes on; timers of the switch that do not run expire without effect.
-    (
-        "trace on\nsay h1 4 - ONE\nlose 0 >\ntick 60\nflow\ntake h2 1\nflow\nexpire s 0 T12 4\nexpire s 1 T11 1\ntick 60\n",
-        "0 > 01 44 10 04 00 4F 4E 45\n0 > 01 51\n0 < 01 51\n0 > 01 44 10 04 00 4F 4E 45\n0 < 03 64 10 04 21\n1 < 03 44 10 01 00 4F 4E 45\n0 > 03 61\n1 > 03 61\n1 > 01 64 10 01 21\nh2/1 data - \"ONE\"\n1 < 01 61\nend rest\n",
-    ),
-    // The switch begins anew, and no host asks it; it is on its own lines alone.
-    (
-        "reset h1 4\nflow\nrestart s\nflow\nrestart s\nrelink 1\nexpire s 1 T1\nexpire s 2 T1\nexpire h1 1 T1\nflow\ncall s 1\ntake s 1\nanswer s 1\nkey s 0 A\nprint s 0\ncall h2 1\nflow\nrefuse h1 1\nflow\n",
-        "h2/1 reset 0 0\nh1/4 cleared 9 0\nh2/1 cleared 9 0\nrefused 1 NoSuchNode\nrefused 1 NoSuchNode\nrefused 1 NoSuchNode\nrefused 1 NoSuchNode\nrefused 1 NoSuchNode\nrefused 1 NoSuchNode\nrefused 1 NoSuchNode\nh2/1 called\nh1/1 incoming 2001\nh2/1 cleared 0 0\nend rest\n",
-    ),
-    // The second line has no channel for one more call.
-    (
-        "call h1 2001\nflow\nclear h2 1\nsay h1 4 - LOST\nflow\n",
-        "h1/3 called\nh1/3 cleared 1 0\nh1/4 cleared 0 0\nend rest\n",
-    ),
-];
-
-/// The call of the first host to the second, and what is printed for it.
-const CALL: &str = "flow\ncall h1 2001\nflow\nanswer h2 1\nflow\n";
-
-const CALLED: &str = "h1/4 called\nh2/1 incoming 1001\nh1/4 connected\n";
-
-fn prints_in_a_call(alloc: Global, script: &str, printed: &str) -> bool {
-    match (joined(alloc, CALL, script), joined(alloc, CALLED, printed)) {
-        (Ok(script), Ok(printed)) => {
-            prints(alloc, SWITCHED, script.as_bytes(), printed.as_bytes())
-        }
-        _ => false,
-    }
-}
-
-#[test]
-fn hosts_use_a_call_through_a_switch(rt: HostRuntime) {
-    for (script, printed) in &IN_A_CALL {
-        assert!(rt; prints_in_a_call(rt.alloc(), script, printed), "{script}");
     }
 }

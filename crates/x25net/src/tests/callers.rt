@@ -1,5 +1,5 @@
 //! A call that comes from a partner of another make, which gives its address.
-use crate::programs::prints_on;
+use crate::tests::programs::prints_on;
 use net_files::read_net;
 use net_player::Net;
 use std::io;
