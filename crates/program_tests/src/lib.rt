@@ -1,10 +1,14 @@
-//! Worked examples of what the program stands on: its words, configurations, lines over sockets and captures.
+//! Worked examples of what the program stands on: its words, networks, scripts, configurations, sockets and captures.
 #![tactic(auto)]
 
 #[cfg(test)]
 mod captures;
 #[cfg(test)]
 mod configurations;
+#[cfg(test)]
+mod networks;
+#[cfg(test)]
+mod scripts;
 #[cfg(test)]
 mod sockets;
 #[cfg(test)]
