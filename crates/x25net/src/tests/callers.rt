@@ -1,7 +1,5 @@
 //! A call that comes from a partner of another make, which gives its address.
-use crate::tests::programs::prints_on;
-use net_files::read_net;
-use net_player::Net;
+use crate::tests::programs::prints_over;
 use std::io;
 use udp_line::{Datagrams, UdpLine};
 
@@ -54,7 +52,6 @@ impl Datagrams for Partner {
 #[test]
 fn a_host_is_told_who_calls(rt: HostRuntime) {
     const PRINTED: &[u8] = b"host/2 incoming 1001\nend rest\n";
-    let config = read_net(rt.alloc(), STANDING).expect(&rt, "a network");
     let dte = Partner {
         datagram: CALL,
         before: u32::MAX,
@@ -64,9 +61,5 @@ fn a_host_is_told_who_calls(rt: HostRuntime) {
         before: 1,
     };
     let line = UdpLine::over(rt.alloc(), dte, dce).expect(&rt, "a line");
-    let mut lines = Vec::new(rt.alloc());
-    lines.push(line).expect(&rt, "a list of lines");
-    assert!(rt; lines.len() == config.lines.len());
-    let mut net = Net::new(rt.alloc(), &config, lines).expect(&rt, "a network");
-    assert!(rt; prints_on(rt.alloc(), &mut net, &config, b"deliver 0 >\n", PRINTED));
+    assert!(rt; prints_over(rt.alloc(), line, STANDING, b"deliver 0 >\n", PRINTED));
 }

@@ -450,16 +450,25 @@ fn are_confirmed(net: &Net<MemLine>, [first, second, none]: [bool; 3]) -> bool {
     net.confirmed(0, 4) == first && net.confirmed(1, 4) == second && net.confirmed(2, 4) == none
 }
 
+/// Whether a script is played to its end.
+fn plays(alloc: Global, net: &mut Net<MemLine>, config: &Config, script: &[u8]) -> bool {
+    played_on(alloc, net, config, script).is_ok()
+}
+
+/// Whether the call is confirmed so, each time that something was played.
+fn is_confirmed_in_turn(alloc: Global, net: &mut Net<MemLine>, config: &Config) -> bool {
+    let mut same = true;
+    for (script, confirmed) in &CONFIRMED {
+        same = same && plays(alloc, net, config, script) && are_confirmed(net, *confirmed);
+    }
+    same && !net.confirmed(0, 3)
+}
+
 #[test]
 fn delivery_is_confirmed(rt: HostRuntime) {
     let config = read_net(rt.alloc(), PAIR).expect(&rt, "a network");
     let mut net = Net::on_memory_lines(rt.alloc(), &config).expect(&rt, "a network");
-    for case in &CONFIRMED {
-        let (script, confirmed) = *case;
-        assert!(rt; played_on(rt.alloc(), &mut net, &config, script).is_ok());
-        assert!(rt; are_confirmed(&net, confirmed));
-    }
-    assert!(rt; !net.confirmed(0, 3));
+    assert!(rt; is_confirmed_in_turn(rt.alloc(), &mut net, &config));
 }
 
 /// What is played, and whether a delivery from the DTE, and from the DCE, then finds none: both send a frame as the
@@ -475,16 +484,20 @@ fn find_none(net: &Net<MemLine>, [from_dte, from_dce]: [bool; 2]) -> bool {
         && net.finds_none(0, Direction::FromDce) == from_dce
 }
 
+/// Whether deliveries find none so, each time that something was played.
+fn find_none_in_turn(alloc: Global, net: &mut Net<MemLine>, config: &Config) -> bool {
+    let mut same = true;
+    for (script, found) in &FOUND {
+        same = same && plays(alloc, net, config, script) && find_none(net, *found);
+    }
+    same && !net.finds_none(1, Direction::FromDte)
+}
+
 #[test]
 fn a_line_in_memory_tells_of_deliveries_that_find_none(rt: HostRuntime) {
     let config = read_net(rt.alloc(), PAIR).expect(&rt, "a network");
     let mut net = Net::on_memory_lines(rt.alloc(), &config).expect(&rt, "a network");
-    for case in &FOUND {
-        let (script, found) = *case;
-        assert!(rt; played_on(rt.alloc(), &mut net, &config, script).is_ok());
-        assert!(rt; find_none(&net, found));
-    }
-    assert!(rt; !net.finds_none(1, Direction::FromDte));
+    assert!(rt; find_none_in_turn(rt.alloc(), &mut net, &config));
 }
 
 /// CR at terminal 0 of a node.
@@ -523,13 +536,26 @@ const CROSSED: [Kept; 2] = [
     },
 ];
 
+/// Whether the network is as the events leave it, and refuses one more.
+fn has_crossed(net: &mut Net<MemLine>) -> bool {
+    !net.at_rest()
+        && are_kept(net.records(), &CROSSED)
+        && matches!(net.step(&key(2)), Err(StepFault::NoSuchNode))
+}
+
+/// Whether the events lead to such a network.
+fn lead_there(alloc: Global, config: &Config, events: &[Event]) -> bool {
+    match run(alloc, config, events) {
+        Ok(mut net) => has_crossed(&mut net),
+        Err(_) => false,
+    }
+}
+
 #[test]
 fn events_run_in_order(rt: HostRuntime) {
     let config = read_net(rt.alloc(), FIRST).expect(&rt, "a network");
     let events = [key(0), key(2), take(1, 2), deliver(), take(1, 1)];
-    let mut net = run(rt.alloc(), &config, &events).expect(&rt, "a network");
-    assert!(rt; !net.at_rest() && are_kept(net.records(), &CROSSED));
-    assert!(rt; matches!(net.step(&key(2)), Err(StepFault::NoSuchNode)));
+    assert!(rt; lead_there(rt.alloc(), &config, &events));
 }
 
 #[test]

@@ -1,8 +1,9 @@
 //! What the program prints through a buffer: whole lines at a time, and a flush whose failure is a fault.
 use net_player::{finish, perform};
 use std::alloc::{AllocError, Global};
-use std::io;
+use std::fs::Files;
 use std::io::{BufWriter, Write};
+use std::{io, net};
 
 /// A writer that keeps its text, and counts the writes that do not end with a line.
 #[derive(Drop)]
@@ -45,24 +46,44 @@ pub(crate) fn long(
     Ok(text)
 }
 
+/// Whether all of the text was written, whole lines at a time.
+fn is_written_whole(kept: &Kept, printed: &[u8]) -> bool {
+    kept.text.as_slice() == printed && kept.cut == 0 && kept.writes <= 6
+}
+
+/// Whether the program plays a script to its end.
+fn ends_well<F: Files + net::Net, W: Write>(
+    rt: &F,
+    alloc: Global,
+    script: &[u8],
+    out: &mut W,
+) -> bool {
+    let mut input = script;
+    let mut err = Vec::new(alloc);
+    let status = perform(rt, alloc, &[], &mut input, out, &mut err);
+    finish(status, &out.flush(), &mut err) == 0 && err.is_empty()
+}
+
+/// Whether the program writes this for a script through a buffer, whole lines at a time.
+fn writes_whole<F: Files + net::Net>(rt: &F, alloc: Global, script: &[u8], printed: &[u8]) -> bool {
+    let kept = Kept {
+        text: Vec::new(alloc),
+        writes: 0,
+        cut: 0,
+    };
+    match BufWriter::with_capacity(alloc, 1_000, kept) {
+        Ok(mut out) => {
+            ends_well(rt, alloc, script, &mut out) && is_written_whole(out.get_ref(), printed)
+        }
+        Err(_) => false,
+    }
+}
+
 #[test]
 fn lines_are_written_whole(rt: HostRuntime) {
     let script = long(rt.alloc(), LINES, b"take host 1\n", b"").expect(&rt, "a script");
     let printed = long(rt.alloc(), LINES, b"host/1 none\n", b"end rest\n").expect(&rt, "a text");
-    let kept = Kept {
-        text: Vec::new(rt.alloc()),
-        writes: 0,
-        cut: 0,
-    };
-    let mut out = BufWriter::with_capacity(rt.alloc(), 1_000, kept).expect(&rt, "a buffer");
-    let mut err = Vec::new(rt.alloc());
-    let mut input = script.as_slice();
-    let status = perform(&rt, rt.alloc(), &[], &mut input, &mut out, &mut err);
-    let status = finish(status, &out.flush(), &mut err);
-    assert!(rt; status == 0 && err.is_empty());
-    let kept = out.get_ref();
-    assert!(rt; kept.text.as_slice() == printed.as_slice());
-    assert!(rt; kept.cut == 0 && kept.writes <= 6);
+    assert!(rt; writes_whole(&rt, rt.alloc(), script.as_slice(), printed.as_slice()));
 }
 
 /// Whether of a flush that fails this is told, and the status is so, and of one that does not it stays as it was.

@@ -160,17 +160,43 @@ fn words_of(alloc: Global, line: &str) -> Result<Vec<String>, AllocError> {
     Ok(words)
 }
 
+/// Whether this is printed for a script on a network of this text, whose one line is this.
+pub(crate) fn prints_over<L: Line + Drop>(
+    alloc: Global,
+    line: L,
+    network: &str,
+    script: &[u8],
+    printed: &[u8],
+) -> bool {
+    match read_net(alloc, network) {
+        Ok(config) => prints_on_line(alloc, line, &config, script, printed),
+        Err(_) => false,
+    }
+}
+
+fn prints_on_line<L: Line + Drop>(
+    alloc: Global,
+    line: L,
+    config: &Config,
+    script: &[u8],
+    printed: &[u8],
+) -> bool {
+    let mut lines = Vec::new(alloc);
+    if lines.push(line).is_err() || lines.len() != config.lines.len() {
+        return false;
+    }
+    match Net::new(alloc, config, lines) {
+        Ok(mut net) => prints_on(alloc, &mut net, config, script, printed),
+        Err(_) => false,
+    }
+}
+
 #[test]
 fn a_line_over_sockets_plays_what_one_in_memory_does(rt: HostRuntime) {
     const SCRIPT: &[u8] = b"key pad 0 HEX\\7FLLO\\0D\nflow\ntake host 1\nflow\n";
     const PRINTED: &[u8] = b"host/1 data - \"HELLO\\0D\"\nend rest\n";
-    let config = read_net(rt.alloc(), FIRST).expect(&rt, "a network");
-    let mut lines = Vec::new(rt.alloc());
     let line = UdpLine::pair(&rt, rt.alloc()).expect(&rt, "a line");
-    lines.push(line).expect(&rt, "a list of lines");
-    assert!(rt; lines.len() == config.lines.len());
-    let mut net = Net::new(rt.alloc(), &config, lines).expect(&rt, "a network");
-    assert!(rt; prints_on(rt.alloc(), &mut net, &config, SCRIPT, PRINTED));
+    assert!(rt; prints_over(rt.alloc(), line, FIRST, SCRIPT, PRINTED));
 }
 
 /// Why a network of a text is not made, where it is spelled as one.
@@ -218,19 +244,44 @@ impl Write for Broken {
     }
 }
 
+/// Words for which the program ends with a fault, with the status and what is told.
+const FAULTS: [(&str, u8, &[u8]); 3] = [
+    ("dance", 2, b"bad words\n"),
+    (
+        "run --net nowhere/net --script nowhere/script",
+        1,
+        b"fault 7\n",
+    ),
+    (
+        "sim --net nowhere/net --script nowhere/script",
+        1,
+        b"fault 7\n",
+    ),
+];
+
 #[test]
 fn faults_are_told(rt: HostRuntime) {
-    const RUN: &str = "run --net nowhere/net --script nowhere/script";
-    const SIM: &str = "sim --net nowhere/net --script nowhere/script";
-    let mut flow: &[u8] = b"flow";
-    ends(&rt, rt.alloc(), "dance", &mut flow, 2, b"", b"bad words\n");
-    ends(&rt, rt.alloc(), RUN, &mut flow, 1, b"", b"fault 7\n");
-    ends(&rt, rt.alloc(), SIM, &mut flow, 1, b"", b"fault 7\n");
+    for (line, status, told) in &FAULTS {
+        let mut flow: &[u8] = b"flow";
+        ends(&rt, rt.alloc(), line, &mut flow, *status, b"", told);
+    }
+}
+
+#[test]
+fn input_that_cannot_be_read_is_a_fault(rt: HostRuntime) {
     ends(&rt, rt.alloc(), "", &mut Broken, 1, b"", b"fault 7\n");
-    let mut long = io::repeat(b'\n').take(1_048_577);
-    ends(&rt, rt.alloc(), "", &mut long, 1, b"", b"fault 7\n");
-    let mut full = io::repeat(b'\n').take(1_048_576);
-    ends(&rt, rt.alloc(), "", &mut full, 0, b"end rest\n", b"");
+}
+
+#[test]
+fn input_has_at_most_a_mebibyte(rt: HostRuntime) {
+    const MOST: [(u64, u8, &[u8], &[u8]); 2] = [
+        (1_048_577, 1, b"", b"fault 7\n"),
+        (1_048_576, 0, b"end rest\n", b""),
+    ];
+    for (octets, status, printed, told) in &MOST {
+        let mut input = io::repeat(b'\n').take(*octets);
+        ends(&rt, rt.alloc(), "", &mut input, *status, printed, told);
+    }
 }
 
 #[test]
