@@ -1,6 +1,7 @@
 //! Little books, write by write.
 ghost use Rattle.std.specs.Prelude.{◌≤◌};
 
+use crate::nodes::is_packet;
 use call_records::{Book, EditStep, Epoch, Interrupt, PacketsIter, Pair, Passed, Record};
 use frame_codec::FrameBuf;
 use link_timers::Role;
@@ -20,20 +21,37 @@ const CALLED: [u8; 4] = [2, 0, 0, 1];
 
 const INTERRUPT: &[u8] = &[7];
 
-// What passed in one direction of a call in an epoch: packets with M = 1 and D = 1, interrupts, and how many of the
-// packets count.
+// What passed in one direction of a call in an epoch: packets with M = 1 and D = 1, the one interrupt if there was one,
+// and how many of the packets count.
 #[derive(Clone, Copy)]
 struct Passage<'a> {
     packets: &'a [&'a [u8]],
-    interrupts: &'a [&'a [u8]],
+    interrupt: Option<&'a [u8]>,
     counted: usize,
 }
 
 const NOTHING: Passage = Passage {
     packets: &[],
-    interrupts: &[],
+    interrupt: None,
     counted: 0,
 };
+
+// What a record must show.
+#[derive(Clone, Copy)]
+enum Shown<'a> {
+    // it is open, and of this node and these addresses, of which no digits are none
+    Open(usize, &'a [u8], &'a [u8]),
+    IsClosed(bool),
+    // what it has in the last epoch, or in one that ended
+    Sent(Option<usize>, Passage<'a>),
+    Took(Option<usize>, Passage<'a>),
+    // how many epochs ended in it both ways, and that none of what was sent has this number
+    Ended(usize),
+    NoEpoch(usize),
+    // how many packets count in its last epoch
+    SentCount(usize),
+    TakenCount(usize),
+}
 
 // What is written into a book, or looked at, with what must be there.
 #[derive(Clone, Copy)]
@@ -64,25 +82,15 @@ enum Step<'a> {
     Pairs(&'a [Pair]),
     // the record of the present call on a channel
     Present(Role, u8, Option<usize>),
-    // the record of a number is open, and of this node and these addresses, of which no digits are none
-    Open(usize, usize, &'a [u8], &'a [u8]),
-    IsClosed(usize, bool),
-    // what the record of a number has in the last epoch, or in one that ended
-    Sent(usize, Option<usize>, Passage<'a>),
-    Took(usize, Option<usize>, Passage<'a>),
-    // how many epochs ended in the record of a number both ways, and that none of what was sent has this number
-    Ended(usize, usize),
-    NoEpoch(usize, usize),
-    // how many packets count in its last epoch
-    SentCount(usize, usize),
-    TakenCount(usize, usize),
+    // what the record of a number shows
+    Shows(usize, Shown<'a>),
 }
 
 use Role::{Dce, Dte};
+use Shown::{Ended, IsClosed, NoEpoch, Open, Sent, SentCount, TakenCount, Took};
 use Step::{
-    Answer, Close, CloseAll, Closed, Connected, Cover, Covered, Ended, Incoming, IsClosed, NoEpoch,
-    Open, Pairs, Place, Present, Records, Release, Renew, Reset, Send, SendInterrupt, SendOn, Sent,
-    SentCount, TakenCount, Took,
+    Answer, Close, CloseAll, Closed, Connected, Cover, Covered, Incoming, Pairs, Place, Present,
+    Records, Release, Renew, Reset, Send, SendInterrupt, SendOn, Shows,
 };
 
 // A rule, and steps by which it is seen at a new book, with a call that stands on channel 1 or without one.
@@ -92,9 +100,19 @@ struct Example<'a> {
     steps: &'a [Step<'a>],
 }
 
-fn play(rt: &impl Abort, alloc: Global, example: &Example<'_>) {
-    let mut book = new_book(alloc, example.standing).expect(rt, "a book");
-    play_at(rt, &mut book, example.rule, example.steps);
+fn play(rt: &impl Abort, alloc: Global, examples: &[Example<'_>]) {
+    for example in examples {
+        let rule = example.rule;
+        assert!(rt; holds(alloc, example), "{rule}");
+    }
+}
+
+// Whether the steps of an example fit at a new book.
+fn holds(alloc: Global, example: &Example<'_>) -> bool {
+    match new_book(alloc, example.standing) {
+        Ok(mut book) => fit(&mut book, example.steps),
+        Err(_) => false,
+    }
 }
 
 // A book of a line of four channels.
@@ -102,10 +120,12 @@ fn new_book(alloc: Global, standing: bool) -> Result<Book, AllocError> {
     Book::new(alloc, DTE_NODE, DCE_NODE, 4, standing)
 }
 
-fn play_at(rt: &impl Abort, book: &mut Book, rule: &str, steps: &[Step<'_>]) {
-    for (place, step) in steps.iter().enumerate() {
-        assert!(rt; fits(book, *step), "{rule}: step {place}");
+fn fit(book: &mut Book, steps: &[Step<'_>]) -> bool {
+    let mut same = true;
+    for step in steps {
+        same = same && fits(book, *step);
     }
+    same
 }
 
 fn fits(book: &mut Book, step: Step<'_>) -> bool {
@@ -113,21 +133,8 @@ fn fits(book: &mut Book, step: Step<'_>) -> bool {
         Records(count) => book.records().len() == count,
         Pairs(pairs) => book.pairs() == pairs,
         Present(role, channel, number) => book.present(role, channel) == number,
-        Open(number, node, own, far) => is_open(book, number, node, own, far),
-        IsClosed(number, closed) => is_closed(book, number, closed),
-        Sent(number, epoch, passage) => has_sent(book, number, epoch, passage),
-        Took(number, epoch, passage) => has_taken(book, number, epoch, passage),
-        Ended(number, count) => has_ended(book, number, count),
-        NoEpoch(number, epoch) => has_no_epoch(book, number, epoch),
-        SentCount(number, count) => counts_of(book, number).0 == Some(count),
-        TakenCount(number, count) => counts_of(book, number).1 == Some(count),
-        _ => {
-            book.reserve(1).is_ok()
-                && {
-                    write(book, step);
-                    true
-                }
-        }
+        Shows(number, shown) => record_shows(book, number, shown),
+        _ => writes(book, step),
     }
 }
 
@@ -150,6 +157,16 @@ fn write(book: &mut Book, step: Step<'_>)
         Answer(role, channel) => book.answer(role, channel),
         Close(role, channel) => book.close(role, channel),
         CloseAll(role) => book.close_all(role),
+        Renew(role) => book.renew(role, 1),
+        _ => pass(book, step),
+    }
+}
+
+// What passes, and what of it counts.
+fn pass(book: &mut Book, step: Step<'_>)
+    requires { 1 ≤ book.old.room }
+{
+    match step {
         Send(role, octets) if octets.len() <= 128 => book.send(role, 1, octets, true, false, true),
         SendOn(role, channel, octets) if octets.len() <= 128 => {
             book.send(role, channel, octets, false, false, false);
@@ -157,7 +174,6 @@ fn write(book: &mut Book, step: Step<'_>)
         SendInterrupt(role, octets) if octets.len() <= 32 => book.interrupt(role, 1, octets),
         Release(role, count) => book.release(role, 1, count),
         Cover(role, count) => book.cover(role, 1, count),
-        Renew(role) => book.renew(role, 1),
         _ => tell(book, step),
     }
 }
@@ -213,38 +229,31 @@ fn is_address(address: &Option<Address>, digits: &[u8]) -> bool {
     }
 }
 
-fn is_open(book: &Book, number: usize, node: usize, own: &[u8], far: &[u8]) -> bool {
+fn record_shows(book: &Book, number: usize, shown: Shown<'_>) -> bool {
     match book.records().get(number) {
-        Some(record) => {
-            record.number == number
-                && record.node == node
-                && is_address(&record.own, own)
-                && is_address(&record.far, far)
-                && !record.closed
-        }
+        Some(record) => record.number == number && shows(record, shown),
         None => false,
     }
 }
 
-fn is_closed(book: &Book, number: usize, closed: bool) -> bool {
-    match book.records().get(number) {
-        Some(record) => record.closed == closed,
-        None => false,
+fn shows(record: &Record, shown: Shown<'_>) -> bool {
+    match shown {
+        Open(node, own, far) => is_open(record, node, own, far),
+        IsClosed(closed) => record.closed == closed,
+        Sent(epoch, passage) => has_passed(&record.sent, epoch, passage),
+        Took(epoch, passage) => has_passed(&record.taken, epoch, passage),
+        Ended(count) => record.sent.ended() == count && record.taken.ended() == count,
+        NoEpoch(epoch) => record.sent.before(epoch).is_none(),
+        SentCount(count) => record.sent.last().counted == count,
+        TakenCount(count) => record.taken.last().counted == count,
     }
 }
 
-fn has_sent(book: &Book, number: usize, epoch: Option<usize>, passage: Passage<'_>) -> bool {
-    match book.records().get(number) {
-        Some(record) => has_passed(&record.sent, epoch, passage),
-        None => false,
-    }
-}
-
-fn has_taken(book: &Book, number: usize, epoch: Option<usize>, passage: Passage<'_>) -> bool {
-    match book.records().get(number) {
-        Some(record) => has_passed(&record.taken, epoch, passage),
-        None => false,
-    }
+fn is_open(record: &Record, node: usize, own: &[u8], far: &[u8]) -> bool {
+    record.node == node
+        && is_address(&record.own, own)
+        && is_address(&record.far, far)
+        && !record.closed
 }
 
 fn has_passed(passed: &Passed, epoch: Option<usize>, passage: Passage<'_>) -> bool {
@@ -259,54 +268,25 @@ fn has_passed(passed: &Passed, epoch: Option<usize>, passage: Passage<'_>) -> bo
 
 fn is_passage(epoch: Epoch<'_>, passage: Passage<'_>) -> bool {
     epoch.counted == passage.counted
-        && are_interrupts(epoch.interrupts, passage.interrupts)
+        && is_interrupt(epoch.interrupts, passage.interrupt)
         && are_packets(epoch.packets, passage.packets)
 }
 
 // Whether these are packets with M = 1 and D = 1 and the octets, one packet each.
-fn are_packets(packets: PacketsIter<'_>, each: &[&[u8]]) -> bool {
+fn are_packets(mut packets: PacketsIter<'_>, each: &[&[u8]]) -> bool {
     let mut same = packets.len() == each.len();
-    for (packet, octets) in packets.zip(each) {
-        same = same
-            && packet.octets == *octets
-            && packet.more
-            && !packet.qualified
-            && packet.delivery;
+    for octets in each {
+        same = same && is_packet(packets.next(), octets, true, true);
     }
     same
 }
 
-fn are_interrupts(interrupts: &[Interrupt], each: &[&[u8]]) -> bool {
-    let mut same = interrupts.len() == each.len();
-    for (interrupt, octets) in interrupts.iter().zip(each) {
-        same = same && interrupt.octets() == *octets;
-    }
-    same
-}
-
-// Of what was sent and of what was taken, whether so many epochs ended.
-fn has_ended(book: &Book, number: usize, count: usize) -> bool {
-    match book.records().get(number) {
-        Some(record) => record.sent.ended() == count && record.taken.ended() == count,
-        None => false,
-    }
-}
-
-fn has_no_epoch(book: &Book, number: usize, epoch: usize) -> bool {
-    match book.records().get(number) {
-        Some(record) => record.sent.before(epoch).is_none(),
-        None => false,
-    }
-}
-
-// How many packets count in the last epoch, of what was sent and of what was taken.
-fn counts_of(book: &Book, number: usize) -> (Option<usize>, Option<usize>) {
-    match book.records().get(number) {
-        Some(record) => (
-            Some(record.sent.last().counted),
-            Some(record.taken.last().counted),
-        ),
-        None => (None, None),
+// Whether there is this interrupt alone, or none.
+fn is_interrupt(interrupts: &[Interrupt], octets: Option<&[u8]>) -> bool {
+    match (interrupts, octets) {
+        ([interrupt], Some(octets)) => interrupt.octets() == octets,
+        ([], None) => true,
+        _ => false,
     }
 }
 
@@ -324,9 +304,9 @@ const CALLS: &[Example] = &[
             Records(0),
             Pairs(&[]),
             Place(Dte, 2),
-            Open(0, DTE_NODE, &[], &CALLED),
+            Shows(0, Open(DTE_NODE, &[], &CALLED)),
             Incoming(Dce, 2),
-            Open(1, DCE_NODE, &CALLED, &[]),
+            Shows(1, Open(DCE_NODE, &CALLED, &[])),
             Present(Dte, 2, Some(0)),
             Present(Dce, 2, Some(1)),
             Pairs(&[]),
@@ -334,13 +314,13 @@ const CALLS: &[Example] = &[
             Connected(Dte, 2),
             Pairs(FIRST_PAIR),
             Close(Dte, 2),
-            IsClosed(0, true),
-            IsClosed(1, false),
+            Shows(0, IsClosed(true)),
+            Shows(1, IsClosed(false)),
             Closed(Dce, 2, Reason::FarEnd),
-            IsClosed(1, true),
+            Shows(1, IsClosed(true)),
             Present(Dce, 2, None),
             Place(Dce, 2),
-            Open(2, DCE_NODE, &[], &CALLED),
+            Shows(2, Open(DCE_NODE, &[], &CALLED)),
             Pairs(FIRST_PAIR),
             Records(3),
         ],
@@ -354,8 +334,8 @@ const CALLS: &[Example] = &[
             Place(Dce, 1),
             Closed(Dce, 1, Reason::Cancelled),
             Incoming(Dce, 1),
-            IsClosed(1, true),
-            Open(2, DCE_NODE, &CALLED, &[]),
+            Shows(1, IsClosed(true)),
+            Shows(2, Open(DCE_NODE, &CALLED, &[])),
             Answer(Dce, 1),
             Answer(Dte, 1),
             Pairs(&[Pair {
@@ -368,8 +348,8 @@ const CALLS: &[Example] = &[
         rule: "a call stands",
         standing: true,
         steps: &[
-            Open(0, DTE_NODE, &[], &[]),
-            Open(1, DCE_NODE, &[], &[]),
+            Shows(0, Open(DTE_NODE, &[], &[])),
+            Shows(1, Open(DCE_NODE, &[], &[])),
             Pairs(FIRST_PAIR),
             Records(2),
             Present(Dte, 1, Some(0)),
@@ -382,9 +362,7 @@ const CALLS: &[Example] = &[
 
 #[test]
 fn books_have_calls(rt: HostRuntime) {
-    for example in CALLS {
-        play(&rt, rt.alloc(), example);
-    }
+    play(&rt, rt.alloc(), CALLS);
 }
 
 // What passed in epochs, and calls that close.
@@ -398,20 +376,22 @@ const EPOCHS: &[Example] = &[
             Renew(Dte),
             Reset(Dce),
             Records(2),
-            Sent(0, None, NOTHING),
-            Took(0, None, NOTHING),
-            Sent(1, None, NOTHING),
-            Took(1, None, NOTHING),
-            Ended(0, 1),
-            Ended(1, 1),
-            Sent(
+            Shows(0, Sent(None, NOTHING)),
+            Shows(0, Took(None, NOTHING)),
+            Shows(1, Sent(None, NOTHING)),
+            Shows(1, Took(None, NOTHING)),
+            Shows(0, Ended(1)),
+            Shows(1, Ended(1)),
+            Shows(
                 0,
-                Some(0),
-                Passage {
-                    packets: &[b"AB"],
-                    interrupts: &[],
-                    counted: 1,
-                },
+                Sent(
+                    Some(0),
+                    Passage {
+                        packets: &[b"AB"],
+                        interrupt: None,
+                        counted: 1,
+                    },
+                ),
             ),
         ],
     },
@@ -429,35 +409,41 @@ const EPOCHS: &[Example] = &[
             Renew(Dte),
             Send(Dte, b"EF"),
             Records(2),
-            Sent(
+            Shows(
                 0,
-                Some(0),
-                Passage {
-                    packets: &[b"AB", b"C"],
-                    interrupts: &[INTERRUPT],
-                    counted: 1,
-                },
+                Sent(
+                    Some(0),
+                    Passage {
+                        packets: &[b"AB", b"C"],
+                        interrupt: Some(INTERRUPT),
+                        counted: 1,
+                    },
+                ),
             ),
-            Sent(
+            Shows(
                 0,
-                Some(1),
-                Passage {
-                    packets: &[b"D"],
-                    interrupts: &[],
-                    counted: 0,
-                },
+                Sent(
+                    Some(1),
+                    Passage {
+                        packets: &[b"D"],
+                        interrupt: None,
+                        counted: 0,
+                    },
+                ),
             ),
-            Sent(
+            Shows(
                 0,
-                None,
-                Passage {
-                    packets: &[b"EF"],
-                    interrupts: &[],
-                    counted: 0,
-                },
+                Sent(
+                    None,
+                    Passage {
+                        packets: &[b"EF"],
+                        interrupt: None,
+                        counted: 0,
+                    },
+                ),
             ),
-            Ended(0, 2),
-            NoEpoch(0, 2),
+            Shows(0, Ended(2)),
+            Shows(0, NoEpoch(2)),
         ],
     },
     Example {
@@ -467,10 +453,10 @@ const EPOCHS: &[Example] = &[
             Place(Dte, 4),
             Place(Dce, 3),
             CloseAll(Dte),
-            IsClosed(0, true),
-            IsClosed(2, true),
-            IsClosed(1, false),
-            IsClosed(3, false),
+            Shows(0, IsClosed(true)),
+            Shows(2, IsClosed(true)),
+            Shows(1, IsClosed(false)),
+            Shows(3, IsClosed(false)),
             Present(Dte, 1, None),
             Present(Dte, 4, None),
             Present(Dce, 3, Some(3)),
@@ -485,20 +471,18 @@ const EPOCHS: &[Example] = &[
             Present(Dte, 5, None),
             SendOn(Dte, 5, b"AB"),
             Close(Dte, 5),
-            Open(0, DTE_NODE, &[], &CALLED),
+            Shows(0, Open(DTE_NODE, &[], &CALLED)),
         ],
     },
 ];
 
 #[test]
 fn books_have_epochs(rt: HostRuntime) {
-    for example in EPOCHS {
-        play(&rt, rt.alloc(), example);
-    }
+    play(&rt, rt.alloc(), EPOCHS);
 }
 
-// What the DCE takes of a call that stands, where the DTE sent a packet with M = 1 and D = 1 and an interrupt.
-fn taken_at_dce(alloc: Global) -> Result<(Option<Taken>, Option<Taken>), EndFault> {
+// An end of a line of one channel, on which a call stands.
+fn new_end(alloc: Global, role: Role) -> Result<PacketEnd, EndFault> {
     let params = EndParams {
         k: 7,
         n2: 3,
@@ -506,8 +490,11 @@ fn taken_at_dce(alloc: Global) -> Result<(Option<Taken>, Option<Taken>), EndFaul
         window: 2,
         standing: true,
     };
-    let mut dte = PacketEnd::new(alloc, Role::Dte, params)?;
-    let mut dce = PacketEnd::new(alloc, Role::Dce, params)?;
+    PacketEnd::new(alloc, role, params)
+}
+
+// The DTE sends a packet with M = 1 and D = 1 and an interrupt.
+fn send_both(dte: &mut PacketEnd) {
     let packet = Request::Send {
         octets: b"AB",
         more: true,
@@ -516,7 +503,13 @@ fn taken_at_dce(alloc: Global) -> Result<(Option<Taken>, Option<Taken>), EndFaul
     };
     let _ = dte.ask(1, &packet);
     let _ = dte.ask(1, &Request::Interrupt(&[7]));
-    dte.finish();
+    if dte.waiting_notes() == 0 {
+        dte.finish();
+    }
+}
+
+// Two frames of the DTE arrive at the DCE.
+fn carry_both(dte: &mut PacketEnd, dce: &mut PacketEnd) {
     let mut frame = FrameBuf::new();
     for _ in 0..2 {
         if dte.out(&mut frame) {
@@ -524,27 +517,40 @@ fn taken_at_dce(alloc: Global) -> Result<(Option<Taken>, Option<Taken>), EndFaul
             dce.on_frame(frame.as_slice());
         }
     }
-    let interrupt = dce.take(1);
-    Ok((interrupt, dce.take(1)))
 }
 
-// What was taken is written into the book, if something was.
-fn takes(book: &mut Book, taken: &Option<Taken>) -> bool {
-    match (book.reserve(1), taken) {
-        (Ok(()), Some(taken)) => {
-            book.take(Dce, 1, taken);
+// What a DTE has sent comes to the DCE. Whether there was memory for the DTE.
+fn hears_both(alloc: Global, dce: &mut PacketEnd) -> bool {
+    match new_end(alloc, Role::Dte) {
+        Ok(mut dte) => {
+            send_both(&mut dte);
+            carry_both(&mut dte, dce);
             true
         }
-        _ => false,
+        Err(_) => false,
     }
 }
 
-fn all_is_written(
-    rt: &impl Abort,
-    book: &mut Book,
-    interrupt: &Option<Taken>,
-    packet: &Option<Taken>,
-) {
+// What the DCE takes next is written into the book, if there is something.
+fn takes(book: &mut Book, dce: &mut PacketEnd) -> bool {
+    match dce.take(1) {
+        Some(taken) => writes_taken(book, &taken),
+        None => false,
+    }
+}
+
+fn writes_taken(book: &mut Book, taken: &Taken) -> bool {
+    match book.reserve(1) {
+        Ok(()) => {
+            book.take(Dce, 1, taken);
+            true
+        }
+        Err(_) => false,
+    }
+}
+
+// Whether all is written of what was sent, and of the interrupt and the packet that the DCE takes.
+fn writes_all(book: &mut Book, dce: &mut PacketEnd) -> bool {
     const SENT: &[Step] = &[
         Send(Dte, b"AB"),
         Send(Dte, b"C"),
@@ -554,42 +560,50 @@ fn all_is_written(
         Release(Dce, 1),
         Covered(Dte, 1),
         Records(2),
-        Sent(
+        Shows(
             0,
-            None,
-            Passage {
-                packets: &[b"AB", b"C"],
-                interrupts: &[INTERRUPT],
-                counted: 1,
-            },
+            Sent(
+                None,
+                Passage {
+                    packets: &[b"AB", b"C"],
+                    interrupt: Some(INTERRUPT),
+                    counted: 1,
+                },
+            ),
         ),
-        Took(0, None, NOTHING),
-        Took(
+        Shows(0, Took(None, NOTHING)),
+        Shows(
             1,
-            None,
-            Passage {
-                packets: &[b"AB"],
-                interrupts: &[INTERRUPT],
-                counted: 1,
-            },
+            Took(
+                None,
+                Passage {
+                    packets: &[b"AB"],
+                    interrupt: Some(INTERRUPT),
+                    counted: 1,
+                },
+            ),
         ),
-        Sent(1, None, NOTHING),
+        Shows(1, Sent(None, NOTHING)),
         Release(Dce, 5),
         Cover(Dte, 5),
         Records(2),
-        TakenCount(1, 1),
-        SentCount(0, 1),
+        Shows(1, TakenCount(1)),
+        Shows(0, SentCount(1)),
     ];
-    play_at(rt, book, "what was sent", SENT);
-    assert!(rt; takes(book, interrupt) && takes(book, packet));
-    play_at(rt, book, "what was taken", COVERED);
+    fit(book, SENT) && takes(book, dce) && takes(book, dce) && fit(book, COVERED)
+}
+
+fn both_pass(alloc: Global, book: &mut Book) -> bool {
+    match new_end(alloc, Role::Dce) {
+        Ok(mut dce) => hears_both(alloc, &mut dce) && writes_all(book, &mut dce),
+        Err(_) => false,
+    }
 }
 
 #[test]
 fn packets_and_interrupts_pass(rt: HostRuntime) {
     let mut book = new_book(rt.alloc(), true).expect(&rt, "a book");
-    let (interrupt, packet) = taken_at_dce(rt.alloc()).expect(&rt, "two ends");
-    all_is_written(&rt, &mut book, &interrupt, &packet);
+    assert!(rt; both_pass(rt.alloc(), &mut book));
 }
 
 // Whether the keys 65 and 13 and nothing else are written at the DTE, and take their room.

@@ -33,13 +33,6 @@ struct Station {
     told: ArrayVec<Told, 16>,
 }
 
-// The two ends of a line.
-#[derive(Drop)]
-struct Line {
-    dte: Station,
-    dce: Station,
-}
-
 // What a user asks of the call on a channel, as a constant has it.
 #[derive(Clone, Copy)]
 enum Asked {
@@ -190,7 +183,17 @@ fn has_sent_packet(frames: &Frames, octets: &[u8]) -> bool {
 
 // Performs an act, and answers whether it fits.
 fn perform(station: &mut Station, act: Act<'_>) -> bool {
-    let host = &mut station.host;
+    match act {
+        Act::Told(notes) => station.told.take().as_slice() == notes,
+        Sent(octets) => has_sent(&station.sent, octets),
+        SentPacket(octets) => has_sent_packet(&station.sent, octets),
+        SentNothing => station.sent.is_empty(),
+        _ => is_answered(&mut station.host, act),
+    }
+}
+
+// What is asked of a host, with its answer.
+fn is_answered(host: &mut Host, act: Act<'_>) -> bool {
     match act {
         Call(address, answer) => host.call(number(address), &[]) == answer,
         Ask(asked, channel, answer) => ask(host, asked, channel) == answer,
@@ -198,32 +201,34 @@ fn perform(station: &mut Station, act: Act<'_>) -> bool {
         SayQualified(octets, answer) => host.say(CHANNEL, octets, true, false) == answer,
         SayOn(channel, answer) => host.say(channel, b"X", false, false) == answer,
         Interrupt(octets, answer) => host.interrupt(CHANNEL, octets) == answer,
+        _ => is_there(host, act),
+    }
+}
+
+// What a host has for its user, and its timers.
+fn is_there(host: &mut Host, act: Act<'_>) -> bool {
+    match act {
         Take(octets, more, qualified, delivery) => takes(host, octets, more, qualified, delivery),
         TakeInterrupt(octets) => takes_interrupt(host, octets),
         TakeNothing => host.take(CHANNEL).is_none(),
         Confirmed(answer) => host.confirmed(CHANNEL) == answer,
-        Act::Told(notes) => station.told.take().as_slice() == notes,
-        Sent(octets) => has_sent(&station.sent, octets),
-        SentPacket(octets) => has_sent_packet(&station.sent, octets),
-        SentNothing => station.sent.is_empty(),
-        Hear(octets) => {
-            host.on_frame(octets);
-            true
-        }
-        Elapse(ticks) => {
-            host.elapse(ticks);
-            true
-        }
         Due(timer) => host.due() == timer,
         Expire(timer, ran) => host.on_timer(timer) == ran,
-        Relink => {
-            host.relink();
+        _ => {
+            happens(host, act);
             true
         }
-        Restart => {
-            host.restart();
-            true
-        }
+    }
+}
+
+// What happens without an answer.
+fn happens(host: &mut Host, act: Act<'_>) {
+    match act {
+        Hear(octets) => host.on_frame(octets),
+        Elapse(ticks) => host.elapse(ticks),
+        Relink => host.relink(),
+        Restart => host.restart(),
+        _ => {}
     }
 }
 
@@ -233,62 +238,63 @@ fn perform_at(station: &mut Station, act: Act<'_>) -> bool {
     fits
 }
 
-fn fits(line: &mut Line, step: Step<'_>) -> bool {
+fn fits(dte: &mut Station, dce: &mut Station, step: Step<'_>) -> bool {
     match step {
-        At(Dte, act) => return perform_at(&mut line.dte, act),
-        At(Dce, act) => return perform_at(&mut line.dce, act),
-        Deliver(Dte) => deliver(&mut line.dte, &mut line.dce),
-        Deliver(Dce) => deliver(&mut line.dce, &mut line.dte),
-        Flow => flow(line),
-    }
-    true
-}
-
-fn flow(line: &mut Line) {
-    for _ in 0..40 {
-        deliver(&mut line.dte, &mut line.dce);
-        deliver(&mut line.dce, &mut line.dte);
-    }
-}
-
-// Goes through the steps, and answers the place of the first one that does not fit.
-fn misfit(line: &mut Line, steps: &[Step<'_>]) -> Option<usize> {
-    for (place, step) in steps.iter().enumerate() {
-        if !fits(line, *step) {
-            return Some(place);
+        At(Dte, act) => perform_at(dte, act),
+        At(Dce, act) => perform_at(dce, act),
+        _ => {
+            carry(dte, dce, step);
+            true
         }
     }
-    None
 }
 
-fn config(role: Role, channels: u8) -> HostConfig {
-    HostConfig {
-        role,
-        line: EndParams {
-            k: 7,
-            n2: 3,
-            channels,
-            window: 2,
-            standing: false,
-        },
+fn carry(dte: &mut Station, dce: &mut Station, step: Step<'_>) {
+    match step {
+        Deliver(Dte) => deliver(dte, dce),
+        Deliver(Dce) => deliver(dce, dte),
+        _ => flow(dte, dce),
     }
+}
+
+fn flow(dte: &mut Station, dce: &mut Station) {
+    for _ in 0..40 {
+        deliver(dte, dce);
+        deliver(dce, dte);
+    }
+}
+
+// Whether all steps fit.
+fn fit(dte: &mut Station, dce: &mut Station, steps: &[Step<'_>]) -> bool {
+    let mut same = true;
+    for step in steps {
+        same = same && fits(dte, dce, *step);
+    }
+    same
+}
+
+// A line of four channels.
+const LINE: EndParams = EndParams {
+    k: 7,
+    n2: 3,
+    channels: 4,
+    window: 2,
+    standing: false,
+};
+
+fn new_host(alloc: Global, role: Role, line: EndParams) -> Result<Host, EndFault> {
+    Host::new(alloc, HostConfig { role, line })
 }
 
 fn new_station(alloc: Global, role: Role, channels: u8) -> Result<Station, EndFault> {
-    let mut station = Station {
-        host: Host::new(alloc, config(role, channels))?,
-        sent: ArrayVec::new(),
-        told: ArrayVec::new(),
-    };
-    collect(&mut station);
-    Ok(station)
-}
-
-fn new_line(alloc: Global, channels: u8) -> Result<Line, EndFault> {
-    Ok(Line {
-        dte: new_station(alloc, Dte, channels)?,
-        dce: new_station(alloc, Dce, channels)?,
-    })
+    match new_host(alloc, role, EndParams { channels, ..LINE }) {
+        Ok(host) => Ok(Station {
+            host,
+            sent: ArrayVec::new(),
+            told: ArrayVec::new(),
+        }),
+        Err(fault) => Err(fault),
+    }
 }
 
 // A rule, and steps by which it is seen on a line of so many channels, where a call stands or does not.
@@ -299,17 +305,35 @@ struct Example<'a> {
     steps: &'a [Step<'a>],
 }
 
-fn play(rt: &impl Abort, alloc: Global, example: &Example<'_>) {
-    let mut line = new_line(alloc, example.channels).expect(rt, "two hosts");
-    let rule = example.rule;
-    assert!(rt; holds(&mut line, example), "{rule}");
+fn play(rt: &impl Abort, alloc: Global, examples: &[Example<'_>]) {
+    for example in examples {
+        let rule = example.rule;
+        assert!(rt; holds(alloc, example), "{rule}");
+    }
+}
+
+// Whether an example holds on a new line.
+fn holds(alloc: Global, example: &Example<'_>) -> bool {
+    match new_station(alloc, Dte, example.channels) {
+        Ok(mut dte) => holds_from(alloc, &mut dte, example),
+        Err(_) => false,
+    }
+}
+
+// Whether an example holds between a new DTE and a new DCE.
+fn holds_from(alloc: Global, dte: &mut Station, example: &Example<'_>) -> bool {
+    match new_station(alloc, Dce, example.channels) {
+        Ok(mut dce) => holds_between(dte, &mut dce, example),
+        Err(_) => false,
+    }
 }
 
 // Whether the steps of an example fit once the link is up.
-fn holds(line: &mut Line, example: &Example<'_>) -> bool {
-    flow(line);
-    let connected = !example.connected || misfit(line, CONNECTED).is_none();
-    connected && misfit(line, example.steps).is_none()
+fn holds_between(dte: &mut Station, dce: &mut Station, example: &Example<'_>) -> bool {
+    collect(dte);
+    collect(dce);
+    flow(dte, dce);
+    (!example.connected || fit(dte, dce, CONNECTED)) && fit(dte, dce, example.steps)
 }
 
 // The DTE calls the DCE on channel 4.
@@ -395,9 +419,7 @@ const CALLS: &[Example] = &[
 
 #[test]
 fn hosts_set_calls_up(rt: HostRuntime) {
-    for example in CALLS {
-        play(&rt, rt.alloc(), example);
-    }
+    play(&rt, rt.alloc(), CALLS);
 }
 
 // Packets that wait, and their delivery.
@@ -443,9 +465,7 @@ const QUEUES: &[Example] = &[
 
 #[test]
 fn hosts_queue_packets(rt: HostRuntime) {
-    for example in QUEUES {
-        play(&rt, rt.alloc(), example);
-    }
+    play(&rt, rt.alloc(), QUEUES);
 }
 
 // Messages and interrupts.
@@ -508,9 +528,7 @@ const DATA: &[Example] = &[
 
 #[test]
 fn hosts_carry_data(rt: HostRuntime) {
-    for example in DATA {
-        play(&rt, rt.alloc(), example);
-    }
+    play(&rt, rt.alloc(), DATA);
 }
 
 // Calls that are refused and cleared, and sessions that begin anew.
@@ -556,30 +574,26 @@ const ENDS: &[Example] = &[
 
 #[test]
 fn hosts_clear_calls(rt: HostRuntime) {
-    for example in ENDS {
-        play(&rt, rt.alloc(), example);
-    }
+    play(&rt, rt.alloc(), ENDS);
 }
 
-// Why a host of this line is not made.
-fn fault_of(alloc: Global, line: EndParams) -> Option<EndFault> {
-    match Host::new(alloc, HostConfig { role: Dce, line }) {
-        Ok(_) => None,
-        Err(fault) => Some(fault),
-    }
+// Lines that a host is not made for.
+const BAD_LINES: &[EndParams] = &[
+    EndParams { k: 8, ..LINE },
+    EndParams { window: 0, ..LINE },
+    EndParams {
+        channels: 33,
+        ..LINE
+    },
+];
+
+fn is_bad(alloc: Global, line: EndParams) -> bool {
+    new_host(alloc, Dce, line).err() == Some(EndFault::BadConfig)
 }
 
 #[test]
 fn configurations_have_ranges(rt: HostRuntime) {
-    let good = config(Dce, 4).line;
-    for line in [
-        EndParams { k: 8, ..good },
-        EndParams { window: 0, ..good },
-        EndParams {
-            channels: 33,
-            ..good
-        },
-    ] {
-        assert!(rt; fault_of(rt.alloc(), line) == Some(EndFault::BadConfig));
+    for line in BAD_LINES {
+        assert!(rt; is_bad(rt.alloc(), *line));
     }
 }

@@ -3,11 +3,10 @@ use call_records::{Book, Packet};
 use frame_codec::FrameBuf;
 use line_nodes::{Node, NodeFault, write_request, write_taken};
 use link_timers::Role;
-use packet_end::EndParams;
+use packet_end::{EndFault, EndParams};
 use packet_host::{Host, HostConfig, HostRequest};
 use packet_layer::{CallFault, ChannelFault, Taken, UserData};
 use std::alloc::{AllocError, Global};
-use std::process::Abort;
 use x3_params::{Params, Profile};
 use x25_pad::{Pad, PadConfig};
 
@@ -29,29 +28,21 @@ fn new_book(alloc: Global) -> Result<Book, AllocError> {
     Book::new(alloc, DTE_NODE, DCE_NODE, LINE.channels, LINE.standing)
 }
 
-fn new_host(rt: &impl Abort, alloc: Global) -> Host {
-    match Host::new(
-        alloc,
-        HostConfig {
-            role: Role::Dce,
-            line: LINE,
-        },
-    ) {
-        Ok(host) => host,
-        Err(_) => panic!(rt; "a host is made"),
-    }
+fn new_host(alloc: Global) -> Result<Host, EndFault> {
+    let config = HostConfig {
+        role: Role::Dce,
+        line: LINE,
+    };
+    Host::new(alloc, config)
 }
 
-fn new_pad(rt: &impl Abort, alloc: Global) -> Pad {
+fn new_pad(alloc: Global) -> Result<Pad, EndFault> {
     let config = PadConfig {
         line: LINE,
         params: Params::profile(Profile::Simple, 14),
         terminals: 1,
     };
-    match Pad::new(alloc, config) {
-        Ok(pad) => pad,
-        Err(_) => panic!(rt; "a PAD is made"),
-    }
+    Pad::new(alloc, config)
 }
 
 // A host is asked something on channel 1, which is written where it is not refused.
@@ -87,7 +78,12 @@ fn says(
     asks(host, &message, book)
 }
 
-fn is_packet(packet: Option<Packet<'_>>, octets: &[u8], more: bool, delivery: bool) -> bool {
+pub(crate) fn is_packet(
+    packet: Option<Packet<'_>>,
+    octets: &[u8],
+    more: bool,
+    delivery: bool,
+) -> bool {
     match packet {
         Some(packet) => {
             packet.octets == octets
@@ -117,13 +113,6 @@ fn writes_what_is_said(alloc: Global, host: &mut Host, book: &mut Book) -> bool 
     says(alloc, host, book, 130) == Ok(Ok(()))
         && says(alloc, host, book, 1025) == Ok(Err(ChannelFault::TooLong))
         && has_two_packets(book)
-}
-
-#[test]
-fn what_a_host_says_is_written(rt: HostRuntime) {
-    let mut book = new_book(rt.alloc()).expect(&rt, "a book");
-    let mut host = new_host(&rt, rt.alloc());
-    assert!(rt; writes_what_is_said(rt.alloc(), &mut host, &mut book));
 }
 
 // Whether the second record is of a call that is closed or not, with one epoch behind it.
@@ -200,13 +189,6 @@ fn writes_what_is_asked(alloc: Global, host: &mut Host, book: &mut Book) -> bool
         && has_one_epoch(book, true)
 }
 
-#[test]
-fn what_a_host_asks_is_written(rt: HostRuntime) {
-    let mut book = new_book(rt.alloc()).expect(&rt, "a book");
-    let mut host = new_host(&rt, rt.alloc());
-    assert!(rt; writes_what_is_asked(rt.alloc(), &mut host, &mut book));
-}
-
 // Whether a host's packet `HI` is written as taken.
 fn writes_what_is_taken(book: &mut Book) -> bool {
     match book.reserve(1) {
@@ -229,10 +211,51 @@ fn has_taken(book: &Book) -> bool {
     }
 }
 
+// What a host does, and is written into the book of its line.
+#[derive(Clone, Copy)]
+enum Deed {
+    Says,
+    Asks,
+    Takes,
+}
+
+fn writes(alloc: Global, host: &mut Host, book: &mut Book, deed: Deed) -> bool {
+    match deed {
+        Deed::Says => writes_what_is_said(alloc, host, book),
+        Deed::Asks => writes_what_is_asked(alloc, host, book),
+        Deed::Takes => writes_what_is_taken(book),
+    }
+}
+
+// Whether what a host does is written into a new book.
+fn writes_anew(alloc: Global, host: &mut Host, deed: Deed) -> bool {
+    match new_book(alloc) {
+        Ok(mut book) => writes(alloc, host, &mut book, deed),
+        Err(_) => false,
+    }
+}
+
+// Whether what a new host does is written.
+fn is_written(alloc: Global, deed: Deed) -> bool {
+    match new_host(alloc) {
+        Ok(mut host) => writes_anew(alloc, &mut host, deed),
+        Err(_) => false,
+    }
+}
+
+#[test]
+fn what_a_host_says_is_written(rt: HostRuntime) {
+    assert!(rt; is_written(rt.alloc(), Deed::Says));
+}
+
+#[test]
+fn what_a_host_asks_is_written(rt: HostRuntime) {
+    assert!(rt; is_written(rt.alloc(), Deed::Asks));
+}
+
 #[test]
 fn what_a_host_takes_is_written(rt: HostRuntime) {
-    let mut book = new_book(rt.alloc()).expect(&rt, "a book");
-    assert!(rt; writes_what_is_taken(&mut book));
+    assert!(rt; is_written(rt.alloc(), Deed::Takes));
 }
 
 // Whether a node stands, and has no call after a restart, which sets the link up anew.
@@ -251,24 +274,57 @@ fn sets_up(node: &mut Node) -> bool {
     waiting == 1 && one && node.due().is_some()
 }
 
+fn host_node(alloc: Global) -> Result<Node, EndFault> {
+    match new_host(alloc) {
+        Ok(host) => Ok(Node::Host(host)),
+        Err(fault) => Err(fault),
+    }
+}
+
+fn pad_node(alloc: Global) -> Result<Node, EndFault> {
+    match new_pad(alloc) {
+        Ok(pad) => Ok(Node::Pad(pad)),
+        Err(fault) => Err(fault),
+    }
+}
+
+fn new_node(alloc: Global, is_pad: bool) -> Result<Node, EndFault> {
+    if is_pad {
+        pad_node(alloc)
+    } else {
+        host_node(alloc)
+    }
+}
+
+// Whether a new node begins anew.
+fn is_made_anew(alloc: Global, is_pad: bool, confirmed: bool) -> bool {
+    match new_node(alloc, is_pad) {
+        Ok(mut node) => begins_anew(&mut node, is_pad, confirmed),
+        Err(_) => false,
+    }
+}
+
 #[test]
 fn a_restart_ends_the_call_of_a_host(rt: HostRuntime) {
-    let mut host = Node::Host(new_host(&rt, rt.alloc()));
-    assert!(rt; begins_anew(&mut host, false, true));
+    assert!(rt; is_made_anew(rt.alloc(), false, true));
 }
 
 #[test]
 fn a_restart_ends_the_call_of_a_pad(rt: HostRuntime) {
-    let mut pad = Node::Pad(new_pad(&rt, rt.alloc()));
-    assert!(rt; begins_anew(&mut pad, true, false));
+    assert!(rt; is_made_anew(rt.alloc(), true, false));
+}
+
+fn has_words(alloc: Global, fault: NodeFault, words: &str) -> bool {
+    match format!(in alloc; "{fault}") {
+        Ok(text) => text.as_str() == words,
+        Err(_) => false,
+    }
 }
 
 #[test]
 fn a_fault_has_the_words_of_its_cause(rt: HostRuntime) {
     let full = NodeFault::from(ChannelFault::QueueFull);
-    let full = format!(in rt.alloc(); "{full}").expect(&rt, "a text");
-    assert!(rt; full.as_str() == "send queue full");
+    assert!(rt; has_words(rt.alloc(), full, "send queue full"));
     let narrow = NodeFault::from(CallFault::NoChannel);
-    let narrow = format!(in rt.alloc(); "{narrow}").expect(&rt, "a text");
-    assert!(rt; narrow.as_str() == "no free channel");
+    assert!(rt; has_words(rt.alloc(), narrow, "no free channel"));
 }
