@@ -1,15 +1,16 @@
 //! What a PAD notes, written into the book of its line.
 ghost use Rattle.std.specs.Prelude.{◌≤◌, length};
 
+use crate::steps::new_pad;
 use call_records::{Book, EditStep, Pair, Record};
 use link_timers::Role;
 use packet_codec::{Address, CallBuf, CallData};
-use packet_end::{EndFault, EndParams};
+use packet_end::EndParams;
 use packet_layer::{LayerNote, UserData};
 use pad_records::{write_note, write_notes};
 use std::alloc::{AllocError, Global};
 use x3_params::{Params, Profile};
-use x25_pad::{Pad, PadConfig, PadNote};
+use x25_pad::{Pad, PadNote};
 use x25_pad_laws::pad_room_law;
 
 /// The nodes of the two ends.
@@ -19,32 +20,32 @@ const FAR_NODE: usize = 4;
 
 const CALLED: [u8; 3] = [7, 1, 2];
 
-// With room for one write a call that comes in is written, and that it is accepted.
-fn accept_at_once(book: &mut Book) -> Result<(), AllocError> {
-    book.reserve(1)?;
-    book.place(Role::Dce, 1, &Address::new(&CALLED));
-    book.reserve(1)?;
+fn incoming() -> LayerNote {
     let call = CallBuf::new(&CallData {
         called: Address::new(&CALLED),
         calling: None,
         facilities: &[],
         user_data: &[],
     });
-    book.tell(Role::Dte, &LayerNote::Incoming(1, call));
+    LayerNote::Incoming(1, call)
+}
+
+// With room for one write a call that comes in is written, and that it is accepted.
+fn accept_at_once(book: &mut Book) -> Result<(), AllocError> {
+    book.reserve(1)?;
+    book.place(Role::Dce, 1, &Address::new(&CALLED));
+    book.reserve(1)?;
+    book.tell(Role::Dte, &incoming());
     write_note(book, Role::Dte, &PadNote::Accepted(1));
     Ok(())
 }
 
-#[test]
-fn a_call_that_comes_in_is_accepted_at_once(rt: HostRuntime) {
+fn is_accepted(book: &Book) -> bool {
     const PAIR: &[Pair] = &[Pair {
         caller: 0,
         callee: 1,
     }];
-    let mut book = Book::new(rt.alloc(), PAD_NODE, FAR_NODE, 2, false).expect(&rt, "a book");
-    assert!(rt; accept_at_once(&mut book).is_ok());
-    assert!(rt; book.records().len() == 2 && book.present(Role::Dte, 1) == Some(1));
-    assert!(rt; book.pairs() == PAIR);
+    book.records().len() == 2 && book.present(Role::Dte, 1) == Some(1) && book.pairs() == PAIR
 }
 
 // What a terminal does on a call that stands.
@@ -114,13 +115,6 @@ fn are_noted(records: &[Record]) -> bool {
     }
 }
 
-#[test]
-fn each_note_is_written_at_its_record(rt: HostRuntime) {
-    let mut book = Book::new(rt.alloc(), PAD_NODE, FAR_NODE, 2, true).expect(&rt, "a book");
-    assert!(rt; note_all(&mut book).is_ok());
-    assert!(rt; are_noted(book.records()));
-}
-
 // A key on a call that stands: with room for two writes all that the PAD notes is written.
 fn type_key(pad: &mut Pad, octet: u8, book: &mut Book)
     requires room { 2 ≤ book.old.room }
@@ -146,22 +140,6 @@ fn type_keys(pad: &mut Pad, octets: &[u8], book: &mut Book) -> bool {
     true
 }
 
-fn new_pad(alloc: Global) -> Result<Pad, EndFault> {
-    let line = EndParams {
-        k: 7,
-        n2: 3,
-        channels: 2,
-        window: 2,
-        standing: true,
-    };
-    let config = PadConfig {
-        line,
-        params: Params::profile(Profile::Simple, 14),
-        terminals: 1,
-    };
-    Pad::new(alloc, config)
-}
-
 // Whether three keys are written, and one packet of these octets that was sent.
 fn are_typed(records: &[Record], octets: &[u8]) -> bool {
     match records {
@@ -178,10 +156,56 @@ fn are_typed(records: &[Record], octets: &[u8]) -> bool {
     }
 }
 
+// Whether what is typed at a new PAD is written.
+fn is_typed(alloc: Global, book: &mut Book) -> bool {
+    let line = EndParams {
+        k: 7,
+        n2: 3,
+        channels: 2,
+        window: 2,
+        standing: true,
+    };
+    match new_pad(alloc, line, 1) {
+        Ok(mut pad) => type_keys(&mut pad, b"HI\r", book) && are_typed(book.records(), b"HI\r"),
+        Err(_) => false,
+    }
+}
+
+// What is written into a book.
+#[derive(Clone, Copy)]
+enum Deed {
+    Call,
+    Notes,
+    Keys,
+}
+
+fn writes(alloc: Global, book: &mut Book, deed: Deed) -> bool {
+    match deed {
+        Deed::Call => accept_at_once(book).is_ok() && is_accepted(book),
+        Deed::Notes => note_all(book).is_ok() && are_noted(book.records()),
+        Deed::Keys => is_typed(alloc, book),
+    }
+}
+
+// Whether a deed is written into a new book, with a call that stands on the first channel or without one.
+fn is_written(alloc: Global, standing: bool, deed: Deed) -> bool {
+    match Book::new(alloc, PAD_NODE, FAR_NODE, 2, standing) {
+        Ok(mut book) => writes(alloc, &mut book, deed),
+        Err(_) => false,
+    }
+}
+
+#[test]
+fn a_call_that_comes_in_is_accepted_at_once(rt: HostRuntime) {
+    assert!(rt; is_written(rt.alloc(), false, Deed::Call));
+}
+
+#[test]
+fn each_note_is_written_at_its_record(rt: HostRuntime) {
+    assert!(rt; is_written(rt.alloc(), true, Deed::Notes));
+}
+
 #[test]
 fn what_a_terminal_types_is_written(rt: HostRuntime) {
-    let mut pad = new_pad(rt.alloc()).expect(&rt, "a PAD");
-    let mut book = Book::new(rt.alloc(), PAD_NODE, FAR_NODE, 2, true).expect(&rt, "a book");
-    assert!(rt; type_keys(&mut pad, b"HI\r", &mut book));
-    assert!(rt; are_typed(book.records(), b"HI\r"));
+    assert!(rt; is_written(rt.alloc(), true, Deed::Keys));
 }

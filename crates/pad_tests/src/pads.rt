@@ -96,9 +96,7 @@ const CALLS: &[Example] = &[
 
 #[test]
 fn pads_have_calls(rt: HostRuntime) {
-    for example in CALLS {
-        play(&rt, rt.alloc(), example);
-    }
+    play(&rt, rt.alloc(), CALLS);
 }
 
 // Messages, breaks and resets.
@@ -174,9 +172,7 @@ const MESSAGES: &[Example] = &[
 
 #[test]
 fn pads_answer_the_far_end(rt: HostRuntime) {
-    for example in MESSAGES {
-        play(&rt, rt.alloc(), example);
-    }
+    play(&rt, rt.alloc(), MESSAGES);
 }
 
 // What is held, and lines that are lost.
@@ -262,7 +258,5 @@ const FLOW: &[Example] = &[
 
 #[test]
 fn pads_hold_text(rt: HostRuntime) {
-    for example in FLOW {
-        play(&rt, rt.alloc(), example);
-    }
+    play(&rt, rt.alloc(), FLOW);
 }

@@ -4,7 +4,7 @@ use arrayvec::ArrayVec;
 use frame_codec::FrameBuf;
 use link_timers::{Role, TimerId};
 use packet_codec::{Address, CallData};
-use packet_end::{EndParams, PacketEnd};
+use packet_end::{EndFault, EndParams, PacketEnd};
 use packet_layer::{LayerNote, Request, Taken};
 use std::alloc::Global;
 use std::process::Abort;
@@ -66,37 +66,65 @@ pub(crate) struct Example<'a> {
     pub(crate) steps: &'a [Step<'a>],
 }
 
-// Plays the steps of an example at a PAD of two terminals, on a line of two channels.
-pub(crate) fn play(rt: &impl Abort, alloc: Global, example: &Example<'_>) {
+// Plays the steps of each example at a PAD of two terminals, on a line of two channels.
+pub(crate) fn play(rt: &impl Abort, alloc: Global, examples: &[Example<'_>]) {
+    for example in examples {
+        let rule = example.rule;
+        assert!(rt; holds(alloc, example), "{rule}");
+    }
+}
+
+// Whether the steps of an example fit at a new PAD.
+fn holds(alloc: Global, example: &Example<'_>) -> bool {
+    match new_bench(alloc, example.standing) {
+        Ok(mut bench) => fit(&mut bench, example.steps),
+        Err(_) => false,
+    }
+}
+
+fn new_bench(alloc: Global, standing: bool) -> Result<Bench, EndFault> {
     let line = EndParams {
         k: 7,
         n2: 3,
         channels: 2,
         window: 2,
-        standing: example.standing,
+        standing,
     };
-    let config = PadConfig {
-        line,
-        params: Params::profile(Profile::Simple, 14),
-        terminals: 2,
-    };
-    let mut bench = Bench {
-        pad: Pad::new(alloc, config).expect(rt, "a PAD"),
-        far: PacketEnd::new(alloc, Role::Dce, line).expect(rt, "a far end"),
+    match PacketEnd::new(alloc, Role::Dce, line) {
+        Ok(far) => bench_with(alloc, far, line),
+        Err(fault) => Err(fault),
+    }
+}
+
+// A bench with this far end.
+fn bench_with(alloc: Global, far: PacketEnd, line: EndParams) -> Result<Bench, EndFault> {
+    Ok(Bench {
+        pad: new_pad(alloc, line, 2)?,
+        far,
         sent: Frames::new(),
         answered: Frames::new(),
         incoming: 0,
-    };
-    play_at(rt, &mut bench, example);
+    })
 }
 
-fn play_at(rt: &impl Abort, bench: &mut Bench, example: &Example<'_>) {
-    let rule = example.rule;
+/// A new PAD of so many terminals.
+pub(crate) fn new_pad(alloc: Global, line: EndParams, terminals: u8) -> Result<Pad, EndFault> {
+    let config = PadConfig {
+        line,
+        params: Params::profile(Profile::Simple, 14),
+        terminals,
+    };
+    Pad::new(alloc, config)
+}
+
+fn fit(bench: &mut Bench, steps: &[Step<'_>]) -> bool {
+    let mut same = true;
     collect(bench);
-    for (place, step) in example.steps.iter().enumerate() {
-        assert!(rt; fits(bench, *step), "{rule}: step {place}");
+    for step in steps {
+        same = same && fits(bench, *step);
         collect(bench);
     }
+    same
 }
 
 // Whether a step gives its answer.
@@ -104,18 +132,18 @@ fn fits(bench: &mut Bench, step: Step<'_>) -> bool {
     match step {
         Step::Type(terminal, octets) => types(bench, terminal, octets),
         Step::Drops(terminal, octet) => !press(bench, terminal, octet),
-        Step::Breaks(terminal) => breaks(bench, terminal),
-        Step::BreakDropped(terminal) => !breaks(bench, terminal),
-        Step::Idles(terminal) => pause(bench, terminal),
-        Step::Prints(terminal, text) => prints(bench, terminal, text),
-        Step::Expires(id, ran) => bench.pad.on_timer(id) == ran,
-        Step::Due(id) => bench.pad.due() == id,
-        Step::Rests(rests) => bench.pad.is_at_rest() == rests,
+        Step::Prints(terminal, text) => prints(&mut bench.pad, terminal, text),
         Step::FarHears(channel) => bench.incoming == channel,
         Step::FarTakes(channel, octets) => far_takes(bench, channel, octets, false),
         Step::FarIsTold(channel, octets) => far_takes(bench, channel, octets, true),
         Step::FarInterrupted(channel, octets) => far_interrupted(bench, channel, octets),
         Step::FarTakesNothing(channel) => bench.far.front(channel).is_none(),
+        Step::Breaks(_)
+        | Step::BreakDropped(_)
+        | Step::Idles(_)
+        | Step::Expires(..)
+        | Step::Due(_)
+        | Step::Rests(_) => pad_fits(&mut bench.pad, step),
         _ => {
             happens(bench, step);
             true
@@ -123,19 +151,38 @@ fn fits(bench: &mut Bench, step: Step<'_>) -> bool {
     }
 }
 
+// Whether the PAD answers a step so.
+fn pad_fits(pad: &mut Pad, step: Step<'_>) -> bool {
+    match step {
+        Step::Breaks(terminal) => breaks(pad, terminal),
+        Step::BreakDropped(terminal) => !breaks(pad, terminal),
+        Step::Idles(terminal) => pauses(pad, terminal),
+        Step::Expires(id, ran) => pad.on_timer(id) == ran,
+        Step::Due(id) => pad.due() == id,
+        Step::Rests(rests) => pad.is_at_rest() == rests,
+        _ => false,
+    }
+}
+
 // What happens without an answer.
 fn happens(bench: &mut Bench, step: Step<'_>) {
     match step {
         Step::Flow => flow(bench),
-        Step::Elapse(ticks) => bench.pad.elapse(ticks),
-        Step::Relink => bench.pad.relink(),
-        Step::Restart => bench.pad.restart(),
         Step::FarAccepts(channel) => far_asks(bench, channel, &Request::Accept),
         Step::FarClears(channel, cause) => far_clears(bench, channel, cause),
         Step::FarResets(channel) => far_resets(bench, channel),
         Step::FarSends(channel, octets) => far_sends(bench, channel, octets, false),
         Step::FarTells(channel, octets) => far_sends(bench, channel, octets, true),
         Step::FarCalls => far_calls(bench),
+        _ => happens_to(&mut bench.pad, step),
+    }
+}
+
+fn happens_to(pad: &mut Pad, step: Step<'_>) {
+    match step {
+        Step::Elapse(ticks) => pad.elapse(ticks),
+        Step::Relink => pad.relink(),
+        Step::Restart => pad.restart(),
         _ => {}
     }
 }
@@ -152,24 +199,27 @@ fn types(bench: &mut Bench, terminal: u8, octets: &[u8]) -> bool {
 }
 
 fn press(bench: &mut Bench, terminal: u8, octet: u8) -> bool {
-    let taken = terminal < bench.pad.terminals()
-        && bench.pad.on_key(terminal, octet) == PadAnswer::Taken;
+    let taken = takes_key(&mut bench.pad, terminal, octet);
     collect(bench);
     taken
 }
 
-fn breaks(bench: &mut Bench, terminal: u8) -> bool {
-    terminal < bench.pad.terminals() && bench.pad.on_break(terminal) == PadAnswer::Taken
+fn takes_key(pad: &mut Pad, terminal: u8, octet: u8) -> bool {
+    terminal < pad.terminals() && pad.on_key(terminal, octet) == PadAnswer::Taken
 }
 
-fn pause(bench: &mut Bench, terminal: u8) -> bool {
-    terminal < bench.pad.terminals() && bench.pad.on_idle(terminal) == PadAnswer::Taken
+fn breaks(pad: &mut Pad, terminal: u8) -> bool {
+    terminal < pad.terminals() && pad.on_break(terminal) == PadAnswer::Taken
 }
 
-fn prints(bench: &mut Bench, terminal: u8, text: &[u8]) -> bool {
+fn pauses(pad: &mut Pad, terminal: u8) -> bool {
+    terminal < pad.terminals() && pad.on_idle(terminal) == PadAnswer::Taken
+}
+
+fn prints(pad: &mut Pad, terminal: u8, text: &[u8]) -> bool {
     let mut out = ArrayVec::<u8, 3200>::new();
-    if terminal < bench.pad.terminals() {
-        let _ = bench.pad.print(terminal, &mut out);
+    if terminal < pad.terminals() {
+        let _ = pad.print(terminal, &mut out);
     }
     out.as_slice() == text
 }
@@ -178,16 +228,24 @@ fn prints(bench: &mut Bench, terminal: u8, text: &[u8]) -> bool {
 
 // Takes the frames that an event has left.
 fn collect(bench: &mut Bench) {
-    for _ in 0..bench.pad.waiting_frames() {
+    collect_sent(&mut bench.pad, &mut bench.sent);
+    collect_answered(&mut bench.far, &mut bench.answered);
+}
+
+fn collect_sent(pad: &mut Pad, sent: &mut Frames) {
+    for _ in 0..pad.waiting_frames() {
         let mut frame = FrameBuf::new();
-        if bench.pad.out(&mut frame) && !bench.sent.is_full() {
-            bench.sent.push(frame);
+        if pad.out(&mut frame) && !sent.is_full() {
+            sent.push(frame);
         }
     }
-    for _ in 0..bench.far.waiting_frames() {
+}
+
+fn collect_answered(far: &mut PacketEnd, answered: &mut Frames) {
+    for _ in 0..far.waiting_frames() {
         let mut frame = FrameBuf::new();
-        if bench.far.out(&mut frame) && !bench.answered.is_full() {
-            bench.answered.push(frame);
+        if far.out(&mut frame) && !answered.is_full() {
+            answered.push(frame);
         }
     }
 }
@@ -195,20 +253,29 @@ fn collect(bench: &mut Bench) {
 // Delivers frames until none is on the way.
 fn flow(bench: &mut Bench) {
     for _ in 0..100 {
-        if !bench.sent.is_empty() {
-            let frame = bench.sent.remove(0);
-            bench.far.begin();
-            bench.far.on_frame(frame.as_slice());
-            end_far_event(bench);
-        } else if !bench.answered.is_empty() {
-            let frame = bench.answered.remove(0);
-            bench.pad.on_frame(frame.as_slice());
-        }
+        carry(bench);
         collect(bench);
     }
 }
 
+// Delivers a frame of the PAD, or of the far end where the PAD has sent none.
+fn carry(bench: &mut Bench) {
+    if !bench.sent.is_empty() {
+        let frame = bench.sent.remove(0);
+        far_hears(bench, frame.as_slice());
+    } else if !bench.answered.is_empty() {
+        let frame = bench.answered.remove(0);
+        bench.pad.on_frame(frame.as_slice());
+    }
+}
+
 // ---- the far end
+
+fn far_hears(bench: &mut Bench, octets: &[u8]) {
+    bench.far.begin();
+    bench.far.on_frame(octets);
+    end_far_event(bench);
+}
 
 fn end_far_event(bench: &mut Bench) {
     for _ in 0..bench.far.waiting_notes() {
@@ -223,6 +290,11 @@ fn end_far_event(bench: &mut Bench) {
 
 fn far_asks(bench: &mut Bench, channel: u8, request: &Request<'_>) {
     bench.far.begin();
+    far_answers(bench, channel, request);
+}
+
+// What is asked in an event that has begun.
+fn far_answers(bench: &mut Bench, channel: u8, request: &Request<'_>) {
     let _ = bench.far.ask(channel, request);
     end_far_event(bench);
 }
@@ -269,22 +341,28 @@ fn far_calls(bench: &mut Bench) {
 // Takes a packet at the far end, and releases it. Whether it had these octets.
 fn far_takes(bench: &mut Bench, channel: u8, octets: &[u8], qualified: bool) -> bool {
     bench.far.begin();
-    let same = match bench.far.take(channel) {
+    let same = takes_data(&mut bench.far, channel, octets, qualified);
+    far_answers(bench, channel, &Request::Release(1));
+    same
+}
+
+fn takes_data(far: &mut PacketEnd, channel: u8, octets: &[u8], qualified: bool) -> bool {
+    match far.take(channel) {
         Some(Taken::Data(data)) => data.octets() == octets && data.qualified() == qualified,
         _ => false,
-    };
-    let _ = bench.far.ask(channel, &Request::Release(1));
-    end_far_event(bench);
-    same
+    }
 }
 
 fn far_interrupted(bench: &mut Bench, channel: u8, octets: &[u8]) -> bool {
     bench.far.begin();
-    let same = match bench.far.take(channel) {
+    let same = takes_interrupt(&mut bench.far, channel, octets);
+    far_answers(bench, channel, &Request::ConfirmInterrupt);
+    same
+}
+
+fn takes_interrupt(far: &mut PacketEnd, channel: u8, octets: &[u8]) -> bool {
+    match far.take(channel) {
         Some(Taken::Interrupt(data)) => data.octets() == octets,
         _ => false,
-    };
-    let _ = bench.far.ask(channel, &Request::ConfirmInterrupt);
-    end_far_event(bench);
-    same
+    }
 }
