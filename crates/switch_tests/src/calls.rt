@@ -58,21 +58,29 @@ struct Example<'a> {
     steps: &'a [Step<'a>],
 }
 
-fn play(rt: &impl Abort, alloc: Global, example: &Example<'_>) {
-    let mut bench = new_bench(rt, alloc, example.k, example.begins);
-    let rule = example.rule;
-    assert!(rt; bench.fits(example.steps), "{rule}");
+fn play(rt: &impl Abort, alloc: Global, examples: &[Example<'_>]) {
+    for example in examples {
+        let rule = example.rule;
+        assert!(rt; holds(alloc, example), "{rule}");
+    }
 }
 
-fn new_bench(rt: &impl Abort, alloc: Global, k: u8, begins: Beginning) -> Bench {
-    let mut bench = Bench::new(rt, alloc, k);
-    let begun = match begins {
+// Whether the steps of an example fit at a new switch.
+fn holds(alloc: Global, example: &Example<'_>) -> bool {
+    match Bench::new(alloc, example.k) {
+        Some(mut bench) => {
+            bench.begin(alloc) && begins(&mut bench, example.begins) && bench.fits(example.steps)
+        }
+        None => false,
+    }
+}
+
+fn begins(bench: &mut Bench, begins: Beginning) -> bool {
+    match begins {
         Beginning::Down => true,
         Beginning::Up => bench.fits(BEGINNING),
         Beginning::InACall => bench.fits(BEGINNING) && bench.fits(CALL),
-    };
-    assert!(rt; begun, "the beginning");
-    bench
+    }
 }
 
 // Calls that are cleared, by their causes.
@@ -131,9 +139,7 @@ const CAUSES: &[Example] = &[
 
 #[test]
 fn switches_clear_calls(rt: HostRuntime) {
-    for example in CAUSES {
-        play(&rt, rt.alloc(), example);
-    }
+    play(&rt, rt.alloc(), CAUSES);
 }
 
 // What a switch carries on.
@@ -209,9 +215,7 @@ const DATA: &[Example] = &[
 
 #[test]
 fn switches_carry_on(rt: HostRuntime) {
-    for example in DATA {
-        play(&rt, rt.alloc(), example);
-    }
+    play(&rt, rt.alloc(), DATA);
 }
 
 // Resets and clears.
@@ -260,9 +264,7 @@ const RESETS: &[Example] = &[
 
 #[test]
 fn switches_carry_resets_on(rt: HostRuntime) {
-    for example in RESETS {
-        play(&rt, rt.alloc(), example);
-    }
+    play(&rt, rt.alloc(), RESETS);
 }
 
 // Links and calls that end.
@@ -326,99 +328,156 @@ const ENDS: &[Example] = &[
 
 #[test]
 fn switches_end_calls(rt: HostRuntime) {
-    for example in ENDS {
-        play(&rt, rt.alloc(), example);
-    }
-}
-
-// What is sent on line 0 in a call, and what then goes to lines 0 and 1.
-struct Row<'a> {
-    packets: &'a [&'a [u8]],
-    near: &'a [&'a [u8]],
-    far: &'a [&'a [u8]],
-}
-
-fn row_holds(rt: &impl Abort, alloc: Global, row: &Row<'_>) {
-    let mut bench = new_bench(rt, alloc, 7, Beginning::InACall);
-    let mut fits = true;
-    for packet in row.packets {
-        fits = fits && bench.fits(&[Send(0, packet)]);
-    }
-    fits = fits && bench.fits(&[Flow]);
-    for packet in row.near {
-        fits = fits && bench.fits(&[Hears(0, packet)]);
-    }
-    for packet in row.far {
-        fits = fits && bench.fits(&[Hears(1, packet)]);
-    }
-    assert!(rt; fits && bench.fits(&[HearsNothing(0), HearsNothing(1)]));
+    play(&rt, rt.alloc(), ENDS);
 }
 
 const RESET: &[u8] = &[0x10, 0x01, 0x1b, 0x03, 0x00];
 
 const CLEAR: &[u8] = &[0x10, 0x01, 0x13, 0x11, 0x00];
 
-const ROWS: [Row; 11] = [
-    Row {
-        packets: &[&[0x10, 0x04, 0x02, 0x41]],
-        near: &[&[0x10, 0x04, 0x1b, 0x05, 0x01]],
-        far: &[RESET],
+// Errors of a DTE in a call, with what then goes to lines 0 and 1.
+const ERRORS: &[Example] = &[
+    Example {
+        rule: "a packet has the wrong send number",
+        k: 7,
+        begins: Beginning::InACall,
+        steps: &[
+            Send(0, &[0x10, 0x04, 0x02, 0x41]),
+            Flow,
+            Hears(0, &[0x10, 0x04, 0x1b, 0x05, 0x01]),
+            Hears(1, RESET),
+            HearsNothing(0),
+            HearsNothing(1),
+        ],
     },
-    Row {
-        packets: &[&[0x10, 0x04, 0x61]],
-        near: &[&[0x10, 0x04, 0x1b, 0x05, 0x02]],
-        far: &[RESET],
+    Example {
+        rule: "a receive number is out of its window",
+        k: 7,
+        begins: Beginning::InACall,
+        steps: &[
+            Send(0, &[0x10, 0x04, 0x61]),
+            Flow,
+            Hears(0, &[0x10, 0x04, 0x1b, 0x05, 0x02]),
+            Hears(1, RESET),
+            HearsNothing(0),
+            HearsNothing(1),
+        ],
     },
-    Row {
-        packets: &[&[0x10, 0x04, 0x1f]],
-        near: &[&[0x10, 0x04, 0x1b, 0x05, 0x1b]],
-        far: &[RESET],
+    Example {
+        rule: "a reset that was not asked is confirmed",
+        k: 7,
+        begins: Beginning::InACall,
+        steps: &[
+            Send(0, &[0x10, 0x04, 0x1f]),
+            Flow,
+            Hears(0, &[0x10, 0x04, 0x1b, 0x05, 0x1b]),
+            Hears(1, RESET),
+            HearsNothing(0),
+            HearsNothing(1),
+        ],
     },
-    Row {
-        packets: &[&[0x10, 0x04, 0xf1]],
-        near: &[&[0x10, 0x04, 0x1b, 0x05, 0x1b]],
-        far: &[RESET],
+    Example {
+        rule: "a DTE sends a diagnostic",
+        k: 7,
+        begins: Beginning::InACall,
+        steps: &[
+            Send(0, &[0x10, 0x04, 0xf1]),
+            Flow,
+            Hears(0, &[0x10, 0x04, 0x1b, 0x05, 0x1b]),
+            Hears(1, RESET),
+            HearsNothing(0),
+            HearsNothing(1),
+        ],
     },
-    Row {
-        packets: &[&[0x10, 0x04, 0x23, 0x01], &[0x10, 0x04, 0x23, 0x01]],
-        near: &[&[0x10, 0x04, 0x1b, 0x05, 0x00]],
-        far: &[&[0x10, 0x01, 0x23, 0x01], RESET],
+    Example {
+        rule: "a second interrupt comes before the first is confirmed",
+        k: 7,
+        begins: Beginning::InACall,
+        steps: &[
+            Send(0, &[0x10, 0x04, 0x23, 0x01]),
+            Send(0, &[0x10, 0x04, 0x23, 0x01]),
+            Flow,
+            Hears(0, &[0x10, 0x04, 0x1b, 0x05, 0x00]),
+            Hears(1, &[0x10, 0x01, 0x23, 0x01]),
+            Hears(1, RESET),
+            HearsNothing(0),
+            HearsNothing(1),
+        ],
     },
-    Row {
-        packets: &[&[0x10, 0x04, 0x0b, 0x04, 0x20, 0x01, 0x00]],
-        near: &[&[0x10, 0x04, 0x13, 0x13, 0x17]],
-        far: &[CLEAR],
+    Example {
+        rule: "a call comes on a channel in a call",
+        k: 7,
+        begins: Beginning::InACall,
+        steps: &[
+            Send(0, &[0x10, 0x04, 0x0b, 0x04, 0x20, 0x01, 0x00]),
+            Flow,
+            Hears(0, &[0x10, 0x04, 0x13, 0x13, 0x17]),
+            Hears(1, CLEAR),
+            HearsNothing(0),
+            HearsNothing(1),
+        ],
     },
-    Row {
-        packets: &[&[0x10, 0x03, 0x00, 0x41]],
-        near: &[&[0x10, 0x03, 0x13, 0x13, 0x14]],
-        far: &[],
+    Example {
+        rule: "data come on a channel without a call",
+        k: 7,
+        begins: Beginning::InACall,
+        steps: &[
+            Send(0, &[0x10, 0x03, 0x00, 0x41]),
+            Flow,
+            Hears(0, &[0x10, 0x03, 0x13, 0x13, 0x14]),
+            HearsNothing(0),
+            HearsNothing(1),
+        ],
     },
-    Row {
-        packets: &[&[0x10, 0x00, 0xff]],
-        near: &[&[0x10, 0x00, 0xfb, 0x01, 0x11]],
-        far: &[CLEAR],
+    Example {
+        rule: "a restart that was not asked is confirmed",
+        k: 7,
+        begins: Beginning::InACall,
+        steps: &[
+            Send(0, &[0x10, 0x00, 0xff]),
+            Flow,
+            Hears(0, &[0x10, 0x00, 0xfb, 0x01, 0x11]),
+            Hears(1, CLEAR),
+            HearsNothing(0),
+            HearsNothing(1),
+        ],
     },
-    Row {
-        packets: &[&[0x10, 0x09, 0x00]],
-        near: &[],
-        far: &[],
+    Example {
+        rule: "a packet comes on a channel that the line has not",
+        k: 7,
+        begins: Beginning::InACall,
+        steps: &[
+            Send(0, &[0x10, 0x09, 0x00]),
+            Flow,
+            HearsNothing(0),
+            HearsNothing(1),
+        ],
     },
-    Row {
-        packets: &[&[0x10, 0x00, 0x0b]],
-        near: &[],
-        far: &[],
+    Example {
+        rule: "a call comes on channel 0",
+        k: 7,
+        begins: Beginning::InACall,
+        steps: &[
+            Send(0, &[0x10, 0x00, 0x0b]),
+            Flow,
+            HearsNothing(0),
+            HearsNothing(1),
+        ],
     },
-    Row {
-        packets: &[&[0x10, 0x04]],
-        near: &[],
-        far: &[],
+    Example {
+        rule: "a packet without a type is ignored",
+        k: 7,
+        begins: Beginning::InACall,
+        steps: &[
+            Send(0, &[0x10, 0x04]),
+            Flow,
+            HearsNothing(0),
+            HearsNothing(1),
+        ],
     },
 ];
 
 #[test]
 fn errors_of_one_leg_go_on(rt: HostRuntime) {
-    for row in &ROWS {
-        row_holds(&rt, rt.alloc(), row);
-    }
+    play(&rt, rt.alloc(), ERRORS);
 }

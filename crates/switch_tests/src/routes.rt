@@ -1,12 +1,13 @@
 //! Which line calls go to, and how many nodes are looked at.
 use address_routes::{LineNo, RouteFault, Routes};
 use packet_codec::Address;
-use std::process::Abort;
+use std::alloc::Global;
 
-fn add(routes: &mut Routes, prefix: &[u8], line: u16) -> Option<RouteFault> {
+// Adds a route. Whether it is refused by this fault, or by none.
+fn adds(routes: &mut Routes, prefix: &[u8], line: u16, fault: Option<RouteFault>) -> bool {
     match Address::read(prefix) {
-        Ok(prefix) => routes.add(&prefix, LineNo(line)).err(),
-        Err(_) => None,
+        Ok(prefix) => routes.add(&prefix, LineNo(line)).err() == fault,
+        Err(_) => false,
     }
 }
 
@@ -69,54 +70,84 @@ const LAST_OF_256: Lookup = Lookup {
     looks: 4,
 };
 
-fn look_up(rt: &impl Abort, routes: &Routes, lookups: &[Lookup]) {
+fn are_found(routes: &Routes, lookups: &[Lookup]) -> bool {
+    let mut found = true;
     for lookup in lookups {
-        assert!(rt; lookup.fits(routes));
+        found = found && lookup.fits(routes);
     }
+    found
 }
 
 // Adds routes with two prefixes of a third, and looks at what is found by then, after an addition that is refused and
 // after a long one.
-fn three_routes(rt: &impl Abort, routes: &mut Routes) {
-    assert!(rt; add(routes, b"2", 1).is_none());
-    assert!(rt; add(routes, b"20", 2).is_none());
-    assert!(rt; add(routes, b"2001", 3).is_none());
-    look_up(rt, routes, &THREE_ROUTES);
-    assert!(rt; add(routes, b"20", 4) == Some(RouteFault::Duplicate));
-    look_up(rt, routes, &THREE_ROUTES);
-    match add(routes, b"300000000000000", 4) {
-        None => look_up(rt, routes, &[LONG_ROUTE]),
-        Some(_) => look_up(rt, routes, &THREE_ROUTES),
+fn takes_the_longest(routes: &mut Routes) -> bool {
+    adds(routes, b"2", 1, None)
+        && adds(routes, b"20", 2, None)
+        && adds(routes, b"2001", 3, None)
+        && are_found(routes, &THREE_ROUTES)
+        && adds(routes, b"20", 4, Some(RouteFault::Duplicate))
+        && are_found(routes, &THREE_ROUTES)
+        && takes_a_long_one(routes)
+}
+
+// Whether a long route is found, or what was there if there is no memory for it.
+fn takes_a_long_one(routes: &mut Routes) -> bool {
+    if adds(routes, b"300000000000000", 4, None) {
+        are_found(routes, &[LONG_ROUTE])
+    } else {
+        are_found(routes, &THREE_ROUTES)
+    }
+}
+
+fn adds_number(routes: &mut Routes, number: u16) -> bool {
+    let digits = [
+        (number / 100 % 10) as u8,
+        (number / 10 % 10) as u8,
+        (number % 10) as u8,
+    ];
+    routes.add(&Address::new(&digits), LineNo(number)).is_ok()
+}
+
+// Adds all routes that there is room for.
+fn fills(routes: &mut Routes) -> bool {
+    let mut added = true;
+    for number in 0..256u16 {
+        added = added && adds_number(routes, number);
+    }
+    added
+}
+
+// Whether there is room for 256 routes and no more.
+fn has_an_end(routes: &mut Routes) -> bool {
+    fills(routes)
+        && adds(routes, b"9", 0, Some(RouteFault::Full))
+        && adds(routes, b"255", 0, Some(RouteFault::Duplicate))
+        && are_found(routes, &[LAST_OF_256])
+}
+
+#[derive(Clone, Copy)]
+enum Rule {
+    LongestPrefix,
+    End,
+}
+
+// Whether new routes follow a rule.
+fn follow(alloc: Global, rule: Rule) -> bool {
+    match Routes::new(alloc) {
+        Ok(mut routes) => match rule {
+            Rule::LongestPrefix => takes_the_longest(&mut routes),
+            Rule::End => has_an_end(&mut routes),
+        },
+        Err(_) => false,
     }
 }
 
 #[test]
 fn the_longest_prefix_is_taken(rt: HostRuntime) {
-    match Routes::new(rt.alloc()) {
-        Ok(mut routes) => three_routes(&rt, &mut routes),
-        Err(_) => panic!(&rt; "there is memory"),
-    }
-}
-
-// Adds all routes that there is room for.
-fn fill(rt: &impl Abort, routes: &mut Routes) {
-    for number in 0..256u16 {
-        let digits = [
-            (number / 100) as u8,
-            (number / 10 % 10) as u8,
-            (number % 10) as u8,
-        ];
-        assert!(rt; routes.add(&Address::new(&digits), LineNo(number)).is_ok());
-    }
-    assert!(rt; add(routes, b"9", 0) == Some(RouteFault::Full));
-    assert!(rt; add(routes, b"255", 0) == Some(RouteFault::Duplicate));
-    look_up(rt, routes, &[LAST_OF_256]);
+    assert!(rt; follow(rt.alloc(), Rule::LongestPrefix));
 }
 
 #[test]
 fn routes_are_at_most_256(rt: HostRuntime) {
-    match Routes::new(rt.alloc()) {
-        Ok(mut routes) => fill(&rt, &mut routes),
-        Err(_) => panic!(&rt; "there is memory"),
-    }
+    assert!(rt; follow(rt.alloc(), Rule::End));
 }

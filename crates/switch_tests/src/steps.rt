@@ -9,7 +9,6 @@ use link_timers::{Role, TimerId};
 use packet_codec::{Address, PacketBuf};
 use packet_end::EndParams;
 use std::alloc::Global;
-use std::process::Abort;
 use x25_switch::{LineConfig, NewJoin, Place, Switch, SwitchConfig};
 
 /// A step.
@@ -45,12 +44,28 @@ pub(crate) enum Step<'a> {
     Restart,
 }
 
+// The frames that come to an end of a line, in order.
+type Frames = ArrayVec<FrameBuf, 16>;
+
 // The DTE's link of a line, the frames that come to it, and the packets that came.
 #[derive(Drop)]
 struct Partner {
     end: Terminus,
-    coming: ArrayVec<FrameBuf, 16>,
+    coming: Frames,
     heard: ArrayVec<PacketBuf, 16>,
+}
+
+// Takes the frames that the switch sends on a line.
+fn collect_at(switch: &mut Switch, line: usize, coming: &mut Frames) {
+    for _ in 0..16 {
+        let mut frame = FrameBuf::new();
+        if line >= switch.lines() || !switch.out(line, &mut frame) {
+            break;
+        }
+        if !coming.is_full() {
+            coming.push(frame);
+        }
+    }
 }
 
 /// A switch of three lines with their partners.
@@ -86,65 +101,94 @@ fn place((line, channel): (usize, u8)) -> Place {
     Place { line, channel }
 }
 
+// Adds the routes to the lines. Whether all are added.
+fn add_routes(routes: &mut Routes) -> bool {
+    routes.add(&number(b"1"), LineNo(0)).is_ok()
+        && routes.add(&number(b"2"), LineNo(1)).is_ok()
+        && routes.add(&number(b"4"), LineNo(2)).is_ok()
+}
+
+fn new_routes(alloc: Global) -> Option<Routes> {
+    let mut routes = Routes::new(alloc).ok()?;
+    if add_routes(&mut routes) {
+        Some(routes)
+    } else {
+        None
+    }
+}
+
+// A switch of three lines with these routes, whose line 0 has this k.
+fn switch_with(alloc: Global, routes: Routes, k: u8) -> Option<Switch> {
+    let lines = [
+        line_config(b"1", k),
+        line_config(b"2", 7),
+        line_config(b"4", 7),
+    ];
+    let config = SwitchConfig {
+        lines: &lines,
+        routes,
+    };
+    Switch::new(alloc, config).ok()
+}
+
+fn new_switch(alloc: Global, k: u8) -> Option<Switch> {
+    match new_routes(alloc) {
+        Some(routes) => switch_with(alloc, routes, k),
+        None => None,
+    }
+}
+
+fn new_partner(alloc: Global) -> Option<Partner> {
+    let params = LinkParams {
+        k: 7,
+        n2: 3,
+        standing: false,
+    };
+    match Terminus::new(alloc, Role::Dte, params) {
+        Ok(end) => Some(Partner {
+            end,
+            coming: ArrayVec::new(),
+            heard: ArrayVec::new(),
+        }),
+        Err(_) => None,
+    }
+}
+
+// Adds a partner. Whether there is memory for it.
+fn add_partner(alloc: Global, partners: &mut Vec<Partner>) -> bool {
+    match new_partner(alloc) {
+        Some(partner) => partners.push(partner).is_ok(),
+        None => false,
+    }
+}
+
 impl Bench {
     /// A new switch, whose line 0 has this k.
-    pub(crate) fn new(rt: &impl Abort, alloc: Global, k: u8) -> Bench {
-        let mut routes = Routes::new(alloc).expect(rt, "routes");
-        routes
-            .add(&number(b"1"), LineNo(0))
-            .expect(rt, "a route to line 0");
-        routes
-            .add(&number(b"2"), LineNo(1))
-            .expect(rt, "a route to line 1");
-        routes
-            .add(&number(b"4"), LineNo(2))
-            .expect(rt, "a route to line 2");
-        let lines = [
-            line_config(b"1", k),
-            line_config(b"2", 7),
-            line_config(b"4", 7),
-        ];
-        let config = SwitchConfig {
-            lines: &lines,
-            routes,
-        };
-        let switch = Switch::new(alloc, config).expect(rt, "a switch");
-        let mut partners = Vec::new(alloc);
-        for _ in 0..3 {
-            let params = LinkParams {
-                k: 7,
-                n2: 3,
-                standing: false,
-            };
-            let partner = Partner {
-                end: Terminus::new(alloc, Role::Dte, params).expect(rt, "a link"),
-                coming: ArrayVec::new(),
-                heard: ArrayVec::new(),
-            };
-            partners.push(partner).expect(rt, "a partner");
+    pub(crate) fn new(alloc: Global, k: u8) -> Option<Bench> {
+        match new_switch(alloc, k) {
+            Some(switch) => Some(Bench {
+                switch,
+                partners: Vec::new(alloc),
+                joined: None,
+            }),
+            None => None,
         }
-        let mut bench = Bench {
-            switch,
-            partners,
-            joined: None,
-        };
-        bench.collect();
-        bench
+    }
+
+    /// Brings the partners. Whether there is memory for them.
+    pub(crate) fn begin(&mut self, alloc: Global) -> bool {
+        let begun = add_partner(alloc, &mut self.partners)
+            && add_partner(alloc, &mut self.partners)
+            && add_partner(alloc, &mut self.partners);
+        self.collect();
+        begun
     }
 
     // Takes the frames that the switch sends.
     fn collect(&mut self) {
         for line in 0..self.switch.lines() {
-            for _ in 0..16 {
-                let mut frame = FrameBuf::new();
-                if line >= self.switch.lines() || !self.switch.out(line, &mut frame) {
-                    break;
-                }
-                if let Some(partner) = self.partners.get_mut(line)
-                    && !partner.coming.is_full()
-                {
-                    partner.coming.push(frame);
-                }
+            if let Some(partner) = self.partners.get_mut(line) {
+                collect_at(&mut self.switch, line, &mut partner.coming);
             }
         }
     }
@@ -196,75 +240,62 @@ impl Bench {
     // Does a step, and answers whether it is as the example says.
     fn takes(&mut self, step: Step<'_>) -> bool {
         match step {
-            Step::Send(line, packet) => self.send(line, packet),
-            Step::Flow => {
-                self.flow();
-                true
+            Step::Send(line, _) | Step::Hears(line, _) | Step::HearsNothing(line) => {
+                self.partner_takes(line, step)
             }
-            Step::Hears(line, packet) => self.hears(line, packet),
-            Step::HearsNothing(line) => match self.partners.get(line) {
-                Some(partner) => partner.heard.is_empty(),
-                None => false,
-            },
-            Step::Frame(octets) => {
-                if self.switch.lines() == 0 {
-                    return false;
-                }
-                self.switch.on_frame(0, octets);
-                self.collect();
-                true
-            }
-            Step::Sent(octets) => self.sent(octets),
-            Step::Joined(line, channel, other) => {
-                self.switch.joins(Place { line, channel }) == other.map(place)
-            }
+            Step::Sent(_) => self.partner_takes(0, step),
+            _ => self.shows(step),
+        }
+    }
+
+    fn partner_takes(&mut self, line: usize, step: Step<'_>) -> bool {
+        match self.partners.get_mut(line) {
+            Some(partner) => partner.takes(step),
+            None => false,
+        }
+    }
+
+    // What the switch and its calls show.
+    fn shows(&mut self, step: Step<'_>) -> bool {
+        match step {
+            Step::Joined(line, channel, other) => self.is_joined(line, channel, other),
             Step::Joins(came_in, placed) => self.joins(came_in, placed),
             Step::JoinsNothing => self.joined.is_none(),
             Step::Rests(rests) => self.switch.is_at_rest() == rests,
             Step::Expires(line, id, runs) => self.expires(line, id, runs),
-            Step::Elapse(ticks) => {
-                self.switch.elapse(ticks);
-                true
-            }
             Step::Due(line, id) => line < self.switch.lines() && self.switch.due(line) == id,
-            Step::Restart => {
-                self.switch.restart();
-                self.collect();
-                true
-            }
+            _ => self.happens(step),
         }
     }
 
-    fn send(&mut self, line: usize, packet: &[u8]) -> bool {
-        if packet.len() > 145 {
-            return false;
+    // What happens, where it can.
+    fn happens(&mut self, step: Step<'_>) -> bool {
+        match step {
+            Step::Flow => self.flow(),
+            Step::Frame(octets) => return self.hears_frame(octets),
+            Step::Elapse(ticks) => self.switch.elapse(ticks),
+            Step::Restart => self.restart(),
+            _ => return false,
         }
-        let Some(partner) = self.partners.get_mut(line) else {
-            return false;
-        };
-        let taken = partner.end.offer(packet).is_ok();
-        partner.end.settle();
-        taken
+        true
     }
 
-    fn hears(&mut self, line: usize, packet: &[u8]) -> bool {
-        let Some(partner) = self.partners.get_mut(line) else {
-            return false;
-        };
-        if partner.heard.is_empty() {
+    fn hears_frame(&mut self, octets: &[u8]) -> bool {
+        if self.switch.lines() == 0 {
             return false;
         }
-        partner.heard.remove(0).as_slice() == packet
+        self.switch.on_frame(0, octets);
+        self.collect();
+        true
     }
 
-    fn sent(&mut self, octets: &[u8]) -> bool {
-        let Some(partner) = self.partners.get_mut(0) else {
-            return false;
-        };
-        if partner.coming.len() != 1 {
-            return false;
-        }
-        partner.coming.remove(0).as_slice() == octets
+    fn restart(&mut self) {
+        self.switch.restart();
+        self.collect();
+    }
+
+    fn is_joined(&self, line: usize, channel: u8, other: Option<(usize, u8)>) -> bool {
+        self.switch.joins(Place { line, channel }) == other.map(place)
     }
 
     fn joins(&mut self, came_in: (usize, u8), placed: (usize, u8)) -> bool {
@@ -285,6 +316,37 @@ impl Bench {
         let ran = self.switch.on_timer(line, id);
         self.collect();
         ran == runs
+    }
+}
+
+impl Partner {
+    // Does a step, and answers whether it is as the example says.
+    fn takes(&mut self, step: Step<'_>) -> bool {
+        match step {
+            Step::Send(_, packet) => self.send(packet),
+            Step::Hears(_, packet) => self.hears(packet),
+            Step::HearsNothing(_) => self.heard.is_empty(),
+            Step::Sent(octets) => self.takes_frame(octets),
+            _ => false,
+        }
+    }
+
+    fn send(&mut self, packet: &[u8]) -> bool {
+        if packet.len() > 145 {
+            return false;
+        }
+        let taken = self.end.offer(packet).is_ok();
+        self.end.settle();
+        taken
+    }
+
+    fn hears(&mut self, packet: &[u8]) -> bool {
+        !self.heard.is_empty() && self.heard.remove(0).as_slice() == packet
+    }
+
+    // Whether one frame came, of these octets.
+    fn takes_frame(&mut self, octets: &[u8]) -> bool {
+        self.coming.len() == 1 && self.coming.remove(0).as_slice() == octets
     }
 }
 
