@@ -30,14 +30,27 @@ fn incoming() -> LayerNote {
     LayerNote::Incoming(1, call)
 }
 
+// With room for one write a call is written.
+fn is_placed(book: &mut Book) -> bool {
+    match book.reserve(1) {
+        Ok(()) => {
+            book.place(Role::Dce, 1, &Address::new(&CALLED));
+            true
+        }
+        Err(_) => false,
+    }
+}
+
 // With room for one write a call that comes in is written, and that it is accepted.
-fn accept_at_once(book: &mut Book) -> Result<(), AllocError> {
-    book.reserve(1)?;
-    book.place(Role::Dce, 1, &Address::new(&CALLED));
-    book.reserve(1)?;
-    book.tell(Role::Dte, &incoming());
-    write_note(book, Role::Dte, &PadNote::Accepted(1));
-    Ok(())
+fn accepts_at_once(book: &mut Book) -> bool {
+    match book.reserve(1) {
+        Ok(()) => {
+            book.tell(Role::Dte, &incoming());
+            write_note(book, Role::Dte, &PadNote::Accepted(1));
+            true
+        }
+        Err(_) => false,
+    }
 }
 
 fn is_accepted(book: &Book) -> bool {
@@ -156,6 +169,11 @@ fn are_typed(records: &[Record], octets: &[u8]) -> bool {
     }
 }
 
+// Whether three keys are taken, written and sent.
+fn writes_keys(pad: &mut Pad, book: &mut Book) -> bool {
+    type_keys(pad, b"HI\r", book) && are_typed(book.records(), b"HI\r")
+}
+
 // Whether what is typed at a new PAD is written.
 fn is_typed(alloc: Global, book: &mut Book) -> bool {
     let line = EndParams {
@@ -166,7 +184,7 @@ fn is_typed(alloc: Global, book: &mut Book) -> bool {
         standing: true,
     };
     match new_pad(alloc, line, 1) {
-        Ok(mut pad) => type_keys(&mut pad, b"HI\r", book) && are_typed(book.records(), b"HI\r"),
+        Ok(mut pad) => writes_keys(&mut pad, book),
         Err(_) => false,
     }
 }
@@ -181,7 +199,7 @@ enum Deed {
 
 fn writes(alloc: Global, book: &mut Book, deed: Deed) -> bool {
     match deed {
-        Deed::Call => accept_at_once(book).is_ok() && is_accepted(book),
+        Deed::Call => is_placed(book) && accepts_at_once(book) && is_accepted(book),
         Deed::Notes => note_all(book).is_ok() && are_noted(book.records()),
         Deed::Keys => is_typed(alloc, book),
     }

@@ -49,13 +49,18 @@ pub(crate) enum Step<'a> {
     FarTakesNothing(u8),
 }
 
-// A line: the PAD and the far end, the frames on the way, and the channel of the call that came in last at the far end.
+// The PAD, and the frames that it has sent and that are on the way.
 #[derive(Drop)]
-struct Bench {
+struct Near {
     pad: Pad,
-    far: PacketEnd,
     sent: Frames,
-    answered: Frames,
+}
+
+// The far end, the frames that it has sent and that are on the way, and the channel of the call that came in last.
+#[derive(Drop)]
+struct Far {
+    end: PacketEnd,
+    sent: Frames,
     incoming: u8,
 }
 
@@ -74,37 +79,51 @@ pub(crate) fn play(rt: &impl Abort, alloc: Global, examples: &[Example<'_>]) {
     }
 }
 
-// Whether the steps of an example fit at a new PAD.
-fn holds(alloc: Global, example: &Example<'_>) -> bool {
-    match new_bench(alloc, example.standing) {
-        Ok(mut bench) => fit(&mut bench, example.steps),
-        Err(_) => false,
-    }
-}
-
-fn new_bench(alloc: Global, standing: bool) -> Result<Bench, EndFault> {
-    let line = EndParams {
+fn line(standing: bool) -> EndParams {
+    EndParams {
         k: 7,
         n2: 3,
         channels: 2,
         window: 2,
         standing,
-    };
-    match PacketEnd::new(alloc, Role::Dce, line) {
-        Ok(far) => bench_with(alloc, far, line),
+    }
+}
+
+// Whether the steps of an example fit at a new PAD.
+fn holds(alloc: Global, example: &Example<'_>) -> bool {
+    match new_near(alloc, line(example.standing)) {
+        Ok(mut near) => holds_at(alloc, &mut near, example),
+        Err(_) => false,
+    }
+}
+
+// Whether the steps of an example fit between this PAD and a new far end.
+fn holds_at(alloc: Global, near: &mut Near, example: &Example<'_>) -> bool {
+    match new_far(alloc, line(example.standing)) {
+        Ok(mut far) => fit(near, &mut far, example.steps),
+        Err(_) => false,
+    }
+}
+
+fn new_near(alloc: Global, line: EndParams) -> Result<Near, EndFault> {
+    match new_pad(alloc, line, 2) {
+        Ok(pad) => Ok(Near {
+            pad,
+            sent: Frames::new(),
+        }),
         Err(fault) => Err(fault),
     }
 }
 
-// A bench with this far end.
-fn bench_with(alloc: Global, far: PacketEnd, line: EndParams) -> Result<Bench, EndFault> {
-    Ok(Bench {
-        pad: new_pad(alloc, line, 2)?,
-        far,
-        sent: Frames::new(),
-        answered: Frames::new(),
-        incoming: 0,
-    })
+fn new_far(alloc: Global, line: EndParams) -> Result<Far, EndFault> {
+    match PacketEnd::new(alloc, Role::Dce, line) {
+        Ok(end) => Ok(Far {
+            end,
+            sent: Frames::new(),
+            incoming: 0,
+        }),
+        Err(fault) => Err(fault),
+    }
 }
 
 /// A new PAD of so many terminals.
@@ -117,43 +136,78 @@ pub(crate) fn new_pad(alloc: Global, line: EndParams, terminals: u8) -> Result<P
     Pad::new(alloc, config)
 }
 
-fn fit(bench: &mut Bench, steps: &[Step<'_>]) -> bool {
+fn fit(near: &mut Near, far: &mut Far, steps: &[Step<'_>]) -> bool {
     let mut same = true;
-    collect(bench);
+    collect(near, far);
     for step in steps {
-        same = same && fits(bench, *step);
-        collect(bench);
+        same = same && fits(near, far, *step);
+        collect(near, far);
     }
     same
 }
 
 // Whether a step gives its answer.
-fn fits(bench: &mut Bench, step: Step<'_>) -> bool {
+fn fits(near: &mut Near, far: &mut Far, step: Step<'_>) -> bool {
     match step {
-        Step::Type(terminal, octets) => types(bench, terminal, octets),
-        Step::Drops(terminal, octet) => !press(bench, terminal, octet),
-        Step::Prints(terminal, text) => prints(&mut bench.pad, terminal, text),
-        Step::FarHears(channel) => bench.incoming == channel,
-        Step::FarTakes(channel, octets) => far_takes(bench, channel, octets, false),
-        Step::FarIsTold(channel, octets) => far_takes(bench, channel, octets, true),
-        Step::FarInterrupted(channel, octets) => far_interrupted(bench, channel, octets),
-        Step::FarTakesNothing(channel) => bench.far.front(channel).is_none(),
-        Step::Breaks(_)
+        Step::Type(terminal, octets) => types(near, terminal, octets),
+        Step::Drops(terminal, octet) => !press(near, terminal, octet),
+        Step::Prints(..)
+        | Step::Breaks(_)
         | Step::BreakDropped(_)
         | Step::Idles(_)
         | Step::Expires(..)
         | Step::Due(_)
-        | Step::Rests(_) => pad_fits(&mut bench.pad, step),
+        | Step::Rests(_) => pad_fits(&mut near.pad, step),
+        Step::FarHears(_)
+        | Step::FarTakes(..)
+        | Step::FarIsTold(..)
+        | Step::FarInterrupted(..)
+        | Step::FarTakesNothing(_) => far_fits(far, step),
         _ => {
-            happens(bench, step);
+            happens(near, far, step);
             true
         }
+    }
+}
+
+// What happens without an answer.
+fn happens(near: &mut Near, far: &mut Far, step: Step<'_>) {
+    match step {
+        Step::Flow => flow(near, far),
+        Step::Elapse(_) | Step::Relink | Step::Restart => happens_to(&mut near.pad, step),
+        _ => far_does(far, step),
+    }
+}
+
+// Whether the far end gives the answer of a step.
+fn far_fits(far: &mut Far, step: Step<'_>) -> bool {
+    match step {
+        Step::FarHears(channel) => far.incoming == channel,
+        Step::FarTakes(channel, octets) => far_takes(far, channel, octets, false),
+        Step::FarIsTold(channel, octets) => far_takes(far, channel, octets, true),
+        Step::FarInterrupted(channel, octets) => far_interrupted(far, channel, octets),
+        Step::FarTakesNothing(channel) => far.end.front(channel).is_none(),
+        _ => false,
+    }
+}
+
+// What the far end does without an answer.
+fn far_does(far: &mut Far, step: Step<'_>) {
+    match step {
+        Step::FarAccepts(channel) => far_asks(far, channel, &Request::Accept),
+        Step::FarClears(channel, cause) => far_clears(far, channel, cause),
+        Step::FarResets(channel) => far_resets(far, channel),
+        Step::FarSends(channel, octets) => far_sends(far, channel, octets, false),
+        Step::FarTells(channel, octets) => far_sends(far, channel, octets, true),
+        Step::FarCalls => far_calls(far),
+        _ => {}
     }
 }
 
 // Whether the PAD answers a step so.
 fn pad_fits(pad: &mut Pad, step: Step<'_>) -> bool {
     match step {
+        Step::Prints(terminal, text) => prints(pad, terminal, text),
         Step::Breaks(terminal) => breaks(pad, terminal),
         Step::BreakDropped(terminal) => !breaks(pad, terminal),
         Step::Idles(terminal) => pauses(pad, terminal),
@@ -161,20 +215,6 @@ fn pad_fits(pad: &mut Pad, step: Step<'_>) -> bool {
         Step::Due(id) => pad.due() == id,
         Step::Rests(rests) => pad.is_at_rest() == rests,
         _ => false,
-    }
-}
-
-// What happens without an answer.
-fn happens(bench: &mut Bench, step: Step<'_>) {
-    match step {
-        Step::Flow => flow(bench),
-        Step::FarAccepts(channel) => far_asks(bench, channel, &Request::Accept),
-        Step::FarClears(channel, cause) => far_clears(bench, channel, cause),
-        Step::FarResets(channel) => far_resets(bench, channel),
-        Step::FarSends(channel, octets) => far_sends(bench, channel, octets, false),
-        Step::FarTells(channel, octets) => far_sends(bench, channel, octets, true),
-        Step::FarCalls => far_calls(bench),
-        _ => happens_to(&mut bench.pad, step),
     }
 }
 
@@ -190,17 +230,17 @@ fn happens_to(pad: &mut Pad, step: Step<'_>) {
 // ---- the terminals
 
 // Whether each of these keys is taken.
-fn types(bench: &mut Bench, terminal: u8, octets: &[u8]) -> bool {
+fn types(near: &mut Near, terminal: u8, octets: &[u8]) -> bool {
     let mut taken = true;
     for octet in octets {
-        taken = taken && press(bench, terminal, *octet);
+        taken = taken && press(near, terminal, *octet);
     }
     taken
 }
 
-fn press(bench: &mut Bench, terminal: u8, octet: u8) -> bool {
-    let taken = takes_key(&mut bench.pad, terminal, octet);
-    collect(bench);
+fn press(near: &mut Near, terminal: u8, octet: u8) -> bool {
+    let taken = takes_key(&mut near.pad, terminal, octet);
+    collect_near(near);
     taken
 }
 
@@ -227,141 +267,141 @@ fn prints(pad: &mut Pad, terminal: u8, text: &[u8]) -> bool {
 // ---- the line
 
 // Takes the frames that an event has left.
-fn collect(bench: &mut Bench) {
-    collect_sent(&mut bench.pad, &mut bench.sent);
-    collect_answered(&mut bench.far, &mut bench.answered);
+fn collect(near: &mut Near, far: &mut Far) {
+    collect_near(near);
+    collect_far(far);
 }
 
-fn collect_sent(pad: &mut Pad, sent: &mut Frames) {
-    for _ in 0..pad.waiting_frames() {
+fn collect_near(near: &mut Near) {
+    for _ in 0..near.pad.waiting_frames() {
         let mut frame = FrameBuf::new();
-        if pad.out(&mut frame) && !sent.is_full() {
-            sent.push(frame);
+        if near.pad.out(&mut frame) && !near.sent.is_full() {
+            near.sent.push(frame);
         }
     }
 }
 
-fn collect_answered(far: &mut PacketEnd, answered: &mut Frames) {
-    for _ in 0..far.waiting_frames() {
+fn collect_far(far: &mut Far) {
+    for _ in 0..far.end.waiting_frames() {
         let mut frame = FrameBuf::new();
-        if far.out(&mut frame) && !answered.is_full() {
-            answered.push(frame);
+        if far.end.out(&mut frame) && !far.sent.is_full() {
+            far.sent.push(frame);
         }
     }
 }
 
 // Delivers frames until none is on the way.
-fn flow(bench: &mut Bench) {
+fn flow(near: &mut Near, far: &mut Far) {
     for _ in 0..100 {
-        carry(bench);
-        collect(bench);
+        carry(near, far);
+        collect(near, far);
     }
 }
 
 // Delivers a frame of the PAD, or of the far end where the PAD has sent none.
-fn carry(bench: &mut Bench) {
-    if !bench.sent.is_empty() {
-        let frame = bench.sent.remove(0);
-        far_hears(bench, frame.as_slice());
-    } else if !bench.answered.is_empty() {
-        let frame = bench.answered.remove(0);
-        bench.pad.on_frame(frame.as_slice());
+fn carry(near: &mut Near, far: &mut Far) {
+    if !near.sent.is_empty() {
+        let frame = near.sent.remove(0);
+        far_hears(far, frame.as_slice());
+    } else if !far.sent.is_empty() {
+        let frame = far.sent.remove(0);
+        near.pad.on_frame(frame.as_slice());
     }
 }
 
 // ---- the far end
 
-fn far_hears(bench: &mut Bench, octets: &[u8]) {
-    bench.far.begin();
-    bench.far.on_frame(octets);
-    end_far_event(bench);
+fn far_hears(far: &mut Far, octets: &[u8]) {
+    far.end.begin();
+    far.end.on_frame(octets);
+    end_far_event(far);
 }
 
-fn end_far_event(bench: &mut Bench) {
-    for _ in 0..bench.far.waiting_notes() {
-        if let Some(LayerNote::Incoming(channel, _)) = bench.far.notes() {
-            bench.incoming = channel;
+fn end_far_event(far: &mut Far) {
+    for _ in 0..far.end.waiting_notes() {
+        if let Some(LayerNote::Incoming(channel, _)) = far.end.notes() {
+            far.incoming = channel;
         }
     }
-    if bench.far.waiting_notes() == 0 {
-        bench.far.finish();
+    if far.end.waiting_notes() == 0 {
+        far.end.finish();
     }
 }
 
-fn far_asks(bench: &mut Bench, channel: u8, request: &Request<'_>) {
-    bench.far.begin();
-    far_answers(bench, channel, request);
+fn far_asks(far: &mut Far, channel: u8, request: &Request<'_>) {
+    far.end.begin();
+    far_answers(far, channel, request);
 }
 
 // What is asked in an event that has begun.
-fn far_answers(bench: &mut Bench, channel: u8, request: &Request<'_>) {
-    let _ = bench.far.ask(channel, request);
-    end_far_event(bench);
+fn far_answers(far: &mut Far, channel: u8, request: &Request<'_>) {
+    let _ = far.end.ask(channel, request);
+    end_far_event(far);
 }
 
-fn far_clears(bench: &mut Bench, channel: u8, cause: u8) {
+fn far_clears(far: &mut Far, channel: u8, cause: u8) {
     let request = Request::Clear {
         cause,
         diagnostic: 0,
     };
-    far_asks(bench, channel, &request);
+    far_asks(far, channel, &request);
 }
 
-fn far_resets(bench: &mut Bench, channel: u8) {
+fn far_resets(far: &mut Far, channel: u8) {
     let request = Request::Reset {
         cause: 0,
         diagnostic: 0,
     };
-    far_asks(bench, channel, &request);
+    far_asks(far, channel, &request);
 }
 
-fn far_sends(bench: &mut Bench, channel: u8, octets: &[u8], qualified: bool) {
+fn far_sends(far: &mut Far, channel: u8, octets: &[u8], qualified: bool) {
     let request = Request::Send {
         octets,
         more: false,
         qualified,
         delivery: false,
     };
-    far_asks(bench, channel, &request);
+    far_asks(far, channel, &request);
 }
 
-fn far_calls(bench: &mut Bench) {
-    bench.far.begin();
+fn far_calls(far: &mut Far) {
+    far.end.begin();
     if let Ok(called) = Address::read(b"1001") {
-        let _ = bench.far.call(&CallData {
+        let _ = far.end.call(&CallData {
             called,
             calling: None,
             facilities: &[],
             user_data: &[],
         });
     }
-    end_far_event(bench);
+    end_far_event(far);
 }
 
 // Takes a packet at the far end, and releases it. Whether it had these octets.
-fn far_takes(bench: &mut Bench, channel: u8, octets: &[u8], qualified: bool) -> bool {
-    bench.far.begin();
-    let same = takes_data(&mut bench.far, channel, octets, qualified);
-    far_answers(bench, channel, &Request::Release(1));
+fn far_takes(far: &mut Far, channel: u8, octets: &[u8], qualified: bool) -> bool {
+    far.end.begin();
+    let same = takes_data(&mut far.end, channel, octets, qualified);
+    far_answers(far, channel, &Request::Release(1));
     same
 }
 
-fn takes_data(far: &mut PacketEnd, channel: u8, octets: &[u8], qualified: bool) -> bool {
-    match far.take(channel) {
+fn takes_data(end: &mut PacketEnd, channel: u8, octets: &[u8], qualified: bool) -> bool {
+    match end.take(channel) {
         Some(Taken::Data(data)) => data.octets() == octets && data.qualified() == qualified,
         _ => false,
     }
 }
 
-fn far_interrupted(bench: &mut Bench, channel: u8, octets: &[u8]) -> bool {
-    bench.far.begin();
-    let same = takes_interrupt(&mut bench.far, channel, octets);
-    far_answers(bench, channel, &Request::ConfirmInterrupt);
+fn far_interrupted(far: &mut Far, channel: u8, octets: &[u8]) -> bool {
+    far.end.begin();
+    let same = takes_interrupt(&mut far.end, channel, octets);
+    far_answers(far, channel, &Request::ConfirmInterrupt);
     same
 }
 
-fn takes_interrupt(far: &mut PacketEnd, channel: u8, octets: &[u8]) -> bool {
-    match far.take(channel) {
+fn takes_interrupt(end: &mut PacketEnd, channel: u8, octets: &[u8]) -> bool {
+    match end.take(channel) {
         Some(Taken::Interrupt(data)) => data.octets() == octets,
         _ => false,
     }
